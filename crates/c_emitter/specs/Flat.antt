@@ -1,0 +1,39 @@
+-- Diagrams of one system that has Inports, Outports and Unit Delays alone.
+use Rattle.std.specs.Prelude.{◌≡◌, ℕ, ◌<◌, ◌≤◌, IsTrue, Bool, true, false, List, [], ◌∷◌, length, Option, None}
+use Rattle.std.specs.List.{AllByRecursion}
+use Rattle.mc_blocks.specs.declared.Kind.{Kind}
+use Rattle.mc_blocks.specs.declared.Kind.TheVariants.{Inport, Outport, SubSystem, Constant, Ground, Terminator, Gain, Sum, Product, UnitDelay, ZeroOrderHold, Switch, Relational, Logic, Convert, RateTransition, EnablePort, TriggerPort}
+use Rattle.mc_diagram.specs.declared.Row.{Row}
+use Rattle.mc_diagram.specs.Rows.{row_at, by_row, is_inport, is_outport}
+use Rattle.mc_diagram.specs.WellFormed.{HasPorts}
+use Rattle.mc_diagram.specs.Diagram.{Diagram, op_in}
+
+-- an Inport or a Unit Delay: what a wire can come from
+abbrev pub is_source : Kind → Bool
+is_source (Inport port) = true
+is_source (UnitDelay initial) = true
+is_source _ = false
+
+-- the wires are one, and it comes from such a row
+abbrev pub HasOneSource : List Row → List ℕ → Type 0
+HasOneSource rows wires = (c : ℕ) × (wires ≡ c ∷ []) × (c < length rows) × IsTrue (is_source (row_at rows c).kind)
+
+-- an Inport reads nothing, an Outport and a Unit Delay read one source, and there is nothing else
+abbrev pub HasFlatKind : List Row → Kind → List ℕ → Type 0
+HasFlatKind rows (Inport port) wires = wires ≡ []
+HasFlatKind rows (Outport port reset initial) wires = HasOneSource rows wires
+HasFlatKind rows (UnitDelay initial) wires = HasOneSource rows wires
+HasFlatKind rows _ wires = ⊥
+
+-- a row of the root
+pub record IsFlatRow (rows : List Row) (row : Row) : Type 0 where
+  pub of_root : row.owner ≡ None
+  pub kind : HasFlatKind rows row.kind row.inputs
+
+-- the diagram is one of these, with the operations that its kinds have
+pub record IsFlat (d : Diagram) : Type 0 where
+  pub each : AllByRecursion (IsFlatRow d.rows) d.rows
+  pub inports : HasPorts d.rows is_inport None
+  pub outports : HasPorts d.rows is_outport None
+  pub at_most : length d.rows ≤ 20000
+  pub ops : d.ops ≡ by_row d.rows (op_in d.rows d.types [])

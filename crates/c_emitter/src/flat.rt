@@ -1,0 +1,20 @@
+use mc_blocks::Op;
+use mc_diagram::Row;
+use std::marker::Model;
+
+/// A diagram of one system in which each row is an int32 and runs at every tick: its rows in file order, and the
+/// operation of each. Contracts see it as the diagram.
+#[derive(Drop)]
+pub struct FlatDiagram {
+    pub rows: Vec<Row>,
+    pub ops: Vec<Op>,
+}
+
+impl Model for FlatDiagram {
+    ghost use Rattle.mc_diagram.specs.Diagram.{Diagram};
+    ghost use Rattle.c_emitter.specs.FlatDiagrams.{flat_diagram};
+
+    ghost Value = { Diagram };
+
+    ghost view = { λ f. flat_diagram f.rows.items f.ops.items };
+}

@@ -1,0 +1,6 @@
+// The C code of a diagram.
+#![tactic(auto)]
+
+mod flat;
+
+pub use flat::FlatDiagram;

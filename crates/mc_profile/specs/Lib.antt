@@ -1,0 +1,4 @@
+pub mod Ports
+pub mod Systems
+pub mod SystemProfile
+pub mod Functions
