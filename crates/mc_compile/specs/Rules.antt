@@ -1,0 +1,113 @@
+-- The rules of a flat model, and the lines of the sections that break one.
+use Rattle.std.specs.Prelude.{ℕ, Bool, true, false, not, ◌&&◌, ◌||◌, List, [], ◌∷◌, ◌++◌, map, filter, find, length, Option, None, Some, is_some, codes, nat_le, nat_lt, ◌==◌, if◌then◌else◌}
+use Rattle.std.specs.Str.{bytes_eq}
+use Rattle.std.specs.List.{list_any}
+use Rattle.std.specs.Option.{option_map_or}
+use Rattle.mdl_tree.specs.Spelling.{Items}
+use Rattle.mdl_tree.specs.Walks.{sections_named}
+use Rattle.mc_compile.specs.declared.blocks.BlockType.{BlockType}
+use Rattle.mc_compile.specs.declared.blocks.BlockType.TheVariants.{Inport, Outport, UnitDelay, Other}
+use Rattle.mc_compile.specs.Places.{misplaced, system_items}
+use Rattle.mc_compile.specs.Blocks.{Block, block_of}
+use Rattle.mc_compile.specs.Lines.{Line, line_of}
+
+-- the Blocks and the Lines of a file's System, in order
+abbrev pub blocks_of : Items → List Block
+blocks_of file = map block_of (sections_named (codes "Block") (system_items file))
+
+abbrev pub lines_of : Items → List Line
+lines_of file = map line_of (sections_named (codes "Line") (system_items file))
+
+-- ---- Names
+
+-- both are there, and they are the same
+abbrev pub same_name : Option (List ℕ) → Option (List ℕ) → Bool
+same_name (Some a) (Some b) = bytes_eq a b
+same_name _ _ = false
+
+abbrev pub has_name : Option (List ℕ) → Block → Bool
+has_name name block = same_name name block.name
+
+abbrev pub leads_to : Option (List ℕ) → Line → Bool
+leads_to name line = same_name name line.target
+
+-- the first block of this name passes the test
+abbrev pub names : (BlockType → Bool) → List Block → Option (List ℕ) → Bool
+names test blocks name = option_map_or (λ b. test b.type) (find (has_name name) blocks) false
+
+-- ---- Types
+
+abbrev pub is_inport : BlockType → Bool
+is_inport Inport = true
+is_inport _ = false
+
+abbrev pub is_outport : BlockType → Bool
+is_outport Outport = true
+is_outport _ = false
+
+abbrev pub is_unit_delay : BlockType → Bool
+is_unit_delay UnitDelay = true
+is_unit_delay _ = false
+
+-- an Inport or a Unit Delay, from which a Line may come, and an Outport or a Unit Delay, to which it may lead
+abbrev pub is_source : BlockType → Bool
+is_source type = is_inport type || is_unit_delay type
+
+abbrev pub is_target : BlockType → Bool
+is_target type = is_outport type || is_unit_delay type
+
+-- ---- Rules
+
+-- the ports of the blocks of a type
+abbrev pub ports_of : (BlockType → Bool) → List Block → List (Option ℕ)
+ports_of test blocks = map (λ b. b.port) (filter (λ b. test b.type) blocks)
+
+-- a number from 1 to that of all ports, which none of the earlier ports has; and those are fewer than 32
+abbrev pub is_new_port : ℕ → List (Option ℕ) → Option ℕ → Bool
+is_new_port all earlier None = false
+is_new_port all earlier (Some port) =
+    nat_le 1 port && nat_le port all && not (list_any (λ p. option_map_or (λ n. n == port) p false) earlier) && nat_lt (length earlier) 32
+
+-- a block has a new port among those of its type
+abbrev pub has_new_port : (BlockType → Bool) → List Block → List Block → Block → Bool
+has_new_port test blocks earlier block = is_new_port (length (ports_of test blocks)) (ports_of test earlier) block.port
+
+-- an Inport and an Outport have a new port, and to an Outport and a Unit Delay leads a Line
+abbrev pub is_placed : List Block → List Line → List Block → Block → BlockType → Bool
+is_placed blocks lines earlier block Inport = has_new_port is_inport blocks earlier block
+is_placed blocks lines earlier block Outport = has_new_port is_outport blocks earlier block && list_any (leads_to block.name) lines
+is_placed blocks lines earlier block UnitDelay = list_any (leads_to block.name) lines
+is_placed blocks lines earlier block Other = false
+
+-- A block behind earlier ones keeps the rules: its parameters are such as its type has, its name is new, it is one of at
+-- most 20000, and its port and its wire are right.
+abbrev pub is_right_block : List Block → List Line → List Block → Block → Bool
+is_right_block blocks lines earlier block =
+    block.is_formed && is_some block.name && not (list_any (has_name block.name) earlier) && nat_lt (length earlier) 20000
+    && is_placed blocks lines earlier block block.type
+
+-- A Line behind earlier ones keeps the rules: it comes from an Inport or a Unit Delay and leads to an Outport or a Unit
+-- Delay, at their ports 1, and no earlier Line leads there.
+abbrev pub is_right_line : List Block → List Line → Line → Bool
+is_right_line blocks earlier line =
+    line.has_ports && names is_source blocks line.source && names is_target blocks line.target && not (list_any (leads_to line.target) earlier)
+
+-- the lines of the blocks, of those behind the earlier ones, that break a rule
+abbrev pub wrong_blocks : List Block → List Line → List Block → List Block → List ℕ
+wrong_blocks blocks lines earlier [] = []
+wrong_blocks blocks lines earlier (block ∷ rest) =
+    (if is_right_block blocks lines earlier block then [] else block.line ∷ [])
+    ++ wrong_blocks blocks lines (earlier ++ block ∷ []) rest
+
+-- the same of the Lines
+abbrev pub wrong_lines : List Block → List Line → List Line → List ℕ
+wrong_lines blocks earlier [] = []
+wrong_lines blocks earlier (line ∷ rest) =
+    (if is_right_line blocks earlier line then [] else line.line ∷ []) ++ wrong_lines blocks (earlier ++ line ∷ []) rest
+
+-- the lines of the sections of a file that break a rule
+abbrev pub broken : Items → List ℕ
+broken file =
+    misplaced file
+    ++ wrong_blocks (blocks_of file) (lines_of file) [] (blocks_of file)
+    ++ wrong_lines (blocks_of file) [] (lines_of file)

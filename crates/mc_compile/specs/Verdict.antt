@@ -1,0 +1,67 @@
+-- Whether a file is a flat model, and what is wrong with it if not.
+use Rattle.std.specs.Prelude.{◌≡◌, ℕ, ◌<◌, ◌≤◌, List, [], length, Option, None, Some, is_some, codes, if◌then◌else◌}
+use Rattle.mc_base.specs.declared.SyntaxKind.{SyntaxKind}
+use Rattle.mc_base.specs.Refusals.{PlainRefusal, TooLong, Syntax, NoModel, Unsupported}
+use Rattle.mc_diagram.specs.declared.Row.{Row}
+use Rattle.mdl_tree.specs.Spelling.{Items, Mdl, Fault}
+use Rattle.mdl_tree.specs.Walks.{SectionTree, first_section}
+use Rattle.mc_compile.specs.Places.{least}
+use Rattle.mc_compile.specs.Rules.{broken}
+use Rattle.mc_compile.specs.FlatRows.{AreRowsOf}
+
+-- a file may have so many bytes
+abbrev pub file_limit : ℕ
+file_limit = 16_777_216
+
+-- the line where a System is missing, by the first Model and the first Library: 0 where there is neither, and that of a
+-- Model without a System
+abbrev pub missing_in : Option SectionTree → Option SectionTree → Option ℕ
+missing_in None None = Some 0
+missing_in None (Some library) = None
+missing_in (Some model) library = if is_some (first_section (codes "System") model.items) then None else Some model.line
+
+abbrev pub missing_model : Items → Option ℕ
+missing_model file = missing_in (first_section (codes "Model") file) (first_section (codes "Library") file)
+
+-- the bytes are not too many, and the text of these items
+abbrev pub IsFile : List ℕ → Items → Type 0
+IsFile bytes file = (length bytes ≤ file_limit) × Mdl bytes file
+
+-- ---- Refusals: F1 before F2 before F3 before F7
+
+abbrev pub HasSyntaxFault : List ℕ → ℕ → SyntaxKind → Type 0
+HasSyntaxFault bytes line kind = (length bytes ≤ file_limit) × Fault bytes line kind
+
+abbrev pub HasNoModel : List ℕ → ℕ → Type 0
+HasNoModel bytes line = (file : Items) × IsFile bytes file × (missing_model file ≡ Some line)
+
+-- the least line of a section that breaks a rule
+abbrev pub IsUnsupported : List ℕ → ℕ → Type 0
+IsUnsupported bytes line = (file : Items) × IsFile bytes file × (missing_model file ≡ None) × (least (broken file) ≡ Some line)
+
+-- the file is refused so
+abbrev pub HasRefusal : List ℕ → PlainRefusal → Type 0
+HasRefusal bytes TooLong = file_limit < length bytes
+HasRefusal bytes (Syntax line kind) = HasSyntaxFault bytes line kind
+HasRefusal bytes (NoModel line) = HasNoModel bytes line
+HasRefusal bytes (Unsupported line) = IsUnsupported bytes line
+HasRefusal bytes _ = ⊥
+
+-- ---- The verdict
+
+pub data Verdict : Type 0 where
+  Refused : PlainRefusal → Verdict
+  Accepted : (rows : List Row) → Verdict
+
+-- no section breaks a rule, and these are the rows
+abbrev pub IsAccepted : List ℕ → List Row → Type 0
+IsAccepted bytes rows =
+    (file : Items) × IsFile bytes file × (missing_model file ≡ None) × (broken file ≡ []) × AreRowsOf file rows
+
+abbrev pub HasVerdict : List ℕ → Verdict → Type 0
+HasVerdict bytes (Refused refusal) = HasRefusal bytes refusal
+HasVerdict bytes (Accepted rows) = IsAccepted bytes rows
+
+-- the file has one verdict and no other
+abbrev pub HasOneVerdict : List ℕ → Type 0
+HasOneVerdict bytes = (verdict : Verdict) × HasVerdict bytes verdict × ((other : Verdict) → HasVerdict bytes other → other ≡ verdict)

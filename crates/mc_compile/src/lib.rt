@@ -1,0 +1,4 @@
+// A model's text compiled to C.
+#![tactic(auto)]
+
+mod blocks;
