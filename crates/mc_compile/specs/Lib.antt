@@ -4,5 +4,6 @@ pub mod Lines
 pub mod Rules
 pub mod FlatRows
 pub mod Verdict
+pub mod Compilation
 pub mod RuleExamples
 pub mod VerdictExamples

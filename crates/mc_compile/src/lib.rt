@@ -2,3 +2,6 @@
 #![tactic(auto)]
 
 mod blocks;
+mod compiled;
+
+pub use compiled::{CompileFault, Compiled};

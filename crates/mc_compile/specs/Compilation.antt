@@ -1,0 +1,34 @@
+-- What a model is compiled to.
+use Rattle.std.specs.Prelude.{◌≡◌, ℕ, List, [], length, replicate}
+use Rattle.mc_fixed.specs.Types.{int32}
+use Rattle.mc_diagram.specs.declared.Row.{Row}
+use Rattle.mc_diagram.specs.Rows.{by_row}
+use Rattle.mc_diagram.specs.Diagram.{Diagram, op_in}
+use Rattle.c_tree.specs.Tree.{ProgramTree}
+use Rattle.c_tree.specs.Reading.{CText}
+use Rattle.c_emitter.specs.FlatDiagrams.{flat_diagram}
+use Rattle.c_emitter.specs.Code.{IsCodeFor, IsFunctionCount}
+
+-- the diagram of a flat model: each row is an int32 and runs at every tick
+abbrev pub diagram_of : List Row → Diagram
+diagram_of rows = flat_diagram rows (by_row rows (op_in rows (replicate (length rows) int32) []))
+
+-- the bytes are C text, and their reading is code for the diagram
+pub record IsRightCode (bytes : List ℕ) (d : Diagram) : Type 0 where
+  pub program : ProgramTree
+  pub reading : CText bytes program
+  pub code : IsCodeFor program d
+
+-- the numbers of rows, systems and output functions of a model, and its C text
+pub record Compilation : Type 0 where
+  pub rows : ℕ
+  pub systems : ℕ
+  pub functions : ℕ
+  pub code : List ℕ
+
+-- of a flat model with these rows
+pub record IsCompilationOf (table : List Row) (c : Compilation) : Type 0 where
+  pub rows : c.rows ≡ length table
+  pub systems : c.systems ≡ 1
+  pub functions : IsFunctionCount (diagram_of table) c.functions
+  pub code : IsRightCode c.code (diagram_of table)
