@@ -1,0 +1,3 @@
+pub mod InType
+pub mod Magnitudes
+pub mod Fits

@@ -1,0 +1,43 @@
+-- Which inputs and memories a row can have when it is computed.
+use Rattle.std.specs.Prelude.{◌≡◌, ◌≤◌, ◌<◌, Bool, List, length, ℤ, MatchBool, ⊤}
+use Rattle.std.specs.List.{AllZip}
+use Rattle.mc_fixed.specs.declared.FixType.{FixType}
+use Rattle.mc_fixed.specs.Conversion.{InType}
+use Rattle.mc_blocks.specs.declared.kind.Kind.{Kind}
+use Rattle.mc_blocks.specs.declared.op.Op.{Op}
+use Rattle.mc_blocks.specs.declared.op.Op.TheVariants.{Copy, Value, Delay, Gain, Sum, Product, Switch, Relational, Logic, Convert, Nothing}
+use Rattle.mc_blocks.specs.Value.{input}
+use Rattle.mc_blocks.specs.Width.{wide_bits}
+use Rattle.mc_blocks.specs.Meaning.{op_of}
+use Rattle.mc_blocks.specs.Limits.{is_computed, HasInputTypes, IsWithinLimits}
+
+-- what an operation passes on as it is, a copied input or a delay's memory, lies in the row's type
+abbrev pub PassesInType : Op → FixType → List ℤ → ℤ → Type 0
+PassesInType Copy out vs memory = (0 < length vs) × InType out (input vs 0)
+PassesInType (Value v) out vs memory = ⊤
+PassesInType (Delay initial) out vs memory = InType out memory
+PassesInType (Gain m frac to how) out vs memory = ⊤
+PassesInType (Sum count minus fracs to how) out vs memory = ⊤
+PassesInType (Product count frac to how) out vs memory = ⊤
+PassesInType (Switch criterion threshold fracs to how) out vs memory = ⊤
+PassesInType (Relational compare fracs) out vs memory = ⊤
+PassesInType (Logic op count) out vs memory = ⊤
+PassesInType (Convert frac to how) out vs memory = ⊤
+PassesInType Nothing out vs memory = ⊤
+
+-- the inputs from which a row is computed lie in their types
+abbrev pub ReadsInTypes : Kind → List FixType → List ℤ → Type 0
+ReadsInTypes kind ts vs = MatchBool (is_computed kind) (AllZip InType ts vs) ⊤
+
+-- a row of this operation, whose numbers need at most 62 bits, can have these inputs and this memory
+pub record IsEvaluable (op : Op) (vs : List ℤ) (memory : ℤ) : Type 0 where
+  pub kind : Kind
+  pub types : List FixType
+  pub out : FixType
+  pub delays : Bool
+  pub is_op : op ≡ op_of kind types out delays
+  pub within_limits : IsWithinLimits kind
+  pub has_types : HasInputTypes kind types
+  pub narrow : wide_bits kind types out ≤ 62
+  pub reads : ReadsInTypes kind types vs
+  pub passes : PassesInType op out vs memory
