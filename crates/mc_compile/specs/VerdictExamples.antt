@@ -8,7 +8,7 @@ use Rattle.mc_fixed.specs.declared.TypeText.TheVariants.{Inherit, Fixed}
 use Rattle.mc_fixed.specs.Types.{int32}
 use Rattle.mc_blocks.specs.declared.Kind.TheVariants.{Inport, Outport, UnitDelay}
 use Rattle.mc_diagram.specs.declared.Row.{Row}
-use Rattle.mc_diagram.specs.RunExamples.{whole}
+use Rattle.mc_diagram.specs.RunExamples.{whole_decimal}
 use Rattle.mdl_tree.specs.Text.{Statement, Opens, Closes, Sets}
 use Rattle.mc_compile.specs.FlatRows.{AreRowsOf}
 use Rattle.mc_compile.specs.RuleExamples.{one_wire, one_delay}
@@ -47,7 +47,7 @@ row number line =
 abbrev rows_of_one_wire : List Row
 rows_of_one_wire =
     record (row 0 5) { type_text = Fixed int32 }
-    ∷ record (row 1 11) { kind = Outport 1 false (whole 0 (lit≤ tt)); inputs = 0 ∷ [] }
+    ∷ record (row 1 11) { kind = Outport 1 false (whole_decimal 0 (lit≤ tt)); inputs = 0 ∷ [] }
     ∷ []
 
 verdict-one_wire : HasVerdict text_of_one_wire (Accepted rows_of_one_wire)
@@ -67,7 +67,7 @@ verdict-unclosed : HasVerdict (codes "Model {\n  System {\n  }\n") (Refused (Syn
 verdict-unclosed = (lit≤ tt, refl)
 
 -- a Unit Delay, with its initial condition and the row that it reads
-rows-one_delay : AreRowsOf one_delay (record (row 0 5) { type_text = Fixed int32 } ∷ record (row 1 11) { kind = UnitDelay (whole 7 (lit≤ tt)); inputs = 0 ∷ [] } ∷ record (row 2 16) { kind = Outport 1 false (whole 0 (lit≤ tt)); inputs = 1 ∷ [] } ∷ [])
+rows-one_delay : AreRowsOf one_delay (record (row 0 5) { type_text = Fixed int32 } ∷ record (row 1 11) { kind = UnitDelay (whole_decimal 7 (lit≤ tt)); inputs = 0 ∷ [] } ∷ record (row 2 16) { kind = Outport 1 false (whole_decimal 0 (lit≤ tt)); inputs = 1 ∷ [] } ∷ [])
 rows-one_delay = (
   record { place = refl; owner = refl; kind = (refl, refl); inputs = refl; type_text = refl; time_text = refl },
   (record { place = refl; owner = refl; kind = (refl, refl); inputs = refl; type_text = refl; time_text = refl }, (record { place = refl; owner = refl; kind = (refl, refl, refl, refl); inputs = refl; type_text = refl; time_text = refl }, tt)),
