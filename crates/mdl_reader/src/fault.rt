@@ -1,0 +1,39 @@
+ghost use Rattle.std.specs.Prelude.{◌≡◌};
+ghost use Rattle.mdl_reader.specs.declared.fault.ReadFault.TheVariants.{Memory};
+
+use mc_base::SyntaxKind;
+use std::alloc::{AllocError, AllocFailed};
+
+/// Why a text gives no tree of sections.
+#[derive(Clone, Copy, Debug, PartialEq, Eq, Drop)]
+pub enum ReadFault {
+    /// The first fault of the text: the number of its line from 1, where a number that 32 bits don't
+    /// hold is given as the greatest that they do.
+    Syntax { line: u32, kind: SyntaxKind },
+    /// There was no memory.
+    Memory,
+}
+
+impl From<mc_base::Memory> for ReadFault {
+    ghost from_gives = { λ _ fault. fault ≡ Memory };
+
+    fn from(_memory: mc_base::Memory) -> ReadFault {
+        ReadFault::Memory
+    }
+}
+
+impl From<AllocError> for ReadFault {
+    ghost from_gives = { λ _ fault. fault ≡ Memory };
+
+    fn from(_error: AllocError) -> ReadFault {
+        ReadFault::Memory
+    }
+}
+
+impl<T: Drop> From<AllocFailed<T>> for ReadFault {
+    ghost from_gives = { λ _ fault. fault ≡ Memory };
+
+    fn from(_error: AllocFailed<T>) -> ReadFault {
+        ReadFault::Memory
+    }
+}

@@ -1,0 +1,9 @@
+// The tree of sections of a model's text, or the first fault of the text.
+#![tactic(auto)]
+
+mod builder;
+mod fault;
+mod form;
+mod strings;
+
+pub use fault::ReadFault;
