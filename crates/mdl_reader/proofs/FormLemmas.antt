@@ -1,9 +1,9 @@
 -- The form of a line by its first bytes.
-use Rattle.std.proofs.Common.{◌≡◌, refl, sym, ◌∙◌, ap, ℕ, ◌<◌, ◌≤◌, ◌⊎◌, inl, inr, Bool, true, false, cond, true≢false, List, [], ◌∷◌, length, get_or, ne_eqb, ◌==◌, not, ◌&&◌, arith}
+use Rattle.std.proofs.Common.{◌≡◌, refl, sym, ◌∙◌, ap, ℕ, Bool, true, false, cond, true≢false, List, [], ◌∷◌, get_or, ne_eqb, ◌==◌, not, ◌&&◌}
 use Rattle.std.specs.List.{take_while}
 use Rattle.std.specs.Char.{is_ascii_digit}
 use Rattle.mc_base.specs.Bytes.{drop_while}
-use Rattle.mdl_tree.specs.Text.{LineForm, is_name_byte, is_open_brace, parameter_form, named_form, line_form}
+use Rattle.mdl_tree.specs.Text.{LineForm, is_name_byte, named_form, line_form}
 
 -- a byte of a name is none that isn't
 other_byte : (c k : ℕ) → is_name_byte c ≡ true → is_name_byte k ≡ false → (c == k) ≡ false

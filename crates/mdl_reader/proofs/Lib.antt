@@ -1,2 +1,5 @@
 pub mod FormLemmas
 pub mod SectionLemmas
+pub mod LinesLemmas
+pub mod TreeLemmas
+pub mod ReaderLemmas

@@ -79,3 +79,10 @@ TakesLine old new found = (within_begun new.begun ≡ found.0) × Reads old new 
 -- the whole file as a section
 abbrev pub file_of : Items → SectionTree
 file_of items = record { name = []; line = 0; items = items }
+
+-- the builder has read nothing
+pub record IsNew (builder : Builder) : Type 0 where
+  pub current : section_tree builder.current ≡ file_of End
+  pub around : builder.around.items ≡ []
+  pub quoted : builder.quoted ≡ None
+  pub begun : builder.begun ≡ None

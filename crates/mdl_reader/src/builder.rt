@@ -4,7 +4,7 @@ ghost use Rattle.mdl_tree.specs.Values.{items_of, section_tree, with_item};
 ghost use Rattle.mdl_tree.specs.Spelling.{End, Param};
 ghost use Rattle.mdl_reader.specs.Forms.{form_of};
 ghost use Rattle.mdl_reader.specs.Faults.{Answers};
-ghost use Rattle.mdl_reader.specs.Building.{with_items, section_item, with_quoted, quoted_statement, outcome, within_begun, Reads, FailsAt, TakesLine, file_of};
+ghost use Rattle.mdl_reader.specs.Building.{with_items, section_item, with_quoted, quoted_statement, outcome, within_begun, Reads, FailsAt, TakesLine, IsNew, file_of};
 
 use crate::fault::ReadFault;
 use crate::form::{Form, line_form};
@@ -74,7 +74,7 @@ pub(crate) struct Builder {
 impl Builder {
     /// A builder that has read nothing.
     pub(crate) fn new(alloc: Global) -> Builder
-        ensures { result ≡ result }
+        ensures { IsNew result }
     {
         let current = Section {
             name: Text::new(Vec::new(alloc)),
@@ -223,7 +223,12 @@ impl Builder {
     }
 
     /// Takes a line without the blanks at its ends.
-    pub(crate) fn take_line(&mut self, alloc: Global, line: u32, text: &[u8]) -> Result<(), ReadFault>
+    pub(crate) fn take_line(
+        &mut self,
+        alloc: Global,
+        line: u32,
+        text: &[u8],
+    ) -> Result<(), ReadFault>
         ensures { Answers result
             (λ _. TakesLine self.old self.new (after_line (within_begun self.old.begun) line text.now))
             (FailsAt self.old (after_line (within_begun self.old.begun) line text.now).1) }

@@ -49,7 +49,12 @@ fn is_open_brace(text: &[u8]) -> bool
 }
 
 /// A parameter by the text behind its name and blanks.
-fn parameter_form<'a>(alloc: Global, line: u32, name: &'a [u8], text: &'a [u8]) -> Result<Form<'a>, ReadFault>
+fn parameter_form<'a>(
+    alloc: Global,
+    line: u32,
+    name: &'a [u8],
+    text: &'a [u8],
+) -> Result<Form<'a>, ReadFault>
     ensures { Answers result
         (λ form. form_of line form ≡ parameter_form line name.now text.now)
         (λ told kind. parameter_form line name.now text.now ≡ Whole (Faulty told kind)) }
@@ -65,7 +70,12 @@ fn parameter_form<'a>(alloc: Global, line: u32, name: &'a [u8], text: &'a [u8]) 
 }
 
 /// A line that begins with a name, by the name and what stands directly behind it.
-fn named_form<'a>(alloc: Global, line: u32, name: &'a [u8], behind: &'a [u8]) -> Result<Form<'a>, ReadFault>
+fn named_form<'a>(
+    alloc: Global,
+    line: u32,
+    name: &'a [u8],
+    behind: &'a [u8],
+) -> Result<Form<'a>, ReadFault>
     ensures { Answers result
         (λ form. form_of line form ≡ named_form line name.now behind.now)
         (λ told kind. named_form line name.now behind.now ≡ Whole (Faulty told kind)) }
@@ -104,4 +114,3 @@ pub(crate) fn line_form<'a>(alloc: Global, line: u32, text: &'a [u8]) -> Result<
         }
     }
 }
-

@@ -4,6 +4,8 @@
 mod builder;
 mod fault;
 mod form;
+mod reader;
 mod strings;
 
 pub use fault::ReadFault;
+pub use reader::read_mdl;

@@ -1,0 +1,24 @@
+ghost use Rattle.std.specs.Prelude.{IfOk, IfErr};
+ghost use Rattle.mdl_tree.specs.Values.{section_tree};
+ghost use Rattle.mdl_reader.specs.Reading.{IsFileOf, IsFaultOf};
+
+use crate::builder::Builder;
+use crate::fault::ReadFault;
+use bstr::ByteSlice;
+use mc_base::trim;
+use mdl_tree::Section;
+use std::alloc::Global;
+
+/// The sections of a model's text, in a section of no name at line 0.
+pub fn read_mdl(alloc: Global, bytes: &[u8]) -> Result<Section, ReadFault>
+    ensures tree { IfOk result (λ section. IsFileOf bytes.now (section_tree section)) }
+    ensures fault { IfErr result (IsFaultOf bytes.now) }
+{
+    let mut builder = Builder::new(alloc);
+    let mut line: u32 = 0;
+    for text in bytes.lines() {
+        line = line.saturating_add(1);
+        builder.take_line(alloc, line, trim(text))?;
+    }
+    builder.finish(alloc, line)
+}
