@@ -1,3 +1,6 @@
 pub mod InType
 pub mod Magnitudes
 pub mod Fits
+pub mod Widths
+pub mod SoFar
+pub mod Truths
