@@ -1,0 +1,15 @@
+-- The vocabulary of a scope.
+use Rattle.std.specs.Prelude.{ℕ, List, map}
+use Rattle.c_tree.specs.declared.printing.names.Params.{Params}
+use Rattle.c_tree.specs.declared.printing.names.Params.TheVariants.{Pure, Procedure}
+use Rattle.c_tree.specs.declared.printing.names.Scope.{Scope}
+use Rattle.c_tree.specs.PlainField.{field_trees}
+use Rattle.c_tree.specs.Plain.{program_tree}
+use Rattle.c_tree.specs.Printing.{Vocabulary}
+
+abbrev pub param_names : Params → List (List ℕ)
+param_names (Pure params) = params.now
+param_names (Procedure params) = map (λ q. q.0) params.now
+
+abbrev pub vocabulary_of : Scope → Vocabulary
+vocabulary_of s = record { program = program_tree s.program.now; fields = field_trees s.fields.now; params = param_names s.params }
