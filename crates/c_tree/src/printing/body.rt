@@ -7,7 +7,9 @@ ghost use Rattle.c_tree.specs.Printing.{leaf_bytes, literal_bytes, expr_bytes, e
 ghost use Rattle.c_tree.specs.VocabularyOf.{vocabulary_of};
 
 use crate::code::{BinOp, CType, Cond, Expr, Leaf, Stmt, Target};
-use crate::printing::names::{Scope, field_name, field_type, procedure_name, procedure_params, pure_name};
+use crate::printing::names::{
+    Scope, field_name, field_type, procedure_name, procedure_params, pure_name,
+};
 use crate::printing::put;
 use mc_base::{Compare, Text};
 use std::alloc::{AllocError, Global};
@@ -79,7 +81,12 @@ fn put_literal(alloc: Global, out: &mut Vec<u8>, value: i64) -> Result<(), Alloc
 }
 
 #[cycle(expression)]
-pub(super) fn put_expr(alloc: Global, out: &mut Vec<u8>, scope: &Scope, e: &Expr) -> Result<(), AllocError>
+pub(super) fn put_expr(
+    alloc: Global,
+    out: &mut Vec<u8>,
+    scope: &Scope,
+    e: &Expr,
+) -> Result<(), AllocError>
     ensures { OnOk result (out.new.items ≡ out.old.items ++ expr_bytes (vocabulary_of scope.now) (expr_tree e.now)) }
 {
     match e {
@@ -250,7 +257,13 @@ fn put_call(
     put(out, procedure_name(scope.program, procedure))?;
     put(out, b"(")?;
     put_target(out, scope, target)?;
-    put_arguments(alloc, out, scope, procedure_params(scope.program, procedure), values)?;
+    put_arguments(
+        alloc,
+        out,
+        scope,
+        procedure_params(scope.program, procedure),
+        values,
+    )?;
     put(out, b");\n")
 }
 
@@ -299,7 +312,13 @@ fn put_close(out: &mut Vec<u8>, margin: usize) -> Result<(), AllocError>
 }
 
 #[cycle(statement)]
-fn put_stmt(alloc: Global, out: &mut Vec<u8>, scope: &Scope, margin: usize, s: &Stmt) -> Result<(), AllocError>
+fn put_stmt(
+    alloc: Global,
+    out: &mut Vec<u8>,
+    scope: &Scope,
+    margin: usize,
+    s: &Stmt,
+) -> Result<(), AllocError>
     ensures { OnOk result (out.new.items ≡ out.old.items ++ stmt_bytes (vocabulary_of scope.now) margin (stmt_tree s.now)) }
 {
     match s {
@@ -321,7 +340,13 @@ fn put_stmt(alloc: Global, out: &mut Vec<u8>, scope: &Scope, margin: usize, s: &
 
 // The second block of a choice, where it does something.
 #[cycle(statement)]
-fn put_else(alloc: Global, out: &mut Vec<u8>, scope: &Scope, margin: usize, no: &[Stmt]) -> Result<(), AllocError>
+fn put_else(
+    alloc: Global,
+    out: &mut Vec<u8>,
+    scope: &Scope,
+    margin: usize,
+    no: &[Stmt],
+) -> Result<(), AllocError>
     ensures { OnOk result (out.new.items
         ≡ out.old.items ++ else_bytes (vocabulary_of scope.now) margin (stmts_of_list (map stmt_tree no.now))) }
 {

@@ -13,7 +13,12 @@ use crate::program::{Field, FieldKind, Procedure, Program, Pure, StructDef};
 use mc_base::Text;
 use std::alloc::{AllocError, Global};
 
-pub(super) fn put_pure(alloc: Global, out: &mut Vec<u8>, program: &Program, pure: &Pure) -> Result<(), AllocError>
+pub(super) fn put_pure(
+    alloc: Global,
+    out: &mut Vec<u8>,
+    program: &Program,
+    pure: &Pure,
+) -> Result<(), AllocError>
     ensures { OnOk result (out.new.items ≡ out.old.items ++ pure_bytes (program_tree program.now) (pure_tree pure.now)) }
 {
     put_pure_head(out, pure)?;
@@ -52,7 +57,11 @@ fn put_pure_params(out: &mut Vec<u8>, params: &[Text]) -> Result<(), AllocError>
     Ok(())
 }
 
-pub(super) fn put_struct(out: &mut Vec<u8>, program: &Program, def: &StructDef) -> Result<(), AllocError>
+pub(super) fn put_struct(
+    out: &mut Vec<u8>,
+    program: &Program,
+    def: &StructDef,
+) -> Result<(), AllocError>
     ensures { OnOk result (out.new.items ≡ out.old.items ++ struct_bytes (program_tree program.now) def.now) }
 {
     put(out, b"\nstruct ")?;
@@ -114,7 +123,11 @@ pub(super) fn put_procedure(
     put(out, b"}\n")
 }
 
-fn put_procedure_head(out: &mut Vec<u8>, program: &Program, procedure: &Procedure) -> Result<(), AllocError>
+fn put_procedure_head(
+    out: &mut Vec<u8>,
+    program: &Program,
+    procedure: &Procedure,
+) -> Result<(), AllocError>
     ensures { OnOk result (out.new.items
         ≡ out.old.items ++ procedure_head_bytes (program_tree program.now) (procedure_tree procedure.now)) }
 {
