@@ -1,4 +1,5 @@
 pub mod Places
+pub mod Held
 pub mod Blocks
 pub mod Lines
 pub mod Rules

@@ -1,35 +1,43 @@
 -- Which sections stand where a flat model has none.
-use Rattle.std.specs.Prelude.{ℕ, ◌||◌, List, [], ◌∷◌, ◌++◌, Option, None, Some, min, codes, if◌then◌else◌}
+use Rattle.std.specs.Prelude.{ℕ, Bool, ◌||◌, List, [], ◌∷◌, ◌++◌, map, flat_map, Option, None, Some, min, codes, if◌then◌else◌}
 use Rattle.std.specs.Str.{bytes_eq}
-use Rattle.std.specs.Option.{option_map_or}
 use Rattle.mdl_tree.specs.Spelling.{Items, End, Param, Section}
 use Rattle.mdl_tree.specs.Walks.{SectionTree, first_section}
+
+-- the lesser of two numbers that may be there
+abbrev pub lesser : Option ℕ → Option ℕ → Option ℕ
+lesser None b = b
+lesser (Some a) None = Some a
+lesser (Some a) (Some b) = Some (min a b)
 
 -- the least of some numbers
 abbrev pub least : List ℕ → Option ℕ
 least [] = None
-least (n ∷ ns) = Some (option_map_or (min n) (least ns) n)
+least (n ∷ ns) = lesser (Some n) (least ns)
 
--- the lines of the sections directly among the items
-abbrev pub section_lines : Items → List ℕ
-section_lines End = []
-section_lines (Param name value line rest) = section_lines rest
-section_lines (Section name line items rest) = line ∷ section_lines rest
+-- the sections directly among the items, in order
+abbrev pub sections_in : Items → List SectionTree
+sections_in End = []
+sections_in (Param name value line rest) = sections_in rest
+sections_in (Section name line items rest) = record { name = name; line = line; items = items } ∷ sections_in rest
 
--- the lines of all of them but the first of this name
-abbrev pub lines_but_first : List ℕ → Items → List ℕ
-lines_but_first wanted End = []
-lines_but_first wanted (Param name value line rest) = lines_but_first wanted rest
-lines_but_first wanted (Section name line items rest) =
-    if bytes_eq name wanted then section_lines rest else line ∷ lines_but_first wanted rest
+abbrev pub has_title : List ℕ → SectionTree → Bool
+has_title name section = bytes_eq section.name name
 
--- in a System, the lines of the sections that are no Block and no Line, and of those inside a Block or a Line
-abbrev pub misplaced_in_system : Items → List ℕ
-misplaced_in_system End = []
-misplaced_in_system (Param name value line rest) = misplaced_in_system rest
-misplaced_in_system (Section name line items rest) =
-    (if bytes_eq name (codes "Block") || bytes_eq name (codes "Line") then section_lines items else line ∷ [])
-    ++ misplaced_in_system rest
+abbrev pub section_lines : List SectionTree → List ℕ
+section_lines sections = map (λ s. s.line) sections
+
+-- the lines of all sections but the first of this name
+abbrev pub lines_but_first : List ℕ → List SectionTree → List ℕ
+lines_but_first name [] = []
+lines_but_first name (section ∷ rest) =
+    if has_title name section then section_lines rest else section.line ∷ lines_but_first name rest
+
+-- of a section in a System, the lines of the sections inside a Block or a Line, and else its own line
+abbrev pub misplaced_lines : SectionTree → List ℕ
+misplaced_lines section =
+    if has_title (codes "Block") section || has_title (codes "Line") section then section_lines (sections_in section.items)
+    else section.line ∷ []
 
 -- the items of a section, and none where there is no section
 abbrev pub items_in : Option SectionTree → Items
@@ -47,6 +55,6 @@ system_items file = items_in (first_section (codes "System") (model_items file))
 -- and in that System
 abbrev pub misplaced : Items → List ℕ
 misplaced file =
-    lines_but_first (codes "Model") file
-    ++ lines_but_first (codes "System") (model_items file)
-    ++ misplaced_in_system (system_items file)
+    lines_but_first (codes "Model") (sections_in file)
+    ++ lines_but_first (codes "System") (sections_in (model_items file))
+    ++ flat_map misplaced_lines (sections_in (system_items file))

@@ -4,19 +4,18 @@ use Rattle.std.specs.Str.{bytes_eq}
 use Rattle.std.specs.List.{list_any}
 use Rattle.std.specs.Option.{option_map_or}
 use Rattle.mdl_tree.specs.Spelling.{Items}
-use Rattle.mdl_tree.specs.Walks.{sections_named}
 use Rattle.mc_compile.specs.declared.blocks.BlockType.{BlockType}
 use Rattle.mc_compile.specs.declared.blocks.BlockType.TheVariants.{Inport, Outport, UnitDelay, Other}
-use Rattle.mc_compile.specs.Places.{misplaced, system_items}
+use Rattle.mc_compile.specs.Places.{sections_in, has_title, misplaced, system_items}
 use Rattle.mc_compile.specs.Blocks.{Block, block_of}
 use Rattle.mc_compile.specs.Lines.{Line, line_of}
 
 -- the Blocks and the Lines of a file's System, in order
 abbrev pub blocks_of : Items → List Block
-blocks_of file = map block_of (sections_named (codes "Block") (system_items file))
+blocks_of file = map block_of (filter (has_title (codes "Block")) (sections_in (system_items file)))
 
 abbrev pub lines_of : Items → List Line
-lines_of file = map line_of (sections_named (codes "Line") (system_items file))
+lines_of file = map line_of (filter (has_title (codes "Line")) (sections_in (system_items file)))
 
 -- ---- Names
 

@@ -3,5 +3,8 @@
 
 mod blocks;
 mod compiled;
+mod initial;
+mod lines;
+mod sections;
 
 pub use compiled::{CompileFault, Compiled};

@@ -1,0 +1,3 @@
+pub mod Lesser
+pub mod Walks
+pub mod Digits
