@@ -1,3 +1,4 @@
 pub mod Lesser
 pub mod Walks
 pub mod Digits
+pub mod NameLaws

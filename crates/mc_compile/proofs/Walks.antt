@@ -1,5 +1,6 @@
 -- Steps of walks over sections.
-use Rattle.std.proofs.Common.{◌≡◌, refl, sym, ◌∙◌, ap, ℕ, suc, ◌+◌, ◌<◌, List, [], ◌∷◌, ◌++◌, length, drop, slice_index_or, drop-cons, arith}
+use Rattle.std.proofs.Common.{◌≡◌, refl, sym, ◌∙◌, ap, ℕ, suc, ◌+◌, ◌<◌, List, [], ◌∷◌, ◌++◌, length, drop, slice_index_or, drop-cons, take, arith}
+use Rattle.std.proofs.lemmas.List.{take_more}
 use denote.Ref.{Bor}
 use Rattle.mdl_tree.specs.declared.tree.Section.{Section}
 use Rattle.mdl_tree.specs.declared.tree.Item.TheViews as views
@@ -26,3 +27,7 @@ pub trees_of-push : (sections : List (Bor Section)) (last : Bor Section) (more :
     trees_of (sections ++ last ∷ []) ++ more ≡ trees_of sections ++ section_tree last.now ∷ more
 trees_of-push [] last more = refl
 trees_of-push (s ∷ ss) last more = ap (λ t. section_tree s.now ∷ t) (trees_of-push ss last more)
+
+-- the first elements up to and with this one
+pub up_to_place : {X : Type 0} (xs : List X) (i : ℕ) (x : X) → i < length xs → x ≡ slice_index_or xs i x → take (i + 1) xs ≡ take i xs ++ x ∷ []
+up_to_place xs i x h e = take_more xs i x h ∙ ap (λ y. take i xs ++ y ∷ []) (sym e)

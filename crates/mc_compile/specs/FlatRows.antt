@@ -1,6 +1,6 @@
 -- The rows of a flat model.
-use Rattle.std.specs.Prelude.{◌≡◌, ℕ, false, List, [], find, position, Option, None, Some, ℤ, pos}
-use Rattle.std.specs.List.{AllZip, enumerate_from}
+use Rattle.std.specs.Prelude.{◌≡◌, ℕ, false, List, [], find, Option, None, Some, ℤ, pos}
+use Rattle.std.specs.List.{AllZip, enumerate_from, position_from}
 use Rattle.std.specs.Option.{option_map, option_and_then, option_to_list}
 use Rattle.mc_base.specs.Literals.{Ratio, ratio_of}
 use Rattle.mc_base.specs.declared.TimeText.TheVariants as time
@@ -19,7 +19,7 @@ use Rattle.mc_compile.specs.Rules.{has_name, leads_to, blocks_of, lines_of}
 
 -- the number of the first block of this name
 abbrev pub row_named : List Block → Option (List ℕ) → Option ℕ
-row_named blocks name = position (has_name name) blocks
+row_named blocks name = position_from (has_name name) 0 blocks
 
 -- the row that the first Line to a block of this name comes from
 abbrev pub wire_to : List Block → List Line → Option (List ℕ) → Option ℕ

@@ -4,6 +4,7 @@ pub mod Blocks
 pub mod Lines
 pub mod Rules
 pub mod FlatRows
+pub mod NameMaps
 pub mod Verdict
 pub mod Compilation
 pub mod RuleExamples

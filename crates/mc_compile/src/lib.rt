@@ -5,6 +5,7 @@ mod blocks;
 mod compiled;
 mod initial;
 mod lines;
+mod names;
 mod sections;
 
 pub use compiled::{CompileFault, Compiled};
