@@ -2,3 +2,5 @@ pub mod Lesser
 pub mod Walks
 pub mod Digits
 pub mod NameLaws
+pub mod RowLaws
+pub mod WireLaws

@@ -5,6 +5,7 @@ pub mod Lines
 pub mod Rules
 pub mod FlatRows
 pub mod NameMaps
+pub mod Wiring
 pub mod Verdict
 pub mod Compilation
 pub mod RuleExamples

@@ -7,5 +7,6 @@ mod initial;
 mod lines;
 mod names;
 mod sections;
+mod wiring;
 
 pub use compiled::{CompileFault, Compiled};
