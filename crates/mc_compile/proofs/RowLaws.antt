@@ -1,7 +1,6 @@
 -- The first block of a name, by its number and by search.
 use Rattle.std.proofs.Common.{◌≡◌, refl, sym, ◌∙◌, ap, subst, ℕ, suc, ◌+◌, ◌<◌, Bool, true, false, cond, List, [], ◌∷◌, length, get_or, Option, None, Some, is_some, arith, true≢false, find}
 use Rattle.std.specs.List.{position_from}
-use Rattle.std.specs.Str.{bytes_eq}
 use Rattle.std.proofs.lemmas.Slice.Eq.{bytes_eq-Decides}
 use Rattle.mc_compile.specs.Blocks.{Block}
 use Rattle.mc_compile.specs.Rules.{same_name, has_name}
@@ -37,14 +36,17 @@ found_from {X} test k (y ∷ ys) r e = by_test (test y) refl (λ h. found_from t
     by_test : (t : Bool) → test y ≡ t → (position_from test (k + 1) ys ≡ Some r → FoundFrom test (k + 1) ys r) → cond t (Some k) (position_from test (k + 1) ys) ≡ Some r → FoundFrom test k (y ∷ ys) r
     by_test true f more e = (0, here k r (some_is k r e), record { inside = omega arith; item = y; found = ap (λ t. cond t (Some y) (find test ys)) f; passes = f; at = λ d. refl })
     by_test false f more e =
-        let (i, place, behind) = more e in
-        (suc i, there k r i place, record {
-          inside = omega (arith, behind.inside);
-          item = behind.item;
-          found = ap (λ t. cond t (Some y) (find test ys)) f ∙ behind.found;
-          passes = behind.passes;
-          at = behind.at;
-        })
+        let (i, place, behind) = more e in (
+          suc i,
+          there k r i place,
+          record {
+            inside = omega (arith, behind.inside);
+            item = behind.item;
+            found = ap (λ t. cond t (Some y) (find test ys)) f ∙ behind.found;
+            passes = behind.passes;
+            at = behind.at;
+          },
+        )
 
 pub found : (blocks : List Block) (name : Option (List ℕ)) (row : ℕ) → row_named blocks name ≡ Some row → FoundAt (has_name name) blocks row
 found blocks name row e =

@@ -10,6 +10,7 @@ ghost use Rattle.mc_compile.specs.Blocks as written;
 ghost use Rattle.mc_compile.specs.Blocks.{block_of, param_names};
 
 use crate::initial::initial_number;
+use mc_base::read_decimal;
 use mdl_tree::{Item, Section};
 use std::alloc::{AllocError, Global};
 use std::marker::Model;
@@ -106,11 +107,25 @@ fn initial_value(section: &Section) -> Option<i64>
     }
 }
 
-/// The whole number that the section's Port writes, if it writes one that isn't negative.
+/// The whole number that a text writes, if it writes one that isn't negative.
+fn port_number(text: &[u8]) -> Option<u128>
+    ensures { result ≡ written.port_number (Some text.now) }
+{
+    let number = read_decimal(text).ok()?;
+    if number.den == 1 && number.num >= 0 {
+        Some(number.num as u128)
+    } else {
+        None
+    }
+}
+
 fn port_of(section: &Section) -> Option<u128>
     ensures { result ≡ written.port_number (first_value (codes "Port") (section_tree section.now).items) }
 {
-    None
+    match section.param(b"Port") {
+        Some(text) => port_number(text.bytes()),
+        None => None,
+    }
 }
 
 /// Whether an Inport writes that it is an int32, and the initial condition of a Unit Delay is one.
@@ -155,10 +170,7 @@ impl<'a> Block<'a> {
 }
 
 /// The Blocks among the sections, in order.
-pub fn blocks_of<'a>(
-    alloc: Global,
-    sections: &[&'a Section],
-) -> Result<Vec<Block<'a>>, AllocError>
+pub fn blocks_of<'a>(alloc: Global, sections: &[&'a Section]) -> Result<Vec<Block<'a>>, AllocError>
     ensures { IfOk result (λ v. v.items ≡ map block_of (filter (has_title (codes "Block")) (trees_of sections.now))) }
 {
     let mut blocks = Vec::new(alloc);

@@ -1,4 +1,4 @@
-use Rattle.std.proofs.Common.{◌≡◌, sym, ◌∙◌, ap, subst, take, Option, None, Some, option_copied, List, ℕ, ◌+◌, ◌++◌, ◌∷◌, [], is_some, arith}
+use Rattle.std.proofs.Common.{◌≡◌, sym, ◌∙◌, ap, subst, take, option_copied, ◌+◌, ◌++◌, ◌∷◌, [], is_some, arith}
 use Rattle.mc_compile.specs.NameMaps.{AreNamesOf}
 use Rattle.mc_compile.proofs.Walks.{up_to_place}
 use Rattle.mc_compile.proofs.NameLaws.{names-unnamed, names-known, names-new, copied_None, copied_some}
