@@ -14,7 +14,8 @@ use Rattle.mdl_reader.specs.declared.fault.ReadFault.{ReadFault}
 use Rattle.mdl_reader.specs.declared.fault.ReadFault.TheVariants.{Syntax, Memory}
 use Rattle.mdl_reader.specs.Faults.{Answers}
 use Rattle.mdl_reader.specs.Reading.{IsFileOf, IsFaultOf}
-use Rattle.mdl_reader.specs.Building.{tree_from, file_of, continuing, outcome, within_begun, TakesLine, FailsAt, IsNew}
+use Rattle.mdl_reader.specs.Building.{tree_from, file_of}
+use Rattle.mdl_reader.specs.Builders.{continuing, outcome, within_begun, HasRead, FailsAt, Finishes, IsNew}
 use Rattle.mdl_reader.proofs.TreeLemmas.{text_outcome, text_fault, text_tree}
 
 -- a builder that has read nothing comes to what the whole text does
@@ -34,7 +35,7 @@ line_found within line number text trimmed reported cut =
 
 -- a line that is read leaves what the text comes to
 pub outcome-line : (last number line : ℕ) (old new : Builder) (text trimmed : List ℕ) (texts rest : List (List ℕ)) →
-    line ≡ reported_number number → trimmed ≡ trim text → texts ≡ text ∷ rest → TakesLine old new (after_line (within_begun old.begun) line trimmed) →
+    line ≡ reported_number number → trimmed ≡ trim text → texts ≡ text ∷ rest → HasRead old new (after_line (within_begun old.begun) line trimmed) →
     outcome last new (statements_from (within_begun new.begun) (number + 1) rest) ≡ outcome last old (statements_from (within_begun old.begun) number texts)
 outcome-line last number line old new text trimmed texts rest reported cut first takes =
     let within = within_begun old.begun in
@@ -56,13 +57,6 @@ fault_at_line OfValue bytes number line old text trimmed texts rest (Syntax told
     ∙ ap (λ f. outcome last old (f.1 ++ statements_from f.0 (number + 1) rest)) (sym (line_found within line number text trimmed reported cut))
     ∙ fails last (statements_from (after_line within line trimmed).0 (number + 1) rest))
 fault_at_line OfValue bytes number line old text trimmed texts rest Memory reported cut first read fails = tt
-
--- what the end of the text gives
-abbrev pub Finishes : ℕ → Builder → Result Section ReadFault → Type 0
-Finishes line builder result = Answers result
-    (λ section. (section_tree section ≡ file_of (items_of section.items.items))
-    × (outcome line builder (at_end (within_begun builder.begun)) ≡ Ok (items_of section.items.items)))
-    (λ told kind. outcome line builder (at_end (within_begun builder.begun)) ≡ Err (told, kind))
 
 -- behind the last line
 pub tree_at_end : (bytes : List ℕ) (line number : ℕ) (builder : Builder) (texts : List (List ℕ)) (result : Result Section ReadFault) →

@@ -1,10 +1,10 @@
-ghost use Rattle.std.specs.Prelude.{◌≡◌, ℕ, List, [], ◌∷◌, ◌++◌, None, Some, Err, Ok, false, true, OnOk, IfOk, ⊤};
-ghost use Rattle.mdl_tree.specs.Text.{Opens, Closes, Sets, Adds, NoValue, at_end, after_form, after_line};
-ghost use Rattle.mdl_tree.specs.Values.{items_of, section_tree, with_item};
+ghost use Rattle.std.specs.Prelude.{◌≡◌, ℕ, None, Some, false, true, OnOk, IfOk};
 ghost use Rattle.mdl_tree.specs.Spelling.{End, Param};
+ghost use Rattle.mdl_tree.specs.Text.{Opens, Closes, Adds, after_form, after_line};
+ghost use Rattle.mdl_tree.specs.Values.{section_tree, with_item};
 ghost use Rattle.mdl_reader.specs.Forms.{form_of};
-ghost use Rattle.mdl_reader.specs.Faults.{Answers};
-ghost use Rattle.mdl_reader.specs.Building.{with_items, section_item, with_quoted, quoted_statement, outcome, within_begun, Reads, FailsAt, TakesLine, IsNew, file_of};
+ghost use Rattle.mdl_reader.specs.Building.{section_item, with_items};
+ghost use Rattle.mdl_reader.specs.Builders.{statement_of, with_quoted, within_begun, IsNew, Steps, StepsOver, Finishes};
 
 use crate::fault::ReadFault;
 use crate::form::{Form, line_form};
@@ -104,9 +104,7 @@ impl Builder {
 
     /// Adds a parameter whose value is complete.
     fn set(&mut self, parameter: Parameter) -> Result<(), ReadFault>
-        ensures { Answers result
-            (λ _. Reads self.old self.new (Sets parameter.line parameter.name parameter.value.items false ∷ []) × (self.new.begun ≡ self.old.begun))
-            (λ _ _. ⊥) }
+        ensures { Steps self.old self.new result (statement_of parameter false) }
     {
         self.settle()?;
         push_item(&mut self.current, parameter.into_item())?;
@@ -115,9 +113,7 @@ impl Builder {
 
     /// Takes a quoted parameter, which the strings that follow may continue.
     fn set_quoted(&mut self, parameter: Parameter) -> Result<(), ReadFault>
-        ensures { Answers result
-            (λ _. Reads self.old self.new (quoted_statement parameter ∷ []) × (self.new.begun ≡ self.old.begun))
-            (λ _ _. ⊥) }
+        ensures { Steps self.old self.new result (statement_of parameter true) }
     {
         self.settle()?;
         self.quoted = Some(parameter);
@@ -126,31 +122,23 @@ impl Builder {
 
     /// Continues the quoted parameter.
     fn add(&mut self, line: u32, string: &[u8]) -> Result<(), ReadFault>
-        ensures { Answers result
-            (λ _. Reads self.old self.new (Adds line string.now ∷ []) × (self.new.begun ≡ self.old.begun))
-            (FailsAt self.old (Adds line string.now ∷ [])) }
+        ensures { Steps self.old self.new result (Adds line string.now) }
     {
         match &mut self.quoted {
             Some(parameter) => {
                 parameter.value.extend_from_slice(string)?;
                 Ok(())
             }
-            None => {
-                let kind = SyntaxKind::StrayString;
-                Err(ReadFault::Syntax { line, kind })
-            }
+            None => Err(ReadFault::at(line, SyntaxKind::StrayString)),
         }
     }
 
     /// Opens a section.
     fn open(&mut self, alloc: Global, line: u32, name: &[u8]) -> Result<(), ReadFault>
-        ensures { Answers result
-            (λ _. Reads self.old self.new (Opens line name.now ∷ []) × (self.new.begun ≡ self.old.begun))
-            (FailsAt self.old (Opens line name.now ∷ [])) }
+        ensures { Steps self.old self.new result (Opens line name.now) }
     {
         if self.around.len() == DEPTH {
-            let kind = SyntaxKind::DeepSections;
-            return Err(ReadFault::Syntax { line, kind });
+            return Err(ReadFault::at(line, SyntaxKind::DeepSections));
         }
         self.settle()?;
         let section = Section {
@@ -165,14 +153,11 @@ impl Builder {
 
     /// Closes the innermost section.
     fn close(&mut self, line: u32) -> Result<(), ReadFault>
-        ensures { Answers result
-            (λ _. Reads self.old self.new (Closes line ∷ []) × (self.new.begun ≡ self.old.begun))
-            (FailsAt self.old (Closes line ∷ [])) }
+        ensures { Steps self.old self.new result (Closes line) }
     {
         self.settle()?;
         let Some(outer) = self.around.pop() else {
-            let kind = SyntaxKind::Brace;
-            return Err(ReadFault::Syntax { line, kind });
+            return Err(ReadFault::at(line, SyntaxKind::Brace));
         };
         let section = mem::replace(&mut self.current, outer);
         push_section(&mut self.current, section)?;
@@ -181,9 +166,7 @@ impl Builder {
     /// Takes a further line of a value in brackets.
     fn continue_value(&mut self, mut parameter: Parameter, text: &[u8]) -> Result<(), ReadFault>
         requires { self.old.begun ≡ None }
-        ensures { Answers result
-            (λ _. TakesLine self.old self.new (after_line (within_begun (Some parameter)) 0 text.now))
-            (λ _ _. ⊥) }
+        ensures { StepsOver self.old self.new result (after_line (within_begun (Some parameter)) 0 text.now) }
     {
         parameter.value.push(b' ')?;
         parameter.value.extend_from_slice(text)?;
@@ -198,9 +181,7 @@ impl Builder {
     /// Takes what a line says that is in no value in brackets.
     fn take_form(&mut self, alloc: Global, line: u32, form: Form<'_>) -> Result<(), ReadFault>
         requires { self.old.begun ≡ None }
-        ensures { Answers result
-            (λ _. TakesLine self.old self.new (after_form line (form_of line form.entry)))
-            (FailsAt self.old (after_form line (form_of line form.entry)).1) }
+        ensures { StepsOver self.old self.new result (after_form line (form_of line form.entry)) }
     {
         match form {
             Form::Empty => Ok(()),
@@ -229,9 +210,7 @@ impl Builder {
         line: u32,
         text: &[u8],
     ) -> Result<(), ReadFault>
-        ensures { Answers result
-            (λ _. TakesLine self.old self.new (after_line (within_begun self.old.begun) line text.now))
-            (FailsAt self.old (after_line (within_begun self.old.begun) line text.now).1) }
+        ensures { StepsOver self.old self.new result (after_line (within_begun self.old.begun) line text.now) }
     {
         if let Some(parameter) = self.begun.take() {
             return self.continue_value(parameter, text);
@@ -242,19 +221,14 @@ impl Builder {
 
     /// The sections of the text, at its end, where the last line has this number.
     pub(crate) fn finish(mut self, alloc: Global, line: u32) -> Result<Section, ReadFault>
-        ensures { Answers result
-            (λ section. (section_tree section ≡ file_of (items_of section.items.items)) × (outcome line self (at_end (within_begun self.begun)) ≡ Ok (items_of section.items.items)))
-            (λ told kind. outcome line self (at_end (within_begun self.begun)) ≡ Err (told, kind)) }
+        ensures { Finishes line self result }
     {
         if let Some(parameter) = &self.begun {
-            let line = parameter.line;
-            let kind = SyntaxKind::OpenBracket;
-            return Err(ReadFault::Syntax { line, kind });
+            return Err(ReadFault::at(parameter.line, SyntaxKind::OpenBracket));
         }
         self.settle()?;
         if !self.around.is_empty() {
-            let kind = SyntaxKind::Brace;
-            return Err(ReadFault::Syntax { line, kind });
+            return Err(ReadFault::at(line, SyntaxKind::Brace));
         }
         let Builder { current, .. } = self;
         let Section { items, .. } = current;

@@ -1,5 +1,5 @@
 ghost use Rattle.std.specs.Prelude.{◌≡◌};
-ghost use Rattle.mdl_reader.specs.declared.fault.ReadFault.TheVariants.{Memory};
+ghost use Rattle.mdl_reader.specs.declared.fault.ReadFault.TheVariants.{Syntax, Memory};
 
 use mc_base::SyntaxKind;
 use std::alloc::{AllocError, AllocFailed};
@@ -12,6 +12,14 @@ pub enum ReadFault {
     Syntax { line: u32, kind: SyntaxKind },
     /// There was no memory.
     Memory,
+}
+
+impl ReadFault {
+    pub(crate) fn at(line: u32, kind: SyntaxKind) -> ReadFault
+        ensures { result ≡ Syntax line kind }
+    {
+        ReadFault::Syntax { line, kind }
+    }
 }
 
 impl From<mc_base::Memory> for ReadFault {

@@ -87,10 +87,7 @@ fn named_form<'a>(
     match behind {
         [] => Ok(Form::Plain { name, value: text }),
         [byte, ..] if is_blank(*byte) => parameter_form(alloc, line, name, text),
-        _ => {
-            let kind = SyntaxKind::BadName;
-            Err(ReadFault::Syntax { line, kind })
-        }
+        _ => Err(ReadFault::at(line, SyntaxKind::BadName)),
     }
 }
 
@@ -108,9 +105,6 @@ pub(crate) fn line_form<'a>(alloc: Global, line: u32, text: &'a [u8]) -> Result<
             let (name, behind) = text.split_at(name_len(text));
             named_form(alloc, line, name, behind)
         }
-        _ => {
-            let kind = SyntaxKind::BadName;
-            Err(ReadFault::Syntax { line, kind })
-        }
+        _ => Err(ReadFault::at(line, SyntaxKind::BadName)),
     }
 }

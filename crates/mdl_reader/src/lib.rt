@@ -9,3 +9,6 @@ mod strings;
 
 pub use fault::ReadFault;
 pub use reader::read_mdl;
+
+#[cfg(test)]
+mod tests;

@@ -46,6 +46,5 @@ pub(crate) fn read_string(alloc: Global, line: u32, bytes: &[u8]) -> Result<Vec<
             return Err(ReadFault::Syntax { line, kind });
         }
     }
-    let kind = SyntaxKind::OpenString;
-    Err(ReadFault::Syntax { line, kind })
+    Err(ReadFault::at(line, SyntaxKind::OpenString))
 }

@@ -4,7 +4,7 @@ use Rattle.std.proofs.lemmas.Result.{err_from_is_err_and}
 use Rattle.std.specs.Str.Lines.{lines}
 use Rattle.mc_base.specs.Numbers.{reported_number}
 use Rattle.mdl_tree.specs.Text.{statements_from}
-use Rattle.mdl_reader.specs.Building.{within_begun, outcome}
+use Rattle.mdl_reader.specs.Builders.{within_begun, outcome}
 use Rattle.mdl_reader.proofs.LinesLemmas.{lines_is}
 use Rattle.mdl_reader.proofs.ReaderLemmas.{outcome-start, outcome-line, fault_at_line, tree_at_end}
 use Rattle.mdl_reader.proofs.reader.read_mdl.Goals as goal
