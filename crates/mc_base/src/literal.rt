@@ -38,7 +38,8 @@ fn without_brackets(text: &[u8]) -> &[u8]
     }
 }
 
-fn read_plain(text: &[u8]) -> Result<Decimal, NumFault>
+/// The exact value of a number's text without brackets round it or blanks at its ends, as `read_decimal` gives it.
+pub fn read_plain(text: &[u8]) -> Result<Decimal, NumFault>
     ensures { ReadsAs result (plain_value text.now) }
 {
     if text == b"true".as_slice() {
