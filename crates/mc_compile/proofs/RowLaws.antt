@@ -1,9 +1,12 @@
 -- The first block of a name, by its number and by search.
-use Rattle.std.proofs.Common.{◌≡◌, refl, sym, ◌∙◌, ap, subst, ℕ, suc, ◌+◌, ◌<◌, Bool, true, false, cond, List, [], ◌∷◌, length, get_or, Option, None, Some, is_some, arith, true≢false, find}
+use Rattle.std.proofs.Common.{◌≡◌, refl, sym, ◌∙◌, ap, subst, ℕ, suc, ◌+◌, ◌<◌, ◌≤◌, Bool, true, false, cond, List, [], ◌∷◌, length, get_or, Option, None, Some, is_some, arith, true≢false, find}
 use Rattle.std.specs.List.{position_from}
 use Rattle.std.proofs.lemmas.Slice.Eq.{bytes_eq-Decides}
 use Rattle.mc_compile.specs.Blocks.{Block}
 use Rattle.mc_compile.specs.Rules.{same_name, has_name}
+use Rattle.std.specs.Option.{option_copied}
+use Rattle.std.specs.Slice.{IsItemAt}
+use denote.Ref.{Bor}
 use Rattle.mc_compile.specs.FlatRows.{row_named}
 
 -- the element at place i is the first that passes the test
@@ -84,3 +87,16 @@ pub found_self : (blocks : List Block) (name : Option (List ℕ)) (row : ℕ) �
 found_self blocks name row e =
     let here = found blocks name row e in
     ap (same_name name) (same_name_is name here.item.name here.passes) ∙ here.passes
+
+-- what a read at the number of a row gives
+pub got_named : (blocks : List Block) (name : Option (List ℕ)) (row : ℕ) (got : Option (Bor Block)) → row_named blocks name ≡ Some row → IsItemAt blocks row got → option_copied got ≡ find (has_name name) blocks
+got_named blocks name row None e h = absurd (below row (length blocks) (found blocks name row e).inside h.3)
+  where
+    below : (r n : ℕ) → r < n → n ≤ r → ⊥
+    below r n h g = omega (arith, h, g)
+got_named blocks name row (Some block) e h =
+    let here = found blocks name row e in
+    ap Some (h.1 ∙ here.at block.now) ∙ sym here.found
+
+pub not_named : (blocks : List Block) (name : Option (List ℕ)) → row_named blocks name ≡ None → None ≡ find (has_name name) blocks
+not_named blocks name e = sym (not_found (has_name name) 0 blocks e)

@@ -1,16 +1,24 @@
 -- How the wires follow the Lines.
-use Rattle.std.proofs.Common.{◌≡◌, ◌≢◌, refl, sym, ◌∙◌, ap, subst, ℕ, ◌<◌, Bool, true, false, cond, ◌==◌, List, [], ◌∷◌, ◌++◌, length, get_or, Option, None, Some, is_some, true≢false, find, set, length-set, get_or-set_same, get_or-set_other}
+use Rattle.std.proofs.Common.{◌≡◌, ◌≢◌, refl, sym, ◌∙◌, ap, subst, ℕ, ◌<◌, Bool, true, false, cond, ◌==◌, List, [], ◌∷◌, ◌++◌, length, get_or, Option, None, Some, is_some, true≢false, find, set, length-set, not, ◌&&◌, ◌||◌, lt-ltb, get_or-set_same, get_or-set_other}
 use Rattle.std.specs.Option.{option_or}
 use Rattle.std.proofs.lemmas.List.Folds.{find-append}
 use Rattle.std.proofs.lemmas.Bool.{eqb-true, eqb-false}
 use Rattle.mc_compile.specs.declared.wiring.Wire.{Wire}
-use Rattle.mc_compile.specs.declared.wiring.Wire.TheVariants.{Open, Unknown, From}
+use Rattle.mc_compile.specs.declared.wiring.Wire.TheVariants.{Open}
 use Rattle.mc_compile.specs.Blocks.{Block}
 use Rattle.mc_compile.specs.Lines.{Line}
-use Rattle.mc_compile.specs.Rules.{same_name, leads_to}
+use Rattle.mc_compile.specs.Rules.{same_name, leads_to, has_right_ends, is_right_line, wrong_lines, has_name, named_type, is_source, is_target}
+use Rattle.mc_compile.specs.declared.blocks.BlockType.TheVariants.{Other}
+use Rattle.std.specs.Option.{option_map_or}
 use Rattle.mc_compile.specs.FlatRows.{row_named}
-use Rattle.mc_compile.specs.Wiring.{wire_from, wire_of, AreWiresOf}
-use Rattle.mc_compile.proofs.RowLaws.{found, found_self, one_name, same_name_is, some_is, none_only}
+use Rattle.mc_compile.specs.Wiring.{is_open, is_free, is_first_line, wire_from, wire_of, AreWiresOf, Connected}
+use Rattle.mc_compile.specs.Places.{lesser, least}
+use Rattle.mc_compile.proofs.Lesser.{lesser_assoc}
+use Rattle.mc_compile.specs.NameMaps.{row_in, AreNamesOf}
+use Rattle.indexmap.specs.IndexMap.{IndexMap}
+use denote.Ref.{Bor}
+use Rattle.std.specs.List.{list_any}
+use Rattle.mc_compile.proofs.RowLaws.{found, not_found, found_self, one_name, same_name_is, some_is, none_only}
 
 -- ---- The first Line to a name, with one Line more
 
@@ -38,12 +46,6 @@ find-first name earlier line same e =
     find-push name earlier line ∙ ap (λ t. option_or (find (leads_to name) earlier) (cond t (Some line) None)) same ∙ ap (λ o. option_or o (Some line)) e
 
 -- ---- Wires
-
--- a wire that is open
-abbrev pub is_open : Wire → Bool
-is_open Open = true
-is_open Unknown = false
-is_open (From row) = false
 
 pub is_open-wire_of : (blocks : List Block) (line : Option Line) → is_open (wire_of blocks line) ≡ false → is_some line ≡ true
 is_open-wire_of blocks None e = absurd (true≢false e)
@@ -105,3 +107,92 @@ module _ (blocks : List Block) (earlier : List Line) (line : Line) (wires : List
       by_row name row f false same =
           let elsewhere : row ≢ target = eqb-false row target same in
           get_or-set_other wires target row wire Open elsewhere ∙ before.first name row f ∙ ap (wire_of blocks) (sym (find-other name earlier line (other name row f elsewhere (leads_to name line) refl)))
+
+-- ---- What a Line connects
+
+no_line : (name : Option (List ℕ)) (lines : List Line) → find (leads_to name) lines ≡ None → list_any (leads_to name) lines ≡ false
+no_line name [] e = refl
+no_line name (l ∷ ls) e = by_test (leads_to name l) (λ h. no_line name ls h) e
+  where
+    by_test : (t : Bool) → (find (leads_to name) ls ≡ None → list_any (leads_to name) ls ≡ false) → cond t (Some l) (find (leads_to name) ls) ≡ None → (t || list_any (leads_to name) ls) ≡ false
+    by_test true more e = absurd (none_only l (sym e))
+    by_test false more e = more e
+
+some_line : (name : Option (List ℕ)) (lines : List Line) → is_some (find (leads_to name) lines) ≡ true → list_any (leads_to name) lines ≡ true
+some_line name [] e = e
+some_line name (l ∷ ls) e = by_test (leads_to name l) (λ h. some_line name ls h) e
+  where
+    by_test : (t : Bool) → (is_some (find (leads_to name) ls) ≡ true → list_any (leads_to name) ls ≡ true) → is_some (cond t (Some l) (find (leads_to name) ls)) ≡ true → (t || list_any (leads_to name) ls) ≡ true
+    by_test true more e = refl
+    by_test false more e = more e
+
+module _ {S : Type 0} (blocks : List Block) (earlier : List Line) (line : Line) (map : IndexMap (Bor (List ℕ)) ℕ S) (wires : List Wire) (names : AreNamesOf blocks map) (before : AreWiresOf blocks earlier wires) where
+  first_by : (o : Option ℕ) (t : Bool) → row_named blocks line.target ≡ o → list_any (leads_to line.target) earlier ≡ t → is_first_line blocks earlier line ≡ (is_some o && not t)
+  first_by o t e f = ap (λ p. is_some p && not (list_any (leads_to line.target) earlier)) e ∙ ap (λ u. is_some o && not u) f
+
+  inside : (target : ℕ) → row_named blocks line.target ≡ Some target → target < length wires
+  inside target e = subst (λ n. target < n) (sym before.one_each) (found blocks line.target target e).inside
+
+  open_by : (target : ℕ) (t : Bool) → row_named blocks line.target ≡ Some target → is_free wires target ≡ t → is_open (get_or wires target Open) ≡ t
+  open_by target t e f = ap (λ u. u && is_open (get_or wires target Open)) (sym (lt-ltb target (length wires) (inside target e))) ∙ f
+
+  pub connects-nothing : row_in map line.target ≡ None → Connected blocks earlier line wires false
+  connects-nothing e =
+      let none = sym (names line.target) ∙ e in
+      record { wires = wires-unknown blocks earlier line wires before none; first = sym (first_by None _ none refl) }
+
+  pub connects-again : (target : ℕ) → row_in map line.target ≡ Some target → is_free wires target ≡ false → Connected blocks earlier line wires false
+  connects-again target e taken =
+      let named = sym (names line.target) ∙ e in
+      let closed = open_by target false named taken in
+      let some = some_line line.target earlier (is_open-wire_of blocks (find (leads_to line.target) earlier) (ap is_open (sym (before.first line.target target named)) ∙ closed)) in
+      record { wires = wires-again blocks earlier line wires before target named closed; first = sym (first_by (Some target) true named some) }
+
+  pub connects-first : (target : ℕ) (wire : Wire) → row_in map line.target ≡ Some target → is_free wires target ≡ true → wire ≡ wire_from (row_in map line.source) →
+      Connected blocks earlier line (set wires target wire) true
+  connects-first target wire e free same =
+      let named = sym (names line.target) ∙ e in
+      let opened = open_by target true named free in
+      let none = no_line line.target earlier (is_open-None blocks (find (leads_to line.target) earlier) (ap is_open (sym (before.first line.target target named)) ∙ opened)) in
+      let source = ap wire_from (sym (names line.source)) ∙ sym same in
+      record {
+        wires = subst (λ w. AreWiresOf blocks (earlier ++ line ∷ []) (set wires target w)) source (wires-first blocks earlier line wires before target named opened);
+        first = sym (first_by (Some target) false named none);
+      }
+
+-- ---- Rules
+
+-- the first Line to a block keeps the rules where its ends are right
+pub first-right : (blocks : List Block) (earlier : List Line) (line : Line) → (is_first_line blocks earlier line && has_right_ends blocks line) ≡ is_right_line blocks earlier line
+first-right blocks earlier line = by_row (row_named blocks line.target) refl
+  where
+    swap : (s t : Bool) → (t && s) ≡ (s && t)
+    swap true true = refl
+    swap true false = refl
+    swap false true = refl
+    swap false false = refl
+
+    and_false : (t : Bool) → (t && false) ≡ false
+    and_false true = refl
+    and_false false = refl
+
+    no_ends : row_named blocks line.target ≡ None → has_right_ends blocks line ≡ false
+    no_ends e =
+        ap (λ b. (line.has_ports && is_source (named_type blocks line.source)) && is_target (option_map_or (λ b. b.type) b Other)) (not_found (has_name line.target) 0 blocks e)
+        ∙ and_false (line.has_ports && is_source (named_type blocks line.source))
+
+    by_row : (o : Option ℕ) → row_named blocks line.target ≡ o → (is_first_line blocks earlier line && has_right_ends blocks line) ≡ is_right_line blocks earlier line
+    by_row None e =
+        ap (λ o. (is_some o && not (list_any (leads_to line.target) earlier)) && has_right_ends blocks line) e
+        ∙ sym (ap (λ t. t && not (list_any (leads_to line.target) earlier)) (no_ends e))
+    by_row (Some row) e = ap (λ o. (is_some o && not (list_any (leads_to line.target) earlier)) && has_right_ends blocks line) e ∙ swap (has_right_ends blocks line) (not (list_any (leads_to line.target) earlier))
+
+-- the least line of a wrong Line, with one Line more
+pub wrong_lines-step : (blocks : List Block) (earlier : List Line) (line : Line) (rest : List Line) (t : Bool) (wrong : Option ℕ) → t ≡ is_right_line blocks earlier line →
+    lesser wrong (least (wrong_lines blocks earlier (line ∷ rest))) ≡ lesser (cond t wrong (lesser wrong (Some line.line))) (least (wrong_lines blocks (earlier ++ line ∷ []) rest))
+wrong_lines-step blocks earlier line rest t wrong e =
+    ap (λ u. lesser wrong (least (cond u [] (line.line ∷ []) ++ wrong_lines blocks (earlier ++ line ∷ []) rest))) (sym e) ∙ by_test t
+  where
+    by_test : (t : Bool) → lesser wrong (least (cond t [] (line.line ∷ []) ++ wrong_lines blocks (earlier ++ line ∷ []) rest)) ≡ lesser (cond t wrong (lesser wrong (Some line.line))) (least (wrong_lines blocks (earlier ++ line ∷ []) rest))
+    by_test true = refl
+    by_test false = sym (lesser_assoc wrong (Some line.line) (least (wrong_lines blocks (earlier ++ line ∷ []) rest)))

@@ -30,9 +30,9 @@ has_name name block = same_name name block.name
 abbrev pub leads_to : Option (List ℕ) → Line → Bool
 leads_to name line = same_name name line.target
 
--- the first block of this name passes the test
-abbrev pub names : (BlockType → Bool) → List Block → Option (List ℕ) → Bool
-names test blocks name = option_map_or (λ b. test b.type) (find (has_name name) blocks) false
+-- the type of the first block of this name
+abbrev pub named_type : List Block → Option (List ℕ) → BlockType
+named_type blocks name = option_map_or (λ b. b.type) (find (has_name name) blocks) Other
 
 -- ---- Types
 
@@ -85,11 +85,14 @@ is_right_block blocks lines earlier block =
     block.is_formed && is_some block.name && not (list_any (has_name block.name) earlier) && nat_lt (length earlier) 20000
     && is_placed blocks lines earlier block block.type
 
--- A Line behind earlier ones keeps the rules: it comes from an Inport or a Unit Delay and leads to an Outport or a Unit
--- Delay, at their ports 1, and no earlier Line leads there.
+-- a Line comes from an Inport or a Unit Delay and leads to an Outport or a Unit Delay, at their ports 1
+abbrev pub has_right_ends : List Block → Line → Bool
+has_right_ends blocks line =
+    line.has_ports && is_source (named_type blocks line.source) && is_target (named_type blocks line.target)
+
+-- a Line behind earlier ones keeps the rules: it has right ends, and no earlier Line leads to the same block
 abbrev pub is_right_line : List Block → List Line → Line → Bool
-is_right_line blocks earlier line =
-    line.has_ports && names is_source blocks line.source && names is_target blocks line.target && not (list_any (leads_to line.target) earlier)
+is_right_line blocks earlier line = has_right_ends blocks line && not (list_any (leads_to line.target) earlier)
 
 -- the lines of the blocks, of those behind the earlier ones, that break a rule
 abbrev pub wrong_blocks : List Block → List Line → List Block → List Block → List ℕ
