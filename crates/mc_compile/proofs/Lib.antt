@@ -4,3 +4,4 @@ pub mod Digits
 pub mod NameLaws
 pub mod RowLaws
 pub mod WireLaws
+pub mod PortLaws

@@ -6,6 +6,7 @@ pub mod Rules
 pub mod FlatRows
 pub mod NameMaps
 pub mod Wiring
+pub mod Ports
 pub mod Verdict
 pub mod Compilation
 pub mod RuleExamples

@@ -48,6 +48,16 @@ abbrev pub is_unit_delay : BlockType → Bool
 is_unit_delay UnitDelay = true
 is_unit_delay _ = false
 
+abbrev pub is_other : BlockType → Bool
+is_other Other = true
+is_other _ = false
+
+abbrev pub same_type : BlockType → BlockType → Bool
+same_type Inport type = is_inport type
+same_type Outport type = is_outport type
+same_type UnitDelay type = is_unit_delay type
+same_type Other type = is_other type
+
 -- an Inport or a Unit Delay, from which a Line may come, and an Outport or a Unit Delay, to which it may lead
 abbrev pub is_source : BlockType → Bool
 is_source type = is_inport type || is_unit_delay type
@@ -58,23 +68,26 @@ is_target type = is_outport type || is_unit_delay type
 -- ---- Rules
 
 -- the ports of the blocks of a type
-abbrev pub ports_of : (BlockType → Bool) → List Block → List (Option ℕ)
-ports_of test blocks = map (λ b. b.port) (filter (λ b. test b.type) blocks)
+abbrev pub ports_of : BlockType → List Block → List (Option ℕ)
+ports_of type blocks = map (λ b. b.port) (filter (λ b. same_type type b.type) blocks)
 
--- a number from 1 to that of all ports, which none of the earlier ports has; and those are fewer than 32
+abbrev pub is_port : ℕ → Option ℕ → Bool
+is_port number port = option_map_or (λ n. n == number) port false
+
+-- a number from 1 to that of all ports, which none of the earlier ports has
 abbrev pub is_new_port : ℕ → List (Option ℕ) → Option ℕ → Bool
 is_new_port all earlier None = false
-is_new_port all earlier (Some port) =
-    nat_le 1 port && nat_le port all && not (list_any (λ p. option_map_or (λ n. n == port) p false) earlier) && nat_lt (length earlier) 32
+is_new_port all earlier (Some port) = nat_le 1 port && nat_le port all && not (list_any (is_port port) earlier)
 
--- a block has a new port among those of its type
-abbrev pub has_new_port : (BlockType → Bool) → List Block → List Block → Block → Bool
-has_new_port test blocks earlier block = is_new_port (length (ports_of test blocks)) (ports_of test earlier) block.port
+-- a block has a new port among those of its type, and is one of at most 32
+abbrev pub has_new_port : BlockType → List Block → List Block → Block → Bool
+has_new_port type blocks earlier block =
+    is_new_port (length (ports_of type blocks)) (ports_of type earlier) block.port && nat_lt (length (ports_of type earlier)) 32
 
 -- an Inport and an Outport have a new port, and to an Outport and a Unit Delay leads a Line
 abbrev pub is_placed : List Block → List Line → List Block → Block → BlockType → Bool
-is_placed blocks lines earlier block Inport = has_new_port is_inport blocks earlier block
-is_placed blocks lines earlier block Outport = has_new_port is_outport blocks earlier block && list_any (leads_to block.name) lines
+is_placed blocks lines earlier block Inport = has_new_port Inport blocks earlier block
+is_placed blocks lines earlier block Outport = has_new_port Outport blocks earlier block && list_any (leads_to block.name) lines
 is_placed blocks lines earlier block UnitDelay = list_any (leads_to block.name) lines
 is_placed blocks lines earlier block Other = false
 

@@ -6,6 +6,7 @@ mod compiled;
 mod initial;
 mod lines;
 mod names;
+mod ports;
 mod sections;
 mod wiring;
 
