@@ -1,15 +1,15 @@
 -- Texts that are one token, whatever follows them.
-use Rattle.std.proofs.Common.{◌≡◌, refl, sym, ◌∙◌, ap, ℕ, zero, suc, ◌+◌, ◌-◌, ◌^◌, ◌<◌, ◌≤◌, List, [], ◌∷◌, ◌++◌, length, Bool, true, false, not, ◌&&◌, ◌||◌, ◌==◌, nat_le, take_while, codes, decimal, bytes_eq, if◌then◌else◌, arith}
+use Rattle.std.proofs.Common.{◌≡◌, refl, sym, ◌∙◌, ap, ℕ, ◌+◌, ◌-◌, ◌^◌, ◌<◌, ◌≤◌, List, [], ◌∷◌, ◌++◌, length, Bool, true, false, not, ◌&&◌, ◌||◌, ◌==◌, nat_le, take_while, codes, decimal, bytes_eq, if◌then◌else◌, arith}
 use Rattle.std.specs.List.{list_all, list_any}
 use Rattle.std.specs.Char.{is_ascii_digit}
-use Rattle.std.proofs.lemmas.Bool.{leb-true, eqb-true, ne_eqb}
+use Rattle.std.proofs.lemmas.Bool.{leb-true, ne_eqb}
 use Rattle.std.proofs.lemmas.Bool.Decides.{nat_tests}
 use Rattle.std.proofs.lemmas.Fmt.{decimal_nonempty}
 use Rattle.std.proofs.lemmas.List.Sums.{take_while-cons}
 use Rattle.mc_base.specs.Numbers.{reported_number}
-use Rattle.c_tree.specs.Tokens.{Token, is_blank, is_lower, is_word_start, is_word_byte, class_of, ByteClass, blank_class, word_class, digit_class, sign_class, Piece, token, piece_of, piece_tokens, line_after, tokens_from, starts_lower, ends_with, keywords, is_name}
+use Rattle.c_tree.specs.Tokens.{Token, is_blank, is_lower, is_word_start, is_word_byte, class_of, word_class, digit_class, token, piece_of, piece_tokens, line_after, tokens_from, starts_lower, ends_with, keywords, is_name}
 use Rattle.c_tree.proofs.TokenLaws.{lines_after, tokens_from-skip}
-use Rattle.c_tree.proofs.LiteralLaws.{and_both, and_first, and_second, or_first, or_second, IsNumeralOf, numeral}
+use Rattle.c_tree.proofs.LiteralLaws.{and_first, and_second, or_first, IsNumeralOf, numeral}
 
 -- this text, directly before these bytes, is one token on one line
 pub record IsTokenBefore (text rest : List ℕ) : Type 0 where

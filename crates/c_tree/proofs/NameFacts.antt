@@ -1,11 +1,10 @@
 -- Facts on lists of different names.
-use Rattle.std.proofs.Common.{◌≡◌, refl, sym, ◌∙◌, ap, subst, ℕ, zero, suc, ◌+◌, ◌<◌, List, [], ◌∷◌, ◌++◌, length, map, Bool, true, false, not, ◌&&◌, ◌||◌, Option, Some, None, unwrap_or, Ok, slice_get, bytes_eq, arith}
+use Rattle.std.proofs.Common.{◌≡◌, refl, sym, ◌∙◌, ap, ℕ, zero, suc, List, [], ◌∷◌, ◌++◌, map, Bool, true, false, ◌||◌, Some, unwrap_or, Ok, slice_get, bytes_eq}
 use Rattle.std.proofs.lemmas.Slice.Eq.{bytes_eq-Decides}
-use Rattle.c_tree.specs.Tokens.{is_name}
 use Rattle.c_tree.specs.Outputs.{has_name}
 use Rattle.c_tree.specs.Resolve.{check_params}
 use Rattle.c_tree.specs.Lawful.{AreDistinct, AreApart}
-use Rattle.c_tree.proofs.NamePlaces.{bytes_eq-same, bytes_eq-sym, or-left, or-right}
+use Rattle.c_tree.proofs.NamePlaces.{bytes_eq-sym, or-left, or-right}
 
 -- a name in two lists one behind the other
 pub has_name-append : (xs ys : List (List ℕ)) (n : List ℕ) → has_name (xs ++ ys) n ≡ (has_name xs n || has_name ys n)
@@ -59,6 +58,10 @@ pub AreApart-more : (names : List (List ℕ)) (n : List ℕ) (others : List (Lis
 AreApart-more [] n others h apart = tt
 AreApart-more (m ∷ ms) n others h apart =
     (or-none (bytes_eq m n) (has_name others m) (bytes_eq-sym m n ∙ or-left (bytes_eq n m) (has_name ms n) h) apart.0, AreApart-more ms n others (or-right (bytes_eq n m) (has_name ms n) h) apart.1)
+
+pub AreApart-none : (names : List (List ℕ)) → AreApart names []
+AreApart-none [] = tt
+AreApart-none (n ∷ ns) = (refl, AreApart-none ns)
 
 -- parameters that differ from each other and from the functions pass
 pub check_params-pass : {A : Type 0} (line : A → ℕ) (name : A → List ℕ) (functions earlier : List (List ℕ)) (ps : List A) → AreDistinct (map name ps) → AreApart (map name ps) functions → AreApart (map name ps) earlier → check_params functions earlier (map (λ q. (line q, name q)) ps) ≡ Ok tt

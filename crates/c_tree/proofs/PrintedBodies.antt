@@ -1,5 +1,5 @@
 -- The texts of expressions and statements spell what they are printed from.
-use Rattle.std.proofs.Common.{◌≡◌, refl, sym, ◌∙◌, ap, subst, ℕ, zero, suc, ◌+◌, ◌^◌, ◌<◌, ◌≤◌, List, [], ◌∷◌, ◌++◌, length, Bool, true, false, ◌==◌, Some, None, pos, take_while, slice_get, unsigned_abs, codes, decimal, arith}
+use Rattle.std.proofs.Common.{◌≡◌, refl, sym, ◌∙◌, ap, subst, ℕ, ◌+◌, ◌^◌, ◌<◌, List, [], ◌∷◌, ◌++◌, length, true, false, ◌==◌, Some, take_while, slice_get, unsigned_abs, codes, decimal, arith}
 use Rattle.std.proofs.lemmas.List.{append_assoc}
 use Rattle.mc_base.specs.Numbers.{reported_number}
 use Rattle.c_tree.specs.declared.code.CType.{CType}
@@ -10,12 +10,12 @@ use Rattle.c_tree.specs.declared.code.Target.TheVariants.{Own as OwnTarget, Chil
 use Rattle.c_tree.specs.Tree.{ExprTree, literal, neg, read, binary, pick, pure, ExprTrees, no_exprs, more_exprs, CondTree, compare, both, either, negated, StmtTree, assign, branch, call, StmtTrees, no_stmts, more_stmts, field_types, type_at, PureTree, ProcedureTree}
 use Rattle.c_tree.specs.Tokens.{token, is_lower, is_word_byte, is_name}
 use Rattle.c_tree.specs.Written.{WrittenLeaf}
-use Rattle.c_tree.specs.Grammar.{Spelling, ◌⨾◌, word, at_line, name_word, op_text, compare_text, type_text, leaf_spelling, expr_spelling, exprs_spelling, more_exprs_spelling, cond_spelling, target_spelling, arguments_spelling, stmt_spelling, stmts_spelling}
+use Rattle.c_tree.specs.Grammar.{word, at_line, op_text, compare_text, type_text, leaf_spelling, expr_spelling, exprs_spelling, more_exprs_spelling, cond_spelling, target_spelling, arguments_spelling, stmt_spelling, stmts_spelling}
 use Rattle.c_tree.specs.Lawful.{Reach, IsLawfulLeaf, IsLawfulExpr, AreLawfulExprs, IsLawfulCond, IsLawfulTarget, IsLawfulStmt, AreLawfulStmts, IsNumberAt, IsStructAt, exprs_length}
-use Rattle.c_tree.specs.Printing.{Vocabulary, name_at, pure_name, procedure_name, procedure_types, field_name, inner_fields, leaf_bytes, literal_bytes, expr_bytes, exprs_bytes, later_exprs_bytes, cond_bytes, target_bytes, arguments_bytes, margin_bytes, deeper, ended, stmt_bytes, else_bytes, stmts_bytes}
+use Rattle.c_tree.specs.Printing.{Vocabulary, name_at, pure_name, procedure_name, procedure_types, field_name, inner_fields, leaf_bytes, expr_bytes, exprs_bytes, later_exprs_bytes, cond_bytes, target_bytes, arguments_bytes, margin_bytes, deeper, ended, stmt_bytes, else_bytes, stmts_bytes}
 use Rattle.c_tree.proofs.Lexing.{IsTokenBefore, NameParts, name-parts, name-token, differs}
-use Rattle.c_tree.proofs.TextReading.{Reads, ◌▸◌, along, ending, reads-nothing, spaced, lined, line_ended, margined, margin_passed, reads-word, reads-line, reads-name, reads-literal, LoneSign, open_paren, close_paren, comma, question, colon, dot, semicolon, sign, sign-token, parens, braces, op-token, compare-token, cast, own_start}
-use Rattle.c_tree.proofs.PrintedTrees.{written_leaf, written_expr, written_exprs, written_cond, written_target, written_arguments, stmt_lines, else_lines, stmts_lines, written_stmt, written_branch, written_stmts}
+use Rattle.c_tree.proofs.TextReading.{Reads, ◌▸◌, along, ending, reads-nothing, spaced, lined, line_ended, margined, margin_passed, reads-word, reads-line, reads-name, reads-literal, comma, question, colon, dot, semicolon, sign, parens, braces, op-token, compare-token, cast, own_start}
+use Rattle.c_tree.proofs.PrintedTrees.{written_leaf, written_expr, written_exprs, written_cond, written_target, written_arguments, stmt_lines, stmts_lines, written_stmt, written_stmts}
 
 -- each name in a leaf is one
 abbrev pub HasNames : WrittenLeaf → Type 0

@@ -1,21 +1,19 @@
 -- The texts of definitions spell what they are printed from.
-use Rattle.std.proofs.Common.{◌≡◌, refl, sym, ◌∙◌, ap, ℕ, zero, suc, ◌+◌, ◌<◌, List, [], ◌∷◌, ◌++◌, length, map, Bool, true, false, Some, take_while, slice_get, codes, arith}
+use Rattle.std.proofs.Common.{◌≡◌, refl, ℕ, ◌+◌, ◌<◌, List, [], ◌∷◌, ◌++◌, length, map, Bool, true, false, codes, arith}
 use Rattle.std.specs.List.{flat_map}
 use Rattle.std.proofs.lemmas.List.{append_assoc}
 use Rattle.mc_base.specs.Numbers.{reported_number}
-use Rattle.c_tree.specs.declared.code.CType.{CType}
 use Rattle.c_tree.specs.declared.code.CType.TheVariants.{I64}
 use Rattle.c_tree.specs.declared.program.FieldKind.{FieldKind}
 use Rattle.c_tree.specs.declared.program.FieldKind.TheVariants.{Number, Struct}
-use Rattle.c_tree.specs.Tree.{StmtTrees, FieldTree, StructTree, struct_fields, PureTree, ParamTree, ProcedureTree, ProgramTree}
+use Rattle.c_tree.specs.Tree.{FieldTree, StructTree, struct_fields, PureTree, ParamTree, ProcedureTree, ProgramTree}
 use Rattle.c_tree.specs.Tokens.{is_name}
-use Rattle.c_tree.specs.Written.{WrittenParam, WrittenPureParam, WrittenKind, number_kind, struct_kind}
-use Rattle.c_tree.specs.Grammar.{Spelling, ◌⨾◌, word, at_line, name_word, in_parens, in_braces, type_text, stmts_spelling, expr_spelling, param_spelling, more_params_spelling, pure_param_spelling, more_pure_params_spelling, pure_params_spelling, pure_spelling, kind_spelling, field_spelling, all_spelling, some_spelling, struct_spelling, private_spelling, procedure_spelling, program_spelling}
+use Rattle.c_tree.specs.Grammar.{at_line, type_text, more_params_spelling, pure_param_spelling, more_pure_params_spelling, pure_params_spelling, pure_spelling, kind_spelling, field_spelling, all_spelling, some_spelling, struct_spelling, private_spelling, procedure_spelling}
 use Rattle.c_tree.specs.Lawful.{Reach, IsLawfulExpr, AreLawfulStmts, AreDistinct, IsLawfulKind}
-use Rattle.c_tree.specs.Printing.{Vocabulary, struct_name, later_pure_params_bytes, pure_params_bytes, pure_head_bytes, pure_bytes, kind_bytes, field_bytes, struct_bytes, private_bytes, param_bytes, procedure_head_bytes, procedure_bytes, expr_bytes, stmts_bytes, ended, program_bytes}
+use Rattle.c_tree.specs.Printing.{Vocabulary, struct_name, later_pure_params_bytes, pure_params_bytes, pure_bytes, kind_bytes, field_bytes, struct_bytes, private_bytes, param_bytes, procedure_bytes, expr_bytes, stmts_bytes, ended}
 use Rattle.c_tree.proofs.Lexing.{IsTokenBefore}
 use Rattle.c_tree.proofs.TextReading.{Reads, ◌▸◌, along, ending, reads-nothing, spaced, lined, line_ended, reads-word, reads-line, reads-name, comma, semicolon, star, sign, parens, braces, type-token_space}
-use Rattle.c_tree.proofs.PrintedTrees.{written_pure, written_kind, written_fields, written_struct, struct_lines, written_param, written_procedure, procedure_lines, pure_lines, stmts_lines}
+use Rattle.c_tree.proofs.PrintedTrees.{written_pure, written_kind, written_fields, written_struct, struct_lines, written_param, written_procedure, procedure_lines, pure_lines}
 use Rattle.c_tree.proofs.PrintedBodies.{Speaks, Ends, s-ends, expr-read, stmts-read}
 
 -- texts one behind the other

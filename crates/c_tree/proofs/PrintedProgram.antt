@@ -1,18 +1,18 @@
 -- The text of a lawful program spells it.
-use Rattle.std.proofs.Common.{◌≡◌, refl, sym, ◌∙◌, ap, subst, ℕ, zero, suc, ◌+◌, ◌<◌, ◌≤◌, List, [], ◌∷◌, ◌++◌, length, map, Bool, true, false, Some, unwrap_or, slice_get, arith}
+use Rattle.std.proofs.Common.{◌≡◌, refl, sym, ◌∙◌, ap, subst, ℕ, zero, suc, ◌+◌, ◌<◌, ◌≤◌, List, [], ◌∷◌, ◌++◌, length, map, true, Some, unwrap_or, slice_get, arith}
 use Rattle.std.specs.List.{flat_map, AllByRecursion}
 use Rattle.std.proofs.lemmas.List.{append_assoc, append-nil, map-append, length-append, length-map}
 use Rattle.c_tree.specs.declared.program.FieldKind.{FieldKind}
 use Rattle.c_tree.specs.declared.program.FieldKind.TheVariants.{Number, Struct}
-use Rattle.c_tree.specs.Tree.{FieldTree, StructTree, struct_fields, PureTree, ParamTree, ProcedureTree, ProgramTree}
-use Rattle.c_tree.specs.Tokens.{is_name, has_header, tokens_of, tokens_from}
-use Rattle.c_tree.specs.Grammar.{Spelling, ◌⨾◌, pure_spelling, all_spelling, some_spelling, struct_spelling, procedure_spelling, program_spelling, Spells}
-use Rattle.c_tree.specs.Lawful.{AreDistinct, AreApart, ArePures, IsLawfulPure, AreStructs, IsLawfulStruct, IsLawfulKind, AreLawfulStmts, AreProcedures, IsLawfulProcedure, IsLawful, pure_names, procedure_names, param_names}
+use Rattle.c_tree.specs.Tree.{FieldTree, StructTree, struct_fields, PureTree, ProcedureTree, ProgramTree}
+use Rattle.c_tree.specs.Tokens.{is_name, has_header, tokens_of}
+use Rattle.c_tree.specs.Grammar.{pure_spelling, all_spelling, some_spelling, struct_spelling, procedure_spelling, program_spelling, Spells}
+use Rattle.c_tree.specs.Lawful.{AreDistinct, ArePures, AreStructs, IsLawfulKind, AreLawfulStmts, AreProcedures, IsLawfulProcedure, IsLawful, pure_names, procedure_names, param_names}
 use Rattle.c_tree.specs.Printing.{struct_name, pure_bytes, struct_bytes, procedure_bytes, program_bytes}
 use Rattle.c_tree.proofs.NamePlaces.{AreDistinct-name}
 use Rattle.c_tree.proofs.NameFacts.{AreDistinct-front, AreDistinct-back}
 use Rattle.c_tree.proofs.TextReading.{Reads, ◌▸◌, along, ending, reads-nothing}
-use Rattle.c_tree.proofs.PrintedTrees.{written_pure, pure_lines, written_pures, pures_lines, written_struct, struct_lines, written_structs, structs_lines, written_procedure, procedure_lines, written_procedures, procedures_lines, structs_line, procedures_line, written_program}
+use Rattle.c_tree.proofs.PrintedTrees.{pure_lines, written_pures, pures_lines, struct_lines, written_structs, structs_lines, procedure_lines, written_procedures, procedures_lines, structs_line, procedures_line, written_program}
 use Rattle.c_tree.proofs.PrintedHeads.{AreKinds, pure-read, struct-read, procedure-read}
 use Rattle.c_tree.proofs.PrintedScopes.{pure-speaks, procedure-speaks}
 

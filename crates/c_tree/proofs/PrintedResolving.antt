@@ -1,17 +1,14 @@
 -- The names in printed bodies stand for what they are printed from.
-use Rattle.std.proofs.Common.{◌≡◌, refl, sym, ◌∙◌, ap, ℕ, zero, suc, ◌+◌, ◌<◌, ◌≤◌, max, pos, List, [], ◌∷◌, length, map, Some, None, Ok, Err, Result, slice_get, slice_index, unsigned_abs, arith}
+use Rattle.std.proofs.Common.{◌≡◌, refl, sym, ◌∙◌, ap, ℕ, ◌+◌, ◌≤◌, pos, List, [], ◌∷◌, length, Some, Ok, Result, slice_get, slice_index, unsigned_abs, arith}
 use Rattle.mc_base.specs.Numbers.{reported_number}
 use Rattle.c_tree.specs.declared.code.CType.{CType}
 use Rattle.c_tree.specs.declared.code.Leaf.{Leaf}
 use Rattle.c_tree.specs.declared.code.Target.{Target}
-use Rattle.c_tree.specs.declared.fault.CFault.{CFault}
-use Rattle.c_tree.specs.declared.fault.CKind.{CKind}
 use Rattle.c_tree.specs.Tree.{ExprTree, literal, neg, read, binary, pick, pure, ExprTrees, no_exprs, more_exprs, CondTree, compare, both, either, negated, StmtTree, assign, branch, call, StmtTrees, no_stmts, more_stmts, field_types, type_at, PureTree, ProcedureTree}
-use Rattle.c_tree.specs.Written.{WrittenArguments}
-use Rattle.c_tree.specs.Resolve.{◌>>=◌, on_line, Names, resolve_leaf, resolve_pure_call, exprs_count, resolve_expr, resolve_exprs, resolve_cond, argument_casts, resolve_arguments, resolve_store, resolve_call, chain_limit, resolve_stmt, resolve_stmts, stmt_chain, stmts_chain}
+use Rattle.c_tree.specs.Resolve.{◌>>=◌, Names, resolve_leaf, resolve_pure_call, exprs_count, resolve_expr, resolve_exprs, resolve_cond, argument_casts, resolve_arguments, resolve_store, resolve_call, chain_limit, resolve_stmt, resolve_stmts, stmt_chain, stmts_chain}
 use Rattle.c_tree.specs.Lawful.{Reach, IsLawfulLeaf, IsLawfulExpr, AreLawfulExprs, IsLawfulCond, IsLawfulTarget, IsLawfulStmt, AreLawfulStmts, IsNumberAt, exprs_length}
 use Rattle.c_tree.specs.Printing.{Vocabulary, pure_name, procedure_name, procedure_types, field_name}
-use Rattle.c_tree.proofs.PrintedTrees.{written_leaf, written_expr, written_exprs, written_cond, written_target, written_arguments, stmt_lines, stmts_lines, written_stmt, written_branch, written_stmts, read_stmt, read_stmts}
+use Rattle.c_tree.proofs.PrintedTrees.{written_leaf, written_expr, written_exprs, written_cond, written_target, written_arguments, stmt_lines, stmts_lines, written_stmt, written_stmts, read_stmt, read_stmts}
 use Rattle.c_tree.proofs.PrintedBodies.{Speaks}
 
 -- the names in reach of a body stand for what they are printed from

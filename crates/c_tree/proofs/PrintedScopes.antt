@@ -1,10 +1,10 @@
 -- What is in reach of the bodies of a lawful program has names, and they stand for it.
-use Rattle.std.proofs.Common.{◌≡◌, refl, sym, ◌∙◌, ap, subst, ℕ, zero, suc, ◌+◌, ◌<◌, ◌≤◌, nat_le, List, [], ◌∷◌, ◌++◌, length, map, get_or, Bool, true, false, Option, Some, None, unwrap_or, Ok, Err, slice_get, slice_index, bytes_eq, option_map, ◌==◌, arith}
+use Rattle.std.proofs.Common.{◌≡◌, refl, sym, ◌∙◌, ap, subst, ℕ, zero, suc, ◌+◌, ◌<◌, ◌≤◌, nat_le, List, [], ◌∷◌, ◌++◌, length, map, get_or, true, Option, Some, None, unwrap_or, Ok, slice_get, slice_index, bytes_eq, option_map, ◌==◌, arith}
 use Rattle.std.specs.List.{position_from}
 use Rattle.std.proofs.lemmas.Bool.{le-leb, eq-eqb}
-use Rattle.std.proofs.lemmas.List.{map-append, length-append, length-map, append-nil, get_or_append_left}
+use Rattle.std.proofs.lemmas.List.{map-append, length-append, length-map, append-nil}
 use Rattle.std.proofs.lemmas.Simd.{map-map}
-use Rattle.std.proofs.lemmas.Option.{slice_get-map, slice_get_within, get_or_from_slice_get}
+use Rattle.std.proofs.lemmas.Option.{slice_get-map}
 use Rattle.c_tree.specs.declared.code.CType.{CType}
 use Rattle.c_tree.specs.declared.code.CType.TheVariants.{I8, U8, I16, U16, I32, U32, I64}
 use Rattle.c_tree.specs.declared.code.Leaf.{Leaf}
@@ -15,10 +15,10 @@ use Rattle.c_tree.specs.declared.program.FieldKind.{FieldKind}
 use Rattle.c_tree.specs.declared.program.FieldKind.TheVariants.{Number, Struct}
 use Rattle.c_tree.specs.Tree.{FieldTree, StructTree, struct_fields, field_types, type_at, kind_type, PureTree, ProcedureTree, ProgramTree}
 use Rattle.c_tree.specs.Tokens.{is_name}
-use Rattle.c_tree.specs.Resolve.{Known, Names, resolve_leaf, resolve_pure_call, resolve_store, resolve_target, resolve_call, chain_limit, field_named, as_number, or_unnamed, unless_fault, same_type, same_types}
-use Rattle.c_tree.specs.Lawful.{Reach, AreDistinct, IsNumberAt, IsStructAt, IsLawfulLeaf, IsLawfulTarget, IsLawfulStruct, AreStructs, pure_names, procedure_names, pure_without_lines, procedure_without_lines}
+use Rattle.c_tree.specs.Resolve.{Known, Names, resolve_leaf, resolve_pure_call, resolve_store, resolve_target, resolve_call, chain_limit, field_named, or_unnamed, same_type, same_types}
+use Rattle.c_tree.specs.Lawful.{Reach, AreDistinct, IsNumberAt, IsStructAt, IsLawfulLeaf, IsLawfulTarget, AreStructs, pure_names, procedure_names, pure_without_lines, procedure_without_lines}
 use Rattle.c_tree.specs.Rows.{is_number, is_number_kind}
-use Rattle.c_tree.specs.Printing.{Vocabulary, name_at, pure_name, struct_name, procedure_name, procedure_types, field_name, kind_fields, inner_fields}
+use Rattle.c_tree.specs.Printing.{Vocabulary, name_at, pure_name, procedure_name, procedure_types, field_name, kind_fields, inner_fields}
 use Rattle.c_tree.proofs.NamePlaces.{map-at, AreDistinct-name, position_from-named, position_from-name, field_from-named, map-at_front}
 use Rattle.c_tree.proofs.NameFacts.{AreDistinct-front}
 use Rattle.c_tree.proofs.PrintedTrees.{written_leaf, written_target}

@@ -1,5 +1,5 @@
 -- What a printed text spells: names for positions, with the lines of the text.
-use Rattle.std.proofs.Common.{ℕ, ◌+◌, Bool, List, [], ◌∷◌, map, length, unsigned_abs}
+use Rattle.std.proofs.Common.{ℕ, ◌+◌, List, [], ◌∷◌, map, length, unsigned_abs}
 use Rattle.mc_base.specs.Numbers.{reported_number}
 use Rattle.c_tree.specs.declared.code.CType.{CType}
 use Rattle.c_tree.specs.declared.code.Leaf.{Leaf}
@@ -93,12 +93,15 @@ abbrev mutual
   read_stmts line no_stmts = no_stmts
   read_stmts line (more_stmts s ss) = more_stmts (read_stmt line s) (read_stmts (line + stmt_lines s) ss)
 
+abbrev pub written_pure_param : ℕ → List ℕ → WrittenPureParam
+written_pure_param line name = record { line = line; name = name }
+
 -- definitions that begin on a line, the first of which is blank
 abbrev pub written_pure : ProgramTree → ℕ → PureTree → WrittenPure
 written_pure p line q = record {
   line = reported_number (line + 1);
   name = q.name;
-  params = map (λ name. record { line = reported_number (line + 1); name = name }) q.params;
+  params = map (written_pure_param (reported_number (line + 1))) q.params;
   return_line = reported_number (line + 1 + 1);
   body = written_expr (record { program = p; fields = []; params = q.params }) (reported_number (line + 1 + 1)) q.body;
 }

@@ -1,6 +1,7 @@
 ghost use Rattle.std.specs.Prelude.{◌≡◌, [], ◌∷◌, ◌++◌, map, IfOk, OnOk};
 ghost use Rattle.std.specs.List.{flat_map};
 ghost use Rattle.c_tree.specs.Plain.{pure_tree, procedure_tree, program_tree};
+ghost use Rattle.c_tree.specs.Lawful.{IsLawful, IsTextWith};
 ghost use Rattle.c_tree.specs.Printing.{pure_bytes, struct_bytes, procedure_bytes, program_bytes};
 
 mod body;
@@ -8,7 +9,20 @@ mod heads;
 mod names;
 
 use crate::program::Program;
+use mc_base::Memory;
 use std::alloc::{AllocError, Global};
+
+/// The text of a lawful program: C99 of the subset that is read again, one statement or declaration a line.
+/// It is read as the program, but for the lines, which are those of the text.
+pub fn print(alloc: Global, p: &Program) -> Result<Vec<u8>, Memory>
+    requires { IsLawful (program_tree p.now) }
+    ensures { IfOk result (λ text. IsTextWith text.items (program_tree p.now)) }
+{
+    match text_of(alloc, p) {
+        Ok(text) => Ok(text),
+        Err(_) => Err(Memory),
+    }
+}
 
 // The text of a program.
 fn text_of(alloc: Global, program: &Program) -> Result<Vec<u8>, AllocError>

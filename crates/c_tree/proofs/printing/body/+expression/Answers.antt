@@ -1,4 +1,4 @@
-use Rattle.std.proofs.Common.{◌≡◌, sym, ◌∙◌, ap, ◌++◌, map, arith}
+use Rattle.std.proofs.Common.{sym, ◌∙◌, ap, ◌++◌, map, arith}
 use Rattle.std.proofs.lemmas.Grind.{common_steps}
 use Rattle.std.proofs.lemmas.Result.{IfOk-equal}
 use Rattle.c_tree.specs.Plain.{expr_tree}

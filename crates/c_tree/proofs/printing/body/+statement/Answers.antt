@@ -1,4 +1,4 @@
-use Rattle.std.proofs.Common.{◌≡◌, refl, sym, ◌∙◌, ap, ◌++◌, ◌∷◌, [], arith, rules, length, map}
+use Rattle.std.proofs.Common.{sym, ◌∙◌, ap, ◌++◌, arith, rules}
 use Rattle.std.proofs.lemmas.Grind.{common_steps}
 use Rattle.std.proofs.lemmas.Result.{IfOk-equal}
 use Rattle.c_tree.specs.Printing.{stmt_bytes}

@@ -1,4 +1,4 @@
-use Rattle.std.proofs.Common.{◌≡◌, refl, sym, ◌∙◌, ap, ◌++◌, length, rules}
+use Rattle.std.proofs.Common.{sym, ◌∙◌, ap, ◌++◌, length, rules}
 use Rattle.std.proofs.lemmas.List.{length_push, append-nil}
 use Rattle.std.proofs.lemmas.Slice.Zip.{zip_turn, zip_end}
 use Rattle.c_tree.specs.VocabularyOf.{vocabulary_of}

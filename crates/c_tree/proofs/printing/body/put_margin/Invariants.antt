@@ -1,4 +1,4 @@
-use Rattle.std.proofs.Common.{◌≡◌, ◌++◌, ◌-◌, replicate}
+use Rattle.std.proofs.Common.{◌≡◌, ◌++◌, replicate}
 use Rattle.c_tree.proofs.printing.body.put_margin.Given as goal
 
 abbrev pub invariant-loop : goal.invariant-loop

@@ -1,4 +1,4 @@
-use Rattle.std.proofs.Common.{◌≡◌, ◌∷◌, ◌++◌, take, drop, map, codes}
+use Rattle.std.proofs.Common.{◌≡◌, ◌++◌, take}
 use Rattle.std.specs.List.{flat_map}
 use Rattle.c_tree.specs.Printing.{param_bytes}
 use Rattle.c_tree.proofs.printing.heads.put_params.Given as goal

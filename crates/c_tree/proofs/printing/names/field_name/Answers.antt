@@ -1,7 +1,5 @@
-use Rattle.std.proofs.Common.{◌≡◌, sym, ◌∙◌, []}
-use Rattle.c_tree.specs.declared.code.CType.TheVariants.{I64}
+use Rattle.std.proofs.Common.{sym, ◌∙◌, []}
 use Rattle.c_tree.specs.PlainField.{field_tree}
-use Rattle.c_tree.specs.Tree.{kind_type}
 use Rattle.c_tree.proofs.Lookups.{map-map_at}
 use Rattle.c_tree.proofs.printing.names.field_name.Goals as goal
 

@@ -1,4 +1,4 @@
-use Rattle.std.proofs.Common.{◌≡◌, sym, ◌∙◌, []}
+use Rattle.std.proofs.Common.{sym, ◌∙◌}
 use Rattle.c_tree.specs.declared.code.CType.TheVariants.{I64}
 use Rattle.c_tree.specs.PlainField.{field_tree}
 use Rattle.c_tree.specs.Tree.{kind_type}

@@ -1,4 +1,4 @@
-use Rattle.std.proofs.Common.{◌≡◌, sym, ◌∙◌, []}
+use Rattle.std.proofs.Common.{sym, ◌∙◌, []}
 use Rattle.c_tree.specs.Plain.{procedure_tree}
 use Rattle.c_tree.proofs.Lookups.{map-map_at}
 use Rattle.c_tree.proofs.printing.names.procedure_name.Goals as goal

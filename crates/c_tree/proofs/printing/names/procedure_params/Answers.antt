@@ -1,4 +1,4 @@
-use Rattle.std.proofs.Common.{◌≡◌, sym, ◌∙◌, ap, [], map}
+use Rattle.std.proofs.Common.{sym, ◌∙◌, ap, [], map}
 use Rattle.std.proofs.lemmas.Simd.{map-map}
 use Rattle.c_tree.specs.Plain.{procedure_tree}
 use Rattle.c_tree.proofs.Lookups.{map-map_at}
