@@ -1,6 +1,6 @@
 -- What a program does doesn't depend on the lines of its statements, but for the line where it is stuck.
 use Rattle.std.proofs.Common.{◌≡◌, refl, sym, ◌∙◌, ap, ℕ, zero, suc, ◌+◌, List, [], ◌∷◌, ◌++◌, length, map, Bool, true, false, if◌then◌else◌, nat_lt}
-use Rattle.std.specs.Prelude.{ℤ, pos, slice_index_or, Option, Some, None, unwrap_or, option_map, codes, bytes_eq, neg_ℤ, ◌+ℤ◌, ◌-ℤ◌, ◌*ℤ◌, int_div, int_rem, not}
+use Rattle.std.specs.Prelude.{ℤ, pos, Some, unwrap_or, codes, bytes_eq, neg_ℤ, ◌+ℤ◌, ◌-ℤ◌, ◌*ℤ◌, int_div, int_rem, not}
 use Rattle.std.specs.Ordering.{int_eq}
 use Rattle.std.specs.List.{position_from}
 use Rattle.std.proofs.Math.Path.{fun_ext}
@@ -11,15 +11,14 @@ use Rattle.c_tree.specs.declared.code.CType.TheVariants.{I64}
 use Rattle.c_tree.specs.declared.code.Leaf.{Leaf}
 use Rattle.c_tree.specs.declared.code.Target.{Target}
 use Rattle.c_tree.specs.declared.code.Target.TheVariants.{Own, Child}
-use Rattle.c_tree.specs.declared.fault.Stuck.{Stuck}
 use Rattle.c_tree.specs.declared.fault.Why.{Why}
 use Rattle.c_tree.specs.declared.fault.Why.TheVariants.{Overflow, ZeroDivisor, Range, Steps}
 use Rattle.c_tree.specs.Tree.{ExprTree, literal, neg, read, binary, pick, pure, ExprTrees, no_exprs, more_exprs, CondTree, compare, both, either, negated, StmtTree, assign, branch, call, StmtTrees, no_stmts, more_stmts, StructTree, struct_fields, field_types, type_at, PureTree, ProcedureTree, ProgramTree}
 use Rattle.c_tree.specs.Cells.{Cells, no_cells, number, set_cell, fields_at}
 use Rattle.c_tree.specs.Values.{Answer, gives, sticks, and_then, within, is_in_type, stuck_at, step_limit, take_step, operate, Function, function_at, function_of, functions_of, reads, eval, eval_all, eval_cond, compares}
 use Rattle.c_tree.specs.Machine.{LoggedCall, StoredField, After, Outcome, done, stuck, behind, then_run, on_answer, begin_step, in_child, at_path, on_target, Routine, routine_at, routine_of, routines_of, program_routines, call_entry, call_from_outside, Scope, arguments, store, run_stmt, run_stmts}
-use Rattle.c_tree.specs.Rows.{Rows, TickRow, tick_row, with_tick, rows_after, rows_from, rows_of_start, c_rows, zero_root, start_run, step_run, procedure_named}
-use Rattle.c_tree.specs.LinesAside.{stuck_aside, outcome_aside, rows_aside, RunAlike, LinesMeanNothing}
+use Rattle.c_tree.specs.Rows.{Rows, tick_row, with_tick, rows_after, rows_from, rows_of_start, c_rows, zero_root, start_run, step_run, procedure_named}
+use Rattle.c_tree.specs.LinesAside.{outcome_aside, rows_aside, LinesMeanNothing}
 use Rattle.c_tree.specs.Lawful.{stmt_without_lines, stmts_without_lines, without_lines}
 
 -- ---- Answers
