@@ -73,7 +73,7 @@ abbrev mutual
   stmt_openings depth (branch_else line test on_true on_false) =
       statement depth ∷ (cond_openings 1 test ++ none ∷ (stmts_openings (depth + 1) on_true ++ none ∷ none ∷ none ∷ (stmts_openings (depth + 1) on_false ++ none ∷ [])))
   stmt_openings depth (call line procedure target values) =
-      statement depth ∷ none ∷ (target_openings target ++ arguments_openings values ++ none ∷ none ∷ [])
+      statement depth ∷ none ∷ (target_openings target ++ (arguments_openings values ++ none ∷ none ∷ []))
 
   pub stmts_openings : ℕ → WrittenStmts → List Opening
   stmts_openings depth no_stmts = []
@@ -127,4 +127,4 @@ procedures_openings (p ∷ ps) =
 
 -- of the tokens of a program, one for each
 abbrev pub openings : WrittenProgram → List Opening
-openings p = pures_openings 1 p.pures ++ structs_openings p.structs ++ procedures_openings p.procedures
+openings p = pures_openings 1 p.pures ++ (structs_openings p.structs ++ procedures_openings p.procedures)
