@@ -1,13 +1,13 @@
 -- Walks along expressions and conditions.
-use Rattle.std.proofs.Common.{◌≡◌, refl, sym, ◌∙◌, ap, ℕ, ◌+◌, ◌-◌, ◌^◌, List, [], ◌∷◌, ◌++◌, Some, None, Bool, true, false, if◌then◌else◌, nat_lt, codes, bytes_eq, decimal, subst, append_assoc}
-use Rattle.c_tree.specs.Tokens.{Token, is_name}
+use Rattle.std.proofs.Common.{◌≡◌, refl, sym, ap, ℕ, ◌+◌, ◌-◌, ◌^◌, List, [], ◌∷◌, ◌++◌, Some, Bool, true, false, if◌then◌else◌, nat_lt, codes, decimal, subst, append_assoc}
+use Rattle.c_tree.specs.Tokens.{Token}
 use Rattle.c_tree.specs.Grammar.{◌⨾◌, word, at_line, name_word, literal_word, in_parens, never, op_text, compare_text, leaf_spelling, expr_spelling, exprs_spelling, more_exprs_spelling, cond_spelling}
 use Rattle.c_tree.specs.Written.{WrittenLeaf, param, own, child, WrittenExpr, literal, neg, read, binary, pick, pure, WrittenExprs, no_exprs, more_exprs, WrittenCond, compare, both, either, negated}
 use Rattle.c_tree.specs.Prefix.{Need, Role, Kind, leaves, step_needs, as_kind, as_first, expression, condition, allows, follow, operand_need, inside_need, joint_need, text_need, literal_need, leaf_need, values_need, name_need, dot_need, expr_need, cond_need}
-use Rattle.c_tree.specs.Openings.{Opening, none, operand, leaf_openings, expr_openings, more_exprs_openings, cond_openings}
+use Rattle.c_tree.specs.Openings.{none, operand, leaf_openings, expr_openings, more_exprs_openings, cond_openings}
 use Rattle.c_tree.proofs.PrefixLaws.{some_same, seq-parts, at_line-inner, name_word-inner, not_word, operand-number, operand-paren, operand-name, Opens, inside-opener, expr-opens, cond-opens, joint-op, joint-compare, joint-connective, joint-question, inside-minus, inside-not, inside-cast, Parens, parens-parts, Firm, word-firm, op-firm, compare-firm, one_less, values-firm}
 use Rattle.c_tree.proofs.LiteralLaws.{literals-agree}
-use Rattle.c_tree.proofs.Walks.{AgreeOn, Steps, Walk, ◌▸◌, opening-walk, word-walk, agree-walk, same-walk, reopened}
+use Rattle.c_tree.proofs.Walks.{AgreeOn, Walk, ◌▸◌, opening-walk, word-walk, agree-walk, same-walk, reopened}
 
 -- behind a `(` an opener is that of a first operand
 inside-opens : (role : Role) (d : ℕ) (more : List Need) (tokens : List Token) → Opens tokens → Walk [] tokens (inside_need role d ∷ more) tokens (operand_need (as_first role) (d + 1) ∷ more)

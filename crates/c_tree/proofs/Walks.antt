@@ -1,5 +1,5 @@
 -- Walks along tokens: at each token the needs say just what is opened there.
-use Rattle.std.proofs.Common.{◌≡◌, refl, sym, ◌∙◌, ap, List, [], ◌∷◌, ◌++◌, Some, ℕ, Bool, if◌then◌else◌, subst}
+use Rattle.std.proofs.Common.{◌≡◌, refl, sym, ◌∙◌, ap, List, [], ◌∷◌, ◌++◌, Some, ℕ, if◌then◌else◌, subst}
 use Rattle.c_tree.specs.Tokens.{Token}
 use Rattle.c_tree.specs.Grammar.{word}
 use Rattle.c_tree.specs.Prefix.{Need, too_deep, leaves, step_needs, may_end}

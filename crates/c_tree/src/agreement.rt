@@ -1,0 +1,16 @@
+ghost use Rattle.c_tree.specs.Agreement.{FaultsAgree, NeedsAgree};
+
+/// The needs that tokens leave say just what a file of the grammar can go on with: tokens pass where some file begins with
+/// them and none of them opens anything beyond its limit, a token is refused where no file goes on with it, and one is too deep
+/// where a file goes on with it and it opens something beyond its limit.
+#[tactic(auto, using(crate::proofs::TokenFaults::needs_agree))]
+pub fn needs_agree()
+    ensures { NeedsAgree }
+{}
+
+/// The first fault of tokens is at the first token with which no file of the grammar can go on (`Syntax`), or that opens
+/// something beyond its limit (`Deep`), or at the end (`Syntax`); and tokens without a fault are a file within the limits.
+#[tactic(auto, using(crate::proofs::TokenFaults::faults_agree))]
+pub fn faults_agree()
+    ensures { FaultsAgree }
+{}
