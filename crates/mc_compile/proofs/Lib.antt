@@ -5,3 +5,4 @@ pub mod NameLaws
 pub mod RowLaws
 pub mod WireLaws
 pub mod PortLaws
+pub mod CheckLaws

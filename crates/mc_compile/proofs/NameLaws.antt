@@ -75,7 +75,7 @@ same_name-None : (name : Option (List ℕ)) → same_name name None ≡ false
 same_name-None None = refl
 same_name-None (Some n) = refl
 
-None-named : (blocks : List Block) → row_named blocks None ≡ None
+pub None-named : (blocks : List Block) → row_named blocks None ≡ None
 None-named blocks = none 0 blocks
   where
     none : (k : ℕ) (blocks : List Block) → position_from (has_name None) k blocks ≡ None

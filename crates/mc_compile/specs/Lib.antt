@@ -7,6 +7,7 @@ pub mod FlatRows
 pub mod NameMaps
 pub mod Wiring
 pub mod Ports
+pub mod Checks
 pub mod Verdict
 pub mod Compilation
 pub mod RuleExamples

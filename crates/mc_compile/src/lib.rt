@@ -2,6 +2,7 @@
 #![tactic(auto)]
 
 mod blocks;
+mod checks;
 mod compiled;
 mod initial;
 mod lines;

@@ -25,7 +25,7 @@ pub enum Wire {
 }
 
 impl Wire {
-    fn is_open(self) -> bool
+    pub fn is_open(self) -> bool
         ensures { result ≡ wiring.is_open self }
     {
         match self {
