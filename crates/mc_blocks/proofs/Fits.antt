@@ -43,9 +43,16 @@ sum_magnitude-le (t ∷ ts) (v ∷ vs) F B a h =
     let rest = sum_magnitude-le ts vs F B a.1 h.1 in
     omega (arith, term, rest)
 
-length_fracs : (ts : List FixType) → length (map (λ t. t.frac) ts) ≡ length ts
+pub length_fracs : (ts : List FixType) → length (map (λ t. t.frac) ts) ≡ length ts
 length_fracs [] = refl
 length_fracs (t ∷ ts) = ap suc (length_fracs ts)
+
+-- the fraction bits of the inputs stand first
+pub first_fracs : (ts : List FixType) (count : ℕ) → length ts ≡ count → take count (sum_fracs ts) ≡ map (λ t. t.frac) ts
+first_fracs ts count e =
+    let fracs = map (λ (t : FixType). t.frac) ts in
+    let len : length fracs ≡ count = length_fracs ts ∙ e in
+    subst (λ n. take n (sum_fracs ts) ≡ fracs) len (take-append_seam fracs (replicate (16 - length ts) 0))
 
 sum_fits : (ts : List FixType) (vs : List ℤ) (count : ℕ) (out : FixType) → length ts ≡ count → AllZip InType ts vs →
     (let F = common_frac ts in conversion_bits (common_bits ts F + power_bits count) F out ≤ 62) →
@@ -54,9 +61,7 @@ sum_fits ts vs count out e a h =
     let fracs = map (λ (t : FixType). t.frac) ts in
     let F = common_frac ts in
     let B = common_bits ts F in
-    let len : length fracs ≡ count = length_fracs ts ∙ e in
-    let seam = take-append_seam fracs (replicate (16 - length ts) 0) in
-    let same : take count (sum_fracs ts) ≡ fracs = subst (λ n. take n (sum_fracs ts) ≡ fracs) len seam in
+    let same = first_fracs ts count e in
     let terms = sum_magnitude-le ts vs F B a (members-le (map (λ t. magnitude_bits t + (F - t.frac)) ts) 0) in
     let counted = product-le count (2 ^ B) (power_bits count) B (power_bits-enough count) (omega arith) in
     let swapped : 2 ^ (power_bits count + B) ≡ 2 ^ (B + power_bits count) = ap (λ n. 2 ^ n) (let c : power_bits count + B ≡ B + power_bits count = omega arith in c) in
@@ -79,7 +84,7 @@ product_magnitude-le (t ∷ ts) (v ∷ vs) a =
     let whole = product-le (max 1 (unsigned_abs v)) (product_magnitude vs) (magnitude_bits t) (sum_by magnitude_bits ts) (factor-le t v a.0) rest in
     omega (arith, whole, ap (λ n. 2 ^ n) (sum_by-cons magnitude_bits t ts))
 
-length_types : (ts : List FixType) (vs : List ℤ) → AllZip InType ts vs → length ts ≡ length vs
+pub length_types : (ts : List FixType) (vs : List ℤ) → AllZip InType ts vs → length ts ≡ length vs
 length_types [] [] a = refl
 length_types [] (v ∷ vs) a = absurd a
 length_types (t ∷ ts) [] a = absurd a

@@ -1,4 +1,4 @@
-use Rattle.std.proofs.Common.{◌≡◌, ap, arith, ◌∙◌}
+use Rattle.std.proofs.Common.{ap, arith, ◌∙◌}
 use Rattle.std.proofs.Math.ListN.{set}
 use Rattle.mc_fixed.specs.declared.FixType.{FixType}
 use Rattle.mc_blocks.proofs.Widths.{set_next}
