@@ -6,3 +6,6 @@ pub mod Calls
 pub mod FlatDiagrams
 pub mod Flat
 pub mod Code
+pub mod Blocks
+pub mod Bodies
+pub mod FlatProgram
