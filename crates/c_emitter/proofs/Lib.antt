@@ -6,3 +6,7 @@ pub mod BlockFacts
 pub mod TopTypes
 pub mod BlockTicks
 pub mod TopRuns
+pub mod Ports
+pub mod Digits
+pub mod Interface
+pub mod CallRuns

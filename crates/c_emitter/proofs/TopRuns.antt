@@ -30,6 +30,30 @@ taken_rows blocks need = filter (is_taken_in blocks need) (range_with_len 0 (len
 abbrev pub given_rows : List Block → ℕ → List ℕ
 given_rows blocks need = filter (is_given_in blocks need) (range_with_len 0 (length blocks))
 
+-- a function's steps, and the fields that it stores
+abbrev pub out_cost : List Block → ℕ → ℕ
+out_cost blocks need = 1 + (length (taken_rows blocks need) + length (given_rows blocks need)) + 1
+
+abbrev pub out_fields : List Block → ℕ → List ℕ
+out_fields blocks need = map (λ b. b) (taken_rows blocks need) ++ map (λ b. b) (given_rows blocks need) ++ counter_place blocks ∷ []
+
+-- the rows that an update takes, those that functions take in its place, and the delays, whose memories it stores
+abbrev pub unheld_rows : List Block → List ℕ
+unheld_rows blocks = filter (is_unheld blocks) (range_with_len 0 (length blocks))
+
+abbrev pub held_rows : List Block → List ℕ
+held_rows blocks = filter (is_held_input blocks) (range_with_len 0 (length blocks))
+
+abbrev pub memory_rows : List Block → List ℕ
+memory_rows blocks = filter (is_delay_row blocks) (range_with_len 0 (length blocks))
+
+-- an update's steps, and the fields that it stores
+abbrev pub update_cost : List Block → ℕ
+update_cost blocks = 1 + (1 + (length (unheld_rows blocks) + length (memory_rows blocks)) + 1)
+
+abbrev pub update_fields : List Block → List ℕ
+update_fields blocks = map (λ b. b) (unheld_rows blocks) ++ map (memory_place blocks) (memory_rows blocks) ++ counter_place blocks ∷ []
+
 -- what an output reads feeds an output
 feeds-from : (bs : List Block) (b port c : ℕ) → b < length bs → slice_index_or bs b no_block ≡ Output port c → list_any (λ s. s == c) (filter_map output_source bs) ≡ true
 feeds-from [] b port c h e = absurd (omega arith)
@@ -129,16 +153,9 @@ module _ (blocks : List Block) (are : AreBlocks blocks) (x v m n : List ℤ) (ti
         tt,
       )
 
-  -- a function's steps, and the fields that it stores
-  abbrev pub out_cost : ℕ → ℕ
-  out_cost need = 1 + (length (taken_rows blocks need) + length (given_rows blocks need)) + 1
-
-  abbrev pub out_fields : ℕ → List ℕ
-  out_fields need = map (λ b. b) (taken_rows blocks need) ++ map (λ b. b) (given_rows blocks need) ++ counter_place blocks ∷ []
-
-  pub run-out : (known : ℕ → Type 0) (need : ℕ) (zs : List ℤ) (steps : ℕ) → length zs ≡ length in_tick → steps + out_cost need ≤ 2 ^ 32 → Known in_tick known zs →
+  pub run-out : (known : ℕ → Type 0) (need : ℕ) (zs : List ℤ) (steps : ℕ) → length zs ≡ length in_tick → steps + out_cost blocks need ≤ 2 ^ 32 → Known in_tick known zs →
       ((j : ℕ) → IsMemory blocks j → known j) → TakesInput need → int_at s.values 0 ≡ pos 0 →
-      Stores (run_stmts s (stmts_of_list (out_body blocks need))) in_tick known steps (out_cost need) (out_fields need) zs
+      Stores (run_stmts s (stmts_of_list (out_body blocks need))) in_tick known steps (out_cost blocks need) (out_fields blocks need) zs
   run-out known need zs steps size h holds memory input now =
       let taken : ℕ → Type 0 = λ j. known j ⊎ (list_any (λ f. f == j) (map (λ b. b) (taken_rows blocks need)) ≡ true) in
       let a = run-taken known need zs (steps + 1) size (omega arith) holds memory input in
@@ -154,16 +171,6 @@ module _ (blocks : List Block) (are : AreBlocks blocks) (x v m n : List ℤ) (ti
 
   -- ---- The update
 
-  -- the rows that an update takes, and the delays, whose memories it stores
-  abbrev pub unheld_rows : List ℕ
-  unheld_rows = filter (is_unheld blocks) (range_with_len 0 (length blocks))
-
-  abbrev pub held_rows : List ℕ
-  held_rows = filter (is_held_input blocks) (range_with_len 0 (length blocks))
-
-  abbrev pub memory_rows : List ℕ
-  memory_rows = filter (is_delay_row blocks) (range_with_len 0 (length blocks))
-
   -- the parameters are those of all inputs
   abbrev pub TakesAll : Type 0
   TakesAll = (b port : ℕ) → b < length blocks → block_at blocks b ≡ Input port → int_at s.values port ≡ item x (port - 1)
@@ -173,11 +180,11 @@ module _ (blocks : List Block) (are : AreBlocks blocks) (x v m n : List ℤ) (ti
   readable-unheld known b (Output port c) memory input h same source = absurd (true≢false source)
   readable-unheld known b (Delay c start) memory input h same source = memory (memory_place blocks b) (b, h, ap is_delay_block same, refl)
 
-  run-unheld : (known : ℕ → Type 0) (zs : List ℤ) (steps : ℕ) → length zs ≡ length in_tick → steps + length unheld_rows ≤ 2 ^ 32 → Known in_tick known zs →
+  run-unheld : (known : ℕ → Type 0) (zs : List ℤ) (steps : ℕ) → length zs ≡ length in_tick → steps + length (unheld_rows blocks) ≤ 2 ^ 32 → Known in_tick known zs →
       ((j : ℕ) → IsMemory blocks j → known j) → TakesAll →
-      Stores (run_stmts s (stmts_of_list (unheld_stores blocks))) in_tick known steps (length unheld_rows) (map (λ b. b) unheld_rows) zs
+      Stores (run_stmts s (stmts_of_list (unheld_stores blocks))) in_tick known steps (length (unheld_rows blocks)) (map (λ b. b) (unheld_rows blocks)) zs
   run-unheld known zs steps size h holds memory input =
-      stores-rows s in_tick known (λ b. b) (λ b. value_expr (block_at blocks b) (port_of_input (block_at blocks b)) (memory_place blocks b)) unheld_rows zs steps size h holds
+      stores-rows s in_tick known (λ b. b) (λ b. value_expr (block_at blocks b) (port_of_input (block_at blocks b)) (memory_place blocks b)) (unheld_rows blocks) zs steps size h holds
       (all-chosen (is_unheld blocks) _ 0 (length blocks) (λ b low high passes.
         let within : b < length blocks = omega arith in
         let parts = and_parts _ _ passes in
@@ -209,14 +216,14 @@ module _ (blocks : List Block) (are : AreBlocks blocks) (x v m n : List ℤ) (ti
             ∙ memories-stay-ints blocks are x v m n tick xs ms b h delay;
       }
 
-  run-memories : (zs : List ℤ) (steps : ℕ) → length zs ≡ length behind_tick → steps + length memory_rows ≤ 2 ^ 32 → Known behind_tick (λ j. j < length blocks) zs →
-      Stores (run_stmts s (stmts_of_list (memory_stores blocks))) behind_tick (λ j. j < length blocks) steps (length memory_rows) (map (memory_place blocks) memory_rows) zs
+  run-memories : (zs : List ℤ) (steps : ℕ) → length zs ≡ length behind_tick → steps + length (memory_rows blocks) ≤ 2 ^ 32 → Known behind_tick (λ j. j < length blocks) zs →
+      Stores (run_stmts s (stmts_of_list (memory_stores blocks))) behind_tick (λ j. j < length blocks) steps (length (memory_rows blocks)) (map (memory_place blocks) (memory_rows blocks)) zs
   run-memories zs steps size h holds =
-      stores-rows s behind_tick (λ j. j < length blocks) (memory_place blocks) (λ b. read (Own (source_of (block_at blocks b)))) memory_rows zs steps size h holds
+      stores-rows s behind_tick (λ j. j < length blocks) (memory_place blocks) (λ b. read (Own (source_of (block_at blocks b)))) (memory_rows blocks) zs steps size h holds
       (all-chosen (is_delay_row blocks) _ 0 (length blocks) (λ b low high passes. memory-right b (omega arith) passes))
 
   -- no input that functions hold is taken: some function was called, or none holds any
-  idle-ends : (zs : List ℤ) (steps : ℕ) → steps < 2 ^ 32 → (item zs (counter_place blocks) ≡ pos 1) ⊎ (held_rows ≡ []) →
+  idle-ends : (zs : List ℤ) (steps : ℕ) → steps < 2 ^ 32 → (item zs (counter_place blocks) ≡ pos 1) ⊎ ((held_rows blocks) ≡ []) →
       run_stmt s (branch 0 (idle_test blocks) (stmts_of_list (held_stores blocks)) no_stmts) (number_cells zs) steps ≡ finish (number_cells zs) (steps + 1) [] []
   idle-ends zs steps h (inl called) =
       branch-skipped s (idle_test blocks) (stmts_of_list (held_stores blocks)) (number_cells zs) steps h
@@ -232,7 +239,7 @@ module _ (blocks : List Block) (are : AreBlocks blocks) (x v m n : List ℤ) (ti
 
   -- all fields are those behind the tick, where the values, memories and the counter are
   all-behind : (zs : List ℤ) → length zs ≡ length behind_tick →
-      Known behind_tick (λ j. ((j < length blocks) ⊎ (list_any (λ f. f == j) (map (memory_place blocks) memory_rows) ≡ true)) ⊎ (list_any (λ f. f == j) (counter_place blocks ∷ []) ≡ true)) zs →
+      Known behind_tick (λ j. ((j < length blocks) ⊎ (list_any (λ f. f == j) (map (memory_place blocks) (memory_rows blocks)) ≡ true)) ⊎ (list_any (λ f. f == j) (counter_place blocks ∷ []) ≡ true)) zs →
       zs ≡ behind_tick
   all-behind zs size holds = ext_get_or (pos 0) zs behind_tick size (λ i h. each i h)
     where
@@ -252,33 +259,27 @@ module _ (blocks : List Block) (are : AreBlocks blocks) (x v m n : List ℤ) (ti
         ]
       ]
 
-  abbrev pub update_cost : ℕ
-  update_cost = 1 + (1 + (length unheld_rows + length memory_rows) + 1)
-
-  abbrev pub update_fields : List ℕ
-  update_fields = map (λ b. b) unheld_rows ++ map (memory_place blocks) memory_rows ++ counter_place blocks ∷ []
-
-  pub run-update : (known : ℕ → Type 0) (zs : List ℤ) (steps : ℕ) → length zs ≡ length in_tick → steps + update_cost ≤ 2 ^ 32 → Known in_tick known zs →
+  pub run-update : (known : ℕ → Type 0) (zs : List ℤ) (steps : ℕ) → length zs ≡ length in_tick → steps + (update_cost blocks) ≤ 2 ^ 32 → Known in_tick known zs →
       ((j : ℕ) → IsMemory blocks j → known j) → TakesAll → int_at s.values 0 ≡ pos 0 →
-      (item zs (counter_place blocks) ≡ pos 1) ⊎ (held_rows ≡ []) →
+      (item zs (counter_place blocks) ≡ pos 1) ⊎ ((held_rows blocks) ≡ []) →
       ((b : ℕ) → b < length blocks → known b ⊎ (is_unheld blocks b ≡ true)) →
-      run_stmts s (stmts_of_list (update_body blocks)) (number_cells zs) steps ≡ finish (number_cells behind_tick) (steps + update_cost) [] (map own_store update_fields)
+      run_stmts s (stmts_of_list (update_body blocks)) (number_cells zs) steps ≡ finish (number_cells behind_tick) (steps + (update_cost blocks)) [] (map own_store (update_fields blocks))
   run-update known zs steps size h holds memory input now idle rows =
       let sizes : length in_tick ≡ length behind_tick = length-top_state blocks v m (pos 1) tick.size ∙ sym (length-top_state blocks v n (pos 0) tick.size) in
       let u = run-unheld known zs (steps + 1 + 1) size (omega arith) holds memory input in
       let values : Known behind_tick (λ j. j < length blocks) u.after =
         λ j within. u.known_after j (elim (rows j within) [ inl k ↦ inl k | inr passes ↦ inr (any-chosen (is_unheld blocks) (λ b. b) 0 (length blocks) j j (omega arith) (omega arith) passes refl) ])
         ∙ value-in_state blocks v m (pos 1) j tick.size within ∙ sym (value-in_state blocks v n (pos 0) j tick.size within) in
-      let w = run-memories u.after (steps + 1 + 1 + length unheld_rows) (u.size ∙ size ∙ sizes) (omega arith) values in
+      let w = run-memories u.after (steps + 1 + 1 + length (unheld_rows blocks)) (u.size ∙ size ∙ sizes) (omega arith) values in
       let hit : StmtTree = branch 0 hit_test (stmts_of_list (unheld_stores blocks ++ memory_stores blocks)) no_stmts in
-      let c = run-counter behind_tick _ (pos 0) w.after (steps + 1 + (1 + (length unheld_rows + length memory_rows))) (length-top_state blocks v n (pos 0) tick.size) (counter-in_state blocks v n (pos 0) tick.size) refl
+      let c = run-counter behind_tick _ (pos 0) w.after (steps + 1 + (1 + (length (unheld_rows blocks) + length (memory_rows blocks)))) (length-top_state blocks v n (pos 0) tick.size) (counter-in_state blocks v n (pos 0) tick.size) refl
         (w.size ∙ u.size ∙ size ∙ sizes) (omega arith) w.known_after in
       let stored = ends-then (run_stmts s (stmts_of_list (unheld_stores blocks))) (run_stmts s (stmts_of_list (memory_stores blocks))) zs u.after w.after (steps + 1 + 1) _ _ _ _ u.ends w.ends in
-      let count : steps + 1 + 1 + (length unheld_rows + length memory_rows) ≡ steps + 1 + (1 + (length unheld_rows + length memory_rows)) = omega arith in
-      let hits : run_stmt s hit (number_cells zs) (steps + 1) ≡ finish (number_cells w.after) (steps + 1 + (1 + (length unheld_rows + length memory_rows))) [] (map own_store (map (λ b. b) unheld_rows ++ map (memory_place blocks) memory_rows)) =
+      let count : steps + 1 + 1 + (length (unheld_rows blocks) + length (memory_rows blocks)) ≡ steps + 1 + (1 + (length (unheld_rows blocks) + length (memory_rows blocks))) = omega arith in
+      let hits : run_stmt s hit (number_cells zs) (steps + 1) ≡ finish (number_cells w.after) (steps + 1 + (1 + (length (unheld_rows blocks) + length (memory_rows blocks)))) [] (map own_store (map (λ b. b) (unheld_rows blocks) ++ map (memory_place blocks) (memory_rows blocks))) =
         branch-taken s hit_test (stmts_of_list (unheld_stores blocks ++ memory_stores blocks)) (number_cells zs) (steps + 1) (omega arith) (hit-at zs (steps + 1 + 1) now)
         ∙ run-append s (unheld_stores blocks) (memory_stores blocks) (number_cells zs) (steps + 1 + 1) ∙ stored
-        ∙ ap (λ k. finish (number_cells w.after) k [] (map own_store (map (λ b. b) unheld_rows ++ map (memory_place blocks) memory_rows))) count in
+        ∙ ap (λ k. finish (number_cells w.after) k [] (map own_store (map (λ b. b) (unheld_rows blocks) ++ map (memory_place blocks) (memory_rows blocks)))) count in
       let later = ends-then (run_stmt s hit) (run_stmts s (stmts_of_list (set_counter blocks (pos 0) ∷ []))) zs w.after c.after (steps + 1) _ _ _ _ hits c.ends in
       ends-then (run_stmt s (branch 0 (idle_test blocks) (stmts_of_list (held_stores blocks)) no_stmts)) (run_stmts s (stmts_of_list (hit ∷ set_counter blocks (pos 0) ∷ []))) zs zs c.after steps _ _ [] _ (idle-ends zs steps (omega arith) idle) later
-      ∙ ap (λ ys. finish (number_cells ys) (steps + update_cost) [] (map own_store update_fields)) (all-behind c.after (c.size ∙ w.size ∙ u.size ∙ size ∙ sizes) c.known_after)
+      ∙ ap (λ ys. finish (number_cells ys) (steps + (update_cost blocks)) [] (map own_store (update_fields blocks))) (all-behind c.after (c.size ∙ w.size ∙ u.size ∙ size ∙ sizes) c.known_after)
