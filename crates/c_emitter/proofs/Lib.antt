@@ -10,3 +10,5 @@ pub mod Ports
 pub mod Digits
 pub mod Interface
 pub mod CallRuns
+pub mod Members
+pub mod RootRuns
