@@ -12,3 +12,5 @@ pub mod Interface
 pub mod CallRuns
 pub mod Members
 pub mod RootRuns
+pub mod Costs
+pub mod StepRun

@@ -35,9 +35,9 @@ has_bit-same i =
 pub has_bit-other : (i j : ℕ) → i ≢ j → has_bit (2 ^ i) j ≡ false
 has_bit-other i j apart = ap (λ b. not (b == 0)) (pow_apart i j apart)
 
-filter-none : (p : ℕ → Bool) (a n : ℕ) → ((c : ℕ) → a ≤ c → p c ≡ false) → filter p (range_with_len a n) ≡ []
+pub filter-none : (p : ℕ → Bool) (a n : ℕ) → ((c : ℕ) → a ≤ c → c < a + n → p c ≡ false) → filter p (range_with_len a n) ≡ []
 filter-none p a zero h = refl
-filter-none p a (suc n) h = ap (λ t. cond t (a ∷ filter p (range_with_len (a + 1) n)) (filter p (range_with_len (a + 1) n))) (h a (omega arith)) ∙ filter-none p (a + 1) n (λ c low. h c (omega arith))
+filter-none p a (suc n) h = ap (λ t. cond t (a ∷ filter p (range_with_len (a + 1) n)) (filter p (range_with_len (a + 1) n))) (h a (omega arith) (omega arith)) ∙ filter-none p (a + 1) n (λ c low high. h c (omega arith) (omega arith))
 
 -- a filter that passes one number alone
 filter-one : (p : ℕ → Bool) (b a n : ℕ) → p b ≡ true → ((c : ℕ) → a ≤ c → c ≢ b → p c ≡ false) → a ≤ b → b < a + n → filter p (range_with_len a n) ≡ b ∷ []
@@ -46,7 +46,7 @@ filter-one p b a (suc n) passes others low high = elim (eqb_tells a b) [
   | inl here ↦
     let first : p a ≡ true = ap p here.1 ∙ passes in
     ap (λ t. cond t (a ∷ filter p (range_with_len (a + 1) n)) (filter p (range_with_len (a + 1) n))) first
-    ∙ ap (λ l. a ∷ l) (filter-none p (a + 1) n (λ c above. others c (omega arith) (let same : a ≡ b = here.1 in omega arith))) ∙ ap (λ k. k ∷ []) here.1
+    ∙ ap (λ l. a ∷ l) (filter-none p (a + 1) n (λ c above within. others c (omega arith) (let same : a ≡ b = here.1 in omega arith))) ∙ ap (λ k. k ∷ []) here.1
   | inr there ↦
     let apart : a ≢ b = there.1 in
     ap (λ t. cond t (a ∷ filter p (range_with_len (a + 1) n)) (filter p (range_with_len (a + 1) n))) (others a (omega arith) apart)

@@ -6,7 +6,7 @@ use Rattle.std.proofs.lemmas.List.{map-append}
 use Rattle.c_tree.specs.Tree.{CondTree, StmtTree, branch, StmtTrees, no_stmts, more_stmts, stmts_append, stmts_of_list}
 use Rattle.c_tree.specs.Cells.{Cells}
 use Rattle.c_tree.specs.Values.{gives, eval_cond, reads}
-use Rattle.c_tree.specs.Machine.{Outcome, behind, then_run, on_answer, Scope, run_stmt, run_stmts}
+use Rattle.c_tree.specs.Machine.{LoggedCall, StoredField, Outcome, behind, then_run, on_answer, Scope, run_stmt, run_stmts}
 use Rattle.c_tree.proofs.Runs.{run_stmts-append}
 use Rattle.c_emitter.proofs.NumberCells.{number_cells, item}
 use Rattle.c_emitter.proofs.Straight.{finish, own_store, Known, Stores, begin_step-goes}
@@ -109,3 +109,8 @@ stores-as run other wanted known steps n fs zs e a = record {
 -- one statement alone
 pub run-single : (s : Scope) (x : StmtTree) (cells : Cells) (steps : ℕ) → run_stmts s (more_stmts x no_stmts) cells steps ≡ run_stmts s (stmts_of_list (x ∷ [])) cells steps
 run-single s x cells steps = refl
+
+-- how two runs end, one behind the other
+pub finish-then : (first : Outcome) (second : Cells → ℕ → Outcome) (c d : Cells) (n k : ℕ) (l m : List LoggedCall) (s t : List StoredField) →
+    first ≡ finish c n l s → second c n ≡ finish d k m t → then_run first second ≡ finish d k (l ++ m) (s ++ t)
+finish-then first second c d n k l m s t e f = ap (λ o. then_run o second) e ∙ ap (behind l s) f

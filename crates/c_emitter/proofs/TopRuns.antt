@@ -55,7 +55,7 @@ abbrev pub update_fields : List Block → List ℕ
 update_fields blocks = map (λ b. b) (unheld_rows blocks) ++ map (memory_place blocks) (memory_rows blocks) ++ counter_place blocks ∷ []
 
 -- what an output reads feeds an output
-feeds-from : (bs : List Block) (b port c : ℕ) → b < length bs → slice_index_or bs b no_block ≡ Output port c → list_any (λ s. s == c) (filter_map output_source bs) ≡ true
+pub feeds-from : (bs : List Block) (b port c : ℕ) → b < length bs → slice_index_or bs b no_block ≡ Output port c → list_any (λ s. s == c) (filter_map output_source bs) ≡ true
 feeds-from [] b port c h e = absurd (omega arith)
 feeds-from (Input p ∷ bs) zero port c h e = absurd (cc e)
 feeds-from (Input p ∷ bs) (suc b) port c h e = feeds-from bs b port c (omega arith) e
