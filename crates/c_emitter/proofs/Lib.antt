@@ -14,3 +14,6 @@ pub mod Members
 pub mod RootRuns
 pub mod Costs
 pub mod StepRun
+pub mod Procedures
+pub mod StartRun
+pub mod RootStart

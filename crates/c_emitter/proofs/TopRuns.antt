@@ -54,6 +54,28 @@ update_cost blocks = 1 + (1 + (length (unheld_rows blocks) + length (memory_rows
 abbrev pub update_fields : List Block → List ℕ
 update_fields blocks = map (λ b. b) (unheld_rows blocks) ++ map (memory_place blocks) (memory_rows blocks) ++ counter_place blocks ∷ []
 
+-- the fields are all known, where the values, the memories and the counter are
+pub all-known : (blocks : List Block) (v m : List ℤ) (c : ℤ) → length v ≡ length blocks → (zs : List ℤ) → length zs ≡ length (top_state blocks v m c) →
+    Known (top_state blocks v m c) (λ j. ((j < length blocks) ⊎ (list_any (λ f. f == j) (map (memory_place blocks) (memory_rows blocks)) ≡ true)) ⊎ (list_any (λ f. f == j) (counter_place blocks ∷ []) ≡ true)) zs →
+    zs ≡ top_state blocks v m c
+all-known blocks v m c vs zs size holds = ext_get_or (pos 0) zs (top_state blocks v m c) size (λ i h. each i h)
+  where
+    each : (i : ℕ) → i < length zs → item zs i ≡ item (top_state blocks v m c) i
+    each i h = elim (cases_lt i (length blocks)) [
+      | inl value ↦ holds i (inl (inl value))
+      | inr above ↦ elim (cases_lt i (counter_place blocks)) [
+        | inl memory ↦
+          let found = member-at (is_delay_row blocks) 0 (length blocks) (i - length blocks) (omega arith) in
+          let same : 0 + found.ahead ≡ found.ahead = omega arith in
+          let place : memory_place blocks found.ahead ≡ i = (let p = found.place in omega (arith, p)) in
+          holds i (inl (inr (any-chosen (is_delay_row blocks) (memory_place blocks) 0 (length blocks) found.ahead i (omega arith) (let w = found.within in omega (arith, w)) (subst (λ b. is_delay_row blocks b ≡ true) same found.passes) place)))
+        | inr last ↦
+          let total = length-top_state blocks v m c vs in
+          let counter : counter_place blocks ≡ i = omega (arith, total, size) in
+          holds i (inr (or_left (counter_place blocks == i) false (eq-eqb (counter_place blocks) i counter)))
+      ]
+    ]
+
 -- what an output reads feeds an output
 pub feeds-from : (bs : List Block) (b port c : ℕ) → b < length bs → slice_index_or bs b no_block ≡ Output port c → list_any (λ s. s == c) (filter_map output_source bs) ≡ true
 feeds-from [] b port c h e = absurd (omega arith)
@@ -237,28 +259,6 @@ module _ (blocks : List Block) (are : AreBlocks blocks) (x v m n : List ℤ) (ti
           ∙ ap (λ rs. run_stmts s (stmts_of_list (map (store_by_port blocks) rs)) (number_cells zs) (steps + 1)) none
       by false e = branch-skipped s (idle_test blocks) (stmts_of_list (held_stores blocks)) (number_cells zs) steps h (ap (λ t. gives t (steps + 1)) e)
 
-  -- all fields are those behind the tick, where the values, memories and the counter are
-  all-behind : (zs : List ℤ) → length zs ≡ length behind_tick →
-      Known behind_tick (λ j. ((j < length blocks) ⊎ (list_any (λ f. f == j) (map (memory_place blocks) (memory_rows blocks)) ≡ true)) ⊎ (list_any (λ f. f == j) (counter_place blocks ∷ []) ≡ true)) zs →
-      zs ≡ behind_tick
-  all-behind zs size holds = ext_get_or (pos 0) zs behind_tick size (λ i h. each i h)
-    where
-      each : (i : ℕ) → i < length zs → item zs i ≡ item behind_tick i
-      each i h = elim (cases_lt i (length blocks)) [
-        | inl value ↦ holds i (inl (inl value))
-        | inr above ↦ elim (cases_lt i (counter_place blocks)) [
-          | inl memory ↦
-            let found = member-at (is_delay_row blocks) 0 (length blocks) (i - length blocks) (omega arith) in
-            let same : 0 + found.ahead ≡ found.ahead = omega arith in
-            let place : memory_place blocks found.ahead ≡ i = (let p = found.place in omega (arith, p)) in
-            holds i (inl (inr (any-chosen (is_delay_row blocks) (memory_place blocks) 0 (length blocks) found.ahead i (omega arith) (let w = found.within in omega (arith, w)) (subst (λ b. is_delay_row blocks b ≡ true) same found.passes) place)))
-          | inr last ↦
-            let total = length-top_state blocks v n (pos 0) tick.size in
-            let counter : counter_place blocks ≡ i = omega (arith, total, size) in
-            holds i (inr (or_left (counter_place blocks == i) false (eq-eqb (counter_place blocks) i counter)))
-        ]
-      ]
-
   pub run-update : (known : ℕ → Type 0) (zs : List ℤ) (steps : ℕ) → length zs ≡ length in_tick → steps + (update_cost blocks) ≤ 2 ^ 32 → Known in_tick known zs →
       ((j : ℕ) → IsMemory blocks j → known j) → TakesAll → int_at s.values 0 ≡ pos 0 →
       (item zs (counter_place blocks) ≡ pos 1) ⊎ ((held_rows blocks) ≡ []) →
@@ -282,4 +282,4 @@ module _ (blocks : List Block) (are : AreBlocks blocks) (x v m n : List ℤ) (ti
         ∙ ap (λ k. finish (number_cells w.after) k [] (map own_store (map (λ b. b) (unheld_rows blocks) ++ map (memory_place blocks) (memory_rows blocks)))) count in
       let later = ends-then (run_stmt s hit) (run_stmts s (stmts_of_list (set_counter blocks (pos 0) ∷ []))) zs w.after c.after (steps + 1) _ _ _ _ hits c.ends in
       ends-then (run_stmt s (branch 0 (idle_test blocks) (stmts_of_list (held_stores blocks)) no_stmts)) (run_stmts s (stmts_of_list (hit ∷ set_counter blocks (pos 0) ∷ []))) zs zs c.after steps _ _ [] _ (idle-ends zs steps (omega arith) idle) later
-      ∙ ap (λ ys. finish (number_cells ys) (steps + (update_cost blocks)) [] (map own_store (update_fields blocks))) (all-behind c.after (c.size ∙ w.size ∙ u.size ∙ size ∙ sizes) c.known_after)
+      ∙ ap (λ ys. finish (number_cells ys) (steps + (update_cost blocks)) [] (map own_store (update_fields blocks))) (all-known blocks v n (pos 0) tick.size c.after (c.size ∙ w.size ∙ u.size ∙ size ∙ sizes) c.known_after)
