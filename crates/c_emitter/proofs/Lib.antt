@@ -17,3 +17,5 @@ pub mod StepRun
 pub mod Procedures
 pub mod StartRun
 pub mod RootStart
+pub mod FlatRows
+pub mod FlatBlocks

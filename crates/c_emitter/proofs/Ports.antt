@@ -63,7 +63,7 @@ single-port blocks port low high = by (port - 1) (omega arith)
         filter-one (takes (Some (2 ^ i))) port 1 (input_count blocks) (subst (λ k. has_bit (2 ^ i) k ≡ true) here (has_bit-same i))
         (λ c above apart. has_bit-other i (c - 1) (omega arith)) (omega arith) (omega arith)
 
-filter-all : (xs : List ℕ) → filter (λ k. true) xs ≡ xs
+pub filter-all : (xs : List ℕ) → filter (λ k. true) xs ≡ xs
 filter-all [] = refl
 filter-all (x ∷ xs) = ap (λ l. x ∷ l) (filter-all xs)
 
