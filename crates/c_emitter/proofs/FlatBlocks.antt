@@ -44,17 +44,17 @@ module _ (rows : List Row) (ops : List Op) (flat : IsFlat (diagram rows ops)) wh
   abbrev pub blocks : List Block
   blocks = blocks_of (diagram rows ops)
 
-  same-length : length blocks ≡ length rows
+  pub same-length : length blocks ≡ length rows
   same-length = blocks-length rows ops flat
 
   -- ---- Kinds
 
-  input-is : (b : ℕ) → RowView rows ops b → is_inport (row_at rows b).kind ≡ is_input (block_at blocks b)
+  pub input-is : (b : ℕ) → RowView rows ops b → is_inport (row_at rows b).kind ≡ is_input (block_at blocks b)
   input-is b (input_row port kind wires op block) = ap is_inport kind ∙ sym (ap is_input block)
   input-is b (output_view port reset initial c kind wires below source op block) = ap is_inport kind ∙ sym (ap is_input block)
   input-is b (delay_row initial c kind wires below source op block) = ap is_inport kind ∙ sym (ap is_input block)
 
-  output-is : (b : ℕ) → RowView rows ops b → is_outport (row_at rows b).kind ≡ is_output (block_at blocks b)
+  pub output-is : (b : ℕ) → RowView rows ops b → is_outport (row_at rows b).kind ≡ is_output (block_at blocks b)
   output-is b (input_row port kind wires op block) = ap is_outport kind ∙ sym (ap is_output block)
   output-is b (output_view port reset initial c kind wires below source op block) = ap is_outport kind ∙ sym (ap is_output block)
   output-is b (delay_row initial c kind wires below source op block) = ap is_outport kind ∙ sym (ap is_output block)
@@ -64,7 +64,7 @@ module _ (rows : List Row) (ops : List Op) (flat : IsFlat (diagram rows ops)) wh
   delay-is b (output_view port reset initial c kind wires below source op block) = ap is_delay op ∙ sym (ap is_delay_block block)
   delay-is b (delay_row initial c kind wires below source op block) = ap is_delay op ∙ sym (ap is_delay_block block)
 
-  source-is : (c : ℕ) → RowView rows ops c → IsTrue (is_source (row_at rows c).kind) → is_output (block_at blocks c) ≡ false
+  pub source-is : (c : ℕ) → RowView rows ops c → IsTrue (is_source (row_at rows c).kind) → is_output (block_at blocks c) ≡ false
   source-is c (input_row port kind wires op block) source = ap is_output block
   source-is c (output_view port reset initial b kind wires below s op block) source = absurd (true≢false (sym source ∙ ap is_source kind))
   source-is c (delay_row initial b kind wires below s op block) source = ap is_output block

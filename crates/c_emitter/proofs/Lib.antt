@@ -19,3 +19,4 @@ pub mod StartRun
 pub mod RootStart
 pub mod FlatRows
 pub mod FlatBlocks
+pub mod FlatTicks

@@ -1,0 +1,163 @@
+-- Runs of a diagram of one system, by its blocks.
+use Rattle.std.specs.Prelude.{◌≡◌, ℕ, zero, suc, ◌+◌, ◌-◌, ◌%◌, ◌<◌, ◌≤◌, ◌⊎◌, Bool, true, false, not, ◌&&◌, ◌||◌, ◌==◌, if◌then◌else◌, IsTrue, List, [], ◌∷◌, ◌++◌, map, filter, filter_map, find, length, slice_index_or, Contains, Option, Some, None, ℤ, pos}
+use Rattle.std.specs.List.{range_with_len, position_from, AllByRecursion}
+use Rattle.std.proofs.Common.{refl, sym, ◌∙◌, ap, ap₂, subst, arith, inl, inr, cond, true≢false}
+use Rattle.std.proofs.Math.Path.{fun_ext}
+use Rattle.std.proofs.Math.Bool.{and-false, and-true}
+use Rattle.std.proofs.lemmas.List.{length-map}
+use Rattle.std.proofs.lemmas.List.FromFn.{length-range_with_len}
+use Rattle.std.proofs.lemmas.Bool.{eq-eqb}
+use Rattle.mc_fixed.specs.Types.{int32}
+use Rattle.mc_fixed.specs.Conversion.{quantize}
+use Rattle.mc_guards.specs.declared.TrigMem.{TrigMem}
+use Rattle.mc_base.specs.declared.Port.TheVariants.{Number}
+use Rattle.mc_blocks.specs.declared.Kind.{Kind}
+use Rattle.mc_blocks.specs.declared.Kind.TheVariants.{Inport, Outport, UnitDelay}
+use Rattle.mc_blocks.specs.declared.Op.{Op}
+use Rattle.mc_blocks.specs.declared.Op.TheVariants.{Copy}
+use Rattle.mc_blocks.specs.declared.Op.TheVariants as op
+use Rattle.mc_blocks.specs.Meaning.{has_value}
+use Rattle.mc_blocks.specs.Value.{rhs, input}
+use Rattle.mc_diagram.specs.declared.Row.{Row}
+use Rattle.mc_diagram.specs.Rows.{row_at, by_row, numbers, around, outward, enclosing, is_inport, is_outport, is_inport_of, same_system, port_of, column, rows_of, by_port, outports_of}
+use Rattle.mc_diagram.specs.SampleTimes.{hit, every_tick}
+use Rattle.mc_diagram.specs.Diagram.{Diagram, op_at, time_at}
+use Rattle.mc_diagram.specs.Needs.{needs_of, inputs_used, control_wires, Walk, IsLoop, HasNoLoop}
+use Rattle.mc_diagram.specs.Run.{value_at, is_delay, start_of, runs, input_values, is_reset_outport, is_disabled, row_value, row_memory, any_off, active_in, values_by, memories_by, has_memory, IsTick}
+use Rattle.mc_diagram.proofs.ByRow.{by_row-at}
+use Rattle.mc_diagram.proofs.Equations.{value-of_row, memory-of_row}
+use Rattle.mc_diagram.proofs.Inside.{Contains-nil}
+use Rattle.mc_diagram.proofs.NeedsExamples.{of_one}
+use Rattle.c_emitter.specs.declared.block.Block.{Block}
+use Rattle.c_emitter.specs.declared.block.Block.TheVariants.{Input, Output, Delay}
+use Rattle.c_emitter.specs.Flat.{is_source, IsFlat}
+use Rattle.c_emitter.specs.Blocks.{block_at, blocks_of, is_output, is_delay_block, start_value, is_output_of, output_row, output_rows}
+use Rattle.c_emitter.proofs.NumberCells.{item}
+use Rattle.c_emitter.proofs.BlockTicks.{TickAt, IsBlockTick}
+use Rattle.c_emitter.proofs.StartRun.{start_values}
+use Rattle.c_emitter.proofs.FlatRows.{diagram, RowView, input_row, output_row as output_view, delay_row, view, root-row, blocks-length}
+use Rattle.c_emitter.proofs.FlatBlocks.{blocks, same-length, output-is, output-kind, delay-is, start-is, output-rows-unordered}
+
+-- no subsystem is around a row of the root
+around-none : (rows : List Row) (b : ℕ) → (row_at rows b).owner ≡ None → around rows None b ≡ []
+around-none rows b e = ap (enclosing rows None) e ∙ by (length rows)
+  where
+    by : (n : ℕ) → outward rows None n None ≡ []
+    by zero = refl
+    by (suc n) = refl
+
+every-tick-hits : (t : ℕ) → hit every_tick t ≡ true
+every-tick-hits t = eq-eqb (t % 1) 0 (omega arith)
+
+module _ (rows : List Row) (ops : List Op) (flat : IsFlat (diagram rows ops)) (t : ℕ) (x before m : List ℤ) (g : List TrigMem) (v n : List ℤ) (g' : List TrigMem) (tick : IsTick (diagram rows ops) None t x before m g v n g') where
+  abbrev d : Diagram
+  d = diagram rows ops
+
+  time-is : (b : ℕ) → time_at d b ≡ every_tick
+  time-is b = by (length rows) b
+    where
+      by : (k b : ℕ) → slice_index_or (Rattle.std.specs.Prelude.replicate k every_tick) b every_tick ≡ every_tick
+      by zero b = refl
+      by (suc k) zero = refl
+      by (suc k) (suc b) = by k b
+
+  runs-always : (b : ℕ) → (row_at rows b).owner ≡ None → runs d None x v g t b ≡ true
+  runs-always b e = ap (λ es. active_in d None x v g es && hit (time_at d b) t) (around-none rows b e) ∙ ap (λ time. hit time t) (time-is b) ∙ every-tick-hits t
+
+  -- a row with a value runs, so its value is that of its rule
+  value-is-rhs : (b : ℕ) → b < length rows → has_value (row_at rows b).kind ≡ true → value_at v b ≡ rhs (op_at d b) (input_values d None x v g b) (value_at m b)
+  value-is-rhs b h has =
+      let root = root-row rows ops flat b h in
+      value-of_row d None t x before m g v n g' tick b h refl
+      ∙ ap (λ i. if not i then pos 0 else (if is_reset_outport (row_at rows b).kind && is_disabled d None x v g (around rows None b) then start_of d b else (if runs d None x v g t b then rhs (op_at d b) (input_values d None x v g b) (value_at m b) else value_at before b))) has
+      ∙ ap (λ es. if is_reset_outport (row_at rows b).kind && is_disabled d None x v g es then start_of d b else (if runs d None x v g t b then rhs (op_at d b) (input_values d None x v g b) (value_at m b) else value_at before b)) (around-none rows b root)
+      ∙ ap (λ r. if r then start_of d b else (if runs d None x v g t b then rhs (op_at d b) (input_values d None x v g b) (value_at m b) else value_at before b)) (and-false (is_reset_outport (row_at rows b).kind))
+      ∙ ap (λ r. if r then rhs (op_at d b) (input_values d None x v g b) (value_at m b) else value_at before b) (runs-always b root)
+
+  is-own : (b : ℕ) (k : Kind) → (row_at rows b).owner ≡ None → (row_at rows b).kind ≡ k → is_inport_of rows None b ≡ is_inport k
+  is-own b k root kind = ap₂ (λ k o. is_inport k && same_system o None) kind root ∙ and-true (is_inport k)
+
+  -- an Inport has its column of the trace, another row the values of its wires
+  own-inputs : (b port : ℕ) → (row_at rows b).owner ≡ None → (row_at rows b).kind ≡ Inport port → input_values d None x v g b ≡ value_at x (port - 1) ∷ []
+  own-inputs b port root kind =
+      ap (λ o. if o then value_at x (column rows None (Number (port_of (row_at rows b).kind))) ∷ [] else map (value_at v) (row_at rows b).inputs) (is-own b (Inport port) root kind)
+      ∙ ap (λ k. value_at x (column rows None (Number (port_of k))) ∷ []) kind
+
+  wire-inputs : (b c : ℕ) (k : Kind) → (row_at rows b).owner ≡ None → (row_at rows b).kind ≡ k → is_inport k ≡ false → (row_at rows b).inputs ≡ c ∷ [] → input_values d None x v g b ≡ value_at v c ∷ []
+  wire-inputs b c k root kind other wires =
+      ap (λ o. if o then value_at x (column rows None (Number (port_of (row_at rows b).kind))) ∷ [] else map (value_at v) (row_at rows b).inputs) (is-own b k root kind ∙ other)
+      ∙ ap (map (value_at v)) wires
+
+  memory-is-input : (b c : ℕ) (initial : _) → b < length rows → (row_at rows b).kind ≡ UnitDelay initial → (row_at rows b).inputs ≡ c ∷ [] → is_delay (op_at d b) ≡ true → value_at n b ≡ value_at v c
+  memory-is-input b c initial h kind wires delay =
+      let root = root-row rows ops flat b h in
+      memory-of_row d None t x before m g v n g' tick b h delay
+      ∙ ap (λ es. if any_off d None x v g es then start_of d b else (if runs d None x v g t b then input (input_values d None x v g b) 0 else value_at m b)) (around-none rows b root)
+      ∙ ap (λ r. if r then input (input_values d None x v g b) 0 else value_at m b) (runs-always b root)
+      ∙ ap (λ l. input l 0) (wire-inputs b c (UnitDelay initial) root kind refl wires)
+
+  row-tick : (b : ℕ) → b < length rows → RowView rows ops b → TickAt (block_at (blocks rows ops flat) b) x v m n b
+  row-tick b h (input_row port kind wires o block) =
+      subst (λ k. TickAt k x v m n b) (sym block)
+      (value-is-rhs b h (ap has_value kind) ∙ ap₂ (λ o is. rhs o is (value_at m b)) o (own-inputs b port (root-row rows ops flat b h) kind))
+  row-tick b h (output_view port reset initial c kind wires below source o block) =
+      subst (λ k. TickAt k x v m n b) (sym block)
+      (value-is-rhs b h (ap has_value kind) ∙ ap₂ (λ o is. rhs o is (value_at m b)) o (wire-inputs b c (Outport port reset initial) (root-row rows ops flat b h) kind refl wires))
+  row-tick b h (delay_row initial c kind wires below source o block) =
+      subst (λ k. TickAt k x v m n b) (sym block) (
+        value-is-rhs b h (ap has_value kind) ∙ ap₂ (λ o is. rhs o is (value_at m b)) o (wire-inputs b c (UnitDelay initial) (root-row rows ops flat b h) kind refl wires),
+        memory-is-input b c initial h kind wires (ap is_delay o),
+      )
+
+  pub block-tick : IsBlockTick (blocks rows ops flat) x v m n
+  block-tick = record {
+    size = ap length tick.values ∙ length-map (numbers rows) (λ b. row_value d None t x before m g v b) ∙ length-range_with_len 0 (length rows) ∙ sym (same-length rows ops flat);
+    each = λ b h. (let within : b < length rows = (let same = same-length rows ops flat in omega (arith, same)) in row-tick b within (view rows ops flat b within));
+  }
+
+-- ---- The start
+
+map-agree : {A : Type 0} (f h : ℕ → A) (a n : ℕ) → ((b : ℕ) → a ≤ b → b < a + n → f b ≡ h b) → map f (range_with_len a n) ≡ map h (range_with_len a n)
+map-agree f h a zero e = refl
+map-agree f h a (suc n) e = ap₂ ◌∷◌ (e a (omega arith) (omega arith)) (map-agree f h (a + 1) n (λ b low high. e b (omega arith) (omega arith)))
+
+module _ (rows : List Row) (ops : List Op) (flat : IsFlat (diagram rows ops)) where
+  pub values-start : values_by (diagram rows ops) None (start_of (diagram rows ops)) ≡ start_values (blocks rows ops flat)
+  values-start =
+      map-agree (start_of (diagram rows ops)) (λ b. start_value (block_at (blocks rows ops flat) b)) 0 (length rows) (λ b low high. let within : b < length rows = omega arith in start-is rows ops flat b within (view rows ops flat b within))
+      ∙ ap (λ n. map (λ b. start_value (block_at (blocks rows ops flat) b)) (range_with_len 0 n)) (sym (same-length rows ops flat))
+
+  no-delay-start : (k : Block) → is_delay_block k ≡ false → pos 0 ≡ start_value k
+  no-delay-start (Input port) e = refl
+  no-delay-start (Output port c) e = refl
+  no-delay-start (Delay c z) e = absurd (true≢false e)
+
+  memory-start : (b : ℕ) → b < length rows → (if has_memory (diagram rows ops) None b then start_of (diagram rows ops) b else pos 0) ≡ start_value (block_at (blocks rows ops flat) b)
+  memory-start b h = by (is_delay (op_at (diagram rows ops) b)) refl
+    where
+      by : (t : Bool) → is_delay (op_at (diagram rows ops) b) ≡ t → (if t then start_of (diagram rows ops) b else pos 0) ≡ start_value (block_at (blocks rows ops flat) b)
+      by true e = start-is rows ops flat b h (view rows ops flat b h)
+      by false e = no-delay-start (block_at (blocks rows ops flat) b) (sym (delay-is rows ops flat b (view rows ops flat b h)) ∙ e)
+
+  pub memories-start : memories_by (diagram rows ops) None (start_of (diagram rows ops)) ≡ start_values (blocks rows ops flat)
+  memories-start =
+      map-agree (λ b. if has_memory (diagram rows ops) None b then start_of (diagram rows ops) b else pos 0) (λ b. start_value (block_at (blocks rows ops flat) b)) 0 (length rows) (λ b low high. memory-start b (omega arith))
+      ∙ ap (λ n. map (λ b. start_value (block_at (blocks rows ops flat) b)) (range_with_len 0 n)) (sym (same-length rows ops flat))
+
+-- ---- The outputs
+
+find-filter : (p q : ℕ → Bool) (xs : List ℕ) → find p (filter q xs) ≡ find (λ b. q b && p b) xs
+find-filter p q [] = refl
+find-filter p q (x ∷ xs) = by (q x) (find-filter p q xs)
+  where
+    by : (t : Bool) → find p (filter q xs) ≡ find (λ b. q b && p b) xs → find p (cond t (x ∷ filter q xs) (filter q xs)) ≡ cond (t && p x) (Some x) (find (λ b. q b && p b) xs)
+    by true e = ap (cond (p x) (Some x)) e
+    by false e = e
+
+position-find : (f : ℕ → Block) (t : Block → Bool) (a n : ℕ) → position_from t a (map f (range_with_len a n)) ≡ find (λ b. t (f b)) (range_with_len a n)
+position-find f t a zero = refl
+position-find f t a (suc n) = ap (cond (t (f a)) (Some a)) (position-find f t (a + 1) n)
+
+find-agree : (p q : ℕ → Bool) (a n : ℕ) → ((b : ℕ) → a ≤ b → b < a + n → p b ≡ q b) → find p (range_with_len a n) ≡ find q (range_with_len a n)
+find-agree p q a zero e = refl
+find-agree p q a (suc n) e = ap₂ (λ t o. cond t (Some a) o) (e a (omega arith) (omega arith)) (find-agree p q (a + 1) n (λ b low high. e b (omega arith) (omega arith)))
