@@ -54,7 +54,7 @@ module _ (rows : List Row) (ops : List Op) where
         ap (λ l. slice_index_or l b op.Nothing) flat.ops ∙ by_row-at rows (op_in rows diagram.types []) b op.Nothing h
         ∙ ap (λ t. op_of (row_at rows b).kind (map (type_at diagram.types) (row_at rows b).inputs) t false) (type-is b h)
 
-    block-is : (b : ℕ) → b < length rows → block_at (blocks_of diagram) b ≡ block_by (row_at rows b).kind (row_at rows b).inputs (start_of diagram b)
+    pub block-is : (b : ℕ) → b < length rows → block_at (blocks_of diagram) b ≡ block_by (row_at rows b).kind (row_at rows b).inputs (start_of diagram b)
     block-is b h = by_row-at rows (λ b. block_by (row_at rows b).kind (row_at rows b).inputs (start_of diagram b)) b no_block h
 
     pub view : (b : ℕ) → b < length rows → RowView b

@@ -39,7 +39,7 @@ use Rattle.c_emitter.proofs.FlatRows.{diagram, RowView, input_row, output_row as
 use Rattle.c_emitter.proofs.FlatBlocks.{blocks, same-length, output-is, output-kind, delay-is, start-is, output-rows-unordered}
 
 -- no subsystem is around a row of the root
-around-none : (rows : List Row) (b : ℕ) → (row_at rows b).owner ≡ None → around rows None b ≡ []
+pub around-none : (rows : List Row) (b : ℕ) → (row_at rows b).owner ≡ None → around rows None b ≡ []
 around-none rows b e = ap (enclosing rows None) e ∙ by (length rows)
   where
     by : (n : ℕ) → outward rows None n None ≡ []
@@ -146,7 +146,7 @@ module _ (rows : List Row) (ops : List Op) (flat : IsFlat (diagram rows ops)) wh
 
 -- ---- The outputs
 
-find-filter : (p q : ℕ → Bool) (xs : List ℕ) → find p (filter q xs) ≡ find (λ b. q b && p b) xs
+pub find-filter : (p q : ℕ → Bool) (xs : List ℕ) → find p (filter q xs) ≡ find (λ b. q b && p b) xs
 find-filter p q [] = refl
 find-filter p q (x ∷ xs) = by (q x) (find-filter p q xs)
   where
@@ -154,10 +154,10 @@ find-filter p q (x ∷ xs) = by (q x) (find-filter p q xs)
     by true e = ap (cond (p x) (Some x)) e
     by false e = e
 
-position-find : (f : ℕ → Block) (t : Block → Bool) (a n : ℕ) → position_from t a (map f (range_with_len a n)) ≡ find (λ b. t (f b)) (range_with_len a n)
+pub position-find : (f : ℕ → Block) (t : Block → Bool) (a n : ℕ) → position_from t a (map f (range_with_len a n)) ≡ find (λ b. t (f b)) (range_with_len a n)
 position-find f t a zero = refl
 position-find f t a (suc n) = ap (cond (t (f a)) (Some a)) (position-find f t (a + 1) n)
 
-find-agree : (p q : ℕ → Bool) (a n : ℕ) → ((b : ℕ) → a ≤ b → b < a + n → p b ≡ q b) → find p (range_with_len a n) ≡ find q (range_with_len a n)
+pub find-agree : (p q : ℕ → Bool) (a n : ℕ) → ((b : ℕ) → a ≤ b → b < a + n → p b ≡ q b) → find p (range_with_len a n) ≡ find q (range_with_len a n)
 find-agree p q a zero e = refl
 find-agree p q a (suc n) e = ap₂ (λ t o. cond t (Some a) o) (e a (omega arith) (omega arith)) (find-agree p q (a + 1) n (λ b low high. e b (omega arith) (omega arith)))

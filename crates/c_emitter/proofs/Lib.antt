@@ -20,3 +20,4 @@ pub mod RootStart
 pub mod FlatRows
 pub mod FlatBlocks
 pub mod FlatTicks
+pub mod FlatNeeds
