@@ -21,3 +21,6 @@ pub mod FlatRows
 pub mod FlatBlocks
 pub mod FlatTicks
 pub mod FlatNeeds
+pub mod NameFacts
+pub mod OutputFields
+pub mod FlatOutputs

@@ -59,7 +59,7 @@ module _ (blocks : List Block) where
       ap (more_cells (number (pos 0))) (zero-ints (range_with_len 1 (length (output_rows blocks))) output_name (zero_cells [] (top_fields blocks) ∷ []) _)
       ∙ ap (cells_with (pos 0 ∷ zero_outputs)) top-zeros
 
-  length-zero_outputs : length zero_outputs ≡ length (output_rows blocks)
+  pub length-zero_outputs : length zero_outputs ≡ length (output_rows blocks)
   length-zero_outputs = length-map (range_with_len 1 (length (output_rows blocks))) (λ (x : ℕ). pos 0) ∙ length-range_with_len 1 (length (output_rows blocks))
 
   length-zero_top : length zero_top ≡ counter_place blocks + 1

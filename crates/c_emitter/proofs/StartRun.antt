@@ -56,6 +56,9 @@ map-same : (xs : List ℕ) → map (λ b. b) xs ≡ xs
 map-same [] = refl
 map-same (x ∷ xs) = ap (λ l. x ∷ l) (map-same xs)
 
+pub start-int : (blocks : List Block) → AreBlocks blocks → (b : ℕ) → b < length blocks → IsInt (start_value (block_at blocks b))
+start-int blocks are b h = start-is-int blocks (block_at blocks b) (are.each b h)
+
 module _ (blocks : List Block) (are : AreBlocks blocks) where
   -- `top` with each value and memory at its start
   abbrev pub started : List ℤ
@@ -70,16 +73,13 @@ module _ (blocks : List Block) (are : AreBlocks blocks) where
   sized : length (start_values blocks) ≡ length blocks
   sized = length-start_values blocks
 
-  is-int : (b : ℕ) → b < length blocks → IsInt (start_value (block_at blocks b))
-  is-int b h = start-is-int blocks (block_at blocks b) (are.each b h)
-
   module _ (s : Scope) (types : s.types ≡ top_types blocks) where
     -- a store of a row's start in a field that has it
     start-right : (known : ℕ → Type 0) (b f : ℕ) → b < length blocks → f < counter_place blocks → item started f ≡ start_value (block_at blocks b) → IsRightStore s started known f (number_expr (start_value (block_at blocks b)))
     start-right known b f h below e = record {
       within = (let size = length-top_state blocks (start_values blocks) (start_values blocks) (pos 0) sized in omega (arith, size, below));
-      right = subst (λ z. Gives s.values started known (number_expr (start_value (block_at blocks b))) z) (sym e) (gives-number s.values started known (start_value (block_at blocks b)) (is-int b h));
-      in_type = ap (λ t. is_in_type (type_at t f) (item started f)) types ∙ ap (λ t. is_in_type t (item started f)) (int-below blocks f below) ∙ ap (is_in_type I32) e ∙ is-int b h;
+      right = subst (λ z. Gives s.values started known (number_expr (start_value (block_at blocks b))) z) (sym e) (gives-number s.values started known (start_value (block_at blocks b)) (start-int blocks are b h));
+      in_type = ap (λ t. is_in_type (type_at t f) (item started f)) types ∙ ap (λ t. is_in_type t (item started f)) (int-below blocks f below) ∙ ap (is_in_type I32) e ∙ start-int blocks are b h;
     }
 
     counter-right : (known : ℕ → Type 0) → IsRightStore s started known (counter_place blocks) (literal (pos 0))
