@@ -24,3 +24,5 @@ pub mod FlatNeeds
 pub mod NameFacts
 pub mod OutputFields
 pub mod FlatOutputs
+pub mod Places
+pub mod FlatCalls

@@ -56,10 +56,10 @@ position-behind t [] ys i j none e = let same : i ≡ j = omega arith in ap (λ 
 position-behind t (x ∷ xs) ys i j none e = ap (λ b. cond b (Some i) (position_from t (i + 1) (xs ++ ys))) none.0 ∙ position-behind t xs ys (i + 1) j none.1 (omega arith)
 
 module _ (blocks : List Block) where
-  abbrev out_list : ℕ → List ℕ → List ProcedureTree
+  abbrev pub out_list : ℕ → List ℕ → List ProcedureTree
   out_list j needs = map (λ (e : ℕ × ℕ). out_procedure blocks e.0 e.1) (enumerate_from j needs)
 
-  abbrev later_procedures : List ProcedureTree
+  abbrev pub later_procedures : List ProcedureTree
   later_procedures = update_procedure blocks ∷ start_procedure blocks ∷ reset_procedure blocks ∷ root_start_procedure blocks ∷ root_step_procedure blocks ∷ []
 
   pub length-outs : length (out_procedures blocks) ≡ update_place blocks
