@@ -26,3 +26,4 @@ pub mod OutputFields
 pub mod FlatOutputs
 pub mod Places
 pub mod FlatCalls
+pub mod OutPlaces

@@ -52,7 +52,7 @@ map-same-range : (f : ℕ → ℕ) (a n : ℕ) → ((b : ℕ) → a ≤ b → b 
 map-same-range f a zero e = refl
 map-same-range f a (suc n) e = ap₂ ◌∷◌ (e a (omega arith) (omega arith)) (map-same-range f (a + 1) n (λ b low high. e b (omega arith) (omega arith)))
 
-map-map : {A B C : Type 0} (f : B → C) (g : A → B) (xs : List A) → map f (map g xs) ≡ map (λ x. f (g x)) xs
+pub map-map : {A B C : Type 0} (f : B → C) (g : A → B) (xs : List A) → map f (map g xs) ≡ map (λ x. f (g x)) xs
 map-map f g [] = refl
 map-map f g (x ∷ xs) = ap (λ l. f (g x) ∷ l) (map-map f g xs)
 
