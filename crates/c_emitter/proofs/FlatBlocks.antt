@@ -79,7 +79,7 @@ module _ (rows : List Row) (ops : List Op) (flat : IsFlat (diagram rows ops)) wh
 
   -- ---- Counts
 
-  own-rows : rows_of rows None ≡ numbers rows
+  pub own-rows : rows_of rows None ≡ numbers rows
   own-rows = filter-agree (λ b. same_system (row_at rows b).owner None) (λ b. true) 0 (length rows) (λ b low high. ap (λ o. same_system o None) (root-row rows ops flat b (omega arith))) ∙ filter-all (numbers rows)
 
   -- the rows of the root that pass a test on kinds, where a test on blocks says the same

@@ -27,3 +27,4 @@ pub mod FlatOutputs
 pub mod Places
 pub mod FlatCalls
 pub mod OutPlaces
+pub mod FlatLaws
