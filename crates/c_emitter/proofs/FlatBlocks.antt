@@ -124,7 +124,7 @@ module _ (rows : List Row) (ops : List Op) (flat : IsFlat (diagram rows ops)) wh
   row-made b h (delay_row initial c kind wires below source op block) =
       subst (IsWellMade blocks) (sym block) (source-made c below source, quantized-is-int initial)
 
-  input-kind : (b k : ℕ) → RowView rows ops b → block_at blocks b ≡ Input k → (row_at rows b).kind ≡ Inport k
+  pub input-kind : (b k : ℕ) → RowView rows ops b → block_at blocks b ≡ Input k → (row_at rows b).kind ≡ Inport k
   input-kind b k (input_row port kind wires op block) same = let e : port ≡ k = cc (sym block ∙ same) in kind ∙ ap Inport e
   input-kind b k (output_view port reset initial c kind wires below source op block) same = absurd (cc (sym block ∙ same))
   input-kind b k (delay_row initial c kind wires below source op block) same = absurd (cc (sym block ∙ same))

@@ -142,7 +142,7 @@ position-within t (x ∷ xs) i j e = by (t x) e (λ k. position-within t xs (i +
     by true e later = let same : i ≡ j = cc e in omega arith
     by false e later = let h = later e in omega (arith, h)
 
-all-found : (f : ℕ → Option ℕ) (P : ℕ → Type 0) (xs : List ℕ) → ((x y : ℕ) → f x ≡ Some y → P y) → AllByRecursion P (filter_map f xs)
+pub all-found : (f : ℕ → Option ℕ) (P : ℕ → Type 0) (xs : List ℕ) → ((x y : ℕ) → f x ≡ Some y → P y) → AllByRecursion P (filter_map f xs)
 all-found f P [] h = tt
 all-found f P (x ∷ xs) h = by (f x) refl (all-found f P xs h)
   where

@@ -28,3 +28,5 @@ pub mod Places
 pub mod FlatCalls
 pub mod OutPlaces
 pub mod FlatLaws
+pub mod Pigeons
+pub mod InputRows

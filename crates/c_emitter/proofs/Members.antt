@@ -31,7 +31,7 @@ has-filter_map f (z ∷ zs) x y h e = by (f z) refl (or_cases (z == x) _ h) (λ 
     by (Some w) q (inl here) later = let same : z ≡ x = eqb-true z x here in let value : w ≡ y = cc (ap f same) in or_left (w == y) _ (eq-eqb w y value)
     by (Some w) q (inr there) later = or_right (w == y) _ (later there)
 
-has-filter : (p : ℕ → Bool) (xs : List ℕ) (x : ℕ) → p x ≡ true → Has xs x → Has (filter p xs) x
+pub has-filter : (p : ℕ → Bool) (xs : List ℕ) (x : ℕ) → p x ≡ true → Has xs x → Has (filter p xs) x
 has-filter p [] x passes h = h
 has-filter p (y ∷ ys) x passes h = by (p y) refl (or_cases (y == x) _ h) (has-filter p ys x passes)
   where

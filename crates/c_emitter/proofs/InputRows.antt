@@ -1,0 +1,86 @@
+-- The inputs of a diagram of one system, by port.
+use Rattle.std.specs.Prelude.{◌≡◌, ◌≢◌, ℕ, zero, suc, ◌+◌, ◌-◌, ◌<◌, ◌≤◌, Bool, true, false, ◌==◌, List, [], ◌∷◌, ◌++◌, map, filter, filter_map, find, length, slice_index_or, Option, Some, None}
+use Rattle.std.specs.List.{cons_option, range_with_len, list_any, AllByRecursion}
+use Rattle.std.proofs.Common.{refl, sym, ◌∙◌, ap, subst, arith, cond, true≢false}
+use Rattle.std.proofs.lemmas.Bool.{eq-eqb}
+use Rattle.std.proofs.lemmas.List.{append-nil}
+use Rattle.std.proofs.lemmas.List.FromFn.{length-range_with_len}
+use Rattle.mc_base.specs.declared.Port.TheVariants.{Number}
+use Rattle.mc_blocks.specs.declared.Kind.TheVariants.{Inport}
+use Rattle.mc_blocks.specs.declared.Op.{Op}
+use Rattle.mc_diagram.specs.declared.Row.{Row}
+use Rattle.mc_diagram.specs.Rows.{row_at, is_inport, port_of, rows_of, inports_of}
+use Rattle.mc_profile.specs.Ports.{input_ports}
+use Rattle.mc_profile.specs.Systems.{input_row}
+use Rattle.c_emitter.specs.declared.block.Block.{Block}
+use Rattle.c_emitter.specs.declared.block.Block.TheVariants.{Input, Output, Delay}
+use Rattle.c_emitter.specs.Flat.{IsFlat}
+use Rattle.c_emitter.specs.Blocks.{block_at, is_input, port_of_input, rows_below, input_count}
+use Rattle.c_emitter.proofs.BlockFacts.{IsWellMade, AreBlocks}
+use Rattle.c_emitter.proofs.Members.{Has, has-range}
+use Rattle.c_emitter.proofs.Pigeons.{IsGiven, each-port, found-of, length-found}
+use Rattle.c_emitter.proofs.FlatRows.{diagram, view, RowView}
+use Rattle.c_emitter.proofs.FlatBlocks.{blocks, same-length, are-blocks, input-rows, input-kind}
+use Rattle.c_emitter.proofs.FlatOutputs.{all-found}
+
+-- the port of a block that is an input
+input-is-port : (k : Block) → is_input k ≡ true → (port : ℕ) × (k ≡ Input port)
+input-is-port (Input port) e = (port, refl)
+input-is-port (Output port c) e = absurd (true≢false (sym e))
+input-is-port (Delay c z) e = absurd (true≢false (sym e))
+
+find-member : (t : ℕ → Bool) (P : ℕ → Type 0) (xs : List ℕ) (c : ℕ) → AllByRecursion P xs → find t xs ≡ Some c → P c
+find-member t P [] c all e = absurd (cc e)
+find-member t P (x ∷ xs) c all e = by (t x) e (λ q. find-member t P xs c all.1 q)
+  where
+    by : (b : Bool) → cond b (Some x) (find t xs) ≡ Some c → (find t xs ≡ Some c → P c) → P c
+    by true e later = let same : x ≡ c = cc e in subst P same all.0
+    by false e later = later e
+
+module _ (rows : List Row) (ops : List Op) (flat : IsFlat (diagram rows ops)) where
+  abbrev bs : List Block
+  bs = blocks rows ops flat
+
+  abbrev own : List ℕ
+  own = rows_below bs is_input (length bs)
+
+  port-range : (b : ℕ) → b < length bs → is_input (block_at bs b) ≡ true → (0 < port_of_input (block_at bs b)) × (port_of_input (block_at bs b) ≤ input_count bs)
+  port-range b h e =
+      let p = input-is-port (block_at bs b) e in
+      let made = subst (IsWellMade bs) p.1 ((are-blocks rows ops flat).each b h) in
+      subst (λ k. (0 < port_of_input k) × (port_of_input k ≤ input_count bs)) (sym p.1) made
+
+  port-apart : (b c : ℕ) → b < length bs → c < length bs → is_input (block_at bs b) ≡ true → is_input (block_at bs c) ≡ true → port_of_input (block_at bs b) ≡ port_of_input (block_at bs c) → b ≡ c
+  port-apart b c h i e f same =
+      let p = input-is-port (block_at bs b) e in
+      let q = input-is-port (block_at bs c) f in
+      let ports : p.0 ≡ q.0 = sym (ap port_of_input p.1) ∙ same ∙ ap port_of_input q.1 in
+      (are-blocks rows ops flat).one_input b c p.0 h i p.1 (q.1 ∙ ap Input (sym ports))
+
+  input-found : (k : ℕ) → 1 ≤ k → k < 1 + input_count bs → (c : ℕ) × (find (λ b. port_of (row_at rows b).kind == k) own ≡ Some c)
+  input-found k low high =
+      let g = each-port (λ b. is_input (block_at bs b)) (λ b. port_of_input (block_at bs b)) (length bs) port-range port-apart k low (omega arith) in
+      let within : g.row < length bs = (let h = g.high in omega (arith, h)) in
+      let below : g.row < length rows = (let same = same-length rows ops flat in omega (arith, same)) in
+      let p = input-is-port (block_at bs g.row) g.passes in
+      let port : p.0 ≡ k = sym (ap port_of_input p.1) ∙ g.gives in
+      let kind = input-kind rows ops flat g.row p.0 (view rows ops flat g.row below) p.1 in
+      found-of (λ b. port_of (row_at rows b).kind == k) own g.row
+      (has-own g.row within g.passes) (ap (λ q. port_of q == k) kind ∙ eq-eqb p.0 k port)
+    where
+      has-own : (b : ℕ) → b < length bs → is_input (block_at bs b) ≡ true → Has own b
+      has-own b h e = Rattle.c_emitter.proofs.Members.has-filter (λ c. is_input (block_at bs c)) (range_with_len 0 (length bs)) b e (has-range 0 (length bs) b (omega arith) (omega arith))
+
+  inports-by : inports_of rows None ≡ filter_map (λ k. find (λ b. port_of (row_at rows b).kind == k) own) (range_with_len 1 (input_count bs))
+  inports-by = ap (λ l. filter_map (λ k. find (λ b. port_of (row_at rows b).kind == k) l) (range_with_len 1 (length l))) (input-rows rows ops flat)
+
+  all-in : (a n : ℕ) → 1 ≤ a → a + n ≤ 1 + input_count bs → AllByRecursion (λ k. (c : ℕ) × (find (λ b. port_of (row_at rows b).kind == k) own ≡ Some c)) (range_with_len a n)
+  all-in a zero low high = tt
+  all-in a (suc n) low high = (input-found a low (omega arith), all-in (a + 1) n (omega arith) (omega arith))
+
+  -- as many as the blocks have
+  pub inports-count : length (inports_of rows None) ≡ input_count bs
+  inports-count = ap length inports-by ∙ length-found _ (range_with_len 1 (input_count bs)) (all-in 1 (input_count bs) (omega arith) (omega arith)) ∙ length-range_with_len 1 (input_count bs)
+
+  pub ports-are : input_ports rows None ≡ map Number (range_with_len 1 (input_count bs))
+  ports-are = append-nil (map Number (range_with_len 1 (length (inports_of rows None)))) ∙ ap (λ n. map Number (range_with_len 1 n)) inports-count
