@@ -19,7 +19,8 @@ use Rattle.c_emitter.specs.Blocks.{block_at, is_input, port_of_input, rows_below
 use Rattle.c_emitter.proofs.BlockFacts.{IsWellMade, AreBlocks}
 use Rattle.c_emitter.proofs.Members.{Has, has-range}
 use Rattle.c_emitter.proofs.Pigeons.{IsGiven, each-port, found-of, length-found}
-use Rattle.c_emitter.proofs.FlatRows.{diagram, view, RowView}
+use Rattle.c_emitter.proofs.Chosen.{all-chosen}
+use Rattle.c_emitter.proofs.FlatRows.{diagram, view, RowView, holds-at}
 use Rattle.c_emitter.proofs.FlatBlocks.{blocks, same-length, are-blocks, input-rows, input-kind}
 use Rattle.c_emitter.proofs.FlatOutputs.{all-found}
 
@@ -84,3 +85,14 @@ module _ (rows : List Row) (ops : List Op) (flat : IsFlat (diagram rows ops)) wh
 
   pub ports-are : input_ports rows None ≡ map Number (range_with_len 1 (input_count bs))
   ports-are = append-nil (map Number (range_with_len 1 (length (inports_of rows None)))) ∙ ap (λ n. map Number (range_with_len 1 n)) inports-count
+
+  inports-are-rows : AllByRecursion (λ c. c < length rows) (inports_of rows None)
+  inports-are-rows =
+      subst (AllByRecursion (λ c. c < length rows)) (sym inports-by)
+      (all-found (λ k. find (λ b. port_of (row_at rows b).kind == k) own) (λ c. c < length rows) (range_with_len 1 (input_count bs)) (λ k c e.
+        find-member (λ b. port_of (row_at rows b).kind == k) (λ c. c < length rows) own c
+          (all-chosen (λ b. is_input (block_at bs b)) (λ c. c < length rows) 0 (length bs) (λ b low high passes. let same = same-length rows ops flat in omega (arith, same))) e))
+
+  -- the row of an input is one of the table
+  pub input-row-within : (k : ℕ) → 1 ≤ k → k < 1 + input_count bs → input_row rows None (Number k) < length rows
+  input-row-within k low high = holds-at (λ c. c < length rows) (inports_of rows None) (k - 1) 0 inports-are-rows (let count = inports-count in omega (arith, count))

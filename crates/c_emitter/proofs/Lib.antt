@@ -30,3 +30,4 @@ pub mod OutPlaces
 pub mod FlatLaws
 pub mod Pigeons
 pub mod InputRows
+pub mod FlatTrueNeeds
