@@ -1,7 +1,7 @@
 -- The needs of the outputs of a diagram of one system.
-use Rattle.std.specs.Prelude.{◌≡◌, ◌≢◌, ℕ, zero, suc, ◌+◌, ◌-◌, ◌^◌, ◌<◌, ◌≤◌, ◌⊎◌, ◌↔◌, Bool, true, false, not, ◌&&◌, ◌==◌, if◌then◌else◌, IsTrue, List, [], ◌∷◌, ◌++◌, map, filter, length, bit_and, IsBitSet, Contains, Option, Some, None}
-use Rattle.std.specs.List.{AllZip, AllByRecursion}
-use Rattle.std.proofs.Common.{refl, sym, ◌∙◌, ap, ap₂, subst, arith, inl, inr, true≢false, lit<}
+use Rattle.std.specs.Prelude.{◌≡◌, ◌≢◌, ℕ, zero, suc, ◌+◌, ◌-◌, ◌^◌, ◌<◌, ◌≤◌, ◌⊎◌, ◌↔◌, Bool, true, false, not, ◌&&◌, ◌==◌, if◌then◌else◌, IsTrue, List, [], ◌∷◌, ◌++◌, map, filter, length, slice_index_or, bit_and, IsBitSet, Contains, Option, Some, None}
+use Rattle.std.specs.List.{AllZip, AllByRecursion, position_from, range_with_len}
+use Rattle.std.proofs.Common.{refl, sym, ◌∙◌, ap, ap₂, subst, arith, inl, inr, true≢false, cond, lit<}
 use Rattle.std.proofs.Math.Pow.{pow-lt}
 use Rattle.std.proofs.lemmas.Bool.{not-true, eqb-false, ne_eqb}
 use Rattle.std.proofs.lemmas.Bool.Decides.{eqb_tells}
@@ -18,14 +18,15 @@ use Rattle.mc_profile.specs.Ports.{has_bit}
 use Rattle.c_emitter.specs.declared.block.Block.{Block}
 use Rattle.c_emitter.specs.declared.block.Block.TheVariants.{Input, Output, Delay}
 use Rattle.c_emitter.specs.Flat.{is_source, IsFlat}
-use Rattle.c_emitter.specs.Blocks.{block_at, source_of, source_need, need_of, output_rows, output_needs}
+use Rattle.c_emitter.specs.Blocks.{no_block, block_at, source_of, source_need, need_of, is_output_of, output_count, output_row, output_rows, output_needs}
 use Rattle.c_emitter.proofs.BlockFacts.{IsWellMade}
 use Rattle.c_emitter.proofs.Ports.{has_bit-same, has_bit-other}
 use Rattle.c_emitter.proofs.FlatRows.{diagram, RowView, input_row, output_row as output_view, delay_row, view, root-row}
-use Rattle.c_emitter.proofs.FlatBlocks.{blocks, same-length, are-blocks}
+use Rattle.c_emitter.proofs.Members.{is-output-of}
+use Rattle.c_emitter.proofs.FlatBlocks.{blocks, same-length, are-blocks, output-kind}
 use Rattle.c_emitter.proofs.FlatTicks.{around-none}
 use Rattle.c_emitter.proofs.FlatNeeds.{outputs-are}
-use Rattle.c_emitter.proofs.FlatOutputs.{outputs-are-rows}
+use Rattle.c_emitter.proofs.FlatOutputs.{all-found}
 
 -- ---- Bits
 
@@ -163,3 +164,30 @@ module _ (rows : List Row) (ops : List Op) (flat : IsFlat (diagram rows ops)) wh
   masks-of : (outs : List ℕ) → AllByRecursion (λ o. (o < length rows) × IsTrue (is_outport (row_at rows o).kind)) outs → AllZip (λ o mask. IsMaskOf (TrueNeeds (diagram rows ops) None o) mask) outs (map (need_of bs) outs)
   masks-of [] all = tt
   masks-of (o ∷ outs) all = (output-mask o all.0.0 all.0.1 (view rows ops flat o all.0.0), masks-of outs all.1)
+
+-- where a search stops, its test passes
+position-passes : {A : Type 0} (t : A → Bool) (xs : List A) (d : A) (i j : ℕ) → position_from t i xs ≡ Some j → (m : ℕ) × (i + m ≡ j) × (m < length xs) × (t (slice_index_or xs m d) ≡ true)
+position-passes t [] d i j e = absurd (cc e)
+position-passes t (x ∷ xs) d i j e = by (t x) refl e (λ q. position-passes t xs d (i + 1) j q)
+  where
+    by : (b : Bool) → t x ≡ b → cond b (Some i) (position_from t (i + 1) xs) ≡ Some j → (position_from t (i + 1) xs ≡ Some j → (m : ℕ) × (i + 1 + m ≡ j) × (m < length xs) × (t (slice_index_or xs m d) ≡ true)) →
+        (m : ℕ) × (i + m ≡ j) × (m < suc (length xs)) × (t (slice_index_or (x ∷ xs) m d) ≡ true)
+    by true q e later = let same : i ≡ j = cc e in (0, omega arith, omega arith, q)
+    by false q e later = let (m, place, below, passes) = later e in (suc m, omega (arith, place), omega (arith, below), passes)
+
+module _ (rows : List Row) (ops : List Op) (flat : IsFlat (diagram rows ops)) where
+  output-kind-at : (k o : ℕ) → output_row (blocks rows ops flat) k ≡ Some o → (o < length rows) × IsTrue (is_outport (row_at rows o).kind)
+  output-kind-at k o e =
+      let (m, place, below, passes) = position-passes (is_output_of k) (blocks rows ops flat) no_block 0 o e in
+      let same : m ≡ o = omega (arith, place) in
+      let size = same-length rows ops flat in
+      let within : m < length rows = omega (arith, below, size) in
+      let found = is-output-of k k (block_at (blocks rows ops flat) m) passes in
+      let kind = output-kind rows ops flat m k found.0 (view rows ops flat m within) found.1 in
+      subst (λ i. (i < length rows) × IsTrue (is_outport (row_at rows i).kind)) same (within, kind.0)
+
+  -- the masks of the blocks are the needs of the outputs
+  pub are-true-needs : AreTrueNeeds (diagram rows ops) None (output_needs (blocks rows ops flat))
+  are-true-needs =
+      subst (λ outs. AllZip (λ o mask. IsMaskOf (TrueNeeds (diagram rows ops) None o) mask) outs (output_needs (blocks rows ops flat))) (sym (outputs-are rows ops flat))
+      (masks-of rows ops flat (output_rows (blocks rows ops flat)) (all-found (output_row (blocks rows ops flat)) (λ o. (o < length rows) × IsTrue (is_outport (row_at rows o).kind)) (range_with_len 1 (output_count (blocks rows ops flat))) output-kind-at))

@@ -31,3 +31,4 @@ pub mod FlatLaws
 pub mod Pigeons
 pub mod InputRows
 pub mod FlatTrueNeeds
+pub mod FlatHeaders

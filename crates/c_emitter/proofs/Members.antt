@@ -104,7 +104,7 @@ feeder (Output port source ∷ bs) b h = elim (or_cases (source == b) _ h) [
   | inr there ↦ let f = feeder bs b there in record { row = suc f.row; within = (let w = f.within in omega (arith, w)); port = f.port; is_output = f.is_output }
 ]
 
-is-output-of : (k p : ℕ) (block : Block) → is_output_of k block ≡ true → (c : ℕ) × (block ≡ Output k c)
+pub is-output-of : (k p : ℕ) (block : Block) → is_output_of k block ≡ true → (c : ℕ) × (block ≡ Output k c)
 is-output-of k p (Input port) h = absurd (true≢false (sym h))
 is-output-of k p (Delay source start) h = absurd (true≢false (sym h))
 is-output-of k p (Output port source) h = (source, ap (λ q. Output q source) (eqb-true port k h))
