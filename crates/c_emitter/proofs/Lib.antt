@@ -32,3 +32,4 @@ pub mod Pigeons
 pub mod InputRows
 pub mod FlatTrueNeeds
 pub mod FlatHeaders
+pub mod NameLaws
