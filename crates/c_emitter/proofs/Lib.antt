@@ -33,3 +33,5 @@ pub mod InputRows
 pub mod FlatTrueNeeds
 pub mod FlatHeaders
 pub mod NameLaws
+pub mod LawfulNames
+pub mod LawfulBodies

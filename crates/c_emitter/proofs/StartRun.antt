@@ -48,7 +48,7 @@ start-is-int blocks (Input port) made = refl
 start-is-int blocks (Output port c) made = refl
 start-is-int blocks (Delay c start) made = made.1
 
-all-range : (P : ℕ → Type 0) (a n : ℕ) → ((b : ℕ) → a ≤ b → b < a + n → P b) → AllByRecursion P (range_with_len a n)
+pub all-range : (P : ℕ → Type 0) (a n : ℕ) → ((b : ℕ) → a ≤ b → b < a + n → P b) → AllByRecursion P (range_with_len a n)
 all-range P a zero h = tt
 all-range P a (suc n) h = (h a (omega arith) (omega arith), all-range P (a + 1) n (λ b low high. h b (omega arith) (omega arith)))
 
