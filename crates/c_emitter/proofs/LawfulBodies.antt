@@ -92,3 +92,170 @@ module _ (blocks : List Block) where
 
   pub field-number : (k : ℕ) → k < counter_place blocks + 1 → IsNumberAt (top_fields blocks) k
   field-number k h = number-at (top_fields blocks) k top-numbers (let size = top-size in omega (arith, size))
+
+-- ---- Values
+
+value-shallow : (k : Block) (param memory : ℕ) → expr_depth (value_expr k param memory) ≤ 4
+value-shallow (Input port) param memory = omega arith
+value-shallow (Output port c) param memory = omega arith
+value-shallow (Delay c start) param memory = omega arith
+
+number-shallow : (z : ℤ) → expr_depth (number_expr z) ≤ 4
+number-shallow (pos n) = omega arith
+number-shallow (negsuc n) = omega arith
+
+number-lawful : (reach : Reach) (z : ℤ) → IsInt z → IsLawfulExpr reach (number_expr z)
+number-lawful reach (pos n) h = (n, refl, (let low = leb-true n (2 ^ 31 - 1) h in omega (arith, low)))
+number-lawful reach (negsuc n) h = (suc n, refl, (let low = leb-true n (2 ^ 31 - 1) (and_parts _ _ h).0 in omega (arith, low)))
+
+module _ (blocks : List Block) (are : AreBlocks blocks) (structs : List StructTree) (earlier : List ProcedureTree) (params : ℕ) where
+  -- what a body of `top` may read and store
+  abbrev pub reach : Reach
+  reach = record { pures = []; structs = structs; procedures = earlier; fields = top_fields blocks; params = params; of = 0 }
+
+  row-number : (b : ℕ) → b < length blocks → IsNumberAt (top_fields blocks) b
+  row-number b h = field-number blocks b (omega arith)
+
+  memory-number : (b : ℕ) → b < length blocks → is_delay_block (block_at blocks b) ≡ true → IsNumberAt (top_fields blocks) (memory_place blocks b)
+  memory-number b h delay = field-number blocks (memory_place blocks b) (let place = memory-within blocks b h delay in omega (arith, place))
+
+  -- the parameter that an input is taken from is there
+  abbrev HasParam : Block → ℕ → Type 0
+  HasParam (Input port) param = param < params
+  HasParam (Output port c) param = Unit {0}
+  HasParam (Delay c start) param = Unit {0}
+
+  value-lawful : (k : Block) (param b : ℕ) → b < length blocks → block_at blocks b ≡ k → IsWellMade blocks k → HasParam k param → IsLawfulExpr reach (value_expr k param (memory_place blocks b))
+  value-lawful (Input port) param b h same made has = has
+  value-lawful (Output port c) param b h same made has = row-number c made.2.0
+  value-lawful (Delay c start) param b h same made has = memory-number b h (ap is_delay_block same)
+
+  store-lawful : (param b : ℕ) → b < length blocks → HasParam (block_at blocks b) param → IsLawfulStmt reach (store_value blocks param b)
+  store-lawful param b h has = (row-number b h, value-lawful (block_at blocks b) param b h refl (are.each b h) has)
+
+  source-within : (k : Block) → is_delay_block k ≡ true → IsWellMade blocks k → source_of k < length blocks
+  source-within (Input port) delay made = absurd (true≢false (sym delay))
+  source-within (Output port c) delay made = absurd (true≢false (sym delay))
+  source-within (Delay c start) delay made = made.0.0
+
+  memory-lawful : (b : ℕ) → b < length blocks → is_delay_block (block_at blocks b) ≡ true → IsLawfulStmt reach (store_memory blocks b)
+  memory-lawful b h delay = (memory-number b h delay, row-number (source_of (block_at blocks b)) (source-within (block_at blocks b) delay (are.each b h)))
+
+  hit-lawful : 0 < params → Rattle.c_tree.specs.Lawful.IsLawfulCond reach hit_test
+  hit-lawful h = ((h, (1, refl, lit< tt)), (0, refl, lit< tt))
+
+  counter-lawful : (n : ℕ) → n < 2 ^ 63 → IsLawfulStmt reach (set_counter blocks (pos n))
+  counter-lawful n h = (field-number blocks (counter_place blocks) (omega arith), (n, refl, h))
+
+  idle-lawful : Rattle.c_tree.specs.Lawful.IsLawfulCond reach (idle_test blocks)
+  idle-lawful = (field-number blocks (counter_place blocks) (omega arith), (0, refl, lit< tt))
+
+  -- ---- Functions
+
+  taken-param : (need : ℕ) (k : Block) → params ≡ suc (length (taken_ports blocks (Some need))) → IsWellMade blocks k → source_need k ≡ need → HasParam k 1
+  taken-param need (Input port) size made e =
+      let one : length (taken_ports blocks (Some need)) ≡ 1 = ap (λ n. length (taken_ports blocks (Some n))) (sym e) ∙ ap length (single-port blocks port made.0 made.1) in
+      omega (arith, one, size)
+  taken-param need (Output port c) size made e = tt
+  taken-param need (Delay c start) size made e = tt
+
+  output-param : (k : Block) (param : ℕ) → is_output k ≡ true → HasParam k param
+  output-param (Input port) param e = absurd (true≢false (sym e))
+  output-param (Output port c) param e = tt
+  output-param (Delay c start) param e = tt
+
+  pub out-lawful : (need : ℕ) → params ≡ suc (length (taken_ports blocks (Some need))) → AllLawful reach (out_body blocks need)
+  out-lawful need size = (
+    (
+      hit-lawful (omega (arith, size)),
+      lawful-append reach (taken_stores blocks need) (given_stores blocks need)
+      (lawful-map reach (store_value blocks 1) _ (all-chosen (is_taken_in blocks need) _ 0 (length blocks) (λ b low high passes.
+        let within : b < length blocks = omega arith in
+        store-lawful 1 b within (taken-param need (block_at blocks b) size (are.each b within) (eqb-true _ _ (and_parts _ _ passes).1)))))
+      (lawful-map reach (store_value blocks 1) _ (all-chosen (is_given_in blocks need) _ 0 (length blocks) (λ b low high passes.
+        store-lawful 1 b (omega arith) (output-param (block_at blocks b) 1 (and_parts _ _ passes).0)))),
+      tt,
+    ),
+    (counter-lawful 1 (lit< tt), tt),
+  )
+
+  -- ---- The update
+
+  port-param : (k : Block) → params ≡ suc (length (taken_ports blocks None)) → IsWellMade blocks k → HasParam k (port_of_input k)
+  port-param (Input port) size made =
+      let all : length (taken_ports blocks None) ≡ input_count blocks = ap length (all-ports blocks) ∙ length-range_with_len 1 (input_count blocks) in
+      let high = made.1 in
+      omega (arith, size, all, high)
+  port-param (Output port c) size made = tt
+  port-param (Delay c start) size made = tt
+
+  by-port-lawful : params ≡ suc (length (taken_ports blocks None)) → (b : ℕ) → b < length blocks → IsLawfulStmt reach (store_by_port blocks b)
+  by-port-lawful size b h = store-lawful (port_of_input (block_at blocks b)) b h (port-param (block_at blocks b) size (are.each b h))
+
+  pub update-lawful : params ≡ suc (length (taken_ports blocks None)) → AllLawful reach (update_body blocks)
+  update-lawful size = (
+    (idle-lawful, lawful-map reach (store_by_port blocks) _ (all-chosen (is_held_input blocks) _ 0 (length blocks) (λ b low high passes. by-port-lawful size b (omega arith))), tt),
+    (
+      (
+        hit-lawful (omega (arith, size)),
+        lawful-append reach (unheld_stores blocks) (memory_stores blocks)
+        (lawful-map reach (store_by_port blocks) _ (all-chosen (is_unheld blocks) _ 0 (length blocks) (λ b low high passes. by-port-lawful size b (omega arith))))
+        (lawful-map reach (store_memory blocks) _ (all-chosen (is_delay_row blocks) _ 0 (length blocks) (λ b low high passes. memory-lawful b (omega arith) passes))),
+        tt,
+      ),
+      (counter-lawful 0 (lit< tt), tt),
+    ),
+  )
+
+  -- ---- Starts
+
+  pub reset-lawful : AllLawful reach (reset_body blocks)
+  reset-lawful =
+      lawful-append reach (map (start_memory blocks) (filter (is_delay_row blocks) (range_with_len 0 (length blocks)))) (set_counter blocks (pos 0) ∷ [])
+      (lawful-map reach (start_memory blocks) _ (all-chosen (is_delay_row blocks) _ 0 (length blocks) (λ b low high passes.
+        let within : b < length blocks = omega arith in
+        (memory-number b within passes, number-lawful reach (start_value (block_at blocks b)) (start-int blocks are b within)))))
+      (counter-lawful 0 (lit< tt), tt)
+
+  pub start-lawful : AllLawful reach (start_body blocks)
+  start-lawful =
+      lawful-append reach (map (start_row blocks) (range_with_len 0 (length blocks))) (reset_body blocks)
+      (lawful-map reach (start_row blocks) _ (all-range _ 0 (length blocks) (λ b low high.
+        let within : b < length blocks = omega arith in
+        (row-number b within, number-lawful reach (start_value (block_at blocks b)) (start-int blocks are b within)))))
+      reset-lawful
+
+-- ---- Depths
+
+module _ (blocks : List Block) where
+  store-shallow : (param b : ℕ) → (stmt_depth (store_value blocks param b) ≤ 1) × (stmt_exprs_depth (store_value blocks param b) ≤ 4)
+  store-shallow param b = (omega arith, value-shallow (block_at blocks b) param (memory_place blocks b))
+
+  counter-shallow : (n deep : ℕ) → 1 ≤ deep → AreShallow (set_counter blocks (pos n) ∷ []) deep
+  counter-shallow n deep h = record { statements = omega arith; expressions = omega arith }
+
+  pub out-shallow : (need : ℕ) → AreShallow (out_body blocks need) 2
+  out-shallow need =
+      let inner = shallow-append (taken_stores blocks need) (given_stores blocks need) 1 (shallow-map (store_value blocks 1) _ 1 (store-shallow 1)) (shallow-map (store_value blocks 1) _ 1 (store-shallow 1)) in
+      let s = inner.statements in let e = inner.expressions in
+      record { statements = omega (arith, s); expressions = omega (arith, e) }
+
+  pub update-shallow : AreShallow (update_body blocks) 2
+  update-shallow =
+      let held = shallow-map (store_by_port blocks) (filter (is_held_input blocks) (range_with_len 0 (length blocks))) 1 (λ b. store-shallow (port_of_input (block_at blocks b)) b) in
+      let unheld = shallow-map (store_by_port blocks) (filter (is_unheld blocks) (range_with_len 0 (length blocks))) 1 (λ b. store-shallow (port_of_input (block_at blocks b)) b) in
+      let memories = shallow-map (store_memory blocks) (filter (is_delay_row blocks) (range_with_len 0 (length blocks))) 1 (λ b. (omega arith, omega arith)) in
+      let inner = shallow-append (unheld_stores blocks) (memory_stores blocks) 1 unheld memories in
+      let s = inner.statements in let e = inner.expressions in
+      let t = held.statements in let f = held.expressions in
+      record { statements = omega (arith, s, t); expressions = omega (arith, e, f) }
+
+  pub reset-shallow : AreShallow (reset_body blocks) 1
+  reset-shallow =
+      shallow-append (map (start_memory blocks) (filter (is_delay_row blocks) (range_with_len 0 (length blocks)))) (set_counter blocks (pos 0) ∷ []) 1
+      (shallow-map (start_memory blocks) _ 1 (λ b. (omega arith, number-shallow (start_value (block_at blocks b))))) (counter-shallow 0 1 (omega arith))
+
+  pub start-shallow : AreShallow (start_body blocks) 1
+  start-shallow =
+      shallow-append (map (start_row blocks) (range_with_len 0 (length blocks))) (reset_body blocks) 1
+      (shallow-map (start_row blocks) _ 1 (λ b. (omega arith, number-shallow (start_value (block_at blocks b))))) reset-shallow
