@@ -35,3 +35,4 @@ pub mod FlatHeaders
 pub mod NameLaws
 pub mod LawfulNames
 pub mod LawfulBodies
+pub mod FlatLawful
