@@ -13,7 +13,8 @@ use Rattle.c_tree.specs.Tree.{StmtTree, StmtTrees, no_stmts, more_stmts, assign,
 use Rattle.c_tree.specs.Outputs.{has_name, output_names, may_be_named}
 use Rattle.c_tree.specs.Rows.{is_number, number_names}
 use Rattle.c_tree.specs.Resolve.{stmt_chain, stmts_chain}
-use Rattle.c_tree.specs.Reading.{ProcedureFits, IsWithinLimits}
+use Rattle.c_tree.specs.declared.Leaf.TheVariants.{Child}
+use Rattle.c_tree.specs.Reading.{exprs_depth, ProcedureFits, IsWithinLimits}
 use Rattle.c_tree.specs.Lawful.{AreDistinct, AreApart, Reach, IsNumberAt, IsStructAt, exprs_length, AreLawfulExprs, IsLawfulStmt, AreLawfulStmts, param_names, procedure_names, IsLawfulKind, IsLawfulStruct, AreStructs, IsLawfulProcedure, AreProcedures, chains_of, HasRoot, IsLawful}
 use Rattle.c_emitter.specs.declared.block.Block.{Block}
 use Rattle.c_emitter.specs.Names.{now_name, input_name, output_name, out_name, root_name}
@@ -21,7 +22,8 @@ use Rattle.c_emitter.specs.Blocks.{input_count, output_rows, function_needs}
 use Rattle.c_emitter.specs.Bodies.{takes, taken_ports, top_place, call_top, function_calls, update_place, output_copies, next_now, step_body, root_start_body}
 use Rattle.c_emitter.specs.FlatProgram.{int_field, int_param, input_params, top_fields, root_fields_of, flat_structs, out_procedure, out_procedures, update_procedure, start_procedure, reset_procedure, root_start_procedure, root_step_procedure, flat_procedures, flat_program}
 use Rattle.c_emitter.proofs.BlockFacts.{AreBlocks}
-use Rattle.c_emitter.proofs.Ports.{port_reads}
+use Rattle.c_emitter.proofs.Ports.{port_reads, all-ports}
+use Rattle.c_emitter.proofs.Costs.{length-filter-le}
 use Rattle.c_emitter.proofs.Procedures.{get-at, get-behind, out_list, later_procedures, length-outs}
 use Rattle.c_emitter.proofs.OutputFields.{map-map, outputs-counted}
 use Rattle.c_emitter.proofs.FlatOutputs.{OutputsAreRows}
@@ -121,9 +123,9 @@ module _ (blocks : List Block) (earlier : List ProcedureTree) (params : ℕ) whe
       let below : o < length blocks = all.0 in
       ((root-number k (omega arith), (0, root-top, field-number blocks o (omega arith))), copies-lawful (k + 1) outs all.1 (omega arith))
 
-  pub step-lawful : (p : ProcedureTree) → AllByRecursion (λ (e : ℕ × ℕ). slice_get earlier e.0 ≡ Some (out_procedure blocks (e.0 + 1) e.1)) (enumerate_from 0 (function_needs blocks)) → slice_get earlier (update_place blocks) ≡ Some (update_procedure blocks) → input_count blocks ≤ params → OutputsAreRows blocks →
+  pub step-lawful : AllByRecursion (λ (e : ℕ × ℕ). slice_get earlier e.0 ≡ Some (out_procedure blocks (e.0 + 1) e.1)) (enumerate_from 0 (function_needs blocks)) → slice_get earlier (update_place blocks) ≡ Some (update_procedure blocks) → input_count blocks ≤ params → OutputsAreRows blocks →
       AllLawful (root_reach blocks earlier params) (step_body blocks)
-  step-lawful p outs update enough below =
+  step-lawful outs update enough below =
       lawful-append (root_reach blocks earlier params) (function_calls blocks ++ (call_top blocks (update_place blocks) None ∷ output_copies blocks)) (next_now ∷ [])
       (lawful-append (root_reach blocks earlier params) (function_calls blocks) (call_top blocks (update_place blocks) None ∷ output_copies blocks)
         (calls-lawful 0 (function_needs blocks) outs enough)
@@ -132,3 +134,191 @@ module _ (blocks : List Block) (earlier : List ProcedureTree) (params : ℕ) whe
 
   pub root-start-lawful : slice_get earlier (update_place blocks + 1) ≡ Some (start_procedure blocks) → AllLawful (root_reach blocks earlier params) (root_start_body blocks)
   root-start-lawful start = ((start_procedure blocks, start, root-top, refl, tt), tt)
+
+-- ---- The root's depths
+
+reads-shallow : (ports : List ℕ) → exprs_depth (exprs_of_list (port_reads ports)) ≤ 4
+reads-shallow [] = omega arith
+reads-shallow (k ∷ ports) = let rest = reads-shallow ports in omega (arith, rest)
+
+call-shallow : (blocks : List Block) (j : ℕ) (need : Option ℕ) (rest : List StmtTree) → AreShallow rest 1 → AreShallow (call_top blocks j need ∷ rest) 1
+call-shallow blocks j need rest shallow =
+    let reads = reads-shallow (taken_ports blocks need) in
+    let s = shallow.statements in let e = shallow.expressions in
+    record { statements = omega (arith, s); expressions = omega (arith, reads, e) }
+
+calls-shallow : (blocks : List Block) (j : ℕ) (ns : List ℕ) → AreShallow (map (λ (e : ℕ × ℕ). call_top blocks e.0 (Some e.1)) (enumerate_from j ns)) 1
+calls-shallow blocks j [] = record { statements = omega arith; expressions = omega arith }
+calls-shallow blocks j (n ∷ ns) = call-shallow blocks j (Some n) _ (calls-shallow blocks (j + 1) ns)
+
+copies-shallow : (blocks : List Block) (k : ℕ) (outs : List ℕ) → AreShallow (map (λ (e : ℕ × ℕ). assign 0 e.0 (read (Child (top_place blocks) e.1))) (enumerate_from k outs)) 1
+copies-shallow blocks k [] = record { statements = omega arith; expressions = omega arith }
+copies-shallow blocks k (o ∷ outs) =
+    let rest = copies-shallow blocks (k + 1) outs in
+    let s = rest.statements in let e = rest.expressions in
+    record { statements = omega (arith, s); expressions = omega (arith, e) }
+
+step-shallow : (blocks : List Block) → AreShallow (step_body blocks) 1
+step-shallow blocks =
+    shallow-append (function_calls blocks ++ (call_top blocks (update_place blocks) None ∷ output_copies blocks)) (next_now ∷ []) 1
+    (shallow-append (function_calls blocks) (call_top blocks (update_place blocks) None ∷ output_copies blocks) 1 (calls-shallow blocks 0 (function_needs blocks)) (call-shallow blocks (update_place blocks) None (output_copies blocks) (copies-shallow blocks 1 (output_rows blocks))))
+    (record { statements = omega arith; expressions = omega arith })
+
+-- ---- Chains of calls
+
+at-most : (xs : List ℕ) (k c : ℕ) → AllByRecursion (λ n. n ≤ c) xs → slice_index xs k ≤ c
+at-most [] k c all = omega arith
+at-most (x ∷ xs) zero c all = all.0
+at-most (x ∷ xs) (suc k) c all = at-most xs k c all.1
+
+mutual
+  chain-at-most : (chains : List ℕ) (x : StmtTree) (c : ℕ) → AllByRecursion (λ n. n ≤ c) chains → stmt_chain chains x ≤ c
+  chain-at-most chains (assign line f e) c all = omega arith
+  chain-at-most chains (branch line test xs ys) c all = let a = chains-at-most chains xs c all in let b = chains-at-most chains ys c all in omega (arith, a, b)
+  chain-at-most chains (call line k target es) c all = at-most chains k c all
+
+  chains-at-most : (chains : List ℕ) (xs : StmtTrees) (c : ℕ) → AllByRecursion (λ n. n ≤ c) chains → stmts_chain chains xs ≤ c
+  chains-at-most chains no_stmts c all = omega arith
+  chains-at-most chains (more_stmts x xs) c all = let a = chain-at-most chains x c all in let b = chains-at-most chains xs c all in omega (arith, a, b)
+
+one-more : (chains : List ℕ) (n c : ℕ) → AllByRecursion (λ n. n ≤ c) chains → n ≤ c + 1 → AllByRecursion (λ n. n ≤ c + 1) (chains ++ n ∷ [])
+one-more [] n c all h = (h, tt)
+one-more (x ∷ xs) n c all h = ((let below : x ≤ c = all.0 in omega arith), one-more xs n c all.1 h)
+
+weaker : (chains : List ℕ) (c d : ℕ) → AllByRecursion (λ n. n ≤ c) chains → c ≤ d → AllByRecursion (λ n. n ≤ d) chains
+weaker [] c d all h = tt
+weaker (x ∷ xs) c d all h = ((let below : x ≤ c = all.0 in omega arith), weaker xs c d all.1 h)
+
+-- a program has no longer chain of calls than it has procedures
+chains-small : (chains : List ℕ) (ps : List ProcedureTree) (c : ℕ) → AllByRecursion (λ n. n ≤ c) chains → c + length ps ≤ 128 → AllByRecursion (λ n. n ≤ 128) (chains_of chains ps)
+chains-small chains [] c all h = weaker chains c 128 all (omega arith)
+chains-small chains (p ∷ ps) c all h =
+    let long = chains-at-most chains p.body c all in
+    chains-small (chains ++ (stmts_chain chains p.body + 1) ∷ []) ps (c + 1) (one-more chains (stmts_chain chains p.body + 1) c all (omega (arith, long))) (omega arith)
+
+-- ---- The whole
+
+procedures-append : (structs : List StructTree) (earlier xs ys : List ProcedureTree) → AreProcedures [] structs earlier xs → AreProcedures [] structs (earlier ++ xs) ys → AreProcedures [] structs earlier (xs ++ ys)
+procedures-append structs earlier [] ys a b = subst (λ l. AreProcedures [] structs l ys) (append-nil earlier) b
+procedures-append structs earlier (x ∷ xs) ys a b = (a.0, procedures-append structs (earlier ++ x ∷ []) xs ys a.1 (subst (λ l. AreProcedures [] structs l ys) (sym (append_assoc earlier (x ∷ []) xs)) b))
+
+module _ (blocks : List Block) (are : AreBlocks blocks) (below : OutputsAreRows blocks) (outs : length (output_rows blocks) ≤ 32) (functions : length (function_needs blocks) ≤ 32) where
+  abbrev structs : List StructTree
+  structs = flat_structs blocks
+
+  params-count : (need : Option ℕ) → length (int_param now_name ∷ input_params blocks need) ≡ suc (length (taken_ports blocks need))
+  params-count need = ap suc (length-map (taken_ports blocks need) (λ k. int_param (input_name k)))
+
+  params-few : (need : Option ℕ) → length (taken_ports blocks need) ≤ 32
+  params-few need =
+      let h = length-filter-le (takes need) (range_with_len 1 (input_count blocks)) in
+      let size = length-range_with_len 1 (input_count blocks) in
+      let few = are.few_inputs in
+      omega (arith, h, size, few)
+
+  out-is-lawful : (earlier : List ProcedureTree) (j need : ℕ) → AllByRecursion HasOtherName earlier → IsLawfulProcedure [] structs earlier (out_procedure blocks j need)
+  out-is-lawful earlier j need others = record {
+    of = lit< tt;
+    params = now-distinct blocks (Some need) are.few_inputs;
+    apart = (now-apart earlier others, inputs-apart (taken_ports blocks (Some need)) earlier others);
+    body = out-lawful blocks are structs earlier (length (int_param now_name ∷ input_params blocks (Some need))) need (params-count (Some need));
+  }
+
+  outs-lawful : (earlier : List ProcedureTree) (j : ℕ) (ns : List ℕ) → AllByRecursion HasOtherName earlier → AreProcedures [] structs earlier (out_list blocks j ns)
+  outs-lawful earlier j [] others = tt
+  outs-lawful earlier j (n ∷ ns) others = (out-is-lawful earlier j n others, outs-lawful (earlier ++ out_procedure blocks j n ∷ []) (j + 1) ns (others-append earlier (out_procedure blocks j n ∷ []) others ((refl, λ k. refl), tt)))
+
+  outs-others : (j : ℕ) (ns : List ℕ) → AllByRecursion HasOtherName (out_list blocks j ns)
+  outs-others j [] = tt
+  outs-others j (n ∷ ns) = ((refl, λ k. refl), outs-others (j + 1) ns)
+
+  -- the functions are where they are called
+  outs-there : (whole done rest : List ProcedureTree) (j : ℕ) (ns : List ℕ) → whole ≡ done ++ (out_list blocks (j + 1) ns ++ rest) → length done ≡ j → AllByRecursion (λ (e : ℕ × ℕ). slice_get whole e.0 ≡ Some (out_procedure blocks (e.0 + 1) e.1)) (enumerate_from j ns)
+  outs-there whole done rest j [] e size = tt
+  outs-there whole done rest j (n ∷ ns) e size =
+      let p : ProcedureTree = out_procedure blocks (j + 1) n in
+      let more = length-append done (p ∷ []) in
+      (
+        ap (λ l. slice_get l j) e ∙ get-at done p (out_list blocks (j + 1 + 1) ns ++ rest) j size,
+        outs-there whole (done ++ p ∷ []) rest (j + 1) ns (e ∙ sym (append_assoc done (p ∷ []) (out_list blocks (j + 1 + 1) ns ++ rest))) (omega (arith, more, size)),
+      )
+
+  abbrev os : List ProcedureTree
+  os = out_procedures blocks
+
+  abbrev with_update : List ProcedureTree
+  with_update = os ++ update_procedure blocks ∷ []
+
+  abbrev with_start : List ProcedureTree
+  with_start = with_update ++ start_procedure blocks ∷ []
+
+  abbrev with_reset : List ProcedureTree
+  with_reset = with_start ++ reset_procedure blocks ∷ []
+
+  abbrev with_root_start : List ProcedureTree
+  with_root_start = with_reset ++ root_start_procedure blocks ∷ []
+
+  os-others : AllByRecursion HasOtherName os
+  os-others = outs-others 1 (function_needs blocks)
+
+  one-other : (ps : List ProcedureTree) (p : ProcedureTree) → AllByRecursion HasOtherName ps → HasOtherName p → AllByRecursion HasOtherName (ps ++ p ∷ [])
+  one-other ps p a b = others-append ps (p ∷ []) a (b, tt)
+
+  update-others : AllByRecursion HasOtherName with_update
+  update-others = one-other os (update_procedure blocks) os-others (refl, λ k. refl)
+
+  start-others : AllByRecursion HasOtherName with_start
+  start-others = one-other with_update (start_procedure blocks) update-others (refl, λ k. refl)
+
+  reset-others : AllByRecursion HasOtherName with_reset
+  reset-others = one-other with_start (reset_procedure blocks) start-others (refl, λ k. refl)
+
+  root-start-others : AllByRecursion HasOtherName with_root_start
+  root-start-others = one-other with_reset (root_start_procedure blocks) reset-others (refl, λ k. refl)
+
+  start-there : slice_get with_reset (update_place blocks + 1) ≡ Some (start_procedure blocks)
+  start-there =
+      ap (λ l. slice_get l (update_place blocks + 1)) (append_assoc with_update (start_procedure blocks ∷ []) (reset_procedure blocks ∷ []))
+      ∙ get-at with_update (start_procedure blocks) (reset_procedure blocks ∷ []) (update_place blocks + 1) (length-append os (update_procedure blocks ∷ []) ∙ ap (λ n. n + 1) (length-outs blocks))
+
+  -- the procedures before the step, by the functions
+  before-step : with_root_start ≡ os ++ (update_procedure blocks ∷ start_procedure blocks ∷ reset_procedure blocks ∷ root_start_procedure blocks ∷ [])
+  before-step =
+      append_assoc with_start (reset_procedure blocks ∷ []) (root_start_procedure blocks ∷ [])
+      ∙ append_assoc with_update (start_procedure blocks ∷ []) (reset_procedure blocks ∷ root_start_procedure blocks ∷ [])
+      ∙ append_assoc os (update_procedure blocks ∷ []) (start_procedure blocks ∷ reset_procedure blocks ∷ root_start_procedure blocks ∷ [])
+
+  later-lawful : AreProcedures [] structs os (later_procedures blocks)
+  later-lawful = (
+    record {
+      of = lit< tt;
+      params = now-distinct blocks None are.few_inputs;
+      apart = (now-apart os os-others, inputs-apart (taken_ports blocks None) os os-others);
+      body = update-lawful blocks are structs os (length (int_param now_name ∷ input_params blocks None)) (params-count None);
+    },
+    (
+      record { of = lit< tt; params = tt; apart = tt; body = start-lawful blocks are structs with_update 0 },
+      (
+        record { of = lit< tt; params = tt; apart = tt; body = reset-lawful blocks are structs with_start 0 },
+        (
+          record { of = lit< tt; params = tt; apart = tt; body = root-start-lawful blocks with_reset 0 start-there },
+          (
+            record {
+              of = lit< tt;
+              params = inputs-distinct blocks None are.few_inputs;
+              apart = inputs-apart (taken_ports blocks None) with_root_start root-start-others;
+              body = step-lawful blocks with_root_start (length (input_params blocks None))
+                (outs-there with_root_start [] _ 0 (function_needs blocks) before-step refl)
+                (ap (λ l. slice_get l (update_place blocks)) before-step ∙ get-at os (update_procedure blocks) _ (update_place blocks) (length-outs blocks))
+                (let size = length-map (taken_ports blocks None) (λ k. int_param (input_name k)) in let all = ap length (all-ports blocks) in let range = length-range_with_len 1 (input_count blocks) in omega (arith, size, all, range))
+                below;
+            },
+            tt,
+          ),
+        ),
+      ),
+    ),
+  )
+
+  procedures-lawful : AreProcedures [] structs [] (flat_procedures blocks)
+  procedures-lawful = procedures-append structs [] os (later_procedures blocks) (outs-lawful [] 1 (function_needs blocks) tt) later-lawful
