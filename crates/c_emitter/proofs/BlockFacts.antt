@@ -1,17 +1,12 @@
 -- What holds of the blocks of a diagram, and where the fields of `top` are.
-use Rattle.std.specs.Prelude.{◌≡◌, ◌≢◌, ℕ, zero, suc, ◌+◌, ◌<◌, ◌≤◌, Bool, true, false, not, List, [], ◌∷◌, ◌++◌, map, length, slice_index_or, ℤ, pos, ⊤}
-use Rattle.std.specs.List.{range_with_len}
-use Rattle.std.proofs.Common.{refl, sym, ◌∙◌, ap, subst, arith}
+use Rattle.std.specs.Prelude.{◌≡◌, ℕ, ◌+◌, ◌<◌, ◌≤◌, true, false, List, [], ◌∷◌, ◌++◌, map, length, ℤ, pos}
+use Rattle.std.proofs.Common.{sym, ◌∙◌, ap, subst, arith}
 use Rattle.std.proofs.lemmas.List.{get_or_append_left, get_or-append-add, length-append, length-map, get_or_push}
-use Rattle.c_tree.specs.declared.CType.{CType}
-use Rattle.c_tree.specs.declared.CType.TheVariants.{U8, I32}
-use Rattle.c_tree.specs.Machine.{type_at, field_types, kind_type}
+use Rattle.c_tree.specs.declared.CType.TheVariants.{I32}
 use Rattle.c_tree.specs.Values.{is_in_type}
 use Rattle.c_emitter.specs.declared.block.Block.{Block}
 use Rattle.c_emitter.specs.declared.block.Block.TheVariants.{Input, Output, Delay}
 use Rattle.c_emitter.specs.Blocks.{block_at, is_output, is_input, is_delay_block, source_of, input_count, output_count, delay_rows, memory_place, counter_place}
-use Rattle.c_emitter.specs.FlatProgram.{top_fields, int_field}
-use Rattle.c_emitter.specs.Names.{value_name, memory_name}
 use Rattle.c_emitter.proofs.NumberCells.{item}
 use Rattle.c_emitter.proofs.Chosen.{place-of, place-below}
 
@@ -63,7 +58,7 @@ module _ (blocks : List Block) where
   pub memory-in_state : (v m : List ℤ) (c : ℤ) (b : ℕ) → length v ≡ length blocks → b < length blocks → is_delay_block (block_at blocks b) ≡ true → item (top_state v m c) (memory_place blocks b) ≡ item m b
   memory-in_state v m c b e h delay =
       get_or_append_left (v ++ memories m) (c ∷ []) (pos 0) (memory_place blocks b)
-        (let total = length-append v (memories m) in let count = length-map (delay_rows blocks) (item m) in let within = memory-within b h delay in omega (arith, total, count, within))
+      (let total = length-append v (memories m) in let count = length-map (delay_rows blocks) (item m) in let within = memory-within b h delay in omega (arith, total, count, within))
       ∙ ap (λ n. item (v ++ memories m) (n + length (Rattle.c_emitter.specs.Blocks.rows_below blocks is_delay_block b))) (sym e)
       ∙ get_or-append-add v (memories m) (length (Rattle.c_emitter.specs.Blocks.rows_below blocks is_delay_block b)) (pos 0)
       ∙ place-of (λ c. is_delay_block (block_at blocks c)) (item m) 0 (length blocks) b b (pos 0) (omega arith) h delay

@@ -1,6 +1,6 @@
 -- One tick of the blocks of a diagram.
-use Rattle.std.specs.Prelude.{◌≡◌, ℕ, ◌-◌, ◌<◌, Bool, true, false, List, length, ℤ, pos}
-use Rattle.std.proofs.Common.{refl, sym, ◌∙◌, ap, subst, arith, true≢false}
+use Rattle.std.specs.Prelude.{◌≡◌, ℕ, ◌-◌, ◌<◌, true, false, List, length, ℤ}
+use Rattle.std.proofs.Common.{refl, sym, ap, subst, true≢false}
 use Rattle.c_tree.specs.declared.CType.TheVariants.{I32}
 use Rattle.c_tree.specs.Values.{is_in_type}
 use Rattle.c_emitter.specs.declared.block.Block.{Block}

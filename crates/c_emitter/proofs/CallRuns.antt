@@ -1,15 +1,13 @@
 -- What a call of a procedure of `top` does to the root.
-use Rattle.std.specs.Prelude.{◌≡◌, ℕ, suc, ◌+◌, ◌-◌, ◌^◌, ◌<◌, ◌≤◌, Bool, true, if◌then◌else◌, List, [], ◌∷◌, ◌++◌, map, length, Option, ℤ, pos}
-use Rattle.std.proofs.Common.{refl, sym, ◌∙◌, ap, arith}
-use Rattle.std.proofs.lemmas.List.{append-nil}
-use Rattle.c_tree.specs.declared.CType.{CType}
+use Rattle.std.specs.Prelude.{◌≡◌, ℕ, ◌+◌, ◌-◌, ◌^◌, ◌<◌, true, if◌then◌else◌, List, [], ◌∷◌, map, length, Option, ℤ, pos}
+use Rattle.std.proofs.Common.{refl, ◌∙◌, ap, arith}
 use Rattle.c_tree.specs.declared.CType.TheVariants.{I32}
-use Rattle.c_tree.specs.declared.Leaf.TheVariants.{Param, Own}
+use Rattle.c_tree.specs.declared.Leaf.TheVariants.{Own}
 use Rattle.c_tree.specs.declared.Target.TheVariants.{Child as InChild}
-use Rattle.c_tree.specs.Tree.{ExprTrees, read, exprs_of_list, StmtTrees, StructTree, struct_fields, ProcedureTree}
-use Rattle.c_tree.specs.Cells.{Cells, object, set_cell, fields_at}
-use Rattle.c_tree.specs.Values.{Function, gives, reads}
-use Rattle.c_tree.specs.Machine.{LoggedCall, StoredField, Outcome, behind, on_answer, on_target, in_child, arguments, store_under, Scope, Routine, routine_at, routine_of, run_stmt, run_stmts, field_types, call_entry, is_interface}
+use Rattle.c_tree.specs.Tree.{ExprTrees, read, exprs_of_list, StructTree, struct_fields, ProcedureTree}
+use Rattle.c_tree.specs.Cells.{Cells}
+use Rattle.c_tree.specs.Values.{Function, reads}
+use Rattle.c_tree.specs.Machine.{LoggedCall, StoredField, behind, on_answer, on_target, in_child, arguments, store_under, Scope, Routine, routine_at, routine_of, run_stmt, run_stmts, field_types, is_interface}
 use Rattle.c_emitter.specs.declared.block.Block.{Block}
 use Rattle.c_emitter.specs.Bodies.{taken_ports, top_place, call_top}
 use Rattle.c_emitter.proofs.NumberCells.{number_cells, cells_with, item, value_at-cells_with, fields_at-cells_with, set_object-cells_with}
@@ -48,7 +46,7 @@ call-ends blocks s structs functions earlier p i need x zs tops after steps n fs
     ∙ ap (λ (q : Routine). on_answer (arguments s.functions (reads s.values cells) 0 q.params es (steps + 1)) cells (λ values. on_target (InChild T) (q.run values) cells)) routine
     ∙ ap (λ ts. on_answer (arguments s.functions (reads s.values cells) 0 ts es (steps + 1)) cells (λ values. on_target (InChild T) (r.run values) cells)) params
     ∙ ap (λ a. on_answer a cells (λ values. on_target (InChild T) (r.run values) cells))
-      (call-arguments s.functions (reads s.values cells) x (taken_ports blocks need) (steps + 1) ints (value_at-cells_with zs (number_cells tops) 0 ∙ now) (λ k. ap (λ l. item l k) values))
+    (call-arguments s.functions (reads s.values cells) x (taken_ports blocks need) (steps + 1) ints (value_at-cells_with zs (number_cells tops) 0 ∙ now) (λ k. ap (λ l. item l k) values))
     ∙ ap (λ inner. in_child T cells (r.run passed inner (steps + 1))) (fields_at-cells_with zs (number_cells tops) T place)
     ∙ ap (λ b. in_child T cells (behind (if b then record { path = []; procedure = i } ∷ [] else []) [] (run_stmts (called_scope structs functions earlier p blocks x need) p.body (number_cells tops) (steps + 1)))) interface
     ∙ ap (λ o. in_child T cells (behind (record { path = []; procedure = i } ∷ []) [] o)) run

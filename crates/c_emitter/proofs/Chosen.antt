@@ -1,5 +1,5 @@
 -- Lists of chosen numbers.
-use Rattle.std.specs.Prelude.{◌≡◌, ◌≢◌, ℕ, zero, suc, ◌+◌, ◌<◌, ◌≤◌, Bool, true, false, ◌||◌, ◌==◌, List, [], ◌∷◌, ◌++◌, map, filter, length, slice_index_or}
+use Rattle.std.specs.Prelude.{◌≡◌, ◌≢◌, ℕ, zero, suc, ◌+◌, ◌<◌, ◌≤◌, Bool, true, false, ◌||◌, ◌==◌, [], ◌∷◌, ◌++◌, map, filter, length, slice_index_or}
 use Rattle.std.specs.List.{range_with_len, AllByRecursion, list_any}
 use Rattle.std.proofs.Common.{refl, sym, ◌∙◌, ap, ap₂, subst, arith, eq-eqb, cond, inl, inr}
 use Rattle.std.proofs.lemmas.List.{map-append, length-append, append-nil}
@@ -59,11 +59,11 @@ module _ (p : ℕ → Bool) where
   any-chosen f a zero b j low high e same = absurd (omega arith)
   any-chosen f a (suc n) b j low high e same = elim (eqb_tells a b) [
     | inl here ↦
-      let first : p a ≡ true = subst (λ c. p c ≡ true) (sym here.1) e in
-      rw first (or_left (f a == j) _ (eq-eqb (f a) j (ap f here.1 ∙ same)))
+        let first : p a ≡ true = subst (λ c. p c ≡ true) (sym here.1) e in
+        rw first (or_left (f a == j) _ (eq-eqb (f a) j (ap f here.1 ∙ same)))
     | inr there ↦
-      let apart : a ≢ b = there.1 in
-      by (p a) (any-chosen f (a + 1) n b j (omega arith) (omega arith) e same)
+        let apart : a ≢ b = there.1 in
+        by (p a) (any-chosen f (a + 1) n b j (omega arith) (omega arith) e same)
   ]
     where
       by : (t : Bool) → list_any (λ g. g == j) (map f (filter p (range_with_len (a + 1) n))) ≡ true → list_any (λ g. g == j) (map f (cond t (a ∷ filter p (range_with_len (a + 1) n)) (filter p (range_with_len (a + 1) n)))) ≡ true
@@ -95,7 +95,7 @@ module _ (p : ℕ → Bool) where
 
   pub place-below : (a n m : ℕ) → m < n → p (a + m) ≡ true → length (filter p (range_with_len a m)) < length (filter p (range_with_len a n))
   place-below a zero m h passes = absurd (omega arith)
-  place-below a (suc n) zero h passes = 
+  place-below a (suc n) zero h passes =
       let same : a ≡ a + 0 = omega arith in
       let first : p a ≡ true = subst (λ c. p c ≡ true) (sym same) passes in
       rw first (omega arith)

@@ -1,7 +1,7 @@
 -- How many steps a tick takes at most.
-use Rattle.std.specs.Prelude.{◌≡◌, ℕ, suc, ◌+◌, ◌*◌, ◌^◌, ◌<◌, ◌≤◌, Bool, true, false, not, ◌==◌, List, [], ◌∷◌, map, filter, filter_map, length, Option, Some, None}
+use Rattle.std.specs.Prelude.{ℕ, suc, ◌+◌, ◌*◌, ◌^◌, ◌≤◌, Bool, true, false, not, ◌==◌, List, [], ◌∷◌, filter, filter_map, length, Option, Some, None}
 use Rattle.std.specs.List.{range_with_len, cons_option}
-use Rattle.std.proofs.Common.{refl, sym, ap, subst, arith, cond}
+use Rattle.std.proofs.Common.{arith, cond}
 use Rattle.std.proofs.lemmas.List.{length-map}
 use Rattle.std.proofs.lemmas.List.FromFn.{length-range_with_len}
 use Rattle.std.proofs.Math.Nat.{mul-le-mul_right}
@@ -11,7 +11,7 @@ use Rattle.c_emitter.specs.Blocks.{output_row, output_rows, output_count, output
 use Rattle.c_emitter.specs.Bodies.{is_delay_row}
 use Rattle.c_emitter.proofs.Chosen.{length-chosen}
 use Rattle.c_emitter.proofs.BlockFacts.{AreBlocks}
-use Rattle.c_emitter.proofs.TopRuns.{out_cost, update_cost, taken_rows, given_rows, unheld_rows, memory_rows}
+use Rattle.c_emitter.proofs.TopRuns.{out_cost, update_cost}
 use Rattle.c_emitter.proofs.RootRuns.{calls_cost}
 
 pub length-filter-le : (p : ℕ → Bool) (xs : List ℕ) → length (filter p xs) ≤ length xs

@@ -1,29 +1,26 @@
 -- The blocks of a diagram of one system are well made, and its outputs are theirs.
-use Rattle.std.specs.Prelude.{◌≡◌, ℕ, zero, suc, ◌+◌, ◌<◌, ◌≤◌, Bool, true, false, not, ◌&&◌, ◌==◌, IsTrue, List, [], ◌∷◌, ◌++◌, map, filter, filter_map, find, count_by, length, slice_index_or, Option, Some, None, ◌^◌, ℤ, pos, ◌*ℤ◌, ◌≤ℤ◌, int_le}
-use Rattle.std.specs.List.{range_with_len, position_from, AllByRecursion}
-use Rattle.std.proofs.Common.{refl, sym, ◌∙◌, ap, ap₂, subst, arith, inl, inr, cond, true≢false}
-use Rattle.std.proofs.Math.Path.{fun_ext}
+use Rattle.std.specs.Prelude.{◌≡◌, ℕ, zero, suc, ◌+◌, ◌<◌, ◌≤◌, Bool, true, false, IsTrue, List, ◌∷◌, filter, count_by, length, None, ◌^◌, ℤ, pos, ◌*ℤ◌, ◌≤ℤ◌, int_le}
+use Rattle.std.specs.List.{range_with_len}
+use Rattle.std.proofs.Common.{refl, sym, ◌∙◌, ap, ap₂, subst, arith, cond, true≢false}
 use Rattle.std.proofs.lemmas.List.Sums.{length-filter}
 use Rattle.std.proofs.lemmas.Bool.{and_from}
 use Rattle.std.proofs.lemmas.Int.{ints}
 use Rattle.mc_fixed.specs.Types.{int32}
 use Rattle.mc_fixed.specs.Rounding.{nearest}
-use Rattle.mc_fixed.specs.Conversion.{quantize, InType}
+use Rattle.mc_fixed.specs.Conversion.{quantize}
 use Rattle.mc_fixed.proofs.ConversionLaws.{clamped_in}
 use Rattle.mc_blocks.specs.declared.Kind.{Kind}
-use Rattle.mc_blocks.specs.declared.Kind.TheVariants.{Inport, Outport, UnitDelay}
+use Rattle.mc_blocks.specs.declared.Kind.TheVariants.{Inport, Outport}
 use Rattle.mc_blocks.specs.declared.Op.{Op}
 use Rattle.mc_blocks.specs.declared.Op.TheVariants.{Copy}
 use Rattle.mc_diagram.specs.declared.Row.{Row}
-use Rattle.mc_diagram.specs.Rows.{row_at, rows_of, numbers, same_system, is_inport, is_outport, port_of, by_port, inports_of, outports_of, system_control}
+use Rattle.mc_diagram.specs.Rows.{row_at, rows_of, numbers, same_system, is_inport, is_outport, port_of, system_control}
 use Rattle.mc_diagram.specs.Diagram.{op_at, type_at}
 use Rattle.mc_diagram.specs.Run.{is_delay, start_of, start_by}
-use Rattle.c_tree.specs.declared.CType.TheVariants.{I32}
-use Rattle.c_tree.specs.Values.{is_in_type}
 use Rattle.c_emitter.specs.declared.block.Block.{Block}
-use Rattle.c_emitter.specs.declared.block.Block.TheVariants.{Input, Output, Delay}
+use Rattle.c_emitter.specs.declared.block.Block.TheVariants.{Input, Output}
 use Rattle.c_emitter.specs.Flat.{is_source, IsFlat}
-use Rattle.c_emitter.specs.Blocks.{block_at, blocks_of, is_input, is_output, is_delay_block, start_value, rows_below, input_count, output_count, is_output_of, output_row, output_rows}
+use Rattle.c_emitter.specs.Blocks.{block_at, blocks_of, is_input, is_output, is_delay_block, start_value, rows_below, input_count, output_count}
 use Rattle.c_emitter.proofs.BlockFacts.{IsSource, IsWellMade, AreBlocks}
 use Rattle.c_emitter.proofs.BlockTicks.{IsInt}
 use Rattle.c_emitter.proofs.Ports.{filter-all}
@@ -141,15 +138,15 @@ module _ (rows : List Row) (ops : List Op) (flat : IsFlat (diagram rows ops)) wh
     few_inputs = subst (λ n. n ≤ 32) inputs-counted flat.inports.at_most;
     few_outputs = subst (λ n. n ≤ 32) outputs-counted flat.outports.at_most;
     one_input = λ b c k h i e f.
-      let below : b < length rows = omega (arith, same-length) in
-      let under : c < length rows = omega (arith, same-length) in
-      let p = input-kind b k (view rows ops flat b below) e in
-      let q = input-kind c k (view rows ops flat c under) f in
-      flat.inports.one_each b c below under (root-row rows ops flat b below) (root-row rows ops flat c under) (ap is_inport p) (ap is_inport q) (ap port_of p ∙ sym (ap port_of q));
+        let below : b < length rows = omega (arith, same-length) in
+        let under : c < length rows = omega (arith, same-length) in
+        let p = input-kind b k (view rows ops flat b below) e in
+        let q = input-kind c k (view rows ops flat c under) f in
+        flat.inports.one_each b c below under (root-row rows ops flat b below) (root-row rows ops flat c under) (ap is_inport p) (ap is_inport q) (ap port_of p ∙ sym (ap port_of q));
     one_output = λ b c k s t h i e f.
-      let below : b < length rows = omega (arith, same-length) in
-      let under : c < length rows = omega (arith, same-length) in
-      let p = output-kind b k s (view rows ops flat b below) e in
-      let q = output-kind c k t (view rows ops flat c under) f in
-      flat.outports.one_each b c below under (root-row rows ops flat b below) (root-row rows ops flat c under) p.0 q.0 (p.1 ∙ sym q.1);
+        let below : b < length rows = omega (arith, same-length) in
+        let under : c < length rows = omega (arith, same-length) in
+        let p = output-kind b k s (view rows ops flat b below) e in
+        let q = output-kind c k t (view rows ops flat c under) f in
+        flat.outports.one_each b c below under (root-row rows ops flat b below) (root-row rows ops flat c under) p.0 q.0 (p.1 ∙ sym q.1);
   }

@@ -1,32 +1,23 @@
 -- In a tick each function is called once, then the update, and no value is stored twice.
-use Rattle.std.specs.Prelude.{◌≡◌, ◌≢◌, ℕ, zero, suc, ◌+◌, ◌-◌, ◌<◌, ◌≤◌, ◌^◌, ◌⊎◌, Bool, true, false, not, ◌==◌, ◌&&◌, ◌||◌, List, [], ◌∷◌, ◌++◌, map, filter, flat_map, length, count_by, Option, Some, None, unwrap_or, bytes_eq, codes}
-use Rattle.std.specs.List.{range_with_len, enumerate_from, position_from, list_any, list_all, prefix_len, AllByRecursion}
-use Rattle.std.proofs.Common.{refl, sym, ◌∙◌, ap, ap₂, subst, arith, cond, inl, inr, true≢false}
-use Rattle.std.proofs.lemmas.List.{map-append, length-map, length-append}
-use Rattle.std.proofs.lemmas.List.FromFn.{length-range_with_len}
+use Rattle.std.specs.Prelude.{◌≡◌, ◌≢◌, ℕ, zero, suc, ◌+◌, ◌<◌, ◌≤◌, ◌⊎◌, Bool, true, false, not, ◌==◌, ◌&&◌, List, [], ◌∷◌, ◌++◌, map, filter, flat_map, length, count_by}
+use Rattle.std.specs.List.{range_with_len, AllByRecursion}
+use Rattle.std.proofs.Common.{refl, sym, ◌∙◌, ap, ap₂, subst, arith, cond, inl, inr}
+use Rattle.std.proofs.lemmas.List.{length-append}
 use Rattle.std.proofs.lemmas.List.Elements.{filter-append}
 use Rattle.std.proofs.lemmas.List.Sums.{length-filter}
-use Rattle.std.proofs.lemmas.List.Sorted.{IsPermutation-refl}
-use Rattle.std.proofs.lemmas.Bool.{eq-eqb, ne_eqb, eqb-true, and_parts, cases_Bool, or_left, or_right, false_from_ne_true}
+use Rattle.std.proofs.lemmas.Bool.{eq-eqb, ne_eqb}
 use Rattle.std.proofs.lemmas.Bool.Decides.{eqb_tells}
 use Rattle.mc_profile.specs.Functions.{different}
-use Rattle.c_tree.specs.Tree.{ProcedureTree}
-use Rattle.c_tree.specs.Machine.{LoggedCall, StoredField}
+use Rattle.c_tree.specs.Machine.{StoredField}
 use Rattle.c_emitter.specs.declared.block.Block.{Block}
-use Rattle.c_emitter.specs.Names.{out_name, update_name}
-use Rattle.c_emitter.specs.Places.{same_path, has_procedure, procedure_place, out_count, out_places}
+use Rattle.c_emitter.specs.Places.{same_path}
 use Rattle.c_emitter.specs.Blocks.{block_at, is_output, counter_place, memory_place, source_need, need_of, feeds_output, is_taken_in, is_given_in, is_unheld, function_needs, output_rows}
-use Rattle.c_emitter.specs.Bodies.{top_place, update_place, is_delay_row}
-use Rattle.c_emitter.specs.FlatProgram.{out_procedure, out_procedures, flat_procedures, flat_program}
+use Rattle.c_emitter.specs.Bodies.{top_place, is_delay_row}
 use Rattle.c_emitter.proofs.Straight.{own_store}
-use Rattle.c_emitter.proofs.Chosen.{range-snoc, all-chosen}
-use Rattle.c_emitter.proofs.Digits.{prefix_len-all}
+use Rattle.c_emitter.proofs.Chosen.{all-chosen}
 use Rattle.c_emitter.proofs.TopRuns.{taken_rows, given_rows, out_fields, unheld_rows, memory_rows, update_fields}
-use Rattle.c_emitter.proofs.CallRuns.{top_call, top_store}
-use Rattle.c_emitter.proofs.StepRun.{step_log, step_stores}
-use Rattle.c_emitter.proofs.Procedures.{later_procedures, named-behind, length-outs}
-use Rattle.c_emitter.proofs.NameFacts.{AreNumbered, numbered-names}
-use Rattle.c_emitter.proofs.OutputFields.{all-outputs}
+use Rattle.c_emitter.proofs.CallRuns.{top_store}
+use Rattle.c_emitter.proofs.StepRun.{step_stores}
 
 -- ---- How often a number stands in a list
 

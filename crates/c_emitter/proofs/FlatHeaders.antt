@@ -1,39 +1,37 @@
 -- The structs and procedures of the program are those of the diagram.
-use Rattle.std.specs.Prelude.{◌≡◌, ℕ, zero, suc, ◌+◌, ◌-◌, ◌<◌, ◌≤◌, Bool, true, false, not, ◌==◌, if◌then◌else◌, IsTrue, List, [], ◌∷◌, ◌++◌, map, filter, length, Contains, IsPermutation, Option, Some, None, bytes_eq, codes}
+use Rattle.std.specs.Prelude.{◌≡◌, ℕ, zero, suc, ◌+◌, ◌<◌, ◌≤◌, Bool, true, false, not, IsTrue, List, [], ◌∷◌, ◌++◌, map, filter, length, IsPermutation, Some, None, bytes_eq}
 use Rattle.std.specs.List.{range_with_len, enumerate_from, AllByRecursion}
-use Rattle.std.proofs.Common.{refl, sym, ◌∙◌, ap, ap₂, subst, arith, cond, lit<, true≢false}
-use Rattle.std.proofs.lemmas.List.{append-nil, map-append, append_assoc}
+use Rattle.std.proofs.Common.{refl, sym, ◌∙◌, ap, ap₂, subst, arith, cond, lit<}
+use Rattle.std.proofs.lemmas.List.{append-nil, map-append}
 use Rattle.std.proofs.lemmas.List.Elements.{filter-append}
 use Rattle.std.proofs.lemmas.List.Sorted.{IsPermutation-refl}
 use Rattle.mc_base.specs.declared.Port.{Port}
 use Rattle.mc_base.specs.declared.Port.TheVariants.{Number as PortNumber}
-use Rattle.mc_fixed.specs.Types.{int32}
 use Rattle.mc_blocks.specs.Meaning.{has_value}
 use Rattle.mc_blocks.specs.declared.Op.{Op}
 use Rattle.mc_diagram.specs.declared.Row.{Row}
-use Rattle.mc_diagram.specs.Rows.{row_at, rows_of, numbers, subsystems_of, is_subsystem, outports_of}
+use Rattle.mc_diagram.specs.Rows.{row_at, numbers, is_subsystem}
 use Rattle.mc_diagram.specs.Diagram.{type_at, op_at}
 use Rattle.mc_diagram.specs.Run.{is_delay}
 use Rattle.mc_profile.specs.declared.Function.{Function}
-use Rattle.mc_profile.specs.Functions.{different, function_for, functions_for}
+use Rattle.mc_profile.specs.Functions.{function_for, functions_for}
 use Rattle.mc_profile.specs.Ports.{has_bit, bit_of, input_ports, ports_in}
 use Rattle.mc_profile.specs.Systems.{system_name}
-use Rattle.c_tree.specs.declared.CType.TheVariants.{U8, I8, I32}
+use Rattle.c_tree.specs.declared.CType.TheVariants.{U8, I32}
 use Rattle.c_tree.specs.declared.FieldKind.TheVariants.{Number, Struct}
-use Rattle.c_tree.specs.Tree.{FieldTree, StructTree, ParamTree, ProcedureTree}
+use Rattle.c_tree.specs.Tree.{FieldTree, ProcedureTree}
 use Rattle.c_tree.specs.Written.{number_kind, struct_kind}
 use Rattle.c_emitter.specs.declared.block.Block.{Block}
-use Rattle.c_emitter.specs.Names.{container, value_name, memory_name, now_name, port_name, input_name, output_name, out_name, update_name, start_name, reset_name, root_name, root_start_name, root_step_name}
+use Rattle.c_emitter.specs.Names.{container, value_name, memory_name, now_name, input_name, output_name, out_name, update_name, start_name, reset_name, root_name, root_start_name, root_step_name}
 use Rattle.c_emitter.specs.Headers.{NamedField, number_field, named_fields, is_counter, or_filler, AreFields, system_fields, value_fields, memory_fields, child_fields, root_fields, Header, header, procedures_of, public_headers, now_param, port_param, parameters, all_parameters, out_headers, system_headers, root_headers}
 use Rattle.c_emitter.specs.Code.{HasStruct, HasHeaders}
 use Rattle.c_emitter.specs.Flat.{IsFlat}
 use Rattle.c_emitter.specs.Blocks.{block_at, is_delay_block, input_count, delay_rows, output_rows, output_needs, function_needs}
-use Rattle.c_emitter.specs.Bodies.{takes, taken_ports}
-use Rattle.c_emitter.specs.FlatProgram.{counter_name, int_field, top_fields, root_fields_of, int_param, input_params, out_procedure, out_procedures, flat_program}
+use Rattle.c_emitter.specs.FlatProgram.{counter_name, int_field, top_fields, root_fields_of, int_param, input_params, out_procedures, flat_program}
 use Rattle.c_emitter.proofs.FlatRows.{diagram, RowView, input_row, output_row as output_view, delay_row, view, type-is}
-use Rattle.c_emitter.proofs.FlatBlocks.{blocks, same-length, are-blocks, own-rows, delay-is, filter-agree}
+use Rattle.c_emitter.proofs.FlatBlocks.{blocks, same-length, own-rows, delay-is, filter-agree}
 use Rattle.c_emitter.proofs.FlatNeeds.{outputs-are}
-use Rattle.c_emitter.proofs.FlatOutputs.{OutputsAreRows, outputs-are-rows}
+use Rattle.c_emitter.proofs.FlatOutputs.{outputs-are-rows}
 use Rattle.c_emitter.proofs.FlatTrueNeeds.{are-true-needs}
 use Rattle.c_emitter.proofs.InputRows.{ports-are, input-row-within}
 use Rattle.c_emitter.proofs.OutputFields.{map-map}
@@ -245,7 +243,7 @@ module _ (rows : List Row) (ops : List Op) (flat : IsFlat (diagram rows ops)) wh
   no-root-outs a (n ∷ ns) = no-root-outs (a + 1) ns
 
   public-append : (name : List ℕ) (xs ys : List ProcedureTree) → map (header (flat_program bs)) (filter (λ q. not q.private) (filter (λ q. bytes_eq (Rattle.c_emitter.specs.Headers.struct_at (flat_program bs) q.of).name name) (xs ++ ys)))
-    ≡ map (header (flat_program bs)) (filter (λ q. not q.private) (filter (λ q. bytes_eq (Rattle.c_emitter.specs.Headers.struct_at (flat_program bs) q.of).name name) xs)) ++ map (header (flat_program bs)) (filter (λ q. not q.private) (filter (λ q. bytes_eq (Rattle.c_emitter.specs.Headers.struct_at (flat_program bs) q.of).name name) ys))
+      ≡ map (header (flat_program bs)) (filter (λ q. not q.private) (filter (λ q. bytes_eq (Rattle.c_emitter.specs.Headers.struct_at (flat_program bs) q.of).name name) xs)) ++ map (header (flat_program bs)) (filter (λ q. not q.private) (filter (λ q. bytes_eq (Rattle.c_emitter.specs.Headers.struct_at (flat_program bs) q.of).name name) ys))
   public-append name xs ys =
       let t : ProcedureTree → Bool = λ q. bytes_eq (Rattle.c_emitter.specs.Headers.struct_at (flat_program bs) q.of).name name in
       ap (λ l. map (header (flat_program bs)) (filter (λ q. not q.private) l)) (filter-append t xs ys)

@@ -1,35 +1,34 @@
 -- The program for a diagram of one system keeps the static rules and the limits of C text.
-use Rattle.std.specs.Prelude.{◌≡◌, ◌≢◌, ℕ, zero, suc, ◌+◌, ◌-◌, ◌<◌, ◌≤◌, ◌^◌, max, Bool, true, false, not, ◌&&◌, ◌||◌, ◌==◌, List, [], ◌∷◌, ◌++◌, map, filter, length, slice_get, slice_index, Option, Some, None, ℤ, pos, bytes_eq, codes}
+use Rattle.std.specs.Prelude.{◌≡◌, ◌≢◌, ℕ, zero, suc, ◌+◌, ◌-◌, ◌<◌, ◌≤◌, true, false, not, ◌&&◌, List, [], ◌∷◌, ◌++◌, map, length, slice_get, slice_index, Option, Some, None, bytes_eq}
 use Rattle.std.specs.List.{range_with_len, enumerate_from, AllByRecursion}
-use Rattle.std.proofs.Common.{refl, sym, ◌∙◌, ap, ap₂, subst, arith, cond, inl, inr, true≢false, lit<, lit≤}
+use Rattle.std.proofs.Common.{refl, sym, ◌∙◌, ap, subst, arith, true≢false, lit<, lit≤}
 use Rattle.std.proofs.lemmas.List.{length-map, length-append, append_assoc, append-nil}
 use Rattle.std.proofs.lemmas.List.FromFn.{length-range_with_len}
-use Rattle.std.proofs.lemmas.Bool.{or_from, and_from}
+use Rattle.std.proofs.lemmas.Bool.{or_from, or_right}
 use Rattle.mc_profile.specs.Systems.{system_name}
-use Rattle.c_tree.specs.declared.CType.TheVariants.{U8, I32, I64}
+use Rattle.c_tree.specs.declared.CType.TheVariants.{U8, I64}
 use Rattle.c_tree.specs.declared.FieldKind.TheVariants.{Number, Struct}
-use Rattle.c_tree.specs.declared.Target.TheVariants.{Child as InChild}
-use Rattle.c_tree.specs.Tree.{StmtTree, StmtTrees, no_stmts, more_stmts, assign, branch, call, stmts_of_list, exprs_of_list, ExprTree, ExprTrees, read, FieldTree, StructTree, struct_fields, ParamTree, ProcedureTree}
-use Rattle.c_tree.specs.Outputs.{has_name, output_names, may_be_named}
+use Rattle.c_tree.specs.Tree.{StmtTree, StmtTrees, no_stmts, more_stmts, assign, branch, call, stmts_of_list, exprs_of_list, read, FieldTree, StructTree, ParamTree, ProcedureTree}
+use Rattle.c_tree.specs.Outputs.{has_name, numbers_from, output_names, looks_like_output, may_be_named}
 use Rattle.c_tree.specs.Rows.{is_number, number_names}
 use Rattle.c_tree.specs.Resolve.{stmt_chain, stmts_chain}
 use Rattle.c_tree.specs.declared.Leaf.TheVariants.{Child}
-use Rattle.c_tree.specs.Reading.{exprs_depth, ProcedureFits, IsWithinLimits}
-use Rattle.c_tree.specs.Lawful.{AreDistinct, AreApart, Reach, IsNumberAt, IsStructAt, exprs_length, AreLawfulExprs, IsLawfulStmt, AreLawfulStmts, param_names, procedure_names, IsLawfulKind, IsLawfulStruct, AreStructs, IsLawfulProcedure, AreProcedures, chains_of, HasRoot, IsLawful}
+use Rattle.c_tree.specs.Reading.{exprs_depth, stmts_depth, stmts_exprs_depth, ProcedureFits}
+use Rattle.c_tree.specs.Lawful.{AreDistinct, AreApart, Reach, IsNumberAt, IsStructAt, exprs_length, AreLawfulExprs, IsLawfulStmt, param_names, procedure_names, IsLawfulKind, AreStructs, IsLawfulProcedure, AreProcedures, chains_of, HasRoot, IsLawful}
 use Rattle.c_emitter.specs.declared.block.Block.{Block}
-use Rattle.c_emitter.specs.Names.{now_name, input_name, output_name, out_name, root_name}
-use Rattle.c_emitter.specs.Blocks.{input_count, output_rows, function_needs}
-use Rattle.c_emitter.specs.Bodies.{takes, taken_ports, top_place, call_top, function_calls, update_place, output_copies, next_now, step_body, root_start_body}
-use Rattle.c_emitter.specs.FlatProgram.{int_field, int_param, input_params, top_fields, root_fields_of, flat_structs, out_procedure, out_procedures, update_procedure, start_procedure, reset_procedure, root_start_procedure, root_step_procedure, flat_procedures, flat_program}
+use Rattle.c_emitter.specs.Names.{value_name, memory_name, now_name, input_name, output_name, root_name}
+use Rattle.c_emitter.specs.Blocks.{delay_rows, input_count, output_rows, function_needs}
+use Rattle.c_emitter.specs.Bodies.{takes, taken_ports, top_place, call_top, function_calls, update_place, output_copies, next_now, step_body, root_start_body, out_body, update_body, start_body, reset_body}
+use Rattle.c_emitter.specs.FlatProgram.{counter_name, int_field, int_param, input_params, top_fields, root_fields_of, flat_structs, out_procedure, out_procedures, update_procedure, start_procedure, reset_procedure, root_start_procedure, root_step_procedure, flat_procedures, flat_program}
 use Rattle.c_emitter.proofs.BlockFacts.{AreBlocks}
 use Rattle.c_emitter.proofs.Ports.{port_reads, all-ports}
 use Rattle.c_emitter.proofs.Costs.{length-filter-le}
-use Rattle.c_emitter.proofs.Procedures.{get-at, get-behind, out_list, later_procedures, length-outs}
-use Rattle.c_emitter.proofs.OutputFields.{map-map, outputs-counted}
+use Rattle.c_emitter.proofs.Procedures.{get-at, out_list, later_procedures, length-outs, procedure-at}
+use Rattle.c_emitter.proofs.OutputFields.{map-map, outputs-counted, numbers-are, has-output}
 use Rattle.c_emitter.proofs.FlatOutputs.{OutputsAreRows}
 use Rattle.c_emitter.proofs.LawfulNames.{inputs-numbered, distinct-numbered, top-distinct, root-distinct, procedures-distinct}
 use Rattle.c_emitter.proofs.NameLaws.{letter-name}
-use Rattle.c_emitter.proofs.LawfulBodies.{AllLawful, lawful-append, AreShallow, shallow-append, shallow-map, field-number, out-lawful, update-lawful, reset-lawful, start-lawful, out-shallow, update-shallow, reset-shallow, start-shallow}
+use Rattle.c_emitter.proofs.LawfulBodies.{AllLawful, lawful-append, AreShallow, shallow-append, top-size, field-number, out-lawful, update-lawful, reset-lawful, start-lawful, out-shallow, update-shallow, reset-shallow, start-shallow}
 
 -- ---- Parameters
 
@@ -107,7 +106,9 @@ module _ (blocks : List Block) (earlier : List ProcedureTree) (params : ℕ) whe
   -- a call of a procedure that is there
   call-lawful : (j : ℕ) (need : Option ℕ) (p : ProcedureTree) → slice_get earlier j ≡ Some p → p.of ≡ 0 → length p.params ≡ suc (length (taken_ports blocks need)) → input_count blocks ≤ params → IsLawfulStmt (root_reach blocks earlier params) (call_top blocks j need)
   call-lawful j need p there of size enough = (
-    p, there, subst (λ k. IsStructAt (root_fields_of blocks) (top_place blocks) k) (sym of) root-top,
+    p,
+    there,
+    subst (λ k. IsStructAt (root_fields_of blocks) (top_place blocks) k) (sym of) root-top,
     (let reads = reads-length (taken_ports blocks need) in omega (arith, size, reads)),
     (root-number 0 (omega arith), reads-lawful (taken_ports blocks need) (ports-within need enough)),
   )
@@ -128,8 +129,8 @@ module _ (blocks : List Block) (earlier : List ProcedureTree) (params : ℕ) whe
   step-lawful outs update enough below =
       lawful-append (root_reach blocks earlier params) (function_calls blocks ++ (call_top blocks (update_place blocks) None ∷ output_copies blocks)) (next_now ∷ [])
       (lawful-append (root_reach blocks earlier params) (function_calls blocks) (call_top blocks (update_place blocks) None ∷ output_copies blocks)
-        (calls-lawful 0 (function_needs blocks) outs enough)
-        (call-lawful (update_place blocks) None (update_procedure blocks) update refl (ap suc (length-map (taken_ports blocks None) (λ k. int_param (input_name k)))) enough, copies-lawful 1 (output_rows blocks) below (omega arith)))
+      (calls-lawful 0 (function_needs blocks) outs enough)
+      (call-lawful (update_place blocks) None (update_procedure blocks) update refl (ap suc (length-map (taken_ports blocks None) (λ k. int_param (input_name k)))) enough, copies-lawful 1 (output_rows blocks) below (omega arith)))
       ((root-number 0 (omega arith), ((root-number 0 (omega arith), (1, refl, lit< tt)), (1, refl, lit< tt))), tt)
 
   pub root-start-lawful : slice_get earlier (update_place blocks + 1) ≡ Some (start_procedure blocks) → AllLawful (root_reach blocks earlier params) (root_start_body blocks)
@@ -237,8 +238,7 @@ module _ (blocks : List Block) (are : AreBlocks blocks) (below : OutputsAreRows 
   outs-there whole done rest j [] e size = tt
   outs-there whole done rest j (n ∷ ns) e size =
       let p : ProcedureTree = out_procedure blocks (j + 1) n in
-      let more = length-append done (p ∷ []) in
-      (
+      let more = length-append done (p ∷ []) in (
         ap (λ l. slice_get l j) e ∙ get-at done p (out_list blocks (j + 1 + 1) ns ++ rest) j size,
         outs-there whole (done ++ p ∷ []) rest (j + 1) ns (e ∙ sym (append_assoc done (p ∷ []) (out_list blocks (j + 1 + 1) ns ++ rest))) (omega (arith, more, size)),
       )
@@ -308,10 +308,10 @@ module _ (blocks : List Block) (are : AreBlocks blocks) (below : OutputsAreRows 
               params = inputs-distinct blocks None are.few_inputs;
               apart = inputs-apart (taken_ports blocks None) with_root_start root-start-others;
               body = step-lawful blocks with_root_start (length (input_params blocks None))
-                (outs-there with_root_start [] _ 0 (function_needs blocks) before-step refl)
-                (ap (λ l. slice_get l (update_place blocks)) before-step ∙ get-at os (update_procedure blocks) _ (update_place blocks) (length-outs blocks))
-                (let size = length-map (taken_ports blocks None) (λ k. int_param (input_name k)) in let all = ap length (all-ports blocks) in let range = length-range_with_len 1 (input_count blocks) in omega (arith, size, all, range))
-                below;
+                  (outs-there with_root_start [] _ 0 (function_needs blocks) before-step refl)
+                  (ap (λ l. slice_get l (update_place blocks)) before-step ∙ get-at os (update_procedure blocks) _ (update_place blocks) (length-outs blocks))
+                  (let size = length-map (taken_ports blocks None) (λ k. int_param (input_name k)) in let all = ap length (all-ports blocks) in let range = length-range_with_len 1 (input_count blocks) in omega (arith, size, all, range))
+                  below;
             },
             tt,
           ),
@@ -322,3 +322,122 @@ module _ (blocks : List Block) (are : AreBlocks blocks) (below : OutputsAreRows 
 
   procedures-lawful : AreProcedures [] structs [] (flat_procedures blocks)
   procedures-lawful = procedures-append structs [] os (later_procedures blocks) (outs-lawful [] 1 (function_needs blocks) tt) later-lawful
+
+  -- ---- Structs
+
+  kinds-lawful : (count : ℕ) (name : ℕ → List ℕ) (xs : List ℕ) (rest : List FieldTree) → AllByRecursion (λ f. IsLawfulKind count f.kind) rest → AllByRecursion (λ f. IsLawfulKind count f.kind) (map (λ b. int_field (name b)) xs ++ rest)
+  kinds-lawful count name [] rest all = all
+  kinds-lawful count name (x ∷ xs) rest all = (tt, kinds-lawful count name xs rest all)
+
+  top-kinds : AllByRecursion (λ f. IsLawfulKind 0 f.kind) (top_fields blocks)
+  top-kinds =
+      let m : List FieldTree = map (λ b. int_field (memory_name b)) (delay_rows blocks) in
+      let last : List FieldTree = record { name = counter_name; kind = Number U8 } ∷ [] in
+      subst (AllByRecursion (λ f. IsLawfulKind 0 f.kind)) (sym (append_assoc (map (λ b. int_field (value_name b)) (range_with_len 0 (length blocks))) m last))
+      (kinds-lawful 0 value_name (range_with_len 0 (length blocks)) (m ++ last) (kinds-lawful 0 memory_name (delay_rows blocks) last (tt, tt)))
+
+  -- each output is one of those without a gap
+  abbrev names : List (List ℕ)
+  names = number_names (root_fields_of blocks)
+
+  outputs-named : (k : ℕ) → 1 ≤ k → k < 1 + length (output_rows blocks) → may_be_named names true (output_name k) ≡ true
+  outputs-named k low high =
+      let n : ℕ = length (output_rows blocks) in
+      let there : has_name (output_names names) (output_name k) ≡ true =
+      ap (λ c. has_name (map output_name (numbers_from 1 c)) (output_name k)) (outputs-counted blocks outs) ∙ ap (λ l. has_name (map output_name l) (output_name k)) (numbers-are 1 n) ∙ has-output k 1 n low high (omega arith) in
+      or_right (not (looks_like_output (output_name k))) (true && has_name (output_names names) (output_name k)) there
+
+  outputs-may-be : (a n : ℕ) → 1 ≤ a → a + n ≤ 1 + length (output_rows blocks) → AllByRecursion (λ (f : FieldTree). may_be_named names (is_number f) f.name ≡ true) (map (λ k. int_field (output_name k)) (range_with_len a n) ++ record { name = system_name None; kind = Struct 0 } ∷ [])
+  outputs-may-be a zero low high = (refl, tt)
+  outputs-may-be a (suc n) low high = (outputs-named a low (omega arith), outputs-may-be (a + 1) n (omega arith) (omega arith))
+
+  structs-lawful : AreStructs 0 structs
+  structs-lawful = (
+    record {
+      fields = top-distinct blocks are.at_most outs functions;
+      some = (let size = top-size blocks in omega (arith, size));
+      kinds = top-kinds;
+      outputs = λ e. absurd (true≢false (sym e));
+    },
+    (
+      record {
+        fields = root-distinct blocks are.at_most outs functions;
+        some = omega arith;
+        kinds = (tt, kinds-lawful (0 + 1) output_name (range_with_len 1 (length (output_rows blocks))) (record { name = system_name None; kind = Struct 0 } ∷ []) (lit< tt, tt));
+        outputs = λ e. (refl, outputs-may-be 1 (length (output_rows blocks)) (omega arith) (omega arith));
+      },
+      tt,
+    ),
+  )
+
+  -- ---- Limits
+
+  fits : (p : ProcedureTree) (body : List StmtTree) (deep : ℕ) → p.body ≡ stmts_of_list body → length p.params ≤ 64 → deep ≤ 20 → AreShallow body deep → ProcedureFits p
+  fits p body deep e few small shallow = record {
+    params = few;
+    statements = (let s = shallow.statements in let same = ap stmts_depth e in omega (arith, s, same));
+    expressions = (let x = shallow.expressions in let same = ap stmts_exprs_depth e in omega (arith, x, same));
+  }
+
+  now-few : (need : Option ℕ) → length (int_param now_name ∷ input_params blocks need) ≤ 64
+  now-few need = let count = params-count need in let few = params-few need in omega (arith, count, few)
+
+  outs-fit : (j : ℕ) (ns : List ℕ) (rest : List ProcedureTree) → AllByRecursion ProcedureFits rest → AllByRecursion ProcedureFits (out_list blocks j ns ++ rest)
+  outs-fit j [] rest all = all
+  outs-fit j (n ∷ ns) rest all = (fits (out_procedure blocks j n) (out_body blocks n) 2 refl (now-few (Some n)) (lit≤ tt) (out-shallow blocks n), outs-fit (j + 1) ns rest all)
+
+  procedures-fit : AllByRecursion ProcedureFits (flat_procedures blocks)
+  procedures-fit = outs-fit 1 (function_needs blocks) (later_procedures blocks) (
+    fits (update_procedure blocks) (update_body blocks) 2 refl (now-few None) (lit≤ tt) (update-shallow blocks),
+    (
+      fits (start_procedure blocks) (start_body blocks) 1 refl (lit≤ tt) (lit≤ tt) (start-shallow blocks),
+      (
+        fits (reset_procedure blocks) (reset_body blocks) 1 refl (lit≤ tt) (lit≤ tt) (reset-shallow blocks),
+        (
+          fits (root_start_procedure blocks) (root_start_body blocks) 1 refl (lit≤ tt) (lit≤ tt) (record { statements = lit≤ tt; expressions = lit≤ tt }),
+          (
+            fits (root_step_procedure blocks) (step_body blocks) 1 refl (let size = length-map (taken_ports blocks None) (λ k. int_param (input_name k)) in let few = params-few None in omega (arith, size, few)) (lit≤ tt) (step-shallow blocks),
+            tt,
+          ),
+        ),
+      ),
+    ),
+  )
+
+  -- ---- The root
+
+  step-types : (ports : List ℕ) → AllByRecursion (λ (q : ParamTree). q.type ≢ I64) (map (λ k. int_param (input_name k)) ports)
+  step-types [] = tt
+  step-types (k ∷ ports) = ((λ e. cc e), step-types ports)
+
+  has-root : HasRoot (flat_program blocks)
+  has-root = record {
+    of = 1;
+    struct = record { name = root_name; fields = root_fields_of blocks };
+    struct_there = refl;
+    struct_name = refl;
+    start = update_place blocks + 3;
+    start_procedure = root_start_procedure blocks;
+    start_there = procedure-at blocks 3;
+    start_name = refl;
+    start_of = refl;
+    start_params = refl;
+    step = update_place blocks + 4;
+    step_procedure = root_step_procedure blocks;
+    step_there = procedure-at blocks 4;
+    step_name = refl;
+    step_of = refl;
+    step_params = step-types (taken_ports blocks None);
+  }
+
+  pub is-lawful : IsLawful (flat_program blocks)
+  is-lawful = record {
+    functions = procedures-distinct blocks are.at_most outs functions;
+    struct_names = (refl, refl, (refl, refl, tt));
+    pures = tt;
+    structs = structs-lawful;
+    procedures = procedures-lawful;
+    root = has-root;
+    chains = chains-small [] (flat_procedures blocks) 0 tt (let size = length-append os (later_procedures blocks) in let count = length-outs blocks in omega (arith, size, count));
+    limits = record { count = lit≤ tt; pures = tt; procedures = procedures-fit };
+  }

@@ -1,19 +1,19 @@
 -- The program for a diagram of one system stays within the bound, starts each field, and calls each function once.
 use Rattle.std.specs.Prelude.{◌≡◌, ℕ, zero, suc, ◌+◌, ◌*◌, ◌<◌, ◌≤◌, max, Bool, true, false, List, [], ◌∷◌, ◌++◌, map, filter, fold, length, count_by, Option, Some, None, ℤ, pos}
 use Rattle.std.specs.List.{range_with_len, AllByRecursion}
-use Rattle.std.proofs.Common.{refl, sym, ◌∙◌, ap, ap₂, subst, arith}
+use Rattle.std.proofs.Common.{sym, ◌∙◌, ap, ap₂, subst, arith}
 use Rattle.std.proofs.Math.Nat.{mul-le-mul_left}
 use Rattle.std.proofs.lemmas.List.Sorted.{IsPermutation-refl}
 use Rattle.mc_blocks.specs.Meaning.{has_value}
 use Rattle.mc_blocks.specs.Value.{greatest_in}
 use Rattle.mc_blocks.specs.declared.Op.{Op}
 use Rattle.mc_diagram.specs.declared.Row.{Row}
-use Rattle.mc_diagram.specs.Rows.{row_at, rows_of, numbers, outports_of}
+use Rattle.mc_diagram.specs.Rows.{row_at, outports_of}
 use Rattle.mc_diagram.specs.Diagram.{op_at}
 use Rattle.mc_diagram.specs.Run.{is_delay, start_of}
 use Rattle.mc_profile.specs.Systems.{systems, systems_inside}
-use Rattle.c_tree.specs.Cells.{Cells, value_at, fields_at}
-use Rattle.c_tree.specs.Machine.{LoggedCall, Outcome}
+use Rattle.c_tree.specs.Cells.{Cells, value_at}
+use Rattle.c_tree.specs.Machine.{LoggedCall}
 use Rattle.c_tree.specs.Rows.{TickRow, c_rows, start_run}
 use Rattle.c_emitter.specs.declared.block.Block.{Block}
 use Rattle.c_emitter.specs.Systems.{step_bound, IsTrace}
@@ -22,12 +22,12 @@ use Rattle.c_emitter.specs.Flat.{IsFlat}
 use Rattle.c_emitter.specs.Places.{path_to, place_in, cells_at}
 use Rattle.c_emitter.specs.Calls.{IsWholeTick, HasTopCalls, StoresOnce, stores_at}
 use Rattle.c_emitter.specs.Code.{StaysInBound, AtStart, Starts, top_number}
-use Rattle.c_emitter.specs.Blocks.{block_at, is_delay_block, start_value, memory_place, function_needs, output_rows}
+use Rattle.c_emitter.specs.Blocks.{block_at, is_delay_block, memory_place, function_needs, output_rows}
 use Rattle.c_emitter.specs.Bodies.{top_place, update_place}
 use Rattle.c_emitter.specs.FlatProgram.{flat_program}
-use Rattle.c_emitter.proofs.NumberCells.{number_cells, cells_with, item, value_at-number_cells, fields_at-cells_with}
+use Rattle.c_emitter.proofs.NumberCells.{number_cells, value_at-number_cells, fields_at-cells_with}
 use Rattle.c_emitter.proofs.Chosen.{all-chosen}
-use Rattle.c_emitter.proofs.BlockFacts.{AreBlocks, top_state, value-in_state, memory-in_state}
+use Rattle.c_emitter.proofs.BlockFacts.{top_state, value-in_state, memory-in_state}
 use Rattle.c_emitter.proofs.Costs.{step_cost, step-cost-le, outputs-few, functions-few}
 use Rattle.c_emitter.proofs.CallRuns.{top_call}
 use Rattle.c_emitter.proofs.StepRun.{root_state, step_log, step_stores}
@@ -36,7 +36,7 @@ use Rattle.c_emitter.proofs.RootStart.{zero_outputs, length-zero_outputs, root-s
 use Rattle.c_emitter.proofs.Places.{path-is, value-place, memory-is-at}
 use Rattle.c_emitter.proofs.FlatCalls.{stored-once, step-tally}
 use Rattle.c_emitter.proofs.OutPlaces.{functions-are-at, update-is-at, called-procedures}
-use Rattle.c_emitter.proofs.FlatRows.{diagram, view, RowView}
+use Rattle.c_emitter.proofs.FlatRows.{diagram, view}
 use Rattle.c_emitter.proofs.FlatBlocks.{blocks, same-length, are-blocks, own-rows, delay-is, start-is}
 use Rattle.c_emitter.proofs.FlatNeeds.{outputs-are}
 use Rattle.c_emitter.proofs.FlatOutputs.{tick_of, run-of, rows-of}

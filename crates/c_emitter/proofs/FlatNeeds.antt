@@ -1,15 +1,14 @@
 -- The outputs of a diagram of one system, and that it has no loop.
-use Rattle.std.specs.Prelude.{◌≡◌, ℕ, zero, suc, ◌+◌, ◌<◌, ◌≤◌, ◌⊎◌, Bool, true, false, not, ◌&&◌, ◌==◌, if◌then◌else◌, IsTrue, List, [], ◌∷◌, ◌++◌, map, filter, filter_map, find, length, Contains, Option, Some, None}
+use Rattle.std.specs.Prelude.{◌≡◌, ℕ, ◌<◌, Bool, true, false, ◌&&◌, ◌==◌, if◌then◌else◌, IsTrue, List, [], ◌∷◌, ◌++◌, filter_map, find, length, Contains, None}
 use Rattle.std.specs.List.{range_with_len}
 use Rattle.std.proofs.Common.{refl, sym, ◌∙◌, ap, ap₂, subst, arith, inl, inr, true≢false}
 use Rattle.std.proofs.Math.Path.{fun_ext}
-use Rattle.mc_blocks.specs.declared.Kind.TheVariants.{Inport, Outport, UnitDelay}
 use Rattle.mc_blocks.specs.declared.Op.{Op}
 use Rattle.mc_blocks.specs.Value.{feeds_through}
 use Rattle.mc_diagram.specs.declared.Row.{Row}
-use Rattle.mc_diagram.specs.Rows.{row_at, blank, around, is_outport, port_of, rows_of, outports_of}
+use Rattle.mc_diagram.specs.Rows.{row_at, blank, is_outport, port_of, outports_of}
 use Rattle.mc_diagram.specs.Diagram.{op_at}
-use Rattle.mc_diagram.specs.Needs.{needs_of, inputs_used, control_wires, Walk, IsLoop, HasNoLoop}
+use Rattle.mc_diagram.specs.Needs.{needs_of, inputs_used, control_wires, Walk, HasNoLoop}
 use Rattle.mc_diagram.specs.Run.{start_of}
 use Rattle.mc_diagram.proofs.Inside.{Contains-nil}
 use Rattle.mc_diagram.proofs.NeedsExamples.{of_one}

@@ -1,7 +1,7 @@
 -- The program for a diagram of one system gives the outputs of its run.
-use Rattle.std.specs.Prelude.{◌≡◌, ℕ, zero, suc, ◌+◌, ◌*◌, ◌-◌, ◌<◌, ◌≤◌, ◌^◌, Bool, true, false, List, [], ◌∷◌, ◌++◌, map, filter_map, length, slice_index_or, Option, Some, None, unwrap_or, replicate, codes, ℤ, pos, ◌≤ℤ◌}
+use Rattle.std.specs.Prelude.{◌≡◌, ℕ, zero, suc, ◌+◌, ◌<◌, ◌≤◌, Bool, true, false, List, [], ◌∷◌, map, filter_map, length, Option, Some, None, unwrap_or, replicate, ℤ, pos, ◌≤ℤ◌}
 use Rattle.std.specs.List.{cons_option, range_with_len, position_from, AllByRecursion, AllZip}
-use Rattle.std.proofs.Common.{refl, sym, ◌∙◌, ap, ap₂, subst, arith, cond, inl, inr}
+use Rattle.std.proofs.Common.{refl, sym, ◌∙◌, ap, ap₂, subst, arith, cond}
 use Rattle.std.proofs.lemmas.List.{length-map}
 use Rattle.std.proofs.lemmas.Int.{ints}
 use Rattle.std.proofs.lemmas.Bool.{and_from}
@@ -11,19 +11,18 @@ use Rattle.mc_fixed.specs.Types.{int32}
 use Rattle.mc_fixed.specs.Conversion.{InType}
 use Rattle.mc_blocks.specs.declared.Op.{Op}
 use Rattle.mc_diagram.specs.declared.Row.{Row}
-use Rattle.mc_diagram.specs.Rows.{outports_of}
 use Rattle.mc_diagram.specs.Diagram.{type_at}
 use Rattle.mc_diagram.specs.Laws.{HasOneRun}
 use Rattle.mc_diagram.proofs.OneRun.{one_run}
-use Rattle.mc_diagram.specs.Run.{IsRun, RunFrom, outs, start_of, values_by, memories_by}
+use Rattle.mc_diagram.specs.Run.{IsRun, RunFrom, outs, start_of, values_by}
 use Rattle.mc_profile.specs.Ports.{input_ports}
 use Rattle.mc_profile.specs.Systems.{input_row}
 use Rattle.c_tree.specs.declared.CType.TheVariants.{I32}
-use Rattle.c_tree.specs.Values.{is_in_type, least_of, greatest_of}
+use Rattle.c_tree.specs.Values.{least_of, greatest_of}
 use Rattle.c_tree.specs.Cells.{Cells, value_at}
 use Rattle.c_tree.specs.Machine.{After, Outcome, done, behind, program_routines, routine_at, Routine, Scope, run_stmts, field_types}
 use Rattle.c_tree.specs.Tree.{stmts_of_list}
-use Rattle.c_tree.specs.Rows.{TickRow, Rows, tick_row, rows_after, rows_from, rows_of_start, with_tick, c_rows, step_run, root_fields, output_fields, procedure_named}
+use Rattle.c_tree.specs.Rows.{TickRow, Rows, tick_row, rows_after, rows_from, rows_of_start, with_tick, c_rows, step_run}
 use Rattle.c_tree.proofs.Runs.{behind-nothing}
 use Rattle.c_emitter.specs.declared.block.Block.{Block}
 use Rattle.c_emitter.specs.Systems.{IsTrace, input_type_of}
@@ -41,7 +40,7 @@ use Rattle.c_emitter.proofs.StepRun.{root_state, step_log, step_stores, run-step
 use Rattle.c_emitter.proofs.Procedures.{root_step-place, later-routine, found-before, earlier_than, all-out-routines}
 use Rattle.c_emitter.proofs.OutputFields.{output-places, read-outputs}
 use Rattle.c_emitter.proofs.FlatRows.{diagram}
-use Rattle.c_emitter.proofs.FlatBlocks.{blocks, are-blocks, same-length, int-le}
+use Rattle.c_emitter.proofs.FlatBlocks.{blocks, are-blocks, int-le}
 use Rattle.c_emitter.proofs.FlatTicks.{block-tick, values-start, memories-start}
 use Rattle.c_emitter.proofs.FlatNeeds.{outputs-are, no-loop}
 use Rattle.c_emitter.proofs.StartRun.{start_values, start-value-at, length-start_values, start-int}
@@ -75,7 +74,7 @@ module _ (blocks : List Block) (are : AreBlocks blocks) (below : OutputsAreRows 
       ∙ ap (λ (r : Routine). r.run x cells 0) (later-routine blocks 4 (root_step_procedure blocks) refl)
       ∙ behind-nothing (run_stmts scope (stmts_of_list (step_body blocks)) cells 0)
       ∙ run-step blocks are x before v m n tick xs ms scope refl refl outputs size outs_size below few-functions (all-out-routines blocks (update_place blocks + 4) (omega arith)) found.0
-        (subst (λ k. routine_at (earlier_than blocks 4) k ≡ Rattle.c_tree.specs.Machine.routine_of (Rattle.c_emitter.specs.FlatProgram.flat_structs blocks) [] found.0 k (update_procedure blocks)) same found.1)
+      (subst (λ k. routine_at (earlier_than blocks 4) k ≡ Rattle.c_tree.specs.Machine.routine_of (Rattle.c_emitter.specs.FlatProgram.flat_structs blocks) [] found.0 k (update_procedure blocks)) same found.1)
 
   -- its row
   pub tick-row : (v n : List ℤ) (outputs : List ℤ) → length outputs ≡ length (output_rows blocks) →

@@ -1,7 +1,7 @@
 -- The rows of a diagram of one system as blocks.
-use Rattle.std.specs.Prelude.{◌≡◌, ℕ, zero, suc, ◌+◌, ◌<◌, ◌≤◌, Bool, true, false, not, ◌&&◌, ◌==◌, if◌then◌else◌, IsTrue, List, [], ◌∷◌, ◌++◌, map, filter, length, replicate, slice_index_or, Option, Some, None, ℤ, pos}
+use Rattle.std.specs.Prelude.{◌≡◌, ℕ, zero, suc, ◌<◌, Bool, false, IsTrue, List, [], ◌∷◌, map, length, slice_index_or, None}
 use Rattle.std.specs.List.{range_with_len, AllByRecursion}
-use Rattle.std.proofs.Common.{refl, sym, ◌∙◌, ap, ap₂, subst, arith, inl, inr}
+use Rattle.std.proofs.Common.{refl, ◌∙◌, ap, ap₂, arith}
 use Rattle.std.proofs.lemmas.List.{length-map, get_or-replicate}
 use Rattle.std.proofs.lemmas.List.FromFn.{length-range_with_len}
 use Rattle.mc_fixed.specs.Types.{int32}
@@ -17,10 +17,9 @@ use Rattle.mc_diagram.specs.Diagram.{Diagram, type_at, op_at, op_in}
 use Rattle.mc_diagram.specs.Run.{start_of, start_by}
 use Rattle.mc_diagram.proofs.ByRow.{by_row-at}
 use Rattle.mc_profile.specs.Systems.{first_wire}
-use Rattle.c_emitter.specs.declared.block.Block.{Block}
 use Rattle.c_emitter.specs.declared.block.Block.TheVariants.{Input, Output, Delay}
 use Rattle.c_emitter.specs.FlatDiagrams.{flat_diagram}
-use Rattle.c_emitter.specs.Flat.{is_source, HasOneSource, HasFlatKind, IsFlatRow, IsFlat}
+use Rattle.c_emitter.specs.Flat.{is_source, HasFlatKind, IsFlatRow, IsFlat}
 use Rattle.c_emitter.specs.Blocks.{no_block, block_by, blocks_of, block_at}
 
 -- what holds of all holds at a place
@@ -71,7 +70,7 @@ module _ (rows : List Row) (ops : List Op) where
             let delay : op_at diagram b ≡ op.Delay (quantize initial int32) = op-is b h ∙ ap (λ k. op_of k (map (type_at diagram.types) (row_at rows b).inputs) int32 false) e in
             delay_row initial one.0 e one.1 one.2 one.3 delay
             (block-is b h ∙ ap (λ k. block_by k (row_at rows b).inputs (start_of diagram b)) e
-              ∙ ap₂ (λ ws z. Delay (first_wire ws) z) one.1 (ap (λ o. start_by o (row_at rows b).kind (system_control rows (row_at rows b).owner) (type_at diagram.types b)) delay))
+            ∙ ap₂ (λ ws z. Delay (first_wire ws) z) one.1 (ap (λ o. start_by o (row_at rows b).kind (system_control rows (row_at rows b).owner) (type_at diagram.types b)) delay))
         by _ e nothing = absurd nothing
 
     pub blocks-length : length (blocks_of diagram) ≡ length rows

@@ -1,42 +1,32 @@
 -- Runs of a diagram of one system, by its blocks.
 use Rattle.std.specs.Prelude.{◌≡◌, ℕ, zero, suc, ◌+◌, ◌-◌, ◌%◌, ◌<◌, ◌≤◌, ◌⊎◌, Bool, true, false, not, ◌&&◌, ◌||◌, ◌==◌, if◌then◌else◌, IsTrue, List, [], ◌∷◌, ◌++◌, map, filter, filter_map, find, length, slice_index_or, Contains, Option, Some, None, ℤ, pos}
 use Rattle.std.specs.List.{range_with_len, position_from, AllByRecursion}
-use Rattle.std.proofs.Common.{refl, sym, ◌∙◌, ap, ap₂, subst, arith, inl, inr, cond, true≢false}
-use Rattle.std.proofs.Math.Path.{fun_ext}
+use Rattle.std.proofs.Common.{refl, sym, ◌∙◌, ap, ap₂, subst, arith, cond, true≢false}
 use Rattle.std.proofs.Math.Bool.{and-false, and-true}
 use Rattle.std.proofs.lemmas.List.{length-map}
 use Rattle.std.proofs.lemmas.List.FromFn.{length-range_with_len}
 use Rattle.std.proofs.lemmas.Bool.{eq-eqb}
-use Rattle.mc_fixed.specs.Types.{int32}
-use Rattle.mc_fixed.specs.Conversion.{quantize}
 use Rattle.mc_guards.specs.declared.TrigMem.{TrigMem}
 use Rattle.mc_base.specs.declared.Port.TheVariants.{Number}
 use Rattle.mc_blocks.specs.declared.Kind.{Kind}
 use Rattle.mc_blocks.specs.declared.Kind.TheVariants.{Inport, Outport, UnitDelay}
 use Rattle.mc_blocks.specs.declared.Op.{Op}
-use Rattle.mc_blocks.specs.declared.Op.TheVariants.{Copy}
-use Rattle.mc_blocks.specs.declared.Op.TheVariants as op
 use Rattle.mc_blocks.specs.Meaning.{has_value}
 use Rattle.mc_blocks.specs.Value.{rhs, input}
 use Rattle.mc_diagram.specs.declared.Row.{Row}
-use Rattle.mc_diagram.specs.Rows.{row_at, by_row, numbers, around, outward, enclosing, is_inport, is_outport, is_inport_of, same_system, port_of, column, rows_of, by_port, outports_of}
+use Rattle.mc_diagram.specs.Rows.{row_at, numbers, around, outward, enclosing, is_inport, is_inport_of, same_system, port_of, column}
 use Rattle.mc_diagram.specs.SampleTimes.{hit, every_tick}
 use Rattle.mc_diagram.specs.Diagram.{Diagram, op_at, time_at}
-use Rattle.mc_diagram.specs.Needs.{needs_of, inputs_used, control_wires, Walk, IsLoop, HasNoLoop}
-use Rattle.mc_diagram.specs.Run.{value_at, is_delay, start_of, runs, input_values, is_reset_outport, is_disabled, row_value, row_memory, any_off, active_in, values_by, memories_by, has_memory, IsTick}
-use Rattle.mc_diagram.proofs.ByRow.{by_row-at}
+use Rattle.mc_diagram.specs.Run.{value_at, is_delay, start_of, runs, input_values, is_reset_outport, is_disabled, row_value, any_off, active_in, values_by, memories_by, has_memory, IsTick}
 use Rattle.mc_diagram.proofs.Equations.{value-of_row, memory-of_row}
-use Rattle.mc_diagram.proofs.Inside.{Contains-nil}
-use Rattle.mc_diagram.proofs.NeedsExamples.{of_one}
 use Rattle.c_emitter.specs.declared.block.Block.{Block}
 use Rattle.c_emitter.specs.declared.block.Block.TheVariants.{Input, Output, Delay}
-use Rattle.c_emitter.specs.Flat.{is_source, IsFlat}
-use Rattle.c_emitter.specs.Blocks.{block_at, blocks_of, is_output, is_delay_block, start_value, is_output_of, output_row, output_rows}
-use Rattle.c_emitter.proofs.NumberCells.{item}
+use Rattle.c_emitter.specs.Flat.{IsFlat}
+use Rattle.c_emitter.specs.Blocks.{block_at, is_delay_block, start_value}
 use Rattle.c_emitter.proofs.BlockTicks.{TickAt, IsBlockTick}
 use Rattle.c_emitter.proofs.StartRun.{start_values}
-use Rattle.c_emitter.proofs.FlatRows.{diagram, RowView, input_row, output_row as output_view, delay_row, view, root-row, blocks-length}
-use Rattle.c_emitter.proofs.FlatBlocks.{blocks, same-length, output-is, output-kind, delay-is, start-is, output-rows-unordered}
+use Rattle.c_emitter.proofs.FlatRows.{diagram, RowView, input_row, output_row as output_view, delay_row, view, root-row}
+use Rattle.c_emitter.proofs.FlatBlocks.{blocks, same-length, delay-is, start-is}
 
 -- no subsystem is around a row of the root
 pub around-none : (rows : List Row) (b : ℕ) → (row_at rows b).owner ≡ None → around rows None b ≡ []

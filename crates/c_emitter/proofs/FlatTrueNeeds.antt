@@ -1,22 +1,22 @@
 -- The needs of the outputs of a diagram of one system.
-use Rattle.std.specs.Prelude.{◌≡◌, ◌≢◌, ℕ, zero, suc, ◌+◌, ◌-◌, ◌^◌, ◌<◌, ◌≤◌, ◌⊎◌, ◌↔◌, Bool, true, false, not, ◌&&◌, ◌==◌, if◌then◌else◌, IsTrue, List, [], ◌∷◌, ◌++◌, map, filter, length, slice_index_or, bit_and, IsBitSet, Contains, Option, Some, None}
+use Rattle.std.specs.Prelude.{◌≡◌, ℕ, suc, ◌+◌, ◌-◌, ◌^◌, ◌<◌, ◌≤◌, Bool, true, false, not, ◌&&◌, ◌==◌, if◌then◌else◌, IsTrue, List, [], ◌∷◌, ◌++◌, map, filter, length, slice_index_or, bit_and, IsBitSet, Contains, Some, None}
 use Rattle.std.specs.List.{AllZip, AllByRecursion, position_from, range_with_len}
 use Rattle.std.proofs.Common.{refl, sym, ◌∙◌, ap, ap₂, subst, arith, inl, inr, true≢false, cond, lit<}
 use Rattle.std.proofs.Math.Pow.{pow-lt}
 use Rattle.std.proofs.lemmas.Bool.{not-true, eqb-false, ne_eqb}
 use Rattle.std.proofs.lemmas.Bool.Decides.{eqb_tells}
-use Rattle.mc_base.specs.declared.Port.TheVariants.{Number, Enable, Trigger}
+use Rattle.mc_base.specs.declared.Port.TheVariants.{Number}
 use Rattle.mc_blocks.specs.declared.Kind.TheVariants.{Inport, Outport, UnitDelay}
 use Rattle.mc_blocks.specs.declared.Op.{Op}
 use Rattle.mc_blocks.specs.Value.{feeds_through}
 use Rattle.mc_diagram.specs.declared.Row.{Row}
-use Rattle.mc_diagram.specs.Rows.{row_at, around, around_inside, is_inport, is_outport, is_inport_of, is_system, same_system, outports_of}
+use Rattle.mc_diagram.specs.Rows.{row_at, is_inport, is_outport, is_inport_of, is_system, same_system}
 use Rattle.mc_diagram.specs.Needs.{needs_inside, inputs_used, control_wires, Walk, Reaches, IsInputRow, TrueNeeds, IsMaskOf, AreTrueNeeds}
 use Rattle.mc_diagram.proofs.Inside.{Contains-nil}
 use Rattle.mc_diagram.proofs.NeedsExamples.{of_one}
 use Rattle.mc_profile.specs.Ports.{has_bit}
 use Rattle.c_emitter.specs.declared.block.Block.{Block}
-use Rattle.c_emitter.specs.declared.block.Block.TheVariants.{Input, Output, Delay}
+use Rattle.c_emitter.specs.declared.block.Block.TheVariants.{Input}
 use Rattle.c_emitter.specs.Flat.{is_source, IsFlat}
 use Rattle.c_emitter.specs.Blocks.{no_block, block_at, source_of, source_need, need_of, is_output_of, output_count, output_row, output_rows, output_needs}
 use Rattle.c_emitter.proofs.BlockFacts.{IsWellMade}
@@ -115,13 +115,13 @@ module _ (rows : List Row) (ops : List Op) (flat : IsFlat (diagram rows ops)) wh
     number = λ k positive few. (
       λ set. elim (eqb_tells (p - 1) (k - 1)) [
         | inl here ↦
-          let same : p ≡ k = (let h : p - 1 ≡ k - 1 = here.1 in omega arith) in
-          (c, record { in_table = below; is_inport = source ∙ ap Inport same; is_own = root-row rows ops flat c below }, reaches-source o c e)
+            let same : p ≡ k = (let h : p - 1 ≡ k - 1 = here.1 in omega arith) in
+            (c, record { in_table = below; is_inport = source ∙ ap Inport same; is_own = root-row rows ops flat c below }, reaches-source o c e)
         | inr there ↦ absurd (bit-clear (2 ^ (p - 1)) (k - 1) (has_bit-other (p - 1) (k - 1) there.1) set)
       ],
       λ n.
-        let same : p ≡ k = cc (sym source ∙ needed-input o c k port reset initial kind e f n) in
-        subst (λ q. IsBitSet (2 ^ (p - 1)) (q - 1)) same (bit-set (2 ^ (p - 1)) (p - 1) (has_bit-same (p - 1))),
+          let same : p ≡ k = cc (sym source ∙ needed-input o c k port reset initial kind e f n) in
+          subst (λ q. IsBitSet (2 ^ (p - 1)) (q - 1)) same (bit-set (2 ^ (p - 1)) (p - 1) (has_bit-same (p - 1))),
     );
     enable = (λ set. absurd (bit-clear (2 ^ (p - 1)) 32 (has_bit-other (p - 1) 32 (omega arith)) set), λ n. absurd (true≢false (sym n)));
     trigger = (λ set. absurd (bit-clear (2 ^ (p - 1)) 33 (has_bit-other (p - 1) 33 (omega arith)) set), λ n. absurd (true≢false (sym n)));

@@ -1,26 +1,25 @@
 -- The inputs of a diagram of one system, by port.
-use Rattle.std.specs.Prelude.{◌≡◌, ◌≢◌, ℕ, zero, suc, ◌+◌, ◌-◌, ◌<◌, ◌≤◌, Bool, true, false, ◌==◌, List, [], ◌∷◌, ◌++◌, map, filter, filter_map, find, length, slice_index_or, Option, Some, None}
-use Rattle.std.specs.List.{cons_option, range_with_len, list_any, AllByRecursion}
+use Rattle.std.specs.Prelude.{◌≡◌, ℕ, zero, suc, ◌+◌, ◌-◌, ◌<◌, ◌≤◌, Bool, true, false, ◌==◌, List, [], ◌∷◌, map, filter_map, find, length, Some, None}
+use Rattle.std.specs.List.{range_with_len, AllByRecursion}
 use Rattle.std.proofs.Common.{refl, sym, ◌∙◌, ap, subst, arith, cond, true≢false}
 use Rattle.std.proofs.lemmas.Bool.{eq-eqb}
 use Rattle.std.proofs.lemmas.List.{append-nil}
 use Rattle.std.proofs.lemmas.List.FromFn.{length-range_with_len}
 use Rattle.mc_base.specs.declared.Port.TheVariants.{Number}
-use Rattle.mc_blocks.specs.declared.Kind.TheVariants.{Inport}
 use Rattle.mc_blocks.specs.declared.Op.{Op}
 use Rattle.mc_diagram.specs.declared.Row.{Row}
-use Rattle.mc_diagram.specs.Rows.{row_at, is_inport, port_of, rows_of, inports_of}
+use Rattle.mc_diagram.specs.Rows.{row_at, port_of, inports_of}
 use Rattle.mc_profile.specs.Ports.{input_ports}
 use Rattle.mc_profile.specs.Systems.{input_row}
 use Rattle.c_emitter.specs.declared.block.Block.{Block}
 use Rattle.c_emitter.specs.declared.block.Block.TheVariants.{Input, Output, Delay}
 use Rattle.c_emitter.specs.Flat.{IsFlat}
 use Rattle.c_emitter.specs.Blocks.{block_at, is_input, port_of_input, rows_below, input_count}
-use Rattle.c_emitter.proofs.BlockFacts.{IsWellMade, AreBlocks}
+use Rattle.c_emitter.proofs.BlockFacts.{IsWellMade}
 use Rattle.c_emitter.proofs.Members.{Has, has-range}
-use Rattle.c_emitter.proofs.Pigeons.{IsGiven, each-port, found-of, length-found}
+use Rattle.c_emitter.proofs.Pigeons.{each-port, found-of, length-found}
 use Rattle.c_emitter.proofs.Chosen.{all-chosen}
-use Rattle.c_emitter.proofs.FlatRows.{diagram, view, RowView, holds-at}
+use Rattle.c_emitter.proofs.FlatRows.{diagram, view, holds-at}
 use Rattle.c_emitter.proofs.FlatBlocks.{blocks, same-length, are-blocks, input-rows, input-kind}
 use Rattle.c_emitter.proofs.FlatOutputs.{all-found}
 
@@ -90,8 +89,8 @@ module _ (rows : List Row) (ops : List Op) (flat : IsFlat (diagram rows ops)) wh
   inports-are-rows =
       subst (AllByRecursion (λ c. c < length rows)) (sym inports-by)
       (all-found (λ k. find (λ b. port_of (row_at rows b).kind == k) own) (λ c. c < length rows) (range_with_len 1 (input_count bs)) (λ k c e.
-        find-member (λ b. port_of (row_at rows b).kind == k) (λ c. c < length rows) own c
-          (all-chosen (λ b. is_input (block_at bs b)) (λ c. c < length rows) 0 (length bs) (λ b low high passes. let same = same-length rows ops flat in omega (arith, same))) e))
+      find-member (λ b. port_of (row_at rows b).kind == k) (λ c. c < length rows) own c
+      (all-chosen (λ b. is_input (block_at bs b)) (λ c. c < length rows) 0 (length bs) (λ b low high passes. let same = same-length rows ops flat in omega (arith, same))) e))
 
   -- the row of an input is one of the table
   pub input-row-within : (k : ℕ) → 1 ≤ k → k < 1 + input_count bs → input_row rows None (Number k) < length rows

@@ -1,26 +1,24 @@
 -- The bodies of the procedures of `top` read and store number fields, and stay within the limits.
-use Rattle.std.specs.Prelude.{◌≡◌, ◌≢◌, ℕ, zero, suc, ◌+◌, ◌-◌, ◌<◌, ◌≤◌, ◌^◌, max, Bool, true, false, not, ◌&&◌, ◌==◌, List, [], ◌∷◌, ◌++◌, map, filter, length, slice_get, Option, Some, None, ℤ, pos, negsuc, int_le}
+use Rattle.std.specs.Prelude.{◌≡◌, ℕ, zero, suc, ◌+◌, ◌-◌, ◌<◌, ◌≤◌, ◌^◌, true, List, [], ◌∷◌, ◌++◌, map, filter, length, Some, None, ℤ, pos, negsuc}
 use Rattle.std.specs.List.{range_with_len, AllByRecursion}
-use Rattle.std.proofs.Common.{refl, sym, ◌∙◌, ap, ap₂, subst, arith, cond, inl, inr, true≢false, lit<}
+use Rattle.std.proofs.Common.{refl, sym, ◌∙◌, ap, subst, arith, true≢false, lit<}
 use Rattle.std.proofs.lemmas.List.{length-map, length-append, append_assoc}
 use Rattle.std.proofs.lemmas.List.FromFn.{length-range_with_len}
-use Rattle.std.proofs.lemmas.Bool.{and_parts, not-true, eqb-true, leb-true, cases_lt}
-use Rattle.c_tree.specs.declared.Leaf.TheVariants.{Param, Own, Child}
+use Rattle.std.proofs.lemmas.Bool.{and_parts, eqb-true, leb-true}
 use Rattle.c_tree.specs.declared.FieldKind.TheVariants.{Number}
 use Rattle.c_tree.specs.declared.CType.TheVariants.{U8}
-use Rattle.c_tree.specs.Tree.{ExprTree, literal, neg, read, binary, CondTree, StmtTree, assign, branch, call, StmtTrees, no_stmts, more_stmts, stmts_of_list, StructTree, PureTree, ProcedureTree, FieldTree}
+use Rattle.c_tree.specs.Tree.{StmtTree, stmts_of_list, StructTree, ProcedureTree, FieldTree}
 use Rattle.c_tree.specs.Rows.{is_number}
 use Rattle.c_tree.specs.Lawful.{Reach, IsNumberAt, IsLawfulExpr, IsLawfulStmt, AreLawfulStmts}
 use Rattle.c_tree.specs.Reading.{expr_depth, stmts_depth, stmts_exprs_depth, stmt_depth, stmt_exprs_depth}
 use Rattle.c_emitter.specs.declared.block.Block.{Block}
 use Rattle.c_emitter.specs.declared.block.Block.TheVariants.{Input, Output, Delay}
 use Rattle.c_emitter.specs.Names.{value_name, memory_name}
-use Rattle.c_emitter.specs.Blocks.{block_at, is_input, is_output, is_delay_block, port_of_input, source_of, start_value, input_count, memory_place, counter_place, delay_rows, source_need, is_taken_in, is_given_in, is_held_input, is_unheld}
-use Rattle.c_emitter.specs.Bodies.{number_expr, value_expr, store_value, store_by_port, store_memory, start_row, start_memory, hit_test, idle_test, set_counter, taken_stores, given_stores, out_body, held_stores, unheld_stores, memory_stores, update_body, reset_body, start_body, is_delay_row, taken_ports}
+use Rattle.c_emitter.specs.Blocks.{block_at, is_output, is_delay_block, port_of_input, source_of, start_value, input_count, memory_place, counter_place, delay_rows, source_need, is_taken_in, is_given_in, is_held_input, is_unheld}
+use Rattle.c_emitter.specs.Bodies.{number_expr, value_expr, store_value, store_by_port, store_memory, start_row, start_memory, hit_test, idle_test, set_counter, taken_stores, given_stores, out_body, unheld_stores, memory_stores, update_body, reset_body, start_body, is_delay_row, taken_ports}
 use Rattle.c_emitter.specs.FlatProgram.{counter_name, int_field, top_fields}
 use Rattle.c_emitter.proofs.Chosen.{all-chosen}
-use Rattle.c_emitter.proofs.Sequences.{stmts_of_list-append}
-use Rattle.c_emitter.proofs.BlockFacts.{IsSource, IsWellMade, AreBlocks, memory-within}
+use Rattle.c_emitter.proofs.BlockFacts.{IsWellMade, AreBlocks, memory-within}
 use Rattle.c_emitter.proofs.BlockTicks.{IsInt}
 use Rattle.c_emitter.proofs.StartRun.{start-int, all-range}
 use Rattle.c_emitter.proofs.Ports.{single-port, all-ports}
@@ -71,7 +69,7 @@ all-numbers name [] rest all = all
 all-numbers name (x ∷ xs) rest all = (refl, all-numbers name xs rest all)
 
 module _ (blocks : List Block) where
-  top-size : length (top_fields blocks) ≡ counter_place blocks + 1
+  pub top-size : length (top_fields blocks) ≡ counter_place blocks + 1
   top-size =
       let v : List FieldTree = map (λ b. int_field (value_name b)) (range_with_len 0 (length blocks)) in
       let m : List FieldTree = map (λ b. int_field (memory_name b)) (delay_rows blocks) in
@@ -169,11 +167,11 @@ module _ (blocks : List Block) (are : AreBlocks blocks) (structs : List StructTr
     (
       hit-lawful (omega (arith, size)),
       lawful-append reach (taken_stores blocks need) (given_stores blocks need)
-      (lawful-map reach (store_value blocks 1) _ (all-chosen (is_taken_in blocks need) _ 0 (length blocks) (λ b low high passes.
-        let within : b < length blocks = omega arith in
-        store-lawful 1 b within (taken-param need (block_at blocks b) size (are.each b within) (eqb-true _ _ (and_parts _ _ passes).1)))))
-      (lawful-map reach (store_value blocks 1) _ (all-chosen (is_given_in blocks need) _ 0 (length blocks) (λ b low high passes.
-        store-lawful 1 b (omega arith) (output-param (block_at blocks b) 1 (and_parts _ _ passes).0)))),
+          (lawful-map reach (store_value blocks 1) _ (all-chosen (is_taken_in blocks need) _ 0 (length blocks) (λ b low high passes.
+          let within : b < length blocks = omega arith in
+          store-lawful 1 b within (taken-param need (block_at blocks b) size (are.each b within) (eqb-true _ _ (and_parts _ _ passes).1)))))
+          (lawful-map reach (store_value blocks 1) _ (all-chosen (is_given_in blocks need) _ 0 (length blocks) (λ b low high passes.
+          store-lawful 1 b (omega arith) (output-param (block_at blocks b) 1 (and_parts _ _ passes).0)))),
       tt,
     ),
     (counter-lawful 1 (lit< tt), tt),
@@ -199,8 +197,8 @@ module _ (blocks : List Block) (are : AreBlocks blocks) (structs : List StructTr
       (
         hit-lawful (omega (arith, size)),
         lawful-append reach (unheld_stores blocks) (memory_stores blocks)
-        (lawful-map reach (store_by_port blocks) _ (all-chosen (is_unheld blocks) _ 0 (length blocks) (λ b low high passes. by-port-lawful size b (omega arith))))
-        (lawful-map reach (store_memory blocks) _ (all-chosen (is_delay_row blocks) _ 0 (length blocks) (λ b low high passes. memory-lawful b (omega arith) passes))),
+            (lawful-map reach (store_by_port blocks) _ (all-chosen (is_unheld blocks) _ 0 (length blocks) (λ b low high passes. by-port-lawful size b (omega arith))))
+            (lawful-map reach (store_memory blocks) _ (all-chosen (is_delay_row blocks) _ 0 (length blocks) (λ b low high passes. memory-lawful b (omega arith) passes))),
         tt,
       ),
       (counter-lawful 0 (lit< tt), tt),
@@ -213,16 +211,16 @@ module _ (blocks : List Block) (are : AreBlocks blocks) (structs : List StructTr
   reset-lawful =
       lawful-append reach (map (start_memory blocks) (filter (is_delay_row blocks) (range_with_len 0 (length blocks)))) (set_counter blocks (pos 0) ∷ [])
       (lawful-map reach (start_memory blocks) _ (all-chosen (is_delay_row blocks) _ 0 (length blocks) (λ b low high passes.
-        let within : b < length blocks = omega arith in
-        (memory-number b within passes, number-lawful reach (start_value (block_at blocks b)) (start-int blocks are b within)))))
+      let within : b < length blocks = omega arith in
+      (memory-number b within passes, number-lawful reach (start_value (block_at blocks b)) (start-int blocks are b within)))))
       (counter-lawful 0 (lit< tt), tt)
 
   pub start-lawful : AllLawful reach (start_body blocks)
   start-lawful =
       lawful-append reach (map (start_row blocks) (range_with_len 0 (length blocks))) (reset_body blocks)
       (lawful-map reach (start_row blocks) _ (all-range _ 0 (length blocks) (λ b low high.
-        let within : b < length blocks = omega arith in
-        (row-number b within, number-lawful reach (start_value (block_at blocks b)) (start-int blocks are b within)))))
+      let within : b < length blocks = omega arith in
+      (row-number b within, number-lawful reach (start_value (block_at blocks b)) (start-int blocks are b within)))))
       reset-lawful
 
 -- ---- Depths

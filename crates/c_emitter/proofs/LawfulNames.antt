@@ -1,21 +1,21 @@
 -- The names of the program for a diagram of one system are names, and differ.
-use Rattle.std.specs.Prelude.{◌≡◌, ◌≢◌, ℕ, zero, suc, ◌+◌, ◌<◌, ◌≤◌, ◌^◌, ◌⊎◌, Bool, true, false, not, ◌&&◌, ◌||◌, ◌==◌, List, [], ◌∷◌, ◌++◌, map, filter, length, Option, Some, None, decimal, bytes_eq, codes}
-use Rattle.std.specs.List.{range_with_len, enumerate_from, list_any, AllByRecursion}
-use Rattle.std.proofs.Common.{refl, sym, ◌∙◌, ap, ap₂, subst, arith, cond, inl, inr, true≢false}
-use Rattle.std.proofs.lemmas.List.{map-append, append_assoc, append-nil}
+use Rattle.std.specs.Prelude.{◌≡◌, ℕ, zero, suc, ◌+◌, ◌<◌, ◌≤◌, ◌^◌, Bool, true, false, ◌||◌, List, [], ◌∷◌, ◌++◌, map, filter, length, None, bytes_eq}
+use Rattle.std.specs.List.{range_with_len}
+use Rattle.std.proofs.Common.{refl, sym, ◌∙◌, ap, ap₂, subst, arith, cond}
+use Rattle.std.proofs.lemmas.List.{map-append, append_assoc}
 use Rattle.std.proofs.lemmas.Bool.{ne_eqb, or_from}
 use Rattle.c_tree.specs.Tokens.{is_name}
 use Rattle.c_tree.specs.Outputs.{has_name}
-use Rattle.c_tree.specs.Tree.{FieldTree, ParamTree, ProcedureTree}
-use Rattle.c_tree.specs.Lawful.{AreDistinct, AreApart, param_names, procedure_names}
+use Rattle.c_tree.specs.Tree.{FieldTree, ProcedureTree}
+use Rattle.c_tree.specs.Lawful.{AreDistinct, procedure_names}
 use Rattle.c_tree.specs.declared.CType.TheVariants.{U8}
 use Rattle.c_tree.specs.declared.FieldKind.TheVariants.{Number, Struct}
 use Rattle.mc_profile.specs.Systems.{system_name}
 use Rattle.c_emitter.specs.declared.block.Block.{Block}
 use Rattle.c_emitter.specs.Names.{value_name, memory_name, now_name, input_name, output_name, out_name, update_name, start_name, reset_name, root_start_name, root_step_name}
 use Rattle.c_emitter.specs.Blocks.{delay_rows, output_rows, function_needs}
-use Rattle.c_emitter.specs.Bodies.{takes, taken_ports, is_delay_row}
-use Rattle.c_emitter.specs.FlatProgram.{counter_name, int_field, top_fields, root_fields_of, int_param, input_params, out_procedures, flat_procedures}
+use Rattle.c_emitter.specs.Bodies.{is_delay_row}
+use Rattle.c_emitter.specs.FlatProgram.{counter_name, int_field, top_fields, root_fields_of, out_procedures, flat_procedures}
 use Rattle.c_emitter.proofs.NameFacts.{AreNumbered, numbered-names}
 use Rattle.c_emitter.proofs.NameLaws.{letter-name, out-name}
 use Rattle.c_emitter.proofs.Ports.{filter-all}
@@ -80,21 +80,20 @@ module _ (blocks : List Block) (rows : length blocks ≤ 20000) (outs : length (
       let m : List FieldTree = map (λ b. int_field (memory_name b)) (delay_rows blocks) in
       let last : List FieldTree = record { name = counter_name; kind = Number U8 } ∷ [] in
       let names : map (λ (f : FieldTree). f.name) (v ++ m ++ last) ≡ map value_name (range_with_len 0 (length blocks)) ++ (map memory_name (delay_rows blocks) ++ counter_name ∷ []) =
-        ap (map (λ (f : FieldTree). f.name)) (append_assoc v m last)
-        ∙ map-append (λ (f : FieldTree). f.name) v (m ++ last)
-        ∙ ap₂ ◌++◌ (field-names value_name (range_with_len 0 (length blocks))) (map-append (λ (f : FieldTree). f.name) m last ∙ ap (λ l. l ++ counter_name ∷ []) (field-names memory_name (delay_rows blocks))) in
+      ap (map (λ (f : FieldTree). f.name)) (append_assoc v m last)
+      ∙ map-append (λ (f : FieldTree). f.name) v (m ++ last)
+      ∙ ap₂ ◌++◌ (field-names value_name (range_with_len 0 (length blocks))) (map-append (λ (f : FieldTree). f.name) m last ∙ ap (λ l. l ++ counter_name ∷ []) (field-names memory_name (delay_rows blocks))) in
       subst AreDistinct (sym names)
       (distinct-range value_name values-numbered (λ b h. letter-name 118 b h refl) 0 (length blocks) _ (omega arith)
-        (λ b. has-name-append (map memory_name (delay_rows blocks)) (counter_name ∷ []) (value_name b) ∙ or_from _ _ (no-name memory_name (value_name b) (delay_rows blocks) (λ c. refl)) refl)
-        (distinct-numbered memory_name memories-numbered (λ b h. letter-name 109 b h refl) (is_delay_row blocks) 0 (length blocks) (counter_name ∷ []) (omega arith) (λ b. refl) (refl, refl, tt)))
+      (λ b. has-name-append (map memory_name (delay_rows blocks)) (counter_name ∷ []) (value_name b) ∙ or_from _ _ (no-name memory_name (value_name b) (delay_rows blocks) (λ c. refl)) refl)
+      (distinct-numbered memory_name memories-numbered (λ b h. letter-name 109 b h refl) (is_delay_row blocks) 0 (length blocks) (counter_name ∷ []) (omega arith) (λ b. refl) (refl, refl, tt)))
 
   pub root-distinct : AreDistinct (map (λ (f : FieldTree). f.name) (root_fields_of blocks))
   root-distinct =
       let ys : List FieldTree = map (λ k. int_field (output_name k)) (range_with_len 1 (length (output_rows blocks))) in
       let last : List FieldTree = record { name = system_name None; kind = Struct 0 } ∷ [] in
       let names : map (λ (f : FieldTree). f.name) (ys ++ last) ≡ map output_name (range_with_len 1 (length (output_rows blocks))) ++ system_name None ∷ [] =
-        map-append (λ (f : FieldTree). f.name) ys last ∙ ap (λ l. l ++ system_name None ∷ []) (field-names output_name (range_with_len 1 (length (output_rows blocks)))) in
-      (
+      map-append (λ (f : FieldTree). f.name) ys last ∙ ap (λ l. l ++ system_name None ∷ []) (field-names output_name (range_with_len 1 (length (output_rows blocks)))) in (
         refl,
         ap (λ l. has_name l now_name) names ∙ has-name-append (map output_name (range_with_len 1 (length (output_rows blocks)))) (system_name None ∷ []) now_name ∙ or_from _ _ (no-name output_name now_name (range_with_len 1 (length (output_rows blocks))) (λ c. refl)) refl,
         subst AreDistinct (sym names) (distinct-range output_name outputs-numbered (λ b h. letter-name 121 b h refl) 1 (length (output_rows blocks)) (system_name None ∷ []) (omega arith) (λ b. refl) (refl, refl, tt)),
@@ -110,7 +109,7 @@ module _ (blocks : List Block) (rows : length blocks ≤ 20000) (outs : length (
   procedures-distinct =
       let later : List (List ℕ) = update_name None ∷ start_name None ∷ reset_name None ∷ root_start_name ∷ root_step_name ∷ [] in
       let names : procedure_names (flat_procedures blocks) ≡ map (out_name None) (range_with_len 1 (length (function_needs blocks))) ++ later =
-        map-append (λ (q : ProcedureTree). q.name) (out_procedures blocks) (later_procedures blocks) ∙ ap (λ l. l ++ later) (out-names 1 (function_needs blocks)) in
+      map-append (λ (q : ProcedureTree). q.name) (out_procedures blocks) (later_procedures blocks) ∙ ap (λ l. l ++ later) (out-names 1 (function_needs blocks)) in
       subst AreDistinct (sym names)
       (distinct-range (out_name None) outs-numbered out-name 1 (length (function_needs blocks)) later (omega arith) (λ b. refl)
-        (refl, refl, (refl, refl, (refl, refl, (refl, refl, (refl, refl, tt))))))
+      (refl, refl, (refl, refl, (refl, refl, (refl, refl, (refl, refl, tt))))))

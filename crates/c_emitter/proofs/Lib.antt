@@ -36,3 +36,4 @@ pub mod NameLaws
 pub mod LawfulNames
 pub mod LawfulBodies
 pub mod FlatLawful
+pub mod FlatCode

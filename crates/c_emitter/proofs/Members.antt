@@ -1,13 +1,13 @@
 -- Which rows the functions hold.
-use Rattle.std.specs.Prelude.{◌≡◌, ◌≢◌, ℕ, zero, suc, ◌+◌, ◌<◌, ◌≤◌, ◌⊎◌, Bool, true, false, not, ◌&&◌, ◌||◌, ◌==◌, List, [], ◌∷◌, ◌++◌, map, filter, filter_map, flat_map, length, slice_index_or, Option, Some, None}
-use Rattle.std.specs.List.{cons_option, range_with_len, list_any, position_from, AllByRecursion}
+use Rattle.std.specs.Prelude.{◌≡◌, ◌≢◌, ℕ, zero, suc, ◌+◌, ◌<◌, ◌≤◌, ◌⊎◌, Bool, true, false, not, ◌==◌, List, [], ◌∷◌, ◌++◌, map, filter, filter_map, flat_map, length, slice_index_or, Option, Some, None}
+use Rattle.std.specs.List.{cons_option, range_with_len, list_any, position_from}
 use Rattle.std.proofs.Common.{refl, sym, ◌∙◌, ap, subst, arith, inl, inr, true≢false, eq-eqb, cond}
-use Rattle.std.proofs.lemmas.Bool.{eqb-true, or_cases, or_left, or_right, and_parts, cases_Bool, ne_eqb, false_from_ne_true}
+use Rattle.std.proofs.lemmas.Bool.{eqb-true, or_cases, or_left, or_right, ne_eqb, false_from_ne_true}
 use Rattle.std.proofs.lemmas.Bool.Decides.{eqb_tells}
 use Rattle.mc_profile.specs.Functions.{different}
 use Rattle.c_emitter.specs.declared.block.Block.{Block}
 use Rattle.c_emitter.specs.declared.block.Block.TheVariants.{Input, Output, Delay}
-use Rattle.c_emitter.specs.Blocks.{no_block, block_at, is_output, is_output_of, output_row, output_rows, output_source, feeds_output, source_of, source_need, need_of, output_needs, function_needs, output_count}
+use Rattle.c_emitter.specs.Blocks.{no_block, block_at, is_output_of, output_row, output_rows, output_source, source_of, source_need, need_of, output_needs, function_needs, output_count}
 use Rattle.c_emitter.proofs.BlockFacts.{IsWellMade, AreBlocks}
 
 -- a list has this number

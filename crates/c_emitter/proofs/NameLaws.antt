@@ -1,14 +1,12 @@
 -- Names with a number at their end are names, and differ.
-use Rattle.std.specs.Prelude.{◌≡◌, ◌≢◌, ℕ, zero, suc, ◌+◌, ◌<◌, ◌≤◌, ◌^◌, ◌⊎◌, Bool, true, false, not, ◌&&◌, ◌||◌, ◌==◌, nat_le, nat_eq, List, [], ◌∷◌, ◌++◌, map, reverse, length, take, decimal, bytes_eq, codes}
+use Rattle.std.specs.Prelude.{◌≡◌, ◌≢◌, ℕ, ◌<◌, ◌≤◌, ◌^◌, Bool, true, false, not, ◌||◌, ◌==◌, nat_eq, List, [], ◌∷◌, ◌++◌, reverse, length, decimal, bytes_eq, codes}
 use Rattle.std.specs.List.{list_any, list_all, starts_with}
 use Rattle.std.specs.Char.{is_ascii_digit}
-use Rattle.std.proofs.Common.{refl, sym, ◌∙◌, ap, ap₂, subst, arith, inl, inr, true≢false}
+use Rattle.std.proofs.Common.{refl, sym, ◌∙◌, ap, ap₂, arith, true≢false}
 use Rattle.std.proofs.lemmas.List.{reverse-append, length-reverse}
-use Rattle.std.proofs.lemmas.Bool.{and_from, and_parts, and_left, and_right, or_left, or_right, leb-true, ne_eqb, false_from_ne_true}
+use Rattle.std.proofs.lemmas.Bool.{and_from, and_parts, and_left, and_right, or_left, or_right, leb-true, ne_eqb}
 use Rattle.std.proofs.lemmas.Fmt.{decimal_nonempty}
 use Rattle.c_tree.specs.Tokens.{is_name, is_word_byte, is_word_start, ends_with, keywords}
-use Rattle.c_tree.specs.Outputs.{has_name}
-use Rattle.c_tree.specs.Lawful.{AreDistinct}
 use Rattle.c_emitter.proofs.Digits.{decimal-digits, list_all-append, list_all-reverse}
 
 -- a digit is a byte of a word

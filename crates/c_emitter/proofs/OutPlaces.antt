@@ -1,10 +1,10 @@
 -- Where the functions stand among the procedures.
-use Rattle.std.specs.Prelude.{◌≡◌, ◌≢◌, ℕ, zero, suc, ◌+◌, ◌-◌, ◌<◌, ◌≤◌, ◌^◌, Bool, true, false, ◌==◌, ◌||◌, List, [], ◌∷◌, ◌++◌, map, length, Option, Some, None, unwrap_or, bytes_eq, codes}
-use Rattle.std.specs.List.{range_with_len, enumerate_from, position_from, list_any, prefix_len}
-use Rattle.std.proofs.Common.{refl, sym, ◌∙◌, ap, ap₂, subst, arith, cond, inl, inr, true≢false}
-use Rattle.std.proofs.lemmas.List.{map-append, map-id, length-map, length-append}
+use Rattle.std.specs.Prelude.{◌≡◌, ◌≢◌, ℕ, zero, suc, ◌+◌, ◌-◌, ◌<◌, ◌≤◌, ◌^◌, Bool, true, false, ◌||◌, List, [], ◌∷◌, ◌++◌, map, length, Some, None, unwrap_or, bytes_eq, codes}
+use Rattle.std.specs.List.{range_with_len, position_from, list_any, prefix_len}
+use Rattle.std.proofs.Common.{refl, ◌∙◌, ap, ap₂, arith, cond, inl, inr}
+use Rattle.std.proofs.lemmas.List.{map-append, map-id, length-append}
 use Rattle.std.proofs.lemmas.List.FromFn.{length-range_with_len}
-use Rattle.std.proofs.lemmas.Bool.{eq-eqb, ne_eqb, or_left, or_right}
+use Rattle.std.proofs.lemmas.Bool.{ne_eqb, or_left, or_right}
 use Rattle.std.proofs.lemmas.Bool.Decides.{eqb_tells}
 use Rattle.c_tree.specs.Tree.{ProcedureTree}
 use Rattle.c_tree.specs.Machine.{LoggedCall}
@@ -13,7 +13,7 @@ use Rattle.c_emitter.specs.Names.{out_name, update_name}
 use Rattle.c_emitter.specs.Places.{has_procedure, procedure_place, out_count, out_places}
 use Rattle.c_emitter.specs.Blocks.{function_needs}
 use Rattle.c_emitter.specs.Bodies.{update_place}
-use Rattle.c_emitter.specs.FlatProgram.{out_procedure, out_procedures, flat_procedures, flat_program}
+use Rattle.c_emitter.specs.FlatProgram.{out_procedures, flat_procedures, flat_program}
 use Rattle.c_emitter.proofs.Digits.{prefix_len-all}
 use Rattle.c_emitter.proofs.CallRuns.{top_call}
 use Rattle.c_emitter.proofs.StepRun.{step_log}
@@ -38,12 +38,12 @@ module _ (blocks : List Block) (few : length (function_needs blocks) ≤ 32) whe
   out-at i a b j [] rest low high small e = absurd (omega arith)
   out-at i a b j (need ∷ needs) rest low high small e = elim (eqb_tells a b) [
     | inl here ↦
-      let same : i ≡ j = (let s : a ≡ b = here.1 in omega arith) in
-      ap (λ t. cond t (Some i) (position_from (λ (q : ProcedureTree). bytes_eq q.name (out_name None b)) (i + 1) (out_list blocks (a + 1) needs ++ rest))) (outs-numbered a b (omega arith) (omega arith) ∙ here.0) ∙ ap Some same
+        let same : i ≡ j = (let s : a ≡ b = here.1 in omega arith) in
+        ap (λ t. cond t (Some i) (position_from (λ (q : ProcedureTree). bytes_eq q.name (out_name None b)) (i + 1) (out_list blocks (a + 1) needs ++ rest))) (outs-numbered a b (omega arith) (omega arith) ∙ here.0) ∙ ap Some same
     | inr there ↦
-      let apart : a ≢ b = there.1 in
-      ap (λ t. cond t (Some i) (position_from (λ (q : ProcedureTree). bytes_eq q.name (out_name None b)) (i + 1) (out_list blocks (a + 1) needs ++ rest))) (outs-numbered a b (omega arith) (omega arith) ∙ there.0)
-      ∙ out-at (i + 1) (a + 1) b j needs rest (omega arith) (omega arith) (omega arith) (omega arith)
+        let apart : a ≢ b = there.1 in
+        ap (λ t. cond t (Some i) (position_from (λ (q : ProcedureTree). bytes_eq q.name (out_name None b)) (i + 1) (out_list blocks (a + 1) needs ++ rest))) (outs-numbered a b (omega arith) (omega arith) ∙ there.0)
+        ∙ out-at (i + 1) (a + 1) b j needs rest (omega arith) (omega arith) (omega arith) (omega arith)
   ]
 
   pub out-place : (b : ℕ) → 1 ≤ b → b < 1 + update_place blocks → procedure_place (flat_program blocks) (out_name None b) ≡ b - 1

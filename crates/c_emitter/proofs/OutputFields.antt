@@ -1,27 +1,27 @@
 -- The outputs among the fields of the root.
-use Rattle.std.specs.Prelude.{◌≡◌, ℕ, zero, suc, ◌+◌, ◌-◌, ◌<◌, ◌≤◌, ◌^◌, Bool, true, false, ◌==◌, ◌||◌, List, [], ◌∷◌, ◌++◌, map, filter, length, Option, Some, None, unwrap_or, bytes_eq, ℤ, pos}
-use Rattle.std.specs.List.{range_with_len, position_from, list_any, list_all, prefix_len}
-use Rattle.std.proofs.Common.{refl, sym, ◌∙◌, ap, ap₂, subst, arith, inl, inr, cond, true≢false}
-use Rattle.std.proofs.lemmas.List.{append-nil, append_assoc, get_or_at, length_push, length-map, length-append, map-append}
+use Rattle.std.specs.Prelude.{◌≡◌, ℕ, zero, suc, ◌+◌, ◌<◌, ◌≤◌, ◌^◌, Bool, true, false, ◌||◌, List, [], ◌∷◌, ◌++◌, map, length, None, unwrap_or, bytes_eq, ℤ, pos}
+use Rattle.std.specs.List.{range_with_len, list_all, prefix_len}
+use Rattle.std.proofs.Common.{refl, sym, ◌∙◌, ap, ap₂, arith, inl, inr, cond}
+use Rattle.std.proofs.lemmas.List.{append-nil, append_assoc, get_or_at, length_push, length-map}
 use Rattle.std.proofs.lemmas.List.FromFn.{length-range_with_len}
-use Rattle.std.proofs.lemmas.Bool.{eq-eqb, ne_eqb, and_from, or_left, or_right}
+use Rattle.std.proofs.lemmas.Bool.{ne_eqb, and_from, or_left, or_right}
 use Rattle.std.proofs.lemmas.Bool.Decides.{eqb_tells}
 use Rattle.c_tree.specs.Tree.{FieldTree}
 use Rattle.c_tree.specs.declared.FieldKind.TheVariants.{Struct}
 use Rattle.c_tree.specs.Cells.{Cells, value_at}
-use Rattle.c_tree.specs.Rows.{is_number, number_names, output_fields, field_position}
-use Rattle.c_tree.specs.Outputs.{has_name, numbers_from, output_count, output_names, output_name as name_of}
+use Rattle.c_tree.specs.Rows.{number_names, output_fields, field_position}
+use Rattle.c_tree.specs.Outputs.{has_name, numbers_from, output_count, output_name as name_of}
 use Rattle.mc_profile.specs.Systems.{system_name}
 use Rattle.c_emitter.specs.declared.block.Block.{Block}
 use Rattle.c_emitter.specs.Names.{now_name, output_name}
 use Rattle.c_emitter.specs.Blocks.{output_rows}
 use Rattle.c_emitter.specs.FlatProgram.{int_field, root_fields_of}
-use Rattle.c_emitter.proofs.NumberCells.{cells_with, item, value_at-cells_with}
+use Rattle.c_emitter.proofs.NumberCells.{cells_with, value_at-cells_with}
 use Rattle.c_emitter.proofs.Chosen.{range-snoc}
 use Rattle.c_emitter.proofs.Digits.{prefix_len-all}
 use Rattle.c_emitter.proofs.NameFacts.{AreNumbered, numbered-names, range-place}
 
-numbers-are : (a n : ℕ) → numbers_from a n ≡ range_with_len a n
+pub numbers-are : (a n : ℕ) → numbers_from a n ≡ range_with_len a n
 numbers-are a zero = refl
 numbers-are a (suc n) = ap (λ l. a ∷ l) (numbers-are (a + 1) n)
 
@@ -33,7 +33,7 @@ numbers-kept [] name rest = refl
 numbers-kept (x ∷ xs) name rest = ap (λ l. name x ∷ l) (numbers-kept xs name rest)
 
 -- among these names
-has-output : (k a n : ℕ) → a ≤ k → k < a + n → a + n ≤ 2 ^ 64 → has_name (map output_name (range_with_len a n)) (output_name k) ≡ true
+pub has-output : (k a n : ℕ) → a ≤ k → k < a + n → a + n ≤ 2 ^ 64 → has_name (map output_name (range_with_len a n)) (output_name k) ≡ true
 has-output k a zero low high few = absurd (omega arith)
 has-output k a (suc n) low high few = elim (eqb_tells k a) [
   | inl here ↦ or_left (bytes_eq (output_name k) (output_name a)) _ (outputs-numbered k a (omega arith) (omega arith) ∙ here.0)

@@ -1,9 +1,9 @@
 -- Rows with different ports from 1 to their number: each port is there.
-use Rattle.std.specs.Prelude.{◌≡◌, ◌≢◌, ℕ, zero, suc, ◌+◌, ◌-◌, ◌<◌, ◌≤◌, ◌⊎◌, Bool, true, false, ◌==◌, ◌||◌, List, [], ◌∷◌, map, filter, filter_map, find, length, slice_index_or, Option, Some, None}
+use Rattle.std.specs.Prelude.{◌≡◌, ℕ, zero, suc, ◌+◌, ◌-◌, ◌<◌, ◌≤◌, ◌⊎◌, Bool, true, false, ◌==◌, List, [], ◌∷◌, map, filter, filter_map, find, length, Option, Some}
 use Rattle.std.specs.List.{cons_option, range_with_len, list_any, IsDistinct, AllByRecursion}
-use Rattle.std.proofs.Common.{refl, sym, ◌∙◌, ap, subst, arith, cond, inl, inr, true≢false, eqb}
+use Rattle.std.proofs.Common.{refl, sym, ◌∙◌, ap, arith, cond, inl, inr, true≢false, eqb}
 use Rattle.std.proofs.lemmas.List.{length-map}
-use Rattle.std.proofs.lemmas.Bool.{eqb-true, ne_eqb, eq-eqb, or_cases, cases_Bool}
+use Rattle.std.proofs.lemmas.Bool.{eqb-true, ne_eqb, or_cases, cases_Bool}
 use Rattle.std.proofs.lemmas.Map.Steps.{length-le_from_distinct_below}
 use Rattle.c_emitter.proofs.Chosen.{any-chosen}
 
@@ -76,11 +76,11 @@ module _ (p : ℕ → Bool) (port : ℕ → ℕ) (n : ℕ)
       let less : ℕ → ℕ = λ b. port b - 1 in
       let qs : List ℕ = map less (filter p (range_with_len 0 n)) in
       let others : AllByRecursion (λ y. eqb (k - 1) y ≡ false) qs = all-given (λ y. eqb (k - 1) y ≡ false) p less 0 n (λ b lb hb passes.
-        let r = range b (omega arith) passes in
-        ne_eqb (k - 1) (less b) (λ same. (let positive = r.0 in let port_is : port b ≡ k = omega (arith, same, positive) in true≢false (sym (any-chosen p port 0 n b k lb hb passes port_is) ∙ none)))) in
+      let r = range b (omega arith) passes in
+      ne_eqb (k - 1) (less b) (λ same. (let positive = r.0 in let port_is : port b ≡ k = omega (arith, same, positive) in true≢false (sym (any-chosen p port 0 n b k lb hb passes port_is) ∙ none)))) in
       let different = distinct-chosen p less 0 n (λ b c lb hb lc hc pb pc same.
-        let rb = range b (omega arith) pb in let rc = range c (omega arith) pc in
-        apart b c (omega arith) (omega arith) pb pc (let x = rb.0 in let y = rc.0 in omega (arith, same, x, y))) in
+      let rb = range b (omega arith) pb in let rc = range c (omega arith) pc in
+      apart b c (omega arith) (omega arith) pb pc (let x = rb.0 in let y = rc.0 in omega (arith, same, x, y))) in
       let inside : AllByRecursion (λ y. y < count) ((k - 1) ∷ qs) = (omega arith, all-given (λ y. y < count) p less 0 n (λ b lb hb passes. let r = range b (omega arith) passes in let x = r.0 in let y = r.1 in omega (arith, x, y))) in
       let most = length-le_from_distinct_below ((k - 1) ∷ qs) count (others, different) (below-all count ((k - 1) ∷ qs) inside) in
       let size = length-map (filter p (range_with_len 0 n)) less in

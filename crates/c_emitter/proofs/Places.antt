@@ -1,7 +1,7 @@
 -- Where the fields of the program for a diagram of one system are.
-use Rattle.std.specs.Prelude.{◌≡◌, ◌≢◌, ℕ, zero, suc, ◌+◌, ◌-◌, ◌<◌, ◌≤◌, ◌^◌, Bool, true, false, ◌==◌, List, [], ◌∷◌, ◌++◌, map, filter, length, reverse, Option, Some, None, unwrap_or, bytes_eq, codes}
-use Rattle.std.specs.List.{range_with_len, position_from}
-use Rattle.std.proofs.Common.{refl, sym, ◌∙◌, ap, subst, arith, append_assoc}
+use Rattle.std.specs.Prelude.{◌≡◌, ℕ, zero, suc, ◌+◌, ◌<◌, ◌≤◌, true, List, [], ◌∷◌, ◌++◌, map, length, reverse, None, unwrap_or, bytes_eq}
+use Rattle.std.specs.List.{range_with_len}
+use Rattle.std.proofs.Common.{refl, ◌∙◌, ap, arith, append_assoc}
 use Rattle.std.proofs.lemmas.List.{length-map}
 use Rattle.std.proofs.lemmas.List.FromFn.{length-range_with_len}
 use Rattle.c_tree.specs.declared.CType.TheVariants.{U8}
@@ -50,9 +50,9 @@ module _ (blocks : List Block) (few : length blocks ≤ 20000) where
       let rows = length-range_with_len 0 (length blocks) in
       ap (λ fs. field_position fs (memory_name b)) split
       ∙ ap (λ o. unwrap_or o 0) (
-        position-behind (λ (f : FieldTree). bytes_eq f.name (memory_name b)) (map (λ b. int_field (value_name b)) (range_with_len 0 (length blocks))) (memory_fields ++ last_field) 0 (length blocks)
-          (other-names value_name (memory_name b) (range_with_len 0 (length blocks)) (λ c. refl)) (omega (arith, size, rows))
-        ∙ field-place (is_delay_row blocks) memory_name memories-numbered (length blocks) 0 (length blocks) b b last_field same h delay (omega arith)
+      position-behind (λ (f : FieldTree). bytes_eq f.name (memory_name b)) (map (λ b. int_field (value_name b)) (range_with_len 0 (length blocks))) (memory_fields ++ last_field) 0 (length blocks)
+      (other-names value_name (memory_name b) (range_with_len 0 (length blocks)) (λ c. refl)) (omega (arith, size, rows))
+      ∙ field-place (is_delay_row blocks) memory_name memories-numbered (length blocks) 0 (length blocks) b b last_field same h delay (omega arith)
       )
 
   -- the system is behind the outputs

@@ -1,7 +1,6 @@
 -- The inputs that a procedure takes, and what a call passes for them.
-use Rattle.std.specs.Prelude.{◌≡◌, ◌≢◌, ℕ, zero, suc, ◌+◌, ◌-◌, ◌*◌, ◌^◌, ◌<◌, ◌≤◌, Bool, true, false, not, ◌==◌, if◌then◌else◌, List, [], ◌∷◌, map, filter, length, slice_index_or, Some, None, ℤ, pos, bit_and}
-use Rattle.std.specs.List.{range_with_len, AllByRecursion}
-use Rattle.std.specs.Int.{bit_at}
+use Rattle.std.specs.Prelude.{◌≡◌, ◌≢◌, ℕ, zero, suc, ◌+◌, ◌-◌, ◌*◌, ◌^◌, ◌<◌, ◌≤◌, Bool, true, false, not, ◌==◌, if◌then◌else◌, List, [], ◌∷◌, map, filter, Some, None, ℤ, pos, bit_and}
+use Rattle.std.specs.List.{range_with_len}
 use Rattle.std.proofs.Common.{refl, sym, ◌∙◌, ap, subst, arith, inl, inr, cond}
 use Rattle.std.proofs.lemmas.Bool.{ne_eqb}
 use Rattle.std.proofs.lemmas.Bool.Decides.{eqb_tells}
@@ -44,13 +43,13 @@ filter-one : (p : ℕ → Bool) (b a n : ℕ) → p b ≡ true → ((c : ℕ) �
 filter-one p b a zero passes others low high = absurd (omega arith)
 filter-one p b a (suc n) passes others low high = elim (eqb_tells a b) [
   | inl here ↦
-    let first : p a ≡ true = ap p here.1 ∙ passes in
-    ap (λ t. cond t (a ∷ filter p (range_with_len (a + 1) n)) (filter p (range_with_len (a + 1) n))) first
-    ∙ ap (λ l. a ∷ l) (filter-none p (a + 1) n (λ c above within. others c (omega arith) (let same : a ≡ b = here.1 in omega arith))) ∙ ap (λ k. k ∷ []) here.1
+      let first : p a ≡ true = ap p here.1 ∙ passes in
+      ap (λ t. cond t (a ∷ filter p (range_with_len (a + 1) n)) (filter p (range_with_len (a + 1) n))) first
+      ∙ ap (λ l. a ∷ l) (filter-none p (a + 1) n (λ c above within. others c (omega arith) (let same : a ≡ b = here.1 in omega arith))) ∙ ap (λ k. k ∷ []) here.1
   | inr there ↦
-    let apart : a ≢ b = there.1 in
-    ap (λ t. cond t (a ∷ filter p (range_with_len (a + 1) n)) (filter p (range_with_len (a + 1) n))) (others a (omega arith) apart)
-    ∙ filter-one p b (a + 1) n passes (λ c above. others c (omega arith)) (omega arith) (omega arith)
+      let apart : a ≢ b = there.1 in
+      ap (λ t. cond t (a ∷ filter p (range_with_len (a + 1) n)) (filter p (range_with_len (a + 1) n))) (others a (omega arith) apart)
+      ∙ filter-one p b (a + 1) n passes (λ c above. others c (omega arith)) (omega arith) (omega arith)
 ]
 
 -- a function with the need of one input takes that input

@@ -1,11 +1,11 @@
 -- Where the procedures of the program for a diagram of one system stand, and what they do.
-use Rattle.std.specs.Prelude.{◌≡◌, ℕ, zero, suc, ◌+◌, ◌<◌, ◌≤◌, Bool, true, false, List, [], ◌∷◌, ◌++◌, map, take, length, slice_get, Option, Some, None, unwrap_or, codes, bytes_eq}
+use Rattle.std.specs.Prelude.{◌≡◌, ℕ, zero, suc, ◌+◌, ◌<◌, ◌≤◌, Bool, false, List, [], ◌∷◌, ◌++◌, map, take, length, slice_get, Some, None, codes, bytes_eq}
 use Rattle.std.specs.List.{enumerate_from, position_from, AllByRecursion}
 use Rattle.std.proofs.Common.{refl, sym, ◌∙◌, ap, subst, arith, cond, append_assoc}
 use Rattle.std.proofs.lemmas.List.{length-append, length-map}
 use Rattle.c_tree.specs.Tree.{StructTree, ProcedureTree}
 use Rattle.c_tree.specs.Values.{Function}
-use Rattle.c_tree.specs.Machine.{Routine, no_routine, routine_at, routine_of, routines_of, program_routines}
+use Rattle.c_tree.specs.Machine.{Routine, routine_at, routine_of, routines_of, program_routines}
 use Rattle.c_tree.specs.Rows.{procedure_named}
 use Rattle.c_tree.proofs.Runs.{routines_of-at}
 use Rattle.c_emitter.specs.declared.block.Block.{Block}
@@ -83,8 +83,7 @@ module _ (blocks : List Block) where
   out-routines n done (need ∷ needs) j size few whole =
       let p : ProcedureTree = out_procedure blocks (j + 1) need in
       let rest : List ProcedureTree = out_list (j + 1 + 1) needs ++ later_procedures in
-      let more = length-append done (p ∷ []) in
-      (
+      let more = length-append done (p ∷ []) in (
         early-routine (flat_structs blocks) [] (flat_procedures blocks) n j p (omega arith) (ap (λ ps. slice_get ps j) whole ∙ get-at done p rest j size),
         out-routines n (done ++ p ∷ []) needs (j + 1) (omega (arith, more)) (omega arith) (whole ∙ sym (append_assoc done (p ∷ []) rest)),
       )

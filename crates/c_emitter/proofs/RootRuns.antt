@@ -1,37 +1,35 @@
 -- What the root's step does in a tick.
-use Rattle.std.specs.Prelude.{◌≡◌, ◌≢◌, ℕ, zero, suc, ◌+◌, ◌-◌, ◌^◌, ◌<◌, ◌≤◌, ◌⊎◌, Bool, true, false, not, ◌&&◌, ◌==◌, if◌then◌else◌, List, [], ◌∷◌, ◌++◌, map, filter, flat_map, length, slice_index_or, slice_set, Option, Some, None, ℤ, pos}
+use Rattle.std.specs.Prelude.{◌≡◌, ℕ, zero, suc, ◌+◌, ◌-◌, ◌^◌, ◌<◌, ◌≤◌, ◌⊎◌, true, false, ◌==◌, if◌then◌else◌, List, [], ◌∷◌, ◌++◌, map, flat_map, length, slice_set, Some, ℤ, pos}
 use Rattle.std.specs.List.{range_with_len, enumerate_from, list_any, AllByRecursion}
 use Rattle.std.proofs.Common.{refl, sym, ◌∙◌, ap, subst, arith, inl, inr, true≢false, append_assoc}
 use Rattle.std.proofs.lemmas.List.{map-append, set_at, length-append}
-use Rattle.std.proofs.lemmas.Bool.{and_parts, and_from, not-true, not_from_false, eq-eqb, false_from_ne_true, or_left, or_cases, or_parts}
+use Rattle.std.proofs.lemmas.Bool.{or_cases, or_parts}
 use Rattle.std.proofs.lemmas.List.FromFn.{length-range_with_len}
-use Rattle.c_tree.specs.declared.CType.{CType}
 use Rattle.c_tree.specs.declared.CType.TheVariants.{I32}
-use Rattle.c_tree.specs.declared.Leaf.TheVariants.{Param, Own, Child}
+use Rattle.c_tree.specs.declared.Leaf.TheVariants.{Own, Child}
 use Rattle.c_tree.specs.declared.Why.TheVariants.{Range}
 use Rattle.c_tree.specs.declared.BinOp.TheVariants.{Add, Rem}
-use Rattle.c_tree.specs.Tree.{read, literal, binary, StmtTree, assign, StmtTrees, stmts_of_list, StructTree, struct_fields, ProcedureTree}
-use Rattle.c_tree.specs.Cells.{Cells, number, set_cell, value_at, fields_at}
+use Rattle.c_tree.specs.Tree.{read, literal, binary, StmtTree, assign, stmts_of_list, ProcedureTree}
+use Rattle.c_tree.specs.Cells.{Cells, number, set_cell, value_at}
 use Rattle.c_tree.specs.Values.{Function, gives, eval, reads, is_in_type, stuck_at}
-use Rattle.c_tree.specs.Machine.{LoggedCall, StoredField, Outcome, stuck, behind, then_run, on_answer, store, Scope, Routine, routine_at, routine_of, run_stmt, run_stmts, type_at, field_types}
+use Rattle.c_tree.specs.Machine.{LoggedCall, stuck, behind, then_run, on_answer, store, Scope, Routine, routine_at, routine_of, run_stmt, run_stmts, type_at, field_types}
 use Rattle.c_emitter.specs.declared.block.Block.{Block}
-use Rattle.c_emitter.specs.declared.block.Block.TheVariants.{Input, Output, Delay}
+use Rattle.c_emitter.specs.declared.block.Block.TheVariants.{Input}
 use Rattle.c_emitter.specs.Names.{output_name}
-use Rattle.c_emitter.specs.Blocks.{block_at, is_output, is_delay_block, counter_place, memory_place, source_need, need_of, feeds_output, is_taken_in, is_given_in, is_unheld, output_rows, function_needs}
-use Rattle.c_emitter.specs.Bodies.{taken_ports, top_place, call_top, function_calls, update_place, output_copies, next_now, step_body, out_body, update_body}
-use Rattle.c_emitter.specs.FlatProgram.{int_field, root_fields_of, flat_structs, out_procedure, update_procedure}
-use Rattle.c_emitter.proofs.NumberCells.{number_cells, cells_with, item, value_at-number_cells, value_at-cells_with, fields_at-cells_with, set_number-cells_with}
+use Rattle.c_emitter.specs.Blocks.{block_at, source_need, output_rows}
+use Rattle.c_emitter.specs.Bodies.{taken_ports, top_place, call_top, next_now}
+use Rattle.c_emitter.specs.FlatProgram.{root_fields_of, flat_structs, out_procedure}
+use Rattle.c_emitter.proofs.NumberCells.{number_cells, cells_with, item, value_at-number_cells, fields_at-cells_with, set_number-cells_with}
 use Rattle.c_emitter.proofs.Straight.{finish, own_store, Known, begin_step-goes}
-use Rattle.c_emitter.proofs.Sequences.{run-append, list_any-append}
-use Rattle.c_emitter.proofs.Chosen.{any-chosen}
-use Rattle.c_emitter.proofs.BlockFacts.{IsWellMade, AreBlocks, top_state, length-top_state, value-in_state, memory-in_state, counter-in_state}
+use Rattle.c_emitter.proofs.Sequences.{list_any-append}
+use Rattle.c_emitter.proofs.BlockFacts.{IsWellMade, AreBlocks, top_state}
 use Rattle.c_emitter.proofs.TopTypes.{int-types}
 use Rattle.c_emitter.proofs.BlockTicks.{IsBlockTick, AreInts, MemoriesAreInts}
-use Rattle.c_emitter.proofs.TopRuns.{IsMemory, out_cost, out_fields, run-out, taken_rows, given_rows}
-use Rattle.c_emitter.proofs.Ports.{port_types, single-input, all-inputs}
+use Rattle.c_emitter.proofs.TopRuns.{IsMemory, out_cost, out_fields, run-out}
+use Rattle.c_emitter.proofs.Ports.{single-input}
 use Rattle.c_emitter.proofs.Interface.{out-is_interface}
 use Rattle.c_emitter.proofs.CallRuns.{top_call, top_store, called_scope, call-ends}
-use Rattle.c_emitter.proofs.Members.{Has, has-append_left, has-append_right, has-flat_map, IsFeeder, feeder, need-listed}
+use Rattle.c_emitter.proofs.Members.{Has}
 
 -- the routine at place i is that of the function with this need
 abbrev pub IsOutRoutine : List Block → List Routine → ℕ × ℕ → Type 0
@@ -98,8 +96,8 @@ module _ (blocks : List Block) (are : AreBlocks blocks) (x v m n : List ℤ) (ti
           ]
         ];
         others = λ i none.
-          let parts = or_parts _ _ (sym (list_any-append (λ f. f == i) (out_fields blocks need) (flat_map (out_fields blocks) needs)) ∙ none) in
-          rest.others i parts.1 ∙ out.others i parts.0;
+            let parts = or_parts _ _ (sym (list_any-append (λ f. f == i) (out_fields blocks need) (flat_map (out_fields blocks) needs)) ∙ none) in
+            rest.others i parts.1 ∙ out.others i parts.0;
       }
 
 -- ---- The copies of the outputs
@@ -149,6 +147,6 @@ pub run-now : (blocks : List Block) (s : Scope) (ys tops : List ℤ) (steps : �
 run-now blocks s ys tops steps h types =
     let cells : Cells = cells_with (pos 0 ∷ ys) (number_cells tops) in
     ap (λ o. then_run o (run_stmts s (stmts_of_list []))) (
-      begin_step-goes 0 cells steps (λ count. on_answer (eval s.functions (reads s.values cells) 0 (binary Rem (binary Add (read (Own 0)) (literal (pos 1))) (literal (pos 1))) count) cells (λ v end. store 0 (type_at s.types 0) 0 v cells end)) h
-      ∙ ap (λ t. store 0 (type_at t 0) 0 (pos 0) cells (steps + 1)) types
+    begin_step-goes 0 cells steps (λ count. on_answer (eval s.functions (reads s.values cells) 0 (binary Rem (binary Add (read (Own 0)) (literal (pos 1))) (literal (pos 1))) count) cells (λ v end. store 0 (type_at s.types 0) 0 v cells end)) h
+    ∙ ap (λ t. store 0 (type_at t 0) 0 (pos 0) cells (steps + 1)) types
     )

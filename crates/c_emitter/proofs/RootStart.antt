@@ -1,24 +1,24 @@
 -- The root's start, from all numbers 0.
-use Rattle.std.specs.Prelude.{◌≡◌, ℕ, zero, suc, ◌+◌, ◌^◌, ◌<◌, ◌≤◌, List, [], ◌∷◌, ◌++◌, map, length, Option, Some, None, unwrap_or, codes, ℤ, pos}
+use Rattle.std.specs.Prelude.{◌≡◌, ℕ, ◌+◌, ◌^◌, ◌≤◌, List, [], ◌∷◌, ◌++◌, map, length, unwrap_or, ℤ, pos}
 use Rattle.std.specs.List.{range_with_len}
-use Rattle.std.proofs.Common.{refl, sym, ◌∙◌, ap, subst, arith, append_assoc}
+use Rattle.std.proofs.Common.{refl, sym, ◌∙◌, ap, arith, append_assoc}
 use Rattle.std.proofs.lemmas.List.{length-map, length-append, append-nil}
 use Rattle.std.proofs.lemmas.List.FromFn.{length-range_with_len}
 use Rattle.c_tree.specs.declared.CType.TheVariants.{U8}
-use Rattle.c_tree.specs.declared.FieldKind.TheVariants.{Number, Struct}
+use Rattle.c_tree.specs.declared.FieldKind.TheVariants.{Number}
 use Rattle.c_tree.specs.declared.Target.TheVariants.{Child as InChild}
-use Rattle.c_tree.specs.Tree.{StmtTree, call, exprs_of_list, no_exprs, stmts_of_list, FieldTree, StructTree, ProcedureTree}
-use Rattle.c_tree.specs.Cells.{Cells, no_cells, more_cells, number, object, zero_cells}
-use Rattle.c_tree.specs.Values.{Function, reads}
-use Rattle.c_tree.specs.Machine.{Outcome, behind, then_run, on_answer, on_target, in_child, arguments, store_under, Scope, Routine, routine_at, routine_of, program_routines, run_stmt, run_stmts, field_types}
-use Rattle.c_tree.specs.Rows.{zero_root, start_run, procedure_named}
+use Rattle.c_tree.specs.Tree.{no_exprs, stmts_of_list, FieldTree}
+use Rattle.c_tree.specs.Cells.{Cells, no_cells, more_cells, number, zero_cells}
+use Rattle.c_tree.specs.Values.{reads}
+use Rattle.c_tree.specs.Machine.{behind, then_run, on_answer, on_target, in_child, arguments, store_under, Scope, Routine, routine_at, routine_of, program_routines, run_stmts, field_types}
+use Rattle.c_tree.specs.Rows.{zero_root, start_run}
 use Rattle.c_tree.proofs.Runs.{behind-nothing}
 use Rattle.c_emitter.specs.declared.block.Block.{Block}
-use Rattle.c_emitter.specs.Names.{value_name, memory_name, now_name, output_name}
+use Rattle.c_emitter.specs.Names.{value_name, memory_name, output_name}
 use Rattle.c_emitter.specs.Blocks.{delay_rows, output_rows, counter_place}
 use Rattle.c_emitter.specs.Bodies.{top_place, update_place, start_body, root_start_body}
 use Rattle.c_emitter.specs.FlatProgram.{int_field, top_fields, root_fields_of, flat_structs, start_procedure, root_start_procedure, flat_program, counter_name}
-use Rattle.c_emitter.proofs.NumberCells.{cells_then, number_cells, cells_with, item, fields_at-cells_with, set_object-cells_with}
+use Rattle.c_emitter.proofs.NumberCells.{cells_then, number_cells, cells_with, fields_at-cells_with, set_object-cells_with}
 use Rattle.c_emitter.proofs.Straight.{finish, own_store, begin_step-goes}
 use Rattle.c_emitter.proofs.BlockFacts.{AreBlocks}
 use Rattle.c_emitter.proofs.CallRuns.{top_store, stores-under_top}
@@ -92,12 +92,12 @@ module _ (blocks : List Block) where
         let place : T ≡ length zs = (let e = length-zero_outputs in omega (arith, e)) in
         let run = run-start blocks are scope refl zero_top (0 + 1) length-zero_top (omega (arith, start-small)) in
         ap (λ o. then_run o (run_stmts s (stmts_of_list []))) (
-          begin_step-goes 0 cells 0 (λ count. on_answer (arguments s.functions (reads s.values cells) 0 (routine_at s.routines k).params no_exprs count) cells (λ values. on_target (InChild T) ((routine_at s.routines k).run values) cells)) (omega arith)
-          ∙ ap (λ (q : Routine). on_target (InChild T) (q.run []) cells (0 + 1)) routine
-          ∙ ap (λ inner. in_child T cells (r.run [] inner (0 + 1))) (fields_at-cells_with zs (number_cells zero_top) T place)
-          ∙ ap (λ o. in_child T cells (behind [] [] o)) run
-          ∙ ap (λ c. finish c (0 + 1 + start_cost blocks are) [] (map (store_under T) (map own_store (started_fields blocks are)))) (set_object-cells_with zs (number_cells zero_top) (number_cells (started blocks are)) T place)
-          ∙ ap (finish (root_state blocks zero_outputs (start_values blocks) (start_values blocks)) (0 + 1 + start_cost blocks are) []) (stores-under_top blocks (started_fields blocks are))
+        begin_step-goes 0 cells 0 (λ count. on_answer (arguments s.functions (reads s.values cells) 0 (routine_at s.routines k).params no_exprs count) cells (λ values. on_target (InChild T) ((routine_at s.routines k).run values) cells)) (omega arith)
+        ∙ ap (λ (q : Routine). on_target (InChild T) (q.run []) cells (0 + 1)) routine
+        ∙ ap (λ inner. in_child T cells (r.run [] inner (0 + 1))) (fields_at-cells_with zs (number_cells zero_top) T place)
+        ∙ ap (λ o. in_child T cells (behind [] [] o)) run
+        ∙ ap (λ c. finish c (0 + 1 + start_cost blocks are) [] (map (store_under T) (map own_store (started_fields blocks are)))) (set_object-cells_with zs (number_cells zero_top) (number_cells (started blocks are)) T place)
+        ∙ ap (finish (root_state blocks zero_outputs (start_values blocks) (start_values blocks)) (0 + 1 + start_cost blocks are) []) (stores-under_top blocks (started_fields blocks are))
         )
         ∙ ap (finish (root_state blocks zero_outputs (start_values blocks) (start_values blocks)) (0 + 1 + start_cost blocks are) []) (append-nil (map (top_store blocks) (started_fields blocks are)))
 

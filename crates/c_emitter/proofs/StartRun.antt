@@ -1,22 +1,20 @@
 -- What the start of the root does.
-use Rattle.std.specs.Prelude.{◌≡◌, ℕ, zero, suc, ◌+◌, ◌-◌, ◌^◌, ◌<◌, ◌≤◌, ◌⊎◌, Bool, true, false, ◌==◌, ◌&&◌, nat_le, if◌then◌else◌, List, [], ◌∷◌, ◌++◌, map, filter, length, slice_index_or, replicate, Option, Some, None, unwrap_or, codes, ℤ, pos, negsuc, int_le, neg_ℤ}
-use Rattle.std.specs.List.{range_with_len, list_any, AllByRecursion}
-use Rattle.std.proofs.Common.{refl, sym, ◌∙◌, ap, subst, arith, inl, inr, true≢false}
-use Rattle.std.proofs.lemmas.List.{length-map, length-append}
-use Rattle.std.proofs.lemmas.List.FromFn.{length-range_with_len, length-map-range_with_len, get_or-map-range_with_len}
+use Rattle.std.specs.Prelude.{◌≡◌, ℕ, zero, suc, ◌+◌, ◌-◌, ◌^◌, ◌<◌, ◌≤◌, ◌⊎◌, true, if◌then◌else◌, List, [], ◌∷◌, ◌++◌, map, length, ℤ, pos, negsuc}
+use Rattle.std.specs.List.{range_with_len, AllByRecursion}
+use Rattle.std.proofs.Common.{refl, sym, ◌∙◌, ap, subst, arith, inl, inr}
+use Rattle.std.proofs.lemmas.List.FromFn.{length-map-range_with_len, get_or-map-range_with_len}
 use Rattle.std.proofs.lemmas.Bool.{and_parts, and_from, leb-true, le-leb}
 use Rattle.c_tree.specs.declared.CType.TheVariants.{U8, I32, I64}
 use Rattle.c_tree.specs.declared.Why.TheVariants.{Overflow}
-use Rattle.c_tree.specs.Tree.{ExprTree, literal, neg, StmtTree, assign, stmts_of_list}
-use Rattle.c_tree.specs.Cells.{Cells}
-use Rattle.c_tree.specs.Values.{gives, eval, reads, is_in_type, within, sticks, stuck_at, and_then}
+use Rattle.c_tree.specs.Tree.{literal, StmtTree, stmts_of_list}
+use Rattle.c_tree.specs.Values.{gives, is_in_type, sticks, stuck_at}
 use Rattle.c_tree.specs.Machine.{Scope, run_stmts, type_at}
 use Rattle.c_emitter.specs.declared.block.Block.{Block}
 use Rattle.c_emitter.specs.declared.block.Block.TheVariants.{Input, Output, Delay}
-use Rattle.c_emitter.specs.Blocks.{block_at, is_delay_block, start_value, counter_place, memory_place}
+use Rattle.c_emitter.specs.Blocks.{block_at, start_value, counter_place, memory_place}
 use Rattle.c_emitter.specs.Bodies.{number_expr, start_row, start_memory, set_counter, is_delay_row, reset_body, start_body}
 use Rattle.c_emitter.proofs.NumberCells.{number_cells, item}
-use Rattle.c_emitter.proofs.Straight.{finish, own_store, Known, Gives, IsRightStore, Stores, stores-rows}
+use Rattle.c_emitter.proofs.Straight.{finish, own_store, Gives, IsRightStore, stores-rows}
 use Rattle.c_emitter.proofs.Sequences.{ends-then, run-append}
 use Rattle.c_emitter.proofs.Chosen.{all-chosen}
 use Rattle.c_emitter.proofs.BlockFacts.{IsWellMade, AreBlocks, top_state, length-top_state, value-in_state, memory-in_state, counter-in_state, memory-within}
@@ -98,14 +96,14 @@ module _ (blocks : List Block) (are : AreBlocks blocks) where
         let nothing : ℕ → Type 0 = λ j. ⊥ in
         let rows : List ℕ = range_with_len 0 (length blocks) in
         let a = stores-rows s started nothing (λ b. b) (λ b. number_expr (start_value (block_at blocks b))) rows zs steps same (omega arith) (λ j k. absurd k)
-          (all-range _ 0 (length blocks) (λ b low high.
-            let within : b < length blocks = omega arith in
-            start-right nothing b b within (omega arith) (value-in_state blocks (start_values blocks) (start_values blocks) (pos 0) b sized within ∙ start-value-at blocks b within))) in
+        (all-range _ 0 (length blocks) (λ b low high.
+        let within : b < length blocks = omega arith in
+        start-right nothing b b within (omega arith) (value-in_state blocks (start_values blocks) (start_values blocks) (pos 0) b sized within ∙ start-value-at blocks b within))) in
         let values : ℕ → Type 0 = λ j. nothing j ⊎ Has (map (λ b. b) rows) j in
         let b = stores-rows s started values (memory_place blocks) (λ b. number_expr (start_value (block_at blocks b))) (memory_rows blocks) a.after (steps + length rows) (a.size ∙ same) (omega arith) a.known_after
-          (all-chosen (is_delay_row blocks) _ 0 (length blocks) (λ b low high delay.
-            let within : b < length blocks = omega arith in
-            start-right values b (memory_place blocks b) within (memory-within blocks b within delay) (memory-in_state blocks (start_values blocks) (start_values blocks) (pos 0) b sized within delay ∙ start-value-at blocks b within))) in
+        (all-chosen (is_delay_row blocks) _ 0 (length blocks) (λ b low high delay.
+        let within : b < length blocks = omega arith in
+        start-right values b (memory_place blocks b) within (memory-within blocks b within delay) (memory-in_state blocks (start_values blocks) (start_values blocks) (pos 0) b sized within delay ∙ start-value-at blocks b within))) in
         let memories : ℕ → Type 0 = λ j. values j ⊎ Has (map (memory_place blocks) (memory_rows blocks)) j in
         let c = stores-rows s started memories (λ b. b) (λ b. literal (pos 0)) (counter_place blocks ∷ []) b.after (steps + length rows + length (memory_rows blocks)) (b.size ∙ a.size ∙ same) (omega arith) b.known_after (counter-right memories, tt) in
         let memory_list : List StmtTree = map (start_memory blocks) (memory_rows blocks) in
@@ -113,7 +111,7 @@ module _ (blocks : List Block) (are : AreBlocks blocks) where
         let reset = run-append s memory_list (set_counter blocks (pos 0) ∷ []) (number_cells a.after) (steps + length rows) ∙ rest in
         let count : steps + length rows + (length (memory_rows blocks) + 1) ≡ steps + length rows + (length (memory_rows blocks) + length (counter_place blocks ∷ [])) = omega arith in
         let whole = ends-then (run_stmts s (stmts_of_list (map (start_row blocks) rows))) (run_stmts s (stmts_of_list (reset_body blocks))) zs a.after c.after steps (length rows) (length (memory_rows blocks) + 1) (map (λ b. b) rows) (map (memory_place blocks) (memory_rows blocks) ++ counter_place blocks ∷ []) a.ends
-          (reset ∙ ap (λ k. finish (number_cells c.after) k [] (map own_store (map (memory_place blocks) (memory_rows blocks) ++ counter_place blocks ∷ []))) (sym count)) in
+        (reset ∙ ap (λ k. finish (number_cells c.after) k [] (map own_store (map (memory_place blocks) (memory_rows blocks) ++ counter_place blocks ∷ []))) (sym count)) in
         let all : c.after ≡ started = all-known blocks (start_values blocks) (start_values blocks) (pos 0) sized c.after (c.size ∙ b.size ∙ a.size ∙ same) (λ j k. elim k [
           | inl before ↦ elim before [
             | inl value ↦ c.known_after j (inl (inl (inr (subst (λ l. Has l j) (sym (map-same rows)) (has-range 0 (length blocks) j (omega arith) (omega (arith, value)))))))

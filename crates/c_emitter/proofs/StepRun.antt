@@ -1,18 +1,18 @@
 -- A tick of the root.
-use Rattle.std.specs.Prelude.{◌≡◌, ◌≢◌, ℕ, zero, suc, ◌+◌, ◌-◌, ◌^◌, ◌<◌, ◌≤◌, ◌⊎◌, Bool, true, false, not, ◌&&◌, ◌==◌, List, [], ◌∷◌, ◌++◌, map, filter, flat_map, length, Option, Some, None, ℤ, pos}
-use Rattle.std.specs.List.{range_with_len, enumerate_from, list_any, AllByRecursion}
+use Rattle.std.specs.Prelude.{◌≡◌, ℕ, ◌+◌, ◌-◌, ◌<◌, ◌≤◌, ◌⊎◌, true, false, List, [], ◌∷◌, ◌++◌, map, flat_map, length, None, ℤ, pos}
+use Rattle.std.specs.List.{range_with_len, enumerate_from, AllByRecursion}
 use Rattle.std.proofs.Common.{refl, sym, ◌∙◌, ap, ap₂, subst, arith, inl, inr, true≢false}
 use Rattle.std.proofs.lemmas.List.{append-nil}
-use Rattle.std.proofs.lemmas.Bool.{and_parts, and_from, not_from_false, not_from_true, eq-eqb, cases_Bool, false_from_ne_true, or_left}
+use Rattle.std.proofs.lemmas.Bool.{and_parts, and_from, not_from_false, eq-eqb, cases_Bool, false_from_ne_true, or_left}
 use Rattle.c_tree.specs.declared.CType.TheVariants.{I32}
-use Rattle.c_tree.specs.Tree.{StmtTree, stmts_of_list}
+use Rattle.c_tree.specs.Tree.{stmts_of_list}
 use Rattle.c_tree.specs.Cells.{Cells}
 use Rattle.c_tree.specs.Values.{is_in_type, int_at}
-use Rattle.c_tree.specs.Machine.{LoggedCall, StoredField, Scope, Routine, routine_at, routine_of, run_stmt, run_stmts, field_types}
+use Rattle.c_tree.specs.Machine.{LoggedCall, StoredField, Scope, Routine, routine_at, routine_of, run_stmts, field_types}
 use Rattle.c_emitter.specs.declared.block.Block.{Block}
 use Rattle.c_emitter.specs.declared.block.Block.TheVariants.{Input, Output, Delay}
-use Rattle.c_emitter.specs.Blocks.{block_at, is_input, is_output, counter_place, memory_place, source_need, need_of, source_of, feeds_output, is_taken_in, is_given_in, is_held_input, is_unheld, output_rows, function_needs}
-use Rattle.c_emitter.specs.Bodies.{taken_ports, top_place, call_top, function_calls, update_place, output_copies, next_now, step_body, update_body}
+use Rattle.c_emitter.specs.Blocks.{block_at, is_output, counter_place, source_need, need_of, source_of, feeds_output, is_taken_in, is_given_in, is_held_input, is_unheld, output_rows, function_needs}
+use Rattle.c_emitter.specs.Bodies.{taken_ports, top_place, call_top, function_calls, update_place, output_copies, next_now, step_body}
 use Rattle.c_emitter.specs.FlatProgram.{root_fields_of, flat_structs, update_procedure}
 use Rattle.c_emitter.proofs.NumberCells.{number_cells, cells_with, item}
 use Rattle.c_emitter.proofs.Straight.{finish, own_store, Known}
@@ -20,12 +20,12 @@ use Rattle.c_emitter.proofs.Sequences.{run-append, finish-then}
 use Rattle.c_emitter.proofs.Chosen.{any-chosen}
 use Rattle.c_emitter.proofs.BlockFacts.{IsWellMade, AreBlocks, top_state, length-top_state, value-in_state, memory-in_state, counter-in_state}
 use Rattle.c_emitter.proofs.BlockTicks.{IsBlockTick, AreInts, MemoriesAreInts, value-is-int}
-use Rattle.c_emitter.proofs.TopRuns.{IsMemory, out_fields, update_cost, update_fields, held_rows, taken_rows, given_rows, run-update, feeds-from}
+use Rattle.c_emitter.proofs.TopRuns.{IsMemory, out_fields, update_cost, update_fields, held_rows, taken_rows, given_rows, run-update}
 use Rattle.c_emitter.proofs.Ports.{all-inputs, filter-none}
 use Rattle.c_emitter.proofs.Interface.{update-is_interface}
 use Rattle.c_emitter.proofs.CallRuns.{top_call, top_store, called_scope, call-ends}
-use Rattle.c_emitter.proofs.Members.{Has, has-append_left, has-append_right, has-flat_map, IsFeeder, feeder, need-listed}
-use Rattle.c_emitter.proofs.RootRuns.{IsOutRoutine, calls_cost, call_list, run-calls, run-copies, run-now}
+use Rattle.c_emitter.proofs.Members.{Has, has-append_left, has-append_right, has-flat_map, feeder, need-listed}
+use Rattle.c_emitter.proofs.RootRuns.{IsOutRoutine, calls_cost, run-calls, run-copies, run-now}
 use Rattle.c_emitter.proofs.Costs.{step_cost, step-cost-small}
 
 module _ (blocks : List Block) (are : AreBlocks blocks) where
@@ -44,7 +44,7 @@ module _ (blocks : List Block) (are : AreBlocks blocks) where
           let among : Has (map (λ b. b) (taken_rows blocks need)) b = any-chosen (is_taken_in blocks need) (λ b. b) 0 (length blocks) b b (omega arith) (omega arith) taken refl in
           let given : List ℕ = map (λ b. b) (given_rows blocks need) in
           inl (has-flat_map (out_fields blocks) (function_needs blocks) need b (held-by b feeds)
-            (has-append_left (map (λ b. b) (taken_rows blocks need) ++ given) (counter_place blocks ∷ []) b (has-append_left (map (λ b. b) (taken_rows blocks need)) given b among)))
+          (has-append_left (map (λ b. b) (taken_rows blocks need) ++ given) (counter_place blocks ∷ []) b (has-append_left (map (λ b. b) (taken_rows blocks need)) given b among)))
       source k same is_source (inr idle) = inr (and_from _ _ (not_from_false _ (ap is_output same ∙ is_source)) (not_from_false _ idle))
 
       by : (k : Block) → block_at blocks b ≡ k → (feeds_output blocks b ≡ true) ⊎ (feeds_output blocks b ≡ false) → Has (flat_map (out_fields blocks) (function_needs blocks)) b ⊎ (is_unheld blocks b ≡ true)
@@ -57,14 +57,14 @@ module _ (blocks : List Block) (are : AreBlocks blocks) where
           let among : Has (map (λ b. b) (given_rows blocks need)) b = any-chosen (is_given_in blocks need) (λ b. b) 0 (length blocks) b b (omega arith) (omega arith) given refl in
           let taken : List ℕ = map (λ b. b) (taken_rows blocks need) in
           inl (has-flat_map (out_fields blocks) (function_needs blocks) need b listed
-            (has-append_left (taken ++ map (λ b. b) (given_rows blocks need)) (counter_place blocks ∷ []) b (has-append_right taken (map (λ b. b) (given_rows blocks need)) b among)))
+          (has-append_left (taken ++ map (λ b. b) (given_rows blocks need)) (counter_place blocks ∷ []) b (has-append_right taken (map (λ b. b) (given_rows blocks need)) b among)))
 
   -- the counter is stored by each function; without functions no input is held
   counter-stored : (needs : List ℕ) → (needs ≡ []) ⊎ Has (flat_map (out_fields blocks) needs) (counter_place blocks)
   counter-stored [] = inl refl
   counter-stored (need ∷ needs) =
       inr (has-append_left (out_fields blocks need) (flat_map (out_fields blocks) needs) (counter_place blocks)
-        (has-append_right (map (λ b. b) (taken_rows blocks need) ++ map (λ b. b) (given_rows blocks need)) (counter_place blocks ∷ []) (counter_place blocks) (or_left _ false (eq-eqb (counter_place blocks) (counter_place blocks) refl))))
+      (has-append_right (map (λ b. b) (taken_rows blocks need) ++ map (λ b. b) (given_rows blocks need)) (counter_place blocks ∷ []) (counter_place blocks) (or_left _ false (eq-eqb (counter_place blocks) (counter_place blocks) refl))))
 
   pub none-held : function_needs blocks ≡ [] → held_rows blocks ≡ []
   none-held none = filter-none (is_held_input blocks) 0 (length blocks) (λ b low high.
@@ -126,7 +126,7 @@ module _ (blocks : List Block) (are : AreBlocks blocks) (x before v m n : List �
       let calls : ℕ = 0 + calls_cost blocks (function_needs blocks) in
       let scope : Scope = called_scope (flat_structs blocks) [] earlier (update_procedure blocks) blocks x None in
       let u = run-update blocks are x v m n tick xs ms scope refl known a.after (calls + 1) (a.size ∙ start) (omega arith) a.known_after (λ i k. inl k) takes-all refl counter
-        (λ b h. elim (stored-by blocks are b h) as (λ w. known b ⊎ (is_unheld blocks b ≡ true)) [ inl stored ↦ inl (inr stored) | inr idle ↦ inr idle ]) in
+      (λ b h. elim (stored-by blocks are b h) as (λ w. known b ⊎ (is_unheld blocks b ≡ true)) [ inl stored ↦ inl (inr stored) | inr idle ↦ inr idle ]) in
       let called = call-ends blocks s (flat_structs blocks) [] earlier (update_procedure blocks) (update_place blocks) None x zs a.after behind calls (update_cost blocks) (update_fields blocks) (omega arith) values xs refl place update refl update-is_interface u in
       let copied = run-copies blocks s 1 (output_rows blocks) (pos 0 ∷ []) outputs behind (calls + (1 + update_cost blocks)) (omega arith) types place refl outs_size (ints-of (output_rows blocks) below) in
       let moved = run-now blocks s (map (item behind) (output_rows blocks)) behind (calls + (1 + update_cost blocks) + length (output_rows blocks)) (omega arith) types in
@@ -134,7 +134,7 @@ module _ (blocks : List Block) (are : AreBlocks blocks) (x before v m n : List �
       let second = finish-then _ (run_stmts s (stmts_of_list (output_copies blocks))) _ _ _ _ _ _ _ _ called copied in
       let both = finish-then _ (run_stmts s (stmts_of_list (call_top blocks (update_place blocks) None ∷ output_copies blocks))) _ _ _ _ _ _ _ _ a.ends second in
       let whole = finish-then _ (run_stmts s (stmts_of_list (next_now ∷ []))) _ _ _ _ _ _ _ _
-        (run-append s (function_calls blocks) (call_top blocks (update_place blocks) None ∷ output_copies blocks) (root_state blocks outputs before m) 0 ∙ both) moved in
+      (run-append s (function_calls blocks) (call_top blocks (update_place blocks) None ∷ output_copies blocks) (root_state blocks outputs before m) 0 ∙ both) moved in
       run-append s (function_calls blocks ++ (call_top blocks (update_place blocks) None ∷ output_copies blocks)) (next_now ∷ []) (root_state blocks outputs before m) 0
       ∙ whole
       ∙ ap (λ l. finish (cells_with (pos 0 ∷ map (item behind) (output_rows blocks)) (number_cells behind)) (calls + (1 + update_cost blocks) + length (output_rows blocks) + 1) l (step_stores blocks)) (append-nil (step_log blocks))

@@ -1,18 +1,15 @@
 -- Straight code: lists of stores into number fields, and what is known of the fields behind them.
-use Rattle.std.specs.Prelude.{◌≡◌, ℕ, zero, suc, ◌+◌, ◌<◌, ◌≤◌, ◌^◌, ◌⊎◌, Bool, true, false, ◌||◌, ◌==◌, nat_lt, if◌then◌else◌, List, [], ◌∷◌, ◌++◌, map, length, slice_index_or, slice_set, ℤ, pos}
+use Rattle.std.specs.Prelude.{◌≡◌, ℕ, suc, ◌+◌, ◌<◌, ◌≤◌, ◌^◌, ◌⊎◌, Bool, true, false, ◌||◌, ◌==◌, if◌then◌else◌, List, [], ◌∷◌, map, length, slice_set, ℤ, pos}
 use Rattle.std.specs.List.{AllByRecursion, list_any}
 use Rattle.std.proofs.Common.{refl, sym, ◌∙◌, ap, ap₂, subst, arith, inl, inr, lt-ltb, get_or-set_same, get_or-set_other, true≢false}
 use Rattle.std.proofs.lemmas.List.{length-set}
 use Rattle.std.proofs.lemmas.Bool.Decides.{eqb_tells}
-use Rattle.c_tree.specs.declared.CType.{CType}
-use Rattle.c_tree.specs.declared.Leaf.{Leaf}
-use Rattle.c_tree.specs.declared.Leaf.TheVariants.{Param, Own}
-use Rattle.c_tree.specs.Tree.{ExprTree, literal, read, StmtTree, assign, StmtTrees, no_stmts, more_stmts, stmts_append, stmts_of_list}
+use Rattle.c_tree.specs.declared.Leaf.TheVariants.{Own}
+use Rattle.c_tree.specs.Tree.{ExprTree, read, assign, stmts_of_list}
 use Rattle.c_tree.specs.Cells.{Cells, number, set_cell}
-use Rattle.c_tree.specs.Values.{Function, gives, eval, reads, int_at, is_in_type, stuck_at, step_limit}
+use Rattle.c_tree.specs.Values.{Function, gives, eval, reads, is_in_type, stuck_at}
 use Rattle.c_tree.specs.declared.Why.TheVariants.{Range, Steps}
 use Rattle.c_tree.specs.Machine.{LoggedCall, StoredField, Outcome, done, stuck, behind, then_run, begin_step, on_answer, store, Scope, run_stmt, run_stmts, type_at}
-use Rattle.c_tree.proofs.Runs.{run_stmts-append}
 use Rattle.c_emitter.proofs.NumberCells.{number_cells, item, value_at-number_cells, set_cell-number_cells}
 
 -- how straight code ends: with these fields, steps, calls and stores

@@ -1,20 +1,20 @@
 -- What the procedures of `top` do in a tick.
-use Rattle.std.specs.Prelude.{◌≡◌, ℕ, zero, suc, ◌+◌, ◌-◌, ◌^◌, ◌<◌, ◌≤◌, ◌⊎◌, Bool, true, false, not, ◌&&◌, ◌||◌, ◌==◌, List, [], ◌∷◌, ◌++◌, map, filter, filter_map, length, slice_index_or, ℤ, pos}
-use Rattle.std.specs.List.{range_with_len, list_any, AllByRecursion}
+use Rattle.std.specs.Prelude.{◌≡◌, ℕ, zero, suc, ◌+◌, ◌-◌, ◌^◌, ◌<◌, ◌≤◌, ◌⊎◌, Bool, true, false, ◌==◌, List, [], ◌∷◌, ◌++◌, map, filter, filter_map, length, slice_index_or, ℤ, pos}
+use Rattle.std.specs.List.{range_with_len, list_any}
 use Rattle.std.proofs.Common.{refl, sym, ◌∙◌, ap, subst, arith, inl, inr, true≢false, eq-eqb}
 use Rattle.std.proofs.lemmas.Bool.{cases_lt, eqb-true, and_parts, and_from, not-true, not_from_false, or_left, or_right}
 use Rattle.c_tree.specs.declared.CType.TheVariants.{U8, I32}
-use Rattle.c_tree.specs.declared.Leaf.TheVariants.{Param, Own}
-use Rattle.c_tree.specs.Tree.{read, literal, StmtTree, assign, branch, stmts_of_list, StmtTrees, no_stmts, more_stmts}
+use Rattle.c_tree.specs.declared.Leaf.TheVariants.{Own}
+use Rattle.c_tree.specs.Tree.{read, literal, StmtTree, branch, stmts_of_list, no_stmts}
 use Rattle.std.specs.Ordering.{int_eq}
 use Rattle.std.proofs.lemmas.List.{ext_get_or}
 use Rattle.c_tree.specs.Cells.{value_at}
-use Rattle.c_tree.specs.Values.{gives, eval, eval_cond, reads, int_at, is_in_type}
-use Rattle.c_tree.specs.Machine.{Scope, run_stmt, run_stmts, type_at, then_run}
+use Rattle.c_tree.specs.Values.{gives, eval_cond, reads, int_at, is_in_type}
+use Rattle.c_tree.specs.Machine.{Scope, run_stmt, run_stmts, type_at}
 use Rattle.c_emitter.specs.declared.block.Block.{Block}
 use Rattle.c_emitter.specs.declared.block.Block.TheVariants.{Input, Output, Delay}
-use Rattle.c_emitter.specs.Blocks.{no_block, block_at, is_input, is_output, is_delay_block, port_of_input, source_of, memory_place, counter_place, source_need, need_of, output_source, output_sources, feeds_output, is_taken_in, is_given_in, is_held_input, is_unheld}
-use Rattle.c_emitter.specs.Bodies.{value_expr, store_value, store_by_port, store_memory, taken_stores, given_stores, held_stores, unheld_stores, memory_stores, hit_test, idle_test, set_counter, out_body, update_body, is_delay_row}
+use Rattle.c_emitter.specs.Blocks.{no_block, block_at, is_output, is_delay_block, port_of_input, source_of, memory_place, counter_place, source_need, output_source, is_taken_in, is_given_in, is_held_input, is_unheld}
+use Rattle.c_emitter.specs.Bodies.{value_expr, store_by_port, taken_stores, given_stores, held_stores, unheld_stores, memory_stores, hit_test, idle_test, set_counter, out_body, update_body, is_delay_row}
 use Rattle.c_emitter.proofs.NumberCells.{number_cells, item, value_at-number_cells}
 use Rattle.c_emitter.proofs.Straight.{finish, own_store, Known, Gives, gives-own, IsRightStore, Stores, stores-rows}
 use Rattle.c_emitter.proofs.Sequences.{stores-then, stores-under, stores-as, run-append, ends-then, branch-taken, branch-skipped}
@@ -65,14 +65,14 @@ all-known blocks v m c vs zs size holds = ext_get_or (pos 0) zs (top_state block
       | inl value ↦ holds i (inl (inl value))
       | inr above ↦ elim (cases_lt i (counter_place blocks)) [
         | inl memory ↦
-          let found = member-at (is_delay_row blocks) 0 (length blocks) (i - length blocks) (omega arith) in
-          let same : 0 + found.ahead ≡ found.ahead = omega arith in
-          let place : memory_place blocks found.ahead ≡ i = (let p = found.place in omega (arith, p)) in
-          holds i (inl (inr (any-chosen (is_delay_row blocks) (memory_place blocks) 0 (length blocks) found.ahead i (omega arith) (let w = found.within in omega (arith, w)) (subst (λ b. is_delay_row blocks b ≡ true) same found.passes) place)))
+            let found = member-at (is_delay_row blocks) 0 (length blocks) (i - length blocks) (omega arith) in
+            let same : 0 + found.ahead ≡ found.ahead = omega arith in
+            let place : memory_place blocks found.ahead ≡ i = (let p = found.place in omega (arith, p)) in
+            holds i (inl (inr (any-chosen (is_delay_row blocks) (memory_place blocks) 0 (length blocks) found.ahead i (omega arith) (let w = found.within in omega (arith, w)) (subst (λ b. is_delay_row blocks b ≡ true) same found.passes) place)))
         | inr last ↦
-          let total = length-top_state blocks v m c vs in
-          let counter : counter_place blocks ≡ i = omega (arith, total, size) in
-          holds i (inr (or_left (counter_place blocks == i) false (eq-eqb (counter_place blocks) i counter)))
+            let total = length-top_state blocks v m c vs in
+            let counter : counter_place blocks ≡ i = omega (arith, total, size) in
+            holds i (inr (or_left (counter_place blocks == i) false (eq-eqb (counter_place blocks) i counter)))
       ]
     ]
 
@@ -136,10 +136,10 @@ module _ (blocks : List Block) (are : AreBlocks blocks) (x v m n : List ℤ) (ti
   run-taken known need zs steps size h holds memory input =
       stores-rows s in_tick known (λ b. b) (λ b. value_expr (block_at blocks b) 1 (memory_place blocks b)) (taken_rows blocks need) zs steps size h holds
       (all-chosen (is_taken_in blocks need) _ 0 (length blocks) (λ b low high passes.
-        let parts = and_parts _ _ passes in
-        let source = and_parts _ _ parts.0 in
-        let within : b < length blocks = omega arith in
-        value-right known 1 b within (readable-taken known need b (block_at blocks b) memory input within refl (not-true (is_output (block_at blocks b)) source.0) (eqb-true _ _ parts.1))))
+      let parts = and_parts _ _ passes in
+      let source = and_parts _ _ parts.0 in
+      let within : b < length blocks = omega arith in
+      value-right known 1 b within (readable-taken known need b (block_at blocks b) memory input within refl (not-true (is_output (block_at blocks b)) source.0) (eqb-true _ _ parts.1))))
 
   readable-given : (known : ℕ → Type 0) (need b : ℕ) (k : Block) → b < length blocks → block_at blocks b ≡ k → IsWellMade blocks k → is_given_in blocks need b ≡ true →
       ((c : ℕ) → IsSource blocks c → is_taken_in blocks need c ≡ true → known c) → Readable known k 1 (memory_place blocks b)
@@ -155,8 +155,8 @@ module _ (blocks : List Block) (are : AreBlocks blocks) (x v m n : List ℤ) (ti
   run-given known need zs steps size h holds taken =
       stores-rows s in_tick known (λ b. b) (λ b. value_expr (block_at blocks b) 1 (memory_place blocks b)) (given_rows blocks need) zs steps size h holds
       (all-chosen (is_given_in blocks need) _ 0 (length blocks) (λ b low high passes.
-        let within : b < length blocks = omega arith in
-        value-right known 1 b within (readable-given known need b (block_at blocks b) within refl (are.each b within) passes taken)))
+      let within : b < length blocks = omega arith in
+      value-right known 1 b within (readable-given known need b (block_at blocks b) within refl (are.each b within) passes taken)))
 
   -- the tick is one of those at which every row runs
   hit-at : (zs : List ℤ) (steps : ℕ) → int_at s.values 0 ≡ pos 0 → eval_cond s.functions (reads s.values (number_cells zs)) 0 hit_test steps ≡ gives true steps
@@ -182,13 +182,13 @@ module _ (blocks : List Block) (are : AreBlocks blocks) (x v m n : List ℤ) (ti
       let taken : ℕ → Type 0 = λ j. known j ⊎ (list_any (λ f. f == j) (map (λ b. b) (taken_rows blocks need)) ≡ true) in
       let a = run-taken known need zs (steps + 1) size (omega arith) holds memory input in
       let b = run-given taken need a.after (steps + 1 + length (taken_rows blocks need)) (a.size ∙ size) (omega arith) a.known_after
-        (λ c source passes. let within : c < length blocks = source.0 in inr (any-chosen (is_taken_in blocks need) (λ b. b) 0 (length blocks) c c (omega arith) (omega arith) passes refl)) in
+      (λ c source passes. let within : c < length blocks = source.0 in inr (any-chosen (is_taken_in blocks need) (λ b. b) 0 (length blocks) c c (omega arith) (omega arith) passes refl)) in
       let both = stores-then (run_stmts s (stmts_of_list (taken_stores blocks need))) (run_stmts s (stmts_of_list (given_stores blocks need))) in_tick known (steps + 1) (length (taken_rows blocks need)) (length (given_rows blocks need))
-        (map (λ b. b) (taken_rows blocks need)) (map (λ b. b) (given_rows blocks need)) zs a b in
+      (map (λ b. b) (taken_rows blocks need)) (map (λ b. b) (given_rows blocks need)) zs a b in
       let body = stores-as _ (run_stmts s (stmts_of_list (taken_stores blocks need ++ given_stores blocks need))) in_tick known (steps + 1) _ _ zs (run-append s (taken_stores blocks need) (given_stores blocks need) (number_cells zs) (steps + 1)) both in
       let under = stores-under s hit_test (stmts_of_list (taken_stores blocks need ++ given_stores blocks need)) in_tick known steps _ _ zs (omega arith) (hit-at zs (steps + 1) now) body in
       let last = run-counter in_tick _ (pos 1) under.after (steps + (1 + (length (taken_rows blocks need) + length (given_rows blocks need)))) (length-top_state blocks v m (pos 1) tick.size) (counter-in_state blocks v m (pos 1) tick.size) refl
-        (under.size ∙ size) (omega arith) under.known_after in
+      (under.size ∙ size) (omega arith) under.known_after in
       stores-then (run_stmt s (branch 0 hit_test (stmts_of_list (taken_stores blocks need ++ given_stores blocks need)) no_stmts)) (run_stmts s (stmts_of_list (set_counter blocks (pos 1) ∷ []))) in_tick known steps _ _ _ _ zs under last
 
   -- ---- The update
@@ -208,9 +208,9 @@ module _ (blocks : List Block) (are : AreBlocks blocks) (x v m n : List ℤ) (ti
   run-unheld known zs steps size h holds memory input =
       stores-rows s in_tick known (λ b. b) (λ b. value_expr (block_at blocks b) (port_of_input (block_at blocks b)) (memory_place blocks b)) (unheld_rows blocks) zs steps size h holds
       (all-chosen (is_unheld blocks) _ 0 (length blocks) (λ b low high passes.
-        let within : b < length blocks = omega arith in
-        let parts = and_parts _ _ passes in
-        value-right known (port_of_input (block_at blocks b)) b within (readable-unheld known b (block_at blocks b) memory input within refl (not-true (is_output (block_at blocks b)) parts.0))))
+      let within : b < length blocks = omega arith in
+      let parts = and_parts _ _ passes in
+      value-right known (port_of_input (block_at blocks b)) b within (readable-unheld known b (block_at blocks b) memory input within refl (not-true (is_output (block_at blocks b)) parts.0))))
 
   -- the fields of `top` behind the tick
   abbrev pub behind_tick : List ℤ
@@ -268,18 +268,18 @@ module _ (blocks : List Block) (are : AreBlocks blocks) (x v m n : List ℤ) (ti
       let sizes : length in_tick ≡ length behind_tick = length-top_state blocks v m (pos 1) tick.size ∙ sym (length-top_state blocks v n (pos 0) tick.size) in
       let u = run-unheld known zs (steps + 1 + 1) size (omega arith) holds memory input in
       let values : Known behind_tick (λ j. j < length blocks) u.after =
-        λ j within. u.known_after j (elim (rows j within) [ inl k ↦ inl k | inr passes ↦ inr (any-chosen (is_unheld blocks) (λ b. b) 0 (length blocks) j j (omega arith) (omega arith) passes refl) ])
-        ∙ value-in_state blocks v m (pos 1) j tick.size within ∙ sym (value-in_state blocks v n (pos 0) j tick.size within) in
+      λ j within. u.known_after j (elim (rows j within) [ inl k ↦ inl k | inr passes ↦ inr (any-chosen (is_unheld blocks) (λ b. b) 0 (length blocks) j j (omega arith) (omega arith) passes refl) ])
+      ∙ value-in_state blocks v m (pos 1) j tick.size within ∙ sym (value-in_state blocks v n (pos 0) j tick.size within) in
       let w = run-memories u.after (steps + 1 + 1 + length (unheld_rows blocks)) (u.size ∙ size ∙ sizes) (omega arith) values in
       let hit : StmtTree = branch 0 hit_test (stmts_of_list (unheld_stores blocks ++ memory_stores blocks)) no_stmts in
       let c = run-counter behind_tick _ (pos 0) w.after (steps + 1 + (1 + (length (unheld_rows blocks) + length (memory_rows blocks)))) (length-top_state blocks v n (pos 0) tick.size) (counter-in_state blocks v n (pos 0) tick.size) refl
-        (w.size ∙ u.size ∙ size ∙ sizes) (omega arith) w.known_after in
+      (w.size ∙ u.size ∙ size ∙ sizes) (omega arith) w.known_after in
       let stored = ends-then (run_stmts s (stmts_of_list (unheld_stores blocks))) (run_stmts s (stmts_of_list (memory_stores blocks))) zs u.after w.after (steps + 1 + 1) _ _ _ _ u.ends w.ends in
       let count : steps + 1 + 1 + (length (unheld_rows blocks) + length (memory_rows blocks)) ≡ steps + 1 + (1 + (length (unheld_rows blocks) + length (memory_rows blocks))) = omega arith in
       let hits : run_stmt s hit (number_cells zs) (steps + 1) ≡ finish (number_cells w.after) (steps + 1 + (1 + (length (unheld_rows blocks) + length (memory_rows blocks)))) [] (map own_store (map (λ b. b) (unheld_rows blocks) ++ map (memory_place blocks) (memory_rows blocks))) =
-        branch-taken s hit_test (stmts_of_list (unheld_stores blocks ++ memory_stores blocks)) (number_cells zs) (steps + 1) (omega arith) (hit-at zs (steps + 1 + 1) now)
-        ∙ run-append s (unheld_stores blocks) (memory_stores blocks) (number_cells zs) (steps + 1 + 1) ∙ stored
-        ∙ ap (λ k. finish (number_cells w.after) k [] (map own_store (map (λ b. b) (unheld_rows blocks) ++ map (memory_place blocks) (memory_rows blocks)))) count in
+      branch-taken s hit_test (stmts_of_list (unheld_stores blocks ++ memory_stores blocks)) (number_cells zs) (steps + 1) (omega arith) (hit-at zs (steps + 1 + 1) now)
+      ∙ run-append s (unheld_stores blocks) (memory_stores blocks) (number_cells zs) (steps + 1 + 1) ∙ stored
+      ∙ ap (λ k. finish (number_cells w.after) k [] (map own_store (map (λ b. b) (unheld_rows blocks) ++ map (memory_place blocks) (memory_rows blocks)))) count in
       let later = ends-then (run_stmt s hit) (run_stmts s (stmts_of_list (set_counter blocks (pos 0) ∷ []))) zs w.after c.after (steps + 1) _ _ _ _ hits c.ends in
       ends-then (run_stmt s (branch 0 (idle_test blocks) (stmts_of_list (held_stores blocks)) no_stmts)) (run_stmts s (stmts_of_list (hit ∷ set_counter blocks (pos 0) ∷ []))) zs zs c.after steps _ _ [] _ (idle-ends zs steps (omega arith) idle) later
       ∙ ap (λ ys. finish (number_cells ys) (steps + (update_cost blocks)) [] (map own_store (update_fields blocks))) (all-known blocks v n (pos 0) tick.size c.after (c.size ∙ w.size ∙ u.size ∙ size ∙ sizes) c.known_after)

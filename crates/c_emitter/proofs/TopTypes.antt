@@ -1,7 +1,7 @@
 -- The types of the fields of `top`.
-use Rattle.std.specs.Prelude.{◌≡◌, ℕ, zero, suc, ◌+◌, ◌-◌, ◌<◌, ◌≤◌, List, [], ◌∷◌, ◌++◌, map, length}
+use Rattle.std.specs.Prelude.{◌≡◌, ℕ, zero, suc, ◌+◌, ◌-◌, ◌<◌, List, [], ◌∷◌, ◌++◌, map, length}
 use Rattle.std.specs.List.{range_with_len}
-use Rattle.std.proofs.Common.{refl, sym, ◌∙◌, ap, subst, arith, append_assoc, inl, inr}
+use Rattle.std.proofs.Common.{refl, ◌∙◌, ap, arith, append_assoc, inl, inr}
 use Rattle.std.proofs.lemmas.Bool.{cases_lt}
 use Rattle.std.proofs.lemmas.List.FromFn.{length-range_with_len}
 use Rattle.c_tree.specs.declared.CType.{CType}
@@ -36,9 +36,9 @@ module _ (blocks : List Block) where
   int-below j h = split j ∙ elim (cases_lt j (length blocks)) [
     | inl below ↦ int-types (range_with_len 0 (length blocks)) value_name _ j (let rows = length-range_with_len 0 (length blocks) in omega (arith, rows))
     | inr above ↦
-      let rows = length-range_with_len 0 (length blocks) in
-      behind-int-types (range_with_len 0 (length blocks)) value_name _ j (j - length blocks) (omega (arith, rows))
-      ∙ int-types (delay_rows blocks) memory_name _ (j - length blocks) (omega arith)
+        let rows = length-range_with_len 0 (length blocks) in
+        behind-int-types (range_with_len 0 (length blocks)) value_name _ j (j - length blocks) (omega (arith, rows))
+        ∙ int-types (delay_rows blocks) memory_name _ (j - length blocks) (omega arith)
   ]
 
   pub counter-type : type_at top_types (counter_place blocks) ≡ U8

@@ -1,5 +1,5 @@
 -- When a program is code for a diagram of one system.
-use Rattle.std.specs.Prelude.{◌≡◌, ℕ, ◌≤◌, List, [], ◌∷◌, map, filter, length, Contains, IsPermutation, Option, None, ℤ, pos}
+use Rattle.std.specs.Prelude.{◌≡◌, ℕ, ◌≤◌, List, [], ◌∷◌, map, filter, length, Contains, IsPermutation, None, ℤ}
 use Rattle.std.specs.List.{AllByRecursion}
 use Rattle.mc_diagram.specs.Rows.{row_at, rows_of}
 use Rattle.mc_blocks.specs.Meaning.{has_value}
@@ -12,7 +12,7 @@ use Rattle.mc_profile.specs.Systems.{system_name}
 use Rattle.c_tree.specs.Tree.{StructTree, ProgramTree}
 use Rattle.c_tree.specs.Cells.{Cells, value_at as number_at}
 use Rattle.c_tree.specs.Machine.{Outcome, done, stuck}
-use Rattle.c_tree.specs.Rows.{TickRow, c_rows, start_run}
+use Rattle.c_tree.specs.Rows.{c_rows, start_run}
 use Rattle.c_tree.specs.Lawful.{IsLawful}
 use Rattle.c_emitter.specs.Names.{value_name, memory_name, root_name}
 use Rattle.c_emitter.specs.Systems.{step_bound, IsTrace}

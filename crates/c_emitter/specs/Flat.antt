@@ -1,8 +1,8 @@
 -- Diagrams of one system that has Inports, Outports and Unit Delays alone.
-use Rattle.std.specs.Prelude.{◌≡◌, ℕ, ◌<◌, ◌≤◌, IsTrue, Bool, true, false, List, [], ◌∷◌, length, Option, None}
+use Rattle.std.specs.Prelude.{◌≡◌, ℕ, ◌<◌, ◌≤◌, IsTrue, Bool, true, false, List, [], ◌∷◌, length, None}
 use Rattle.std.specs.List.{AllByRecursion}
 use Rattle.mc_blocks.specs.declared.Kind.{Kind}
-use Rattle.mc_blocks.specs.declared.Kind.TheVariants.{Inport, Outport, SubSystem, Constant, Ground, Terminator, Gain, Sum, Product, UnitDelay, ZeroOrderHold, Switch, Relational, Logic, Convert, RateTransition, EnablePort, TriggerPort}
+use Rattle.mc_blocks.specs.declared.Kind.TheVariants.{Inport, Outport, UnitDelay}
 use Rattle.mc_diagram.specs.declared.Row.{Row}
 use Rattle.mc_diagram.specs.Rows.{row_at, by_row, is_inport, is_outport}
 use Rattle.mc_diagram.specs.WellFormed.{HasPorts}

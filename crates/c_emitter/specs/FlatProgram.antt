@@ -1,5 +1,5 @@
 -- The program for a diagram of one system.
-use Rattle.std.specs.Prelude.{ℕ, ◌+◌, false, List, [], ◌∷◌, ◌++◌, map, length, Option, Some, None, codes}
+use Rattle.std.specs.Prelude.{ℕ, false, List, [], ◌∷◌, ◌++◌, map, length, Option, Some, None, codes}
 use Rattle.std.specs.List.{range_with_len, enumerate_from}
 use Rattle.c_tree.specs.declared.CType.TheVariants.{U8, I32}
 use Rattle.c_tree.specs.declared.FieldKind.TheVariants.{Number, Struct}

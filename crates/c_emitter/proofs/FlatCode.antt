@@ -1,0 +1,42 @@
+-- The program for a diagram of one system is code for it.
+use Rattle.std.specs.Prelude.{◌≤◌, List, length}
+use Rattle.std.proofs.Common.{refl, arith}
+use Rattle.mc_blocks.specs.declared.Op.{Op}
+use Rattle.mc_diagram.specs.declared.Row.{Row}
+use Rattle.c_emitter.specs.Flat.{IsFlat}
+use Rattle.c_emitter.specs.Code.{IsCodeFor, IsFunctionCount}
+use Rattle.c_emitter.specs.Blocks.{blocks_of, output_needs, output_rows, function_needs}
+use Rattle.c_emitter.specs.FlatProgram.{flat_program}
+use Rattle.c_emitter.proofs.BlockFacts.{AreBlocks}
+use Rattle.c_emitter.proofs.Costs.{outputs-few, functions-few}
+use Rattle.c_emitter.proofs.FlatRows.{diagram}
+use Rattle.c_emitter.proofs.FlatBlocks.{are-blocks}
+use Rattle.c_emitter.proofs.FlatOutputs.{outputs-are-rows, gives-outputs}
+use Rattle.c_emitter.proofs.FlatLaws.{stays-in-bound, starts-all, calls-in-ticks}
+use Rattle.c_emitter.proofs.FlatTrueNeeds.{are-true-needs}
+use Rattle.c_emitter.proofs.FlatHeaders.{has-headers}
+use Rattle.c_emitter.proofs.FlatLawful.{is-lawful}
+
+pub flat-is-code : (rows : List Row) (ops : List Op) → IsFlat (diagram rows ops) → IsCodeFor (flat_program (blocks_of (diagram rows ops))) (diagram rows ops)
+flat-is-code rows ops flat =
+    let bs = blocks_of (diagram rows ops) in
+    let are : AreBlocks bs = are-blocks rows ops flat in
+    let few_outputs = are.few_outputs in
+    let counted = outputs-few bs in
+    let outs : length (output_rows bs) ≤ 32 = omega (arith, few_outputs, counted) in
+    let fewer = functions-few bs in
+    record {
+      lawful = is-lawful bs are (outputs-are-rows bs) outs (omega (arith, outs, fewer));
+      outputs = gives-outputs rows ops flat;
+      bounded = stays-in-bound rows ops flat;
+      started = starts-all rows ops flat;
+      headers = has-headers rows ops flat;
+      calls = calls-in-ticks rows ops flat;
+    }
+
+pub flat-function-count : (rows : List Row) (ops : List Op) → IsFlat (diagram rows ops) → IsFunctionCount (diagram rows ops) (length (function_needs (blocks_of (diagram rows ops))))
+flat-function-count rows ops flat = record {
+  needs = output_needs (blocks_of (diagram rows ops));
+  are_needs = are-true-needs rows ops flat;
+  count = refl;
+}
