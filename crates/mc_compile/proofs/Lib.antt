@@ -6,3 +6,5 @@ pub mod RowLaws
 pub mod WireLaws
 pub mod PortLaws
 pub mod CheckLaws
+pub mod RowsAreOne
+pub mod OneVerdict

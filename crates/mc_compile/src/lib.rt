@@ -5,6 +5,7 @@ mod blocks;
 mod checks;
 mod compiled;
 mod initial;
+mod laws;
 mod lines;
 mod names;
 mod ports;
@@ -12,3 +13,4 @@ mod sections;
 mod wiring;
 
 pub use compiled::{CompileFault, Compiled};
+pub use laws::one_verdict;

@@ -1,0 +1,5 @@
+use Rattle.mc_compile.proofs.OneVerdict as verdict
+use Rattle.mc_compile.proofs.laws.one_verdict.Goals as goal
+
+pub returns : goal.returns
+returns c = verdict.one_verdict c.tree_or_fault.ensures
