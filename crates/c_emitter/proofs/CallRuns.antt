@@ -7,7 +7,8 @@ use Rattle.c_tree.specs.declared.Target.TheVariants.{Child as InChild}
 use Rattle.c_tree.specs.Tree.{ExprTrees, read, exprs_of_list, StructTree, struct_fields, ProcedureTree}
 use Rattle.c_tree.specs.Cells.{Cells}
 use Rattle.c_tree.specs.Values.{Function, reads}
-use Rattle.c_tree.specs.Machine.{LoggedCall, StoredField, behind, on_answer, on_target, in_child, arguments, store_under, Scope, Routine, routine_at, routine_of, run_stmt, run_stmts, field_types, is_interface}
+use Rattle.c_tree.specs.Machine.{LoggedCall, StoredField, behind, on_answer, on_target, in_child, arguments, store_under, Scope, Routine, routine_at, routine_of, run_stmt, run_stmts, is_interface}
+use Rattle.c_tree.specs.Tree.{field_types}
 use Rattle.c_emitter.specs.declared.block.Block.{Block}
 use Rattle.c_emitter.specs.Bodies.{taken_ports, top_place, call_top}
 use Rattle.c_emitter.proofs.NumberCells.{number_cells, cells_with, item, value_at-cells_with, fields_at-cells_with, set_object-cells_with}

@@ -14,7 +14,7 @@ use Rattle.mc_blocks.specs.declared.Kind.TheVariants.{Inport, Outport}
 use Rattle.mc_blocks.specs.declared.Op.{Op}
 use Rattle.mc_blocks.specs.declared.Op.TheVariants.{Copy}
 use Rattle.mc_diagram.specs.declared.Row.{Row}
-use Rattle.mc_diagram.specs.Rows.{row_at, rows_of, numbers, same_system, is_inport, is_outport, port_of, system_control}
+use Rattle.mc_diagram.specs.Rows.{row_at, rows_of, row_numbers, same_system, is_inport, is_outport, port_of, system_control}
 use Rattle.mc_diagram.specs.Diagram.{op_at, type_at}
 use Rattle.mc_diagram.specs.Run.{is_delay, start_of, start_by}
 use Rattle.c_emitter.specs.declared.block.Block.{Block}
@@ -76,8 +76,8 @@ module _ (rows : List Row) (ops : List Op) (flat : IsFlat (diagram rows ops)) wh
 
   -- ---- Counts
 
-  pub own-rows : rows_of rows None ≡ numbers rows
-  own-rows = filter-agree (λ b. same_system (row_at rows b).owner None) (λ b. true) 0 (length rows) (λ b low high. ap (λ o. same_system o None) (root-row rows ops flat b (omega arith))) ∙ filter-all (numbers rows)
+  pub own-rows : rows_of rows None ≡ row_numbers rows
+  own-rows = filter-agree (λ b. same_system (row_at rows b).owner None) (λ b. true) 0 (length rows) (λ b low high. ap (λ o. same_system o None) (root-row rows ops flat b (omega arith))) ∙ filter-all (row_numbers rows)
 
   -- the rows of the root that pass a test on kinds, where a test on blocks says the same
   passing-rows : (test : Kind → Bool) (also : Block → Bool) → ((b : ℕ) → RowView rows ops b → test (row_at rows b).kind ≡ also (block_at blocks b)) →

@@ -10,7 +10,7 @@ use Rattle.mc_base.specs.declared.Port.TheVariants.{Number as PortNumber}
 use Rattle.mc_blocks.specs.Meaning.{has_value}
 use Rattle.mc_blocks.specs.declared.Op.{Op}
 use Rattle.mc_diagram.specs.declared.Row.{Row}
-use Rattle.mc_diagram.specs.Rows.{row_at, numbers, is_subsystem}
+use Rattle.mc_diagram.specs.Rows.{row_at, row_numbers, is_subsystem}
 use Rattle.mc_diagram.specs.Diagram.{type_at, op_at}
 use Rattle.mc_diagram.specs.Run.{is_delay}
 use Rattle.mc_profile.specs.declared.Function.{Function}
@@ -114,7 +114,7 @@ module _ (rows : List Row) (ops : List Op) (flat : IsFlat (diagram rows ops)) wh
   values-asked : value_fields (diagram rows ops) None ≡ values
   values-asked =
       ap (λ own. map (λ b. number_field (value_name b) (container (type_at (diagram rows ops).types b))) (filter (λ b. has_value (row_at rows b).kind) own)) (own-rows rows ops flat)
-      ∙ ap (map (λ b. number_field (value_name b) (container (type_at (diagram rows ops).types b)))) (filter-agree (λ b. has_value (row_at rows b).kind) (λ b. true) 0 (length rows) (λ b low high. has-value-at b (view rows ops flat b (omega arith))) ∙ filter-all (numbers rows))
+      ∙ ap (map (λ b. number_field (value_name b) (container (type_at (diagram rows ops).types b)))) (filter-agree (λ b. has_value (row_at rows b).kind) (λ b. true) 0 (length rows) (λ b low high. has-value-at b (view rows ops flat b (omega arith))) ∙ filter-all (row_numbers rows))
       ∙ map-agree-range _ (λ b. named (value_name b)) 0 (length rows) (λ b low high. ap (number_field (value_name b)) (int-at b (omega arith)))
       ∙ ap (λ n. map (λ b. named (value_name b)) (range_with_len 0 n)) (sym (same-length rows ops flat))
 

@@ -6,7 +6,7 @@ use Rattle.std.proofs.Math.Path.{fun_ext}
 use Rattle.mc_blocks.specs.declared.Op.{Op}
 use Rattle.mc_blocks.specs.Value.{feeds_through}
 use Rattle.mc_diagram.specs.declared.Row.{Row}
-use Rattle.mc_diagram.specs.Rows.{row_at, blank, is_outport, port_of, outports_of}
+use Rattle.mc_diagram.specs.Rows.{row_at, no_row, is_outport, port_of, outports_of}
 use Rattle.mc_diagram.specs.Diagram.{op_at}
 use Rattle.mc_diagram.specs.Needs.{needs_of, inputs_used, control_wires, Walk, HasNoLoop}
 use Rattle.mc_diagram.specs.Run.{start_of}
@@ -53,12 +53,12 @@ module _ (rows : List Row) (ops : List Op) (flat : IsFlat (diagram rows ops)) wh
   source-needs b h (output_view port reset initial c kind wires below s op block) source = absurd (true≢false (sym source ∙ ap is_source kind))
   source-needs b h (delay_row initial c kind wires below s op block) source = needs-by b (root-row rows ops flat b h) ∙ ap (λ o. (if feeds_through o then (row_at rows b).inputs else []) ++ []) op
 
-  past-needs : (b : ℕ) → row_at rows b ≡ blank → needs_of (diagram rows ops) b ≡ []
+  past-needs : (b : ℕ) → row_at rows b ≡ no_row → needs_of (diagram rows ops) b ≡ []
   past-needs b e =
       needs-by b (ap (λ (r : Row). r.owner) e) ∙ ap (λ ws. (if feeds_through (op_at (diagram rows ops) b) then ws else []) ++ []) (ap (λ (r : Row). r.inputs) e)
       ∙ by (feeds_through (op_at (diagram rows ops) b))
     where
-      by : (t : Bool) → (if t then blank.inputs else []) ++ [] ≡ []
+      by : (t : Bool) → (if t then no_row.inputs else []) ++ [] ≡ []
       by true = refl
       by false = refl
 

@@ -20,7 +20,8 @@ use Rattle.mc_profile.specs.Systems.{input_row}
 use Rattle.c_tree.specs.declared.CType.TheVariants.{I32}
 use Rattle.c_tree.specs.Values.{least_of, greatest_of}
 use Rattle.c_tree.specs.Cells.{Cells, value_at}
-use Rattle.c_tree.specs.Machine.{After, Outcome, done, behind, program_routines, routine_at, Routine, Scope, run_stmts, field_types}
+use Rattle.c_tree.specs.Machine.{After, Outcome, done, behind, program_routines, routine_at, Routine, Scope, run_stmts}
+use Rattle.c_tree.specs.Tree.{field_types}
 use Rattle.c_tree.specs.Tree.{stmts_of_list}
 use Rattle.c_tree.specs.Rows.{TickRow, Rows, tick_row, rows_after, rows_from, rows_of_start, with_tick, c_rows, step_run}
 use Rattle.c_tree.proofs.Runs.{behind-nothing}

@@ -12,7 +12,7 @@ use Rattle.mc_blocks.specs.declared.Op.{Op}
 use Rattle.mc_blocks.specs.declared.Op.TheVariants as op
 use Rattle.mc_blocks.specs.Meaning.{op_of}
 use Rattle.mc_diagram.specs.declared.Row.{Row}
-use Rattle.mc_diagram.specs.Rows.{row_at, blank, system_control}
+use Rattle.mc_diagram.specs.Rows.{row_at, no_row, system_control}
 use Rattle.mc_diagram.specs.Diagram.{Diagram, type_at, op_at, op_in}
 use Rattle.mc_diagram.specs.Run.{start_of, start_by}
 use Rattle.mc_diagram.proofs.ByRow.{by_row-at}
@@ -40,7 +40,7 @@ module _ (rows : List Row) (ops : List Op) where
 
   module _ (flat : IsFlat diagram) where
     flat-row : (b : ℕ) → b < length rows → IsFlatRow rows (row_at rows b)
-    flat-row b h = holds-at (IsFlatRow rows) rows b blank flat.each h
+    flat-row b h = holds-at (IsFlatRow rows) rows b no_row flat.each h
 
     pub root-row : (b : ℕ) → b < length rows → (row_at rows b).owner ≡ None
     root-row b h = (flat-row b h).of_root

@@ -14,7 +14,7 @@ use Rattle.mc_blocks.specs.declared.Op.{Op}
 use Rattle.mc_blocks.specs.Meaning.{has_value}
 use Rattle.mc_blocks.specs.Value.{rhs, input}
 use Rattle.mc_diagram.specs.declared.Row.{Row}
-use Rattle.mc_diagram.specs.Rows.{row_at, numbers, around, outward, enclosing, is_inport, is_inport_of, same_system, port_of, column}
+use Rattle.mc_diagram.specs.Rows.{row_at, row_numbers, around, outward, enclosing, is_inport, is_inport_of, same_system, port_of, column}
 use Rattle.mc_diagram.specs.SampleTimes.{hit, every_tick}
 use Rattle.mc_diagram.specs.Diagram.{Diagram, op_at, time_at}
 use Rattle.mc_diagram.specs.Run.{value_at, is_delay, start_of, runs, input_values, is_reset_outport, is_disabled, row_value, any_off, active_in, values_by, memories_by, has_memory, IsTick}
@@ -101,7 +101,7 @@ module _ (rows : List Row) (ops : List Op) (flat : IsFlat (diagram rows ops)) (t
 
   pub block-tick : IsBlockTick (blocks rows ops flat) x v m n
   block-tick = record {
-    size = ap length tick.values ∙ length-map (numbers rows) (λ b. row_value d None t x before m g v b) ∙ length-range_with_len 0 (length rows) ∙ sym (same-length rows ops flat);
+    size = ap length tick.values ∙ length-map (row_numbers rows) (λ b. row_value d None t x before m g v b) ∙ length-range_with_len 0 (length rows) ∙ sym (same-length rows ops flat);
     each = λ b h. (let within : b < length rows = (let same = same-length rows ops flat in omega (arith, same)) in row-tick b within (view rows ops flat b within));
   }
 

@@ -12,7 +12,8 @@ use Rattle.c_tree.specs.declared.BinOp.TheVariants.{Add, Rem}
 use Rattle.c_tree.specs.Tree.{read, literal, binary, StmtTree, assign, stmts_of_list, ProcedureTree}
 use Rattle.c_tree.specs.Cells.{Cells, number, set_cell, value_at}
 use Rattle.c_tree.specs.Values.{Function, gives, eval, reads, is_in_type, stuck_at}
-use Rattle.c_tree.specs.Machine.{LoggedCall, stuck, behind, then_run, on_answer, store, Scope, Routine, routine_at, routine_of, run_stmt, run_stmts, type_at, field_types}
+use Rattle.c_tree.specs.Machine.{LoggedCall, stuck, behind, then_run, on_answer, store, Scope, Routine, routine_at, routine_of, run_stmt, run_stmts}
+use Rattle.c_tree.specs.Tree.{type_at, field_types}
 use Rattle.c_emitter.specs.declared.block.Block.{Block}
 use Rattle.c_emitter.specs.declared.block.Block.TheVariants.{Input}
 use Rattle.c_emitter.specs.Names.{output_name}

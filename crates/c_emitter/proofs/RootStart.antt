@@ -10,7 +10,8 @@ use Rattle.c_tree.specs.declared.Target.TheVariants.{Child as InChild}
 use Rattle.c_tree.specs.Tree.{no_exprs, stmts_of_list, FieldTree}
 use Rattle.c_tree.specs.Cells.{Cells, no_cells, more_cells, number, zero_cells}
 use Rattle.c_tree.specs.Values.{reads}
-use Rattle.c_tree.specs.Machine.{behind, then_run, on_answer, on_target, in_child, arguments, store_under, Scope, Routine, routine_at, routine_of, program_routines, run_stmts, field_types}
+use Rattle.c_tree.specs.Machine.{behind, then_run, on_answer, on_target, in_child, arguments, store_under, Scope, Routine, routine_at, routine_of, program_routines, run_stmts}
+use Rattle.c_tree.specs.Tree.{field_types}
 use Rattle.c_tree.specs.Rows.{zero_root, start_run}
 use Rattle.c_tree.proofs.Runs.{behind-nothing}
 use Rattle.c_emitter.specs.declared.block.Block.{Block}

@@ -8,7 +8,8 @@ use Rattle.c_tree.specs.declared.CType.TheVariants.{U8, I32, I64}
 use Rattle.c_tree.specs.declared.Why.TheVariants.{Overflow}
 use Rattle.c_tree.specs.Tree.{literal, StmtTree, stmts_of_list}
 use Rattle.c_tree.specs.Values.{gives, is_in_type, sticks, stuck_at}
-use Rattle.c_tree.specs.Machine.{Scope, run_stmts, type_at}
+use Rattle.c_tree.specs.Machine.{Scope, run_stmts}
+use Rattle.c_tree.specs.Tree.{type_at}
 use Rattle.c_emitter.specs.declared.block.Block.{Block}
 use Rattle.c_emitter.specs.declared.block.Block.TheVariants.{Input, Output, Delay}
 use Rattle.c_emitter.specs.Blocks.{block_at, start_value, counter_place, memory_place}

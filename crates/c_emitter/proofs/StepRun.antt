@@ -8,7 +8,8 @@ use Rattle.c_tree.specs.declared.CType.TheVariants.{I32}
 use Rattle.c_tree.specs.Tree.{stmts_of_list}
 use Rattle.c_tree.specs.Cells.{Cells}
 use Rattle.c_tree.specs.Values.{is_in_type, int_at}
-use Rattle.c_tree.specs.Machine.{LoggedCall, StoredField, Scope, Routine, routine_at, routine_of, run_stmts, field_types}
+use Rattle.c_tree.specs.Machine.{LoggedCall, StoredField, Scope, Routine, routine_at, routine_of, run_stmts}
+use Rattle.c_tree.specs.Tree.{field_types}
 use Rattle.c_emitter.specs.declared.block.Block.{Block}
 use Rattle.c_emitter.specs.declared.block.Block.TheVariants.{Input, Output, Delay}
 use Rattle.c_emitter.specs.Blocks.{block_at, is_output, counter_place, source_need, need_of, source_of, feeds_output, is_taken_in, is_given_in, is_held_input, is_unheld, output_rows, function_needs}

@@ -9,7 +9,8 @@ use Rattle.c_tree.specs.Tree.{ExprTree, read, assign, stmts_of_list}
 use Rattle.c_tree.specs.Cells.{Cells, number, set_cell}
 use Rattle.c_tree.specs.Values.{Function, gives, eval, reads, is_in_type, stuck_at}
 use Rattle.c_tree.specs.declared.Why.TheVariants.{Range, Steps}
-use Rattle.c_tree.specs.Machine.{LoggedCall, StoredField, Outcome, done, stuck, behind, then_run, begin_step, on_answer, store, Scope, run_stmt, run_stmts, type_at}
+use Rattle.c_tree.specs.Machine.{LoggedCall, StoredField, Outcome, done, stuck, behind, then_run, begin_step, on_answer, store, Scope, run_stmt, run_stmts}
+use Rattle.c_tree.specs.Tree.{type_at}
 use Rattle.c_emitter.proofs.NumberCells.{number_cells, item, value_at-number_cells, set_cell-number_cells}
 
 -- how straight code ends: with these fields, steps, calls and stores

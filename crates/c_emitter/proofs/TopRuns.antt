@@ -10,7 +10,8 @@ use Rattle.std.specs.Ordering.{int_eq}
 use Rattle.std.proofs.lemmas.List.{ext_get_or}
 use Rattle.c_tree.specs.Cells.{value_at}
 use Rattle.c_tree.specs.Values.{gives, eval_cond, reads, int_at, is_in_type}
-use Rattle.c_tree.specs.Machine.{Scope, run_stmt, run_stmts, type_at}
+use Rattle.c_tree.specs.Machine.{Scope, run_stmt, run_stmts}
+use Rattle.c_tree.specs.Tree.{type_at}
 use Rattle.c_emitter.specs.declared.block.Block.{Block}
 use Rattle.c_emitter.specs.declared.block.Block.TheVariants.{Input, Output, Delay}
 use Rattle.c_emitter.specs.Blocks.{no_block, block_at, is_output, is_delay_block, port_of_input, source_of, memory_place, counter_place, source_need, output_source, is_taken_in, is_given_in, is_held_input, is_unheld}

@@ -8,7 +8,7 @@ use Rattle.c_tree.specs.declared.CType.{CType}
 use Rattle.c_tree.specs.declared.CType.TheVariants.{U8, I32}
 use Rattle.c_tree.specs.declared.FieldKind.TheVariants.{Number}
 use Rattle.c_tree.specs.Tree.{FieldTree}
-use Rattle.c_tree.specs.Machine.{type_at, field_types}
+use Rattle.c_tree.specs.Tree.{type_at, field_types}
 use Rattle.c_emitter.specs.declared.block.Block.{Block}
 use Rattle.c_emitter.specs.Names.{value_name, memory_name}
 use Rattle.c_emitter.specs.Blocks.{delay_rows, counter_place}

@@ -2,6 +2,7 @@
 #![tactic(auto)]
 
 mod block;
+mod few;
 mod flat;
 
 pub use flat::FlatDiagram;
