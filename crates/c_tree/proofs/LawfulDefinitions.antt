@@ -23,11 +23,11 @@ use Rattle.c_tree.proofs.Resolved.{ok-same, bind-parts, then-parts, on_line-ok, 
 use Rattle.c_tree.proofs.LawfulBodies.{expr-lawful, stmts-lawful}
 use Rattle.c_tree.proofs.WellWritten.{WellPure, WellStruct, WellProcedure}
 
-not-true : (b : Bool) → not b ≡ true → b ≡ false
+pub not-true : (b : Bool) → not b ≡ true → b ≡ false
 not-true true e = cc
 not-true false e = refl
 
-both-true : (a b : Bool) → (a && b) ≡ true → (a ≡ true) × (b ≡ true)
+pub both-true : (a b : Bool) → (a && b) ≡ true → (a ≡ true) × (b ≡ true)
 both-true true b e = (refl, e)
 both-true false b e = cc
 
@@ -43,17 +43,17 @@ apart-parts (m ∷ names) n others h =
     (none-of (bytes_eq n m) (has_name names n) (bytes_eq-sym n m ∙ or-left (bytes_eq m n) (has_name others m) h.0) later.0, (or-right (bytes_eq m n) (has_name others m) h.0, later.1))
 
 -- different names, and one more behind them
-distinct-more : (names : List (List ℕ)) (n : List ℕ) → AreDistinct names → is_name n ≡ true → has_name names n ≡ false → AreDistinct (names ++ n ∷ [])
+pub distinct-more : (names : List (List ℕ)) (n : List ℕ) → AreDistinct names → is_name n ≡ true → has_name names n ≡ false → AreDistinct (names ++ n ∷ [])
 distinct-more [] n d is h = (is, refl, tt)
 distinct-more (m ∷ names) n d is h =
     (d.0, has_name-append names (n ∷ []) m ∙ none-of (has_name names m) (bytes_eq m n || false) d.1 (none-of (bytes_eq m n) false (bytes_eq-sym m n ∙ or-left (bytes_eq n m) (has_name names n) h) refl), distinct-more names n d.2 is (or-right (bytes_eq n m) (has_name names n) h))
 
-map-append : {A B : Type 0} (f : A → B) (xs ys : List A) → map f (xs ++ ys) ≡ map f xs ++ map f ys
+pub map-append : {A B : Type 0} (f : A → B) (xs ys : List A) → map f (xs ++ ys) ≡ map f xs ++ map f ys
 map-append f [] ys = refl
 map-append f (x ∷ xs) ys = ap (λ zs. f x ∷ zs) (map-append f xs ys)
 
 -- parameters that pass are different, and none has the name of a function
-params-differ : {A : Type 0} (line : A → ℕ) (name : A → List ℕ) (functions earlier : List (List ℕ)) (ps : List A) (u : Unit {0}) → check_params functions earlier (map (λ q. (line q, name q)) ps) ≡ Ok u → AllByRecursion (λ q. is_name (name q) ≡ true) ps → AreDistinct (map name ps) × AreApart (map name ps) functions × AreApart (map name ps) earlier
+pub params-differ : {A : Type 0} (line : A → ℕ) (name : A → List ℕ) (functions earlier : List (List ℕ)) (ps : List A) (u : Unit {0}) → check_params functions earlier (map (λ q. (line q, name q)) ps) ≡ Ok u → AllByRecursion (λ q. is_name (name q) ≡ true) ps → AreDistinct (map name ps) × AreApart (map name ps) functions × AreApart (map name ps) earlier
 params-differ line name functions earlier [] u e are = (tt, tt, tt)
 params-differ line name functions earlier (p ∷ ps) u e are =
     let b : _ = then-parts (on_line (line p) (unless_fault (not (has_name functions (name p)) && not (has_name earlier (name p))) Name)) (check_params functions (name p ∷ earlier) (map (λ q. (line q, name q)) ps)) u e in
@@ -119,7 +119,7 @@ kind-done known (struct_kind name) kind e =
     let p : _ = position-there (λ d. bytes_eq d.name name) known.structs b.0 (named-ok (position_from (λ d. bytes_eq d.name name) 0 known.structs) b.0 b.1) in
     subst (λ k. IsLawfulKind (length known.structs) k × (is_number_kind k ≡ false)) (ok-same (Struct b.0) kind b.2) (slice_get_within known.structs b.0 p.0 p.1, refl)
 
-or-given : (a b : Bool) → (not a || b) ≡ true → a ≡ true → b ≡ true
+pub or-given : (a b : Bool) → (not a || b) ≡ true → a ≡ true → b ≡ true
 or-given true b e is = e
 or-given false b e is = cc
 
