@@ -31,7 +31,7 @@ record RootRule (structs : List StructTree) (x : ProcedureTree) : Type 0 where
   start : x.name ≡ codes "root_start" → IsRootAt structs x.of × (x.params ≡ [])
   step : x.name ≡ codes "root_step" → IsRootAt structs x.of × AllByRecursion (λ q. q.type ≢ I64) x.params
 
-abbrev param_of : WrittenParam → ParamTree
+abbrev pub param_of : WrittenParam → ParamTree
 param_of q = record { name = q.name; type = q.type }
 
 names-of_params : (ps : List WrittenParam) → param_names (map param_of ps) ≡ map (λ q. q.name) ps
