@@ -1,13 +1,12 @@
 -- What a program's tokens open is within the limits exactly where the program is.
-use Rattle.std.proofs.Common.{◌≡◌, refl, sym, ◌∙◌, ap, ℕ, suc, ◌+◌, ◌≤◌, ◌<◌, max, ◌↔◌, List, [], ◌∷◌, ◌++◌, length, map, Result, Ok, Bool, true, false, ◌&&◌, nat_le, pos, subst, arith, leb-true, le-leb}
-use Rattle.std.specs.Prelude.{⊤}
-use Rattle.std.specs.List.{AllByRecursion, list_all}
-use Rattle.c_tree.specs.Tree.{ExprTree, ExprTrees, CondTree, StmtTree, StmtTrees}
-use Rattle.c_tree.specs.Written.{WrittenLeaf, WrittenExpr, WrittenExprs, WrittenCond, WrittenTarget, WrittenArguments, WrittenStmt, WrittenStmts, WrittenParam, WrittenPureParam}
-use Rattle.c_tree.specs.Prefix.{expr_limit, stmt_limit, pure_limit, param_limit}
-use Rattle.c_tree.specs.Resolve.{◌>>=◌, on_line, Names, resolve_leaf, resolve_pure_call, exprs_count, resolve_expr, resolve_exprs, resolve_cond, argument_casts, resolve_arguments, resolve_store, resolve_call, resolve_stmt, resolve_stmts}
-use Rattle.c_tree.specs.Openings.{Opening, none, operand, statement, parameter, pure_function, is_within, leaf_openings, expr_openings, exprs_openings, more_exprs_openings, cond_openings, target_openings, arguments_openings, stmt_openings, stmts_openings, more_params_openings, more_pure_params_openings, pure_params_openings}
-use Rattle.c_tree.specs.Reading.{expr_depth, exprs_depth, cond_depth, stmt_depth, stmts_depth, stmt_exprs_depth, stmts_exprs_depth}
+use Rattle.std.proofs.Common.{◌≡◌, refl, ℕ, ◌+◌, ◌≤◌, ◌↔◌, List, [], ◌∷◌, ◌++◌, Ok, Bool, true, false, ◌&&◌, nat_le, pos, subst, arith, leb-true, le-leb}
+use Rattle.std.specs.List.{list_all}
+use Rattle.c_tree.specs.Tree.{ExprTree, ExprTrees, CondTree}
+use Rattle.c_tree.specs.Written.{WrittenLeaf, WrittenExpr, WrittenExprs, WrittenCond}
+use Rattle.c_tree.specs.Prefix.{expr_limit}
+use Rattle.c_tree.specs.Resolve.{◌>>=◌, on_line, Names, resolve_leaf, resolve_pure_call, exprs_count, resolve_expr, resolve_exprs, resolve_cond}
+use Rattle.c_tree.specs.Openings.{Opening, none, operand, is_within, leaf_openings, expr_openings, exprs_openings, more_exprs_openings, cond_openings}
+use Rattle.c_tree.specs.Reading.{expr_depth, exprs_depth, cond_depth}
 use Rattle.c_tree.proofs.Resolved.{ok-same, bind-parts}
 
 abbrev pub Within : List Opening → Type 0

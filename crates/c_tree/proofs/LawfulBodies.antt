@@ -1,21 +1,19 @@
 -- Bodies that are resolved are lawful.
-use Rattle.std.proofs.Common.{◌≡◌, refl, sym, ◌∙◌, ap, ℕ, zero, suc, ◌+◌, ◌^◌, ◌<◌, ◌≤◌, pos, List, [], ◌∷◌, length, map, Option, Some, Result, Ok, Err, Bool, true, false, ◌&&◌, nat_lt, nat_le, bytes_eq, slice_get, slice_index, subst, arith, eqb-true, leb-true, ◌==◌}
+use Rattle.std.proofs.Common.{◌≡◌, refl, sym, ◌∙◌, ap, ℕ, suc, ◌+◌, ◌^◌, ◌<◌, ◌≤◌, pos, List, [], ◌∷◌, length, map, Some, Ok, Bool, true, false, ◌&&◌, nat_le, bytes_eq, slice_get, slice_index, subst, arith, eqb-true, leb-true, ◌==◌}
 use Rattle.std.specs.Prelude.{⊤}
 use Rattle.std.specs.List.{position_from}
 use Rattle.std.proofs.lemmas.List.{length-map}
 use Rattle.c_tree.specs.declared.code.CType.{CType}
 use Rattle.c_tree.specs.declared.code.Target.{Target}
 use Rattle.c_tree.specs.declared.code.Target.TheVariants.{Own as OwnTarget, Child as ChildTarget}
-use Rattle.c_tree.specs.declared.fault.CFault.{CFault}
-use Rattle.c_tree.specs.declared.fault.CKind.{CKind}
 use Rattle.c_tree.specs.declared.fault.CKind.TheVariants.{Deep, TypeRule}
 use Rattle.c_tree.specs.declared.program.FieldKind.{FieldKind}
-use Rattle.c_tree.specs.declared.program.FieldKind.TheVariants.{Number, Struct}
+use Rattle.c_tree.specs.declared.program.FieldKind.TheVariants.{Struct}
 use Rattle.c_tree.specs.Tree.{ExprTree, ExprTrees, CondTree, StmtTree, StmtTrees, PureTree, ProcedureTree}
 use Rattle.c_tree.specs.Written.{WrittenExpr, WrittenExprs, WrittenCond, WrittenTarget, own_target, field_target, WrittenArguments, WrittenStmt, WrittenStmts}
 use Rattle.c_tree.specs.Resolve.{◌>>=◌, ◌>>◌, unless_fault, on_line, or_unnamed, field_named, as_number, as_struct, same_type, same_types, Names, Known, resolve_leaf, resolve_pure_call, exprs_count, resolve_expr, resolve_exprs, resolve_cond, argument_casts, resolve_arguments, resolve_store, resolve_target, chain_limit, resolve_call, resolve_stmt, resolve_stmts, stmt_chain, stmts_chain}
-use Rattle.c_tree.specs.Lawful.{Reach, IsNumberAt, IsLawfulExpr, AreLawfulExprs, IsLawfulCond, exprs_length, IsLawfulTarget, IsLawfulStmt, AreLawfulStmts}
-use Rattle.c_tree.proofs.Resolved.{ok-same, bind-parts, then-parts, on_line-ok, unless-ok, named-ok, position-there, field-there, struct-kind, number-kind, kind-same, some_same, reach_of, leaf-lawful}
+use Rattle.c_tree.specs.Lawful.{IsNumberAt, IsLawfulExpr, AreLawfulExprs, IsLawfulCond, exprs_length, IsLawfulTarget, IsLawfulStmt, AreLawfulStmts}
+use Rattle.c_tree.proofs.Resolved.{ok-same, bind-parts, then-parts, on_line-ok, unless-ok, named-ok, field-there, struct-kind, number-kind, kind-same, some_same, reach_of, leaf-lawful}
 
 abbrev mutual
   -- its literals have at most 63 bits

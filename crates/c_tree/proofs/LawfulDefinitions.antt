@@ -1,27 +1,23 @@
 -- Definitions that are resolved are lawful.
-use Rattle.std.proofs.Common.{◌≡◌, ◌≢◌, refl, sym, ◌∙◌, ap, ap₂, ℕ, zero, suc, ◌+◌, ◌<◌, ◌≤◌, List, [], ◌∷◌, ◌++◌, length, map, filter, filter_map, Option, Some, None, Result, Ok, Err, Bool, true, false, not, ◌&&◌, ◌||◌, cond, if◌then◌else◌, nat_le, codes, bytes_eq, slice_get, subst, arith, eqb-true, append_assoc, append-nil, ◌==◌}
-use Rattle.std.specs.Prelude.{⊤}
-use Rattle.std.specs.List.{AllByRecursion, position_from, list_all, cons_option}
+use Rattle.std.proofs.Common.{◌≡◌, refl, sym, ◌∙◌, ap, ap₂, ℕ, suc, ◌+◌, ◌<◌, List, [], ◌∷◌, ◌++◌, length, map, filter, filter_map, Some, None, Ok, Bool, true, false, not, ◌&&◌, ◌||◌, cond, if◌then◌else◌, codes, bytes_eq, subst, arith, append_assoc, append-nil}
+use Rattle.std.specs.List.{AllByRecursion, position_from, cons_option}
 use Rattle.std.proofs.lemmas.List.{length-map}
 use Rattle.std.proofs.lemmas.Option.{slice_get_within}
-use Rattle.std.proofs.lemmas.Slice.Eq.{bytes_eq-Decides}
-use Rattle.c_tree.specs.declared.code.CType.{CType}
-use Rattle.c_tree.specs.declared.code.CType.TheVariants.{I64}
 use Rattle.c_tree.specs.declared.fault.CKind.TheVariants.{Name, TypeRule}
 use Rattle.c_tree.specs.declared.program.FieldKind.{FieldKind}
 use Rattle.c_tree.specs.declared.program.FieldKind.TheVariants.{Number, Struct}
 use Rattle.c_tree.specs.Tokens.{is_name}
 use Rattle.c_tree.specs.Outputs.{has_name, may_be_named}
-use Rattle.c_tree.specs.Tree.{ExprTree, StmtTrees, FieldTree, StructTree, struct_fields, PureTree, ParamTree, ProcedureTree}
-use Rattle.c_tree.specs.Written.{WrittenPure, WrittenKind, number_kind, struct_kind, WrittenField, WrittenStruct, WrittenParam, WrittenProcedure}
-use Rattle.c_tree.specs.Resolve.{◌>>=◌, ◌>>◌, unless_fault, on_line, or_unnamed, same_type, Known, function_names, Names, check_params, resolve_expr, resolve_stmts, stmts_chain, chain_limit, resolve_pure, resolve_kind, is_number_written, number_name, resolve_field, resolve_fields, resolve_struct, is_lawful_root, resolve_head, resolve_procedure, resolve_pures, resolve_structs, resolve_procedures}
+use Rattle.c_tree.specs.Tree.{FieldTree, StructTree, PureTree}
+use Rattle.c_tree.specs.Written.{WrittenPure, WrittenKind, number_kind, struct_kind, WrittenField, WrittenStruct}
+use Rattle.c_tree.specs.Resolve.{◌>>=◌, ◌>>◌, unless_fault, on_line, or_unnamed, Known, function_names, Names, check_params, resolve_expr, resolve_pure, resolve_kind, is_number_written, number_name, resolve_field, resolve_fields, resolve_struct, resolve_pures, resolve_structs}
 use Rattle.c_tree.specs.Rows.{is_number, is_number_kind, number_names}
-use Rattle.c_tree.specs.Lawful.{AreDistinct, AreApart, Reach, pure_names, procedure_names, param_names, IsLawfulPure, ArePures, IsLawfulKind, IsLawfulStruct, AreStructs, IsLawfulProcedure, AreProcedures, chains_of}
+use Rattle.c_tree.specs.Lawful.{AreDistinct, AreApart, pure_names, IsLawfulPure, ArePures, IsLawfulKind, IsLawfulStruct, AreStructs}
 use Rattle.c_tree.proofs.NamePlaces.{bytes_eq-sym, or-left, or-right}
 use Rattle.c_tree.proofs.NameFacts.{has_name-append}
 use Rattle.c_tree.proofs.Resolved.{ok-same, bind-parts, then-parts, on_line-ok, unless-ok, named-ok, position-there}
-use Rattle.c_tree.proofs.LawfulBodies.{expr-lawful, stmts-lawful}
-use Rattle.c_tree.proofs.WellWritten.{WellPure, WellStruct, WellProcedure}
+use Rattle.c_tree.proofs.LawfulBodies.{expr-lawful}
+use Rattle.c_tree.proofs.WellWritten.{WellPure, WellStruct}
 
 pub not-true : (b : Bool) → not b ≡ true → b ≡ false
 not-true true e = cc

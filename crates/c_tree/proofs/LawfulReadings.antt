@@ -1,11 +1,9 @@
 -- What is read is lawful.
-use Rattle.std.proofs.Common.{◌≡◌, ◌≢◌, refl, sym, ◌∙◌, ap, ℕ, zero, suc, ◌+◌, ◌<◌, ◌≤◌, List, [], ◌∷◌, ◌++◌, length, map, Option, Some, None, Result, Ok, Err, Bool, true, false, not, ◌&&◌, ◌||◌, nat_le, codes, bytes_eq, slice_get, subst, arith, eqb-true, append_assoc, append-nil, ◌==◌}
-use Rattle.std.specs.Prelude.{⊤}
+use Rattle.std.proofs.Common.{◌≡◌, ◌≢◌, refl, sym, ◌∙◌, ap, ℕ, zero, suc, ◌+◌, ◌≤◌, List, [], ◌∷◌, ◌++◌, length, map, Some, Ok, Bool, true, false, not, ◌&&◌, ◌||◌, codes, bytes_eq, slice_get, subst, arith, eqb-true, append_assoc, append-nil, ◌==◌}
 use Rattle.std.specs.List.{AllByRecursion, position_from, list_all}
 use Rattle.std.proofs.lemmas.List.{length-map}
 use Rattle.std.proofs.lemmas.Option.{slice_get_within}
 use Rattle.std.proofs.lemmas.Slice.Eq.{bytes_eq-Decides}
-use Rattle.c_tree.specs.declared.code.CType.{CType}
 use Rattle.c_tree.specs.declared.code.CType.TheVariants.{I64}
 use Rattle.c_tree.specs.declared.fault.CKind.TheVariants.{Name, TypeRule}
 use Rattle.c_tree.specs.Tokens.{is_name, tokens_of, last_line}
@@ -14,11 +12,11 @@ use Rattle.c_tree.specs.Tree.{StmtTrees, StructTree, struct_fields, PureTree, Pa
 use Rattle.c_tree.specs.Written.{WrittenParam, WrittenProcedure, WrittenProgram}
 use Rattle.c_tree.specs.Resolve.{◌>>=◌, ◌>>◌, unless_fault, on_line, or_unnamed, same_type, Known, function_names, Names, check_params, resolve_stmts, stmts_chain, chain_limit, is_lawful_root, resolve_head, resolve_procedure, resolve_pures, resolve_structs, resolve_procedures, has_root, resolve_program}
 use Rattle.c_tree.specs.Reading.{IsWithinLimits, CText}
-use Rattle.c_tree.specs.Lawful.{AreDistinct, AreApart, Reach, AreLawfulStmts, pure_names, procedure_names, param_names, ArePures, AreStructs, IsLawfulProcedure, AreProcedures, chains_of, HasRoot, IsLawful}
-use Rattle.c_tree.proofs.Resolved.{ok-same, some_same, bind-parts, then-parts, on_line-ok, unless-ok, named-ok, position-there, reach_of}
+use Rattle.c_tree.specs.Lawful.{AreDistinct, AreApart, AreLawfulStmts, pure_names, procedure_names, param_names, IsLawfulProcedure, AreProcedures, chains_of, HasRoot, IsLawful}
+use Rattle.c_tree.proofs.Resolved.{ok-same, some_same, bind-parts, then-parts, on_line-ok, unless-ok, named-ok, position-there}
 use Rattle.c_tree.proofs.LawfulBodies.{stmts-lawful}
 use Rattle.c_tree.proofs.WellWritten.{WellProcedure, WellWritten, spelled-well}
-use Rattle.c_tree.proofs.LawfulDefinitions.{not-true, both-true, distinct-more, map-append, params-differ, with_pures, PuresDone, pures-done, with_structs, StructsDone, structs-done, or-given}
+use Rattle.c_tree.proofs.LawfulDefinitions.{not-true, both-true, distinct-more, map-append, params-differ, with_pures, PuresDone, pures-done, StructsDone, structs-done, or-given}
 
 abbrev with_procedures : List PureTree → List StructTree → List ProcedureTree → List ℕ → Known
 with_procedures pures structs procedures chains = record { pures = pures; structs = structs; procedures = procedures; chains = chains }
@@ -171,9 +169,22 @@ root-there p has_start has_step roots =
     let t : _ = step_rule.step b.3 in
     let d : _ = position-there (λ x. bytes_eq x.name (codes "root")) p.structs start.of s.0 in
     record {
-      of = start.of; struct = d.0; struct_there = d.1; struct_name = (bytes_eq-Decides d.0.name (codes "root")).0 d.2;
-      start = a.0; start_procedure = start; start_there = a.2; start_name = a.3; start_of = refl; start_params = s.1;
-      step = b.0; step_procedure = step; step_there = b.2; step_name = b.3; step_of = some_same step.of start.of (sym t.0 ∙ s.0); step_params = t.1;
+      of = start.of;
+      struct = d.0;
+      struct_there = d.1;
+      struct_name = (bytes_eq-Decides d.0.name (codes "root")).0 d.2;
+      start = a.0;
+      start_procedure = start;
+      start_there = a.2;
+      start_name = a.3;
+      start_of = refl;
+      start_params = s.1;
+      step = b.0;
+      step_procedure = step;
+      step_there = b.2;
+      step_name = b.3;
+      step_of = some_same step.of start.of (sym t.0 ∙ s.0);
+      step_params = t.1;
     }
 
 -- the definitions of a program that is resolved, one kind after another
@@ -194,7 +205,12 @@ program-done last w p e =
     let c : _ = bind-parts (resolve_procedures b.0 w.procedures) (λ known. on_line last (unless_fault (has_root known) Name) >> Ok (record { pures = known.pures; structs = known.structs; procedures = known.procedures })) p b.2 in
     let d : _ = then-parts (on_line last (unless_fault (has_root c.0) Name)) (Ok (record { pures = c.0.pures; structs = c.0.structs; procedures = c.0.procedures })) p c.2 in
     record {
-      known_pures = a.0; pures = a.1; known_structs = b.0; structs = b.1; known = c.0; procedures = c.1;
+      known_pures = a.0;
+      pures = a.1;
+      known_structs = b.0;
+      structs = b.1;
+      known = c.0;
+      procedures = c.1;
       root = unless-ok (has_root c.0) Name d.0 (on_line-ok last (unless_fault (has_root c.0) Name) d.0 d.1);
       is = ok-same (record { pures = c.0.pures; structs = c.0.structs; procedures = c.0.procedures }) p d.2;
     }

@@ -1,17 +1,16 @@
 -- The tokens of a program open nothing beyond a limit exactly where the program is within the limits.
-use Rattle.std.proofs.Common.{◌≡◌, refl, sym, ◌∙◌, ap, ℕ, suc, ◌+◌, ◌≤◌, ◌<◌, max, ◌↔◌, List, [], ◌∷◌, ◌++◌, length, map, None, Some, Result, Ok, Bool, true, false, not, ◌&&◌, nat_le, codes, bytes_eq, filter_map, subst, arith, append_assoc, append-nil}
-use Rattle.std.specs.Prelude.{⊤}
-use Rattle.std.specs.List.{AllByRecursion, list_all}
+use Rattle.std.proofs.Common.{◌≡◌, refl, sym, ◌∙◌, ap, ℕ, ◌+◌, ◌≤◌, ◌↔◌, List, [], ◌∷◌, ◌++◌, length, map, None, Some, Ok, Bool, true, false, not, subst, arith, append_assoc, append-nil}
+use Rattle.std.specs.List.{AllByRecursion}
 use Rattle.std.proofs.lemmas.List.{length-map}
 use Rattle.c_tree.specs.declared.fault.CKind.TheVariants.{Name}
 use Rattle.c_tree.specs.Outputs.{has_name}
-use Rattle.c_tree.specs.Tree.{ExprTree, ExprTrees, StmtTree, StmtTrees, StructTree, struct_fields, PureTree, ProcedureTree, ProgramTree}
+use Rattle.c_tree.specs.Tree.{ExprTrees, StmtTree, StmtTrees, struct_fields, PureTree, ProcedureTree, ProgramTree}
 use Rattle.c_tree.specs.Written.{WrittenTarget, WrittenArguments, WrittenStmt, WrittenStmts, WrittenParam, WrittenPureParam, WrittenPure, WrittenKind, WrittenField, WrittenStruct, WrittenProcedure, WrittenProgram}
 use Rattle.c_tree.specs.Prefix.{expr_limit, stmt_limit, pure_limit, param_limit}
 use Rattle.c_tree.specs.Resolve.{◌>>=◌, ◌>>◌, unless_fault, on_line, Names, Known, function_names, resolve_expr, resolve_cond, argument_casts, resolve_arguments, resolve_store, resolve_call, resolve_stmt, resolve_stmts, stmts_chain, check_params, resolve_pure, resolve_struct, resolve_head, resolve_procedure, resolve_pures, resolve_structs, resolve_procedures, resolve_program}
-use Rattle.c_tree.specs.Openings.{Opening, none, operand, statement, parameter, pure_function, is_within, expr_openings, cond_openings, target_openings, arguments_openings, stmt_openings, stmts_openings, more_params_openings, more_pure_params_openings, pure_params_openings, pure_openings, pures_openings, kind_openings, fields_openings, structs_openings, private_openings, procedures_openings, openings}
-use Rattle.c_tree.specs.Reading.{expr_depth, exprs_depth, cond_depth, stmt_depth, stmts_depth, stmt_exprs_depth, stmts_exprs_depth, PureFits, ProcedureFits, IsWithinLimits}
-use Rattle.c_tree.proofs.Resolved.{ok-same, bind-parts, then-parts, on_line-ok}
+use Rattle.c_tree.specs.Openings.{Opening, none, statement, pure_function, expr_openings, cond_openings, target_openings, arguments_openings, stmt_openings, stmts_openings, more_params_openings, more_pure_params_openings, pure_params_openings, pure_openings, pures_openings, kind_openings, fields_openings, structs_openings, private_openings, procedures_openings, openings}
+use Rattle.c_tree.specs.Reading.{exprs_depth, stmt_depth, stmts_depth, stmt_exprs_depth, stmts_exprs_depth, PureFits, ProcedureFits, IsWithinLimits}
+use Rattle.c_tree.proofs.Resolved.{ok-same, bind-parts, then-parts}
 use Rattle.c_tree.proofs.LawfulReadings.{param_of, ProgramDone, program-done}
 use Rattle.c_tree.proofs.LawfulDefinitions.{with_pures}
 use Rattle.c_tree.proofs.Depths.{Within, within-split, within-join, first-split, first-join, expr-limits, cond-limits}

@@ -1,22 +1,18 @@
 -- What names stand for: the parts of what is resolved, and that they are lawful.
-use Rattle.std.proofs.Common.{◌≡◌, refl, sym, ◌∙◌, ap, ℕ, zero, suc, ◌+◌, ◌<◌, ◌≤◌, ◌⊎◌, inl, inr, List, [], ◌∷◌, ◌++◌, length, map, Option, Some, None, Result, Ok, Err, unwrap_or, Bool, true, false, not, ◌&&◌, ◌||◌, cond, if◌then◌else◌, bytes_eq, slice_get, subst, arith, eqb-true, ◌==◌}
-use Rattle.std.specs.Prelude.{⊤}
+use Rattle.std.proofs.Common.{◌≡◌, refl, ◌∙◌, ap, ℕ, suc, ◌+◌, List, [], ◌∷◌, length, Option, Some, None, Result, Ok, Err, unwrap_or, Bool, true, false, cond, if◌then◌else◌, bytes_eq, slice_get, subst, arith}
 use Rattle.std.specs.List.{position_from}
 use Rattle.std.proofs.lemmas.Option.{slice_get_within}
-use Rattle.std.proofs.lemmas.Slice.Eq.{bytes_eq-Decides}
 use Rattle.c_tree.specs.declared.code.CType.{CType}
 use Rattle.c_tree.specs.declared.code.Leaf.{Leaf}
 use Rattle.c_tree.specs.declared.code.Leaf.TheVariants.{Param, Own, Child}
-use Rattle.c_tree.specs.declared.fault.CFault.{CFault}
 use Rattle.c_tree.specs.declared.fault.CKind.{CKind}
-use Rattle.c_tree.specs.declared.fault.CKind.TheVariants.{TypeRule}
 use Rattle.c_tree.specs.declared.program.FieldKind.{FieldKind}
 use Rattle.c_tree.specs.declared.program.FieldKind.TheVariants.{Number, Struct}
-use Rattle.c_tree.specs.Tree.{ExprTree, ExprTrees, CondTree, FieldTree, PureTree, struct_fields}
+use Rattle.c_tree.specs.Tree.{FieldTree, struct_fields}
 use Rattle.c_tree.specs.Written.{WrittenLeaf}
-use Rattle.c_tree.specs.Resolve.{◌>>=◌, ◌>>◌, unless_fault, on_line, or_unnamed, field_from, field_named, as_number, as_struct, Names, Known, resolve_leaf, resolve_pure_call}
+use Rattle.c_tree.specs.Resolve.{◌>>=◌, ◌>>◌, unless_fault, on_line, or_unnamed, field_from, field_named, as_number, as_struct, Names, resolve_leaf}
 use Rattle.c_tree.specs.Rows.{is_number, is_number_kind}
-use Rattle.c_tree.specs.Lawful.{Reach, IsNumberAt, IsStructAt, IsLawfulLeaf}
+use Rattle.c_tree.specs.Lawful.{Reach, IsLawfulLeaf}
 
 pub ok-same : {A E : Type 0} (x y : A) → ◌≡◌ {A = Result A E} (Ok x) (Ok y) → x ≡ y
 ok-same {A} {E} x y e = ap (by x) e

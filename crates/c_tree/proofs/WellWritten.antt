@@ -1,11 +1,10 @@
 -- What the grammar says of a written program itself: its names are names, its literals have at most 63 bits, and no list is empty that may not be.
-use Rattle.std.proofs.Common.{◌≡◌, refl, ℕ, suc, ◌+◌, ◌^◌, ◌<◌, List, [], ◌∷◌, length, Some, Bool, true, false, if◌then◌else◌, nat_lt, decimal, codes, arith, leb-true}
-use Rattle.std.specs.Prelude.{⊤}
+use Rattle.std.proofs.Common.{◌≡◌, refl, ℕ, suc, ◌^◌, ◌<◌, List, [], ◌∷◌, length, Some, Bool, true, false, if◌then◌else◌, nat_lt, decimal, codes, arith, leb-true}
 use Rattle.std.specs.List.{AllByRecursion}
 use Rattle.c_tree.specs.Tokens.{Token, is_name}
 use Rattle.c_tree.specs.Written.{WrittenExpr, WrittenExprs, WrittenCond, WrittenArguments, WrittenStmt, WrittenStmts, WrittenParam, WrittenPureParam, WrittenPure, WrittenField, WrittenStruct, WrittenProcedure, WrittenProgram}
-use Rattle.c_tree.specs.Grammar.{Spelling, ◌⨾◌, never, word, at_line, name_word, literal_word, in_parens, in_braces, type_text, op_text, compare_text, leaf_spelling, expr_spelling, exprs_spelling, more_exprs_spelling, cond_spelling, target_spelling, cast_spelling, arguments_spelling, stmt_spelling, stmts_spelling, param_spelling, more_params_spelling, pure_param_spelling, more_pure_params_spelling, pure_params_spelling, pure_spelling, kind_spelling, field_spelling, all_spelling, some_spelling, struct_spelling, private_spelling, procedure_spelling, Spells}
-use Rattle.c_tree.proofs.PrefixLaws.{seq-parts, at_line-inner, name_word-inner}
+use Rattle.c_tree.specs.Grammar.{Spelling, ◌⨾◌, never, word, at_line, name_word, literal_word, in_parens, in_braces, type_text, op_text, compare_text, expr_spelling, more_exprs_spelling, cond_spelling, target_spelling, cast_spelling, arguments_spelling, stmt_spelling, stmts_spelling, param_spelling, more_params_spelling, pure_param_spelling, more_pure_params_spelling, pure_params_spelling, pure_spelling, kind_spelling, field_spelling, all_spelling, some_spelling, struct_spelling, private_spelling, procedure_spelling, Spells}
+use Rattle.c_tree.proofs.PrefixLaws.{seq-parts, name_word-inner}
 use Rattle.c_tree.proofs.LawfulBodies.{SmallExpr, SmallExprs, SmallCond, SmallArguments, SmallStmt, SmallStmts}
 
 -- what is between `(` and `)`, or between `{` and `}`
