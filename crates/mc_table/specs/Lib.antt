@@ -1,0 +1,11 @@
+pub mod Blocks
+pub mod Words
+pub mod Parameters
+pub mod Lines
+pub mod TableOf
+pub mod TableLaws
+pub mod TreeRefusals
+pub mod Samples
+pub mod TableSamples
+pub mod TreeExamples
+pub mod TableExamples
