@@ -10,6 +10,7 @@ use Rattle.c_tree.specs.Prefix.{expr_limit, stmt_limit, pure_limit, param_limit}
 use Rattle.c_tree.specs.Resolve.{◌>>=◌, ◌>>◌, unless_fault, on_line, Names, Known, function_names, resolve_expr, resolve_cond, argument_casts, resolve_arguments, resolve_store, resolve_call, resolve_stmt, resolve_stmts, stmts_chain, check_params, resolve_pure, resolve_struct, resolve_head, resolve_procedure, resolve_pures, resolve_structs, resolve_procedures, resolve_program}
 use Rattle.c_tree.specs.Openings.{Opening, none, statement, pure_function, expr_openings, cond_openings, target_openings, arguments_openings, stmt_openings, stmts_openings, more_params_openings, more_pure_params_openings, pure_params_openings, pure_openings, pures_openings, kind_openings, fields_openings, structs_openings, private_openings, procedures_openings, openings}
 use Rattle.c_tree.specs.Reading.{exprs_depth, stmt_depth, stmts_depth, stmt_exprs_depth, stmts_exprs_depth, PureFits, ProcedureFits, IsWithinLimits}
+use Rattle.c_tree.specs.Agreement.{LimitsAgree}
 use Rattle.c_tree.proofs.Resolved.{ok-same, bind-parts, then-parts}
 use Rattle.c_tree.proofs.LawfulReadings.{param_of, ProgramDone, program-done}
 use Rattle.c_tree.proofs.LawfulDefinitions.{with_pures}
@@ -230,3 +231,6 @@ program-limits last w p e =
     } in
     let back : IsWithinLimits (record { pures = done.known.pures; structs = done.known.structs; procedures = done.known.procedures }) → Within (openings w) = λ h. let count : length xs.0 ≤ pure_limit = subst (λ ps. length ps ≤ pure_limit) pures h.count in within-join (pures_openings 1 w.pures) (structs_openings w.structs ++ procedures_openings w.procedures) (i.1 (omega (arith, count), subst (λ ps. AllByRecursion PureFits ps) pures h.pures)) (within-join (structs_openings w.structs) (procedures_openings w.procedures) (structs-within w.structs) (fit.limits.1 (subst (λ ps. AllByRecursion ProcedureFits ps) procedures h.procedures))) in
     subst (λ q. Within (openings w) ↔ IsWithinLimits q) done.is (forth, back)
+
+pub limits_agree : LimitsAgree
+limits_agree last written p e = program-limits last written p e

@@ -8,7 +8,7 @@ use Rattle.c_tree.specs.Written.{WrittenProgram}
 use Rattle.c_tree.specs.Grammar.{Spells, CanGoOn}
 use Rattle.c_tree.specs.Prefix.{Need, Reply, refuses, too_deep, leaves, step_needs, may_end, file_needs, procedures_need, token_fault, on_reply, fault_at}
 use Rattle.c_tree.specs.Openings.{Opening, is_within, openings}
-use Rattle.c_tree.specs.Agreement.{GoesOn, OpensBeyond, Reaches, IsFirstFault, FaultsAgree, Leads, NeedsAgree}
+use Rattle.c_tree.specs.Agreement.{IsFile, GoesOn, OpensBeyond, Reaches, IsFirstFault, FaultsAgree, Leads, NeedsAgree}
 use Rattle.c_tree.proofs.PrefixLaws.{some_same}
 use Rattle.c_tree.proofs.Walks.{Steps}
 use Rattle.c_tree.proofs.FileWalks.{file-walk}
@@ -188,9 +188,14 @@ front-within (suc n) (opening ∷ os) w = by (is_within opening) w (λ k. front-
     by true k later = later k
     by false k later = cc
 
+-- the tokens of a file within the limits are let through
+file-leads : (tokens : List Token) → IsFile tokens → (needs : List Need) × Leads file_needs tokens needs
+file-leads tokens file =
+    front-leads tokens [] (openings file.program) file_needs (procedures_need ∷ []) (file-walk file.program (tokens ++ []) (subst (λ ts. Spells ts file.program) (sym (append-nil tokens)) file.spelled)).steps (front-within (length tokens) (openings file.program) file.within)
+
 told : (tokens : List Token) (last : ℕ) (answer : Option CFault) → IsFirstFault tokens last answer → token_fault file_needs last tokens ≡ answer
 told tokens last None file =
-    let l : _ = front-leads tokens [] (openings file.program) file_needs (procedures_need ∷ []) (file-walk file.program (tokens ++ []) (subst (λ ts. Spells ts file.program) (sym (append-nil tokens)) file.spelled)).steps (front-within (length tokens) (openings file.program) file.within) in
+    let l : _ = file-leads tokens file in
     ap (token_fault file_needs last) (sym (append-nil tokens)) ∙ lead-fault tokens [] file_needs l.0 last l.1 ∙ ap (λ b. if b then None else Some (fault_at last Syntax)) (spelled-ends tokens l.0 file.program l.1 file.spelled).0
 told tokens last (Some fault) (inl s) =
     let l : _ = goes_on-leads s.before s.reached.goes_on in
@@ -209,3 +214,9 @@ told tokens last (Some fault) (inr (inr s)) =
 pub faults_agree : FaultsAgree
 faults_agree tokens last answer =
     (λ e. subst (λ o. IsFirstFault tokens last o) e (first [] tokens file_needs last refl), λ i. told tokens last answer i)
+
+-- where no fault is told, what the tokens spell opens nothing beyond a limit
+pub no_fault-within : (tokens : List Token) (last : ℕ) (program : WrittenProgram) → Spells tokens program → token_fault file_needs last tokens ≡ None → list_all is_within (openings program) ≡ true
+no_fault-within tokens last program spelled e =
+    let l : _ = file-leads tokens ((faults_agree tokens last None).0 e) in
+    (spelled-ends tokens l.0 program l.1 spelled).1

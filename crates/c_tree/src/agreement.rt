@@ -1,4 +1,4 @@
-ghost use Rattle.c_tree.specs.Agreement.{FaultsAgree, NeedsAgree};
+ghost use Rattle.c_tree.specs.Agreement.{FaultsAgree, LimitsAgree, NeedsAgree};
 
 /// The needs that tokens leave say just what a file of the grammar can go on with: tokens pass where some file begins with
 /// them and none of them opens anything beyond its limit, a token is refused where no file goes on with it, and one is too deep
@@ -13,4 +13,10 @@ pub fn needs_agree()
 #[tactic(auto, using(crate::proofs::TokenFaults::faults_agree))]
 pub fn faults_agree()
     ensures { FaultsAgree }
+{}
+
+/// A program is within the limits on depths and numbers exactly where no token of a text of it opens anything beyond one.
+#[tactic(auto, using(crate::proofs::Limits::limits_agree))]
+pub fn limits_agree()
+    ensures { LimitsAgree }
 {}
