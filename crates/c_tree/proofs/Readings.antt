@@ -1,5 +1,5 @@
 -- Each text has one reading or one fault, and no text has both.
-use Rattle.std.proofs.Common.{◌≡◌, refl, sym, ◌∙◌, ap, ℕ, ◌⊎◌, inl, inr, List, Option, Some, None, Result, Ok, Err, unwrap_or, Bool, true, false, subst}
+use Rattle.std.proofs.Common.{◌≡◌, refl, sym, ◌∙◌, ap, ℕ, ◌⊎◌, inl, inr, List, Option, Some, None, Result, Ok, Err, Bool, true, false, subst}
 use Rattle.c_tree.specs.declared.fault.CFault.{CFault}
 use Rattle.c_tree.specs.declared.fault.CKind.TheVariants.{Syntax}
 use Rattle.c_tree.specs.Tokens.{Token, has_header, tokens_of, last_line}
@@ -9,7 +9,7 @@ use Rattle.c_tree.specs.Grammar.{Spells}
 use Rattle.c_tree.specs.Prefix.{file_needs, token_fault, fault_at}
 use Rattle.c_tree.specs.Resolve.{resolve_program}
 use Rattle.c_tree.specs.Reading.{CText, CFaultOf, IsRuleFault, IsFaultBehind}
-use Rattle.c_tree.specs.Agreement.{IsFile, IsFirstFault}
+use Rattle.c_tree.specs.Agreement.{IsFile}
 use Rattle.c_tree.proofs.Resolved.{ok-same}
 use Rattle.c_tree.proofs.TokenFaults.{faults_agree, no_fault-within}
 use Rattle.c_tree.proofs.Limits.{program-limits}

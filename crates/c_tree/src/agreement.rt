@@ -16,7 +16,6 @@ pub fn faults_agree()
 {}
 
 /// A program is within the limits on depths and numbers exactly where no token of a text of it opens anything beyond one.
-#[tactic(auto, using(crate::proofs::Limits::limits_agree))]
 pub fn limits_agree()
     ensures { LimitsAgree }
 {}
