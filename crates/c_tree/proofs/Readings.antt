@@ -9,7 +9,7 @@ use Rattle.c_tree.specs.Grammar.{Spells}
 use Rattle.c_tree.specs.Prefix.{file_needs, token_fault, fault_at}
 use Rattle.c_tree.specs.Resolve.{resolve_program}
 use Rattle.c_tree.specs.Reading.{CText, CFaultOf, IsRuleFault, IsFaultBehind}
-use Rattle.c_tree.specs.Agreement.{IsFile}
+use Rattle.c_tree.specs.Agreement.{IsFile, LacksHeader, StopsAmongTokens, BreaksRule, RefusalsAgree}
 use Rattle.c_tree.proofs.Resolved.{ok-same}
 use Rattle.c_tree.proofs.TokenFaults.{faults_agree, no_fault-within}
 use Rattle.c_tree.proofs.Limits.{program-limits}
@@ -46,6 +46,24 @@ some-answer bytes = by_header (has_header bytes) refl
     by_header : (b : Bool) → has_header bytes ≡ b → ((p : ProgramTree) × CText bytes p) ⊎ ((fault : CFault) × CFaultOf bytes fault)
     by_header false e = inr (fault_at 1 Syntax, subst (λ b. IsFaultBehind b bytes (fault_at 1 Syntax)) (sym e) refl)
     by_header true e = by_tokens (first_of bytes) refl e
+
+refusal-said : (bytes : List ℕ) (fault : CFault) (header : Bool) → has_header bytes ≡ header → IsFaultBehind header bytes fault → LacksHeader bytes fault ⊎ StopsAmongTokens bytes fault ⊎ BreaksRule bytes fault
+refusal-said bytes fault false header f = inl (record { lacks = header; is = f })
+refusal-said bytes fault true header f = by (first_of bytes) refl f
+  where
+    by : (o : Option CFault) → first_of bytes ≡ o → IsRuleFault o bytes fault → LacksHeader bytes fault ⊎ StopsAmongTokens bytes fault ⊎ BreaksRule bytes fault
+    by (Some first) e k = inr (inl (record { header = header; first = (faults_agree (tokens_of bytes) (last_line bytes) (Some fault)).0 (e ∙ ap Some (sym k)) }))
+    by None e k = inr (inr (record { header = header; file = record { program = k.0; spelled = k.1; within = no_fault-within (tokens_of bytes) (last_line bytes) k.0 k.1 e }; broken = k.2 }))
+
+refusal-is : (bytes : List ℕ) (fault : CFault) → LacksHeader bytes fault ⊎ StopsAmongTokens bytes fault ⊎ BreaksRule bytes fault → CFaultOf bytes fault
+refusal-is bytes fault (inl l) = subst (λ b. IsFaultBehind b bytes fault) (sym l.lacks) l.is
+refusal-is bytes fault (inr (inl s)) =
+    subst (λ b. IsFaultBehind b bytes fault) (sym s.header) (subst (λ o. IsRuleFault o bytes fault) (sym ((faults_agree (tokens_of bytes) (last_line bytes) (Some fault)).1 s.first)) refl)
+refusal-is bytes fault (inr (inr b)) =
+    subst (λ c. IsFaultBehind c bytes fault) (sym b.header) (subst (λ o. IsRuleFault o bytes fault) (sym ((faults_agree (tokens_of bytes) (last_line bytes) None).1 b.file)) (b.file.program, b.file.spelled, b.broken))
+
+pub refusals_agree : RefusalsAgree
+refusals_agree bytes fault = (λ f. refusal-said bytes fault (has_header bytes) refl f, λ r. refusal-is bytes fault r)
 
 -- what is read has no fault among its tokens
 pub read-no_fault : (bytes : List ℕ) (p : ProgramTree) → CText bytes p → first_of bytes ≡ None

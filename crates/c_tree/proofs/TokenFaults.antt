@@ -142,6 +142,7 @@ steps-each (opening ∷ os) (t ∷ tokens) needs left s = ap suc (steps-each os 
 pub needs_agree : NeedsAgree
 needs_agree = record {
   passes = λ tokens. (λ l. leads-goes_on tokens l.0 l.1, λ g. goes_on-leads tokens g);
+  throughout = λ tokens more program g spelled. let l : _ = goes_on-leads tokens g in (file-steps tokens more program l.0 l.1 spelled).within;
   refused = λ before needs t h. (λ e. refused-stops before needs t h e, λ n. stops-refused before needs t h n);
   deep = λ before needs t h. (λ e. deep-opens before needs t h e, λ o. opens-deep before needs t h o);
   everywhere = everywhere;

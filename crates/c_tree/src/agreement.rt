@@ -1,4 +1,4 @@
-ghost use Rattle.c_tree.specs.Agreement.{FaultsAgree, LimitsAgree, NeedsAgree};
+ghost use Rattle.c_tree.specs.Agreement.{FaultsAgree, LimitsAgree, NeedsAgree, RefusalsAgree};
 
 /// The needs that tokens leave say just what a file of the grammar can go on with: tokens pass where some file begins with
 /// them and none of them opens anything beyond its limit, a token is refused where no file goes on with it, and one is too deep
@@ -18,4 +18,10 @@ pub fn faults_agree()
 /// A program is within the limits on depths and numbers exactly where no token of a text of it opens anything beyond one.
 pub fn limits_agree()
     ensures { LimitsAgree }
+{}
+
+/// A text is refused by its first line, else at the first fault of its tokens, else at the first construct that breaks a static
+/// rule.
+pub fn refusals_agree()
+    ensures { RefusalsAgree }
 {}
