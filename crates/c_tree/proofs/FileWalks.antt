@@ -12,14 +12,14 @@ use Rattle.c_tree.proofs.Walks.{AgreeOn, Walk, ◌▸◌, opening-walk, word-wal
 use Rattle.c_tree.proofs.ExprWalks.{name-walk, expr-walk, cond-walk}
 
 -- the parts of a spelling in braces
-record Braces (a : Spelling) (tokens rest : List Token) : Type 0 where
-  inner : List Token
-  behind : List Token
-  start : word (codes "{") tokens ≡ Some inner
-  body : a inner ≡ Some behind
-  close : word (codes "}") behind ≡ Some rest
+pub record Braces (a : Spelling) (tokens rest : List Token) : Type 0 where
+  pub inner : List Token
+  pub behind : List Token
+  pub start : word (codes "{") tokens ≡ Some inner
+  pub body : a inner ≡ Some behind
+  pub close : word (codes "}") behind ≡ Some rest
 
-braces-parts : (a : Spelling) (tokens rest : List Token) → in_braces a tokens ≡ Some rest → Braces a tokens rest
+pub braces-parts : (a : Spelling) (tokens rest : List Token) → in_braces a tokens ≡ Some rest → Braces a tokens rest
 braces-parts a tokens rest h =
     let p : _ = seq-parts (word (codes "{")) (a ⨾ word (codes "}")) tokens rest h in
     let q : _ = seq-parts a (word (codes "}")) p.0 rest p.2 in
@@ -54,14 +54,14 @@ target-walk (field_target field) tokens rest h more =
     let r : _ = seq-parts (word (codes "->")) (name_word field) q.0 rest q.2 in
     word-walk (codes "&") tokens p.0 p.1 (target_need ∷ more) (text_need (codes "s") ∷ text_need (codes "->") ∷ name_need ∷ more) refl ▸ text-walk (codes "s") refl p.0 q.0 q.1 (text_need (codes "->") ∷ name_need ∷ more) ▸ text-walk (codes "->") refl q.0 r.0 r.1 (name_need ∷ more) ▸ name-walk field r.0 rest r.2 more
 
-arguments-firm : (values : WrittenArguments) (tokens mid rest : List Token) → arguments_spelling values tokens ≡ Some mid → word (codes ")") mid ≡ Some rest → Firm tokens
+pub arguments-firm : (values : WrittenArguments) (tokens mid rest : List Token) → arguments_spelling values tokens ≡ Some mid → word (codes ")") mid ≡ Some rest → Firm tokens
 arguments-firm no_arguments tokens mid rest h k = subst Firm (sym (some_same tokens mid h)) (word-firm (codes ")") mid rest refl k)
 arguments-firm (more_arguments cast e values) tokens mid rest h k =
     let p : _ = seq-parts (word (codes ",")) (cast_spelling cast ⨾ expr_spelling e ⨾ arguments_spelling values) tokens mid h in
     word-firm (codes ",") tokens p.0 refl p.1
 
 -- the tokens begin with one that is no `else`
-pub NoElse : List Token → Type 0
+unfoldable pub NoElse : List Token → Type 0
 NoElse tokens = (t : Token) × (rest : List Token) × (tokens ≡ t ∷ rest) × (bytes_eq t.text (codes "else") ≡ false)
 
 word-no_else : (text : List ℕ) (tokens rest : List Token) → bytes_eq text (codes "else") ≡ false → word text tokens ≡ Some rest → NoElse tokens
@@ -90,7 +90,7 @@ stmt-no_else (call line procedure target values) tokens rest h =
     let n : _ = name_word-inner procedure tokens p.0 (at_line-inner line (name_word procedure) tokens p.0 p.1) in
     word-no_else procedure tokens p.0 (not_word procedure (codes "else") n.0 refl) n.1
 
-stmts-no_else : (ss : WrittenStmts) (tokens mid rest : List Token) → stmts_spelling ss tokens ≡ Some mid → word (codes "}") mid ≡ Some rest → NoElse tokens
+pub stmts-no_else : (ss : WrittenStmts) (tokens mid rest : List Token) → stmts_spelling ss tokens ≡ Some mid → word (codes "}") mid ≡ Some rest → NoElse tokens
 stmts-no_else no_stmts tokens mid rest h k = subst NoElse (sym (some_same tokens mid h)) (word-no_else (codes "}") mid rest refl k)
 stmts-no_else (more_stmts s ss) tokens mid rest h k =
     let p : _ = seq-parts (stmt_spelling s) (stmts_spelling ss) tokens mid h in

@@ -93,7 +93,7 @@ opening-begins want text (by_name n) = name want
     name want_any = rw (not_word text (codes "-") n refl, not_word text (codes "!") n refl, not_word text (codes "int64_t") n refl) refl
 
 -- the text of the first token of a spelling
-word-text : (text : List ℕ) (tokens rest : List Token) → word text tokens ≡ Some rest → first_text tokens ≡ text
+pub word-text : (text : List ℕ) (tokens rest : List Token) → word text tokens ≡ Some rest → first_text tokens ≡ text
 word-text text tokens rest h =
     let f : Front text tokens rest = word-front text tokens rest h in
     ap first_text f.list ∙ f.same
@@ -167,7 +167,7 @@ pick-joins want_test h = cc
 pick-joins want_any h = refl
 
 -- an element takes a token at least
-word-shorter : (text : List ℕ) (tokens rest : List Token) → word text tokens ≡ Some rest → length rest < length tokens
+pub word-shorter : (text : List ℕ) (tokens rest : List Token) → word text tokens ≡ Some rest → length rest < length tokens
 word-shorter text tokens rest h =
     let f : Front text tokens rest = word-front text tokens rest h in
     rw f.list (omega arith)
@@ -192,10 +192,10 @@ exprs-few (more_exprs e es) tokens rest h =
     let three : length (exprs_in es) + length rest ≤ length q.0 = exprs-few es q.0 rest q.2 in
     omega arith
 
-comma-another : (t : Token) → t.text ≡ codes "," → comma_of t.text ≡ another
+pub comma-another : (t : Token) → t.text ≡ codes "," → comma_of t.text ≡ another
 comma-another t e = ap comma_of e
 
-comma-closed : (t : Token) → t.text ≡ codes ")" → comma_of t.text ≡ closed
+pub comma-closed : (t : Token) → t.text ≡ codes ")" → comma_of t.text ≡ closed
 comma-closed t e = ap comma_of e
 
 module _ (last : ℕ) where

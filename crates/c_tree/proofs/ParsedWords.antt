@@ -49,7 +49,7 @@ module _ (last : ℕ) where
       let f : Front name tokens rest = word-front name tokens rest n.1 in
       ap (parse_name last) f.list ∙ rw (ap is_name f.same ∙ n.0) (ap (λ x. Ok (x, rest)) f.same)
 
-  type-known : (type : CType) → type_of_text (type_text type) ≡ Some type
+  pub type-known : (type : CType) → type_of_text (type_text type) ≡ Some type
   type-known I8 = refl
   type-known U8 = refl
   type-known I16 = refl

@@ -145,3 +145,68 @@ private-shrinks false = word-shrinks (codes "void")
 
 pub procedure-shrinks : (p : WrittenProcedure) → Shrinks (procedure_spelling p)
 procedure-shrinks p = line-shrinks p.line (private-shrinks p.private) ▹ name-shrinks p.name ▹ parens-shrink (word-shrinks (codes "struct") ▹ name-shrinks p.of ▹ word-shrinks (codes "*") ▹ word-shrinks (codes "s") ▹ more_params-shrink p.params) ▹ braces-shrink (stmts-shrink p.body)
+
+-- it takes a token at least
+pub record Takes (a : Spelling) : Type 0 where
+  pub by : (tokens rest : List Token) → a tokens ≡ Some rest → length rest < length tokens
+
+infixr 25 ◌▸◌
+pub ◌▸◌ : {a b : Spelling} → Takes a → Shrinks b → Takes (a ⨾ b)
+◌▸◌ {a} {b} first second = record {
+  by = λ tokens rest h. let p : _ = seq-parts a b tokens rest h in let one : length p.0 < length tokens = first.by tokens p.0 p.1 in let two : length rest ≤ length p.0 = second.by p.0 rest p.2 in omega arith;
+}
+
+pub word-takes : (text : List ℕ) → Takes (word text)
+word-takes text = record { by = λ tokens rest h. let f : Front text tokens rest = word-front text tokens rest h in rw f.list (omega arith) }
+
+pub line-takes : {a : Spelling} (line : ℕ) → Takes a → Takes (at_line line a)
+line-takes {a} line inner = record { by = λ tokens rest h. inner.by tokens rest (at_line-inner line a tokens rest h) }
+
+pub kind-takes : (kind : WrittenKind) → Takes (kind_spelling kind)
+kind-takes (number_kind type) = word-takes (type_text type)
+kind-takes (struct_kind name) = word-takes (codes "struct") ▸ name-shrinks name
+
+pub field-takes : (f : WrittenField) → Takes (field_spelling f)
+field-takes f = line-takes f.line (kind-takes f.kind) ▸ name-shrinks f.name ▹ word-shrinks (codes ";")
+
+pub pure-takes : (p : WrittenPure) → Takes (pure_spelling p)
+pure-takes p = line-takes p.line (word-takes (codes "static")) ▸ word-shrinks (codes "int64_t") ▹ name-shrinks p.name ▹ parens-shrink (pure_params-shrink p.params) ▹ braces-shrink (line-shrinks p.return_line (word-shrinks (codes "return")) ▹ expr-shrinks p.body ▹ word-shrinks (codes ";"))
+
+pub struct-takes : (d : WrittenStruct) → Takes (struct_spelling d)
+struct-takes d = line-takes d.line (word-takes (codes "struct")) ▸ name-shrinks d.name ▹ braces-shrink (some-shrink field-shrinks d.fields) ▹ word-shrinks (codes ";")
+
+pub private-takes : (private : Bool) → Takes (private_spelling private)
+private-takes true = word-takes (codes "static") ▸ word-shrinks (codes "void")
+private-takes false = word-takes (codes "void")
+
+pub procedure-takes : (p : WrittenProcedure) → Takes (procedure_spelling p)
+procedure-takes p = line-takes p.line (private-takes p.private) ▸ name-shrinks p.name ▹ parens-shrink (word-shrinks (codes "struct") ▹ name-shrinks p.of ▹ word-shrinks (codes "*") ▹ word-shrinks (codes "s") ▹ more_params-shrink p.params) ▹ braces-shrink (stmts-shrink p.body)
+
+-- so there are no more of such things than tokens
+pub all-few : {A : Type 0} (spelling : A → Spelling) → ((x : A) → Takes (spelling x)) → (xs : List A) (tokens rest : List Token) → all_spelling spelling xs tokens ≡ Some rest → length xs + length rest ≤ length tokens
+all-few spelling each [] tokens rest h = rw (some_same tokens rest h) (omega arith)
+all-few spelling each (x ∷ xs) tokens rest h =
+    let p : _ = seq-parts (spelling x) (all_spelling spelling xs) tokens rest h in
+    let one : length p.0 < length tokens = (each x).by tokens p.0 p.1 in
+    let two : length xs + length rest ≤ length p.0 = all-few spelling each xs p.0 rest p.2 in
+    omega arith
+
+pub more_params-few : (ps : List WrittenParam) (tokens rest : List Token) → more_params_spelling ps tokens ≡ Some rest → length ps + length rest ≤ length tokens
+more_params-few [] tokens rest h = rw (some_same tokens rest h) (omega arith)
+more_params-few (p ∷ ps) tokens rest h =
+    let q : _ = seq-parts (word (codes ",")) (param_spelling p ⨾ more_params_spelling ps) tokens rest h in
+    let r : _ = seq-parts (param_spelling p) (more_params_spelling ps) q.0 rest q.2 in
+    let one : length q.0 < length tokens = (word-takes (codes ",")).by tokens q.0 q.1 in
+    let two : length r.0 ≤ length q.0 = (param-shrinks p).by q.0 r.0 r.1 in
+    let three : length ps + length rest ≤ length r.0 = more_params-few ps r.0 rest r.2 in
+    omega arith
+
+pub more_pure_params-few : (ps : List WrittenPureParam) (tokens rest : List Token) → more_pure_params_spelling ps tokens ≡ Some rest → length ps + length rest ≤ length tokens
+more_pure_params-few [] tokens rest h = rw (some_same tokens rest h) (omega arith)
+more_pure_params-few (p ∷ ps) tokens rest h =
+    let q : _ = seq-parts (word (codes ",")) (pure_param_spelling p ⨾ more_pure_params_spelling ps) tokens rest h in
+    let r : _ = seq-parts (pure_param_spelling p) (more_pure_params_spelling ps) q.0 rest q.2 in
+    let one : length q.0 < length tokens = (word-takes (codes ",")).by tokens q.0 q.1 in
+    let two : length r.0 ≤ length q.0 = (pure_param-shrinks p).by q.0 r.0 r.1 in
+    let three : length ps + length rest ≤ length r.0 = more_pure_params-few ps r.0 rest r.2 in
+    omega arith
