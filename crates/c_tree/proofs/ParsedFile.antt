@@ -229,8 +229,8 @@ module _ (last : ℕ) (limits : Limits) where
       f : LineFront x.line (private_spelling x.private) (t ∷ tokens) p.0
       f = line-front x.line (private_spelling x.private) (t ∷ tokens) p.0 p.1
 
-      heads : (a b : Token) (as bs : List Token) → (a ∷ as) ≡ (b ∷ bs) → a ≡ b
-      heads a b as bs e = cc
+      heads : (a b : Token) (later others : List Token) → (a ∷ later) ≡ (b ∷ others) → a ≡ b
+      heads a b later others e = cc
 
       by : (b : Bool) → b ≡ x.private → private_spelling b (t ∷ tokens) ≡ Some p.0 → t.line ≡ x.line → parse_procedure last limits t tokens (definition_of t.text) ≡ Ok (x, rest)
       by true e k on =
@@ -270,6 +270,17 @@ module _ (last : ℕ) (limits : Limits) where
           inl (ap definition_of (word-text (codes "static") tokens q.0 q.1))
       by false k = inr (ap definition_of (word-text (codes "void") tokens p.0 k))
 
+  -- the first token of a procedure
+  record Begun (x : WrittenProcedure) (tokens rest : List Token) : Type 0 where
+    token : Token
+    later : List Token
+    list : tokens ≡ token ∷ later
+    spelled : procedure_spelling x (token ∷ later) ≡ Some rest
+
+  begun : (x : WrittenProcedure) (tokens rest : List Token) → procedure_spelling x tokens ≡ Some rest → Begun x tokens rest
+  begun x [] rest h = absurd (omega (arith, (procedure-takes x).by [] rest h))
+  begun x (t ∷ tokens) rest h = record { token = t; later = tokens; list = refl; spelled = h }
+
   file-parsed_of : (pures : List WrittenPure) (structs : List WrittenStruct) (procedures : List WrittenProcedure) (tokens : List Token) → Spells tokens (record { pures = pures; structs = structs; procedures = procedures }) → Keeps limits (record { pures = pures; structs = structs; procedures = procedures }) → parse_file last limits tokens ≡ Ok (record { pures = pures; structs = structs; procedures = procedures })
   file-parsed_of pures [] procedures tokens h keeps =
       let p : _ = seq-parts (all_spelling pure_spelling pures) (some_spelling struct_spelling [] ⨾ some_spelling procedure_spelling procedures) tokens [] h in
@@ -288,7 +299,9 @@ module _ (last : ℕ) (limits : Limits) where
       let pures_few : length pures + length p.0 ≤ length tokens = all-few pure_spelling pure-takes pures tokens p.0 p.1 in
       let structs_few : length (d ∷ ds) + length q.0 ≤ length p.0 = all-few struct_spelling struct-takes (d ∷ ds) p.0 q.0 q.1 in
       let few : length xs + 0 ≤ length s.0 = all-few procedure_spelling procedure-takes xs s.0 [] s.2 in
-      rw (pures-parsed pures (suc (length tokens)) 0 tokens p.0 p.1 (struct-begins d p.0 r.0 r.1) keeps.pures (omega (arith, keeps.count)) (omega (arith, pures_few)), structs-parsed (d ∷ ds) (suc (length p.0)) 0 p.0 q.0 q.1 (procedure-begins x q.0 s.0 s.1) (omega (arith, structs_few))) (by q.0 s.1)
-    where
-      by : (ts : List Token) → procedure_spelling x ts ≡ Some s.0 → ? 
-      by ts k = ?
+      let begins : _ = procedure-begins x q.0 s.0 s.1 in
+      let f : Begun x q.0 s.0 = begun x q.0 s.0 s.1 in
+      rw (pures-parsed pures (suc (length tokens)) 0 tokens p.0 p.1 (struct-begins d p.0 r.0 r.1) keeps.pures (omega (arith, keeps.count)) (omega (arith, pures_few)), structs-parsed (d ∷ ds) (suc (length p.0)) 0 p.0 q.0 q.1 begins (omega (arith, structs_few)), f.list, procedure-parsed x f.token f.later s.0 f.spelled keeps.procedures.0, procedures-parsed xs (suc (length s.0)) 0 s.0 s.2 keeps.procedures.1 (omega (arith, few))) refl
+
+  file-parsed : (w : WrittenProgram) (tokens : List Token) → Spells tokens w → Keeps limits w → parse_file last limits tokens ≡ Ok w
+  file-parsed w tokens h keeps = file-parsed_of w.pures w.structs w.procedures tokens h keeps
