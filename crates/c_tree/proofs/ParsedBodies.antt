@@ -1,19 +1,16 @@
 -- What the grammar spells is parsed: expressions, conditions and statements.
-use Rattle.std.proofs.Common.{◌≡◌, refl, sym, ◌∙◌, ap, subst, ℕ, zero, suc, ◌+◌, ◌<◌, ◌≤◌, max, List, [], ◌∷◌, length, Bool, true, false, ◌&&◌, Option, Some, None, Ok, codes, bytes_eq, option_map, arith}
-use Rattle.std.proofs.lemmas.Slice.Eq.{bytes_eq-Decides}
+use Rattle.std.proofs.Common.{◌≡◌, refl, sym, ◌∙◌, ap, subst, ℕ, zero, suc, ◌+◌, ◌<◌, ◌≤◌, max, List, [], ◌∷◌, length, true, Some, None, Ok, codes, arith}
 use Rattle.mc_base.specs.declared.base.Compare.{Compare}
 use Rattle.mc_base.specs.declared.base.Compare.TheVariants.{Eq, Ne, Lt, Le, Ge, Gt}
 use Rattle.c_tree.specs.declared.code.BinOp.{BinOp}
 use Rattle.c_tree.specs.declared.code.BinOp.TheVariants.{Add, Sub, Mul, Div, Rem}
-use Rattle.c_tree.specs.declared.code.CType.{CType}
 use Rattle.c_tree.specs.Tokens.{Token, is_name}
-use Rattle.c_tree.specs.Written.{WrittenLeaf, WrittenExpr, literal, neg, read, binary, pick, pure, WrittenExprs, no_exprs, more_exprs, WrittenCond, compare, both, either, negated, WrittenTarget, own_target, field_target, WrittenArguments, no_arguments, more_arguments, WrittenStmt, assign, branch, branch_else, call, WrittenStmts, no_stmts, more_stmts}
-use Rattle.c_tree.specs.Grammar.{Spelling, ◌⨾◌, word, at_line, name_word, literal_word, in_parens, in_braces, op_text, compare_text, leaf_spelling, cast_spelling, expr_spelling, exprs_spelling, more_exprs_spelling, cond_spelling, target_spelling, arguments_spelling, stmt_spelling, stmts_spelling}
-use Rattle.c_tree.specs.Parsing.{Parsed, Limits, Want, want_value, want_test, want_any, wants_value, wants_test, Operand, value, test, Opener, number_opener, call_opener, paren_opener, opener_of, Inside, minus_inside, not_inside, cast_inside, first_inside, inside_of, ValueJoint, op_joint, compare_joint, value_joint, TestJoint, and_joint, or_joint, pick_joint, test_joint, op_of_text, compare_of_text, another, closed, comma_of, first_text, Step, one_more, the_end, many, after_step, exprs_from, stmts_from, Argument, arguments_from, next, parse_word, parse_name, values_step, parse_values, parse_inside, parse_operand, parse_expr, parse_cond, value_only, test_only}
+use Rattle.c_tree.specs.Written.{WrittenExpr, literal, neg, read, binary, pick, pure, WrittenExprs, no_exprs, more_exprs, WrittenCond, compare, both, either, negated}
+use Rattle.c_tree.specs.Grammar.{Spelling, ◌⨾◌, word, at_line, name_word, literal_word, in_parens, op_text, compare_text, leaf_spelling, expr_spelling, exprs_spelling, more_exprs_spelling, cond_spelling}
+use Rattle.c_tree.specs.Parsing.{Want, want_value, want_test, want_any, wants_value, wants_test, value, test, number_opener, call_opener, paren_opener, opener_of, minus_inside, not_inside, cast_inside, first_inside, inside_of, op_joint, compare_joint, value_joint, and_joint, or_joint, pick_joint, test_joint, another, closed, comma_of, first_text, many, exprs_from, values_step, parse_values, parse_operand}
 use Rattle.c_tree.proofs.PrefixLaws.{Front, word-front, seq-parts, at_line-inner, name_word-inner, not_word, Parens, parens-parts, Firm, word-firm, values-firm, op-firm, compare-firm, some_same}
-use Rattle.c_tree.specs.Resolve.{◌>>=◌}
-use Rattle.c_tree.proofs.Shrinking.{Shrinks, expr-shrinks}
-use Rattle.c_tree.proofs.ParsedWords.{word-parsed, name-parsed, literal-parsed, cast-parsed, leaf-parsed, LineFront, line-front, word-rest}
+use Rattle.c_tree.proofs.Shrinking.{expr-shrinks}
+use Rattle.c_tree.proofs.ParsedWords.{word-parsed, literal-parsed, leaf-parsed, LineFront, line-front, word-rest}
 
 -- how many levels an expression or a condition opens
 abbrev mutual

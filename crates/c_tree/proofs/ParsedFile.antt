@@ -1,16 +1,17 @@
 -- What the grammar spells is parsed: definitions and whole files. So tokens spell one program at most.
-use Rattle.std.proofs.Common.{◌≡◌, refl, sym, ◌∙◌, ap, subst, ℕ, zero, suc, ◌+◌, ◌<◌, ◌≤◌, ◌⊎◌, inl, inr, max, List, [], ◌∷◌, length, Bool, true, false, Option, Some, None, Ok, Result, unwrap_or, nat_le, codes, bytes_eq, arith}
+use Rattle.std.proofs.Common.{◌≡◌, refl, sym, ◌∙◌, ap, subst, ℕ, zero, suc, ◌+◌, ◌<◌, ◌≤◌, ◌⊎◌, inl, inr, List, [], ◌∷◌, length, Bool, true, false, Some, None, Ok, codes, bytes_eq, arith}
 use Rattle.std.specs.List.{AllByRecursion}
 use Rattle.std.proofs.lemmas.Bool.{le-leb}
 use Rattle.std.proofs.lemmas.Slice.Eq.{bytes_eq-Decides}
 use Rattle.c_tree.specs.declared.code.CType.{CType}
 use Rattle.c_tree.specs.declared.code.CType.TheVariants.{I8, U8, I16, U16, I32, U32, I64}
-use Rattle.c_tree.specs.Tokens.{Token, is_name}
-use Rattle.c_tree.specs.Written.{WrittenExpr, WrittenStmts, WrittenParam, WrittenPureParam, WrittenPure, WrittenKind, number_kind, struct_kind, WrittenField, WrittenStruct, WrittenProcedure, WrittenProgram}
-use Rattle.c_tree.specs.Grammar.{Spelling, ◌⨾◌, word, at_line, name_word, in_parens, in_braces, type_text, expr_spelling, stmts_spelling, param_spelling, more_params_spelling, pure_param_spelling, more_pure_params_spelling, pure_params_spelling, pure_spelling, kind_spelling, field_spelling, all_spelling, some_spelling, struct_spelling, private_spelling, procedure_spelling, program_spelling, Spells}
-use Rattle.c_tree.specs.Parsing.{Limits, type_of_text, another, closed, comma_of, Definition, static_definition, struct_definition, void_definition, no_definition, definition_of, first_text, many, parse_pure_param, pure_params_step, parse_param, params_step, parse_pure, parse_kind, parse_field, fields_step, parse_struct, parse_procedure, parse_procedure_behind, pures_step, structs_step, procedures_step, parse_file}
-use Rattle.c_tree.proofs.PrefixLaws.{Front, word-front, seq-parts, at_line-inner, name_word-inner, not_word, Parens, parens-parts, word-firm, some_same}
+use Rattle.c_tree.specs.Tokens.{Token}
+use Rattle.c_tree.specs.Written.{WrittenExpr, WrittenParam, WrittenPureParam, WrittenPure, WrittenKind, number_kind, struct_kind, WrittenField, WrittenStruct, WrittenProcedure, WrittenProgram}
+use Rattle.c_tree.specs.Grammar.{Spelling, ◌⨾◌, word, at_line, name_word, in_parens, in_braces, type_text, expr_spelling, stmts_spelling, param_spelling, more_params_spelling, pure_param_spelling, more_pure_params_spelling, pure_params_spelling, pure_spelling, kind_spelling, field_spelling, all_spelling, some_spelling, struct_spelling, private_spelling, procedure_spelling, Spells}
+use Rattle.c_tree.specs.Parsing.{Limits, type_of_text, static_definition, struct_definition, void_definition, definition_of, first_text, many, parse_pure_param, pure_params_step, parse_param, params_step, parse_pure, parse_kind, parse_field, fields_step, parse_struct, parse_procedure, parse_procedure_behind, pures_step, structs_step, procedures_step, parse_file}
+use Rattle.c_tree.proofs.PrefixLaws.{Front, word-front, seq-parts, at_line-inner, Parens, parens-parts, word-firm, some_same}
 use Rattle.c_tree.proofs.FileWalks.{Braces, braces-parts}
+use Rattle.c_tree.proofs.Resolved.{ok-same}
 use Rattle.c_tree.proofs.Shrinking.{all-few, field-takes, pure-takes, struct-takes, procedure-takes, more_params-few, more_pure_params-few}
 use Rattle.c_tree.proofs.ParsedWords.{word-parsed, name-parsed, type-known, LineFront, line-front, word-rest}
 use Rattle.c_tree.proofs.ParsedBodies.{expr_levels, word-text, comma-another, comma-closed}
@@ -305,3 +306,42 @@ module _ (last : ℕ) (limits : Limits) where
 
   file-parsed : (w : WrittenProgram) (tokens : List Token) → Spells tokens w → Keeps limits w → parse_file last limits tokens ≡ Ok w
   file-parsed w tokens h keeps = file-parsed_of w.pures w.structs w.procedures tokens h keeps
+
+-- a number that is no less than any depth and any number of a written program
+abbrev pures_bound : List WrittenPure → ℕ
+pures_bound [] = 0
+pures_bound (p ∷ ps) = length p.params + expr_levels p.body + pures_bound ps
+
+abbrev procedures_bound : List WrittenProcedure → ℕ
+procedures_bound [] = 0
+procedures_bound (p ∷ ps) = length p.params + stmts_levels p.body + stmts_exprs_levels p.body + procedures_bound ps
+
+abbrev program_bound : WrittenProgram → ℕ
+program_bound w = length w.pures + pures_bound w.pures + procedures_bound w.procedures
+
+-- limits that are all this number
+abbrev level_limits : ℕ → Limits
+level_limits n = record { exprs = n; stmts = n; params = n; pures = n }
+
+pures-keep : (ps : List WrittenPure) (n : ℕ) → pures_bound ps ≤ n → AllByRecursion (KeepsPure (level_limits n)) ps
+pures-keep [] n h = record {}
+pures-keep (p ∷ ps) n h =
+    let e : length p.params + expr_levels p.body + pures_bound ps ≤ n = h in
+    (record { params = omega (arith, h); body = omega (arith, h) }, pures-keep ps n (omega (arith, h)))
+
+procedures-keep : (ps : List WrittenProcedure) (n : ℕ) → procedures_bound ps ≤ n → AllByRecursion (KeepsProcedure (level_limits n)) ps
+procedures-keep [] n h = record {}
+procedures-keep (p ∷ ps) n h =
+    let e : length p.params + stmts_levels p.body + stmts_exprs_levels p.body + procedures_bound ps ≤ n = h in
+    (record { params = omega (arith, h); statements = omega (arith, h); expressions = omega (arith, h) }, procedures-keep ps n (omega (arith, h)))
+
+program-keeps : (w : WrittenProgram) (n : ℕ) → program_bound w ≤ n → Keeps (level_limits n) w
+program-keeps w n h =
+    let e : length w.pures + pures_bound w.pures + procedures_bound w.procedures ≤ n = h in
+    record { count = omega (arith, h); pures = pures-keep w.pures n (omega (arith, h)); procedures = procedures-keep w.procedures n (omega (arith, h)) }
+
+-- tokens spell one program at most
+pub one_written : (tokens : List Token) (p q : WrittenProgram) → Spells tokens p → Spells tokens q → p ≡ q
+one_written tokens p q a b =
+    let n : ℕ = program_bound p + program_bound q in
+    ok-same p q (sym (file-parsed 0 (level_limits n) p tokens a (program-keeps p n (omega (arith)))) ∙ file-parsed 0 (level_limits n) q tokens b (program-keeps q n (omega (arith))))

@@ -1,14 +1,13 @@
 -- What the grammar spells is parsed: statements.
-use Rattle.std.proofs.Common.{◌≡◌, refl, sym, ◌∙◌, ap, subst, ℕ, zero, suc, ◌+◌, ◌<◌, ◌≤◌, max, List, [], ◌∷◌, length, Bool, true, false, Option, Some, None, Ok, codes, bytes_eq, arith}
+use Rattle.std.proofs.Common.{◌≡◌, refl, ◌∙◌, ap, ℕ, zero, suc, ◌+◌, ◌<◌, ◌≤◌, max, List, [], ◌∷◌, length, true, false, Some, Ok, codes, bytes_eq, arith}
 use Rattle.std.proofs.lemmas.Slice.Eq.{bytes_eq-Decides}
-use Rattle.c_tree.specs.declared.code.CType.{CType}
-use Rattle.c_tree.specs.Tokens.{Token, is_name}
+use Rattle.c_tree.specs.Tokens.{Token}
 use Rattle.c_tree.specs.Written.{WrittenExpr, WrittenCond, WrittenTarget, own_target, field_target, WrittenArguments, no_arguments, more_arguments, WrittenStmt, assign, branch, branch_else, call, WrittenStmts, no_stmts, more_stmts}
 use Rattle.c_tree.specs.Grammar.{Spelling, ◌⨾◌, word, at_line, name_word, in_parens, in_braces, cast_spelling, expr_spelling, cond_spelling, target_spelling, arguments_spelling, stmt_spelling, stmts_spelling}
-use Rattle.c_tree.specs.Parsing.{Limits, want_value, want_test, value, test, StmtOpener, store_opener, if_opener, invoke_opener, stmt_opener_of, another, closed, comma_of, first_text, many, stmts_from, Argument, arguments_from, parse_expr, parse_cond, parse_target, own_opener, field_opener, target_opener_of, arguments_step, parse_call, parse_store, stmts_step, parse_block, parse_if, parse_stmt}
+use Rattle.c_tree.specs.Parsing.{Limits, want_value, want_test, invoke_opener, stmt_opener_of, first_text, many, stmts_from, Argument, arguments_from, parse_expr, parse_cond, parse_target, own_opener, target_opener_of, arguments_step, stmts_step, parse_block, parse_stmt}
 use Rattle.c_tree.proofs.PrefixLaws.{Front, word-front, seq-parts, at_line-inner, name_word-inner, not_word, Parens, parens-parts, Firm, word-firm, some_same}
 use Rattle.c_tree.proofs.FileWalks.{Braces, braces-parts, NoElse, arguments-firm, stmts-no_else}
-use Rattle.c_tree.proofs.Shrinking.{Shrinks, ◌▹◌, word-shrinks, name-shrinks, parens-shrink, braces-shrink, cast-shrinks, expr-shrinks, cond-shrinks, target-shrinks, arguments-shrink, stmts-shrink, stmt-shrinks}
+use Rattle.c_tree.proofs.Shrinking.{Shrinks, ◌▹◌, word-shrinks, name-shrinks, parens-shrink, braces-shrink, cast-shrinks, expr-shrinks, cond-shrinks, target-shrinks, arguments-shrink, stmts-shrink}
 use Rattle.c_tree.proofs.ParsedWords.{word-parsed, name-parsed, cast-parsed, field_name-parsed, LineFront, line-front, word-rest}
 use Rattle.c_tree.proofs.ParsedBodies.{expr_levels, cond_levels, word-text, word-shorter, comma-another, comma-closed, operand-expr, operand-cond}
 

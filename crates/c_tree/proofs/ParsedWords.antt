@@ -1,16 +1,16 @@
 -- What the grammar spells is parsed: words and leaves.
-use Rattle.std.proofs.Common.{◌≡◌, refl, sym, ◌∙◌, ap, subst, ℕ, zero, suc, ◌+◌, ◌^◌, ◌<◌, ◌≤◌, List, [], ◌∷◌, length, Bool, true, false, ◌==◌, nat_lt, Option, Some, None, Result, Ok, Err, codes, bytes_eq, decimal, if◌then◌else◌, option_and_then, unwrap_or, arith}
+use Rattle.std.proofs.Common.{◌≡◌, refl, ◌∙◌, ap, ℕ, suc, ◌^◌, ◌<◌, List, [], ◌∷◌, Bool, true, false, ◌==◌, nat_lt, Some, None, Ok, codes, bytes_eq, decimal, if◌then◌else◌, unwrap_or, arith}
 use Rattle.std.proofs.lemmas.Bool.{leb-true, eqb-true}
 use Rattle.std.proofs.lemmas.Slice.Eq.{bytes_eq-Decides}
 use Rattle.c_tree.specs.declared.code.CType.{CType}
 use Rattle.c_tree.specs.declared.code.CType.TheVariants.{I8, U8, I16, U16, I32, U32, I64}
 use Rattle.c_tree.specs.Tokens.{Token, is_name}
-use Rattle.c_tree.specs.Written.{WrittenLeaf, param, own, child, WrittenExpr, read}
+use Rattle.c_tree.specs.Written.{WrittenLeaf, param, own, child, read}
 use Rattle.c_tree.specs.Grammar.{Spelling, ◌⨾◌, word, at_line, name_word, literal_word, never, type_text, cast_spelling, leaf_spelling}
 use Rattle.c_tree.specs.Prefix.{is_literal, digits_value}
-use Rattle.c_tree.specs.Parsing.{Parsed, next, parse_word, parse_name, parse_type, parse_literal, parse_cast, parse_field_name, parse_inner, parse_leaf_from, parse_leaf, first_text, type_of_text}
-use Rattle.c_tree.proofs.PrefixLaws.{Front, word-front, seq-parts, at_line-inner, name_word-inner, not_word, Parens, parens-parts, Firm}
-use Rattle.c_tree.proofs.LiteralLaws.{IsNumeralOf, numeral, literals-agree}
+use Rattle.c_tree.specs.Parsing.{parse_word, parse_name, parse_type, parse_literal, parse_cast, parse_field_name, parse_leaf_from, parse_leaf, first_text, type_of_text}
+use Rattle.c_tree.proofs.PrefixLaws.{Front, word-front, seq-parts, name_word-inner, not_word, Parens, parens-parts, Firm}
+use Rattle.c_tree.proofs.LiteralLaws.{numeral, literals-agree}
 
 -- the token that a spelling with its line begins with
 pub record LineFront (line : ℕ) (a : Spelling) (tokens rest : List Token) : Type 0 where

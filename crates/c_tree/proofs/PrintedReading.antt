@@ -9,8 +9,10 @@ use Rattle.c_tree.specs.Tree.{StmtTree, assign, branch, call, StmtTrees, no_stmt
 use Rattle.c_tree.specs.Outputs.{has_name, may_be_named}
 use Rattle.c_tree.specs.Rows.{is_number_kind, is_number, number_names}
 use Rattle.c_tree.specs.Resolve.{Known, function_names, ◌>>=◌, check_params, resolve_pure, resolve_kind, is_number_written, number_name, resolve_fields, resolve_struct, resolve_pures, resolve_structs, has_root, resolve_program}
-use Rattle.c_tree.specs.Lawful.{AreDistinct, AreApart, ArePures, IsLawfulPure, AreStructs, IsLawfulStruct, IsLawfulKind, IsLawful, chains_of, pure_names, procedure_names, pure_without_lines, procedure_without_lines, without_lines, IsTextWith}
+use Rattle.c_tree.specs.Lawful.{AreDistinct, AreApart, ArePures, IsLawfulPure, AreStructs, IsLawfulStruct, IsLawfulKind, IsLawful, chains_of, pure_names, procedure_names, pure_without_lines, procedure_without_lines, without_lines, IsTextOf}
 use Rattle.c_tree.specs.Printing.{name_at, struct_name, program_bytes}
+use Rattle.c_tree.proofs.ParsedFile.{one_written}
+use Rattle.c_tree.proofs.Readings.{one-reading}
 use Rattle.c_tree.proofs.NamePlaces.{position_from-named}
 use Rattle.c_tree.proofs.NameFacts.{AreDistinct-front, AreDistinct-seam, has_name-there, AreApart-none, AreApart-more, check_params-pass}
 use Rattle.c_tree.proofs.PrintedTrees.{written_pure_param, written_pure, read_pure, pure_lines, written_pures, read_pures, written_kind, written_fields, written_struct, struct_lines, written_structs, procedure_lines, read_procedures, stmt_lines, stmts_lines, read_stmt, read_stmts, structs_line, procedures_line, written_program, read_program}
@@ -175,5 +177,7 @@ module _ (p : ProgramTree) (lawful : IsLawful p) where
   pub text-same : without_lines (read_program p) ≡ without_lines p
   text-same = λ i. record { pures = pures_are i; structs = p.structs; procedures = procedures_are i }
 
-  pub text-with : (bytes : List ℕ) → bytes ≡ program_bytes p → IsTextWith bytes p
-  text-with bytes same = record { reading = read_program p; read = subst (λ b. CText b (read_program p)) (sym same) text-read; same = text-same }
+  pub text-of : (bytes : List ℕ) → bytes ≡ program_bytes p → IsTextOf bytes p
+  text-of bytes same =
+      let read : CText bytes (read_program p) = subst (λ b. CText b (read_program p)) (sym same) text-read in
+      record { reading = read_program p; read = read; one = λ other r. one-reading one_written bytes other (read_program p) r read; same = text-same }

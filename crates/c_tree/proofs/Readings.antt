@@ -9,10 +9,12 @@ use Rattle.c_tree.specs.Grammar.{Spells}
 use Rattle.c_tree.specs.Prefix.{file_needs, token_fault, fault_at}
 use Rattle.c_tree.specs.Resolve.{resolve_program}
 use Rattle.c_tree.specs.Reading.{CText, CFaultOf, IsRuleFault, IsFaultBehind}
-use Rattle.c_tree.specs.Agreement.{IsFile, LacksHeader, StopsAmongTokens, BreaksRule, RefusalsAgree}
+use Rattle.c_tree.specs.Agreement.{IsFile, LacksHeader, StopsAmongTokens, BreaksRule, RefusalsAgree, ReadingsAgree}
 use Rattle.c_tree.proofs.Resolved.{ok-same}
 use Rattle.c_tree.proofs.TokenFaults.{faults_agree, no_fault-within}
 use Rattle.c_tree.proofs.Limits.{program-limits}
+use Rattle.c_tree.proofs.LawfulReadings.{text-lawful}
+use Rattle.c_tree.proofs.ParsedFile.{one_written}
 
 -- the tokens of a text, and its first fault among them
 abbrev first_of : List ℕ → Option CFault
@@ -102,3 +104,7 @@ module _ (one_written : OneWritten) where
   apart bytes p fault text f =
       let rule : IsRuleFault None bytes fault = subst (λ o. IsRuleFault o bytes fault) (read-no_fault bytes p text) (subst (λ b. IsFaultBehind b bytes fault) text.header f) in
       cc (sym text.resolved ∙ ap (resolve_program (last_line bytes)) (one_written (tokens_of bytes) text.written rule.0 text.spelled rule.1) ∙ rule.2)
+
+pub readings_agree : ReadingsAgree
+readings_agree =
+    record { some = some-answer; one = one-reading one_written; one_fault = one-fault one_written; apart = apart one_written; lawful = text-lawful }

@@ -1,5 +1,5 @@
 -- What a spelling leaves is no longer than what it began with.
-use Rattle.std.proofs.Common.{◌≡◌, refl, sym, ap, subst, ℕ, ◌+◌, ◌<◌, ◌≤◌, List, [], ◌∷◌, length, Bool, true, false, ◌==◌, Some, None, codes, decimal, nat_lt, ◌^◌, if◌then◌else◌, arith}
+use Rattle.std.proofs.Common.{◌≡◌, subst, ℕ, ◌+◌, ◌<◌, ◌≤◌, List, [], ◌∷◌, length, Bool, true, false, Some, None, codes, decimal, nat_lt, ◌^◌, if◌then◌else◌, arith}
 use Rattle.c_tree.specs.declared.code.CType.{CType}
 use Rattle.c_tree.specs.Tokens.{Token, is_name}
 use Rattle.c_tree.specs.Written.{WrittenLeaf, param, own, child, WrittenExpr, literal, neg, read, binary, pick, pure, WrittenExprs, no_exprs, more_exprs, WrittenCond, compare, both, either, negated, WrittenTarget, own_target, field_target, WrittenArguments, no_arguments, more_arguments, WrittenStmt, assign, branch, branch_else, call, WrittenStmts, no_stmts, more_stmts, WrittenParam, WrittenPureParam, WrittenPure, WrittenKind, number_kind, struct_kind, WrittenField, WrittenStruct, WrittenProcedure}

@@ -1,5 +1,5 @@
 -- The written program of tokens by recursive descent, or their first fault. What it is of the grammar is proved of it.
-use Rattle.std.specs.Prelude.{ℕ, zero, suc, ◌+◌, Bool, true, false, ◌&&◌, ◌||◌, not, nat_le, if◌then◌else◌, List, [], ◌∷◌, length, Option, Some, None, Result, Ok, Err, codes, bytes_eq}
+use Rattle.std.specs.Prelude.{ℕ, zero, suc, ◌+◌, Bool, true, false, ◌&&◌, nat_le, if◌then◌else◌, List, [], ◌∷◌, length, Option, Some, None, Result, Ok, Err, codes, bytes_eq}
 use Rattle.mc_base.specs.declared.base.Compare.{Compare}
 use Rattle.mc_base.specs.declared.base.Compare.TheVariants.{Eq, Ne, Lt, Le, Ge, Gt}
 use Rattle.c_tree.specs.declared.code.BinOp.{BinOp}
@@ -10,7 +10,7 @@ use Rattle.c_tree.specs.declared.fault.CFault.{CFault}
 use Rattle.c_tree.specs.declared.fault.CKind.TheVariants.{Syntax, Deep}
 use Rattle.c_tree.specs.Tokens.{Token, is_name}
 use Rattle.c_tree.specs.Written.{WrittenLeaf, param, own, child, WrittenExpr, literal, neg, read, binary, pick, pure, WrittenExprs, no_exprs, more_exprs, WrittenCond, compare, both, either, negated, WrittenTarget, own_target, field_target, WrittenArguments, no_arguments, more_arguments, WrittenStmt, assign, branch, branch_else, call, WrittenStmts, no_stmts, more_stmts, WrittenParam, WrittenPureParam, WrittenPure, WrittenKind, number_kind, struct_kind, WrittenField, WrittenStruct, WrittenProcedure, WrittenProgram}
-use Rattle.c_tree.specs.Prefix.{expr_limit, stmt_limit, pure_limit, param_limit, is_op, is_comparison, is_connective, is_literal, digits_value, fault_at}
+use Rattle.c_tree.specs.Prefix.{expr_limit, stmt_limit, pure_limit, param_limit, is_literal, digits_value, fault_at}
 use Rattle.c_tree.specs.Resolve.{◌>>=◌, ◌>>◌}
 
 -- something with the tokens behind it, or the first fault

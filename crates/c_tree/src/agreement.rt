@@ -1,4 +1,4 @@
-ghost use Rattle.c_tree.specs.Agreement.{FaultsAgree, LimitsAgree, NeedsAgree, RefusalsAgree};
+ghost use Rattle.c_tree.specs.Agreement.{FaultsAgree, LimitsAgree, NeedsAgree, ReadingsAgree, RefusalsAgree};
 
 /// The needs that tokens leave say just what a file of the grammar can go on with: tokens pass where some file begins with
 /// them and none of them opens anything beyond its limit, a token is refused where no file goes on with it, and one is too deep
@@ -24,4 +24,9 @@ pub fn limits_agree()
 /// rule.
 pub fn refusals_agree()
     ensures { RefusalsAgree }
+{}
+
+/// Each text has one reading or one fault, and none has both; what is read is lawful.
+pub fn readings_agree()
+    ensures { ReadingsAgree }
 {}

@@ -1,7 +1,7 @@
 ghost use Rattle.std.specs.Prelude.{◌≡◌, [], ◌∷◌, ◌++◌, map, IfOk, OnOk};
 ghost use Rattle.std.specs.List.{flat_map};
 ghost use Rattle.c_tree.specs.Plain.{pure_tree, procedure_tree, program_tree};
-ghost use Rattle.c_tree.specs.Lawful.{IsLawful, IsTextWith};
+ghost use Rattle.c_tree.specs.Lawful.{IsLawful, IsTextOf};
 ghost use Rattle.c_tree.specs.Printing.{pure_bytes, struct_bytes, procedure_bytes, program_bytes};
 
 mod body;
@@ -13,10 +13,10 @@ use mc_base::Memory;
 use std::alloc::{AllocError, Global};
 
 /// The text of a lawful program: C99 of the subset that is read again, one statement or declaration a line.
-/// It is read as the program, but for the lines, which are those of the text.
+/// It has one reading: the program, but for the lines, which are those of the text.
 pub fn print(alloc: Global, p: &Program) -> Result<Vec<u8>, Memory>
     requires { IsLawful (program_tree p.now) }
-    ensures { IfOk result (λ text. IsTextWith text.items (program_tree p.now)) }
+    ensures { IfOk result (λ text. IsTextOf text.items (program_tree p.now)) }
 {
     match text_of(alloc, p) {
         Ok(text) => Ok(text),
