@@ -8,3 +8,4 @@ pub mod PortLaws
 pub mod CheckLaws
 pub mod RowsAreOne
 pub mod OneVerdict
+pub mod Systems

@@ -8,6 +8,7 @@ pub mod NameMaps
 pub mod Wiring
 pub mod Ports
 pub mod Checks
+pub mod Models
 pub mod Verdict
 pub mod Compilation
 pub mod RuleExamples

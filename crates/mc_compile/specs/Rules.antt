@@ -4,18 +4,26 @@ use Rattle.std.specs.Str.{bytes_eq}
 use Rattle.std.specs.List.{list_any}
 use Rattle.std.specs.Option.{option_map_or}
 use Rattle.mdl_tree.specs.Spelling.{Items}
+use Rattle.mdl_tree.specs.Walks.{SectionTree}
 use Rattle.mc_compile.specs.declared.blocks.BlockType.{BlockType}
 use Rattle.mc_compile.specs.declared.blocks.BlockType.TheVariants.{Inport, Outport, UnitDelay, Other}
 use Rattle.mc_compile.specs.Places.{sections_in, has_title, misplaced, system_items}
 use Rattle.mc_compile.specs.Blocks.{Block, block_of}
 use Rattle.mc_compile.specs.Lines.{Line, line_of}
 
--- the Blocks and the Lines of a file's System, in order
+-- the Blocks and the Lines among sections, in order
+abbrev pub blocks_among : List SectionTree → List Block
+blocks_among sections = map block_of (filter (has_title (codes "Block")) sections)
+
+abbrev pub lines_among : List SectionTree → List Line
+lines_among sections = map line_of (filter (has_title (codes "Line")) sections)
+
+-- those of a file's System
 abbrev pub blocks_of : Items → List Block
-blocks_of file = map block_of (filter (has_title (codes "Block")) (sections_in (system_items file)))
+blocks_of file = blocks_among (sections_in (system_items file))
 
 abbrev pub lines_of : Items → List Line
-lines_of file = map line_of (filter (has_title (codes "Line")) (sections_in (system_items file)))
+lines_of file = lines_among (sections_in (system_items file))
 
 -- ---- Names
 
@@ -120,9 +128,10 @@ wrong_lines blocks earlier [] = []
 wrong_lines blocks earlier (line ∷ rest) =
     (if is_right_line blocks earlier line then [] else line.line ∷ []) ++ wrong_lines blocks (earlier ++ line ∷ []) rest
 
+-- the lines of the Blocks and Lines that break a rule
+abbrev pub wrong_parts : List Block → List Line → List ℕ
+wrong_parts blocks lines = wrong_blocks blocks lines [] blocks ++ wrong_lines blocks [] lines
+
 -- the lines of the sections of a file that break a rule
 abbrev pub broken : Items → List ℕ
-broken file =
-    misplaced file
-    ++ wrong_blocks (blocks_of file) (lines_of file) [] (blocks_of file)
-    ++ wrong_lines (blocks_of file) [] (lines_of file)
+broken file = misplaced file ++ wrong_parts (blocks_of file) (lines_of file)

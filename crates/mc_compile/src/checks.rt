@@ -1,15 +1,18 @@
-ghost use Rattle.std.specs.Prelude.{◌≡◌, List, [], ◌<◌, length};
+ghost use Rattle.std.specs.Prelude.{◌≡◌, List, [], ◌<◌, IfOk, length};
 ghost use Rattle.mc_compile.specs.Places.{least};
 ghost use Rattle.mc_compile.specs.Lines.{Line};
 ghost use Rattle.mc_compile.specs.Rules.{wrong_blocks};
 ghost use Rattle.mc_compile.specs.NameMaps.{row_in, AreNamesOf};
+ghost use Rattle.mc_compile.specs.Wiring.{AreWiresOf};
 ghost use Rattle.mc_compile.specs.Checks as checks;
 ghost use Rattle.mc_compile.specs.Checks.{AreKnown};
 
 use crate::blocks::{Block, BlockType};
 use crate::names::{Names, row_of};
+use crate::ports::new_ports;
 use crate::sections::lesser;
 use crate::wiring::Wire;
+use std::alloc::{AllocError, Global};
 
 /// The most blocks that a model may have.
 const MOST_BLOCKS: usize = 20_000;
@@ -56,7 +59,7 @@ fn keeps_rules_at(
 
 /// The least line of a block that breaks a rule, by which ports are new among Inports and among Outports, and by the
 /// wires.
-pub fn least_wrong_block(
+fn least_wrong_by(
     blocks: &[Block],
     names: &Names,
     inports: &[bool],
@@ -76,4 +79,26 @@ pub fn least_wrong_block(
         }
     }
     wrong
+}
+
+/// The least line of a block that breaks a rule, by the wires of the blocks.
+pub fn least_wrong_block(
+    alloc: Global,
+    blocks: &[Block],
+    names: &Names,
+    wires: &[Wire],
+) -> Result<Option<u32>, AllocError>
+    requires names { AreNamesOf blocks.now names.now }
+    requires wires { length wires.now ≡ length blocks.now }
+    ensures { IfOk result (λ wrong. (lines : List Line) → AreWiresOf blocks.now lines wires.now → wrong ≡ least (wrong_blocks blocks.now lines [] blocks.now)) }
+{
+    let inports = new_ports(alloc, blocks, BlockType::Inport)?;
+    let outports = new_ports(alloc, blocks, BlockType::Outport)?;
+    Ok(least_wrong_by(
+        blocks,
+        names,
+        inports.as_slice(),
+        outports.as_slice(),
+        wires,
+    ))
 }

@@ -7,6 +7,7 @@ mod compiled;
 mod initial;
 mod laws;
 mod lines;
+mod model;
 mod names;
 mod ports;
 mod sections;

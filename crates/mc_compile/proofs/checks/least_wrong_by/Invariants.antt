@@ -3,7 +3,7 @@ use Rattle.mc_compile.specs.Places.{lesser, least}
 use Rattle.mc_compile.specs.Lines.{Line}
 use Rattle.mc_compile.specs.Rules.{wrong_blocks}
 use Rattle.mc_compile.specs.Checks.{AreKnown}
-use Rattle.mc_compile.proofs.checks.least_wrong_block.Given as goal
+use Rattle.mc_compile.proofs.checks.least_wrong_by.Given as goal
 
 abbrev pub invariant-loop-row : goal.invariant-loop-row
 invariant-loop-row l =
