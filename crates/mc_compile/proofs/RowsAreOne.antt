@@ -22,7 +22,7 @@ use Rattle.mc_compile.specs.declared.blocks.BlockType.{BlockType}
 use Rattle.mc_compile.specs.declared.blocks.BlockType.TheVariants.{Inport, Outport, UnitDelay, Other}
 use Rattle.mc_compile.specs.Blocks.{Block, block_of, initial_value, initial_number, in_32_bits, has_values, unsigned_digits}
 use Rattle.mc_compile.specs.Lines.{Line}
-use Rattle.mc_compile.specs.Rules.{broken, blocks_of, lines_of, is_new_port, has_new_port, ports_of, is_placed, is_right_block, wrong_blocks, wrong_lines}
+use Rattle.mc_compile.specs.Rules.{broken, blocks_of, lines_of, is_new_port, has_new_port, ports_of, is_placed, is_right_block, wrong_blocks, wrong_lines, wrong_parts}
 use Rattle.mc_compile.specs.Places.{sections_in, has_title, misplaced, system_items}
 use Rattle.mc_compile.specs.FlatRows.{wires_of, type_text_of, whole, HasKind, IsRowOf, AreRowsOf}
 
@@ -243,6 +243,6 @@ module _ (blocks : List Block) (lines : List Line) where
 
 pub rows_of_right : (file : Items) → broken file ≡ [] → (rows : List Row) × AreRowsOf file rows
 rows_of_right file right =
-    let halves = append-empty (misplaced file ++ wrong_blocks (blocks_of file) (lines_of file) [] (blocks_of file)) (wrong_lines (blocks_of file) [] (lines_of file)) right in
-    let blocks = append-empty (misplaced file) (wrong_blocks (blocks_of file) (lines_of file) [] (blocks_of file)) halves.0 in
-    rows_of_sections (blocks_of file) (lines_of file) [] 0 (filter (has_title (codes "Block")) (sections_in (system_items file))) blocks.1
+    let parts = append-empty (misplaced file) (wrong_parts (blocks_of file) (lines_of file)) right in
+    let blocks = append-empty (wrong_blocks (blocks_of file) (lines_of file) [] (blocks_of file)) (wrong_lines (blocks_of file) [] (lines_of file)) parts.1 in
+    rows_of_sections (blocks_of file) (lines_of file) [] 0 (filter (has_title (codes "Block")) (sections_in (system_items file))) blocks.0
