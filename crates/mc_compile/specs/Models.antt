@@ -1,5 +1,6 @@
 -- What is read of a flat model.
 use Rattle.std.specs.Prelude.{◌≡◌, List}
+use Rattle.mdl_tree.specs.Spelling.{Items}
 use Rattle.mdl_tree.specs.Walks.{SectionTree}
 use Rattle.mc_compile.specs.declared.model.FlatModel.{FlatModel}
 use Rattle.mc_compile.specs.Places.{least}
