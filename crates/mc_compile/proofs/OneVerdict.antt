@@ -1,16 +1,16 @@
 -- Each file has one verdict.
-use Rattle.std.specs.Prelude.{◌≡◌, refl, ℕ, ◌<◌, ◌≤◌, Bool, true, false, List, [], ◌∷◌, ◌++◌, length, Option, Some, None, MatchOption, nat_lt, ◌⊎◌}
+use Rattle.std.specs.Prelude.{◌≡◌, refl, ℕ, ◌<◌, ◌≤◌, Bool, true, false, List, [], ◌∷◌, length, Option, Some, None, MatchOption, nat_lt, ◌⊎◌}
 use Rattle.std.proofs.lemmas.Bool.Decides.{nat_tests}
 use Rattle.std.specs.Str.Lines.{lines}
 use Rattle.std.proofs.Common.{sym, ◌∙◌, ap, subst, inl, inr, arith}
 use Rattle.mc_base.specs.declared.SyntaxKind.{SyntaxKind}
-use Rattle.mc_base.specs.Refusals.{PlainRefusal, TooLong, Syntax, NoModel, TwoModels, TooDeep, TooMany, Unsupported, Parameter, DoubleName, NoBlock, NoPort, TwoSources, Unconnected, TwoControls, Continuous, FloatType, NoType, TriggerSigned, TooWide, TimeInside, LongCycle, RateRatio, Loop}
+use Rattle.mc_base.specs.Refusals.{TooLong, Syntax, NoModel, TwoModels, TooDeep, TooMany, Unsupported, Parameter, DoubleName, NoBlock, NoPort, TwoSources, Unconnected, TwoControls, Continuous, FloatType, NoType, TriggerSigned, TooWide, TimeInside, LongCycle, RateRatio, Loop}
 use Rattle.mc_diagram.specs.declared.Row.{Row}
 use Rattle.mdl_tree.specs.Spelling.{Items, LinesSpell, lines_fault, TreeOrFault}
 use Rattle.mc_compile.specs.Places.{least, lesser}
 use Rattle.mc_compile.specs.Rules.{broken}
 use Rattle.mc_compile.specs.FlatRows.{AreRowsOf}
-use Rattle.mc_compile.specs.Verdict.{file_limit, missing_model, IsFile, HasSyntaxFault, HasNoModel, IsUnsupported, HasRefusal, Verdict, Refused, Accepted, IsAccepted, HasVerdict, HasOneVerdict}
+use Rattle.mc_compile.specs.Verdict.{file_limit, missing_model, HasSyntaxFault, HasNoModel, IsUnsupported, Verdict, Refused, Accepted, IsAccepted, HasVerdict, HasOneVerdict}
 use Rattle.mc_compile.proofs.RowsAreOne.{rows-equal, rows_of_right}
 
 -- the lines of a text spell one tree, or have a fault

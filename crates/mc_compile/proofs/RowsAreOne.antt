@@ -1,15 +1,15 @@
 -- A flat model that breaks no rule has one list of rows.
-use Rattle.std.specs.Prelude.{◌≡◌, refl, ℕ, zero, ◌+◌, ◌≤◌, ◌^◌, Bool, true, false, ◌&&◌, List, [], ◌∷◌, ◌++◌, Option, Some, None, option_map, is_some, ℤ, pos, negsuc, unsigned_abs, codes, if◌then◌else◌, neg_ℤ, int_le, int_lt, nat_le, length}
+use Rattle.std.specs.Prelude.{◌≡◌, refl, ℕ, ◌+◌, ◌≤◌, ◌^◌, Bool, true, false, ◌&&◌, List, [], ◌∷◌, ◌++◌, Option, Some, None, option_map, is_some, ℤ, pos, negsuc, unsigned_abs, codes, if◌then◌else◌, nat_le, length}
 use Rattle.std.specs.Prelude.{map, filter}
 use Rattle.std.specs.List.{AllZip, enumerate_from}
 use Rattle.std.specs.Str.Parse.{digits_value, starts_with_minus}
 use Rattle.std.proofs.lemmas.Bool.Decides.{nat_tests}
-use Rattle.std.proofs.Common.{sym, ◌∙◌, ap, subst, lit≤, arith, append_assoc}
+use Rattle.std.proofs.Common.{sym, ◌∙◌, ap, lit≤, arith}
 use native.Mathlib.Nat.{one-dvd, dvd_refl, zero-lt-suc}
 use mathlib.Core.HLevel.{is_prop→PathP}
 use Rattle.std.specs.Coded.{le_prop}
 use Rattle.mc_base.specs.Numbers.{AreLowest}
-use Rattle.mc_base.specs.Literals.{Ratio, ratio_of, is_numeral, with_sign}
+use Rattle.mc_base.specs.Literals.{ratio_of, is_numeral, with_sign}
 use Rattle.mc_base.specs.declared.Decimal.{Decimal}
 use Rattle.mc_base.specs.declared.TimeText.TheVariants as time
 use Rattle.mc_fixed.specs.Conversion.{fits_32}
@@ -20,7 +20,7 @@ use Rattle.mdl_tree.specs.Spelling.{Items}
 use Rattle.mdl_tree.specs.Walks.{SectionTree, first_value}
 use Rattle.mc_compile.specs.declared.blocks.BlockType.{BlockType}
 use Rattle.mc_compile.specs.declared.blocks.BlockType.TheVariants.{Inport, Outport, UnitDelay, Other}
-use Rattle.mc_compile.specs.Blocks.{Block, block_of, initial_value, initial_number, in_32_bits, has_values, unsigned_digits}
+use Rattle.mc_compile.specs.Blocks.{Block, block_of, initial_value, in_32_bits, has_values, unsigned_digits}
 use Rattle.mc_compile.specs.Lines.{Line}
 use Rattle.mc_compile.specs.Rules.{broken, blocks_of, lines_of, is_new_port, has_new_port, ports_of, is_placed, is_right_block, wrong_blocks, wrong_lines, wrong_parts}
 use Rattle.mc_compile.specs.Places.{sections_in, has_title, misplaced, system_items}
