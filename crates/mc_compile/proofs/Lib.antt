@@ -9,3 +9,5 @@ pub mod CheckLaws
 pub mod RowsAreOne
 pub mod OneVerdict
 pub mod Systems
+pub mod WholeNumbers
+pub mod RowPushes

@@ -9,6 +9,7 @@ pub mod Wiring
 pub mod Ports
 pub mod Checks
 pub mod Models
+pub mod WiredRows
 pub mod Verdict
 pub mod Compilation
 pub mod RuleExamples

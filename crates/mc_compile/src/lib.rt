@@ -10,6 +10,7 @@ mod lines;
 mod model;
 mod names;
 mod ports;
+mod rows;
 mod sections;
 mod wiring;
 
