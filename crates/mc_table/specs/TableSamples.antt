@@ -25,6 +25,7 @@ use Rattle.mc_blocks.specs.declared.Kind.TheVariants as kind
 use Rattle.mc_diagram.specs.declared.table.Row.{Row}
 use Rattle.mc_diagram.specs.RowTable.{RowTable}
 
+-- the number 0
 abbrev pub zero_decimal : Decimal
 zero_decimal = record {
   num = pos 0;
@@ -52,9 +53,11 @@ one_table = record {
   fixed_step = None;
 }
 
+-- results are rounded down and wrap
 abbrev pub how : How
 how = record { round = Floor; over = Wrap }
 
+-- the number 1
 abbrev pub one_decimal : Decimal
 one_decimal = record {
   num = pos 1;
@@ -85,25 +88,31 @@ row number line owner k inputs t s = record {
   time_text = s;
 }
 
--- the fraction 0, and those of whole numbers and of a few others
+-- a fraction in lowest terms
 abbrev pub fraction : (num den : ℕ) → 0 < den → IsGcd num den 1 → Frac
 fraction num den some gcd = record { num = num; den = den; lowest = (some, gcd) }
 
+-- 0
 abbrev pub of_0 : Frac
 of_0 = fraction 0 1 (lit≤ tt) (IsGcd-from_mod 0 1 1 (IsGcd-from_zero 1 0 refl))
 
+-- 1
 abbrev pub of_1 : Frac
 of_1 = fraction 1 1 (lit≤ tt) (IsGcd-from_mod 1 1 1 (IsGcd-from_zero 1 0 refl))
 
+-- 2
 abbrev pub of_2 : Frac
 of_2 = fraction 2 1 (lit≤ tt) (IsGcd-from_mod 2 1 1 (IsGcd-from_zero 1 0 refl))
 
+-- 3
 abbrev pub of_3 : Frac
 of_3 = fraction 3 1 (lit≤ tt) (IsGcd-from_mod 3 1 1 (IsGcd-from_zero 1 0 refl))
 
+-- 1000000
 abbrev pub of_million : Frac
 of_million = fraction 1_000_000 1 (lit≤ tt) (IsGcd-from_mod 1_000_000 1 1 (IsGcd-from_zero 1 0 refl))
 
+-- 999999
 abbrev pub of_999999 : Frac
 of_999999 = fraction 999_999 1 (lit≤ tt) (IsGcd-from_mod 999_999 1 1 (IsGcd-from_zero 1 0 refl))
 
@@ -112,6 +121,7 @@ abbrev pub of_1000003 : Frac
 of_1000003 = fraction 1_000_003 1_000_000 (lit≤ tt)
     (IsGcd-from_mod 1_000_003 1_000_000 1 (IsGcd-from_mod 1_000_000 3 1 (IsGcd-from_mod 3 1 1 (IsGcd-from_zero 1 0 refl))))
 
+-- a period without an offset
 abbrev pub every : Frac → TimeText
 every period = time.Each period of_0
 
@@ -220,6 +230,7 @@ constants_table = record {
   fixed_step = None;
 }
 
+-- sums and products without lines
 abbrev pub sums_table : RowTable
 sums_table = record {
   rows =
@@ -230,6 +241,7 @@ sums_table = record {
   fixed_step = None;
 }
 
+-- truth values, types and rates without lines
 abbrev pub tests_table : RowTable
 tests_table = record {
   rows =
@@ -240,6 +252,7 @@ tests_table = record {
   fixed_step = None;
 }
 
+-- an enabled subsystem that resets its states and its output
 abbrev pub enabled_table : RowTable
 enabled_table = record {
   rows =

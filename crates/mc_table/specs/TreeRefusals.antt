@@ -128,6 +128,7 @@ are_doubles m a b =
     && (same_name (name_of m a) (name_of m b)
     || (((is_inport a && is_inport b) || (is_outport a && is_outport b)) && own_port m a == own_port m b))
 
+-- the later blocks with a name or a port that an earlier one has
 abbrev pub double_names : ModelTree → List PlainRefusal
 double_names m = map (λ (b : Block). DoubleName b.line) (repeats (are_doubles m) m.blocks)
 
