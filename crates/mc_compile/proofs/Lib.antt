@@ -11,3 +11,4 @@ pub mod OneVerdict
 pub mod Systems
 pub mod WholeNumbers
 pub mod RowPushes
+pub mod ReadCode

@@ -13,10 +13,11 @@ use Rattle.c_emitter.specs.Code.{IsCodeFor, IsFunctionCount}
 abbrev pub diagram_of : List Row → Diagram
 diagram_of rows = flat_diagram rows (by_row rows (op_in rows (replicate (length rows) int32) []))
 
--- the bytes are C text, and their reading is code for the diagram
+-- the bytes are the text of one program and no other, and that is code for the diagram
 pub record IsRightCode (bytes : List ℕ) (d : Diagram) : Type 0 where
   pub program : ProgramTree
   pub reading : CText bytes program
+  pub only : (other : ProgramTree) → CText bytes other → other ≡ program
   pub code : IsCodeFor program d
 
 -- the numbers of rows, systems and output functions of a model, and its C text
