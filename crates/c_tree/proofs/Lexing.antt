@@ -7,7 +7,7 @@ use Rattle.std.proofs.lemmas.Bool.Decides.{nat_tests}
 use Rattle.std.proofs.lemmas.Fmt.{decimal_nonempty}
 use Rattle.std.proofs.lemmas.List.Sums.{take_while-cons}
 use Rattle.mc_base.specs.Numbers.{reported_number}
-use Rattle.c_tree.specs.Tokens.{Token, is_blank, is_lower, is_word_start, is_word_byte, class_of, word_class, digit_class, token, piece_of, piece_tokens, line_after, tokens_from, starts_lower, ends_with, keywords, is_name}
+use Rattle.c_tree.specs.Tokens.{Token, is_white_space, is_lower, is_word_start, is_word_byte, class_of, word_class, digit_class, token, piece_of, piece_tokens, line_after, tokens_from, starts_lower, ends_with, keywords, is_name}
 use Rattle.c_tree.proofs.TokenLaws.{lines_after, tokens_from-skip}
 use Rattle.c_tree.proofs.LiteralLaws.{and_first, and_second, or_first, IsNumeralOf, numeral}
 
@@ -53,7 +53,7 @@ or_all_false false b c d e f g h = or_three b c d f g h
 or_all_false true b c d e f g h = cc
 
 -- what passes such a test is no blank
-pub not_blank : (test : ℕ → Bool) (b : ℕ) → test b ≡ true → test 32 ≡ false → test 9 ≡ false → test 10 ≡ false → test 13 ≡ false → is_blank b ≡ false
+pub not_blank : (test : ℕ → Bool) (b : ℕ) → test b ≡ true → test 32 ≡ false → test 9 ≡ false → test 10 ≡ false → test 13 ≡ false → is_white_space b ≡ false
 not_blank test b passes space tab end return =
     or_all_false (b == 32) (b == 9) (b == 10) (b == 13) (differs test b 32 passes space) (differs test b 9 passes tab) (differs test b 10 passes end) (differs test b 13 passes return)
 

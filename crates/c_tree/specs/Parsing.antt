@@ -24,6 +24,7 @@ pub record Limits : Type 0 where
   pub pures : ℕ
   pub params : ℕ
 
+-- the limits on texts
 abbrev pub the_limits : Limits
 the_limits = record { exprs = expr_limit; stmts = stmt_limit; pures = pure_limit; params = param_limit }
 
@@ -32,10 +33,12 @@ abbrev pub type_of_text : List ℕ → Option CType
 type_of_text text =
     if bytes_eq text (codes "int8_t") then Some I8 else (if bytes_eq text (codes "uint8_t") then Some U8 else (if bytes_eq text (codes "int16_t") then Some I16 else (if bytes_eq text (codes "uint16_t") then Some U16 else (if bytes_eq text (codes "int32_t") then Some I32 else (if bytes_eq text (codes "uint32_t") then Some U32 else (if bytes_eq text (codes "int64_t") then Some I64 else None))))))
 
+-- the operator that is written so
 abbrev pub op_of_text : List ℕ → Option BinOp
 op_of_text text =
     if bytes_eq text (codes "+") then Some Add else (if bytes_eq text (codes "-") then Some Sub else (if bytes_eq text (codes "*") then Some Mul else (if bytes_eq text (codes "/") then Some Div else (if bytes_eq text (codes "%") then Some Rem else None))))
 
+-- the comparison that is written so
 abbrev pub compare_of_text : List ℕ → Option Compare
 compare_of_text text =
     if bytes_eq text (codes "==") then Some Eq else (if bytes_eq text (codes "!=") then Some Ne else (if bytes_eq text (codes "<") then Some Lt else (if bytes_eq text (codes "<=") then Some Le else (if bytes_eq text (codes ">=") then Some Ge else (if bytes_eq text (codes ">") then Some Gt else None)))))
@@ -44,11 +47,13 @@ compare_of_text text =
 pub data Want : Type 0 where
   want_value want_test want_any : Want
 
+-- an expression may stand here
 abbrev pub wants_value : Want → Bool
 wants_value want_value = true
 wants_value want_test = false
 wants_value want_any = true
 
+-- a condition may stand here
 abbrev pub wants_test : Want → Bool
 wants_test want_value = false
 wants_test want_test = true
@@ -63,6 +68,7 @@ pub data Operand : Type 0 where
 pub data Opener : Type 0 where
   number_opener call_opener paren_opener no_opener : Opener
 
+-- what a token opens where an operand is wanted
 abbrev pub opener_of : Want → List ℕ → Opener
 opener_of want text =
     if wants_value want && bytes_eq text (codes "INT64_C") then number_opener else (if wants_value want && is_name text then call_opener else (if bytes_eq text (codes "(") then paren_opener else no_opener))
@@ -71,6 +77,7 @@ opener_of want text =
 pub data Inside : Type 0 where
   minus_inside not_inside cast_inside first_inside : Inside
 
+-- what a token opens behind the `(` of an operand
 abbrev pub inside_of : Want → List ℕ → Inside
 inside_of want text =
     if wants_value want && bytes_eq text (codes "-") then minus_inside else (if wants_test want && bytes_eq text (codes "!") then not_inside else (if wants_value want && bytes_eq text (codes "int64_t") then cast_inside else first_inside))
@@ -81,17 +88,21 @@ pub data ValueJoint : Type 0 where
   compare_joint : (how : Compare) → ValueJoint
   no_value_joint : ValueJoint
 
+-- what may stand behind a condition that is the first operand
 pub data TestJoint : Type 0 where
   and_joint or_joint pick_joint no_test_joint : TestJoint
 
+-- an operator or a comparison behind an expression
 abbrev pub first_joint : Option BinOp → Option Compare → ValueJoint
 first_joint (Some op) how = op_joint op
 first_joint None (Some how) = compare_joint how
 first_joint None None = no_value_joint
 
+-- what a token is behind an expression, where that may stand
 abbrev pub value_joint : Want → List ℕ → ValueJoint
 value_joint want text = first_joint (if wants_value want then op_of_text text else None) (if wants_test want then compare_of_text text else None)
 
+-- what a token is behind a condition, where that may stand
 abbrev pub test_joint : Want → List ℕ → TestJoint
 test_joint want text =
     if wants_test want && bytes_eq text (codes "&&") then and_joint else (if wants_test want && bytes_eq text (codes "||") then or_joint else (if wants_value want && bytes_eq text (codes "?") then pick_joint else no_test_joint))
@@ -100,6 +111,7 @@ test_joint want text =
 pub data StmtOpener : Type 0 where
   store_opener if_opener invoke_opener no_stmt : StmtOpener
 
+-- what a token opens where a statement is wanted
 abbrev pub stmt_opener_of : List ℕ → StmtOpener
 stmt_opener_of text =
     if bytes_eq text (codes "s") then store_opener else (if bytes_eq text (codes "if") then if_opener else (if is_name text then invoke_opener else no_stmt))
@@ -108,6 +120,7 @@ stmt_opener_of text =
 pub data Comma : Type 0 where
   another closed no_comma : Comma
 
+-- whether a list goes on
 abbrev pub comma_of : List ℕ → Comma
 comma_of text = if bytes_eq text (codes ",") then another else (if bytes_eq text (codes ")") then closed else no_comma)
 
@@ -115,6 +128,7 @@ comma_of text = if bytes_eq text (codes ",") then another else (if bytes_eq text
 pub data TargetOpener : Type 0 where
   own_opener field_opener no_target : TargetOpener
 
+-- what a token opens where the target of a call is wanted
 abbrev pub target_opener_of : List ℕ → TargetOpener
 target_opener_of text = if bytes_eq text (codes "s") then own_opener else (if bytes_eq text (codes "&") then field_opener else no_target)
 
@@ -122,6 +136,7 @@ target_opener_of text = if bytes_eq text (codes "s") then own_opener else (if by
 pub data Definition : Type 0 where
   static_definition struct_definition void_definition no_definition : Definition
 
+-- the kind of definition that a token opens
 abbrev pub definition_of : List ℕ → Definition
 definition_of text =
     if bytes_eq text (codes "static") then static_definition else (if bytes_eq text (codes "struct") then struct_definition else (if bytes_eq text (codes "void") then void_definition else no_definition))
@@ -141,10 +156,12 @@ abbrev pub many : {X : Type 0} → (ℕ → List Token → Result (Step X) CFaul
 many step zero count tokens = Ok ([], tokens)
 many step (suc most) count tokens = step count tokens >>= after_step (many step most) count
 
+-- expressions from a list of them
 abbrev pub exprs_from : List WrittenExpr → WrittenExprs
 exprs_from [] = no_exprs
 exprs_from (e ∷ es) = more_exprs e (exprs_from es)
 
+-- statements from a list of them
 abbrev pub stmts_from : List WrittenStmt → WrittenStmts
 stmts_from [] = no_stmts
 stmts_from (s ∷ ss) = more_stmts s (stmts_from ss)
@@ -153,6 +170,7 @@ stmts_from (s ∷ ss) = more_stmts s (stmts_from ss)
 abbrev pub Argument : Type 0
 Argument = CType × WrittenExpr
 
+-- arguments from a list of them
 abbrev pub arguments_from : List Argument → WrittenArguments
 arguments_from [] = no_arguments
 arguments_from (a ∷ rest) = more_arguments a.0 a.1 (arguments_from rest)
@@ -175,6 +193,7 @@ abbrev pub or_syntax_unless : Token → Bool → Result (Unit {0}) CFault
 or_syntax_unless t true = Ok tt
 or_syntax_unless t false = syntax_at t
 
+-- the same, with the token beyond a limit
 abbrev pub or_deep_unless : Token → Bool → Result (Unit {0}) CFault
 or_deep_unless t true = Ok tt
 or_deep_unless t false = deep_at t
@@ -198,18 +217,21 @@ module _ (last : ℕ) where
     or_syntax_unless t.0 (bytes_eq t.0.text text)
     Ok (tt, t.1)
 
+  -- a name
   abbrev pub parse_name : List Token → Parsed (List ℕ)
   parse_name tokens = do
     t ← next tokens
     or_syntax_unless t.0 (is_name t.0.text)
     Ok (t.0.text, t.1)
 
+  -- a type
   abbrev pub parse_type : List Token → Parsed CType
   parse_type tokens = do
     t ← next tokens
     type ← or_syntax t.0 (type_of_text t.0.text)
     Ok (type, t.1)
 
+  -- a number
   abbrev pub parse_literal : List Token → Parsed ℕ
   parse_literal tokens = do
     t ← next tokens
@@ -259,15 +281,18 @@ module _ (last : ℕ) where
   value_only (value e, tokens) = Ok (e, tokens)
   value_only (test c, tokens) = Err (fault_at last Syntax)
 
+  -- an operand that is a condition
   abbrev pub test_only : Operand × List Token → Parsed WrittenCond
   test_only (value e, tokens) = Err (fault_at last Syntax)
   test_only (test c, tokens) = Ok (c, tokens)
 
   -- in these, `operand` gives the operands that are one deeper
   module _ (operand : Want → List Token → Parsed Operand) where
+    -- an expression one level deeper
     abbrev pub deeper_value : List Token → Parsed WrittenExpr
     deeper_value tokens = operand want_value tokens >>= value_only
 
+    -- a condition one level deeper
     abbrev pub deeper_test : List Token → Parsed WrittenCond
     deeper_test tokens = operand want_test tokens >>= test_only
 
@@ -285,6 +310,7 @@ module _ (last : ℕ) where
     values_step_by t tokens closed = Ok (the_end tokens)
     values_step_by t tokens no_comma = syntax_at t
 
+    -- a further argument of a pure function, or the `)`
     abbrev pub values_step : ℕ → List Token → Result (Step WrittenExpr) CFault
     values_step count tokens = next tokens >>= (λ t. values_step_by t.0 t.1 (comma_of t.0.text))
 
@@ -302,6 +328,7 @@ module _ (last : ℕ) where
     join_value a t tokens (compare_joint how) = deeper_value tokens >>= (λ b. Ok (test (compare how a b.0), b.1))
     join_value a t tokens no_value_joint = syntax_at t
 
+    -- the rest of an operand whose first is a condition
     abbrev pub join_test : WrittenCond → Token → List Token → TestJoint → Parsed Operand
     join_test c t tokens and_joint = deeper_test tokens >>= (λ d. Ok (test (both c d.0), d.1))
     join_test c t tokens or_joint = deeper_test tokens >>= (λ d. Ok (test (either c d.0), d.1))
@@ -312,6 +339,7 @@ module _ (last : ℕ) where
       Ok (value (pick c a.0 b.0), b.1)
     join_test c t tokens no_test_joint = syntax_at t
 
+    -- the rest of an operand behind its first
     abbrev pub join : Want → Operand → Token × List Token → Parsed Operand
     join want (value a) t = join_value a t.0 t.1 (value_joint want t.0.text)
     join want (test c) t = join_test c t.0 t.1 (test_joint want t.0.text)
@@ -359,9 +387,11 @@ module _ (last : ℕ) where
   parse_operand zero want tokens = next tokens >>= (λ t. opened_too_deep t.0 (opener_of want t.0.text))
   parse_operand (suc levels) want tokens = next tokens >>= (λ t. parse_opened (parse_operand levels) want t.0 t.1 (opener_of want t.0.text))
 
+  -- an expression, where so many more levels may be opened
   abbrev pub parse_expr : (levels : ℕ) → List Token → Parsed WrittenExpr
   parse_expr levels tokens = parse_operand levels want_value tokens >>= value_only
 
+  -- a condition, where so many more levels may be opened
   abbrev pub parse_cond : (levels : ℕ) → List Token → Parsed WrittenCond
   parse_cond levels tokens = parse_operand levels want_test tokens >>= test_only
 
@@ -374,6 +404,7 @@ module _ (last : ℕ) where
     Ok (field_target field.0, field.1)
   parse_target_from t tokens no_target = syntax_at t
 
+  -- the target of a call
   abbrev pub parse_target : List Token → Parsed WrittenTarget
   parse_target tokens = next tokens >>= (λ t. parse_target_from t.0 t.1 (target_opener_of t.0.text))
 
@@ -387,6 +418,7 @@ module _ (last : ℕ) where
     arguments_step_by t tokens closed = Ok (the_end tokens)
     arguments_step_by t tokens no_comma = syntax_at t
 
+    -- what follows an argument
     abbrev pub arguments_step : ℕ → List Token → Result (Step Argument) CFault
     arguments_step count tokens = next tokens >>= (λ t. arguments_step_by t.0 t.1 (comma_of t.0.text))
 
@@ -416,6 +448,7 @@ module _ (last : ℕ) where
       stmts_step_by tokens true = next tokens >>= (λ close. Ok (the_end close.1))
       stmts_step_by tokens false = statement tokens >>= (λ s. Ok (one_more s.0 s.1))
 
+      -- what follows a statement
       abbrev pub stmts_step : ℕ → List Token → Result (Step WrittenStmt) CFault
       stmts_step count tokens = stmts_step_by tokens (bytes_eq (first_text tokens) (codes "}"))
 
@@ -434,6 +467,7 @@ module _ (last : ℕ) where
         Ok (branch_else t.line c on_true on_false.0, on_false.1)
       parse_second t c on_true tokens false = Ok (branch t.line c on_true, tokens)
 
+      -- a choice behind its `if`
       abbrev pub parse_if : Token → List Token → Parsed WrittenStmt
       parse_if t tokens = do
         c ← parse_cond limits.exprs tokens
@@ -468,14 +502,17 @@ module _ (last : ℕ) where
       name ← parse_name t.1
       Ok (record { line = t.0.line; name = name.0 }, name.1)
 
+    -- a further parameter of a pure function, or the `)`
     abbrev pub pure_params_step_by : ℕ → Token → List Token → Comma → Result (Step WrittenPureParam) CFault
     pure_params_step_by count t tokens another = parse_pure_param count tokens >>= (λ p. Ok (one_more p.0 p.1))
     pure_params_step_by count t tokens closed = Ok (the_end tokens)
     pure_params_step_by count t tokens no_comma = syntax_at t
 
+    -- what follows a parameter of a pure function
     abbrev pub pure_params_step : ℕ → List Token → Result (Step WrittenPureParam) CFault
     pure_params_step count tokens = next tokens >>= (λ t. pure_params_step_by count t.0 t.1 (comma_of t.0.text))
 
+    -- a parameter of a procedure, behind so many
     abbrev pub parse_param : ℕ → List Token → Parsed WrittenParam
     parse_param count tokens = do
       t ← next tokens
@@ -484,11 +521,13 @@ module _ (last : ℕ) where
       name ← parse_name t.1
       Ok (record { line = t.0.line; type = type; name = name.0 }, name.1)
 
+    -- a further parameter of a procedure, or the `)`
     abbrev pub params_step_by : ℕ → Token → List Token → Comma → Result (Step WrittenParam) CFault
     params_step_by count t tokens another = parse_param count tokens >>= (λ p. Ok (one_more p.0 p.1))
     params_step_by count t tokens closed = Ok (the_end tokens)
     params_step_by count t tokens no_comma = syntax_at t
 
+    -- what follows a parameter of a procedure
     abbrev pub params_step : ℕ → List Token → Result (Step WrittenParam) CFault
     params_step count tokens = next tokens >>= (λ t. params_step_by count t.0 t.1 (comma_of t.0.text))
 
@@ -513,6 +552,7 @@ module _ (last : ℕ) where
     parse_kind t tokens true = parse_name tokens >>= (λ name. Ok (struct_kind name.0, name.1))
     parse_kind t tokens false = or_syntax t (type_of_text t.text) >>= (λ type. Ok (number_kind type, tokens))
 
+    -- a field
     abbrev pub parse_field : List Token → Parsed WrittenField
     parse_field tokens = do
       t ← next tokens
@@ -521,10 +561,12 @@ module _ (last : ℕ) where
       end ← parse_word (codes ";") name.1
       Ok (record { line = t.0.line; kind = kind.0; name = name.0 }, end.1)
 
+    -- a further field, or the `}`
     abbrev pub fields_step_by : List Token → (is_closed : Bool) → Result (Step WrittenField) CFault
     fields_step_by tokens true = next tokens >>= (λ close. Ok (the_end close.1))
     fields_step_by tokens false = parse_field tokens >>= (λ f. Ok (one_more f.0 f.1))
 
+    -- what follows a field
     abbrev pub fields_step : ℕ → List Token → Result (Step WrittenField) CFault
     fields_step count tokens = fields_step_by tokens (bytes_eq (first_text tokens) (codes "}"))
 
@@ -570,6 +612,7 @@ module _ (last : ℕ) where
     pures_step_by count t tokens all void_definition = syntax_at t
     pures_step_by count t tokens all no_definition = syntax_at t
 
+    -- what follows a pure function
     abbrev pub pures_step : ℕ → List Token → Result (Step WrittenPure) CFault
     pures_step count tokens = next tokens >>= (λ t. pures_step_by count t.0 t.1 tokens (definition_of t.0.text))
 
@@ -580,6 +623,7 @@ module _ (last : ℕ) where
     structs_step_by t tokens all void_definition = Ok (the_end all)
     structs_step_by t tokens all no_definition = syntax_at t
 
+    -- what follows a struct
     abbrev pub structs_step : ℕ → List Token → Result (Step WrittenStruct) CFault
     structs_step count tokens = next tokens >>= (λ t. structs_step_by t.0 t.1 tokens (definition_of t.0.text))
 

@@ -22,12 +22,15 @@ pub record Vocabulary : Type 0 where
 abbrev pub name_at : List (List ℕ) → ℕ → List ℕ
 name_at names k = slice_index_or names k []
 
+-- the name of the pure function at a position
 abbrev pub pure_name : ProgramTree → ℕ → List ℕ
 pure_name p k = name_at (map (λ q. q.name) p.pures) k
 
+-- the name of the struct at a position
 abbrev pub struct_name : ProgramTree → ℕ → List ℕ
 struct_name p k = name_at (map (λ d. d.name) p.structs) k
 
+-- the name of the procedure at a position
 abbrev pub procedure_name : ProgramTree → ℕ → List ℕ
 procedure_name p k = name_at (map (λ q. q.name) p.procedures) k
 
@@ -35,6 +38,7 @@ procedure_name p k = name_at (map (λ q. q.name) p.procedures) k
 abbrev pub procedure_types : ProgramTree → ℕ → List CType
 procedure_types p k = slice_index_or (map (λ q. map (λ x. x.type) q.params) p.procedures) k []
 
+-- the name of the field at a position
 abbrev pub field_name : List FieldTree → ℕ → List ℕ
 field_name fields k = name_at (map (λ f. f.name) fields) k
 
@@ -43,14 +47,17 @@ abbrev pub kind_fields : List StructTree → FieldKind → List FieldTree
 kind_fields structs (Number type) = []
 kind_fields structs (Struct k) = struct_fields structs k
 
+-- the fields of the struct that the field at a position is of
 abbrev pub inner_fields : Vocabulary → ℕ → List FieldTree
 inner_fields v k = slice_index_or (map (λ f. kind_fields v.program.structs f.kind) v.fields) k []
 
+-- what a leaf is printed as
 abbrev pub leaf_bytes : Vocabulary → Leaf → List ℕ
 leaf_bytes v (Param k) = name_at v.params k
 leaf_bytes v (Own f) = codes "s->" ++ field_name v.fields f
 leaf_bytes v (Child f g) = codes "s->" ++ field_name v.fields f ++ codes "." ++ field_name (inner_fields v f) g
 
+-- what a literal is printed as
 abbrev pub literal_bytes : ℤ → List ℕ
 literal_bytes value = codes "INT64_C(" ++ decimal (unsigned_abs value) ++ codes ")"
 
@@ -82,6 +89,7 @@ abbrev mutual
 abbrev pub margin_bytes : ℕ → List ℕ
 margin_bytes margin = replicate margin 32
 
+-- the margin in a block
 abbrev pub deeper : ℕ → ℕ
 deeper margin = min (margin + 4) 80
 
@@ -89,6 +97,7 @@ deeper margin = min (margin + 4) 80
 abbrev pub ended : List ℕ → List ℕ
 ended text = text ++ 10 ∷ []
 
+-- whose procedure is called
 abbrev pub target_bytes : Vocabulary → Target → List ℕ
 target_bytes v OwnTarget = codes "s"
 target_bytes v (ChildTarget f) = codes "&s->" ++ field_name v.fields f
@@ -123,13 +132,16 @@ abbrev mutual
 abbrev pub later_pure_params_bytes : List (List ℕ) → List ℕ
 later_pure_params_bytes names = flat_map (λ name. codes ", int64_t " ++ name) names
 
+-- the parameters of a pure function
 abbrev pub pure_params_bytes : List (List ℕ) → List ℕ
 pure_params_bytes [] = []
 pure_params_bytes (name ∷ names) = codes "int64_t " ++ name ++ later_pure_params_bytes names
 
+-- a blank line, and a pure function up to its `{`
 abbrev pub pure_head_bytes : PureTree → List ℕ
 pure_head_bytes q = ended [] ++ codes "static int64_t " ++ q.name ++ codes "(" ++ pure_params_bytes q.params ++ ended (codes ") {")
 
+-- a pure function
 abbrev pub pure_bytes : ProgramTree → PureTree → List ℕ
 pure_bytes p q =
     pure_head_bytes q ++ codes "    return " ++ expr_bytes (record { program = p; fields = []; params = q.params }) q.body ++ ended (codes ";") ++ ended (codes "}")
@@ -139,23 +151,29 @@ abbrev pub kind_bytes : ProgramTree → FieldKind → List ℕ
 kind_bytes p (Number type) = type_text type
 kind_bytes p (Struct k) = codes "struct " ++ struct_name p k
 
+-- a line that declares a field
 abbrev pub field_bytes : ProgramTree → FieldTree → List ℕ
 field_bytes p f = codes "    " ++ kind_bytes p f.kind ++ codes " " ++ f.name ++ ended (codes ";")
 
+-- a struct, behind a blank line
 abbrev pub struct_bytes : ProgramTree → StructTree → List ℕ
 struct_bytes p d = ended [] ++ codes "struct " ++ d.name ++ ended (codes " {") ++ flat_map (field_bytes p) d.fields ++ ended (codes "};")
 
+-- what a procedure begins with
 abbrev pub private_bytes : Bool → List ℕ
 private_bytes true = codes "static void "
 private_bytes false = codes "void "
 
+-- a parameter of a procedure, behind a `,`
 abbrev pub param_bytes : ParamTree → List ℕ
 param_bytes q = codes ", " ++ type_text q.type ++ codes " " ++ q.name
 
+-- a blank line, and a procedure up to its `{`
 abbrev pub procedure_head_bytes : ProgramTree → ProcedureTree → List ℕ
 procedure_head_bytes p q =
     ended [] ++ private_bytes q.private ++ q.name ++ codes "(struct " ++ struct_name p q.of ++ codes " *s" ++ flat_map param_bytes q.params ++ ended (codes ") {")
 
+-- a procedure
 abbrev pub procedure_bytes : ProgramTree → ProcedureTree → List ℕ
 procedure_bytes p q =
     procedure_head_bytes p q ++ stmts_bytes (record { program = p; fields = struct_fields p.structs q.of; params = map (λ x. x.name) q.params }) 4 q.body ++ ended (codes "}")
