@@ -1,0 +1,8 @@
+use Rattle.std.proofs.Common.{map}
+use Rattle.c_tree.specs.Plain.{pure_tree, procedure_tree}
+use Rattle.prelude_text.proofs.LeastLaws.{parts-lawful}
+use Rattle.prelude_text.proofs.least.program.Goals as goal
+
+pub returns-clause-lawful : goal.returns-clause-lawful
+returns-clause-lawful c =
+    parts-lawful (map pure_tree c.in_ok-prelude.field-0.items) c.in_ok-one.field-0.items c.in_ok-root.field-0 (map procedure_tree c.in_ok-procedures.field-0.items) c.in_ok-prelude.ensures c.in_ok-one.ensures c.in_ok-root.ensures c.in_ok-procedures.ensures
