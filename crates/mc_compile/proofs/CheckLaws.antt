@@ -59,7 +59,7 @@ same_text : (text : List ℕ) → bytes_eq text text ≡ true
 same_text text = (bytes_eq-Decides text text).1 refl
 
 -- the first block of a block's name is the block itself just where no earlier one has the name
-named_first : (blocks : List Block) (row : ℕ) (block : Block) → row < length blocks → block ≡ get_or blocks row block →
+pub named_first : (blocks : List Block) (row : ℕ) (block : Block) → row < length blocks → block ≡ get_or blocks row block →
     option_eq nat_eq (row_named blocks block.name) (Some row) ≡ (is_some block.name && not (list_any (has_name block.name) (take row blocks)))
 named_first blocks row block h e = by_name block.name refl
   where
@@ -79,13 +79,13 @@ named_first blocks row block h e = by_name block.name refl
         ∙ ap (λ n. option_eq nat_eq (row_named (take row blocks ++ block ∷ drop (row + 1) blocks) (Some name)) (Some n)) (sym before)
         ∙ row-behind (Some name) 0 (take row blocks) block (drop (row + 1) blocks) (ap (same_name (Some name)) own ∙ same_text name)
 
-option_eq_is : (o : Option ℕ) (n : ℕ) → option_eq nat_eq o (Some n) ≡ true → o ≡ Some n
+pub option_eq_is : (o : Option ℕ) (n : ℕ) → option_eq nat_eq o (Some n) ≡ true → o ≡ Some n
 option_eq_is None n e = absurd (true≢false (sym e))
 option_eq_is (Some m) n e = ap Some (eqb-true m n e)
 
 -- ---- Wires
 
-find-any : {X : Type 0} (test : X → Bool) (xs : List X) → is_some (find test xs) ≡ list_any test xs
+pub find-any : {X : Type 0} (test : X → Bool) (xs : List X) → is_some (find test xs) ≡ list_any test xs
 find-any test [] = refl
 find-any test (x ∷ xs) = by_test (test x) (find-any test xs)
   where

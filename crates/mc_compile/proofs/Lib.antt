@@ -12,3 +12,6 @@ pub mod Systems
 pub mod WholeNumbers
 pub mod RowPushes
 pub mod ReadCode
+pub mod Accepted
+pub mod RowKinds
+pub mod FlatRowLaws

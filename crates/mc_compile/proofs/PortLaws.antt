@@ -1,5 +1,5 @@
 -- The ports of blocks, with one block more.
-use Rattle.std.proofs.Common.{◌≡◌, sym, ◌∙◌, ap, subst, ℕ, Bool, true, cond, ◌&&◌, nat_lt, List, [], ◌∷◌, ◌++◌, length, map, filter}
+use Rattle.std.proofs.Common.{◌≡◌, sym, ◌∙◌, ap, subst, ℕ, Bool, true, false, cond, ◌&&◌, nat_lt, List, [], ◌∷◌, ◌++◌, length, map, filter, append-nil}
 use Rattle.std.proofs.lemmas.List.{map-append}
 use Rattle.std.proofs.lemmas.List.Elements.{filter-append}
 use Rattle.mc_compile.specs.declared.blocks.BlockType.{BlockType}
@@ -13,6 +13,14 @@ ports_of-push type earlier block own =
     ap (map (λ b. b.port)) (filter-append (λ b. same_type type b.type) earlier (block ∷ []))
     ∙ map-append (λ b. b.port) (filter (λ b. same_type type b.type) earlier) (filter (λ b. same_type type b.type) (block ∷ []))
     ∙ ap (λ t. ports_of type earlier ++ map (λ b. b.port) (cond t (block ∷ []) [])) own
+
+-- a block of another type has none
+pub ports_of-other : (type : BlockType) (earlier : List Block) (block : Block) → same_type type block.type ≡ false → ports_of type (earlier ++ block ∷ []) ≡ ports_of type earlier
+ports_of-other type earlier block other =
+    ap (map (λ b. b.port)) (filter-append (λ b. same_type type b.type) earlier (block ∷ []))
+    ∙ map-append (λ b. b.port) (filter (λ b. same_type type b.type) earlier) (filter (λ b. same_type type b.type) (block ∷ []))
+    ∙ ap (λ t. ports_of type earlier ++ map (λ b. b.port) (cond t (block ∷ []) [])) other
+    ∙ append-nil (ports_of type earlier)
 
 pub takes-own : (type : BlockType) (blocks earlier : List Block) (block : Block) (seen after : List Bool) (is_new : Bool) (count : ℕ) → same_type type block.type ≡ true →
     TakesPort (length seen) (ports_of type earlier) block.port after is_new → length seen ≡ length (ports_of type blocks) → count ≡ length (ports_of type earlier) →

@@ -40,7 +40,7 @@ decimal-equal d e p = λ i. record {
   den_bound = is_prop→PathP (λ j. (p j).den ≤ 10 ^ 18) (λ j. le_prop) d.den_bound e.den_bound i;
 }
 
-some-equal : {A : Type 0} (a b : A) → Some a ≡ Some b → a ≡ b
+pub some-equal : {A : Type 0} (a b : A) → Some a ≡ Some b → a ≡ b
 some-equal a b e = cc
 
 kind-equal : (b : Block) (k l : Kind) → HasKind b k → HasKind b l → k ≡ l
@@ -153,12 +153,12 @@ fits-bound : (z : ℤ) → fits_32 z ≡ true → unsigned_abs z ≤ 10 ^ 36
 fits-bound (pos n) fits = grind (arith, nat_tests)
 fits-bound (negsuc n) fits = grind (arith, nat_tests)
 
-and-true : (a b : Bool) → (a && b) ≡ true → (a ≡ true) × (b ≡ true)
+pub and-true : (a b : Bool) → (a && b) ≡ true → (a ≡ true) × (b ≡ true)
 and-true true true e = (refl, refl)
 and-true true false e = absurd (cc)
 and-true false b e = absurd (cc)
 
-append-empty : {A : Type 0} (a b : List A) → a ++ b ≡ [] → (a ≡ []) × (b ≡ [])
+pub append-empty : {A : Type 0} (a b : List A) → a ++ b ≡ [] → (a ≡ []) × (b ≡ [])
 append-empty [] b e = (refl, e)
 append-empty (x ∷ xs) b e = absurd (cc)
 
@@ -178,7 +178,7 @@ initial-fits (Some text) w e = by_test (is_numeral (unsigned_digits text) && nat
     by_test true is = in_bits (with_sign (starts_with_minus text) (digits_value 10 (unsigned_digits text))) w is
     by_test false is = absurd (cc)
 
-there : {A : Type 0} (o : Option A) → is_some o ≡ true → (x : A) × (o ≡ Some x)
+pub there : {A : Type 0} (o : Option A) → is_some o ≡ true → (x : A) × (o ≡ Some x)
 there None e = absurd (cc)
 there (Some x) e = (x, refl)
 
@@ -229,7 +229,7 @@ module _ (blocks : List Block) (lines : List Line) where
       let named = and-true _ _ new.0 in
       row_of_type earlier n (block_of s) (block_of s).type refl placed.1 (delay-initial s named.0)
 
-  right-test : (b : Bool) (n : ℕ) (rest : List ℕ) → (if b then [] else n ∷ []) ++ rest ≡ [] → (b ≡ true) × (rest ≡ [])
+  pub right-test : (b : Bool) (n : ℕ) (rest : List ℕ) → (if b then [] else n ∷ []) ++ rest ≡ [] → (b ≡ true) × (rest ≡ [])
   right-test true n rest e = (refl, e)
   right-test false n rest e = absurd (cc)
 
