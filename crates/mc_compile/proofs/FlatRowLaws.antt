@@ -26,7 +26,7 @@ use Rattle.mc_compile.proofs.Accepted.{IsRightSystem, Source, source, own-wire, 
 use Rattle.mc_compile.proofs.RowKinds.{KindOf, an_inport, an_outport, a_delay, kind_of, TestsFor}
 
 -- what stands for a block past the end
-abbrev no_block : Block
+abbrev pub no_block : Block
 no_block = record { line = 0; name = None; type = Other; port = None; initial = None; is_formed = false }
 
 -- ---- Inputs
@@ -142,7 +142,7 @@ module _ (blocks : List Block) (lines : List Line) (right : IsRightSystem blocks
 
   -- ---- Kinds
 
-  kind-at : (i : ℕ) → i < length blocks → KindOf (get_or blocks i no_block) (row_at rows i).kind
+  pub kind-at : (i : ℕ) → i < length blocks → KindOf (get_or blocks i no_block) (row_at rows i).kind
   kind-at i h = kind_of (get_or blocks i no_block) (row_at rows i).kind (row-by i h).kind
 
   source-kind : (b : Block) (k : Kind) → KindOf b k → is_source b.type ≡ true → flat.is_source k ≡ true

@@ -15,3 +15,4 @@ pub mod ReadCode
 pub mod Accepted
 pub mod RowKinds
 pub mod FlatRowLaws
+pub mod Diagrams

@@ -1,5 +1,5 @@
 -- The reading of a printed program is code for what the program is code for, whatever its lines.
-use Rattle.std.specs.Prelude.{◌≡◌, refl, ℕ, ◌+◌, ◌≤◌, Bool, true, false, not, ◌||◌, List, [], ◌∷◌, ◌++◌, map, filter, length, Contains, IsPermutation, Option, Some, None, option_map, unwrap_or, ℤ, bytes_eq, if◌then◌else◌, slice_index_or}
+use Rattle.std.specs.Prelude.{◌≡◌, refl, ℕ, ◌+◌, ◌≤◌, Bool, true, false, not, ◌||◌, List, [], ◌∷◌, ◌++◌, map, filter, length, Contains, IsPermutation, Option, Some, None, option_map, unwrap_or, ℤ, bytes_eq, if◌then◌else◌}
 use Rattle.std.specs.List.{AllByRecursion, list_any, position_from, prefix_len, range_with_len}
 use Rattle.std.proofs.Common.{suc, sym, ◌∙◌, ap, subst}
 use Rattle.std.proofs.Math.Path.{fun_ext}
@@ -8,22 +8,21 @@ use Rattle.mc_diagram.specs.Run.{start_of, is_delay}
 use Rattle.mc_diagram.specs.Rows.{row_at, rows_of}
 use Rattle.mc_diagram.specs.Diagram.{Diagram, op_at}
 use Rattle.c_tree.specs.declared.Stuck.{Stuck}
-use Rattle.c_tree.specs.Tree.{StructTree, ProcedureTree, ProgramTree, struct_fields}
+use Rattle.c_tree.specs.Tree.{StructTree, ProcedureTree, ProgramTree}
 use Rattle.c_tree.specs.Cells.{Cells}
 use Rattle.c_tree.specs.Machine.{After, Outcome, done, stuck}
 use Rattle.c_tree.specs.Rows.{TickRow, Rows, c_rows, start_run}
-use Rattle.c_tree.specs.Reading.{CText}
 use Rattle.c_tree.specs.Lawful.{IsLawful, IsTextOf, without_lines, stmts_without_lines}
-use Rattle.c_tree.specs.LinesAside.{stuck_aside, outcome_aside, rows_aside, RunAlike, LinesMeanNothing}
+use Rattle.c_tree.specs.LinesAside.{stuck_aside, outcome_aside, RunAlike, LinesMeanNothing}
 use Rattle.c_tree.specs.Agreement.{ReadingsAgree}
 use Rattle.mc_profile.specs.Systems.{system_name}
 use Rattle.mc_profile.specs.Functions.{functions_for}
 use Rattle.c_emitter.specs.Names.{out_name, update_name, value_name, memory_name, root_name}
-use Rattle.c_emitter.specs.Systems.{IsTrace, step_bound}
-use Rattle.c_emitter.specs.Headers.{Header, header, struct_at, AreFields, system_fields, named_fields, root_fields, system_headers, root_headers, procedures_of, public_headers}
-use Rattle.c_emitter.specs.Places.{place_in, path_to, has_procedure, procedure_place, out_count, out_places}
-use Rattle.c_emitter.specs.Calls.{IsWholeTick, StoresOnce, HasTopCalls}
-use Rattle.c_emitter.specs.Code.{GivesOutputs, StaysInBound, top_number, AtStart, Starts, HasStruct, HasHeaders, IsCodeFor}
+use Rattle.c_emitter.specs.Systems.{step_bound}
+use Rattle.c_emitter.specs.Headers.{Header, header, struct_at, AreFields, system_fields, named_fields, root_fields, system_headers, root_headers, public_headers}
+use Rattle.c_emitter.specs.Places.{path_to, has_procedure, procedure_place, out_count, out_places}
+use Rattle.c_emitter.specs.Calls.{StoresOnce, HasTopCalls}
+use Rattle.c_emitter.specs.Code.{GivesOutputs, StaysInBound, top_number, AtStart, Starts, HasHeaders, IsCodeFor}
 use Rattle.mc_compile.specs.Compilation.{IsRightCode}
 
 -- ---- What a program's text can't change

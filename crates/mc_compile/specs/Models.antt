@@ -1,10 +1,14 @@
 -- What is read of a flat model.
-use Rattle.std.specs.Prelude.{◌≡◌, List}
+use Rattle.std.specs.Prelude.{◌≡◌, List, []}
 use Rattle.mdl_tree.specs.Spelling.{Items}
 use Rattle.mdl_tree.specs.Walks.{SectionTree}
 use Rattle.mc_compile.specs.declared.model.FlatModel.{FlatModel}
 use Rattle.mc_compile.specs.Places.{least}
 use Rattle.mc_compile.specs.Rules.{blocks_among, lines_among, wrong_parts, blocks_of, lines_of, broken}
+use Rattle.mc_diagram.specs.Diagram.{Diagram}
+use Rattle.c_emitter.specs.Flat.{IsFlat}
+use Rattle.mc_compile.specs.Compilation.{diagram_of}
+use Rattle.mc_compile.specs.FlatRows.{AreRowsOf}
 use Rattle.mc_compile.specs.Wiring.{AreWiresOf}
 
 -- the blocks and the Lines among the sections of a System are those of the model, and the least line of one that breaks a rule is noted
@@ -18,3 +22,13 @@ pub record IsModelOf (file : Items) (model : FlatModel) : Type 0 where
   pub blocks : model.blocks.items ≡ blocks_of file
   pub wires : AreWiresOf (blocks_of file) (lines_of file) model.wires.items
   pub wrong : model.wrong ≡ least (broken file)
+
+-- the model is that of a file of which no section breaks a rule
+abbrev pub IsRightModel : FlatModel → Type 0
+IsRightModel model = (file : Items) × IsModelOf file model × (broken file ≡ [])
+
+-- a flat diagram with the rows of the model's file
+pub record IsDiagramOf (model : FlatModel) (d : Diagram) : Type 0 where
+  pub is : d ≡ diagram_of d.rows
+  pub flat : IsFlat d
+  pub rows : (file : Items) → IsModelOf file model → broken file ≡ [] → AreRowsOf file d.rows

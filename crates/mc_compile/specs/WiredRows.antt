@@ -1,6 +1,12 @@
 -- The rows that blocks with their wires become.
 use Rattle.std.specs.Prelude.{◌≡◌, ℕ, ◌<◌, Bool, false, true, nat_le, nat_lt, List, [], ◌∷◌, length, slice_index_or, is_some, Option, None, Some}
 use Rattle.mc_base.specs.declared.TimeText.TheVariants as time
+use Rattle.mc_fixed.specs.Types.{int32}
+use Rattle.mc_fixed.specs.Conversion.{quantize}
+use Rattle.mc_blocks.specs.declared.Kind.{Kind}
+use Rattle.mc_blocks.specs.declared.Kind.TheVariants as kind
+use Rattle.mc_blocks.specs.declared.Op.{Op}
+use Rattle.mc_blocks.specs.declared.Op.TheVariants as op
 use Rattle.mc_diagram.specs.declared.Row.{Row}
 use Rattle.mc_compile.specs.declared.blocks.BlockType.{BlockType}
 use Rattle.mc_compile.specs.declared.blocks.BlockType.TheVariants.{Inport, Outport, UnitDelay, Other}
@@ -56,3 +62,8 @@ pub record IsRowBy (number : ℕ) (block : Block) (wire : Wire) (row : Row) : Ty
 pub record AreRowsBy (blocks : List Block) (wires : List Wire) (rows : List Row) : Type 0 where
   pub one_each : length rows ≡ length blocks
   pub at : (i : ℕ) (block : Block) (wire : Wire) (row : Row) → i < length blocks → IsRowBy i (slice_index_or blocks i block) (slice_index_or wires i wire) (slice_index_or rows i row)
+
+-- what a row of one of the three kinds computes
+abbrev pub flat_op : Kind → Op
+flat_op (kind.UnitDelay initial) = op.Delay (quantize initial int32)
+flat_op _ = op.Copy

@@ -4,6 +4,7 @@
 mod blocks;
 mod checks;
 mod compiled;
+mod diagram;
 mod initial;
 mod laws;
 mod lines;
