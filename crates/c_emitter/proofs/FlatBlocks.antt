@@ -104,7 +104,7 @@ module _ (rows : List Row) (ops : List Op) (flat : IsFlat (diagram rows ops)) wh
   source-made : (c : ℕ) → c < length rows → IsTrue (is_source (row_at rows c).kind) → IsSource blocks c
   source-made c h source = (omega (arith, same-length), source-is c (view rows ops flat c h) source)
 
-  quantized-is-int : (initial : _) → IsInt (quantize initial int32)
+  pub quantized-is-int : (initial : _) → IsInt (quantize initial int32)
   quantized-is-int initial = let within = clamped_in int32 (nearest (initial.num *ℤ pos (2 ^ int32.frac)) initial.den) in and_from _ _ (int-le _ _ within.0) (int-le _ _ within.1)
 
   row-made : (b : ℕ) → b < length rows → RowView rows ops b → IsWellMade blocks (block_at blocks b)

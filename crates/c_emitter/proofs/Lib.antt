@@ -37,3 +37,4 @@ pub mod LawfulNames
 pub mod LawfulBodies
 pub mod FlatLawful
 pub mod FlatCode
+pub mod RowLaws

@@ -7,5 +7,6 @@ pub mod FlatDiagrams
 pub mod Flat
 pub mod Code
 pub mod Blocks
+pub mod Sorts
 pub mod Bodies
 pub mod FlatProgram

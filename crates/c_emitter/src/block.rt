@@ -1,3 +1,5 @@
+ghost use Rattle.std.specs.Prelude.{◌≡◌};
+
 /// A row of a diagram of one system, with what its code needs of it: the port that it has, the row that it reads, and
 /// the stored integer that a delay starts with.
 #[derive(Clone, Copy, Drop)]
@@ -5,4 +7,45 @@ pub(crate) enum Block {
     Input { port: u32 },
     Output { port: u32, source: u32 },
     Delay { source: u32, start: i32 },
+}
+
+/// One of the three kinds of blocks.
+#[derive(Clone, Copy, Drop)]
+pub(crate) enum Sort {
+    Inputs,
+    Outputs,
+    Delays,
+}
+
+impl Block {
+    ghost use Rattle.c_emitter.specs.Blocks.{is_input, is_output, is_delay_block, is_output_of, source_of};
+    ghost use Rattle.c_emitter.specs.Sorts.{is_of};
+
+    pub fn is_of(self, sort: Sort) -> bool
+        ensures { result ≡ is_of sort self }
+    {
+        match sort {
+            Sort::Inputs => matches!(self, Block::Input { .. }),
+            Sort::Outputs => matches!(self, Block::Output { .. }),
+            Sort::Delays => matches!(self, Block::Delay { .. }),
+        }
+    }
+
+    pub fn is_output_of(self, port: u32) -> bool
+        ensures { result ≡ is_output_of port self }
+    {
+        match self {
+            Block::Output { port: own, .. } => own == port,
+            _ => false,
+        }
+    }
+
+    pub fn source(self) -> u32
+        ensures { result ≡ source_of self }
+    {
+        match self {
+            Block::Input { .. } => 0,
+            Block::Output { source, .. } | Block::Delay { source, .. } => source,
+        }
+    }
 }

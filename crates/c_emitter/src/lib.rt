@@ -4,5 +4,6 @@
 mod block;
 mod few;
 mod flat;
+mod rows;
 
 pub use flat::FlatDiagram;
