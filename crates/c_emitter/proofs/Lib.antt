@@ -38,3 +38,4 @@ pub mod LawfulBodies
 pub mod FlatLawful
 pub mod FlatCode
 pub mod RowLaws
+pub mod RowLoops

@@ -7,6 +7,7 @@ use Rattle.mc_diagram.specs.declared.Row.{Row}
 use Rattle.mc_diagram.specs.Rows.{row_at, by_row, is_inport, is_outport}
 use Rattle.mc_diagram.specs.WellFormed.{HasPorts}
 use Rattle.mc_diagram.specs.Diagram.{Diagram, op_in}
+use Rattle.c_emitter.specs.FlatDiagrams.{flat_diagram}
 
 -- an Inport or a Unit Delay: what a wire can come from
 abbrev pub is_source : Kind → Bool
@@ -37,3 +38,8 @@ pub record IsFlat (d : Diagram) : Type 0 where
   pub outports : HasPorts d.rows is_outport None
   pub at_most : length d.rows ≤ 20000
   pub ops : d.ops ≡ by_row d.rows (op_in d.rows d.types [])
+
+-- in such a diagram each row is an int32 and runs at every tick
+pub record IsFlatOfInts (d : Diagram) : Type 0 where
+  pub flat : IsFlat d
+  pub ints : d ≡ flat_diagram d.rows d.ops

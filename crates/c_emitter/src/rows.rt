@@ -1,10 +1,11 @@
 ghost use Rattle.std.specs.Prelude.{◌≡◌, ℕ, ◌<◌, ◌≤◌, List, length, slice_index};
 ghost use Rattle.mc_diagram.specs.Run.{start_of};
 ghost use Rattle.mc_profile.specs.Systems.{first_wire};
-ghost use Rattle.c_emitter.specs.Flat.{IsFlat};
-ghost use Rattle.c_emitter.specs.Blocks.{blocks_of, block_at, source_need, need_of, is_output_of, output_row, output_count, input_count, output_rows, output_sources, function_needs, counter_place};
+ghost use Rattle.c_emitter.specs.Flat.{IsFlatOfInts};
+ghost use Rattle.c_emitter.specs.Blocks.{blocks_of, block_at, rows_below, source_need, need_of, output_row, output_rows, output_sources, function_needs};
+ghost use Rattle.c_emitter.specs.Sorts.{is_of};
 
-use crate::block::Block;
+use crate::block::{Block, Sort};
 use crate::few::Few;
 use crate::flat::FlatDiagram;
 use mc_base::Wires;
@@ -19,7 +20,7 @@ fn first_wire(wires: &Wires) -> u32
 
 // What a row's value starts with.
 fn start_at(d: &FlatDiagram, row: usize) -> i32
-    requires flat { IsFlat d.now }
+    requires flat { IsFlatOfInts d.now }
     requires within { row < length d.now.rows }
     ensures { result ≡ start_of d.now row }
 {
@@ -31,7 +32,7 @@ fn start_at(d: &FlatDiagram, row: usize) -> i32
 
 // A row as a block.
 pub(crate) fn block_at(d: &FlatDiagram, row: usize) -> Block
-    requires flat { IsFlat d.now }
+    requires flat { IsFlatOfInts d.now }
     requires within { row < length d.now.rows }
     ensures { result ≡ block_at (blocks_of d.now) row }
 {
@@ -50,9 +51,94 @@ pub(crate) fn block_at(d: &FlatDiagram, row: usize) -> Block
     }
 }
 
-// How many rows there are.
-pub(crate) fn row_count(d: &FlatDiagram) -> usize
-    ensures { result ≡ length d.now.rows }
+// How many rows there are of one kind.
+pub(crate) fn count(d: &FlatDiagram, sort: Sort) -> u32
+    requires { IsFlatOfInts d.now }
+    ensures { result ≡ length (rows_below (blocks_of d.now) (is_of sort) (length (blocks_of d.now))) }
 {
-    d.rows.len()
+    let mut count = 0;
+    for row in 0..d.rows.len() {
+        if block_at(d, row).is_of(sort) {
+            count += 1;
+        }
+    }
+    count
+}
+
+// The row of the output with a port.
+fn output_row(d: &FlatDiagram, port: u32) -> Option<usize>
+    requires { IsFlatOfInts d.now }
+    ensures { result ≡ output_row (blocks_of d.now) port }
+{
+    for row in 0..d.rows.len() {
+        if block_at(d, row).is_output_of(port) {
+            return Some(row);
+        }
+    }
+    None
+}
+
+// The rows of the outputs, by port.
+pub(crate) fn output_rows(d: &FlatDiagram) -> Few
+    requires { IsFlatOfInts d.now }
+    ensures { result ≡ output_rows (blocks_of d.now) }
+{
+    let mut rows = Few::new();
+    for port in 1..count(d, Sort::Outputs) + 1 {
+        if let Some(row) = output_row(d, port) {
+            rows.push(row as u64);
+        }
+    }
+    rows
+}
+
+// The rows that outputs read.
+pub(crate) fn output_sources(d: &FlatDiagram) -> Few
+    requires { IsFlatOfInts d.now }
+    ensures { result ≡ output_sources (blocks_of d.now) }
+{
+    let mut sources = Few::new();
+    for row in 0..d.rows.len() {
+        if let Block::Output { source, .. } = block_at(d, row) {
+            sources.push(u64::from(source));
+        }
+    }
+    sources
+}
+
+// The inputs that the value of a source is made from at the same tick, as a mask.
+pub(crate) fn source_need(d: &FlatDiagram, row: usize) -> u64
+    requires flat { IsFlatOfInts d.now }
+    requires within { row < length d.now.rows }
+    ensures { result ≡ source_need (block_at (blocks_of d.now) row) }
+{
+    match block_at(d, row) {
+        Block::Input { port } => 1u64 << (port - 1),
+        _ => 0,
+    }
+}
+
+// The same of an output.
+pub(crate) fn need_of(d: &FlatDiagram, row: usize) -> u64
+    requires flat { IsFlatOfInts d.now }
+    requires within { row < length d.now.rows }
+    ensures { result ≡ need_of (blocks_of d.now) row }
+{
+    source_need(d, block_at(d, row).source() as usize)
+}
+
+// The different needs of the outputs, each of which has a function.
+pub(crate) fn function_needs(d: &FlatDiagram) -> Few
+    requires { IsFlatOfInts d.now }
+    ensures { result ≡ function_needs (blocks_of d.now) }
+{
+    let rows = output_rows(d);
+    let mut needs = Few::new();
+    for row in rows.as_slice() {
+        let need = need_of(d, *row as usize);
+        if !needs.as_slice().contains(&need) {
+            needs.push(need);
+        }
+    }
+    needs
 }

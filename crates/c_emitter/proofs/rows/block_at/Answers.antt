@@ -8,17 +8,17 @@ use Rattle.c_emitter.proofs.rows.block_at.Goals as goal
 
 pub returns-in-Inport : goal.returns-in-Inport
 returns-in-Inport c =
-    let read = block-read c.d.inside.rows.items c.d.inside.ops.items c.args.d.now c.d.view_is c.requires.flat c.args.row c.requires.within c.index-read.result.now c.index-read.ensures in
+    let read = block-read c.d.inside.rows.items c.d.inside.ops.items c.args.d.now c.d.view_is c.requires.flat.flat c.args.row c.requires.within c.index-read.result.now c.index-read.ensures in
     sym (read ∙ ap (λ k. block_by k c.index-read.result.now.inputs (start_of c.args.d.now c.args.row)) c.in-Inport.is)
 
 pub returns-in-Outport : goal.returns-in-Outport
 returns-in-Outport c =
-    let read = block-read c.d.inside.rows.items c.d.inside.ops.items c.args.d.now c.d.view_is c.requires.flat c.args.row c.requires.within c.index-read.result.now c.index-read.ensures in
+    let read = block-read c.d.inside.rows.items c.d.inside.ops.items c.args.d.now c.d.view_is c.requires.flat.flat c.args.row c.requires.within c.index-read.result.now c.index-read.ensures in
     ap (Output c.in-Outport.port) c.first_wire.ensures ∙ sym (read ∙ ap (λ k. block_by k c.index-read.result.now.inputs (start_of c.args.d.now c.args.row)) c.in-Outport.is)
 
 pub returns-in-UnitDelay : goal.returns-in-UnitDelay
 returns-in-UnitDelay c =
-    let read = block-read c.d.inside.rows.items c.d.inside.ops.items c.args.d.now c.d.view_is c.requires.flat c.args.row c.requires.within c.index-read.result.now c.index-read.ensures in
+    let read = block-read c.d.inside.rows.items c.d.inside.ops.items c.args.d.now c.d.view_is c.requires.flat.flat c.args.row c.requires.within c.index-read.result.now c.index-read.ensures in
     let fits : FitsSigned w32 c.start_at.result = search rules in
     ap₂ Delay c.first_wire-in-UnitDelay.ensures (to_z-of_z fits ∙ c.start_at.ensures)
     ∙ sym (read ∙ ap (λ k. block_by k c.index-read.result.now.inputs (start_of c.args.d.now c.args.row)) c.in-UnitDelay.is)
