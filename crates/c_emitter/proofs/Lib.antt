@@ -39,3 +39,4 @@ pub mod FlatLawful
 pub mod FlatCode
 pub mod RowLaws
 pub mod RowLoops
+pub mod PassLoops

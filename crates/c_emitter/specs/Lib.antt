@@ -10,3 +10,4 @@ pub mod Blocks
 pub mod Sorts
 pub mod Bodies
 pub mod FlatProgram
+pub mod Passes

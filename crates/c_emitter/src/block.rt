@@ -18,7 +18,7 @@ pub(crate) enum Sort {
 }
 
 impl Block {
-    ghost use Rattle.c_emitter.specs.Blocks.{is_input, is_output, is_delay_block, is_output_of, source_of};
+    ghost use Rattle.c_emitter.specs.Blocks.{is_input, is_output, is_delay_block, is_output_of, port_of_input, start_value, source_of};
     ghost use Rattle.c_emitter.specs.Sorts.{is_of};
 
     pub fn is_of(self, sort: Sort) -> bool
@@ -37,6 +37,24 @@ impl Block {
         match self {
             Block::Output { port: own, .. } => own == port,
             _ => false,
+        }
+    }
+
+    pub fn port(self) -> u32
+        ensures { result ≡ port_of_input self }
+    {
+        match self {
+            Block::Input { port } => port,
+            _ => 0,
+        }
+    }
+
+    pub fn start(self) -> i32
+        ensures { result ≡ start_value self }
+    {
+        match self {
+            Block::Delay { start, .. } => start,
+            _ => 0,
         }
     }
 

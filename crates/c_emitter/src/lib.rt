@@ -4,6 +4,7 @@
 mod block;
 mod few;
 mod flat;
+mod pass;
 mod rows;
 
 pub use flat::FlatDiagram;

@@ -24,9 +24,9 @@ loop-row-preserved c =
     let blocks = blocks-are-rows c.args.d.now c.requires in
     let within : c.loop-row.row < length (blocks_of c.args.d.now) = omega (arith, size, len, blocks) in
     elim c.match-block_at.branch [
-      | in-Output w ↦ 
-        w.sources-is ∙ w.push.ensures ∙ ap (λ x. c.loop-row.sources ++ x ∷ []) w.from.ensures ∙ ap (λ k. c.loop-row.sources ++ option_to_list (output_source k)) (sym w.in-Output.is)
-        ∙ sources-step (blocks_of c.args.d.now) c.loop-row.row c.loop-row.sources c.block_at.result within c.loop-row.invariant c.block_at.ensures
+      | in-Output w ↦
+          w.sources-is ∙ w.push.ensures ∙ ap (λ x. c.loop-row.sources ++ x ∷ []) w.from.ensures ∙ ap (λ k. c.loop-row.sources ++ option_to_list (output_source k)) (sym w.in-Output.is)
+          ∙ sources-step (blocks_of c.args.d.now) c.loop-row.row c.loop-row.sources c.block_at.result within c.loop-row.invariant c.block_at.ensures
       | in_default w ↦ w.sources-is ∙ no-source-step (blocks_of c.args.d.now) c.loop-row.row c.loop-row.sources c.block_at.result within c.loop-row.invariant c.block_at.ensures w.in_default.not-Output
     ]
 
