@@ -40,3 +40,4 @@ pub mod FlatCode
 pub mod RowLaws
 pub mod RowLoops
 pub mod PassLoops
+pub mod RootLoops

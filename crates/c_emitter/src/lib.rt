@@ -2,9 +2,11 @@
 #![tactic(auto)]
 
 mod block;
+mod bodies;
 mod few;
 mod flat;
 mod pass;
+mod root;
 mod rows;
 
 pub use flat::FlatDiagram;

@@ -20,10 +20,10 @@ loop-row-preserved c = record {
   place = c.next_place-memory.ensures;
   stored = elim c.if-is_in.branch [
     | then-is_in+in_ok-statement+in_ok-push w ↦
-      pass-passed (blocks_of c.args.d.now) c.args.pass c.loop-row.row c.args.body.now.items c.loop-row.body.items c.loop-row.invariant.stored w.in_ok-statement.field-0 c.if-is_in.body.items (sym c.is_in.ensures ∙ w.if-is_in.true) w.in_ok-statement.ensures
-      (ap (λ v. v.items) w.body-is ∙ w.in_ok-push.ensures.items)
+        pass-passed (blocks_of c.args.d.now) c.args.pass c.loop-row.row c.args.body.now.items c.loop-row.body.items c.loop-row.invariant.stored w.in_ok-statement.field-0 c.if-is_in.body.items (sym c.is_in.ensures ∙ w.if-is_in.true) w.in_ok-statement.ensures
+        (ap (λ v. v.items) w.body-is ∙ w.in_ok-push.ensures.items)
     | else-is_in w ↦
-      pass-skipped (blocks_of c.args.d.now) c.args.pass c.loop-row.row c.args.body.now.items c.loop-row.body.items c.loop-row.invariant.stored c.if-is_in.body.items (sym c.is_in.ensures ∙ w.if-is_in.false) (ap (λ v. v.items) w.body-is)
+        pass-skipped (blocks_of c.args.d.now) c.args.pass c.loop-row.row c.args.body.now.items c.loop-row.body.items c.loop-row.invariant.stored c.if-is_in.body.items (sym c.is_in.ensures ∙ w.if-is_in.false) (ap (λ v. v.items) w.body-is)
   ];
 }
 

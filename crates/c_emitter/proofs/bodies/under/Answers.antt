@@ -1,0 +1,10 @@
+use Rattle.std.proofs.Common.{◌∙◌, ap, map}
+use Rattle.c_tree.specs.Tree.{branch, stmts_of_list}
+use Rattle.c_tree.specs.Plain.{cond_tree, stmt_tree}
+use Rattle.c_tree.proofs.PlainLaws.{stmt_tree-If}
+use Rattle.c_emitter.proofs.bodies.under.Goals as goal
+
+pub returns : goal.returns
+returns c =
+    stmt_tree-If 0 c.args.test c.args.stores c.new.result
+    ∙ ap (λ l. branch 0 (cond_tree c.args.test) (stmts_of_list (map stmt_tree c.args.stores.items)) (stmts_of_list (map stmt_tree l))) c.new.ensures.items
