@@ -30,6 +30,7 @@ pub mod OutPlaces
 pub mod FlatLaws
 pub mod Pigeons
 pub mod InputRows
+pub mod HeadLoops
 pub mod FlatTrueNeeds
 pub mod FlatHeaders
 pub mod NameLaws

@@ -11,3 +11,4 @@ pub mod Sorts
 pub mod Bodies
 pub mod FlatProgram
 pub mod Passes
+pub mod Heads

@@ -5,6 +5,7 @@ mod block;
 mod bodies;
 mod few;
 mod flat;
+mod heads;
 mod pass;
 mod root;
 mod rows;

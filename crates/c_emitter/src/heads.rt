@@ -1,0 +1,129 @@
+ghost use Rattle.std.specs.Prelude.{◌≡◌, ℕ, ◌+◌, ◌-◌, ◌<◌, ◌≤◌, List, [], ◌∷◌, ◌++◌, map, length, Option, IfOk, OnOk, decimal, false};
+ghost use Rattle.std.specs.List.{range_with_len};
+ghost use Rattle.c_tree.specs.Tree.{ParamTree};
+ghost use Rattle.c_tree.specs.PlainField.{field_tree, field_trees};
+ghost use Rattle.c_emitter.specs.Flat.{IsFlatOfInts};
+ghost use Rattle.c_emitter.specs.Names.{value_name, memory_name, output_name};
+ghost use Rattle.c_emitter.specs.Blocks.{blocks_of, delay_rows, output_rows};
+ghost use Rattle.c_emitter.specs.FlatProgram.{int_field, top_fields, root_fields_of, input_params};
+ghost use Rattle.c_emitter.specs.Heads.{param_trees};
+
+use crate::block::Sort;
+use crate::flat::FlatDiagram;
+use crate::root::takes;
+use crate::rows::{block_at, count};
+use c_tree::{CType, Field, FieldKind};
+use mc_base::{Memory, Text};
+use std::alloc::Global;
+
+// A name with a number at its end.
+pub(crate) fn numbered(alloc: Global, front: &str, number: usize) -> Result<Text, Memory>
+    ensures { IfOk result (λ t. t ≡ front.now ++ decimal number) }
+{
+    let name = format!(in alloc; "{front}{number}")?;
+    Text::copy_of(alloc, name.as_bytes())
+}
+
+// A name as it stands.
+pub(crate) fn named(alloc: Global, name: &str) -> Result<Text, Memory>
+    ensures { IfOk result (λ t. t ≡ name.now) }
+{
+    Text::copy_of(alloc, name.as_bytes())
+}
+
+fn int_field(name: Text) -> Field
+    ensures { field_tree result ≡ int_field name }
+{
+    Field {
+        name,
+        kind: FieldKind::Number(CType::I32),
+    }
+}
+
+// Appends a field for the value of each row.
+fn push_values(alloc: Global, fields: &mut Vec<Field>, d: &FlatDiagram) -> Result<(), Memory>
+    requires { IsFlatOfInts d.now }
+    ensures { OnOk result (field_trees fields.new.items ≡ field_trees fields.old.items ++ map (λ b. int_field (value_name b)) (range_with_len 0 (length (blocks_of d.now)))) }
+{
+    for row in 0..d.rows.len() {
+        fields.push(int_field(numbered(alloc, "v", row)?))?;
+    }
+    Ok(())
+}
+
+// Appends a field for the memory of each delay.
+fn push_memories(alloc: Global, fields: &mut Vec<Field>, d: &FlatDiagram) -> Result<(), Memory>
+    requires { IsFlatOfInts d.now }
+    ensures { OnOk result (field_trees fields.new.items ≡ field_trees fields.old.items ++ map (λ b. int_field (memory_name b)) (delay_rows (blocks_of d.now))) }
+{
+    for row in 0..d.rows.len() {
+        if block_at(d, row).is_of(Sort::Delays) {
+            fields.push(int_field(numbered(alloc, "m", row)?))?;
+        }
+    }
+    Ok(())
+}
+
+/// The fields of `top`.
+pub(crate) fn top_fields(alloc: Global, d: &FlatDiagram) -> Result<Vec<Field>, Memory>
+    requires { IsFlatOfInts d.now }
+    ensures { IfOk result (λ v. field_trees v.items ≡ top_fields (blocks_of d.now)) }
+{
+    let mut fields = Vec::new(alloc);
+    push_values(alloc, &mut fields, d)?;
+    push_memories(alloc, &mut fields, d)?;
+    fields.push(Field {
+        name: named(alloc, "k")?,
+        kind: FieldKind::Number(CType::U8),
+    })?;
+    Ok(fields)
+}
+
+// Appends a field for each output.
+fn push_outputs(alloc: Global, fields: &mut Vec<Field>, outputs: usize) -> Result<(), Memory>
+    requires { outputs ≤ 32 }
+    ensures { OnOk result (field_trees fields.new.items ≡ field_trees fields.old.items ++ map (λ k. int_field (output_name k)) (range_with_len 1 outputs)) }
+{
+    for output in 0..outputs {
+        fields.push(int_field(numbered(alloc, "y", output + 1)?))?;
+    }
+    Ok(())
+}
+
+/// The fields of the root.
+pub(crate) fn root_fields(
+    alloc: Global,
+    d: &FlatDiagram,
+    outputs: &[u64],
+) -> Result<Vec<Field>, Memory>
+    requires flat { IsFlatOfInts d.now }
+    requires rows { outputs.now ≡ output_rows (blocks_of d.now) }
+    ensures { IfOk result (λ v. field_trees v.items ≡ root_fields_of (blocks_of d.now)) }
+{
+    let mut fields = Vec::new(alloc);
+    fields.push(int_field(named(alloc, "now")?))?;
+    push_outputs(alloc, &mut fields, outputs.len())?;
+    fields.push(Field {
+        name: named(alloc, "top")?,
+        kind: FieldKind::Struct(0),
+    })?;
+    Ok(fields)
+}
+
+// Appends a parameter for each input that a procedure takes.
+pub(crate) fn push_inputs(
+    alloc: Global,
+    params: &mut Vec<(Text, CType)>,
+    d: &FlatDiagram,
+    need: Option<u64>,
+) -> Result<(), Memory>
+    requires { IsFlatOfInts d.now }
+    ensures { OnOk result (param_trees params.new.items ≡ param_trees params.old.items ++ input_params (blocks_of d.now) need) }
+{
+    for port in 1..count(d, Sort::Inputs) + 1 {
+        if takes(need, port) {
+            params.push((numbered(alloc, "u", port as usize)?, CType::I32))?;
+        }
+    }
+    Ok(())
+}
