@@ -1,9 +1,8 @@
 -- One more row of a pass, and passes one behind the other.
-use Rattle.std.specs.Prelude.{◌≡◌, ℕ, ◌+◌, true, false, List, [], ◌∷◌, ◌++◌, map, length}
-use Rattle.std.proofs.Common.{refl, sym, ◌∙◌, ap, ap₂, arith}
+use Rattle.std.specs.Prelude.{◌≡◌, ℕ, ◌+◌, true, false, List, [], ◌∷◌, ◌++◌, map}
+use Rattle.std.proofs.Common.{sym, ◌∙◌, ap, ap₂, arith}
 use Rattle.std.proofs.lemmas.List.{map-append, append_assoc}
 use Rattle.c_tree.specs.declared.Stmt.{Stmt}
-use Rattle.c_tree.specs.Tree.{StmtTree}
 use Rattle.c_tree.specs.Plain.{stmt_tree}
 use Rattle.c_emitter.specs.declared.block.Block.{Block}
 use Rattle.c_emitter.specs.declared.pass.Pass.{Pass}

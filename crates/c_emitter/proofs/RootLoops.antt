@@ -1,14 +1,13 @@
 -- One more call or copy in the root's step.
-use Rattle.std.specs.Prelude.{◌≡◌, ℕ, zero, suc, ◌+◌, ◌-◌, ◌<◌, ◌≤◌, Bool, true, false, List, [], ◌∷◌, ◌++◌, map, take, length, slice_index_or, Option, Some, None}
+use Rattle.std.specs.Prelude.{◌≡◌, ℕ, suc, ◌+◌, ◌-◌, ◌<◌, ◌≤◌, true, false, List, [], ◌∷◌, ◌++◌, map, take, length, slice_index_or, Option}
 use Rattle.std.specs.List.{enumerate_from}
-use Rattle.std.proofs.Common.{refl, sym, ◌∙◌, ap, ap₂, arith, subst}
+use Rattle.std.proofs.Common.{sym, ◌∙◌, ap, ap₂, arith}
 use Rattle.std.proofs.lemmas.List.{map-append, append_assoc, take_more, length-take-le}
 use Rattle.mc_diagram.specs.Diagram.{Diagram}
-use Rattle.c_tree.specs.declared.Stmt.{Stmt}
 use Rattle.c_tree.specs.declared.Expr.{Expr}
 use Rattle.c_tree.specs.declared.Leaf.TheVariants.{Own, Param}
-use Rattle.c_tree.specs.Tree.{ExprTree, read, StmtTree}
-use Rattle.c_tree.specs.Plain.{expr_tree, stmt_tree}
+use Rattle.c_tree.specs.Tree.{read}
+use Rattle.c_tree.specs.Plain.{expr_tree}
 use Rattle.c_emitter.specs.Flat.{IsFlatOfInts}
 use Rattle.c_emitter.specs.Blocks.{blocks_of, input_count, output_rows, function_needs, chosen}
 use Rattle.c_emitter.specs.Bodies.{takes}
@@ -55,13 +54,13 @@ enumerate-snoc : (a : ℕ) (xs : List ℕ) (x : ℕ) → enumerate_from a (xs ++
 enumerate-snoc a [] x = let e : a ≡ a + 0 = omega arith in ap (λ n. (n, x) ∷ []) e
 enumerate-snoc a (y ∷ ys) x = let e : a + 1 + length ys ≡ a + suc (length ys) = omega arith in ap (λ l. (a, y) ∷ l) (enumerate-snoc (a + 1) ys x ∙ ap (λ n. enumerate_from (a + 1) ys ++ (n, x) ∷ []) e)
 
--- one more statement of a numbered list
-pub numbered-step : (g : ℕ × ℕ → StmtTree) (a n : ℕ) (xs : List ℕ) (initial body next : List Stmt) (s : Stmt) → n < length xs → map stmt_tree body ≡ map stmt_tree initial ++ map g (enumerate_from a (take n xs)) →
-    stmt_tree s ≡ g (a + n, slice_index_or xs n 0) → next ≡ body ++ s ∷ [] → map stmt_tree next ≡ map stmt_tree initial ++ map g (enumerate_from a (take (n + 1) xs))
-numbered-step g a n xs initial body next s h so_far same e =
+-- one more item of a numbered list
+pub numbered-step : {A : Type 0} {B : Type 0} (view : A → B) (g : ℕ × ℕ → B) (a n : ℕ) (xs : List ℕ) (initial items next : List A) (s : A) → n < length xs → map view items ≡ map view initial ++ map g (enumerate_from a (take n xs)) →
+    view s ≡ g (a + n, slice_index_or xs n 0) → next ≡ items ++ s ∷ [] → map view next ≡ map view initial ++ map g (enumerate_from a (take (n + 1) xs))
+numbered-step view g a n xs initial items next s h so_far same e =
     let x : ℕ = slice_index_or xs n 0 in
     let size : length (take n xs) ≡ n = length-take-le n xs (omega arith) in
     let more : map g (enumerate_from a (take (n + 1) xs)) ≡ map g (enumerate_from a (take n xs)) ++ g (a + n, x) ∷ [] =
     ap (λ l. map g (enumerate_from a l)) (take_more xs n 0 h) ∙ ap (map g) (enumerate-snoc a (take n xs) x ∙ ap (λ k. enumerate_from a (take n xs) ++ (a + k, x) ∷ []) size) ∙ map-append g (enumerate_from a (take n xs)) ((a + n, x) ∷ []) in
-    ap (map stmt_tree) e ∙ map-append stmt_tree body (s ∷ []) ∙ ap₂ (λ l y. l ++ y ∷ []) so_far same
-    ∙ append_assoc (map stmt_tree initial) (map g (enumerate_from a (take n xs))) (g (a + n, x) ∷ []) ∙ ap (λ l. map stmt_tree initial ++ l) (sym more)
+    ap (map view) e ∙ map-append view items (s ∷ []) ∙ ap₂ (λ l y. l ++ y ∷ []) so_far same
+    ∙ append_assoc (map view initial) (map g (enumerate_from a (take n xs))) (g (a + n, x) ∷ []) ∙ ap (λ l. map view initial ++ l) (sym more)

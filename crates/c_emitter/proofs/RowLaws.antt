@@ -1,15 +1,14 @@
 -- The rows of a diagram as the code reads them.
-use Rattle.std.specs.Prelude.{◌≡◌, ℕ, zero, suc, ◌+◌, ◌-◌, ◌<◌, ◌≤◌, ◌^◌, ◌==◌, not, Bool, true, false, if◌then◌else◌, List, [], ◌∷◌, ◌++◌, map, filter, filter_map, length, slice_index_or, Option, Some, None, ℤ, pos, negsuc}
+use Rattle.std.specs.Prelude.{◌≡◌, ℕ, ◌-◌, ◌<◌, ◌^◌, List, [], length, slice_index_or, ℤ, pos, negsuc}
 use Rattle.std.specs.Int.RustNames.{FitsSigned}
-use Rattle.std.proofs.Common.{refl, sym, ◌∙◌, ap, subst, arith, cond, w32}
+use Rattle.std.proofs.Common.{sym, ◌∙◌, ap, subst, arith, w32}
 use Rattle.std.proofs.lemmas.Bool.{leb-true, and_parts}
-use Rattle.std.proofs.lemmas.List.Elements.{filter-append, filter_map-append}
 use Rattle.std.proofs.lemmas.List.{get_or_default, length-map}
 use Rattle.std.proofs.lemmas.List.FromFn.{length-range_with_len}
 use Rattle.mc_fixed.specs.Types.{int32}
 use Rattle.mc_fixed.specs.Conversion.{quantize}
 use Rattle.mc_blocks.specs.declared.Op.{Op}
-use Rattle.mc_blocks.specs.declared.Op.TheVariants.{Copy, Delay, Nothing}
+use Rattle.mc_blocks.specs.declared.Op.TheVariants.{Delay, Nothing}
 use Rattle.mc_diagram.specs.declared.Row.{Row}
 use Rattle.mc_diagram.specs.Rows.{row_at, row_numbers, no_row, system_control}
 use Rattle.mc_diagram.specs.Diagram.{Diagram, op_at, op_in, type_at}
@@ -18,7 +17,7 @@ use Rattle.c_emitter.specs.FlatDiagrams.{flat_diagram}
 use Rattle.c_emitter.specs.Flat.{IsFlat}
 use Rattle.c_emitter.specs.Blocks.{block_by, blocks_of, block_at, start_value}
 use Rattle.c_emitter.proofs.BlockTicks.{IsInt}
-use Rattle.c_emitter.proofs.FlatRows.{diagram, RowView, input_row, output_row, delay_row, view, block-is, blocks-length}
+use Rattle.c_emitter.proofs.FlatRows.{diagram, RowView, input_row, output_row, delay_row, view, block-is}
 use Rattle.c_emitter.proofs.FlatBlocks.{start-is, quantized-is-int}
 
 -- a stored integer fits 32 bits

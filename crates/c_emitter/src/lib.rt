@@ -7,6 +7,7 @@ mod few;
 mod flat;
 mod heads;
 mod pass;
+mod program;
 mod root;
 mod rows;
 

@@ -1,4 +1,4 @@
-use Rattle.std.proofs.Common.{◌≡◌, ◌≤◌, arith, length}
+use Rattle.std.proofs.Common.{arith, length}
 use Rattle.c_emitter.specs.Blocks.{blocks_of, is_delay_block}
 use Rattle.c_emitter.proofs.RowLoops.{rows-of-view, blocks-are-rows, count-small}
 use Rattle.c_emitter.proofs.bodies.counter_place.Goals as goal

@@ -1,4 +1,4 @@
-use Rattle.std.proofs.Common.{◌≡◌, ◌∙◌, ◌+◌, ◌++◌, refl, ap, arith, length, map}
+use Rattle.std.proofs.Common.{◌≡◌, ◌∙◌, ◌+◌, ◌++◌, ap, arith, length, map}
 use Rattle.std.specs.List.{range_with_len}
 use Rattle.c_tree.specs.PlainField.{field_tree, field_trees}
 use Rattle.c_emitter.specs.Names.{value_name}

@@ -1,4 +1,4 @@
-use Rattle.std.proofs.Common.{◌≡◌, ◌∙◌, ◌≤◌, sym, ap, arith, length}
+use Rattle.std.proofs.Common.{◌∙◌, sym, ap, arith}
 use Rattle.c_emitter.specs.Blocks.{blocks_of, is_delay_block}
 use Rattle.c_emitter.proofs.RowLoops.{blocks-are-rows, count-small, count-more, count-same}
 use Rattle.c_emitter.proofs.pass.next_place.Goals as goal

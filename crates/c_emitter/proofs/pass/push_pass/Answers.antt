@@ -1,4 +1,4 @@
-use Rattle.std.proofs.Common.{◌≡◌, ◌∙◌, ◌≤◌, ◌++◌, sym, ap, arith, length, map}
+use Rattle.std.proofs.Common.{◌≡◌, ◌∙◌, ◌++◌, sym, ap, arith, length, map}
 use Rattle.std.proofs.lemmas.List.{append-nil}
 use Rattle.c_tree.specs.Plain.{stmt_tree}
 use Rattle.c_emitter.specs.Blocks.{blocks_of, chosen}

@@ -1,4 +1,4 @@
-use Rattle.std.proofs.Common.{◌≡◌, ◌∙◌, refl, sym, ap, arith}
+use Rattle.std.proofs.Common.{◌∙◌, refl, sym, ap, arith}
 use Rattle.c_emitter.proofs.RootLoops.{inputs-at-most, port-taken, port-left}
 use Rattle.c_emitter.proofs.root.call_top.Goals as goal
 use Rattle.c_emitter.proofs.root.call_top.Goals.{then-takes+in_ok-push-2, else-takes}

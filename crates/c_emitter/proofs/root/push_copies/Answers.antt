@@ -1,6 +1,7 @@
-use Rattle.std.proofs.Common.{◌≡◌, ◌∙◌, ◌+◌, ℕ, sym, ap, ap₂, arith, length, slice_index_or}
+use Rattle.std.proofs.Common.{◌≡◌, ◌∙◌, ◌+◌, ℕ, ap₂, arith, slice_index_or}
 use Rattle.c_tree.specs.declared.Leaf.TheVariants.{Child}
 use Rattle.c_tree.specs.Tree.{assign, read}
+use Rattle.c_tree.specs.Plain.{stmt_tree}
 use Rattle.c_emitter.specs.Blocks.{blocks_of}
 use Rattle.c_emitter.specs.Bodies.{top_place}
 use Rattle.c_emitter.proofs.RowLoops.{output-rows-bound}
@@ -16,7 +17,7 @@ overflow_cast-value c =
 pub loop-output-preserved : goal.loop-output-preserved
 loop-output-preserved c =
     let here : c.loop-output.output + 1 ≡ 1 + c.loop-output.output = omega arith in
-    numbered-step (λ (e : ℕ × ℕ). assign 0 e.0 (read (Child (top_place (blocks_of c.args.d.now)) e.1))) 1 c.loop-output.output c.args.outputs.now c.args.body.now.items c.loop-output.body.items c.push.new.self.items c.set.result
+    numbered-step stmt_tree (λ (e : ℕ × ℕ). assign 0 e.0 (read (Child (top_place (blocks_of c.args.d.now)) e.1))) 1 c.loop-output.output c.args.outputs.now c.args.body.now.items c.loop-output.body.items c.push.new.self.items c.set.result
     c.loop-output-test.true c.loop-output.invariant
     (c.set.ensures ∙ ap₂ (λ k top. assign 0 k (read (Child top (slice_index_or c.args.outputs.now c.loop-output.output 0)))) here c.requires.place)
     c.in_ok-push.ensures.items

@@ -1,4 +1,4 @@
-use Rattle.std.proofs.Common.{◌≡◌, arith, length}
+use Rattle.std.proofs.Common.{arith}
 use Rattle.c_emitter.proofs.RootLoops.{functions-at-most}
 use Rattle.c_emitter.proofs.root.step_body.Goals as goal
 

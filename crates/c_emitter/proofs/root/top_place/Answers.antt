@@ -1,4 +1,4 @@
-use Rattle.std.proofs.Common.{◌≡◌, ap, arith, length}
+use Rattle.std.proofs.Common.{arith}
 use Rattle.c_emitter.proofs.RootLoops.{outputs-at-most}
 use Rattle.c_emitter.proofs.root.top_place.Goals as goal
 

@@ -1,4 +1,4 @@
-use Rattle.std.proofs.Common.{rules, ◌≡◌, ◌∙◌, sym, ap, ap₂, w32, FitsSigned}
+use Rattle.std.proofs.Common.{rules, ◌∙◌, sym, ap, ap₂, w32, FitsSigned}
 use Rattle.std.proofs.Math.Facts.{to_z-of_z}
 use Rattle.mc_diagram.specs.Run.{start_of}
 use Rattle.c_emitter.specs.declared.block.Block.TheVariants.{Output, Delay}

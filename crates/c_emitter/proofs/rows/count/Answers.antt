@@ -1,5 +1,5 @@
-use Rattle.std.proofs.Common.{◌≡◌, ◌∙◌, ◌+◌, sym, ap, arith, ◌≤◌, ℕ, length, true, false}
-use Rattle.c_emitter.specs.Blocks.{blocks_of, block_at, rows_below}
+use Rattle.std.proofs.Common.{◌≡◌, ◌∙◌, ◌+◌, sym, ap, arith, length}
+use Rattle.c_emitter.specs.Blocks.{blocks_of, rows_below}
 use Rattle.c_emitter.specs.Sorts.{is_of}
 use Rattle.c_emitter.proofs.RowLoops.{rows-of-view, count-small, count-more, count-same, blocks-are-rows}
 use Rattle.c_emitter.proofs.rows.count.Goals as goal

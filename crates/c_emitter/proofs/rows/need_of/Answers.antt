@@ -1,4 +1,4 @@
-use Rattle.std.proofs.Common.{◌≡◌, ◌∙◌, ◌<◌, sym, ap, subst, length}
+use Rattle.std.proofs.Common.{◌∙◌, ◌<◌, sym, ap, subst, length}
 use Rattle.c_emitter.specs.Blocks.{source_of}
 use Rattle.c_emitter.proofs.RowLoops.{source-bound}
 use Rattle.c_emitter.proofs.rows.need_of.Goals as goal

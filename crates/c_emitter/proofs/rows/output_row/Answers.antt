@@ -1,5 +1,5 @@
-use Rattle.std.proofs.Common.{◌≡◌, ◌∙◌, sym, ap, arith, ◌<◌, ◌≤◌, ℕ, length}
-use Rattle.c_emitter.specs.Blocks.{blocks_of, block_at, is_output_of}
+use Rattle.std.proofs.Common.{◌∙◌, sym, ap, arith, ◌<◌, length}
+use Rattle.c_emitter.specs.Blocks.{blocks_of, is_output_of}
 use Rattle.c_emitter.proofs.RowLoops.{rows-of-view, blocks-are-rows, this-output-row, no-output-row}
 use Rattle.c_emitter.proofs.rows.output_row.Goals as goal
 

@@ -1,4 +1,4 @@
-use Rattle.std.proofs.Common.{◌≡◌, ◌∙◌, ◌<◌, ◌++◌, ◌∷◌, [], ℕ, sym, ap, arith, length, take}
+use Rattle.std.proofs.Common.{◌∙◌, ◌<◌, ◌++◌, ◌∷◌, [], sym, ap, arith, length}
 use Rattle.std.specs.Option.{option_to_list}
 use Rattle.std.specs.Prelude.{filter_map}
 use Rattle.std.proofs.lemmas.List.{take_all}

@@ -1,4 +1,4 @@
-use Rattle.std.proofs.Common.{◌≡◌, ◌∙◌, ◌<◌, ◌-◌, ◌^◌, ◌+◌, sym, ap, arith, length}
+use Rattle.std.proofs.Common.{◌∙◌, ◌-◌, sym, ap, arith}
 use Rattle.std.proofs.lemmas.Nat.{one_shl}
 use Rattle.c_emitter.specs.Blocks.{source_need}
 use Rattle.c_emitter.proofs.RowLoops.{port-bounds}

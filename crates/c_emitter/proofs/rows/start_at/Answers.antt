@@ -1,4 +1,4 @@
-use Rattle.std.proofs.Common.{rules, arith, ◌≡◌, ◌∙◌, sym, w32, w64, FitsSigned}
+use Rattle.std.proofs.Common.{rules, arith, ◌∙◌, w32, w64, FitsSigned}
 use Rattle.std.proofs.Math.Facts.{to_z-of_z}
 use Rattle.c_emitter.proofs.RowLaws.{op-within, delay-starts, others-start, int-fits}
 use Rattle.c_emitter.proofs.rows.start_at.Goals as goal
