@@ -12,3 +12,4 @@ mod root;
 mod rows;
 
 pub use flat::FlatDiagram;
+pub use program::{emit, function_count};

@@ -2,7 +2,8 @@ ghost use Rattle.std.specs.Prelude.{◌≡◌, ℕ, ◌+◌, ◌<◌, ◌≤◌,
 ghost use Rattle.c_tree.specs.Tree.{ParamTree};
 ghost use Rattle.c_tree.specs.PlainField.{field_trees};
 ghost use Rattle.c_tree.specs.Plain.{stmt_tree, procedure_tree, program_tree};
-ghost use Rattle.c_emitter.specs.Flat.{IsFlatOfInts};
+ghost use Rattle.c_emitter.specs.Flat.{IsFlat, IsFlatOfInts};
+ghost use Rattle.c_emitter.specs.Code.{IsCodeFor, IsFunctionCount};
 ghost use Rattle.c_emitter.specs.Names.{now_name};
 ghost use Rattle.c_emitter.specs.Blocks.{blocks_of, output_rows, output_sources, function_needs};
 ghost use Rattle.c_emitter.specs.FlatProgram.{int_param, input_params, public_procedure, flat_structs, out_procedures, update_procedure, start_procedure, reset_procedure, root_start_procedure, root_step_procedure, flat_procedures, flat_program};
@@ -185,4 +186,25 @@ pub(crate) fn program(alloc: Global, d: &FlatDiagram) -> Result<Program, Memory>
         structs,
         procedures,
     })
+}
+
+/// The C code of a diagram: a program whose one run has the diagram's outputs at each tick.
+pub fn emit(alloc: Global, d: &FlatDiagram) -> Result<Program, Memory>
+    requires { IsFlat d.now }
+    ensures { IfOk result (λ p. IsCodeFor (program_tree p) d.now) }
+{
+    let rows = d.rows.len();
+    prove!(rows <= 20_000);
+    program(alloc, d)
+}
+
+/// How many output functions the code of a diagram has: one for each set of inputs that an output's value at a tick is
+/// made from.
+pub fn function_count(d: &FlatDiagram) -> u32
+    requires { IsFlat d.now }
+    ensures { IsFunctionCount d.now result }
+{
+    let rows = d.rows.len();
+    prove!(rows <= 20_000);
+    function_needs(d).as_slice().len() as u32
 }
