@@ -125,7 +125,7 @@ lesser-none : (n : ℕ) (o : Option ℕ) → lesser (Some n) o ≡ None → ⊥
 lesser-none n None e = absurd (cc)
 lesser-none n (Some m) e = absurd (cc)
 
-least-none : (ns : List ℕ) → least ns ≡ None → ns ≡ []
+pub least-none : (ns : List ℕ) → least ns ≡ None → ns ≡ []
 least-none [] e = refl
 least-none (n ∷ ns) e = absurd (lesser-none n (least ns) e)
 

@@ -10,6 +10,7 @@ pub mod Ports
 pub mod Checks
 pub mod Models
 pub mod WiredRows
+pub mod Faults
 pub mod Verdict
 pub mod Compilation
 pub mod RuleExamples

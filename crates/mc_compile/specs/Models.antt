@@ -1,7 +1,11 @@
 -- What is read of a flat model.
-use Rattle.std.specs.Prelude.{◌≡◌, List, []}
+use Rattle.std.specs.Prelude.{◌≡◌, ℕ, List, [], None, Some, ⊤}
 use Rattle.mdl_tree.specs.Spelling.{Items}
 use Rattle.mdl_tree.specs.Walks.{SectionTree}
+use Rattle.mc_base.specs.declared.refusal.Refusal.TheVariants.{NoModel, Unsupported}
+use Rattle.mc_compile.specs.declared.compiled.CompileFault.{CompileFault}
+use Rattle.mc_compile.specs.declared.compiled.CompileFault.TheVariants.{Refused, Memory}
+use Rattle.mc_compile.specs.Verdict.{missing_model, IsAccepted}
 use Rattle.mc_compile.specs.declared.model.FlatModel.{FlatModel}
 use Rattle.mc_compile.specs.Places.{least}
 use Rattle.mc_compile.specs.Rules.{blocks_among, lines_among, wrong_parts, blocks_of, lines_of, broken}
@@ -32,3 +36,24 @@ pub record IsDiagramOf (model : FlatModel) (d : Diagram) : Type 0 where
   pub is : d ≡ diagram_of d.rows
   pub flat : IsFlat d
   pub rows : (file : Items) → IsModelOf file model → broken file ≡ [] → AreRowsOf file d.rows
+
+-- a flat diagram with the rows of a file, which has a model and of which no section breaks a rule
+pub record IsTableOf (file : Items) (d : Diagram) : Type 0 where
+  pub model : missing_model file ≡ None
+  pub right : broken file ≡ []
+  pub rows : AreRowsOf file d.rows
+  pub is : d ≡ diagram_of d.rows
+  pub flat : IsFlat d
+
+-- the file has no model, or this is the least line of a section that breaks a rule; of want of memory nothing is said
+abbrev pub IsFileFault : Items → CompileFault → Type 0
+IsFileFault file (Refused (NoModel line)) = missing_model file ≡ Some line
+IsFileFault file (Refused (Unsupported line)) = (missing_model file ≡ None) × (least (broken file) ≡ Some line)
+IsFileFault file (Refused _) = ⊥
+IsFileFault file Memory = ⊤
+
+-- a flat diagram with the rows that the file's verdict has
+pub record IsTableOfBytes (bytes : List ℕ) (d : Diagram) : Type 0 where
+  pub accepted : IsAccepted bytes d.rows
+  pub is : d ≡ diagram_of d.rows
+  pub flat : IsFlat d

@@ -1,4 +1,6 @@
-use mc_base::Refusal;
+use mc_base::{Memory, Refusal};
+use mdl_reader::ReadFault;
+use std::alloc::AllocError;
 use std::marker::Model;
 
 /// What a model is compiled to: the numbers of its rows, of its systems and of all their output functions, and the bytes
@@ -24,4 +26,42 @@ impl Model for Compiled {
 pub enum CompileFault {
     Refused(Refusal),
     Memory,
+}
+
+impl From<Memory> for CompileFault {
+    ghost use Rattle.std.specs.Prelude.{◌≡◌};
+    ghost use Rattle.mc_compile.specs.declared.compiled.CompileFault.TheVariants as fault;
+
+    ghost from_gives = { λ _ given. given ≡ fault.Memory };
+
+    fn from(_memory: Memory) -> CompileFault {
+        CompileFault::Memory
+    }
+}
+
+impl From<AllocError> for CompileFault {
+    ghost use Rattle.std.specs.Prelude.{◌≡◌};
+    ghost use Rattle.mc_compile.specs.declared.compiled.CompileFault.TheVariants as fault;
+
+    ghost from_gives = { λ _ given. given ≡ fault.Memory };
+
+    fn from(_refused: AllocError) -> CompileFault {
+        CompileFault::Memory
+    }
+}
+
+impl From<ReadFault> for CompileFault {
+    ghost use Rattle.std.specs.Prelude.{◌≡◌};
+    ghost use Rattle.mc_compile.specs.Faults.{as_compile_fault};
+
+    ghost from_gives = { λ read given. given ≡ as_compile_fault read };
+
+    fn from(fault: ReadFault) -> CompileFault {
+        match fault {
+            ReadFault::Syntax { line, kind } => {
+                CompileFault::Refused(Refusal::Syntax { line, kind })
+            }
+            ReadFault::Memory => CompileFault::Memory,
+        }
+    }
 }

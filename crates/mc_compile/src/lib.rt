@@ -3,6 +3,7 @@
 
 mod blocks;
 mod checks;
+mod compile;
 mod compiled;
 mod diagram;
 mod initial;
