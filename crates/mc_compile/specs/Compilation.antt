@@ -5,6 +5,7 @@ use Rattle.mc_diagram.specs.declared.Row.{Row}
 use Rattle.mc_diagram.specs.Rows.{by_row}
 use Rattle.mc_diagram.specs.Diagram.{Diagram, op_in}
 use Rattle.c_tree.specs.Tree.{ProgramTree}
+use Rattle.mc_compile.specs.Verdict.{Accepted, HasVerdict}
 use Rattle.c_tree.specs.Reading.{CText}
 use Rattle.c_emitter.specs.FlatDiagrams.{flat_diagram}
 use Rattle.c_emitter.specs.Code.{IsCodeFor, IsFunctionCount}
@@ -33,3 +34,9 @@ pub record IsCompilationOf (table : List Row) (c : Compilation) : Type 0 where
   pub systems : c.systems ≡ 1
   pub functions : IsFunctionCount (diagram_of table) c.functions
   pub code : IsRightCode c.code (diagram_of table)
+
+-- the file is accepted, and compiled with its rows
+pub record IsCompiledFrom (bytes : List ℕ) (c : Compilation) : Type 0 where
+  pub table : List Row
+  pub verdict : HasVerdict bytes (Accepted table)
+  pub compiled : IsCompilationOf table c

@@ -3,8 +3,8 @@
 
 mod blocks;
 mod checks;
-mod compile;
 mod compiled;
+mod compiler;
 mod diagram;
 mod initial;
 mod laws;
@@ -17,4 +17,5 @@ mod sections;
 mod wiring;
 
 pub use compiled::{CompileFault, Compiled};
+pub use compiler::compile;
 pub use laws::one_verdict;

@@ -2,7 +2,7 @@ use Rattle.std.proofs.Common.{◌≡◌, sym, ◌∙◌, []}
 use Rattle.mdl_tree.specs.Values.{section_tree}
 use Rattle.mc_compile.specs.Rules.{broken}
 use Rattle.mc_compile.proofs.OneVerdict.{least-none}
-use Rattle.mc_compile.proofs.compile.diagram_in.Goals as goal
+use Rattle.mc_compile.proofs.compiler.diagram_in.Goals as goal
 
 pub diagram_of-requires : goal.diagram_of-requires
 diagram_of-requires c =
