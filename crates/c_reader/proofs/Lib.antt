@@ -1,2 +1,0 @@
-pub mod TokenLines
-pub mod Pieces

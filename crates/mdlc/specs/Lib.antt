@@ -1,0 +1,6 @@
+pub mod Words
+pub mod Texts
+pub mod Told
+pub mod Endings
+pub mod Statuses
+pub mod Headline

@@ -1,0 +1,200 @@
+use crate::tool::{run_surely, run_tool};
+use mc_edge::{MemHost, MemSink, SureHost, SureSink};
+use std::alloc::{AllocError, Global};
+use std::test::Fail;
+
+mod models;
+
+/// How a call ended over hosts and sinks in memory.
+struct Answer {
+    status: u8,
+    put: Vec<u8>,
+    /// The bytes of the files that were written, one after another.
+    code: Vec<u8>,
+    /// How many files were written.
+    files: usize,
+    /// How many calls failed for want of memory.
+    refused: u64,
+}
+
+fn words_of(alloc: Global, line: &str) -> Result<Vec<String>, AllocError> {
+    let mut words = Vec::new(alloc);
+    for word in line.split(' ') {
+        words.push(String::from_str(alloc, word)?)?;
+    }
+    Ok(words)
+}
+
+fn files_of(alloc: Global, model: &[u8]) -> Result<Vec<(String, Vec<u8>)>, AllocError> {
+    let mut files = Vec::new(alloc);
+    files.push((String::from_str(alloc, "a.mdl")?, model.to_vec(alloc)?))?;
+    Ok(files)
+}
+
+// Over a host with the one file `a.mdl`, of which these calls fail, and that moves so many bytes at once.
+fn answer(
+    alloc: Global,
+    line: &str,
+    model: &[u8],
+    fails: &[u64],
+    put_fails: &[u64],
+    piece: usize,
+) -> Result<Answer, AllocError> {
+    let words = words_of(alloc, line)?;
+    let mut host = MemHost::new(alloc, files_of(alloc, model)?, fails.to_vec(alloc)?, piece);
+    let mut out = MemSink::new(alloc, put_fails.to_vec(alloc)?, piece);
+    let status = run_tool(alloc, &words, &mut host, &mut out);
+    let mut code = Vec::new(alloc);
+    for file in host.written() {
+        code.extend_from_slice(&file.1)?;
+    }
+    Ok(Answer {
+        status,
+        put: out.bytes().to_vec(alloc)?,
+        code,
+        files: host.written().len(),
+        refused: host.refused().saturating_add(out.refused()),
+    })
+}
+
+fn compiled(alloc: Global, model: &[u8]) -> Result<Answer, AllocError> {
+    answer(alloc, "compile a.mdl a.c", model, &[], &[], 4096)
+}
+
+const USAGE: &[u8] =
+    b"usage: mdlc compile MODEL CODE | run MODEL CODE TRACE | exec CODE TRACE | profile MODEL | drive MODEL CODE SUBSYSTEM SCRIPT | gen START SIZE MODEL CODE\n";
+
+#[test]
+fn one_wire(rt: HostRuntime) -> Result<(), Fail> {
+    let done = compiled(rt.alloc(), models::ONE_WIRE)?;
+    assert_eq!(rt; done.status, 0);
+    assert_eq!(rt;
+        done.put.as_slice(),
+        b"compiled rows 2 systems 1 functions 1\n" as &[u8]
+    );
+    assert_eq!(rt; done.files, 1);
+    assert_eq!(rt; done.refused, 0);
+    assert!(rt; done.code.starts_with(b"#include <stdint.h>\n"));
+    Ok(())
+}
+
+#[test]
+fn one_delay(rt: HostRuntime) -> Result<(), Fail> {
+    let done = compiled(rt.alloc(), models::ONE_DELAY)?;
+    assert_eq!(rt; done.status, 0);
+    assert_eq!(rt;
+        done.put.as_slice(),
+        b"compiled rows 3 systems 1 functions 1\n" as &[u8]
+    );
+    Ok(())
+}
+
+#[test]
+fn usage(rt: HostRuntime) -> Result<(), Fail> {
+    for line in [
+        "run a b",
+        "compile a.mdl",
+        "compile a.mdl a.mdl",
+        "compile a.mdl -c",
+        "compile a.mdl ",
+        "compile a.mdl a.c d",
+        "help",
+        "--help",
+    ] {
+        let told = answer(rt.alloc(), line, models::ONE_WIRE, &[], &[], 4096)?;
+        assert_eq!(rt; told.status, 2, "{line}");
+        assert_eq!(rt; told.put.as_slice(), USAGE, "{line}");
+        assert_eq!(rt; told.files, 0);
+    }
+    Ok(())
+}
+
+#[test]
+fn host_faults(rt: HostRuntime) -> Result<(), Fail> {
+    let alloc = rt.alloc();
+    let compile = "compile a.mdl a.c";
+    let missing = answer(alloc, "compile b.mdl a.c", models::ONE_WIRE, &[], &[], 4096)?;
+    assert_eq!(rt; missing.status, 5);
+    assert_eq!(rt; missing.put.as_slice(), b"read fault\n" as &[u8]);
+    let second_read = answer(alloc, compile, models::ONE_WIRE, &[2], &[], 16)?;
+    assert_eq!(rt; second_read.status, 5);
+    assert_eq!(rt; second_read.put.as_slice(), b"read fault\n" as &[u8]);
+    assert_eq!(rt; second_read.files, 0);
+    let first_write = answer(alloc, compile, models::ONE_WIRE, &[4], &[], 4096)?;
+    assert_eq!(rt; first_write.status, 6);
+    assert_eq!(rt; first_write.put.as_slice(), b"write fault\n" as &[u8]);
+    assert_eq!(rt; first_write.files, 1);
+    assert_eq!(rt; first_write.code.len(), 0);
+    let first_put = answer(alloc, compile, models::ONE_WIRE, &[], &[0], 4096)?;
+    assert_eq!(rt; first_put.status, 7);
+    assert_eq!(rt; first_put.put.len(), 0);
+    let second_put = answer(alloc, compile, models::ONE_WIRE, &[], &[1], 8)?;
+    assert_eq!(rt; second_put.status, 7);
+    assert_eq!(rt; second_put.put.as_slice(), b"compiled" as &[u8]);
+    Ok(())
+}
+
+#[test]
+fn refusals(rt: HostRuntime) -> Result<(), Fail> {
+    for (model, line) in [
+        (models::GAIN, "refused F7 Unsupported line 11\n"),
+        (models::UNCLOSED, "refused F2 Syntax line 22 Brace\n"),
+        (
+            "Model {\n  Name \"on",
+            "refused F2 Syntax line 2 OpenString\n",
+        ),
+        ("", "refused F3 NoModel line 0\n"),
+        ("Model {\n}\n", "refused F3 NoModel line 1\n"),
+        (
+            "Model {\nSystem {\n}\n}\nModel {\n}\n",
+            "refused F7 Unsupported line 5\n",
+        ),
+    ] {
+        let told = compiled(rt.alloc(), model.as_bytes())?;
+        assert_eq!(rt; told.status, 3, "{line}");
+        assert_eq!(rt; told.put.as_slice(), line.as_bytes(), "{line}");
+        assert_eq!(rt; told.files, 0);
+    }
+    Ok(())
+}
+
+#[test]
+fn large_models(rt: HostRuntime) -> Result<(), Fail> {
+    let alloc = rt.alloc();
+    let crossed = compiled(alloc, &models::crossed_ports(alloc, 32)?)?;
+    assert_eq!(rt;
+        crossed.put.as_slice(),
+        b"compiled rows 64 systems 1 functions 32\n" as &[u8]
+    );
+    let chain = compiled(alloc, &models::backward_chain(alloc, 50)?)?;
+    assert_eq!(rt;
+        chain.put.as_slice(),
+        b"compiled rows 52 systems 1 functions 1\n" as &[u8]
+    );
+    let most = compiled(alloc, &models::own_delays(alloc, 20_000)?)?;
+    assert_eq!(rt;
+        most.put.as_slice(),
+        b"compiled rows 20000 systems 1 functions 0\n" as &[u8]
+    );
+    let more = compiled(alloc, &models::own_delays(alloc, 20_001)?)?;
+    assert_eq!(rt;
+        more.put.as_slice(),
+        b"refused F7 Unsupported line 80003\n" as &[u8]
+    );
+    Ok(())
+}
+
+#[test]
+fn nothing_fails_over_sure_ends(rt: HostRuntime) -> Result<(), Fail> {
+    let alloc = rt.alloc();
+    let words = words_of(alloc, "compile a.mdl a.c")?;
+    let mut host = SureHost::new(files_of(alloc, models::ONE_WIRE)?);
+    let mut out = SureSink::new();
+    assert_eq!(rt; run_tool(alloc, &words, &mut host, &mut out), 0);
+    assert_eq!(rt; out.taken(), 38);
+    assert_eq!(rt;
+        run_surely(alloc, &words, files_of(alloc, models::ONE_WIRE)?),
+        0
+    );
+    Ok(())
+}

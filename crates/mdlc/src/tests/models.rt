@@ -1,0 +1,146 @@
+// The models that tests compile.
+use std::alloc::{AllocError, Global};
+
+/// One Inport wired to one Outport.
+pub const ONE_WIRE: &[u8] = b"Model {
+  Name \"one\"
+  System {
+    Name \"one\"
+    Block {
+      BlockType Inport
+      Name \"In1\"
+      Port \"1\"
+      OutDataTypeStr \"int32\"
+    }
+    Block {
+      BlockType Outport
+      Name \"Out1\"
+      Port \"1\"
+    }
+    Line {
+      SrcBlock \"In1\"
+      SrcPort 1
+      DstBlock \"Out1\"
+      DstPort 1
+    }
+  }
+}
+";
+
+/// The same with a Unit Delay in the wire.
+pub const ONE_DELAY: &[u8] = b"Model {
+System {
+Block {
+BlockType Inport
+Name \"In1\"
+Port \"1\"
+OutDataTypeStr \"int32\"
+}
+Block {
+BlockType UnitDelay
+Name \"D\"
+InitialCondition \"7\"
+}
+Block {
+BlockType Outport
+Name \"Out1\"
+Port \"1\"
+}
+Line {
+SrcBlock \"In1\"
+SrcPort 1
+DstBlock \"D\"
+DstPort 1
+}
+Line {
+SrcBlock \"D\"
+SrcPort 1
+DstBlock \"Out1\"
+DstPort 1
+}
+}
+}
+";
+
+/// The first model with a Gain in the place of its Outport.
+pub const GAIN: &str =
+    "Model {\n  Name \"one\"\n  System {\n    Name \"one\"\n    Block {\n      BlockType Inport\n      Name \"In1\"\n      Port \"1\"\n      OutDataTypeStr \"int32\"\n    }\n    Block {\n      BlockType Gain\n      Name \"Out1\"\n      Port \"1\"\n    }\n    Line {\n      SrcBlock \"In1\"\n      SrcPort 1\n      DstBlock \"Out1\"\n      DstPort 1\n    }\n  }\n}\n";
+
+/// The first model without its last line.
+pub const UNCLOSED: &str =
+    "Model {\n  Name \"one\"\n  System {\n    Name \"one\"\n    Block {\n      BlockType Inport\n      Name \"In1\"\n      Port \"1\"\n      OutDataTypeStr \"int32\"\n    }\n    Block {\n      BlockType Outport\n      Name \"Out1\"\n      Port \"1\"\n    }\n    Line {\n      SrcBlock \"In1\"\n      SrcPort 1\n      DstBlock \"Out1\"\n      DstPort 1\n    }\n  }\n";
+
+fn push_line(
+    alloc: Global,
+    text: &mut Vec<u8>,
+    source: &str,
+    target: &str,
+) -> Result<(), AllocError> {
+    let line = format!(in alloc;
+        "Line {{\nSrcBlock \"{source}\"\nSrcPort 1\nDstBlock \"{target}\"\nDstPort 1\n}}\n"
+    )?;
+    text.extend_from_slice(line.as_bytes())
+}
+
+fn push_delay(alloc: Global, text: &mut Vec<u8>, name: &str) -> Result<(), AllocError> {
+    let block = format!(in alloc; "Block {{\nBlockType UnitDelay\nName \"{name}\"\n}}\n")?;
+    text.extend_from_slice(block.as_bytes())
+}
+
+/// So many Inports, wired to as many Outports in the opposite order.
+pub fn crossed_ports(alloc: Global, count: u32) -> Result<Vec<u8>, AllocError> {
+    let mut text = b"Model {\nSystem {\n".to_vec(alloc)?;
+    for k in 0..count {
+        let port = k + 1;
+        let block = format!(in alloc;
+            "Block {{\nBlockType Inport\nName \"i{port}\"\nPort \"{port}\"\nOutDataTypeStr \"int32\"\n}}\nBlock {{\nBlockType Outport\nName \"o{port}\"\nPort \"{port}\"\n}}\n"
+        )?;
+        text.extend_from_slice(block.as_bytes())?;
+    }
+    for k in 0..count {
+        let source = format!(in alloc; "i{}", k + 1)?;
+        let target = format!(in alloc; "o{}", count - k)?;
+        push_line(alloc, &mut text, source.as_str(), target.as_str())?;
+    }
+    text.extend_from_slice(b"}\n}\n")?;
+    Ok(text)
+}
+
+/// An Inport, so many Unit Delays one behind another, and an Outport, of which the later stand first in the file.
+pub fn backward_chain(alloc: Global, count: u32) -> Result<Vec<u8>, AllocError> {
+    let mut text =
+        b"Model {\nSystem {\nBlock {\nBlockType Outport\nName \"o\"\nPort \"1\"\n}\n".to_vec(
+            alloc,
+        )?;
+    for k in 0..count {
+        let name = format!(in alloc; "d{}", count - k)?;
+        push_delay(alloc, &mut text, name.as_str())?;
+    }
+    text.extend_from_slice(
+        b"Block {\nBlockType Inport\nName \"d0\"\nPort \"1\"\nOutDataTypeStr \"int32\"\n}\n",
+    )?;
+    for k in 0..count {
+        let source = format!(in alloc; "d{k}")?;
+        let target = format!(in alloc; "d{}", k + 1)?;
+        push_line(alloc, &mut text, source.as_str(), target.as_str())?;
+    }
+    let last = format!(in alloc; "d{count}")?;
+    push_line(alloc, &mut text, last.as_str(), "o")?;
+    text.extend_from_slice(b"}\n}\n")?;
+    Ok(text)
+}
+
+/// So many Unit Delays, each wired to itself.
+pub fn own_delays(alloc: Global, count: u32) -> Result<Vec<u8>, AllocError> {
+    let mut text = b"Model {\nSystem {\n".to_vec(alloc)?;
+    for k in 0..count {
+        let name = format!(in alloc; "d{k}")?;
+        push_delay(alloc, &mut text, name.as_str())?;
+    }
+    for k in 0..count {
+        let name = format!(in alloc; "d{k}")?;
+        push_line(alloc, &mut text, name.as_str(), name.as_str())?;
+    }
+    text.extend_from_slice(b"}\n}\n")?;
+    Ok(text)
+}

@@ -1,0 +1,11 @@
+// The words of the command line.
+
+/// What the words ask for, with the names of the files.
+#[derive(Clone, Copy, Debug)]
+pub enum Command<'a> {
+    Compile { model: &'a str, code: &'a str },
+}
+
+mod reading;
+
+pub use reading::command;
