@@ -1,3 +1,5 @@
+ghost use Rattle.std.specs.Prelude.{◌<◌};
+
 use crate::tool::{run_surely, run_tool};
 use mc_edge::{MemHost, MemSink, SureHost, SureSink};
 use std::alloc::{AllocError, Global};
@@ -6,6 +8,7 @@ use std::test::Fail;
 mod models;
 
 /// How a call ended over hosts and sinks in memory.
+#[derive(Drop)]
 struct Answer {
     status: u8,
     put: Vec<u8>,
@@ -32,14 +35,16 @@ fn files_of(alloc: Global, model: &[u8]) -> Result<Vec<(String, Vec<u8>)>, Alloc
 }
 
 // Over a host with the one file `a.mdl`, of which these calls fail, and that moves so many bytes at once.
-fn answer(
+fn called(
     alloc: Global,
     line: &str,
     model: &[u8],
     fails: &[u64],
     put_fails: &[u64],
     piece: usize,
-) -> Result<Answer, AllocError> {
+) -> Result<Answer, AllocError>
+    requires { 0 < piece }
+{
     let words = words_of(alloc, line)?;
     let mut host = MemHost::new(alloc, files_of(alloc, model)?, fails.to_vec(alloc)?, piece);
     let mut out = MemSink::new(alloc, put_fails.to_vec(alloc)?, piece);
@@ -58,7 +63,7 @@ fn answer(
 }
 
 fn compiled(alloc: Global, model: &[u8]) -> Result<Answer, AllocError> {
-    answer(alloc, "compile a.mdl a.c", model, &[], &[], 4096)
+    called(alloc, "compile a.mdl a.c", model, &[], &[], 4096)
 }
 
 const USAGE: &[u8] =
@@ -101,7 +106,7 @@ fn usage(rt: HostRuntime) -> Result<(), Fail> {
         "help",
         "--help",
     ] {
-        let told = answer(rt.alloc(), line, models::ONE_WIRE, &[], &[], 4096)?;
+        let told = called(rt.alloc(), line, models::ONE_WIRE, &[], &[], 4096)?;
         assert_eq!(rt; told.status, 2, "{line}");
         assert_eq!(rt; told.put.as_slice(), USAGE, "{line}");
         assert_eq!(rt; told.files, 0);
@@ -113,22 +118,22 @@ fn usage(rt: HostRuntime) -> Result<(), Fail> {
 fn host_faults(rt: HostRuntime) -> Result<(), Fail> {
     let alloc = rt.alloc();
     let compile = "compile a.mdl a.c";
-    let missing = answer(alloc, "compile b.mdl a.c", models::ONE_WIRE, &[], &[], 4096)?;
+    let missing = called(alloc, "compile b.mdl a.c", models::ONE_WIRE, &[], &[], 4096)?;
     assert_eq!(rt; missing.status, 5);
     assert_eq!(rt; missing.put.as_slice(), b"read fault\n" as &[u8]);
-    let second_read = answer(alloc, compile, models::ONE_WIRE, &[2], &[], 16)?;
+    let second_read = called(alloc, compile, models::ONE_WIRE, &[2], &[], 16)?;
     assert_eq!(rt; second_read.status, 5);
     assert_eq!(rt; second_read.put.as_slice(), b"read fault\n" as &[u8]);
     assert_eq!(rt; second_read.files, 0);
-    let first_write = answer(alloc, compile, models::ONE_WIRE, &[4], &[], 4096)?;
+    let first_write = called(alloc, compile, models::ONE_WIRE, &[4], &[], 4096)?;
     assert_eq!(rt; first_write.status, 6);
     assert_eq!(rt; first_write.put.as_slice(), b"write fault\n" as &[u8]);
     assert_eq!(rt; first_write.files, 1);
     assert_eq!(rt; first_write.code.len(), 0);
-    let first_put = answer(alloc, compile, models::ONE_WIRE, &[], &[0], 4096)?;
+    let first_put = called(alloc, compile, models::ONE_WIRE, &[], &[0], 4096)?;
     assert_eq!(rt; first_put.status, 7);
     assert_eq!(rt; first_put.put.len(), 0);
-    let second_put = answer(alloc, compile, models::ONE_WIRE, &[], &[1], 8)?;
+    let second_put = called(alloc, compile, models::ONE_WIRE, &[], &[1], 8)?;
     assert_eq!(rt; second_put.status, 7);
     assert_eq!(rt; second_put.put.as_slice(), b"compiled" as &[u8]);
     Ok(())
