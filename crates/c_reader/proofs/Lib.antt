@@ -1,2 +1,3 @@
 pub mod TokenLines
 pub mod Pieces
+pub mod Numerals

@@ -2,5 +2,10 @@
 #![tactic(auto)]
 
 mod bytes;
+mod fault;
+mod reader;
 mod tokens;
+mod words;
 mod written;
+
+pub use fault::ReadCFault;
