@@ -1,5 +1,5 @@
--- What holds of the blocks and Lines of a file of which no section breaks a rule.
-use Rattle.std.proofs.Common.{◌≡◌, refl, sym, ◌∙◌, ap, subst, ℕ, zero, suc, ◌+◌, ◌<◌, ◌≤◌, nat_lt, nat_le, Bool, true, false, not, cond, ◌&&◌, List, [], ◌∷◌, ◌++◌, map, filter, length, get_or, take, append_assoc, append-nil, Option, None, Some, is_some, find, arith, true≢false, codes, ltb-true, leb-true, le-leb, lt-ltb, length-append}
+-- What holds of the blocks and line ends of a file of which no section breaks a rule.
+use Rattle.std.proofs.Common.{◌≡◌, refl, sym, ◌∙◌, ap, subst, ℕ, zero, suc, ◌+◌, ◌<◌, ◌≤◌, nat_lt, nat_le, Bool, true, false, not, cond, ◌&&◌, List, [], ◌∷◌, ◌++◌, map, filter, flat_map, length, get_or, take, append_assoc, append-nil, Option, None, Some, is_some, find, arith, true≢false, codes, ltb-true, leb-true, le-leb, lt-ltb, length-append}
 use Rattle.std.specs.Option.{option_map_or}
 use Rattle.std.specs.List.{list_any}
 use Rattle.std.proofs.lemmas.List.{length-take-le, get_or_default}
@@ -7,10 +7,11 @@ use Rattle.mdl_tree.specs.Spelling.{Items}
 use Rattle.mdl_tree.specs.Walks.{SectionTree}
 use Rattle.mc_compile.specs.declared.blocks.BlockType.{BlockType}
 use Rattle.mc_compile.specs.declared.blocks.BlockType.TheVariants.{Inport, Outport, UnitDelay, Other}
-use Rattle.mc_compile.specs.Places.{sections_in, has_title, system_items, misplaced}
-use Rattle.mc_compile.specs.Blocks.{Block, block_of, has_values}
-use Rattle.mc_compile.specs.Lines.{Line}
-use Rattle.mc_compile.specs.Rules.{has_name, leads_to, is_source, is_target, named_type, same_type, ports_of, is_port, is_new_port, has_new_port, is_placed, is_right_block, has_right_ends, wrong_blocks, wrong_lines, wrong_parts, blocks_of, lines_of, broken}
+use Rattle.mdl_params.specs.Defaults.{DefaultTexts}
+use Rattle.mc_compile.specs.Places.{sections_in, has_title, system_items}
+use Rattle.mc_compile.specs.Blocks.{Block, Written, written_in, block_of, has_values, has_inherited_time, initial_of}
+use Rattle.mc_compile.specs.Lines.{LineEnd}
+use Rattle.mc_compile.specs.Rules.{has_name, leads_to, is_source, is_target, named_type, same_type, ports_of, is_port, is_new_port, has_new_port, is_placed, is_right_block, has_right_ends, wrong_blocks, wrong_lines, wrong_parts, wrong_in_line, defaults_of, lines_among, blocks_of, line_ends, broken}
 use Rattle.mc_compile.specs.FlatRows.{row_named}
 use Rattle.mc_compile.specs.WiredRows.{is_port_of_32, has_kind, is_complete, is_within}
 use Rattle.mc_compile.specs.declared.wiring.Wire.{Wire}
@@ -22,13 +23,13 @@ use Rattle.std.proofs.Math.Seq.{take-suc, take-length}
 use Rattle.mc_compile.proofs.CheckLaws.{named_first, option_eq_is, find-any}
 use Rattle.mc_compile.proofs.RowsAreOne.{and-true, append-empty}
 
--- ---- Each block, and each Line
+-- ---- Each block, and each line end
 
 right-first : (t : Bool) (n : ℕ) (rest : List ℕ) → cond t [] (n ∷ []) ++ rest ≡ [] → (t ≡ true) × (rest ≡ [])
 right-first true n rest e = (refl, e)
 right-first false n rest e = absurd (cc)
 
-block-right : (blocks : List Block) (lines : List Line) (earlier rest : List Block) (i : ℕ) (d : Block) → wrong_blocks blocks lines earlier rest ≡ [] → i < length rest →
+block-right : (blocks : List Block) (lines : List LineEnd) (earlier rest : List Block) (i : ℕ) (d : Block) → wrong_blocks blocks lines earlier rest ≡ [] → i < length rest →
     is_right_block blocks lines (earlier ++ take i rest) (get_or rest i d) ≡ true
 block-right blocks lines earlier [] i d e h = absurd (omega (arith, h))
 block-right blocks lines earlier (b ∷ rest) zero d e h =
@@ -37,7 +38,7 @@ block-right blocks lines earlier (b ∷ rest) (suc i) d e h =
     ap (λ bs. is_right_block blocks lines bs (get_or rest i d)) (sym (append_assoc earlier (b ∷ []) (take i rest)))
     ∙ block-right blocks lines (earlier ++ b ∷ []) rest i d (right-first (is_right_block blocks lines earlier b) b.line (wrong_blocks blocks lines (earlier ++ b ∷ []) rest) e).1 (omega (arith, h))
 
-line-right : (blocks : List Block) (earlier rest : List Line) (name : Option (List ℕ)) (line : Line) → wrong_lines blocks earlier rest ≡ [] → find (leads_to name) rest ≡ Some line → has_right_ends blocks line ≡ true
+line-right : (blocks : List Block) (earlier rest : List LineEnd) (name : Option (List ℕ)) (line : LineEnd) → wrong_lines blocks earlier rest ≡ [] → find (leads_to name) rest ≡ Some line → has_right_ends blocks line ≡ true
 line-right blocks earlier [] name line e f = absurd (none_only line f)
 line-right blocks earlier (l ∷ rest) name line e f = by_test (leads_to name l) (line-right blocks (earlier ++ l ∷ []) rest name line parts.1) f
   where
@@ -49,13 +50,13 @@ line-right blocks earlier (l ∷ rest) name line e f = by_test (leads_to name l)
     by_test false more g = more g
 
 -- what a block that keeps the rules has
-pub record Right (blocks : List Block) (lines : List Line) (i : ℕ) (block : Block) : Type 0 where
+pub record Right (blocks : List Block) (lines : List LineEnd) (i : ℕ) (block : Block) : Type 0 where
   pub formed : block.is_formed ≡ true
   pub first : row_named blocks block.name ≡ Some i
   pub few : i < 20000
   pub placed : is_placed blocks lines (take i blocks) block block.type ≡ true
 
-right-by : (blocks : List Block) (lines : List Line) (i : ℕ) (block : Block) → i < length blocks → block ≡ get_or blocks i block → is_right_block blocks lines (take i blocks) block ≡ true → Right blocks lines i block
+right-by : (blocks : List Block) (lines : List LineEnd) (i : ℕ) (block : Block) → i < length blocks → block ≡ get_or blocks i block → is_right_block blocks lines (take i blocks) block ≡ true → Right blocks lines i block
 right-by blocks lines i block h own e =
     let placed = and-true _ (is_placed blocks lines (take i blocks) block block.type) e in
     let few = and-true _ (nat_lt (length (take i blocks)) 20000) placed.0 in
@@ -70,31 +71,33 @@ right-by blocks lines i block h own e =
     }
 
 -- the initial condition of a Unit Delay is there
-delay-initial : (sections : List SectionTree) (i : ℕ) (d : Block) → i < length (map block_of sections) → (get_or (map block_of sections) i d).is_formed ≡ true → (get_or (map block_of sections) i d).type ≡ UnitDelay →
-    is_some (get_or (map block_of sections) i d).initial ≡ true
-delay-initial [] i d h formed type = absurd (omega (arith, h))
-delay-initial (s ∷ ss) zero d h formed type =
-    ap (λ t. has_values t s.items) (sym type) ∙ (and-true _ (has_values (block_of s).type s.items) formed).1
-delay-initial (s ∷ ss) (suc i) d h formed type = delay-initial ss i d (omega (arith, h)) formed type
+delay-initial : (texts : DefaultTexts) (sections : List SectionTree) (i : ℕ) (d : Block) → i < length (map (block_of texts) sections) → (get_or (map (block_of texts) sections) i d).is_formed ≡ true → (get_or (map (block_of texts) sections) i d).type ≡ UnitDelay →
+    is_some (get_or (map (block_of texts) sections) i d).initial ≡ true
+delay-initial texts [] i d h formed type = absurd (omega (arith, h))
+delay-initial texts (s ∷ ss) zero d h formed type =
+    let written : Written = written_in texts s.items in
+    let values : has_values written UnitDelay ≡ true = ap (has_values written) (sym type) ∙ formed in
+    ap (λ t. is_some (initial_of written t)) type ∙ (and-true (has_inherited_time written UnitDelay) (is_some (initial_of written UnitDelay)) values).1
+delay-initial texts (s ∷ ss) (suc i) d h formed type = delay-initial texts ss i d (omega (arith, h)) formed type
 
--- all blocks and Lines keep the rules
-pub record IsRightSystem (blocks : List Block) (lines : List Line) : Type 0 where
+-- all blocks and line ends keep the rules
+pub record IsRightSystem (blocks : List Block) (lines : List LineEnd) : Type 0 where
   pub each : (i : ℕ) (d : Block) → i < length blocks → Right blocks lines i (get_or blocks i d)
-  pub ends : (name : Option (List ℕ)) (line : Line) → find (leads_to name) lines ≡ Some line → has_right_ends blocks line ≡ true
+  pub ends : (name : Option (List ℕ)) (line : LineEnd) → find (leads_to name) lines ≡ Some line → has_right_ends blocks line ≡ true
   pub delays : (i : ℕ) (d : Block) → i < length blocks → (get_or blocks i d).type ≡ UnitDelay → is_some (get_or blocks i d).initial ≡ true
 
-pub right_system : (file : Items) → broken file ≡ [] → IsRightSystem (blocks_of file) (lines_of file)
+pub right_system : (file : Items) → broken file ≡ [] → IsRightSystem (blocks_of file) (line_ends file)
 right_system file accepted =
     let parts =
-    append-empty (wrong_blocks (blocks_of file) (lines_of file) [] (blocks_of file)) (wrong_lines (blocks_of file) [] (lines_of file))
-    (append-empty (misplaced file) (wrong_parts (blocks_of file) (lines_of file)) accepted).1 in
-    let each : (i : ℕ) (d : Block) → i < length (blocks_of file) → Right (blocks_of file) (lines_of file) i (get_or (blocks_of file) i d) =
-    λ i d h. right-by (blocks_of file) (lines_of file) i (get_or (blocks_of file) i d) h (get_or_default (blocks_of file) i d (get_or (blocks_of file) i d) h)
-    (block-right (blocks_of file) (lines_of file) [] (blocks_of file) i d parts.0 h) in
+    append-empty (wrong_blocks (blocks_of file) (line_ends file) [] (blocks_of file)) (wrong_lines (blocks_of file) [] (line_ends file))
+    (append-empty (flat_map (wrong_in_line (blocks_of file)) (lines_among (sections_in (system_items file)))) (wrong_parts (blocks_of file) (line_ends file)) accepted).1 in
+    let each : (i : ℕ) (d : Block) → i < length (blocks_of file) → Right (blocks_of file) (line_ends file) i (get_or (blocks_of file) i d) =
+    λ i d h. right-by (blocks_of file) (line_ends file) i (get_or (blocks_of file) i d) h (get_or_default (blocks_of file) i d (get_or (blocks_of file) i d) h)
+    (block-right (blocks_of file) (line_ends file) [] (blocks_of file) i d parts.0 h) in
     record {
       each = each;
-      ends = λ name line e. line-right (blocks_of file) [] (lines_of file) name line parts.1 e;
-      delays = λ i d h type. delay-initial (filter (has_title (codes "Block")) (sections_in (system_items file))) i d h (each i d h).formed type;
+      ends = λ name line e. line-right (blocks_of file) [] (line_ends file) name line parts.1 e;
+      delays = λ i d h type. delay-initial (defaults_of file) (filter (has_title (codes "Block")) (sections_in (system_items file))) i d h (each i d h).formed type;
     }
 
 -- ---- Ports
@@ -142,7 +145,7 @@ new-port-by type blocks i block (Some port) own e few =
       few = ltb-true (length (ports_of type (take i blocks))) 32 few;
     }
 
-module _ (blocks : List Block) (lines : List Line) (right : IsRightSystem blocks lines) where
+module _ (blocks : List Block) (lines : List LineEnd) (right : IsRightSystem blocks lines) where
   has-new-port : (type : BlockType) → HasPort type → (i : ℕ) (d : Block) → i < length blocks → (get_or blocks i d).type ≡ type → has_new_port type blocks (take i blocks) (get_or blocks i d) ≡ true
   has-new-port type inport i d h own = ap (is_placed blocks lines (take i blocks) (get_or blocks i d)) (sym own) ∙ (right.each i d h).placed
   has-new-port type outport i d h own = (and-true _ (list_any (leads_to (get_or blocks i d).name) lines) (ap (is_placed blocks lines (take i blocks) (get_or blocks i d)) (sym own) ∙ (right.each i d h).placed)).0
@@ -201,14 +204,14 @@ module _ (blocks : List Block) (lines : List Line) (right : IsRightSystem blocks
 
   -- ---- Wires
 
-  -- a row from which a Line comes to a block
+  -- a row from which a line end comes to a block
   pub record Source (name : Option (List ℕ)) : Type 0 where
     pub row : ℕ
     pub wire : wire_of blocks (find (leads_to name) lines) ≡ From row
     pub inside : row < length blocks
     pub is : (d : Block) → is_source (get_or blocks row d).type ≡ true
 
-  source-named : (line : Line) → has_right_ends blocks line ≡ true → (row : ℕ) × (row_named blocks line.source ≡ Some row) × (row < length blocks) × ((d : Block) → is_source (get_or blocks row d).type ≡ true)
+  source-named : (line : LineEnd) → has_right_ends blocks line ≡ true → (row : ℕ) × (row_named blocks line.source ≡ Some row) × (row < length blocks) × ((d : Block) → is_source (get_or blocks row d).type ≡ true)
   source-named line ends = by_row (row_named blocks line.source) refl
     where
       is : is_source (named_type blocks line.source) ≡ true
@@ -223,13 +226,13 @@ module _ (blocks : List Block) (lines : List Line) (right : IsRightSystem blocks
   pub source : (name : Option (List ℕ)) → list_any (leads_to name) lines ≡ true → Source name
   source name any = by_line (find (leads_to name) lines) refl
     where
-      by_line : (o : Option Line) → find (leads_to name) lines ≡ o → Source name
+      by_line : (o : Option LineEnd) → find (leads_to name) lines ≡ o → Source name
       by_line None e = absurd (true≢false (sym any ∙ sym (find-any (leads_to name) lines) ∙ ap is_some e))
       by_line (Some line) e =
           let (row, named, inside, is) = source-named line (right.ends name line e) in
           record { row = row; wire = ap (wire_of blocks) e ∙ ap wire_from named; inside = inside; is = is }
 
-  wire-within : (d : Block) (o : Option Line) → is_within 20000 (wire_of blocks o) ≡ true
+  wire-within : (d : Block) (o : Option LineEnd) → is_within 20000 (wire_of blocks o) ≡ true
   wire-within d None = refl
   wire-within d (Some line) = by_row (row_named blocks line.source) refl
     where
@@ -238,7 +241,7 @@ module _ (blocks : List Block) (lines : List Line) (right : IsRightSystem blocks
       by_row (Some row) e = lt-ltb row 20000 (omega (arith, (found blocks line.source row e).inside, few-blocks d))
 
   module _ (wires : List Wire) (wired : AreWiresOf blocks lines wires) where
-    -- the wire of a block is what the first Line to it gives
+    -- the wire of a block is what the first line end to it gives
     pub own-wire : (i : ℕ) (d : Block) (w : Wire) → i < length blocks → get_or wires i w ≡ wire_of blocks (find (leads_to (get_or blocks i d).name) lines)
     own-wire i d w h =
         get_or_default wires i w Open (subst (λ n. i < n) (sym wired.one_each) h) ∙ wired.first (get_or blocks i d).name i (right.each i d h).first

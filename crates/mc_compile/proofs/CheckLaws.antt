@@ -9,7 +9,7 @@ use Rattle.mc_compile.specs.declared.blocks.BlockType.TheVariants.{Inport, Outpo
 use Rattle.mc_compile.specs.declared.wiring.Wire.{Wire}
 use Rattle.mc_compile.specs.declared.wiring.Wire.TheVariants.{Open}
 use Rattle.mc_compile.specs.Blocks.{Block}
-use Rattle.mc_compile.specs.Lines.{Line}
+use Rattle.mc_compile.specs.Lines.{LineEnd}
 use Rattle.mc_compile.specs.Rules.{same_name, has_name, leads_to, same_type, has_new_port, is_placed, is_right_block, wrong_blocks}
 use Rattle.mc_compile.specs.Places.{lesser, least}
 use Rattle.mc_compile.proofs.Lesser.{lesser_assoc}
@@ -93,7 +93,7 @@ find-any test (x ∷ xs) = by_test (test x) (find-any test xs)
     by_test true more = refl
     by_test false more = more
 
-closed-wire_of : (blocks : List Block) (line : Option Line) → not (is_open (wire_of blocks line)) ≡ is_some line
+closed-wire_of : (blocks : List Block) (line : Option LineEnd) → not (is_open (wire_of blocks line)) ≡ is_some line
 closed-wire_of blocks None = refl
 closed-wire_of blocks (Some line) = by_source (row_named blocks line.source)
   where
@@ -101,8 +101,8 @@ closed-wire_of blocks (Some line) = by_source (row_named blocks line.source)
     by_source None = refl
     by_source (Some row) = refl
 
--- the wire of the first block of a name isn't open just where a Line leads to it
-closed : (blocks : List Block) (lines : List Line) (wires : List Wire) (name : Option (List ℕ)) (row : ℕ) → AreWiresOf blocks lines wires → row_named blocks name ≡ Some row →
+-- the wire of the first block of a name isn't open just where a line end leads to it
+closed : (blocks : List Block) (lines : List LineEnd) (wires : List Wire) (name : Option (List ℕ)) (row : ℕ) → AreWiresOf blocks lines wires → row_named blocks name ≡ Some row →
     not (is_open (get_or wires row Open)) ≡ list_any (leads_to name) lines
 closed blocks lines wires name row h e =
     ap (λ w. not (is_open w)) (h.first name row e) ∙ closed-wire_of blocks (find (leads_to name) lines) ∙ find-any (leads_to name) lines
@@ -121,7 +121,7 @@ and_assoc : (a b c : Bool) → ((a && b) && c) ≡ (a && (b && c))
 and_assoc true b c = refl
 and_assoc false b c = refl
 
-module _ (blocks : List Block) (lines : List Line) (inports outports : List Bool) (wires : List Wire) (known : AreKnown blocks lines inports outports wires)
+module _ (blocks : List Block) (lines : List LineEnd) (inports outports : List Bool) (wires : List Wire) (known : AreKnown blocks lines inports outports wires)
     (row : ℕ) (block : Block) (inside : row < length blocks) (here : block ≡ get_or blocks row block) where
   port_in : (type : BlockType) (list : List Bool) → list ≡ new_ports type blocks [] blocks → get_or list row false ≡ has_new_or_none type blocks (take row blocks) block
   port_in type list e =
@@ -171,7 +171,7 @@ module _ (blocks : List Block) (lines : List Line) (inports outports : List Bool
           ∙ sym (ap (λ t. rules t (is_placed blocks lines (take row blocks) block block.type) (length (take row blocks))) (no_earlier false e ∙ and_false block.is_formed))
 
 -- the least line of a wrong block, with one block more
-pub wrong_blocks-step : (blocks : List Block) (lines : List Line) (earlier : List Block) (block : Block) (rest : List Block) (t : Bool) (wrong : Option ℕ) → t ≡ is_right_block blocks lines earlier block →
+pub wrong_blocks-step : (blocks : List Block) (lines : List LineEnd) (earlier : List Block) (block : Block) (rest : List Block) (t : Bool) (wrong : Option ℕ) → t ≡ is_right_block blocks lines earlier block →
     lesser wrong (least (wrong_blocks blocks lines earlier (block ∷ rest))) ≡ lesser (cond t wrong (lesser wrong (Some block.line))) (least (wrong_blocks blocks lines (earlier ++ block ∷ []) rest))
 wrong_blocks-step blocks lines earlier block rest t wrong e =
     ap (λ u. lesser wrong (least (cond u [] (block.line ∷ []) ++ wrong_blocks blocks lines (earlier ++ block ∷ []) rest))) (sym e) ∙ by_test t

@@ -17,9 +17,9 @@ use Rattle.c_emitter.specs.FlatDiagrams.{flat_diagram}
 use Rattle.mc_compile.specs.declared.model.FlatModel.{FlatModel}
 use Rattle.mc_compile.specs.declared.blocks.BlockType.TheVariants.{Inport, Outport}
 use Rattle.mc_compile.specs.Blocks.{Block}
-use Rattle.mc_compile.specs.Lines.{Line}
+use Rattle.mc_compile.specs.Lines.{LineEnd}
 use Rattle.mc_compile.specs.Wiring.{AreWiresOf}
-use Rattle.mc_compile.specs.Rules.{blocks_of, lines_of, broken}
+use Rattle.mc_compile.specs.Rules.{blocks_of, line_ends, broken}
 use Rattle.mc_compile.specs.FlatRows.{AreRowsOf}
 use Rattle.mc_compile.specs.Models.{IsModelOf, IsRightModel, IsDiagramOf}
 use Rattle.mc_compile.specs.WiredRows.{is_complete, is_within, AreRowsBy, flat_op}
@@ -58,7 +58,7 @@ op-of-kind block _ (an_inport port type own) ts delays = refl
 op-of-kind block _ (an_outport port initial type own) ts delays = refl
 op-of-kind block _ (a_delay initial type) ts delays = refl
 
-module _ (blocks : List Block) (lines : List Line) (right : IsRightSystem blocks lines) (wires : List Wire) (wired : AreWiresOf blocks lines wires) where
+module _ (blocks : List Block) (lines : List LineEnd) (right : IsRightSystem blocks lines) (wires : List Wire) (wired : AreWiresOf blocks lines wires) where
   pub all-complete : list_all is_complete blocks ≡ true
   all-complete = all-pass is_complete no_block blocks (λ i h. complete blocks lines right i no_block h)
 
@@ -80,34 +80,34 @@ module _ (blocks : List Block) (lines : List Line) (right : IsRightSystem blocks
 -- ---- Of a model
 
 module _ (model : FlatModel) (file : Items) (is : IsModelOf file model) (accepted : broken file ≡ []) where
-  system : IsRightSystem (blocks_of file) (lines_of file)
+  system : IsRightSystem (blocks_of file) (line_ends file)
   system = right_system file accepted
 
   pub model-few : length model.blocks.items ≤ 20000
-  model-few = subst (λ (bs : List Block). length bs ≤ 20000) (sym is.blocks) (few-blocks (blocks_of file) (lines_of file) system no_block)
+  model-few = subst (λ (bs : List Block). length bs ≤ 20000) (sym is.blocks) (few-blocks (blocks_of file) (line_ends file) system no_block)
 
   pub model-complete : list_all is_complete model.blocks.items ≡ true
-  model-complete = ap (list_all is_complete) is.blocks ∙ all-complete (blocks_of file) (lines_of file) system model.wires.items is.wires
+  model-complete = ap (list_all is_complete) is.blocks ∙ all-complete (blocks_of file) (line_ends file) system model.wires.items is.wires
 
   pub model-within : list_all (is_within 20000) model.wires.items ≡ true
-  model-within = all-within (blocks_of file) (lines_of file) system model.wires.items is.wires
+  model-within = all-within (blocks_of file) (line_ends file) system model.wires.items is.wires
 
   module _ (rows : List Row) (by : AreRowsBy model.blocks.items model.wires.items rows) where
     are : AreRowsBy (blocks_of file) model.wires.items rows
     are = subst (λ (bs : List Block). AreRowsBy bs model.wires.items rows) is.blocks by
 
     pub model-rows : AreRowsOf file rows
-    model-rows = rows-of-file (blocks_of file) (lines_of file) system model.wires.items is.wires rows are
+    model-rows = rows-of-file (blocks_of file) (line_ends file) system model.wires.items is.wires rows are
 
     pub model-ops : map (λ r. flat_op r.kind) rows ≡ by_row rows (op_in rows (replicate (length rows) int32) [])
-    model-ops = ops-are (blocks_of file) (lines_of file) system model.wires.items is.wires rows are
+    model-ops = ops-are (blocks_of file) (line_ends file) system model.wires.items is.wires rows are
 
     pub model-flat : (ops : List Op) → ops ≡ map (λ r. flat_op r.kind) rows → IsFlat (flat_diagram rows ops)
     model-flat ops e = record {
-      each = flat-rows (blocks_of file) (lines_of file) system model.wires.items is.wires rows are;
-      inports = ports (blocks_of file) (lines_of file) system model.wires.items is.wires rows are Inport is_inport inports;
-      outports = ports (blocks_of file) (lines_of file) system model.wires.items is.wires rows are Outport is_outport outports;
-      at_most = few-rows (blocks_of file) (lines_of file) system model.wires.items is.wires rows are;
+      each = flat-rows (blocks_of file) (line_ends file) system model.wires.items is.wires rows are;
+      inports = ports (blocks_of file) (line_ends file) system model.wires.items is.wires rows are Inport is_inport inports;
+      outports = ports (blocks_of file) (line_ends file) system model.wires.items is.wires rows are Outport is_outport outports;
+      at_most = few-rows (blocks_of file) (line_ends file) system model.wires.items is.wires rows are;
       ops = e ∙ model-ops;
     }
 

@@ -16,7 +16,7 @@ use Rattle.mc_compile.specs.declared.blocks.BlockType.TheVariants.{Inport, Outpo
 use Rattle.mc_compile.specs.declared.wiring.Wire.{Wire}
 use Rattle.mc_compile.specs.declared.wiring.Wire.TheVariants.{Open}
 use Rattle.mc_compile.specs.Blocks.{Block}
-use Rattle.mc_compile.specs.Lines.{Line}
+use Rattle.mc_compile.specs.Lines.{LineEnd}
 use Rattle.mc_compile.specs.Rules.{leads_to, is_source, same_type, ports_of, is_port, is_placed}
 use Rattle.mc_compile.specs.Wiring.{wire_from, wire_of, AreWiresOf}
 use Rattle.mc_compile.specs.FlatRows.{row_named, wires_of, IsRowOf}
@@ -31,7 +31,7 @@ no_block = record { line = 0; name = None; type = Other; port = None; initial = 
 
 -- ---- Inputs
 
-row-from-wire : (blocks : List Block) (o : Option Line) → row_from (wire_of blocks o) ≡ option_to_list (option_and_then (λ l. row_named blocks l.source) o)
+row-from-wire : (blocks : List Block) (o : Option LineEnd) → row_from (wire_of blocks o) ≡ option_to_list (option_and_then (λ l. row_named blocks l.source) o)
 row-from-wire blocks None = refl
 row-from-wire blocks (Some line) = by_row (row_named blocks line.source)
   where
@@ -39,7 +39,7 @@ row-from-wire blocks (Some line) = by_row (row_named blocks line.source)
     by_row None = refl
     by_row (Some row) = refl
 
-inputs-by-wire : (blocks : List Block) (lines : List Line) (block : Block) (type : BlockType) → inputs_by type (wire_of blocks (find (leads_to block.name) lines)) ≡ wires_of blocks lines block type
+inputs-by-wire : (blocks : List Block) (lines : List LineEnd) (block : Block) (type : BlockType) → inputs_by type (wire_of blocks (find (leads_to block.name) lines)) ≡ wires_of blocks lines block type
 inputs-by-wire blocks lines block Inport = refl
 inputs-by-wire blocks lines block Outport = row-from-wire blocks (find (leads_to block.name) lines)
 inputs-by-wire blocks lines block UnitDelay = row-from-wire blocks (find (leads_to block.name) lines)
@@ -47,7 +47,7 @@ inputs-by-wire blocks lines block Other = row-from-wire blocks (find (leads_to b
 
 -- ---- Lists by place
 
-all-zip : (blocks : List Block) (lines : List Line) (k : ℕ) (bs : List Block) (rows : List Row) → length rows ≡ length bs →
+all-zip : (blocks : List Block) (lines : List LineEnd) (k : ℕ) (bs : List Block) (rows : List Row) → length rows ≡ length bs →
     ((i : ℕ) → i < length bs → IsRowOf blocks lines (k + i) (get_or bs i no_block) (row_at rows i)) → AllZip (λ e row. IsRowOf blocks lines e.0 e.1 row) (enumerate_from k bs) rows
 all-zip blocks lines k [] [] e h = tt
 all-zip blocks lines k [] (r ∷ rs) e h = absurd (omega (arith, e))
@@ -116,7 +116,7 @@ seen-port type (x ∷ xs) d (suc k) (suc b) port h g own e = by_test (same_type 
 
 -- ---- The rows
 
-module _ (blocks : List Block) (lines : List Line) (right : IsRightSystem blocks lines) (wires : List Wire) (wired : AreWiresOf blocks lines wires) (rows : List Row) (are : AreRowsBy blocks wires rows) where
+module _ (blocks : List Block) (lines : List LineEnd) (right : IsRightSystem blocks lines) (wires : List Wire) (wired : AreWiresOf blocks lines wires) (rows : List Row) (are : AreRowsBy blocks wires rows) where
   block : ℕ → Block
   block i = get_or blocks i no_block
 

@@ -1,6 +1,5 @@
 pub mod Lesser
 pub mod Walks
-pub mod Digits
 pub mod NameLaws
 pub mod RowLaws
 pub mod WireLaws
@@ -16,3 +15,4 @@ pub mod Accepted
 pub mod RowKinds
 pub mod FlatRowLaws
 pub mod Diagrams
+pub mod Branches

@@ -1,15 +1,15 @@
 -- A flat model that breaks no rule has one list of rows.
-use Rattle.std.specs.Prelude.{◌≡◌, refl, ℕ, ◌+◌, ◌≤◌, ◌^◌, Bool, true, false, ◌&&◌, List, [], ◌∷◌, ◌++◌, Option, Some, None, option_map, is_some, ℤ, pos, negsuc, unsigned_abs, codes, if◌then◌else◌, nat_le, length}
-use Rattle.std.specs.Prelude.{map, filter}
+use Rattle.std.specs.Prelude.{◌≡◌, refl, ℕ, ◌+◌, ◌≤◌, ◌^◌, Bool, true, false, ◌&&◌, List, [], ◌∷◌, ◌++◌, Option, Some, None, option_map, option_and_then, is_some, ℤ, pos, negsuc, unsigned_abs, codes, if◌then◌else◌, length}
+use Rattle.std.specs.Prelude.{map, filter, flat_map}
 use Rattle.std.specs.List.{AllZip, enumerate_from}
-use Rattle.std.specs.Str.Parse.{digits_value, starts_with_minus}
 use Rattle.std.proofs.lemmas.Bool.Decides.{nat_tests}
 use Rattle.std.proofs.Common.{sym, ◌∙◌, ap, lit≤, arith}
 use native.Mathlib.Nat.{one-dvd, dvd_refl, zero-lt-suc}
 use mathlib.Core.HLevel.{is_prop→PathP}
 use Rattle.std.specs.Coded.{le_prop}
 use Rattle.mc_base.specs.Numbers.{AreLowest}
-use Rattle.mc_base.specs.Literals.{ratio_of, is_numeral, with_sign}
+use Rattle.mc_base.specs.Literals.{ratio_of}
+use Rattle.mc_base.specs.declared.ParamName.TheVariants as param
 use Rattle.mc_base.specs.declared.Decimal.{Decimal}
 use Rattle.mc_base.specs.declared.TimeText.TheVariants as time
 use Rattle.mc_fixed.specs.Conversion.{fits_32}
@@ -17,13 +17,14 @@ use Rattle.mc_blocks.specs.declared.Kind.{Kind}
 use Rattle.mc_blocks.specs.declared.Kind.TheVariants as kind
 use Rattle.mc_diagram.specs.declared.Row.{Row}
 use Rattle.mdl_tree.specs.Spelling.{Items}
-use Rattle.mdl_tree.specs.Walks.{SectionTree, first_value}
+use Rattle.mdl_tree.specs.Walks.{SectionTree}
+use Rattle.mdl_params.specs.Defaults.{DefaultTexts}
 use Rattle.mc_compile.specs.declared.blocks.BlockType.{BlockType}
 use Rattle.mc_compile.specs.declared.blocks.BlockType.TheVariants.{Inport, Outport, UnitDelay, Other}
-use Rattle.mc_compile.specs.Blocks.{Block, block_of, initial_value, in_32_bits, has_values, unsigned_digits}
-use Rattle.mc_compile.specs.Lines.{Line}
-use Rattle.mc_compile.specs.Rules.{broken, blocks_of, lines_of, is_new_port, has_new_port, ports_of, is_placed, is_right_block, wrong_blocks, wrong_lines, wrong_parts}
-use Rattle.mc_compile.specs.Places.{sections_in, has_title, misplaced, system_items}
+use Rattle.mc_compile.specs.Blocks.{Block, Written, written_in, text_of, block_of, whole_number, in_32_bits, initial_number, initial_of, has_inherited_time, has_values}
+use Rattle.mc_compile.specs.Lines.{LineEnd}
+use Rattle.mc_compile.specs.Rules.{broken, defaults_of, lines_among, blocks_of, line_ends, is_new_port, has_new_port, ports_of, is_placed, is_right_block, wrong_blocks, wrong_lines, wrong_parts, wrong_in_line}
+use Rattle.mc_compile.specs.Places.{sections_in, has_title, system_items}
 use Rattle.mc_compile.specs.FlatRows.{wires_of, type_text_of, whole, HasKind, IsRowOf, AreRowsOf}
 
 -- ---- A block has at most one row
@@ -119,7 +120,7 @@ kind-equal b (kind.UnitDelay d) (kind.RateTransition n o) h g = absurd g
 kind-equal b (kind.UnitDelay d) kind.EnablePort h g = absurd g
 kind-equal b (kind.UnitDelay d) kind.TriggerPort h g = absurd g
 
-row-equal : (blocks : List Block) (lines : List Line) (n : ℕ) (b : Block) (row other : Row) → IsRowOf blocks lines n b row → IsRowOf blocks lines n b other → row ≡ other
+row-equal : (blocks : List Block) (lines : List LineEnd) (n : ℕ) (b : Block) (row other : Row) → IsRowOf blocks lines n b row → IsRowOf blocks lines n b other → row ≡ other
 row-equal blocks lines n b row other h g =
     let places = h.place ∙ sym g.place in
     let owners = h.owner ∙ sym g.owner in
@@ -129,10 +130,10 @@ row-equal blocks lines n b row other h g =
     let times = h.time_text ∙ sym g.time_text in
     λ i. record { place = places i; owner = owners i; kind = kinds i; inputs = inputs i; type_text = types i; time_text = times i }
 
-abbrev pub AreRows : List Block → List Line → List (ℕ × Block) → List Row → Type 0
+abbrev pub AreRows : List Block → List LineEnd → List (ℕ × Block) → List Row → Type 0
 AreRows blocks lines numbered rows = AllZip (λ e row. IsRowOf blocks lines e.0 e.1 row) numbered rows
 
-pub rows-equal : (blocks : List Block) (lines : List Line) (numbered : List (ℕ × Block)) (rows others : List Row) → AreRows blocks lines numbered rows → AreRows blocks lines numbered others → rows ≡ others
+pub rows-equal : (blocks : List Block) (lines : List LineEnd) (numbered : List (ℕ × Block)) (rows others : List Row) → AreRows blocks lines numbered rows → AreRows blocks lines numbered others → rows ≡ others
 rows-equal blocks lines [] [] [] h g = refl
 rows-equal blocks lines [] [] (o ∷ os) h g = absurd g
 rows-equal blocks lines [] (r ∷ rs) others h g = absurd h
@@ -170,13 +171,13 @@ in_bits z w e = by_test (fits_32 z) refl e
     by_test true fits is = ap fits_32 (sym (some-equal z w is)) ∙ fits
     by_test false fits is = absurd (cc)
 
-initial-fits : (text : Option (List ℕ)) (w : ℤ) → initial_value text ≡ Some w → fits_32 w ≡ true
-initial-fits None w e = ap fits_32 (sym (some-equal (pos 0) w e))
-initial-fits (Some text) w e = by_test (is_numeral (unsigned_digits text) && nat_le (length (unsigned_digits text)) 10) e
+initial-fits : (text : Option (List ℕ)) (w : ℤ) → option_and_then initial_number text ≡ Some w → fits_32 w ≡ true
+initial-fits None w e = absurd (cc)
+initial-fits (Some text) w e = by_number (whole_number text) e
   where
-    by_test : (b : Bool) → (if b then in_32_bits (with_sign (starts_with_minus text) (digits_value 10 (unsigned_digits text))) else None) ≡ Some w → fits_32 w ≡ true
-    by_test true is = in_bits (with_sign (starts_with_minus text) (digits_value 10 (unsigned_digits text))) w is
-    by_test false is = absurd (cc)
+    by_number : (o : Option ℤ) → option_and_then in_32_bits o ≡ Some w → fits_32 w ≡ true
+    by_number None is = absurd (cc)
+    by_number (Some z) is = in_bits z w is
 
 pub there : {A : Type 0} (o : Option A) → is_some o ≡ true → (x : A) × (o ≡ Some x)
 there None e = absurd (cc)
@@ -187,7 +188,7 @@ port-there : (all : ℕ) (earlier : List (Option ℕ)) (port : Option ℕ) → i
 port-there all earlier None e = absurd (cc)
 port-there all earlier (Some p) e = (p, refl)
 
-module _ (blocks : List Block) (lines : List Line) where
+module _ (blocks : List Block) (lines : List LineEnd) where
   row_with : ℕ → Block → Kind → Row
   row_with n b k = record { place = record { row = n; line = b.line }; owner = None; kind = k; inputs = wires_of blocks lines b b.type; type_text = type_text_of b.type; time_text = time.Inherit }
 
@@ -214,35 +215,36 @@ module _ (blocks : List Block) (lines : List Line) where
   row_of_type earlier n b Other type placed delay = absurd (cc)
 
   -- the initial condition of a Unit Delay is there
-  delay-initial : (s : SectionTree) → (block_of s).is_formed ≡ true → (block_of s).type ≡ UnitDelay → (z : ℤ) × ((block_of s).initial ≡ Some z) × (fits_32 z ≡ true)
-  delay-initial s formed type =
-      let values = and-true _ (has_values (block_of s).type s.items) formed in
-      let some : has_values UnitDelay s.items ≡ true = ap (λ t. has_values t s.items) (sym type) ∙ values.1 in
-      let initial = there (initial_value (first_value (codes "InitialCondition") s.items)) some in
-      (initial.0, initial.1, initial-fits (first_value (codes "InitialCondition") s.items) initial.0 initial.1)
+  delay-initial : (texts : DefaultTexts) (s : SectionTree) → (block_of texts s).is_formed ≡ true → (block_of texts s).type ≡ UnitDelay → (z : ℤ) × ((block_of texts s).initial ≡ Some z) × (fits_32 z ≡ true)
+  delay-initial texts s formed type =
+      let written : Written = written_in texts s.items in
+      let values : has_values written UnitDelay ≡ true = ap (has_values written) (sym type) ∙ formed in
+      let both = and-true (has_inherited_time written UnitDelay) (is_some (initial_of written UnitDelay)) values in
+      let initial = there (initial_of written UnitDelay) both.1 in
+      (initial.0, ap (initial_of written) type ∙ initial.1, initial-fits (text_of written UnitDelay param.InitialCondition) initial.0 initial.1)
 
-  row_of_right : (earlier : List Block) (n : ℕ) (s : SectionTree) → is_right_block blocks lines earlier (block_of s) ≡ true → (row : Row) × IsRowOf blocks lines n (block_of s) row
-  row_of_right earlier n s right =
-      let placed = and-true _ (is_placed blocks lines earlier (block_of s) (block_of s).type) right in
+  row_of_right : (texts : DefaultTexts) (earlier : List Block) (n : ℕ) (s : SectionTree) → is_right_block blocks lines earlier (block_of texts s) ≡ true → (row : Row) × IsRowOf blocks lines n (block_of texts s) row
+  row_of_right texts earlier n s right =
+      let placed = and-true _ (is_placed blocks lines earlier (block_of texts s) (block_of texts s).type) right in
       let few = and-true _ _ placed.0 in
       let new = and-true _ _ few.0 in
       let named = and-true _ _ new.0 in
-      row_of_type earlier n (block_of s) (block_of s).type refl placed.1 (delay-initial s named.0)
+      row_of_type earlier n (block_of texts s) (block_of texts s).type refl placed.1 (delay-initial texts s named.0)
 
   pub right-test : (b : Bool) (n : ℕ) (rest : List ℕ) → (if b then [] else n ∷ []) ++ rest ≡ [] → (b ≡ true) × (rest ≡ [])
   right-test true n rest e = (refl, e)
   right-test false n rest e = absurd (cc)
 
-  rows_of_sections : (earlier : List Block) (n : ℕ) (sections : List SectionTree) → wrong_blocks blocks lines earlier (map block_of sections) ≡ [] → (rows : List Row) × AreRows blocks lines (enumerate_from n (map block_of sections)) rows
-  rows_of_sections earlier n [] right = ([], tt)
-  rows_of_sections earlier n (s ∷ ss) right =
-      let parts = right-test (is_right_block blocks lines earlier (block_of s)) (block_of s).line (wrong_blocks blocks lines (earlier ++ block_of s ∷ []) (map block_of ss)) right in
-      let first = row_of_right earlier n s parts.0 in
-      let rest = rows_of_sections (earlier ++ block_of s ∷ []) (n + 1) ss parts.1 in
+  rows_of_sections : (texts : DefaultTexts) (earlier : List Block) (n : ℕ) (sections : List SectionTree) → wrong_blocks blocks lines earlier (map (block_of texts) sections) ≡ [] → (rows : List Row) × AreRows blocks lines (enumerate_from n (map (block_of texts) sections)) rows
+  rows_of_sections texts earlier n [] right = ([], tt)
+  rows_of_sections texts earlier n (s ∷ ss) right =
+      let parts = right-test (is_right_block blocks lines earlier (block_of texts s)) (block_of texts s).line (wrong_blocks blocks lines (earlier ++ block_of texts s ∷ []) (map (block_of texts) ss)) right in
+      let first = row_of_right texts earlier n s parts.0 in
+      let rest = rows_of_sections texts (earlier ++ block_of texts s ∷ []) (n + 1) ss parts.1 in
       (first.0 ∷ rest.0, (first.1, rest.1))
 
 pub rows_of_right : (file : Items) → broken file ≡ [] → (rows : List Row) × AreRowsOf file rows
 rows_of_right file right =
-    let parts = append-empty (misplaced file) (wrong_parts (blocks_of file) (lines_of file)) right in
-    let blocks = append-empty (wrong_blocks (blocks_of file) (lines_of file) [] (blocks_of file)) (wrong_lines (blocks_of file) [] (lines_of file)) parts.1 in
-    rows_of_sections (blocks_of file) (lines_of file) [] 0 (filter (has_title (codes "Block")) (sections_in (system_items file))) blocks.0
+    let parts = append-empty (flat_map (wrong_in_line (blocks_of file)) (lines_among (sections_in (system_items file)))) (wrong_parts (blocks_of file) (line_ends file)) right in
+    let blocks = append-empty (wrong_blocks (blocks_of file) (line_ends file) [] (blocks_of file)) (wrong_lines (blocks_of file) [] (line_ends file)) parts.1 in
+    rows_of_sections (blocks_of file) (line_ends file) (defaults_of file) [] 0 (filter (has_title (codes "Block")) (sections_in (system_items file))) blocks.0

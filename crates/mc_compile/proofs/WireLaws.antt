@@ -1,4 +1,4 @@
--- How the wires follow the Lines.
+-- How the wires follow the line ends.
 use Rattle.std.proofs.Common.{◌≡◌, ◌≢◌, refl, sym, ◌∙◌, ap, subst, ℕ, ◌<◌, Bool, true, false, cond, ◌==◌, List, [], ◌∷◌, ◌++◌, length, get_or, Option, None, Some, is_some, true≢false, find, set, length-set, not, ◌&&◌, ◌||◌, lt-ltb, get_or-set_same, get_or-set_other}
 use Rattle.std.specs.Option.{option_or}
 use Rattle.std.proofs.lemmas.List.Folds.{find-append}
@@ -6,7 +6,7 @@ use Rattle.std.proofs.lemmas.Bool.{eqb-true, eqb-false}
 use Rattle.mc_compile.specs.declared.wiring.Wire.{Wire}
 use Rattle.mc_compile.specs.declared.wiring.Wire.TheVariants.{Open}
 use Rattle.mc_compile.specs.Blocks.{Block}
-use Rattle.mc_compile.specs.Lines.{Line}
+use Rattle.mc_compile.specs.Lines.{LineEnd}
 use Rattle.mc_compile.specs.Rules.{same_name, leads_to, has_right_ends, is_right_line, wrong_lines, has_name, named_type, is_source, is_target}
 use Rattle.mc_compile.specs.declared.blocks.BlockType.TheVariants.{Other}
 use Rattle.std.specs.Option.{option_map_or}
@@ -20,9 +20,9 @@ use denote.Ref.{Bor}
 use Rattle.std.specs.List.{list_any}
 use Rattle.mc_compile.proofs.RowLaws.{found, not_found, found_self, one_name, same_name_is, some_is, none_only}
 
--- ---- The first Line to a name, with one Line more
+-- ---- The first line end to a name, with one line end more
 
-find-push : (name : Option (List ℕ)) (earlier : List Line) (line : Line) →
+find-push : (name : Option (List ℕ)) (earlier : List LineEnd) (line : LineEnd) →
     find (leads_to name) (earlier ++ line ∷ []) ≡ option_or (find (leads_to name) earlier) (cond (leads_to name line) (Some line) None)
 find-push name earlier line = find-append (leads_to name) earlier (line ∷ [])
 
@@ -30,28 +30,28 @@ option_or-None : {X : Type 0} (o : Option X) → option_or o None ≡ o
 option_or-None None = refl
 option_or-None (Some x) = refl
 
-find-other : (name : Option (List ℕ)) (earlier : List Line) (line : Line) → leads_to name line ≡ false → find (leads_to name) (earlier ++ line ∷ []) ≡ find (leads_to name) earlier
+find-other : (name : Option (List ℕ)) (earlier : List LineEnd) (line : LineEnd) → leads_to name line ≡ false → find (leads_to name) (earlier ++ line ∷ []) ≡ find (leads_to name) earlier
 find-other name earlier line e =
     find-push name earlier line ∙ ap (λ t. option_or (find (leads_to name) earlier) (cond t (Some line) None)) e ∙ option_or-None (find (leads_to name) earlier)
 
-find-again : (name : Option (List ℕ)) (earlier : List Line) (line : Line) → is_some (find (leads_to name) earlier) ≡ true → find (leads_to name) (earlier ++ line ∷ []) ≡ find (leads_to name) earlier
+find-again : (name : Option (List ℕ)) (earlier : List LineEnd) (line : LineEnd) → is_some (find (leads_to name) earlier) ≡ true → find (leads_to name) (earlier ++ line ∷ []) ≡ find (leads_to name) earlier
 find-again name earlier line e = find-push name earlier line ∙ keeps (find (leads_to name) earlier) _ e
   where
-    keeps : (o more : Option Line) → is_some o ≡ true → option_or o more ≡ o
+    keeps : (o more : Option LineEnd) → is_some o ≡ true → option_or o more ≡ o
     keeps None more e = absurd (true≢false (sym e))
     keeps (Some l) more e = refl
 
-find-first : (name : Option (List ℕ)) (earlier : List Line) (line : Line) → leads_to name line ≡ true → find (leads_to name) earlier ≡ None → find (leads_to name) (earlier ++ line ∷ []) ≡ Some line
+find-first : (name : Option (List ℕ)) (earlier : List LineEnd) (line : LineEnd) → leads_to name line ≡ true → find (leads_to name) earlier ≡ None → find (leads_to name) (earlier ++ line ∷ []) ≡ Some line
 find-first name earlier line same e =
     find-push name earlier line ∙ ap (λ t. option_or (find (leads_to name) earlier) (cond t (Some line) None)) same ∙ ap (λ o. option_or o (Some line)) e
 
 -- ---- Wires
 
-pub is_open-wire_of : (blocks : List Block) (line : Option Line) → is_open (wire_of blocks line) ≡ false → is_some line ≡ true
+pub is_open-wire_of : (blocks : List Block) (line : Option LineEnd) → is_open (wire_of blocks line) ≡ false → is_some line ≡ true
 is_open-wire_of blocks None e = absurd (true≢false e)
 is_open-wire_of blocks (Some line) e = refl
 
-pub is_open-None : (blocks : List Block) (line : Option Line) → is_open (wire_of blocks line) ≡ true → line ≡ None
+pub is_open-None : (blocks : List Block) (line : Option LineEnd) → is_open (wire_of blocks line) ≡ true → line ≡ None
 is_open-None blocks None e = refl
 is_open-None blocks (Some line) e = absurd (by_source (row_named blocks line.source) e)
   where
@@ -59,8 +59,8 @@ is_open-None blocks (Some line) e = absurd (by_source (row_named blocks line.sou
     by_source None e = true≢false (sym e)
     by_source (Some row) e = true≢false (sym e)
 
-module _ (blocks : List Block) (earlier : List Line) (line : Line) (wires : List Wire) (before : AreWiresOf blocks earlier wires) where
-  -- a Line to a name that no block has
+module _ (blocks : List Block) (earlier : List LineEnd) (line : LineEnd) (wires : List Wire) (before : AreWiresOf blocks earlier wires) where
+  -- a line end to a name that no block has
   pub wires-unknown : row_named blocks line.target ≡ None → AreWiresOf blocks (earlier ++ line ∷ []) wires
   wires-unknown e = record { one_each = before.one_each; first = λ name row f. before.first name row f ∙ ap (wire_of blocks) (sym (by_test name row f (leads_to name line) refl)) }
     where
@@ -68,7 +68,7 @@ module _ (blocks : List Block) (earlier : List Line) (line : Line) (wires : List
       by_test name row f true same = absurd (none_only row (sym e ∙ ap (row_named blocks) (sym (same_name_is name line.target same)) ∙ f))
       by_test name row f false same = find-other name earlier line same
 
-  -- a Line to a block to which another leads
+  -- a line end to a block to which another leads
   pub wires-again : (target : ℕ) → row_named blocks line.target ≡ Some target → is_open (get_or wires target Open) ≡ false → AreWiresOf blocks (earlier ++ line ∷ []) wires
   wires-again target e taken = record { one_each = before.one_each; first = λ name row f. before.first name row f ∙ ap (wire_of blocks) (sym (by_test name row f (leads_to name line) refl)) }
     where
@@ -79,7 +79,7 @@ module _ (blocks : List Block) (earlier : List Line) (line : Line) (wires : List
       by_test name row f true same = find-again name earlier line (ap (λ n. is_some (find (leads_to n) earlier)) (same_name_is name line.target same) ∙ some)
       by_test name row f false same = find-other name earlier line same
 
-  -- the first Line to a block
+  -- the first line end to a block
   pub wires-first : (target : ℕ) → row_named blocks line.target ≡ Some target → is_open (get_or wires target Open) ≡ true →
       AreWiresOf blocks (earlier ++ line ∷ []) (set wires target (wire_from (row_named blocks line.source)))
   wires-first target e free = record { one_each = length-set wires target wire ∙ before.one_each; first = λ name row f. by_row name row f (row == target) refl }
@@ -108,9 +108,9 @@ module _ (blocks : List Block) (earlier : List Line) (line : Line) (wires : List
           let elsewhere : row ≢ target = eqb-false row target same in
           get_or-set_other wires target row wire Open elsewhere ∙ before.first name row f ∙ ap (wire_of blocks) (sym (find-other name earlier line (other name row f elsewhere (leads_to name line) refl)))
 
--- ---- What a Line connects
+-- ---- What a line end connects
 
-no_line : (name : Option (List ℕ)) (lines : List Line) → find (leads_to name) lines ≡ None → list_any (leads_to name) lines ≡ false
+no_line : (name : Option (List ℕ)) (lines : List LineEnd) → find (leads_to name) lines ≡ None → list_any (leads_to name) lines ≡ false
 no_line name [] e = refl
 no_line name (l ∷ ls) e = by_test (leads_to name l) (λ h. no_line name ls h) e
   where
@@ -118,7 +118,7 @@ no_line name (l ∷ ls) e = by_test (leads_to name l) (λ h. no_line name ls h) 
     by_test true more e = absurd (none_only l (sym e))
     by_test false more e = more e
 
-some_line : (name : Option (List ℕ)) (lines : List Line) → is_some (find (leads_to name) lines) ≡ true → list_any (leads_to name) lines ≡ true
+some_line : (name : Option (List ℕ)) (lines : List LineEnd) → is_some (find (leads_to name) lines) ≡ true → list_any (leads_to name) lines ≡ true
 some_line name [] e = e
 some_line name (l ∷ ls) e = by_test (leads_to name l) (λ h. some_line name ls h) e
   where
@@ -126,7 +126,7 @@ some_line name (l ∷ ls) e = by_test (leads_to name l) (λ h. some_line name ls
     by_test true more e = refl
     by_test false more e = more e
 
-module _ {S : Type 0} (blocks : List Block) (earlier : List Line) (line : Line) (map : IndexMap (Bor (List ℕ)) ℕ S) (wires : List Wire) (names : AreNamesOf blocks map) (before : AreWiresOf blocks earlier wires) where
+module _ {S : Type 0} (blocks : List Block) (earlier : List LineEnd) (line : LineEnd) (map : IndexMap (Bor (List ℕ)) ℕ S) (wires : List Wire) (names : AreNamesOf blocks map) (before : AreWiresOf blocks earlier wires) where
   first_by : (o : Option ℕ) (t : Bool) → row_named blocks line.target ≡ o → list_any (leads_to line.target) earlier ≡ t → is_first_line blocks earlier line ≡ (is_some o && not t)
   first_by o t e f = ap (λ p. is_some p && not (list_any (leads_to line.target) earlier)) e ∙ ap (λ u. is_some o && not u) f
 
@@ -162,8 +162,8 @@ module _ {S : Type 0} (blocks : List Block) (earlier : List Line) (line : Line) 
 
 -- ---- Rules
 
--- the first Line to a block keeps the rules where its ends are right
-pub first-right : (blocks : List Block) (earlier : List Line) (line : Line) → (is_first_line blocks earlier line && has_right_ends blocks line) ≡ is_right_line blocks earlier line
+-- the first line end to a block keeps the rules where its ends are right
+pub first-right : (blocks : List Block) (earlier : List LineEnd) (line : LineEnd) → (is_first_line blocks earlier line && has_right_ends blocks line) ≡ is_right_line blocks earlier line
 first-right blocks earlier line = by_row (row_named blocks line.target) refl
   where
     swap : (s t : Bool) → (t && s) ≡ (s && t)
@@ -187,8 +187,8 @@ first-right blocks earlier line = by_row (row_named blocks line.target) refl
         ∙ sym (ap (λ t. t && not (list_any (leads_to line.target) earlier)) (no_ends e))
     by_row (Some row) e = ap (λ o. (is_some o && not (list_any (leads_to line.target) earlier)) && has_right_ends blocks line) e ∙ swap (has_right_ends blocks line) (not (list_any (leads_to line.target) earlier))
 
--- the least line of a wrong Line, with one Line more
-pub wrong_lines-step : (blocks : List Block) (earlier : List Line) (line : Line) (rest : List Line) (t : Bool) (wrong : Option ℕ) → t ≡ is_right_line blocks earlier line →
+-- the least line of a wrong line end, with one line end more
+pub wrong_lines-step : (blocks : List Block) (earlier : List LineEnd) (line : LineEnd) (rest : List LineEnd) (t : Bool) (wrong : Option ℕ) → t ≡ is_right_line blocks earlier line →
     lesser wrong (least (wrong_lines blocks earlier (line ∷ rest))) ≡ lesser (cond t wrong (lesser wrong (Some line.line))) (least (wrong_lines blocks (earlier ++ line ∷ []) rest))
 wrong_lines-step blocks earlier line rest t wrong e =
     ap (λ u. lesser wrong (least (cond u [] (line.line ∷ []) ++ wrong_lines blocks (earlier ++ line ∷ []) rest))) (sym e) ∙ by_test t

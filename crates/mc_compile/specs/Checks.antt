@@ -6,7 +6,7 @@ use Rattle.mc_compile.specs.declared.blocks.BlockType.TheVariants.{Inport, Outpo
 use Rattle.mc_compile.specs.declared.wiring.Wire.{Wire}
 use Rattle.mc_compile.specs.declared.wiring.Wire.TheVariants.{Open}
 use Rattle.mc_compile.specs.Blocks.{Block}
-use Rattle.mc_compile.specs.Lines.{Line}
+use Rattle.mc_compile.specs.Lines.{LineEnd}
 use Rattle.mc_compile.specs.Wiring.{is_open, AreWiresOf}
 use Rattle.mc_compile.specs.Ports.{new_ports}
 
@@ -28,7 +28,7 @@ keeps_rules_at first inports outports wires row block =
     keeps_rules block row first (slice_index_or inports row false && slice_index_or outports row false) (slice_index_or wires row Open)
 
 -- these are the new ports, and these the wires
-pub record AreKnown (blocks : List Block) (lines : List Line) (inports outports : List Bool) (wires : List Wire) : Type 0 where
+pub record AreKnown (blocks : List Block) (lines : List LineEnd) (inports outports : List Bool) (wires : List Wire) : Type 0 where
   pub new_inports : inports ≡ new_ports Inport blocks [] blocks
   pub new_outports : outports ≡ new_ports Outport blocks [] blocks
   pub wired : AreWiresOf blocks lines wires

@@ -14,19 +14,19 @@ use Rattle.mdl_tree.specs.Spelling.{Items}
 use Rattle.mc_compile.specs.declared.blocks.BlockType.{BlockType}
 use Rattle.mc_compile.specs.declared.blocks.BlockType.TheVariants.{Inport, Outport, UnitDelay}
 use Rattle.mc_compile.specs.Blocks.{Block}
-use Rattle.mc_compile.specs.Lines.{Line}
-use Rattle.mc_compile.specs.Rules.{has_name, leads_to, blocks_of, lines_of}
+use Rattle.mc_compile.specs.Lines.{LineEnd}
+use Rattle.mc_compile.specs.Rules.{has_name, leads_to, blocks_of, line_ends}
 
 -- the number of the first block of this name
 abbrev pub row_named : List Block → Option (List ℕ) → Option ℕ
 row_named blocks name = position_from (has_name name) 0 blocks
 
--- the row that the first Line to a block of this name comes from
-abbrev pub wire_to : List Block → List Line → Option (List ℕ) → Option ℕ
+-- the row that the first line end at a block of this name comes from
+abbrev pub wire_to : List Block → List LineEnd → Option (List ℕ) → Option ℕ
 wire_to blocks lines name = option_and_then (λ l. row_named blocks l.source) (find (leads_to name) lines)
 
--- an Inport reads nothing, and other blocks the row from which a Line leads to them
-abbrev pub wires_of : List Block → List Line → Block → BlockType → List ℕ
+-- an Inport reads nothing, and other blocks the row from which a line end leads to them
+abbrev pub wires_of : List Block → List LineEnd → Block → BlockType → List ℕ
 wires_of blocks lines block Inport = []
 wires_of blocks lines block _ = option_to_list (wire_to blocks lines block.name)
 
@@ -47,7 +47,7 @@ type_text_of Inport = Fixed int32
 type_text_of _ = Inherit
 
 -- the row of the block with this number
-pub record IsRowOf (blocks : List Block) (lines : List Line) (number : ℕ) (block : Block) (row : Row) : Type 0 where
+pub record IsRowOf (blocks : List Block) (lines : List LineEnd) (number : ℕ) (block : Block) (row : Row) : Type 0 where
   pub place : row.place ≡ record { row = number; line = block.line }
   pub owner : row.owner ≡ None
   pub kind : HasKind block row.kind
@@ -58,4 +58,4 @@ pub record IsRowOf (blocks : List Block) (lines : List Line) (number : ℕ) (blo
 -- the rows of a file: one for each Block, in order
 abbrev pub AreRowsOf : Items → List Row → Type 0
 AreRowsOf file rows =
-    AllZip (λ e row. IsRowOf (blocks_of file) (lines_of file) e.0 e.1 row) (enumerate_from 0 (blocks_of file)) rows
+    AllZip (λ e row. IsRowOf (blocks_of file) (line_ends file) e.0 e.1 row) (enumerate_from 0 (blocks_of file)) rows

@@ -8,6 +8,7 @@ pub mod NameMaps
 pub mod Wiring
 pub mod Ports
 pub mod Checks
+pub mod Roots
 pub mod Models
 pub mod WiredRows
 pub mod Faults

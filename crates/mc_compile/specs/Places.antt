@@ -1,5 +1,5 @@
--- Which sections stand where a flat model has none.
-use Rattle.std.specs.Prelude.{ℕ, Bool, ◌||◌, List, [], ◌∷◌, ◌++◌, map, flat_map, Option, None, Some, min, codes, if◌then◌else◌}
+-- Sections of a file, by where they stand.
+use Rattle.std.specs.Prelude.{ℕ, Bool, List, [], ◌∷◌, map, Option, None, Some, min, codes}
 use Rattle.std.specs.Str.{bytes_eq}
 use Rattle.mdl_tree.specs.Spelling.{Items, End, Param, Section}
 use Rattle.mdl_tree.specs.Walks.{SectionTree, first_section}
@@ -27,18 +27,6 @@ has_title name section = bytes_eq section.name name
 abbrev pub section_lines : List SectionTree → List ℕ
 section_lines sections = map (λ s. s.line) sections
 
--- the lines of all sections but the first of this name
-abbrev pub lines_but_first : List ℕ → List SectionTree → List ℕ
-lines_but_first name [] = []
-lines_but_first name (section ∷ rest) =
-    if has_title name section then section_lines rest else section.line ∷ lines_but_first name rest
-
--- of a section in a System, the lines of the sections inside a Block or a Line, and else its own line
-abbrev pub misplaced_lines : SectionTree → List ℕ
-misplaced_lines section =
-    if has_title (codes "Block") section || has_title (codes "Line") section then section_lines (sections_in section.items)
-    else section.line ∷ []
-
 -- the items of a section, and none where there is no section
 abbrev pub items_in : Option SectionTree → Items
 items_in None = End
@@ -50,11 +38,3 @@ model_items file = items_in (first_section (codes "Model") file)
 
 abbrev pub system_items : Items → Items
 system_items file = items_in (first_section (codes "System") (model_items file))
-
--- the lines of the sections of a file that stand where none may: beside the first Model, beside the first System in it,
--- and in that System
-abbrev pub misplaced : Items → List ℕ
-misplaced file =
-    lines_but_first (codes "Model") (sections_in file)
-    ++ lines_but_first (codes "System") (sections_in (model_items file))
-    ++ flat_map misplaced_lines (sections_in (system_items file))

@@ -1,29 +1,37 @@
 -- The rules of a flat model, and the lines of the sections that break one.
-use Rattle.std.specs.Prelude.{ℕ, Bool, true, false, not, ◌&&◌, ◌||◌, List, [], ◌∷◌, ◌++◌, map, filter, find, length, Option, None, Some, is_some, codes, nat_le, nat_lt, ◌==◌, if◌then◌else◌}
+use Rattle.std.specs.Prelude.{ℕ, Bool, true, false, not, ◌&&◌, ◌||◌, List, [], ◌∷◌, ◌++◌, map, flat_map, filter, find, length, Option, None, Some, is_some, codes, nat_le, nat_lt, ◌==◌, if◌then◌else◌}
 use Rattle.std.specs.Str.{bytes_eq}
 use Rattle.std.specs.List.{list_any}
 use Rattle.std.specs.Option.{option_map_or}
 use Rattle.mdl_tree.specs.Spelling.{Items}
-use Rattle.mdl_tree.specs.Walks.{SectionTree}
+use Rattle.mdl_tree.specs.Walks.{SectionTree, first_value}
+use Rattle.mdl_params.specs.Defaults.{DefaultTexts, kinds_of, default_blocks}
 use Rattle.mc_compile.specs.declared.blocks.BlockType.{BlockType}
 use Rattle.mc_compile.specs.declared.blocks.BlockType.TheVariants.{Inport, Outport, UnitDelay, Other}
-use Rattle.mc_compile.specs.Places.{sections_in, has_title, misplaced, system_items}
+use Rattle.mc_compile.specs.Places.{sections_in, section_lines, has_title, model_items, system_items}
 use Rattle.mc_compile.specs.Blocks.{Block, block_of}
-use Rattle.mc_compile.specs.Lines.{Line, line_of}
+use Rattle.mc_compile.specs.Lines.{LineEnd, parts_of, ends_of, has_param, is_port_1, has_other_form}
 
--- the Blocks and the Lines among sections, in order
-abbrev pub blocks_among : List SectionTree → List Block
-blocks_among sections = map block_of (filter (has_title (codes "Block")) sections)
+-- the Blocks among sections, by the defaults of their model, and the ends of the Lines among them, in order
+abbrev pub blocks_among : DefaultTexts → List SectionTree → List Block
+blocks_among texts sections = map (block_of texts) (filter (has_title (codes "Block")) sections)
 
-abbrev pub lines_among : List SectionTree → List Line
-lines_among sections = map line_of (filter (has_title (codes "Line")) sections)
+abbrev pub lines_among : List SectionTree → List SectionTree
+lines_among sections = filter (has_title (codes "Line")) sections
 
--- those of a file's System
+abbrev pub ends_among : List SectionTree → List LineEnd
+ends_among sections = flat_map ends_of (lines_among sections)
+
+-- the defaults that a file's Model gives for each type of block
+abbrev pub defaults_of : Items → DefaultTexts
+defaults_of file = kinds_of (default_blocks (model_items file))
+
+-- the blocks and the line ends of its System
 abbrev pub blocks_of : Items → List Block
-blocks_of file = blocks_among (sections_in (system_items file))
+blocks_of file = blocks_among (defaults_of file) (sections_in (system_items file))
 
-abbrev pub lines_of : Items → List Line
-lines_of file = lines_among (sections_in (system_items file))
+abbrev pub line_ends : Items → List LineEnd
+line_ends file = ends_among (sections_in (system_items file))
 
 -- ---- Names
 
@@ -35,7 +43,7 @@ same_name _ _ = false
 abbrev pub has_name : Option (List ℕ) → Block → Bool
 has_name name block = same_name name block.name
 
-abbrev pub leads_to : Option (List ℕ) → Line → Bool
+abbrev pub leads_to : Option (List ℕ) → LineEnd → Bool
 leads_to name line = same_name name line.target
 
 -- the type of the first block of this name
@@ -92,8 +100,8 @@ abbrev pub has_new_port : BlockType → List Block → List Block → Block → 
 has_new_port type blocks earlier block =
     is_new_port (length (ports_of type blocks)) (ports_of type earlier) block.port && nat_lt (length (ports_of type earlier)) 32
 
--- an Inport and an Outport have a new port, and to an Outport and a Unit Delay leads a Line
-abbrev pub is_placed : List Block → List Line → List Block → Block → BlockType → Bool
+-- an Inport and an Outport have a new port, and to an Outport and a Unit Delay leads a line end
+abbrev pub is_placed : List Block → List LineEnd → List Block → Block → BlockType → Bool
 is_placed blocks lines earlier block Inport = has_new_port Inport blocks earlier block
 is_placed blocks lines earlier block Outport = has_new_port Outport blocks earlier block && list_any (leads_to block.name) lines
 is_placed blocks lines earlier block UnitDelay = list_any (leads_to block.name) lines
@@ -101,37 +109,57 @@ is_placed blocks lines earlier block Other = false
 
 -- A block behind earlier ones keeps the rules: its parameters are such as its type has, its name is new, it is one of at
 -- most 20000, and its port and its wire are right.
-abbrev pub is_right_block : List Block → List Line → List Block → Block → Bool
+abbrev pub is_right_block : List Block → List LineEnd → List Block → Block → Bool
 is_right_block blocks lines earlier block =
     block.is_formed && is_some block.name && not (list_any (has_name block.name) earlier) && nat_lt (length earlier) 20000
     && is_placed blocks lines earlier block block.type
 
--- a Line comes from an Inport or a Unit Delay and leads to an Outport or a Unit Delay, at their ports 1
-abbrev pub has_right_ends : List Block → Line → Bool
+-- a line end comes from an Inport or a Unit Delay and leads to an Outport or a Unit Delay, at their ports 1
+abbrev pub has_right_ends : List Block → LineEnd → Bool
 has_right_ends blocks line =
     line.has_ports && is_source (named_type blocks line.source) && is_target (named_type blocks line.target)
 
--- a Line behind earlier ones keeps the rules: it has right ends, and no earlier Line leads to the same block
-abbrev pub is_right_line : List Block → List Line → Line → Bool
+-- a line end behind earlier ones keeps the rules: it has right ends, and no earlier one leads to the same block
+abbrev pub is_right_line : List Block → List LineEnd → LineEnd → Bool
 is_right_line blocks earlier line = has_right_ends blocks line && not (list_any (leads_to line.target) earlier)
 
+-- a Line comes from an Inport or a Unit Delay, at its port 1
+abbrev pub has_right_source : List Block → SectionTree → Bool
+has_right_source blocks line =
+    is_port_1 (codes "SrcPort") line && is_source (named_type blocks (first_value (codes "SrcBlock") line.items))
+
+-- a Line names a block to come from, and not rightly
+abbrev pub has_wrong_source : List Block → SectionTree → Bool
+has_wrong_source blocks line = has_param (codes "SrcBlock") line && not (has_right_source blocks line)
+
 -- the lines of the blocks, of those behind the earlier ones, that break a rule
-abbrev pub wrong_blocks : List Block → List Line → List Block → List Block → List ℕ
+abbrev pub wrong_blocks : List Block → List LineEnd → List Block → List Block → List ℕ
 wrong_blocks blocks lines earlier [] = []
 wrong_blocks blocks lines earlier (block ∷ rest) =
     (if is_right_block blocks lines earlier block then [] else block.line ∷ [])
     ++ wrong_blocks blocks lines (earlier ++ block ∷ []) rest
 
--- the same of the Lines
-abbrev pub wrong_lines : List Block → List Line → List Line → List ℕ
+-- the same of the line ends
+abbrev pub wrong_lines : List Block → List LineEnd → List LineEnd → List ℕ
 wrong_lines blocks earlier [] = []
 wrong_lines blocks earlier (line ∷ rest) =
     (if is_right_line blocks earlier line then [] else line.line ∷ []) ++ wrong_lines blocks (earlier ++ line ∷ []) rest
 
--- the lines of the Blocks and Lines that break a rule
-abbrev pub wrong_parts : List Block → List Line → List ℕ
+-- the lines of the blocks and line ends that break a rule
+abbrev pub wrong_parts : List Block → List LineEnd → List ℕ
 wrong_parts blocks lines = wrong_blocks blocks lines [] blocks ++ wrong_lines blocks [] lines
+
+-- of a Line the lines of the parts of the other form, and its own where its source is wrong
+abbrev pub wrong_in_line : List Block → SectionTree → List ℕ
+wrong_in_line blocks line =
+    section_lines (filter has_other_form (parts_of line)) ++ (if has_wrong_source blocks line then line.line ∷ [] else [])
+
+-- the lines of the sections of a System that break a rule, by the defaults of its Model
+abbrev pub broken_among : DefaultTexts → List SectionTree → List ℕ
+broken_among texts sections =
+    let blocks = blocks_among texts sections in
+    flat_map (wrong_in_line blocks) (lines_among sections) ++ wrong_parts blocks (ends_among sections)
 
 -- the lines of the sections of a file that break a rule
 abbrev pub broken : Items → List ℕ
-broken file = misplaced file ++ wrong_parts (blocks_of file) (lines_of file)
+broken file = broken_among (defaults_of file) (sections_in (system_items file))

@@ -3,12 +3,14 @@ use Rattle.std.specs.Prelude.{refl, ℕ, List, [], ◌∷◌, ◌++◌, None, co
 use Rattle.std.proofs.Common.{lit≤}
 use Rattle.mc_base.specs.declared.TimeText.TheVariants as time
 use Rattle.mc_base.specs.declared.SyntaxKind.TheVariants.{Brace}
-use Rattle.mc_base.specs.Refusals.{Syntax}
+use Rattle.mc_base.specs.declared.ModelKind.TheVariants.{Library}
+use Rattle.mc_base.specs.Refusals.{Syntax, TwoModels}
 use Rattle.mc_fixed.specs.declared.TypeText.TheVariants.{Inherit, Fixed}
 use Rattle.mc_fixed.specs.Types.{int32}
 use Rattle.mc_blocks.specs.declared.Kind.TheVariants.{Inport, Outport, UnitDelay}
 use Rattle.mc_diagram.specs.declared.Row.{Row}
 use Rattle.mc_diagram.specs.RunExamples.{whole_decimal}
+use Rattle.mdl_tree.specs.Spelling.{End, Section}
 use Rattle.mdl_tree.specs.Text.{Statement, Opens, Closes, Sets}
 use Rattle.mc_compile.specs.FlatRows.{AreRowsOf}
 use Rattle.mc_compile.specs.RuleExamples.{one_wire, one_delay}
@@ -54,13 +56,17 @@ verdict-one_wire : HasVerdict text_of_one_wire (Accepted rows_of_one_wire)
 verdict-one_wire = (
   one_wire,
   spelled,
-  refl,
+  (refl, refl),
   refl,
   (
     record { place = refl; owner = refl; kind = (refl, refl); inputs = refl; type_text = refl; time_text = refl },
     (record { place = refl; owner = refl; kind = (refl, refl, refl, refl); inputs = refl; type_text = refl; time_text = refl }, tt),
   ),
 )
+
+-- a Library
+verdict-library : HasVerdict (codes "Library {\n}\n") (Refused (TwoModels 1 Library))
+verdict-library = (Section (codes "Library") 1 End End, (lit≤ tt, ((([], [], 2, refl, refl, refl)), lit≤ tt)), refl, refl)
 
 -- a file without its last line
 verdict-unclosed : HasVerdict (codes "Model {\n  System {\n  }\n") (Refused (Syntax 3 Brace))

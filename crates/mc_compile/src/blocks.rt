@@ -1,17 +1,19 @@
-ghost use Rattle.std.specs.Prelude.{◌≡◌, ℕ, ◌≤◌, ◌<◌, ◌^◌, length, IfOk, map, filter, codes, bytes_eq};
-ghost use Rattle.std.specs.List.{list_any, list_all};
-ghost use Rattle.std.specs.Char.{is_ascii_digit};
-ghost use Rattle.std.specs.Str.Parse.{digits_value};
-ghost use Rattle.mdl_tree.specs.Walks.{first_value};
+ghost use Rattle.std.specs.Prelude.{◌≡◌, IfOk, IsSome, Some};
+ghost use Rattle.mc_base.specs.declared.ParamName.TheVariants as param;
 ghost use Rattle.mdl_tree.specs.Values.{section_tree};
-ghost use Rattle.mc_compile.specs.Places.{has_title};
+ghost use Rattle.mdl_params.specs.Language.{default_text};
+ghost use Rattle.mdl_params.specs.Forms.{type_form};
+ghost use Rattle.mdl_params.specs.Times.{time_form};
 ghost use Rattle.mc_compile.specs.Held.{trees_of};
 ghost use Rattle.mc_compile.specs.Blocks as written;
-ghost use Rattle.mc_compile.specs.Blocks.{block_of, param_names};
+ghost use Rattle.mc_compile.specs.Blocks.{written_in, block_of};
+ghost use Rattle.mc_compile.specs.Rules.{blocks_among};
 
-use crate::initial::initial_number;
-use mc_base::read_decimal;
-use mdl_tree::{Item, Section};
+use crate::numbers::{initial_number, is_scalar, port_number};
+use mc_base::{ParamName, TimeText};
+use mc_fixed::TypeText;
+use mdl_params::{Defaults, sample_time, type_of};
+use mdl_tree::Section;
 use std::alloc::{AllocError, Global};
 use std::marker::Model;
 
@@ -24,7 +26,7 @@ pub enum BlockType {
     Other,
 }
 
-/// A Block as its section writes it. Contracts see it with its name's bytes.
+/// A Block as a file writes it. Contracts see it with its name's bytes.
 #[derive(Drop)]
 pub struct Block<'a> {
     pub line: u32,
@@ -44,139 +46,202 @@ impl<'a> Model for Block<'a> {
     ghost view = { λ b. record { line = b.line; name = option_copied b.name; type = b.kind; port = b.port; initial = b.initial; is_formed = b.is_formed } };
 }
 
-fn type_named(text: &[u8]) -> BlockType
-    ensures { result ≡ written.type_named text.now }
-{
-    if text == b"Inport".as_slice() {
-        BlockType::Inport
-    } else if text == b"Outport".as_slice() {
-        BlockType::Outport
-    } else if text == b"UnitDelay".as_slice() {
-        BlockType::UnitDelay
-    } else {
-        BlockType::Other
-    }
-}
-
-/// Whether the section has this parameter, with just this text.
-pub fn has_text(section: &Section, name: &[u8], text: &[u8]) -> bool
-    ensures { result ≡ written.has_text name.now text.now (section_tree section.now).items }
-{
-    match section.param(name) {
-        Some(value) => text == value.bytes(),
-        None => false,
-    }
-}
-
-/// Whether a block of this type may have a parameter of this name.
-fn may_have(kind: BlockType, name: &[u8]) -> bool
-    ensures { result ≡ list_any (bytes_eq name.now) (param_names kind) }
-{
-    let is_common = name == b"BlockType".as_slice() || name == b"Name".as_slice();
-    match kind {
-        BlockType::Inport => {
-            is_common || name == b"Port".as_slice() || name == b"OutDataTypeStr".as_slice()
-        }
-        BlockType::Outport => is_common || name == b"Port".as_slice(),
-        BlockType::UnitDelay => is_common || name == b"InitialCondition".as_slice(),
-        BlockType::Other => false,
-    }
-}
-
-/// Whether the section has no other parameters than a block of this type may have.
-fn has_only(section: &Section, kind: BlockType) -> bool
-    ensures { result ≡ written.has_only (param_names kind) (section_tree section.now).items }
-{
-    for item in section.items.as_slice() {
-        if let Item::Param { name, .. } = item {
-            if !may_have(kind, name.bytes()) {
-                return false;
-            }
+impl BlockType {
+    /// The type of this name.
+    fn named(text: &[u8]) -> BlockType
+        ensures { result ≡ written.type_named text.now }
+    {
+        if text == b"Inport".as_slice() {
+            BlockType::Inport
+        } else if text == b"Outport".as_slice() {
+            BlockType::Outport
+        } else if text == b"UnitDelay".as_slice() {
+            BlockType::UnitDelay
+        } else {
+            BlockType::Other
         }
     }
-    true
 }
 
-/// The number that the section's InitialCondition writes, which is 0 where it has none.
-fn initial_value(section: &Section) -> Option<i64>
-    ensures { result ≡ written.initial_value (first_value (codes "InitialCondition") (section_tree section.now).items) }
+/// Whether a type's text means int32.
+fn is_int32(text: &[u8]) -> bool
+    ensures { result ≡ written.is_int32 (type_form text.now) }
 {
-    match section.param(b"InitialCondition") {
-        Some(text) => initial_number(text.bytes()),
-        None => Some(0),
+    match type_of(text) {
+        Ok(TypeText::Fixed(t)) => t.signed && t.bits == 32 && t.frac == 0,
+        _ => false,
     }
 }
 
-/// The whole number that a text writes, if it writes one that isn't negative.
-fn port_number(text: &[u8]) -> Option<u128>
-    ensures { result ≡ written.port_number (Some text.now) }
+/// Whether a type's text means that of the input.
+fn is_inherited_type(text: &[u8]) -> bool
+    ensures { result ≡ written.is_inherited_type (type_form text.now) }
 {
-    let number = read_decimal(text).ok()?;
-    if number.den == 1 && number.num >= 0 {
-        Some(number.num as u128)
-    } else {
-        None
-    }
+    matches!(type_of(text), Ok(TypeText::Inherit))
 }
 
-fn port_of(section: &Section) -> Option<u128>
-    ensures { result ≡ written.port_number (first_value (codes "Port") (section_tree section.now).items) }
+fn is_inherited_time(text: &[u8]) -> bool
+    ensures { result ≡ written.is_inherited_time (time_form text.now) }
 {
-    match section.param(b"Port") {
-        Some(text) => port_number(text.bytes()),
-        None => None,
-    }
+    matches!(sample_time(text), Ok(TimeText::Inherit))
 }
 
-/// Whether an Inport writes that it is an int32, and the initial condition of a Unit Delay is one.
-fn has_values(section: &Section, kind: BlockType, initial: Option<i64>) -> bool
-    requires { initial ≡ written.initial_value (first_value (codes "InitialCondition") (section_tree section.now).items) }
-    ensures { result ≡ written.has_values kind (section_tree section.now).items }
-{
-    match kind {
-        BlockType::Inport => has_text(section, b"OutDataTypeStr", b"int32"),
-        BlockType::Outport => true,
-        BlockType::UnitDelay => initial.is_some(),
-        BlockType::Other => false,
-    }
-}
-
-fn type_of(section: &Section) -> BlockType
-    ensures { result ≡ written.type_written (first_value (codes "BlockType") (section_tree section.now).items) }
+/// The text of a section's BlockType, empty where it has none.
+fn kind_of(section: &Section) -> &[u8]
+    ensures { result.now ≡ written.kind_of (section_tree section.now).items }
 {
     match section.param(b"BlockType") {
-        Some(text) => type_named(text.bytes()),
-        None => BlockType::Other,
+        Some(text) => text.bytes(),
+        None => &[],
+    }
+}
+
+impl BlockType {
+    /// The name of the type.
+    fn name(self) -> &'static [u8]
+        ensures { result.now ≡ written.type_name self }
+    {
+        match self {
+            BlockType::Inport => b"Inport",
+            BlockType::Outport => b"Outport",
+            BlockType::UnitDelay => b"UnitDelay",
+            BlockType::Other => b"",
+        }
+    }
+}
+
+/// The text that stands for a parameter of a block of this type, which is to have it.
+fn text_of<'a>(
+    defaults: &'a Defaults,
+    section: &'a Section,
+    kind: BlockType,
+    name: ParamName,
+) -> &'a [u8]
+    requires { IsSome (default_text (written.type_name kind) name) }
+    ensures { written.text_of (written_in defaults.now (section_tree section.now).items) kind name ≡ Some result.now }
+{
+    defaults.param(section, kind.name(), name)
+}
+
+/// Whether a file writes a parameter of a block of this type.
+fn is_written(defaults: &Defaults, section: &Section, kind: BlockType, name: ParamName) -> bool
+    ensures { result ≡ written.is_written (written_in defaults.now (section_tree section.now).items) kind name }
+{
+    defaults.written(section, kind.name(), name).is_some()
+}
+
+/// Whether a block of this type, which is to have one, has an inherited sample time.
+fn has_inherited_time(defaults: &Defaults, section: &Section, kind: BlockType) -> bool
+    requires { IsSome (default_text (written.type_name kind) param.SampleTime) }
+    ensures { result ≡ written.has_inherited_time (written_in defaults.now (section_tree section.now).items) kind }
+{
+    is_inherited_time(text_of(defaults, section, kind, ParamName::SampleTime))
+}
+
+/// Whether the signal at a block of this type, which is to have a dimension, is a scalar.
+fn has_scalar(defaults: &Defaults, section: &Section, kind: BlockType) -> bool
+    requires { IsSome (default_text (written.type_name kind) param.PortDimensions) }
+    ensures { result ≡ written.has_scalar (written_in defaults.now (section_tree section.now).items) kind }
+{
+    is_scalar(text_of(defaults, section, kind, ParamName::PortDimensions))
+}
+
+/// Whether an Inport is an int32 scalar whose time is inherited.
+fn has_inport_values(defaults: &Defaults, section: &Section) -> bool
+    ensures { result ≡ written.has_inport_values (written_in defaults.now (section_tree section.now).items) }
+{
+    let kind = BlockType::Inport;
+    is_int32(text_of(defaults, section, kind, ParamName::OutDataTypeStr))
+        && has_inherited_time(defaults, section, kind)
+        && has_scalar(defaults, section, kind)
+}
+
+/// Whether an Outport is a scalar whose type and time are inherited, and says nothing of what it gives while it is off.
+fn has_outport_values(defaults: &Defaults, section: &Section) -> bool
+    ensures { result ≡ written.has_outport_values (written_in defaults.now (section_tree section.now).items) }
+{
+    let kind = BlockType::Outport;
+    is_inherited_type(text_of(defaults, section, kind, ParamName::OutDataTypeStr))
+        && has_inherited_time(defaults, section, kind)
+        && has_scalar(defaults, section, kind)
+        && !is_written(defaults, section, kind, ParamName::OutputWhenDisabled)
+        && !is_written(defaults, section, kind, ParamName::InitialOutput)
+}
+
+/// The number of the Port of an Inport or an Outport.
+fn port_of(defaults: &Defaults, section: &Section, kind: BlockType) -> Option<u128>
+    ensures { result ≡ written.port_of (written_in defaults.now (section_tree section.now).items) kind }
+{
+    match kind {
+        BlockType::Inport | BlockType::Outport => {
+            port_number(text_of(defaults, section, kind, ParamName::Port))
+        }
+        BlockType::UnitDelay | BlockType::Other => None,
+    }
+}
+
+/// The number with which a Unit Delay begins.
+fn initial_of(defaults: &Defaults, section: &Section, kind: BlockType) -> Option<i64>
+    ensures { result ≡ written.initial_of (written_in defaults.now (section_tree section.now).items) kind }
+{
+    match kind {
+        BlockType::UnitDelay => {
+            initial_number(text_of(defaults, section, kind, ParamName::InitialCondition))
+        }
+        BlockType::Inport | BlockType::Outport | BlockType::Other => None,
+    }
+}
+
+/// Whether a Unit Delay has an inherited time and begins with an int32.
+fn has_delay_values(defaults: &Defaults, section: &Section) -> bool
+    ensures { result ≡ written.has_delay_values (written_in defaults.now (section_tree section.now).items) }
+{
+    let kind = BlockType::UnitDelay;
+    has_inherited_time(defaults, section, kind) && initial_of(defaults, section, kind).is_some()
+}
+
+/// Whether the parameters of a block of this type are such as a flat model has.
+fn has_values(defaults: &Defaults, section: &Section, kind: BlockType) -> bool
+    ensures { result ≡ written.has_values (written_in defaults.now (section_tree section.now).items) kind }
+{
+    match kind {
+        BlockType::Inport => has_inport_values(defaults, section),
+        BlockType::Outport => has_outport_values(defaults, section),
+        BlockType::UnitDelay => has_delay_values(defaults, section),
+        BlockType::Other => false,
     }
 }
 
 impl<'a> Block<'a> {
-    /// The block that a section writes.
-    pub fn of(section: &'a Section) -> Block<'a>
-        ensures { result ≡ block_of (section_tree section.now) }
+    /// The block that a section writes, by the defaults of its model.
+    pub fn of(defaults: &'a Defaults, section: &'a Section) -> Block<'a>
+        ensures { result ≡ block_of defaults.now (section_tree section.now) }
     {
-        let kind = type_of(section);
-        let initial = initial_value(section);
-        let is_formed = has_only(section, kind) && has_values(section, kind, initial);
+        let text = kind_of(section);
+        let kind = BlockType::named(text);
         Block {
             line: section.line,
-            name: section.param(b"Name").map(|name| name.bytes()),
+            name: defaults.written(section, text, ParamName::Name),
             kind,
-            port: port_of(section),
-            initial,
-            is_formed,
+            port: port_of(defaults, section, kind),
+            initial: initial_of(defaults, section, kind),
+            is_formed: has_values(defaults, section, kind),
         }
     }
 }
 
-/// The Blocks among the sections, in order.
-pub fn blocks_of<'a>(alloc: Global, sections: &[&'a Section]) -> Result<Vec<Block<'a>>, AllocError>
-    ensures { IfOk result (λ v. v.items ≡ map block_of (filter (has_title (codes "Block")) (trees_of sections.now))) }
+/// The Blocks among the sections, in order, by the defaults of their model.
+pub fn blocks_of<'a>(
+    alloc: Global,
+    defaults: &'a Defaults,
+    sections: &[&'a Section],
+) -> Result<Vec<Block<'a>>, AllocError>
+    ensures { IfOk result (λ v. v.items ≡ blocks_among defaults.now (trees_of sections.now)) }
 {
     let mut blocks = Vec::new(alloc);
     for section in sections {
         if section.name.bytes() == b"Block".as_slice() {
-            blocks.push(Block::of(section))?;
+            blocks.push(Block::of(defaults, section))?;
         }
     }
     Ok(blocks)

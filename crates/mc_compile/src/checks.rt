@@ -1,6 +1,6 @@
 ghost use Rattle.std.specs.Prelude.{◌≡◌, List, [], ◌<◌, IfOk, length};
 ghost use Rattle.mc_compile.specs.Places.{least};
-ghost use Rattle.mc_compile.specs.Lines.{Line};
+ghost use Rattle.mc_compile.specs.Lines.{LineEnd};
 ghost use Rattle.mc_compile.specs.Rules.{wrong_blocks};
 ghost use Rattle.mc_compile.specs.NameMaps.{row_in, AreNamesOf};
 ghost use Rattle.mc_compile.specs.Wiring.{AreWiresOf};
@@ -70,7 +70,7 @@ fn least_wrong_by(
     requires inports { length inports.now ≡ length blocks.now }
     requires outports { length outports.now ≡ length blocks.now }
     requires wires { length wires.now ≡ length blocks.now }
-    ensures { ((lines : List Line) → AreKnown blocks.now lines inports.now outports.now wires.now → result ≡ least (wrong_blocks blocks.now lines [] blocks.now)) }
+    ensures { ((lines : List LineEnd) → AreKnown blocks.now lines inports.now outports.now wires.now → result ≡ least (wrong_blocks blocks.now lines [] blocks.now)) }
 {
     let mut wrong = None;
     for (row, block) in blocks.iter().enumerate() {
@@ -90,7 +90,7 @@ pub fn least_wrong_block(
 ) -> Result<Option<u32>, AllocError>
     requires names { AreNamesOf blocks.now names.now }
     requires wires { length wires.now ≡ length blocks.now }
-    ensures { IfOk result (λ wrong. (lines : List Line) → AreWiresOf blocks.now lines wires.now → wrong ≡ least (wrong_blocks blocks.now lines [] blocks.now)) }
+    ensures { IfOk result (λ wrong. (lines : List LineEnd) → AreWiresOf blocks.now lines wires.now → wrong ≡ least (wrong_blocks blocks.now lines [] blocks.now)) }
 {
     let inports = new_ports(alloc, blocks, BlockType::Inport)?;
     let outports = new_ports(alloc, blocks, BlockType::Outport)?;

@@ -50,6 +50,17 @@ impl From<AllocError> for CompileFault {
     }
 }
 
+impl From<Refusal> for CompileFault {
+    ghost use Rattle.std.specs.Prelude.{◌≡◌};
+    ghost use Rattle.mc_compile.specs.declared.compiled.CompileFault.TheVariants as fault;
+
+    ghost from_gives = { λ refusal given. given ≡ fault.Refused refusal };
+
+    fn from(refusal: Refusal) -> CompileFault {
+        CompileFault::Refused(refusal)
+    }
+}
+
 impl From<ReadFault> for CompileFault {
     ghost use Rattle.std.specs.Prelude.{◌≡◌};
     ghost use Rattle.mc_compile.specs.Faults.{as_compile_fault};

@@ -7,10 +7,12 @@ ghost use Rattle.mc_compile.specs.Faults.{IsFaultOf};
 
 use crate::compiled::{CompileFault, Compiled};
 use crate::diagram::diagram_of;
-use crate::model::{missing_model, read_model};
+use crate::model::read_model;
+use crate::root::root_of;
 use c_emitter::{FlatDiagram, emit, function_count};
 use c_tree::{lines_mean_nothing, print, readings_agree};
 use mc_base::{Memory, Refusal};
+use mdl_params::Defaults;
 use mdl_reader::read_mdl;
 use mdl_tree::Section;
 use std::alloc::Global;
@@ -23,10 +25,9 @@ fn diagram_in(alloc: Global, file: &Section) -> Result<FlatDiagram, CompileFault
     ensures ok { IfOk result (IsTableOf (section_tree file.now).items) }
     ensures fault { IfErr result (IsFileFault (section_tree file.now).items) }
 {
-    if let Some(line) = missing_model(file) {
-        return Err(CompileFault::Refused(Refusal::NoModel { line }));
-    }
-    let model = read_model(alloc, file)?;
+    let root = root_of(file)?;
+    let defaults = Defaults::new(alloc, root.model)?;
+    let model = read_model(alloc, &defaults, &root)?;
     if let Some(line) = model.wrong {
         return Err(CompileFault::Refused(Refusal::Unsupported { line }));
     }
@@ -65,9 +66,10 @@ fn compile_diagram(alloc: Global, d: &FlatDiagram) -> Result<Compiled, Memory>
 
 /// Compiles a model's text (MDL, as the Simulink reference describes it) to C99.
 ///
-/// The model is one System with Inports, Outports and Unit Delays alone, all of them `int32`. `Refused` comes exactly where
-/// the file is no such model, with the first refusal by number, and in a number with the least line. The code's `root_step`
-/// gives at each tick the outputs of the model's one run.
+/// The model is one System with Inports, Outports and Unit Delays alone, all of them `int32`. Its parameters stand in the
+/// blocks, among the model's defaults or nowhere, where those of the language hold. `Refused` comes exactly where the file
+/// is no such model, with the first refusal by number, and in a number with the least line. The code's `root_step` gives
+/// at each tick the outputs of the model's one run.
 pub fn compile(alloc: Global, bytes: &[u8]) -> Result<Compiled, CompileFault>
     ensures compiled { IfOk result (IsCompiledFrom bytes.now) }
     ensures refused { IfErr result (IsFaultOf bytes.now) }

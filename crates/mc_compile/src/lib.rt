@@ -6,16 +6,21 @@ mod checks;
 mod compiled;
 mod compiler;
 mod diagram;
-mod initial;
 mod laws;
 mod lines;
 mod model;
 mod names;
+mod numbers;
 mod ports;
+mod root;
 mod rows;
 mod sections;
+mod sources;
 mod wiring;
 
 pub use compiled::{CompileFault, Compiled};
 pub use compiler::compile;
 pub use laws::one_verdict;
+
+#[cfg(test)]
+mod tests;

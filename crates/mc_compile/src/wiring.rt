@@ -1,14 +1,14 @@
 ghost use Rattle.std.specs.Prelude.{◌≡◌, List, [], ◌∷◌, ◌++◌, IfOk, IfSome, ◌<◌, length, find, option_copied};
 ghost use Rattle.mc_compile.specs.Places.{least};
 ghost use Rattle.mc_compile.specs.Blocks.{Block as WrittenBlock};
-ghost use Rattle.mc_compile.specs.Lines.{Line as WrittenLine};
+ghost use Rattle.mc_compile.specs.Lines.{LineEnd as WrittenEnd};
 ghost use Rattle.mc_compile.specs.Rules as rule;
 ghost use Rattle.mc_compile.specs.NameMaps.{row_in, AreNamesOf};
 ghost use Rattle.mc_compile.specs.Wiring as wiring;
 ghost use Rattle.mc_compile.specs.Wiring.{AreWiresOf, Connects, TakesLine};
 
 use crate::blocks::{Block, BlockType};
-use crate::lines::Line;
+use crate::lines::LineEnd;
 use crate::names::{Names, row_of};
 use crate::sections::lesser;
 use std::alloc::{AllocError, Global};
@@ -16,11 +16,11 @@ use std::alloc::{AllocError, Global};
 /// Where the value that a block reads comes from.
 #[derive(Clone, Copy, Debug, PartialEq, Eq, Drop)]
 pub enum Wire {
-    /// No Line leads to the block.
+    /// No line end leads to the block.
     Open,
-    /// A Line leads to it that names no block.
+    /// A line end leads to it that comes from no block.
     Unknown,
-    /// A Line leads to it from this row.
+    /// A line end leads to it from this row.
     From(usize),
 }
 
@@ -37,7 +37,7 @@ impl Wire {
 
 impl BlockType {
     /// Whether a Line may come from such a block.
-    fn is_source(self) -> bool
+    pub fn is_source(self) -> bool
         ensures { result ≡ rule.is_source self }
     {
         matches!(self, BlockType::Inport | BlockType::UnitDelay)
@@ -51,7 +51,7 @@ impl BlockType {
     }
 }
 
-/// The wires of the blocks, and the least line of a Line that breaks a rule.
+/// The wires of the blocks, and the least line of a line end that breaks a rule.
 #[derive(Drop)]
 pub struct Wiring {
     pub wires: Vec<Wire>,
@@ -74,7 +74,7 @@ fn block_named<'b, 'a>(
 }
 
 /// The type of the first block of this name.
-fn named_type(blocks: &[Block], names: &Names, name: Option<&[u8]>) -> BlockType
+pub fn named_type(blocks: &[Block], names: &Names, name: Option<&[u8]>) -> BlockType
     requires { AreNamesOf blocks.now names.now }
     ensures { result ≡ rule.named_type blocks.now (option_copied name.entry) }
 {
@@ -84,8 +84,8 @@ fn named_type(blocks: &[Block], names: &Names, name: Option<&[u8]>) -> BlockType
     }
 }
 
-/// Whether the Line comes from an Inport or a Unit Delay and leads to an Outport or a Unit Delay, at their ports 1.
-fn has_right_ends(blocks: &[Block], names: &Names, line: &Line) -> bool
+/// Whether the line end comes from an Inport or a Unit Delay and leads to an Outport or a Unit Delay, at their ports 1.
+fn has_right_ends(blocks: &[Block], names: &Names, line: &LineEnd) -> bool
     requires { AreNamesOf blocks.now names.now }
     ensures { result ≡ rule.has_right_ends blocks.now line.now }
 {
@@ -114,9 +114,9 @@ fn is_free(wires: &[Wire], row: usize) -> bool
     }
 }
 
-/// Gives the block to which a Line leads its wire, if it has none, and says whether the Line was the first.
-fn connect(names: &Names, wires: &mut [Wire], line: &Line) -> bool
-    ensures { ((blocks : List WrittenBlock) (earlier : List WrittenLine) → Connects blocks earlier line.now names.now wires.old wires.new result) }
+/// Gives the block to which a line end leads its wire, if it has none, and says whether the line end was the first.
+fn connect(names: &Names, wires: &mut [Wire], line: &LineEnd) -> bool
+    ensures { ((blocks : List WrittenBlock) (earlier : List WrittenEnd) → Connects blocks earlier line.now names.now wires.old wires.new result) }
 {
     let Some(target) = row_of(names, line.target) else {
         return false;
@@ -128,17 +128,17 @@ fn connect(names: &Names, wires: &mut [Wire], line: &Line) -> bool
     true
 }
 
-/// Takes one Line more into the wires, and says whether it keeps the rules.
-fn take_line(blocks: &[Block], names: &Names, wires: &mut [Wire], line: &Line) -> bool
+/// Takes one line end more into the wires, and says whether it keeps the rules.
+fn take_line(blocks: &[Block], names: &Names, wires: &mut [Wire], line: &LineEnd) -> bool
     requires { AreNamesOf blocks.now names.now }
-    ensures { ((earlier : List WrittenLine) → AreWiresOf blocks.now earlier wires.old → TakesLine blocks.now earlier line.now wires.new result) }
+    ensures { ((earlier : List WrittenEnd) → AreWiresOf blocks.now earlier wires.old → TakesLine blocks.now earlier line.now wires.new result) }
 {
     let is_first = connect(names, wires, line);
     is_first && has_right_ends(blocks, names, line)
 }
 
-/// Takes the Lines into wires to which none led, and gives the least line of a Line that breaks a rule.
-fn take_lines(blocks: &[Block], names: &Names, wires: &mut [Wire], lines: &[Line]) -> Option<u32>
+/// Takes the line ends into wires to which none led, and gives the least line of one that breaks a rule.
+fn take_lines(blocks: &[Block], names: &Names, wires: &mut [Wire], lines: &[LineEnd]) -> Option<u32>
     requires names { AreNamesOf blocks.now names.now }
     requires wires { AreWiresOf blocks.now [] wires.old }
     ensures wires { AreWiresOf blocks.now lines.now wires.new }
@@ -154,12 +154,12 @@ fn take_lines(blocks: &[Block], names: &Names, wires: &mut [Wire], lines: &[Line
     wrong
 }
 
-/// The wires that the Lines give to the blocks, and the least line of a Line that breaks a rule.
+/// The wires that the line ends give to the blocks, and the least line of a line end that breaks a rule.
 pub fn wiring_of(
     alloc: Global,
     blocks: &[Block],
     names: &Names,
-    lines: &[Line],
+    lines: &[LineEnd],
 ) -> Result<Wiring, AllocError>
     requires { AreNamesOf blocks.now names.now }
     ensures wires { IfOk result (λ w. AreWiresOf blocks.now lines.now w.wires.items) }

@@ -152,13 +152,59 @@ fn refusals(rt: HostRuntime) -> Result<(), Fail> {
         ("Model {\n}\n", "refused F3 NoModel line 1\n"),
         (
             "Model {\nSystem {\n}\n}\nModel {\n}\n",
-            "refused F7 Unsupported line 5\n",
+            "refused F4 TwoModels line 5 Second\n",
         ),
+        ("Library {\n}\n", "refused F4 TwoModels line 1 Library\n"),
     ] {
         let told = compiled(rt.alloc(), model.as_bytes())?;
         assert_eq!(rt; told.status, 3, "{line}");
         assert_eq!(rt; told.put.as_slice(), line.as_bytes(), "{line}");
         assert_eq!(rt; told.files, 0);
+    }
+    Ok(())
+}
+
+#[test]
+fn deep_sections(rt: HostRuntime) -> Result<(), Fail> {
+    let alloc = rt.alloc();
+    let told = compiled(alloc, &models::nested(alloc, 129)?)?;
+    assert_eq!(rt; told.status, 3);
+    assert_eq!(rt;
+        told.put.as_slice(),
+        b"refused F2 Syntax line 129 DeepSections\n" as &[u8]
+    );
+    Ok(())
+}
+
+// Each has the one row of an Inport wired to that of an Outport.
+#[test]
+fn other_texts_of_one_wire(rt: HostRuntime) -> Result<(), Fail> {
+    for model in [models::BRANCHED, models::BY_DEFAULTS, models::SURROUNDED] {
+        let done = compiled(rt.alloc(), model.as_bytes())?;
+        assert_eq!(rt; done.status, 0);
+        assert_eq!(rt;
+            done.put.as_slice(),
+            b"compiled rows 2 systems 1 functions 1\n" as &[u8]
+        );
+    }
+    Ok(())
+}
+
+// The first bytes of the one wire are compiled or refused.
+fn is_told(alloc: Global, end: usize) -> Result<bool, AllocError> {
+    match models::ONE_WIRE.get(..end) {
+        Some(model) => {
+            let told = compiled(alloc, model)?;
+            Ok(told.status == 0 || told.status == 3)
+        }
+        None => Ok(false),
+    }
+}
+
+#[test]
+fn prefixes(rt: HostRuntime) -> Result<(), Fail> {
+    for end in 0..models::ONE_WIRE.len() {
+        assert!(rt; is_told(rt.alloc(), end)?, "{end}");
     }
     Ok(())
 }

@@ -70,6 +70,27 @@ pub const GAIN: &str =
 pub const UNCLOSED: &str =
     "Model {\n  Name \"one\"\n  System {\n    Name \"one\"\n    Block {\n      BlockType Inport\n      Name \"In1\"\n      Port \"1\"\n      OutDataTypeStr \"int32\"\n    }\n    Block {\n      BlockType Outport\n      Name \"Out1\"\n      Port \"1\"\n    }\n    Line {\n      SrcBlock \"In1\"\n      SrcPort 1\n      DstBlock \"Out1\"\n      DstPort 1\n    }\n  }\n";
 
+/// The first model with a Branch in the place of the Line's own end.
+pub const BRANCHED: &str =
+    "Model {\n  System {\n    Block {\n      BlockType Inport\n      Name \"In1\"\n      OutDataTypeStr \"int32\"\n    }\n    Block {\n      BlockType Outport\n      Name \"Out1\"\n    }\n    Line {\n      SrcBlock \"In1\"\n      SrcPort 1\n      Branch {\n        DstBlock \"Out1\"\n        DstPort 1\n      }\n    }\n  }\n}\n";
+
+/// The first model with the type of its Inport among its defaults, by its numbers.
+pub const BY_DEFAULTS: &str =
+    "Model {\n  BlockParameterDefaults {\n    Block {\n      BlockType Inport\n      OutDataTypeStr \"fixdt(1,32,0)\"\n    }\n  }\n  System {\n    Block {\n      BlockType Inport\n      Name \"In1\"\n    }\n    Block {\n      BlockType Outport\n      Name \"Out1\"\n    }\n    Line {\n      SrcBlock \"In1\"\n      SrcPort 1\n      DstBlock \"Out1\"\n      DstPort 1\n    }\n  }\n}\n";
+
+/// The first model with sections and parameters that are passed over.
+pub const SURROUNDED: &str =
+    "Stateflow {\n  machine {\n  }\n}\nModel {\n  Version 7.8\n  GraphicalInterface {\n    NumRootInports 1\n  }\n  System {\n    Location [480, 85, 980, 386]\n    Annotation {\n      Text \"a wire\"\n    }\n    Block {\n      BlockType Inport\n      Name \"In1\"\n      OutDataTypeStr \"int32\"\n      Position [25, 33, 55, 47]\n    }\n    Block {\n      BlockType Outport\n      Name \"Out1\"\n      PortProperties {\n        Port 2\n      }\n    }\n    Line {\n      SrcBlock \"In1\"\n      SrcPort 1\n      Points [0, 0]\n      DstBlock \"Out1\"\n      DstPort 1\n    }\n  }\n  System {\n  }\n}\n";
+
+/// So many sections, each inside the one before, and none of them closed.
+pub fn nested(alloc: Global, count: u32) -> Result<Vec<u8>, AllocError> {
+    let mut text = Vec::new(alloc);
+    for _ in 0..count {
+        text.extend_from_slice(b"a {\n")?;
+    }
+    Ok(text)
+}
+
 fn push_line(
     alloc: Global,
     text: &mut Vec<u8>,
