@@ -1,0 +1,2 @@
+pub mod ParsedText
+pub mod ParsedTextExamples
