@@ -1,0 +1,12 @@
+//! The lines of traces and scripts, and the rows that the lines of a trace write.
+#![tactic(auto)]
+
+mod fields;
+mod lines;
+mod rows;
+
+pub use lines::{LONGEST_LINE, Next, next_line};
+pub use rows::{BadLine, BadWhy, read_row};
+
+#[cfg(test)]
+mod tests;
