@@ -1,1 +1,14 @@
-mod TableIsOne
+pub mod TableIsOne
+pub mod StepLemmas
+pub mod PassLemmas
+pub mod SectionLemmas
+pub mod NumberLemmas
+pub mod MissingLemmas
+pub mod OneSystem
+pub mod PortLemmas
+pub mod FormLemmas
+pub mod DoubleLemmas
+pub mod NameLemmas
+pub mod FlatLemmas
+pub mod BlockLemmas
+pub mod SignLemmas

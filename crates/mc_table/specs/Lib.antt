@@ -1,5 +1,17 @@
 pub mod Blocks
+pub mod Walks
+pub mod Held
+pub mod HeldModels
+pub mod Passes
+pub mod Numbered
+pub mod NameMaps
+pub mod Doubles
+pub mod RowTexts
+pub mod HeldLines
+pub mod Missing
+pub mod SoFar
 pub mod Words
+pub mod Counts
 pub mod Parameters
 pub mod Lines
 pub mod TableOf

@@ -6,6 +6,7 @@ use std::alloc::{AllocError, Global};
 use std::test::Fail;
 
 mod models;
+mod runs;
 
 /// How a call ended over hosts and sinks in memory.
 #[derive(Drop)]

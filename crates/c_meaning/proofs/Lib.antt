@@ -1,0 +1,10 @@
+pub mod Narrow
+pub mod Measures
+pub mod Places
+pub mod ZeroCells
+pub mod RootLaws
+pub mod Lawfully
+pub mod LaidOut
+pub mod Outcomes
+pub mod BodyReads
+pub mod Evaluations
