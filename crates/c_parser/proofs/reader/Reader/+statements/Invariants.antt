@@ -1,0 +1,34 @@
+use Rattle.std.proofs.Common.{◌+◌, ◌*◌, length, map, suc}
+use Rattle.c_tree.specs.Parsing.{many, stmts_step, parse_stmt}
+use Rattle.c_parser.specs.Limited.{limits_of}
+use Rattle.c_parser.specs.WrittenTrees.{stmt_of}
+use Rattle.c_parser.proofs.Lists.{Going}
+use Rattle.c_parser.proofs.reader.Reader.+statements.Given as goal
+
+abbrev pub invariant-statements-loop-statements : goal.invariant-statements-loop-statements
+invariant-statements-loop-statements l =
+    Going (stmts_step l.self.last (limits_of l.self.limits) (parse_stmt l.self.last (limits_of l.self.limits) l.levels)) (many (stmts_step l.self.last (limits_of l.self.limits) (parse_stmt l.self.last (limits_of l.self.limits) l.levels)) (suc (length l.initial.rest)) 0 l.initial.rest) (map stmt_of l.statements.items) 0 l.rest
+
+abbrev pub decreases-statements-loop-statements : goal.decreases-statements-loop-statements
+decreases-statements-loop-statements l = length l.rest
+
+abbrev pub decreases-statement : goal.decreases-statement
+decreases-statement l = 8 * l.levels + 0
+
+abbrev pub decreases-statements_step : goal.decreases-statements_step
+decreases-statements_step l = 8 * l.levels + 1
+
+abbrev pub decreases-statements : goal.decreases-statements
+decreases-statements l = 8 * l.levels + 2
+
+abbrev pub decreases-block : goal.decreases-block
+decreases-block l = 8 * l.levels + 3
+
+abbrev pub decreases-second : goal.decreases-second
+decreases-second l = 8 * l.levels + 4
+
+abbrev pub decreases-choice : goal.decreases-choice
+decreases-choice l = 8 * l.levels + 5
+
+abbrev pub decreases-statement_from : goal.decreases-statement_from
+decreases-statement_from l = 8 * l.levels + 6

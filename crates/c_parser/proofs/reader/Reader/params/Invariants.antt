@@ -1,0 +1,13 @@
+use Rattle.std.proofs.Common.{length, map, suc, vec_len}
+use Rattle.c_tree.specs.Parsing.{many, params_step}
+use Rattle.c_parser.specs.Limited.{limits_of}
+use Rattle.c_parser.specs.WrittenTrees.{param_of}
+use Rattle.c_parser.proofs.Lists.{Going}
+use Rattle.c_parser.proofs.reader.Reader.params.Given as goal
+
+abbrev pub invariant-loop-params : goal.invariant-loop-params
+invariant-loop-params l =
+    Going (params_step l.self.last (limits_of l.self.limits)) (many (params_step l.self.last (limits_of l.self.limits)) (suc (length l.initial.rest)) 0 l.initial.rest) (map param_of l.params.items) (vec_len l.params) l.rest
+
+abbrev pub decreases-loop-params : goal.decreases-loop-params
+decreases-loop-params l = length l.rest

@@ -1,0 +1,9 @@
+use Rattle.std.proofs.Common.{subst}
+use Rattle.c_parser.specs.Gives.{Gives}
+use Rattle.c_parser.specs.Limited.{limits_of}
+use Rattle.c_parser.specs.WrittenTrees.{struct_of}
+use Rattle.c_parser.proofs.PartsLaws.{struct_parts-is}
+use Rattle.c_parser.proofs.reader.Reader.structure.Goals as goal
+
+pub returns : goal.returns
+returns c = subst (Gives struct_of c.struct_of_parts.result) (struct_parts-is c.args.self.last (limits_of c.args.self.limits) c.args.token.now c.args.tokens.now) c.struct_of_parts.ensures

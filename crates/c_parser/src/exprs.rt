@@ -1,0 +1,313 @@
+// Expressions and conditions by recursive descent, at most so many levels deep.
+ghost use Rattle.std.specs.Prelude.{◌≡◌, map, codes, length, suc};
+ghost use Rattle.c_tree.specs.Parsing as parsing;
+ghost use Rattle.c_parser.specs.Gives.{Gives, GivesMore, behind};
+ghost use Rattle.c_parser.specs.Openers as seen;
+ghost use Rattle.c_parser.specs.Operands.{operand_of};
+ghost use Rattle.c_parser.specs.WrittenTrees.{expr_of, cond_of};
+
+use crate::build;
+use crate::openers::{
+    Comma, Inside, Opener, TestJoint, ValueJoint, Want, comma_of, inside_of, opener_of, test_joint,
+    value_joint,
+};
+use crate::operands::{Operand, Parse};
+use crate::reader::{Reader, deep_on, syntax_on};
+use crate::tokens::{Token, Tokens};
+use crate::written::{WrittenCond, WrittenExpr};
+
+impl Reader {
+    fn too_deep<'a>(self, token: &Token<'a>, opener: Opener) -> Parse<'a, Operand<'a>>
+        ensures { Gives operand_of result (parsing.opened_too_deep self.last token.now (seen.opener_seen opener)) }
+    {
+        match opener {
+            Opener::Number | Opener::Call | Opener::Paren => Err(deep_on(token.line).into()),
+            Opener::Nothing => Err(syntax_on(token.line).into()),
+        }
+    }
+
+    #[cycle(expressions)]
+    fn operand<'a>(self, levels: u32, want: Want, tokens: &Tokens<'a>) -> Parse<'a, Operand<'a>>
+        ensures { Gives operand_of result (parsing.parse_operand self.last levels (seen.want_of want) tokens.now) }
+    {
+        let (token, rest) = self.next(tokens)?;
+        let opener = opener_of(want, token.text);
+        if levels == 0 {
+            return self.too_deep(&token, opener);
+        }
+        self.opened(levels - 1, want, &token, &rest, opener)
+    }
+
+    /// An expression, where so many more levels may be opened.
+    #[cycle(expressions)]
+    pub fn value<'a>(self, levels: u32, tokens: &Tokens<'a>) -> Parse<'a, WrittenExpr<'a>>
+        ensures { Gives expr_of result (parsing.parse_expr self.last levels tokens.now) }
+    {
+        let (operand, rest) = self.operand(levels, Want::Value, tokens)?;
+        match operand {
+            Operand::Value(value) => Ok((value, rest)),
+            Operand::Test(_) => Err(syntax_on(self.last).into()),
+        }
+    }
+
+    /// A condition, where so many more levels may be opened.
+    #[cycle(expressions)]
+    pub fn test<'a>(self, levels: u32, tokens: &Tokens<'a>) -> Parse<'a, WrittenCond<'a>>
+        ensures { Gives cond_of result (parsing.parse_cond self.last levels tokens.now) }
+    {
+        let (operand, rest) = self.operand(levels, Want::Test, tokens)?;
+        match operand {
+            Operand::Test(test) => Ok((test, rest)),
+            Operand::Value(_) => Err(syntax_on(self.last).into()),
+        }
+    }
+
+    fn number<'a>(self, tokens: &Tokens<'a>) -> Parse<'a, Operand<'a>>
+        ensures { Gives operand_of result (parsing.parse_number self.last (parsing.parse_operand self.last 0) tokens.now) }
+    {
+        let rest = self.word(tokens, b"(")?;
+        let (number, rest) = self.literal(&rest)?;
+        let rest = self.word(&rest, b")")?;
+        Ok((Operand::Value(WrittenExpr::Literal(number)), rest))
+    }
+
+    #[cycle(expressions)]
+    fn values_step<'a>(self, levels: u32, tokens: &Tokens<'a>) -> Parse<'a, Option<WrittenExpr<'a>>>
+        ensures { GivesMore expr_of result (parsing.values_step self.last (parsing.parse_operand self.last levels) 0 tokens.now) }
+    {
+        let (token, rest) = self.next(tokens)?;
+        match comma_of(token.text) {
+            Comma::Another => {
+                let (value, rest) = self.value(levels, &rest)?;
+                Ok((Some(value), rest))
+            }
+            Comma::Closed => Ok((None, rest)),
+            Comma::Nothing => Err(syntax_on(token.line).into()),
+        }
+    }
+
+    // The further arguments of a pure function, behind others.
+    #[cycle(expressions)]
+    fn later_values<'a>(
+        self,
+        levels: u32,
+        values: Vec<WrittenExpr<'a>>,
+        tokens: Tokens<'a>,
+    ) -> Parse<'a, Vec<WrittenExpr<'a>>>
+        ensures { Gives (λ v. map expr_of v.items) result (behind (map expr_of values.entry.items)
+            (parsing.many (parsing.values_step self.last (parsing.parse_operand self.last levels)) (suc (length tokens.entry)) 0 tokens.entry)) }
+    {
+        let mut values = values;
+        let mut rest = tokens;
+        loop {
+            let (value, later) = self.values_step(levels, &rest)?;
+            let Some(value) = value else {
+                return Ok((values, later));
+            };
+            values.push(value)?;
+            rest = later;
+        }
+    }
+
+    #[cycle(expressions)]
+    fn pure_call<'a>(
+        self,
+        levels: u32,
+        token: &Token<'a>,
+        tokens: &Tokens<'a>,
+    ) -> Parse<'a, Operand<'a>>
+        ensures { Gives operand_of result (parsing.parse_values self.last (parsing.parse_operand self.last levels) token.now tokens.now) }
+    {
+        let rest = self.word(tokens, b"(")?;
+        let (first, rest) = self.value(levels, &rest)?;
+        let mut values = Vec::new(self.alloc);
+        values.push(first)?;
+        let (values, rest) = self.later_values(levels, values, rest)?;
+        Ok((
+            Operand::Value(build::call_of_pure(token.line, token.text, values)),
+            rest,
+        ))
+    }
+
+    #[cycle(expressions)]
+    fn minus<'a>(self, levels: u32, tokens: &Tokens<'a>) -> Parse<'a, Operand<'a>>
+        ensures { Gives operand_of result (parsing.parse_inside self.last (parsing.parse_operand self.last levels) parsing.want_any tokens.now parsing.minus_inside) }
+    {
+        let (_, rest) = self.next(tokens)?;
+        let (operand, rest) = self.value(levels, &rest)?;
+        let rest = self.word(&rest, b")")?;
+        Ok((Operand::Value(build::negative(self.alloc, operand)?), rest))
+    }
+
+    #[cycle(expressions)]
+    fn negation<'a>(self, levels: u32, tokens: &Tokens<'a>) -> Parse<'a, Operand<'a>>
+        ensures { Gives operand_of result (parsing.parse_inside self.last (parsing.parse_operand self.last levels) parsing.want_any tokens.now parsing.not_inside) }
+    {
+        let (_, rest) = self.next(tokens)?;
+        let (operand, rest) = self.test(levels, &rest)?;
+        let rest = self.word(&rest, b")")?;
+        Ok((Operand::Test(build::negated(self.alloc, operand)?), rest))
+    }
+
+    fn cast_leaf<'a>(self, tokens: &Tokens<'a>) -> Parse<'a, Operand<'a>>
+        ensures { Gives operand_of result (parsing.parse_inside self.last (parsing.parse_operand self.last 0) parsing.want_any tokens.now parsing.cast_inside) }
+    {
+        let (_, rest) = self.next(tokens)?;
+        let rest = self.word(&rest, b")")?;
+        let (leaf, rest) = self.leaf(&rest)?;
+        Ok((Operand::Value(leaf), rest))
+    }
+
+    #[cycle(expressions)]
+    fn join_value<'a>(
+        self,
+        levels: u32,
+        left: WrittenExpr<'a>,
+        token: &Token<'a>,
+        tokens: &Tokens<'a>,
+        joint: ValueJoint,
+    ) -> Parse<'a, Operand<'a>>
+        ensures { Gives operand_of result (parsing.join_value self.last (parsing.parse_operand self.last levels) (expr_of left.entry) token.now tokens.now (seen.value_joint_seen joint)) }
+    {
+        match joint {
+            ValueJoint::Operator(op) => {
+                let (right, rest) = self.value(levels, tokens)?;
+                Ok((
+                    Operand::Value(build::binary(self.alloc, op, left, right)?),
+                    rest,
+                ))
+            }
+            ValueJoint::Comparison(how) => {
+                let (right, rest) = self.value(levels, tokens)?;
+                Ok((Operand::Test(WrittenCond::Compare(how, left, right)), rest))
+            }
+            ValueJoint::Nothing => Err(syntax_on(token.line).into()),
+        }
+    }
+
+    #[cycle(expressions)]
+    fn pick<'a>(
+        self,
+        levels: u32,
+        test: WrittenCond<'a>,
+        token: &Token<'a>,
+        tokens: &Tokens<'a>,
+    ) -> Parse<'a, Operand<'a>>
+        ensures { Gives operand_of result (parsing.join_test self.last (parsing.parse_operand self.last levels) (cond_of test.entry) token.now tokens.now parsing.pick_joint) }
+    {
+        let (on_true, rest) = self.value(levels, tokens)?;
+        let rest = self.word(&rest, b":")?;
+        let (on_false, rest) = self.value(levels, &rest)?;
+        Ok((
+            Operand::Value(build::pick(self.alloc, test, on_true, on_false)?),
+            rest,
+        ))
+    }
+
+    #[cycle(expressions)]
+    fn join_test<'a>(
+        self,
+        levels: u32,
+        left: WrittenCond<'a>,
+        token: &Token<'a>,
+        tokens: &Tokens<'a>,
+        joint: TestJoint,
+    ) -> Parse<'a, Operand<'a>>
+        ensures { Gives operand_of result (parsing.join_test self.last (parsing.parse_operand self.last levels) (cond_of left.entry) token.now tokens.now (seen.test_joint_seen joint)) }
+    {
+        match joint {
+            TestJoint::And => {
+                let (right, rest) = self.test(levels, tokens)?;
+                Ok((Operand::Test(build::both(self.alloc, left, right)?), rest))
+            }
+            TestJoint::Or => {
+                let (right, rest) = self.test(levels, tokens)?;
+                Ok((Operand::Test(build::either(self.alloc, left, right)?), rest))
+            }
+            TestJoint::Pick => self.pick(levels, left, token, tokens),
+            TestJoint::Nothing => Err(syntax_on(token.line).into()),
+        }
+    }
+
+    #[cycle(expressions)]
+    fn join<'a>(
+        self,
+        levels: u32,
+        want: Want,
+        first: Operand<'a>,
+        token: &Token<'a>,
+        tokens: &Tokens<'a>,
+    ) -> Parse<'a, Operand<'a>>
+        ensures { Gives operand_of result (parsing.join self.last (parsing.parse_operand self.last levels) (seen.want_of want) (operand_of first.entry) (token.now, tokens.now)) }
+    {
+        match first {
+            Operand::Value(left) => self.join_value(
+                levels,
+                left,
+                token,
+                tokens,
+                value_joint(want, token.text),
+            ),
+            Operand::Test(left) => self.join_test(
+                levels,
+                left,
+                token,
+                tokens,
+                test_joint(want, token.text),
+            ),
+        }
+    }
+
+    #[cycle(expressions)]
+    fn joined<'a>(self, levels: u32, want: Want, tokens: &Tokens<'a>) -> Parse<'a, Operand<'a>>
+        ensures { Gives operand_of result (parsing.parse_inside self.last (parsing.parse_operand self.last levels) (seen.want_of want) tokens.now parsing.first_inside) }
+    {
+        let (first, rest) = self.operand(levels, Want::Any, tokens)?;
+        let (token, rest) = self.next(&rest)?;
+        let (operand, rest) = self.join(levels, want, first, &token, &rest)?;
+        let rest = self.word(&rest, b")")?;
+        Ok((operand, rest))
+    }
+
+    #[cycle(expressions)]
+    fn inside<'a>(
+        self,
+        levels: u32,
+        want: Want,
+        tokens: &Tokens<'a>,
+        inside: Inside,
+    ) -> Parse<'a, Operand<'a>>
+        ensures { Gives operand_of result (parsing.parse_inside self.last (parsing.parse_operand self.last levels) (seen.want_of want) tokens.now (seen.inside_seen inside)) }
+    {
+        match inside {
+            Inside::Minus => self.minus(levels, tokens),
+            Inside::Not => self.negation(levels, tokens),
+            Inside::Cast => self.cast_leaf(tokens),
+            Inside::First => self.joined(levels, want, tokens),
+        }
+    }
+
+    #[cycle(expressions)]
+    fn opened<'a>(
+        self,
+        levels: u32,
+        want: Want,
+        token: &Token<'a>,
+        tokens: &Tokens<'a>,
+        opener: Opener,
+    ) -> Parse<'a, Operand<'a>>
+        ensures { Gives operand_of result (parsing.parse_opened self.last (parsing.parse_operand self.last levels) (seen.want_of want) token.now tokens.now (seen.opener_seen opener)) }
+    {
+        match opener {
+            Opener::Number => self.number(tokens),
+            Opener::Call => self.pure_call(levels, token, tokens),
+            Opener::Paren => self.inside(
+                levels,
+                want,
+                tokens,
+                inside_of(want, tokens.first_text()),
+            ),
+            Opener::Nothing => Err(syntax_on(token.line).into()),
+        }
+    }
+}

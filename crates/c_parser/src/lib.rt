@@ -1,0 +1,28 @@
+// The parser of C: bytes to the program that is written there, or their first fault of the grammar.
+#![tactic(auto)]
+
+mod build;
+mod bytes;
+mod calls;
+mod definitions;
+mod exprs;
+mod fault;
+mod file;
+mod openers;
+mod operands;
+mod params;
+mod parser;
+mod reader;
+mod statements;
+mod structs;
+mod tokens;
+mod words;
+mod written;
+
+pub use fault::ReadCFault;
+pub use parser::parse_c;
+pub use written::{
+    Argument, Number, WrittenCond, WrittenExpr, WrittenField, WrittenKind, WrittenLeaf,
+    WrittenParam, WrittenProcedure, WrittenProgram, WrittenPure, WrittenPureParam, WrittenStmt,
+    WrittenStruct, WrittenTarget,
+};

@@ -1,0 +1,115 @@
+// Structs and their fields.
+ghost use Rattle.std.specs.Prelude.{◌≡◌, map, codes, bytes_eq, length, suc};
+ghost use Rattle.c_tree.specs.Parsing as parsing;
+ghost use Rattle.c_parser.specs.Gives.{Gives, GivesMore, read_as, behind};
+ghost use Rattle.c_parser.specs.FileParts as parts;
+ghost use Rattle.c_parser.specs.Limited.{limits_of};
+ghost use Rattle.c_parser.specs.WrittenTrees.{kind_of, field_of, struct_of};
+
+use crate::operands::Parse;
+use crate::reader::{Read, Reader, syntax_on};
+use crate::tokens::{Token, Tokens};
+use crate::words::{is, type_of_text};
+use crate::written::{WrittenField, WrittenKind, WrittenStruct};
+
+impl Reader {
+    fn kind<'a>(self, token: &Token<'a>, tokens: Tokens<'a>) -> Read<'a, WrittenKind<'a>>
+        ensures { read_as kind_of result
+            ≡ parsing.parse_kind self.last (limits_of self.limits) token.now tokens.entry (bytes_eq token.now.text (codes "struct")) }
+    {
+        if is(token.text, b"struct") {
+            let (name, rest) = self.name(&tokens)?;
+            return Ok((WrittenKind::Struct(name), rest));
+        }
+        match type_of_text(token.text) {
+            Some(ty) => Ok((WrittenKind::Number(ty), tokens)),
+            None => Err(syntax_on(token.line)),
+        }
+    }
+
+    fn field<'a>(self, tokens: &Tokens<'a>) -> Parse<'a, WrittenField<'a>>
+        ensures { Gives field_of result (parsing.parse_field self.last (limits_of self.limits) tokens.now) }
+    {
+        let (token, rest) = self.next(tokens)?;
+        let (kind, rest) = self.kind(&token, rest)?;
+        let (name, rest) = self.name(&rest)?;
+        let rest = self.word(&rest, b";")?;
+        let field = WrittenField {
+            line: token.line,
+            kind,
+            name,
+        };
+        Ok((field, rest))
+    }
+
+    fn fields_step<'a>(self, tokens: &Tokens<'a>) -> Parse<'a, Option<WrittenField<'a>>>
+        ensures { GivesMore field_of result (parsing.fields_step self.last (limits_of self.limits) 0 tokens.now) }
+    {
+        if is(tokens.first_text(), b"}") {
+            let (_, rest) = self.next(tokens)?;
+            return Ok((None, rest));
+        }
+        let (field, rest) = self.field(tokens)?;
+        Ok((Some(field), rest))
+    }
+
+    fn later_fields<'a>(
+        self,
+        fields: Vec<WrittenField<'a>>,
+        tokens: Tokens<'a>,
+    ) -> Parse<'a, Vec<WrittenField<'a>>>
+        ensures { Gives (λ v. map field_of v.items) result (behind (map field_of fields.entry.items)
+            (parsing.many (parsing.fields_step self.last (limits_of self.limits)) (suc (length tokens.entry)) 0 tokens.entry)) }
+    {
+        let mut fields = fields;
+        let mut rest = tokens;
+        loop {
+            let (field, later) = self.fields_step(&rest)?;
+            let Some(field) = field else {
+                return Ok((fields, later));
+            };
+            fields.push(field)?;
+            rest = later;
+        }
+    }
+
+    // The fields of a struct behind its `{`, and the `}`.
+    fn fields<'a>(self, tokens: &Tokens<'a>) -> Parse<'a, Vec<WrittenField<'a>>>
+        ensures { Gives (λ v. map field_of v.items) result (parts.fields self.last (limits_of self.limits) tokens.now) }
+    {
+        let (first, rest) = self.field(tokens)?;
+        let mut fields = Vec::new(self.alloc);
+        fields.push(first)?;
+        self.later_fields(fields, rest)
+    }
+
+    fn struct_of_parts<'a>(
+        self,
+        token: &Token<'a>,
+        tokens: &Tokens<'a>,
+    ) -> Parse<'a, WrittenStruct<'a>>
+        ensures { Gives struct_of result (parts.struct_parts self.last (limits_of self.limits) token.now tokens.now) }
+    {
+        let (name, rest) = self.name(tokens)?;
+        let rest = self.word(&rest, b"{")?;
+        let (fields, rest) = self.fields(&rest)?;
+        let rest = self.word(&rest, b";")?;
+        let structure = WrittenStruct {
+            line: token.line,
+            name,
+            fields,
+        };
+        Ok((structure, rest))
+    }
+
+    /// A struct behind its `struct`.
+    pub fn structure<'a>(
+        self,
+        token: &Token<'a>,
+        tokens: &Tokens<'a>,
+    ) -> Parse<'a, WrittenStruct<'a>>
+        ensures { Gives struct_of result (parsing.parse_struct self.last (limits_of self.limits) token.now tokens.now) }
+    {
+        self.struct_of_parts(token, tokens)
+    }
+}

@@ -1,0 +1,7 @@
+pub mod Checked
+pub mod Reading
+pub mod Scopes
+pub mod Gives
+pub mod Choices
+pub mod Params
+pub mod Fields

@@ -1,0 +1,29 @@
+// Lines of a text.
+ghost use Rattle.std.specs.Prelude.{◌≡◌};
+ghost use Rattle.c_tree.specs.Tokens as tokens;
+ghost use Rattle.c_parser.specs.Lines.{line_behind};
+
+/// The line behind some bytes that begin on a line.
+fn line_behind(line: u32, bytes: &[u8]) -> u32
+    ensures { result ≡ line_behind line bytes.now }
+{
+    let mut line = line;
+    let mut rest = bytes;
+    while let Some((first, others)) = rest.split_first() {
+        if *first == b'\n' {
+            line = line.saturating_add(1);
+        }
+        rest = others;
+    }
+    line
+}
+
+/// The last line of a text.
+pub(crate) fn last_line(bytes: &[u8]) -> u32
+    ensures { result ≡ tokens.last_line bytes.now }
+{
+    match bytes.split_last() {
+        Some((_, front)) => line_behind(1, front),
+        None => 1,
+    }
+}
