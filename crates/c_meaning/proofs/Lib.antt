@@ -1,0 +1,15 @@
+pub mod Narrow
+pub mod Measures
+pub mod Places
+pub mod ZeroCells
+pub mod RootLaws
+pub mod Lawfully
+pub mod LaidOut
+pub mod Outcomes
+pub mod BodyReads
+pub mod Evaluations
+pub mod Numbered
+pub mod Paths
+pub mod Standing
+pub mod Calling
+pub mod PlainCalls

@@ -1,0 +1,21 @@
+use Rattle.std.proofs.Common.{◌≡◌, ◌++◌, take, drop, map}
+use Rattle.c_tree.specs.Tree.{exprs_of_list}
+use Rattle.c_tree.specs.Plain.{expr_tree, program_tree}
+use Rattle.c_tree.specs.Machine.{arguments}
+use Rattle.c_tree.specs.Values.{and_then, gives, functions_of, reads}
+use Rattle.c_meaning.specs.Answers.{IsLater}
+use Rattle.c_meaning.specs.Reads.{AreNarrowExprs}
+use Rattle.c_meaning.specs.States.{filled}
+use Rattle.c_meaning.specs.Sound.{zero_at}
+use Rattle.std.proofs.Common.{[]}
+use Rattle.c_meaning.proofs.frames.put_arguments.Given as goal
+
+abbrev pub invariant-loop-i : goal.invariant-loop-i
+invariant-loop-i l =
+    let p = program_tree l.frame.program.now in
+    let leaf = reads l.frame.values.now (filled (zero_at p l.frame.of) l.numbers) in
+    record {
+      narrow : AreNarrowExprs (exprs_of_list (map expr_tree (drop l.i l.values)));
+      later : IsLater l.initial.steps l.steps;
+      value : arguments (functions_of [] p.pures) leaf l.line (map (λ q. q.1) l.params) (exprs_of_list (map expr_tree l.values)) l.initial.steps ≡ and_then (arguments (functions_of [] p.pures) leaf l.line (map (λ q. q.1) (drop l.i l.params)) (exprs_of_list (map expr_tree (drop l.i l.values))) l.steps) (λ vs end. gives (take l.i l.out ++ vs) end);
+    }

@@ -1,0 +1,41 @@
+use Rattle.std.proofs.Common.{◌≡◌, ◌+◌, ◌*◌, map, take, drop, ℕ, max}
+use Rattle.c_tree.specs.Plain.{stmt_tree, program_tree}
+use Rattle.c_tree.specs.Reading.{stmt_depth, stmts_depth}
+use Rattle.c_tree.specs.Tree.{stmts_of_list}
+use Rattle.c_tree.specs.Machine.{run_stmts}
+use Rattle.c_meaning.specs.States.{filled}
+use Rattle.c_meaning.specs.Sound.{AreSoundStmts, scope_at, zero_at}
+use Rattle.c_meaning.specs.Seen.{seen, IsCounted}
+use Rattle.c_meaning.proofs.Measures.{procs_depth}
+use Rattle.c_meaning.specs.declared.frames.Frame.{Frame}
+use Rattle.c_meaning.proofs.statements.+statement.Given as goal
+
+abbrev pub before : Frame → ℕ
+before f = procs_depth (take f.level (program_tree f.program.now).procedures)
+
+abbrev pub decreases-run : goal.decreases-run
+decreases-run l = before l.frame.now + 4 * stmt_depth (stmt_tree l.stmt.now) + 2
+
+abbrev pub decreases-run_all : goal.decreases-run_all
+decreases-run_all l = before l.frame.now + 4 * stmts_depth (stmts_of_list (map stmt_tree l.stmts.now)) + 3
+
+abbrev pub decreases-run_at : goal.decreases-run_at
+decreases-run_at l = before l.frame.now + 3
+
+abbrev pub decreases-run_call : goal.decreases-run_call
+decreases-run_call l = before l.frame.now + 5
+
+abbrev pub decreases-run_if : goal.decreases-run_if
+decreases-run_if l = before l.frame.now + 4 * (max (stmts_depth (stmts_of_list (map stmt_tree l.on_true.now))) (stmts_depth (stmts_of_list (map stmt_tree l.on_false.now))) + 1) + 1
+
+abbrev pub decreases-run_procedure : goal.decreases-run_procedure
+decreases-run_procedure l = before l.frame.now + 1
+
+abbrev pub invariant-run_all-loop-i : goal.invariant-run_all-loop-i
+invariant-run_all-loop-i l =
+    let p = program_tree l.frame.program.now in
+    record {
+      sound : AreSoundStmts p l.frame.level l.frame.of (stmts_of_list (map stmt_tree (drop l.i l.stmts)));
+      counted : IsCounted l.cost;
+      value : seen l.initial.cost.calls (run_stmts (scope_at p l.frame.level l.frame.of l.frame.values.now) (stmts_of_list (map stmt_tree l.stmts)) (filled (zero_at p l.frame.of) l.initial.numbers) l.initial.cost.steps) ≡ seen l.cost.calls (run_stmts (scope_at p l.frame.level l.frame.of l.frame.values.now) (stmts_of_list (map stmt_tree (drop l.i l.stmts))) (filled (zero_at p l.frame.of) l.numbers) l.cost.steps);
+    }

@@ -1,0 +1,160 @@
+use Rattle.std.proofs.Common.{rules, ◌≡◌, ◌≤◌, [], length, map, ◌+◌, ◌*◌, ◌<◌, arith, ap, sym, ◌∙◌, refl, SFits, w64, true, false, get_or, take}
+use Rattle.std.proofs.Math.ListN.{set}
+use Rattle.std.proofs.lemmas.Int.{to_z-of_z}
+use Rattle.c_tree.specs.Tree.{exprs_of_list}
+use Rattle.c_tree.specs.Plain.{expr_tree, cond_tree, pure_tree}
+use Rattle.c_tree.specs.Values.{eval, functions_of}
+use Rattle.c_meaning.specs.Reads.{view_reads, view_functions}
+use Rattle.c_tree.specs.Values.{gives, Function}
+use Rattle.std.proofs.lemmas.Bool.Decides.{nat_tests}
+use Rattle.c_meaning.proofs.Measures.{bodies, bodies_at, depth_of, depth_in, depth_under, depth_at}
+use Rattle.c_tree.specs.Reading.{cond_depth}
+use Rattle.std.proofs.lemmas.Grind.{common_steps}
+use Rattle.c_meaning.proofs.Narrow.{exprs_here, pures_take, pures_at, exprs_length-list, pure_narrow, pure_gives}
+use Rattle.c_meaning.proofs.Evaluations.{neg_gives, binary_gives, binary_sticks, pick_gives, compare_gives, compare_sticks, both_goes_on, either_goes_on, negated_gives, eval_all_more, narrow_more, function_gives, function_there, function_past}
+use Rattle.c_meaning.proofs.values.+expression.Goals as goal
+
+pub call_pure-first_of-requires : goal.call_pure-first_of-requires
+call_pure-first_of-requires t c = omega (arith, exprs_length-list c.args.values.now, c.requires.narrow.0)
+
+-- src/values.rt:63:21
+pub eval_any-returns-in-Err-eval-clause-value :
+    goal.eval_any-returns-in-Err-eval-clause-value
+eval_any-returns-in-Err-eval-clause-value t c =
+    grind (arith, common_steps, binary_sticks _ _ _ _ _ _ _ _ _ _ _ _ _ (ap expr_tree c.in-Binary.is) c.deref-in-Binary.ensures c.deref-in-Binary-2.ensures c.in-Ok.ensures.value c.in-Err-eval.ensures.value)
+
+-- src/values.rt:73:34
+pub eval_any-call_pure-requires : goal.eval_any-call_pure-requires
+eval_any-call_pure-requires t c =
+    let h : depth_in c.deref-in-Pure.result.now < depth_of c.args.e.now = depth_under _ _ c.in-Pure.values _ c.in-Pure.is c.deref-in-Pure.ensures.value in
+    (omega arith, (pure_narrow _ _ c.in-Pure.values _ c.in-Pure.is c.deref-in-Pure.ensures.value c.requires.narrow, c.requires.pures))
+
+pub eval_all-eval-requires : goal.eval_all-eval-requires
+eval_all-eval-requires t c =
+    let h : depth_of c.index-values-i.result ≤ depth_in c.args.values.now = depth_at c.args.values.now c.loop-i.i c.index-values-i.result (omega arith) c.index-values-i.is in
+    (omega arith, (exprs_here c.args.values.now c.loop-i.i c.index-values-i.result (omega arith) c.index-values-i.is c.loop-i.invariant.narrow, c.requires.pures))
+
+pub eval_any-eval-requires : goal.eval_any-eval-requires
+eval_any-eval-requires t c = (omega (arith, ap (depth_of) c.in-Neg.is, ap (depth_of) c.deref.ensures), (search rules, c.requires.pures))
+
+pub eval_any-eval-requires-in-Binary : goal.eval_any-eval-requires-in-Binary
+eval_any-eval-requires-in-Binary t c = (omega (arith, ap (depth_of) c.in-Binary.is, ap (depth_of) c.deref-in-Binary.ensures), (search rules, c.requires.pures))
+
+pub eval_any-eval-requires-in-Binary-2 : goal.eval_any-eval-requires-in-Binary-2
+eval_any-eval-requires-in-Binary-2 t c = (omega (arith, ap (depth_of) c.in-Binary.is, ap (depth_of) c.deref-in-Binary-2.ensures), (search rules, c.requires.pures))
+
+pub eval_any-eval_cond-requires : goal.eval_any-eval_cond-requires
+eval_any-eval_cond-requires t c = (omega (arith, ap (depth_of) c.in-Pick.is, ap (λ x. cond_depth (cond_tree x)) c.deref-in-Pick.ensures), (search rules, c.requires.pures))
+
+pub eval_any-eval-requires-then-holds : goal.eval_any-eval-requires-then-holds
+eval_any-eval-requires-then-holds t c = (omega (arith, ap (depth_of) c.in-Pick.is, ap (depth_of) c.deref-then-holds.ensures), (search rules, c.requires.pures))
+
+pub eval_any-eval-requires-else-holds : goal.eval_any-eval-requires-else-holds
+eval_any-eval-requires-else-holds t c = (omega (arith, ap (depth_of) c.in-Pick.is, ap (depth_of) c.deref-else-holds.ensures), (search rules, c.requires.pures))
+
+pub eval_cond-eval-requires : goal.eval_cond-eval-requires
+eval_cond-eval-requires t c = (omega (arith, ap (λ x. cond_depth (cond_tree x)) c.in-Compare.is), (search rules, c.requires.pures))
+
+pub eval_cond-eval-requires-in-Compare : goal.eval_cond-eval-requires-in-Compare
+eval_cond-eval-requires-in-Compare t c = (omega (arith, ap (λ x. cond_depth (cond_tree x)) c.in-Compare.is), (search rules, c.requires.pures))
+
+pub eval_cond-eval_cond-requires : goal.eval_cond-eval_cond-requires
+eval_cond-eval_cond-requires t c = (omega (arith, ap (λ x. cond_depth (cond_tree x)) c.in-Both.is, ap (λ x. cond_depth (cond_tree x)) c.deref.ensures), (search rules, c.requires.pures))
+
+pub eval_cond-eval_cond-requires-then-holds : goal.eval_cond-eval_cond-requires-then-holds
+eval_cond-eval_cond-requires-then-holds t c = (omega (arith, ap (λ x. cond_depth (cond_tree x)) c.in-Both.is, ap (λ x. cond_depth (cond_tree x)) c.deref-then-holds.ensures), (search rules, c.requires.pures))
+
+pub eval_cond-eval_cond-requires-in-Either : goal.eval_cond-eval_cond-requires-in-Either
+eval_cond-eval_cond-requires-in-Either t c = (omega (arith, ap (λ x. cond_depth (cond_tree x)) c.in-Either.is, ap (λ x. cond_depth (cond_tree x)) c.deref-in-Either.ensures), (search rules, c.requires.pures))
+
+pub eval_cond-eval_cond-requires-else-holds-2 : goal.eval_cond-eval_cond-requires-else-holds-2
+eval_cond-eval_cond-requires-else-holds-2 t c = (omega (arith, ap (λ x. cond_depth (cond_tree x)) c.in-Either.is, ap (λ x. cond_depth (cond_tree x)) c.deref-else-holds-2.ensures), (search rules, c.requires.pures))
+
+pub eval_cond-eval_cond-requires-in-Not : goal.eval_cond-eval_cond-requires-in-Not
+eval_cond-eval_cond-requires-in-Not t c = (omega (arith, ap (λ x. cond_depth (cond_tree x)) c.in-Not.is, ap (λ x. cond_depth (cond_tree x)) c.deref-in-Not.ensures), (search rules, c.requires.pures))
+
+-- src/values.rt:49:1
+pub eval_any-returns-in_ok-eval-in-Neg-clause-value : goal.eval_any-returns-in_ok-eval-in-Neg-clause-value
+eval_any-returns-in_ok-eval-in-Neg-clause-value t c =
+    let f : SFits w64 c.in_ok-eval-in-Neg.field-0 = search rules in
+    neg_gives _ _ _ _ _ _ _ _ _ _ (ap expr_tree c.in-Neg.is) c.deref.ensures c.in_ok-eval-in-Neg.ensures.value (simp to_z-of_z at (c.negate.ensures c.eval.new.steps))
+
+-- src/values.rt:49:1
+pub eval_any-returns-in-Ok-eval-clause-value : goal.eval_any-returns-in-Ok-eval-clause-value
+eval_any-returns-in-Ok-eval-clause-value t c =
+    let f : SFits w64 c.in-Ok.x = search rules in
+    let g : SFits w64 c.in-Ok-eval.y = search rules in
+    binary_gives _ _ _ _ _ _ _ _ _ _ _ _ _ _ _ (ap expr_tree c.in-Binary.is) c.deref-in-Binary.ensures c.deref-in-Binary-2.ensures c.in-Ok.ensures.value c.in-Ok-eval.ensures.value (simp to_z-of_z at (c.operate.ensures c.eval-in-Binary-2.new.steps))
+
+-- src/values.rt:49:1
+pub eval_any-returns-in-Pure-clause-value : goal.eval_any-returns-in-Pure-clause-value
+eval_any-returns-in-Pure-clause-value t c =
+    pure_gives _ _ _ _ _ _ c.in-Pure.values _ _ c.in-Pure.is c.deref-in-Pure.ensures.value c.call_pure.ensures.value
+
+-- src/values.rt:151:5
+pub eval_all-loop-i-preserved : goal.eval_all-loop-i-preserved
+eval_all-loop-i-preserved t c =
+    let f : SFits w64 c.in_ok-out.field-0 = search rules in
+    record { narrow = narrow_more c.args.values.now c.loop-i.i (omega arith) c.loop-i.invariant.narrow; later = search rules; value = eval_all_more _ _ _ c.args.steps.now _ _ (exprs_of_list (map expr_tree c.args.values.now)) c.args.values.now c.loop-i.i _ c.loop-i.out _ _ (omega arith) (omega arith) c.index-values-i.is (ap (set c.loop-i.out c.loop-i.i) (to_z-of_z w64 c.in_ok-out.field-0 f)) c.in_ok-out.ensures.value c.loop-i.invariant.value }
+
+-- src/values.rt:89:21
+pub eval_cond-returns-in-Err-eval-clause-value :
+    goal.eval_cond-returns-in-Err-eval-clause-value
+eval_cond-returns-in-Err-eval-clause-value t c =
+    grind (arith, common_steps, compare_sticks _ _ _ _ _ _ _ _ _ _ _ _ _ (ap cond_tree c.in-Compare.is) refl refl c.in-Ok.ensures.value c.in-Err-eval.ensures.value)
+
+-- src/values.rt:78:1
+pub eval_cond-returns-in-Ok-eval-clause-value :
+    goal.eval_cond-returns-in-Ok-eval-clause-value
+eval_cond-returns-in-Ok-eval-clause-value t c =
+    let f : SFits w64 c.in-Ok.x = search rules in
+    let g : SFits w64 c.in-Ok-eval.y = search rules in
+    compare_gives _ _ _ _ _ _ _ _ _ _ _ _ _ _ _ (ap cond_tree c.in-Compare.is) refl refl c.in-Ok.ensures.value c.in-Ok-eval.ensures.value (ap (λ b. gives b c.eval-in-Compare.new.steps) (simp to_z-of_z at c.compares.ensures))
+
+-- src/values.rt:78:1
+pub eval_cond-returns-in_ok-eval_cond-in-Not-clause-value :
+    goal.eval_cond-returns-in_ok-eval_cond-in-Not-clause-value
+eval_cond-returns-in_ok-eval_cond-in-Not-clause-value t c =
+    negated_gives _ _ _ _ _ _ _ _ _ _ (ap cond_tree c.in-Not.is) c.deref-in-Not.ensures c.in_ok-eval_cond-in-Not.ensures.value refl
+
+pub eval_any-returns-then-holds-clause-value : goal.eval_any-returns-then-holds-clause-value
+eval_any-returns-then-holds-clause-value t c =
+    pick_gives _ _ _ _ _ c.in-Pick.on_true.value c.in-Pick.on_false.value _ _ _ true c.eval_cond.new.steps _ (ap expr_tree c.in-Pick.is) c.deref-in-Pick.ensures c.deref-then-holds.ensures (ap (λ b. gives b c.eval_cond.new.steps) (sym c.if-holds.true) ∙ c.in_ok-holds-in-Pick.ensures.value) c.eval-then-holds.ensures.value
+
+pub eval_any-returns-else-holds-clause-value : goal.eval_any-returns-else-holds-clause-value
+eval_any-returns-else-holds-clause-value t c =
+    pick_gives _ _ _ _ _ c.in-Pick.on_true.value c.in-Pick.on_false.value _ _ _ false c.eval_cond.new.steps _ (ap expr_tree c.in-Pick.is) c.deref-in-Pick.ensures c.deref-else-holds.ensures (ap (λ b. gives b c.eval_cond.new.steps) (sym c.if-holds.false) ∙ c.in_ok-holds-in-Pick.ensures.value) c.eval-else-holds.ensures.value
+
+pub eval_cond-returns-then-holds-clause-value : goal.eval_cond-returns-then-holds-clause-value
+eval_cond-returns-then-holds-clause-value t c =
+    both_goes_on _ _ _ _ _ _ c.in-Both.right.value _ _ c.eval_cond.new.steps _ (ap cond_tree c.in-Both.is) c.deref.ensures c.deref-then-holds.ensures (ap (λ b. gives b c.eval_cond.new.steps) (sym c.if-holds.true) ∙ c.in_ok-holds-in-Both.ensures.value) c.eval_cond-then-holds.ensures.value
+
+pub eval_cond-returns-else-holds-2-clause-value : goal.eval_cond-returns-else-holds-2-clause-value
+eval_cond-returns-else-holds-2-clause-value t c =
+    either_goes_on _ _ _ _ _ _ c.in-Either.right.value _ _ c.eval_cond-in-Either.new.steps _ (ap cond_tree c.in-Either.is) c.deref-in-Either.ensures c.deref-else-holds-2.ensures (ap (λ b. gives b c.eval_cond-in-Either.new.steps) (sym c.if-holds-2.false) ∙ c.in_ok-holds-in-Either.ensures.value) c.eval_cond-else-holds-2.ensures.value
+
+pub run_body-returns-clause-value : goal.run_body-returns-clause-value
+run_body-returns-clause-value t c =
+    function_gives (functions_of [] (map pure_tree c.args.earlier.now)) (pure_tree c.args.pure.now) _ _ c.take_step.new.steps (view_reads c.plain_view-view.result) _ c.plain_view-view.ensures.reads c.in_ok-take_step.ensures.taken (c.eval.ensures.value ∙ same)
+  where
+    same : eval (view_functions c.plain_view-view.result) (view_reads c.plain_view-view.result) c.plain_view-view.result.line (expr_tree c.args.pure.now.body) c.take_step.new.steps ≡ eval (functions_of [] (map pure_tree c.args.earlier.now)) (view_reads c.plain_view-view.result) c.args.pure.now.line (expr_tree c.args.pure.now.body) c.take_step.new.steps
+    same = λ i. eval (functions_of [] (map pure_tree (c.plain_view-view.ensures.pures i))) (view_reads c.plain_view-view.result) (c.plain_view-view.ensures.line i) (expr_tree c.args.pure.now.body) c.take_step.new.steps
+
+pub run_pure-run_body-requires : goal.run_pure-run_body-requires
+run_pure-run_body-requires t c =
+    let h : c.args.k < length c.args.pures.now = grind (arith, nat_tests) in
+    let e : c.in-Some.pure.now ≡ get_or c.args.pures.now c.args.k c.in-Some.pure.now = c.in-Some.ensures.lookup.1 in
+    let b : bodies (take c.args.k c.args.pures.now) + 8 * depth_of c.in-Some.pure.now.body + 2 < bodies c.args.pures.now = bodies_at c.args.pures.now c.args.k c.in-Some.pure.now h e in
+    (omega arith, (pures_take c.args.pures.now c.args.k c.requires.pures, pures_at c.args.pures.now c.args.k c.in-Some.pure.now h e c.requires.pures))
+
+pub run_pure-returns-in-Some-clause-value : goal.run_pure-returns-in-Some-clause-value
+run_pure-returns-in-Some-clause-value t c =
+    let h : c.args.k < length c.args.pures.now = grind (arith, nat_tests) in
+    let e : c.in-Some.pure.now ≡ get_or c.args.pures.now c.args.k c.in-Some.pure.now = c.in-Some.ensures.lookup.1 in
+    let f = function_there c.args.pures.now c.args.k c.in-Some.pure.now h e in
+    c.run_body.ensures.value ∙ sym (ap (λ (g : Function). g c.args.values.now c.args.steps.now) f)
+
+pub run_pure-returns-in-None-clause-value : goal.run_pure-returns-in-None-clause-value
+run_pure-returns-in-None-clause-value t c =
+    let h : length c.args.pures.now ≤ c.args.k = grind (arith, nat_tests) in
+    sym (ap (λ (g : Function). g c.args.values.now c.args.steps.now) (function_past c.args.pures.now c.args.k h))

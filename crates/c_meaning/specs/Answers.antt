@@ -1,0 +1,19 @@
+-- What the code's evaluations give.
+use Rattle.std.specs.Prelude.{ℕ, ◌≤◌, ◌^◌, max, Result, Ok, Err}
+use Rattle.c_tree.specs.declared.fault.Stuck.{Stuck}
+use Rattle.c_tree.specs.Values.{Answer, gives, sticks}
+
+-- a result, with the count of the steps so far
+abbrev pub answered : {A : Type 0} → Result A Stuck → ℕ → Answer A
+answered (Ok value) steps = gives value steps
+answered (Err at) steps = sticks at
+
+-- a result that was put into a slice
+abbrev pub put_answer : {A B : Type 0} → Result A Stuck → B → ℕ → Answer B
+put_answer (Ok done) value steps = gives value steps
+put_answer (Err at) value steps = sticks at
+
+-- a count of steps that went on, and not past the limit
+pub record IsLater (before after : ℕ) : Type 0 where
+  pub least : before ≤ after
+  pub most : after ≤ max before (2 ^ 32)

@@ -1,0 +1,42 @@
+-- The layouts of two structs, the second of which holds the first between two numbers.
+use Rattle.std.specs.Prelude.{◌≡◌, refl, ℤ, pos, List, [], ◌∷◌, Some, codes}
+use Rattle.c_tree.specs.declared.code.CType.TheVariants.{I8, I32}
+use Rattle.c_tree.specs.declared.program.FieldKind.TheVariants as kind
+use Rattle.c_tree.specs.Tree.{StructTree}
+use Rattle.c_tree.specs.Cells.{Cells, number, object, no_cells, more_cells}
+use Rattle.c_meaning.specs.declared.slots.Slot.TheVariants.{Number, Instance}
+use Rattle.c_meaning.specs.Layouts.{layouts_of}
+use Rattle.c_meaning.specs.Slots.{StructLayout, number_in, number_under}
+use Rattle.c_meaning.specs.States.{filled, numbers_of}
+
+abbrev pub pair : StructTree
+pair = record { name = codes "pair"; fields = record { name = codes "a"; kind = kind.Number I8 } ∷ record { name = codes "b"; kind = kind.Number I32 } ∷ [] }
+
+abbrev pub root : StructTree
+root = record { name = codes "root"; fields = record { name = codes "x"; kind = kind.Number I32 } ∷ record { name = codes "p"; kind = kind.Struct 0 } ∷ record { name = codes "y1"; kind = kind.Number I8 } ∷ [] }
+
+abbrev pub two : List StructLayout
+two = layouts_of [] (pair ∷ root ∷ [])
+
+-- four numbers: x, p.a, p.b, y1
+pub two-are : two ≡ record { size = 2; slots = Number 0 I8 ∷ Number 1 I32 ∷ [] } ∷ record { size = 4; slots = Number 0 I32 ∷ Instance 1 2 0 ∷ Number 3 I8 ∷ [] } ∷ []
+two-are = refl
+
+abbrev pub four : List ℤ
+four = pos 10 ∷ pos 20 ∷ pos 30 ∷ pos 40 ∷ []
+
+pub y-reads : number_in four (Some (Number 3 I8)) ≡ pos 40
+y-reads = refl
+
+pub p-b-reads : number_under two four (Some (Instance 1 2 0)) 1 ≡ pos 30
+p-b-reads = refl
+
+abbrev pub zeros : Cells
+zeros = more_cells (number (pos 0)) (more_cells (object (more_cells (number (pos 0)) (more_cells (number (pos 0)) no_cells))) (more_cells (number (pos 0)) no_cells))
+
+-- the fields with these numbers, and their numbers again
+pub filled-four : filled zeros four ≡ more_cells (number (pos 10)) (more_cells (object (more_cells (number (pos 20)) (more_cells (number (pos 30)) no_cells))) (more_cells (number (pos 40)) no_cells))
+filled-four = refl
+
+pub numbers-again : numbers_of (filled zeros four) ≡ four
+numbers-again = refl

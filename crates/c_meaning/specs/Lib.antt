@@ -1,0 +1,13 @@
+pub mod States
+pub mod Machines
+pub mod Slots
+pub mod Layouts
+pub mod LayoutExamples
+pub mod Answers
+pub mod Reads
+pub mod Sound
+pub mod Seen
+pub mod Roots
+pub mod Instances
+pub mod Numbering
+pub mod InstanceExamples

@@ -1,0 +1,129 @@
+// What the body of a procedure sees, and its expressions.
+ghost use Rattle.std.specs.Prelude.{◌≡◌, ◌≤◌, [], length, map};
+ghost use Rattle.c_tree.specs.Cells.{no_cells};
+ghost use Rattle.c_tree.specs.Plain.{expr_tree, cond_tree, pure_tree, program_tree};
+ghost use Rattle.c_tree.specs.Tree.{exprs_of_list};
+ghost use Rattle.c_tree.specs.Machine.{arguments};
+ghost use Rattle.c_tree.specs.Values.{eval, eval_cond, functions_of, reads, and_then, within};
+ghost use Rattle.c_meaning.specs.Answers.{answered, put_answer, IsLater};
+ghost use Rattle.c_meaning.specs.Reads.{view_reads, view_functions, IsNarrowExpr, AreNarrowExprs, IsNarrowCond, AreNarrow};
+ghost use Rattle.c_meaning.specs.States.{filled};
+ghost use Rattle.c_meaning.specs.Sound.{IsReady, zero_at};
+
+use crate::arithmetic::is_in_type;
+use crate::slots::{Layout, slots_at};
+use crate::values::{View, eval, eval_cond};
+use c_tree::{CType, Cond, Expr, Program, Stuck, Why};
+use mc_base::Text;
+
+/// A body: its program with the machine's tables, the procedure's position, its struct, and its arguments.
+#[derive(Clone, Copy)]
+pub(crate) struct Frame<'a> {
+    pub(crate) program: &'a Program,
+    pub(crate) layouts: &'a [Layout],
+    pub(crate) logged: &'a [bool],
+    pub(crate) level: usize,
+    pub(crate) of: u32,
+    pub(crate) values: &'a [i64],
+}
+
+#[inline(always)]
+fn view_of<'a>(frame: &Frame<'a>, numbers: &'a [i64], line: u32) -> View<'a>
+    requires { IsReady (program_tree frame.now.program.now) frame.now.layouts.now frame.now.logged.now }
+    ensures pures { result.pures.now ≡ frame.now.program.now.pure.items }
+    ensures line { result.line ≡ line }
+    ensures reads { view_reads result ≡ reads frame.now.values.now (filled (zero_at (program_tree frame.now.program.now) frame.now.of) numbers.now) }
+{
+    View {
+        pures: &frame.program.pure,
+        layouts: frame.layouts,
+        slots: slots_at(frame.layouts, frame.of),
+        numbers,
+        values: frame.values,
+        line,
+    }
+}
+
+/// The value of an expression of the body.
+#[inline(always)]
+pub(crate) fn value_of(
+    frame: &Frame,
+    numbers: &[i64],
+    line: u32,
+    e: &Expr,
+    steps: &mut u64,
+) -> Result<i64, Stuck>
+    requires ready { IsReady (program_tree frame.now.program.now) frame.now.layouts.now frame.now.logged.now }
+    requires narrow { IsNarrowExpr (expr_tree e.now) }
+    ensures value { answered result steps.new ≡ eval (functions_of [] (program_tree frame.now.program.now).pures) (reads frame.now.values.now (filled (zero_at (program_tree frame.now.program.now) frame.now.of) numbers.now)) line (expr_tree e.now) steps.old }
+    ensures later { IsLater steps.old steps.new }
+{
+    let view = view_of(frame, numbers, line);
+    eval(&view, e, steps)
+}
+
+/// Whether a condition of the body holds.
+pub(crate) fn holds(
+    frame: &Frame,
+    numbers: &[i64],
+    line: u32,
+    test: &Cond,
+    steps: &mut u64,
+) -> Result<bool, Stuck>
+    requires ready { IsReady (program_tree frame.now.program.now) frame.now.layouts.now frame.now.logged.now }
+    requires narrow { IsNarrowCond (cond_tree test.now) }
+    ensures value { answered result steps.new ≡ eval_cond (functions_of [] (program_tree frame.now.program.now).pures) (reads frame.now.values.now (filled (zero_at (program_tree frame.now.program.now) frame.now.of) numbers.now)) line (cond_tree test.now) steps.old }
+    ensures later { IsLater steps.old steps.new }
+{
+    let view = view_of(frame, numbers, line);
+    eval_cond(&view, test, steps)
+}
+
+/// An argument, in its parameter's type.
+#[tactic(auto, using(crate::proofs::Evaluations::and_then_gives, crate::proofs::Evaluations::and_then_sticks))]
+fn argument(
+    frame: &Frame,
+    numbers: &[i64],
+    line: u32,
+    of: CType,
+    e: &Expr,
+    steps: &mut u64,
+) -> Result<i64, Stuck>
+    requires ready { IsReady (program_tree frame.now.program.now) frame.now.layouts.now frame.now.logged.now }
+    requires narrow { IsNarrowExpr (expr_tree e.now) }
+    ensures value { answered result steps.new ≡ and_then (eval (functions_of [] (program_tree frame.now.program.now).pures) (reads frame.now.values.now (filled (zero_at (program_tree frame.now.program.now) frame.now.of) numbers.now)) line (expr_tree e.now) steps.old) (within of Why.Range line) }
+    ensures later { IsLater steps.old steps.new }
+{
+    let value = value_of(frame, numbers, line, e, steps)?;
+    if is_in_type(of, value) {
+        Ok(value)
+    } else {
+        Err(Stuck {
+            line,
+            why: Why::Range,
+        })
+    }
+}
+
+/// The arguments of a call, each of them judged before the next is evaluated.
+pub(crate) fn put_arguments(
+    frame: &Frame,
+    numbers: &[i64],
+    line: u32,
+    params: &[(Text, CType)],
+    values: &[Expr],
+    out: &mut [i64],
+    steps: &mut u64,
+) -> Result<(), Stuck>
+    requires ready { IsReady (program_tree frame.now.program.now) frame.now.layouts.now frame.now.logged.now }
+    requires narrow { AreNarrowExprs (exprs_of_list (map expr_tree values.now)) }
+    requires params { length params.now ≡ length values.now }
+    requires room { length out.old ≡ length values.now }
+    ensures value { put_answer result out.new steps.new ≡ arguments (functions_of [] (program_tree frame.now.program.now).pures) (reads frame.now.values.now (filled (zero_at (program_tree frame.now.program.now) frame.now.of) numbers.now)) line (map (λ q. q.1) params.now) (exprs_of_list (map expr_tree values.now)) steps.old }
+    ensures later { IsLater steps.old steps.new }
+{
+    for i in 0..values.len() {
+        out[i] = argument(frame, numbers, line, params[i].1, &values[i], steps)?;
+    }
+    Ok(())
+}

@@ -1,0 +1,198 @@
+ghost use Rattle.std.specs.Prelude.{◌≡◌, ◌<◌, length, IfOk, IfErr, IfSome, option_and_then};
+ghost use Rattle.c_tree.specs.Plain.{program_tree};
+ghost use Rattle.c_tree.specs.Rows.{root_struct};
+ghost use Rattle.c_meaning.specs.Instances.{instances, instance_at, child_named, number_named};
+ghost use Rattle.c_meaning.specs.Machines.{IsStarted, IsStartFault, IsRow, IsTick, IsStuckTick, IsCallable, IsCall, IsStuckCall};
+ghost use Rattle.c_meaning.specs.Numbering.{IsNumbering};
+ghost use Rattle.c_meaning.specs.Roots.{HasTables};
+ghost use Rattle.c_meaning.specs.Sound.{IsReady};
+ghost use Rattle.c_meaning.specs.States.{tree_of, fields_of};
+
+use crate::calls::run_instance;
+use crate::instances::{Numbering, child_of, count_at, number_of};
+use crate::roots::{Tables, put_outputs, run_root, size_at, tables_of, zeros};
+use crate::slots::slots_at;
+use c_reader::Checked;
+use c_tree::{Cost, Stuck};
+use std::alloc::{AllocError, Global};
+use std::marker::Model;
+
+/// Why there is no machine: `root_start` is stuck, or memory ran out.
+#[derive(Clone, Copy, Debug, PartialEq, Eq, Drop)]
+pub enum NewFault {
+    Stuck(Stuck),
+    Memory,
+}
+
+impl From<AllocError> for NewFault {
+    ghost use Rattle.std.specs.Prelude.{◌≡◌};
+    ghost use Rattle.c_meaning.specs.declared.machine.NewFault.{NewFault};
+
+    ghost from_gives = { λ e f. f ≡ NewFault.Memory };
+
+    fn from(_: AllocError) -> NewFault {
+        NewFault::Memory
+    }
+}
+
+/// A program with its numbers. It is seen as the program and the numbers of the fields of `struct root` and of the structs in it,
+/// in the order in which they stand.
+#[derive(Drop)]
+pub struct Machine {
+    checked: Checked,
+    tables: Tables,
+    numbers: Vec<i64>,
+}
+
+impl Model for Machine {
+    ghost use Rattle.c_tree.specs.contracts.code.Expr as expression;
+    ghost use Rattle.c_tree.specs.contracts.code.Stmt as statement;
+    ghost use Rattle.std.specs.Coded.{codes};
+    ghost use Rattle.c_meaning.specs.States.{MachineState};
+    ghost use Rattle.c_meaning.specs.Roots.{IsMachine};
+
+    ghost Value = { MachineState };
+
+    ghost coded = { Prim.hlevel (codes, expression.the_row.coded, statement.the_row.coded) };
+
+    ghost view = { λ m. record { program = m.checked; numbers = m.numbers.items } };
+
+    ghost invariant = { λ m. IsMachine m.checked m.tables m.numbers.items };
+}
+
+impl Machine {
+    /// The program's numbers are 0, and then `root_start` is run. All memory is taken here.
+    ///
+    /// # Errors
+    ///
+    /// `Stuck` exactly where `root_start` is stuck, with its line and why; `Memory` where memory ran out, or where a struct has
+    /// more numbers than a `usize` can count, or an instance of it, with those inside, is more than a `u32` can count.
+    pub fn new(alloc: Global, program: Checked) -> Result<Machine, NewFault>
+        ensures started { IfOk result (IsStarted program) }
+        ensures stuck { IfErr result (IsStartFault program) }
+    {
+        let tables = tables_of(alloc, program.program(), program.outputs())?;
+        let mut numbers = zeros(alloc, size_at(&tables.layouts, tables.root))?;
+        let start = run_root(
+            program.program(),
+            &tables.layouts,
+            &tables.logged,
+            tables.root,
+            tables.start,
+            &[],
+            &mut numbers,
+        );
+        match start {
+            Ok(_) => Ok(Machine {
+                checked: program,
+                tables,
+                numbers,
+            }),
+            Err(at) => Err(NewFault::Stuck(at)),
+        }
+    }
+
+    /// The program.
+    pub fn checked(&self) -> &Checked
+        ensures { result.now ≡ self.now.program }
+    {
+        &self.checked
+    }
+
+    /// A tick: `root_step` on a row of inputs, whose outputs y1, y2 and so on are put into `outputs`. The result is what it
+    /// took: steps, and calls of interface procedures.
+    ///
+    /// # Errors
+    ///
+    /// Exactly where the machine is stuck, with the line and why (C99, 6.5 and 6.3.1.3, made strict); its fields are then as the
+    /// run left them, and `outputs` may hold anything.
+    pub fn tick(&mut self, inputs: &[i64], outputs: &mut [i64]) -> Result<Cost, Stuck>
+        requires row { IsRow self.old inputs.now }
+        requires outputs { length outputs.old ≡ self.old.program.outputs }
+        ensures program { self.new.program ≡ self.old.program }
+        ensures room { length outputs.new ≡ length outputs.old }
+        ensures ticked { IfOk result (IsTick self.old self.new inputs.now outputs.new) }
+        ensures stuck { IfErr result (IsStuckTick self.old self.new inputs.now) }
+    {
+        let tables = &self.tables;
+        let cost = run_root(
+            self.checked.program(),
+            &tables.layouts,
+            &tables.logged,
+            tables.root,
+            tables.step,
+            inputs,
+            &mut self.numbers,
+        )?;
+        let slots = slots_at(&tables.layouts, tables.root);
+        put_outputs(slots, &tables.outputs, &self.numbers, outputs);
+        Ok(cost)
+    }
+
+    /// The number of the instance in the struct field with a name, of an instance. Instances are numbered from 0, the root: each
+    /// before those inside it, in the order of its fields. None exactly where there is no such instance, or its struct has no
+    /// struct field of that name.
+    pub fn child(&self, instance: u32, field: &[u8]) -> Option<u32>
+        ensures child { option_and_then (instance_at (tree_of self.now)) result ≡ option_and_then (child_named (tree_of self.now) field.now) (instance_at (tree_of self.now) instance) }
+        ensures there { IfSome result (λ j. j < length (instances (tree_of self.now))) }
+    {
+        let numbering = numbering_of(&self.checked, &self.tables);
+        child_of(&numbering, instance, field)
+    }
+
+    /// The number in the number field with a name, of an instance. None exactly where there is no such instance, or its struct has
+    /// no number field of that name.
+    pub fn field(&self, instance: u32, name: &[u8]) -> Option<i64>
+        ensures { result ≡ option_and_then (number_named (tree_of self.now) (fields_of self.now) name.now) (instance_at (tree_of self.now) instance) }
+    {
+        let numbering = numbering_of(&self.checked, &self.tables);
+        number_of(&numbering, &self.numbers, instance, name)
+    }
+
+    /// A call from outside of a procedure, on an instance of its struct, with arguments in the types of its parameters. The
+    /// result is what it took: steps, and calls of interface procedures, this one with them.
+    ///
+    /// # Errors
+    ///
+    /// Exactly where the machine is stuck, with the line and why (C99, 6.5 and 6.3.1.3, made strict); its fields are then as the
+    /// run left them.
+    pub fn call(&mut self, procedure: u32, instance: u32, values: &[i64]) -> Result<Cost, Stuck>
+        requires { IsCallable self.old procedure instance values.now }
+        ensures program { self.new.program ≡ self.old.program }
+        ensures called { IfOk result (IsCall self.old self.new procedure instance values.now) }
+        ensures stuck { IfErr result (IsStuckCall self.old self.new procedure instance values.now) }
+    {
+        let tables = &self.tables;
+        let numbering = numbering_of(&self.checked, tables);
+        run_instance(
+            &numbering,
+            &tables.logged,
+            procedure,
+            instance,
+            values,
+            &mut self.numbers,
+        )
+    }
+}
+
+// The numbering of a program's instances, by its tables.
+fn numbering_of<'a>(checked: &'a Checked, tables: &'a Tables) -> Numbering<'a>
+    requires { HasTables checked.now tables.now }
+    ensures numbering { IsNumbering result }
+    ensures program { result.program.now ≡ checked.now.program }
+    ensures ready { IsReady (program_tree result.program.now) result.layouts.now tables.now.logged.items }
+    ensures layouts { result.layouts.now ≡ tables.now.layouts.items }
+    ensures root { result.root ≡ tables.now.root }
+    ensures root_struct { result.root ≡ root_struct (program_tree result.program.now) }
+{
+    Numbering {
+        program: checked.program(),
+        layouts: &tables.layouts,
+        counts: &tables.counts,
+        root: tables.root,
+        count: count_at(&tables.counts, tables.root),
+    }
+}
+
+#[cfg(test)]
+mod tests;

@@ -1,0 +1,182 @@
+ghost use Rattle.std.specs.Prelude.{◌≡◌, IsTrue, Some, slice_get, []};
+ghost use Rattle.c_tree.specs.Plain.{program_tree};
+ghost use Rattle.c_tree.specs.Tree.{ProcedureTree};
+ghost use Rattle.c_meaning.specs.Machines.{IsCallable};
+
+use super::*;
+use crate::instances::place_of;
+use c_reader::read_c;
+use c_tree::{Program, Why};
+use std::test::Fail;
+
+// Instances: 0 is the root, 1 its m, 2 and 3 the l and r of m, and 4 its n.
+const NESTED: &[u8] = b"#include <stdint.h>
+struct leaf { int8_t v; int32_t w; };
+struct mid { int32_t a; struct leaf l; struct leaf r; };
+struct root { struct mid m; int32_t y1; struct leaf n; };
+static void leaf_update(struct leaf *s) {
+  if (INT64_C(0) < (int64_t)s->w) {
+    s->v = (int8_t)((int64_t)s->v + INT64_C(100));
+  }
+  s->w = (int32_t)((int64_t)s->w + INT64_C(1));
+}
+static void mid_out1(struct mid *s) {
+  s->a = (int32_t)INT64_C(5);
+  leaf_update(&s->r);
+}
+void root_start(struct root *s) {
+  s->y1 = (int32_t)INT64_C(9);
+}
+void root_step(struct root *s) {
+  s->y1 = (int32_t)((int64_t)s->y1 / (int64_t)s->m.a);
+}
+";
+
+const STUCK_AT_START: &[u8] = b"#include <stdint.h>
+struct root { int8_t y1; };
+void root_start(struct root *s) {
+  s->y1 = (int8_t)INT64_C(128);
+}
+void root_step(struct root *s) { }
+";
+
+// The machine of a text that is a program.
+fn machine_of(alloc: Global, text: &[u8]) -> Result<Machine, NewFault> {
+    match read_c(alloc, text) {
+        Ok(checked) => Machine::new(alloc, checked),
+        Err(_) => Err(NewFault::Memory),
+    }
+}
+
+// A tick without inputs, if the program has none, and as many outputs.
+fn tick_of(machine: &mut Machine, outputs: &mut [i64]) -> Option<Result<Cost, Stuck>> {
+    let checked = machine.checked();
+    if checked.inputs().is_empty() && checked.outputs() as usize == outputs.len() {
+        Some(machine.tick(&[], outputs))
+    } else {
+        None
+    }
+}
+
+// What a machine tells when it is stuck.
+fn stuck(line: u32, why: Why) -> Option<Result<Cost, Stuck>> {
+    Some(Err(Stuck { line, why }))
+}
+
+// A procedure without further parameters, of a struct.
+fn is_plain(program: &Program, procedure: u32, of: u32) -> bool
+    ensures { IsTrue result → (q : ProcedureTree) × (slice_get (program_tree program.now).procedures procedure ≡ Some q) × (q.of ≡ of) × (q.params ≡ []) }
+{
+    let at = procedure as usize;
+    if at >= program.procedures.len() {
+        return false;
+    }
+    let q = &program.procedures[at];
+    if q.of != of {
+        return false;
+    }
+    if q.params.len() > 0 {
+        return false;
+    }
+    true
+}
+
+// Such a procedure of the struct of an instance.
+fn is_callable(machine: &Machine, procedure: u32, instance: u32) -> bool
+    ensures { IsTrue result → IsCallable machine.now procedure instance [] }
+{
+    let numbering = numbering_of(&machine.checked, &machine.tables);
+    match place_of(&numbering, instance) {
+        Some(place) => is_plain(numbering.program, procedure, place.of),
+        None => false,
+    }
+}
+
+// A call of a procedure without further parameters, if it is one of the instance's struct.
+fn call_of(machine: &mut Machine, procedure: u32, instance: u32) -> Option<Result<Cost, Stuck>> {
+    if is_callable(machine, procedure, instance) {
+        Some(machine.call(procedure, instance, &[]))
+    } else {
+        None
+    }
+}
+
+// What a call took.
+fn took(steps: u64, calls: u64) -> Option<Result<Cost, Stuck>> {
+    Some(Ok(Cost { steps, calls }))
+}
+
+#[test]
+fn instances_by_name(rt: HostRuntime) -> Result<(), Fail> {
+    let machine = machine_of(rt.alloc(), NESTED)?;
+    assert_eq!(rt; machine.child(0, b"m"), Some(1));
+    assert_eq!(rt; machine.child(1, b"l"), Some(2));
+    assert_eq!(rt; machine.child(1, b"r"), Some(3));
+    assert_eq!(rt; machine.child(0, b"n"), Some(4));
+    assert_eq!(rt; machine.child(0, b"y1"), None);
+    assert_eq!(rt; machine.child(0, b"l"), None);
+    assert_eq!(rt; machine.child(4, b"w"), None);
+    assert_eq!(rt; machine.child(5, b"m"), None);
+    Ok(())
+}
+
+#[test]
+fn numbers_by_name(rt: HostRuntime) -> Result<(), Fail> {
+    let machine = machine_of(rt.alloc(), NESTED)?;
+    assert_eq!(rt; machine.field(0, b"y1"), Some(9));
+    assert_eq!(rt; machine.field(1, b"a"), Some(0));
+    assert_eq!(rt; machine.field(4, b"w"), Some(0));
+    assert_eq!(rt; machine.field(0, b"m"), None);
+    assert_eq!(rt; machine.field(0, b"a"), None);
+    assert_eq!(rt; machine.field(5, b"y1"), None);
+    Ok(())
+}
+
+#[test]
+fn ticks(rt: HostRuntime) -> Result<(), Fail> {
+    let mut machine = machine_of(rt.alloc(), NESTED)?;
+    let mut outputs = [0];
+    assert_eq!(rt;
+        tick_of(&mut machine, &mut outputs),
+        stuck(19, Why::ZeroDivisor)
+    );
+    assert_eq!(rt; machine.field(0, b"y1"), Some(9));
+    Ok(())
+}
+
+#[test]
+fn starts_that_are_stuck(rt: HostRuntime) -> Result<(), Fail> {
+    let at = Stuck {
+        line: 4,
+        why: Why::Range,
+    };
+    match machine_of(rt.alloc(), STUCK_AT_START) {
+        Ok(_) => assert!(rt; false),
+        Err(fault) => assert_eq!(rt; fault, NewFault::Stuck(at)),
+    }
+    Ok(())
+}
+
+#[test]
+fn calls_of_instances(rt: HostRuntime) -> Result<(), Fail> {
+    let mut machine = machine_of(rt.alloc(), NESTED)?;
+    assert_eq!(rt; call_of(&mut machine, 1, 1), took(4, 2));
+    assert_eq!(rt; machine.field(1, b"a"), Some(5));
+    assert_eq!(rt; machine.field(2, b"w"), Some(0));
+    assert_eq!(rt; machine.field(3, b"w"), Some(1));
+    assert_eq!(rt; call_of(&mut machine, 0, 4), took(2, 1));
+    assert_eq!(rt; machine.field(4, b"w"), Some(1));
+    assert_eq!(rt; machine.field(3, b"w"), Some(1));
+    Ok(())
+}
+
+#[test]
+fn calls_that_are_stuck(rt: HostRuntime) -> Result<(), Fail> {
+    let mut machine = machine_of(rt.alloc(), NESTED)?;
+    assert_eq!(rt; call_of(&mut machine, 1, 1), took(4, 2));
+    assert_eq!(rt; call_of(&mut machine, 1, 1), took(5, 2));
+    assert_eq!(rt; call_of(&mut machine, 1, 1), stuck(7, Why::Range));
+    assert_eq!(rt; machine.field(3, b"v"), Some(100));
+    assert_eq!(rt; machine.field(3, b"w"), Some(2));
+    Ok(())
+}

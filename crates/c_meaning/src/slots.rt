@@ -1,0 +1,100 @@
+// Where the numbers of an instance stand.
+ghost use Rattle.std.specs.Prelude.{◌≡◌, drop, slice_get};
+ghost use Rattle.c_meaning.specs.Slots.{layout_at, number_in, number_under};
+
+use c_tree::CType;
+use std::marker::Model;
+
+/// The place of a field in the numbers of its instance: a number of a type, or so many numbers of an instance of a struct.
+#[derive(Clone, Copy, Drop)]
+pub(crate) enum Slot {
+    Number { at: usize, of: CType },
+    Instance { at: usize, size: usize, of: u32 },
+}
+
+/// A struct: how many numbers an instance has, and the places of its fields.
+#[derive(Drop)]
+pub(crate) struct Layout {
+    pub(crate) size: usize,
+    pub(crate) slots: Vec<Slot>,
+}
+
+impl Model for Layout {
+    ghost use Rattle.c_meaning.specs.Slots.{StructLayout};
+
+    ghost Value = { StructLayout };
+
+    ghost view = { λ s. record { size = s.size; slots = s.slots.items } };
+}
+
+impl Layout {
+    /// How many numbers an instance has.
+    pub(crate) fn size(&self) -> usize
+        ensures { result ≡ self.now.size }
+    {
+        self.size
+    }
+
+    /// The places of the fields.
+    pub(crate) fn slots(&self) -> &[Slot]
+        ensures { result.now ≡ self.now.slots }
+    {
+        &self.slots
+    }
+}
+
+/// The number that a field holds, and 0 where it holds none.
+pub(crate) fn number_in(numbers: &[i64], slot: Option<Slot>) -> i64
+    ensures { result ≡ number_in numbers.now slot }
+{
+    match slot {
+        Some(Slot::Number { at, .. }) => numbers.get(at).copied().unwrap_or(0),
+        _ => 0,
+    }
+}
+
+/// The place of the field at a position.
+pub(crate) fn slot_in(slots: &[Slot], field: usize) -> Option<Slot>
+    ensures { result ≡ slice_get slots.now field }
+{
+    slots.get(field).copied()
+}
+
+/// The places of the fields of the struct at a position.
+pub(crate) fn slots_at(layouts: &[Layout], of: u32) -> &[Slot]
+    ensures { result.now ≡ (layout_at layouts.now of).slots }
+{
+    match layouts.get(of as usize) {
+        Some(layout) => layout.slots(),
+        None => &[],
+    }
+}
+
+/// The numbers from a place on.
+pub(crate) fn numbers_from(numbers: &[i64], at: usize) -> &[i64]
+    ensures { result.now ≡ drop at numbers.now }
+{
+    if at <= numbers.len() {
+        &numbers[at..]
+    } else {
+        &[]
+    }
+}
+
+/// The number that a field of a field holds, and 0 where it holds none.
+pub(crate) fn number_under(
+    layouts: &[Layout],
+    numbers: &[i64],
+    slot: Option<Slot>,
+    field: u32,
+) -> i64
+    ensures { result ≡ number_under layouts.now numbers.now slot field }
+{
+    match slot {
+        Some(Slot::Instance { at, of, .. }) => {
+            let inner = slots_at(layouts, of).get(field as usize).copied();
+            number_in(numbers_from(numbers, at), inner)
+        }
+        _ => 0,
+    }
+}

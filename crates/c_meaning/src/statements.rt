@@ -1,0 +1,282 @@
+// What statements do to the numbers of an instance.
+ghost use Rattle.std.specs.Prelude.{◌≡◌, ◌≤◌, ◌<◌, ◌+◌, List, length, map, slice_get, slice_index_or, Some, false, if◌then◌else◌};
+ghost use Rattle.c_tree.specs.declared.fault.Cost.{Cost};
+ghost use Rattle.c_tree.specs.Plain.{expr_tree, cond_tree, stmt_tree, program_tree};
+ghost use Rattle.c_tree.specs.Tree.{assign, branch, call, exprs_of_list, stmts_of_list, FieldTree, struct_fields, type_at, ProcedureTree};
+ghost use Rattle.c_tree.specs.Machine.{run_stmt, run_stmts, store, on_target, routine_at};
+ghost use Rattle.c_meaning.specs.Slots.{layout_at};
+ghost use Rattle.c_meaning.specs.States.{filled};
+ghost use Rattle.c_meaning.specs.Sound.{IsReady, IsSoundStmt, AreSoundStmts, IsNumberField, IsInstanceField, IsCallOf, IsProcedureOf, scope_at, zero_at};
+ghost use Rattle.c_meaning.specs.Seen.{seen, ended, IsCounted, IsStepped};
+
+use crate::arithmetic::{is_in_type, take_step};
+use crate::frames::{Frame, holds, put_arguments, value_of};
+use crate::slots::{Slot, slots_at};
+use crate::values::first_of;
+use c_tree::{CType, Cond, Cost, Expr, Stmt, Stuck, Target, Why};
+
+fn slot_at(frame: &Frame, field: u32) -> Option<Slot>
+    ensures { result ≡ slice_get (layout_at frame.now.layouts.now frame.now.of).slots field }
+{
+    slots_at(frame.layouts, frame.of)
+        .get(field as usize)
+        .copied()
+}
+
+// The place of a number field, and its type.
+#[tactic(auto, using(crate::proofs::Places::number_there))]
+fn number_slot(frame: &Frame, field: u32) -> (usize, CType)
+    requires ready { IsReady (program_tree frame.now.program.now) frame.now.layouts.now frame.now.logged.now }
+    requires number { IsNumberField (program_tree frame.now.program.now) frame.now.of field }
+    ensures { slice_get (layout_at frame.now.layouts.now frame.now.of).slots field ≡ Some (Slot.Number result.0 result.1) }
+{
+    match slot_at(frame, field) {
+        Some(Slot::Number { at, of }) => (at, of),
+        Some(Slot::Instance { .. }) => unreachable!(),
+        None => unreachable!(),
+    }
+}
+
+// The place of a field that holds an instance, its size and its struct.
+#[tactic(auto, using(crate::proofs::Places::instance_there))]
+fn instance_slot(frame: &Frame, field: u32) -> (usize, usize, u32)
+    requires ready { IsReady (program_tree frame.now.program.now) frame.now.layouts.now frame.now.logged.now }
+    requires instance { IsInstanceField (program_tree frame.now.program.now) frame.now.of field }
+    ensures { slice_get (layout_at frame.now.layouts.now frame.now.of).slots field ≡ Some (Slot.Instance result.0 result.1 result.2) }
+{
+    match slot_at(frame, field) {
+        Some(Slot::Instance { at, size, of }) => (at, size, of),
+        Some(Slot::Number { .. }) => unreachable!(),
+        None => unreachable!(),
+    }
+}
+
+// Stores a number in a field, if it is in the field's type.
+fn store(frame: &Frame, line: u32, field: u32, value: i64, numbers: &mut [i64]) -> Result<(), Stuck>
+    requires ready { IsReady (program_tree frame.now.program.now) frame.now.layouts.now frame.now.logged.now }
+    requires room { length numbers.old ≡ (layout_at frame.now.layouts.now frame.now.of).size }
+    requires number { IsNumberField (program_tree frame.now.program.now) frame.now.of field }
+    ensures { (cost : Cost) → ended (zero_at (program_tree frame.now.program.now) frame.now.of) result numbers.new cost
+        ≡ seen cost.calls (store line (type_at (scope_at (program_tree frame.now.program.now) frame.now.level frame.now.of frame.now.values.now).types field) field value (filled (zero_at (program_tree frame.now.program.now) frame.now.of) numbers.old) cost.steps) }
+{
+    let (at, of) = number_slot(frame, field);
+    if is_in_type(of, value) {
+        numbers[at] = value;
+        Ok(())
+    } else {
+        Err(Stuck {
+            line,
+            why: Why::Range,
+        })
+    }
+}
+
+fn set_field(
+    frame: &Frame,
+    line: u32,
+    field: u32,
+    e: &Expr,
+    numbers: &mut [i64],
+    cost: &mut Cost,
+) -> Result<(), Stuck>
+    requires ready { IsReady (program_tree frame.now.program.now) frame.now.layouts.now frame.now.logged.now }
+    requires sound { IsSoundStmt (program_tree frame.now.program.now) frame.now.level frame.now.of (assign line field (expr_tree e.now)) }
+    requires room { length numbers.old ≡ (layout_at frame.now.layouts.now frame.now.of).size }
+    requires counted { IsCounted cost.old }
+    ensures ran { ended (zero_at (program_tree frame.now.program.now) frame.now.of) result numbers.new cost.new
+        ≡ seen cost.old.calls (run_stmt (scope_at (program_tree frame.now.program.now) frame.now.level frame.now.of frame.now.values.now) (assign line field (expr_tree e.now)) (filled (zero_at (program_tree frame.now.program.now) frame.now.of) numbers.old) cost.old.steps) }
+    ensures counted { IsCounted cost.new }
+{
+    take_step(line, &mut cost.steps)?;
+    match value_of(frame, numbers, line, e, &mut cost.steps) {
+        Ok(value) => store(frame, line, field, value, numbers),
+        Err(at) => Err(at),
+    }
+}
+
+/// Runs statements, one after another.
+#[cycle(statement)]
+pub(crate) fn run_all(
+    frame: &Frame,
+    stmts: &[Stmt],
+    numbers: &mut [i64],
+    cost: &mut Cost,
+) -> Result<(), Stuck>
+    requires ready { IsReady (program_tree frame.now.program.now) frame.now.layouts.now frame.now.logged.now }
+    requires sound { AreSoundStmts (program_tree frame.now.program.now) frame.now.level frame.now.of (stmts_of_list (map stmt_tree stmts.now)) }
+    requires room { length numbers.old ≡ (layout_at frame.now.layouts.now frame.now.of).size }
+    requires counted { IsCounted cost.old }
+    ensures ran { ended (zero_at (program_tree frame.now.program.now) frame.now.of) result numbers.new cost.new
+        ≡ seen cost.old.calls (run_stmts (scope_at (program_tree frame.now.program.now) frame.now.level frame.now.of frame.now.values.now) (stmts_of_list (map stmt_tree stmts.now)) (filled (zero_at (program_tree frame.now.program.now) frame.now.of) numbers.old) cost.old.steps) }
+    ensures counted { IsCounted cost.new }
+{
+    for i in 0..stmts.len() {
+        run(frame, &stmts[i], numbers, cost)?;
+    }
+    Ok(())
+}
+
+#[cycle(statement)]
+fn run(frame: &Frame, stmt: &Stmt, numbers: &mut [i64], cost: &mut Cost) -> Result<(), Stuck>
+    requires ready { IsReady (program_tree frame.now.program.now) frame.now.layouts.now frame.now.logged.now }
+    requires sound { IsSoundStmt (program_tree frame.now.program.now) frame.now.level frame.now.of (stmt_tree stmt.now) }
+    requires room { length numbers.old ≡ (layout_at frame.now.layouts.now frame.now.of).size }
+    requires counted { IsCounted cost.old }
+    ensures ran { ended (zero_at (program_tree frame.now.program.now) frame.now.of) result numbers.new cost.new
+        ≡ seen cost.old.calls (run_stmt (scope_at (program_tree frame.now.program.now) frame.now.level frame.now.of frame.now.values.now) (stmt_tree stmt.now) (filled (zero_at (program_tree frame.now.program.now) frame.now.of) numbers.old) cost.old.steps) }
+    ensures counted { IsCounted cost.new }
+{
+    match stmt {
+        Stmt::Set { line, field, value } => set_field(frame, *line, *field, value, numbers, cost),
+        Stmt::If {
+            line,
+            test,
+            yes,
+            no,
+        } => run_if(frame, *line, test, yes, no, numbers, cost),
+        Stmt::Call {
+            line,
+            procedure,
+            target,
+            values,
+        } => { run_call(frame, *line, *procedure, *target, values, numbers, cost) }
+    }
+}
+
+#[cycle(statement)]
+fn run_if(
+    frame: &Frame,
+    line: u32,
+    test: &Cond,
+    on_true: &[Stmt],
+    on_false: &[Stmt],
+    numbers: &mut [i64],
+    cost: &mut Cost,
+) -> Result<(), Stuck>
+    requires ready { IsReady (program_tree frame.now.program.now) frame.now.layouts.now frame.now.logged.now }
+    requires sound { IsSoundStmt (program_tree frame.now.program.now) frame.now.level frame.now.of (branch line (cond_tree test.now) (stmts_of_list (map stmt_tree on_true.now)) (stmts_of_list (map stmt_tree on_false.now))) }
+    requires room { length numbers.old ≡ (layout_at frame.now.layouts.now frame.now.of).size }
+    requires counted { IsCounted cost.old }
+    ensures ran { ended (zero_at (program_tree frame.now.program.now) frame.now.of) result numbers.new cost.new
+        ≡ seen cost.old.calls (run_stmt (scope_at (program_tree frame.now.program.now) frame.now.level frame.now.of frame.now.values.now) (branch line (cond_tree test.now) (stmts_of_list (map stmt_tree on_true.now)) (stmts_of_list (map stmt_tree on_false.now))) (filled (zero_at (program_tree frame.now.program.now) frame.now.of) numbers.old) cost.old.steps) }
+    ensures counted { IsCounted cost.new }
+{
+    take_step(line, &mut cost.steps)?;
+    let is_so = holds(frame, numbers, line, test, &mut cost.steps)?;
+    if is_so {
+        run_all(frame, on_true, numbers, cost)
+    } else {
+        run_all(frame, on_false, numbers, cost)
+    }
+}
+
+#[cycle(statement)]
+fn run_call(
+    frame: &Frame,
+    line: u32,
+    procedure: u32,
+    target: Target,
+    values: &[Expr],
+    numbers: &mut [i64],
+    cost: &mut Cost,
+) -> Result<(), Stuck>
+    requires ready { IsReady (program_tree frame.now.program.now) frame.now.layouts.now frame.now.logged.now }
+    requires sound { IsSoundStmt (program_tree frame.now.program.now) frame.now.level frame.now.of (call line procedure target (exprs_of_list (map expr_tree values.now))) }
+    requires room { length numbers.old ≡ (layout_at frame.now.layouts.now frame.now.of).size }
+    requires counted { IsCounted cost.old }
+    ensures ran { ended (zero_at (program_tree frame.now.program.now) frame.now.of) result numbers.new cost.new
+        ≡ seen cost.old.calls (run_stmt (scope_at (program_tree frame.now.program.now) frame.now.level frame.now.of frame.now.values.now) (call line procedure target (exprs_of_list (map expr_tree values.now))) (filled (zero_at (program_tree frame.now.program.now) frame.now.of) numbers.old) cost.old.steps) }
+    ensures counted { IsCounted cost.new }
+{
+    take_step(line, &mut cost.steps)?;
+    let mut room = [0; 64];
+    let arguments = first_of(&mut room, values.len());
+    let callee = &frame.program.procedures[procedure as usize];
+    put_arguments(
+        frame,
+        numbers,
+        line,
+        &callee.params,
+        values,
+        arguments,
+        &mut cost.steps,
+    )?;
+    run_at(frame, procedure, target, arguments, numbers, cost)
+}
+
+#[cycle(statement)]
+fn run_at(
+    frame: &Frame,
+    procedure: u32,
+    target: Target,
+    arguments: &[i64],
+    numbers: &mut [i64],
+    cost: &mut Cost,
+) -> Result<(), Stuck>
+    requires ready { IsReady (program_tree frame.now.program.now) frame.now.layouts.now frame.now.logged.now }
+    requires there { IsCallOf (program_tree frame.now.program.now) frame.now.of procedure target }
+    requires earlier { procedure < frame.now.level }
+    requires room { length numbers.old ≡ (layout_at frame.now.layouts.now frame.now.of).size }
+    requires stepped { IsStepped cost.old }
+    ensures ran { ended (zero_at (program_tree frame.now.program.now) frame.now.of) result numbers.new cost.new
+        ≡ seen cost.old.calls (on_target target ((routine_at (scope_at (program_tree frame.now.program.now) frame.now.level frame.now.of frame.now.values.now).routines procedure).run arguments.now) (filled (zero_at (program_tree frame.now.program.now) frame.now.of) numbers.old) cost.old.steps) }
+    ensures counted { IsCounted cost.new }
+{
+    match target {
+        Target::Own => run_procedure(
+            frame,
+            procedure as usize,
+            frame.of,
+            arguments,
+            numbers,
+            cost,
+        ),
+        Target::Child(f) => {
+            let (at, size, of) = instance_slot(frame, f);
+            let inner = &mut numbers[at..at + size];
+            run_procedure(frame, procedure as usize, of, arguments, inner, cost)
+        }
+    }
+}
+
+/// A call of a procedure before the frame's, on an instance of its struct.
+#[cycle(statement)]
+pub(crate) fn run_procedure(
+    frame: &Frame,
+    procedure: usize,
+    of: u32,
+    arguments: &[i64],
+    numbers: &mut [i64],
+    cost: &mut Cost,
+) -> Result<(), Stuck>
+    requires ready { IsReady (program_tree frame.now.program.now) frame.now.layouts.now frame.now.logged.now }
+    requires there { IsProcedureOf (program_tree frame.now.program.now) procedure of }
+    requires earlier { procedure < frame.now.level }
+    requires room { length numbers.old ≡ (layout_at frame.now.layouts.now of).size }
+    requires stepped { IsStepped cost.old }
+    ensures ran { ended (zero_at (program_tree frame.now.program.now) of) result numbers.new cost.new
+        ≡ seen cost.old.calls ((routine_at (scope_at (program_tree frame.now.program.now) frame.now.level frame.now.of frame.now.values.now).routines procedure).run arguments.now (filled (zero_at (program_tree frame.now.program.now) of) numbers.old) cost.old.steps) }
+    ensures counted { IsCounted cost.new }
+{
+    let callee = &frame.program.procedures[procedure];
+    log_call(frame.logged, procedure, cost);
+    let inner = Frame {
+        level: procedure,
+        of,
+        values: arguments,
+        ..*frame
+    };
+    run_all(&inner, &callee.body, numbers, cost)
+}
+
+// Counts the call of the procedure at a position, if it is an interface's.
+fn log_call(logged: &[bool], k: usize, cost: &mut Cost)
+    requires { IsStepped cost.old }
+    ensures counted { IsCounted cost.new }
+    ensures steps { cost.new.steps ≡ cost.old.steps }
+    ensures calls { cost.new.calls ≡ cost.old.calls + (if slice_index_or logged.now k false then 1 else 0) }
+{
+    if logged.get(k).copied().unwrap_or(false) {
+        cost.calls += 1;
+    }
+}

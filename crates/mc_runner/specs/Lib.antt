@@ -1,0 +1,5 @@
+pub mod Texts
+pub mod Ticks
+pub mod RowWalk
+pub mod Runs
+pub mod Examples

@@ -1,0 +1,25 @@
+use c_tree::Stuck;
+use mc_trace::BadLine;
+
+/// What a run took: its ticks, and the steps and the calls of interface procedures in them.
+#[derive(Clone, Copy, Debug, PartialEq, Eq, Drop)]
+pub struct Totals {
+    pub ticks: u64,
+    pub steps: u64,
+    pub calls: u64,
+}
+
+/// Why a run stopped before the end of its trace.
+#[derive(Clone, Copy, Debug, PartialEq, Eq, Drop)]
+pub enum RunFault {
+    /// The trace can't be read.
+    Read,
+    /// A line of outputs can't be put.
+    Out,
+    /// The first line of the trace that is no row.
+    Trace(BadLine),
+    /// The place where the machine is stuck.
+    Stuck(Stuck),
+    /// Memory ran out.
+    Memory,
+}
