@@ -1,0 +1,6 @@
+use Rattle.std.proofs.Common.{refl}
+use Rattle.mc_types.proofs.SameType.{type-equal}
+use Rattle.mc_types.proofs.rows.boolean.Goals as goal
+
+pub returns : goal.returns
+returns c = type-equal _ _ refl refl refl

@@ -1,0 +1,6 @@
+pub mod Rules
+pub mod Marks
+pub mod Walks
+pub mod Passes
+pub mod Inferred
+pub mod Samples

@@ -1,0 +1,16 @@
+// The types of a diagram's rows, and what is wrong with them.
+#![tactic(auto)]
+
+mod faults;
+mod follow;
+mod infer;
+mod marks;
+mod passes;
+mod refusals;
+mod rows;
+mod rules;
+
+pub use infer::infer_types;
+
+#[cfg(test)]
+mod tests;
