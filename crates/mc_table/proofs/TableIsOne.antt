@@ -55,7 +55,7 @@ frac-equal a b p = λ i. record {
   lowest = is_prop→PathP (λ j. AreLowest (p j).0 (p j).1) (λ j. lowest-prop _ _) a.lowest b.lowest i;
 }
 
-type-equal : (t u : FixType) → format_of t ≡ format_of u → t ≡ u
+pub type-equal : (t u : FixType) → format_of t ≡ format_of u → t ≡ u
 type-equal t u p = λ i. record {
   signed = (p i).signed;
   bits = (p i).bits;

@@ -77,13 +77,25 @@ is_inputs_form m b text =
     else if is_a block.Product b then is_some (product_count text)
     else is_some (logic_count (text_of m b Operator) text)
 
+-- whether the text of a block's output type has its form
+abbrev pub is_output_type_form : Block → List ℕ → Bool
+is_output_type_form b text =
+    if is_a block.RelationalOperator b || is_a block.Logic b then is_whole_type_form (type_form text)
+    else is_type_form (type_form text)
+
+-- whether the text of a block's operator has its form
+abbrev pub is_operator_form : Block → List ℕ → Bool
+is_operator_form b text = if is_a block.Logic b then is_among logics text else is_among comparisons text
+
+-- how many blocks of its type are in a block's system
+abbrev pub same_typed : ModelTree → Block → ℕ
+same_typed m b = length (blocks_that (λ c. bytes_eq (type_name c) (type_name b)) m b.owner)
+
 -- whether this text is of the form of a block's parameter
 abbrev pub is_form : ModelTree → Block → ParamName → List ℕ → Bool
 is_form m b Name text = true
-is_form m b param.Port text = is_some (number_up_to (length (blocks_that (λ c. bytes_eq (type_name c) (type_name b)) m b.owner)) text)
-is_form m b OutDataTypeStr text =
-    if is_a block.RelationalOperator b || is_a block.Logic b then is_whole_type_form (type_form text)
-    else is_type_form (type_form text)
+is_form m b param.Port text = is_some (number_up_to (same_typed m b) text)
+is_form m b OutDataTypeStr text = is_output_type_form b text
 is_form m b ParamDataTypeStr text = is_type_form (type_form text)
 is_form m b SampleTime text = is_time_form (is_a block.Constant b) (time_form text)
 is_form m b OutPortSampleTime text = is_time_form false (time_form text)
@@ -103,7 +115,7 @@ is_form m b Integrity text = bytes_eq text (codes "on")
 is_form m b Deterministic text = bytes_eq text (codes "on")
 is_form m b Inputs text = is_inputs_form m b text
 is_form m b Criteria text = is_among criteria text
-is_form m b Operator text = if is_a block.Logic b then is_among logics text else is_among comparisons text
+is_form m b Operator text = is_operator_form b text
 is_form m b ConvertRealWorld text = starts_with nat_eq text (codes "Real World Value")
 is_form m b OutPortSampleTimeOpt text = bytes_eq text (codes "Specify") || bytes_eq text (codes "Inherit")
 

@@ -1,5 +1,5 @@
 -- Which table of rows a model's tree has.
-use Rattle.std.specs.Prelude.{◌≡◌, ℕ, false, ◌==◌, if◌then◌else◌, List, [], filter_map, find, length, Option, Some, None, MatchOption, MatchBool, unwrap_or, option_map, option_and_then, option_to_list, Ok, pos, bytes_eq, codes}
+use Rattle.std.specs.Prelude.{◌≡◌, ℕ, false, ◌==◌, if◌then◌else◌, List, [], filter_map, find, length, Option, Some, None, MatchOption, MatchBool, Bool, is_some, unwrap_or, option_map, option_and_then, option_to_list, Ok, pos, bytes_eq, codes}
 use Rattle.std.specs.List.{AllZip}
 use Rattle.std.specs.Option.{option_or}
 use Rattle.mc_base.specs.declared.ParamName.TheVariants.{OutDataTypeStr, SampleTime, OutputWhenDisabled, InitialOutput, ParamDataTypeStr, RndMeth, SaturateOnIntegerOverflow, Inputs, InitialCondition, Criteria, Threshold, Operator, OutPortSampleTimeOpt, OutPortSampleTime, StatesWhenEnabling, TriggerType}
@@ -55,6 +55,14 @@ IsInitialOutput text d =
 -- the text is this type
 abbrev pub IsTypeText : List ℕ → TypeText → Type 0
 IsTypeText text t = type_form text ≡ Ok (meaning_of t)
+
+-- whether a text is a type
+abbrev pub is_type : List ℕ → Bool
+is_type text = is_some (value_of (type_form text))
+
+-- whether a text is a sample time
+abbrev pub is_time : List ℕ → Bool
+is_time text = is_some (value_of (time_form text))
 
 -- the text is this sample time
 abbrev pub IsTimeText : List ℕ → TimeText → Type 0

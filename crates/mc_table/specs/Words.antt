@@ -50,6 +50,10 @@ is_minus_one (negsuc n) den = n == 0 && den == 1
 abbrev pub writes_number : List ℕ → Bool
 writes_number text = is_some (value_of (number_form text))
 
+-- whether a text is an initial output
+abbrev pub is_initial_output : List ℕ → Bool
+is_initial_output text = bytes_eq text (codes "[]") || writes_number text
+
 -- whether a text is the number -1
 abbrev pub writes_minus_one : List ℕ → Bool
 writes_minus_one text = option_map_or (λ (r : Ratio). is_minus_one r.num r.den) (value_of (number_form text)) false

@@ -1,0 +1,22 @@
+use Rattle.std.proofs.Common.{◌+◌, ap, ◌∙◌, drop}
+use Rattle.mc_table.specs.SoFar.{parameter_found}
+use Rattle.mc_table.specs.Held.{all_seen}
+use Rattle.mc_table.specs.HeldModels.{tree_of}
+use Rattle.mc_table.specs.Passes.{as_plain, earlier_of, least_in}
+use Rattle.mc_table.proofs.PassLemmas.{least-more, least-end, least-parameters}
+use Rattle.mc_table.proofs.passes.least_parameter.Goals as goal
+
+pub loop-block-preserved : goal.loop-block-preserved
+loop-block-preserved c =
+    let blocks = c.as_slice-block-items.result.now in
+    let before = as_plain c.loop-block.least in
+    let whole = least_in (parameter_found (tree_of c.args.model.now)) (all_seen c.args.model.now.blocks.items) in
+    ap (λ o. earlier_of o (least_in (parameter_found (tree_of c.args.model.now)) (all_seen (drop (c.loop-block.block-index + 1) blocks))))
+    (c.earlier-least.ensures ∙ ap (earlier_of before) c.parameter_found.ensures)
+    ∙ least-more (parameter_found (tree_of c.args.model.now)) blocks c.loop-block.block-index c.block-item.result before whole c.loop-block-test.true c.block-item.is c.loop-block.invariant
+
+pub returns : goal.returns
+returns c =
+    let m = tree_of c.args.model.now in
+    least-end (parameter_found (tree_of c.args.model.now)) c.as_slice-block-items.result.now c.loop-block.block-index (as_plain c.loop-block.least) (least_in (parameter_found (tree_of c.args.model.now)) m.blocks) c.loop-block-test.false c.loop-block.invariant
+    ∙ least-parameters m

@@ -1,0 +1,16 @@
+use Rattle.std.proofs.Common.{◌+◌, ap, ◌∙◌, drop}
+use Rattle.mc_table.specs.SoFar.{unread_found}
+use Rattle.mc_table.specs.Held.{all_seen}
+use Rattle.mc_table.specs.HeldModels.{tree_of}
+use Rattle.mc_table.specs.Passes.{as_plain, earlier_of, least_in}
+use Rattle.mc_table.proofs.PassLemmas.{least-more}
+use Rattle.mc_table.proofs.passes.least_unread.Goals as goal
+
+pub loop-block-preserved : goal.loop-block-preserved
+loop-block-preserved c =
+    let blocks = c.as_slice-block-items.result.now in
+    let before = as_plain c.loop-block.least in
+    let whole = least_in (unread_found (tree_of c.args.model.now)) (all_seen c.args.model.now.blocks.items) in
+    ap (λ o. earlier_of o (least_in (unread_found (tree_of c.args.model.now)) (all_seen (drop (c.loop-block.block-index + 1) blocks))))
+    (c.earlier-least.ensures ∙ ap (earlier_of before) c.unread_found.ensures)
+    ∙ least-more (unread_found (tree_of c.args.model.now)) blocks c.loop-block.block-index c.block-item.result before whole c.loop-block-test.true c.block-item.is c.loop-block.invariant

@@ -1,0 +1,132 @@
+ghost use Rattle.std.specs.Prelude.{◌≡◌, ◌<◌, length, slice_index_or, take, map, None};
+ghost use Rattle.std.specs.List.{list_any};
+ghost use Rattle.std.specs.Option.{option_copied};
+ghost use Rattle.mc_diagram.specs.FirstRefusal.{least_line};
+ghost use Rattle.mc_table.specs.Parameters.{name_of};
+ghost use Rattle.mc_table.specs.TreeRefusals as refused;
+ghost use Rattle.mc_table.specs.Held.{seen, all_seen};
+ghost use Rattle.mc_table.specs.HeldModels.{tree_of};
+ghost use Rattle.mc_table.specs.NameMaps.{AreNamesOf, names_seen};
+ghost use Rattle.mc_table.specs.Doubles as doubles;
+ghost use Rattle.mc_table.specs.Passes.{as_plain};
+
+use crate::block::Block;
+use crate::forms::is_a;
+use crate::kinds::own_port;
+use crate::model::ModelText;
+use crate::names::{Names, is_before, place_of};
+use crate::refusals::earlier;
+use mc_base::Refusal;
+use mdl_params::BlockType;
+
+/// Whether an earlier name is the one at this place.
+fn has_name_before(names: &[Option<&[u8]>], places: &Names, at: usize) -> bool
+    requires places { AreNamesOf (names_seen names.now) places.now }
+    requires at { at < length names.now }
+    ensures { result ≡ list_any (λ n. refused.same_name n (option_copied (slice_index_or names.now at None))) (take at (names_seen names.now)) }
+{
+    match names[at] {
+        Some(name) => is_before(place_of(places, name), at),
+        None => false,
+    }
+}
+
+/// Whether two blocks are both of this type.
+fn are_both(block_type: BlockType, one: &Block, other: &Block) -> bool
+    ensures { result ≡ doubles.are_both block_type (seen one.now) (seen other.now) }
+{
+    is_a(block_type, one) && is_a(block_type, other)
+}
+
+/// Whether two blocks are both Inports, or both Outports.
+fn are_ports(one: &Block, other: &Block) -> bool
+    ensures { result ≡ doubles.are_ports (seen one.now) (seen other.now) }
+{
+    are_both(BlockType::Inport, one, other) || are_both(BlockType::Outport, one, other)
+}
+
+/// Whether two blocks are Inports, or Outports, with the same port.
+fn have_one_port(model: &ModelText, one: &Block, other: &Block) -> bool
+    ensures { result ≡ doubles.have_one_port (tree_of model.now) (seen one.now) (seen other.now) }
+{
+    are_ports(one, other) && own_port(model, one) == own_port(model, other)
+}
+
+/// Whether one of the earlier blocks has the port of a block.
+fn has_port_among(model: &ModelText, earlier: &[Block], block: &Block) -> bool
+    ensures { result ≡ list_any (λ a. doubles.have_one_port (tree_of model.now) a (seen block.now)) (all_seen earlier.now) }
+{
+    for other in earlier {
+        if have_one_port(model, other, block) {
+            return true;
+        }
+    }
+    false
+}
+
+/// Whether a block is an Inport or an Outport.
+fn is_port(block: &Block) -> bool
+    ensures { result ≡ doubles.is_port (seen block.now) }
+{
+    is_a(BlockType::Inport, block) || is_a(BlockType::Outport, block)
+}
+
+/// The same, where only an Inport or Outport is looked for among the earlier blocks.
+fn has_port_before(model: &ModelText, earlier: &[Block], block: &Block) -> bool
+    ensures { result ≡ list_any (λ a. doubles.have_one_port (tree_of model.now) a (seen block.now)) (all_seen earlier.now) }
+{
+    is_port(block) && has_port_among(model, earlier, block)
+}
+
+/// Whether an earlier block has the name or the port of the one at this place.
+fn is_double(model: &ModelText, names: &[Option<&[u8]>], places: &Names, at: usize) -> bool
+    requires names { names_seen names.now ≡ map (name_of (tree_of model.now)) (tree_of model.now).blocks }
+    requires places { AreNamesOf (names_seen names.now) places.now }
+    requires at { at < length model.now.blocks.items }
+    requires there { at < length names.now }
+    ensures { result ≡ doubles.is_double_at (tree_of model.now) at }
+{
+    let blocks = model.blocks.as_slice();
+    let (earlier, _) = blocks.split_at(at);
+    has_name_before(names, places, at) || has_port_before(model, earlier, &blocks[at])
+}
+
+/// The refusal of the block at this place, where an earlier one has its name or its port.
+fn double_found(
+    model: &ModelText,
+    names: &[Option<&[u8]>],
+    places: &Names,
+    at: usize,
+) -> Option<Refusal>
+    requires names { names_seen names.now ≡ map (name_of (tree_of model.now)) (tree_of model.now).blocks }
+    requires places { AreNamesOf (names_seen names.now) places.now }
+    requires at { at < length model.now.blocks.items }
+    requires there { at < length names.now }
+    ensures { as_plain result ≡ doubles.double_at (tree_of model.now) at }
+{
+    if is_double(model, names, places, at) {
+        Some(Refusal::DoubleName {
+            line: model.blocks.as_slice()[at].section.line,
+        })
+    } else {
+        None
+    }
+}
+
+/// The first block with the name or the port of an earlier one.
+pub(crate) fn least_double(
+    model: &ModelText,
+    names: &[Option<&[u8]>],
+    places: &Names,
+) -> Option<Refusal>
+    requires flat { doubles.IsFlat (tree_of model.now).blocks }
+    requires names { names_seen names.now ≡ map (name_of (tree_of model.now)) (tree_of model.now).blocks }
+    requires places { AreNamesOf (names_seen names.now) places.now }
+    ensures { as_plain result ≡ least_line (refused.double_names (tree_of model.now)) }
+{
+    let mut least = None;
+    for at in 0..names.len() {
+        least = earlier(least, double_found(model, names, places, at));
+    }
+    least
+}

@@ -1,0 +1,225 @@
+ghost use Rattle.std.specs.Prelude.{◌≡◌, ◌∷◌, [], IfOk, None, map};
+ghost use Rattle.mc_diagram.specs.FirstRefusal.{least_line, first_there};
+ghost use Rattle.mdl_tree.specs.Values.{section_tree};
+ghost use Rattle.mc_table.specs.Blocks.{model_with};
+ghost use Rattle.mc_table.specs.TreeRefusals as refused;
+ghost use Rattle.mc_table.specs.SoFar as so_far;
+ghost use Rattle.mc_table.specs.HeldModels.{tree_of};
+ghost use Rattle.mc_table.specs.Numbered.{IsNumbered};
+ghost use Rattle.mc_table.specs.Passes.{as_plain};
+ghost use Rattle.mc_table.specs.Parameters.{name_of};
+ghost use Rattle.mc_table.specs.Lines as written;
+ghost use Rattle.mc_table.specs.HeldLines.{ends_seen};
+ghost use Rattle.mc_table.specs.NameMaps.{AreNamesOf};
+ghost use Rattle.mc_table.specs.Held.{trees_of};
+ghost use Rattle.mc_table.specs.Wiring.{IsRootOf, IsOneSystem, IsWiringOf, IsVerdictBy, IsVerdictOf, places_refusal, inputs_refusal, lines_refusal};
+
+use crate::connections::refusal_of_inputs;
+use crate::crowds::{least_crowd, too_many_blocks};
+use crate::doubles::least_double;
+use crate::file::{no_model, two_models};
+use crate::lines::{LineEnd, ends_of, sources_of};
+use crate::model::ModelText;
+use crate::named::least_missing;
+use crate::names::{Names, block_names, places_of};
+use crate::parts::least_newer_line;
+use crate::passes::{least_continuous, least_deep, least_float, least_parameter, least_unread};
+use crate::refusals::earlier;
+use crate::sections::sections_named;
+use crate::targets::least_missing_port;
+use crate::texts::read_model;
+use crate::wiring::{Wiring, wiring_of};
+use mc_base::{Memory, Refusal};
+use mdl_tree::Section;
+use std::alloc::Global;
+
+/// The first block or line that isn't read, or not yet.
+fn least_unsupported(alloc: Global, model: &ModelText) -> Result<Option<Refusal>, Memory>
+    requires { IsNumbered 0 (tree_of model.now).blocks }
+    ensures { IfOk result (λ r. as_plain r ≡ least_line (so_far.unsupported_so_far (tree_of model.now))) }
+{
+    let newer = least_newer_line(alloc, model)?;
+    Ok(earlier(least_unread(model), newer))
+}
+
+/// The first refusal of a model for how many blocks there are, and where.
+fn refusal_of_numbers(model: &ModelText) -> Option<Refusal>
+    requires { IsNumbered 0 (tree_of model.now).blocks }
+    ensures { as_plain result ≡ first_there (least_line (refused.deep_subsystems (tree_of model.now)) ∷ refused.too_many_blocks (tree_of model.now) ∷ least_line (refused.crowded_systems (tree_of model.now)) ∷ []) }
+{
+    if let Some(refusal) = least_deep(model) {
+        return Some(refusal);
+    }
+    if let Some(refusal) = too_many_blocks(model) {
+        return Some(refusal);
+    }
+    least_crowd(model)
+}
+
+/// The first refusal of a model for its blocks and their parameters, by what is read so far.
+pub(crate) fn refusal_of_blocks(alloc: Global, model: &ModelText) -> Result<Option<Refusal>, Memory>
+    requires { IsNumbered 0 (tree_of model.now).blocks }
+    ensures { IfOk result (λ r. as_plain r ≡ so_far.blocks_refusal (tree_of model.now)) }
+{
+    if let Some(refusal) = refusal_of_numbers(model) {
+        return Ok(Some(refusal));
+    }
+    if let Some(refusal) = least_unsupported(alloc, model)? {
+        return Ok(Some(refusal));
+    }
+    Ok(least_parameter(model))
+}
+
+/// The first refusal of a model for a period 0 or a floating-point type.
+pub(crate) fn refusal_of_types(model: &ModelText) -> Option<Refusal>
+    ensures { as_plain result ≡ so_far.types_refusal (tree_of model.now) }
+{
+    match least_continuous(model) {
+        Some(refusal) => Some(refusal),
+        None => least_float(model),
+    }
+}
+
+/// What was found of a model: its first refusal, or else how its lines lead.
+#[derive(Drop)]
+pub(crate) enum Verdict<'a> {
+    Refused(Refusal),
+    Wired(Wiring<'a>),
+}
+
+/// The first refusal of a model of one system for a place that its lines name.
+fn refusal_of_places(
+    alloc: Global,
+    model: &ModelText,
+    places: &Names,
+    lines: &[&Section],
+    ends: &[LineEnd],
+) -> Result<Option<Refusal>, Memory>
+    requires one { IsOneSystem (tree_of model.now) }
+    requires places { AreNamesOf (map (name_of (tree_of model.now)) (tree_of model.now).blocks) places.now }
+    requires lines { trees_of lines.now ≡ written.lines_of (tree_of model.now) None }
+    requires ends { ends_seen ends.now ≡ written.ends_of (tree_of model.now) None }
+    ensures { IfOk result (λ r. as_plain r ≡ places_refusal (tree_of model.now)) }
+{
+    let held = sources_of(alloc, lines)?;
+    let sources = held.as_slice();
+    if let Some(refusal) = least_missing(model, places, sources, ends) {
+        return Ok(Some(refusal));
+    }
+    Ok(least_missing_port(model, places, sources, ends))
+}
+
+/// The verdict on a model of one system for how these line ends lead.
+fn verdict_of_ends<'a>(
+    alloc: Global,
+    model: &'a ModelText,
+    places: Names<'a>,
+    ends: Vec<LineEnd<'a>>,
+) -> Result<Verdict<'a>, Memory>
+    requires one { IsOneSystem (tree_of model.now) }
+    requires places { AreNamesOf (map (name_of (tree_of model.now)) (tree_of model.now).blocks) places }
+    requires ends { ends_seen ends.items ≡ written.ends_of (tree_of model.now) None }
+    ensures { IfOk result (λ v. IsVerdictBy (inputs_refusal (tree_of model.now)) (tree_of model.now) v) }
+{
+    let wiring = wiring_of(alloc, model, places, ends)?;
+    match refusal_of_inputs(model, &wiring) {
+        Some(refusal) => Ok(Verdict::Refused(refusal)),
+        None => Ok(Verdict::Wired(wiring)),
+    }
+}
+
+/// The verdict on a model of one system for its lines, whose blocks have these names.
+fn verdict_of_lines<'a>(
+    alloc: Global,
+    model: &'a ModelText,
+    places: Names<'a>,
+) -> Result<Verdict<'a>, Memory>
+    requires one { IsOneSystem (tree_of model.now) }
+    requires places { AreNamesOf (map (name_of (tree_of model.now)) (tree_of model.now).blocks) places }
+    ensures { IfOk result (λ v. IsVerdictBy (first_there (places_refusal (tree_of model.now) ∷ inputs_refusal (tree_of model.now) ∷ [])) (tree_of model.now) v) }
+{
+    let held = sections_named(alloc, model.system, b"Line")?;
+    let lines = held.as_slice();
+    let ends = ends_of(alloc, lines)?;
+    let found = refusal_of_places(alloc, model, &places, lines, ends.as_slice())?;
+    match found {
+        Some(refusal) => Ok(Verdict::Refused(refusal)),
+        None => verdict_of_ends(alloc, model, places, ends),
+    }
+}
+
+/// The verdict on a model of one system for its names and lines.
+fn verdict_of_names<'a>(alloc: Global, model: &'a ModelText) -> Result<Verdict<'a>, Memory>
+    requires { IsOneSystem (tree_of model.now) }
+    ensures { IfOk result (λ v. IsVerdictBy (lines_refusal (tree_of model.now)) (tree_of model.now) v) }
+{
+    let held = block_names(alloc, model)?;
+    let names = held.as_slice();
+    let places = places_of(alloc, names)?;
+    match least_double(model, names, &places) {
+        Some(refusal) => Ok(Verdict::Refused(refusal)),
+        None => verdict_of_lines(alloc, model, places),
+    }
+}
+
+/// The verdict on a model of one system with this wiring for its times and types.
+fn verdict_of_types<'a>(model: &ModelText, wiring: Wiring<'a>) -> Verdict<'a>
+    requires one { IsOneSystem (tree_of model.now) }
+    requires wiring { IsWiringOf (tree_of model.now) wiring }
+    ensures { IsVerdictBy (so_far.types_refusal (tree_of model.now)) (tree_of model.now) result }
+{
+    match refusal_of_types(model) {
+        Some(refusal) => Verdict::Refused(refusal),
+        None => Verdict::Wired(wiring),
+    }
+}
+
+/// The verdict on a model of one system for its names, lines, times and types.
+fn verdict_of_system<'a>(alloc: Global, model: &'a ModelText) -> Result<Verdict<'a>, Memory>
+    requires { IsOneSystem (tree_of model.now) }
+    ensures { IfOk result (λ v. IsVerdictBy (first_there (lines_refusal (tree_of model.now) ∷ so_far.types_refusal (tree_of model.now) ∷ [])) (tree_of model.now) v) }
+{
+    let verdict = verdict_of_names(alloc, model)?;
+    match verdict {
+        Verdict::Refused(refusal) => Ok(Verdict::Refused(refusal)),
+        Verdict::Wired(wiring) => Ok(verdict_of_types(model, wiring)),
+    }
+}
+
+/// The first refusal of a model by what is read so far, or else how its lines lead.
+pub(crate) fn first_refusal<'a>(alloc: Global, model: &'a ModelText) -> Result<Verdict<'a>, Memory>
+    requires numbered { IsNumbered 0 (tree_of model.now).blocks }
+    requires root { IsRootOf (tree_of model.now) }
+    ensures { IfOk result (λ v. IsVerdictOf (tree_of model.now) v) }
+{
+    let found = refusal_of_blocks(alloc, model)?;
+    match found {
+        Some(refusal) => Ok(Verdict::Refused(refusal)),
+        None => verdict_of_system(alloc, model),
+    }
+}
+
+/// The first refusal of a file for its models, a library among them or none.
+pub(crate) fn refusal_of_file(alloc: Global, file: &Section) -> Result<Option<Refusal>, Memory>
+    ensures { IfOk result (λ r. as_plain r ≡ first_there (refused.no_model (section_tree file.now).items ∷ refused.two_models (section_tree file.now).items ∷ [])) }
+{
+    if let Some(refusal) = no_model(file) {
+        return Ok(Some(refusal));
+    }
+    let found = two_models(alloc, file)?;
+    Ok(found)
+}
+
+/// The model of a Model section and the System in it, whose blocks are numbered in the order of the file.
+pub(crate) fn numbered_model<'a>(
+    alloc: Global,
+    model: &'a Section,
+    system: &'a Section,
+) -> Result<ModelText<'a>, Memory>
+    ensures model { IfOk result (λ m. tree_of m ≡ model_with (section_tree model.now) (section_tree system.now)) }
+    ensures numbered { IfOk result (λ m. IsNumbered 0 (tree_of m).blocks) }
+    ensures root { IfOk result (λ m. IsRootOf (tree_of m)) }
+{
+    let model = read_model(alloc, model, system)?;
+    Ok(model)
+}
