@@ -1,0 +1,141 @@
+-- A path of least steps, row by row.
+use Rattle.std.specs.Prelude.{◌≡◌, ℕ, zero, suc, ◌<◌, ◌≤◌, IsTrue, List, [], ◌∷◌, ◌++◌, length, get_or, Contains, Option, Some, None, refl}
+use Rattle.std.specs.Ordering.{nat_cmp, is_le, ordering_then}
+use Rattle.std.specs.Cmp.{nat_cmp_is}
+use Rattle.std.specs.declared.cmp.Ordering.TheVariants.{Less, Equal}
+use Rattle.std.specs.Cmp.Lexicographic.{slice_cmp}
+use Rattle.std.proofs.Common.{arith, sym, ap, subst, ◌∙◌, inl, inr, append_assoc}
+use Rattle.std.proofs.lemmas.List.{append-nil}
+use Rattle.mc_diagram.specs.Walk.{Walk}
+use Rattle.std.proofs.lemmas.List.{get_or_default}
+use Rattle.mc_graph.specs.NeedsGraph.{NeedsGraph}
+use Rattle.mc_graph.specs.EdgeChains.{from, to}
+use Rattle.mc_depend.specs.Needed.{needed}
+use Rattle.mc_depend.proofs.NeededSteps.{needed-edge, edge-needed}
+use Rattle.mc_depend.specs.Least.{IsLeastOf, lesser_of}
+use Rattle.mc_depend.proofs.LeastSteps.{IsAmong, least-take, least-pass, least-same}
+use Rattle.mc_depend.specs.Levels.{AreLevels}
+use Rattle.mc_depend.specs.LeastPaths.{IsLeastPath, IsNextOn}
+use Rattle.mc_depend.proofs.Comparing.{le-or-above}
+
+-- lists with these first items, in order
+first-less : (a b : ℕ) (xs ys : List ℕ) → a ≤ b → (a ≡ b → IsTrue (is_le (slice_cmp nat_cmp xs ys))) → IsTrue (is_le (slice_cmp nat_cmp (a ∷ xs) (b ∷ ys)))
+first-less a b xs ys le rest = elim (le-or-above b a) [
+  | inl same ↦ subst (λ o. IsTrue (is_le (ordering_then o (slice_cmp nat_cmp xs ys)))) (nat_cmp_is a b Equal (omega arith)) (rest (omega arith))
+  | inr less ↦ subst (λ o. IsTrue (is_le (ordering_then o (slice_cmp nat_cmp xs ys)))) (nat_cmp_is a b Less less) refl
+]
+
+module _ (needs : ℕ → List ℕ) (z k : ℕ) (steps : List ℕ) (levels : AreLevels needs z k steps) where
+  -- the first row of a path of least steps is one step nearer
+  next-is : (a c : ℕ) (path : List ℕ) → Contains (needs a) c → Walk needs c path z → suc (suc (length path)) ≡ get_or steps a 0 → IsNextOn needs steps a c
+  next-is a c path need w e =
+      let within = (levels.walks a (omega arith)).0 in
+      let r = levels.least c path w (omega arith) in
+      let way = (levels.walks c r.0).1 in
+      let back = levels.least a (c ∷ way.0) (need, way.1) (let q = way.2 in let l = r.1 in omega arith) in
+      record { needs_it = need; on_way = r.0; shorter = let q = way.2 in let l = r.1 in let m = back.1 in omega arith }
+
+  -- without a next row the walk ends
+  pub path-end : (a : ℕ) → 0 < get_or steps a 0 → IsLeastOf (IsNextOn needs steps a) None → IsLeastPath needs z steps a []
+  path-end a counted none = by ((levels.walks a counted).1.0) ((levels.walks a counted).1.1) ((levels.walks a counted).1.2)
+    where
+      only : (other : List ℕ) → length other ≡ 0 → IsTrue (is_le (slice_cmp nat_cmp [] other))
+      only [] e = refl
+      only (b ∷ other) e = absurd (omega arith)
+
+      by : (path : List ℕ) → Walk needs a path z → suc (length path) ≡ get_or steps a 0 → IsLeastPath needs z steps a []
+      by [] w e = record { walk = w; steps_taken = e; first = λ other v l. only other l }
+      by (c ∷ path) w e = absurd (none c (next-is a c path w.0 w.1 e))
+
+  -- the least next row goes on
+  pub path-cons : (a c : ℕ) (rest : List ℕ) → IsLeastOf (IsNextOn needs steps a) (Some c) → IsLeastPath needs z steps c rest → IsLeastPath needs z steps a (c ∷ rest)
+  path-cons a c rest next way = record {
+    walk = (next.0.needs_it, way.walk);
+    steps_taken = let e = way.steps_taken in let s = next.0.shorter in omega arith;
+    first = λ other w l. compare other w l;
+  }
+    where
+      compare : (other : List ℕ) → Walk needs a other z → length other ≡ length (c ∷ rest) → IsTrue (is_le (slice_cmp nat_cmp (c ∷ rest) other))
+      compare [] w l = absurd (omega arith)
+      compare (b ∷ other) w l =
+          let e = way.steps_taken in let s = next.0.shorter in
+          let same : length other ≡ length rest = omega arith in
+          let near = next-is a b other w.0 w.1 (omega (arith, e, s)) in
+          first-less c b rest other (next.1 b near) (λ q. way.first other (subst (λ n. Walk needs n other z) (sym q) w.1) same)
+
+-- the rows behind the first, on the way from s to the row that was reached
+pub record IsOnWay (needs : ℕ → List ℕ) (z : ℕ) (steps : List ℕ) (s at : ℕ) (list : List ℕ) : Type 0 where
+  pub behind : List ℕ
+  pub begins : list ≡ s ∷ behind
+  pub counted : 0 < get_or steps at 0
+  pub leads : (rest : List ℕ) → IsLeastPath needs z steps at rest → IsLeastPath needs z steps s (behind ++ rest)
+
+module _ (needs : ℕ → List ℕ) (z : ℕ) (steps : List ℕ) (s k : ℕ) (levels : AreLevels needs z k steps) where
+  pub way-init : (list : List ℕ) → list ≡ s ∷ [] → 0 < get_or steps s 0 → IsOnWay needs z steps s s list
+  way-init list e counted = record { behind = []; begins = e; counted = counted; leads = λ rest way. way }
+
+  pub way-step : (at c : ℕ) (list later : List ℕ) → later ≡ list ++ c ∷ [] → IsLeastOf (IsNextOn needs steps at) (Some c) → IsOnWay needs z steps s at list → IsOnWay needs z steps s c later
+  way-step at c list later e next on = record {
+    behind = on.behind ++ c ∷ [];
+    begins = e ∙ ap (λ l. l ++ c ∷ []) on.begins;
+    counted = next.0.on_way;
+    leads = λ rest way. subst (λ l. IsLeastPath needs z steps s l) (sym (append_assoc on.behind (c ∷ []) rest))
+        (on.leads (c ∷ rest) (path-cons needs z k steps levels at c rest next way));
+  }
+
+  pub way-done : (at : ℕ) (list : List ℕ) → IsLeastOf (IsNextOn needs steps at) None → IsOnWay needs z steps s at list →
+      (path : List ℕ) × (list ≡ s ∷ path) × IsLeastPath needs z steps s path
+  way-done at list none on = (
+    on.behind,
+    on.begins,
+    subst (λ l. IsLeastPath needs z steps s l) (append-nil on.behind) (on.leads [] (path-end needs z k steps levels at on.counted none)),
+  )
+
+-- an edge along which the way goes on
+abbrev pub LeadsOn : List (ℕ × ℕ) → List ℕ → ℕ → ℕ → Type 0
+LeadsOn edges steps at e = (to edges e ≡ at) × ((0 < get_or steps (from edges e) 0) × (suc (get_or steps (from edges e) 0) ≡ get_or steps at 0))
+
+module _ (edges : List (ℕ × ℕ)) (steps : List ℕ) (at i j a b : ℕ) (next : j ≡ suc i) (from_is : a ≡ from edges i) (to_is : b ≡ to edges i) where
+  abbrev Given : Type 0
+  Given = (b ≡ at) × ((0 < get_or steps a 0) × (suc (get_or steps a 0) ≡ get_or steps at 0))
+
+  pub next_take : (found : Option ℕ) → Given → IsLeastOf (IsAmong (LeadsOn edges steps at) (from edges) i) found → IsLeastOf (IsAmong (LeadsOn edges steps at) (from edges) j) (Some (lesser_of found a))
+  next_take found given h =
+      subst (λ n. IsLeastOf (IsAmong (LeadsOn edges steps at) (from edges) n) (Some (lesser_of found a))) (sym next)
+      (subst (λ n. IsLeastOf (IsAmong (LeadsOn edges steps at) (from edges) (suc i)) (Some (lesser_of found n))) (sym from_is)
+      (least-take (LeadsOn edges steps at) (from edges) i found
+      (subst (λ n. (to edges i ≡ at) × ((0 < get_or steps n 0) × (suc (get_or steps n 0) ≡ get_or steps at 0))) from_is (sym to_is ∙ given.0, given.1)) h))
+
+  pub next_pass : (found : Option ℕ) → (Given → ⊥) → IsLeastOf (IsAmong (LeadsOn edges steps at) (from edges) i) found → IsLeastOf (IsAmong (LeadsOn edges steps at) (from edges) j) found
+  next_pass found fails h =
+      subst (λ n. IsLeastOf (IsAmong (LeadsOn edges steps at) (from edges) n) found) (sym next)
+      (least-pass (LeadsOn edges steps at) (from edges) i found
+      (λ g. fails (to_is ∙ g.0, subst (λ n. (0 < get_or steps n 0) × (suc (get_or steps n 0) ≡ get_or steps at 0)) (sym from_is) g.1)) h)
+
+pub next_done : (g : NeedsGraph) (steps : List ℕ) (at i : ℕ) (found : Option ℕ) → i ≡ length g.edges → IsLeastOf (IsAmong (LeadsOn g.edges steps at) (from g.edges) i) found → IsLeastOf (IsNextOn (needed g) steps at) found
+next_done g steps at i found all h = least-same (IsAmong (LeadsOn g.edges steps at) (from g.edges) i) (IsNextOn (needed g) steps at) found
+    (λ c m. record {
+      needs_it = edge-needed at c g.edges (
+        m.0,
+        (let l = m.1 in omega arith),
+        get_or_default g.edges m.0 (c, at) (0, 0) (let l = m.1 in omega arith) ∙ λ i. (sym m.3 i, m.2.0 i),
+      );
+      on_way = subst (λ n. 0 < get_or steps n 0) (sym m.3) m.2.1.0;
+      shorter = subst (λ n. suc (get_or steps n 0) ≡ get_or steps at 0) (sym m.3) m.2.1.1;
+    })
+    (λ c n.
+    let e = needed-edge at c g.edges n.needs_it in
+    let read : get_or g.edges e.0 (0, 0) ≡ (c, at) = get_or_default g.edges e.0 (0, 0) (c, at) e.1 ∙ e.2 in
+    let first : c ≡ from g.edges e.0 = sym (ap (λ (x : ℕ × ℕ). x.0) read) in (
+      e.0,
+      (let l = e.1 in omega arith),
+      (ap (λ (x : ℕ × ℕ). x.1) read, subst (λ n. (0 < get_or steps n 0) × (suc (get_or steps n 0) ≡ get_or steps at 0)) first (n.on_way, n.shorter)),
+      first,
+    ))
+    h
+
+-- a number above 0 is read inside a list
+pub counted-in : (xs : List ℕ) (i : ℕ) → 0 < get_or xs i 0 → i < length xs
+counted-in [] i h = absurd (omega arith)
+counted-in (x ∷ xs) zero h = omega arith
+counted-in (x ∷ xs) (suc i) h = let r = counted-in xs i h in omega arith

@@ -1,0 +1,10 @@
+pub mod Comparing
+pub mod LoopRows
+pub mod LeastSteps
+pub mod LevelSteps
+pub mod LeastPathSteps
+pub mod NeededSteps
+pub mod BlockSteps
+pub mod GraphSteps
+pub mod InputSteps
+pub mod OutportSteps

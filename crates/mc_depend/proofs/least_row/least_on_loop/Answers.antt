@@ -1,0 +1,28 @@
+use Rattle.std.proofs.Common.{◌≡◌, ◌*◌, ap, subst, arith}
+use Rattle.mc_graph.specs.NeedsGraph.{IsGraph}
+use Rattle.mc_depend.specs.Least.{IsLeastOf}
+use Rattle.mc_depend.specs.Needed.{needed}
+use Rattle.mc_depend.specs.Blocks.{IsOnLoopIn}
+use Rattle.mc_depend.proofs.BlockSteps.{block_least, block_none, on_loop-below}
+use Rattle.mc_depend.proofs.least_row.least_on_loop.Goals as goal
+
+pub returns-in-Some : goal.returns-in-Some
+returns-in-Some c = block_least (needed c.args.g.now) (c.from-first.result * 64)
+    (λ b loop. let at = c.loop-block.invariant b loop in let same = c.from-first.ensures in omega arith) c.in-Some.row
+    (subst (IsLeastOf (IsOnLoopIn (needed c.args.g.now) (c.from-first.result * 64))) c.in-Some.is c.in_ok-row.ensures)
+
+pub loop-block-preserved : goal.loop-block-preserved
+loop-block-preserved c b loop =
+    let first : c.from-first.result ≡ c.loop-block.block = c.from-first.ensures in
+    let later = block_none (needed c.args.g.now) (c.from-first.result * 64)
+    (λ b loop. let at = c.loop-block.invariant b loop in omega arith)
+    (subst (IsLeastOf (IsOnLoopIn (needed c.args.g.now) (c.from-first.result * 64))) c.in_default.is c.in_ok-row.ensures) b loop in
+    omega arith
+
+pub returns : goal.returns
+returns c b loop =
+    let first = c.loop-block.invariant b loop in
+    let below = on_loop-below c.args.g.now (subst IsGraph c.g.view_is c.g.invariant) b loop in
+    let same = ap (λ v. v.n) c.g.view_is in
+    let end = c.loop-block-test.false in
+    omega arith

@@ -1,0 +1,8 @@
+use Rattle.std.proofs.Common.{subst}
+use Rattle.mc_depend.specs.Least.{IsLeastOf}
+use Rattle.mc_depend.specs.Needed.{needed, IsOnLoop}
+use Rattle.mc_depend.proofs.LoopRows.{none-on_loop}
+use Rattle.mc_depend.proofs.loops.search.Goals as goal
+
+pub returns-in-None : goal.returns-in-None
+returns-in-None c = none-on_loop (needed c.args.g.now) (subst (IsLeastOf (IsOnLoop (needed c.args.g.now))) c.in-None.is c.in_ok-least_on_loop.ensures)

@@ -1,0 +1,6 @@
+pub mod Least
+pub mod Needed
+pub mod Levels
+pub mod LeastPaths
+pub mod Blocks
+pub mod TrueNeeds

@@ -1,0 +1,17 @@
+// Loops of rows that need each other, and the inputs that each output needs.
+#![tactic(auto)]
+
+mod least;
+mod least_loop;
+mod least_row;
+mod levels;
+mod loops;
+mod needs_graph;
+mod outports;
+mod true_needs;
+
+pub use loops::find_loop;
+pub use true_needs::needs_of;
+
+#[cfg(test)]
+mod tests;

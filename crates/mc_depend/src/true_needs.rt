@@ -1,0 +1,129 @@
+ghost use Rattle.std.specs.Prelude.{◌≡◌, ℕ, ◌<◌, ◌^◌, ◌↔◌, suc, length, slice_index, All, IfOk, IsBitSet, IsTrue};
+ghost use Rattle.std.specs.Int.Bits.{bit_or};
+ghost use Rattle.std.specs.List.{AllZip};
+ghost use Rattle.mc_blocks.specs.declared.Kind.TheVariants.{Inport as InportKind};
+ghost use Rattle.mc_diagram.specs.Rows.{control_of, control_at as control_of_row, system_control, same_system as is_same_system};
+ghost use Rattle.mc_diagram.specs.Needs.{AreTrueNeeds};
+ghost use Rattle.mc_diagram.specs.ResolvedTree.{diagram_of};
+ghost use Rattle.mc_depend.specs.TrueNeeds.{AreInputBits, AreReachedInputs, control_mask as mask_of_control};
+
+use crate::needs_graph::{needs_graph, same_system};
+use crate::outports::outports;
+use mc_base::{Control, Memory};
+use mc_blocks::Kind;
+use mc_diagram::{Resolved, Row};
+use mc_graph::masks;
+use std::alloc::Global;
+
+/// For each output of a system, by port, the inputs of the system that it needs at the same tick, as a mask: bit k - 1 is
+/// input k, bit 32 an enable, and bit 33 a trigger. The system is a subsystem's row, or the whole model.
+///
+/// In time linear in rows and wires.
+pub fn needs_of(alloc: Global, r: &Resolved, system: Option<u32>) -> Result<Vec<u64>, Memory>
+    ensures { IfOk result (λ v. AreTrueNeeds (diagram_of r.now) system v.items) }
+{
+    let rows = r.tree.table().rows.as_slice();
+    let reached = reached_inputs(alloc, r, system)?;
+    let own = outports(alloc, rows, system)?;
+    let control = control_at(rows, system);
+    masks_at(alloc, &reached, control, &own)
+}
+
+// The masks of some rows, with that of the control.
+fn masks_at(alloc: Global, reached: &[u64], control: u64, rows: &[u32]) -> Result<Vec<u64>, Memory>
+    requires { All (λ b. b < length reached.now) rows.now }
+    ensures { IfOk result (λ v. AllZip (λ b mask. (mask ≡ bit_or (slice_index reached.now b) control) × (mask < 2 ^ 64)) rows.now v.items) }
+{
+    let mut masks = Vec::new(alloc);
+    for b in rows {
+        masks.push(reached[*b as usize] | control)?;
+    }
+    Ok(masks)
+}
+
+// The inputs of the system that each row reaches by its needs inside, by the number of the row: bit k - 1 is input k.
+fn reached_inputs(alloc: Global, r: &Resolved, system: Option<u32>) -> Result<Vec<u64>, Memory>
+    ensures { IfOk result (λ v. AreReachedInputs (diagram_of r.now) system v.items) }
+{
+    let rows = r.tree.table().rows.as_slice();
+    let g = needs_graph(alloc, r, system)?;
+    let bits = input_bits(alloc, rows, system)?;
+    masks(alloc, &g, &bits)
+}
+
+// For each row its bit, where it is an input of the system.
+fn input_bits(alloc: Global, rows: &[Row], system: Option<u32>) -> Result<Vec<u64>, Memory>
+    ensures { IfOk result (λ v. AreInputBits rows.now system (length rows.now) v.items) }
+{
+    let mut bits = Vec::new(alloc);
+    for b in 0..rows.len() {
+        bits.push(input_bit(&rows[b], system))?;
+    }
+    Ok(bits)
+}
+
+// The bit of a row, where it is an input of the system.
+fn input_bit(row: &Row, system: Option<u32>) -> u64
+    ensures { (k : ℕ) → IsBitSet result k ↔ ((k < 32) × (IsTrue (is_same_system row.now.owner system) × (row.now.kind ≡ InportKind (suc k)))) }
+{
+    if !same_system(row.owner, system) {
+        return 0;
+    }
+    match row.kind {
+        Kind::Inport { port } => port_bit(port),
+        _ => 0,
+    }
+}
+
+// Bit `port` - 1.
+fn port_bit(port: u32) -> u64
+    ensures { (k : ℕ) → IsBitSet result k ↔ ((k < 32) × (port ≡ suc k)) }
+{
+    if 0 < port && port <= 32 {
+        1 << (port - 1)
+    } else {
+        0
+    }
+}
+
+// The bit of the system's control.
+fn control_at(rows: &[Row], system: Option<u32>) -> u64
+    ensures { result ≡ mask_of_control (system_control rows.now system) }
+{
+    match system {
+        None => 0,
+        Some(s) => row_control(rows, s),
+    }
+}
+
+// The bit of a row's control.
+#[tactic(auto, using(crate::proofs::InputSteps::control_inside, crate::proofs::InputSteps::control_past))]
+fn row_control(rows: &[Row], s: u32) -> u64
+    ensures { result ≡ mask_of_control (control_of_row rows.now s) }
+{
+    if s as usize >= rows.len() {
+        return 0;
+    }
+    kind_control(&rows[s as usize].kind)
+}
+
+// The bit of a kind's control.
+fn kind_control(kind: &Kind) -> u64
+    ensures { result ≡ mask_of_control (control_of kind.now) }
+{
+    match kind {
+        Kind::SubSystem(control) => control_mask(*control),
+        _ => 0,
+    }
+}
+
+// Bit 32 for an enable, and bit 33 for a trigger.
+fn control_mask(control: Control) -> u64
+    ensures { result ≡ mask_of_control control }
+{
+    match control {
+        Control::Plain => 0,
+        Control::Enabled { .. } => 1 << 32,
+        Control::Triggered(_) => 1 << 33,
+    }
+}
