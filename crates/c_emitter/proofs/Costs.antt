@@ -6,8 +6,7 @@ use Rattle.std.proofs.lemmas.List.{length-map}
 use Rattle.std.proofs.lemmas.List.FromFn.{length-range_with_len}
 use Rattle.std.proofs.Math.Nat.{mul-le-mul_right}
 use Rattle.mc_profile.specs.Functions.{different}
-use Rattle.c_emitter.specs.declared.block.Block.{Block}
-use Rattle.c_emitter.specs.Blocks.{output_row, output_rows, output_count, output_needs, function_needs, is_taken_in, is_given_in, is_unheld}
+use Rattle.c_emitter.specs.Blocks.{TypedBlock, output_row, output_rows, output_count, output_needs, function_needs, is_taken_in, is_given_in, is_unheld}
 use Rattle.c_emitter.specs.Bodies.{is_delay_row}
 use Rattle.c_emitter.proofs.Chosen.{length-chosen}
 use Rattle.c_emitter.proofs.BlockFacts.{AreBlocks}
@@ -34,7 +33,7 @@ length-filter_map-le f (x ∷ xs) = by (f x) (length-filter_map-le f xs)
     by None h = omega arith
     by (Some y) h = omega arith
 
-module _ (blocks : List Block) where
+module _ (blocks : List TypedBlock) where
   pub outputs-few : length (output_rows blocks) ≤ output_count blocks
   outputs-few = let h = length-filter_map-le (output_row blocks) (range_with_len 1 (output_count blocks)) in let e = length-range_with_len 1 (output_count blocks) in omega (arith, h, e)
 

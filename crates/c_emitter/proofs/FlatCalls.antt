@@ -9,9 +9,8 @@ use Rattle.std.proofs.lemmas.Bool.{eq-eqb, ne_eqb}
 use Rattle.std.proofs.lemmas.Bool.Decides.{eqb_tells}
 use Rattle.mc_profile.specs.Functions.{different}
 use Rattle.c_tree.specs.Machine.{StoredField}
-use Rattle.c_emitter.specs.declared.block.Block.{Block}
 use Rattle.c_emitter.specs.Places.{same_path}
-use Rattle.c_emitter.specs.Blocks.{block_at, is_output, counter_place, memory_place, source_need, need_of, feeds_output, is_taken_in, is_given_in, is_unheld, function_needs, output_rows}
+use Rattle.c_emitter.specs.Blocks.{TypedBlock, block_at, is_output, counter_place, memory_place, source_need, need_of, feeds_output, is_taken_in, is_given_in, is_unheld, function_needs, output_rows}
 use Rattle.c_emitter.specs.Bodies.{top_place, is_delay_row}
 use Rattle.c_emitter.proofs.Straight.{own_store}
 use Rattle.c_emitter.proofs.Chosen.{all-chosen}
@@ -82,7 +81,7 @@ tally-different k (x ∷ xs) = elim (eqb_tells x k) [
 
 -- ---- The stores of a tick
 
-module _ (blocks : List Block) (b : ℕ) (within : b < length blocks) where
+module _ (blocks : List TypedBlock) (b : ℕ) (within : b < length blocks) where
   not-counter : tally b (counter_place blocks ∷ []) ≡ 0
   not-counter = ap (λ t. length (cond t (counter_place blocks ∷ []) [])) (ne_eqb (counter_place blocks) b (omega arith))
 
@@ -149,7 +148,7 @@ weights-fed o f s k n e q = rw (e, q, eq-swap s n) (by (n == s))
 weights-idle : (o f : Bool) (s k n : ℕ) → o ≡ false → f ≡ false → cond (not o && f && (s == n)) 1 0 + cond (o && (k == n)) 1 0 ≤ 0
 weights-idle o f s k n e q = rw (e, q) (omega arith)
 
-module _ (blocks : List Block) (b : ℕ) (within : b < length blocks) where
+module _ (blocks : List TypedBlock) (b : ℕ) (within : b < length blocks) where
   nothing-stored : (needs : List ℕ) → ((need : ℕ) → cond (is_taken_in blocks need b) 1 0 + cond (is_given_in blocks need b) 1 0 ≤ 0) → tally b (flat_map (out_fields blocks) needs) ≤ 0
   nothing-stored [] h = omega arith
   nothing-stored (need ∷ needs) h =
@@ -186,7 +185,7 @@ module _ (blocks : List Block) (b : ℕ) (within : b < length blocks) where
 
 -- ---- The root's view
 
-module _ (blocks : List Block) (b : ℕ) where
+module _ (blocks : List TypedBlock) (b : ℕ) where
   -- the stores of field b of `top`
   abbrev is_store : StoredField → Bool
   is_store st = same_path (top_place blocks ∷ []) st.path && (st.field == b)

@@ -1,6 +1,7 @@
 -- The program for a diagram of one system is code for it.
 use Rattle.std.specs.Prelude.{◌≤◌, List, length}
 use Rattle.std.proofs.Common.{refl, arith}
+use Rattle.mc_fixed.specs.declared.FixType.{FixType}
 use Rattle.mc_blocks.specs.declared.Op.{Op}
 use Rattle.mc_diagram.specs.declared.Row.{Row}
 use Rattle.c_emitter.specs.Flat.{IsFlat}
@@ -17,26 +18,26 @@ use Rattle.c_emitter.proofs.FlatTrueNeeds.{are-true-needs}
 use Rattle.c_emitter.proofs.FlatHeaders.{has-headers}
 use Rattle.c_emitter.proofs.FlatLawful.{is-lawful}
 
-pub flat-is-code : (rows : List Row) (ops : List Op) → IsFlat (diagram rows ops) → IsCodeFor (flat_program (blocks_of (diagram rows ops))) (diagram rows ops)
-flat-is-code rows ops flat =
-    let bs = blocks_of (diagram rows ops) in
-    let are : AreBlocks bs = are-blocks rows ops flat in
+pub flat-is-code : (rows : List Row) (types : List FixType) (ops : List Op) → IsFlat (diagram rows types ops) → IsCodeFor (flat_program (blocks_of (diagram rows types ops))) (diagram rows types ops)
+flat-is-code rows types ops flat =
+    let bs = blocks_of (diagram rows types ops) in
+    let are : AreBlocks bs = are-blocks rows types ops flat in
     let few_outputs = are.few_outputs in
     let counted = outputs-few bs in
     let outs : length (output_rows bs) ≤ 32 = omega (arith, few_outputs, counted) in
     let fewer = functions-few bs in
     record {
       lawful = is-lawful bs are (outputs-are-rows bs) outs (omega (arith, outs, fewer));
-      outputs = gives-outputs rows ops flat;
-      bounded = stays-in-bound rows ops flat;
-      started = starts-all rows ops flat;
-      headers = has-headers rows ops flat;
-      calls = calls-in-ticks rows ops flat;
+      outputs = gives-outputs rows types ops flat;
+      bounded = stays-in-bound rows types ops flat;
+      started = starts-all rows types ops flat;
+      headers = has-headers rows types ops flat;
+      calls = calls-in-ticks rows types ops flat;
     }
 
-pub flat-function-count : (rows : List Row) (ops : List Op) → IsFlat (diagram rows ops) → IsFunctionCount (diagram rows ops) (length (function_needs (blocks_of (diagram rows ops))))
-flat-function-count rows ops flat = record {
-  needs = output_needs (blocks_of (diagram rows ops));
-  are_needs = are-true-needs rows ops flat;
+pub flat-function-count : (rows : List Row) (types : List FixType) (ops : List Op) → IsFlat (diagram rows types ops) → IsFunctionCount (diagram rows types ops) (length (function_needs (blocks_of (diagram rows types ops))))
+flat-function-count rows types ops flat = record {
+  needs = output_needs (blocks_of (diagram rows types ops));
+  are_needs = are-true-needs rows types ops flat;
   count = refl;
 }

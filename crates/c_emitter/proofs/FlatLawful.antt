@@ -1,12 +1,14 @@
 -- The program for a diagram of one system keeps the static rules and the limits of C text.
 use Rattle.std.specs.Prelude.{◌≡◌, ◌≢◌, ℕ, zero, suc, ◌+◌, ◌-◌, ◌<◌, ◌≤◌, true, false, not, ◌&&◌, List, [], ◌∷◌, ◌++◌, map, length, slice_get, slice_index, Option, Some, None, bytes_eq}
 use Rattle.std.specs.List.{range_with_len, enumerate_from, AllByRecursion}
+use Rattle.std.specs.Option.{option_map_or}
 use Rattle.std.proofs.Common.{refl, sym, ◌∙◌, ap, subst, arith, true≢false, lit<, lit≤}
 use Rattle.std.proofs.lemmas.List.{length-map, length-append, append_assoc, append-nil}
 use Rattle.std.proofs.lemmas.List.FromFn.{length-range_with_len}
 use Rattle.std.proofs.lemmas.Bool.{or_from, or_right}
 use Rattle.mc_profile.specs.Systems.{system_name}
-use Rattle.c_tree.specs.declared.CType.TheVariants.{U8, I64}
+use Rattle.c_tree.specs.declared.CType.{CType}
+use Rattle.c_tree.specs.declared.CType.TheVariants.{U8, I32, I64}
 use Rattle.c_tree.specs.declared.FieldKind.TheVariants.{Number, Struct}
 use Rattle.c_tree.specs.Tree.{StmtTree, StmtTrees, no_stmts, more_stmts, assign, branch, call, stmts_of_list, exprs_of_list, read, FieldTree, StructTree, ParamTree, ProcedureTree}
 use Rattle.c_tree.specs.Outputs.{has_name, numbers_from, output_names, looks_like_output, may_be_named}
@@ -15,11 +17,11 @@ use Rattle.c_tree.specs.Resolve.{stmt_chain, stmts_chain}
 use Rattle.c_tree.specs.declared.Leaf.TheVariants.{Child}
 use Rattle.c_tree.specs.Reading.{exprs_depth, stmts_depth, stmts_exprs_depth, ProcedureFits}
 use Rattle.c_tree.specs.Lawful.{AreDistinct, AreApart, Reach, IsNumberAt, IsStructAt, exprs_length, AreLawfulExprs, IsLawfulStmt, param_names, procedure_names, IsLawfulKind, AreStructs, IsLawfulProcedure, AreProcedures, chains_of, HasRoot, IsLawful}
-use Rattle.c_emitter.specs.declared.block.Block.{Block}
 use Rattle.c_emitter.specs.Names.{value_name, memory_name, now_name, input_name, output_name, root_name}
-use Rattle.c_emitter.specs.Blocks.{delay_rows, input_count, output_rows, function_needs}
+use Rattle.c_emitter.specs.Headers.{now_param}
+use Rattle.c_emitter.specs.Blocks.{TypedBlock, delay_rows, input_count, output_rows, function_needs, type_of, input_row, input_type, output_type}
 use Rattle.c_emitter.specs.Bodies.{takes, taken_ports, top_place, call_top, function_calls, update_place, output_copies, next_now, step_body, root_start_body, out_body, update_body, start_body, reset_body}
-use Rattle.c_emitter.specs.FlatProgram.{counter_name, int_field, int_param, input_params, top_fields, root_fields_of, flat_structs, out_procedure, out_procedures, update_procedure, start_procedure, reset_procedure, root_start_procedure, root_step_procedure, flat_procedures, flat_program}
+use Rattle.c_emitter.specs.FlatProgram.{counter_name, typed_field, input_param, input_params, top_fields, root_fields_of, flat_structs, out_procedure, out_procedures, update_procedure, start_procedure, reset_procedure, root_start_procedure, root_step_procedure, flat_procedures, flat_program}
 use Rattle.c_emitter.proofs.BlockFacts.{AreBlocks}
 use Rattle.c_emitter.proofs.Ports.{port_reads, all-ports}
 use Rattle.c_emitter.proofs.Costs.{length-filter-le}
@@ -32,10 +34,10 @@ use Rattle.c_emitter.proofs.LawfulBodies.{AllLawful, lawful-append, AreShallow, 
 
 -- ---- Parameters
 
-param-names : (blocks : List Block) (ports : List ℕ) → param_names (map (λ k. int_param (input_name k)) ports) ≡ map input_name ports
-param-names blocks ports = map-map (λ (p : ParamTree). p.name) (λ k. int_param (input_name k)) ports
+param-names : (blocks : List TypedBlock) (ports : List ℕ) → param_names (map (input_param blocks) ports) ≡ map input_name ports
+param-names blocks ports = map-map (λ (p : ParamTree). p.name) (input_param blocks) ports
 
-inputs-distinct : (blocks : List Block) (need : Option ℕ) → input_count blocks ≤ 32 → AreDistinct (param_names (input_params blocks need))
+inputs-distinct : (blocks : List TypedBlock) (need : Option ℕ) → input_count blocks ≤ 32 → AreDistinct (param_names (input_params blocks need))
 inputs-distinct blocks need few =
     subst AreDistinct (append-nil (map input_name (taken_ports blocks need)) ∙ sym (param-names blocks (taken_ports blocks need)))
     (distinct-numbered input_name inputs-numbered (λ b h. letter-name 117 b h refl) (takes need) 1 (input_count blocks) [] (omega arith) (λ b. refl) tt)
@@ -44,7 +46,7 @@ no-now : (ports : List ℕ) → has_name (map input_name ports) now_name ≡ fal
 no-now [] = refl
 no-now (k ∷ ports) = no-now ports
 
-now-distinct : (blocks : List Block) (need : Option ℕ) → input_count blocks ≤ 32 → AreDistinct (param_names (int_param now_name ∷ input_params blocks need))
+now-distinct : (blocks : List TypedBlock) (need : Option ℕ) → input_count blocks ≤ 32 → AreDistinct (param_names (now_param ∷ input_params blocks need))
 now-distinct blocks need few = (refl, ap (λ l. has_name l now_name) (param-names blocks (taken_ports blocks need)) ∙ no-now (taken_ports blocks need), inputs-distinct blocks need few)
 
 -- procedures whose names begin with none of the parameters' letters
@@ -59,9 +61,9 @@ input-apart : (qs : List ProcedureTree) (k : ℕ) → AllByRecursion HasOtherNam
 input-apart [] k all = refl
 input-apart (q ∷ qs) k all = or_from _ _ (all.0.1 k) (input-apart qs k all.1)
 
-inputs-apart : (ports : List ℕ) (qs : List ProcedureTree) → AllByRecursion HasOtherName qs → AreApart (param_names (map (λ k. int_param (input_name k)) ports)) (procedure_names qs)
-inputs-apart [] qs all = tt
-inputs-apart (k ∷ ports) qs all = (input-apart qs k all, inputs-apart ports qs all)
+inputs-apart : (blocks : List TypedBlock) (ports : List ℕ) (qs : List ProcedureTree) → AllByRecursion HasOtherName qs → AreApart (param_names (map (input_param blocks) ports)) (procedure_names qs)
+inputs-apart blocks [] qs all = tt
+inputs-apart blocks (k ∷ ports) qs all = (input-apart qs k all, inputs-apart blocks ports qs all)
 
 others-append : (ps qs : List ProcedureTree) → AllByRecursion HasOtherName ps → AllByRecursion HasOtherName qs → AllByRecursion HasOtherName (ps ++ qs)
 others-append [] qs a b = b
@@ -69,28 +71,28 @@ others-append (p ∷ ps) qs a b = (a.0, others-append ps qs a.1 b)
 
 -- ---- The root's bodies
 
-abbrev root_reach : List Block → List ProcedureTree → ℕ → Reach
+abbrev root_reach : List TypedBlock → List ProcedureTree → ℕ → Reach
 root_reach blocks earlier params = record { pures = []; structs = flat_structs blocks; procedures = earlier; fields = root_fields_of blocks; params = params; of = 1 }
 
-module _ (blocks : List Block) (earlier : List ProcedureTree) (params : ℕ) where
-  outputs-size : length (map (λ k. int_field (output_name k)) (range_with_len 1 (length (output_rows blocks)))) ≡ length (output_rows blocks)
-  outputs-size = length-map (range_with_len 1 (length (output_rows blocks))) (λ k. int_field (output_name k)) ∙ length-range_with_len 1 (length (output_rows blocks))
+module _ (blocks : List TypedBlock) (earlier : List ProcedureTree) (params : ℕ) where
+  outputs-size : length (map (λ k. typed_field (output_name k) (output_type blocks k)) (range_with_len 1 (length (output_rows blocks)))) ≡ length (output_rows blocks)
+  outputs-size = length-map (range_with_len 1 (length (output_rows blocks))) (λ k. typed_field (output_name k) (output_type blocks k)) ∙ length-range_with_len 1 (length (output_rows blocks))
 
   -- the numbers of the root
   root-number : (k : ℕ) → k < top_place blocks → IsNumberAt (root_fields_of blocks) k
-  root-number zero h = (int_field now_name, refl, refl)
+  root-number zero h = (typed_field now_name I32, refl, refl)
   root-number (suc k) h = by (range_with_len 1 (length (output_rows blocks))) k (let size = length-range_with_len 1 (length (output_rows blocks)) in omega (arith, size))
     where
-      by : (xs : List ℕ) (k : ℕ) → k < length xs → (f : FieldTree) × (slice_get (map (λ k. int_field (output_name k)) xs ++ record { name = system_name None; kind = Struct 0 } ∷ []) k ≡ Some f) × (is_number f ≡ true)
+      by : (xs : List ℕ) (k : ℕ) → k < length xs → (f : FieldTree) × (slice_get (map (λ k. typed_field (output_name k) (output_type blocks k)) xs ++ record { name = system_name None; kind = Struct 0 } ∷ []) k ≡ Some f) × (is_number f ≡ true)
       by [] k h = absurd (omega arith)
-      by (x ∷ xs) zero h = (int_field (output_name x), refl, refl)
+      by (x ∷ xs) zero h = (typed_field (output_name x) (output_type blocks x), refl, refl)
       by (x ∷ xs) (suc k) h = by xs k (omega arith)
 
   -- the system behind them
   root-top : IsStructAt (root_fields_of blocks) (top_place blocks) 0
   root-top =
       let last : FieldTree = record { name = system_name None; kind = Struct 0 } in
-      (last, get-at (int_field now_name ∷ map (λ k. int_field (output_name k)) (range_with_len 1 (length (output_rows blocks)))) last [] (top_place blocks) (let size = outputs-size in omega (arith, size)), refl)
+      (last, get-at (typed_field now_name I32 ∷ map (λ k. typed_field (output_name k) (output_type blocks k)) (range_with_len 1 (length (output_rows blocks)))) last [] (top_place blocks) (let size = outputs-size in omega (arith, size)), refl)
 
   reads-lawful : (ports : List ℕ) → AllByRecursion (λ k. k - 1 < params) ports → AreLawfulExprs (root_reach blocks earlier params) (exprs_of_list (port_reads ports))
   reads-lawful [] all = tt
@@ -116,7 +118,7 @@ module _ (blocks : List Block) (earlier : List ProcedureTree) (params : ℕ) whe
   calls-lawful : (j : ℕ) (ns : List ℕ) → AllByRecursion (λ (e : ℕ × ℕ). slice_get earlier e.0 ≡ Some (out_procedure blocks (e.0 + 1) e.1)) (enumerate_from j ns) → input_count blocks ≤ params →
       AllLawful (root_reach blocks earlier params) (map (λ (e : ℕ × ℕ). call_top blocks e.0 (Some e.1)) (enumerate_from j ns))
   calls-lawful j [] all enough = tt
-  calls-lawful j (n ∷ ns) all enough = (call-lawful j (Some n) (out_procedure blocks (j + 1) n) all.0 refl (ap suc (length-map (taken_ports blocks (Some n)) (λ k. int_param (input_name k)))) enough, calls-lawful (j + 1) ns all.1 enough)
+  calls-lawful j (n ∷ ns) all enough = (call-lawful j (Some n) (out_procedure blocks (j + 1) n) all.0 refl (ap suc (length-map (taken_ports blocks (Some n)) (input_param blocks))) enough, calls-lawful (j + 1) ns all.1 enough)
 
   copies-lawful : (k : ℕ) (outs : List ℕ) → AllByRecursion (λ o. o < length blocks) outs → k + length outs ≤ top_place blocks → AllLawful (root_reach blocks earlier params) (map (λ (e : ℕ × ℕ). assign 0 e.0 (read (Rattle.c_tree.specs.declared.Leaf.TheVariants.Child (top_place blocks) e.1))) (enumerate_from k outs))
   copies-lawful k [] all h = tt
@@ -130,7 +132,7 @@ module _ (blocks : List Block) (earlier : List ProcedureTree) (params : ℕ) whe
       lawful-append (root_reach blocks earlier params) (function_calls blocks ++ (call_top blocks (update_place blocks) None ∷ output_copies blocks)) (next_now ∷ [])
       (lawful-append (root_reach blocks earlier params) (function_calls blocks) (call_top blocks (update_place blocks) None ∷ output_copies blocks)
       (calls-lawful 0 (function_needs blocks) outs enough)
-      (call-lawful (update_place blocks) None (update_procedure blocks) update refl (ap suc (length-map (taken_ports blocks None) (λ k. int_param (input_name k)))) enough, copies-lawful 1 (output_rows blocks) below (omega arith)))
+      (call-lawful (update_place blocks) None (update_procedure blocks) update refl (ap suc (length-map (taken_ports blocks None) (input_param blocks))) enough, copies-lawful 1 (output_rows blocks) below (omega arith)))
       ((root-number 0 (omega arith), ((root-number 0 (omega arith), (1, refl, lit< tt)), (1, refl, lit< tt))), tt)
 
   pub root-start-lawful : slice_get earlier (update_place blocks + 1) ≡ Some (start_procedure blocks) → AllLawful (root_reach blocks earlier params) (root_start_body blocks)
@@ -142,24 +144,24 @@ reads-shallow : (ports : List ℕ) → exprs_depth (exprs_of_list (port_reads po
 reads-shallow [] = omega arith
 reads-shallow (k ∷ ports) = let rest = reads-shallow ports in omega (arith, rest)
 
-call-shallow : (blocks : List Block) (j : ℕ) (need : Option ℕ) (rest : List StmtTree) → AreShallow rest 1 → AreShallow (call_top blocks j need ∷ rest) 1
+call-shallow : (blocks : List TypedBlock) (j : ℕ) (need : Option ℕ) (rest : List StmtTree) → AreShallow rest 1 → AreShallow (call_top blocks j need ∷ rest) 1
 call-shallow blocks j need rest shallow =
     let reads = reads-shallow (taken_ports blocks need) in
     let s = shallow.statements in let e = shallow.expressions in
     record { statements = omega (arith, s); expressions = omega (arith, reads, e) }
 
-calls-shallow : (blocks : List Block) (j : ℕ) (ns : List ℕ) → AreShallow (map (λ (e : ℕ × ℕ). call_top blocks e.0 (Some e.1)) (enumerate_from j ns)) 1
+calls-shallow : (blocks : List TypedBlock) (j : ℕ) (ns : List ℕ) → AreShallow (map (λ (e : ℕ × ℕ). call_top blocks e.0 (Some e.1)) (enumerate_from j ns)) 1
 calls-shallow blocks j [] = record { statements = omega arith; expressions = omega arith }
 calls-shallow blocks j (n ∷ ns) = call-shallow blocks j (Some n) _ (calls-shallow blocks (j + 1) ns)
 
-copies-shallow : (blocks : List Block) (k : ℕ) (outs : List ℕ) → AreShallow (map (λ (e : ℕ × ℕ). assign 0 e.0 (read (Child (top_place blocks) e.1))) (enumerate_from k outs)) 1
+copies-shallow : (blocks : List TypedBlock) (k : ℕ) (outs : List ℕ) → AreShallow (map (λ (e : ℕ × ℕ). assign 0 e.0 (read (Child (top_place blocks) e.1))) (enumerate_from k outs)) 1
 copies-shallow blocks k [] = record { statements = omega arith; expressions = omega arith }
 copies-shallow blocks k (o ∷ outs) =
     let rest = copies-shallow blocks (k + 1) outs in
     let s = rest.statements in let e = rest.expressions in
     record { statements = omega (arith, s); expressions = omega (arith, e) }
 
-step-shallow : (blocks : List Block) → AreShallow (step_body blocks) 1
+step-shallow : (blocks : List TypedBlock) → AreShallow (step_body blocks) 1
 step-shallow blocks =
     shallow-append (function_calls blocks ++ (call_top blocks (update_place blocks) None ∷ output_copies blocks)) (next_now ∷ []) 1
     (shallow-append (function_calls blocks) (call_top blocks (update_place blocks) None ∷ output_copies blocks) 1 (calls-shallow blocks 0 (function_needs blocks)) (call-shallow blocks (update_place blocks) None (output_copies blocks) (copies-shallow blocks 1 (output_rows blocks))))
@@ -203,12 +205,12 @@ procedures-append : (structs : List StructTree) (earlier xs ys : List ProcedureT
 procedures-append structs earlier [] ys a b = subst (λ l. AreProcedures [] structs l ys) (append-nil earlier) b
 procedures-append structs earlier (x ∷ xs) ys a b = (a.0, procedures-append structs (earlier ++ x ∷ []) xs ys a.1 (subst (λ l. AreProcedures [] structs l ys) (sym (append_assoc earlier (x ∷ []) xs)) b))
 
-module _ (blocks : List Block) (are : AreBlocks blocks) (below : OutputsAreRows blocks) (outs : length (output_rows blocks) ≤ 32) (functions : length (function_needs blocks) ≤ 32) where
+module _ (blocks : List TypedBlock) (are : AreBlocks blocks) (below : OutputsAreRows blocks) (outs : length (output_rows blocks) ≤ 32) (functions : length (function_needs blocks) ≤ 32) where
   abbrev structs : List StructTree
   structs = flat_structs blocks
 
-  params-count : (need : Option ℕ) → length (int_param now_name ∷ input_params blocks need) ≡ suc (length (taken_ports blocks need))
-  params-count need = ap suc (length-map (taken_ports blocks need) (λ k. int_param (input_name k)))
+  params-count : (need : Option ℕ) → length (now_param ∷ input_params blocks need) ≡ suc (length (taken_ports blocks need))
+  params-count need = ap suc (length-map (taken_ports blocks need) (input_param blocks))
 
   params-few : (need : Option ℕ) → length (taken_ports blocks need) ≤ 32
   params-few need =
@@ -221,8 +223,8 @@ module _ (blocks : List Block) (are : AreBlocks blocks) (below : OutputsAreRows 
   out-is-lawful earlier j need others = record {
     of = lit< tt;
     params = now-distinct blocks (Some need) are.few_inputs;
-    apart = (now-apart earlier others, inputs-apart (taken_ports blocks (Some need)) earlier others);
-    body = out-lawful blocks are structs earlier (length (int_param now_name ∷ input_params blocks (Some need))) need (params-count (Some need));
+    apart = (now-apart earlier others, inputs-apart blocks (taken_ports blocks (Some need)) earlier others);
+    body = out-lawful blocks are structs earlier (length (now_param ∷ input_params blocks (Some need))) need (params-count (Some need));
   }
 
   outs-lawful : (earlier : List ProcedureTree) (j : ℕ) (ns : List ℕ) → AllByRecursion HasOtherName earlier → AreProcedures [] structs earlier (out_list blocks j ns)
@@ -293,8 +295,8 @@ module _ (blocks : List Block) (are : AreBlocks blocks) (below : OutputsAreRows 
     record {
       of = lit< tt;
       params = now-distinct blocks None are.few_inputs;
-      apart = (now-apart os os-others, inputs-apart (taken_ports blocks None) os os-others);
-      body = update-lawful blocks are structs os (length (int_param now_name ∷ input_params blocks None)) (params-count None);
+      apart = (now-apart os os-others, inputs-apart blocks (taken_ports blocks None) os os-others);
+      body = update-lawful blocks are structs os (length (now_param ∷ input_params blocks None)) (params-count None);
     },
     (
       record { of = lit< tt; params = tt; apart = tt; body = start-lawful blocks are structs with_update 0 },
@@ -306,11 +308,11 @@ module _ (blocks : List Block) (are : AreBlocks blocks) (below : OutputsAreRows 
             record {
               of = lit< tt;
               params = inputs-distinct blocks None are.few_inputs;
-              apart = inputs-apart (taken_ports blocks None) with_root_start root-start-others;
+              apart = inputs-apart blocks (taken_ports blocks None) with_root_start root-start-others;
               body = step-lawful blocks with_root_start (length (input_params blocks None))
                   (outs-there with_root_start [] _ 0 (function_needs blocks) before-step refl)
                   (ap (λ l. slice_get l (update_place blocks)) before-step ∙ get-at os (update_procedure blocks) _ (update_place blocks) (length-outs blocks))
-                  (let size = length-map (taken_ports blocks None) (λ k. int_param (input_name k)) in let all = ap length (all-ports blocks) in let range = length-range_with_len 1 (input_count blocks) in omega (arith, size, all, range))
+                  (let size = length-map (taken_ports blocks None) (input_param blocks) in let all = ap length (all-ports blocks) in let range = length-range_with_len 1 (input_count blocks) in omega (arith, size, all, range))
                   below;
             },
             tt,
@@ -325,16 +327,16 @@ module _ (blocks : List Block) (are : AreBlocks blocks) (below : OutputsAreRows 
 
   -- ---- Structs
 
-  kinds-lawful : (count : ℕ) (name : ℕ → List ℕ) (xs : List ℕ) (rest : List FieldTree) → AllByRecursion (λ f. IsLawfulKind count f.kind) rest → AllByRecursion (λ f. IsLawfulKind count f.kind) (map (λ b. int_field (name b)) xs ++ rest)
-  kinds-lawful count name [] rest all = all
-  kinds-lawful count name (x ∷ xs) rest all = (tt, kinds-lawful count name xs rest all)
+  kinds-lawful : (count : ℕ) (name : ℕ → List ℕ) (type : ℕ → CType) (xs : List ℕ) (rest : List FieldTree) → AllByRecursion (λ f. IsLawfulKind count f.kind) rest → AllByRecursion (λ f. IsLawfulKind count f.kind) (map (λ b. typed_field (name b) (type b)) xs ++ rest)
+  kinds-lawful count name type [] rest all = all
+  kinds-lawful count name type (x ∷ xs) rest all = (tt, kinds-lawful count name type xs rest all)
 
   top-kinds : AllByRecursion (λ f. IsLawfulKind 0 f.kind) (top_fields blocks)
   top-kinds =
-      let m : List FieldTree = map (λ b. int_field (memory_name b)) (delay_rows blocks) in
+      let m : List FieldTree = map (λ b. typed_field (memory_name b) (type_of blocks b)) (delay_rows blocks) in
       let last : List FieldTree = record { name = counter_name; kind = Number U8 } ∷ [] in
-      subst (AllByRecursion (λ f. IsLawfulKind 0 f.kind)) (sym (append_assoc (map (λ b. int_field (value_name b)) (range_with_len 0 (length blocks))) m last))
-      (kinds-lawful 0 value_name (range_with_len 0 (length blocks)) (m ++ last) (kinds-lawful 0 memory_name (delay_rows blocks) last (tt, tt)))
+      subst (AllByRecursion (λ f. IsLawfulKind 0 f.kind)) (sym (append_assoc (map (λ b. typed_field (value_name b) (type_of blocks b)) (range_with_len 0 (length blocks))) m last))
+      (kinds-lawful 0 value_name (type_of blocks) (range_with_len 0 (length blocks)) (m ++ last) (kinds-lawful 0 memory_name (type_of blocks) (delay_rows blocks) last (tt, tt)))
 
   -- each output is one of those without a gap
   abbrev names : List (List ℕ)
@@ -347,7 +349,7 @@ module _ (blocks : List Block) (are : AreBlocks blocks) (below : OutputsAreRows 
       ap (λ c. has_name (map output_name (numbers_from 1 c)) (output_name k)) (outputs-counted blocks outs) ∙ ap (λ l. has_name (map output_name l) (output_name k)) (numbers-are 1 n) ∙ has-output k 1 n low high (omega arith) in
       or_right (not (looks_like_output (output_name k))) (true && has_name (output_names names) (output_name k)) there
 
-  outputs-may-be : (a n : ℕ) → 1 ≤ a → a + n ≤ 1 + length (output_rows blocks) → AllByRecursion (λ (f : FieldTree). may_be_named names (is_number f) f.name ≡ true) (map (λ k. int_field (output_name k)) (range_with_len a n) ++ record { name = system_name None; kind = Struct 0 } ∷ [])
+  outputs-may-be : (a n : ℕ) → 1 ≤ a → a + n ≤ 1 + length (output_rows blocks) → AllByRecursion (λ (f : FieldTree). may_be_named names (is_number f) f.name ≡ true) (map (λ k. typed_field (output_name k) (output_type blocks k)) (range_with_len a n) ++ record { name = system_name None; kind = Struct 0 } ∷ [])
   outputs-may-be a zero low high = (refl, tt)
   outputs-may-be a (suc n) low high = (outputs-named a low (omega arith), outputs-may-be (a + 1) n (omega arith) (omega arith))
 
@@ -363,7 +365,7 @@ module _ (blocks : List Block) (are : AreBlocks blocks) (below : OutputsAreRows 
       record {
         fields = root-distinct blocks are.at_most outs functions;
         some = omega arith;
-        kinds = (tt, kinds-lawful (0 + 1) output_name (range_with_len 1 (length (output_rows blocks))) (record { name = system_name None; kind = Struct 0 } ∷ []) (lit< tt, tt));
+        kinds = (tt, kinds-lawful (0 + 1) output_name (output_type blocks) (range_with_len 1 (length (output_rows blocks))) (record { name = system_name None; kind = Struct 0 } ∷ []) (lit< tt, tt));
         outputs = λ e. (refl, outputs-may-be 1 (length (output_rows blocks)) (omega arith) (omega arith));
       },
       tt,
@@ -379,7 +381,7 @@ module _ (blocks : List Block) (are : AreBlocks blocks) (below : OutputsAreRows 
     expressions = (let x = shallow.expressions in let same = ap stmts_exprs_depth e in omega (arith, x, same));
   }
 
-  now-few : (need : Option ℕ) → length (int_param now_name ∷ input_params blocks need) ≤ 64
+  now-few : (need : Option ℕ) → length (now_param ∷ input_params blocks need) ≤ 64
   now-few need = let count = params-count need in let few = params-few need in omega (arith, count, few)
 
   outs-fit : (j : ℕ) (ns : List ℕ) (rest : List ProcedureTree) → AllByRecursion ProcedureFits rest → AllByRecursion ProcedureFits (out_list blocks j ns ++ rest)
@@ -396,7 +398,7 @@ module _ (blocks : List Block) (are : AreBlocks blocks) (below : OutputsAreRows 
         (
           fits (root_start_procedure blocks) (root_start_body blocks) 1 refl (lit≤ tt) (lit≤ tt) (record { statements = lit≤ tt; expressions = lit≤ tt }),
           (
-            fits (root_step_procedure blocks) (step_body blocks) 1 refl (let size = length-map (taken_ports blocks None) (λ k. int_param (input_name k)) in let few = params-few None in omega (arith, size, few)) (lit≤ tt) (step-shallow blocks),
+            fits (root_step_procedure blocks) (step_body blocks) 1 refl (let size = length-map (taken_ports blocks None) (input_param blocks) in let few = params-few None in omega (arith, size, few)) (lit≤ tt) (step-shallow blocks),
             tt,
           ),
         ),
@@ -406,9 +408,16 @@ module _ (blocks : List Block) (are : AreBlocks blocks) (below : OutputsAreRows 
 
   -- ---- The root
 
-  step-types : (ports : List ℕ) → AllByRecursion (λ (q : ParamTree). q.type ≢ I64) (map (λ k. int_param (input_name k)) ports)
+  input-narrow : (k : ℕ) → input_type blocks k ≢ I64
+  input-narrow k = by (input_row blocks k)
+    where
+      by : (o : Option ℕ) → option_map_or (type_of blocks) o I32 ≢ I64
+      by None e = cc e
+      by (Some b) e = are.narrow b e
+
+  step-types : (ports : List ℕ) → AllByRecursion (λ (q : ParamTree). q.type ≢ I64) (map (input_param blocks) ports)
   step-types [] = tt
-  step-types (k ∷ ports) = ((λ e. cc e), step-types ports)
+  step-types (k ∷ ports) = (input-narrow k, step-types ports)
 
   has-root : HasRoot (flat_program blocks)
   has-root = record {

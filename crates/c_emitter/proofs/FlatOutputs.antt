@@ -1,61 +1,59 @@
 -- The program for a diagram of one system gives the outputs of its run.
-use Rattle.std.specs.Prelude.{◌≡◌, ℕ, zero, suc, ◌+◌, ◌<◌, ◌≤◌, Bool, true, false, List, [], ◌∷◌, map, filter_map, length, Option, Some, None, unwrap_or, replicate, ℤ, pos, ◌≤ℤ◌}
+use Rattle.std.specs.Prelude.{◌≡◌, ℕ, zero, suc, ◌+◌, ◌<◌, ◌≤◌, Bool, true, false, List, [], ◌∷◌, map, filter_map, length, Option, Some, None, unwrap_or, ℤ, pos}
 use Rattle.std.specs.List.{cons_option, range_with_len, position_from, AllByRecursion, AllZip}
 use Rattle.std.proofs.Common.{refl, sym, ◌∙◌, ap, ap₂, subst, arith, cond}
 use Rattle.std.proofs.lemmas.List.{length-map}
-use Rattle.std.proofs.lemmas.Int.{ints}
-use Rattle.std.proofs.lemmas.Bool.{and_from}
-use Rattle.mc_base.specs.declared.Port.{Port}
+use Rattle.mc_base.specs.declared.Port.TheVariants.{Number}
 use Rattle.mc_guards.specs.declared.TrigMem.{TrigMem}
-use Rattle.mc_fixed.specs.Types.{int32}
+use Rattle.mc_fixed.specs.declared.FixType.{FixType}
 use Rattle.mc_fixed.specs.Conversion.{InType}
 use Rattle.mc_blocks.specs.declared.Op.{Op}
 use Rattle.mc_diagram.specs.declared.Row.{Row}
-use Rattle.mc_diagram.specs.Diagram.{type_at}
+use Rattle.mc_diagram.specs.Diagram.{Diagram}
 use Rattle.mc_diagram.specs.Laws.{HasOneRun}
 use Rattle.mc_diagram.proofs.OneRun.{one_run}
 use Rattle.mc_diagram.specs.Run.{IsRun, RunFrom, outs, start_of, values_by}
-use Rattle.mc_profile.specs.Ports.{input_ports}
-use Rattle.mc_profile.specs.Systems.{input_row}
-use Rattle.c_tree.specs.declared.CType.TheVariants.{I32}
-use Rattle.c_tree.specs.Values.{least_of, greatest_of}
+use Rattle.c_tree.specs.Values.{is_in_type}
 use Rattle.c_tree.specs.Cells.{Cells, value_at}
 use Rattle.c_tree.specs.Machine.{After, Outcome, done, behind, program_routines, routine_at, Routine, Scope, run_stmts}
 use Rattle.c_tree.specs.Tree.{field_types}
 use Rattle.c_tree.specs.Tree.{stmts_of_list}
 use Rattle.c_tree.specs.Rows.{TickRow, Rows, tick_row, rows_after, rows_from, rows_of_start, with_tick, c_rows, step_run}
 use Rattle.c_tree.proofs.Runs.{behind-nothing}
-use Rattle.c_emitter.specs.declared.block.Block.{Block}
+use Rattle.c_emitter.specs.Names.{container}
 use Rattle.c_emitter.specs.Systems.{IsTrace, input_type_of}
 use Rattle.c_emitter.specs.Code.{GivesOutputs}
 use Rattle.c_emitter.specs.Flat.{IsFlat}
-use Rattle.c_emitter.specs.Blocks.{output_row, output_rows, is_output_of, output_count, function_needs}
+use Rattle.c_emitter.specs.Blocks.{TypedBlock, input_type, input_count, output_row, output_rows, is_output_of, output_count, function_needs}
 use Rattle.c_emitter.specs.Bodies.{update_place, step_body}
 use Rattle.c_emitter.specs.FlatProgram.{root_fields_of, root_step_procedure, update_procedure, flat_program}
 use Rattle.c_emitter.proofs.NumberCells.{number_cells, item}
 use Rattle.c_emitter.proofs.Straight.{finish}
-use Rattle.c_emitter.proofs.BlockFacts.{AreBlocks, top_state}
-use Rattle.c_emitter.proofs.BlockTicks.{IsInt, AreInts, MemoriesAreInts, IsBlockTick, memories-stay-ints}
+use Rattle.c_emitter.proofs.Containers.{container-has, zero-fits}
+use Rattle.c_emitter.proofs.BlockFacts.{FitsAt, AreBlocks, top_state}
+use Rattle.c_emitter.proofs.BlockTicks.{AreInputs, MemoriesFit, IsBlockTick, memories-still-fit}
+pub use Rattle.c_emitter.proofs.Members.{all-found}
 use Rattle.c_emitter.proofs.Costs.{step_cost, outputs-few, functions-few}
 use Rattle.c_emitter.proofs.StepRun.{root_state, step_log, step_stores, run-step}
 use Rattle.c_emitter.proofs.Procedures.{root_step-place, later-routine, found-before, earlier_than, all-out-routines}
 use Rattle.c_emitter.proofs.OutputFields.{output-places, read-outputs}
 use Rattle.c_emitter.proofs.FlatRows.{diagram}
-use Rattle.c_emitter.proofs.FlatBlocks.{blocks, are-blocks, int-le}
+use Rattle.c_emitter.proofs.FlatBlocks.{blocks, are-blocks}
+use Rattle.c_emitter.proofs.InputRows.{ports-are, input-types-are}
 use Rattle.c_emitter.proofs.FlatTicks.{block-tick, values-start, memories-start}
 use Rattle.c_emitter.proofs.FlatNeeds.{outputs-are, no-loop}
-use Rattle.c_emitter.proofs.StartRun.{start_values, start-value-at, length-start_values, start-int}
+use Rattle.c_emitter.proofs.StartRun.{start_values, start-value-at, length-start_values}
 use Rattle.c_emitter.proofs.RootStart.{zero_outputs, length-zero_outputs, root-start}
 
 -- the row of a tick with these values
-abbrev pub tick_of : List Block → List ℤ → TickRow
+abbrev pub tick_of : List TypedBlock → List ℤ → TickRow
 tick_of blocks v = record { outputs = map (item v) (output_rows blocks); steps = step_cost blocks; log = step_log blocks; stores = step_stores blocks }
 
 -- each output is a row
-abbrev pub OutputsAreRows : List Block → Type 0
+abbrev pub OutputsAreRows : List TypedBlock → Type 0
 OutputsAreRows blocks = AllByRecursion (λ o. o < length blocks) (output_rows blocks)
 
-module _ (blocks : List Block) (are : AreBlocks blocks) (below : OutputsAreRows blocks) where
+module _ (blocks : List TypedBlock) (are : AreBlocks blocks) (below : OutputsAreRows blocks) where
   few-outputs : length (output_rows blocks) ≤ 32
   few-outputs = let h = outputs-few blocks in let few = are.few_outputs in omega (arith, h, few)
 
@@ -63,7 +61,7 @@ module _ (blocks : List Block) (are : AreBlocks blocks) (below : OutputsAreRows 
   few-functions = let h = functions-few blocks in let few = few-outputs in omega (arith, h, few)
 
   -- a tick of the program
-  pub step-runs : (x before v m n outputs : List ℤ) → IsBlockTick blocks x v m n → AreInts x → MemoriesAreInts blocks m → length before ≡ length blocks → length outputs ≡ length (output_rows blocks) →
+  pub step-runs : (x before v m n outputs : List ℤ) → IsBlockTick blocks x v m n → AreInputs blocks x → MemoriesFit blocks m → length before ≡ length blocks → length outputs ≡ length (output_rows blocks) →
       step_run (flat_program blocks) x (root_state blocks outputs before m) ≡ finish (root_state blocks (map (item v) (output_rows blocks)) v n) (step_cost blocks) (step_log blocks) (step_stores blocks)
   step-runs x before v m n outputs tick xs ms size outs_size =
       let p = flat_program blocks in
@@ -87,54 +85,52 @@ module _ (blocks : List Block) (are : AreBlocks blocks) (below : OutputsAreRows 
 -- ---- Over a trace
 
 -- the rows of a run with these values
-pub record TicksAre (blocks : List Block) (rs : Rows) (vs : List (List ℤ)) : Type 0 where
+pub record TicksAre (blocks : List TypedBlock) (rs : Rows) (vs : List (List ℤ)) : Type 0 where
   pub ticks : rs.ticks ≡ map (tick_of blocks) vs
   pub not_stuck : rs.stuck_place ≡ None
 
--- numbers of int32, or of the boolean past the table
-int-from : (n i : ℕ) (v : ℤ) → InType (type_at (replicate n int32) i) v → IsInt v
-int-from zero i v h =
-    let above : pos 0 ≤ℤ v = h.0 in
-    let under : v ≤ℤ pos 1 = h.1 in
-    and_from _ _ (int-le (least_of I32) v (omega (arith, ints, above))) (int-le v (greatest_of I32) (omega (arith, ints, under)))
-int-from (suc n) zero v h = and_from _ _ (int-le _ _ h.0) (int-le _ _ h.1)
-int-from (suc n) (suc i) v h = int-from n i v h
+-- a row of the trace, input by input
+trace-fits : (d : Diagram) (blocks : List TypedBlock) (a n : ℕ) (x : List ℤ) → AllZip (λ p v. InType (input_type_of d None p) v) (map Number (range_with_len a n)) x →
+    ((k : ℕ) → a ≤ k → k < a + n → input_type blocks k ≡ container (input_type_of d None (Number k))) →
+    (k : ℕ) → is_in_type (input_type blocks (a + k)) (item x k) ≡ true
+trace-fits d blocks a zero [] all types k = zero-fits (input_type blocks (a + k))
+trace-fits d blocks a zero (v ∷ x) all types k = absurd all
+trace-fits d blocks a (suc n) [] all types k = absurd all
+trace-fits d blocks a (suc n) (v ∷ x) all types zero =
+    let here : a ≡ a + 0 = omega arith in
+    subst (λ i. is_in_type (input_type blocks i) v ≡ true) here (subst (λ t. is_in_type t v ≡ true) (sym (types a (omega arith) (omega arith))) (container-has (input_type_of d None (Number a)) v all.0))
+trace-fits d blocks a (suc n) (v ∷ x) all types (suc k) =
+    let next : a + 1 + k ≡ a + suc k = omega arith in
+    subst (λ i. is_in_type (input_type blocks i) (item x k) ≡ true) next (trace-fits d blocks (a + 1) n x all.1 (λ i low high. types i (omega arith) (omega arith)) k)
 
-trace-ints : (rows : List Row) (ops : List Op) (ps : List Port) (x : List ℤ) → AllZip (λ p v. InType (input_type_of (diagram rows ops) None p) v) ps x → AreInts x
-trace-ints rows ops [] [] all k = refl
-trace-ints rows ops [] (v ∷ x) all k = absurd all
-trace-ints rows ops (p ∷ ps) [] all k = absurd all
-trace-ints rows ops (p ∷ ps) (v ∷ x) all zero = int-from (length rows) (input_row rows None p) v all.0
-trace-ints rows ops (p ∷ ps) (v ∷ x) all (suc k) = trace-ints rows ops ps x all.1 k
+module _ (rows : List Row) (types : List FixType) (ops : List Op) (flat : IsFlat (diagram rows types ops)) (below : OutputsAreRows (blocks rows types ops flat)) where
+  abbrev bs : List TypedBlock
+  bs = blocks rows types ops flat
 
-module _ (rows : List Row) (ops : List Op) (flat : IsFlat (diagram rows ops)) (below : OutputsAreRows (blocks rows ops flat)) where
-  abbrev bs : List Block
-  bs = blocks rows ops flat
-
-  one-tick : (x before m outputs v n : List ℤ) (rest : Cells → Rows) → IsBlockTick bs x v m n → AreInts x → MemoriesAreInts bs m → length before ≡ length bs → length outputs ≡ length (output_rows bs) →
+  one-tick : (x before m outputs v n : List ℤ) (rest : Cells → Rows) → IsBlockTick bs x v m n → AreInputs bs x → MemoriesFit bs m → length before ≡ length bs → length outputs ≡ length (output_rows bs) →
       rows_after (flat_program bs) (step_run (flat_program bs) x (root_state bs outputs before m)) rest ≡ with_tick (tick_of bs v) (rest (root_state bs (map (item v) (output_rows bs)) v n))
   one-tick x before m outputs v n rest tick xs ms size outs_size =
-      let are = are-blocks rows ops flat in
+      let are = are-blocks rows types ops flat in
       let after : List ℤ = map (item v) (output_rows bs) in
       ap (λ o. rows_after (flat_program bs) o rest) (step-runs bs are below x before v m n outputs tick xs ms size outs_size)
       ∙ ap (λ r. with_tick r (rest (root_state bs after v n))) (tick-row bs are below v n after (length-map (output_rows bs) (item v)))
 
-  pub runs-from : (t : ℕ) (before m : List ℤ) (g : List TrigMem) (xs vs ms : List (List ℤ)) (gs : List (List TrigMem)) (outputs : List ℤ) → RunFrom (diagram rows ops) None t before m g xs vs ms gs → IsTrace (diagram rows ops) None xs →
-      length before ≡ length bs → length outputs ≡ length (output_rows bs) → MemoriesAreInts bs m → TicksAre bs (rows_from (flat_program bs) xs (root_state bs outputs before m)) vs
-  runs-from t before m g [] [] [] [] outputs run trace size outs_size ints_of = record { ticks = refl; not_stuck = refl }
-  runs-from t before m g (x ∷ xs) (v ∷ vs) (n ∷ ms) (g' ∷ gs) outputs run trace size outs_size ints_of =
-      let are = are-blocks rows ops flat in
-      let tick = block-tick rows ops flat t x before m g v n g' run.0 in
-      let x_ints = trace-ints rows ops (input_ports rows None) x trace.0 in
+  pub runs-from : (t : ℕ) (before m : List ℤ) (g : List TrigMem) (xs vs ms : List (List ℤ)) (gs : List (List TrigMem)) (outputs : List ℤ) → RunFrom (diagram rows types ops) None t before m g xs vs ms gs → IsTrace (diagram rows types ops) None xs →
+      length before ≡ length bs → length outputs ≡ length (output_rows bs) → MemoriesFit bs m → TicksAre bs (rows_from (flat_program bs) xs (root_state bs outputs before m)) vs
+  runs-from t before m g [] [] [] [] outputs run trace size outs_size memories_fit = record { ticks = refl; not_stuck = refl }
+  runs-from t before m g (x ∷ xs) (v ∷ vs) (n ∷ ms) (g' ∷ gs) outputs run trace size outs_size memories_fit =
+      let are = are-blocks rows types ops flat in
+      let tick = block-tick rows types ops flat t x before m g v n g' run.0 in
+      let x_fits : AreInputs bs x = trace-fits (diagram rows types ops) bs 1 (input_count bs) x (subst (λ ps. AllZip (λ p v. InType (input_type_of (diagram rows types ops) None p) v) ps x) (ports-are rows types ops flat) trace.0) (input-types-are rows types ops flat) in
       let after : List ℤ = map (item v) (output_rows bs) in
-      let later = runs-from (suc t) v n g' xs vs ms gs after run.1 trace.1 tick.size (length-map (output_rows bs) (item v)) (memories-stay-ints bs are x v m n tick x_ints ints_of) in
-      let now = one-tick x before m outputs v n (rows_from (flat_program bs) xs) tick x_ints ints_of size outs_size in
+      let later = runs-from (suc t) v n g' xs vs ms gs after run.1 trace.1 tick.size (length-map (output_rows bs) (item v)) (memories-still-fit bs are x v m n tick x_fits memories_fit) in
+      let now = one-tick x before m outputs v n (rows_from (flat_program bs) xs) tick x_fits memories_fit size outs_size in
       record { ticks = ap (λ (r : Rows). r.ticks) now ∙ ap (λ l. tick_of bs v ∷ l) later.ticks; not_stuck = ap (λ (r : Rows). r.stuck_place) now ∙ later.not_stuck }
-  runs-from t before m g _ _ _ _ outputs run trace size outs_size ints_of = absurd run
+  runs-from t before m g _ _ _ _ outputs run trace size outs_size memories_fit = absurd run
 
 -- ---- The outputs' rows
 
-position-within : {A : Type 0} (t : A → Bool) (xs : List A) (i j : ℕ) → position_from t i xs ≡ Some j → j < i + length xs
+pub position-within : {A : Type 0} (t : A → Bool) (xs : List A) (i j : ℕ) → position_from t i xs ≡ Some j → j < i + length xs
 position-within t [] i j e = absurd (cc e)
 position-within t (x ∷ xs) i j e = by (t x) e (λ k. position-within t xs (i + 1) j k)
   where
@@ -142,49 +138,41 @@ position-within t (x ∷ xs) i j e = by (t x) e (λ k. position-within t xs (i +
     by true e later = let same : i ≡ j = cc e in omega arith
     by false e later = let h = later e in omega (arith, h)
 
-pub all-found : (f : ℕ → Option ℕ) (P : ℕ → Type 0) (xs : List ℕ) → ((x y : ℕ) → f x ≡ Some y → P y) → AllByRecursion P (filter_map f xs)
-all-found f P [] h = tt
-all-found f P (x ∷ xs) h = by (f x) refl (all-found f P xs h)
-  where
-    by : (o : Option ℕ) → f x ≡ o → AllByRecursion P (filter_map f xs) → AllByRecursion P (cons_option o (filter_map f xs))
-    by None e rest = rest
-    by (Some y) e rest = (h x y e, rest)
-
-pub outputs-are-rows : (blocks : List Block) → OutputsAreRows blocks
-outputs-are-rows blocks = all-found (output_row blocks) (λ o. o < length blocks) (range_with_len 1 (output_count blocks)) (λ k o e. let h = position-within (is_output_of k) blocks 0 o e in omega (arith, h))
+pub outputs-are-rows : (blocks : List TypedBlock) → OutputsAreRows blocks
+outputs-are-rows blocks = all-found (output_row blocks) (λ o. o < length blocks) (range_with_len 1 (output_count blocks)) (λ k o e. let h = position-within (λ (t : TypedBlock). is_output_of k t.block) blocks 0 o e in omega (arith, h))
 
 -- ---- From the start
 
-module _ (rows : List Row) (ops : List Op) (flat : IsFlat (diagram rows ops)) where
-  abbrev flat_blocks : List Block
-  flat_blocks = blocks rows ops flat
+module _ (rows : List Row) (types : List FixType) (ops : List Op) (flat : IsFlat (diagram rows types ops)) where
+  abbrev flat_blocks : List TypedBlock
+  flat_blocks = blocks rows types ops flat
 
-  start-ints : MemoriesAreInts flat_blocks (start_values flat_blocks)
-  start-ints b h delay = subst IsInt (sym (start-value-at flat_blocks b h)) (start-int flat_blocks (are-blocks rows ops flat) b h)
+  starts-fit : MemoriesFit flat_blocks (start_values flat_blocks)
+  starts-fit b h delay = subst (FitsAt flat_blocks b) (sym (start-value-at flat_blocks b h)) ((are-blocks rows types ops flat).starts b h)
 
-  pub started-rows : (xs vs ms : List (List ℤ)) (gs : List (List TrigMem)) → IsRun (diagram rows ops) None xs vs ms gs → IsTrace (diagram rows ops) None xs → TicksAre flat_blocks (c_rows (flat_program flat_blocks) xs) vs
+  pub started-rows : (xs vs ms : List (List ℤ)) (gs : List (List TrigMem)) → IsRun (diagram rows types ops) None xs vs ms gs → IsTrace (diagram rows types ops) None xs → TicksAre flat_blocks (c_rows (flat_program flat_blocks) xs) vs
   started-rows xs vs [] gs run trace = absurd run
   started-rows xs vs (m ∷ ms) [] run trace = absurd run
   started-rows xs vs (m ∷ ms) (g ∷ gs) run trace =
-      let are = are-blocks rows ops flat in
+      let are = are-blocks rows types ops flat in
       let starts : List ℤ = start_values flat_blocks in
       let begin : c_rows (flat_program flat_blocks) xs ≡ rows_from (flat_program flat_blocks) xs (root_state flat_blocks (zero_outputs flat_blocks) starts starts) = ap (λ o. rows_of_start (flat_program flat_blocks) o xs) (root-start flat_blocks are) in
-      let run' = subst (λ b. RunFrom (diagram rows ops) None 0 b starts g xs vs ms gs) (values-start rows ops flat) (subst (λ l. RunFrom (diagram rows ops) None 0 (values_by (diagram rows ops) None (start_of (diagram rows ops))) l g xs vs ms gs) (run.0 ∙ memories-start rows ops flat) run.2) in
-      let all = runs-from rows ops flat (outputs-are-rows flat_blocks) 0 starts starts g xs vs ms gs (zero_outputs flat_blocks) run' trace (length-start_values flat_blocks) (length-zero_outputs flat_blocks) start-ints in
+      let run' = subst (λ b. RunFrom (diagram rows types ops) None 0 b starts g xs vs ms gs) (values-start rows types ops flat) (subst (λ l. RunFrom (diagram rows types ops) None 0 (values_by (diagram rows types ops) None (start_of (diagram rows types ops))) l g xs vs ms gs) (run.0 ∙ memories-start rows types ops flat) run.2) in
+      let all = runs-from rows types ops flat (outputs-are-rows flat_blocks) 0 starts starts g xs vs ms gs (zero_outputs flat_blocks) run' trace (length-start_values flat_blocks) (length-zero_outputs flat_blocks) starts-fit in
       record { ticks = ap (λ (r : Rows). r.ticks) begin ∙ all.ticks; not_stuck = ap (λ (r : Rows). r.stuck_place) begin ∙ all.not_stuck }
 
-  outputs-of : (vs : List (List ℤ)) → map (λ (row : TickRow). row.outputs) (map (tick_of flat_blocks) vs) ≡ map (outs (diagram rows ops) None) vs
+  outputs-of : (vs : List (List ℤ)) → map (λ (row : TickRow). row.outputs) (map (tick_of flat_blocks) vs) ≡ map (outs (diagram rows types ops) None) vs
   outputs-of [] = refl
-  outputs-of (v ∷ vs) = ap₂ ◌∷◌ (ap (map (item v)) (sym (outputs-are rows ops flat))) (outputs-of vs)
+  outputs-of (v ∷ vs) = ap₂ ◌∷◌ (ap (map (item v)) (sym (outputs-are rows types ops flat))) (outputs-of vs)
 
   -- the one run of a trace, and its rows
-  pub run-of : (xs : List (List ℤ)) → HasOneRun (diagram rows ops) None xs
-  run-of xs = one_run (diagram rows ops) None xs (no-loop rows ops flat)
+  pub run-of : (xs : List (List ℤ)) → HasOneRun (diagram rows types ops) None xs
+  run-of xs = one_run (diagram rows types ops) None xs (no-loop rows types ops flat)
 
-  pub rows-of : (xs : List (List ℤ)) → IsTrace (diagram rows ops) None xs → TicksAre flat_blocks (c_rows (flat_program flat_blocks) xs) (run-of xs).run.values
+  pub rows-of : (xs : List (List ℤ)) → IsTrace (diagram rows types ops) None xs → TicksAre flat_blocks (c_rows (flat_program flat_blocks) xs) (run-of xs).run.values
   rows-of xs trace = let one = run-of xs in started-rows xs one.run.values one.run.memories one.run.triggers one.is_run trace
 
-  pub gives-outputs : (xs : List (List ℤ)) → IsTrace (diagram rows ops) None xs → GivesOutputs (flat_program flat_blocks) (diagram rows ops) xs
+  pub gives-outputs : (xs : List (List ℤ)) → IsTrace (diagram rows types ops) None xs → GivesOutputs (flat_program flat_blocks) (diagram rows types ops) xs
   gives-outputs xs trace = record {
     one_run = run-of xs;
     outputs = (let rs = rows-of xs trace in ap (map (λ (row : TickRow). row.outputs)) rs.ticks ∙ outputs-of (run-of xs).run.values);

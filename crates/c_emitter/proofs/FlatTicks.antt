@@ -8,6 +8,7 @@ use Rattle.std.proofs.lemmas.List.FromFn.{length-range_with_len}
 use Rattle.std.proofs.lemmas.Bool.{eq-eqb}
 use Rattle.mc_guards.specs.declared.TrigMem.{TrigMem}
 use Rattle.mc_base.specs.declared.Port.TheVariants.{Number}
+use Rattle.mc_fixed.specs.declared.FixType.{FixType}
 use Rattle.mc_blocks.specs.declared.Kind.{Kind}
 use Rattle.mc_blocks.specs.declared.Kind.TheVariants.{Inport, Outport, UnitDelay}
 use Rattle.mc_blocks.specs.declared.Op.{Op}
@@ -20,12 +21,12 @@ use Rattle.mc_diagram.specs.Diagram.{Diagram, op_at, time_at}
 use Rattle.mc_diagram.specs.Run.{value_at, is_delay, start_of, runs, input_values, is_reset_outport, is_disabled, row_value, any_off, active_in, values_by, memories_by, has_memory, IsTick}
 use Rattle.mc_diagram.proofs.Equations.{value-of_row, memory-of_row}
 use Rattle.c_emitter.specs.declared.block.Block.{Block}
-use Rattle.c_emitter.specs.declared.block.Block.TheVariants.{Input, Output, Delay}
+use Rattle.c_emitter.specs.declared.block.Block.TheVariants.{Input, Output, Delay, Fixed}
 use Rattle.c_emitter.specs.Flat.{IsFlat}
-use Rattle.c_emitter.specs.Blocks.{block_at, is_delay_block, start_value}
+use Rattle.c_emitter.specs.Blocks.{TypedBlock, block_at, is_delay_block, start_value}
 use Rattle.c_emitter.proofs.BlockTicks.{TickAt, IsBlockTick}
 use Rattle.c_emitter.proofs.StartRun.{start_values}
-use Rattle.c_emitter.proofs.FlatRows.{diagram, RowView, input_row, output_row as output_view, delay_row, view, root-row}
+use Rattle.c_emitter.proofs.FlatRows.{diagram, RowView, input_row, output_row as output_view, delay_row, fixed_row, view, root-row}
 use Rattle.c_emitter.proofs.FlatBlocks.{blocks, same-length, delay-is, start-is}
 
 -- no subsystem is around a row of the root
@@ -39,9 +40,9 @@ around-none rows b e = ap (enclosing rows None) e ∙ by (length rows)
 every-tick-hits : (t : ℕ) → hit every_tick t ≡ true
 every-tick-hits t = eq-eqb (t % 1) 0 (omega arith)
 
-module _ (rows : List Row) (ops : List Op) (flat : IsFlat (diagram rows ops)) (t : ℕ) (x before m : List ℤ) (g : List TrigMem) (v n : List ℤ) (g' : List TrigMem) (tick : IsTick (diagram rows ops) None t x before m g v n g') where
+module _ (rows : List Row) (types : List FixType) (ops : List Op) (flat : IsFlat (diagram rows types ops)) (t : ℕ) (x before m : List ℤ) (g : List TrigMem) (v n : List ℤ) (g' : List TrigMem) (tick : IsTick (diagram rows types ops) None t x before m g v n g') where
   abbrev d : Diagram
-  d = diagram rows ops
+  d = diagram rows types ops
 
   time-is : (b : ℕ) → time_at d b ≡ every_tick
   time-is b = by (length rows) b
@@ -57,7 +58,7 @@ module _ (rows : List Row) (ops : List Op) (flat : IsFlat (diagram rows ops)) (t
   -- a row with a value runs, so its value is that of its rule
   value-is-rhs : (b : ℕ) → b < length rows → has_value (row_at rows b).kind ≡ true → value_at v b ≡ rhs (op_at d b) (input_values d None x v g b) (value_at m b)
   value-is-rhs b h has =
-      let root = root-row rows ops flat b h in
+      let root = root-row rows types ops flat b h in
       value-of_row d None t x before m g v n g' tick b h refl
       ∙ ap (λ i. if not i then pos 0 else (if is_reset_outport (row_at rows b).kind && is_disabled d None x v g (around rows None b) then start_of d b else (if runs d None x v g t b then rhs (op_at d b) (input_values d None x v g b) (value_at m b) else value_at before b))) has
       ∙ ap (λ es. if is_reset_outport (row_at rows b).kind && is_disabled d None x v g es then start_of d b else (if runs d None x v g t b then rhs (op_at d b) (input_values d None x v g b) (value_at m b) else value_at before b)) (around-none rows b root)
@@ -80,29 +81,32 @@ module _ (rows : List Row) (ops : List Op) (flat : IsFlat (diagram rows ops)) (t
 
   memory-is-input : (b c : ℕ) (initial : _) → b < length rows → (row_at rows b).kind ≡ UnitDelay initial → (row_at rows b).inputs ≡ c ∷ [] → is_delay (op_at d b) ≡ true → value_at n b ≡ value_at v c
   memory-is-input b c initial h kind wires delay =
-      let root = root-row rows ops flat b h in
+      let root = root-row rows types ops flat b h in
       memory-of_row d None t x before m g v n g' tick b h delay
       ∙ ap (λ es. if any_off d None x v g es then start_of d b else (if runs d None x v g t b then input (input_values d None x v g b) 0 else value_at m b)) (around-none rows b root)
       ∙ ap (λ r. if r then input (input_values d None x v g b) 0 else value_at m b) (runs-always b root)
       ∙ ap (λ l. input l 0) (wire-inputs b c (UnitDelay initial) root kind refl wires)
 
-  row-tick : (b : ℕ) → b < length rows → RowView rows ops b → TickAt (block_at (blocks rows ops flat) b) x v m n b
+  row-tick : (b : ℕ) → b < length rows → RowView rows types ops b → TickAt (block_at (blocks rows types ops flat) b) x v m n b
   row-tick b h (input_row port kind wires o block) =
       subst (λ k. TickAt k x v m n b) (sym block)
-      (value-is-rhs b h (ap has_value kind) ∙ ap₂ (λ o is. rhs o is (value_at m b)) o (own-inputs b port (root-row rows ops flat b h) kind))
+      (value-is-rhs b h (ap has_value kind) ∙ ap₂ (λ o is. rhs o is (value_at m b)) o (own-inputs b port (root-row rows types ops flat b h) kind))
   row-tick b h (output_view port reset initial c kind wires below source o block) =
       subst (λ k. TickAt k x v m n b) (sym block)
-      (value-is-rhs b h (ap has_value kind) ∙ ap₂ (λ o is. rhs o is (value_at m b)) o (wire-inputs b c (Outport port reset initial) (root-row rows ops flat b h) kind refl wires))
+      (value-is-rhs b h (ap has_value kind) ∙ ap₂ (λ o is. rhs o is (value_at m b)) o (wire-inputs b c (Outport port reset initial) (root-row rows types ops flat b h) kind refl wires))
+  row-tick b h (fixed_row value steady wires o fit block) =
+      subst (λ k. TickAt k x v m n b) (sym block)
+      (value-is-rhs b h steady.valued ∙ ap (λ o. rhs o (input_values d None x v g b) (value_at m b)) o)
   row-tick b h (delay_row initial c kind wires below source o block) =
       subst (λ k. TickAt k x v m n b) (sym block) (
-        value-is-rhs b h (ap has_value kind) ∙ ap₂ (λ o is. rhs o is (value_at m b)) o (wire-inputs b c (UnitDelay initial) (root-row rows ops flat b h) kind refl wires),
+        value-is-rhs b h (ap has_value kind) ∙ ap₂ (λ o is. rhs o is (value_at m b)) o (wire-inputs b c (UnitDelay initial) (root-row rows types ops flat b h) kind refl wires),
         memory-is-input b c initial h kind wires (ap is_delay o),
       )
 
-  pub block-tick : IsBlockTick (blocks rows ops flat) x v m n
+  pub block-tick : IsBlockTick (blocks rows types ops flat) x v m n
   block-tick = record {
-    size = ap length tick.values ∙ length-map (row_numbers rows) (λ b. row_value d None t x before m g v b) ∙ length-range_with_len 0 (length rows) ∙ sym (same-length rows ops flat);
-    each = λ b h. (let within : b < length rows = (let same = same-length rows ops flat in omega (arith, same)) in row-tick b within (view rows ops flat b within));
+    size = ap length tick.values ∙ length-map (row_numbers rows) (λ b. row_value d None t x before m g v b) ∙ length-range_with_len 0 (length rows) ∙ sym (same-length rows types ops flat);
+    each = λ b h. (let within : b < length rows = (let same = same-length rows types ops flat in omega (arith, same)) in row-tick b within (view rows types ops flat b within));
   }
 
 -- ---- The start
@@ -111,28 +115,29 @@ map-agree : {A : Type 0} (f h : ℕ → A) (a n : ℕ) → ((b : ℕ) → a ≤ 
 map-agree f h a zero e = refl
 map-agree f h a (suc n) e = ap₂ ◌∷◌ (e a (omega arith) (omega arith)) (map-agree f h (a + 1) n (λ b low high. e b (omega arith) (omega arith)))
 
-module _ (rows : List Row) (ops : List Op) (flat : IsFlat (diagram rows ops)) where
-  pub values-start : values_by (diagram rows ops) None (start_of (diagram rows ops)) ≡ start_values (blocks rows ops flat)
+module _ (rows : List Row) (types : List FixType) (ops : List Op) (flat : IsFlat (diagram rows types ops)) where
+  pub values-start : values_by (diagram rows types ops) None (start_of (diagram rows types ops)) ≡ start_values (blocks rows types ops flat)
   values-start =
-      map-agree (start_of (diagram rows ops)) (λ b. start_value (block_at (blocks rows ops flat) b)) 0 (length rows) (λ b low high. let within : b < length rows = omega arith in start-is rows ops flat b within (view rows ops flat b within))
-      ∙ ap (λ n. map (λ b. start_value (block_at (blocks rows ops flat) b)) (range_with_len 0 n)) (sym (same-length rows ops flat))
+      map-agree (start_of (diagram rows types ops)) (λ b. start_value (block_at (blocks rows types ops flat) b)) 0 (length rows) (λ b low high. let within : b < length rows = omega arith in start-is rows types ops flat b within (view rows types ops flat b within))
+      ∙ ap (λ n. map (λ b. start_value (block_at (blocks rows types ops flat) b)) (range_with_len 0 n)) (sym (same-length rows types ops flat))
 
   no-delay-start : (k : Block) → is_delay_block k ≡ false → pos 0 ≡ start_value k
   no-delay-start (Input port) e = refl
   no-delay-start (Output port c) e = refl
+  no-delay-start (Fixed z) e = refl
   no-delay-start (Delay c z) e = absurd (true≢false e)
 
-  memory-start : (b : ℕ) → b < length rows → (if has_memory (diagram rows ops) None b then start_of (diagram rows ops) b else pos 0) ≡ start_value (block_at (blocks rows ops flat) b)
-  memory-start b h = by (is_delay (op_at (diagram rows ops) b)) refl
+  memory-start : (b : ℕ) → b < length rows → (if has_memory (diagram rows types ops) None b then start_of (diagram rows types ops) b else pos 0) ≡ start_value (block_at (blocks rows types ops flat) b)
+  memory-start b h = by (is_delay (op_at (diagram rows types ops) b)) refl
     where
-      by : (t : Bool) → is_delay (op_at (diagram rows ops) b) ≡ t → (if t then start_of (diagram rows ops) b else pos 0) ≡ start_value (block_at (blocks rows ops flat) b)
-      by true e = start-is rows ops flat b h (view rows ops flat b h)
-      by false e = no-delay-start (block_at (blocks rows ops flat) b) (sym (delay-is rows ops flat b (view rows ops flat b h)) ∙ e)
+      by : (t : Bool) → is_delay (op_at (diagram rows types ops) b) ≡ t → (if t then start_of (diagram rows types ops) b else pos 0) ≡ start_value (block_at (blocks rows types ops flat) b)
+      by true e = start-is rows types ops flat b h (view rows types ops flat b h)
+      by false e = no-delay-start (block_at (blocks rows types ops flat) b) (sym (delay-is rows types ops flat b (view rows types ops flat b h)) ∙ e)
 
-  pub memories-start : memories_by (diagram rows ops) None (start_of (diagram rows ops)) ≡ start_values (blocks rows ops flat)
+  pub memories-start : memories_by (diagram rows types ops) None (start_of (diagram rows types ops)) ≡ start_values (blocks rows types ops flat)
   memories-start =
-      map-agree (λ b. if has_memory (diagram rows ops) None b then start_of (diagram rows ops) b else pos 0) (λ b. start_value (block_at (blocks rows ops flat) b)) 0 (length rows) (λ b low high. memory-start b (omega arith))
-      ∙ ap (λ n. map (λ b. start_value (block_at (blocks rows ops flat) b)) (range_with_len 0 n)) (sym (same-length rows ops flat))
+      map-agree (λ b. if has_memory (diagram rows types ops) None b then start_of (diagram rows types ops) b else pos 0) (λ b. start_value (block_at (blocks rows types ops flat) b)) 0 (length rows) (λ b low high. memory-start b (omega arith))
+      ∙ ap (λ n. map (λ b. start_value (block_at (blocks rows types ops flat) b)) (range_with_len 0 n)) (sym (same-length rows types ops flat))
 
 -- ---- The outputs
 
@@ -144,7 +149,7 @@ find-filter p q (x ∷ xs) = by (q x) (find-filter p q xs)
     by true e = ap (cond (p x) (Some x)) e
     by false e = e
 
-pub position-find : (f : ℕ → Block) (t : Block → Bool) (a n : ℕ) → position_from t a (map f (range_with_len a n)) ≡ find (λ b. t (f b)) (range_with_len a n)
+pub position-find : (f : ℕ → TypedBlock) (t : TypedBlock → Bool) (a n : ℕ) → position_from t a (map f (range_with_len a n)) ≡ find (λ b. t (f b)) (range_with_len a n)
 position-find f t a zero = refl
 position-find f t a (suc n) = ap (cond (t (f a)) (Some a)) (position-find f t (a + 1) n)
 

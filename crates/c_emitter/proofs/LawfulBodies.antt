@@ -1,26 +1,28 @@
 -- The bodies of the procedures of `top` read and store number fields, and stay within the limits.
-use Rattle.std.specs.Prelude.{◌≡◌, ℕ, zero, suc, ◌+◌, ◌-◌, ◌<◌, ◌≤◌, ◌^◌, true, List, [], ◌∷◌, ◌++◌, map, filter, length, Some, None, ℤ, pos, negsuc}
+use Rattle.std.specs.Prelude.{◌≡◌, ◌≢◌, ℕ, zero, suc, ◌+◌, ◌-◌, ◌<◌, ◌≤◌, ◌^◌, true, List, [], ◌∷◌, ◌++◌, map, filter, length, Some, None, ℤ, pos, negsuc}
 use Rattle.std.specs.List.{range_with_len, AllByRecursion}
 use Rattle.std.proofs.Common.{refl, sym, ◌∙◌, ap, subst, arith, true≢false, lit<}
 use Rattle.std.proofs.lemmas.List.{length-map, length-append, append_assoc}
 use Rattle.std.proofs.lemmas.List.FromFn.{length-range_with_len}
-use Rattle.std.proofs.lemmas.Bool.{and_parts, eqb-true, leb-true}
+use Rattle.std.proofs.lemmas.Bool.{and_parts, eqb-true}
 use Rattle.c_tree.specs.declared.FieldKind.TheVariants.{Number}
-use Rattle.c_tree.specs.declared.CType.TheVariants.{U8}
+use Rattle.c_tree.specs.declared.CType.{CType}
+use Rattle.c_tree.specs.declared.CType.TheVariants.{U8, I64}
 use Rattle.c_tree.specs.Tree.{StmtTree, stmts_of_list, StructTree, ProcedureTree, FieldTree}
+use Rattle.c_tree.specs.Values.{is_in_type}
 use Rattle.c_tree.specs.Rows.{is_number}
 use Rattle.c_tree.specs.Lawful.{Reach, IsNumberAt, IsLawfulExpr, IsLawfulStmt, AreLawfulStmts}
 use Rattle.c_tree.specs.Reading.{expr_depth, stmts_depth, stmts_exprs_depth, stmt_depth, stmt_exprs_depth}
 use Rattle.c_emitter.specs.declared.block.Block.{Block}
-use Rattle.c_emitter.specs.declared.block.Block.TheVariants.{Input, Output, Delay}
+use Rattle.c_emitter.specs.declared.block.Block.TheVariants.{Input, Output, Delay, Fixed}
 use Rattle.c_emitter.specs.Names.{value_name, memory_name}
-use Rattle.c_emitter.specs.Blocks.{block_at, is_output, is_delay_block, port_of_input, source_of, start_value, input_count, memory_place, counter_place, delay_rows, source_need, is_taken_in, is_given_in, is_held_input, is_unheld}
+use Rattle.c_emitter.specs.Blocks.{TypedBlock, block_at, is_output, is_delay_block, port_of_input, source_of, start_value, input_count, memory_place, counter_place, delay_rows, source_need, is_taken_in, is_given_in, is_held_input, is_unheld, type_of}
 use Rattle.c_emitter.specs.Bodies.{number_expr, value_expr, store_value, store_by_port, store_memory, start_row, start_memory, hit_test, idle_test, set_counter, taken_stores, given_stores, out_body, unheld_stores, memory_stores, update_body, reset_body, start_body, is_delay_row, taken_ports}
-use Rattle.c_emitter.specs.FlatProgram.{counter_name, int_field, top_fields}
+use Rattle.c_emitter.specs.FlatProgram.{counter_name, typed_field, top_fields}
 use Rattle.c_emitter.proofs.Chosen.{all-chosen}
 use Rattle.c_emitter.proofs.BlockFacts.{IsWellMade, AreBlocks, memory-within}
-use Rattle.c_emitter.proofs.BlockTicks.{IsInt}
-use Rattle.c_emitter.proofs.StartRun.{start-int, all-range}
+use Rattle.c_emitter.proofs.Containers.{negative-small, positive-small}
+use Rattle.c_emitter.proofs.StartRun.{all-range}
 use Rattle.c_emitter.proofs.Ports.{single-port, all-ports}
 
 -- ---- Statements in lists
@@ -64,49 +66,50 @@ number-at [] k all h = absurd (omega arith)
 number-at (f ∷ fs) zero all h = (f, refl, all.0)
 number-at (f ∷ fs) (suc k) all h = number-at fs k all.1 (omega arith)
 
-all-numbers : (name : ℕ → List ℕ) (xs : List ℕ) (rest : List FieldTree) → AllByRecursion (λ f. is_number f ≡ true) rest → AllByRecursion (λ f. is_number f ≡ true) (map (λ b. int_field (name b)) xs ++ rest)
-all-numbers name [] rest all = all
-all-numbers name (x ∷ xs) rest all = (refl, all-numbers name xs rest all)
+all-numbers : (name : ℕ → List ℕ) (type : ℕ → CType) (xs : List ℕ) (rest : List FieldTree) → AllByRecursion (λ f. is_number f ≡ true) rest → AllByRecursion (λ f. is_number f ≡ true) (map (λ b. typed_field (name b) (type b)) xs ++ rest)
+all-numbers name type [] rest all = all
+all-numbers name type (x ∷ xs) rest all = (refl, all-numbers name type xs rest all)
 
-module _ (blocks : List Block) where
+module _ (blocks : List TypedBlock) where
   pub top-size : length (top_fields blocks) ≡ counter_place blocks + 1
   top-size =
-      let v : List FieldTree = map (λ b. int_field (value_name b)) (range_with_len 0 (length blocks)) in
-      let m : List FieldTree = map (λ b. int_field (memory_name b)) (delay_rows blocks) in
+      let v : List FieldTree = map (λ b. typed_field (value_name b) (type_of blocks b)) (range_with_len 0 (length blocks)) in
+      let m : List FieldTree = map (λ b. typed_field (memory_name b) (type_of blocks b)) (delay_rows blocks) in
       let last : List FieldTree = record { name = counter_name; kind = Number U8 } ∷ [] in
       let a = length-append (v ++ m) last in
       let b = length-append v m in
-      let c = length-map (range_with_len 0 (length blocks)) (λ b. int_field (value_name b)) in
-      let d = length-map (delay_rows blocks) (λ b. int_field (memory_name b)) in
+      let c = length-map (range_with_len 0 (length blocks)) (λ b. typed_field (value_name b) (type_of blocks b)) in
+      let d = length-map (delay_rows blocks) (λ b. typed_field (memory_name b) (type_of blocks b)) in
       let e = length-range_with_len 0 (length blocks) in
       omega (arith, a, b, c, d, e)
 
   top-numbers : AllByRecursion (λ f. is_number f ≡ true) (top_fields blocks)
   top-numbers =
-      let m : List FieldTree = map (λ b. int_field (memory_name b)) (delay_rows blocks) in
+      let m : List FieldTree = map (λ b. typed_field (memory_name b) (type_of blocks b)) (delay_rows blocks) in
       let last : List FieldTree = record { name = counter_name; kind = Number U8 } ∷ [] in
-      subst (AllByRecursion (λ f. is_number f ≡ true)) (sym (append_assoc (map (λ b. int_field (value_name b)) (range_with_len 0 (length blocks))) m last))
-      (all-numbers value_name (range_with_len 0 (length blocks)) (m ++ last) (all-numbers memory_name (delay_rows blocks) last (refl, tt)))
+      subst (AllByRecursion (λ f. is_number f ≡ true)) (sym (append_assoc (map (λ b. typed_field (value_name b) (type_of blocks b)) (range_with_len 0 (length blocks))) m last))
+      (all-numbers value_name (type_of blocks) (range_with_len 0 (length blocks)) (m ++ last) (all-numbers memory_name (type_of blocks) (delay_rows blocks) last (refl, tt)))
 
   pub field-number : (k : ℕ) → k < counter_place blocks + 1 → IsNumberAt (top_fields blocks) k
   field-number k h = number-at (top_fields blocks) k top-numbers (let size = top-size in omega (arith, size))
 
 -- ---- Values
 
-value-shallow : (k : Block) (param memory : ℕ) → expr_depth (value_expr k param memory) ≤ 4
-value-shallow (Input port) param memory = omega arith
-value-shallow (Output port c) param memory = omega arith
-value-shallow (Delay c start) param memory = omega arith
-
 number-shallow : (z : ℤ) → expr_depth (number_expr z) ≤ 4
 number-shallow (pos n) = omega arith
 number-shallow (negsuc n) = omega arith
 
-number-lawful : (reach : Reach) (z : ℤ) → IsInt z → IsLawfulExpr reach (number_expr z)
-number-lawful reach (pos n) h = (n, refl, (let low = leb-true n (2 ^ 31 - 1) h in omega (arith, low)))
-number-lawful reach (negsuc n) h = (suc n, refl, (let low = leb-true n (2 ^ 31 - 1) (and_parts _ _ h).0 in omega (arith, low)))
+value-shallow : (k : Block) (param memory : ℕ) → expr_depth (value_expr k param memory) ≤ 4
+value-shallow (Input port) param memory = omega arith
+value-shallow (Output port c) param memory = omega arith
+value-shallow (Delay c start) param memory = omega arith
+value-shallow (Fixed value) param memory = number-shallow value
 
-module _ (blocks : List Block) (are : AreBlocks blocks) (structs : List StructTree) (earlier : List ProcedureTree) (params : ℕ) where
+number-lawful : (reach : Reach) (t : CType) (z : ℤ) → t ≢ I64 → is_in_type t z ≡ true → IsLawfulExpr reach (number_expr z)
+number-lawful reach t (pos n) narrow h = (n, refl, (let high = positive-small t n narrow h in omega (arith, high)))
+number-lawful reach t (negsuc n) narrow h = (suc n, refl, (let low = negative-small t n narrow h in omega (arith, low)))
+
+module _ (blocks : List TypedBlock) (are : AreBlocks blocks) (structs : List StructTree) (earlier : List ProcedureTree) (params : ℕ) where
   -- what a body of `top` may read and store
   abbrev pub reach : Reach
   reach = record { pures = []; structs = structs; procedures = earlier; fields = top_fields blocks; params = params; of = 0 }
@@ -122,10 +125,12 @@ module _ (blocks : List Block) (are : AreBlocks blocks) (structs : List StructTr
   HasParam (Input port) param = param < params
   HasParam (Output port c) param = Unit {0}
   HasParam (Delay c start) param = Unit {0}
+  HasParam (Fixed value) param = Unit {0}
 
   value-lawful : (k : Block) (param b : ℕ) → b < length blocks → block_at blocks b ≡ k → IsWellMade blocks k → HasParam k param → IsLawfulExpr reach (value_expr k param (memory_place blocks b))
   value-lawful (Input port) param b h same made has = has
   value-lawful (Output port c) param b h same made has = row-number c made.2.0
+  value-lawful (Fixed value) param b h same made has = number-lawful reach (type_of blocks b) value (are.narrow b) (are.fixed_fit b value h same)
   value-lawful (Delay c start) param b h same made has = memory-number b h (ap is_delay_block same)
 
   store-lawful : (param b : ℕ) → b < length blocks → HasParam (block_at blocks b) param → IsLawfulStmt reach (store_value blocks param b)
@@ -134,7 +139,8 @@ module _ (blocks : List Block) (are : AreBlocks blocks) (structs : List StructTr
   source-within : (k : Block) → is_delay_block k ≡ true → IsWellMade blocks k → source_of k < length blocks
   source-within (Input port) delay made = absurd (true≢false (sym delay))
   source-within (Output port c) delay made = absurd (true≢false (sym delay))
-  source-within (Delay c start) delay made = made.0.0
+  source-within (Fixed value) delay made = absurd (true≢false (sym delay))
+  source-within (Delay c start) delay made = made.0
 
   memory-lawful : (b : ℕ) → b < length blocks → is_delay_block (block_at blocks b) ≡ true → IsLawfulStmt reach (store_memory blocks b)
   memory-lawful b h delay = (memory-number b h delay, row-number (source_of (block_at blocks b)) (source-within (block_at blocks b) delay (are.each b h)))
@@ -156,11 +162,13 @@ module _ (blocks : List Block) (are : AreBlocks blocks) (structs : List StructTr
       omega (arith, one, size)
   taken-param need (Output port c) size made e = tt
   taken-param need (Delay c start) size made e = tt
+  taken-param need (Fixed value) size made e = tt
 
   output-param : (k : Block) (param : ℕ) → is_output k ≡ true → HasParam k param
   output-param (Input port) param e = absurd (true≢false (sym e))
   output-param (Output port c) param e = tt
   output-param (Delay c start) param e = tt
+  output-param (Fixed value) param e = tt
 
   pub out-lawful : (need : ℕ) → params ≡ suc (length (taken_ports blocks (Some need))) → AllLawful reach (out_body blocks need)
   out-lawful need size = (
@@ -186,6 +194,7 @@ module _ (blocks : List Block) (are : AreBlocks blocks) (structs : List StructTr
       omega (arith, size, all, high)
   port-param (Output port c) size made = tt
   port-param (Delay c start) size made = tt
+  port-param (Fixed value) size made = tt
 
   by-port-lawful : params ≡ suc (length (taken_ports blocks None)) → (b : ℕ) → b < length blocks → IsLawfulStmt reach (store_by_port blocks b)
   by-port-lawful size b h = store-lawful (port_of_input (block_at blocks b)) b h (port-param (block_at blocks b) size (are.each b h))
@@ -212,7 +221,7 @@ module _ (blocks : List Block) (are : AreBlocks blocks) (structs : List StructTr
       lawful-append reach (map (start_memory blocks) (filter (is_delay_row blocks) (range_with_len 0 (length blocks)))) (set_counter blocks (pos 0) ∷ [])
       (lawful-map reach (start_memory blocks) _ (all-chosen (is_delay_row blocks) _ 0 (length blocks) (λ b low high passes.
       let within : b < length blocks = omega arith in
-      (memory-number b within passes, number-lawful reach (start_value (block_at blocks b)) (start-int blocks are b within)))))
+      (memory-number b within passes, number-lawful reach (type_of blocks b) (start_value (block_at blocks b)) (are.narrow b) (are.starts b within)))))
       (counter-lawful 0 (lit< tt), tt)
 
   pub start-lawful : AllLawful reach (start_body blocks)
@@ -220,12 +229,12 @@ module _ (blocks : List Block) (are : AreBlocks blocks) (structs : List StructTr
       lawful-append reach (map (start_row blocks) (range_with_len 0 (length blocks))) (reset_body blocks)
       (lawful-map reach (start_row blocks) _ (all-range _ 0 (length blocks) (λ b low high.
       let within : b < length blocks = omega arith in
-      (row-number b within, number-lawful reach (start_value (block_at blocks b)) (start-int blocks are b within)))))
+      (row-number b within, number-lawful reach (type_of blocks b) (start_value (block_at blocks b)) (are.narrow b) (are.starts b within)))))
       reset-lawful
 
 -- ---- Depths
 
-module _ (blocks : List Block) where
+module _ (blocks : List TypedBlock) where
   store-shallow : (param b : ℕ) → (stmt_depth (store_value blocks param b) ≤ 1) × (stmt_exprs_depth (store_value blocks param b) ≤ 4)
   store-shallow param b = (omega arith, value-shallow (block_at blocks b) param (memory_place blocks b))
 

@@ -8,14 +8,14 @@ use Rattle.c_tree.specs.Tokens.{is_name}
 use Rattle.c_tree.specs.Outputs.{has_name}
 use Rattle.c_tree.specs.Tree.{FieldTree, ProcedureTree}
 use Rattle.c_tree.specs.Lawful.{AreDistinct, procedure_names}
+use Rattle.c_tree.specs.declared.CType.{CType}
 use Rattle.c_tree.specs.declared.CType.TheVariants.{U8}
 use Rattle.c_tree.specs.declared.FieldKind.TheVariants.{Number, Struct}
 use Rattle.mc_profile.specs.Systems.{system_name}
-use Rattle.c_emitter.specs.declared.block.Block.{Block}
 use Rattle.c_emitter.specs.Names.{value_name, memory_name, now_name, input_name, output_name, out_name, update_name, start_name, reset_name, root_start_name, root_step_name}
-use Rattle.c_emitter.specs.Blocks.{delay_rows, output_rows, function_needs}
+use Rattle.c_emitter.specs.Blocks.{TypedBlock, delay_rows, output_rows, function_needs, type_of, output_type}
 use Rattle.c_emitter.specs.Bodies.{is_delay_row}
-use Rattle.c_emitter.specs.FlatProgram.{counter_name, int_field, top_fields, root_fields_of, out_procedures, flat_procedures}
+use Rattle.c_emitter.specs.FlatProgram.{counter_name, typed_field, top_fields, root_fields_of, out_procedures, flat_procedures}
 use Rattle.c_emitter.proofs.NameFacts.{AreNumbered, numbered-names}
 use Rattle.c_emitter.proofs.NameLaws.{letter-name, out-name}
 use Rattle.c_emitter.proofs.Ports.{filter-all}
@@ -68,21 +68,21 @@ no-name : (name : ℕ → List ℕ) (other : List ℕ) (xs : List ℕ) → ((b :
 no-name name other [] apart = refl
 no-name name other (x ∷ xs) apart = or_from _ _ (apart x) (no-name name other xs apart)
 
-field-names : (name : ℕ → List ℕ) (xs : List ℕ) → map (λ (f : FieldTree). f.name) (map (λ b. int_field (name b)) xs) ≡ map name xs
-field-names name xs = map-map (λ (f : FieldTree). f.name) (λ b. int_field (name b)) xs
+field-names : (name : ℕ → List ℕ) (type : ℕ → CType) (xs : List ℕ) → map (λ (f : FieldTree). f.name) (map (λ b. typed_field (name b) (type b)) xs) ≡ map name xs
+field-names name type xs = map-map (λ (f : FieldTree). f.name) (λ b. typed_field (name b) (type b)) xs
 
-module _ (blocks : List Block) (rows : length blocks ≤ 20000) (outs : length (output_rows blocks) ≤ 32) (functions : length (function_needs blocks) ≤ 32) where
+module _ (blocks : List TypedBlock) (rows : length blocks ≤ 20000) (outs : length (output_rows blocks) ≤ 32) (functions : length (function_needs blocks) ≤ 32) where
   -- ---- Fields
 
   pub top-distinct : AreDistinct (map (λ (f : FieldTree). f.name) (top_fields blocks))
   top-distinct =
-      let v : List FieldTree = map (λ b. int_field (value_name b)) (range_with_len 0 (length blocks)) in
-      let m : List FieldTree = map (λ b. int_field (memory_name b)) (delay_rows blocks) in
+      let v : List FieldTree = map (λ b. typed_field (value_name b) (type_of blocks b)) (range_with_len 0 (length blocks)) in
+      let m : List FieldTree = map (λ b. typed_field (memory_name b) (type_of blocks b)) (delay_rows blocks) in
       let last : List FieldTree = record { name = counter_name; kind = Number U8 } ∷ [] in
       let names : map (λ (f : FieldTree). f.name) (v ++ m ++ last) ≡ map value_name (range_with_len 0 (length blocks)) ++ (map memory_name (delay_rows blocks) ++ counter_name ∷ []) =
       ap (map (λ (f : FieldTree). f.name)) (append_assoc v m last)
       ∙ map-append (λ (f : FieldTree). f.name) v (m ++ last)
-      ∙ ap₂ ◌++◌ (field-names value_name (range_with_len 0 (length blocks))) (map-append (λ (f : FieldTree). f.name) m last ∙ ap (λ l. l ++ counter_name ∷ []) (field-names memory_name (delay_rows blocks))) in
+      ∙ ap₂ ◌++◌ (field-names value_name (type_of blocks) (range_with_len 0 (length blocks))) (map-append (λ (f : FieldTree). f.name) m last ∙ ap (λ l. l ++ counter_name ∷ []) (field-names memory_name (type_of blocks) (delay_rows blocks))) in
       subst AreDistinct (sym names)
       (distinct-range value_name values-numbered (λ b h. letter-name 118 b h refl) 0 (length blocks) _ (omega arith)
       (λ b. has-name-append (map memory_name (delay_rows blocks)) (counter_name ∷ []) (value_name b) ∙ or_from _ _ (no-name memory_name (value_name b) (delay_rows blocks) (λ c. refl)) refl)
@@ -90,10 +90,10 @@ module _ (blocks : List Block) (rows : length blocks ≤ 20000) (outs : length (
 
   pub root-distinct : AreDistinct (map (λ (f : FieldTree). f.name) (root_fields_of blocks))
   root-distinct =
-      let ys : List FieldTree = map (λ k. int_field (output_name k)) (range_with_len 1 (length (output_rows blocks))) in
+      let ys : List FieldTree = map (λ k. typed_field (output_name k) (output_type blocks k)) (range_with_len 1 (length (output_rows blocks))) in
       let last : List FieldTree = record { name = system_name None; kind = Struct 0 } ∷ [] in
       let names : map (λ (f : FieldTree). f.name) (ys ++ last) ≡ map output_name (range_with_len 1 (length (output_rows blocks))) ++ system_name None ∷ [] =
-      map-append (λ (f : FieldTree). f.name) ys last ∙ ap (λ l. l ++ system_name None ∷ []) (field-names output_name (range_with_len 1 (length (output_rows blocks)))) in (
+      map-append (λ (f : FieldTree). f.name) ys last ∙ ap (λ l. l ++ system_name None ∷ []) (field-names output_name (output_type blocks) (range_with_len 1 (length (output_rows blocks)))) in (
         refl,
         ap (λ l. has_name l now_name) names ∙ has-name-append (map output_name (range_with_len 1 (length (output_rows blocks)))) (system_name None ∷ []) now_name ∙ or_from _ _ (no-name output_name now_name (range_with_len 1 (length (output_rows blocks))) (λ c. refl)) refl,
         subst AreDistinct (sym names) (distinct-range output_name outputs-numbered (λ b h. letter-name 121 b h refl) 1 (length (output_rows blocks)) (system_name None ∷ []) (omega arith) (λ b. refl) (refl, refl, tt)),

@@ -2,6 +2,8 @@ pub mod NumberCells
 pub mod Straight
 pub mod Chosen
 pub mod Sequences
+pub mod Containers
+pub mod NumberExprs
 pub mod BlockFacts
 pub mod TopTypes
 pub mod BlockTicks

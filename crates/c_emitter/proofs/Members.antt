@@ -1,13 +1,15 @@
 -- Which rows the functions hold.
 use Rattle.std.specs.Prelude.{◌≡◌, ◌≢◌, ℕ, zero, suc, ◌+◌, ◌<◌, ◌≤◌, ◌⊎◌, Bool, true, false, not, ◌==◌, List, [], ◌∷◌, ◌++◌, map, filter, filter_map, flat_map, length, slice_index_or, Option, Some, None}
-use Rattle.std.specs.List.{cons_option, range_with_len, list_any, position_from}
+use Rattle.std.specs.List.{cons_option, range_with_len, list_any, position_from, AllByRecursion}
+use Rattle.std.specs.Option.{option_map_or}
 use Rattle.std.proofs.Common.{refl, sym, ◌∙◌, ap, subst, arith, inl, inr, true≢false, eq-eqb, cond}
 use Rattle.std.proofs.lemmas.Bool.{eqb-true, or_cases, or_left, or_right, ne_eqb, false_from_ne_true}
 use Rattle.std.proofs.lemmas.Bool.Decides.{eqb_tells}
 use Rattle.mc_profile.specs.Functions.{different}
+use Rattle.c_tree.specs.declared.CType.TheVariants.{I32}
 use Rattle.c_emitter.specs.declared.block.Block.{Block}
-use Rattle.c_emitter.specs.declared.block.Block.TheVariants.{Input, Output, Delay}
-use Rattle.c_emitter.specs.Blocks.{no_block, block_at, is_output_of, output_row, output_rows, output_source, source_of, source_need, need_of, output_needs, function_needs, output_count}
+use Rattle.c_emitter.specs.declared.block.Block.TheVariants.{Input, Output, Delay, Fixed}
+use Rattle.c_emitter.specs.Blocks.{TypedBlock, no_typed_block, block_at, type_of, is_input_of, input_row, input_type, is_output_of, output_row, output_rows, output_source, output_sources, source_of, source_need, need_of, output_needs, function_needs, output_count}
 use Rattle.c_emitter.proofs.BlockFacts.{IsWellMade, AreBlocks}
 
 -- a list has this number
@@ -88,33 +90,67 @@ position-first t (x ∷ xs) d i (suc b) h passes others =
     ap (λ b. cond b (Some i) (position_from t (i + 1) xs)) (others 0 (omega arith))
     ∙ position-first t xs d (i + 1) b (omega arith) passes (λ c h. others (suc c) (omega arith)) ∙ ap Some same
 
+pub all-found : (f : ℕ → Option ℕ) (P : ℕ → Type 0) (xs : List ℕ) → ((x y : ℕ) → f x ≡ Some y → P y) → AllByRecursion P (filter_map f xs)
+all-found f P [] h = tt
+all-found f P (x ∷ xs) h = by (f x) refl (all-found f P xs h)
+  where
+    by : (o : Option ℕ) → f x ≡ o → AllByRecursion P (filter_map f xs) → AllByRecursion P (cons_option o (filter_map f xs))
+    by None e rest = rest
+    by (Some y) e rest = (h x y e, rest)
+
 -- the output that reads a row
-pub record IsFeeder (bs : List Block) (b : ℕ) : Type 0 where
+pub record IsFeeder (bs : List TypedBlock) (b : ℕ) : Type 0 where
   pub row : ℕ
   pub within : row < length bs
   pub port : ℕ
-  pub is_output : slice_index_or bs row no_block ≡ Output port b
+  pub is_output : block_at bs row ≡ Output port b
 
-pub feeder : (bs : List Block) (b : ℕ) → Has (filter_map output_source bs) b → IsFeeder bs b
+pub feeder : (bs : List TypedBlock) (b : ℕ) → Has (output_sources bs) b → IsFeeder bs b
 feeder [] b h = absurd (true≢false (sym h))
-feeder (Input port ∷ bs) b h = let f = feeder bs b h in record { row = suc f.row; within = (let w = f.within in omega (arith, w)); port = f.port; is_output = f.is_output }
-feeder (Delay source start ∷ bs) b h = let f = feeder bs b h in record { row = suc f.row; within = (let w = f.within in omega (arith, w)); port = f.port; is_output = f.is_output }
-feeder (Output port source ∷ bs) b h = elim (or_cases (source == b) _ h) [
-  | inl here ↦ record { row = 0; within = omega arith; port = port; is_output = ap (Output port) (eqb-true source b here) }
-  | inr there ↦ let f = feeder bs b there in record { row = suc f.row; within = (let w = f.within in omega (arith, w)); port = f.port; is_output = f.is_output }
-]
+feeder (t ∷ bs) b h = by t.block refl (λ there. feeder bs b there) h
+  where
+    later : IsFeeder bs b → IsFeeder (t ∷ bs) b
+    later f = record { row = suc f.row; within = (let w = f.within in omega (arith, w)); port = f.port; is_output = f.is_output }
+
+    by : (k : Block) → t.block ≡ k → (Has (output_sources bs) b → IsFeeder bs b) → Has (cons_option (output_source k) (output_sources bs)) b → IsFeeder (t ∷ bs) b
+    by (Input port) e go h = later (go h)
+    by (Delay source start) e go h = later (go h)
+    by (Fixed value) e go h = later (go h)
+    by (Output port source) e go h = elim (or_cases (source == b) _ h) [
+      | inl here ↦ record { row = 0; within = omega arith; port = port; is_output = e ∙ ap (Output port) (eqb-true source b here) }
+      | inr there ↦ later (go there)
+    ]
 
 pub is-output-of : (k p : ℕ) (block : Block) → is_output_of k block ≡ true → (c : ℕ) × (block ≡ Output k c)
 is-output-of k p (Input port) h = absurd (true≢false (sym h))
 is-output-of k p (Delay source start) h = absurd (true≢false (sym h))
+is-output-of k p (Fixed value) h = absurd (true≢false (sym h))
 is-output-of k p (Output port source) h = (source, ap (λ q. Output q source) (eqb-true port k h))
 
-module _ (blocks : List Block) (are : AreBlocks blocks) where
+is-input-of : (k : ℕ) (block : Block) → is_input_of k block ≡ true → block ≡ Input k
+is-input-of k (Input port) h = ap Input (eqb-true port k h)
+is-input-of k (Output port source) h = absurd (true≢false (sym h))
+is-input-of k (Delay source start) h = absurd (true≢false (sym h))
+is-input-of k (Fixed value) h = absurd (true≢false (sym h))
+
+module _ (blocks : List TypedBlock) (are : AreBlocks blocks) where
+  -- the row of an input is found by its port
+  pub input-found : (b k : ℕ) → b < length blocks → block_at blocks b ≡ Input k → input_row blocks k ≡ Some b
+  input-found b k h e =
+      let same : 0 + b ≡ b = omega arith in
+      position-first (λ (t : TypedBlock). is_input_of k t.block) blocks no_typed_block 0 b h (ap (is_input_of k) e ∙ eq-eqb k k refl)
+      (λ c below. false_from_ne_true _ (λ passes. (let other = is-input-of k (block_at blocks c) passes in let twin = are.one_input c b k (omega arith) h other e in omega (arith, twin))))
+      ∙ ap Some same
+
+  -- an input has the type of its row
+  pub input-type-at : (b k : ℕ) → b < length blocks → block_at blocks b ≡ Input k → input_type blocks k ≡ type_of blocks b
+  input-type-at b k h e = ap (λ o. option_map_or (type_of blocks) o I32) (input-found b k h e)
+
   -- the row of an output is found by its port
   pub output-found : (o k c : ℕ) → o < length blocks → block_at blocks o ≡ Output k c → output_row blocks k ≡ Some o
   output-found o k c h e =
       let same : 0 + o ≡ o = omega arith in
-      position-first (is_output_of k) blocks no_block 0 o h (ap (is_output_of k) e ∙ eq-eqb k k refl)
+      position-first (λ (t : TypedBlock). is_output_of k t.block) blocks no_typed_block 0 o h (ap (is_output_of k) e ∙ eq-eqb k k refl)
       (λ b below. false_from_ne_true _ (λ passes. (let other = is-output-of k k (block_at blocks b) passes in let twin = are.one_output b o k other.0 c (omega arith) h other.1 e in omega (arith, twin))))
       ∙ ap Some same
 

@@ -8,10 +8,9 @@ use Rattle.std.proofs.lemmas.Bool.{ne_eqb, or_left, or_right}
 use Rattle.std.proofs.lemmas.Bool.Decides.{eqb_tells}
 use Rattle.c_tree.specs.Tree.{ProcedureTree}
 use Rattle.c_tree.specs.Machine.{LoggedCall}
-use Rattle.c_emitter.specs.declared.block.Block.{Block}
 use Rattle.c_emitter.specs.Names.{out_name, update_name}
 use Rattle.c_emitter.specs.Places.{has_procedure, procedure_place, out_count, out_places}
-use Rattle.c_emitter.specs.Blocks.{function_needs}
+use Rattle.c_emitter.specs.Blocks.{TypedBlock, function_needs}
 use Rattle.c_emitter.specs.Bodies.{update_place}
 use Rattle.c_emitter.specs.FlatProgram.{out_procedures, flat_procedures, flat_program}
 use Rattle.c_emitter.proofs.Digits.{prefix_len-all}
@@ -31,7 +30,7 @@ range-append a (suc n) m =
     let d : a + 1 + n ≡ a + suc n = omega arith in
     ap (range_with_len a) e ∙ ap (λ l. a ∷ l) (range-append (a + 1) n m ∙ ap (λ k. range_with_len (a + 1) n ++ range_with_len k m) d)
 
-module _ (blocks : List Block) (few : length (function_needs blocks) ≤ 32) where
+module _ (blocks : List TypedBlock) (few : length (function_needs blocks) ≤ 32) where
   -- a function is at its number's place
   out-at : (i a b j : ℕ) (needs : List ℕ) (rest : List ProcedureTree) → a ≤ b → b < a + length needs → a + length needs ≤ 2 ^ 64 → i + b ≡ a + j →
       position_from (λ (q : ProcedureTree). bytes_eq q.name (out_name None b)) i (out_list blocks a needs ++ rest) ≡ Some j
@@ -103,7 +102,7 @@ module _ (blocks : List Block) (few : length (function_needs blocks) ≤ 32) whe
   functions-are-at = ap (λ n. map (λ j. procedure_place (flat_program blocks) (out_name None j)) (range_with_len 1 n)) function-count ∙ places-from 1 (update_place blocks) (omega arith) (omega arith)
 
 -- the procedures that a tick calls
-pub called-procedures : (blocks : List Block) → map (λ (c : LoggedCall). c.procedure) (step_log blocks) ≡ range_with_len 0 (update_place blocks) ++ update_place blocks ∷ []
+pub called-procedures : (blocks : List TypedBlock) → map (λ (c : LoggedCall). c.procedure) (step_log blocks) ≡ range_with_len 0 (update_place blocks) ++ update_place blocks ∷ []
 called-procedures blocks =
     map-append (λ (c : LoggedCall). c.procedure) (map (top_call blocks) (range_with_len 0 (update_place blocks))) (top_call blocks (update_place blocks) ∷ [])
     ∙ ap (λ l. l ++ update_place blocks ∷ []) (map-map (λ (c : LoggedCall). c.procedure) (top_call blocks) (range_with_len 0 (update_place blocks)) ∙ map-id (range_with_len 0 (update_place blocks)))

@@ -6,16 +6,16 @@ use Rattle.std.proofs.lemmas.List.{append-nil, append_assoc, get_or_at, length_p
 use Rattle.std.proofs.lemmas.List.FromFn.{length-range_with_len}
 use Rattle.std.proofs.lemmas.Bool.{ne_eqb, and_from, or_left, or_right}
 use Rattle.std.proofs.lemmas.Bool.Decides.{eqb_tells}
+use Rattle.c_tree.specs.declared.CType.{CType}
 use Rattle.c_tree.specs.Tree.{FieldTree}
 use Rattle.c_tree.specs.declared.FieldKind.TheVariants.{Struct}
 use Rattle.c_tree.specs.Cells.{Cells, value_at}
 use Rattle.c_tree.specs.Rows.{number_names, output_fields, field_position}
 use Rattle.c_tree.specs.Outputs.{has_name, numbers_from, output_count, output_name as name_of}
 use Rattle.mc_profile.specs.Systems.{system_name}
-use Rattle.c_emitter.specs.declared.block.Block.{Block}
 use Rattle.c_emitter.specs.Names.{now_name, output_name}
-use Rattle.c_emitter.specs.Blocks.{output_rows}
-use Rattle.c_emitter.specs.FlatProgram.{int_field, root_fields_of}
+use Rattle.c_emitter.specs.Blocks.{TypedBlock, output_rows, output_type}
+use Rattle.c_emitter.specs.FlatProgram.{typed_field, root_fields_of}
 use Rattle.c_emitter.proofs.NumberCells.{cells_with, value_at-cells_with}
 use Rattle.c_emitter.proofs.Chosen.{range-snoc}
 use Rattle.c_emitter.proofs.Digits.{prefix_len-all}
@@ -28,9 +28,9 @@ numbers-are a (suc n) = ap (λ l. a ∷ l) (numbers-are (a + 1) n)
 pub outputs-numbered : AreNumbered output_name
 outputs-numbered a b h k = numbered-names (121 ∷ []) a b h k
 
-numbers-kept : (xs : List ℕ) (name : ℕ → List ℕ) (rest : List FieldTree) → number_names (map (λ b. int_field (name b)) xs ++ rest) ≡ map name xs ++ number_names rest
-numbers-kept [] name rest = refl
-numbers-kept (x ∷ xs) name rest = ap (λ l. name x ∷ l) (numbers-kept xs name rest)
+numbers-kept : (xs : List ℕ) (name : ℕ → List ℕ) (type : ℕ → CType) (rest : List FieldTree) → number_names (map (λ b. typed_field (name b) (type b)) xs ++ rest) ≡ map name xs ++ number_names rest
+numbers-kept [] name type rest = refl
+numbers-kept (x ∷ xs) name type rest = ap (λ l. name x ∷ l) (numbers-kept xs name type rest)
 
 -- among these names
 pub has-output : (k a n : ℕ) → a ≤ k → k < a + n → a + n ≤ 2 ^ 64 → has_name (map output_name (range_with_len a n)) (output_name k) ≡ true
@@ -56,12 +56,12 @@ pub map-map : {A B C : Type 0} (f : B → C) (g : A → B) (xs : List A) → map
 map-map f g [] = refl
 map-map f g (x ∷ xs) = ap (λ l. f (g x) ∷ l) (map-map f g xs)
 
-module _ (blocks : List Block) (few : length (output_rows blocks) ≤ 32) where
+module _ (blocks : List TypedBlock) (few : length (output_rows blocks) ≤ 32) where
   abbrev count : ℕ
   count = length (output_rows blocks)
 
   pub root-names : number_names (root_fields_of blocks) ≡ now_name ∷ map output_name (range_with_len 1 count)
-  root-names = ap (λ l. now_name ∷ l) (numbers-kept (range_with_len 1 count) output_name (record { name = system_name None; kind = Struct 0 } ∷ []) ∙ append-nil (map output_name (range_with_len 1 count)))
+  root-names = ap (λ l. now_name ∷ l) (numbers-kept (range_with_len 1 count) output_name (output_type blocks) (record { name = system_name None; kind = Struct 0 } ∷ []) ∙ append-nil (map output_name (range_with_len 1 count)))
 
   -- whether an output with this number is there
   abbrev there : ℕ → Bool
@@ -78,7 +78,7 @@ module _ (blocks : List Block) (few : length (output_rows blocks) ≤ 32) where
       ∙ (let size = length-range_with_len 1 count in omega (arith, size))
 
   output-place : (k : ℕ) → 1 ≤ k → k < 1 + count → field_position (root_fields_of blocks) (output_name k) ≡ k
-  output-place k low high = ap (λ o. unwrap_or o 0) (range-place output_name outputs-numbered 1 1 count k k (record { name = system_name None; kind = Struct 0 } ∷ []) low high (omega arith) (omega arith))
+  output-place k low high = ap (λ o. unwrap_or o 0) (range-place output_name outputs-numbered (output_type blocks) 1 1 count k k (record { name = system_name None; kind = Struct 0 } ∷ []) low high (omega arith) (omega arith))
 
   -- the outputs stand from place 1 on
   pub output-places : output_fields (root_fields_of blocks) ≡ range_with_len 1 count

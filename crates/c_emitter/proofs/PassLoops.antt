@@ -4,13 +4,12 @@ use Rattle.std.proofs.Common.{sym, ◌∙◌, ap, ap₂, arith}
 use Rattle.std.proofs.lemmas.List.{map-append, append_assoc}
 use Rattle.c_tree.specs.declared.Stmt.{Stmt}
 use Rattle.c_tree.specs.Plain.{stmt_tree}
-use Rattle.c_emitter.specs.declared.block.Block.{Block}
 use Rattle.c_emitter.specs.declared.pass.Pass.{Pass}
-use Rattle.c_emitter.specs.Blocks.{chosen}
+use Rattle.c_emitter.specs.Blocks.{TypedBlock, chosen}
 use Rattle.c_emitter.specs.Passes.{is_in_pass, pass_stmt}
 use Rattle.c_emitter.proofs.Chosen.{chosen-passed, chosen-skipped}
 
-module _ (bs : List Block) (pass : Pass) (n : ℕ) (initial body : List Stmt) (so_far : map stmt_tree body ≡ map stmt_tree initial ++ chosen 0 (is_in_pass bs pass) (pass_stmt bs pass) n) where
+module _ (bs : List TypedBlock) (pass : Pass) (n : ℕ) (initial body : List Stmt) (so_far : map stmt_tree body ≡ map stmt_tree initial ++ chosen 0 (is_in_pass bs pass) (pass_stmt bs pass) n) where
   pub pass-passed : (s : Stmt) (next : List Stmt) → is_in_pass bs pass n ≡ true → stmt_tree s ≡ pass_stmt bs pass n → next ≡ body ++ s ∷ [] →
       map stmt_tree next ≡ map stmt_tree initial ++ chosen 0 (is_in_pass bs pass) (pass_stmt bs pass) (n + 1)
   pass-passed s next passes same e =

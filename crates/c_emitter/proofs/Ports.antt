@@ -1,6 +1,6 @@
 -- The inputs that a procedure takes, and what a call passes for them.
-use Rattle.std.specs.Prelude.{◌≡◌, ◌≢◌, ℕ, zero, suc, ◌+◌, ◌-◌, ◌*◌, ◌^◌, ◌<◌, ◌≤◌, Bool, true, false, not, ◌==◌, if◌then◌else◌, List, [], ◌∷◌, map, filter, Some, None, ℤ, pos, bit_and}
-use Rattle.std.specs.List.{range_with_len}
+use Rattle.std.specs.Prelude.{◌≡◌, ◌≢◌, ℕ, zero, suc, ◌+◌, ◌-◌, ◌*◌, ◌^◌, ◌<◌, ◌≤◌, Bool, true, false, not, ◌==◌, if◌then◌else◌, List, [], ◌∷◌, map, filter, Option, Some, None, ℤ, pos, bit_and}
+use Rattle.std.specs.List.{range_with_len, AllByRecursion}
 use Rattle.std.proofs.Common.{refl, sym, ◌∙◌, ap, subst, arith, inl, inr, cond}
 use Rattle.std.proofs.lemmas.Bool.{ne_eqb}
 use Rattle.std.proofs.lemmas.Bool.Decides.{eqb_tells}
@@ -14,14 +14,13 @@ use Rattle.c_tree.specs.declared.Leaf.{Leaf}
 use Rattle.c_tree.specs.declared.Leaf.TheVariants.{Param, Own}
 use Rattle.c_tree.specs.declared.Why.TheVariants.{Range}
 use Rattle.c_tree.specs.Tree.{ExprTree, read, exprs_of_list, ParamTree}
-use Rattle.c_tree.specs.Values.{Function, gives, sticks, and_then, within, stuck_at, int_at}
+use Rattle.c_tree.specs.Values.{Function, Answer, is_in_type, gives, sticks, and_then, within, stuck_at, int_at}
 use Rattle.c_tree.specs.Machine.{arguments}
-use Rattle.c_emitter.specs.Names.{input_name}
-use Rattle.c_emitter.specs.FlatProgram.{int_param}
+use Rattle.c_emitter.specs.FlatProgram.{input_param}
 use Rattle.c_emitter.proofs.NumberCells.{item}
-use Rattle.c_emitter.proofs.BlockTicks.{AreInts}
-use Rattle.c_emitter.specs.declared.block.Block.{Block}
-use Rattle.c_emitter.specs.Blocks.{input_count}
+use Rattle.c_emitter.proofs.Chosen.{all-chosen}
+use Rattle.c_emitter.proofs.BlockTicks.{AreInputs}
+use Rattle.c_emitter.specs.Blocks.{TypedBlock, input_type, input_count}
 use Rattle.c_emitter.specs.Bodies.{takes, taken_ports}
 
 -- the one bit of a power of 2
@@ -53,7 +52,7 @@ filter-one p b a (suc n) passes others low high = elim (eqb_tells a b) [
 ]
 
 -- a function with the need of one input takes that input
-pub single-port : (blocks : List Block) (port : ℕ) → 0 < port → port ≤ input_count blocks → taken_ports blocks (Some (2 ^ (port - 1))) ≡ port ∷ []
+pub single-port : (blocks : List TypedBlock) (port : ℕ) → 0 < port → port ≤ input_count blocks → taken_ports blocks (Some (2 ^ (port - 1))) ≡ port ∷ []
 single-port blocks port low high = by (port - 1) (omega arith)
   where
     by : (i : ℕ) → suc i ≡ port → taken_ports blocks (Some (2 ^ i)) ≡ port ∷ []
@@ -67,7 +66,7 @@ filter-all [] = refl
 filter-all (x ∷ xs) = ap (λ l. x ∷ l) (filter-all xs)
 
 -- the update takes all
-pub all-ports : (blocks : List Block) → taken_ports blocks None ≡ range_with_len 1 (input_count blocks)
+pub all-ports : (blocks : List TypedBlock) → taken_ports blocks None ≡ range_with_len 1 (input_count blocks)
 all-ports blocks = filter-all (range_with_len 1 (input_count blocks))
 
 -- ---- What a call passes
@@ -75,32 +74,41 @@ all-ports blocks = filter-all (range_with_len 1 (input_count blocks))
 abbrev pub port_reads : List ℕ → List ExprTree
 port_reads ports = map (λ k. read (Param (k - 1))) ports
 
-abbrev pub port_types : List ℕ → List CType
-port_types ports = map (λ (q : ParamTree). q.type) (map (λ k. int_param (input_name k)) ports)
+abbrev pub port_types : List TypedBlock → List ℕ → List CType
+port_types blocks ports = map (λ (q : ParamTree). q.type) (map (input_param blocks) ports)
 
--- the inputs at these ports, all of them stored integers
-pub port-arguments : (functions : List Function) (leaf : Leaf → ℤ) (line : ℕ) (x : List ℤ) (ports : List ℕ) (steps : ℕ) → AreInts x → ((k : ℕ) → leaf (Param k) ≡ item x k) →
-    arguments functions leaf line (port_types ports) (exprs_of_list (port_reads ports)) steps ≡ gives (map (λ k. item x (k - 1)) ports) steps
-port-arguments functions leaf line x [] steps ints same = refl
-port-arguments functions leaf line x (k ∷ ports) steps ints same =
-    ap (λ z. and_then (within I32 Range line z steps) (λ v count. and_then (arguments functions leaf line (port_types ports) (exprs_of_list (port_reads ports)) count) (λ vs end. gives (v ∷ vs) end))) (same (k - 1))
-    ∙ ap (λ t. and_then (if t then gives (item x (k - 1)) steps else sticks (stuck_at line Range)) (λ v count. and_then (arguments functions leaf line (port_types ports) (exprs_of_list (port_reads ports)) count) (λ vs end. gives (v ∷ vs) end))) (ints (k - 1))
-    ∙ ap (λ a. and_then a (λ vs end. gives (item x (k - 1) ∷ vs) end)) (port-arguments functions leaf line x ports steps ints same)
+module _ (blocks : List TypedBlock) (functions : List Function) (leaf : Leaf → ℤ) (x : List ℤ) (inputs : AreInputs blocks x) (same : (k : ℕ) → leaf (Param k) ≡ item x k) where
+  input-of-type : (k : ℕ) → 0 < k → is_in_type (input_type blocks k) (item x (k - 1)) ≡ true
+  input-of-type k low = let number : 1 + (k - 1) ≡ k = omega (arith, low) in subst (λ i. is_in_type (input_type blocks i) (item x (k - 1)) ≡ true) number (inputs (k - 1))
 
--- the tick 0 before them
-pub call-arguments : (functions : List Function) (leaf : Leaf → ℤ) (x : List ℤ) (ports : List ℕ) (steps : ℕ) → AreInts x → leaf (Own 0) ≡ pos 0 → ((k : ℕ) → leaf (Param k) ≡ item x k) →
-    arguments functions leaf 0 (I32 ∷ port_types ports) (exprs_of_list (read (Own 0) ∷ port_reads ports)) steps ≡ gives (pos 0 ∷ map (λ k. item x (k - 1)) ports) steps
-call-arguments functions leaf x ports steps ints now same =
-    ap (λ z. and_then (within I32 Range 0 z steps) (λ v count. and_then (arguments functions leaf 0 (port_types ports) (exprs_of_list (port_reads ports)) count) (λ vs end. gives (v ∷ vs) end))) now
-    ∙ ap (λ a. and_then a (λ vs end. gives (pos 0 ∷ vs) end)) (port-arguments functions leaf 0 x ports steps ints same)
+  -- the inputs at these ports, each of its type
+  pub port-arguments : (line : ℕ) (ports : List ℕ) (steps : ℕ) → AllByRecursion (λ k. 0 < k) ports →
+      arguments functions leaf line (port_types blocks ports) (exprs_of_list (port_reads ports)) steps ≡ gives (map (λ k. item x (k - 1)) ports) steps
+  port-arguments line [] steps low = refl
+  port-arguments line (k ∷ ports) steps low =
+      let go : ℤ → ℕ → Answer (List ℤ) = λ v count. and_then (arguments functions leaf line (port_types blocks ports) (exprs_of_list (port_reads ports)) count) (λ vs end. gives (v ∷ vs) end) in
+      ap (λ z. and_then (within (input_type blocks k) Range line z steps) go) (same (k - 1))
+      ∙ ap (λ t. and_then (if t then gives (item x (k - 1)) steps else sticks (stuck_at line Range)) go) (input-of-type k low.0)
+      ∙ ap (λ a. and_then a (λ vs end. gives (item x (k - 1) ∷ vs) end)) (port-arguments line ports steps low.1)
+
+  -- the tick 0 before them
+  pub call-arguments : (ports : List ℕ) (steps : ℕ) → AllByRecursion (λ k. 0 < k) ports → leaf (Own 0) ≡ pos 0 →
+      arguments functions leaf 0 (I32 ∷ port_types blocks ports) (exprs_of_list (read (Own 0) ∷ port_reads ports)) steps ≡ gives (pos 0 ∷ map (λ k. item x (k - 1)) ports) steps
+  call-arguments ports steps low now =
+      ap (λ z. and_then (within I32 Range 0 z steps) (λ v count. and_then (arguments functions leaf 0 (port_types blocks ports) (exprs_of_list (port_reads ports)) count) (λ vs end. gives (v ∷ vs) end))) now
+      ∙ ap (λ a. and_then a (λ vs end. gives (pos 0 ∷ vs) end)) (port-arguments 0 ports steps low)
+
+-- ports are counted from 1
+pub ports-positive : (blocks : List TypedBlock) (need : Option ℕ) → AllByRecursion (λ k. 0 < k) (taken_ports blocks need)
+ports-positive blocks need = all-chosen (takes need) (λ k. 0 < k) 1 (input_count blocks) (λ k low high passes. omega arith)
 
 -- the input of a function is its one parameter behind the tick, and the update has each at its port
-pub single-input : (blocks : List Block) (x : List ℤ) (port need : ℕ) → 0 < port → port ≤ input_count blocks → 2 ^ (port - 1) ≡ need →
+pub single-input : (blocks : List TypedBlock) (x : List ℤ) (port need : ℕ) → 0 < port → port ≤ input_count blocks → 2 ^ (port - 1) ≡ need →
     int_at (pos 0 ∷ map (λ k. item x (k - 1)) (taken_ports blocks (Some need))) 1 ≡ item x (port - 1)
 single-input blocks x port need low high e =
     ap (λ n. int_at (pos 0 ∷ map (λ k. item x (k - 1)) (taken_ports blocks (Some n))) 1) (sym e) ∙ ap (λ ports. int_at (pos 0 ∷ map (λ k. item x (k - 1)) ports) 1) (single-port blocks port low high)
 
-pub all-inputs : (blocks : List Block) (x : List ℤ) (port : ℕ) → 0 < port → port ≤ input_count blocks →
+pub all-inputs : (blocks : List TypedBlock) (x : List ℤ) (port : ℕ) → 0 < port → port ≤ input_count blocks →
     int_at (pos 0 ∷ map (λ k. item x (k - 1)) (taken_ports blocks None)) port ≡ item x (port - 1)
 all-inputs blocks x port low high =
     ap (λ ports. int_at (pos 0 ∷ map (λ k. item x (k - 1)) ports) port) (all-ports blocks) ∙ by port low high

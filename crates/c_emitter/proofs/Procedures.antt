@@ -8,9 +8,8 @@ use Rattle.c_tree.specs.Values.{Function}
 use Rattle.c_tree.specs.Machine.{Routine, routine_at, routine_of, routines_of, program_routines}
 use Rattle.c_tree.specs.Rows.{procedure_named}
 use Rattle.c_tree.proofs.Runs.{routines_of-at}
-use Rattle.c_emitter.specs.declared.block.Block.{Block}
 use Rattle.c_emitter.specs.Names.{out_name}
-use Rattle.c_emitter.specs.Blocks.{function_needs}
+use Rattle.c_emitter.specs.Blocks.{TypedBlock, function_needs}
 use Rattle.c_emitter.specs.Bodies.{update_place}
 use Rattle.c_emitter.specs.FlatProgram.{flat_structs, out_procedure, out_procedures, update_procedure, start_procedure, reset_procedure, root_start_procedure, root_step_procedure, flat_procedures, flat_program}
 use Rattle.c_emitter.proofs.RootRuns.{IsOutRoutine}
@@ -55,7 +54,7 @@ pub position-behind : {A : Type 0} (t : A → Bool) (xs ys : List A) (i j : ℕ)
 position-behind t [] ys i j none e = let same : i ≡ j = omega arith in ap (λ k. position_from t k ys) same
 position-behind t (x ∷ xs) ys i j none e = ap (λ b. cond b (Some i) (position_from t (i + 1) (xs ++ ys))) none.0 ∙ position-behind t xs ys (i + 1) j none.1 (omega arith)
 
-module _ (blocks : List Block) where
+module _ (blocks : List TypedBlock) where
   abbrev pub out_list : ℕ → List ℕ → List ProcedureTree
   out_list j needs = map (λ (e : ℕ × ℕ). out_procedure blocks e.0 e.1) (enumerate_from j needs)
 

@@ -8,7 +8,7 @@ use Rattle.c_tree.specs.declared.Expr.{Expr}
 use Rattle.c_tree.specs.declared.Leaf.TheVariants.{Own, Param}
 use Rattle.c_tree.specs.Tree.{read}
 use Rattle.c_tree.specs.Plain.{expr_tree}
-use Rattle.c_emitter.specs.Flat.{IsFlatOfInts}
+use Rattle.c_emitter.specs.Flat.{IsFlatAtEveryTick}
 use Rattle.c_emitter.specs.Blocks.{blocks_of, input_count, output_rows, function_needs, chosen}
 use Rattle.c_emitter.specs.Bodies.{takes}
 use Rattle.c_emitter.proofs.Chosen.{chosen-passed, chosen-skipped}
@@ -16,17 +16,17 @@ use Rattle.c_emitter.proofs.Costs.{outputs-few, functions-few}
 use Rattle.c_emitter.proofs.RowLoops.{are-blocks-of}
 
 -- at most 32 outputs and functions
-pub outputs-at-most : (d : Diagram) → IsFlatOfInts d → (xs : List ℕ) → xs ≡ output_rows (blocks_of d) → length xs ≤ 32
+pub outputs-at-most : (d : Diagram) → IsFlatAtEveryTick d → (xs : List ℕ) → xs ≡ output_rows (blocks_of d) → length xs ≤ 32
 outputs-at-most d one xs e =
     let same = ap length e in let few = outputs-few (blocks_of d) in let most = (are-blocks-of d one).few_outputs in
     omega (arith, same, few, most)
 
-pub functions-at-most : (d : Diagram) → IsFlatOfInts d → (xs : List ℕ) → xs ≡ function_needs (blocks_of d) → length xs ≤ 32
+pub functions-at-most : (d : Diagram) → IsFlatAtEveryTick d → (xs : List ℕ) → xs ≡ function_needs (blocks_of d) → length xs ≤ 32
 functions-at-most d one xs e =
     let same = ap length e in let fewer = functions-few (blocks_of d) in let few = outputs-few (blocks_of d) in let most = (are-blocks-of d one).few_outputs in
     omega (arith, same, fewer, few, most)
 
-pub inputs-at-most : (d : Diagram) → IsFlatOfInts d → input_count (blocks_of d) ≤ 32
+pub inputs-at-most : (d : Diagram) → IsFlatAtEveryTick d → input_count (blocks_of d) ≤ 32
 inputs-at-most d one = (are-blocks-of d one).few_inputs
 
 -- ---- Reads of inputs

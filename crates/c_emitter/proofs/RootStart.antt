@@ -4,6 +4,7 @@ use Rattle.std.specs.List.{range_with_len}
 use Rattle.std.proofs.Common.{refl, sym, ◌∙◌, ap, arith, append_assoc}
 use Rattle.std.proofs.lemmas.List.{length-map, length-append, append-nil}
 use Rattle.std.proofs.lemmas.List.FromFn.{length-range_with_len}
+use Rattle.c_tree.specs.declared.CType.{CType}
 use Rattle.c_tree.specs.declared.CType.TheVariants.{U8}
 use Rattle.c_tree.specs.declared.FieldKind.TheVariants.{Number}
 use Rattle.c_tree.specs.declared.Target.TheVariants.{Child as InChild}
@@ -14,11 +15,10 @@ use Rattle.c_tree.specs.Machine.{behind, then_run, on_answer, on_target, in_chil
 use Rattle.c_tree.specs.Tree.{field_types}
 use Rattle.c_tree.specs.Rows.{zero_root, start_run}
 use Rattle.c_tree.proofs.Runs.{behind-nothing}
-use Rattle.c_emitter.specs.declared.block.Block.{Block}
 use Rattle.c_emitter.specs.Names.{value_name, memory_name, output_name}
-use Rattle.c_emitter.specs.Blocks.{delay_rows, output_rows, counter_place}
+use Rattle.c_emitter.specs.Blocks.{TypedBlock, delay_rows, output_rows, counter_place, type_of, output_type}
 use Rattle.c_emitter.specs.Bodies.{top_place, update_place, start_body, root_start_body}
-use Rattle.c_emitter.specs.FlatProgram.{int_field, top_fields, root_fields_of, flat_structs, start_procedure, root_start_procedure, flat_program, counter_name}
+use Rattle.c_emitter.specs.FlatProgram.{typed_field, top_fields, root_fields_of, flat_structs, start_procedure, root_start_procedure, flat_program, counter_name}
 use Rattle.c_emitter.proofs.NumberCells.{cells_then, number_cells, cells_with, fields_at-cells_with, set_object-cells_with}
 use Rattle.c_emitter.proofs.Straight.{finish, own_store, begin_step-goes}
 use Rattle.c_emitter.proofs.BlockFacts.{AreBlocks}
@@ -32,15 +32,15 @@ use Rattle.c_emitter.proofs.StartRun.{start_values, started, started_fields, sta
 abbrev pub zeros : List ℕ → List ℤ
 zeros xs = map (λ (x : ℕ). pos 0) xs
 
-zero-ints : (xs : List ℕ) (name : ℕ → List ℕ) (earlier : List Cells) (rest : List FieldTree) → zero_cells earlier (map (λ b. int_field (name b)) xs ++ rest) ≡ cells_then (zeros xs) (zero_cells earlier rest)
-zero-ints [] name earlier rest = refl
-zero-ints (x ∷ xs) name earlier rest = ap (more_cells (number (pos 0))) (zero-ints xs name earlier rest)
+zero-numbers : (xs : List ℕ) (name : ℕ → List ℕ) (type : ℕ → CType) (earlier : List Cells) (rest : List FieldTree) → zero_cells earlier (map (λ b. typed_field (name b) (type b)) xs ++ rest) ≡ cells_then (zeros xs) (zero_cells earlier rest)
+zero-numbers [] name type earlier rest = refl
+zero-numbers (x ∷ xs) name type earlier rest = ap (more_cells (number (pos 0))) (zero-numbers xs name type earlier rest)
 
 cells-append : (a b : List ℤ) (rest : Cells) → cells_then (a ++ b) rest ≡ cells_then a (cells_then b rest)
 cells-append [] b rest = refl
 cells-append (z ∷ zs) b rest = ap (more_cells (number z)) (cells-append zs b rest)
 
-module _ (blocks : List Block) where
+module _ (blocks : List TypedBlock) where
   abbrev pub zero_top : List ℤ
   zero_top = zeros (range_with_len 0 (length blocks)) ++ (zeros (delay_rows blocks) ++ pos 0 ∷ [])
 
@@ -50,14 +50,14 @@ module _ (blocks : List Block) where
   top-zeros : zero_cells [] (top_fields blocks) ≡ number_cells zero_top
   top-zeros =
       let last : List FieldTree = record { name = counter_name; kind = Number U8 } ∷ [] in
-      ap (zero_cells []) (append_assoc (map (λ b. int_field (value_name b)) (range_with_len 0 (length blocks))) (map (λ b. int_field (memory_name b)) (delay_rows blocks)) last)
-      ∙ zero-ints (range_with_len 0 (length blocks)) value_name [] (map (λ b. int_field (memory_name b)) (delay_rows blocks) ++ last)
-      ∙ ap (cells_then (zeros (range_with_len 0 (length blocks)))) (zero-ints (delay_rows blocks) memory_name [] last ∙ sym (cells-append (zeros (delay_rows blocks)) (pos 0 ∷ []) no_cells))
+      ap (zero_cells []) (append_assoc (map (λ b. typed_field (value_name b) (type_of blocks b)) (range_with_len 0 (length blocks))) (map (λ b. typed_field (memory_name b) (type_of blocks b)) (delay_rows blocks)) last)
+      ∙ zero-numbers (range_with_len 0 (length blocks)) value_name (type_of blocks) [] (map (λ b. typed_field (memory_name b) (type_of blocks b)) (delay_rows blocks) ++ last)
+      ∙ ap (cells_then (zeros (range_with_len 0 (length blocks)))) (zero-numbers (delay_rows blocks) memory_name (type_of blocks) [] last ∙ sym (cells-append (zeros (delay_rows blocks)) (pos 0 ∷ []) no_cells))
       ∙ sym (cells-append (zeros (range_with_len 0 (length blocks))) (zeros (delay_rows blocks) ++ pos 0 ∷ []) no_cells)
 
   root-zeros : zero_root (flat_program blocks) ≡ cells_with (pos 0 ∷ zero_outputs) (number_cells zero_top)
   root-zeros =
-      ap (more_cells (number (pos 0))) (zero-ints (range_with_len 1 (length (output_rows blocks))) output_name (zero_cells [] (top_fields blocks) ∷ []) _)
+      ap (more_cells (number (pos 0))) (zero-numbers (range_with_len 1 (length (output_rows blocks))) output_name (output_type blocks) (zero_cells [] (top_fields blocks) ∷ []) _)
       ∙ ap (cells_with (pos 0 ∷ zero_outputs)) top-zeros
 
   pub length-zero_outputs : length zero_outputs ≡ length (output_rows blocks)

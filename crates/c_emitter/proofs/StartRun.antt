@@ -1,64 +1,43 @@
 -- What the start of the root does.
-use Rattle.std.specs.Prelude.{◌≡◌, ℕ, zero, suc, ◌+◌, ◌-◌, ◌^◌, ◌<◌, ◌≤◌, ◌⊎◌, true, if◌then◌else◌, List, [], ◌∷◌, ◌++◌, map, length, ℤ, pos, negsuc}
+use Rattle.std.specs.Prelude.{◌≡◌, ◌≢◌, ℕ, zero, suc, ◌+◌, ◌-◌, ◌^◌, ◌<◌, ◌≤◌, ◌⊎◌, true, if◌then◌else◌, List, [], ◌∷◌, ◌++◌, map, length, ℤ, pos, negsuc}
 use Rattle.std.specs.List.{range_with_len, AllByRecursion}
 use Rattle.std.proofs.Common.{refl, sym, ◌∙◌, ap, subst, arith, inl, inr}
 use Rattle.std.proofs.lemmas.List.FromFn.{length-map-range_with_len, get_or-map-range_with_len}
-use Rattle.std.proofs.lemmas.Bool.{and_parts, and_from, leb-true, le-leb}
-use Rattle.c_tree.specs.declared.CType.TheVariants.{U8, I32, I64}
+use Rattle.std.proofs.lemmas.Bool.{and_from, le-leb}
+use Rattle.c_tree.specs.declared.CType.{CType}
+use Rattle.c_tree.specs.declared.CType.TheVariants.{U8, I64}
 use Rattle.c_tree.specs.declared.Why.TheVariants.{Overflow}
 use Rattle.c_tree.specs.Tree.{literal, StmtTree, stmts_of_list}
 use Rattle.c_tree.specs.Values.{gives, is_in_type, sticks, stuck_at}
 use Rattle.c_tree.specs.Machine.{Scope, run_stmts}
 use Rattle.c_tree.specs.Tree.{type_at}
-use Rattle.c_emitter.specs.declared.block.Block.{Block}
-use Rattle.c_emitter.specs.declared.block.Block.TheVariants.{Input, Output, Delay}
-use Rattle.c_emitter.specs.Blocks.{block_at, start_value, counter_place, memory_place}
+use Rattle.c_emitter.specs.Blocks.{TypedBlock, block_at, type_of, start_value, counter_place, memory_place}
 use Rattle.c_emitter.specs.Bodies.{number_expr, start_row, start_memory, set_counter, is_delay_row, reset_body, start_body}
 use Rattle.c_emitter.proofs.NumberCells.{number_cells, item}
 use Rattle.c_emitter.proofs.Straight.{finish, own_store, Gives, IsRightStore, stores-rows}
 use Rattle.c_emitter.proofs.Sequences.{ends-then, run-append}
 use Rattle.c_emitter.proofs.Chosen.{all-chosen}
-use Rattle.c_emitter.proofs.BlockFacts.{IsWellMade, AreBlocks, top_state, length-top_state, value-in_state, memory-in_state, counter-in_state, memory-within}
-use Rattle.c_emitter.proofs.TopTypes.{top_types, int-below, counter-type}
-use Rattle.c_emitter.proofs.BlockTicks.{IsInt}
+use Rattle.c_emitter.proofs.BlockFacts.{AreBlocks, top_state, length-top_state, value-in_state, memory-in_state, counter-in_state, memory-within}
+use Rattle.c_emitter.proofs.TopTypes.{top_types, value-type, memory-type, counter-type, map-same}
+use Rattle.c_emitter.proofs.NumberExprs.{gives-number}
 use Rattle.c_emitter.proofs.TopRuns.{memory_rows, all-known}
 use Rattle.c_emitter.proofs.Members.{Has, has-range}
 
 -- the starts of all rows
-abbrev pub start_values : List Block → List ℤ
+abbrev pub start_values : List TypedBlock → List ℤ
 start_values blocks = map (λ b. start_value (block_at blocks b)) (range_with_len 0 (length blocks))
 
-pub start-value-at : (blocks : List Block) (b : ℕ) → b < length blocks → item (start_values blocks) b ≡ start_value (block_at blocks b)
+pub start-value-at : (blocks : List TypedBlock) (b : ℕ) → b < length blocks → item (start_values blocks) b ≡ start_value (block_at blocks b)
 start-value-at blocks b h = get_or-map-range_with_len (λ b. start_value (block_at blocks b)) 0 (length blocks) b b (pos 0) h (omega arith)
 
-pub length-start_values : (blocks : List Block) → length (start_values blocks) ≡ length blocks
+pub length-start_values : (blocks : List TypedBlock) → length (start_values blocks) ≡ length blocks
 length-start_values blocks = length-map-range_with_len (λ b. start_value (block_at blocks b)) 0 (length blocks)
-
--- a stored integer, as an expression
-negative-fits : (n : ℕ) → IsInt (negsuc n) → is_in_type I64 (negsuc n) ≡ true
-negative-fits n h = let low = leb-true n (2 ^ 31 - 1) (and_parts _ _ h).0 in and_from _ _ (le-leb n (2 ^ 63 - 1) (omega arith)) refl
-
-pub gives-number : (values wanted : List ℤ) (known : ℕ → Type 0) (z : ℤ) → IsInt z → Gives values wanted known (number_expr z) z
-gives-number values wanted known (pos n) h = λ functions zs line steps holds. refl
-gives-number values wanted known (negsuc n) h = λ functions zs line steps holds. ap (λ b. if b then gives (negsuc n) steps else sticks (stuck_at line Overflow)) (negative-fits n h)
-
-start-is-int : (blocks : List Block) (k : Block) → IsWellMade blocks k → IsInt (start_value k)
-start-is-int blocks (Input port) made = refl
-start-is-int blocks (Output port c) made = refl
-start-is-int blocks (Delay c start) made = made.1
 
 pub all-range : (P : ℕ → Type 0) (a n : ℕ) → ((b : ℕ) → a ≤ b → b < a + n → P b) → AllByRecursion P (range_with_len a n)
 all-range P a zero h = tt
 all-range P a (suc n) h = (h a (omega arith) (omega arith), all-range P (a + 1) n (λ b low high. h b (omega arith) (omega arith)))
 
-map-same : (xs : List ℕ) → map (λ b. b) xs ≡ xs
-map-same [] = refl
-map-same (x ∷ xs) = ap (λ l. x ∷ l) (map-same xs)
-
-pub start-int : (blocks : List Block) → AreBlocks blocks → (b : ℕ) → b < length blocks → IsInt (start_value (block_at blocks b))
-start-int blocks are b h = start-is-int blocks (block_at blocks b) (are.each b h)
-
-module _ (blocks : List Block) (are : AreBlocks blocks) where
+module _ (blocks : List TypedBlock) (are : AreBlocks blocks) where
   -- `top` with each value and memory at its start
   abbrev pub started : List ℤ
   started = top_state blocks (start_values blocks) (start_values blocks) (pos 0)
@@ -74,11 +53,11 @@ module _ (blocks : List Block) (are : AreBlocks blocks) where
 
   module _ (s : Scope) (types : s.types ≡ top_types blocks) where
     -- a store of a row's start in a field that has it
-    start-right : (known : ℕ → Type 0) (b f : ℕ) → b < length blocks → f < counter_place blocks → item started f ≡ start_value (block_at blocks b) → IsRightStore s started known f (number_expr (start_value (block_at blocks b)))
-    start-right known b f h below e = record {
+    start-right : (known : ℕ → Type 0) (b f : ℕ) → b < length blocks → f < counter_place blocks → type_at (top_types blocks) f ≡ type_of blocks b → item started f ≡ start_value (block_at blocks b) → IsRightStore s started known f (number_expr (start_value (block_at blocks b)))
+    start-right known b f h below type e = record {
       within = (let size = length-top_state blocks (start_values blocks) (start_values blocks) (pos 0) sized in omega (arith, size, below));
-      right = subst (λ z. Gives s.values started known (number_expr (start_value (block_at blocks b))) z) (sym e) (gives-number s.values started known (start_value (block_at blocks b)) (start-int blocks are b h));
-      in_type = ap (λ t. is_in_type (type_at t f) (item started f)) types ∙ ap (λ t. is_in_type t (item started f)) (int-below blocks f below) ∙ ap (is_in_type I32) e ∙ start-int blocks are b h;
+      right = subst (λ z. Gives s.values started known (number_expr (start_value (block_at blocks b))) z) (sym e) (gives-number s.values started known (type_of blocks b) (start_value (block_at blocks b)) (are.narrow b) (are.starts b h));
+      in_type = ap (λ t. is_in_type (type_at t f) (item started f)) types ∙ ap (λ t. is_in_type t (item started f)) type ∙ ap (is_in_type (type_of blocks b)) e ∙ are.starts b h;
     }
 
     counter-right : (known : ℕ → Type 0) → IsRightStore s started known (counter_place blocks) (literal (pos 0))
@@ -99,12 +78,12 @@ module _ (blocks : List Block) (are : AreBlocks blocks) where
         let a = stores-rows s started nothing (λ b. b) (λ b. number_expr (start_value (block_at blocks b))) rows zs steps same (omega arith) (λ j k. absurd k)
         (all-range _ 0 (length blocks) (λ b low high.
         let within : b < length blocks = omega arith in
-        start-right nothing b b within (omega arith) (value-in_state blocks (start_values blocks) (start_values blocks) (pos 0) b sized within ∙ start-value-at blocks b within))) in
+        start-right nothing b b within (omega arith) (value-type blocks b within) (value-in_state blocks (start_values blocks) (start_values blocks) (pos 0) b sized within ∙ start-value-at blocks b within))) in
         let values : ℕ → Type 0 = λ j. nothing j ⊎ Has (map (λ b. b) rows) j in
         let b = stores-rows s started values (memory_place blocks) (λ b. number_expr (start_value (block_at blocks b))) (memory_rows blocks) a.after (steps + length rows) (a.size ∙ same) (omega arith) a.known_after
         (all-chosen (is_delay_row blocks) _ 0 (length blocks) (λ b low high delay.
         let within : b < length blocks = omega arith in
-        start-right values b (memory_place blocks b) within (memory-within blocks b within delay) (memory-in_state blocks (start_values blocks) (start_values blocks) (pos 0) b sized within delay ∙ start-value-at blocks b within))) in
+        start-right values b (memory_place blocks b) within (memory-within blocks b within delay) (memory-type blocks b within delay) (memory-in_state blocks (start_values blocks) (start_values blocks) (pos 0) b sized within delay ∙ start-value-at blocks b within))) in
         let memories : ℕ → Type 0 = λ j. values j ⊎ Has (map (memory_place blocks) (memory_rows blocks)) j in
         let c = stores-rows s started memories (λ b. b) (λ b. literal (pos 0)) (counter_place blocks ∷ []) b.after (steps + length rows + length (memory_rows blocks)) (b.size ∙ a.size ∙ same) (omega arith) b.known_after (counter-right memories, tt) in
         let memory_list : List StmtTree = map (start_memory blocks) (memory_rows blocks) in

@@ -1,18 +1,17 @@
 -- A tick of the root.
-use Rattle.std.specs.Prelude.{◌≡◌, ℕ, ◌+◌, ◌-◌, ◌<◌, ◌≤◌, ◌⊎◌, true, false, List, [], ◌∷◌, ◌++◌, map, flat_map, length, None, ℤ, pos}
+use Rattle.std.specs.Prelude.{◌≡◌, ℕ, suc, ◌+◌, ◌-◌, ◌<◌, ◌≤◌, ◌⊎◌, true, false, List, [], ◌∷◌, ◌++◌, map, flat_map, length, slice_index_or, None, ℤ, pos}
 use Rattle.std.specs.List.{range_with_len, enumerate_from, AllByRecursion}
 use Rattle.std.proofs.Common.{refl, sym, ◌∙◌, ap, ap₂, subst, arith, inl, inr, true≢false}
 use Rattle.std.proofs.lemmas.List.{append-nil}
 use Rattle.std.proofs.lemmas.Bool.{and_parts, and_from, not_from_false, eq-eqb, cases_Bool, false_from_ne_true, or_left}
-use Rattle.c_tree.specs.declared.CType.TheVariants.{I32}
 use Rattle.c_tree.specs.Tree.{stmts_of_list}
 use Rattle.c_tree.specs.Cells.{Cells}
 use Rattle.c_tree.specs.Values.{is_in_type, int_at}
 use Rattle.c_tree.specs.Machine.{LoggedCall, StoredField, Scope, Routine, routine_at, routine_of, run_stmts}
 use Rattle.c_tree.specs.Tree.{field_types}
 use Rattle.c_emitter.specs.declared.block.Block.{Block}
-use Rattle.c_emitter.specs.declared.block.Block.TheVariants.{Input, Output, Delay}
-use Rattle.c_emitter.specs.Blocks.{block_at, is_output, counter_place, source_need, need_of, source_of, feeds_output, is_taken_in, is_given_in, is_held_input, is_unheld, output_rows, function_needs}
+use Rattle.c_emitter.specs.declared.block.Block.TheVariants.{Input, Output, Delay, Fixed}
+use Rattle.c_emitter.specs.Blocks.{TypedBlock, block_at, type_of, output_type, is_output, counter_place, source_need, need_of, source_of, feeds_output, is_taken_in, is_given_in, is_held_input, is_unheld, output_rows, function_needs}
 use Rattle.c_emitter.specs.Bodies.{taken_ports, top_place, call_top, function_calls, update_place, output_copies, next_now, step_body}
 use Rattle.c_emitter.specs.FlatProgram.{root_fields_of, flat_structs, update_procedure}
 use Rattle.c_emitter.proofs.NumberCells.{number_cells, cells_with, item}
@@ -20,7 +19,7 @@ use Rattle.c_emitter.proofs.Straight.{finish, own_store, Known}
 use Rattle.c_emitter.proofs.Sequences.{run-append, finish-then}
 use Rattle.c_emitter.proofs.Chosen.{any-chosen}
 use Rattle.c_emitter.proofs.BlockFacts.{IsWellMade, AreBlocks, top_state, length-top_state, value-in_state, memory-in_state, counter-in_state}
-use Rattle.c_emitter.proofs.BlockTicks.{IsBlockTick, AreInts, MemoriesAreInts, value-is-int}
+use Rattle.c_emitter.proofs.BlockTicks.{IsBlockTick, AreInputs, MemoriesFit, value-fits}
 use Rattle.c_emitter.proofs.TopRuns.{IsMemory, out_fields, update_cost, update_fields, held_rows, taken_rows, given_rows, run-update}
 use Rattle.c_emitter.proofs.Ports.{all-inputs, filter-none}
 use Rattle.c_emitter.proofs.Interface.{update-is_interface}
@@ -29,7 +28,7 @@ use Rattle.c_emitter.proofs.Members.{Has, has-append_left, has-append_right, has
 use Rattle.c_emitter.proofs.RootRuns.{IsOutRoutine, calls_cost, run-calls, run-copies, run-now}
 use Rattle.c_emitter.proofs.Costs.{step_cost, step-cost-small}
 
-module _ (blocks : List Block) (are : AreBlocks blocks) where
+module _ (blocks : List TypedBlock) (are : AreBlocks blocks) where
   -- a row that functions hold has its function
   pub held-by : (b : ℕ) → feeds_output blocks b ≡ true → Has (function_needs blocks) (source_need (block_at blocks b))
   held-by b feeds = let f = feeder blocks b feeds in need-listed blocks are f.row f.port b f.within f.is_output
@@ -51,6 +50,7 @@ module _ (blocks : List Block) (are : AreBlocks blocks) where
       by : (k : Block) → block_at blocks b ≡ k → (feeds_output blocks b ≡ true) ⊎ (feeds_output blocks b ≡ false) → Has (flat_map (out_fields blocks) (function_needs blocks)) b ⊎ (is_unheld blocks b ≡ true)
       by (Input port) same cases = source (Input port) same refl cases
       by (Delay c start) same cases = source (Delay c start) same refl cases
+      by (Fixed value) same cases = source (Fixed value) same refl cases
       by (Output port c) same cases =
           let need : ℕ = need_of blocks b in
           let listed : Has (function_needs blocks) need = subst (Has (function_needs blocks)) (ap (λ k. source_need (block_at blocks (source_of k))) (sym same)) (need-listed blocks are b port c h same) in
@@ -72,20 +72,20 @@ module _ (blocks : List Block) (are : AreBlocks blocks) where
       false_from_ne_true _ (λ held. true≢false (sym (subst (λ ns. Has ns (source_need (block_at blocks b))) none (held-by b (and_parts _ _ held).1)))))
 
 -- the calls and the stores of a tick, as the root sees them
-abbrev pub step_log : List Block → List LoggedCall
+abbrev pub step_log : List TypedBlock → List LoggedCall
 step_log blocks = map (top_call blocks) (range_with_len 0 (update_place blocks)) ++ top_call blocks (update_place blocks) ∷ []
 
-abbrev pub step_stores : List Block → List StoredField
+abbrev pub step_stores : List TypedBlock → List StoredField
 step_stores blocks =
     map (top_store blocks) (flat_map (out_fields blocks) (function_needs blocks))
     ++ (map (top_store blocks) (update_fields blocks) ++ map own_store (range_with_len 1 (length (output_rows blocks))))
     ++ own_store 0 ∷ []
 
 -- the root between two ticks: the tick 0, the outputs, and `top` with the values and the memories
-abbrev pub root_state : List Block → (outputs v m : List ℤ) → Cells
+abbrev pub root_state : List TypedBlock → (outputs v m : List ℤ) → Cells
 root_state blocks outputs v m = cells_with (pos 0 ∷ outputs) (number_cells (top_state blocks v m (pos 0)))
 
-module _ (blocks : List Block) (are : AreBlocks blocks) (x before v m n : List ℤ) (tick : IsBlockTick blocks x v m n) (xs : AreInts x) (ms : MemoriesAreInts blocks m) (s : Scope) (values : s.values ≡ x) (types : s.types ≡ field_types (root_fields_of blocks)) where
+module _ (blocks : List TypedBlock) (are : AreBlocks blocks) (x before v m n : List ℤ) (tick : IsBlockTick blocks x v m n) (xs : AreInputs blocks x) (ms : MemoriesFit blocks m) (s : Scope) (values : s.values ≡ x) (types : s.types ≡ field_types (root_fields_of blocks)) where
   abbrev in_tick : List ℤ
   in_tick = top_state blocks v m (pos 1)
 
@@ -99,9 +99,17 @@ module _ (blocks : List Block) (are : AreBlocks blocks) (x before v m n : List �
       let made = subst (IsWellMade blocks) same (are.each b h) in
       all-inputs blocks x port made.0 made.1
 
-  ints-of : (outs : List ℕ) → AllByRecursion (λ o. o < length blocks) outs → AllByRecursion (λ o. is_in_type I32 (item (top_state blocks v n (pos 0)) o) ≡ true) outs
-  ints-of [] all = tt
-  ints-of (o ∷ outs) all = (ap (is_in_type I32) (value-in_state blocks v n (pos 0) o tick.size all.0) ∙ value-is-int blocks are x v m n tick xs ms o all.0, ints-of outs all.1)
+  -- what is copied into an output is of its type
+  outputs-fit : (k : ℕ) (outs : List ℕ) → ((i : ℕ) → i < length outs → output_type blocks (k + i) ≡ type_of blocks (slice_index_or outs i 0)) → AllByRecursion (λ o. o < length blocks) outs →
+      AllByRecursion (λ (e : ℕ × ℕ). is_in_type (output_type blocks e.0) (item (top_state blocks v n (pos 0)) e.1) ≡ true) (enumerate_from k outs)
+  outputs-fit k [] same all = tt
+  outputs-fit k (o ∷ outs) same all =
+      let here : k + 0 ≡ k = omega arith in (
+        subst (λ i. is_in_type (output_type blocks i) (item (top_state blocks v n (pos 0)) o) ≡ true) here
+            (subst (λ t. is_in_type t (item (top_state blocks v n (pos 0)) o) ≡ true) (sym (same 0 (omega arith)))
+            (ap (is_in_type (type_of blocks o)) (value-in_state blocks v n (pos 0) o tick.size all.0) ∙ value-fits blocks are x v m n tick xs ms o all.0)),
+        outputs-fit (k + 1) outs (λ i h. let next : k + 1 + i ≡ k + suc i = omega arith in ap (output_type blocks) next ∙ same (suc i) (omega arith)) all.1,
+      )
 
   values-of : (outs : List ℕ) → AllByRecursion (λ o. o < length blocks) outs → map (item (top_state blocks v n (pos 0))) outs ≡ map (item v) outs
   values-of [] all = refl
@@ -129,7 +137,8 @@ module _ (blocks : List Block) (are : AreBlocks blocks) (x before v m n : List �
       let u = run-update blocks are x v m n tick xs ms scope refl known a.after (calls + 1) (a.size ∙ start) (omega arith) a.known_after (λ i k. inl k) takes-all refl counter
       (λ b h. elim (stored-by blocks are b h) as (λ w. known b ⊎ (is_unheld blocks b ≡ true)) [ inl stored ↦ inl (inr stored) | inr idle ↦ inr idle ]) in
       let called = call-ends blocks s (flat_structs blocks) [] earlier (update_procedure blocks) (update_place blocks) None x zs a.after behind calls (update_cost blocks) (update_fields blocks) (omega arith) values xs refl place update refl update-is_interface u in
-      let copied = run-copies blocks s 1 (output_rows blocks) (pos 0 ∷ []) outputs behind (calls + (1 + update_cost blocks)) (omega arith) types place refl outs_size (ints-of (output_rows blocks) below) in
+      let copied = run-copies blocks s 1 (output_rows blocks) (pos 0 ∷ []) outputs behind (calls + (1 + update_cost blocks)) (omega arith) types place refl outs_size (omega arith)
+      (outputs-fit 1 (output_rows blocks) (λ i h. let place : 1 + i - 1 ≡ i = omega arith in ap (λ j. type_of blocks (slice_index_or (output_rows blocks) j 0)) place) below) in
       let moved = run-now blocks s (map (item behind) (output_rows blocks)) behind (calls + (1 + update_cost blocks) + length (output_rows blocks)) (omega arith) types in
       let count : calls + (1 + update_cost blocks) + length (output_rows blocks) + 1 ≡ step_cost blocks = omega arith in
       let second = finish-then _ (run_stmts s (stmts_of_list (output_copies blocks))) _ _ _ _ _ _ _ _ called copied in

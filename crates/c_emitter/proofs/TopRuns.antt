@@ -1,9 +1,9 @@
 -- What the procedures of `top` do in a tick.
-use Rattle.std.specs.Prelude.{◌≡◌, ℕ, zero, suc, ◌+◌, ◌-◌, ◌^◌, ◌<◌, ◌≤◌, ◌⊎◌, Bool, true, false, ◌==◌, List, [], ◌∷◌, ◌++◌, map, filter, filter_map, length, slice_index_or, ℤ, pos}
-use Rattle.std.specs.List.{range_with_len, list_any}
+use Rattle.std.specs.Prelude.{◌≡◌, ℕ, zero, suc, ◌+◌, ◌-◌, ◌^◌, ◌<◌, ◌≤◌, ◌⊎◌, Bool, true, false, ◌==◌, List, [], ◌∷◌, ◌++◌, map, filter, length, Option, Some, None, ℤ, pos, ⊤}
+use Rattle.std.specs.List.{cons_option, range_with_len, list_any}
 use Rattle.std.proofs.Common.{refl, sym, ◌∙◌, ap, subst, arith, inl, inr, true≢false, eq-eqb}
 use Rattle.std.proofs.lemmas.Bool.{cases_lt, eqb-true, and_parts, and_from, not-true, not_from_false, or_left, or_right}
-use Rattle.c_tree.specs.declared.CType.TheVariants.{U8, I32}
+use Rattle.c_tree.specs.declared.CType.TheVariants.{U8}
 use Rattle.c_tree.specs.declared.Leaf.TheVariants.{Own}
 use Rattle.c_tree.specs.Tree.{read, literal, StmtTree, branch, stmts_of_list, no_stmts}
 use Rattle.std.specs.Ordering.{int_eq}
@@ -13,50 +13,51 @@ use Rattle.c_tree.specs.Values.{gives, eval_cond, reads, int_at, is_in_type}
 use Rattle.c_tree.specs.Machine.{Scope, run_stmt, run_stmts}
 use Rattle.c_tree.specs.Tree.{type_at}
 use Rattle.c_emitter.specs.declared.block.Block.{Block}
-use Rattle.c_emitter.specs.declared.block.Block.TheVariants.{Input, Output, Delay}
-use Rattle.c_emitter.specs.Blocks.{no_block, block_at, is_output, is_delay_block, port_of_input, source_of, memory_place, counter_place, source_need, output_source, is_taken_in, is_given_in, is_held_input, is_unheld}
-use Rattle.c_emitter.specs.Bodies.{value_expr, store_by_port, taken_stores, given_stores, held_stores, unheld_stores, memory_stores, hit_test, idle_test, set_counter, out_body, update_body, is_delay_row}
+use Rattle.c_emitter.specs.declared.block.Block.TheVariants.{Input, Output, Delay, Fixed}
+use Rattle.c_emitter.specs.Blocks.{TypedBlock, block_at, type_of, is_output, is_delay_block, port_of_input, source_of, memory_place, counter_place, source_need, output_source, output_sources, is_taken_in, is_given_in, is_held_input, is_unheld}
+use Rattle.c_emitter.specs.Bodies.{value_expr, store_by_port, taken_stores, given_stores, held_stores, unheld_stores, memory_stores, hit_test, idle_test, set_counter, out_body, update_body, is_delay_row, number_expr}
 use Rattle.c_emitter.proofs.NumberCells.{number_cells, item, value_at-number_cells}
 use Rattle.c_emitter.proofs.Straight.{finish, own_store, Known, Gives, gives-own, IsRightStore, Stores, stores-rows}
+use Rattle.c_emitter.proofs.NumberExprs.{gives-number}
 use Rattle.c_emitter.proofs.Sequences.{stores-then, stores-under, stores-as, run-append, ends-then, branch-taken, branch-skipped}
 use Rattle.c_emitter.proofs.Chosen.{all-chosen, any-chosen, member-at}
 use Rattle.c_emitter.proofs.BlockFacts.{IsSource, IsWellMade, AreBlocks, top_state, length-top_state, value-in_state, memory-in_state, counter-in_state, memory-within}
-use Rattle.c_emitter.proofs.TopTypes.{top_types, int-below, counter-type}
-use Rattle.c_emitter.proofs.BlockTicks.{TickAt, IsBlockTick, AreInts, MemoriesAreInts, value-is-int, memories-stay-ints}
+use Rattle.c_emitter.proofs.TopTypes.{top_types, value-type, memory-type, counter-type}
+use Rattle.c_emitter.proofs.BlockTicks.{TickAt, IsBlockTick, AreInputs, MemoriesFit, value-fits, memories-still-fit}
 
 -- the rows that a function takes, and those that it gives
-abbrev pub taken_rows : List Block → ℕ → List ℕ
+abbrev pub taken_rows : List TypedBlock → ℕ → List ℕ
 taken_rows blocks need = filter (is_taken_in blocks need) (range_with_len 0 (length blocks))
 
-abbrev pub given_rows : List Block → ℕ → List ℕ
+abbrev pub given_rows : List TypedBlock → ℕ → List ℕ
 given_rows blocks need = filter (is_given_in blocks need) (range_with_len 0 (length blocks))
 
 -- a function's steps, and the fields that it stores
-abbrev pub out_cost : List Block → ℕ → ℕ
+abbrev pub out_cost : List TypedBlock → ℕ → ℕ
 out_cost blocks need = 1 + (length (taken_rows blocks need) + length (given_rows blocks need)) + 1
 
-abbrev pub out_fields : List Block → ℕ → List ℕ
+abbrev pub out_fields : List TypedBlock → ℕ → List ℕ
 out_fields blocks need = map (λ b. b) (taken_rows blocks need) ++ map (λ b. b) (given_rows blocks need) ++ counter_place blocks ∷ []
 
 -- the rows that an update takes, those that functions take in its place, and the delays, whose memories it stores
-abbrev pub unheld_rows : List Block → List ℕ
+abbrev pub unheld_rows : List TypedBlock → List ℕ
 unheld_rows blocks = filter (is_unheld blocks) (range_with_len 0 (length blocks))
 
-abbrev pub held_rows : List Block → List ℕ
+abbrev pub held_rows : List TypedBlock → List ℕ
 held_rows blocks = filter (is_held_input blocks) (range_with_len 0 (length blocks))
 
-abbrev pub memory_rows : List Block → List ℕ
+abbrev pub memory_rows : List TypedBlock → List ℕ
 memory_rows blocks = filter (is_delay_row blocks) (range_with_len 0 (length blocks))
 
 -- an update's steps, and the fields that it stores
-abbrev pub update_cost : List Block → ℕ
+abbrev pub update_cost : List TypedBlock → ℕ
 update_cost blocks = 1 + (1 + (length (unheld_rows blocks) + length (memory_rows blocks)) + 1)
 
-abbrev pub update_fields : List Block → List ℕ
+abbrev pub update_fields : List TypedBlock → List ℕ
 update_fields blocks = map (λ b. b) (unheld_rows blocks) ++ map (memory_place blocks) (memory_rows blocks) ++ counter_place blocks ∷ []
 
 -- the fields are all known, where the values, the memories and the counter are
-pub all-known : (blocks : List Block) (v m : List ℤ) (c : ℤ) → length v ≡ length blocks → (zs : List ℤ) → length zs ≡ length (top_state blocks v m c) →
+pub all-known : (blocks : List TypedBlock) (v m : List ℤ) (c : ℤ) → length v ≡ length blocks → (zs : List ℤ) → length zs ≡ length (top_state blocks v m c) →
     Known (top_state blocks v m c) (λ j. ((j < length blocks) ⊎ (list_any (λ f. f == j) (map (memory_place blocks) (memory_rows blocks)) ≡ true)) ⊎ (list_any (λ f. f == j) (counter_place blocks ∷ []) ≡ true)) zs →
     zs ≡ top_state blocks v m c
 all-known blocks v m c vs zs size holds = ext_get_or (pos 0) zs (top_state blocks v m c) size (λ i h. each i h)
@@ -78,20 +79,20 @@ all-known blocks v m c vs zs size holds = ext_get_or (pos 0) zs (top_state block
     ]
 
 -- what an output reads feeds an output
-pub feeds-from : (bs : List Block) (b port c : ℕ) → b < length bs → slice_index_or bs b no_block ≡ Output port c → list_any (λ s. s == c) (filter_map output_source bs) ≡ true
+pub feeds-from : (bs : List TypedBlock) (b port c : ℕ) → b < length bs → block_at bs b ≡ Output port c → list_any (λ s. s == c) (output_sources bs) ≡ true
 feeds-from [] b port c h e = absurd (omega arith)
-feeds-from (Input p ∷ bs) zero port c h e = absurd (cc e)
-feeds-from (Input p ∷ bs) (suc b) port c h e = feeds-from bs b port c (omega arith) e
-feeds-from (Delay s z ∷ bs) zero port c h e = absurd (cc e)
-feeds-from (Delay s z ∷ bs) (suc b) port c h e = feeds-from bs b port c (omega arith) e
-feeds-from (Output p s ∷ bs) zero port c h e = let same : s ≡ c = cc e in or_left (s == c) _ (eq-eqb s c same)
-feeds-from (Output p s ∷ bs) (suc b) port c h e = or_right (s == c) _ (feeds-from bs b port c (omega arith) e)
+feeds-from (t ∷ bs) zero port c h e = ap (λ k. list_any (λ s. s == c) (cons_option (output_source k) (output_sources bs))) e ∙ or_left (c == c) _ (eq-eqb c c refl)
+feeds-from (t ∷ bs) (suc b) port c h e = by (output_source t.block) (feeds-from bs b port c (omega arith) e)
+  where
+    by : (o : Option ℕ) → list_any (λ s. s == c) (output_sources bs) ≡ true → list_any (λ s. s == c) (cons_option o (output_sources bs)) ≡ true
+    by None rest = rest
+    by (Some s) rest = or_right (s == c) _ rest
 
 -- a place of a memory
-abbrev pub IsMemory : List Block → ℕ → Type 0
+abbrev pub IsMemory : List TypedBlock → ℕ → Type 0
 IsMemory blocks j = (b : ℕ) × (b < length blocks) × (is_delay_block (block_at blocks b) ≡ true) × (memory_place blocks b ≡ j)
 
-module _ (blocks : List Block) (are : AreBlocks blocks) (x v m n : List ℤ) (tick : IsBlockTick blocks x v m n) (xs : AreInts x) (ms : MemoriesAreInts blocks m) (s : Scope) (types : s.types ≡ top_types blocks) where
+module _ (blocks : List TypedBlock) (are : AreBlocks blocks) (x v m n : List ℤ) (tick : IsBlockTick blocks x v m n) (xs : AreInputs blocks x) (ms : MemoriesFit blocks m) (s : Scope) (types : s.types ≡ top_types blocks) where
   -- the fields of `top` when each value is that of the tick, and the memories are as they were
   abbrev pub in_tick : List ℤ
   in_tick = top_state blocks v m (pos 1)
@@ -101,11 +102,14 @@ module _ (blocks : List Block) (are : AreBlocks blocks) (x v m n : List ℤ) (ti
   Readable known (Input port) param memory = int_at s.values param ≡ item x (port - 1)
   Readable known (Output port c) param memory = known c
   Readable known (Delay c start) param memory = known memory
+  Readable known (Fixed value) param memory = ⊤
 
   value-gives : (known : ℕ → Type 0) (k : Block) (param b : ℕ) → b < length blocks → block_at blocks b ≡ k → IsWellMade blocks k → TickAt k x v m n b → Readable known k param (memory_place blocks b) →
       Gives s.values in_tick known (value_expr k param (memory_place blocks b)) (item v b)
   value-gives known (Input port) param b h same made e readable = λ functions zs line steps holds. ap (λ z. gives z steps) (readable ∙ sym e)
   value-gives known (Output port c) param b h same made e readable = gives-own s.values in_tick known c (item v b) readable (value-in_state blocks v m (pos 1) c tick.size made.2.0 ∙ sym e)
+  value-gives known (Fixed value) param b h same made e readable =
+      subst (Gives s.values in_tick known (number_expr value)) (sym e) (gives-number s.values in_tick known (type_of blocks b) value (are.narrow b) (are.fixed_fit b value h same))
   value-gives known (Delay c start) param b h same made e readable = gives-own s.values in_tick known (memory_place blocks b) (item v b) readable (memory-in_state blocks v m (pos 1) b tick.size h (ap is_delay_block same) ∙ sym e.0)
 
   value-within : (b : ℕ) → b < length blocks → b < length in_tick
@@ -117,7 +121,7 @@ module _ (blocks : List Block) (are : AreBlocks blocks) (x v m n : List ℤ) (ti
       record {
         within = value-within b h;
         right = subst (λ z. Gives s.values in_tick known (value_expr (block_at blocks b) param (memory_place blocks b)) z) (sym same) (value-gives known (block_at blocks b) param b h refl (are.each b h) (tick.each b h) readable);
-        in_type = ap (λ t. is_in_type (type_at t b) (item in_tick b)) types ∙ ap (λ t. is_in_type t (item in_tick b)) (int-below blocks b (omega arith)) ∙ ap (is_in_type I32) same ∙ value-is-int blocks are x v m n tick xs ms b h;
+        in_type = ap (λ t. is_in_type (type_at t b) (item in_tick b)) types ∙ ap (λ t. is_in_type t (item in_tick b)) (value-type blocks b h) ∙ ap (is_in_type (type_of blocks b)) same ∙ value-fits blocks are x v m n tick xs ms b h;
       }
 
   -- ---- Output functions
@@ -129,6 +133,7 @@ module _ (blocks : List Block) (are : AreBlocks blocks) (x v m n : List ℤ) (ti
   readable-taken : (known : ℕ → Type 0) (need b : ℕ) (k : Block) → ((j : ℕ) → IsMemory blocks j → known j) → TakesInput need → b < length blocks → block_at blocks b ≡ k → is_output k ≡ false → source_need k ≡ need → Readable known k 1 (memory_place blocks b)
   readable-taken known need b (Input port) memory input h same source e = input b port h same e
   readable-taken known need b (Output port c) memory input h same source e = absurd (true≢false source)
+  readable-taken known need b (Fixed value) memory input h same source e = tt
   readable-taken known need b (Delay c start) memory input h same source e = memory (memory_place blocks b) (b, h, ap is_delay_block same, refl)
 
   run-taken : (known : ℕ → Type 0) (need : ℕ) (zs : List ℤ) (steps : ℕ) → length zs ≡ length in_tick → steps + length (taken_rows blocks need) ≤ 2 ^ 32 → Known in_tick known zs →
@@ -145,6 +150,7 @@ module _ (blocks : List Block) (are : AreBlocks blocks) (x v m n : List ℤ) (ti
   readable-given : (known : ℕ → Type 0) (need b : ℕ) (k : Block) → b < length blocks → block_at blocks b ≡ k → IsWellMade blocks k → is_given_in blocks need b ≡ true →
       ((c : ℕ) → IsSource blocks c → is_taken_in blocks need c ≡ true → known c) → Readable known k 1 (memory_place blocks b)
   readable-given known need b (Input port) h same made given taken = absurd (true≢false (sym (and_parts _ _ given).0 ∙ ap is_output same))
+  readable-given known need b (Fixed value) h same made given taken = absurd (true≢false (sym (and_parts _ _ given).0 ∙ ap is_output same))
   readable-given known need b (Delay c start) h same made given taken = absurd (true≢false (sym (and_parts _ _ given).0 ∙ ap is_output same))
   readable-given known need b (Output port c) h same made given taken =
       let needs : (source_need (block_at blocks c) == need) ≡ true = ap (λ k. source_need (block_at blocks (source_of k)) == need) (sym same) ∙ (and_parts _ _ given).1 in
@@ -201,6 +207,7 @@ module _ (blocks : List Block) (are : AreBlocks blocks) (x v m n : List ℤ) (ti
   readable-unheld : (known : ℕ → Type 0) (b : ℕ) (k : Block) → ((j : ℕ) → IsMemory blocks j → known j) → TakesAll → b < length blocks → block_at blocks b ≡ k → is_output k ≡ false → Readable known k (port_of_input k) (memory_place blocks b)
   readable-unheld known b (Input port) memory input h same source = input b port h same
   readable-unheld known b (Output port c) memory input h same source = absurd (true≢false source)
+  readable-unheld known b (Fixed value) memory input h same source = tt
   readable-unheld known b (Delay c start) memory input h same source = memory (memory_place blocks b) (b, h, ap is_delay_block same, refl)
 
   run-unheld : (known : ℕ → Type 0) (zs : List ℤ) (steps : ℕ) → length zs ≡ length in_tick → steps + length (unheld_rows blocks) ≤ 2 ^ 32 → Known in_tick known zs →
@@ -221,9 +228,10 @@ module _ (blocks : List Block) (are : AreBlocks blocks) (x v m n : List ℤ) (ti
       Gives s.values behind_tick (λ j. j < length blocks) (read (Own (source_of k))) (item behind_tick (memory_place blocks b))
   memory-gives (Input port) b h same delay made e = absurd (true≢false (sym delay))
   memory-gives (Output port c) b h same delay made e = absurd (true≢false (sym delay))
+  memory-gives (Fixed value) b h same delay made e = absurd (true≢false (sym delay))
   memory-gives (Delay c start) b h same delay made e =
-      gives-own s.values behind_tick (λ j. j < length blocks) c (item behind_tick (memory_place blocks b)) made.0.0
-      (value-in_state blocks v n (pos 0) c tick.size made.0.0 ∙ sym e.1 ∙ sym (memory-in_state blocks v n (pos 0) b tick.size h (ap is_delay_block same)))
+      gives-own s.values behind_tick (λ j. j < length blocks) c (item behind_tick (memory_place blocks b)) made.0
+      (value-in_state blocks v n (pos 0) c tick.size made.0 ∙ sym e.1 ∙ sym (memory-in_state blocks v n (pos 0) b tick.size h (ap is_delay_block same)))
 
   memory-right : (b : ℕ) → b < length blocks → is_delay_block (block_at blocks b) ≡ true → IsRightStore s behind_tick (λ j. j < length blocks) (memory_place blocks b) (read (Own (source_of (block_at blocks b))))
   memory-right b h delay =
@@ -234,9 +242,9 @@ module _ (blocks : List Block) (are : AreBlocks blocks) (x v m n : List ℤ) (ti
         right = memory-gives (block_at blocks b) b h refl delay (are.each b h) (tick.each b h);
         in_type =
             ap (λ t. is_in_type (type_at t (memory_place blocks b)) (item behind_tick (memory_place blocks b))) types
-            ∙ ap (λ t. is_in_type t (item behind_tick (memory_place blocks b))) (int-below blocks (memory_place blocks b) place)
-            ∙ ap (is_in_type I32) (memory-in_state blocks v n (pos 0) b tick.size h delay)
-            ∙ memories-stay-ints blocks are x v m n tick xs ms b h delay;
+            ∙ ap (λ t. is_in_type t (item behind_tick (memory_place blocks b))) (memory-type blocks b h delay)
+            ∙ ap (is_in_type (type_of blocks b)) (memory-in_state blocks v n (pos 0) b tick.size h delay)
+            ∙ memories-still-fit blocks are x v m n tick xs ms b h delay;
       }
 
   run-memories : (zs : List ℤ) (steps : ℕ) → length zs ≡ length behind_tick → steps + length (memory_rows blocks) ≤ 2 ^ 32 → Known behind_tick (λ j. j < length blocks) zs →

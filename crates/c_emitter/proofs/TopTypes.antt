@@ -1,49 +1,75 @@
 -- The types of the fields of `top`.
-use Rattle.std.specs.Prelude.{◌≡◌, ℕ, zero, suc, ◌+◌, ◌-◌, ◌<◌, List, [], ◌∷◌, ◌++◌, map, length}
+use Rattle.std.specs.Prelude.{◌≡◌, ℕ, zero, suc, ◌+◌, ◌<◌, true, List, [], ◌∷◌, ◌++◌, map, length, slice_index_or}
 use Rattle.std.specs.List.{range_with_len}
-use Rattle.std.proofs.Common.{refl, ◌∙◌, ap, arith, append_assoc, inl, inr}
-use Rattle.std.proofs.lemmas.Bool.{cases_lt}
+use Rattle.std.proofs.Common.{refl, sym, ◌∙◌, ap, arith, append_assoc}
 use Rattle.std.proofs.lemmas.List.FromFn.{length-range_with_len}
 use Rattle.c_tree.specs.declared.CType.{CType}
-use Rattle.c_tree.specs.declared.CType.TheVariants.{U8, I32}
+use Rattle.c_tree.specs.declared.CType.TheVariants.{U8}
 use Rattle.c_tree.specs.declared.FieldKind.TheVariants.{Number}
 use Rattle.c_tree.specs.Tree.{FieldTree}
 use Rattle.c_tree.specs.Tree.{type_at, field_types}
-use Rattle.c_emitter.specs.declared.block.Block.{Block}
 use Rattle.c_emitter.specs.Names.{value_name, memory_name}
-use Rattle.c_emitter.specs.Blocks.{delay_rows, counter_place}
-use Rattle.c_emitter.specs.FlatProgram.{top_fields, int_field, counter_name}
+use Rattle.c_emitter.specs.Blocks.{TypedBlock, block_at, type_of, is_delay_block, rows_below, delay_rows, memory_place, counter_place}
+use Rattle.c_emitter.specs.FlatProgram.{top_fields, typed_field, counter_name}
+use Rattle.c_emitter.proofs.Chosen.{place-of}
+use Rattle.c_emitter.proofs.BlockFacts.{memory-within}
 
--- fields of int32, and what stands behind them
-pub int-types : (xs : List ℕ) (name : ℕ → List ℕ) (rest : List FieldTree) (j : ℕ) → j < length xs → type_at (field_types (map (λ b. int_field (name b)) xs ++ rest)) j ≡ I32
-int-types [] name rest j h = absurd (omega arith)
-int-types (x ∷ xs) name rest zero h = refl
-int-types (x ∷ xs) name rest (suc j) h = int-types xs name rest j (omega arith)
+-- fields of numbers, and what stands behind them
+pub number-types : (xs : List ℕ) (name : ℕ → List ℕ) (type : ℕ → CType) (rest : List FieldTree) (j : ℕ) → j < length xs → type_at (field_types (map (λ b. typed_field (name b) (type b)) xs ++ rest)) j ≡ type (slice_index_or xs j 0)
+number-types [] name type rest j h = absurd (omega arith)
+number-types (x ∷ xs) name type rest zero h = refl
+number-types (x ∷ xs) name type rest (suc j) h = number-types xs name type rest j (omega arith)
 
-pub behind-int-types : (xs : List ℕ) (name : ℕ → List ℕ) (rest : List FieldTree) (j k : ℕ) → length xs + k ≡ j → type_at (field_types (map (λ b. int_field (name b)) xs ++ rest)) j ≡ type_at (field_types rest) k
-behind-int-types [] name rest j k e = let same : j ≡ k = omega arith in ap (type_at (field_types rest)) same
-behind-int-types (x ∷ xs) name rest zero k e = absurd (omega arith)
-behind-int-types (x ∷ xs) name rest (suc j) k e = behind-int-types xs name rest j k (omega arith)
+pub behind-numbers : (xs : List ℕ) (name : ℕ → List ℕ) (type : ℕ → CType) (rest : List FieldTree) (j k : ℕ) → length xs + k ≡ j → type_at (field_types (map (λ b. typed_field (name b) (type b)) xs ++ rest)) j ≡ type_at (field_types rest) k
+behind-numbers [] name type rest j k e = let same : j ≡ k = omega arith in ap (type_at (field_types rest)) same
+behind-numbers (x ∷ xs) name type rest zero k e = absurd (omega arith)
+behind-numbers (x ∷ xs) name type rest (suc j) k e = behind-numbers xs name type rest j k (omega arith)
 
-module _ (blocks : List Block) where
+pub map-same : (xs : List ℕ) → map (λ b. b) xs ≡ xs
+map-same [] = refl
+map-same (x ∷ xs) = ap (λ l. x ∷ l) (map-same xs)
+
+-- the number at a place of a range
+pub range-at : (a n i b : ℕ) → a + i ≡ b → i < n → slice_index_or (range_with_len a n) i 0 ≡ b
+range-at a zero i b e h = absurd (omega arith)
+range-at a (suc n) zero b e h = let same : a ≡ b = omega arith in same
+range-at a (suc n) (suc i) b e h = range-at (a + 1) n i b (omega arith) (omega arith)
+
+module _ (blocks : List TypedBlock) where
   abbrev pub top_types : List CType
   top_types = field_types (top_fields blocks)
 
-  split : (j : ℕ) → type_at top_types j ≡ type_at (field_types (map (λ b. int_field (value_name b)) (range_with_len 0 (length blocks)) ++ (map (λ b. int_field (memory_name b)) (delay_rows blocks) ++ record { name = counter_name; kind = Number U8 } ∷ []))) j
-  split j = ap (λ fs. type_at (field_types fs) j) (append_assoc (map (λ b. int_field (value_name b)) (range_with_len 0 (length blocks))) (map (λ b. int_field (memory_name b)) (delay_rows blocks)) (record { name = counter_name; kind = Number U8 } ∷ []))
+  abbrev rows : List ℕ
+  rows = range_with_len 0 (length blocks)
 
-  pub int-below : (j : ℕ) → j < counter_place blocks → type_at top_types j ≡ I32
-  int-below j h = split j ∙ elim (cases_lt j (length blocks)) [
-    | inl below ↦ int-types (range_with_len 0 (length blocks)) value_name _ j (let rows = length-range_with_len 0 (length blocks) in omega (arith, rows))
-    | inr above ↦
-        let rows = length-range_with_len 0 (length blocks) in
-        behind-int-types (range_with_len 0 (length blocks)) value_name _ j (j - length blocks) (omega (arith, rows))
-        ∙ int-types (delay_rows blocks) memory_name _ (j - length blocks) (omega arith)
-  ]
+  abbrev last : List FieldTree
+  last = record { name = counter_name; kind = Number U8 } ∷ []
+
+  split : (j : ℕ) → type_at top_types j ≡ type_at (field_types (map (λ b. typed_field (value_name b) (type_of blocks b)) rows ++ (map (λ b. typed_field (memory_name b) (type_of blocks b)) (delay_rows blocks) ++ last))) j
+  split j = ap (λ fs. type_at (field_types fs) j) (append_assoc (map (λ b. typed_field (value_name b) (type_of blocks b)) rows) (map (λ b. typed_field (memory_name b) (type_of blocks b)) (delay_rows blocks)) last)
+
+  -- a value has the type of its row
+  pub value-type : (b : ℕ) → b < length blocks → type_at top_types b ≡ type_of blocks b
+  value-type b h =
+      let size = length-range_with_len 0 (length blocks) in
+      let same : 0 + b ≡ b = omega arith in
+      split b ∙ number-types rows value_name (type_of blocks) _ b (omega (arith, size)) ∙ ap (type_of blocks) (range-at 0 (length blocks) b b same h)
+
+  -- and so has a memory
+  pub memory-type : (b : ℕ) → b < length blocks → is_delay_block (block_at blocks b) ≡ true → type_at top_types (memory_place blocks b) ≡ type_of blocks b
+  memory-type b h delay =
+      let size = length-range_with_len 0 (length blocks) in
+      let place : ℕ = length (rows_below blocks is_delay_block b) in
+      let below = memory-within blocks b h delay in
+      let same : 0 + b ≡ b = omega arith in
+      split (memory_place blocks b)
+      ∙ behind-numbers rows value_name (type_of blocks) _ (memory_place blocks b) place (omega (arith, size))
+      ∙ number-types (delay_rows blocks) memory_name (type_of blocks) last place (omega (arith, below))
+      ∙ ap (type_of blocks) (ap (λ l. slice_index_or l place 0) (sym (map-same (delay_rows blocks))) ∙ place-of (λ c. is_delay_block (block_at blocks c)) (λ c. c) 0 (length blocks) b b 0 same h delay)
 
   pub counter-type : type_at top_types (counter_place blocks) ≡ U8
   counter-type =
-      let rows = length-range_with_len 0 (length blocks) in
+      let size = length-range_with_len 0 (length blocks) in
       split (counter_place blocks)
-      ∙ behind-int-types (range_with_len 0 (length blocks)) value_name _ (counter_place blocks) (length (delay_rows blocks)) (omega (arith, rows))
-      ∙ behind-int-types (delay_rows blocks) memory_name _ (length (delay_rows blocks)) 0 (omega arith)
+      ∙ behind-numbers rows value_name (type_of blocks) _ (counter_place blocks) (length (delay_rows blocks)) (omega (arith, size))
+      ∙ behind-numbers (delay_rows blocks) memory_name (type_of blocks) _ (length (delay_rows blocks)) 0 (omega arith)

@@ -1,29 +1,33 @@
--- Diagrams of one system that has Inports, Outports and Unit Delays alone.
-use Rattle.std.specs.Prelude.{◌≡◌, ℕ, ◌<◌, ◌≤◌, IsTrue, Bool, true, false, List, [], ◌∷◌, length, None}
+-- Diagrams of one system that has Inports, Outports, Unit Delays, Constants and Grounds alone.
+use Rattle.std.specs.Prelude.{◌≡◌, ℕ, ◌<◌, ◌≤◌, ◌⊎◌, IsTrue, Bool, true, false, List, [], ◌∷◌, length, None}
 use Rattle.std.specs.List.{AllByRecursion}
 use Rattle.mc_blocks.specs.declared.Kind.{Kind}
-use Rattle.mc_blocks.specs.declared.Kind.TheVariants.{Inport, Outport, UnitDelay}
+use Rattle.mc_blocks.specs.declared.Kind.TheVariants.{Inport, Outport, UnitDelay, Constant, Ground}
 use Rattle.mc_diagram.specs.declared.Row.{Row}
 use Rattle.mc_diagram.specs.Rows.{row_at, by_row, is_inport, is_outport}
 use Rattle.mc_diagram.specs.WellFormed.{HasPorts}
-use Rattle.mc_diagram.specs.Diagram.{Diagram, op_in}
+use Rattle.mc_diagram.specs.Diagram.{Diagram, type_at, op_in}
 use Rattle.c_emitter.specs.FlatDiagrams.{flat_diagram}
 
--- an Inport or a Unit Delay: what a wire can come from
+-- an Inport, a Unit Delay, a Constant or a Ground: what a wire can come from
 abbrev pub is_source : Kind → Bool
 is_source (Inport port) = true
 is_source (UnitDelay initial) = true
+is_source (Constant value) = true
+is_source Ground = true
 is_source _ = false
 
 -- the wires are one, and it comes from such a row
 abbrev pub HasOneSource : List Row → List ℕ → Type 0
 HasOneSource rows wires = (c : ℕ) × (wires ≡ c ∷ []) × (c < length rows) × IsTrue (is_source (row_at rows c).kind)
 
--- an Inport reads nothing, an Outport and a Unit Delay read one source, and there is nothing else
+-- an Outport and a Unit Delay read one source, the others nothing, and there is nothing else
 abbrev pub HasFlatKind : List Row → Kind → List ℕ → Type 0
 HasFlatKind rows (Inport port) wires = wires ≡ []
 HasFlatKind rows (Outport port reset initial) wires = HasOneSource rows wires
 HasFlatKind rows (UnitDelay initial) wires = HasOneSource rows wires
+HasFlatKind rows (Constant value) wires = wires ≡ []
+HasFlatKind rows Ground wires = wires ≡ []
 HasFlatKind rows _ wires = ⊥
 
 -- a row of the root
@@ -31,15 +35,18 @@ pub record IsFlatRow (rows : List Row) (row : Row) : Type 0 where
   pub of_root : row.owner ≡ None
   pub kind : HasFlatKind rows row.kind row.inputs
 
--- the diagram is one of these, with the operations that its kinds have
+-- the diagram is one of these, with a type for each row, and the operations that its kinds have; a row that reads another
+-- is of its type, but for a Ground, whose value 0 is in each type
 pub record IsFlat (d : Diagram) : Type 0 where
   pub each : AllByRecursion (IsFlatRow d.rows) d.rows
   pub inports : HasPorts d.rows is_inport None
   pub outports : HasPorts d.rows is_outport None
   pub at_most : length d.rows ≤ 20000
+  pub one_type_each : length d.types ≡ length d.rows
+  pub alike : (b c : ℕ) → b < length d.rows → c < length d.rows → (row_at d.rows b).inputs ≡ c ∷ [] → (type_at d.types c ≡ type_at d.types b) ⊎ ((row_at d.rows c).kind ≡ Ground)
   pub ops : d.ops ≡ by_row d.rows (op_in d.rows d.types [])
 
--- in such a diagram each row is an int32 and runs at every tick
-pub record IsFlatOfInts (d : Diagram) : Type 0 where
+-- and each row runs at every tick
+pub record IsFlatAtEveryTick (d : Diagram) : Type 0 where
   pub flat : IsFlat d
-  pub ints : d ≡ flat_diagram d.rows d.ops
+  pub every_tick : d ≡ flat_diagram d.rows d.types d.ops

@@ -1,4 +1,4 @@
--- The three kinds of blocks as values.
+-- Kinds of blocks as values.
 use Rattle.std.specs.Prelude.{Bool}
 use Rattle.c_emitter.specs.declared.block.Block.{Block}
 use Rattle.c_emitter.specs.declared.block.Sort.{Sort}

@@ -1,15 +1,16 @@
 ghost use Rattle.std.specs.Prelude.{◌≡◌};
 
 /// A row of a diagram of one system, with what its code needs of it: the port that it has, the row that it reads, and
-/// the stored integer that a delay starts with.
+/// the stored integer that a delay starts with, or that a row without inputs always has.
 #[derive(Clone, Copy, Drop)]
 pub(crate) enum Block {
     Input { port: u32 },
     Output { port: u32, source: u32 },
-    Delay { source: u32, start: i32 },
+    Delay { source: u32, start: i64 },
+    Fixed { value: i64 },
 }
 
-/// One of the three kinds of blocks.
+/// The kinds of blocks that are counted.
 #[derive(Clone, Copy, Drop)]
 pub(crate) enum Sort {
     Inputs,
@@ -18,7 +19,7 @@ pub(crate) enum Sort {
 }
 
 impl Block {
-    ghost use Rattle.c_emitter.specs.Blocks.{is_input, is_output, is_delay_block, is_output_of, port_of_input, start_value, source_of};
+    ghost use Rattle.c_emitter.specs.Blocks.{is_input, is_output, is_delay_block, is_input_of, is_output_of, port_of_input, start_value, source_of};
     ghost use Rattle.c_emitter.specs.Sorts.{is_of};
 
     pub fn is_of(self, sort: Sort) -> bool
@@ -28,6 +29,15 @@ impl Block {
             Sort::Inputs => matches!(self, Block::Input { .. }),
             Sort::Outputs => matches!(self, Block::Output { .. }),
             Sort::Delays => matches!(self, Block::Delay { .. }),
+        }
+    }
+
+    pub fn is_input_of(self, port: u32) -> bool
+        ensures { result ≡ is_input_of port self }
+    {
+        match self {
+            Block::Input { port: own } => own == port,
+            _ => false,
         }
     }
 
@@ -49,7 +59,7 @@ impl Block {
         }
     }
 
-    pub fn start(self) -> i32
+    pub fn start(self) -> i64
         ensures { result ≡ start_value self }
     {
         match self {
@@ -62,7 +72,7 @@ impl Block {
         ensures { result ≡ source_of self }
     {
         match self {
-            Block::Input { .. } => 0,
+            Block::Input { .. } | Block::Fixed { .. } => 0,
             Block::Output { source, .. } | Block::Delay { source, .. } => source,
         }
     }

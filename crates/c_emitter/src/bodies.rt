@@ -1,7 +1,7 @@
 ghost use Rattle.std.specs.Prelude.{◌≡◌, ℕ, ◌+◌, ◌-◌, ◌<◌, ◌≤◌, List, [], ◌∷◌, ◌++◌, map, length, pos, Option, IfOk, OnOk};
 ghost use Rattle.c_tree.specs.Tree.{branch, no_stmts, stmts_of_list};
 ghost use Rattle.c_tree.specs.Plain.{cond_tree, stmt_tree};
-ghost use Rattle.c_emitter.specs.Flat.{IsFlatOfInts};
+ghost use Rattle.c_emitter.specs.Flat.{IsFlatAtEveryTick};
 ghost use Rattle.c_emitter.specs.Blocks.{blocks_of, counter_place, output_sources};
 ghost use Rattle.c_emitter.specs.Bodies.{hit_test, idle_test, set_counter, out_body, update_body, start_body, reset_body};
 
@@ -28,7 +28,7 @@ fn hit_test(alloc: Global) -> Result<Cond, Memory>
 
 // The place of the counter.
 fn counter_place(d: &FlatDiagram) -> u32
-    requires { IsFlatOfInts d.now }
+    requires { IsFlatAtEveryTick d.now }
     ensures { result ≡ counter_place (blocks_of d.now) }
 {
     d.rows.len() as u32 + count(d, Sort::Delays)
@@ -36,7 +36,7 @@ fn counter_place(d: &FlatDiagram) -> u32
 
 // Whether no function was called in this tick.
 fn idle_test(d: &FlatDiagram) -> Cond
-    requires { IsFlatOfInts d.now }
+    requires { IsFlatAtEveryTick d.now }
     ensures { cond_tree result ≡ idle_test (blocks_of d.now) }
 {
     Cond::Compare(
@@ -47,7 +47,7 @@ fn idle_test(d: &FlatDiagram) -> Cond
 }
 
 fn set_counter(d: &FlatDiagram, value: u32) -> Stmt
-    requires { IsFlatOfInts d.now }
+    requires { IsFlatAtEveryTick d.now }
     ensures { stmt_tree result ≡ set_counter (blocks_of d.now) (pos value) }
 {
     set(counter_place(d), Expr::Literal(i64::from(value)))
@@ -72,7 +72,7 @@ pub(crate) fn out_body(
     sources: &[u64],
     need: u64,
 ) -> Result<Vec<Stmt>, Memory>
-    requires flat { IsFlatOfInts d.now }
+    requires flat { IsFlatAtEveryTick d.now }
     requires read { sources.now ≡ output_sources (blocks_of d.now) }
     ensures { IfOk result (λ v. map stmt_tree v.items ≡ out_body (blocks_of d.now) need) }
 {
@@ -91,7 +91,7 @@ pub(crate) fn update_body(
     d: &FlatDiagram,
     sources: &[u64],
 ) -> Result<Vec<Stmt>, Memory>
-    requires flat { IsFlatOfInts d.now }
+    requires flat { IsFlatAtEveryTick d.now }
     requires read { sources.now ≡ output_sources (blocks_of d.now) }
     ensures { IfOk result (λ v. map stmt_tree v.items ≡ update_body (blocks_of d.now)) }
 {
@@ -114,7 +114,7 @@ fn push_reset(
     d: &FlatDiagram,
     sources: &[u64],
 ) -> Result<(), Memory>
-    requires flat { IsFlatOfInts d.now }
+    requires flat { IsFlatAtEveryTick d.now }
     requires read { sources.now ≡ output_sources (blocks_of d.now) }
     ensures { OnOk result (map stmt_tree body.new.items ≡ map stmt_tree body.old.items ++ reset_body (blocks_of d.now)) }
 {
@@ -129,7 +129,7 @@ pub(crate) fn reset_body(
     d: &FlatDiagram,
     sources: &[u64],
 ) -> Result<Vec<Stmt>, Memory>
-    requires flat { IsFlatOfInts d.now }
+    requires flat { IsFlatAtEveryTick d.now }
     requires read { sources.now ≡ output_sources (blocks_of d.now) }
     ensures { IfOk result (λ v. map stmt_tree v.items ≡ reset_body (blocks_of d.now)) }
 {
@@ -144,7 +144,7 @@ pub(crate) fn start_body(
     d: &FlatDiagram,
     sources: &[u64],
 ) -> Result<Vec<Stmt>, Memory>
-    requires flat { IsFlatOfInts d.now }
+    requires flat { IsFlatAtEveryTick d.now }
     requires read { sources.now ≡ output_sources (blocks_of d.now) }
     ensures { IfOk result (λ v. map stmt_tree v.items ≡ start_body (blocks_of d.now)) }
 {

@@ -1,12 +1,14 @@
 use mc_blocks::Op;
 use mc_diagram::Row;
+use mc_fixed::FixType;
 use std::marker::Model;
 
-/// A diagram of one system in which each row is an int32 and runs at every tick: its rows in file order, and the
-/// operation of each. Contracts see it as the diagram.
+/// A diagram of one system in which each row runs at every tick: its rows in file order, and the type and the operation
+/// of each. Contracts see it as the diagram.
 #[derive(Drop)]
 pub struct FlatDiagram {
     pub rows: Vec<Row>,
+    pub types: Vec<FixType>,
     pub ops: Vec<Op>,
 }
 
@@ -16,5 +18,5 @@ impl Model for FlatDiagram {
 
     ghost Value = { Diagram };
 
-    ghost view = { λ f. flat_diagram f.rows.items f.ops.items };
+    ghost view = { λ f. flat_diagram f.rows.items f.types.items f.ops.items };
 }

@@ -10,6 +10,10 @@ mod pass;
 mod program;
 mod root;
 mod rows;
+mod types;
 
 pub use flat::FlatDiagram;
 pub use program::{emit, function_count};
+
+#[cfg(test)]
+mod tests;

@@ -1,8 +1,8 @@
-ghost use Rattle.std.specs.Prelude.{◌≡◌, ℕ, ◌+◌, ◌<◌, List, ◌++◌, map, length, IfOk, OnOk};
+ghost use Rattle.std.specs.Prelude.{◌≡◌, ℕ, ◌+◌, ◌^◌, ◌<◌, ◌≤ℤ◌, neg_ℤ, pos, List, ◌++◌, map, length, IfOk, OnOk};
 ghost use Rattle.c_tree.specs.Tree.{read, assign, StmtTree};
 ghost use Rattle.c_tree.specs.Plain.{expr_tree, stmt_tree};
-ghost use Rattle.c_emitter.specs.Flat.{IsFlatOfInts};
-ghost use Rattle.c_emitter.specs.Blocks.{blocks_of, memory_place, output_sources};
+ghost use Rattle.c_emitter.specs.Flat.{IsFlatAtEveryTick};
+ghost use Rattle.c_emitter.specs.Blocks.{blocks_of, fixed_value, memory_place, output_sources};
 ghost use Rattle.c_emitter.specs.Bodies.{number_expr, value_expr};
 ghost use Rattle.c_emitter.specs.Passes.{is_in_pass, pass_stmt, pass_stmts};
 
@@ -38,10 +38,10 @@ pub(crate) fn set(field: u32, value: Expr) -> Stmt
 }
 
 // A number, which may be negative.
-fn number(alloc: Global, value: i32) -> Result<Expr, Memory>
+fn number(alloc: Global, value: i64) -> Result<Expr, Memory>
+    requires { neg_ℤ (pos (2 ^ 31)) ≤ℤ value }
     ensures { IfOk result (λ e. expr_tree e ≡ number_expr value) }
 {
-    let value = i64::from(value);
     if value < 0 {
         Ok(Expr::Neg(Box::new(alloc, Expr::Literal(-value))?))
     } else {
@@ -50,19 +50,21 @@ fn number(alloc: Global, value: i32) -> Result<Expr, Memory>
 }
 
 // What a row's value is stored from.
-fn value(block: Block, param: u32, memory: u32) -> Expr
-    ensures { expr_tree result ≡ value_expr block param memory }
+fn value(alloc: Global, block: Block, param: u32, memory: u32) -> Result<Expr, Memory>
+    requires { neg_ℤ (pos (2 ^ 31)) ≤ℤ fixed_value block }
+    ensures { IfOk result (λ e. expr_tree e ≡ value_expr block param memory) }
 {
-    Expr::Read(match block {
-        Block::Input { .. } => Leaf::Param(param),
-        Block::Output { source, .. } => Leaf::Own(source),
-        Block::Delay { .. } => Leaf::Own(memory),
-    })
+    match block {
+        Block::Input { .. } => Ok(Expr::Read(Leaf::Param(param))),
+        Block::Output { source, .. } => Ok(Expr::Read(Leaf::Own(source))),
+        Block::Delay { .. } => Ok(Expr::Read(Leaf::Own(memory))),
+        Block::Fixed { value } => number(alloc, value),
+    }
 }
 
 // Whether a row is one of a pass, where these are the rows that outputs read.
 fn is_in(pass: Pass, d: &FlatDiagram, sources: &[u64], row: usize) -> bool
-    requires flat { IsFlatOfInts d.now }
+    requires flat { IsFlatAtEveryTick d.now }
     requires within { row < length d.now.rows }
     requires read { sources.now ≡ output_sources (blocks_of d.now) }
     ensures { result ≡ is_in_pass (blocks_of d.now) pass row }
@@ -87,7 +89,7 @@ fn statement(
     row: usize,
     memory: u32,
 ) -> Result<Stmt, Memory>
-    requires flat { IsFlatOfInts d.now }
+    requires flat { IsFlatAtEveryTick d.now }
     requires within { row < length d.now.rows }
     requires place { memory ≡ memory_place (blocks_of d.now) row }
     ensures { IfOk result (λ s. stmt_tree s ≡ pass_stmt (blocks_of d.now) pass row) }
@@ -95,8 +97,8 @@ fn statement(
     let block = block_at(d, row);
     let field = row as u32;
     match pass {
-        Pass::Taken(_) | Pass::Given(_) => Ok(set(field, value(block, 1, memory))),
-        Pass::Held | Pass::Unheld => Ok(set(field, value(block, block.port(), memory))),
+        Pass::Taken(_) | Pass::Given(_) => Ok(set(field, value(alloc, block, 1, memory)?)),
+        Pass::Held | Pass::Unheld => Ok(set(field, value(alloc, block, block.port(), memory)?)),
         Pass::Memories => Ok(set(memory, Expr::Read(Leaf::Own(block.source())))),
         Pass::StartValues => Ok(set(field, number(alloc, block.start())?)),
         Pass::StartMemories => Ok(set(memory, number(alloc, block.start())?)),
@@ -105,7 +107,7 @@ fn statement(
 
 // The place of the memory of the next row, which is one on behind a delay.
 fn next_place(d: &FlatDiagram, row: usize, memory: u32) -> u32
-    requires flat { IsFlatOfInts d.now }
+    requires flat { IsFlatAtEveryTick d.now }
     requires within { row < length d.now.rows }
     requires place { memory ≡ memory_place (blocks_of d.now) row }
     ensures { result ≡ memory_place (blocks_of d.now) (row + 1) }
@@ -125,7 +127,7 @@ pub(crate) fn push_pass(
     sources: &[u64],
     pass: Pass,
 ) -> Result<(), Memory>
-    requires flat { IsFlatOfInts d.now }
+    requires flat { IsFlatAtEveryTick d.now }
     requires read { sources.now ≡ output_sources (blocks_of d.now) }
     ensures { OnOk result (map stmt_tree body.new.items ≡ map stmt_tree body.old.items ++ pass_stmts (blocks_of d.now) pass) }
 {

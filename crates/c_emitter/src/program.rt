@@ -2,11 +2,11 @@ ghost use Rattle.std.specs.Prelude.{◌≡◌, ℕ, ◌+◌, ◌<◌, ◌≤◌,
 ghost use Rattle.c_tree.specs.Tree.{ParamTree};
 ghost use Rattle.c_tree.specs.PlainField.{field_trees};
 ghost use Rattle.c_tree.specs.Plain.{stmt_tree, procedure_tree, program_tree};
-ghost use Rattle.c_emitter.specs.Flat.{IsFlat, IsFlatOfInts};
+ghost use Rattle.c_emitter.specs.Flat.{IsFlat, IsFlatAtEveryTick};
 ghost use Rattle.c_emitter.specs.Code.{IsCodeFor, IsFunctionCount};
-ghost use Rattle.c_emitter.specs.Names.{now_name};
+ghost use Rattle.c_emitter.specs.Headers.{now_param};
 ghost use Rattle.c_emitter.specs.Blocks.{blocks_of, output_rows, output_sources, function_needs};
-ghost use Rattle.c_emitter.specs.FlatProgram.{int_param, input_params, public_procedure, flat_structs, out_procedures, update_procedure, start_procedure, reset_procedure, root_start_procedure, root_step_procedure, flat_procedures, flat_program};
+ghost use Rattle.c_emitter.specs.FlatProgram.{input_params, public_procedure, flat_structs, out_procedures, update_procedure, start_procedure, reset_procedure, root_start_procedure, root_step_procedure, flat_procedures, flat_program};
 ghost use Rattle.c_emitter.specs.Heads.{param_trees};
 
 use crate::bodies::{out_body, reset_body, start_body, update_body};
@@ -37,8 +37,8 @@ fn params_with_tick(
     d: &FlatDiagram,
     need: Option<u64>,
 ) -> Result<Vec<(Text, CType)>, Memory>
-    requires { IsFlatOfInts d.now }
-    ensures { IfOk result (λ v. param_trees v.items ≡ int_param now_name ∷ input_params (blocks_of d.now) need) }
+    requires { IsFlatAtEveryTick d.now }
+    ensures { IfOk result (λ v. param_trees v.items ≡ now_param ∷ input_params (blocks_of d.now) need) }
 {
     let mut params = Vec::new(alloc);
     params.push((named(alloc, "now")?, CType::I32))?;
@@ -54,7 +54,7 @@ fn push_functions(
     sources: &[u64],
     needs: &[u64],
 ) -> Result<(), Memory>
-    requires flat { IsFlatOfInts d.now }
+    requires flat { IsFlatAtEveryTick d.now }
     requires read { sources.now ≡ output_sources (blocks_of d.now) }
     requires functions { needs.now ≡ function_needs (blocks_of d.now) }
     ensures { OnOk result (map procedure_tree procedures.new.items ≡ map procedure_tree procedures.old.items ++ out_procedures (blocks_of d.now)) }
@@ -71,7 +71,7 @@ fn push_functions(
 }
 
 fn update(alloc: Global, d: &FlatDiagram, sources: &[u64]) -> Result<Procedure, Memory>
-    requires flat { IsFlatOfInts d.now }
+    requires flat { IsFlatAtEveryTick d.now }
     requires read { sources.now ≡ output_sources (blocks_of d.now) }
     ensures { IfOk result (λ p. procedure_tree p ≡ update_procedure (blocks_of d.now)) }
 {
@@ -81,7 +81,7 @@ fn update(alloc: Global, d: &FlatDiagram, sources: &[u64]) -> Result<Procedure, 
 }
 
 fn start(alloc: Global, d: &FlatDiagram, sources: &[u64]) -> Result<Procedure, Memory>
-    requires flat { IsFlatOfInts d.now }
+    requires flat { IsFlatAtEveryTick d.now }
     requires read { sources.now ≡ output_sources (blocks_of d.now) }
     ensures { IfOk result (λ p. procedure_tree p ≡ start_procedure (blocks_of d.now)) }
 {
@@ -90,7 +90,7 @@ fn start(alloc: Global, d: &FlatDiagram, sources: &[u64]) -> Result<Procedure, M
 }
 
 fn reset(alloc: Global, d: &FlatDiagram, sources: &[u64]) -> Result<Procedure, Memory>
-    requires flat { IsFlatOfInts d.now }
+    requires flat { IsFlatAtEveryTick d.now }
     requires read { sources.now ≡ output_sources (blocks_of d.now) }
     ensures { IfOk result (λ p. procedure_tree p ≡ reset_procedure (blocks_of d.now)) }
 {
@@ -104,7 +104,7 @@ fn root_start(
     outputs: &[u64],
     needs: &[u64],
 ) -> Result<Procedure, Memory>
-    requires flat { IsFlatOfInts d.now }
+    requires flat { IsFlatAtEveryTick d.now }
     requires rows { outputs.now ≡ output_rows (blocks_of d.now) }
     requires functions { needs.now ≡ function_needs (blocks_of d.now) }
     ensures { IfOk result (λ p. procedure_tree p ≡ root_start_procedure (blocks_of d.now)) }
@@ -120,7 +120,7 @@ fn root_step(
     outputs: &[u64],
     needs: &[u64],
 ) -> Result<Procedure, Memory>
-    requires flat { IsFlatOfInts d.now }
+    requires flat { IsFlatAtEveryTick d.now }
     requires rows { outputs.now ≡ output_rows (blocks_of d.now) }
     requires functions { needs.now ≡ function_needs (blocks_of d.now) }
     ensures { IfOk result (λ p. procedure_tree p ≡ root_step_procedure (blocks_of d.now)) }
@@ -133,7 +133,7 @@ fn root_step(
 
 // The structs `top` and `root`.
 fn structs(alloc: Global, d: &FlatDiagram, outputs: &[u64]) -> Result<Vec<StructDef>, Memory>
-    requires flat { IsFlatOfInts d.now }
+    requires flat { IsFlatAtEveryTick d.now }
     requires rows { outputs.now ≡ output_rows (blocks_of d.now) }
     ensures { IfOk result (λ v. v.items ≡ flat_structs (blocks_of d.now)) }
 {
@@ -156,7 +156,7 @@ fn procedures(
     outputs: &[u64],
     needs: &[u64],
 ) -> Result<Vec<Procedure>, Memory>
-    requires flat { IsFlatOfInts d.now }
+    requires flat { IsFlatAtEveryTick d.now }
     requires rows { outputs.now ≡ output_rows (blocks_of d.now) }
     requires functions { needs.now ≡ function_needs (blocks_of d.now) }
     ensures { IfOk result (λ v. map procedure_tree v.items ≡ flat_procedures (blocks_of d.now)) }
@@ -174,7 +174,7 @@ fn procedures(
 
 /// The program for a diagram.
 pub(crate) fn program(alloc: Global, d: &FlatDiagram) -> Result<Program, Memory>
-    requires { IsFlatOfInts d.now }
+    requires { IsFlatAtEveryTick d.now }
     ensures { IfOk result (λ p. program_tree p ≡ flat_program (blocks_of d.now)) }
 {
     let outputs = output_rows(d);

@@ -1,6 +1,6 @@
 ghost use Rattle.std.specs.Prelude.{◌≡◌, ℕ, ◌+◌, ◌-◌, ◌<◌, ◌≤◌, List, [], ◌∷◌, ◌++◌, map, length, Option, Some, None, IfOk, OnOk};
 ghost use Rattle.c_tree.specs.Plain.{expr_tree, stmt_tree};
-ghost use Rattle.c_emitter.specs.Flat.{IsFlatOfInts};
+ghost use Rattle.c_emitter.specs.Flat.{IsFlatAtEveryTick};
 ghost use Rattle.c_emitter.specs.Blocks.{blocks_of, input_count, output_rows, function_needs};
 ghost use Rattle.c_emitter.specs.Bodies.{takes, taken_ports, top_place, call_top, function_calls, output_copies, next_now, step_body, root_start_body};
 
@@ -32,7 +32,7 @@ fn call_top(
     procedure: u32,
     need: Option<u64>,
 ) -> Result<Stmt, Memory>
-    requires flat { IsFlatOfInts d.now }
+    requires flat { IsFlatAtEveryTick d.now }
     requires place { top ≡ top_place (blocks_of d.now) }
     ensures { IfOk result (λ s. stmt_tree s ≡ call_top (blocks_of d.now) procedure need) }
 {
@@ -53,7 +53,7 @@ fn call_top(
 
 // The place of `top` in the root, which is behind the outputs.
 fn top_place(d: &FlatDiagram, outputs: &[u64]) -> u32
-    requires flat { IsFlatOfInts d.now }
+    requires flat { IsFlatAtEveryTick d.now }
     requires rows { outputs.now ≡ output_rows (blocks_of d.now) }
     ensures { result ≡ top_place (blocks_of d.now) }
 {
@@ -79,7 +79,7 @@ fn push_calls(
     top: u32,
     needs: &[u64],
 ) -> Result<(), Memory>
-    requires flat { IsFlatOfInts d.now }
+    requires flat { IsFlatAtEveryTick d.now }
     requires place { top ≡ top_place (blocks_of d.now) }
     requires functions { needs.now ≡ function_needs (blocks_of d.now) }
     ensures { OnOk result (map stmt_tree body.new.items ≡ map stmt_tree body.old.items ++ function_calls (blocks_of d.now)) }
@@ -97,7 +97,7 @@ fn push_copies(
     top: u32,
     outputs: &[u64],
 ) -> Result<(), Memory>
-    requires flat { IsFlatOfInts d.now }
+    requires flat { IsFlatAtEveryTick d.now }
     requires place { top ≡ top_place (blocks_of d.now) }
     requires rows { outputs.now ≡ output_rows (blocks_of d.now) }
     ensures { OnOk result (map stmt_tree body.new.items ≡ map stmt_tree body.old.items ++ output_copies (blocks_of d.now)) }
@@ -116,7 +116,7 @@ pub(crate) fn step_body(
     outputs: &[u64],
     needs: &[u64],
 ) -> Result<Vec<Stmt>, Memory>
-    requires flat { IsFlatOfInts d.now }
+    requires flat { IsFlatAtEveryTick d.now }
     requires rows { outputs.now ≡ output_rows (blocks_of d.now) }
     requires functions { needs.now ≡ function_needs (blocks_of d.now) }
     ensures { IfOk result (λ v. map stmt_tree v.items ≡ step_body (blocks_of d.now)) }
@@ -137,7 +137,7 @@ pub(crate) fn start_body(
     outputs: &[u64],
     needs: &[u64],
 ) -> Result<Vec<Stmt>, Memory>
-    requires flat { IsFlatOfInts d.now }
+    requires flat { IsFlatAtEveryTick d.now }
     requires rows { outputs.now ≡ output_rows (blocks_of d.now) }
     requires functions { needs.now ≡ function_needs (blocks_of d.now) }
     ensures { IfOk result (λ v. map stmt_tree v.items ≡ root_start_body (blocks_of d.now)) }

@@ -1,8 +1,9 @@
 ghost use Rattle.std.specs.Prelude.{◌≡◌, ℕ, ◌<◌, ◌≤◌, List, length, slice_index};
+ghost use Rattle.mc_diagram.specs.Diagram.{op_at};
 ghost use Rattle.mc_diagram.specs.Run.{start_of};
 ghost use Rattle.mc_profile.specs.Systems.{first_wire};
-ghost use Rattle.c_emitter.specs.Flat.{IsFlatOfInts};
-ghost use Rattle.c_emitter.specs.Blocks.{blocks_of, block_at, rows_below, source_need, need_of, output_row, output_rows, output_sources, function_needs};
+ghost use Rattle.c_emitter.specs.Flat.{IsFlatAtEveryTick};
+ghost use Rattle.c_emitter.specs.Blocks.{blocks_of, value_of, block_at, rows_below, source_need, need_of, output_row, output_rows, output_sources, function_needs};
 ghost use Rattle.c_emitter.specs.Sorts.{is_of};
 
 use crate::block::{Block, Sort};
@@ -19,20 +20,32 @@ fn first_wire(wires: &Wires) -> u32
 }
 
 // What a row's value starts with.
-fn start_at(d: &FlatDiagram, row: usize) -> i32
-    requires flat { IsFlatOfInts d.now }
+fn start_at(d: &FlatDiagram, row: usize) -> i64
+    requires flat { IsFlatAtEveryTick d.now }
     requires within { row < length d.now.rows }
     ensures { result ≡ start_of d.now row }
 {
     match d.ops[row] {
-        Op::Delay(start) => start as i32,
+        Op::Delay(start) => start,
+        _ => 0,
+    }
+}
+
+// What a row's value always is.
+fn value_at(d: &FlatDiagram, row: usize) -> i64
+    requires flat { IsFlatAtEveryTick d.now }
+    requires within { row < length d.now.rows }
+    ensures { result ≡ value_of (op_at d.now row) }
+{
+    match d.ops[row] {
+        Op::Value(value) => value,
         _ => 0,
     }
 }
 
 // A row as a block.
 pub(crate) fn block_at(d: &FlatDiagram, row: usize) -> Block
-    requires flat { IsFlatOfInts d.now }
+    requires flat { IsFlatAtEveryTick d.now }
     requires within { row < length d.now.rows }
     ensures { result ≡ block_at (blocks_of d.now) row }
 {
@@ -47,13 +60,16 @@ pub(crate) fn block_at(d: &FlatDiagram, row: usize) -> Block
             source: first_wire(&read.inputs),
             start: start_at(d, row),
         },
+        Kind::Constant(_) | Kind::Ground => Block::Fixed {
+            value: value_at(d, row),
+        },
         _ => Block::Input { port: 0 },
     }
 }
 
 // How many rows there are of one kind.
 pub(crate) fn count(d: &FlatDiagram, sort: Sort) -> u32
-    requires { IsFlatOfInts d.now }
+    requires { IsFlatAtEveryTick d.now }
     ensures { result ≡ length (rows_below (blocks_of d.now) (is_of sort) (length (blocks_of d.now))) }
 {
     let mut count = 0;
@@ -67,7 +83,7 @@ pub(crate) fn count(d: &FlatDiagram, sort: Sort) -> u32
 
 // The row of the output with a port.
 fn output_row(d: &FlatDiagram, port: u32) -> Option<usize>
-    requires { IsFlatOfInts d.now }
+    requires { IsFlatAtEveryTick d.now }
     ensures { result ≡ output_row (blocks_of d.now) port }
 {
     for row in 0..d.rows.len() {
@@ -80,7 +96,7 @@ fn output_row(d: &FlatDiagram, port: u32) -> Option<usize>
 
 // The rows of the outputs, by port.
 pub(crate) fn output_rows(d: &FlatDiagram) -> Few
-    requires { IsFlatOfInts d.now }
+    requires { IsFlatAtEveryTick d.now }
     ensures { result ≡ output_rows (blocks_of d.now) }
 {
     let mut rows = Few::new();
@@ -94,7 +110,7 @@ pub(crate) fn output_rows(d: &FlatDiagram) -> Few
 
 // The rows that outputs read.
 pub(crate) fn output_sources(d: &FlatDiagram) -> Few
-    requires { IsFlatOfInts d.now }
+    requires { IsFlatAtEveryTick d.now }
     ensures { result ≡ output_sources (blocks_of d.now) }
 {
     let mut sources = Few::new();
@@ -108,7 +124,7 @@ pub(crate) fn output_sources(d: &FlatDiagram) -> Few
 
 // The inputs that the value of a source is made from at the same tick, as a mask.
 pub(crate) fn source_need(d: &FlatDiagram, row: usize) -> u64
-    requires flat { IsFlatOfInts d.now }
+    requires flat { IsFlatAtEveryTick d.now }
     requires within { row < length d.now.rows }
     ensures { result ≡ source_need (block_at (blocks_of d.now) row) }
 {
@@ -120,7 +136,7 @@ pub(crate) fn source_need(d: &FlatDiagram, row: usize) -> u64
 
 // The same of an output.
 pub(crate) fn need_of(d: &FlatDiagram, row: usize) -> u64
-    requires flat { IsFlatOfInts d.now }
+    requires flat { IsFlatAtEveryTick d.now }
     requires within { row < length d.now.rows }
     ensures { result ≡ need_of (blocks_of d.now) row }
 {
@@ -129,7 +145,7 @@ pub(crate) fn need_of(d: &FlatDiagram, row: usize) -> u64
 
 // The different needs of the outputs, each of which has a function.
 pub(crate) fn function_needs(d: &FlatDiagram) -> Few
-    requires { IsFlatOfInts d.now }
+    requires { IsFlatAtEveryTick d.now }
     ensures { result ≡ function_needs (blocks_of d.now) }
 {
     let rows = output_rows(d);

@@ -1,8 +1,10 @@
 -- The diagram of a model of which no section breaks a rule.
-use Rattle.std.proofs.Common.{◌≡◌, refl, sym, ◌∙◌, ap, subst, ℕ, zero, suc, ◌+◌, ◌<◌, ◌≤◌, Bool, true, false, ◌&&◌, List, [], ◌∷◌, map, length, get_or, arith}
+use Rattle.std.proofs.Common.{◌≡◌, refl, inl, sym, ◌∙◌, ap, ap₂, subst, ℕ, zero, suc, ◌+◌, ◌<◌, ◌≤◌, Bool, true, false, ◌&&◌, List, [], ◌∷◌, map, length, get_or, arith}
 use Rattle.std.specs.Prelude.{replicate}
 use Rattle.std.specs.List.{list_all, range_with_len}
+use Rattle.std.proofs.lemmas.List.{length-replicate}
 use Rattle.mdl_tree.specs.Spelling.{Items}
+use Rattle.mc_fixed.specs.declared.FixType.{FixType}
 use Rattle.mc_fixed.specs.Types.{int32}
 use Rattle.mc_blocks.specs.declared.Kind.{Kind}
 use Rattle.mc_blocks.specs.declared.Op.{Op}
@@ -21,6 +23,7 @@ use Rattle.mc_compile.specs.Lines.{LineEnd}
 use Rattle.mc_compile.specs.Wiring.{AreWiresOf}
 use Rattle.mc_compile.specs.Rules.{blocks_of, line_ends, broken}
 use Rattle.mc_compile.specs.FlatRows.{AreRowsOf}
+use Rattle.mc_compile.specs.Compilation.{int32s}
 use Rattle.mc_compile.specs.Models.{IsModelOf, IsRightModel, IsDiagramOf}
 use Rattle.mc_compile.specs.WiredRows.{is_complete, is_within, AreRowsBy, flat_op}
 use Rattle.mc_compile.proofs.Accepted.{IsRightSystem, right_system, complete, own-wire-within, few-blocks}
@@ -102,19 +105,21 @@ module _ (model : FlatModel) (file : Items) (is : IsModelOf file model) (accepte
     pub model-ops : map (λ r. flat_op r.kind) rows ≡ by_row rows (op_in rows (replicate (length rows) int32) [])
     model-ops = ops-are (blocks_of file) (line_ends file) system model.wires.items is.wires rows are
 
-    pub model-flat : (ops : List Op) → ops ≡ map (λ r. flat_op r.kind) rows → IsFlat (flat_diagram rows ops)
+    pub model-flat : (ops : List Op) → ops ≡ map (λ r. flat_op r.kind) rows → IsFlat (flat_diagram rows (int32s rows) ops)
     model-flat ops e = record {
       each = flat-rows (blocks_of file) (line_ends file) system model.wires.items is.wires rows are;
       inports = ports (blocks_of file) (line_ends file) system model.wires.items is.wires rows are Inport is_inport inports;
       outports = ports (blocks_of file) (line_ends file) system model.wires.items is.wires rows are Outport is_outport outports;
       at_most = few-rows (blocks_of file) (line_ends file) system model.wires.items is.wires rows are;
+      one_type_each = length-replicate (length rows) int32;
+      alike = λ b c h below wires. inl (int32-at (length rows) c below ∙ sym (int32-at (length rows) b h));
       ops = e ∙ model-ops;
     }
 
-pub diagram_of_model : (model : FlatModel) → IsRightModel model → (rows : List Row) (ops : List Op) → AreRowsBy model.blocks.items model.wires.items rows → ops ≡ map (λ r. flat_op r.kind) rows →
-    IsDiagramOf model (flat_diagram rows ops)
-diagram_of_model model (file, is, accepted) rows ops by e = record {
-  is = ap (flat_diagram rows) (e ∙ model-ops model file is accepted rows by);
-  flat = model-flat model file is accepted rows by ops e;
+pub diagram_of_model : (model : FlatModel) → IsRightModel model → (rows : List Row) (types : List FixType) (ops : List Op) → AreRowsBy model.blocks.items model.wires.items rows → types ≡ int32s rows → ops ≡ map (λ r. flat_op r.kind) rows →
+    IsDiagramOf model (flat_diagram rows types ops)
+diagram_of_model model (file, is, accepted) rows types ops by typed e = record {
+  is = ap₂ (flat_diagram rows) typed (e ∙ model-ops model file is accepted rows by);
+  flat = subst (λ ts. IsFlat (flat_diagram rows ts ops)) (sym typed) (model-flat model file is accepted rows by ops e);
   rows = λ other is_other other_accepted. model-rows model other is_other other_accepted rows by;
 }

@@ -1,5 +1,6 @@
 -- What a model is compiled to.
 use Rattle.std.specs.Prelude.{◌≡◌, ℕ, List, [], length, replicate}
+use Rattle.mc_fixed.specs.declared.FixType.{FixType}
 use Rattle.mc_fixed.specs.Types.{int32}
 use Rattle.mc_diagram.specs.declared.Row.{Row}
 use Rattle.mc_diagram.specs.Rows.{by_row}
@@ -10,9 +11,13 @@ use Rattle.c_tree.specs.Reading.{CText}
 use Rattle.c_emitter.specs.FlatDiagrams.{flat_diagram}
 use Rattle.c_emitter.specs.Code.{IsCodeFor, IsFunctionCount}
 
+-- an int32 for each row
+abbrev pub int32s : List Row → List FixType
+int32s rows = replicate (length rows) int32
+
 -- the diagram of a flat model: each row is an int32 and runs at every tick
 abbrev pub diagram_of : List Row → Diagram
-diagram_of rows = flat_diagram rows (by_row rows (op_in rows (replicate (length rows) int32) []))
+diagram_of rows = flat_diagram rows (int32s rows) (by_row rows (op_in rows (int32s rows) []))
 
 -- the bytes are the text of one program and no other, and that is code for the diagram
 pub record IsRightCode (bytes : List ℕ) (d : Diagram) : Type 0 where

@@ -1,4 +1,5 @@
-ghost use Rattle.std.specs.Prelude.{◌≡◌, [], List, length, ◌≤◌, IfOk, IsTrue, map};
+ghost use Rattle.std.specs.Prelude.{◌≡◌, ℕ, [], List, length, ◌≤◌, IfOk, IsTrue, map, replicate};
+ghost use Rattle.mc_fixed.specs.Types as fixed;
 ghost use Rattle.mdl_tree.specs.Spelling.{Items};
 ghost use Rattle.mc_compile.specs.Rules.{broken};
 ghost use Rattle.mc_compile.specs.FlatRows.{AreRowsOf};
@@ -10,7 +11,7 @@ use crate::rows::{int32, rows_of};
 use c_emitter::FlatDiagram;
 use mc_blocks::{Kind, Op};
 use mc_diagram::Row;
-use mc_fixed::quantize;
+use mc_fixed::{FixType, quantize};
 use std::alloc::{AllocError, Global};
 
 /// What a row of a flat model computes: an Inport and an Outport pass their input on, and a Unit Delay begins with its
@@ -35,12 +36,24 @@ fn ops_of(alloc: Global, rows: &[Row]) -> Result<Vec<Op>, AllocError>
     Ok(ops)
 }
 
+/// The type of each row.
+fn types_of(alloc: Global, rows: usize) -> Result<Vec<FixType>, AllocError>
+    ensures { IfOk result (λ types. types.items ≡ replicate rows fixed.int32) }
+{
+    let mut types = Vec::new(alloc);
+    for _ in 0..rows {
+        types.push(int32())?;
+    }
+    Ok(types)
+}
+
 /// The diagram of a model of which no section breaks a rule.
 pub fn diagram_of(alloc: Global, model: &FlatModel) -> Result<FlatDiagram, AllocError>
     requires { IsRightModel model.now }
     ensures { IfOk result (IsDiagramOf model.now) }
 {
     let rows = rows_of(alloc, model.blocks.as_slice(), model.wires.as_slice())?;
+    let types = types_of(alloc, rows.len())?;
     let ops = ops_of(alloc, rows.as_slice())?;
-    Ok(FlatDiagram { rows, ops })
+    Ok(FlatDiagram { rows, types, ops })
 }

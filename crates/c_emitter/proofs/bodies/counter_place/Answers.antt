@@ -5,7 +5,7 @@ use Rattle.c_emitter.proofs.bodies.counter_place.Goals as goal
 
 pub overflow_add-result : goal.overflow_add-result
 overflow_add-result c =
-    let size = rows-of-view c.d.inside.rows.items c.d.inside.ops.items c.args.d.now c.d.view_is in
+    let size = rows-of-view c.d.inside.rows.items c.d.inside.types.items c.d.inside.ops.items c.args.d.now c.d.view_is in
     let len = c.d.inside.rows.ok.0 in
     let blocks = blocks-are-rows c.args.d.now c.requires in
     let few = c.requires.flat.at_most in
@@ -14,7 +14,7 @@ overflow_add-result c =
 
 pub returns : goal.returns
 returns c =
-    let size = rows-of-view c.d.inside.rows.items c.d.inside.ops.items c.args.d.now c.d.view_is in
+    let size = rows-of-view c.d.inside.rows.items c.d.inside.types.items c.d.inside.ops.items c.args.d.now c.d.view_is in
     let len = c.d.inside.rows.ok.0 in
     let blocks = blocks-are-rows c.args.d.now c.requires in
     omega (arith, size, len, blocks)

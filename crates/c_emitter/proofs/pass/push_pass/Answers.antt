@@ -10,7 +10,7 @@ use Rattle.c_emitter.proofs.pass.push_pass.Goals.{then-is_in+in_ok-statement+in_
 
 pub loop-row-init : goal.loop-row-init
 loop-row-init c =
-    let size = rows-of-view c.d.inside.rows.items c.d.inside.ops.items c.args.d.now c.d.view_is in
+    let size = rows-of-view c.d.inside.rows.items c.d.inside.types.items c.d.inside.ops.items c.args.d.now c.d.view_is in
     let len = c.d.inside.rows.ok.0 in
     let blocks = blocks-are-rows c.args.d.now c.requires.flat in
     record { place = omega (arith, size, len, blocks); stored = sym (append-nil (map stmt_tree c.args.body.now.items)) }
@@ -29,7 +29,7 @@ loop-row-preserved c = record {
 
 pub returns : goal.returns
 returns c =
-    let size = rows-of-view c.d.inside.rows.items c.d.inside.ops.items c.args.d.now c.d.view_is in
+    let size = rows-of-view c.d.inside.rows.items c.d.inside.types.items c.d.inside.ops.items c.args.d.now c.d.view_is in
     let len = c.d.inside.rows.ok.0 in
     let blocks = blocks-are-rows c.args.d.now c.requires.flat in
     let all : c.loop-row.row ≡ length (blocks_of c.args.d.now) = omega (arith, size, len, blocks) in

@@ -1,24 +1,32 @@
-use Rattle.std.proofs.Common.{rules, ◌∙◌, sym, ap, ap₂, w32, FitsSigned}
+use Rattle.std.proofs.Common.{rules, ◌∙◌, sym, ap, ap₂, w64, FitsSigned}
 use Rattle.std.proofs.Math.Facts.{to_z-of_z}
+use Rattle.mc_diagram.specs.Diagram.{op_at}
 use Rattle.mc_diagram.specs.Run.{start_of}
-use Rattle.c_emitter.specs.declared.block.Block.TheVariants.{Output, Delay}
-use Rattle.c_emitter.specs.Blocks.{block_by}
-use Rattle.c_emitter.proofs.RowLaws.{block-read}
+use Rattle.c_emitter.specs.declared.block.Block.TheVariants.{Output, Delay, Fixed}
+use Rattle.c_emitter.specs.Blocks.{block_by, value_of}
+use Rattle.c_emitter.proofs.RowLaws.{block-read, fixed-by}
 use Rattle.c_emitter.proofs.rows.block_at.Goals as goal
 
 pub returns-in-Inport : goal.returns-in-Inport
 returns-in-Inport c =
-    let read = block-read c.d.inside.rows.items c.d.inside.ops.items c.args.d.now c.d.view_is c.requires.flat.flat c.args.row c.requires.within c.index-read.result.now c.index-read.ensures in
-    sym (read ∙ ap (λ k. block_by k c.index-read.result.now.inputs (start_of c.args.d.now c.args.row)) c.in-Inport.is)
+    let read = block-read c.d.inside.rows.items c.d.inside.types.items c.d.inside.ops.items c.args.d.now c.d.view_is c.requires.flat.flat c.args.row c.requires.within c.index-read.result.now c.index-read.ensures in
+    sym (read ∙ ap (λ k. block_by k c.index-read.result.now.inputs (start_of c.args.d.now c.args.row) (value_of (op_at c.args.d.now c.args.row))) c.in-Inport.is)
 
 pub returns-in-Outport : goal.returns-in-Outport
 returns-in-Outport c =
-    let read = block-read c.d.inside.rows.items c.d.inside.ops.items c.args.d.now c.d.view_is c.requires.flat.flat c.args.row c.requires.within c.index-read.result.now c.index-read.ensures in
-    ap (Output c.in-Outport.port) c.first_wire.ensures ∙ sym (read ∙ ap (λ k. block_by k c.index-read.result.now.inputs (start_of c.args.d.now c.args.row)) c.in-Outport.is)
+    let read = block-read c.d.inside.rows.items c.d.inside.types.items c.d.inside.ops.items c.args.d.now c.d.view_is c.requires.flat.flat c.args.row c.requires.within c.index-read.result.now c.index-read.ensures in
+    ap (Output c.in-Outport.port) c.first_wire.ensures ∙ sym (read ∙ ap (λ k. block_by k c.index-read.result.now.inputs (start_of c.args.d.now c.args.row) (value_of (op_at c.args.d.now c.args.row))) c.in-Outport.is)
 
 pub returns-in-UnitDelay : goal.returns-in-UnitDelay
 returns-in-UnitDelay c =
-    let read = block-read c.d.inside.rows.items c.d.inside.ops.items c.args.d.now c.d.view_is c.requires.flat.flat c.args.row c.requires.within c.index-read.result.now c.index-read.ensures in
-    let fits : FitsSigned w32 c.start_at.result = search rules in
+    let read = block-read c.d.inside.rows.items c.d.inside.types.items c.d.inside.ops.items c.args.d.now c.d.view_is c.requires.flat.flat c.args.row c.requires.within c.index-read.result.now c.index-read.ensures in
+    let fits : FitsSigned w64 c.start_at.result = search rules in
     ap₂ Delay c.first_wire-in-UnitDelay.ensures (to_z-of_z fits ∙ c.start_at.ensures)
-    ∙ sym (read ∙ ap (λ k. block_by k c.index-read.result.now.inputs (start_of c.args.d.now c.args.row)) c.in-UnitDelay.is)
+    ∙ sym (read ∙ ap (λ k. block_by k c.index-read.result.now.inputs (start_of c.args.d.now c.args.row) (value_of (op_at c.args.d.now c.args.row))) c.in-UnitDelay.is)
+
+pub returns-in-Constant : goal.returns-in-Constant
+returns-in-Constant c =
+    let read = block-read c.d.inside.rows.items c.d.inside.types.items c.d.inside.ops.items c.args.d.now c.d.view_is c.requires.flat.flat c.args.row c.requires.within c.index-read.result.now c.index-read.ensures in
+    let fits : FitsSigned w64 c.value_at.result = search rules in
+    ap Fixed (to_z-of_z fits ∙ c.value_at.ensures)
+    ∙ sym (read ∙ fixed-by c.index-read.result.now.kind c.in-Constant.is c.index-read.result.now.inputs (start_of c.args.d.now c.args.row) (value_of (op_at c.args.d.now c.args.row)))

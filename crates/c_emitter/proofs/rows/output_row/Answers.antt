@@ -5,7 +5,7 @@ use Rattle.c_emitter.proofs.rows.output_row.Goals as goal
 
 pub returns-then-is_output_of : goal.returns-then-is_output_of
 returns-then-is_output_of c =
-    let size = rows-of-view c.d.inside.rows.items c.d.inside.ops.items c.args.d.now c.d.view_is in
+    let size = rows-of-view c.d.inside.rows.items c.d.inside.types.items c.d.inside.ops.items c.args.d.now c.d.view_is in
     let len = c.d.inside.rows.ok.0 in
     let blocks = blocks-are-rows c.args.d.now c.requires in
     let within : c.loop-row.row < length (blocks_of c.args.d.now) = omega (arith, size, len, blocks) in
@@ -14,7 +14,7 @@ returns-then-is_output_of c =
 
 pub returns : goal.returns
 returns c =
-    let size = rows-of-view c.d.inside.rows.items c.d.inside.ops.items c.args.d.now c.d.view_is in
+    let size = rows-of-view c.d.inside.rows.items c.d.inside.types.items c.d.inside.ops.items c.args.d.now c.d.view_is in
     let len = c.d.inside.rows.ok.0 in
     let blocks = blocks-are-rows c.args.d.now c.requires in
     no-output-row (blocks_of c.args.d.now) c.args.port (λ k h. c.loop-row.invariant k (omega (arith, size, len, blocks, h)))

@@ -2,14 +2,14 @@ use Rattle.std.proofs.Common.{◌∙◌, ◌<◌, ◌++◌, ◌∷◌, [], sym, 
 use Rattle.std.specs.Option.{option_to_list}
 use Rattle.std.specs.Prelude.{filter_map}
 use Rattle.std.proofs.lemmas.List.{take_all}
-use Rattle.c_emitter.specs.Blocks.{blocks_of, is_output, output_source}
+use Rattle.c_emitter.specs.Blocks.{TypedBlock, blocks_of, is_output, output_source}
 use Rattle.c_emitter.proofs.RowLoops.{rows-of-view, blocks-are-rows, are-blocks-of, sources-few, sources-step, no-source-step}
 use Rattle.c_emitter.proofs.rows.output_sources.Goals as goal
 use Rattle.c_emitter.proofs.rows.output_sources.Goals.{in-Output, in_default}
 
 pub push-requires : goal.push-requires
 push-requires c =
-    let size = rows-of-view c.d.inside.rows.items c.d.inside.ops.items c.args.d.now c.d.view_is in
+    let size = rows-of-view c.d.inside.rows.items c.d.inside.types.items c.d.inside.ops.items c.args.d.now c.d.view_is in
     let len = c.d.inside.rows.ok.0 in
     let blocks = blocks-are-rows c.args.d.now c.requires in
     let few = (are-blocks-of c.args.d.now c.requires).few_outputs in
@@ -19,7 +19,7 @@ push-requires c =
 
 pub loop-row-preserved : goal.loop-row-preserved
 loop-row-preserved c =
-    let size = rows-of-view c.d.inside.rows.items c.d.inside.ops.items c.args.d.now c.d.view_is in
+    let size = rows-of-view c.d.inside.rows.items c.d.inside.types.items c.d.inside.ops.items c.args.d.now c.d.view_is in
     let len = c.d.inside.rows.ok.0 in
     let blocks = blocks-are-rows c.args.d.now c.requires in
     let within : c.loop-row.row < length (blocks_of c.args.d.now) = omega (arith, size, len, blocks) in
@@ -32,7 +32,7 @@ loop-row-preserved c =
 
 pub returns : goal.returns
 returns c =
-    let size = rows-of-view c.d.inside.rows.items c.d.inside.ops.items c.args.d.now c.d.view_is in
+    let size = rows-of-view c.d.inside.rows.items c.d.inside.types.items c.d.inside.ops.items c.args.d.now c.d.view_is in
     let len = c.d.inside.rows.ok.0 in
     let blocks = blocks-are-rows c.args.d.now c.requires in
-    c.loop-row.invariant ∙ ap (filter_map output_source) (take_all c.loop-row.row (blocks_of c.args.d.now) (omega (arith, size, len, blocks)))
+    c.loop-row.invariant ∙ ap (filter_map (λ (t : TypedBlock). output_source t.block)) (take_all c.loop-row.row (blocks_of c.args.d.now) (omega (arith, size, len, blocks)))

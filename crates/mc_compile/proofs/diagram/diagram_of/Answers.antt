@@ -1,5 +1,7 @@
-use Rattle.std.proofs.Common.{sym, ◌∙◌, ap, subst, length, ◌≤◌, map}
+use Rattle.std.proofs.Common.{◌≡◌, sym, ◌∙◌, ap, subst, arith, length, ◌≤◌, map}
+use Rattle.std.specs.Prelude.{replicate}
 use Rattle.std.specs.List.{list_all}
+use Rattle.mc_fixed.specs.Types.{int32}
 use Rattle.mc_compile.specs.WiredRows.{is_complete, is_within, AreRowsBy, flat_op}
 use Rattle.mc_compile.proofs.Diagrams.{model-few, model-complete, model-within, diagram_of_model}
 use Rattle.mc_compile.proofs.diagram.diagram_of.Goals as goal
@@ -16,7 +18,8 @@ rows_of-requires-clause-within c = ap (list_all (is_within 20000)) c.as_slice-2.
 pub returns : goal.returns
 returns c =
     let rows = c.in_ok-rows.rows.items in
+    let size : c.len.result ≡ length rows = (let len = c.in_ok-rows.rows.ok.0 in let told = c.len.ensures in omega (arith, len, told)) in
     let by : AreRowsBy c.args.model.now.blocks.items c.args.model.now.wires.items rows =
     subst (λ ws. AreRowsBy c.args.model.now.blocks.items ws rows) c.as_slice-2.ensures.value
     (subst (λ bs. AreRowsBy bs c.as_slice-2.result.now rows) c.as_slice.ensures.value c.in_ok-rows.ensures) in
-    diagram_of_model c.args.model.now c.requires rows c.in_ok-ops.ops.items by (c.in_ok-ops.ensures ∙ ap (map (λ r. flat_op r.kind)) c.as_slice-3.ensures.value)
+    diagram_of_model c.args.model.now c.requires rows c.in_ok-types.types.items c.in_ok-ops.ops.items by (c.in_ok-types.ensures ∙ ap (λ n. replicate n int32) size) (c.in_ok-ops.ensures ∙ ap (map (λ r. flat_op r.kind)) c.as_slice-3.ensures.value)
