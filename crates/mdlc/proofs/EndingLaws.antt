@@ -1,240 +1,204 @@
 -- What follows from the way in which a call of the tool ended.
 use Rattle.std.proofs.Math.Seq.{take-length}
-use Rattle.std.proofs.Common.{◌≡◌, ◌≢◌, ℕ, ◌⊎◌, inl, inr, List, length, refl, sym, ap, subst, ◌∙◌, arith}
-use Rattle.std.specs.Prelude.{Option, Some, None, IsSomeAnd, IfSome, OnSome, true, false}
-use Rattle.mc_base.specs.Refusals.{PlainRefusal, plain_refusal, refusal_line}
-use Rattle.mc_edge.specs.Faults.{Rose, IsCalm}
-use Rattle.mc_edge.specs.Files.{File, OnFile, lookup, add_file, WritesFront}
-use Rattle.mc_diagram.specs.declared.Row.{Row}
-use Rattle.mc_compile.specs.Verdict.{Verdict, HasVerdict, Accepted, Refused as IsRefused, HasOneVerdict}
-use Rattle.mc_compile.specs.Compilation.{Compilation, IsCompilationOf, IsCompiledFrom}
+use Rattle.std.proofs.Common.{◌≡◌, ◌≢◌, ℕ, inl, inr, List, [], length, refl, sym, ap, subst, ◌∙◌, append-nil}
+use Rattle.std.specs.Prelude.{Option, Some, None}
+use Rattle.std.specs.Io.KnownBytes.{append_known}
+use Rattle.mc_fixed.specs.declared.types.FixType.{FixType}
+use Rattle.mc_edge.specs.Files.{add_file}
+use Rattle.c_tree.specs.Tree.{ProgramTree}
+use Rattle.c_tree.specs.Rows.{TickRow, c_rows}
+use Rattle.mc_compile.specs.Compilation.{Compilation, IsCompiledFrom}
+use Rattle.mc_runner.specs.Texts.{ticks_text}
 use Rattle.mdlc.specs.declared.tool.Ending.{Ending}
-use Rattle.mdlc.specs.declared.tool.Ending.TheVariants.{Compiled, Usage, Refused, ReadFault, WriteFault, NoMemory}
-use Rattle.mdlc.specs.Words.{Asked, model_of, code_of}
+use Rattle.mdlc.specs.declared.tool.Ending.TheVariants.{Compiled, Ran, Usage, Refused, BadTrace, CodeRefused, CodeTooLong, Stuck as IsStuck, ReadFault, WriteFault, PutFault, NoMemory}
+use Rattle.mdlc.specs.Words.{Asked, Compile, Run, Exec}
 use Rattle.mdlc.specs.Told.{HostTold, SinkTold, NoFault}
-use Rattle.mdlc.specs.Endings.{status_of, text_of, OnModel, WritesCode, WritesCodeFront, EndsCompiled, EndsWriteFault, EndsNoMemory, Ends, EndsAt, Puts, PutsWhole}
-use Rattle.mdlc.specs.Statuses.{IsPlain, IsExactlyAtModel, IfModel, IsSure, IsDone}
-use Rattle.mdlc.specs.Headline.{WritesRightCode, CompilesAccepted, TellsRefusal, Compiles, CompilesRight}
-
--- ---- The model that is asked for
-
--- P holds of the file of this name, if it is there and told
-abbrev IfNamed : Option (List File) → Option (List ℕ) → List ℕ → (List ℕ → Type 0) → Type 0
-IfNamed files rest name P = IfSome files (λ fs. OnSome rest (IfSome (lookup name fs) P))
-
--- what holds of all bytes holds of a file's
-at_found : (o : Option (List ℕ)) {Q : List ℕ → Type 0} → ((bytes : List ℕ) → Q bytes) → IfSome o Q
-at_found None q = tt
-at_found (Some bytes) q = q bytes
-
-any_file : (files : Option (List File)) (rest : Option (List ℕ)) (name : List ℕ) {Q : List ℕ → Type 0} → ((bytes : List ℕ) → Q bytes) → IfNamed files rest name Q
-any_file None rest name q = tt
-any_file (Some fs) None name q = tt
-any_file (Some fs) (Some xs) name q = at_found (lookup name fs) q
-
--- what follows from what is known of the file's bytes
-at_known : (o : Option (List ℕ)) {P Q : List ℕ → Type 0} → IsSomeAnd o P → ((bytes : List ℕ) → P bytes → Q bytes) → IfSome o Q
-at_known None h q = absurd h
-at_known (Some bytes) h q = q bytes h
-
-known_file : (files : Option (List File)) (rest : Option (List ℕ)) (name : List ℕ) {P Q : List ℕ → Type 0} → OnFile files rest name P → ((bytes : List ℕ) → P bytes → Q bytes) → IfNamed files rest name Q
-known_file None rest name h q = tt
-known_file (Some fs) None name h q = tt
-known_file (Some fs) (Some xs) name h q = at_known (lookup name fs) h q
-
--- and it is there
-at_there : (o : Option (List ℕ)) {P Q : List ℕ → Type 0} → IsSomeAnd o P → ((bytes : List ℕ) → P bytes → Q bytes) → IsSomeAnd o Q
-at_there None h q = h
-at_there (Some bytes) h q = q bytes h
-
-there : (files : Option (List File)) (rest : Option (List ℕ)) (name : List ℕ) {P Q : List ℕ → Type 0} → OnFile files rest name P → ((bytes : List ℕ) → P bytes → Q bytes) → OnFile files rest name Q
-there None rest name h q = h
-there (Some fs) None name h q = h
-there (Some fs) (Some xs) name h q = at_there (lookup name fs) h q
-
--- ---- A model has one verdict
-
-abbrev pub OneVerdict : Type 0
-OneVerdict = (bytes : List ℕ) → HasOneVerdict bytes
-
-one_only : OneVerdict → (model : List ℕ) (v w : Verdict) → HasVerdict model v → HasVerdict model w → v ≡ w
-one_only one model v w is_v is_w = let only = (one model).2 in only v is_v ∙ sym (only w is_w)
-
-accepted_only : OneVerdict → (model : List ℕ) (rows : List Row) (refusal : PlainRefusal) → HasVerdict model (Accepted rows) → HasVerdict model (IsRefused refusal) → ⊥
-accepted_only one model rows refusal a r =
-    let e : Accepted rows ≡ IsRefused refusal = one_only one model (Accepted rows) (IsRefused refusal) a r in cc
-
-same_rows : OneVerdict → (model : List ℕ) (rows other : List Row) → HasVerdict model (Accepted rows) → HasVerdict model (Accepted other) → rows ≡ other
-same_rows one model rows other a b =
-    let e : Accepted rows ≡ Accepted other = one_only one model (Accepted rows) (Accepted other) a b in cc
-
-same_refusal : OneVerdict → (model : List ℕ) (r q : PlainRefusal) → HasVerdict model (IsRefused r) → HasVerdict model (IsRefused q) → r ≡ q
-same_refusal one model r q a b =
-    let e : IsRefused r ≡ IsRefused q = one_only one model (IsRefused r) (IsRefused q) a b in cc
-
--- ---- Status 3
-
-abbrev RefusedExactly : ℕ → Option Asked → HostTold → Type 0
-RefusedExactly s a h = IsExactlyAtModel 3 s a h (λ model. (refusal : PlainRefusal) × HasVerdict model (IsRefused refusal))
-
--- a status of a fault or of want of memory says nothing of the model
-not_plain : (s : ℕ) (a : Option Asked) (h : HostTold) → s ≢ 3 → (IsPlain s → ⊥) → RefusedExactly s a h
-not_plain s None h other fault = record { only = λ three. absurd (other three); wherever = tt }
-not_plain s (Some a) h other fault = record {
-  only = λ three. absurd (other three);
-  wherever = any_file h.files h.rest (model_of a) (λ model some plain. absurd (fault plain));
-}
-
-refused_by : OneVerdict → (e : Ending) (a : Option Asked) (h h' : HostTold) (s : ℕ) → Ends e a h h' → s ≡ status_of e → RefusedExactly s a h
-refused_by one (Compiled rows systems functions) None h h' s ends is = absurd ends
-refused_by one (Compiled rows systems functions) (Some a) h h' s ends is = record {
-  only = λ three. absurd (omega arith);
-  wherever = known_file h.files h.rest (model_of a) ends.model (λ model writes refused plain. absurd (accepted_only one model writes.1.table refused.0 writes.1.verdict refused.1));
-}
-refused_by one Usage a h h' s ends is = record {
-  only = λ three. absurd (omega arith);
-  wherever = subst (λ (o : Option Asked). IfModel o h (λ model. (refusal : PlainRefusal) × HasVerdict model (IsRefused refusal) → IsPlain s → s ≡ 3)) (sym ends.0) tt;
-}
-refused_by one (Refused refusal) None h h' s ends is = absurd ends
-refused_by one (Refused refusal) (Some a) h h' s ends is = record {
-  only = λ _. there h.files h.rest (model_of a) ends.model (λ model verdict. (plain_refusal refusal, verdict));
-  wherever = any_file h.files h.rest (model_of a) (λ model refused plain. is);
-}
-refused_by one ReadFault a h h' s ends is = not_plain s a h (omega arith) (λ plain. plain.no_read_fault is)
-refused_by one WriteFault a h h' s ends is = not_plain s a h (omega arith) (λ plain. plain.no_write_fault is)
-refused_by one NoMemory a h h' s ends is = not_plain s a h (omega arith) (λ plain. plain.no_want_of_memory is)
-
-pub refused_exactly : OneVerdict → (s : ℕ) (a : Option Asked) (h h' : HostTold) (b b' : SinkTold) → EndsAt s a h h' b b' → RefusedExactly s a h
-refused_exactly one s a h h' b b' (e, ends, inl (is, whole)) = refused_by one e a h h' s ends is
-refused_exactly one s a h h' b b' (e, ends, inr (seven, part)) =
-    not_plain s a h (omega arith) (λ plain. plain.no_put_fault seven)
-
--- ---- What `compile` writes
-
--- of a compiled model
-compiled : OneVerdict → (rows systems functions : ℕ) (model : List ℕ) (s : ℕ) (a : Asked) (h h' : HostTold) (b b' : SinkTold) → s ≡ 0 → PutsWhole (text_of (Compiled rows systems functions)) b b' → WritesCode rows systems functions a model h h' → Compiles model s a h h' b b'
-compiled one rows systems functions model s a h h' b b' is whole (c, from, r, y, f, written) = record {
-  accepted = λ table accepts. record {
-    status = inl is;
-    done = λ zero. record {
-      compilation = c;
-      right = subst (λ (x : List Row). IsCompilationOf x c) (same_rows one model from.table table from.verdict accepts) from.compiled;
-      written = written;
-      line = rw (r, y, f) whole.text;
-    };
-  };
-  refused = λ refusal refuses. absurd (accepted_only one model from.table refusal from.verdict refuses);
-}
-
--- of a refused one
-refused : OneVerdict → (refusal : PlainRefusal) (model : List ℕ) (s : ℕ) (a : Asked) (h h' : HostTold) (b b' : SinkTold) → s ≡ 3 → HasVerdict model (IsRefused refusal) → h'.written ≡ h.written → PutsWhole (refusal_line refusal) b b' → Compiles model s a h h' b b'
-refused one refusal model s a h h' b b' is verdict written whole = record {
-  accepted = λ table accepts. absurd (accepted_only one model table refusal accepts verdict);
-  refused = λ other refuses. record {
-    status = inl is;
-    unwritten = λ three. written;
-    line = λ three. rw (same_refusal one model other refusal refuses verdict) whole.text;
-  };
-}
-
--- at want of memory
-out_of_memory : (model : List ℕ) (s : ℕ) (a : Asked) (h h' : HostTold) (b b' : SinkTold) → s ≡ 10 → Compiles model s a h h' b b'
-out_of_memory model s a h h' b b' is = record {
-  accepted = λ table accepts. record { status = inr is; done = λ zero. absurd (omega arith) };
-  refused = λ refusal refuses. record { status = inr is; unwritten = λ three. absurd (omega arith); line = λ three. absurd (omega arith) };
-}
-
-compiles_by : OneVerdict → (e : Ending) (s : ℕ) (a : Option Asked) (h h' : HostTold) (b b' : SinkTold) → Ends e a h h' → s ≡ status_of e → PutsWhole (text_of e) b b' → CompilesRight s a h h' b b'
-compiles_by one (Compiled rows systems functions) s None h h' b b' ends is whole = λ _ _ _. tt
-compiles_by one (Compiled rows systems functions) s (Some a) h h' b b' ends is whole =
-    λ _ _ _. known_file h.files h.rest (model_of a) ends.model (λ model writes. compiled one rows systems functions model s a h h' b b' is whole writes)
-compiles_by one Usage s None h h' b b' ends is whole = λ _ _ _. tt
-compiles_by one Usage s (Some a) h h' b b' ends is whole = let e = ends.0 in absurd (cc)
-compiles_by one (Refused refusal) s None h h' b b' ends is whole = λ _ _ _. tt
-compiles_by one (Refused refusal) s (Some a) h h' b b' ends is whole =
-    λ _ _ _. known_file h.files h.rest (model_of a) ends.model (λ model verdict. refused one (plain_refusal refusal) model s a h h' b b' is verdict ends.written whole)
-compiles_by one ReadFault s None h h' b b' ends is whole = λ _ _ _. tt
-compiles_by one ReadFault s (Some a) h h' b b' ends is whole = λ reads _ _. let rose = ends.rose in absurd (omega arith)
-compiles_by one WriteFault s None h h' b b' ends is whole = λ _ _ _. tt
-compiles_by one WriteFault s (Some a) h h' b b' ends is whole = λ _ writes _. let rose = ends.rose in absurd (omega arith)
-compiles_by one NoMemory s None h h' b b' ends is whole = λ _ _ _. tt
-compiles_by one NoMemory s (Some a) h h' b b' ends is whole =
-    λ _ _ _. any_file h.files h.rest (model_of a) (λ model. out_of_memory model s a h h' b b' is)
-
--- where the put failed, a count of the sink rose
-cut : (s : ℕ) (a : Option Asked) (h h' : HostTold) (b b' : SinkTold) → Rose b.faults b'.faults → CompilesRight s a h h' b b'
-cut s None h h' b b' rose = λ _ _ _. tt
-cut s (Some a) h h' b b' rose = λ _ _ puts. absurd (omega arith)
-
-pub compiles_right : OneVerdict → (s : ℕ) (a : Option Asked) (h h' : HostTold) (b b' : SinkTold) → EndsAt s a h h' b b' → CompilesRight s a h h' b b'
-compiles_right one s a h h' b b' (e, ends, inl (is, whole)) = compiles_by one e s a h h' b b' ends is whole
-compiles_right one s a h h' b b' (e, ends, inr (seven, part)) = cut s a h h' b b' part.rose
-
--- ---- A host that is sure of the model
-
-abbrev CompilesSurely : ℕ → Option Asked → HostTold → HostTold → SinkTold → SinkTold → Type 0
-CompilesSurely s a h h' b b' =
-    IsSure a h → IsCalm h.write_faults h'.write_faults → IsCalm b.faults b'.faults →
-    IfModel a h (λ model. (rows : List Row) → HasVerdict model (Accepted rows) → IsDone s)
-
-sure_by : OneVerdict → (e : Ending) (s : ℕ) (a : Option Asked) (h h' : HostTold) (b b' : SinkTold) → Ends e a h h' → s ≡ status_of e → CompilesSurely s a h h' b b'
-sure_by one e s None h h' b b' ends is = λ _ _ _. tt
-sure_by one (Compiled rows systems functions) s (Some a) h h' b b' ends is =
-    λ _ _ _. any_file h.files h.rest (model_of a) (λ model table accepts. inl is)
-sure_by one Usage s (Some a) h h' b b' ends is = let e = ends.0 in absurd (cc)
-sure_by one (Refused refusal) s (Some a) h h' b b' ends is =
-    λ _ _ _. known_file h.files h.rest (model_of a) ends.model (λ model verdict table accepts. absurd (accepted_only one model table (plain_refusal refusal) accepts verdict))
-sure_by one ReadFault s (Some a) h h' b b' ends is =
-    λ sure _ _. let unsure = ends.unsure in absurd (cc)
-sure_by one WriteFault s (Some a) h h' b b' ends is = λ _ writes _. let rose = ends.rose in absurd (omega arith)
-sure_by one NoMemory s (Some a) h h' b b' ends is =
-    λ _ _ _. any_file h.files h.rest (model_of a) (λ model table accepts. inr is)
-
-pub compiles_surely : OneVerdict → (s : ℕ) (a : Option Asked) (h h' : HostTold) (b b' : SinkTold) → EndsAt s a h h' b b' → CompilesSurely s a h h' b b'
-compiles_surely one s a h h' b b' (e, ends, inl (is, whole)) = sure_by one e s a h h' b b' ends is
-compiles_surely one s None h h' b b' (e, ends, inr (seven, part)) = λ _ _ _. tt
-compiles_surely one s (Some a) h h' b b' (e, ends, inr (seven, part)) =
-    λ _ _ puts. let rose = part.rose in absurd (omega arith)
+use Rattle.mdlc.specs.Runs.{rows_in, PutsTicks, RunsTo, RunsToNoMemory}
+use Rattle.mdlc.specs.Endings.{status_of, OnNamed, WritesCodeFront, WritesWhole, RunsModel, ExecutesCode, EndsNoMemory, EndsRunUnread, Finds, CountsPuts, Ends, EndsAt, IsSaidOf, Puts}
+use Rattle.mdlc.specs.Statuses.{IsPlain}
+use Rattle.mdlc.proofs.Files.{there}
 
 -- ---- Want of memory after another ending
 
 -- code that is written whole is a front of itself
-whole_front : (rows systems functions : ℕ) (a : Asked) (model : List ℕ) (h h' : HostTold) → WritesCode rows systems functions a model h h' → WritesCodeFront a model h h'
-whole_front rows systems functions a model h h' (c, compiles, r, y, f, written) =
-    (c, compiles, inr (length c.code, written ∙ ap (λ bytes. add_file h.written (code_of a) bytes) (sym (take-length c.code))))
+front-of : (code model : List ℕ) (h h' : HostTold) (c : Compilation) → IsCompiledFrom model c → h'.written ≡ add_file h.written code c.code → WritesCodeFront code model h h'
+front-of code model h h' c from written =
+    (c, from, inr (length c.code, written ∙ ap (λ (bytes : List ℕ). add_file h.written code bytes) (sym (take-length c.code))))
 
-no_memory : (e : Ending) (a : Option Asked) (h h' : HostTold) → Ends e a h h' → EndsNoMemory a h h'
-no_memory (Compiled rows systems functions) None h h' ends = absurd ends
-no_memory (Compiled rows systems functions) (Some a) h h' ends =
-    inr (there h.files h.rest (model_of a) ends.model (λ model writes. whole_front rows systems functions a model h h' writes))
-no_memory Usage a h h' ends = inl ends.1.written
-no_memory (Refused refusal) None h h' ends = absurd ends
-no_memory (Refused refusal) (Some a) h h' ends = inl ends.written
-no_memory ReadFault None h h' ends = absurd ends
-no_memory ReadFault (Some a) h h' ends = inl ends.written
-no_memory WriteFault None h h' ends = absurd ends
-no_memory WriteFault (Some a) h h' ends = inr ends.model
-no_memory NoMemory a h h' ends = ends
+pub whole-front : (code model : List ℕ) (h h' : HostTold) → WritesWhole code model h h' → WritesCodeFront code model h h'
+whole-front code model h h' w =
+    front-of code model h h' w.compilation (record { table = w.rows; verdict = w.verdict; compiled = w.right }) w.written
+
+-- all lines of a run are some of them
+lines-memory : (p : ProgramTree) (types : List FixType) (bytes : List ℕ) (b b' : SinkTold) → PutsTicks (c_rows p (rows_in types bytes)).ticks b b' → RunsToNoMemory p types bytes b b'
+lines-memory p types bytes b b' lines = record {
+  first = record { rows = rows_in types bytes; behind = []; parts = sym (append-nil (rows_in types bytes)) };
+  count = length (c_rows p (rows_in types bytes)).ticks;
+  lines = lines ∙ ap (λ (ticks : List TickRow). append_known b.bytes (ticks_text ticks)) (sym (take-length (c_rows p (rows_in types bytes)).ticks));
+}
+
+run-memory : (e : Ending) (model code trace : List ℕ) (h h' : HostTold) (b b' : SinkTold) → ((p : ProgramTree) (types : List FixType) (bytes : List ℕ) → RunsTo e p types bytes b b' → RunsToNoMemory p types bytes b b') → OnNamed h model (λ bytes. RunsModel e trace code bytes h h' b b') → Finds NoMemory (Some (Run model code trace)) h h' b b'
+run-memory e model code trace h h' b b' by_run found =
+    inr (there h.files h.rest model found (λ bytes m. record { whole = m.whole; runs = there h.files h.rest trace m.runs (λ lines run. by_run _ _ lines run) }))
+
+exec-memory : (e : Ending) (code trace : List ℕ) (h h' : HostTold) (b b' : SinkTold) → ((p : ProgramTree) (types : List FixType) (bytes : List ℕ) → RunsTo e p types bytes b b' → RunsToNoMemory p types bytes b b') → h'.written ≡ h.written → OnNamed h code (λ bytes. ExecutesCode e trace bytes h b b') → Finds NoMemory (Some (Exec code trace)) h h' b b'
+exec-memory e code trace h h' b b' by_run written found = (
+  written,
+  inr (there h.files h.rest code found (λ bytes x. record {
+    fits = x.fits;
+    program = x.program;
+    reading = x.reading;
+    after = x.after;
+    start = x.start;
+    types = x.types;
+    inputs = x.inputs;
+    runs = there h.files h.rest trace x.runs (λ lines run. by_run x.program x.types lines run);
+  })),
+)
+
+compile-memory : (e : Ending) (model code : List ℕ) (h h' : HostTold) (b b' : SinkTold) → Finds e (Some (Compile model code)) h h' b b' → Finds NoMemory (Some (Compile model code)) h h' b b'
+compile-memory (Compiled rows systems functions) model code h h' b b' ends =
+    (inr (there h.files h.rest model ends.0.model (λ bytes w. front-of code bytes h h' w.0 w.1 w.5)), ends.1)
+compile-memory (Refused refusal) model code h h' b b' ends = (inl ends.0.written, ends.1)
+compile-memory ReadFault model code h h' b b' ends = (inl ends.0.written, ends.1)
+compile-memory WriteFault model code h h' b b' ends = (inr ends.0.model, ends.1)
+compile-memory NoMemory model code h h' b b' ends = ends
+compile-memory (Ran totals) model code h h' b b' ends = absurd ends.0
+compile-memory Usage model code h h' b b' ends = absurd ends.0
+compile-memory (BadTrace line) model code h h' b b' ends = absurd ends.0
+compile-memory (CodeRefused fault) model code h h' b b' ends = absurd ends.0
+compile-memory CodeTooLong model code h h' b b' ends = absurd ends.0
+compile-memory (IsStuck at) model code h h' b b' ends = absurd ends.0
+compile-memory PutFault model code h h' b b' ends = absurd ends.0
+
+unread-memory : (model code trace : List ℕ) (h h' : HostTold) → EndsRunUnread model code trace h h' → EndsNoMemory model code h h'
+unread-memory model code trace h h' (inl u) = inl u.written
+unread-memory model code trace h h' (inr u) = inr (there h.files h.rest model u.1 (λ bytes w. whole-front code bytes h h' w))
+
+running-memory : (e : Ending) (model code trace : List ℕ) (h h' : HostTold) (b b' : SinkTold) → e ≢ PutFault → Finds e (Some (Run model code trace)) h h' b b' → Finds NoMemory (Some (Run model code trace)) h h' b b'
+running-memory (Ran totals) model code trace h h' b b' other ends =
+    run-memory (Ran totals) model code trace h h' b b' (λ p types bytes run. lines-memory p types bytes b b' run.lines) ends.model
+running-memory (BadTrace line) model code trace h h' b b' other ends =
+    run-memory (BadTrace line) model code trace h h' b b' (λ p types bytes run. lines-memory p types bytes b b' run.lines) ends.model
+running-memory (Refused refusal) model code trace h h' b b' other ends = inl (inl ends.0.written, ends.1)
+running-memory ReadFault model code trace h h' b b' other ends = inl (unread-memory model code trace h h' ends.0, ends.1)
+running-memory WriteFault model code trace h h' b b' other ends = inl (inr ends.0.model, ends.1)
+running-memory NoMemory model code trace h h' b b' other ends = ends
+running-memory PutFault model code trace h h' b b' other ends = absurd (other refl)
+running-memory (Compiled rows systems functions) model code trace h h' b b' other ends = absurd ends
+running-memory Usage model code trace h h' b b' other ends = absurd ends
+running-memory (CodeRefused fault) model code trace h h' b b' other ends = absurd ends
+running-memory CodeTooLong model code trace h h' b b' other ends = absurd ends
+running-memory (IsStuck at) model code trace h h' b b' other ends = absurd ends
+
+executing-memory : (e : Ending) (code trace : List ℕ) (h h' : HostTold) (b b' : SinkTold) → e ≢ PutFault → Finds e (Some (Exec code trace)) h h' b b' → Finds NoMemory (Some (Exec code trace)) h h' b b'
+executing-memory (Ran totals) code trace h h' b b' other ends =
+    exec-memory (Ran totals) code trace h h' b b' (λ p types bytes run. lines-memory p types bytes b b' run.lines) ends.left.written ends.code
+executing-memory (BadTrace line) code trace h h' b b' other ends =
+    exec-memory (BadTrace line) code trace h h' b b' (λ p types bytes run. lines-memory p types bytes b b' run.lines) ends.left.written ends.code
+executing-memory (IsStuck at) code trace h h' b b' other (inl ends) = (ends.left.written, inl ends.silent)
+executing-memory (IsStuck at) code trace h h' b b' other (inr ends) =
+    exec-memory (IsStuck at) code trace h h' b b' (λ p types bytes run. lines-memory p types bytes b b' run.lines) ends.left.written ends.code
+executing-memory (CodeRefused fault) code trace h h' b b' other ends = (ends.left.written, inl ends.silent)
+executing-memory CodeTooLong code trace h h' b b' other ends = (ends.left.written, inl ends.silent)
+executing-memory ReadFault code trace h h' b b' other ends = (ends.1, inl ends.2)
+executing-memory NoMemory code trace h h' b b' other ends = ends
+executing-memory PutFault code trace h h' b b' other ends = absurd (other refl)
+executing-memory (Compiled rows systems functions) code trace h h' b b' other ends = absurd ends
+executing-memory Usage code trace h h' b b' other ends = absurd ends
+executing-memory (Refused refusal) code trace h h' b b' other ends = absurd ends
+executing-memory WriteFault code trace h h' b b' other ends = absurd ends
+
+unasked-memory : (e : Ending) (h h' : HostTold) (b b' : SinkTold) → Finds e None h h' b b' → Finds NoMemory None h h' b b'
+unasked-memory Usage h h' b b' ends = (ends.0.written, ends.1)
+unasked-memory NoMemory h h' b b' ends = ends
+unasked-memory (Compiled rows systems functions) h h' b b' ends = absurd ends.0
+unasked-memory (Ran totals) h h' b b' ends = absurd ends.0
+unasked-memory (Refused refusal) h h' b b' ends = absurd ends.0
+unasked-memory (BadTrace line) h h' b b' ends = absurd ends.0
+unasked-memory (CodeRefused fault) h h' b b' ends = absurd ends.0
+unasked-memory CodeTooLong h h' b b' ends = absurd ends.0
+unasked-memory (IsStuck at) h h' b b' ends = absurd ends.0
+unasked-memory ReadFault h h' b b' ends = absurd ends.0
+unasked-memory WriteFault h h' b b' ends = absurd ends.0
+unasked-memory PutFault h h' b b' ends = absurd ends.0
+
+finds-memory : (e : Ending) (a : Option Asked) (h h' : HostTold) (b b' : SinkTold) → e ≢ PutFault → Finds e a h h' b b' → Finds NoMemory a h h' b b'
+finds-memory e None h h' b b' other ends = unasked-memory e h h' b b' ends
+finds-memory e (Some (Compile model code)) h h' b b' other ends = compile-memory e model code h h' b b' ends
+finds-memory e (Some (Run model code trace)) h h' b b' other ends = running-memory e model code trace h h' b b' other ends
+finds-memory e (Some (Exec code trace)) h h' b b' other ends = executing-memory e code trace h h' b b' other ends
+
+-- no fault of putting was counted but where a line wasn't put
+same-puts : (e : Ending) (b b' : SinkTold) → e ≢ PutFault → CountsPuts e b b' → b'.faults ≡ b.faults
+same-puts PutFault b b' other counts = absurd (other refl)
+same-puts (Compiled rows systems functions) b b' other counts = counts
+same-puts (Ran totals) b b' other counts = counts
+same-puts Usage b b' other counts = counts
+same-puts (Refused refusal) b b' other counts = counts
+same-puts (BadTrace line) b b' other counts = counts
+same-puts (CodeRefused fault) b b' other counts = counts
+same-puts CodeTooLong b b' other counts = counts
+same-puts (IsStuck at) b b' other counts = counts
+same-puts ReadFault b b' other counts = counts
+same-puts WriteFault b b' other counts = counts
+same-puts NoMemory b b' other counts = counts
 
 -- the ending whose text was put, which is the one that was found or want of memory
-pub ended : (e e' : Ending) (s : ℕ) (a : Option Asked) (h h' : HostTold) (b b' : SinkTold) → Ends e a h h' → (e' ≡ e) ⊎ (e' ≡ NoMemory) → Puts e' s b b' → EndsAt s a h h' b b'
-ended e e' s a h h' b b' ends which puts = elim which [
-  | inl same ↦ (e', subst (λ (x : Ending). Ends x a h h') (sym same) ends, puts)
-  | inr none ↦ (e', subst (λ (x : Ending). Ends x a h h') (sym none) (no_memory e a h h' ends), puts)
-]
+pub ended : (e said : Ending) (s : ℕ) (a : Option Asked) (h h' : HostTold) (b before b' : SinkTold) → Ends e a h h' b before → IsSaidOf said e → Puts said s before b' → EndsAt s a h h' b b'
+ended e said s a h h' b before b' ends (inl same) puts =
+    (said, before, subst (λ (x : Ending). Ends x a h h' b before) (sym same) ends, puts)
+ended e said s a h h' b before b' ends (inr none) puts =
+    (said, before, subst (λ (x : Ending). Ends x a h h' b before) (sym none.0) (record { finds = finds-memory e a h h' b before none.1 ends.finds; counts = same-puts e b before none.1 ends.counts }), puts)
 
--- ---- A model that was compiled
+-- ---- Counts of faults
 
--- the code was written whole
-pub wrote_whole : (a : Asked) (h h' : HostTold) (bytes : List ℕ) (c : Compilation) → OnFile h.files h.rest (model_of a) (λ model. bytes ≡ model) → IsCompiledFrom bytes c → h'.written ≡ add_file h.written (code_of a) c.code → NoFault h h' → EndsCompiled c.rows c.systems c.functions a h h'
-wrote_whole a h h' bytes c read compiles written calm = record {
-  model = there h.files h.rest (model_of a) read (λ model same. (c, subst (λ (x : List ℕ). IsCompiledFrom x c) same compiles, refl, refl, refl, written));
-  no_fault = calm;
-}
+-- but for faults and want of memory, no count of the host rose
+host-calm : (e : Ending) (a : Option Asked) (h h' : HostTold) (b b' : SinkTold) → Finds e a h h' b b' → IsPlain (status_of e) → NoFault h h'
+host-calm (Compiled rows systems functions) None h h' b b' ends plain = absurd ends.0
+host-calm (Compiled rows systems functions) (Some (Compile model code)) h h' b b' ends plain = ends.0.no_fault
+host-calm (Compiled rows systems functions) (Some (Run model code trace)) h h' b b' ends plain = absurd ends
+host-calm (Compiled rows systems functions) (Some (Exec code trace)) h h' b b' ends plain = absurd ends
+host-calm (Ran totals) None h h' b b' ends plain = absurd ends.0
+host-calm (Ran totals) (Some (Compile model code)) h h' b b' ends plain = absurd ends.0
+host-calm (Ran totals) (Some (Run model code trace)) h h' b b' ends plain = ends.no_fault
+host-calm (Ran totals) (Some (Exec code trace)) h h' b b' ends plain = ends.left.no_fault
+host-calm Usage None h h' b b' ends plain = ends.0.no_fault
+host-calm Usage (Some (Compile model code)) h h' b b' ends plain = absurd ends.0
+host-calm Usage (Some (Run model code trace)) h h' b b' ends plain = absurd ends
+host-calm Usage (Some (Exec code trace)) h h' b b' ends plain = absurd ends
+host-calm (Refused refusal) None h h' b b' ends plain = absurd ends.0
+host-calm (Refused refusal) (Some (Compile model code)) h h' b b' ends plain = ends.0.no_fault
+host-calm (Refused refusal) (Some (Run model code trace)) h h' b b' ends plain = ends.0.no_fault
+host-calm (Refused refusal) (Some (Exec code trace)) h h' b b' ends plain = absurd ends
+host-calm (BadTrace line) None h h' b b' ends plain = absurd ends.0
+host-calm (BadTrace line) (Some (Compile model code)) h h' b b' ends plain = absurd ends.0
+host-calm (BadTrace line) (Some (Run model code trace)) h h' b b' ends plain = ends.no_fault
+host-calm (BadTrace line) (Some (Exec code trace)) h h' b b' ends plain = ends.left.no_fault
+host-calm (CodeRefused fault) None h h' b b' ends plain = absurd ends.0
+host-calm (CodeRefused fault) (Some (Compile model code)) h h' b b' ends plain = absurd ends.0
+host-calm (CodeRefused fault) (Some (Run model code trace)) h h' b b' ends plain = absurd ends
+host-calm (CodeRefused fault) (Some (Exec code trace)) h h' b b' ends plain = ends.left.no_fault
+host-calm CodeTooLong None h h' b b' ends plain = absurd ends.0
+host-calm CodeTooLong (Some (Compile model code)) h h' b b' ends plain = absurd ends.0
+host-calm CodeTooLong (Some (Run model code trace)) h h' b b' ends plain = absurd ends
+host-calm CodeTooLong (Some (Exec code trace)) h h' b b' ends plain = ends.left.no_fault
+host-calm (IsStuck at) None h h' b b' ends plain = absurd ends.0
+host-calm (IsStuck at) (Some (Compile model code)) h h' b b' ends plain = absurd ends.0
+host-calm (IsStuck at) (Some (Run model code trace)) h h' b b' ends plain = absurd ends
+host-calm (IsStuck at) (Some (Exec code trace)) h h' b b' (inl ends) plain = ends.left.no_fault
+host-calm (IsStuck at) (Some (Exec code trace)) h h' b b' (inr ends) plain = ends.left.no_fault
+host-calm ReadFault a h h' b b' ends plain = absurd (plain.no_read_fault refl)
+host-calm WriteFault a h h' b b' ends plain = absurd (plain.no_write_fault refl)
+host-calm PutFault a h h' b b' ends plain = absurd (plain.no_put_fault refl)
+host-calm NoMemory a h h' b b' ends plain = absurd (plain.no_want_of_memory refl)
 
--- or a front of it, and a fault of writing was counted
-pub wrote_front : (a : Asked) (h h' : HostTold) (bytes : List ℕ) (c : Compilation) → OnFile h.files h.rest (model_of a) (λ model. bytes ≡ model) → IsCompiledFrom bytes c → WritesFront h.written h'.written (code_of a) c.code → Rose h.write_faults h'.write_faults → EndsWriteFault a h h'
-wrote_front a h h' bytes c read compiles front rose = record {
-  rose = rose;
-  model = there h.files h.rest (model_of a) read (λ model same. (c, subst (λ (x : List ℕ). IsCompiledFrom x c) same compiles, front));
-}
+plain-end : (e : Ending) → IsPlain (status_of e) → e ≢ PutFault
+plain-end e plain same = plain.no_put_fault (ap status_of same)
+
+pub no_count : (s : ℕ) (a : Option Asked) (h h' : HostTold) (b b' : SinkTold) → EndsAt s a h h' b b' → IsPlain s → (h'.read_faults ≡ h.read_faults) × (h'.write_faults ≡ h.write_faults) × (b'.faults ≡ b.faults)
+no_count s a h h' b b' (e, before, ends, inl (is, whole)) plain =
+    let calm = subst IsPlain is plain in
+    let host : NoFault h h' = host-calm e a h h' b before ends.finds calm in
+    (host.read, host.write, whole.no_fault ∙ same-puts e b before (plain-end e calm) ends.counts)
+no_count s a h h' b b' (e, before, ends, inr (seven, part)) plain = absurd (plain.no_put_fault seven)

@@ -1,1 +1,12 @@
+pub mod Files
+pub mod OneAnswer
+pub mod StatusLaws
+pub mod TraceTypes
+pub mod RightLaws
 pub mod EndingLaws
+pub mod RunLaws
+pub mod RootTypes
+pub mod CodeLaws
+pub mod Completeness
+pub mod Unsure
+pub mod Starts

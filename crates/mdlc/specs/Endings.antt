@@ -1,85 +1,254 @@
 -- How a call of the tool may end: for each ending what was found, what was written and what is put.
-use Rattle.std.specs.Prelude.{◌≡◌, ℕ, ◌⊎◌, List, Option, Some, None, IsSomeAnd, false}
+use Rattle.std.specs.Prelude.{◌≡◌, ◌≢◌, ℕ, ◌<◌, ◌≤◌, ◌⊎◌, List, [], map, length, Option, Some, None, false}
 use Rattle.std.specs.Io.KnownBytes.{append_known}
 use Rattle.mc_base.specs.Refusals.{PlainRefusal, plain_refusal, refusal_line}
+use Rattle.mc_fixed.specs.declared.types.FixType.{FixType}
 use Rattle.mc_edge.specs.Faults.{Rose}
 use Rattle.mc_edge.specs.Files.{OnFile, add_file, PutsFront, WritesFront}
-use Rattle.mc_compile.specs.Verdict.{HasVerdict, Refused as IsRefused}
-use Rattle.mc_compile.specs.Compilation.{Compilation, IsCompiledFrom}
+use Rattle.mc_diagram.specs.declared.Row.{Row}
+use Rattle.mc_profile.specs.Ports.{input_ports}
+use Rattle.c_tree.specs.declared.fault.CFault.{CFault}
+use Rattle.c_tree.specs.declared.fault.Stuck.{Stuck}
+use Rattle.c_tree.specs.Tree.{ProgramTree}
+use Rattle.c_tree.specs.Cells.{Cells}
+use Rattle.c_tree.specs.Machine.{After, done, stuck}
+use Rattle.c_tree.specs.Rows.{start_run}
+use Rattle.c_tree.specs.Reading.{CText, CFaultOf}
+use Rattle.c_emitter.specs.Systems.{input_type_of}
+use Rattle.mc_compile.specs.Verdict.{HasVerdict, Accepted, Refused as IsRefused}
+use Rattle.mc_compile.specs.Compilation.{Compilation, diagram_of, IsCompilationOf, IsCompiledFrom}
 use Rattle.mdlc.specs.declared.tool.Ending.{Ending}
-use Rattle.mdlc.specs.declared.tool.Ending.TheVariants.{Compiled, Usage, Refused, ReadFault, WriteFault, NoMemory}
-use Rattle.mdlc.specs.Words.{Asked, model_of, code_of}
-use Rattle.mdlc.specs.Texts.{compiled_line, usage_line, read_fault_line, write_fault_line, no_memory_line}
+use Rattle.mdlc.specs.declared.tool.Ending.TheVariants.{Compiled, Ran, Usage, Refused, BadTrace, CodeRefused, CodeTooLong, Stuck as IsStuck, ReadFault, WriteFault, PutFault, NoMemory}
+use Rattle.mdlc.specs.Words.{Asked, Compile, Run, Exec}
+use Rattle.mdlc.specs.Texts.{compiled_line, totals_line, usage_line, bad_line_line, code_refused_line, long_code_line, stuck_line, read_fault_line, write_fault_line, no_memory_line}
 use Rattle.mdlc.specs.Told.{HostTold, SinkTold, NoFault}
+use Rattle.mdlc.specs.Runs.{HasStepTypes, RunsTo}
 
 -- the status of an ending
 abbrev pub status_of : Ending → ℕ
 status_of (Compiled rows systems functions) = 0
+status_of (Ran totals) = 0
 status_of Usage = 2
 status_of (Refused refusal) = 3
+status_of (BadTrace line) = 4
 status_of ReadFault = 5
 status_of WriteFault = 6
+status_of PutFault = 7
+status_of (CodeRefused fault) = 8
+status_of CodeTooLong = 8
+status_of (IsStuck at) = 9
 status_of NoMemory = 10
 
--- the text of an ending
+-- the text of an ending, behind the lines of the ticks
 abbrev pub text_of : Ending → List ℕ
 text_of (Compiled rows systems functions) = compiled_line rows systems functions
+text_of (Ran totals) = totals_line totals.ticks totals.steps totals.calls
 text_of Usage = usage_line
 text_of (Refused refusal) = refusal_line (plain_refusal refusal)
+text_of (BadTrace line) = bad_line_line line
 text_of ReadFault = read_fault_line
 text_of WriteFault = write_fault_line
+text_of PutFault = []
+text_of (CodeRefused fault) = code_refused_line fault
+text_of CodeTooLong = long_code_line
+text_of (IsStuck at) = stuck_line at
 text_of NoMemory = no_memory_line
 
--- P holds of the bytes of the model that is asked for, where the host tells its files
-abbrev pub OnModel : Asked → HostTold → (List ℕ → Type 0) → Type 0
-OnModel a h P = OnFile h.files h.rest (model_of a) P
+-- ---- Models and their code
+
+-- P holds of the bytes of the file of this name, where the host tells its files
+abbrev pub OnNamed : HostTold → List ℕ → (List ℕ → Type 0) → Type 0
+OnNamed h name P = OnFile h.files h.rest name P
 
 -- the model was compiled, with these counts, and the code written whole
-abbrev pub WritesCode : (rows systems functions : ℕ) → Asked → List ℕ → HostTold → HostTold → Type 0
-WritesCode rows systems functions a model h h' =
+abbrev pub WritesCode : (rows systems functions : ℕ) → (code model : List ℕ) → HostTold → HostTold → Type 0
+WritesCode rows systems functions code model h h' =
     (c : Compilation) × IsCompiledFrom model c × (c.rows ≡ rows) × (c.systems ≡ systems) × (c.functions ≡ functions)
-    × (h'.written ≡ add_file h.written (code_of a) c.code)
+    × (h'.written ≡ add_file h.written code c.code)
 
 -- the model was compiled, and a front of the code written, or no file
-abbrev pub WritesCodeFront : Asked → List ℕ → HostTold → HostTold → Type 0
-WritesCodeFront a model h h' =
-    (c : Compilation) × IsCompiledFrom model c × WritesFront h.written h'.written (code_of a) c.code
+abbrev pub WritesCodeFront : (code model : List ℕ) → HostTold → HostTold → Type 0
+WritesCodeFront code model h h' =
+    (c : Compilation) × IsCompiledFrom model c × WritesFront h.written h'.written code c.code
 
-pub record EndsCompiled (rows systems functions : ℕ) (a : Asked) (h h' : HostTold) : Type 0 where
-  pub model : OnModel a h (λ model. WritesCode rows systems functions a model h h')
+-- nothing was put, and no fault of putting counted
+abbrev pub PutsNothing : (b b' : SinkTold) → Type 0
+PutsNothing b b' = b' ≡ b
+
+pub record EndsCompiled (rows systems functions : ℕ) (model_name code_name : List ℕ) (h h' : HostTold) : Type 0 where
+  pub model : OnNamed h model_name (λ bytes. WritesCode rows systems functions code_name bytes h h')
   pub no_fault : NoFault h h'
 
-pub record EndsRefused (refusal : PlainRefusal) (a : Asked) (h h' : HostTold) : Type 0 where
-  pub model : OnModel a h (λ model. HasVerdict model (IsRefused refusal))
+pub record EndsRefused (refusal : PlainRefusal) (name : List ℕ) (h h' : HostTold) : Type 0 where
+  pub model : OnNamed h name (λ bytes. HasVerdict bytes (IsRefused refusal))
   pub written : h'.written ≡ h.written
   pub no_fault : NoFault h h'
 
-pub record EndsReadFault (a : Asked) (h h' : HostTold) : Type 0 where
+-- the first file that is read is this one
+pub record EndsReadFault (name : List ℕ) (h h' : HostTold) : Type 0 where
   pub rose : Rose h.read_faults h'.read_faults
-  pub unsure : h.sure (model_of a) ≡ false
+  pub unsure : h.sure name ≡ false
   pub written : h'.written ≡ h.written
 
-pub record EndsWriteFault (a : Asked) (h h' : HostTold) : Type 0 where
+pub record EndsWriteFault (model_name code_name : List ℕ) (h h' : HostTold) : Type 0 where
   pub rose : Rose h.write_faults h'.write_faults
-  pub model : OnModel a h (λ model. WritesCodeFront a model h h')
+  pub model : OnNamed h model_name (λ bytes. WritesCodeFront code_name bytes h h')
+
+-- memory may run out before anything is written, and after the code is
+abbrev pub EndsNoMemory : (model code : List ℕ) → HostTold → HostTold → Type 0
+EndsNoMemory model code h h' =
+    (h'.written ≡ h.written) ⊎ OnNamed h model (λ bytes. WritesCodeFront code bytes h h')
+
+-- ---- Compiling
+
+abbrev pub EndsCompile : Ending → (model code : List ℕ) → HostTold → HostTold → Type 0
+EndsCompile (Compiled rows systems functions) model code h h' = EndsCompiled rows systems functions model code h h'
+EndsCompile (Refused refusal) model code h h' = EndsRefused (plain_refusal refusal) model h h'
+EndsCompile ReadFault model code h h' = EndsReadFault model h h'
+EndsCompile WriteFault model code h h' = EndsWriteFault model code h h'
+EndsCompile NoMemory model code h h' = EndsNoMemory model code h h'
+EndsCompile _ model code h h' = ⊥
+
+-- ---- Running the code of a model
+
+-- the types of the root's inputs
+abbrev pub root_types : List Row → List FixType
+root_types rows = map (input_type_of (diagram_of rows) None) (input_ports rows None)
+
+-- a model was compiled, and its code written whole
+pub record WritesWhole (code model : List ℕ) (h h' : HostTold) : Type 0 where
+  pub rows : List Row
+  pub verdict : HasVerdict model (Accepted rows)
+  pub compilation : Compilation
+  pub right : IsCompilationOf rows compilation
+  pub written : h'.written ≡ add_file h.written code compilation.code
+
+-- the model was compiled, its code written whole, and the program that it is run over the trace
+pub record RunsModel (e : Ending) (trace code model : List ℕ) (h h' : HostTold) (b b' : SinkTold) : Type 0 where
+  pub whole : WritesWhole code model h h'
+  pub runs : OnNamed h trace (λ bytes. RunsTo e whole.right.code.program (root_types whole.rows) bytes b b')
+
+-- the same where nothing failed, and where no fault of reading or writing was counted
+pub record EndsRun (e : Ending) (model_name code_name trace_name : List ℕ) (h h' : HostTold) (b b' : SinkTold) : Type 0 where
+  pub model : OnNamed h model_name (λ bytes. RunsModel e trace_name code_name bytes h h' b b')
+  pub no_fault : NoFault h h'
+
+-- a fault of reading the model, or the trace behind the code
+abbrev pub EndsRunUnread : (model code trace : List ℕ) → HostTold → HostTold → Type 0
+EndsRunUnread model code trace h h' =
+    EndsReadFault model h h' ⊎ (Rose h.read_faults h'.read_faults × OnNamed h model (λ bytes. WritesWhole code bytes h h'))
+
+-- memory ran out before the code was written whole, or behind some lines of the run
+abbrev pub EndsRunNoMemory : (model code trace : List ℕ) → HostTold → HostTold → SinkTold → SinkTold → Type 0
+EndsRunNoMemory model code trace h h' b b' =
+    (EndsNoMemory model code h h' × PutsNothing b b') ⊎ OnNamed h model (λ bytes. RunsModel NoMemory trace code bytes h h' b b')
+
+abbrev pub EndsRunning : Ending → (model code trace : List ℕ) → HostTold → HostTold → SinkTold → SinkTold → Type 0
+EndsRunning (Ran totals) model code trace h h' b b' = EndsRun (Ran totals) model code trace h h' b b'
+EndsRunning (BadTrace line) model code trace h h' b b' = EndsRun (BadTrace line) model code trace h h' b b'
+EndsRunning PutFault model code trace h h' b b' = OnNamed h model (λ bytes. RunsModel PutFault trace code bytes h h' b b')
+EndsRunning (Refused refusal) model code trace h h' b b' = EndsRefused (plain_refusal refusal) model h h' × PutsNothing b b'
+EndsRunning ReadFault model code trace h h' b b' = EndsRunUnread model code trace h h' × PutsNothing b b'
+EndsRunning WriteFault model code trace h h' b b' = EndsWriteFault model code h h' × PutsNothing b b'
+EndsRunning NoMemory model code trace h h' b b' = EndsRunNoMemory model code trace h h' b b'
+EndsRunning _ model code trace h h' b b' = ⊥
+
+-- ---- Executing code
+
+-- the most bytes of a C file that is read
+abbrev pub code_limit : ℕ
+code_limit = 536_870_912
+
+-- the bytes are not too many, and the text of a program, which isn't stuck in its start and is run over the trace
+pub record ExecutesCode (e : Ending) (trace code : List ℕ) (h : HostTold) (b b' : SinkTold) : Type 0 where
+  pub fits : length code ≤ code_limit
+  pub program : ProgramTree
+  pub reading : CText code program
+  pub after : After
+  pub start : start_run program ≡ done after
+  pub types : List FixType
+  pub inputs : HasStepTypes program types
+  pub runs : OnNamed h trace (λ bytes. RunsTo e program types bytes b b')
+
+-- the bytes are not too many, and no text of a program
+abbrev pub IsUnread : CFault → List ℕ → Type 0
+IsUnread fault code = (length code ≤ code_limit) × CFaultOf code fault
+
+-- the bytes are not too many, and the text of a program, which is stuck in its start
+pub record IsStuckAtStart (at : Stuck) (code : List ℕ) : Type 0 where
+  pub fits : length code ≤ code_limit
+  pub program : ProgramTree
+  pub reading : CText code program
+  pub cells : Cells
+  pub start : start_run program ≡ stuck at cells
+
+-- the host has written nothing, and no fault was counted
+pub record LeavesHost (h h' : HostTold) : Type 0 where
+  pub written : h'.written ≡ h.written
+  pub no_fault : NoFault h h'
+
+pub record EndsExec (e : Ending) (code_name trace_name : List ℕ) (h h' : HostTold) (b b' : SinkTold) : Type 0 where
+  pub code : OnNamed h code_name (λ bytes. ExecutesCode e trace_name bytes h b b')
+  pub left : LeavesHost h h'
+
+-- the code is such, and nothing was put
+pub record EndsAtCode (name : List ℕ) (P : List ℕ → Type 0) (h h' : HostTold) (b b' : SinkTold) : Type 0 where
+  pub code : OnNamed h name P
+  pub left : LeavesHost h h'
+  pub silent : PutsNothing b b'
+
+abbrev pub EndsExecStuck : Stuck → (code trace : List ℕ) → HostTold → HostTold → SinkTold → SinkTold → Type 0
+EndsExecStuck at code trace h h' b b' =
+    EndsAtCode code (IsStuckAtStart at) h h' b b' ⊎ EndsExec (IsStuck at) code trace h h' b b'
+
+-- memory ran out before the run or behind some of its lines, and nothing was written
+abbrev pub EndsExecNoMemory : (code trace : List ℕ) → HostTold → HostTold → SinkTold → SinkTold → Type 0
+EndsExecNoMemory code trace h h' b b' =
+    (h'.written ≡ h.written) × (PutsNothing b b' ⊎ OnNamed h code (λ bytes. ExecutesCode NoMemory trace bytes h b b'))
+
+-- a fault of reading the code, or the trace behind it
+abbrev pub EndsExecUnread : HostTold → HostTold → SinkTold → SinkTold → Type 0
+EndsExecUnread h h' b b' = Rose h.read_faults h'.read_faults × (h'.written ≡ h.written) × PutsNothing b b'
+
+abbrev pub EndsExecuting : Ending → (code trace : List ℕ) → HostTold → HostTold → SinkTold → SinkTold → Type 0
+EndsExecuting (Ran totals) code trace h h' b b' = EndsExec (Ran totals) code trace h h' b b'
+EndsExecuting (BadTrace line) code trace h h' b b' = EndsExec (BadTrace line) code trace h h' b b'
+EndsExecuting PutFault code trace h h' b b' = (h'.written ≡ h.written) × OnNamed h code (λ bytes. ExecutesCode PutFault trace bytes h b b')
+EndsExecuting (CodeRefused fault) code trace h h' b b' = EndsAtCode code (IsUnread fault) h h' b b'
+EndsExecuting CodeTooLong code trace h h' b b' = EndsAtCode code (λ bytes. code_limit < length bytes) h h' b b'
+EndsExecuting (IsStuck at) code trace h h' b b' = EndsExecStuck at code trace h h' b b'
+EndsExecuting ReadFault code trace h h' b b' = EndsExecUnread h h' b b'
+EndsExecuting NoMemory code trace h h' b b' = EndsExecNoMemory code trace h h' b b'
+EndsExecuting _ code trace h h' b b' = ⊥
+
+-- ---- All commands
 
 pub record EndsUsage (h h' : HostTold) : Type 0 where
   pub written : h'.written ≡ h.written
   pub no_fault : NoFault h h'
 
--- memory may run out before anything is written, and after the code is
-abbrev pub EndsNoMemory : Option Asked → HostTold → HostTold → Type 0
-EndsNoMemory a h h' =
-    (h'.written ≡ h.written) ⊎ IsSomeAnd a (λ a. OnModel a h (λ model. WritesCodeFront a model h h'))
+-- where nothing lawful was asked for
+abbrev pub EndsUnasked : Ending → HostTold → HostTold → Type 0
+EndsUnasked Usage h h' = EndsUsage h h'
+EndsUnasked NoMemory h h' = h'.written ≡ h.written
+EndsUnasked _ h h' = ⊥
 
--- what an ending says of the words and the host
-abbrev pub Ends : Ending → Option Asked → HostTold → HostTold → Type 0
-Ends (Compiled rows systems functions) a h h' = IsSomeAnd a (λ a. EndsCompiled rows systems functions a h h')
-Ends Usage a h h' = (a ≡ None) × EndsUsage h h'
-Ends (Refused refusal) a h h' = IsSomeAnd a (λ a. EndsRefused (plain_refusal refusal) a h h')
-Ends ReadFault a h h' = IsSomeAnd a (λ a. EndsReadFault a h h')
-Ends WriteFault a h h' = IsSomeAnd a (λ a. EndsWriteFault a h h')
-Ends NoMemory a h h' = EndsNoMemory a h h'
+-- what was found, written and put up to the ending's own text
+abbrev pub Finds : Ending → Option Asked → HostTold → HostTold → SinkTold → SinkTold → Type 0
+Finds e None h h' b b' = EndsUnasked e h h' × PutsNothing b b'
+Finds e (Some (Compile model code)) h h' b b' = EndsCompile e model code h h' × PutsNothing b b'
+Finds e (Some (Run model code trace)) h h' b b' = EndsRunning e model code trace h h' b b'
+Finds e (Some (Exec code trace)) h h' b b' = EndsExecuting e code trace h h' b b'
+
+-- a fault of putting was counted where a line wasn't put, and else none
+abbrev pub CountsPuts : Ending → SinkTold → SinkTold → Type 0
+CountsPuts PutFault b b' = Rose b.faults b'.faults
+CountsPuts _ b b' = b'.faults ≡ b.faults
+
+-- What an ending says of the words, of the host, and of the sink up to the ending's own text.
+pub record Ends (e : Ending) (a : Option Asked) (h h' : HostTold) (b b' : SinkTold) : Type 0 where
+  pub finds : Finds e a h h' b b'
+  pub counts : CountsPuts e b b'
 
 -- bytes were put whole, and no count rose
 pub record PutsWhole (bytes : List ℕ) (b b' : SinkTold) : Type 0 where
@@ -91,10 +260,15 @@ pub record PutsPart (bytes : List ℕ) (b b' : SinkTold) : Type 0 where
   pub text : PutsFront b.bytes b'.bytes bytes
   pub rose : Rose b.faults b'.faults
 
+-- the ending whose text is put is the one that was found, or want of memory, but where a line couldn't be put
+abbrev pub IsSaidOf : Ending → Ending → Type 0
+IsSaidOf said found = (said ≡ found) ⊎ ((said ≡ NoMemory) × (found ≢ PutFault))
+
 -- the ending's text was put whole and its status is given, or a front of it was and the status is 7
 abbrev pub Puts : Ending → ℕ → SinkTold → SinkTold → Type 0
 Puts e s b b' = ((s ≡ status_of e) × PutsWhole (text_of e) b b') ⊎ ((s ≡ 7) × PutsPart (text_of e) b b')
 
--- a call that gave this status ended in some way, which says what the words ask for, what was found, written and put
+-- A call that gave this status ended in some way, which says what the words ask for, what was found, written and put;
+-- `before` is the sink behind the lines of the ticks.
 abbrev pub EndsAt : ℕ → Option Asked → HostTold → HostTold → SinkTold → SinkTold → Type 0
-EndsAt s a h h' b b' = (e : Ending) × Ends e a h h' × Puts e s b b'
+EndsAt s a h h' b b' = (e : Ending) × (before : SinkTold) × Ends e a h h' b before × Puts e s before b'

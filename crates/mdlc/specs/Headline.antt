@@ -1,43 +1,119 @@
--- What `compile` writes.
-use Rattle.std.specs.Prelude.{◌≡◌, ◌⊎◌, ℕ, List, Option, IfSome}
+-- What `compile`, `run` and `exec` do where nothing fails.
+use Rattle.std.specs.Prelude.{◌≡◌, ◌≢◌, ◌⊎◌, ℕ, ◌<◌, ◌≤◌, List, ◌++◌, length, Option, Some, None, ⊤}
 use Rattle.std.specs.Io.KnownBytes.{append_known}
 use Rattle.mc_base.specs.Refusals.{PlainRefusal, refusal_line}
+use Rattle.mc_fixed.specs.declared.types.FixType.{FixType}
 use Rattle.mc_edge.specs.Faults.{IsCalm}
 use Rattle.mc_edge.specs.Files.{add_file}
 use Rattle.mc_diagram.specs.declared.Row.{Row}
+use Rattle.mc_trace.specs.declared.rows.BadLine.{BadLine}
+use Rattle.c_tree.specs.declared.fault.CFault.{CFault}
+use Rattle.c_tree.specs.declared.fault.Stuck.{Stuck}
+use Rattle.c_tree.specs.Tree.{ProgramTree}
+use Rattle.c_tree.specs.Cells.{Cells}
+use Rattle.c_tree.specs.Machine.{After, done, stuck}
+use Rattle.c_tree.specs.Rows.{TickRow, start_run}
+use Rattle.c_tree.specs.Reading.{CText, CFaultOf}
+use Rattle.c_emitter.specs.Code.{GivesOutputs}
 use Rattle.mc_compile.specs.Verdict.{HasVerdict, Accepted, Refused}
-use Rattle.mc_compile.specs.Compilation.{Compilation, IsCompilationOf}
-use Rattle.mdlc.specs.Words.{Asked, model_of, code_of}
-use Rattle.mdlc.specs.Texts.{compiled_line}
+use Rattle.mc_compile.specs.Compilation.{Compilation, diagram_of, IsCompilationOf}
+use Rattle.mc_runner.specs.Texts.{ticks_text}
+use Rattle.mc_runner.specs.Runs.{totals_of}
+use Rattle.mdlc.specs.Words.{Asked, Compile, Run, Exec}
+use Rattle.mdlc.specs.Texts.{compiled_line, totals_line, bad_line_line, code_refused_line, long_code_line, stuck_line}
 use Rattle.mdlc.specs.Told.{HostTold, SinkTold}
-use Rattle.mdlc.specs.Statuses.{IfFile, IsDone}
+use Rattle.mdlc.specs.Runs.{HasStepTypes, rows_in, rows_over, bad_line}
+use Rattle.mdlc.specs.Endings.{root_types, code_limit}
+use Rattle.mdlc.specs.Statuses.{IfFile, IsDone, run_status, status_over}
+
+-- no count of faults rises in the call, or stands at its greatest value
+pub record Calm (h h' : HostTold) (b b' : SinkTold) : Type 0 where
+  pub reads : IsCalm h.read_faults h'.read_faults
+  pub writes : IsCalm h.write_faults h'.write_faults
+  pub puts : IsCalm b.faults b'.faults
+
+-- the status is n and this text is put, unless memory runs out
+pub record Tells (n : ℕ) (text : List ℕ) (s : ℕ) (b b' : SinkTold) : Type 0 where
+  pub status : (s ≡ n) ⊎ (s ≡ 10)
+  pub put : s ≡ n → b'.bytes ≡ append_known b.bytes text
+
+-- a model that the rules refuse is refused, unless memory runs out: nothing is written, and the refusal put
+pub record TellsRefusal (refusal : PlainRefusal) (s : ℕ) (h h' : HostTold) (b b' : SinkTold) : Type 0 where
+  pub tells : Tells 3 (refusal_line refusal) s b b'
+  pub unwritten : s ≡ 3 → h'.written ≡ h.written
+
+-- ---- `compile`
 
 -- right code for the rows is written as the one new file, and the compiled line put
-pub record WritesRightCode (rows : List Row) (a : Asked) (h h' : HostTold) (b b' : SinkTold) : Type 0 where
+pub record WritesRightCode (rows : List Row) (code : List ℕ) (h h' : HostTold) (b b' : SinkTold) : Type 0 where
   pub compilation : Compilation
   pub right : IsCompilationOf rows compilation
-  pub written : h'.written ≡ add_file h.written (code_of a) compilation.code
+  pub written : h'.written ≡ add_file h.written code compilation.code
   pub line : b'.bytes ≡ append_known b.bytes (compiled_line compilation.rows compilation.systems compilation.functions)
 
 -- a model that the rules accept is compiled, unless memory runs out
-pub record CompilesAccepted (rows : List Row) (s : ℕ) (a : Asked) (h h' : HostTold) (b b' : SinkTold) : Type 0 where
+pub record CompilesAccepted (rows : List Row) (s : ℕ) (code : List ℕ) (h h' : HostTold) (b b' : SinkTold) : Type 0 where
   pub status : IsDone s
-  pub done : s ≡ 0 → WritesRightCode rows a h h' b b'
-
--- a model that they refuse is refused, unless memory runs out: nothing is written, and the refusal put
-pub record TellsRefusal (refusal : PlainRefusal) (s : ℕ) (h h' : HostTold) (b b' : SinkTold) : Type 0 where
-  pub status : (s ≡ 3) ⊎ (s ≡ 10)
-  pub unwritten : s ≡ 3 → h'.written ≡ h.written
-  pub line : s ≡ 3 → b'.bytes ≡ append_known b.bytes (refusal_line refusal)
+  pub done : s ≡ 0 → WritesRightCode rows code h h' b b'
 
 -- what a call does with the bytes of its model
-pub record Compiles (model : List ℕ) (s : ℕ) (a : Asked) (h h' : HostTold) (b b' : SinkTold) : Type 0 where
-  pub accepted : (rows : List Row) → HasVerdict model (Accepted rows) → CompilesAccepted rows s a h h' b b'
+pub record Compiles (model : List ℕ) (s : ℕ) (code : List ℕ) (h h' : HostTold) (b b' : SinkTold) : Type 0 where
+  pub accepted : (rows : List Row) → HasVerdict model (Accepted rows) → CompilesAccepted rows s code h h' b b'
   pub refused : (refusal : PlainRefusal) → HasVerdict model (Refused refusal) → TellsRefusal refusal s h h' b b'
 
--- Where the words ask to compile a file that the host tells, and no count of faults rises or stands at its greatest
--- value, right code is written for a model that the rules accept, and nothing for one that they refuse.
-abbrev pub CompilesRight : ℕ → Option Asked → (h h' : HostTold) (b b' : SinkTold) → Type 0
-CompilesRight s a h h' b b' =
-    IsCalm h.read_faults h'.read_faults → IsCalm h.write_faults h'.write_faults → IsCalm b.faults b'.faults →
-    IfSome a (λ a. IfFile h (model_of a) (λ model. Compiles model s a h h' b b'))
+-- ---- `run`
+
+-- the last line of a run: where it is stuck, or the first bad line, or the totals
+abbrev pub last_line : List TickRow → Option Stuck → Option BadLine → List ℕ
+last_line ticks (Some at) bad = stuck_line at
+last_line ticks None (Some line) = bad_line_line line
+last_line ticks None None = let t = totals_of ticks in totals_line t.ticks t.steps t.calls
+
+-- what a run of a program over a trace puts: a line for each tick, and the last line
+abbrev pub run_text : ProgramTree → List FixType → List ℕ → List ℕ
+run_text p types trace =
+    let rows = rows_over p types trace in ticks_text rows.ticks ++ last_line rows.ticks rows.stuck_place (bad_line types trace)
+
+-- Right code for the rows is written as the one new file. What is put is what its one reading gives over the trace, up to
+-- its first bad line, and those are the outputs of the diagram's one run.
+pub record RunsRightCode (rows : List Row) (trace code : List ℕ) (h h' : HostTold) (b b' : SinkTold) : Type 0 where
+  pub compilation : Compilation
+  pub right : IsCompilationOf rows compilation
+  pub written : h'.written ≡ add_file h.written code compilation.code
+  pub outputs : GivesOutputs right.code.program (diagram_of rows) (rows_in (root_types rows) trace)
+  pub lines : b'.bytes ≡ append_known b.bytes (run_text right.code.program (root_types rows) trace)
+
+-- the code of a model that the rules accept is run over the trace, unless memory runs out
+pub record RunsAccepted (rows : List Row) (trace : List ℕ) (s : ℕ) (code : List ℕ) (h h' : HostTold) (b b' : SinkTold) : Type 0 where
+  pub status : (s ≡ run_status None (bad_line (root_types rows) trace)) ⊎ (s ≡ 10)
+  pub done : s ≢ 10 → RunsRightCode rows trace code h h' b b'
+
+-- what a call does with the bytes of its model
+pub record Runs (model trace : List ℕ) (s : ℕ) (code : List ℕ) (h h' : HostTold) (b b' : SinkTold) : Type 0 where
+  pub accepted : (rows : List Row) → HasVerdict model (Accepted rows) → IfFile h trace (λ lines. RunsAccepted rows lines s code h h' b b')
+  pub refused : (refusal : PlainRefusal) → HasVerdict model (Refused refusal) → TellsRefusal refusal s h h' b b'
+
+-- ---- `exec`
+
+-- what a call does with the bytes of its code; it writes nothing
+pub record Executes (code trace : List ℕ) (s : ℕ) (h h' : HostTold) (b b' : SinkTold) : Type 0 where
+  pub unwritten : h'.written ≡ h.written
+  pub long : code_limit < length code → Tells 8 long_code_line s b b'
+  pub unread : length code ≤ code_limit → (fault : CFault) → CFaultOf code fault → Tells 8 (code_refused_line fault) s b b'
+  pub stuck : length code ≤ code_limit → (p : ProgramTree) → CText code p → (at : Stuck) (cells : Cells) → start_run p ≡ stuck at cells → Tells 9 (stuck_line at) s b b'
+  pub runs : length code ≤ code_limit → (p : ProgramTree) → CText code p → (after : After) → start_run p ≡ done after →
+      (types : List FixType) → HasStepTypes p types → IfFile h trace (λ lines. Tells (status_over p types lines) (run_text p types lines) s b b')
+
+-- ---- All three
+
+-- what is done with what is asked for, where the host tells the files that it names
+abbrev pub Does : ℕ → Option Asked → (h h' : HostTold) (b b' : SinkTold) → Type 0
+Does s None h h' b b' = ⊤
+Does s (Some (Compile model code)) h h' b b' = IfFile h model (λ bytes. Compiles bytes s code h h' b b')
+Does s (Some (Run model code trace)) h h' b b' = IfFile h model (λ bytes. Runs bytes trace s code h h' b b')
+Does s (Some (Exec code trace)) h h' b b' = IfFile h code (λ bytes. Executes bytes trace s h h' b b')
+
+-- Where no count of faults rises or stands at its greatest value: right code is written for a model that the rules accept, and
+-- run by `run`; nothing is written for one that they refuse; and `exec` runs the code that it is given.
+abbrev pub DoesRight : ℕ → Option Asked → (h h' : HostTold) (b b' : SinkTold) → Type 0
+DoesRight s a h h' b b' = Calm h h' b b' → Does s a h h' b b'

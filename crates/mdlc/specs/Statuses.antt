@@ -1,8 +1,21 @@
 -- When each status comes.
-use Rattle.std.specs.Prelude.{◌≡◌, ◌≢◌, ◌⊎◌, ℕ, Bool, true, List, Option, IsSomeAnd, IfSome, OnSome}
-use Rattle.mc_edge.specs.Files.{File, OnFile, lookup}
-use Rattle.mdlc.specs.Words.{Asked, model_of}
+use Rattle.std.specs.Prelude.{◌≡◌, ◌≢◌, ◌⊎◌, ℕ, ◌<◌, ◌≤◌, List, length, Option, Some, None, IsSomeAnd, IfSome, OnSome}
+use Rattle.mc_base.specs.Refusals.{PlainRefusal}
+use Rattle.mc_fixed.specs.declared.types.FixType.{FixType}
+use Rattle.mc_edge.specs.Files.{File, lookup}
+use Rattle.mc_diagram.specs.declared.Row.{Row}
+use Rattle.mc_trace.specs.declared.rows.BadLine.{BadLine}
+use Rattle.c_tree.specs.declared.fault.CFault.{CFault}
+use Rattle.c_tree.specs.declared.fault.Stuck.{Stuck}
+use Rattle.c_tree.specs.Tree.{ProgramTree}
+use Rattle.c_tree.specs.Machine.{Outcome, done, stuck}
+use Rattle.c_tree.specs.Rows.{start_run}
+use Rattle.c_tree.specs.Reading.{CText, CFaultOf}
+use Rattle.mc_compile.specs.Verdict.{HasVerdict, Accepted, Refused}
+use Rattle.mdlc.specs.Words.{Asked, Compile, Run, Exec}
 use Rattle.mdlc.specs.Told.{HostTold}
+use Rattle.mdlc.specs.Runs.{HasStepTypes, rows_over, bad_line}
+use Rattle.mdlc.specs.Endings.{root_types, code_limit}
 
 -- no status that a fault or want of memory gives
 pub record IsPlain (s : ℕ) : Type 0 where
@@ -16,26 +29,59 @@ pub record IsExactly (n s : ℕ) (P : Type 0) : Type 0 where
   pub only : s ≡ n → P
   pub wherever : P → IsPlain s → s ≡ n
 
--- where the host tells its files: the model that is asked for is there, and P holds of it
-abbrev pub HasModel : Option Asked → HostTold → (List ℕ → Type 0) → Type 0
-HasModel a h P = IsSomeAnd a (λ a. OnFile h.files h.rest (model_of a) P)
+-- ---- What is done with files, where nothing fails
+
+-- a model that is refused gives status 3, and one that is accepted what P says of its rows
+abbrev pub ModelComes : List ℕ → ℕ → (List Row → Type 0) → Type 0
+ModelComes model n P =
+    ((refusal : PlainRefusal) × HasVerdict model (Refused refusal) × (n ≡ 3))
+    ⊎ ((rows : List Row) × HasVerdict model (Accepted rows) × P rows)
+
+-- the status of a run, by the place where it is stuck and by the first bad line of its trace
+abbrev pub run_status : Option Stuck → Option BadLine → ℕ
+run_status (Some at) bad = 9
+run_status None (Some line) = 4
+run_status None None = 0
+
+-- the status of a run of a program over a trace with numbers of these types
+abbrev pub status_over : ProgramTree → List FixType → List ℕ → ℕ
+status_over p types trace = run_status (rows_over p types trace).stuck_place (bad_line types trace)
+
+-- a program that is stuck in its start gives status 9, and else what its run over the trace gives
+abbrev pub ProgramComes : ProgramTree → Outcome → Option (List ℕ) → ℕ → Type 0
+ProgramComes p (stuck at cells) trace n = n ≡ 9
+ProgramComes p (done after) trace n =
+    (types : List FixType) × HasStepTypes p types × IsSomeAnd trace (λ bytes. n ≡ status_over p types bytes)
+
+-- bytes that are too many or no text of a program give status 8
+abbrev pub CodeComes : List ℕ → Option (List ℕ) → ℕ → Type 0
+CodeComes code trace n =
+    ((code_limit < length code) × (n ≡ 8))
+    ⊎ ((length code ≤ code_limit) × ((fault : CFault) × CFaultOf code fault × (n ≡ 8)))
+    ⊎ ((length code ≤ code_limit) × ((p : ProgramTree) × CText code p × ProgramComes p (start_run p) trace n))
+
+-- with these files, what is asked for comes to this status where nothing fails
+abbrev pub Comes : Asked → List File → ℕ → Type 0
+Comes (Compile model code) fs n = IsSomeAnd (lookup model fs) (λ bytes. ModelComes bytes n (λ rows. n ≡ 0))
+Comes (Run model code trace) fs n =
+    IsSomeAnd (lookup model fs) (λ bytes. ModelComes bytes n (λ rows.
+    IsSomeAnd (lookup trace fs) (λ lines. n ≡ run_status None (bad_line (root_types rows) lines))))
+Comes (Exec code trace) fs n = IsSomeAnd (lookup code fs) (λ bytes. CodeComes bytes (lookup trace fs) n)
+
+-- but for faults and want of memory, the status is n exactly where what is asked for comes to n
+pub record ComesExactly (s : ℕ) (a : Asked) (fs : List File) : Type 0 where
+  pub only : IsPlain s → Comes a fs s
+  pub wherever : (n : ℕ) → Comes a fs n → IsPlain s → s ≡ n
+
+-- where something lawful is asked for and the host tells its files
+abbrev pub OnTold : Option Asked → HostTold → (Asked → List File → Type 0) → Type 0
+OnTold a h P = IfSome a (λ a. IfSome h.files (λ fs. OnSome h.rest (P a fs)))
+
+-- ---- Files of a host
 
 -- where the host tells its files: if a file of this name is there, P holds of the first one's bytes
 abbrev pub IfFile : HostTold → List ℕ → (List ℕ → Type 0) → Type 0
 IfFile h name P = IfSome h.files (λ fs. OnSome h.rest (IfSome (lookup name fs) P))
-
--- if the model that is asked for is there, P holds of it
-abbrev pub IfModel : Option Asked → HostTold → (List ℕ → Type 0) → Type 0
-IfModel a h P = IfSome a (λ a. IfFile h (model_of a) P)
-
--- the status is n exactly where the model that is asked for has P
-pub record IsExactlyAtModel (n s : ℕ) (a : Option Asked) (h : HostTold) (P : List ℕ → Type 0) : Type 0 where
-  pub only : s ≡ n → HasModel a h P
-  pub wherever : IfModel a h (λ model. P model → IsPlain s → s ≡ n)
-
--- the host is sure of the file that is asked for
-abbrev pub IsSure : Option Asked → HostTold → Type 0
-IsSure a h = IfSome a (λ a. h.sure (model_of a) ≡ true)
 
 -- the work is done, unless memory ran out
 abbrev pub IsDone : ℕ → Type 0

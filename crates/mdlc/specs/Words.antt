@@ -3,7 +3,7 @@ use Rattle.std.specs.Prelude.{ℕ, Bool, false, not, ◌&&◌, ◌==◌, if◌th
 use Rattle.std.specs.List.{list_all}
 use Rattle.std.specs.declared.alloc.Global.{Global}
 use Rattle.mdlc.specs.declared.words.Command.{Command}
-use Rattle.mdlc.specs.declared.words.Command.TheVariants.{Compile as CompileCommand}
+use Rattle.mdlc.specs.declared.words.Command.TheVariants as command
 
 -- the bytes of each word
 abbrev pub word_bytes : List (String Global) → List (List ℕ)
@@ -17,18 +17,27 @@ is_word (b ∷ bs) = not (b == 45)
 -- what is asked for, with the names of the files
 pub data Asked : Type 0 where
   Compile : (model code : List ℕ) → Asked
+  Run : (model code trace : List ℕ) → Asked
+  Exec : (code trace : List ℕ) → Asked
 
--- the file that is read as a model, and the one that is written as code
-abbrev pub model_of : Asked → List ℕ
-model_of (Compile model code) = model
+abbrev pub differ : List ℕ → List ℕ → Bool
+differ a b = not (bytes_eq a b)
 
-abbrev pub code_of : Asked → List ℕ
-code_of (Compile model code) = code
+-- what a command of two further words asks for, and one of three; the code that is written is no file that is read
+abbrev pub with_two : List ℕ → (first second : List ℕ) → Option Asked
+with_two command first second =
+    if bytes_eq command (codes "compile") && differ second first then Some (Compile first second)
+    else if bytes_eq command (codes "exec") then Some (Exec first second)
+    else None
 
--- what a command asks for with its further words; the code isn't the file that the command reads
+abbrev pub with_three : List ℕ → (model code trace : List ℕ) → Option Asked
+with_three command model code trace =
+    if bytes_eq command (codes "run") && differ code model && differ code trace then Some (Run model code trace) else None
+
+-- what a command asks for with its further words
 abbrev pub command_with : List ℕ → List (List ℕ) → Option Asked
-command_with command (model ∷ code ∷ []) =
-    if bytes_eq command (codes "compile") && not (bytes_eq model code) then Some (Compile model code) else None
+command_with command (first ∷ second ∷ []) = with_two command first second
+command_with command (first ∷ second ∷ third ∷ []) = with_three command first second third
 command_with command _ = None
 
 -- what the words ask for, if they are lawful
@@ -38,4 +47,6 @@ asked_by (command ∷ words) = if list_all is_word (command ∷ words) then comm
 
 -- a command of the program, without where its words lie
 abbrev pub asked : Command → Asked
-asked (CompileCommand model code) = Compile model.now code.now
+asked (command.Compile model code) = Compile model.now code.now
+asked (command.Run model code trace) = Run model.now code.now trace.now
+asked (command.Exec code trace) = Exec code.now trace.now

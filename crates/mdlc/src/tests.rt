@@ -5,7 +5,9 @@ use mc_edge::{MemHost, MemSink, SureHost, SureSink};
 use std::alloc::{AllocError, Global};
 use std::test::Fail;
 
+mod code_texts;
 mod models;
+mod runs;
 
 /// How a call ended over hosts and sinks in memory.
 #[derive(Drop)]
@@ -97,20 +99,31 @@ fn one_delay(rt: HostRuntime) -> Result<(), Fail> {
 #[test]
 fn usage(rt: HostRuntime) -> Result<(), Fail> {
     for line in [
-        "run a b",
+        "help",
+        "--help",
         "compile a.mdl",
         "compile a.mdl a.mdl",
         "compile a.mdl -c",
         "compile a.mdl ",
         "compile a.mdl a.c d",
-        "help",
-        "--help",
+        "run a.mdl a.c",
+        "run a.mdl a.mdl t",
+        "run a.mdl t t",
+        "run a.mdl a.c t u",
+        "exec a.c",
+        "exec a.c -t",
+        "exec a.c t u",
     ] {
         let told = called(rt.alloc(), line, models::ONE_WIRE, &[], &[], 4096)?;
         assert_eq!(rt; told.status, 2, "{line}");
         assert_eq!(rt; told.put.as_slice(), USAGE, "{line}");
         assert_eq!(rt; told.files, 0);
     }
+    let alloc = rt.alloc();
+    let mut host = MemHost::new(alloc, Vec::new(alloc), Vec::new(alloc), 4096);
+    let mut out = MemSink::new(alloc, Vec::new(alloc), 4096);
+    assert_eq!(rt; run_tool(alloc, &[], &mut host, &mut out), 2);
+    assert_eq!(rt; out.bytes(), USAGE);
     Ok(())
 }
 

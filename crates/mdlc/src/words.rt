@@ -3,7 +3,19 @@
 /// What the words ask for, with the names of the files.
 #[derive(Clone, Copy, Debug)]
 pub enum Command<'a> {
-    Compile { model: &'a str, code: &'a str },
+    Compile {
+        model: &'a str,
+        code: &'a str,
+    },
+    Run {
+        model: &'a str,
+        code: &'a str,
+        trace: &'a str,
+    },
+    Exec {
+        code: &'a str,
+        trace: &'a str,
+    },
 }
 
 mod reading;

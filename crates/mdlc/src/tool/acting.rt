@@ -1,52 +1,103 @@
-ghost use Rattle.std.specs.Prelude.{◌≡◌, Some};
+ghost use Rattle.std.specs.Prelude.{◌≡◌, Some, IfSome, false};
 ghost use Rattle.mdlc.specs.Words.{word_bytes, asked_by};
-ghost use Rattle.mdlc.specs.Words.Asked.{Compile};
-ghost use Rattle.mdlc.specs.Told.{told};
-ghost use Rattle.mdlc.specs.Endings.{Ends};
+ghost use Rattle.mdlc.specs.Words.Asked.{Compile, Run, Exec};
+ghost use Rattle.mdlc.specs.Told.{told, sink_told};
+ghost use Rattle.mdlc.specs.Endings.{EndsCompile, Ends};
+ghost use Rattle.mdlc.specs.Completeness.{IfReadFault, IsUnsureOf};
 
 use super::Ending;
+use super::compiling::compile_into;
+use super::starting::started;
+use super::tracing::run_file;
 use crate::words::{Command, command};
-use mc_base::Refusal;
-use mc_compile::{CompileFault, compile};
-use mc_edge::{Failed, Host, ReadAllFault, read_all, write_all};
+use c_tree::readings_agree;
+use mc_edge::{Host, ReadAllFault, Sink, read_all};
 use std::alloc::Global;
 
-/// The most bytes that a model has.
-pub const MOST_BYTES: usize = 16_777_216;
+/// The most bytes that a C file has.
+const MOST_CODE: usize = 536_870_912;
 
 // Compiles the file `model` into the file `code`.
-fn compile_file<H: Host>(alloc: Global, host: &mut H, model: &str, code: &str) -> Ending
-    ensures { let at = told H.files H.rest H.written H.sure H.read_faults H.write_faults in
-        Ends result (Some (Compile model.now code.now)) (at host.old) (at host.new) }
+fn compile_model<H: Host>(alloc: Global, host: &mut H, model: &str, code: &str) -> Ending
+    ensures ends { let at = told H.files H.rest H.written H.sure H.read_faults H.write_faults in
+        EndsCompile result model.now code.now (at host.old) (at host.new) }
+    ensures unsure { IfReadFault result (H.sure host.old model.now ≡ false) }
 {
-    let bytes = match read_all(alloc, host, model, MOST_BYTES) {
-        Ok(bytes) => bytes,
-        Err(ReadAllFault::Read) => return Ending::ReadFault,
-        Err(ReadAllFault::TooLong) => return Ending::Refused(Refusal::TooLong),
-        Err(ReadAllFault::Memory) => return Ending::NoMemory,
-    };
-    let compiled = match compile(alloc, &bytes) {
-        Ok(compiled) => compiled,
-        Err(CompileFault::Refused(refusal)) => return Ending::Refused(refusal),
-        Err(CompileFault::Memory) => return Ending::NoMemory,
-    };
-    match write_all(host, code, &compiled.code) {
-        Ok(()) => Ending::Compiled {
+    match compile_into(alloc, host, model, code) {
+        Ok(compiled) => Ending::Compiled {
             rows: compiled.rows,
             systems: compiled.systems,
             functions: compiled.functions,
         },
-        Err(Failed) => Ending::WriteFault,
+        Err(ending) => ending,
     }
 }
 
-/// Does what the words ask for, but for the text that is put.
-pub fn act<H: Host>(alloc: Global, words: &[String], host: &mut H) -> Ending
-    ensures { let at = told H.files H.rest H.written H.sure H.read_faults H.write_faults in
-        Ends result (asked_by (word_bytes words.now)) (at host.old) (at host.new) }
+// Compiles the file `model` into the file `code`, and runs what was written over the file `trace`.
+fn run_model<H: Host, S: Sink>(
+    alloc: Global,
+    host: &mut H,
+    out: &mut S,
+    model: &str,
+    code: &str,
+    trace: &str,
+) -> Ending
+    ensures ends { let at = told H.files H.rest H.written H.sure H.read_faults H.write_faults in
+        let sink = sink_told S.bytes S.faults in
+        Ends result (Some (Run model.now code.now trace.now)) (at host.old) (at host.new) (sink out.old) (sink out.new) }
+    ensures unsure { IfReadFault result (IsUnsureOf H.files H.sure host.old (Run model.now code.now trace.now)) }
+{
+    let compiled = match compile_into(alloc, host, model, code) {
+        Ok(compiled) => compiled,
+        Err(ending) => return ending,
+    };
+    readings_agree();
+    match started(alloc, &compiled.code) {
+        Ok(mut machine) => run_file(alloc, host, out, &mut machine, trace),
+        // Right code is read and starts, so that memory alone can be wanting.
+        Err(ending) => ending,
+    }
+}
+
+// Runs the file `code` over the file `trace`.
+fn exec_code<H: Host, S: Sink>(
+    alloc: Global,
+    host: &mut H,
+    out: &mut S,
+    code: &str,
+    trace: &str,
+) -> Ending
+    ensures ends { let at = told H.files H.rest H.written H.sure H.read_faults H.write_faults in
+        let sink = sink_told S.bytes S.faults in
+        Ends result (Some (Exec code.now trace.now)) (at host.old) (at host.new) (sink out.old) (sink out.new) }
+    ensures unsure { IfReadFault result (IsUnsureOf H.files H.sure host.old (Exec code.now trace.now)) }
+{
+    let bytes = match read_all(alloc, host, code, MOST_CODE) {
+        Ok(bytes) => bytes,
+        Err(ReadAllFault::Read) => return Ending::ReadFault,
+        Err(ReadAllFault::TooLong) => return Ending::CodeTooLong,
+        Err(ReadAllFault::Memory) => return Ending::NoMemory,
+    };
+    let mut machine = match started(alloc, &bytes) {
+        Ok(machine) => machine,
+        Err(ending) => return ending,
+    };
+    run_file(alloc, host, out, &mut machine, trace)
+}
+
+/// Does what the words ask for, but for the last text that is put.
+pub fn act<H: Host, S: Sink>(alloc: Global, words: &[String], host: &mut H, out: &mut S) -> Ending
+    ensures ends { let at = told H.files H.rest H.written H.sure H.read_faults H.write_faults in
+        let sink = sink_told S.bytes S.faults in
+        Ends result (asked_by (word_bytes words.now)) (at host.old) (at host.new) (sink out.old) (sink out.new) }
+    ensures unsure { IfSome (asked_by (word_bytes words.now)) (λ asked. IfReadFault result (IsUnsureOf H.files H.sure host.old asked)) }
 {
     match command(words) {
         None => Ending::Usage,
-        Some(Command::Compile { model, code }) => compile_file(alloc, host, model, code),
+        Some(Command::Compile { model, code }) => compile_model(alloc, host, model, code),
+        Some(Command::Run { model, code, trace }) => {
+            run_model(alloc, host, out, model, code, trace)
+        }
+        Some(Command::Exec { code, trace }) => exec_code(alloc, host, out, code, trace),
     }
 }

@@ -1,17 +1,15 @@
-ghost use Rattle.std.specs.Prelude.{◌≡◌, ◌⊎◌, IfOk, string_bytes};
+ghost use Rattle.std.specs.Prelude.{◌≡◌, IfOk, MatchResult, string_bytes};
 ghost use Rattle.mdlc.specs.declared.tool.Ending.{Ending};
-ghost use Rattle.mdlc.specs.Texts.{compiled_line};
 ghost use Rattle.mdlc.specs.Told.{sink_told};
-ghost use Rattle.mdlc.specs.Endings.{text_of, status_of, Puts};
+ghost use Rattle.mdlc.specs.Endings.{text_of, status_of, IsSaidOf, Puts};
 
 use super::Ending;
+use super::lines::{
+    USAGE, bad_line_line, code_refused_line, compiled_line, stuck_line, totals_line,
+};
 use mc_base::{Memory, refusal_text};
 use mc_edge::{Failed, Sink, put_all};
 use std::alloc::{AllocError, Global};
-
-/// The usage line.
-pub const USAGE: &str =
-    "usage: mdlc compile MODEL CODE | run MODEL CODE TRACE | exec CODE TRACE | profile MODEL | drive MODEL CODE SUBSYSTEM SCRIPT | gen START SIZE MODEL CODE\n";
 
 // Bytes of a text.
 fn bytes_of(alloc: Global, text: &str) -> Result<Vec<u8>, Memory>
@@ -20,16 +18,14 @@ fn bytes_of(alloc: Global, text: &str) -> Result<Vec<u8>, Memory>
     text.as_bytes().to_vec(alloc).map_err(|_| Memory)
 }
 
-// The line of a compilation's counts.
-fn compiled_line(
-    alloc: Global,
-    rows: u32,
-    systems: u32,
-    functions: u32,
-) -> Result<String, AllocError>
-    ensures { IfOk result (λ line. string_bytes line ≡ compiled_line rows systems functions) }
+// Bytes of a line that was made.
+fn line_bytes(line: Result<String, AllocError>) -> Result<Vec<u8>, Memory>
+    ensures { IfOk result (λ bytes. MatchResult line (λ text. bytes.items ≡ string_bytes text) (λ _. ⊥)) }
 {
-    format!(in alloc; "compiled rows {rows} systems {systems} functions {functions}\n")
+    match line {
+        Ok(line) => Ok(line.into_bytes()),
+        Err(_) => Err(Memory),
+    }
 }
 
 // The text of an ending.
@@ -41,14 +37,17 @@ fn text(alloc: Global, ending: &Ending) -> Result<Vec<u8>, Memory>
             rows,
             systems,
             functions,
-        } => match compiled_line(alloc, *rows, *systems, *functions) {
-            Ok(line) => Ok(line.into_bytes()),
-            Err(_) => Err(Memory),
-        },
+        } => line_bytes(compiled_line(alloc, *rows, *systems, *functions)),
+        Ending::Ran(totals) => line_bytes(totals_line(alloc, *totals)),
         Ending::Usage => bytes_of(alloc, USAGE),
         Ending::Refused(refusal) => refusal_text(alloc, refusal),
+        Ending::BadTrace(bad) => line_bytes(bad_line_line(alloc, *bad)),
+        Ending::CodeRefused(fault) => line_bytes(code_refused_line(alloc, *fault)),
+        Ending::CodeTooLong => bytes_of(alloc, "code refused TooLong\n"),
+        Ending::Stuck(at) => line_bytes(stuck_line(alloc, *at)),
         Ending::ReadFault => bytes_of(alloc, "read fault\n"),
         Ending::WriteFault => bytes_of(alloc, "write fault\n"),
+        Ending::PutFault => bytes_of(alloc, ""),
         Ending::NoMemory => bytes_of(alloc, "no memory\n"),
     }
 }
@@ -58,11 +57,15 @@ fn status(ending: &Ending) -> u8
     ensures { result ≡ status_of ending.now }
 {
     match ending {
-        Ending::Compiled { .. } => 0,
+        Ending::Compiled { .. } | Ending::Ran(_) => 0,
         Ending::Usage => 2,
         Ending::Refused(_) => 3,
+        Ending::BadTrace(_) => 4,
         Ending::ReadFault => 5,
         Ending::WriteFault => 6,
+        Ending::PutFault => 7,
+        Ending::CodeRefused(_) | Ending::CodeTooLong => 8,
+        Ending::Stuck(_) => 9,
         Ending::NoMemory => 10,
     }
 }
@@ -78,11 +81,14 @@ fn put_ending<S: Sink>(out: &mut S, ending: &Ending, text: &[u8]) -> u8
     }
 }
 
-/// Puts an ending's text, or the text for want of memory, and says the status.
+/// Puts an ending's text, or the text for want of memory, and says the status. Where a line couldn't be put, nothing more is.
 pub fn finish<S: Sink>(alloc: Global, out: &mut S, ending: &Ending) -> u8
     ensures { let at = sink_told S.bytes S.faults in
-        (e : Ending) × ((e ≡ ending.now) ⊎ (e ≡ Ending.NoMemory)) × Puts e result (at out.old) (at out.new) }
+        (e : Ending) × IsSaidOf e ending.now × Puts e result (at out.old) (at out.new) }
 {
+    if let Ending::PutFault = ending {
+        return put_ending(out, ending, b"");
+    }
     match text(alloc, ending) {
         Ok(text) => put_ending(out, ending, &text),
         Err(Memory) => put_ending(out, &Ending::NoMemory, b"no memory\n"),

@@ -1,51 +1,58 @@
-ghost use Rattle.std.specs.Prelude.{◌≡◌, List, ℕ, None, IfSome};
-ghost use Rattle.mc_base.specs.Refusals.{PlainRefusal};
+ghost use Rattle.std.specs.Prelude.{◌≡◌, None, IfSome};
 ghost use Rattle.mc_edge.specs.Faults.{Rose, IsCalm};
-ghost use Rattle.mc_edge.specs.Files.{lookup};
 ghost use Rattle.mc_edge.specs.Fakes.{files_of};
-ghost use Rattle.mc_diagram.specs.declared.Row.{Row};
-ghost use Rattle.mc_compile.specs.Verdict.{HasVerdict, Accepted, Refused};
-ghost use Rattle.mdlc.specs.Words.{word_bytes, asked_by, model_of};
+ghost use Rattle.mdlc.specs.Words.{word_bytes, asked_by};
 ghost use Rattle.mdlc.specs.Told.{told, sink_told};
 ghost use Rattle.mdlc.specs.Endings.{EndsAt};
-ghost use Rattle.mdlc.specs.Statuses.{IsPlain, IsExactly, IsExactlyAtModel, IfModel, IsSure, IsDone};
-ghost use Rattle.mdlc.specs.Headline.{CompilesRight};
+ghost use Rattle.mdlc.specs.Statuses.{IsPlain, IsExactly, Comes, ComesExactly, OnTold, IsDone};
+ghost use Rattle.mdlc.specs.Headline.{DoesRight};
+ghost use Rattle.mdlc.specs.Completeness.{CanDo, IsComplete, IsSureOf, IsUnsureOf};
 
 use super::acting::act;
 use super::finishing::finish;
+use c_tree::readings_agree;
 use mc_compile::one_verdict;
 use mc_edge::{Host, Sink, SureHost, SureSink};
 use std::alloc::Global;
 
 // Does what the words ask for, puts the text of how it ended, and says the status.
 fn run<H: Host, S: Sink>(alloc: Global, words: &[String], host: &mut H, out: &mut S) -> u8
-    ensures { let at = told H.files H.rest H.written H.sure H.read_faults H.write_faults in
+    ensures ended { let at = told H.files H.rest H.written H.sure H.read_faults H.write_faults in
         let sink = sink_told S.bytes S.faults in
         EndsAt result (asked_by (word_bytes words.now)) (at host.old) (at host.new) (sink out.old) (sink out.new) }
+    ensures unsure { IfSome (asked_by (word_bytes words.now)) (λ asked. result ≡ 5 → IsUnsureOf H.files H.sure host.old asked) }
 {
-    let ending = act(alloc, words, host);
+    let ending = act(alloc, words, host, out);
     finish(alloc, out, &ending)
 }
 
 /// Does what the words after the program's name ask for, and says the status: 0 where the work is done, 2 for words that
-/// are no command, 3 for a model that is refused, 5, 6 and 7 for faults of reading, writing and putting, and 10 for want of
-/// memory.
+/// are no command, 3 for a model that is refused, 4 for a line of the trace that is no row, 5, 6 and 7 for faults of reading,
+/// writing and putting, 8 for code that is no program, 9 for code that is stuck, and 10 for want of memory.
 pub fn run_tool<H: Host, S: Sink>(alloc: Global, words: &[String], host: &mut H, out: &mut S) -> u8
-    // What `compile` writes of an accepted model, and that of a refused one it writes nothing.
-    ensures compiles { let at = told H.files H.rest H.written H.sure H.read_faults H.write_faults in
+    // What `compile` writes of an accepted model, what `run` puts of it besides, that of a refused one nothing is written,
+    // and what `exec` puts.
+    ensures right { let at = told H.files H.rest H.written H.sure H.read_faults H.write_faults in
         let sink = sink_told S.bytes S.faults in
-        CompilesRight result (asked_by (word_bytes words.now)) (at host.old) (at host.new) (sink out.old) (sink out.new) }
+        DoesRight result (asked_by (word_bytes words.now)) (at host.old) (at host.new) (sink out.old) (sink out.new) }
 
-    // The words asked for something, or not; what was found of the model, what was written and what was put.
+    // The words asked for something, or not; what was found, what was written and what was put.
     ensures ended { let at = told H.files H.rest H.written H.sure H.read_faults H.write_faults in
         let sink = sink_told S.bytes S.faults in
         EndsAt result (asked_by (word_bytes words.now)) (at host.old) (at host.new) (sink out.old) (sink out.new) }
 
     // When each status comes.
     ensures usage { IsExactly 2 result (asked_by (word_bytes words.now) ≡ None) }
+    ensures comes { let at = told H.files H.rest H.written H.sure H.read_faults H.write_faults in
+        OnTold (asked_by (word_bytes words.now)) (at host.old) (ComesExactly result) }
     ensures refused { let at = told H.files H.rest H.written H.sure H.read_faults H.write_faults in
-        IsExactlyAtModel 3 result (asked_by (word_bytes words.now)) (at host.old)
-        (λ model. (refusal : PlainRefusal) × HasVerdict model (Refused refusal)) }
+        OnTold (asked_by (word_bytes words.now)) (at host.old) (λ asked files. IsExactly 3 result (Comes asked files 3)) }
+    ensures bad_line { let at = told H.files H.rest H.written H.sure H.read_faults H.write_faults in
+        OnTold (asked_by (word_bytes words.now)) (at host.old) (λ asked files. IsExactly 4 result (Comes asked files 4)) }
+    ensures no_program { let at = told H.files H.rest H.written H.sure H.read_faults H.write_faults in
+        OnTold (asked_by (word_bytes words.now)) (at host.old) (λ asked files. IsExactly 8 result (Comes asked files 8)) }
+    ensures stuck { let at = told H.files H.rest H.written H.sure H.read_faults H.write_faults in
+        OnTold (asked_by (word_bytes words.now)) (at host.old) (λ asked files. IsExactly 9 result (Comes asked files 9)) }
     ensures read_fault { result ≡ 5 → Rose (H.read_faults host.old) (H.read_faults host.new) }
     ensures write_fault { result ≡ 6 → Rose (H.write_faults host.old) (H.write_faults host.new) }
     ensures put_fault { result ≡ 7 → Rose (S.faults out.old) (S.faults out.new) }
@@ -54,22 +61,27 @@ pub fn run_tool<H: Host, S: Sink>(alloc: Global, words: &[String], host: &mut H,
     ensures no_fault { IsPlain result → (H.read_faults host.new ≡ H.read_faults host.old)
         × (H.write_faults host.new ≡ H.write_faults host.old) × (S.faults out.new ≡ S.faults out.old) }
 
-    // A host that is sure of the model, whatever its count of reads that failed, has an accepted model compiled.
+    // What can be done is done, unless memory runs out: where no count of faults rises, and by a host that is sure of the files
+    // that are read, whatever its count of reads that failed. A fault of reading comes only from one that is not.
+    ensures complete { let at = told H.files H.rest H.written H.sure H.read_faults H.write_faults in
+        let sink = sink_told S.bytes S.faults in
+        IsComplete result (asked_by (word_bytes words.now)) (at host.old) (at host.new) (sink out.old) (sink out.new) }
     ensures sure { let at = told H.files H.rest H.written H.sure H.read_faults H.write_faults in
-        IsSure (asked_by (word_bytes words.now)) (at host.old) →
+        OnTold (asked_by (word_bytes words.now)) (at host.old) (λ asked files.
+        IsSureOf H.files H.sure host.old asked →
         IsCalm (H.write_faults host.old) (H.write_faults host.new) →
         IsCalm (S.faults out.old) (S.faults out.new) →
-        IfModel (asked_by (word_bytes words.now)) (at host.old)
-        (λ model. (rows : List Row) → HasVerdict model (Accepted rows) → IsDone result) }
+        CanDo asked files → IsDone result) }
+    ensures unsure { IfSome (asked_by (word_bytes words.now)) (λ asked. result ≡ 5 → IsUnsureOf H.files H.sure host.old asked) }
 {
     one_verdict();
+    readings_agree();
     run(alloc, words, host, out)
 }
 
-/// Over a host that has these files and doesn't fail, each accepted model is compiled, unless memory runs out.
+/// Over a host that has these files and doesn't fail, what can be done with them is done, unless memory runs out.
 pub fn run_surely(alloc: Global, words: &[String], files: Vec<(String, Vec<u8>)>) -> u8
-    ensures { IfSome (asked_by (word_bytes words.now)) (λ asked. IfSome (lookup (model_of asked) (files_of files.items))
-        (λ model. (rows : List Row) → HasVerdict model (Accepted rows) → IsDone result)) }
+    ensures { IfSome (asked_by (word_bytes words.now)) (λ asked. CanDo asked (files_of files.items) → IsDone result) }
 {
     let mut host = SureHost::new(files);
     let mut out = SureSink::new();

@@ -1,6 +1,11 @@
 use Rattle.mdlc.proofs.EndingLaws.{ended}
+use Rattle.mdlc.proofs.Unsure.{unsure_asked}
 use Rattle.mdlc.proofs.tool.running.run.Goals as goal
 
-pub returns : goal.returns
-returns g c =
-    let f = c.finish.ensures in ended _ _ _ _ _ _ _ _ c.act-ending.ensures f.1 f.2
+pub returns-clause-ended : goal.returns-clause-ended
+returns-clause-ended g c =
+    let f = c.finish.ensures in ended _ _ _ _ _ _ _ _ _ c.act-ending.ensures.ends f.1 f.2
+
+pub returns-clause-unsure : goal.returns-clause-unsure
+returns-clause-unsure g c =
+    let f = c.finish.ensures in unsure_asked _ _ _ _ _ _ _ c.act-ending.ensures.unsure f.1 f.2

@@ -1,11 +1,32 @@
-use Rattle.mdlc.proofs.EndingLaws.{compiles_right, refused_exactly, compiles_surely}
+use Rattle.mdlc.proofs.StatusLaws.{comes_exactly, exactly, plain_three, plain_four, plain_eight, plain_nine}
+use Rattle.mdlc.proofs.RightLaws.{does_right}
+use Rattle.mdlc.proofs.EndingLaws.{no_count}
+use Rattle.mdlc.proofs.Completeness.{complete, surely_done}
 use Rattle.mdlc.proofs.tool.running.run_tool.Goals as goal
 
-pub returns-clause-compiles : goal.returns-clause-compiles
-returns-clause-compiles g c = compiles_right c.one_verdict.ensures _ _ _ _ _ _ c.run.ensures
+pub returns-clause-right : goal.returns-clause-right
+returns-clause-right g c = does_right c.one_verdict.ensures c.readings_agree.ensures _ _ _ _ _ _ c.run.ensures.ended
+
+pub returns-clause-comes : goal.returns-clause-comes
+returns-clause-comes g c = comes_exactly c.one_verdict.ensures c.readings_agree.ensures _ _ _ _ _ _ c.run.ensures.ended
 
 pub returns-clause-refused : goal.returns-clause-refused
-returns-clause-refused g c = refused_exactly c.one_verdict.ensures _ _ _ _ _ _ c.run.ensures
+returns-clause-refused g c = exactly c.one_verdict.ensures c.readings_agree.ensures 3 plain_three _ _ _ _ _ _ c.run.ensures.ended
+
+pub returns-clause-bad_line : goal.returns-clause-bad_line
+returns-clause-bad_line g c = exactly c.one_verdict.ensures c.readings_agree.ensures 4 plain_four _ _ _ _ _ _ c.run.ensures.ended
+
+pub returns-clause-no_program : goal.returns-clause-no_program
+returns-clause-no_program g c = exactly c.one_verdict.ensures c.readings_agree.ensures 8 plain_eight _ _ _ _ _ _ c.run.ensures.ended
+
+pub returns-clause-stuck : goal.returns-clause-stuck
+returns-clause-stuck g c = exactly c.one_verdict.ensures c.readings_agree.ensures 9 plain_nine _ _ _ _ _ _ c.run.ensures.ended
+
+pub returns-clause-no_fault : goal.returns-clause-no_fault
+returns-clause-no_fault g c = no_count _ _ _ _ _ _ c.run.ensures.ended
+
+pub returns-clause-complete : goal.returns-clause-complete
+returns-clause-complete g c = complete c.one_verdict.ensures c.readings_agree.ensures _ _ _ _ _ _ c.run.ensures.ended
 
 pub returns-clause-sure : goal.returns-clause-sure
-returns-clause-sure g c = compiles_surely c.one_verdict.ensures _ _ _ _ _ _ c.run.ensures
+returns-clause-sure g c = surely_done g.H.Host.files g.H.Host.sure c.args.host.now c.one_verdict.ensures c.readings_agree.ensures _ _ _ _ _ _ c.run.ensures.ended c.run.ensures.unsure

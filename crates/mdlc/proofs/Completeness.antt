@@ -1,0 +1,151 @@
+-- What can be done is done, unless memory runs out.
+use Rattle.std.proofs.Common.{◌≡◌, ◌≢◌, ℕ, ◌⊎◌, inl, inr, List, refl, sym, ap, subst, ◌∙◌, arith}
+use Rattle.std.specs.Prelude.{Bool, true, false, Option, Some, None, IfSome, IsSomeAnd, is_some}
+use Rattle.std.proofs.lemmas.Bool.Decides.{eqb_tells}
+use Rattle.mc_edge.specs.Faults.{Rose, IsCalm}
+use Rattle.mc_edge.specs.Fakes.{SureHostState}
+use Rattle.mc_edge.specs.Files.{File, lookup}
+use Rattle.c_tree.specs.Rows.{start_run}
+use Rattle.c_tree.specs.Agreement.{ReadingsAgree}
+use Rattle.mdlc.specs.declared.tool.Ending.{Ending}
+use Rattle.mdlc.specs.declared.tool.Ending.TheVariants.{ReadFault, WriteFault}
+use Rattle.mdlc.specs.Words.{Asked, Compile, Run, Exec}
+use Rattle.mdlc.specs.Told.{HostTold, SinkTold}
+use Rattle.mdlc.specs.Endings.{EndsRunUnread, Finds, CountsPuts, EndsAt}
+use Rattle.mdlc.specs.Statuses.{Comes, ComesExactly, OnTold, run_status, IsDone}
+use Rattle.mdlc.specs.Completeness.{CanDo, IsComplete, first_file, second_file, IsSureOf, IsUnsureOf, BecomesUnsureOf}
+use Rattle.mdlc.proofs.Files.{at_there}
+use Rattle.mdlc.proofs.OneAnswer.{OneVerdict}
+use Rattle.mdlc.proofs.StatusLaws.{comes-over, over, told-map, comes_exactly}
+use Rattle.mdlc.proofs.RightLaws.{later-puts}
+use Rattle.mdlc.proofs.Unsure.{only_read, only_write, only_put}
+
+-- ---- What can be done comes to status 0
+
+can-comes : (a : Asked) (fs : List File) → CanDo a fs → Comes a fs 0
+can-comes (Compile model code) fs can = at_there (lookup model fs) can (λ bytes x. inr (x.0, x.1, refl))
+can-comes (Run model code trace) fs can =
+    at_there (lookup model fs) can (λ bytes x. inr (x.0, x.1, at_there (lookup trace fs) x.2 (λ lines good. sym (ap (run_status None) good))))
+can-comes (Exec code trace) fs can =
+    at_there (lookup code fs) can (λ bytes x. inr (inr (
+      x.fits,
+      (
+        x.program,
+        x.reading,
+        comes-over x.program x.types (lookup trace fs) 0 (start_run x.program) refl x.inputs (at_there (lookup trace fs) x.runs (λ lines run. over x.program x.types lines None None run.free run.good)),
+      ),
+    )))
+
+done-by : (s : ℕ) (a : Asked) (fs : List File) → ComesExactly s a fs → s ≢ 5 → s ≢ 6 → s ≢ 7 → CanDo a fs → IsDone s
+done-by s a fs comes reads writes puts can = by (eqb_tells s 10)
+  where
+    by : {A B : Type 0} → (A × (s ≡ 10)) ⊎ (B × (s ≢ 10)) → IsDone s
+    by (inl ten) = inr ten.1
+    by (inr other) = inl (comes.wherever 0 (can-comes a fs can) (record { no_read_fault = reads; no_write_fault = writes; no_put_fault = puts; no_want_of_memory = other.1 }))
+
+-- ---- Faults are counted
+
+read-rose : (a : Option Asked) (h h' : HostTold) (b b' : SinkTold) → Finds ReadFault a h h' b b' → Rose h.read_faults h'.read_faults
+read-rose None h h' b b' ends = absurd ends.0
+read-rose (Some (Compile model code)) h h' b b' ends = ends.0.rose
+read-rose (Some (Run model code trace)) h h' b b' ends = unread ends.0
+  where
+    unread : EndsRunUnread model code trace h h' → Rose h.read_faults h'.read_faults
+    unread (inl u) = u.rose
+    unread (inr u) = u.0
+read-rose (Some (Exec code trace)) h h' b b' ends = ends.0
+
+write-rose : (a : Option Asked) (h h' : HostTold) (b b' : SinkTold) → Finds WriteFault a h h' b b' → Rose h.write_faults h'.write_faults
+write-rose None h h' b b' ends = absurd ends.0
+write-rose (Some (Compile model code)) h h' b b' ends = ends.0.rose
+write-rose (Some (Run model code trace)) h h' b b' ends = ends.0.rose
+write-rose (Some (Exec code trace)) h h' b b' ends = absurd ends
+
+no-read : (s : ℕ) (a : Option Asked) (h h' : HostTold) (b b' : SinkTold) → EndsAt s a h h' b b' → IsCalm h.read_faults h'.read_faults → s ≢ 5
+no-read s a h h' b b' (e, before, ends, inl (is, whole)) calm five =
+    let rose : Rose h.read_faults h'.read_faults = read-rose a h h' b before (subst (λ (x : Ending). Finds x a h h' b before) (only_read e (sym is ∙ five)) ends.finds) in
+    let same = calm.same in let below = calm.below in omega arith
+no-read s a h h' b b' (e, before, ends, inr (seven, part)) calm five = omega arith
+
+no-write : (s : ℕ) (a : Option Asked) (h h' : HostTold) (b b' : SinkTold) → EndsAt s a h h' b b' → IsCalm h.write_faults h'.write_faults → s ≢ 6
+no-write s a h h' b b' (e, before, ends, inl (is, whole)) calm six =
+    let rose : Rose h.write_faults h'.write_faults = write-rose a h h' b before (subst (λ (x : Ending). Finds x a h h' b before) (only_write e (sym is ∙ six)) ends.finds) in
+    let same = calm.same in let below = calm.below in omega arith
+no-write s a h h' b b' (e, before, ends, inr (seven, part)) calm six = omega arith
+
+no-put : (s : ℕ) (a : Option Asked) (h h' : HostTold) (b b' : SinkTold) → EndsAt s a h h' b b' → IsCalm b.faults b'.faults → s ≢ 7
+no-put s a h h' b b' (e, before, ends, inl (is, whole)) calm seven =
+    let rose : Rose b.faults before.faults = subst (λ (x : Ending). CountsPuts x b before) (only_put e (sym is ∙ seven)) ends.counts in
+    let kept = whole.no_fault in let same = calm.same in let below = calm.below in omega arith
+no-put s a h h' b b' (e, before, ends, inr (is, part)) calm seven =
+    let rose = part.rose in let same = calm.same in let below = calm.below in let later = later-puts e b before ends.counts below in
+    omega arith
+
+pub complete : OneVerdict → ReadingsAgree → (s : ℕ) (a : Option Asked) (h h' : HostTold) (b b' : SinkTold) → EndsAt s a h h' b b' → IsComplete s a h h' b b'
+complete one agree s None h h' b b' ends = λ calm. tt
+complete one agree s (Some a) h h' b b' ends = λ calm.
+    told-map h.files h.rest (comes_exactly one agree s (Some a) h h' b b' ends) (λ fs comes.
+    done-by s a fs comes (no-read s (Some a) h h' b b' ends calm.reads) (no-write s (Some a) h h' b b' ends calm.writes) (no-put s (Some a) h h' b b' ends calm.puts))
+
+-- ---- A host that is sure of its files
+
+apart : (b : Bool) → b ≡ true → b ≡ false → ⊥
+apart b holds fails = cc (sym holds ∙ fails)
+
+sure-not-unsure : {H : Type 0} (files : H → Option (List File)) (sure : H → List ℕ → Bool) (x : H) (a : Asked) → IsSureOf files sure x a → IsUnsureOf files sure x a → ⊥
+sure-not-unsure files sure x a of (inl unsure) = apart (sure x (first_file a)) of.first unsure
+sure-not-unsure {H = H} files sure x a of (inr later) = by (second_file a) of.second later
+  where
+    by : (o : Option (List ℕ)) → IfSome o (λ name. (y : H) → files y ≡ files x → sure y name ≡ true) → IsSomeAnd o (BecomesUnsureOf files sure x) → ⊥
+    by None surely later = absurd later
+    by (Some name) surely later = apart (sure later.later name) (surely later.later later.same) later.unsure
+
+pub surely_done : {H : Type 0} (files : H → Option (List File)) (sure : H → List ℕ → Bool) (x : H) → OneVerdict → ReadingsAgree → (s : ℕ) (a : Option Asked) (h h' : HostTold) (b b' : SinkTold) → EndsAt s a h h' b b' → IfSome a (λ a. s ≡ 5 → IsUnsureOf files sure x a) → OnTold a h (λ a fs. IsSureOf files sure x a → IsCalm h.write_faults h'.write_faults → IsCalm b.faults b'.faults → CanDo a fs → IsDone s)
+surely_done files sure x one agree s None h h' b b' ends unsure = tt
+surely_done files sure x one agree s (Some a) h h' b b' ends unsure =
+    told-map h.files h.rest (comes_exactly one agree s (Some a) h h' b b' ends) (λ fs comes of writes puts.
+    done-by s a fs comes (λ five. sure-not-unsure files sure x a of (unsure five)) (no-write s (Some a) h h' b b' ends writes) (no-put s (Some a) h h' b b' ends puts))
+
+-- ---- The host that doesn't fail
+
+is-there : (o : Option (List ℕ)) (P : List ℕ → Type 0) → IsSomeAnd o P → is_some o ≡ true
+is-there None P h = absurd h
+is-there (Some bytes) P h = refl
+
+inside : (o : Option (List ℕ)) {P : List ℕ → Type 0} {Q : Type 0} → IsSomeAnd o P → ((bytes : List ℕ) → P bytes → Q) → Q
+inside None h q = absurd h
+inside (Some bytes) h q = q bytes h
+
+first-there : (a : Asked) (fs : List File) → CanDo a fs → is_some (lookup (first_file a) fs) ≡ true
+first-there (Compile model code) fs can = is-there (lookup model fs) _ can
+first-there (Run model code trace) fs can = is-there (lookup model fs) _ can
+first-there (Exec code trace) fs can = is-there (lookup code fs) _ can
+
+second-there : (a : Asked) (fs : List File) → CanDo a fs → IfSome (second_file a) (λ name. is_some (lookup name fs) ≡ true)
+second-there (Compile model code) fs can = tt
+second-there (Run model code trace) fs can = inside (lookup model fs) can (λ bytes x. is-there (lookup trace fs) _ x.2)
+second-there (Exec code trace) fs can = inside (lookup code fs) can (λ bytes x. is-there (lookup trace fs) _ x.runs)
+
+abbrev told-files : SureHostState → Option (List File)
+told-files h = Some h.files
+
+abbrev has-file : SureHostState → List ℕ → Bool
+has-file h name = is_some (lookup name h.files)
+
+sure-of : (h : SureHostState) (a : Asked) → CanDo a h.files → IsSureOf told-files has-file h a
+sure-of h a can = record { first = first-there a h.files can; second = by (second_file a) (second-there a h.files can) }
+  where
+    same : (later : SureHostState) → Some later.files ≡ Some h.files → later.files ≡ h.files
+    same later e = cc
+
+    by : (o : Option (List ℕ)) → IfSome o (λ name. is_some (lookup name h.files) ≡ true) → IfSome o (λ name. (later : SureHostState) → Some later.files ≡ Some h.files → is_some (lookup name later.files) ≡ true)
+    by None there = tt
+    by (Some name) there = λ later e. ap (λ (fs : List File). is_some (lookup name fs)) (same later e) ∙ there
+
+calm : IsCalm 0 0
+calm = record { same = refl; below = omega arith }
+
+pub surely : (a : Option Asked) (h : SureHostState) (fs : List File) (s : ℕ) → h.files ≡ fs → IfSome a (λ a. IsSureOf told-files has-file h a → IsCalm 0 0 → IsCalm 0 0 → CanDo a h.files → IsDone s) → IfSome a (λ a. CanDo a fs → IsDone s)
+surely None h fs s same done = tt
+surely (Some a) h fs s same done = λ can.
+    let there : CanDo a h.files = subst (CanDo a) (sym same) can in done (sure-of h a there) calm calm there

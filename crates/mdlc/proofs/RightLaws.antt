@@ -1,0 +1,326 @@
+-- That what is asked for is done where nothing fails, by the way in which a call ended.
+use Rattle.std.proofs.Common.{◌≡◌, ◌≢◌, ℕ, ◌-◌, ◌^◌, ◌<◌, ◌≤◌, inl, inr, List, ◌++◌, length, refl, sym, ap, subst, ◌∙◌, append_assoc, arith}
+use Rattle.std.specs.Prelude.{Option, Some, None}
+use Rattle.std.specs.Io.KnownBytes.{append_known}
+use Rattle.mc_base.specs.Refusals.{PlainRefusal, plain_refusal, refusal_line}
+use Rattle.mc_fixed.specs.declared.types.FixType.{FixType}
+use Rattle.mc_edge.specs.Faults.{Rose, IsCalm}
+use Rattle.mc_edge.specs.Files.{add_file}
+use Rattle.mc_diagram.specs.declared.Row.{Row}
+use Rattle.mc_trace.specs.declared.rows.BadLine.{BadLine}
+use Rattle.c_tree.specs.declared.fault.CFault.{CFault}
+use Rattle.c_tree.specs.declared.fault.Stuck.{Stuck}
+use Rattle.c_tree.specs.Tree.{ProgramTree}
+use Rattle.c_tree.specs.Cells.{Cells}
+use Rattle.c_tree.specs.Machine.{After, done, stuck}
+use Rattle.c_tree.specs.Rows.{TickRow, start_run}
+use Rattle.c_tree.specs.Reading.{CFaultOf}
+use Rattle.c_tree.specs.Agreement.{ReadingsAgree}
+use Rattle.mc_compile.specs.Verdict.{HasVerdict, Refused as IsRefused}
+use Rattle.mc_compile.specs.Compilation.{Compilation, IsCompilationOf}
+use Rattle.mc_runner.specs.declared.outcome.Totals.{Totals}
+use Rattle.mc_runner.specs.Texts.{ticks_text}
+use Rattle.mdlc.specs.declared.tool.Ending.{Ending}
+use Rattle.mdlc.specs.declared.tool.Ending.TheVariants.{Compiled, Ran, Usage, Refused, BadTrace, CodeRefused, CodeTooLong, Stuck as IsStuck, ReadFault, WriteFault, PutFault, NoMemory}
+use Rattle.mdlc.specs.Words.{Asked, Compile, Run, Exec}
+use Rattle.mdlc.specs.Told.{HostTold, SinkTold}
+use Rattle.mdlc.specs.Texts.{compiled_line, totals_line, code_refused_line, long_code_line, stuck_line}
+use Rattle.mdlc.specs.Runs.{HasStepTypes, rows_in, rows_over, bad_line, PutsTicks}
+use Rattle.mdlc.specs.Endings.{status_of, text_of, root_types, code_limit, WritesCode, WritesWhole, EndsRunUnread, ExecutesCode, IsStuckAtStart, PutsWhole, Finds, CountsPuts, EndsAt}
+use Rattle.mdlc.specs.Statuses.{IfFile, run_status, status_over}
+use Rattle.mdlc.specs.Headline.{Calm, Tells, TellsRefusal, Compiles, last_line, run_text, RunsAccepted, Runs, Executes, DoesRight}
+use Rattle.mdlc.proofs.Files.{any_file, known_file}
+use Rattle.mdlc.proofs.OneAnswer.{OneVerdict, accepted_only, same_rows, same_refusal, same_types}
+use Rattle.mdlc.proofs.TraceTypes.{rows-trace}
+
+-- ---- Texts one behind another
+
+put-both : (o : Option (List ℕ)) (x y : List ℕ) → append_known (append_known o x) y ≡ append_known o (x ++ y)
+put-both None x y = refl
+put-both (Some bytes) x y = ap Some (append_assoc bytes x y)
+
+-- the lines of ticks and then the last line
+put-run : (b before b' : SinkTold) (ticks : List TickRow) (last : List ℕ) → PutsTicks ticks b before → PutsWhole last before b' → b'.bytes ≡ append_known b.bytes (ticks_text ticks ++ last)
+put-run b before b' ticks last first then =
+    then.text ∙ ap (λ (o : Option (List ℕ)). append_known o last) first ∙ put-both b.bytes (ticks_text ticks) last
+
+-- a text behind nothing
+put-alone : (b before b' : SinkTold) (text : List ℕ) → before ≡ b → PutsWhole text before b' → b'.bytes ≡ append_known b.bytes text
+put-alone b before b' text same whole = whole.text ∙ ap (λ (x : SinkTold). append_known x.bytes text) same
+
+-- what a run puts, by where it is stuck and by its first bad line
+text-by : (p : ProgramTree) (types : List FixType) (lines : List ℕ) (place : Option Stuck) (bad : Option BadLine) → (rows_over p types lines).stuck_place ≡ place → bad_line types lines ≡ bad → ticks_text (rows_over p types lines).ticks ++ last_line (rows_over p types lines).ticks place bad ≡ run_text p types lines
+text-by p types lines place bad free good =
+    let rows = rows_over p types lines in
+    ap (λ (last : List ℕ). ticks_text rows.ticks ++ last) (sym (ap (λ (x : Option Stuck). last_line rows.ticks x (bad_line types lines)) free ∙ ap (last_line rows.ticks place) good))
+
+-- ---- Refusals
+
+refused : OneVerdict → (refusal other : PlainRefusal) (model : List ℕ) (s : ℕ) (h h' : HostTold) (b before b' : SinkTold) → s ≡ 3 → HasVerdict model (IsRefused refusal) → HasVerdict model (IsRefused other) → h'.written ≡ h.written → before ≡ b → PutsWhole (refusal_line refusal) before b' → TellsRefusal other s h h' b b'
+refused one refusal other model s h h' b before b' is verdict refuses written same whole = record {
+  tells = record {
+    status = inl is;
+    put = λ three. put-alone b before b' (refusal_line refusal) same whole ∙ ap (λ (r : PlainRefusal). append_known b.bytes (refusal_line r)) (same_refusal one model refusal other verdict refuses);
+  };
+  unwritten = λ three. written;
+}
+
+refusal-unsaid : (other : PlainRefusal) (s : ℕ) (h h' : HostTold) (b b' : SinkTold) → s ≡ 10 → TellsRefusal other s h h' b b'
+refusal-unsaid other s h h' b b' is =
+    record { tells = record { status = inr is; put = λ three. absurd (omega (arith, is, three)) }; unwritten = λ three. absurd (omega (arith, is, three)) }
+
+-- ---- `compile`
+
+compiled : OneVerdict → (rows systems functions : ℕ) (model : List ℕ) (s : ℕ) (code : List ℕ) (h h' : HostTold) (b before b' : SinkTold) → s ≡ 0 → before ≡ b → PutsWhole (compiled_line rows systems functions) before b' → WritesCode rows systems functions code model h h' → Compiles model s code h h' b b'
+compiled one rows systems functions model s code h h' b before b' is same whole (c, from, r, y, f, written) = record {
+  accepted = λ table accepts. record {
+    status = inl is;
+    done = λ zero. record {
+      compilation = c;
+      right = subst (λ (x : List Row). IsCompilationOf x c) (same_rows one model from.table table from.verdict accepts) from.compiled;
+      written = written;
+      line = rw (r, y, f) (put-alone b before b' (compiled_line rows systems functions) same whole);
+    };
+  };
+  refused = λ refusal refuses. absurd (accepted_only one model from.table refusal from.verdict refuses);
+}
+
+compile-memory : (model : List ℕ) (s : ℕ) (code : List ℕ) (h h' : HostTold) (b b' : SinkTold) → s ≡ 10 → Compiles model s code h h' b b'
+compile-memory model s code h h' b b' is = record {
+  accepted = λ table accepts. record { status = inr is; done = λ zero. absurd (omega (arith, is, zero)) };
+  refused = λ refusal refuses. refusal-unsaid refusal s h h' b b' is;
+}
+
+compile-does : OneVerdict → (e : Ending) (s : ℕ) (model code : List ℕ) (h h' : HostTold) (b before b' : SinkTold) → Finds e (Some (Compile model code)) h h' b before → s ≡ status_of e → PutsWhole (text_of e) before b' → Calm h h' b b' → IfFile h model (λ bytes. Compiles bytes s code h h' b b')
+compile-does one (Compiled rows systems functions) s model code h h' b before b' ends is whole calm =
+    known_file h.files h.rest model ends.0.model (λ bytes w. compiled one rows systems functions bytes s code h h' b before b' is ends.1 whole w)
+compile-does one (Refused refusal) s model code h h' b before b' ends is whole calm =
+    known_file h.files h.rest model ends.0.model (λ bytes v. record {
+      accepted = λ table accepts. absurd (accepted_only one bytes table (plain_refusal refusal) accepts v);
+      refused = λ other refuses. refused one (plain_refusal refusal) other bytes s h h' b before b' is v refuses ends.0.written ends.1 whole;
+    })
+compile-does one ReadFault s model code h h' b before b' ends is whole calm =
+    let rose = ends.0.rose in let reads = calm.reads in absurd (omega arith)
+compile-does one WriteFault s model code h h' b before b' ends is whole calm =
+    let rose = ends.0.rose in let writes = calm.writes in absurd (omega arith)
+compile-does one NoMemory s model code h h' b before b' ends is whole calm =
+    any_file h.files h.rest model (λ bytes. compile-memory bytes s code h h' b b' is)
+compile-does one (Ran totals) s model code h h' b before b' ends is whole calm = absurd ends.0
+compile-does one Usage s model code h h' b before b' ends is whole calm = absurd ends.0
+compile-does one (BadTrace line) s model code h h' b before b' ends is whole calm = absurd ends.0
+compile-does one (CodeRefused fault) s model code h h' b before b' ends is whole calm = absurd ends.0
+compile-does one CodeTooLong s model code h h' b before b' ends is whole calm = absurd ends.0
+compile-does one (IsStuck at) s model code h h' b before b' ends is whole calm = absurd ends.0
+compile-does one PutFault s model code h h' b before b' ends is whole calm = absurd ends.0
+
+-- ---- `run`
+
+-- a run to the end of the trace, or to its first bad line
+ran : (rows : List Row) (lines : List ℕ) (s : ℕ) (code : List ℕ) (h h' : HostTold) (b before b' : SinkTold) (c : Compilation) (right : IsCompilationOf rows c) (bad : Option BadLine) (last : List ℕ) → h'.written ≡ add_file h.written code c.code → s ≡ run_status None bad → bad_line (root_types rows) lines ≡ bad → (rows_over right.code.program (root_types rows) lines).stuck_place ≡ None → last ≡ last_line (rows_over right.code.program (root_types rows) lines).ticks None bad → PutsTicks (rows_over right.code.program (root_types rows) lines).ticks b before → PutsWhole last before b' → RunsAccepted rows lines s code h h' b b'
+ran rows lines s code h h' b before b' c right bad last written is first free text ticks whole = record {
+  status = inl (is ∙ ap (run_status None) (sym first));
+  done = λ _. record {
+    compilation = c;
+    right = right;
+    written = written;
+    outputs = right.code.code.outputs (rows_in (root_types rows) lines) (rows-trace rows lines);
+    lines = put-run b before b' (rows_over right.code.program (root_types rows) lines).ticks last ticks whole
+        ∙ ap (λ (x : List ℕ). append_known b.bytes (ticks_text (rows_over right.code.program (root_types rows) lines).ticks ++ x)) text
+        ∙ ap (append_known b.bytes) (text-by right.code.program (root_types rows) lines None bad free first);
+  };
+}
+
+-- of a model that was compiled, what is shown for its rows holds of those of its verdict
+for-rows : OneVerdict → (bytes trace : List ℕ) (s : ℕ) (code : List ℕ) (h h' : HostTold) (b b' : SinkTold) (w : WritesWhole code bytes h h') → IfFile h trace (λ lines. RunsAccepted w.rows lines s code h h' b b') → Runs bytes trace s code h h' b b'
+for-rows one bytes trace s code h h' b b' w shown = record {
+  accepted = λ rows accepts. subst (λ (x : List Row). IfFile h trace (λ lines. RunsAccepted x lines s code h h' b b')) (same_rows one bytes w.rows rows w.verdict accepts) shown;
+  refused = λ refusal refuses. absurd (accepted_only one bytes w.rows refusal w.verdict refuses);
+}
+
+run-memory : (model trace : List ℕ) (s : ℕ) (code : List ℕ) (h h' : HostTold) (b b' : SinkTold) → s ≡ 10 → Runs model trace s code h h' b b'
+run-memory model trace s code h h' b b' is = record {
+  accepted = λ rows accepts. any_file h.files h.rest trace (λ lines. record { status = inr is; done = λ other. absurd (other is) });
+  refused = λ refusal refuses. refusal-unsaid refusal s h h' b b' is;
+}
+
+-- a count that rose by a time in the call is not calm at its end
+not-calm : (b before b' : SinkTold) → Rose b.faults before.faults → b'.faults ≡ before.faults → IsCalm b.faults b'.faults → ⊥
+not-calm b before b' rose same calm = let s = calm.same in let below = calm.below in omega arith
+
+run-does : OneVerdict → (e : Ending) (s : ℕ) (model code trace : List ℕ) (h h' : HostTold) (b before b' : SinkTold) → Finds e (Some (Run model code trace)) h h' b before → CountsPuts e b before → s ≡ status_of e → PutsWhole (text_of e) before b' → Calm h h' b b' → IfFile h model (λ bytes. Runs bytes trace s code h h' b b')
+run-does one (Ran totals) s model code trace h h' b before b' ends counts is whole calm =
+    known_file h.files h.rest model ends.model (λ bytes m. for-rows one bytes trace s code h h' b b' m.whole (known_file h.files h.rest trace m.runs (λ lines run.
+    ran m.whole.rows lines s code h h' b before b' m.whole.compilation m.whole.right None (text_of (Ran totals)) m.whole.written is run.good run.free (ap (λ (t : Totals). totals_line t.ticks t.steps t.calls) run.totals) run.lines whole)))
+run-does one (BadTrace line) s model code trace h h' b before b' ends counts is whole calm =
+    known_file h.files h.rest model ends.model (λ bytes m. for-rows one bytes trace s code h h' b b' m.whole (known_file h.files h.rest trace m.runs (λ lines run.
+    ran m.whole.rows lines s code h h' b before b' m.whole.compilation m.whole.right (Some line) (text_of (BadTrace line)) m.whole.written is run.bad run.free refl run.lines whole)))
+run-does one (Refused refusal) s model code trace h h' b before b' ends counts is whole calm =
+    known_file h.files h.rest model ends.0.model (λ bytes v. record {
+      accepted = λ table accepts. absurd (accepted_only one bytes table (plain_refusal refusal) accepts v);
+      refused = λ other refuses. refused one (plain_refusal refusal) other bytes s h h' b before b' is v refuses ends.0.written ends.1 whole;
+    })
+run-does one ReadFault s model code trace h h' b before b' ends counts is whole calm = absurd (unread ends.0)
+  where
+    unread : EndsRunUnread model code trace h h' → ⊥
+    unread (inl u) = let rose = u.rose in let reads = calm.reads in omega arith
+    unread (inr u) = let rose = u.0 in let reads = calm.reads in omega arith
+run-does one WriteFault s model code trace h h' b before b' ends counts is whole calm =
+    let rose = ends.0.rose in let writes = calm.writes in absurd (omega arith)
+run-does one PutFault s model code trace h h' b before b' ends counts is whole calm = absurd (not-calm b before b' counts whole.no_fault calm.puts)
+run-does one NoMemory s model code trace h h' b before b' ends counts is whole calm =
+    any_file h.files h.rest model (λ bytes. run-memory bytes trace s code h h' b b' is)
+run-does one (Compiled rows systems functions) s model code trace h h' b before b' ends counts is whole calm = absurd ends
+run-does one Usage s model code trace h h' b before b' ends counts is whole calm = absurd ends
+run-does one (CodeRefused fault) s model code trace h h' b before b' ends counts is whole calm = absurd ends
+run-does one CodeTooLong s model code trace h h' b before b' ends counts is whole calm = absurd ends
+run-does one (IsStuck at) s model code trace h h' b before b' ends counts is whole calm = absurd ends
+
+-- ---- `exec`
+
+apart : (after : After) (at : Stuck) (cells : Cells) → done after ≡ stuck at cells → ⊥
+apart after at cells e = cc
+
+-- of code that is run, what is shown for its program and its types holds of each reading
+executed : ReadingsAgree → (e : Ending) (bytes trace : List ℕ) (s : ℕ) (h h' : HostTold) (b before b' : SinkTold) (x : ExecutesCode e trace bytes h b before) → h'.written ≡ h.written → IfFile h trace (λ lines. Tells (status_over x.program x.types lines) (run_text x.program x.types lines) s b b') → Executes bytes trace s h h' b b'
+executed agree e bytes trace s h h' b before b' x written over = record {
+  unwritten = written;
+  long = λ long. let fits = x.fits in absurd (omega (arith, long, fits));
+  unread = λ fits fault is. absurd (agree.apart bytes x.program fault x.reading is);
+  stuck = λ fits p text at cells start. absurd (apart x.after at cells (sym x.start ∙ ap start_run (agree.one bytes x.program p x.reading text) ∙ start));
+  runs = λ fits p text after start types inputs.
+      let same : x.program ≡ p = agree.one bytes x.program p x.reading text in
+      let typed : x.types ≡ types = same_types p x.types types (agree.lawful bytes p text) (subst (λ (q : ProgramTree). HasStepTypes q x.types) same x.inputs) inputs in
+      subst (λ (t : List FixType). IfFile h trace (λ lines. Tells (status_over p t lines) (run_text p t lines) s b b')) typed
+      (subst (λ (q : ProgramTree). IfFile h trace (λ lines. Tells (status_over q x.types lines) (run_text q x.types lines) s b b')) same over);
+}
+
+-- what is told of a run that was not stuck, or stuck in one of its ticks
+told-run : (p : ProgramTree) (types : List FixType) (lines : List ℕ) (s : ℕ) (b before b' : SinkTold) (place : Option Stuck) (bad : Option BadLine) → (rows_over p types lines).stuck_place ≡ place → bad_line types lines ≡ bad → s ≡ run_status place bad → PutsTicks (rows_over p types lines).ticks b before → PutsWhole (last_line (rows_over p types lines).ticks place bad) before b' → Tells (status_over p types lines) (run_text p types lines) s b b'
+told-run p types lines s b before b' place bad free good is ticks whole = record {
+  status = inl (is ∙ sym (ap (λ (x : Option Stuck). run_status x (bad_line types lines)) free ∙ ap (run_status place) good));
+  put = λ _. put-run b before b' (rows_over p types lines).ticks (last_line (rows_over p types lines).ticks place bad) ticks whole
+      ∙ ap (append_known b.bytes) (text-by p types lines place bad free good);
+}
+
+tells-memory : (n : ℕ) (text : List ℕ) (s : ℕ) (b b' : SinkTold) → s ≡ 10 → n ≢ 10 → Tells n text s b b'
+tells-memory n text s b b' is other = record { status = inr is; put = λ same. absurd (other (sym same ∙ is)) }
+
+run-status-small : (place : Option Stuck) (bad : Option BadLine) → run_status place bad ≢ 10
+run-status-small (Some at) bad = λ e. omega arith
+run-status-small None (Some line) = λ e. omega arith
+run-status-small None None = λ e. omega arith
+
+exec-memory : (bytes trace : List ℕ) (s : ℕ) (h h' : HostTold) (b b' : SinkTold) → s ≡ 10 → h'.written ≡ h.written → Executes bytes trace s h h' b b'
+exec-memory bytes trace s h h' b b' is written = record {
+  unwritten = written;
+  long = λ long. tells-memory 8 long_code_line s b b' is (λ e. omega arith);
+  unread = λ fits fault refuses. tells-memory 8 (code_refused_line fault) s b b' is (λ e. omega arith);
+  stuck = λ fits p text at cells start. tells-memory 9 (stuck_line at) s b b' is (λ e. omega arith);
+  runs = λ fits p text after start types inputs. any_file h.files h.rest trace (λ lines.
+      tells-memory (status_over p types lines) (run_text p types lines) s b b' is (run-status-small (rows_over p types lines).stuck_place (bad_line types lines)));
+}
+
+-- code that is no program
+exec-unread : ReadingsAgree → (fault : CFault) (bytes trace : List ℕ) (s : ℕ) (h h' : HostTold) (b before b' : SinkTold) → s ≡ 8 → length bytes ≤ code_limit → CFaultOf bytes fault → h'.written ≡ h.written → before ≡ b → PutsWhole (code_refused_line fault) before b' → Executes bytes trace s h h' b b'
+exec-unread agree fault bytes trace s h h' b before b' is within refuses written same whole = record {
+  unwritten = written;
+  long = λ long. absurd (omega (arith, long, within));
+  unread = λ fits other also. record {
+    status = inl is;
+    put = λ _. put-alone b before b' (code_refused_line fault) same whole ∙ ap (λ (f : CFault). append_known b.bytes (code_refused_line f)) (agree.one_fault bytes fault other refuses also);
+  };
+  stuck = λ fits p text at cells start. absurd (agree.apart bytes p fault text refuses);
+  runs = λ fits p text after start types inputs. absurd (agree.apart bytes p fault text refuses);
+}
+
+-- code that is too long
+exec-long : (bytes trace : List ℕ) (s : ℕ) (h h' : HostTold) (b before b' : SinkTold) → s ≡ 8 → code_limit < length bytes → h'.written ≡ h.written → before ≡ b → PutsWhole long_code_line before b' → Executes bytes trace s h h' b b'
+exec-long bytes trace s h h' b before b' is beyond written same whole = record {
+  unwritten = written;
+  long = λ long. record { status = inl is; put = λ _. put-alone b before b' long_code_line same whole };
+  unread = λ fits other also. absurd (omega (arith, beyond, fits));
+  stuck = λ fits p text at cells start. absurd (omega (arith, beyond, fits));
+  runs = λ fits p text after start types inputs. absurd (omega (arith, beyond, fits));
+}
+
+-- code that is stuck in its start
+exec-start : ReadingsAgree → (at : Stuck) (bytes trace : List ℕ) (s : ℕ) (h h' : HostTold) (b before b' : SinkTold) → s ≡ 9 → IsStuckAtStart at bytes → h'.written ≡ h.written → before ≡ b → PutsWhole (stuck_line at) before b' → Executes bytes trace s h h' b b'
+exec-start agree at bytes trace s h h' b before b' is x written same whole = record {
+  unwritten = written;
+  long = λ long. let fits = x.fits in absurd (omega (arith, long, fits));
+  unread = λ fits fault refuses. absurd (agree.apart bytes x.program fault x.reading refuses);
+  stuck = λ fits p text other cells start. record {
+    status = inl is;
+    put = λ _. put-alone b before b' (stuck_line at) same whole
+        ∙ ap (λ (y : Stuck). append_known b.bytes (stuck_line y)) (one-place at other x.cells cells (sym x.start ∙ ap start_run (agree.one bytes x.program p x.reading text) ∙ start));
+  };
+  runs = λ fits p text after start types inputs. absurd (never x.cells at after (sym x.start ∙ ap start_run (agree.one bytes x.program p x.reading text) ∙ start));
+}
+  where
+    one-place : (at other : Stuck) (c d : Cells) → stuck at c ≡ stuck other d → at ≡ other
+    one-place at other c d e = cc
+
+    never : (c : Cells) (at : Stuck) (after : After) → stuck at c ≡ done after → ⊥
+    never c at after e = cc
+
+exec-stuck : ReadingsAgree → (at : Stuck) (s : ℕ) (code trace : List ℕ) (h h' : HostTold) (b before b' : SinkTold) → Finds (IsStuck at) (Some (Exec code trace)) h h' b before → s ≡ 9 → PutsWhole (stuck_line at) before b' → IfFile h code (λ bytes. Executes bytes trace s h h' b b')
+exec-stuck agree at s code trace h h' b before b' (inl ends) is whole =
+    known_file h.files h.rest code ends.code (λ bytes x. exec-start agree at bytes trace s h h' b before b' is x ends.left.written ends.silent whole)
+exec-stuck agree at s code trace h h' b before b' (inr ends) is whole =
+    known_file h.files h.rest code ends.code (λ bytes x. executed agree (IsStuck at) bytes trace s h h' b before b' x ends.left.written (known_file h.files h.rest trace x.runs (λ lines run.
+    told-run x.program x.types lines s b before b' (Some at) (bad_line x.types lines) run.stuck refl is run.lines whole)))
+
+exec-does : ReadingsAgree → (e : Ending) (s : ℕ) (code trace : List ℕ) (h h' : HostTold) (b before b' : SinkTold) → Finds e (Some (Exec code trace)) h h' b before → CountsPuts e b before → s ≡ status_of e → PutsWhole (text_of e) before b' → Calm h h' b b' → IfFile h code (λ bytes. Executes bytes trace s h h' b b')
+exec-does agree (Ran totals) s code trace h h' b before b' ends counts is whole calm =
+    known_file h.files h.rest code ends.code (λ bytes x. executed agree (Ran totals) bytes trace s h h' b before b' x ends.left.written (known_file h.files h.rest trace x.runs (λ lines run.
+    told-run x.program x.types lines s b before b' None None run.free run.good is run.lines (subst (λ (t : Totals). PutsWhole (totals_line t.ticks t.steps t.calls) before b') run.totals whole))))
+exec-does agree (BadTrace line) s code trace h h' b before b' ends counts is whole calm =
+    known_file h.files h.rest code ends.code (λ bytes x. executed agree (BadTrace line) bytes trace s h h' b before b' x ends.left.written (known_file h.files h.rest trace x.runs (λ lines run.
+    told-run x.program x.types lines s b before b' None (Some line) run.free run.bad is run.lines whole)))
+exec-does agree (IsStuck at) s code trace h h' b before b' ends counts is whole calm = exec-stuck agree at s code trace h h' b before b' ends is whole
+exec-does agree (CodeRefused fault) s code trace h h' b before b' ends counts is whole calm =
+    known_file h.files h.rest code ends.code (λ bytes x. exec-unread agree fault bytes trace s h h' b before b' is x.0 x.1 ends.left.written ends.silent whole)
+exec-does agree CodeTooLong s code trace h h' b before b' ends counts is whole calm =
+    known_file h.files h.rest code ends.code (λ bytes long. exec-long bytes trace s h h' b before b' is long ends.left.written ends.silent whole)
+exec-does agree ReadFault s code trace h h' b before b' ends counts is whole calm =
+    let rose = ends.0 in let reads = calm.reads in absurd (omega arith)
+exec-does agree PutFault s code trace h h' b before b' ends counts is whole calm = absurd (not-calm b before b' counts whole.no_fault calm.puts)
+exec-does agree NoMemory s code trace h h' b before b' ends counts is whole calm =
+    any_file h.files h.rest code (λ bytes. exec-memory bytes trace s h h' b b' is ends.0)
+exec-does agree (Compiled rows systems functions) s code trace h h' b before b' ends counts is whole calm = absurd ends
+exec-does agree Usage s code trace h h' b before b' ends counts is whole calm = absurd ends
+exec-does agree (Refused refusal) s code trace h h' b before b' ends counts is whole calm = absurd ends
+exec-does agree WriteFault s code trace h h' b before b' ends counts is whole calm = absurd ends
+
+-- ---- All
+
+does : OneVerdict → ReadingsAgree → (e : Ending) (s : ℕ) (a : Option Asked) (h h' : HostTold) (b before b' : SinkTold) → Finds e a h h' b before → CountsPuts e b before → s ≡ status_of e → PutsWhole (text_of e) before b' → DoesRight s a h h' b b'
+does one agree e s None h h' b before b' ends counts is whole = λ calm. tt
+does one agree e s (Some (Compile model code)) h h' b before b' ends counts is whole = λ calm. compile-does one e s model code h h' b before b' ends is whole calm
+does one agree e s (Some (Run model code trace)) h h' b before b' ends counts is whole = λ calm. run-does one e s model code trace h h' b before b' ends counts is whole calm
+does one agree e s (Some (Exec code trace)) h h' b before b' ends counts is whole = λ calm. exec-does agree e s code trace h h' b before b' ends counts is whole calm
+
+-- a count of the sink doesn't fall
+pub later-puts : (e : Ending) (b before : SinkTold) → CountsPuts e b before → b.faults < 2 ^ 64 - 1 → b.faults ≤ before.faults
+later-puts PutFault b before counts below = omega (arith, counts, below)
+later-puts (Compiled rows systems functions) b before counts below = omega (arith, counts)
+later-puts (Ran totals) b before counts below = omega (arith, counts)
+later-puts Usage b before counts below = omega (arith, counts)
+later-puts (Refused refusal) b before counts below = omega (arith, counts)
+later-puts (BadTrace line) b before counts below = omega (arith, counts)
+later-puts (CodeRefused fault) b before counts below = omega (arith, counts)
+later-puts CodeTooLong b before counts below = omega (arith, counts)
+later-puts (IsStuck at) b before counts below = omega (arith, counts)
+later-puts ReadFault b before counts below = omega (arith, counts)
+later-puts WriteFault b before counts below = omega (arith, counts)
+later-puts NoMemory b before counts below = omega (arith, counts)
+
+-- where the last put failed, a count of the sink rose
+cut : (s : ℕ) (a : Option Asked) (h h' : HostTold) (b before b' : SinkTold) → (b.faults < 2 ^ 64 - 1 → b.faults ≤ before.faults) → Rose before.faults b'.faults → DoesRight s a h h' b b'
+cut s a h h' b before b' later rose calm =
+    let same = calm.puts.same in let below = calm.puts.below in let more = later below in absurd (omega arith)
+
+pub does_right : OneVerdict → ReadingsAgree → (s : ℕ) (a : Option Asked) (h h' : HostTold) (b b' : SinkTold) → EndsAt s a h h' b b' → DoesRight s a h h' b b'
+does_right one agree s a h h' b b' (e, before, ends, inl (is, whole)) = does one agree e s a h h' b before b' ends.finds ends.counts is whole
+does_right one agree s a h h' b b' (e, before, ends, inr (seven, part)) =
+    cut s a h h' b before b' (later-puts e b before ends.counts) part.rose

@@ -1,0 +1,171 @@
+-- To which status a call comes, by the way in which it ended.
+use Rattle.std.proofs.Common.{◌≡◌, ℕ, ◌≤◌, inl, inr, List, length, refl, sym, ap, subst, ◌∙◌, arith}
+use Rattle.std.specs.Prelude.{Option, Some, None, IsSomeAnd}
+use Rattle.mc_base.specs.Refusals.{plain_refusal}
+use Rattle.mc_fixed.specs.declared.types.FixType.{FixType}
+use Rattle.mc_edge.specs.Files.{File, lookup}
+use Rattle.mc_trace.specs.declared.rows.BadLine.{BadLine}
+use Rattle.c_tree.specs.declared.fault.Stuck.{Stuck}
+use Rattle.c_tree.specs.Tree.{ProgramTree}
+use Rattle.c_tree.specs.Machine.{Outcome, done, stuck}
+use Rattle.c_tree.specs.Rows.{start_run, rows_of_start}
+use Rattle.c_tree.specs.Reading.{CText}
+use Rattle.c_tree.specs.Agreement.{ReadingsAgree}
+use Rattle.mdlc.specs.declared.tool.Ending.{Ending}
+use Rattle.mdlc.specs.declared.tool.Ending.TheVariants.{Compiled, Ran, Usage, Refused, BadTrace, CodeRefused, CodeTooLong, Stuck as IsStuck, ReadFault, WriteFault, PutFault, NoMemory}
+use Rattle.mdlc.specs.Words.{Asked, Compile, Run, Exec}
+use Rattle.mdlc.specs.Told.{HostTold, SinkTold}
+use Rattle.mdlc.specs.Runs.{HasStepTypes, rows_in, rows_over, bad_line, RunsTo}
+use Rattle.mdlc.specs.Endings.{status_of, OnNamed, root_types, code_limit, WritesWhole, RunsModel, ExecutesCode, Finds, EndsAt}
+use Rattle.mdlc.specs.Statuses.{IsPlain, IsExactly, ProgramComes, Comes, ComesExactly, OnTold, run_status, status_over}
+use Rattle.mdlc.proofs.Files.{IfTold, there, at_there, told_one, told_two, told_any}
+use Rattle.mdlc.proofs.OneAnswer.{OneVerdict, comes-one}
+
+-- where the files are told, the status that is no fault's is that to which the command comes
+abbrev pub ComesTo : ℕ → Asked → HostTold → Type 0
+ComesTo n a h = IfTold h.files h.rest (λ fs. IsPlain n → Comes a fs n)
+
+-- a status that a fault or want of memory gives
+not-plain : (n : ℕ) (a : Asked) (h : HostTold) → (IsPlain n → ⊥) → ComesTo n a h
+not-plain n a h fault = told_any h.files h.rest (λ fs plain. absurd (fault plain))
+
+-- ---- A run of a model's code
+
+run-comes : (e : Ending) (model code trace : List ℕ) (h h' : HostTold) (b b' : SinkTold) → ((types : List FixType) (p : ProgramTree) (lines : List ℕ) → RunsTo e p types lines b b' → status_of e ≡ run_status None (bad_line types lines)) → OnNamed h model (λ bytes. RunsModel e trace code bytes h h' b b') → ComesTo (status_of e) (Run model code trace) h
+run-comes e model code trace h h' b b' by_run found =
+    told_two h.files h.rest model trace {X = λ bytes. WritesWhole code bytes h h'} {P = λ bytes (w : WritesWhole code bytes h h') lines. RunsTo e w.right.code.program (root_types w.rows) lines b b'} (there h.files h.rest model found (λ bytes m. (m.whole, m.runs))) (λ fs known plain.
+    at_there (lookup model fs) known (λ bytes k. inr (k.0.rows, k.0.verdict, at_there (lookup trace fs) k.1 (λ lines run. by_run (root_types k.0.rows) k.0.right.code.program lines run))))
+
+-- ---- A run of code
+
+-- what is known of code that is run
+pub record IsReadAs (code : List ℕ) : Type 0 where
+  pub program : ProgramTree
+  pub types : List FixType
+  pub inputs : HasStepTypes program types
+  pub reading : CText code program
+  pub fits : length code ≤ code_limit
+
+-- a program that is stuck in its start is stuck over each trace
+pub comes-over : (p : ProgramTree) (types : List FixType) (trace : Option (List ℕ)) (n : ℕ) (o : Outcome) → start_run p ≡ o → HasStepTypes p types → IsSomeAnd trace (λ lines. n ≡ status_over p types lines) → ProgramComes p o trace n
+comes-over p types trace n (done after) e k h = (types, k, h)
+comes-over p types None n (stuck at cells) e k h = absurd h
+comes-over p types (Some lines) n (stuck at cells) e k h =
+    h ∙ ap (λ (o : Outcome). run_status (rows_of_start p o (rows_in types lines)).stuck_place (bad_line types lines)) e
+
+exec-comes : (e : Ending) (code trace : List ℕ) (h : HostTold) (b b' : SinkTold) → ((types : List FixType) (p : ProgramTree) (lines : List ℕ) → RunsTo e p types lines b b' → status_of e ≡ status_over p types lines) → OnNamed h code (λ bytes. ExecutesCode e trace bytes h b b') → ComesTo (status_of e) (Exec code trace) h
+exec-comes e code trace h b b' by_run found =
+    told_two h.files h.rest code trace {X = IsReadAs} {P = λ bytes (x : IsReadAs bytes) lines. RunsTo e x.program x.types lines b b'} (there h.files h.rest code found (λ bytes x. (record { program = x.program; types = x.types; inputs = x.inputs; reading = x.reading; fits = x.fits }, x.runs))) (λ fs known plain.
+    at_there (lookup code fs) known (λ bytes k. inr (inr (k.0.fits, (k.0.program, k.0.reading, comes-over k.0.program k.0.types (lookup trace fs) (status_of e) (start_run k.0.program) refl k.0.inputs (at_there (lookup trace fs) k.1 (λ lines run. by_run k.0.types k.0.program lines run)))))))
+
+-- ---- Each ending
+
+pub over : (p : ProgramTree) (types : List FixType) (lines : List ℕ) (place : Option Stuck) (bad : Option BadLine) → (rows_over p types lines).stuck_place ≡ place → bad_line types lines ≡ bad → run_status place bad ≡ status_over p types lines
+over p types lines place bad free good =
+    sym (ap (λ (x : Option Stuck). run_status x (bad_line types lines)) free ∙ ap (run_status place) good)
+
+compile-comes : (e : Ending) (model code : List ℕ) (h h' : HostTold) (b b' : SinkTold) → Finds e (Some (Compile model code)) h h' b b' → ComesTo (status_of e) (Compile model code) h
+compile-comes (Compiled rows systems functions) model code h h' b b' ends =
+    told_one h.files h.rest model ends.0.model (λ fs known plain. at_there (lookup model fs) known (λ bytes w. inr (w.1.table, w.1.verdict, refl)))
+compile-comes (Refused refusal) model code h h' b b' ends =
+    told_one h.files h.rest model ends.0.model (λ fs known plain. at_there (lookup model fs) known (λ bytes v. inl (plain_refusal refusal, v, refl)))
+compile-comes ReadFault model code h h' b b' ends = not-plain 5 (Compile model code) h (λ plain. plain.no_read_fault refl)
+compile-comes WriteFault model code h h' b b' ends = not-plain 6 (Compile model code) h (λ plain. plain.no_write_fault refl)
+compile-comes NoMemory model code h h' b b' ends = not-plain 10 (Compile model code) h (λ plain. plain.no_want_of_memory refl)
+compile-comes (Ran totals) model code h h' b b' ends = absurd ends.0
+compile-comes Usage model code h h' b b' ends = absurd ends.0
+compile-comes (BadTrace line) model code h h' b b' ends = absurd ends.0
+compile-comes (CodeRefused fault) model code h h' b b' ends = absurd ends.0
+compile-comes CodeTooLong model code h h' b b' ends = absurd ends.0
+compile-comes (IsStuck at) model code h h' b b' ends = absurd ends.0
+compile-comes PutFault model code h h' b b' ends = absurd ends.0
+
+running-comes : (e : Ending) (model code trace : List ℕ) (h h' : HostTold) (b b' : SinkTold) → Finds e (Some (Run model code trace)) h h' b b' → ComesTo (status_of e) (Run model code trace) h
+running-comes (Ran totals) model code trace h h' b b' ends =
+    run-comes (Ran totals) model code trace h h' b b' (λ types p lines run. sym (ap (run_status None) run.good)) ends.model
+running-comes (BadTrace line) model code trace h h' b b' ends =
+    run-comes (BadTrace line) model code trace h h' b b' (λ types p lines run. sym (ap (run_status None) run.bad)) ends.model
+running-comes (Refused refusal) model code trace h h' b b' ends =
+    told_one h.files h.rest model ends.0.model (λ fs known plain. at_there (lookup model fs) known (λ bytes v. inl (plain_refusal refusal, v, refl)))
+running-comes ReadFault model code trace h h' b b' ends = not-plain 5 (Run model code trace) h (λ plain. plain.no_read_fault refl)
+running-comes WriteFault model code trace h h' b b' ends = not-plain 6 (Run model code trace) h (λ plain. plain.no_write_fault refl)
+running-comes PutFault model code trace h h' b b' ends = not-plain 7 (Run model code trace) h (λ plain. plain.no_put_fault refl)
+running-comes NoMemory model code trace h h' b b' ends = not-plain 10 (Run model code trace) h (λ plain. plain.no_want_of_memory refl)
+running-comes (Compiled rows systems functions) model code trace h h' b b' ends = absurd ends
+running-comes Usage model code trace h h' b b' ends = absurd ends
+running-comes (CodeRefused fault) model code trace h h' b b' ends = absurd ends
+running-comes CodeTooLong model code trace h h' b b' ends = absurd ends
+running-comes (IsStuck at) model code trace h h' b b' ends = absurd ends
+
+stuck-comes : (at : Stuck) (code trace : List ℕ) (h h' : HostTold) (b b' : SinkTold) → Finds (IsStuck at) (Some (Exec code trace)) h h' b b' → ComesTo 9 (Exec code trace) h
+stuck-comes at code trace h h' b b' (inl ends) =
+    told_one h.files h.rest code ends.code (λ fs known plain. at_there (lookup code fs) known (λ bytes x.
+    inr (inr (x.fits, (x.program, x.reading, subst (λ (o : Outcome). ProgramComes x.program o (lookup trace fs) 9) (sym x.start) refl)))))
+stuck-comes at code trace h h' b b' (inr ends) =
+    exec-comes (IsStuck at) code trace h b b' (λ types p lines run. sym (ap (λ (x : Option Stuck). run_status x (bad_line types lines)) run.stuck)) ends.code
+
+executing-comes : (e : Ending) (code trace : List ℕ) (h h' : HostTold) (b b' : SinkTold) → Finds e (Some (Exec code trace)) h h' b b' → ComesTo (status_of e) (Exec code trace) h
+executing-comes (Ran totals) code trace h h' b b' ends =
+    exec-comes (Ran totals) code trace h b b' (λ types p lines run. over p types lines None None run.free run.good) ends.code
+executing-comes (BadTrace line) code trace h h' b b' ends =
+    exec-comes (BadTrace line) code trace h b b' (λ types p lines run. over p types lines None (Some line) run.free run.bad) ends.code
+executing-comes (IsStuck at) code trace h h' b b' ends = stuck-comes at code trace h h' b b' ends
+executing-comes (CodeRefused fault) code trace h h' b b' ends =
+    told_one h.files h.rest code ends.code (λ fs known plain. at_there (lookup code fs) known (λ bytes x. inr (inl (x.0, (fault, x.1, refl)))))
+executing-comes CodeTooLong code trace h h' b b' ends =
+    told_one h.files h.rest code ends.code (λ fs known plain. at_there (lookup code fs) known (λ bytes long. inl (long, refl)))
+executing-comes ReadFault code trace h h' b b' ends = not-plain 5 (Exec code trace) h (λ plain. plain.no_read_fault refl)
+executing-comes PutFault code trace h h' b b' ends = not-plain 7 (Exec code trace) h (λ plain. plain.no_put_fault refl)
+executing-comes NoMemory code trace h h' b b' ends = not-plain 10 (Exec code trace) h (λ plain. plain.no_want_of_memory refl)
+executing-comes (Compiled rows systems functions) code trace h h' b b' ends = absurd ends
+executing-comes Usage code trace h h' b b' ends = absurd ends
+executing-comes (Refused refusal) code trace h h' b b' ends = absurd ends
+executing-comes WriteFault code trace h h' b b' ends = absurd ends
+
+comes-to : (e : Ending) (a : Asked) (h h' : HostTold) (b b' : SinkTold) → Finds e (Some a) h h' b b' → ComesTo (status_of e) a h
+comes-to e (Compile model code) h h' b b' ends = compile-comes e model code h h' b b' ends
+comes-to e (Run model code trace) h h' b b' ends = running-comes e model code trace h h' b b' ends
+comes-to e (Exec code trace) h h' b b' ends = executing-comes e code trace h h' b b' ends
+
+-- ---- Exactly
+
+pub told-map : (files : Option (List File)) (rest : Option (List ℕ)) {P Q : List File → Type 0} → IfTold files rest P → ((fs : List File) → P fs → Q fs) → IfTold files rest Q
+told-map None rest h q = tt
+told-map (Some fs) None h q = tt
+told-map (Some fs) (Some xs) h q = q fs h
+
+pub comes_exactly : OneVerdict → ReadingsAgree → (s : ℕ) (a : Option Asked) (h h' : HostTold) (b b' : SinkTold) → EndsAt s a h h' b b' → OnTold a h (ComesExactly s)
+comes_exactly one agree s None h h' b b' ends = tt
+comes_exactly one agree s (Some a) h h' b b' (e, before, ends, inl (is, whole)) =
+    told-map h.files h.rest (comes-to e a h h' b before ends.finds) (λ fs comes. record {
+      only = λ plain. subst (Comes a fs) (sym is) (comes (subst IsPlain is plain));
+      wherever = λ n also plain. comes-one one agree a fs s n (subst (Comes a fs) (sym is) (comes (subst IsPlain is plain))) also;
+    })
+comes_exactly one agree s (Some a) h h' b b' (e, before, ends, inr (seven, part)) =
+    told_any h.files h.rest (λ fs. record {
+      only = λ plain. absurd (plain.no_put_fault seven);
+      wherever = λ n also plain. absurd (plain.no_put_fault seven);
+    })
+
+-- the same of one status that no fault gives
+exactly-by : (n s : ℕ) (a : Option Asked) (h : HostTold) → IsPlain n → OnTold a h (ComesExactly s) → OnTold a h (λ a fs. IsExactly n s (Comes a fs n))
+exactly-by n s None h plain all = tt
+exactly-by n s (Some a) h plain all = told-map h.files h.rest all (λ fs x. record {
+  only = λ is. subst (Comes a fs) is (x.only (subst IsPlain (sym is) plain));
+  wherever = λ comes other. x.wherever n comes other;
+})
+
+pub exactly : OneVerdict → ReadingsAgree → (n : ℕ) → IsPlain n → (s : ℕ) (a : Option Asked) (h h' : HostTold) (b b' : SinkTold) → EndsAt s a h h' b b' → OnTold a h (λ a fs. IsExactly n s (Comes a fs n))
+exactly one agree n plain s a h h' b b' ends = exactly-by n s a h plain (comes_exactly one agree s a h h' b b' ends)
+
+pub plain_three : IsPlain 3
+plain_three = record { no_read_fault = omega arith; no_write_fault = omega arith; no_put_fault = omega arith; no_want_of_memory = omega arith }
+
+pub plain_four : IsPlain 4
+plain_four = record { no_read_fault = omega arith; no_write_fault = omega arith; no_put_fault = omega arith; no_want_of_memory = omega arith }
+
+pub plain_eight : IsPlain 8
+plain_eight = record { no_read_fault = omega arith; no_write_fault = omega arith; no_put_fault = omega arith; no_want_of_memory = omega arith }
+
+pub plain_nine : IsPlain 9
+plain_nine = record { no_read_fault = omega arith; no_write_fault = omega arith; no_put_fault = omega arith; no_want_of_memory = omega arith }

@@ -1,0 +1,86 @@
+-- What the parts of a command come to.
+use Rattle.std.specs.Prelude.{◌≡◌, ℕ, List, [], ◌⊎◌, Some, ⊤}
+use Rattle.mc_fixed.specs.declared.types.FixType.{FixType}
+use Rattle.mc_edge.specs.Faults.{Rose}
+use Rattle.mc_edge.specs.Files.{add_file}
+use Rattle.c_tree.specs.declared.fault.Stuck.{Stuck}
+use Rattle.c_tree.specs.Tree.{ProgramTree}
+use Rattle.c_tree.specs.Cells.{Cells}
+use Rattle.c_tree.specs.Machine.{After, done, stuck}
+use Rattle.c_tree.specs.Rows.{start_run}
+use Rattle.c_tree.specs.Reading.{CText, CFaultOf}
+use Rattle.c_meaning.specs.States.{MachineState, tree_of, fields_of}
+use Rattle.mc_compile.specs.Compilation.{Compilation, IsCompiledFrom}
+use Rattle.mdlc.specs.declared.tool.Ending.{Ending}
+use Rattle.mdlc.specs.declared.tool.Ending.TheVariants.{Compiled, Ran, BadTrace, CodeRefused, Stuck as IsStuck, ReadFault, PutFault, NoMemory}
+use Rattle.mdlc.specs.Told.{HostTold, SinkTold, NoFault}
+use Rattle.mdlc.specs.Runs.{HasStepTypes, rows_over, RunsTo}
+use Rattle.mdlc.specs.Endings.{OnNamed, PutsNothing, EndsCompile, LeavesHost}
+
+-- ---- Compiling a model into a file
+
+-- the model of this name was compiled, and its code written whole; of what the host tells to read, nothing is left
+pub record WritesCompiled (c : Compilation) (model_name code_name : List ℕ) (h h' : HostTold) : Type 0 where
+  pub compiled : (bytes : List ℕ) × IsCompiledFrom bytes c
+  pub model : OnNamed h model_name (λ bytes. IsCompiledFrom bytes c)
+  pub written : h'.written ≡ add_file h.written code_name c.code
+  pub files : h'.files ≡ h.files
+  pub told : OnNamed h model_name (λ _. h'.rest ≡ Some [])
+  pub no_fault : NoFault h h'
+
+-- it wasn't, and the call ends
+abbrev pub NotCompiled : Ending → (model_name code_name : List ℕ) → HostTold → HostTold → Type 0
+NotCompiled (Compiled rows systems functions) model code h h' = ⊥
+NotCompiled e model code h h' = EndsCompile e model code h h'
+
+-- ---- Reading C and starting it
+
+-- a machine behind its `root_start`
+abbrev pub IsBehindStart : MachineState → Type 0
+IsBehindStart m = (after : After) × (start_run (tree_of m) ≡ done after) × (fields_of m ≡ after.cells)
+
+-- a machine of the program that bytes of C are
+pub record StartsFrom (bytes : List ℕ) (m : MachineState) : Type 0 where
+  pub reading : CText bytes (tree_of m)
+  pub started : IsBehindStart m
+  pub inputs : HasStepTypes (tree_of m) m.program.inputs
+
+-- why there is no machine of bytes of C
+abbrev pub NotStarted : List ℕ → Ending → Type 0
+NotStarted bytes (CodeRefused fault) = CFaultOf bytes fault
+NotStarted bytes (IsStuck at) = (p : ProgramTree) × CText bytes p × ((cells : Cells) × (start_run p ≡ stuck at cells))
+NotStarted bytes NoMemory = ⊤
+NotStarted bytes _ = ⊥
+
+-- ---- Running a trace
+
+-- the trace of this name was run, up to an ending
+pub record RunsFile (e : Ending) (p : ProgramTree) (types : List FixType) (trace : List ℕ) (h h' : HostTold) (b b' : SinkTold) : Type 0 where
+  pub lines : OnNamed h trace (λ bytes. RunsTo e p types bytes b b')
+  pub left : LeavesHost h h'
+
+-- and was stuck over some bytes, whether the host tells its files or not
+pub record SticksOverFile (at : Stuck) (p : ProgramTree) (types : List FixType) (trace : List ℕ) (h h' : HostTold) (b b' : SinkTold) : Type 0 where
+  pub runs : RunsFile (IsStuck at) p types trace h h' b b'
+  pub over : (bytes : List ℕ) × ((rows_over p types bytes).stuck_place ≡ Some at)
+
+-- the trace can't be read, and nothing was put
+pub record MissesFile (h h' : HostTold) (b b' : SinkTold) : Type 0 where
+  pub rose : Rose h.read_faults h'.read_faults
+  pub written : h'.written ≡ h.written
+  pub silent : PutsNothing b b'
+
+-- memory ran out before the run or in it
+pub record ForgetsFile (p : ProgramTree) (types : List FixType) (trace : List ℕ) (h h' : HostTold) (b b' : SinkTold) : Type 0 where
+  pub written : h'.written ≡ h.written
+  pub some : PutsNothing b b' ⊎ OnNamed h trace (λ bytes. RunsTo NoMemory p types bytes b b')
+
+-- how a run of a program over the trace of this name ends
+abbrev pub RunEnds : Ending → ProgramTree → List FixType → List ℕ → HostTold → HostTold → SinkTold → SinkTold → Type 0
+RunEnds (Ran totals) p types trace h h' b b' = RunsFile (Ran totals) p types trace h h' b b'
+RunEnds (BadTrace line) p types trace h h' b b' = RunsFile (BadTrace line) p types trace h h' b b'
+RunEnds (IsStuck at) p types trace h h' b b' = SticksOverFile at p types trace h h' b b'
+RunEnds PutFault p types trace h h' b b' = RunsFile PutFault p types trace h h' b b'
+RunEnds ReadFault p types trace h h' b b' = MissesFile h h' b b'
+RunEnds NoMemory p types trace h h' b b' = ForgetsFile p types trace h h' b b'
+RunEnds _ p types trace h h' b b' = ⊥

@@ -1,0 +1,80 @@
+-- What can be done, and which files a host is sure of.
+use Rattle.std.specs.Prelude.{◌≡◌, ◌⊎◌, ℕ, ◌≤◌, Bool, true, false, List, length, Option, Some, None, IfSome, IsSomeAnd, ⊤}
+use Rattle.mc_fixed.specs.declared.types.FixType.{FixType}
+use Rattle.mc_edge.specs.Files.{File, lookup}
+use Rattle.mc_diagram.specs.declared.Row.{Row}
+use Rattle.c_tree.specs.Tree.{ProgramTree}
+use Rattle.c_tree.specs.Reading.{CText}
+use Rattle.mc_compile.specs.Verdict.{HasVerdict, Accepted}
+use Rattle.mdlc.specs.declared.tool.Ending.{Ending}
+use Rattle.mdlc.specs.declared.tool.Ending.TheVariants.{ReadFault}
+use Rattle.mdlc.specs.Words.{Asked, Compile, Run, Exec}
+use Rattle.mdlc.specs.Told.{HostTold, SinkTold}
+use Rattle.mdlc.specs.Runs.{HasStepTypes, rows_over, bad_line}
+use Rattle.mdlc.specs.Endings.{root_types, code_limit}
+use Rattle.mdlc.specs.Statuses.{OnTold, IsDone}
+use Rattle.mdlc.specs.Headline.{Calm}
+
+-- ---- What can be done
+
+-- the model of these bytes is accepted, and P holds of its rows
+abbrev pub OnAccepted : List ℕ → (List Row → Type 0) → Type 0
+OnAccepted model P = (rows : List Row) × HasVerdict model (Accepted rows) × P rows
+
+-- no line of the trace is bad, and no tick over it stuck
+pub record RunsFreely (p : ProgramTree) (types : List FixType) (trace : List ℕ) : Type 0 where
+  pub good : bad_line types trace ≡ None
+  pub free : (rows_over p types trace).stuck_place ≡ None
+
+-- the code is not too long and has a reading, which runs freely over the trace
+pub record CanExecute (code : List ℕ) (trace : Option (List ℕ)) : Type 0 where
+  pub fits : length code ≤ code_limit
+  pub program : ProgramTree
+  pub reading : CText code program
+  pub types : List FixType
+  pub inputs : HasStepTypes program types
+  pub runs : IsSomeAnd trace (λ lines. RunsFreely program types lines)
+
+-- with these files what is asked for can be done: the model is accepted, the code runs, and no line of the trace is bad
+abbrev pub CanDo : Asked → List File → Type 0
+CanDo (Compile model code) fs = IsSomeAnd (lookup model fs) (λ bytes. OnAccepted bytes (λ rows. ⊤))
+CanDo (Run model code trace) fs =
+    IsSomeAnd (lookup model fs) (λ bytes. OnAccepted bytes (λ rows. IsSomeAnd (lookup trace fs) (λ lines. bad_line (root_types rows) lines ≡ None)))
+CanDo (Exec code trace) fs = IsSomeAnd (lookup code fs) (λ bytes. CanExecute bytes (lookup trace fs))
+
+-- What can be done is done, unless memory runs out, where no count of faults rises or stands at its greatest value.
+abbrev pub IsComplete : ℕ → Option Asked → (h h' : HostTold) (b b' : SinkTold) → Type 0
+IsComplete s a h h' b b' = Calm h h' b b' → OnTold a h (λ a fs. CanDo a fs → IsDone s)
+
+-- ---- Files that a host is sure of
+
+-- the file that is read first, and the one that is read behind it
+abbrev pub first_file : Asked → List ℕ
+first_file (Compile model code) = model
+first_file (Run model code trace) = model
+first_file (Exec code trace) = code
+
+abbrev pub second_file : Asked → Option (List ℕ)
+second_file (Compile model code) = None
+second_file (Run model code trace) = Some trace
+second_file (Exec code trace) = Some trace
+
+-- the host is sure of the first file, and whatever it becomes with the files that it tells, of the second
+pub record IsSureOf {H : Type 0} (files : H → Option (List File)) (sure : H → List ℕ → Bool) (h : H) (a : Asked) : Type 0 where
+  pub first : sure h (first_file a) ≡ true
+  pub second : IfSome (second_file a) (λ name. (later : H) → files later ≡ files h → sure later name ≡ true)
+
+-- as it may become with the files that it tells, the host is not sure of the file of this name
+pub record BecomesUnsureOf {H : Type 0} (files : H → Option (List File)) (sure : H → List ℕ → Bool) (h : H) (name : List ℕ) : Type 0 where
+  pub later : H
+  pub same : files later ≡ files h
+  pub unsure : sure later name ≡ false
+
+-- the host is not sure of the first file, or may come to be not sure of the second
+abbrev pub IsUnsureOf : {H : Type 0} (files : H → Option (List File)) (sure : H → List ℕ → Bool) → H → Asked → Type 0
+IsUnsureOf files sure h a = (sure h (first_file a) ≡ false) ⊎ IsSomeAnd (second_file a) (BecomesUnsureOf files sure h)
+
+-- P holds where the ending is a fault of reading
+abbrev pub IfReadFault : Ending → Type 0 → Type 0
+IfReadFault ReadFault P = P
+IfReadFault _ P = ⊤

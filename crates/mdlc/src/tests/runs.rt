@@ -1,0 +1,314 @@
+use super::{models, words_of};
+use crate::tool::{run_surely, run_tool};
+use mc_edge::{MemHost, MemSink};
+use std::alloc::{AllocError, Global};
+use std::test::Fail;
+
+/// How a call ended: its status, what it put, and the bytes of the files that it wrote.
+#[derive(Drop)]
+struct Put {
+    status: u8,
+    text: Vec<u8>,
+    code: Vec<u8>,
+    files: usize,
+}
+
+/// The bytes of the files `a.mdl`, `b.c` and `t`.
+#[derive(Clone, Copy, Drop)]
+struct Files<'a> {
+    model: &'a [u8],
+    code: &'a [u8],
+    trace: &'a [u8],
+}
+
+fn files_of(alloc: Global, files: Files<'_>) -> Result<Vec<(String, Vec<u8>)>, AllocError> {
+    let mut named = Vec::new(alloc);
+    named.push((
+        String::from_str(alloc, "a.mdl")?,
+        files.model.to_vec(alloc)?,
+    ))?;
+    named.push((String::from_str(alloc, "b.c")?, files.code.to_vec(alloc)?))?;
+    named.push((String::from_str(alloc, "t")?, files.trace.to_vec(alloc)?))?;
+    Ok(named)
+}
+
+// A call over a host with these files, of which these calls of the host and of the sink fail.
+fn called(
+    alloc: Global,
+    line: &str,
+    files: Files<'_>,
+    fails: &[u64],
+    put_fails: &[u64],
+) -> Result<Put, AllocError> {
+    let words = words_of(alloc, line)?;
+    let mut host = MemHost::new(alloc, files_of(alloc, files)?, fails.to_vec(alloc)?, 4096);
+    let mut out = MemSink::new(alloc, put_fails.to_vec(alloc)?, 4096);
+    let status = run_tool(alloc, &words, &mut host, &mut out);
+    let mut code = Vec::new(alloc);
+    for file in host.written() {
+        code.extend_from_slice(&file.1)?;
+    }
+    Ok(Put {
+        status,
+        text: out.bytes().to_vec(alloc)?,
+        code,
+        files: host.written().len(),
+    })
+}
+
+fn ran(alloc: Global, model: &[u8], trace: &[u8]) -> Result<Put, AllocError> {
+    let files = Files {
+        model,
+        code: b"",
+        trace,
+    };
+    called(alloc, "run a.mdl a.c t", files, &[], &[])
+}
+
+fn executed(alloc: Global, code: &[u8], trace: &[u8]) -> Result<Put, AllocError> {
+    let files = Files {
+        model: b"",
+        code,
+        trace,
+    };
+    called(alloc, "exec b.c t", files, &[], &[])
+}
+
+// The steps are the machine's own count, and the code that was written puts the same by `exec`.
+#[test]
+fn models_are_run(rt: HostRuntime) -> Result<(), Fail> {
+    let loose = models::own_delays(rt.alloc(), 1)?;
+    for (model, trace, lines, calls) in [
+        (
+            models::ONE_WIRE,
+            b"5\n-7\n2147483647" as &[u8],
+            b"5\n-7\n2147483647\nticks 3 steps " as &[u8],
+            b" calls 6\n" as &[u8],
+        ),
+        (
+            models::ONE_DELAY,
+            b"1\n2\n3\n",
+            b"7\n1\n2\nticks 3 steps ",
+            b" calls 6\n",
+        ),
+        (models::ONE_WIRE, b"", b"ticks 0 steps 0", b" calls 0\n"),
+        (
+            loose.as_slice(),
+            b"\n \r\n",
+            b"\n\nticks 2 steps ",
+            b" calls 2\n",
+        ),
+    ] {
+        let put = ran(rt.alloc(), model, trace)?;
+        assert_eq!(rt; put.status, 0);
+        assert!(rt; put.text.starts_with(lines));
+        assert!(rt; put.text.ends_with(calls));
+        assert_eq!(rt; put.files, 1);
+        let again = executed(rt.alloc(), &put.code, trace)?;
+        assert_eq!(rt; again.status, 0);
+        assert_eq!(rt; again.text, put.text);
+    }
+    Ok(())
+}
+
+// So many blanks, and then a number.
+fn behind_blanks(alloc: Global, blanks: usize) -> Result<Vec<u8>, AllocError> {
+    let mut line = vec![in alloc; b' '; blanks]?;
+    line.extend_from_slice(b"5\n")?;
+    Ok(line)
+}
+
+#[test]
+fn lines_that_are_no_row(rt: HostRuntime) -> Result<(), Fail> {
+    let long = behind_blanks(rt.alloc(), 4_096)?;
+    for (trace, text) in [
+        (
+            b"1\n2\n2147483648\n" as &[u8],
+            "1\n2\ntrace line 3 Range 1\n",
+        ),
+        (b"1\r\n\n3", "1\ntrace line 2 Count 0\n"),
+        (b"1 2\n", "trace line 1 Count 2\n"),
+        (b"+1\n", "trace line 1 Form 1\n"),
+        (long.as_slice(), "trace line 1 Long\n"),
+    ] {
+        let put = ran(rt.alloc(), models::ONE_WIRE, trace)?;
+        assert_eq!(rt; put.status, 4, "{text}");
+        assert_eq!(rt; put.text.as_slice(), text.as_bytes(), "{text}");
+        assert_eq!(rt; put.files, 1);
+    }
+    let longest = ran(
+        rt.alloc(),
+        models::ONE_WIRE,
+        &behind_blanks(rt.alloc(), 4_095)?,
+    )?;
+    assert_eq!(rt; longest.status, 0);
+    assert!(rt; longest.text.starts_with(b"5\nticks 1 "));
+    Ok(())
+}
+
+const HEADER: &str = "#include <stdint.h>
+struct root { int32_t y1; };
+void root_start(struct root *s) { }
+void root_step(struct root *s, int32_t u1) {
+";
+
+// Code that stores the value of an expression, cast so, in its one output; it stands on line 5.
+fn storing(alloc: Global, value: &str) -> Result<String, AllocError> {
+    format!(in alloc; "{HEADER}s->y1 = {value};\n}}\n")
+}
+
+const DIVIDES_IN_ITS_START: &[u8] = b"#include <stdint.h>
+struct root { int32_t y1; };
+void root_start(struct root *s) {
+s->y1 = (int32_t)(INT64_C(1) / INT64_C(0));
+}
+void root_step(struct root *s, int32_t u1) { }
+";
+
+#[test]
+fn code_is_executed(rt: HostRuntime) -> Result<(), Fail> {
+    for (value, trace, status, text) in [
+        (
+            "(int32_t)(int64_t)u1",
+            "5\n-6",
+            0,
+            "5\n-6\nticks 2 steps 2 calls 0\n",
+        ),
+        (
+            "(int32_t)(INT64_C(1) / INT64_C(0))",
+            "1\n",
+            9,
+            "stuck line 5 ZeroDivisor\n",
+        ),
+        (
+            "(int32_t)(INT64_C(6) / (int64_t)u1)",
+            "2\n0\nx\n",
+            9,
+            "3\nstuck line 5 ZeroDivisor\n",
+        ),
+        (
+            "(int32_t)(INT64_C(6) / (int64_t)u1)",
+            "2\nx\n0\n",
+            4,
+            "3\ntrace line 2 Form 1\n",
+        ),
+        (
+            "(int32_t)(INT64_C(9223372036854775807) + INT64_C(1))",
+            "1\n",
+            9,
+            "stuck line 5 Overflow\n",
+        ),
+        (
+            "(int32_t)INT64_C(2147483648)",
+            "1\n",
+            9,
+            "stuck line 5 Range\n",
+        ),
+        (
+            "(int32_t)(int64_t)q",
+            "1\n",
+            8,
+            "code refused line 5 Name\n",
+        ),
+        (
+            "(int8_t)(int64_t)u1",
+            "1\n",
+            8,
+            "code refused line 5 Type\n",
+        ),
+        ("5", "1\n", 8, "code refused line 5 Syntax\n"),
+    ] {
+        let code = storing(rt.alloc(), value)?;
+        let put = executed(rt.alloc(), code.as_bytes(), trace.as_bytes())?;
+        assert_eq!(rt; put.status, status, "{value}");
+        assert_eq!(rt; put.text.as_slice(), text.as_bytes(), "{value}");
+        assert_eq!(rt; put.files, 0);
+    }
+    Ok(())
+}
+
+#[test]
+fn code_that_is_refused_or_stuck_at_once(rt: HostRuntime) -> Result<(), Fail> {
+    let alloc = rt.alloc();
+    let other = executed(alloc, b"int main;", b"")?;
+    assert_eq!(rt; other.status, 8);
+    assert_eq!(rt;
+        other.text.as_slice(),
+        b"code refused line 1 Syntax\n" as &[u8]
+    );
+    let mut value = String::from_str(alloc, "(int32_t)")?;
+    for _ in 0..200 {
+        value.push_str("(-")?;
+    }
+    let deep = executed(alloc, storing(alloc, value.as_str())?.as_bytes(), b"")?;
+    assert_eq!(rt; deep.status, 8);
+    assert_eq!(rt;
+        deep.text.as_slice(),
+        b"code refused line 5 Deep\n" as &[u8]
+    );
+    let files = Files {
+        model: b"",
+        code: DIVIDES_IN_ITS_START,
+        trace: b"",
+    };
+    let start = called(alloc, "exec b.c missing", files, &[], &[])?;
+    assert_eq!(rt; start.status, 9);
+    assert_eq!(rt;
+        start.text.as_slice(),
+        b"stuck line 4 ZeroDivisor\n" as &[u8]
+    );
+    Ok(())
+}
+
+// Of `exec` the calls 0 to 2 of the host read the code, call 3 opens the trace; of `run` calls 0 to 2 read the model, and call 3
+// opens the code.
+#[test]
+fn faults_of_runs(rt: HostRuntime) -> Result<(), Fail> {
+    let alloc = rt.alloc();
+    let code = storing(alloc, "(int32_t)(int64_t)u1")?;
+    let files = Files {
+        model: models::ONE_WIRE,
+        code: code.as_bytes(),
+        trace: b"5\n",
+    };
+    for (line, fails, put_fails, status, text, written) in [
+        ("exec b.c t", &[] as &[u64], &[0u64] as &[u64], 7, "", 0),
+        ("exec b.c t", &[], &[1], 7, "5\n", 0),
+        ("exec b.c t", &[1], &[], 5, "read fault\n", 0),
+        ("exec b.c t", &[4], &[], 5, "read fault\n", 0),
+        ("exec b.c missing", &[], &[], 5, "read fault\n", 0),
+        ("run a.mdl a.c missing", &[], &[], 5, "read fault\n", 1),
+        ("run a.mdl a.c t", &[3], &[], 6, "write fault\n", 0),
+        ("run a.mdl a.c t", &[], &[0], 7, "", 1),
+        (
+            "run t a.c t",
+            &[],
+            &[],
+            3,
+            "refused F2 Syntax line 1 BadName\n",
+            0,
+        ),
+    ] {
+        let put = called(alloc, line, files, fails, put_fails)?;
+        assert_eq!(rt; put.status, status, "{line}");
+        assert_eq!(rt; put.text.as_slice(), text.as_bytes(), "{line}");
+        assert_eq!(rt; put.files, written, "{line}");
+    }
+    Ok(())
+}
+
+#[test]
+fn runs_over_sure_ends(rt: HostRuntime) -> Result<(), Fail> {
+    let alloc = rt.alloc();
+    let code = storing(alloc, "(int32_t)(int64_t)u1")?;
+    let files = Files {
+        model: models::ONE_WIRE,
+        code: code.as_bytes(),
+        trace: b"5\n",
+    };
+    for line in ["run a.mdl a.c t", "exec b.c t"] {
+        let words = words_of(alloc, line)?;
+        assert_eq!(rt; run_surely(alloc, &words, files_of(alloc, files)?), 0);
+    }
+    Ok(())
+}
