@@ -1,7 +1,8 @@
 -- Which of several refusals counts.
-use Rattle.std.specs.Prelude.{ℕ, nat_lt, if◌then◌else◌, List, [], ◌∷◌, Option, Some, None}
+use Rattle.std.specs.Prelude.{ℕ, Bool, nat_lt, if◌then◌else◌, List, [], ◌∷◌, Option, Some, None, option_map}
 use Rattle.std.specs.Option.{option_or}
-use Rattle.mc_base.specs.Refusals.{PlainRefusal, TooLong, Syntax, NoModel, TwoModels, TooDeep, TooMany, Unsupported, Parameter, DoubleName, NoBlock, NoPort, TwoSources, Unconnected, TwoControls, Continuous, FloatType, NoType, TriggerSigned, TooWide, TimeInside, LongCycle, RateRatio, Loop}
+use Rattle.mc_base.specs.declared.refusal.Refusal.{Refusal}
+use Rattle.mc_base.specs.Refusals.{PlainRefusal, plain_refusal, TooLong, Syntax, NoModel, TwoModels, TooDeep, TooMany, Unsupported, Parameter, DoubleName, NoBlock, NoPort, TwoSources, Unconnected, TwoControls, Continuous, FloatType, NoType, TriggerSigned, TooWide, TimeInside, LongCycle, RateRatio, Loop}
 
 -- the line of a refusal, 0 for one that has none
 abbrev pub line_of_refusal : PlainRefusal → ℕ
@@ -43,3 +44,23 @@ least_line (refusal ∷ rest) = Some (earlier refusal (least_line rest))
 abbrev pub first_there : List (Option PlainRefusal) → Option PlainRefusal
 first_there [] = None
 first_there (found ∷ rest) = option_or found (first_there rest)
+
+-- ---- Passes, which look at one item after another
+
+-- a refusal in memory that may be there, as a plain one
+abbrev pub as_plain : Option Refusal → Option PlainRefusal
+as_plain refusal = option_map plain_refusal refusal
+
+-- of two refusals that may be there, that with the lesser line, and of those at one line the first
+abbrev pub earlier_of : Option PlainRefusal → Option PlainRefusal → Option PlainRefusal
+earlier_of None other = other
+earlier_of (Some refusal) other = Some (earlier refusal other)
+
+-- the refusal with the least line that a pass finds in some items, and of those at one line the first
+abbrev pub least_in : {A : Type 0} → (A → Option PlainRefusal) → List A → Option PlainRefusal
+least_in found [] = None
+least_in found (a ∷ rest) = earlier_of (found a) (least_in found rest)
+
+-- the refusal of an item that passes a test
+abbrev pub found_where : {A : Type 0} → (A → Bool) → (A → PlainRefusal) → A → Option PlainRefusal
+found_where test refusal a = if test a then Some (refusal a) else None

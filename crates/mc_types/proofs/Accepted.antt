@@ -10,13 +10,13 @@ use Rattle.mc_fixed.specs.Types.{boolean}
 use Rattle.mc_diagram.specs.declared.table.Row.{Row}
 use Rattle.mc_diagram.specs.Rows.{row_numbers}
 use Rattle.mc_diagram.specs.Types.{HasType, type_at}
-use Rattle.mc_diagram.specs.FirstRefusal.{least_line}
+use Rattle.mc_diagram.specs.FirstRefusal.{least_line, as_plain}
 use Rattle.mc_diagram.specs.TypeRefusals.{line_at, type_of_row, types_of_rows, is_unlike, type_faults, bad_types, signed_triggers, bits_of_row, wide_rows, type_refusal}
 use Rattle.mc_diagram.proofs.ByRow.{by_row-at, length-by_row}
 use Rattle.mc_diagram.proofs.TypeFollowed.{type_followed}
-use Rattle.mc_types.specs.Passes.{as_plain}
 use Rattle.mc_types.specs.Inferred.{AreTypes}
-use Rattle.mc_types.proofs.PassLemmas.{least-each, none-found}
+use Rattle.mc_diagram.proofs.FirstRefusals.{least-each}
+use Rattle.mc_types.proofs.PassLemmas.{none-found}
 
 -- a row without a fault has a type
 typed : (rows : List Row) (b : ℕ) (o : Option FixType) (unlike : Bool) →

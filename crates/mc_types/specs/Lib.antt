@@ -1,6 +1,5 @@
 pub mod Rules
 pub mod Marks
 pub mod Walks
-pub mod Passes
 pub mod Inferred
 pub mod Samples

@@ -6,10 +6,9 @@ ghost use Rattle.mc_blocks.specs.Limits.{HasInputTypes, IsWithinLimits};
 ghost use Rattle.mc_blocks.specs.Width as width;
 ghost use Rattle.mc_diagram.specs.Rows.{by_row, row_at};
 ghost use Rattle.mc_diagram.specs.Types as type;
-ghost use Rattle.mc_diagram.specs.FirstRefusal.{least_line};
+ghost use Rattle.mc_diagram.specs.FirstRefusal.{least_line, as_plain, found_where};
 ghost use Rattle.mc_diagram.specs.TypeRefusals.{followed_type, line_at, type_faults};
 ghost use Rattle.mc_diagram.specs.TypeRefusals as refusal;
-ghost use Rattle.mc_types.specs.Passes.{as_plain, found_where};
 ghost use Rattle.mc_types.specs.Inferred.{AreCountable};
 
 use crate::rows::{

@@ -6,7 +6,6 @@ mod follow;
 mod infer;
 mod marks;
 mod passes;
-mod refusals;
 mod rows;
 mod rules;
 

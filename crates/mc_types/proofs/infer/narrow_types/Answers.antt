@@ -1,5 +1,5 @@
 use Rattle.std.proofs.Common.{◌∙◌, ap, sym, rules}
-use Rattle.mc_types.specs.Passes.{as_plain}
+use Rattle.mc_diagram.specs.FirstRefusal.{as_plain}
 use Rattle.mc_types.proofs.Accepted.{types-accepted, widths-refused}
 use Rattle.mc_types.proofs.infer.narrow_types.Goals as goal
 

@@ -1,8 +1,7 @@
 use Rattle.std.proofs.Common.{ℕ, ◌≡◌, ◌-◌, length}
 use Rattle.std.specs.List.{range_with_len}
-use Rattle.mc_diagram.specs.FirstRefusal.{least_line}
+use Rattle.mc_diagram.specs.FirstRefusal.{least_line, as_plain, earlier_of, least_in}
 use Rattle.mc_diagram.specs.TypeRefusals.{type_faults}
-use Rattle.mc_types.specs.Passes.{as_plain, earlier_of, least_in}
 use Rattle.mc_types.proofs.passes.least_bad_type.Given as goal
 
 abbrev pub invariant-loop-b : goal.invariant-loop-b

@@ -4,8 +4,9 @@ use Rattle.std.specs.Prelude.{nat_lt}
 use Rattle.mc_base.specs.Refusals.{TooWide}
 use Rattle.mc_diagram.specs.TypeRefusals.{bits_of_row, line_at}
 use Rattle.mc_diagram.specs.Rows.{row_numbers}
-use Rattle.mc_types.specs.Passes.{as_plain, earlier_of, least_in, found_where}
-use Rattle.mc_types.proofs.PassLemmas.{least-more, least-end, least-where}
+use Rattle.mc_diagram.specs.FirstRefusal.{as_plain, earlier_of, least_in, found_where}
+use Rattle.mc_diagram.proofs.FirstRefusals.{least-where}
+use Rattle.mc_types.proofs.PassLemmas.{least-more, least-end}
 use Rattle.mc_types.proofs.passes.least_wide_row.Goals as goal
 
 pub loop-b-preserved : goal.loop-b-preserved

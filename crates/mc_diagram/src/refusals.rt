@@ -1,7 +1,6 @@
-ghost use Rattle.std.specs.Prelude.{◌≡◌};
+ghost use Rattle.std.specs.Prelude.{◌≡◌, Some};
 ghost use Rattle.mc_base.specs.Refusals.{plain_refusal};
-ghost use Rattle.mc_diagram.specs.FirstRefusal.{line_of_refusal};
-ghost use Rattle.mc_types.specs.Passes.{as_plain, earlier_of, first_of};
+ghost use Rattle.mc_diagram.specs.FirstRefusal.{as_plain, earlier, earlier_of, line_of_refusal};
 
 use mc_base::Refusal;
 
@@ -36,7 +35,7 @@ fn line_of(refusal: &Refusal) -> u32
 }
 
 /// Of two refusals that may be there, that with the lesser line, and of those at one line the first.
-pub(crate) fn earlier(found: Option<Refusal>, other: Option<Refusal>) -> Option<Refusal>
+pub fn earlier(found: Option<Refusal>, other: Option<Refusal>) -> Option<Refusal>
     ensures { as_plain result ≡ earlier_of (as_plain found) (as_plain other) }
 {
     match (found, other) {
@@ -48,7 +47,7 @@ pub(crate) fn earlier(found: Option<Refusal>, other: Option<Refusal>) -> Option<
 
 /// That of two refusals with the lesser line, and of those at one line the first.
 fn earlier_one(found: Refusal, other: Refusal) -> Refusal
-    ensures { plain_refusal result ≡ first_of (plain_refusal found) (plain_refusal other) }
+    ensures { plain_refusal result ≡ earlier (plain_refusal found) (Some (plain_refusal other)) }
 {
     if line_of(&other) < line_of(&found) {
         other
