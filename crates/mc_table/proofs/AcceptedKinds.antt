@@ -1,6 +1,6 @@
 -- The kinds of the rows of blocks that aren't refused.
-use Rattle.std.proofs.Common.{◌≡◌, refl, sym, ◌∙◌, ap, ap₂, subst, ℕ, suc, ◌^◌, ◌<◌, ◌≤◌, nat_lt, nat_le, Bool, true, false, ◌&&◌, ◌||◌, cond, true≢false, List, [], ◌∷◌, length, replicate, Option, None, Some, is_some, unwrap_or, arith, codes, leb-true, mul-one, ℤ, ◌*ℤ◌, neg_ℤ, pos, negsuc}
-use Rattle.std.specs.Prelude.{◌==◌, find, bytes_eq, option_and_then, option_map, Ok}
+use Rattle.std.proofs.Common.{◌≡◌, refl, sym, ◌∙◌, ap, ap₂, subst, ℕ, suc, ◌^◌, ◌<◌, ◌≤◌, nat_lt, nat_le, Bool, true, false, ◌&&◌, ◌||◌, cond, true≢false, List, [], length, replicate, Option, None, Some, is_some, unwrap_or, arith, codes, leb-true, mul-one, ℤ, ◌*ℤ◌, neg_ℤ, pos, negsuc}
+use Rattle.std.specs.Prelude.{◌==◌, bytes_eq, option_and_then, option_map, Ok}
 use Rattle.std.specs.Option.{option_or, option_map_or}
 use Rattle.std.specs.List.{list_all}
 use Rattle.std.proofs.lemmas.Slice.Eq.{bytes_eq-Decides}
@@ -30,22 +30,14 @@ use Rattle.mc_table.specs.Words.{value_of, number_up_to, whole_number, up_to_16,
 use Rattle.mc_table.specs.Parameters.{text_of, parameters_of, has_form, is_inputs_form, is_time_form}
 use Rattle.mc_table.specs.Lines.{own_port, input_count_by, output_count_by}
 use Rattle.mc_table.specs.TableOf.{HasKind, gain_with, out_time_text}
-use Rattle.mc_table.proofs.TimeValues.{inherited-or-each}
+use Rattle.mc_table.proofs.TimeValues.{inherited-or-each, both-true}
 use Rattle.mdl_params.specs.Times.{time_form}
 use Rattle.mc_table.specs.SoFar.{is_later}
 use Rattle.mc_table.proofs.SignLemmas.{minus_mask-bound}
 use Rattle.mc_table.proofs.FormLemmas.{formed}
-use Rattle.mc_table.proofs.AcceptedLists.{none-some, some-same}
+use Rattle.mc_table.proofs.AcceptedLists.{none-some, some-same, found-passes}
 
 -- ---- The type of a block
-
-found-passes : {A : Type 0} (test : A → Bool) (xs : List A) (x : A) → find test xs ≡ Some x → test x ≡ true
-found-passes test [] x e = absurd (none-some x e)
-found-passes {A} test (y ∷ ys) x e = by (test y) refl e (found-passes test ys x)
-  where
-    by : (t : Bool) → test y ≡ t → cond t (Some y) (find test ys) ≡ Some x → (find test ys ≡ Some x → test x ≡ true) → test x ≡ true
-    by true p e more = ap test (sym (some-same y x e)) ∙ p
-    by false p e more = more e
 
 named-by : (o : Option (List ℕ)) (t : BlockType) → option_and_then block_type_of o ≡ Some t → o ≡ Some (block_type_name t)
 named-by None t e = absurd (none-some t e)
@@ -61,10 +53,6 @@ pub is-a : (b : Block) (type t : BlockType) → block_type b ≡ Some t → is_a
 is-a b type t e = ap (λ o. option_map_or (bytes_eq (block_type_name type)) o false) (named-by (first_value (codes "BlockType") b.items) t e)
 
 -- ---- Numbers
-
-both-true : (t u : Bool) → (t && u) ≡ true → (t ≡ true) × (u ≡ true)
-both-true true u e = (refl, e)
-both-true false u e = absurd (true≢false (sym e))
 
 -- n is from 1 up to a greatest one
 abbrev pub IsUpTo : (most n : ℕ) → Type 0

@@ -97,6 +97,15 @@ found-at {A} test (y ∷ ys) x d e = by (test y) e (found-at test ys x d)
     by true e more = record { place = 0; inside = omega arith; is = some-same y x e }
     by false e more = let later = more e in record { place = suc later.place; inside = omega (arith, later.inside); is = later.is }
 
+-- it passes
+pub found-passes : {A : Type 0} (test : A → Bool) (xs : List A) (x : A) → find test xs ≡ Some x → test x ≡ true
+found-passes test [] x e = absurd (none-some x e)
+found-passes {A} test (y ∷ ys) x e = by (test y) refl e (found-passes test ys x)
+  where
+    by : (t : Bool) → test y ≡ t → cond t (Some y) (find test ys) ≡ Some x → (find test ys ≡ Some x → test x ≡ true) → test x ≡ true
+    by true p e more = ap test (sym (some-same y x e)) ∙ p
+    by false p e more = more e
+
 -- it has what all items have
 pub found-has : {A : Type 0} (P : A → Type 0) (test : A → Bool) (xs : List A) (x : A) → find test xs ≡ Some x → AllByRecursion P xs → P x
 found-has P test [] x e h = absurd (none-some x e)

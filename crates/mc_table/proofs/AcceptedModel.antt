@@ -1,5 +1,5 @@
 -- What holds of a model in which nothing is refused, block by block.
-use Rattle.std.proofs.Common.{sym, ◌≡◌, refl, ◌∙◌, ap, ap₂, ℕ, zero, suc, ◌+◌, ◌<◌, ◌≤◌, Bool, true, false, not, ◌&&◌, ◌||◌, cond, true≢false, List, [], ◌∷◌, map, length, slice_index_or, slice_get, is_none, Option, None, Some, MatchOption, option_map, arith, codes}
+use Rattle.std.proofs.Common.{sym, ◌≡◌, refl, ◌∙◌, ap, ℕ, zero, suc, ◌+◌, ◌<◌, ◌≤◌, Bool, true, false, not, ◌&&◌, ◌||◌, cond, true≢false, List, [], ◌∷◌, map, length, slice_index_or, slice_get, is_none, Option, None, Some, MatchOption, option_map, arith, codes}
 use Rattle.std.specs.Prelude.{filter, option_and_then}
 use Rattle.std.specs.Option.{option_or, option_map_or}
 use Rattle.std.specs.List.{AllByRecursion, list_all, list_any}
@@ -10,18 +10,17 @@ use Rattle.mdl_tree.specs.Spelling.{Items}
 use Rattle.mdl_tree.specs.Walks.{SectionTree, first_section}
 use Rattle.mdl_params.specs.declared.BlockType.{BlockType}
 use Rattle.mc_diagram.specs.RowTable.{RowTable}
-use Rattle.mc_diagram.specs.Rows.{same_system}
-use Rattle.mc_diagram.specs.FirstRefusal.{least_line, first_there}
+use Rattle.mc_diagram.specs.FirstRefusal.{least_line, first_there, least_in}
 use Rattle.mc_table.specs.Blocks.{Block, ModelTree, model_with, no_block, block_at, blocks_of, block_type, is_subsystem}
 use Rattle.mc_table.specs.Parameters.{parameters_of, has_form}
 use Rattle.mc_table.specs.Numbered.{IsNumbered}
 use Rattle.mc_table.specs.Doubles.{IsFlat}
-use Rattle.mc_table.specs.Passes.{least_in}
 use Rattle.mc_table.specs.TableOf.{IsTableOf, model_of, TableOf}
 use Rattle.mc_table.specs.TreeRefusals.{no_model, two_models, deep_subsystems, too_many_blocks, crowded_systems, is_unsupported, is_newer_line, unsupported, line_parts, model_refusal, bad_parameters, double_names, missing_blocks, missing_ports, double_sources, unconnected_ports, double_controls, continuous_blocks, float_blocks, writes_zero, writes_float, is_float_constant}
 use Rattle.mc_table.specs.SoFar.{is_later, writes_period, is_not_read, unread_found, unsupported_so_far, model_refusal_so_far, tree_refusal_so_far}
-use Rattle.mc_table.proofs.PassLemmas.{least-where}
+use Rattle.mc_diagram.proofs.FirstRefusals.{least-where}
 use Rattle.mc_table.proofs.FlatLemmas.{model-numbered}
+use Rattle.mc_table.proofs.MissingLemmas.{flat_blocks}
 use Rattle.mc_table.proofs.OneSystem.{no_subsystems, flat-model}
 use Rattle.mc_table.proofs.FormLemmas.{or-left, or-right}
 use Rattle.mc_table.proofs.AcceptedLists.{append-empty, map-empty, fails-at, empty-at}
@@ -91,7 +90,7 @@ accepted-model m e =
 
 -- ---- Blocks
 
-flat-at : (blocks : List Block) (i : ℕ) → IsFlat blocks → i < length blocks → (slice_index_or blocks i no_block).owner ≡ None
+pub flat-at : (blocks : List Block) (i : ℕ) → IsFlat blocks → i < length blocks → (slice_index_or blocks i no_block).owner ≡ None
 flat-at [] i flat h = absurd (omega (arith, h))
 flat-at (b ∷ blocks) zero flat h = flat.0
 flat-at (b ∷ blocks) (suc i) flat h = flat-at blocks i flat.1 (omega (arith, h))
@@ -107,10 +106,6 @@ pub numbered-at : (next : ℕ) (blocks : List Block) (i : ℕ) → IsNumbered ne
 numbered-at next [] i are h = absurd (omega (arith, h))
 numbered-at next (b ∷ blocks) zero are h = are.0 ∙ first_number next
 numbered-at next (b ∷ blocks) (suc i) are h = numbered-at (suc next) blocks i are.1 (omega (arith, h)) ∙ later_number next i
-
-flat-blocks : (blocks : List Block) → IsFlat blocks → filter (λ (b : Block). same_system b.owner None) blocks ≡ blocks
-flat-blocks [] flat = refl
-flat-blocks (b ∷ blocks) flat = ap₂ (λ o xs. cond (same_system o None) (b ∷ xs) xs) flat.0 (flat-blocks blocks flat.1)
 
 all-hold : {A : Type 0} (test : A → Bool) (xs : List A) → filter (λ x. not (test x)) xs ≡ [] → list_all test xs ≡ true
 all-hold test [] e = refl
@@ -218,7 +213,7 @@ module _ (m : ModelTree) (accepted : IsAccepted m) where
     owner = λ i h. flat-at m.blocks i flat h;
     number = λ i h. numbered-at 0 m.blocks i numbered h ∙ from_zero i;
     no_subsystem = λ i h. fails-at is_subsystem m.blocks i no_block (no_subsystems m m.blocks none_unread) h;
-    all_own = flat-blocks m.blocks flat;
+    all_own = flat_blocks m.blocks flat;
   }
 
   -- the type of each of its blocks is read now

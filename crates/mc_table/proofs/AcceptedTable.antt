@@ -1,28 +1,23 @@
--- A table of a tree that isn't refused is well formed, and its rows are those of one system.
-use Rattle.std.proofs.Common.{◌≡◌, sym, ◌∙◌, ap, subst, ℕ, List, [], Option, None, map}
-use Rattle.mc_base.specs.declared.Control.TheVariants.{Plain}
-use Rattle.mdl_tree.specs.Spelling.{Items}
+-- A table of a tree that isn't refused is well formed, and its rows are those of one system and write no period.
+use Rattle.std.proofs.Common.{◌≡◌, sym, subst, ℕ, None}
 use Rattle.mc_diagram.specs.declared.subsystem.Subsystem.{Subsystem}
-use Rattle.mc_diagram.specs.declared.subsystem.Subsystem.TheOpen.{Subsystem-F}
-use Rattle.mc_diagram.specs.declared.subsystem.Subsystem.TheViews.{roll-Subsystem}
-use Rattle.mc_diagram.specs.declared.table.Row.{Row}
 use Rattle.mc_diagram.specs.RowTable.{RowTable}
-use Rattle.mc_diagram.specs.Rows.{is_inport, is_outport, row_numbers}
+use Rattle.mc_diagram.specs.Rows.{is_inport, is_outport}
 use Rattle.mc_diagram.specs.WellFormed.{IsWellFormed}
-use Rattle.mc_diagram.specs.Nested.{system, systems_from, system_of, AreSystemsOf}
+use Rattle.mc_diagram.specs.Nested.{system_of, AreSystemsOf}
 use Rattle.mc_diagram.specs.DiagramTree.{IsDiagram}
-use Rattle.mc_diagram.proofs.NestedLemmas.{system_of_roll}
 use Rattle.mdl_params.specs.declared.BlockType.TheVariants.{Inport, Outport}
 use Rattle.mc_table.specs.Blocks.{ModelTree}
 use Rattle.mc_table.specs.Doubles.{IsFlat}
 use Rattle.mc_table.specs.Numbered.{IsNumbered}
-use Rattle.mc_table.specs.SoFar.{model_refusal_so_far, tree_refusal_so_far}
-use Rattle.mc_table.specs.TableOf.{IsTableOf, TableOf}
-use Rattle.mc_table.specs.TableLaws.{one_system, AcceptedTableIsWellFormed, AcceptedTableIsOneSystem}
+use Rattle.mc_table.specs.SoFar.{model_refusal_so_far}
+use Rattle.mc_table.specs.TableOf.{IsTableOf}
+use Rattle.mc_table.specs.TableLaws.{one_system, IsTimeless, AcceptedTableIsWellFormed, AcceptedTableIsOneSystem, AcceptedTableIsTimeless}
 use Rattle.mc_table.proofs.AcceptedModel.{accepted-model, root_blocks, read-table}
 use Rattle.mc_table.proofs.AcceptedTexts.{step-within}
 use Rattle.mc_table.proofs.AcceptedRows.{AreRows, nested, each-row, controls, one-system, inports, outports, has-ports}
 use Rattle.mc_table.proofs.AcceptedWires.{wired}
+use Rattle.mc_table.proofs.TimelessRows.{timeless}
 
 -- ---- Models
 
@@ -46,22 +41,16 @@ module _ (m : ModelTree) (table : RowTable) (e : model_refusal_so_far m ≡ None
   pub model_table_is_one_system : (line : ℕ) → AreSystemsOf table.rows (one_system line table.rows)
   model_table_is_one_system line = one-system m table.rows are-rows line
 
+  -- they write no period
+  pub model_table_is_timeless : IsTimeless table
+  model_table_is_timeless = timeless m table.rows are-rows
+
   -- with that system it is a diagram
   pub model_table_is_diagram : (line : ℕ) (root : Subsystem) → system_of root ≡ one_system line table.rows → IsDiagram (record { table = table; root = root })
   model_table_is_diagram line root same = record {
     table = model_table_is_well_formed;
     systems = subst (AreSystemsOf table.rows) (sym same) (model_table_is_one_system line);
   }
-
--- the system of a value that is made of all rows
-pub root-is : (rows : List Row) (x : Subsystem-F Subsystem) → x.row ≡ None → x.control ≡ Plain → x.own ≡ row_numbers rows → x.children.items ≡ [] →
-    system_of (roll-Subsystem x) ≡ one_system x.line rows
-root-is rows x row control own children =
-    system_of_roll x
-    ∙ ap (λ (r : Option ℕ). system r x.line x.control x.own (systems_from (map system_of x.children.items))) row
-    ∙ ap (λ c. system None x.line c x.own (systems_from (map system_of x.children.items))) control
-    ∙ ap (λ os. system None x.line Plain os (systems_from (map system_of x.children.items))) own
-    ∙ ap (λ cs. system None x.line Plain (row_numbers rows) (systems_from (map system_of cs))) children
 
 -- ---- Files
 
@@ -77,9 +66,8 @@ accepted_table_is_one_system file table line e is =
     let read = read-table file table e is in
     model_table_is_one_system read.model table read.accepted read.flat read.numbered read.is_table line
 
--- with that system it is a diagram
-pub accepted_table_is_diagram : (file : Items) (table : RowTable) (line : ℕ) (root : Subsystem) → tree_refusal_so_far file ≡ None → TableOf file table →
-    system_of root ≡ one_system line table.rows → IsDiagram (record { table = table; root = root })
-accepted_table_is_diagram file table line root e is =
+-- they write no period
+pub accepted_table_is_timeless : AcceptedTableIsTimeless
+accepted_table_is_timeless file table e is =
     let read = read-table file table e is in
-    model_table_is_diagram read.model table read.accepted read.flat read.numbered read.is_table line root
+    model_table_is_timeless read.model table read.accepted read.flat read.numbered read.is_table

@@ -1,5 +1,5 @@
 -- The type texts and the time texts of the rows of blocks with which nothing is wrong, and the written step.
-use Rattle.std.proofs.Common.{◌≡◌, refl, sym, ◌∙◌, ap, ap₂, subst, ℕ, zero, suc, ◌<◌, ◌≤◌, nat_le, Bool, true, false, not, ◌&&◌, ◌||◌, cond, true≢false, List, [], ◌∷◌, map, Option, None, Some, MatchBool, MatchOption, ◌^◌, inl, inr, arith, codes, leb-true, pos, negsuc, ℤ}
+use Rattle.std.proofs.Common.{◌≡◌, refl, sym, ◌∙◌, ap, ap₂, subst, ℕ, ◌<◌, ◌≤◌, nat_le, Bool, true, false, not, ◌&&◌, ◌||◌, cond, true≢false, List, [], ◌∷◌, map, Option, None, Some, MatchBool, MatchOption, ◌^◌, inl, inr, codes, leb-true, pos, negsuc, ℤ}
 use Rattle.std.specs.Prelude.{◌==◌, bytes_eq, option_and_then, Result, Ok, Err}
 use Rattle.std.specs.Option.{option_map_or}
 use Rattle.std.specs.List.{list_any}
@@ -35,7 +35,7 @@ use Rattle.mc_table.specs.Parameters.{text_of, is_form, is_time_form, is_whole_t
 use Rattle.mc_table.specs.TreeRefusals.{is_inherited, is_truth}
 use Rattle.mc_table.specs.TableOf.{IsNumber, IsTypeText, IsTimeText, HasKind, IsRowOf, positive_parts, IsStepOf, first_outside_system}
 use Rattle.mc_table.proofs.FormLemmas.{formed}
-use Rattle.mc_table.proofs.TimeValues.{inherited-or-each, any-time}
+use Rattle.mc_table.proofs.TimeValues.{inherited-or-each, any-time, above-zero}
 use Rattle.mc_table.proofs.AcceptedLists.{none-some, some-same, not-false}
 use Rattle.mc_table.proofs.AcceptedModel.{IsGood}
 use Rattle.mc_table.proofs.AcceptedKinds.{is-a, is_named, kind-within}
@@ -190,10 +190,6 @@ module _ (m : ModelTree) (b : Block) (row : Row) (good : IsGood m b) (is : IsRow
 abbrev IsStepParts : ℕ × ℕ → Type 0
 IsStepParts parts = (0 < parts.0) × (parts.0 ≤ 10 ^ 9) × (parts.1 ≤ 10 ^ 9)
 
-positive : (n : ℕ) → (n == 0) ≡ false → 0 < n
-positive zero e = absurd (true≢false e)
-positive (suc n) e = omega arith
-
 fraction-within : (num : ℤ) (den : ℕ) (parts : ℕ × ℕ) → value_of (frac_parts num den) ≡ Some parts → (parts.0 ≤ 10 ^ 9) × (parts.1 ≤ 10 ^ 9)
 fraction-within (negsuc n) den parts e = absurd (none-some parts e)
 fraction-within (pos n) den parts e = by (nat_le n 1_000_000_000) (nat_le den 1_000_000_000) refl refl e
@@ -212,7 +208,7 @@ positive-within (Some x) parts within e = by (x.0 == 0) refl e
   where
     by : (t : Bool) → (x.0 == 0) ≡ t → cond t None (Some x) ≡ Some parts → IsStepParts parts
     by true p e = absurd (none-some parts e)
-    by false p e = let bounds = within x refl in subst IsStepParts (some-same x parts e) (positive x.0 p, bounds.0, bounds.1)
+    by false p e = let bounds = within x refl in subst IsStepParts (some-same x parts e) (above-zero x.0 p, bounds.0, bounds.1)
 
 parts-within : (o : Option Ratio) (parts : ℕ × ℕ) → option_and_then positive_parts o ≡ Some parts → IsStepParts parts
 parts-within None parts e = absurd (none-some parts e)

@@ -1,18 +1,17 @@
--- The model of a file in which nothing is refused before its blocks, and its verdict.
-use Rattle.std.proofs.Common.{◌≡◌, refl, sym, ◌∙◌, ap, subst, ℕ, zero, suc, ◌+◌, arith, Bool, true, false, cond, true≢false, List, [], ◌∷◌, ◌++◌, map, length, Option, None, Some, is_some, codes, slice_get}
-use Rattle.std.specs.Prelude.{bytes_eq, option_map, option_and_then, MatchOption}
+-- The model of a file in which nothing is refused before its blocks, and its refusal.
+use Rattle.std.proofs.Common.{◌≡◌, refl, sym, ◌∙◌, ap, ℕ, zero, suc, ◌+◌, arith, Bool, true, false, cond, true≢false, List, [], ◌∷◌, ◌++◌, map, Option, None, Some, is_some, codes}
+use Rattle.std.specs.Prelude.{bytes_eq, option_map, option_and_then}
 use Rattle.std.specs.List.{range_with_len}
 use Rattle.std.specs.Option.{option_or}
-use Rattle.mc_base.specs.declared.ModelKind.TheVariants.{Library, Second}
-use Rattle.mc_base.specs.Refusals.{PlainRefusal, NoModel, TwoModels}
+use Rattle.mc_base.specs.declared.ModelKind.TheVariants.{Library}
+use Rattle.mc_base.specs.Refusals.{PlainRefusal, TwoModels}
 use Rattle.mdl_tree.specs.Spelling.{Items, End, Param, Section}
 use Rattle.mdl_tree.specs.Walks.{SectionTree, first_section, sections_named}
 use Rattle.mc_diagram.specs.FirstRefusal.{least_line, first_there}
-use Rattle.mc_table.specs.Blocks.{ModelTree, model_with}
-use Rattle.mc_diagram.specs.RowTable.{RowTable}
+use Rattle.mc_table.specs.Blocks.{model_with}
 use Rattle.mc_table.specs.SoFar.{model_refusal_so_far, tree_refusal_so_far}
-use Rattle.mc_table.specs.TableOf.{IsStepOf, IsTableOf, model_of, TableOf, IsFixedStep}
-use Rattle.mc_table.specs.TreeRefusals.{missing_system, missing_model, no_model, two_models}
+use Rattle.mc_table.specs.TableOf.{model_of}
+use Rattle.mc_table.specs.TreeRefusals.{missing_model, no_model, two_models}
 
 -- ---- Numbers from 0 on
 
@@ -33,12 +32,6 @@ range-more n =
     ap (range_with_len 0) one ∙ range-suc 0 n ∙ ap (λ k. range_with_len 0 n ++ k ∷ []) same
 
 -- ---- The first of three
-
--- the first of two is that of three
-pub first-of-two : (a b c : Option PlainRefusal) (refusal : PlainRefusal) → first_there (a ∷ b ∷ []) ≡ Some refusal → first_there (a ∷ b ∷ c ∷ []) ≡ Some refusal
-first-of-two (Some x) b c refusal e = e
-first-of-two None (Some x) c refusal e = e
-first-of-two None None c refusal e = absurd (let wrong : ⊥ = cc e in wrong)
 
 -- where there is none of two, the third
 pub last-of-three : (a b c : Option PlainRefusal) → first_there (a ∷ b ∷ []) ≡ None → first_there (a ∷ b ∷ c ∷ []) ≡ c
@@ -82,18 +75,6 @@ model-there file e =
     there (first_section (codes "Model") file) (first_section (codes "Library") file) both.0
     (first-named (codes "Library") file (no-library (λ (library : SectionTree). TwoModels library.line Library) (sections_named (codes "Library") file) _ both.1))
 
-system-in : (model : SectionTree) (system : Option SectionTree) → missing_system model system ≡ None → is_some system ≡ true
-system-in model (Some system) e = refl
-system-in model None e = absurd (let wrong : ⊥ = cc e in wrong)
-
--- and that has a System
-pub system-there : (file : Items) (model : SectionTree) → first_there (no_model file ∷ two_models file ∷ []) ≡ None → first_section (codes "Model") file ≡ Some model →
-    is_some (first_section (codes "System") model.items) ≡ true
-system-there file model e is =
-    let both = no-first (no_model file) (two_models file) e in
-    system-in model (first_section (codes "System") model.items)
-    (sym (ap (λ found. missing_model found (first_section (codes "Library") file)) is) ∙ both.0)
-
 -- the model of a file, by its sections
 pub model-is : (file : Items) (model system : SectionTree) → first_section (codes "Model") file ≡ Some model → first_section (codes "System") model.items ≡ Some system →
     model_of file ≡ Some (model_with model system)
@@ -106,7 +87,7 @@ pub some-mapped : {A B : Type 0} (f : A → B) (o : Option A) (found : Option B)
 some-mapped f None found e h = absurd (true≢false (sym h ∙ ap (λ x. is_some x) (sym e)))
 some-mapped f (Some x) found e h = refl
 
--- ---- Its verdict
+-- ---- Its refusal
 
 module _ (file : Items) (model system : SectionTree)
     (none : first_there (no_model file ∷ two_models file ∷ []) ≡ None)
@@ -117,15 +98,3 @@ module _ (file : Items) (model system : SectionTree)
   refusal-of_model =
       last-of-three (no_model file) (two_models file) (option_and_then model_refusal_so_far (model_of file)) none
       ∙ ap (option_and_then model_refusal_so_far) (model-is file model system is has)
-
-  -- and its table
-  pub table-of_model : (table : RowTable) → IsTableOf (model_with model system) table → TableOf file table
-  table-of_model table h = subst (λ o. MatchOption o ⊥ (λ m. IsTableOf m table)) (sym (model-is file model system is has)) h
-
-  -- the table's step is that of the file
-  pub step-of_model : (table : RowTable) → IsTableOf (model_with model system) table → IsFixedStep file table.fixed_step
-  step-of_model table h = subst (λ o. MatchOption o (table.fixed_step ≡ None) (λ m. IsStepOf m.items table.fixed_step)) (sym is) h.fixed_step
-
-  -- the line of its System
-  pub line-of_model : option_map (λ (m : ModelTree). m.line) (model_of file) ≡ Some system.line
-  line-of_model = ap (option_map (λ (m : ModelTree). m.line)) (model-is file model system is has)

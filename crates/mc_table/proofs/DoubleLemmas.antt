@@ -9,28 +9,27 @@ use denote.Ref.{Bor}
 use Rattle.mc_base.specs.Refusals.{PlainRefusal}
 use Rattle.mdl_params.specs.declared.BlockType.TheVariants.{Inport, Outport}
 use Rattle.mc_diagram.specs.Rows.{same_system}
-use Rattle.mc_diagram.specs.FirstRefusal.{least_line}
+use Rattle.mc_diagram.specs.FirstRefusal.{least_line, earlier_of}
 use Rattle.mc_table.specs.Blocks.{Block, ModelTree, no_block, block_at, is_a}
 use Rattle.mc_table.specs.Parameters.{name_of}
 use Rattle.mc_table.specs.Lines.{own_port}
 use Rattle.mc_table.specs.TreeRefusals.{same_name, are_doubles, repeats_from, double_names}
 use Rattle.mc_table.specs.NameMaps.{is_name, place_of, is_before, names_seen}
-use Rattle.mc_table.specs.Passes.{earlier_of}
 use Rattle.mc_table.specs.Doubles.{have_one_port, is_port, are_alike, IsFlat, is_double_at, double_at, double_refusal, doubles_from}
-use Rattle.mc_table.proofs.PassLemmas.{earlier_assoc, earlier-none}
+use Rattle.mc_diagram.proofs.FirstRefusals.{earlier_assoc, earlier-none}
 use Rattle.mc_table.proofs.NameLemmas.{bytes_eq-swap, place-before}
 
 -- ---- Tests of lists
 
-any-same : {X : Type 0} (f g : X → Bool) → ((x : X) → f x ≡ g x) → (xs : List X) → list_any f xs ≡ list_any g xs
+pub any-same : {X : Type 0} (f g : X → Bool) → ((x : X) → f x ≡ g x) → (xs : List X) → list_any f xs ≡ list_any g xs
 any-same f g same [] = refl
 any-same f g same (x ∷ xs) = ap₂ ◌||◌ (same x) (any-same f g same xs)
 
-any-none : {X : Type 0} (f : X → Bool) → ((x : X) → f x ≡ false) → (xs : List X) → list_any f xs ≡ false
+pub any-none : {X : Type 0} (f : X → Bool) → ((x : X) → f x ≡ false) → (xs : List X) → list_any f xs ≡ false
 any-none f none [] = refl
 any-none f none (x ∷ xs) = ap₂ ◌||◌ (none x) (any-none f none xs)
 
-any-map : {X Y : Type 0} (p : Y → Bool) (f : X → Y) (xs : List X) → list_any p (map f xs) ≡ list_any (λ x. p (f x)) xs
+pub any-map : {X Y : Type 0} (p : Y → Bool) (f : X → Y) (xs : List X) → list_any p (map f xs) ≡ list_any (λ x. p (f x)) xs
 any-map p f [] = refl
 any-map p f (x ∷ xs) = ap (λ t. p (f x) || t) (any-map p f xs)
 
@@ -50,7 +49,7 @@ or-swap true false = refl
 or-swap false true = refl
 or-swap false false = refl
 
-any-reverse : (f : Block → Bool) (xs : List Block) → list_any f (reverse xs) ≡ list_any f xs
+pub any-reverse : {X : Type 0} (f : X → Bool) (xs : List X) → list_any f (reverse xs) ≡ list_any f xs
 any-reverse f [] = refl
 any-reverse f (x ∷ xs) =
     ap (list_any f) (reverse-append (x ∷ []) xs) ∙ list_any-append f (reverse xs) (x ∷ [])

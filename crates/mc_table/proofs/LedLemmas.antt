@@ -1,7 +1,7 @@
 -- Line ends at inputs to which earlier ones lead, one by one, and when a model has one system.
-use Rattle.std.proofs.Common.{◌≡◌, refl, sym, ◌∙◌, ap, ap₂, ℕ, suc, zero, ◌+◌, ◌<◌, ◌≤◌, Bool, true, false, cond, List, [], ◌∷◌, ◌++◌, length, take, drop, reverse, slice_index_or, Option, None, Some, map, arith}
-use Rattle.std.specs.Prelude.{filter, slice_get, option_map}
-use Rattle.std.specs.Option.{option_map_or, option_or}
+use Rattle.std.proofs.Common.{◌≡◌, refl, sym, ◌∙◌, ap, ℕ, ◌+◌, ◌<◌, false, List, [], length, take, drop, reverse, slice_index_or, Option, None, Some, map, arith}
+use Rattle.std.specs.Prelude.{filter}
+use Rattle.std.specs.Option.{option_map_or}
 use Rattle.std.proofs.lemmas.List.{length-map}
 use Rattle.indexmap.specs.IndexMap.{IndexMap}
 use Rattle.mc_base.specs.Refusals.{PlainRefusal}
@@ -13,7 +13,7 @@ use Rattle.mc_table.specs.TreeRefusals.{targets_in}
 use Rattle.mc_table.specs.HeldLines.{place_seen, ends_seen, targets_seen}
 use Rattle.mc_table.specs.NameMaps.{is_before}
 use Rattle.mc_table.specs.Doubles.{IsFlat}
-use Rattle.mc_table.specs.Passes.{earlier_of}
+use Rattle.mc_diagram.specs.FirstRefusal.{earlier_of}
 use Rattle.mc_table.specs.Inputs.{input_at, end_at, first_lead, AreInputsOf}
 use Rattle.mc_table.specs.Wiring.{is_double_target, double_target, double_targets_from}
 use Rattle.mc_table.proofs.MissingLemmas.{targets-same}

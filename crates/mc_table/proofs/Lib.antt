@@ -28,6 +28,7 @@ pub mod AcceptedKinds
 pub mod AcceptedTexts
 pub mod AcceptedRows
 pub mod AcceptedWires
+pub mod TimelessRows
 pub mod AcceptedTable
 pub mod NumberValues
 pub mod TypeValues

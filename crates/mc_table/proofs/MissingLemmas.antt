@@ -6,7 +6,7 @@ use Rattle.std.specs.Option.{option_copied}
 use denote.Ref.{Bor}
 use Rattle.mc_base.specs.Refusals.{PlainRefusal}
 use Rattle.mc_diagram.specs.Rows.{same_system}
-use Rattle.mc_diagram.specs.FirstRefusal.{least_line}
+use Rattle.mc_diagram.specs.FirstRefusal.{least_line, earlier_of, least_in}
 use Rattle.mc_table.specs.declared.block.Block as held
 use Rattle.mc_table.specs.Held.{seen, all_seen}
 use Rattle.mc_table.specs.Blocks.{Block, ModelTree, is_subsystem, inside}
@@ -15,11 +15,10 @@ use Rattle.mc_table.specs.Lines.{Place, LineEnd, has_name, block_named, ends_of}
 use Rattle.mc_table.specs.TreeRefusals.{sources_in, targets_in, missing_blocks}
 use Rattle.mc_table.specs.NameMaps.{is_name, place_of}
 use Rattle.mc_table.specs.Doubles.{IsFlat}
-use Rattle.mc_table.specs.Passes.{earlier_of}
-use Rattle.mc_table.specs.Missing.{least_over, missing_found, missing_refusal}
+use Rattle.mc_table.specs.Missing.{missing_found, missing_refusal}
 use Rattle.mc_table.specs.HeldLines.{ends_seen, targets_seen, end_seen}
 use Rattle.mc_table.specs.declared.lines.LineEnd as held_end
-use Rattle.mc_table.proofs.PassLemmas.{earlier_assoc}
+use Rattle.mc_diagram.proofs.FirstRefusals.{earlier_assoc, least-where, least-append}
 
 -- ---- Blocks by name
 
@@ -56,33 +55,16 @@ named-at m name flat =
 
 -- ---- Passes over lists
 
--- the items that pass a test
-pub over-where : {A : Type 0} (test : A → Bool) (refusal : A → PlainRefusal) (xs : List A) →
-    least_over (λ a. cond (test a) (Some (refusal a)) None) xs ≡ least_line (map refusal (filter test xs))
-over-where test refusal [] = refl
-over-where {A} test refusal (x ∷ xs) = by (test x) (over-where test refusal xs)
-  where
-    by : (t : Bool) → least_over (λ a. cond (test a) (Some (refusal a)) None) xs ≡ least_line (map refusal (filter test xs)) →
-        earlier_of (cond t (Some (refusal x)) None) (least_over (λ a. cond (test a) (Some (refusal a)) None) xs)
-        ≡ least_line (map refusal (cond t (x ∷ filter test xs) (filter test xs)))
-    by true same = ap (earlier_of (Some (refusal x))) same
-    by false same = same
-
--- one list and another
-pub over-append : {A : Type 0} (found : A → Option PlainRefusal) (xs ys : List A) → least_over found (xs ++ ys) ≡ earlier_of (least_over found xs) (least_over found ys)
-over-append found [] ys = refl
-over-append found (x ∷ xs) ys = ap (earlier_of (found x)) (over-append found xs ys) ∙ sym (earlier_assoc (found x) (least_over found xs) (least_over found ys))
-
 one_more : (i : ℕ) → suc i ≡ i + 1
 one_more i = omega arith
 
 -- one item more is looked at
 pub over-more : {A B : Type 0} (found : B → Option PlainRefusal) (show : A → B) (xs : List A) (i : ℕ) (x : A) (before whole : Option PlainRefusal) → i < length xs → x ≡ slice_index_or xs i x →
-    earlier_of before (least_over found (map show (drop i xs))) ≡ whole →
-    earlier_of (earlier_of before (found (show x))) (least_over found (map show (drop (i + 1) xs))) ≡ whole
+    earlier_of before (least_in found (map show (drop i xs))) ≡ whole →
+    earlier_of (earlier_of before (found (show x))) (least_in found (map show (drop (i + 1) xs))) ≡ whole
 over-more found show xs i x before whole h e all =
-    earlier_assoc before (found (show x)) (least_over found (map show (drop (i + 1) xs)))
-    ∙ ap (λ ys. earlier_of before (least_over found (map show ys)))
+    earlier_assoc before (found (show x)) (least_in found (map show (drop (i + 1) xs)))
+    ∙ ap (λ ys. earlier_of before (least_in found (map show ys)))
     (sym (drop-cons xs i x h ∙ ap (λ y. y ∷ drop (suc i) xs) (sym e) ∙ ap (λ k. x ∷ drop k xs) (one_more i)))
     ∙ all
 
@@ -94,13 +76,13 @@ targets-same (e ∷ ends) = ap (λ xs. (end_seen e).target ∷ xs) (targets-same
 
 -- the missing blocks of a model of one system
 pub missing-flat : (m : ModelTree) (sources : List Place) (ends : List held_end.LineEnd) → filter is_subsystem m.blocks ≡ [] → sources ≡ sources_in m None → ends_seen ends ≡ ends_of m None →
-    earlier_of (least_over (missing_found m) sources) (least_over (missing_found m) (targets_seen ends)) ≡ least_line (missing_blocks m)
+    earlier_of (least_in (missing_found m) sources) (least_in (missing_found m) (targets_seen ends)) ≡ least_line (missing_blocks m)
 missing-flat m sources ends none own same =
     let test : Place → Bool = λ place. is_none (block_named m None place.block) in
     let targets : targets_seen ends ≡ targets_in m None = targets-same ends ∙ ap (map (λ (e : LineEnd). e.target)) same in
-    sym (over-append (missing_found m) sources (targets_seen ends))
-    ∙ ap₂ (λ xs ys. least_over (missing_found m) (xs ++ ys)) own targets
-    ∙ over-where test missing_refusal (sources_in m None ++ targets_in m None)
+    sym (least-append (missing_found m) sources (targets_seen ends))
+    ∙ ap₂ (λ xs ys. least_in (missing_found m) (xs ++ ys)) own targets
+    ∙ least-where test missing_refusal (sources_in m None ++ targets_in m None)
     ∙ ap least_line (sym (append-nil (map missing_refusal (filter test (sources_in m None ++ targets_in m None)))))
     ∙ ap (λ bs. least_line (flat_map (λ o. map missing_refusal (filter (λ (place : Place). is_none (block_named m o place.block)) (sources_in m o ++ targets_in m o))) (None ∷ map inside bs))) (sym none)
 
@@ -131,8 +113,8 @@ same_index (x ∷ xs) (suc i) d h = other xs i d (slice_index_or xs i d) (omega 
 -- the item at a place more is looked at
 pub over-at : {A B : Type 0} (found : B → Option PlainRefusal) (show : A → B) (xs : List A) (i : ℕ) (d : A) (before now whole : Option PlainRefusal) → i < length xs →
     now ≡ earlier_of before (found (show (slice_index_or xs i d))) →
-    earlier_of before (least_over found (map show (drop i xs))) ≡ whole →
-    earlier_of now (least_over found (map show (drop (i + 1) xs))) ≡ whole
+    earlier_of before (least_in found (map show (drop i xs))) ≡ whole →
+    earlier_of now (least_in found (map show (drop (i + 1) xs))) ≡ whole
 over-at found show xs i d before now whole h e all =
-    ap (λ o. earlier_of o (least_over found (map show (drop (i + 1) xs)))) e
+    ap (λ o. earlier_of o (least_in found (map show (drop (i + 1) xs)))) e
     ∙ over-more found show xs i (slice_index_or xs i d) before whole h (same_index xs i d h) all

@@ -6,7 +6,7 @@ use Rattle.mc_base.specs.declared.Many.{Many}
 use Rattle.mc_base.specs.declared.Many.TheVariants.{Inports, Outports}
 use Rattle.mc_base.specs.Numbers.{reported_number}
 use Rattle.mc_base.specs.Refusals.{PlainRefusal, TooMany}
-use Rattle.mc_diagram.specs.FirstRefusal.{least_line}
+use Rattle.mc_diagram.specs.FirstRefusal.{least_line, earlier_of, least_in}
 use Rattle.mdl_tree.specs.declared.tree.Section.{Section}
 use Rattle.mdl_tree.specs.Walks.{SectionTree, first_section}
 use Rattle.mdl_tree.specs.Values.{section_tree}
@@ -14,9 +14,8 @@ use Rattle.mc_table.specs.Blocks.{Block, ModelTree, no_block, items_of_section, 
 use Rattle.mc_table.specs.Lines.{parts_of_line, lines_of}
 use Rattle.mc_table.specs.TreeRefusals.{crowd, crowded_systems, line_of_system, line_parts, is_newer_line}
 use Rattle.mc_table.specs.Held.{trees_of}
-use Rattle.mc_table.specs.Passes.{earlier_of, least_in}
 use Rattle.mc_table.specs.Numbered.{IsNumbered, parts_among, parts_inside, crowd_at, crowd_in, crowd_found, newer_refusal, newer_found}
-use Rattle.mc_table.proofs.PassLemmas.{earlier_assoc, least_line-append}
+use Rattle.mc_diagram.proofs.FirstRefusals.{earlier_assoc, least_line-append}
 
 -- each of the blocks stands at its number
 AreAt : List Block → List Block → Type 0

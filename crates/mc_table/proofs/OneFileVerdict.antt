@@ -9,7 +9,7 @@ use Rattle.mdl_tree.specs.Spelling.{Items, LinesSpell, lines_fault, Fault, TreeO
 use Rattle.mc_diagram.specs.RowTable.{RowTable}
 use Rattle.mc_table.specs.SoFar.{tree_refusal_so_far}
 use Rattle.mc_table.specs.TableOf.{TableOf}
-use Rattle.mc_table.specs.FileVerdicts.{file_limit, IsFile, FileVerdict, Refused, Accepted, IsLong, IsFaulty, IsWrongTree, IsModelWith, HasFileVerdict, HasOneFileVerdict}
+use Rattle.mc_table.specs.FileVerdicts.{file_limit, IsFile, FileVerdict, Refused, Accepted, HasFileVerdict, HasOneFileVerdict}
 use Rattle.mc_table.specs.TableLaws.{AcceptedTreeHasTable}
 use Rattle.mc_table.proofs.TableIsOne.{tree_has_one_table}
 

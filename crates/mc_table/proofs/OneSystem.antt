@@ -13,7 +13,8 @@ use Rattle.mc_table.specs.TreeRefusals.{is_unsupported}
 use Rattle.mc_table.specs.SoFar.{is_later, writes_period, is_not_read, unread_found}
 use Rattle.mc_table.specs.Held.{taken, blocks_held}
 use Rattle.mc_table.specs.Doubles.{IsFlat}
-use Rattle.mc_table.specs.Passes.{earlier_of, least_in}
+use Rattle.mc_diagram.specs.FirstRefusal.{earlier_of, least_in}
+use Rattle.mc_diagram.proofs.FirstRefusals.{none-later}
 use Rattle.mc_table.proofs.FormLemmas.{or-left, or-right}
 use Rattle.mc_table.proofs.BlockLemmas.{blocks_in-block, blocks_in-other}
 
@@ -32,10 +33,6 @@ pub none_found : (test : Bool) (refusal : PlainRefusal) (rest : Option PlainRefu
 none_found true refusal rest e = cc
 none_found false refusal rest e = refl
 
-pub none_after : (first rest : Option PlainRefusal) → earlier_of first rest ≡ None → rest ≡ None
-none_after None rest e = e
-none_after (Some refusal) rest e = cc
-
 -- where all blocks are read none is a subsystem
 pub no_subsystems : (m : ModelTree) (blocks : List Block) → least_in (unread_found m) blocks ≡ None → filter is_subsystem blocks ≡ []
 no_subsystems m [] none = refl
@@ -44,7 +41,7 @@ no_subsystems m (b ∷ blocks) none =
     let early = or-left (is_unsupported b || option_map_or is_later (block_type b) false) (writes_period m b) read in
     let own = not_subsystem (first_value (codes "BlockType") b.items) (or-right (is_unsupported b) (option_map_or is_later (block_type b) false) early) in
     ap (λ t. cond t (b ∷ filter is_subsystem blocks) (filter is_subsystem blocks)) own
-    ∙ no_subsystems m blocks (none_after (unread_found m b) (least_in (unread_found m) blocks) none)
+    ∙ no_subsystems m blocks (none-later (unread_found m b) (least_in (unread_found m) blocks) none)
 
 flat-cons : (b : Block) (held more : List Block) (s : Bool) → is_subsystem b ≡ s → (s ≡ false → held ≡ []) → b.owner ≡ None →
     filter is_subsystem (b ∷ held ++ more) ≡ [] → (filter is_subsystem more ≡ [] → IsFlat more) → IsFlat (b ∷ held ++ more)

@@ -2,14 +2,11 @@
 use Rattle.std.proofs.Common.{◌≡◌, refl, sym, ◌∙◌, ap, subst, ℕ, zero, suc, ◌+◌, ◌^◌, ◌<◌, ◌≤◌, nat_le, Bool, true, false, ◌&&◌, cond, true≢false, List, [], ◌∷◌, ◌++◌, map, take, slice_index_or, length, Option, None, Some, is_some, arith}
 use Rattle.std.proofs.lemmas.Bool.Decides.{nat_tests}
 use Rattle.std.specs.Prelude.{bytes_eq, filter, unwrap_or, option_and_then}
-use Rattle.std.proofs.lemmas.List.{take_all}
 use Rattle.std.specs.List.{AllZip, list_all, list_any}
-use Rattle.std.specs.Option.{option_map_or}
 use Rattle.mc_base.specs.declared.base.ParamName.TheVariants as param
 use Rattle.mc_base.specs.declared.base.ParamName.TheVariants.{Name}
 use Rattle.mc_diagram.specs.Rows.{same_system}
 use Rattle.mdl_params.specs.declared.BlockType.{BlockType}
-use Rattle.mdl_params.specs.declared.BlockType.TheVariants.{Inport, Outport, SubSystem, Constant, Ground, Terminator, Gain, Sum, Product, UnitDelay, ZeroOrderHold, Switch, RelationalOperator, Logic, DataTypeConversion, RateTransition, EnablePort, TriggerPort}
 use Rattle.mdl_params.specs.Language.{parameters, is_same_param}
 use Rattle.mc_diagram.specs.declared.table.Row.{Row}
 use Rattle.mc_table.specs.declared.block.Block as held
@@ -18,11 +15,10 @@ use Rattle.mc_table.specs.Blocks.{Block, ModelTree, no_block, block_at, block_ty
 use Rattle.mc_table.specs.Held.{seen, all_seen}
 use Rattle.mc_table.specs.HeldModels.{tree_of}
 use Rattle.mc_table.specs.Numbered.{IsNumbered}
-use Rattle.mc_table.specs.Words.{whole_number, number_up_to}
+use Rattle.mc_table.specs.Words.{whole_number}
 use Rattle.mc_table.specs.Parameters.{type_name, text_of, parameters_of, has_form, same_typed}
 use Rattle.mc_table.specs.Lines.{own_port}
-use Rattle.mc_table.specs.SoFar.{is_later}
-use Rattle.mc_table.specs.RowTexts.{is_without_kind}
+use Rattle.mc_table.proofs.AcceptedModel.{numbered-at}
 use Rattle.mc_table.proofs.FormLemmas.{formed}
 
 -- ---- Ports
@@ -58,37 +54,6 @@ port-fits m b t typed forms among few =
     let alike = few-typed m (λ c. bytes_eq (type_name c) (type_name b)) b.owner in
     omega (arith, port, alike, few)
 
--- ---- Kinds
-
--- a type that is read has a kind
-with-kind : (t : BlockType) → is_later t ≡ false → is_without_kind t ≡ false
-with-kind Inport now = refl
-with-kind Outport now = refl
-with-kind SubSystem now = absurd (true≢false now)
-with-kind Constant now = refl
-with-kind Ground now = refl
-with-kind Terminator now = refl
-with-kind Gain now = refl
-with-kind Sum now = refl
-with-kind Product now = refl
-with-kind UnitDelay now = refl
-with-kind ZeroOrderHold now = refl
-with-kind Switch now = refl
-with-kind RelationalOperator now = refl
-with-kind Logic now = refl
-with-kind DataTypeConversion now = refl
-with-kind RateTransition now = absurd (true≢false now)
-with-kind EnablePort now = refl
-with-kind TriggerPort now = refl
-
--- a block that is read has a type
-pub type-there : (t : Option BlockType) → option_map_or is_later t true ≡ false → is_some t ≡ true
-type-there None known = absurd (true≢false known)
-type-there (Some t) known = refl
-
-pub kind-told : (o : Option BlockType) (t : BlockType) → o ≡ Some t → option_map_or is_later o true ≡ false → is_without_kind t ≡ false
-kind-told o t e known = with-kind t (sym (ap (λ x. option_map_or is_later x true) e) ∙ known)
-
 -- ---- Rows, block by block
 
 -- one more block with its row
@@ -108,17 +73,6 @@ pub zip-more : (R : Block → Row → Type 0) (blocks : List held.Block) (i : �
 zip-more R blocks i b rows row h e zip new =
     subst (λ k. AllZip R (all_seen (take k blocks)) (rows ++ row ∷ [])) (one_more i) (zip-suc R blocks i b rows row h e zip new)
 
--- all blocks with their rows
-pub zip-end : (R : Block → Row → Type 0) (blocks : List held.Block) (i : ℕ) (rows : List Row) → length blocks ≤ i →
-    AllZip R (all_seen (take i blocks)) rows → AllZip R (all_seen blocks) rows
-zip-end R blocks i rows h zip = subst (λ (xs : List held.Block). AllZip R (all_seen xs) rows) (take_all i blocks h) zip
-
-pub zip-length : (R : Block → Row → Type 0) (blocks : List Block) (rows : List Row) → AllZip R blocks rows → length rows ≡ length blocks
-zip-length R [] [] zip = refl
-zip-length R [] (row ∷ rows) zip = absurd zip
-zip-length R (b ∷ blocks) [] zip = absurd zip
-zip-length R (b ∷ blocks) (row ∷ rows) zip = ap suc (zip-length R blocks rows zip.1)
-
 -- a block in memory is the plain one at its place
 seen-place : (blocks : List held.Block) (i : ℕ) (b : held.Block) → i < length blocks → b ≡ slice_index_or blocks i b → seen b ≡ slice_index_or (all_seen blocks) i no_block
 seen-place [] i b h e = absurd (omega (arith, h))
@@ -135,19 +89,8 @@ seen-long (b ∷ blocks) = ap suc (seen-long blocks)
 pub seen-inside : (m : ModelText) (i : ℕ) → i < length m.blocks.items → i < length (tree_of m).blocks
 seen-inside m i h = subst (λ n. i < n) (sym (seen-long m.blocks.items)) h
 
-first_number : (k : ℕ) → k ≡ k + 0
-first_number k = omega arith
-
-later_number : (k i : ℕ) → suc k + i ≡ k + suc i
-later_number k i = omega arith
-
-numbered-from : (next : ℕ) (blocks : List Block) (i : ℕ) → IsNumbered next blocks → i < length blocks → (slice_index_or blocks i no_block).number ≡ next + i
-numbered-from next [] i are h = absurd (omega (arith, h))
-numbered-from next (b ∷ blocks) zero are h = are.0 ∙ first_number next
-numbered-from next (b ∷ blocks) (suc i) are h = numbered-from (suc next) blocks i are.1 (omega (arith, h)) ∙ later_number next i
-
 -- its number is that of a row
 pub number-fits : (m : ModelTree) (b : Block) (i : ℕ) → IsNumbered 0 m.blocks → length m.blocks ≤ 20000 → i < length m.blocks → b ≡ block_at m i → b.number < 2 ^ 32
 number-fits m b i are few h e =
-    let at : b.number ≡ 0 + i = ap (λ (x : Block). x.number) e ∙ numbered-from 0 m.blocks i are h in
+    let at : b.number ≡ 0 + i = ap (λ (x : Block). x.number) e ∙ numbered-at 0 m.blocks i are h in
     omega (arith, at, few, h)

@@ -1,5 +1,5 @@
 -- The masks of signs.
-use Rattle.std.proofs.Common.{◌≡◌, refl, sym, ◌∙◌, ap, ℕ, zero, suc, ◌+◌, ◌*◌, ◌^◌, ◌<◌, ◌≤◌, Bool, true, false, not, cond, List, [], ◌∷◌, length, drop, replicate, arith, Some, map}
+use Rattle.std.proofs.Common.{◌≡◌, refl, sym, ◌∙◌, ap, ℕ, zero, suc, ◌+◌, ◌^◌, ◌<◌, ◌≤◌, Bool, true, false, not, cond, List, [], ◌∷◌, length, drop, replicate, arith, Some, map}
 use Rattle.std.specs.Prelude.{◌==◌, filter, count_by}
 use Rattle.std.proofs.lemmas.Nat.{pow_pos}
 use Rattle.std.proofs.lemmas.List.{length-replicate, length-map}
@@ -7,7 +7,7 @@ use Rattle.std.proofs.lemmas.List.Sums.{length-filter}
 use Rattle.std.proofs.Math.Nat.{two-pow-succ}
 use Rattle.mc_table.specs.declared.counts.SignMask.{SignMask}
 use Rattle.mc_table.specs.Words.{minus_mask}
-use Rattle.mc_table.specs.Counts.{signs_of, mask_of, mask_with}
+use Rattle.mc_table.specs.Counts.{signs_of, mask_of}
 
 -- no minus among pluses
 minus_mask-pluses : (n : ℕ) → minus_mask (replicate n false) ≡ 0
@@ -27,18 +27,6 @@ minus_mask-bound (minus ∷ signs) (suc n) h = by minus (minus_mask-bound signs 
     by : (b : Bool) → minus_mask signs < 2 ^ n → 2 ^ suc n ≡ 2 ^ n + 2 ^ n → minus_mask (b ∷ signs) < 2 ^ suc n
     by true less twice = omega arith
     by false less twice = omega arith
-
--- one byte in front
-pub signs_of-cons : (c : ℕ) (text : List ℕ) → minus_mask (signs_of (c ∷ text)) ≡ mask_with c (minus_mask (signs_of text))
-signs_of-cons c text = by (c == 124)
-  where
-    rest : List ℕ
-    rest = filter (λ c. not (c == 124)) text
-
-    by : (t : Bool) → minus_mask (map (λ c. c == 45) (cond (not t) (c ∷ rest) rest))
-        ≡ cond t (minus_mask (map (λ c. c == 45) rest)) (cond (c == 45) 1 0 + 2 * minus_mask (map (λ c. c == 45) rest))
-    by true = refl
-    by false = refl
 
 signs_of-more : (c : ℕ) (text : List ℕ) → length (signs_of text) ≤ length (signs_of (c ∷ text))
 signs_of-more c text = by (c == 124)

@@ -6,7 +6,7 @@ use mathlib.Core.HLevel.{is_prop→PathP}
 use Rattle.std.specs.Coded.{le_prop}
 use Rattle.mc_base.specs.Numbers.{AreLowest}
 use Rattle.mc_base.specs.Literals.{ratio_of, parts_of}
-use Rattle.mc_base.specs.declared.ParamName.TheVariants.{OutDataTypeStr, SampleTime, InitialOutput, ParamDataTypeStr, InitialCondition, Threshold, OutputWhenDisabled, Criteria}
+use Rattle.mc_base.specs.declared.ParamName.TheVariants.{OutDataTypeStr, SampleTime, InitialOutput, ParamDataTypeStr, InitialCondition, Threshold}
 use Rattle.mc_base.specs.declared.ParamName.TheVariants as param
 use Rattle.mc_base.specs.declared.Decimal.{Decimal}
 use Rattle.mc_base.specs.declared.Frac.{Frac}
@@ -18,7 +18,7 @@ use Rattle.mc_fixed.specs.declared.TypeText.TheVariants as type
 use Rattle.mc_fixed.specs.Profile.{InProfile}
 use Rattle.mc_fixed.specs.TypeTexts.{format_of, meaning_of, Fixed}
 use Rattle.mdl_params.specs.Forms.{number_form, type_form}
-use Rattle.mdl_params.specs.Times.{TimeMeaning, time_of, time_form}
+use Rattle.mdl_params.specs.Times.{time_of, time_form}
 use Rattle.mdl_params.specs.Times as form
 use Rattle.mdl_params.specs.declared.BlockType.{BlockType}
 use Rattle.mdl_params.specs.declared.BlockType.TheVariants.{Inport, Outport, SubSystem, Constant, Ground, Terminator, Gain, Sum, Product, UnitDelay, ZeroOrderHold, Switch, RelationalOperator, Logic as LogicBlock, DataTypeConversion, RateTransition, EnablePort, TriggerPort}

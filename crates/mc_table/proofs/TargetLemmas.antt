@@ -2,48 +2,36 @@
 use Rattle.std.proofs.Common.{◌≡◌, refl, sym, ◌∙◌, ap, ap₂, ℕ, suc, ◌+◌, ◌<◌, ◌≤◌, Bool, true, false, ◌&&◌, cond, true≢false, List, [], ◌∷◌, ◌++◌, length, drop, slice_index_or, drop-cons, append_assoc, append-nil, Option, None, Some, map, arith}
 use Rattle.std.specs.Prelude.{◌==◌, find, filter, flat_map, is_none, nat_le, replicate, option_and_then, option_map, unwrap_or, bytes_eq, codes}
 use Rattle.std.specs.Option.{option_or, option_map_or}
-use Rattle.std.specs.List.{range_with_len, list_all}
+use Rattle.std.specs.List.{list_all}
 use Rattle.std.proofs.lemmas.List.{length-replicate, map-append}
 use Rattle.std.proofs.lemmas.Bool.Decides.{nat_tests}
-use Rattle.mc_base.specs.declared.base.Port.{Port}
-use Rattle.mc_base.specs.declared.base.Port.TheVariants.{Number}
 use Rattle.mc_base.specs.declared.ParamName.TheVariants.{Inputs, Operator}
 use Rattle.mc_base.specs.Refusals.{PlainRefusal, NoPort}
 use Rattle.mdl_tree.specs.Walks.{first_value}
 use Rattle.mdl_params.specs.declared.block_type.BlockType.{BlockType}
 use Rattle.mdl_params.specs.declared.block_type.BlockType.TheVariants.{Inport, Outport, SubSystem, Constant, Ground, Terminator, Gain, Sum, Product, UnitDelay, ZeroOrderHold, Switch, RelationalOperator, Logic, DataTypeConversion, RateTransition, EnablePort, TriggerPort}
 use Rattle.mdl_params.specs.BlockTypes.{block_type_name, block_types, block_type_of}
-use Rattle.mc_diagram.specs.FirstRefusal.{least_line}
+use Rattle.mc_diagram.specs.FirstRefusal.{least_line, least_in, earlier_of}
 use Rattle.mc_table.specs.Blocks.{Block, ModelTree, block_type, is_subsystem, inside}
 use Rattle.mc_table.specs.Parameters.{text_of}
 use Rattle.mc_table.specs.Words.{whole_number, number_up_to, up_to_16, signs_in, sum_signs, product_count, logic_count}
 use Rattle.mc_table.specs.Lines.{Place, LineEnd, ends_of, block_named, has_name, same_port, data_ports, ports_of, target_port, input_count, input_count_by, input_of, output_of}
 use Rattle.mc_table.specs.TreeRefusals.{sources_in, targets_in, missing_ports}
 use Rattle.mc_table.specs.HeldLines.{ends_seen, targets_seen}
-use Rattle.mc_table.specs.Missing.{least_over, no_output_found, no_input_found, numbered_input}
+use Rattle.mc_table.specs.Missing.{no_output_found, no_input_found, numbered_input}
 use Rattle.mc_table.specs.Doubles.{IsFlat}
-use Rattle.mc_table.specs.Passes.{earlier_of}
 use Rattle.mc_table.specs.declared.lines.LineEnd as held_end
-use Rattle.mc_table.proofs.PassLemmas.{least_line-append}
-use Rattle.mc_table.proofs.MissingLemmas.{over-where, targets-same, flat_blocks}
+use Rattle.mc_diagram.proofs.FirstRefusals.{least_line-append, least-where}
+use Rattle.mc_table.proofs.AcceptedLists.{found-passes}
+use Rattle.mc_table.proofs.MissingLemmas.{targets-same, flat_blocks}
 use Rattle.mc_table.proofs.PortLemmas.{found-plain, no_controls, numbered_input-found}
 
 -- ---- How many inputs
 
-find-passes : {A : Type 0} (test : A → Bool) (xs : List A) (x : A) → find test xs ≡ Some x → test x ≡ true
-find-passes test [] x e = cc
-find-passes test (y ∷ ys) x e = by (test y) refl e (find-passes test ys x)
-  where
-    by : (t : Bool) → test y ≡ t → cond t (Some y) (find test ys) ≡ Some x → (find test ys ≡ Some x → test x ≡ true) → test x ≡ true
-    by true p found later =
-        let same : y ≡ x = cc in
-        ap test (sym same) ∙ p
-    by false p found later = later found
-
 -- a block of the type SubSystem is a subsystem
 typed_subsystem : (text : Option (List ℕ)) → option_and_then block_type_of text ≡ Some SubSystem → option_map_or (bytes_eq (codes "SubSystem")) text false ≡ true
 typed_subsystem None e = cc
-typed_subsystem (Some text) e = find-passes (λ type. bytes_eq (block_type_name type) text) block_types SubSystem e
+typed_subsystem (Some text) e = found-passes (λ type. bytes_eq (block_type_name type) text) block_types SubSystem e
 
 few-number : (o : Option ℕ) → unwrap_or (option_and_then (λ n. cond (nat_le 1 n && nat_le n 16) (Some n) None) o) 0 ≤ 16
 few-number None = omega arith
@@ -158,7 +146,7 @@ target-more {A} {B} {C} f show xs i d olds news whole new h pushed own all =
 
 -- the missing ports of a model of one system
 pub ports-flat : (m : ModelTree) (sources : List Place) (ends : List held_end.LineEnd) → filter is_subsystem m.blocks ≡ [] → sources ≡ sources_in m None → ends_seen ends ≡ ends_of m None →
-    earlier_of (least_over (no_output_found m) sources) (least_over (no_input_found m) (targets_seen ends)) ≡ least_line (missing_ports m)
+    earlier_of (least_in (no_output_found m) sources) (least_in (no_input_found m) (targets_seen ends)) ≡ least_line (missing_ports m)
 ports-flat m sources ends none own same =
     let refusal : Place → PlainRefusal = λ place. NoPort place.line in
     let without : Place → Bool = λ source. is_none (output_of m None source) in
@@ -166,8 +154,8 @@ ports-flat m sources ends none own same =
     let lost = filter without (sources_in m None) in
     let loose = filter unread (targets_in m None) in
     let targets : targets_seen ends ≡ targets_in m None = targets-same ends ∙ ap (map (λ (e : LineEnd). e.target)) same in
-    ap₂ (λ xs ys. earlier_of (least_over (no_output_found m) xs) (least_over (no_input_found m) ys)) own targets
-    ∙ ap₂ earlier_of (over-where without refusal (sources_in m None)) (over-where unread refusal (targets_in m None))
+    ap₂ (λ xs ys. earlier_of (least_in (no_output_found m) xs) (least_in (no_input_found m) ys)) own targets
+    ∙ ap₂ earlier_of (least-where without refusal (sources_in m None)) (least-where unread refusal (targets_in m None))
     ∙ sym (least_line-append (map refusal lost) (map refusal loose))
     ∙ ap least_line (sym (map-append refusal lost loose) ∙ sym (append-nil (map refusal (lost ++ loose))))
     ∙ ap (λ bs. least_line (flat_map (λ o. map refusal (filter (λ source. is_none (output_of m o source)) (sources_in m o) ++ filter (λ target. is_none (input_of m o target)) (targets_in m o))) (None ∷ map inside bs))) (sym none)

@@ -46,7 +46,7 @@ abbrev GivesPositive : Result (ℕ × ℕ) NumFault → Type 0
 GivesPositive (Ok parts) = (0 < parts.0) × (parts.0 ≤ 10 ^ 9) × (parts.1 ≤ 10 ^ 9) × AreLowest parts.0 parts.1
 GivesPositive (Err fault) = Unit {0}
 
-both-true : (t u : Bool) → (t && u) ≡ true → (t ≡ true) × (u ≡ true)
+pub both-true : (t u : Bool) → (t && u) ≡ true → (t ≡ true) × (u ≡ true)
 both-true true u e = (refl, e)
 both-true false u e = absurd (true≢false (sym e))
 
@@ -58,7 +58,7 @@ parts-given (pos n) den is = by (nat_le n 1_000_000_000 && nat_le den 1_000_000_
     by true e = let both = both-true _ _ e in (leb-true n 1_000_000_000 both.0, leb-true den 1_000_000_000 both.1, is)
     by false e = tt
 
-above-zero : (n : ℕ) → (n == 0) ≡ false → 0 < n
+pub above-zero : (n : ℕ) → (n == 0) ≡ false → 0 < n
 above-zero zero e = absurd (true≢false e)
 above-zero (suc n) e = omega arith
 

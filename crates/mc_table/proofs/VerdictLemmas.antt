@@ -1,5 +1,5 @@
--- The verdict on a model by the first refusals of its parts.
-use Rattle.std.proofs.Common.{◌≡◌, refl, sym, ◌∙◌, ap, ap₂, subst, ℕ, suc, zero, ◌≤◌, Bool, true, false, ◌||◌, cond, true≢false, List, [], ◌∷◌, ◌++◌, length, Option, None, Some, map, codes, arith}
+-- A model whose blocks are all read, and not too many, has one system.
+use Rattle.std.proofs.Common.{◌≡◌, refl, sym, ◌∙◌, ap, ap₂, subst, ℕ, suc, zero, ◌≤◌, Bool, true, false, ◌||◌, cond, true≢false, List, [], ◌∷◌, length, Option, None, Some, map, codes, arith}
 use Rattle.std.specs.Prelude.{bytes_eq, filter, slice_get, option_map, option_and_then}
 use Rattle.std.specs.Option.{option_or, option_map_or}
 use Rattle.std.proofs.lemmas.Slice.Eq.{bytes_eq-Decides}
@@ -8,64 +8,16 @@ use Rattle.mc_base.specs.declared.Many.TheVariants.{Blocks}
 use Rattle.mc_base.specs.Numbers.{reported_number}
 use Rattle.mdl_tree.specs.Walks.{SectionTree, first_value}
 use Rattle.mdl_params.specs.BlockTypes.{block_type_of}
-use Rattle.mc_diagram.specs.FirstRefusal.{least_line, first_there}
-use Rattle.mc_table.specs.declared.verdict.Verdict.{Verdict}
-use Rattle.mc_table.specs.Blocks.{Block, ModelTree, block_type, is_subsystem, is_enable, is_trigger, blocks_in, model_with}
-use Rattle.mc_table.specs.TreeRefusals.{deep_subsystems, too_many_blocks, crowded_systems, bad_parameters, double_names, missing_blocks, missing_ports, double_sources, unconnected_ports, double_controls, continuous_blocks, float_blocks, is_unsupported, is_newer_line, line_parts}
-use Rattle.mc_table.specs.SoFar.{is_later, writes_period, is_not_read, unread_found, unsupported_so_far, blocks_refusal, types_refusal, model_refusal_so_far}
+use Rattle.mc_diagram.specs.FirstRefusal.{least_line, first_there, least_in}
+use Rattle.mc_table.specs.Blocks.{Block, ModelTree, block_type, is_subsystem, model_with}
+use Rattle.mc_table.specs.TreeRefusals.{deep_subsystems, too_many_blocks, crowded_systems, bad_parameters, is_unsupported, is_newer_line, line_parts}
+use Rattle.mc_table.specs.SoFar.{is_later, writes_period, is_not_read, unread_found, unsupported_so_far, blocks_refusal}
 use Rattle.mc_table.specs.Doubles.{IsFlat}
 use Rattle.mc_table.specs.Numbered.{IsNumbered}
-use Rattle.mc_table.specs.Passes.{earlier_of, least_in}
-use Rattle.mc_table.specs.Wiring.{is_control, IsRootOf, IsOneSystem, IsVerdictBy, lines_refusal}
+use Rattle.mc_table.specs.Wiring.{is_control, IsRootOf, IsOneSystem}
 use Rattle.mc_table.proofs.FormLemmas.{or-left, or-right}
-use Rattle.mc_table.proofs.PassLemmas.{least-where, least_line-append}
-use Rattle.mc_table.proofs.OneSystem.{none_found, none_after, no_subsystems, flat-in}
-
--- ---- Parts of a first refusal
-
-pub or-none : (o : Option PlainRefusal) → option_or o None ≡ o
-or-none None = refl
-or-none (Some refusal) = refl
-
--- the first refusal of a model by its parts
-regroup : (a b c d e f g h i j k l n : Option PlainRefusal) →
-    first_there (a ∷ b ∷ c ∷ d ∷ e ∷ f ∷ g ∷ h ∷ i ∷ j ∷ k ∷ l ∷ n ∷ [])
-    ≡ option_or (first_there (first_there (a ∷ b ∷ c ∷ []) ∷ d ∷ e ∷ []))
-    (first_there (first_there (f ∷ first_there (g ∷ h ∷ []) ∷ first_there (i ∷ j ∷ k ∷ []) ∷ []) ∷ first_there (l ∷ n ∷ []) ∷ []))
-regroup (Some a) b c d e f g h i j k l n = refl
-regroup None (Some b) c d e f g h i j k l n = refl
-regroup None None (Some c) d e f g h i j k l n = refl
-regroup None None None (Some d) e f g h i j k l n = refl
-regroup None None None None (Some e) f g h i j k l n = refl
-regroup None None None None None (Some f) g h i j k l n = refl
-regroup None None None None None None (Some g) h i j k l n = refl
-regroup None None None None None None None (Some h) i j k l n = refl
-regroup None None None None None None None None (Some i) j k l n = refl
-regroup None None None None None None None None None (Some j) k l n = refl
-regroup None None None None None None None None None None (Some k) l n = refl
-regroup None None None None None None None None None None None (Some l) n = refl
-regroup None None None None None None None None None None None None (Some n) = refl
-regroup None None None None None None None None None None None None None = refl
-
-pub model-parts : (m : ModelTree) → model_refusal_so_far m ≡ option_or (blocks_refusal m) (first_there (lines_refusal m ∷ types_refusal m ∷ []))
-model-parts m =
-    regroup (least_line (deep_subsystems m)) (too_many_blocks m) (least_line (crowded_systems m)) (least_line (unsupported_so_far m)) (least_line (bad_parameters m))
-    (least_line (double_names m)) (least_line (missing_blocks m)) (least_line (missing_ports m)) (least_line (double_sources m)) (least_line (unconnected_ports m)) (least_line (double_controls m))
-    (least_line (continuous_blocks m)) (least_line (float_blocks m))
-
--- where the first part refuses
-pub refused-first : (found first rest : Option PlainRefusal) (refusal : PlainRefusal) → found ≡ option_or first rest → first ≡ Some refusal → found ≡ Some refusal
-refused-first found first rest refusal e f = e ∙ ap (λ o. option_or o rest) f
-
--- where it doesn't the verdict is that by the rest
-pub after-first : (found first rest : Option PlainRefusal) → found ≡ option_or first rest → first ≡ None → rest ≡ found
-after-first found first rest e f = sym (e ∙ ap (λ o. option_or o rest) f)
-
--- ---- A model whose blocks are all read
-
-none-first : (a b : Option PlainRefusal) → earlier_of a b ≡ None → a ≡ None
-none-first None b e = refl
-none-first (Some a) b e = cc
+use Rattle.mc_diagram.proofs.FirstRefusals.{least-where, least_line-append, none-first, none-later}
+use Rattle.mc_table.proofs.OneSystem.{none_found, no_subsystems, flat-in}
 
 pub or-both : (a b : Option PlainRefusal) → option_or a b ≡ None → (a ≡ None) × (b ≡ None)
 or-both None b e = (refl, e)
@@ -104,7 +56,7 @@ no_control_ports m (b ∷ blocks) none =
     let later = or-right (is_unsupported b) (option_map_or is_later (block_type b) false) early in
     let text = first_value (codes "BlockType") b.items in
     ap₂ (λ t u. cond (t || u) (b ∷ filter is_control blocks) (filter is_control blocks)) (not_typed (codes "EnablePort") refl text later) (not_typed (codes "TriggerPort") refl text later)
-    ∙ no_control_ports m blocks (none_after (unread_found m b) (least_in (unread_found m) blocks) none)
+    ∙ no_control_ports m blocks (none-later (unread_found m b) (least_in (unread_found m) blocks) none)
 
 -- a model whose blocks are all read, and not too many, has one system
 pub one-system : (m : ModelTree) → IsNumbered 0 m.blocks → IsRootOf m → blocks_refusal m ≡ None → IsOneSystem m

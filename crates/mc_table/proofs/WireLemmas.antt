@@ -1,5 +1,5 @@
 -- The rows that inputs read, one by one.
-use Rattle.std.proofs.Common.{◌≡◌, refl, sym, ◌∙◌, ap, ap₂, ℕ, suc, zero, ◌+◌, ◌-◌, ◌<◌, ◌≤◌, Bool, true, false, cond, List, [], ◌∷◌, ◌++◌, length, append-nil, append_assoc, Option, None, Some, map, arith}
+use Rattle.std.proofs.Common.{◌≡◌, refl, sym, ◌∙◌, ap, ℕ, suc, zero, ◌+◌, ◌-◌, ◌<◌, cond, List, [], ◌∷◌, ◌++◌, length, append_assoc, Option, None, Some, map, arith}
 use Rattle.std.specs.Prelude.{◌==◌, find, filter, filter_map, slice_get, option_and_then, option_map, option_to_list}
 use Rattle.std.specs.List.{range_with_len}
 use Rattle.mc_base.specs.declared.base.Port.{Port}
@@ -7,7 +7,6 @@ use Rattle.mc_base.specs.declared.base.Port.TheVariants.{Number}
 use Rattle.indexmap.specs.IndexMap.{IndexMap}
 use denote.Ref.{Bor}
 use Rattle.mc_table.specs.Blocks.{Block, ModelTree, is_subsystem, is_outport, inside, blocks_that}
-use Rattle.mc_table.specs.Parameters.{name_of}
 use Rattle.mc_table.specs.Lines.{Place, LineEnd, has_name, own_port, block_named, output_of, row_of_output, row_of_source}
 use Rattle.mc_table.specs.NameMaps.{AreNamesOf, place_in, place_of}
 use Rattle.mc_table.specs.Doubles.{IsFlat}

@@ -1,17 +1,15 @@
 -- How lines lead to inputs, by the places of names, and the refusals of inputs.
-use Rattle.std.proofs.Common.{◌≡◌, refl, sym, ◌∙◌, ap, ap₂, subst, ℕ, suc, zero, ◌+◌, ◌-◌, ◌<◌, ◌≤◌, Bool, true, false, ◌&&◌, ◌||◌, cond, true≢false, List, [], ◌∷◌, ◌++◌, length, take, drop, reverse, slice_index_or, drop-cons, drop_of_length-le, append_assoc, append-nil, Option, None, Some, is_some, map, arith}
+use Rattle.std.proofs.Common.{◌≡◌, refl, sym, ◌∙◌, ap, ap₂, subst, ℕ, suc, zero, ◌+◌, ◌-◌, ◌<◌, ◌≤◌, Bool, true, false, ◌&&◌, ◌||◌, cond, true≢false, List, [], ◌∷◌, ◌++◌, length, take, drop, reverse, slice_index_or, drop-cons, drop_of_length-le, append-nil, Option, None, Some, map, arith}
 use Rattle.std.specs.Prelude.{⊤, ◌==◌, nat_le, nat_lt, codes, option_to_list, find, filter, filter_map, flat_map, is_none, not, slice_get, option_and_then, option_map, bytes_eq}
 use Rattle.std.specs.Option.{option_map_or}
 use Rattle.std.specs.List.{position_from, list_any, range_with_len}
 use Rattle.std.proofs.lemmas.Bool.Decides.{nat_tests}
 use Rattle.std.proofs.lemmas.Slice.Eq.{bytes_eq-Decides}
 use Rattle.std.proofs.lemmas.List.{take-map, take_more, reverse-append}
-use Rattle.std.proofs.lemmas.List.Folds.{list_any-append}
 use Rattle.mc_base.specs.declared.base.Port.{Port}
 use Rattle.mc_base.specs.declared.base.Port.TheVariants.{Number, Enable, Trigger}
 use Rattle.mc_base.specs.Refusals.{PlainRefusal, Unconnected}
-use Rattle.mc_diagram.specs.Rows.{same_system}
-use Rattle.mc_diagram.specs.FirstRefusal.{earlier, least_line}
+use Rattle.mc_diagram.specs.FirstRefusal.{earlier, least_line, earlier_of, least_in}
 use Rattle.mc_table.specs.declared.inputs.Input.{Input}
 use Rattle.mc_table.specs.declared.block.Block as held
 use Rattle.mc_table.specs.Held.{seen, all_seen}
@@ -21,21 +19,20 @@ use Rattle.mdl_params.specs.BlockTypes.{block_type_of}
 use Rattle.mc_table.specs.Words.{whole_number}
 use Rattle.mc_table.specs.Missing.{numbered_input}
 use Rattle.mc_table.specs.Parameters.{name_of}
-use Rattle.mc_table.specs.Lines.{Place, LineEnd, has_name, block_named, same_port, data_ports, control_ports, ports_of, target_port, input_of, input_count, input_count_by, leads_to, ends_of, row_of_source, row_of_output, output_of, wire_into}
+use Rattle.mc_table.specs.Lines.{Place, LineEnd, has_name, block_named, same_port, data_ports, control_ports, ports_of, target_port, input_of, input_count, input_count_by, leads_to, ends_of, row_of_source, wire_into}
 use Rattle.mc_table.specs.TableOf.{wires_of, entering}
-use Rattle.mc_table.specs.TreeRefusals.{targets_in, same_input, at_one_input, repeats_from, is_connected, double_sources, unconnected_ports}
+use Rattle.mc_table.specs.TreeRefusals.{targets_in, same_input, at_one_input, repeats_from, is_connected, double_sources}
 use Rattle.mc_table.specs.NameMaps.{is_name, place_of, is_before}
 use Rattle.mc_table.specs.Doubles.{IsFlat}
 use Rattle.mc_table.specs.Numbered.{IsNumbered}
-use Rattle.mc_table.specs.Passes.{earlier_of, least_in}
-use Rattle.mc_table.specs.Inputs.{are_one, numbered, input_at, is_input, first_lead}
+use Rattle.mc_table.specs.Inputs.{numbered, input_at, is_input, first_lead}
 use Rattle.mc_table.specs.Wiring.{is_double_target, double_target, target_refusal, double_targets_from, first_end_into, first_loose, unconnected_found}
+use Rattle.mc_table.proofs.DoubleLemmas.{any-same, any-none, any-map, any-reverse}
 use Rattle.mc_table.proofs.NameLemmas.{place-before}
-use Rattle.mc_table.proofs.MissingLemmas.{named-at, flat_blocks}
-use Rattle.mc_table.proofs.PassLemmas.{earlier_assoc, earlier-none, least_line-append}
+use Rattle.mc_table.proofs.MissingLemmas.{named-at}
+use Rattle.mc_diagram.proofs.FirstRefusals.{earlier_assoc, earlier-none, least_line-append}
 use Rattle.mc_table.proofs.PortLemmas.{no_controls}
 use Rattle.mc_table.proofs.TargetLemmas.{input-named}
-use Rattle.mc_table.proofs.InputLemmas.{one-refl, one-equal}
 
 equal : (a b : ℕ) → (a == b) ≡ true → a ≡ b
 equal a b e = grind (arith, nat_tests)
@@ -257,18 +254,6 @@ one_input : (m : ModelTree) (a t : Place) → IsFlat m.blocks → filter is_subs
 one_input m a t flat plain =
     same_led (names m) a.block t.block (place_of a.block (names m)) (place_of t.block (names m)) (input_of m None a) (input_of m None t) refl refl (lost_input m t flat) (data_input m t flat plain)
 
-any-same : {X : Type 0} (f g : X → Bool) → ((x : X) → f x ≡ g x) → (xs : List X) → list_any f xs ≡ list_any g xs
-any-same f g same [] = refl
-any-same f g same (x ∷ xs) = ap₂ ◌||◌ (same x) (any-same f g same xs)
-
-any-none : {X : Type 0} (f : X → Bool) → ((x : X) → f x ≡ false) → (xs : List X) → list_any f xs ≡ false
-any-none f none [] = refl
-any-none f none (x ∷ xs) = ap₂ ◌||◌ (none x) (any-none f none xs)
-
-any-map : {X Y : Type 0} (p : Y → Bool) (f : X → Y) (xs : List X) → list_any p (map f xs) ≡ list_any (λ x. p (f x)) xs
-any-map p f [] = refl
-any-map p f (x ∷ xs) = ap (λ t. p (f x) || t) (any-map p f xs)
-
 -- whether an earlier line end leads to the input of a target, by its first place
 pub led_before : (m : ModelTree) (t : Place) (at : ℕ) → IsFlat m.blocks → filter is_subsystem m.blocks ≡ [] →
     option_map_or (λ i. is_before (first_lead i (map (input_at m) (targets_in m None))) at) (input_at m t) false ≡ is_double_target m t at
@@ -451,18 +436,6 @@ double-front m t before rest u e =
         ≡ earlier_of (cond u (Some (target_refusal t)) None) (double_targets_from m (t ∷ before) rest)
     by true = refl
     by false = refl
-
-or-swap : (a b : Bool) → (a || (b || false)) ≡ (b || a)
-or-swap true true = refl
-or-swap true false = refl
-or-swap false true = refl
-or-swap false false = refl
-
-any-reverse : {X : Type 0} (f : X → Bool) (xs : List X) → list_any f (reverse xs) ≡ list_any f xs
-any-reverse f [] = refl
-any-reverse f (x ∷ xs) =
-    ap (list_any f) (reverse-append (x ∷ []) xs) ∙ list_any-append f (reverse xs) (x ∷ [])
-    ∙ ap (λ t. t || (f x || false)) (any-reverse f xs) ∙ or-swap (list_any f xs) (f x)
 
 one_more : (i : ℕ) → suc i ≡ i + 1
 one_more i = omega arith

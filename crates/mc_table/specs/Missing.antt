@@ -1,17 +1,11 @@
 -- Places of lines in a model of one system.
-use Rattle.std.specs.Prelude.{ℕ, ◌&&◌, ◌||◌, bytes_eq, codes, nat_le, List, [], ◌∷◌, Option, None, Some, is_none, option_and_then, if◌then◌else◌}
+use Rattle.std.specs.Prelude.{ℕ, ◌&&◌, ◌||◌, bytes_eq, codes, nat_le, List, Option, None, Some, is_none, option_and_then, if◌then◌else◌}
 use Rattle.mc_base.specs.declared.Port.{Port}
 use Rattle.mc_base.specs.declared.Port.TheVariants.{Number}
 use Rattle.mc_base.specs.Refusals.{PlainRefusal, NoBlock, NoPort}
 use Rattle.mc_table.specs.Blocks.{ModelTree}
 use Rattle.mc_table.specs.Words.{whole_number}
 use Rattle.mc_table.specs.Lines.{Place, block_named, input_of, output_of}
-use Rattle.mc_table.specs.Passes.{earlier_of}
-
--- the refusal with the least line that is found in some items, and of those at one line the first
-abbrev pub least_over : {A : Type 0} → (A → Option PlainRefusal) → List A → Option PlainRefusal
-least_over found [] = None
-least_over found (a ∷ rest) = earlier_of (found a) (least_over found rest)
 
 -- the refusal of a place whose block isn't there
 abbrev pub missing_refusal : Place → PlainRefusal

@@ -9,7 +9,7 @@ use Rattle.mdl_tree.specs.Walks.{SectionTree, sections_named, first_section}
 use Rattle.mc_table.specs.Blocks.{Block, ModelTree, items_of_section, is_subsystem, is_inport, is_outport, inside, blocks_that}
 use Rattle.mc_table.specs.Lines.{parts_of_line}
 use Rattle.mc_table.specs.TreeRefusals.{is_newer_line}
-use Rattle.mc_table.specs.Passes.{earlier_of}
+use Rattle.mc_diagram.specs.FirstRefusal.{earlier_of}
 
 -- the blocks have the numbers from next on
 abbrev pub IsNumbered : ℕ → List Block → Type 0

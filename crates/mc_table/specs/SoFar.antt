@@ -11,10 +11,9 @@ use Rattle.mdl_params.specs.declared.BlockType.{BlockType}
 use Rattle.mdl_params.specs.declared.BlockType.TheVariants.{Inport, Outport, SubSystem, Constant, Ground, Terminator, Gain, Sum, Product, UnitDelay, ZeroOrderHold, Switch, RelationalOperator, Logic, DataTypeConversion, RateTransition, EnablePort, TriggerPort}
 use Rattle.mdl_params.specs.declared.ParamFault.{ParamFault}
 use Rattle.mdl_params.specs.Times.{TimeMeaning, Inherit as NoTime, Constant as Always, Each, time_form}
-use Rattle.mc_diagram.specs.FirstRefusal.{least_line, first_there}
+use Rattle.mc_diagram.specs.FirstRefusal.{least_line, first_there, found_where}
 use Rattle.mc_table.specs.Blocks.{Block, ModelTree, block_type, is_subsystem}
 use Rattle.mc_table.specs.Parameters.{text_of, has_parameter, parameters_of, has_form}
-use Rattle.mc_table.specs.Passes.{found_where}
 use Rattle.mc_table.specs.TableOf.{model_of}
 use Rattle.mc_table.specs.TreeRefusals.{no_model, two_models, deep_subsystems, too_many_blocks, crowded_systems, is_unsupported, is_newer_line, line_parts, bad_parameters, double_names, missing_blocks, missing_ports, double_sources, unconnected_ports, double_controls, continuous_blocks, float_blocks, writes_zero, writes_float, is_float_constant}
 

@@ -1,5 +1,5 @@
 -- Laws of tables.
-use Rattle.std.specs.Prelude.{◌≡◌, ℕ, List, None}
+use Rattle.std.specs.Prelude.{◌≡◌, ℕ, ◌<◌, false, List, length, None}
 use Rattle.std.specs.List.{AllByRecursion}
 use Rattle.mc_base.specs.declared.Control.TheVariants.{Plain}
 use Rattle.mdl_tree.specs.Spelling.{Items}
@@ -7,6 +7,8 @@ use Rattle.mc_diagram.specs.declared.table.Row.{Row}
 use Rattle.mc_diagram.specs.RowTable.{RowTable}
 use Rattle.mc_diagram.specs.Rows.{row_numbers}
 use Rattle.mc_diagram.specs.WellFormed.{IsNested, IsRow, IsStep, IsWellFormed}
+use Rattle.mc_diagram.specs.SampleTimes.{written_time}
+use Rattle.mc_diagram.specs.TimeRefusals.{is_each}
 use Rattle.mc_diagram.specs.Nested.{System, system, no_more, AreSystemsOf}
 use Rattle.mc_table.specs.TableOf.{TableOf}
 use Rattle.mc_table.specs.TreeRefusals.{tree_refusal}
@@ -50,3 +52,11 @@ abbrev pub AcceptedTableIsOneSystem : Type 0
 AcceptedTableIsOneSystem =
     (file : Items) (table : RowTable) (line : ℕ) → tree_refusal_so_far file ≡ None → TableOf file table →
     AreSystemsOf table.rows (one_system line table.rows)
+
+-- no row of a table writes a period
+abbrev pub IsTimeless : RowTable → Type 0
+IsTimeless table = (b : ℕ) → b < length table.rows → is_each (written_time table.rows b) ≡ false
+
+-- no row of a table of a tree that isn't refused writes a period
+abbrev pub AcceptedTableIsTimeless : Type 0
+AcceptedTableIsTimeless = (file : Items) (table : RowTable) → tree_refusal_so_far file ≡ None → TableOf file table → IsTimeless table

@@ -1,7 +1,7 @@
 ghost use Rattle.std.specs.Prelude.{◌≡◌, None, false};
 ghost use Rattle.std.specs.Option.{option_map_or};
 ghost use Rattle.std.specs.List.{range_with_len};
-ghost use Rattle.mc_diagram.specs.FirstRefusal.{least_line};
+ghost use Rattle.mc_diagram.specs.FirstRefusal.{least_line, as_plain};
 ghost use Rattle.mc_table.specs.Blocks.{is_subsystem};
 ghost use Rattle.mc_table.specs.Lines as lines;
 ghost use Rattle.mc_table.specs.TreeRefusals as refused;
@@ -10,7 +10,6 @@ ghost use Rattle.mc_table.specs.HeldModels.{tree_of};
 ghost use Rattle.mc_table.specs.HeldLines.{place_seen};
 ghost use Rattle.mc_table.specs.NameMaps as written;
 ghost use Rattle.mc_table.specs.Inputs as led;
-ghost use Rattle.mc_table.specs.Passes.{as_plain};
 ghost use Rattle.mc_table.specs.Wiring.{IsOneSystem, IsWiringOf, double_target, first_loose, unconnected_found, inputs_refusal};
 
 use crate::block::Block;
@@ -18,10 +17,10 @@ use crate::inputs::{Input, Inputs, end_at};
 use crate::lines::LineEnd;
 use crate::model::ModelText;
 use crate::names::is_before;
-use crate::refusals::earlier;
 use crate::targets::{input_at, plain_input_count};
 use crate::wiring::{Wiring, end_into};
 use mc_base::{Port, Refusal};
+use mc_diagram::earlier;
 
 /// Whether a line end before this place leads to the input.
 fn is_led_before(inputs: &Inputs, input: Option<Input>, at: usize) -> bool

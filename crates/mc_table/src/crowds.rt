@@ -1,18 +1,18 @@
 ghost use Rattle.std.specs.Prelude.{◌≡◌, length, filter};
 ghost use Rattle.mc_base.specs.Numbers.{reported_number};
-ghost use Rattle.mc_diagram.specs.FirstRefusal.{least_line};
+ghost use Rattle.mc_diagram.specs.FirstRefusal.{least_line, as_plain};
 ghost use Rattle.mc_table.specs.Blocks as written;
 ghost use Rattle.mc_table.specs.TreeRefusals as refused;
 ghost use Rattle.mc_table.specs.Held.{seen, all_seen};
 ghost use Rattle.mc_table.specs.HeldModels.{tree_of};
-ghost use Rattle.mc_table.specs.Passes.{as_plain, is_typed_in};
+ghost use Rattle.mc_table.specs.Passes.{is_typed_in};
 ghost use Rattle.mc_table.specs.Numbered.{IsNumbered, crowd_at, crowd_in, crowd_found};
 
 use crate::block::Block;
 use crate::forms::{is_a, same_system};
 use crate::model::ModelText;
-use crate::refusals::earlier;
 use mc_base::{Many, Refusal};
+use mc_diagram::earlier;
 use mdl_params::BlockType;
 
 /// The most blocks that a model has.

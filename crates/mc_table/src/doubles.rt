@@ -1,22 +1,21 @@
 ghost use Rattle.std.specs.Prelude.{◌≡◌, ◌<◌, length, slice_index_or, take, map, None};
 ghost use Rattle.std.specs.List.{list_any};
 ghost use Rattle.std.specs.Option.{option_copied};
-ghost use Rattle.mc_diagram.specs.FirstRefusal.{least_line};
+ghost use Rattle.mc_diagram.specs.FirstRefusal.{least_line, as_plain};
 ghost use Rattle.mc_table.specs.Parameters.{name_of};
 ghost use Rattle.mc_table.specs.TreeRefusals as refused;
 ghost use Rattle.mc_table.specs.Held.{seen, all_seen};
 ghost use Rattle.mc_table.specs.HeldModels.{tree_of};
 ghost use Rattle.mc_table.specs.NameMaps.{AreNamesOf, names_seen};
 ghost use Rattle.mc_table.specs.Doubles as doubles;
-ghost use Rattle.mc_table.specs.Passes.{as_plain};
 
 use crate::block::Block;
 use crate::forms::is_a;
 use crate::kinds::own_port;
 use crate::model::ModelText;
 use crate::names::{Names, is_before, place_of};
-use crate::refusals::earlier;
 use mc_base::Refusal;
+use mc_diagram::earlier;
 use mdl_params::BlockType;
 
 /// Whether an earlier name is the one at this place.

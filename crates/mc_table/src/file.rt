@@ -3,14 +3,14 @@ ghost use Rattle.mc_base.specs.Refusals as plain;
 ghost use Rattle.mc_base.specs.declared.ModelKind.TheVariants as model_kind;
 ghost use Rattle.mdl_tree.specs.Walks.{SectionTree, first_section};
 ghost use Rattle.mdl_tree.specs.Values.{section_tree};
-ghost use Rattle.mc_diagram.specs.FirstRefusal.{least_line};
+ghost use Rattle.mc_diagram.specs.FirstRefusal.{least_line, as_plain};
 ghost use Rattle.mc_table.specs.TreeRefusals as refused;
 ghost use Rattle.mc_table.specs.Held.{trees_of};
-ghost use Rattle.mc_table.specs.Passes.{as_plain, library_refusal};
+ghost use Rattle.mc_table.specs.Passes.{library_refusal};
 
-use crate::refusals::earlier;
 use crate::sections::sections_named;
 use mc_base::{Memory, ModelKind, Refusal};
+use mc_diagram::earlier;
 use mdl_tree::Section;
 use std::alloc::Global;
 

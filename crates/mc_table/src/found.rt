@@ -2,7 +2,7 @@ ghost use Rattle.std.specs.Prelude.{◌≡◌};
 ghost use Rattle.mc_table.specs.SoFar as so_far;
 ghost use Rattle.mc_table.specs.Held.{seen};
 ghost use Rattle.mc_table.specs.HeldModels.{tree_of};
-ghost use Rattle.mc_table.specs.Passes.{as_plain};
+ghost use Rattle.mc_diagram.specs.FirstRefusal.{as_plain};
 
 use crate::block::Block;
 use crate::checks::{first_bad_parameter, has_float_type, has_zero_period, is_not_read};

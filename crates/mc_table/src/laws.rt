@@ -1,5 +1,5 @@
 ghost use Rattle.std.specs.Prelude.{ℕ, List};
-ghost use Rattle.mc_table.specs.TableLaws.{AcceptedTableIsOneSystem, AcceptedTableIsWellFormed, AcceptedTreeHasTable, TreeHasOneTable, TreeHasTable, TreeIsNested, TreeRowsAreLawful};
+ghost use Rattle.mc_table.specs.TableLaws.{AcceptedTableIsOneSystem, AcceptedTableIsTimeless, AcceptedTableIsWellFormed, AcceptedTreeHasTable, TreeHasOneTable, TreeHasTable, TreeIsNested, TreeRowsAreLawful};
 ghost use Rattle.mc_table.specs.FileVerdicts.{HasOneFileVerdict};
 
 use mdl_tree::tree_or_fault;
@@ -37,6 +37,11 @@ pub fn accepted_table_is_well_formed()
 /// All its rows are those of one system.
 pub fn accepted_table_is_one_system()
     ensures { AcceptedTableIsOneSystem }
+{}
+
+/// No row of a table of a tree that isn't refused by what is read so far writes a period.
+pub fn accepted_table_is_timeless()
+    ensures { AcceptedTableIsTimeless }
 {}
 
 /// Each file has one verdict and no other, for what its text and its tree are.

@@ -21,7 +21,6 @@ mod names;
 mod parts;
 mod passes;
 mod ports;
-mod refusals;
 mod root;
 mod row_texts;
 mod rows;
@@ -35,8 +34,9 @@ mod words;
 
 pub use diagram::build;
 pub use laws::{
-    accepted_table_is_one_system, accepted_table_is_well_formed, accepted_tree_has_table,
-    one_file_verdict, tree_has_one_table, tree_has_table, tree_is_nested, tree_rows_are_lawful,
+    accepted_table_is_one_system, accepted_table_is_timeless, accepted_table_is_well_formed,
+    accepted_tree_has_table, one_file_verdict, tree_has_one_table, tree_has_table, tree_is_nested,
+    tree_rows_are_lawful,
 };
 pub use step::fixed_step;
 

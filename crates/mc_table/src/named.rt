@@ -1,6 +1,6 @@
 ghost use Rattle.std.specs.Prelude.{◌≡◌, ◌++◌, [], map, filter, option_map, slice_get};
 ghost use Rattle.std.specs.Option.{option_copied};
-ghost use Rattle.mc_diagram.specs.FirstRefusal.{least_line};
+ghost use Rattle.mc_diagram.specs.FirstRefusal.{least_line, as_plain, least_in};
 ghost use Rattle.mc_table.specs.Blocks.{is_subsystem};
 ghost use Rattle.mc_table.specs.Parameters.{name_of};
 ghost use Rattle.mc_table.specs.Lines as lines;
@@ -10,15 +10,14 @@ ghost use Rattle.mc_table.specs.HeldModels.{tree_of};
 ghost use Rattle.mc_table.specs.HeldLines.{place_seen, places_seen, ends_seen, targets_seen};
 ghost use Rattle.mc_table.specs.NameMaps.{AreNamesOf};
 ghost use Rattle.mc_table.specs.Doubles.{IsFlat};
-ghost use Rattle.mc_table.specs.Passes.{as_plain};
-ghost use Rattle.mc_table.specs.Missing.{missing_found, least_over};
+ghost use Rattle.mc_table.specs.Missing.{missing_found};
 
 use crate::block::Block;
 use crate::lines::{LineEnd, Place};
 use crate::model::ModelText;
 use crate::names::{Names, place_of};
-use crate::refusals::earlier;
 use mc_base::Refusal;
+use mc_diagram::earlier;
 
 /// The block at a place.
 fn block_at<'a>(blocks: &'a [Block<'a>], at: usize) -> Option<&'a Block<'a>>
@@ -59,7 +58,7 @@ fn missing_found(model: &ModelText, places: &Names, place: &Place) -> Option<Ref
 fn least_missing_source(model: &ModelText, places: &Names, sources: &[Place]) -> Option<Refusal>
     requires flat { IsFlat (tree_of model.now).blocks }
     requires places { AreNamesOf (map (name_of (tree_of model.now)) (tree_of model.now).blocks) places.now }
-    ensures { as_plain result ≡ least_over (missing_found (tree_of model.now)) (places_seen sources.now) }
+    ensures { as_plain result ≡ least_in (missing_found (tree_of model.now)) (places_seen sources.now) }
 {
     let mut least = None;
     for source in sources {
@@ -72,7 +71,7 @@ fn least_missing_source(model: &ModelText, places: &Names, sources: &[Place]) ->
 fn least_missing_target(model: &ModelText, places: &Names, ends: &[LineEnd]) -> Option<Refusal>
     requires flat { IsFlat (tree_of model.now).blocks }
     requires places { AreNamesOf (map (name_of (tree_of model.now)) (tree_of model.now).blocks) places.now }
-    ensures { as_plain result ≡ least_over (missing_found (tree_of model.now)) (targets_seen ends.now) }
+    ensures { as_plain result ≡ least_in (missing_found (tree_of model.now)) (targets_seen ends.now) }
 {
     let mut least = None;
     for end in ends {

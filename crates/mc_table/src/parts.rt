@@ -1,19 +1,18 @@
 ghost use Rattle.std.specs.Prelude.{◌≡◌, ◌++◌, IfOk, OnOk, flat_map, map, filter};
 ghost use Rattle.mdl_tree.specs.Values.{section_tree};
-ghost use Rattle.mc_diagram.specs.FirstRefusal.{least_line};
+ghost use Rattle.mc_diagram.specs.FirstRefusal.{least_line, as_plain};
 ghost use Rattle.mc_table.specs.Lines.{parts_of_line};
 ghost use Rattle.mc_table.specs.TreeRefusals as refused;
 ghost use Rattle.mc_table.specs.Held.{seen, trees_of};
 ghost use Rattle.mc_table.specs.HeldModels.{tree_of};
-ghost use Rattle.mc_table.specs.Passes.{as_plain};
 ghost use Rattle.mc_table.specs.Numbered.{IsNumbered, parts_among, parts_inside, newer_refusal, newer_found};
 
 use crate::block::Block;
 use crate::forms::is_a;
 use crate::model::ModelText;
-use crate::refusals::earlier;
 use crate::sections::{sections_named, take_parts};
 use mc_base::{Memory, Refusal};
+use mc_diagram::earlier;
 use mdl_params::BlockType;
 use mdl_tree::Section;
 use std::alloc::Global;

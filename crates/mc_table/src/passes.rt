@@ -1,15 +1,14 @@
 ghost use Rattle.std.specs.Prelude.{◌≡◌, map, filter};
 ghost use Rattle.mc_base.specs.Refusals as plain;
-ghost use Rattle.mc_diagram.specs.FirstRefusal.{least_line};
+ghost use Rattle.mc_diagram.specs.FirstRefusal.{least_line, as_plain, least_in};
 ghost use Rattle.mc_table.specs.TreeRefusals as refused;
 ghost use Rattle.mc_table.specs.SoFar as so_far;
 ghost use Rattle.mc_table.specs.HeldModels.{tree_of};
-ghost use Rattle.mc_table.specs.Passes.{as_plain, least_in};
 
 use crate::found::{continuous_found, deep_found, float_found, parameter_found, unread_found};
 use crate::model::ModelText;
-use crate::refusals::earlier;
 use mc_base::Refusal;
+use mc_diagram::earlier;
 
 /// The first subsystem that is inside 32 others.
 pub(crate) fn least_deep(model: &ModelText) -> Option<Refusal>

@@ -7,8 +7,8 @@ ghost use Rattle.mc_table.specs.HeldModels.{tree_of};
 ghost use Rattle.mc_table.specs.HeldLines.{place_seen, places_seen};
 ghost use Rattle.mc_table.specs.NameMaps.{AreNamesOf};
 ghost use Rattle.mc_table.specs.Doubles.{IsFlat};
-ghost use Rattle.mc_table.specs.Missing.{port_within, least_over, no_output_found, numbered_input};
-ghost use Rattle.mc_table.specs.Passes.{as_plain};
+ghost use Rattle.mc_diagram.specs.FirstRefusal.{least_in, as_plain};
+ghost use Rattle.mc_table.specs.Missing.{port_within, no_output_found, numbered_input};
 
 use crate::block::Block;
 use crate::counts::{product_count, sum_signs, whole_number};
@@ -18,9 +18,9 @@ use crate::lines::Place;
 use crate::model::ModelText;
 use crate::named::block_named;
 use crate::names::Names;
-use crate::refusals::earlier;
 use crate::texts::{block_type, text_of};
 use mc_base::{ParamName, Port, Refusal};
+use mc_diagram::earlier;
 use mdl_params::BlockType;
 
 /// How many inputs a sum has.
@@ -159,7 +159,7 @@ pub(crate) fn least_without_output(
 ) -> Option<Refusal>
     requires flat { IsFlat (tree_of model.now).blocks }
     requires places { AreNamesOf (map (name_of (tree_of model.now)) (tree_of model.now).blocks) places.now }
-    ensures { as_plain result ≡ least_over (no_output_found (tree_of model.now)) (places_seen sources.now) }
+    ensures { as_plain result ≡ least_in (no_output_found (tree_of model.now)) (places_seen sources.now) }
 {
     let mut least = None;
     for source in sources {

@@ -1,6 +1,6 @@
 ghost use Rattle.std.specs.Prelude.{◌≡◌, ◌≤◌, [], IfOk, None, false, filter, map, option_and_then};
 ghost use Rattle.std.specs.Option.{option_copied};
-ghost use Rattle.mc_diagram.specs.FirstRefusal.{least_line};
+ghost use Rattle.mc_diagram.specs.FirstRefusal.{least_line, least_in, as_plain};
 ghost use Rattle.mc_table.specs.Blocks.{is_subsystem};
 ghost use Rattle.mc_table.specs.Parameters.{name_of};
 ghost use Rattle.mc_table.specs.Lines as lines;
@@ -10,8 +10,7 @@ ghost use Rattle.mc_table.specs.HeldModels.{tree_of};
 ghost use Rattle.mc_table.specs.HeldLines.{place_seen, places_seen, ends_seen, targets_seen};
 ghost use Rattle.mc_table.specs.NameMaps.{AreNamesOf};
 ghost use Rattle.mc_table.specs.Doubles.{IsFlat};
-ghost use Rattle.mc_table.specs.Missing.{least_over, no_input_found, numbered_input};
-ghost use Rattle.mc_table.specs.Passes.{as_plain};
+ghost use Rattle.mc_table.specs.Missing.{no_input_found, numbered_input};
 ghost use Rattle.mc_table.specs.Inputs as led;
 
 use crate::block::Block;
@@ -21,8 +20,8 @@ use crate::model::ModelText;
 use crate::named::block_named;
 use crate::names::{Names, place_of};
 use crate::ports::{input_count, least_without_output, numbered_input};
-use crate::refusals::earlier;
 use mc_base::{Memory, Port, Refusal};
+use mc_diagram::earlier;
 use std::alloc::Global;
 
 /// How many inputs a block has that isn't a subsystem.
@@ -75,7 +74,7 @@ fn least_without_input(model: &ModelText, places: &Names, ends: &[LineEnd]) -> O
     requires flat { IsFlat (tree_of model.now).blocks }
     requires systems { filter is_subsystem (tree_of model.now).blocks ≡ [] }
     requires places { AreNamesOf (map (name_of (tree_of model.now)) (tree_of model.now).blocks) places.now }
-    ensures { as_plain result ≡ least_over (no_input_found (tree_of model.now)) (targets_seen ends.now) }
+    ensures { as_plain result ≡ least_in (no_input_found (tree_of model.now)) (targets_seen ends.now) }
 {
     let mut least = None;
     for end in ends {

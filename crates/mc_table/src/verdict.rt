@@ -1,12 +1,11 @@
 ghost use Rattle.std.specs.Prelude.{◌≡◌, ◌∷◌, [], IfOk, None, map};
-ghost use Rattle.mc_diagram.specs.FirstRefusal.{least_line, first_there};
+ghost use Rattle.mc_diagram.specs.FirstRefusal.{least_line, first_there, as_plain};
 ghost use Rattle.mdl_tree.specs.Values.{section_tree};
 ghost use Rattle.mc_table.specs.Blocks.{model_with};
 ghost use Rattle.mc_table.specs.TreeRefusals as refused;
 ghost use Rattle.mc_table.specs.SoFar as so_far;
 ghost use Rattle.mc_table.specs.HeldModels.{tree_of};
 ghost use Rattle.mc_table.specs.Numbered.{IsNumbered};
-ghost use Rattle.mc_table.specs.Passes.{as_plain};
 ghost use Rattle.mc_table.specs.Parameters.{name_of};
 ghost use Rattle.mc_table.specs.Lines as written;
 ghost use Rattle.mc_table.specs.HeldLines.{ends_seen};
@@ -24,12 +23,12 @@ use crate::named::least_missing;
 use crate::names::{Names, block_names, places_of};
 use crate::parts::least_newer_line;
 use crate::passes::{least_continuous, least_deep, least_float, least_parameter, least_unread};
-use crate::refusals::earlier;
 use crate::sections::sections_named;
 use crate::targets::least_missing_port;
 use crate::texts::read_model;
 use crate::wiring::{Wiring, wiring_of};
 use mc_base::{Memory, Refusal};
+use mc_diagram::earlier;
 use mdl_tree::Section;
 use std::alloc::Global;
 

@@ -1,7 +1,7 @@
-use Rattle.std.proofs.Common.{None, length, ap, ◌∙◌, arith}
+use Rattle.std.proofs.Common.{ap, ◌∙◌, arith}
 use Rattle.mc_table.specs.HeldLines.{ends_seen}
 use Rattle.mc_table.specs.HeldModels.{tree_of}
-use Rattle.mc_table.specs.Passes.{as_plain, earlier_of}
+use Rattle.mc_diagram.specs.FirstRefusal.{as_plain, earlier_of}
 use Rattle.mc_table.proofs.WiringLemmas.{double-end}
 use Rattle.mc_table.proofs.LedLemmas.{as-many, end-more}
 use Rattle.mc_table.proofs.connections.least_double_source.Goals as goal

@@ -1,7 +1,7 @@
 use Rattle.std.proofs.Common.{◌≡◌, [], None, drop, take, reverse}
 use Rattle.mc_table.specs.HeldModels.{tree_of}
 use Rattle.mc_table.specs.TreeRefusals.{targets_in}
-use Rattle.mc_table.specs.Passes.{as_plain, earlier_of}
+use Rattle.mc_diagram.specs.FirstRefusal.{as_plain, earlier_of}
 use Rattle.mc_table.specs.Wiring.{double_targets_from}
 use Rattle.mc_table.proofs.connections.least_double_source.Given as goal
 

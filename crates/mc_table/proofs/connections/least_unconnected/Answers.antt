@@ -5,7 +5,7 @@ use Rattle.mc_table.specs.Blocks.{is_subsystem}
 use Rattle.mc_table.specs.Held.{seen, all_seen}
 use Rattle.mc_table.specs.HeldModels.{tree_of}
 use Rattle.mc_table.specs.Doubles.{IsFlat}
-use Rattle.mc_table.specs.Passes.{as_plain, earlier_of, least_in}
+use Rattle.mc_diagram.specs.FirstRefusal.{as_plain, earlier_of, least_in}
 use Rattle.mc_table.specs.Wiring.{unconnected_found}
 use Rattle.mc_table.proofs.PassLemmas.{least-more, least-end}
 use Rattle.mc_table.proofs.WiringLemmas.{owner-at, plain-at, least-loose}

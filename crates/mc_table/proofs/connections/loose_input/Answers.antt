@@ -1,4 +1,3 @@
-use Rattle.std.proofs.Common.{◌∙◌}
 use Rattle.mc_table.specs.Held.{seen}
 use Rattle.mc_table.specs.HeldModels.{tree_of}
 use Rattle.mc_table.proofs.LooseLemmas.{loose-here, loose-later}

@@ -1,6 +1,6 @@
 use Rattle.std.proofs.Common.{sym, ap, ◌∙◌}
 use Rattle.mc_table.specs.HeldModels.{tree_of}
-use Rattle.mc_table.specs.Passes.{as_plain}
+use Rattle.mc_diagram.specs.FirstRefusal.{as_plain}
 use Rattle.mc_table.proofs.LooseLemmas.{inputs-single}
 use Rattle.mc_table.proofs.connections.refusal_of_inputs.Goals as goal
 

@@ -1,14 +1,12 @@
-use Rattle.std.proofs.Common.{rules, ◌≡◌, sym, ◌∙◌, ap, subst, [], ◌∷◌, Option, Some, None, OnOk, IfErr, option_map, codes}
+use Rattle.std.proofs.Common.{◌≡◌, sym, ◌∙◌, ap, subst, [], ◌∷◌, Option, Some, None, OnOk, IfErr, option_map, codes}
 use denote.Ref.{Bor}
 use Rattle.mc_base.specs.Refusals.{PlainRefusal}
 use Rattle.mdl_tree.specs.declared.tree.Section.{Section}
 use Rattle.mdl_tree.specs.Values.{section_tree}
 use Rattle.mdl_tree.specs.Walks.{first_section}
-use Rattle.mc_diagram.specs.FirstRefusal.{first_there}
-use Rattle.mc_table.specs.Blocks.{model_with}
+use Rattle.mc_diagram.specs.FirstRefusal.{first_there, as_plain}
 use Rattle.mc_table.specs.TreeRefusals.{no_model, two_models}
 use Rattle.mc_table.specs.SoFar.{model_refusal_so_far, tree_refusal_so_far}
-use Rattle.mc_table.specs.Passes.{as_plain}
 use Rattle.mc_table.specs.Building.{IsFaultBy}
 use Rattle.mc_table.specs.HeldModels.{tree_of}
 use Rattle.mc_table.proofs.BuildLemmas.{model-there, some-mapped, refusal-of_model}

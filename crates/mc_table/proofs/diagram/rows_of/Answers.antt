@@ -1,8 +1,8 @@
-use Rattle.std.proofs.Common.{◌≡◌, subst, sym, take, List, ◌+◌}
+use Rattle.std.proofs.Common.{subst, sym, take, List, ◌+◌}
 use Rattle.mc_diagram.specs.declared.table.Row.{Row}
 use Rattle.std.specs.List.{AllZip}
 use Rattle.mc_table.specs.TableOf.{IsRowOf}
-use Rattle.mc_table.specs.Held.{seen, all_seen}
+use Rattle.mc_table.specs.Held.{all_seen}
 use Rattle.mc_table.specs.HeldModels.{tree_of}
 use Rattle.mc_table.proofs.RowLemmas.{zip-more}
 use Rattle.mc_table.proofs.ReadableBlocks.{placed-at}

@@ -1,6 +1,6 @@
 use Rattle.std.proofs.Common.{◌≡◌, [], drop, take, reverse}
 use Rattle.mc_table.specs.HeldModels.{tree_of}
-use Rattle.mc_table.specs.Passes.{as_plain, earlier_of}
+use Rattle.mc_diagram.specs.FirstRefusal.{as_plain, earlier_of}
 use Rattle.mc_table.specs.Doubles.{doubles_from}
 use Rattle.mc_table.proofs.doubles.least_double.Given as goal
 

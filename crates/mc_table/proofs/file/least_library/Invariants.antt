@@ -1,7 +1,7 @@
 use Rattle.std.proofs.Common.{◌≡◌, drop, map}
-use Rattle.mc_diagram.specs.FirstRefusal.{least_line}
+use Rattle.mc_diagram.specs.FirstRefusal.{least_line, as_plain, earlier_of}
 use Rattle.mc_table.specs.Held.{trees_of}
-use Rattle.mc_table.specs.Passes.{as_plain, earlier_of, library_refusal}
+use Rattle.mc_table.specs.Passes.{library_refusal}
 use Rattle.mc_table.proofs.file.least_library.Given as goal
 
 abbrev pub invariant-loop-library : goal.invariant-loop-library

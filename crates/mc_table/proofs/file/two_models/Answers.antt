@@ -5,9 +5,9 @@ use Rattle.mc_base.specs.Refusals.{TwoModels}
 use Rattle.mc_base.specs.declared.ModelKind.TheVariants.{Second}
 use Rattle.mdl_tree.specs.Values.{items_of}
 use Rattle.mdl_tree.specs.Walks.{SectionTree, sections_named}
-use Rattle.mc_diagram.specs.FirstRefusal.{least_line}
+use Rattle.mc_diagram.specs.FirstRefusal.{least_line, as_plain}
 use Rattle.mc_table.specs.Held.{trees_of}
-use Rattle.mc_table.specs.Passes.{as_plain, library_refusal}
+use Rattle.mc_table.specs.Passes.{library_refusal}
 use Rattle.mc_table.proofs.file.two_models.Goals as goal
 
 pub returns-in-Some : goal.returns-in-Some

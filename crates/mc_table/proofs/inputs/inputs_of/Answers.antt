@@ -1,4 +1,4 @@
-use Rattle.std.proofs.Common.{◌≡◌, None, sym, ◌∙◌, ap, subst, take, slice_index_or, ◌+◌, ◌++◌, ◌∷◌, [], is_some, arith}
+use Rattle.std.proofs.Common.{None, sym, ◌∙◌, ap, subst, take, slice_index_or, ◌++◌, ◌∷◌, [], is_some, arith}
 use Rattle.std.proofs.lemmas.List.{take_more, length-take-le}
 use Rattle.mc_table.specs.Inputs.{AreInputsOf}
 use Rattle.mc_table.proofs.NameLemmas.{copied_None, copied_some}

@@ -1,9 +1,8 @@
 use Rattle.std.proofs.Common.{◌+◌, ap, ◌∙◌, drop, map}
 use Rattle.std.specs.Prelude.{filter}
-use Rattle.mc_diagram.specs.FirstRefusal.{least_line}
+use Rattle.mc_diagram.specs.FirstRefusal.{least_line, as_plain, earlier_of}
 use Rattle.mc_table.specs.TreeRefusals.{is_newer_line}
 use Rattle.mc_table.specs.Held.{trees_of}
-use Rattle.mc_table.specs.Passes.{as_plain, earlier_of}
 use Rattle.mc_table.specs.Numbered.{newer_refusal}
 use Rattle.mc_table.proofs.NumberLemmas.{newer-more}
 use Rattle.mc_table.proofs.parts.least_newer.Goals as goal

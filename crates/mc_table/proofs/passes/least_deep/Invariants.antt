@@ -1,7 +1,7 @@
 use Rattle.std.proofs.Common.{◌≡◌, drop}
 use Rattle.mc_table.specs.SoFar.{deep_found}
 use Rattle.mc_table.specs.Held.{all_seen}
-use Rattle.mc_table.specs.Passes.{as_plain, earlier_of, least_in}
+use Rattle.mc_diagram.specs.FirstRefusal.{as_plain, earlier_of, least_in}
 use Rattle.mc_table.proofs.passes.least_deep.Given as goal
 
 abbrev pub invariant-loop-block : goal.invariant-loop-block

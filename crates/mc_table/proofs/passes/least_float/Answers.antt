@@ -8,8 +8,9 @@ use Rattle.mc_table.specs.TreeRefusals.{writes_float, is_float_constant}
 use Rattle.mc_table.specs.SoFar.{float_found}
 use Rattle.mc_table.specs.Held.{all_seen}
 use Rattle.mc_table.specs.HeldModels.{tree_of}
-use Rattle.mc_table.specs.Passes.{as_plain, earlier_of, least_in}
-use Rattle.mc_table.proofs.PassLemmas.{least-more, least-end, least-where}
+use Rattle.mc_diagram.specs.FirstRefusal.{as_plain, earlier_of, least_in}
+use Rattle.mc_diagram.proofs.FirstRefusals.{least-where}
+use Rattle.mc_table.proofs.PassLemmas.{least-more, least-end}
 use Rattle.mc_table.proofs.passes.least_float.Goals as goal
 
 pub loop-block-preserved : goal.loop-block-preserved

@@ -2,7 +2,7 @@ use Rattle.std.proofs.Common.{◌+◌, ap, ◌∙◌, drop}
 use Rattle.mc_table.specs.SoFar.{parameter_found}
 use Rattle.mc_table.specs.Held.{all_seen}
 use Rattle.mc_table.specs.HeldModels.{tree_of}
-use Rattle.mc_table.specs.Passes.{as_plain, earlier_of, least_in}
+use Rattle.mc_diagram.specs.FirstRefusal.{as_plain, earlier_of, least_in}
 use Rattle.mc_table.proofs.PassLemmas.{least-more, least-end, least-parameters}
 use Rattle.mc_table.proofs.passes.least_parameter.Goals as goal
 

@@ -2,7 +2,7 @@ use Rattle.std.proofs.Common.{◌≡◌, drop}
 use Rattle.mc_table.specs.SoFar.{parameter_found}
 use Rattle.mc_table.specs.Held.{all_seen}
 use Rattle.mc_table.specs.HeldModels.{tree_of}
-use Rattle.mc_table.specs.Passes.{as_plain, earlier_of, least_in}
+use Rattle.mc_diagram.specs.FirstRefusal.{as_plain, earlier_of, least_in}
 use Rattle.mc_table.proofs.passes.least_parameter.Given as goal
 
 abbrev pub invariant-loop-block : goal.invariant-loop-block

@@ -1,7 +1,7 @@
 use Rattle.std.proofs.Common.{ap, ◌∙◌}
 use Rattle.mc_table.specs.HeldModels.{tree_of}
 use Rattle.mc_table.specs.HeldLines.{place_seen}
-use Rattle.mc_table.specs.Passes.{as_plain, earlier_of}
+use Rattle.mc_diagram.specs.FirstRefusal.{as_plain, earlier_of}
 use Rattle.mc_table.specs.Missing.{no_output_found}
 use Rattle.mc_table.proofs.MissingLemmas.{over-at}
 use Rattle.mc_table.proofs.ports.least_without_output.Goals as goal

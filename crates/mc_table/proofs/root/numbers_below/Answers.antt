@@ -1,4 +1,4 @@
-use Rattle.std.proofs.Common.{◌≡◌, sym, ◌∙◌, ap, List, ℕ, [], ◌∷◌, ◌++◌}
+use Rattle.std.proofs.Common.{sym, ◌∙◌, ap, List, ℕ, [], ◌∷◌, ◌++◌}
 use Rattle.mc_table.proofs.BuildLemmas.{range-more}
 use Rattle.mc_table.proofs.root.numbers_below.Goals as goal
 

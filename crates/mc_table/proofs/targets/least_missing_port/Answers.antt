@@ -1,7 +1,7 @@
 use Rattle.std.proofs.Common.{ap₂, ◌∙◌}
 use Rattle.mc_table.specs.HeldModels.{tree_of}
 use Rattle.mc_table.specs.HeldLines.{places_seen}
-use Rattle.mc_table.specs.Passes.{earlier_of}
+use Rattle.mc_diagram.specs.FirstRefusal.{earlier_of}
 use Rattle.mc_table.proofs.TargetLemmas.{ports-flat}
 use Rattle.mc_table.proofs.targets.least_missing_port.Goals as goal
 

@@ -5,9 +5,9 @@ use Rattle.mc_table.specs.Blocks.{Block}
 use Rattle.mc_table.specs.TreeRefusals.{is_newer_line, line_parts}
 use Rattle.mc_table.specs.SoFar.{is_not_read}
 use Rattle.mc_table.specs.HeldModels.{tree_of}
-use Rattle.mc_table.specs.Passes.{earlier_of}
+use Rattle.mc_diagram.specs.FirstRefusal.{earlier_of}
 use Rattle.mc_table.specs.Numbered.{newer_refusal}
-use Rattle.mc_table.proofs.PassLemmas.{least-where, least_line-append}
+use Rattle.mc_diagram.proofs.FirstRefusals.{least-where, least_line-append}
 use Rattle.mc_table.proofs.verdict.least_unsupported.Goals as goal
 
 pub returns : goal.returns

@@ -1,9 +1,8 @@
 use Rattle.std.proofs.Common.{sym, ap, ◌∙◌}
-use Rattle.std.specs.Prelude.{option_and_then, option_map, slice_get, None}
+use Rattle.std.specs.Prelude.{option_and_then, slice_get, None}
 use Rattle.std.specs.Option.{option_copied}
 use Rattle.mc_table.specs.Lines.{LineEnd, row_of_source}
 use Rattle.mc_table.specs.HeldModels.{tree_of}
-use Rattle.mc_table.specs.HeldLines.{end_seen, ends_seen}
 use Rattle.mc_table.proofs.WireLemmas.{end-at}
 use Rattle.mc_table.proofs.wiring.row_at.Goals as goal
 
