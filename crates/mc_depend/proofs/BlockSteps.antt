@@ -1,8 +1,8 @@
 -- The rows of a block that are on loops, by what is reached from their bits.
-use Rattle.std.specs.Prelude.{◌≡◌, ℕ, suc, ◌+◌, ◌-◌, ◌<◌, ◌≤◌, List, [], ◌∷◌, ◌++◌, length, get_or, Contains, IsBitSet, Option, Some, None, ◌↔◌, refl}
+use Rattle.std.specs.Prelude.{◌≡◌, ℕ, suc, ◌+◌, ◌-◌, ◌<◌, ◌≤◌, List, [], ◌∷◌, length, get_or, Contains, IsBitSet, Option, Some, None, refl}
 use Rattle.std.specs.List.{AllByRecursion}
-use Rattle.std.proofs.Common.{arith, sym, ap, subst, ◌∙◌, inl, inr, length-append}
-use Rattle.std.proofs.lemmas.List.{get_or_default, get_or-append_right, get_or_append_left}
+use Rattle.std.proofs.Common.{arith, sym, ap, subst, ◌∙◌, inl, inr}
+use Rattle.std.proofs.lemmas.List.{get_or_default}
 use Rattle.std.proofs.lemmas.List.Elements.{All-from_recursion}
 use Rattle.mc_graph.specs.NeedsGraph.{NeedsGraph, IsGraph}
 use Rattle.mc_graph.specs.EdgeChains.{from, to}
@@ -108,20 +108,3 @@ module _ (needs : ℕ → List ℕ) (first : ℕ) (from_first : (b : ℕ) → Is
     | inl later ↦ later
     | inr within ↦ absurd (h b ((from_first b on, within), on))
   ]
-
--- the bits of no rows, and of one more
-pub bits_none : (first : ℕ) → AreBlockBits 0 first []
-bits_none first = record { len = refl; bits = λ b k below. absurd (omega arith) }
-
-pub bits_more : (n m first x : ℕ) (xs : List ℕ) → m ≡ n + 1 → AreBlockBits n first xs → ((k : ℕ) → IsBitSet x k ↔ ((n ≡ first + k) × (k < 64))) → AreBlockBits m first (xs ++ x ∷ [])
-bits_more n m first x xs e own bit = record {
-  len = let l = own.len in length-append xs (x ∷ []) ∙ omega arith;
-  bits = λ b k below. elim (le-or-above n b) [
-    | inl last ↦ let same : b ≡ n = omega arith in
-        let read : get_or (xs ++ x ∷ []) b 0 ≡ x = get_or-append_right xs (x ∷ []) n b 0 own.len last ∙ ap (λ k. get_or (x ∷ []) k 0) (let z : b - n ≡ 0 = omega arith in z) in
-        subst (λ y. IsBitSet y k ↔ ((b ≡ first + k) × (k < 64))) (sym read) (subst (λ q. IsBitSet x k ↔ ((q ≡ first + k) × (k < 64))) (sym same) (bit k))
-    | inr before ↦
-        let read : get_or (xs ++ x ∷ []) b 0 ≡ get_or xs b 0 = get_or_append_left xs (x ∷ []) 0 b (let l = own.len in omega arith) in
-        subst (λ y. IsBitSet y k ↔ ((b ≡ first + k) × (k < 64))) (sym read) (own.bits b k before)
-  ];
-}

@@ -1,5 +1,5 @@
 -- The edges of a diagram's needs, row by row.
-use Rattle.std.specs.Prelude.{◌≡◌, ℕ, zero, suc, ◌+◌, ◌<◌, ◌≤◌, ◌&&◌, Bool, true, false, not, cond, if◌then◌else◌, List, [], ◌∷◌, ◌++◌, map, filter, length, slice_index_or, Contains, MatchOption, Option, Some, None, ◌⊎◌, refl}
+use Rattle.std.specs.Prelude.{◌≡◌, ℕ, suc, ◌+◌, ◌<◌, ◌≤◌, ◌&&◌, Bool, true, false, not, cond, if◌then◌else◌, List, [], ◌∷◌, ◌++◌, map, filter, length, slice_index_or, Contains, MatchOption, Option, Some, None, ◌⊎◌, refl}
 use Rattle.std.specs.List.{AllByRecursion}
 use Rattle.std.proofs.Common.{arith, true≢false, sym, ap, subst, ◌∙◌, inl, inr, append_assoc}
 use Rattle.std.proofs.lemmas.List.{map-append, get_or_default}
@@ -10,7 +10,7 @@ use Rattle.mc_blocks.specs.Value.{feeds_through}
 use Rattle.mc_graph.specs.NeedsGraph.{NeedsGraph}
 use Rattle.mc_graph.specs.Reaching as graph
 use Rattle.mc_diagram.specs.declared.table.Row.{Row}
-use Rattle.mc_diagram.specs.Rows.{row_at, no_row, is_inport, is_system, same_system, outward, enclosing, around, around_inside, is_inport_of}
+use Rattle.mc_diagram.specs.Rows.{row_at, no_row, is_inport, is_system, same_system, enclosing, around, around_inside, is_inport_of}
 use Rattle.mc_diagram.specs.WellFormed.{IsNested, IsWired, IsWireIn, IsOwner, wires_wanted}
 use Rattle.mc_diagram.specs.Diagram.{Diagram, op_at}
 use Rattle.mc_diagram.specs.Needs.{inputs_used, control_wires, needs_of, needs_inside}
@@ -22,21 +22,9 @@ use Rattle.mc_depend.specs.Needed.{needed, IsGraphOf, AreEdgesBelow}
 use Rattle.mc_depend.proofs.NeededSteps.{needed-edge, edge-needed, Contains-front, Contains-behind, Contains-cases, walk-to_graph}
 use Rattle.mc_depend.proofs.Comparing.{le-or-above}
 
--- a kind that is no Inport
-pub is_inport-not : (kind : Kind) → ((port : ℕ) → kind ≡ Inport port → ⊥) → is_inport kind ≡ false
-is_inport-not (Inport port) h = absurd (h port refl)
-is_inport-not _ h = refl
-
 -- the subsystems outward, one after another
 abbrev pub inside_wires : List Row → Option ℕ → List ℕ → List ℕ
 inside_wires rows s es = control_wires rows (filter (λ e. not (is_system s e)) es)
-
-pub wires-none : (rows : List Row) (s : Option ℕ) → inside_wires rows s (enclosing rows s None) ≡ []
-wires-none rows s = by (length rows)
-  where
-    by : (n : ℕ) → inside_wires rows s (outward rows s n None) ≡ []
-    by zero = refl
-    by (suc n) = refl
 
 around-of : (rows : List Row) (s : Option ℕ) (e : ℕ) (t : Bool) → is_system s e ≡ t → inside_wires rows s (e ∷ (if t then [] else enclosing rows s (row_at rows e).owner)) ≡ inside_wires rows s (e ∷ around rows s e)
 around-of rows s e t q = ap (λ b. inside_wires rows s (e ∷ (if b then [] else enclosing rows s (row_at rows e).owner))) (sym q)
@@ -45,12 +33,6 @@ wires-by : (rows : List Row) (s : Option ℕ) (e : ℕ) (rest : List ℕ) (t : B
 wires-by rows s e rest t q = ap (λ b. control_wires rows (cond (not b) (e ∷ filter (λ k. not (is_system s k)) rest) (filter (λ k. not (is_system s k)) rest))) q
 
 module _ (rows : List Row) (s : Option ℕ) (nested : IsNested rows) (e : ℕ) (below : e < length rows) where
-  pub wires-stop : is_system s e ≡ true → inside_wires rows s (enclosing rows s (Some e)) ≡ []
-  wires-stop q =
-      ap (inside_wires rows s) (enclosing-step rows s nested e below)
-      ∙ sym (around-of rows s e true q)
-      ∙ wires-by rows s e [] true q
-
   pub wires-on : is_system s e ≡ false → inside_wires rows s (enclosing rows s (Some e)) ≡ (row_at rows e).inputs ++ inside_wires rows s (enclosing rows s (row_at rows e).owner)
   wires-on q =
       ap (inside_wires rows s) (enclosing-step rows s nested e below)
@@ -78,10 +60,6 @@ abbrev pub rank : Option ℕ → ℕ
 rank None = 0
 rank (Some e) = suc e
 
-pub rank-below : (e : ℕ) (o : Option ℕ) → IsBelow e o → rank o < suc e
-rank-below e None h = omega arith
-rank-below e (Some f) h = omega arith
-
 -- edges to row b from these rows
 abbrev pub edges_to : ℕ → List ℕ → List (ℕ × ℕ)
 edges_to b xs = map (λ a. (a, b)) xs
@@ -105,9 +83,6 @@ edge-to b (x ∷ xs) a h = elim (Contains-cases x xs a h) [
   | inl same ↦ subst (λ y. Contains ((x, b) ∷ edges_to b xs) (y, b)) same (Contains-front (x, b) (edges_to b xs))
   | inr more ↦ Contains-behind (x, b) (edges_to b xs) (a, b) (edge-to b xs a more)
 ]
-
-pub edges-none : (needs : ℕ → List ℕ) → AreEdgesBelow needs 0 []
-edges-none needs b a = (λ h. absurd (Contains-nil (a, b) h), λ h. absurd (let l = h.0 in omega arith))
 
 pub edges-step : (needs : ℕ → List ℕ) (n : ℕ) (edges half later : List (ℕ × ℕ)) (xs ys : List ℕ) → needs n ≡ xs ++ ys → half ≡ edges ++ edges_to n xs → later ≡ half ++ edges_to n ys →
     AreEdgesBelow needs n edges → AreEdgesBelow needs (n + 1) later

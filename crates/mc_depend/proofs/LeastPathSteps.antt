@@ -1,5 +1,5 @@
 -- A path of least steps, row by row.
-use Rattle.std.specs.Prelude.{◌≡◌, ℕ, zero, suc, ◌<◌, ◌≤◌, IsTrue, List, [], ◌∷◌, ◌++◌, length, get_or, Contains, Option, Some, None, refl}
+use Rattle.std.specs.Prelude.{◌≡◌, ℕ, suc, ◌<◌, ◌≤◌, IsTrue, List, [], ◌∷◌, ◌++◌, length, get_or, Contains, Option, Some, None, refl}
 use Rattle.std.specs.Ordering.{nat_cmp, is_le, ordering_then}
 use Rattle.std.specs.Cmp.{nat_cmp_is}
 use Rattle.std.specs.declared.cmp.Ordering.TheVariants.{Less, Equal}
@@ -19,7 +19,7 @@ use Rattle.mc_depend.specs.LeastPaths.{IsLeastPath, IsNextOn}
 use Rattle.mc_depend.proofs.Comparing.{le-or-above}
 
 -- lists with these first items, in order
-first-less : (a b : ℕ) (xs ys : List ℕ) → a ≤ b → (a ≡ b → IsTrue (is_le (slice_cmp nat_cmp xs ys))) → IsTrue (is_le (slice_cmp nat_cmp (a ∷ xs) (b ∷ ys)))
+pub first-less : (a b : ℕ) (xs ys : List ℕ) → a ≤ b → (a ≡ b → IsTrue (is_le (slice_cmp nat_cmp xs ys))) → IsTrue (is_le (slice_cmp nat_cmp (a ∷ xs) (b ∷ ys)))
 first-less a b xs ys le rest = elim (le-or-above b a) [
   | inl same ↦ subst (λ o. IsTrue (is_le (ordering_then o (slice_cmp nat_cmp xs ys)))) (nat_cmp_is a b Equal (omega arith)) (rest (omega arith))
   | inr less ↦ subst (λ o. IsTrue (is_le (ordering_then o (slice_cmp nat_cmp xs ys)))) (nat_cmp_is a b Less less) refl
@@ -71,9 +71,6 @@ pub record IsOnWay (needs : ℕ → List ℕ) (z : ℕ) (steps : List ℕ) (s at
   pub leads : (rest : List ℕ) → IsLeastPath needs z steps at rest → IsLeastPath needs z steps s (behind ++ rest)
 
 module _ (needs : ℕ → List ℕ) (z : ℕ) (steps : List ℕ) (s k : ℕ) (levels : AreLevels needs z k steps) where
-  pub way-init : (list : List ℕ) → list ≡ s ∷ [] → 0 < get_or steps s 0 → IsOnWay needs z steps s s list
-  way-init list e counted = record { behind = []; begins = e; counted = counted; leads = λ rest way. way }
-
   pub way-step : (at c : ℕ) (list later : List ℕ) → later ≡ list ++ c ∷ [] → IsLeastOf (IsNextOn needs steps at) (Some c) → IsOnWay needs z steps s at list → IsOnWay needs z steps s c later
   way-step at c list later e next on = record {
     behind = on.behind ++ c ∷ [];
@@ -133,9 +130,3 @@ next_done g steps at i found all h = least-same (IsAmong (LeadsOn g.edges steps 
       first,
     ))
     h
-
--- a number above 0 is read inside a list
-pub counted-in : (xs : List ℕ) (i : ℕ) → 0 < get_or xs i 0 → i < length xs
-counted-in [] i h = absurd (omega arith)
-counted-in (x ∷ xs) zero h = omega arith
-counted-in (x ∷ xs) (suc i) h = let r = counted-in xs i h in omega arith

@@ -1,9 +1,9 @@
 -- One more level of rows from which a row is reached.
-use Rattle.std.specs.Prelude.{Bool, true, false, replicate, ◌≡◌, ◌≢◌, ℕ, zero, suc, ◌+◌, ◌<◌, ◌≤◌, List, [], ◌∷◌, length, Contains, ◌⊎◌, ◌↔◌, refl}
+use Rattle.std.specs.Prelude.{◌≡◌, ◌≢◌, ℕ, zero, suc, ◌<◌, ◌≤◌, List, [], ◌∷◌, length, Contains, ◌⊎◌, refl}
 use Rattle.std.proofs.Common.{cond, eqb, get_or, set, sym, ap, subst, ◌∙◌, arith, inl, inr, length-set, get_or-set_same, get_or-set_other}
 use Rattle.std.proofs.lemmas.Bool.{eq-eqb, ne_eqb}
 use Rattle.std.proofs.lemmas.List.{get_or_default}
-use Rattle.std.proofs.lemmas.List.Sums.{sum_by-set, sum_by-cons}
+use Rattle.std.proofs.lemmas.List.Sums.{sum_by-set}
 use Rattle.mc_graph.specs.EdgeChains.{from, to}
 use Rattle.mc_diagram.specs.Walk.{Walk}
 use Rattle.mc_depend.specs.Levels.{AreLevels, IsAtLevel, unreached}
@@ -25,15 +25,6 @@ pub edge-at : (edges : List (ℕ × ℕ)) (e : ℕ) → e < length edges → Con
 edge-at edges e below = (e, below, get_or_default edges e (from edges e, to edges e) (0, 0) below)
 
 module _ (edges : List (ℕ × ℕ)) (z k : ℕ) (old : List ℕ) where
-  pub advance-init : IsAdvancing edges z k old old 0
-  advance-init = record {
-    len = refl;
-    kept = λ b h. refl;
-    fresh = λ b h. inl h;
-    done = λ e below. absurd (omega arith);
-    moved = inl refl;
-  }
-
   -- a row at level k is so before and after
   at-before : (k' : ℕ) (new : List ℕ) (a : ℕ) → k' ≡ k → ((b : ℕ) → 0 < get_or new b 0 → (0 < get_or old b 0) ⊎ (get_or new b 0 ≡ suc k)) → ((b : ℕ) → 0 < get_or old b 0 → get_or new b 0 ≡ get_or old b 0) →
       IsAtLevel z new k' a → IsAtLevel z old k' a
@@ -195,37 +186,6 @@ module _ (needs : ℕ → List ℕ) (edges : List (ℕ × ℕ)) (edge-of : (b a 
         | inl was ↦ was
         | inr at ↦ done-at old adv b a w.0 at.0
       ]
-
--- at first nothing is counted
-pub levels-init : (needs : ℕ → List ℕ) (z : ℕ) (steps : List ℕ) → ((b : ℕ) → get_or steps b 0 ≡ 0) → AreLevels needs z 0 steps
-levels-init needs z steps none = record {
-  walks = λ b h. absurd (let e = none b in omega arith);
-  least = λ b path w few. absurd (omega arith);
-}
-
--- a row is at level k
-pub at-zero : (z a k : ℕ) (steps : List ℕ) → k ≡ 0 → (a ≡ z) ↔ IsAtLevel z steps k a
-at-zero z a zero steps e = (λ h. h, λ h. h)
-at-zero z a (suc k) steps e = absurd (omega arith)
-
-pub at-more : (z a k : ℕ) (steps : List ℕ) → k ≢ 0 → (get_or steps a 0 ≡ k) ↔ IsAtLevel z steps k a
-at-more z a zero steps ne = absurd (ne refl)
-at-more z a (suc k) steps ne = (λ h. h, λ h. h)
-
-pub unreached-most : (steps : List ℕ) → unreached steps ≤ length steps
-unreached-most [] = omega arith
-unreached-most (count ∷ steps) =
-    let e = sum_by-cons (λ n. cond (eqb n 0) 1 0) count steps in
-    subst (λ n. n ≤ length (count ∷ steps)) (sym e) (by (eqb count 0) (unreached-most steps))
-  where
-    by : (t : Bool) → unreached steps ≤ length steps → cond {A = ℕ} t 1 0 + unreached steps ≤ length (count ∷ steps)
-    by true h = omega arith
-    by false h = omega arith
-
-pub none-reached : (n b : ℕ) → get_or (replicate n zero) b zero ≡ zero
-none-reached zero b = refl
-none-reached (suc n) zero = refl
-none-reached (suc n) (suc b) = none-reached n b
 
 -- in steps of one
 module _ (edges : List (ℕ × ℕ)) (z k : ℕ) (old new : List ℕ) (i j a b : ℕ) (next : j ≡ suc i) (inside : i < length edges) (from_is : a ≡ from edges i) (to_is : b ≡ to edges i) (adv : IsAdvancing edges z k old new i) where

@@ -8,3 +8,8 @@ pub mod BlockSteps
 pub mod GraphSteps
 pub mod InputSteps
 pub mod OutportSteps
+pub mod ShortWalks
+pub mod LeastSearches
+pub mod FirstWays
+pub mod ToldLoops
+pub mod OneLoop

@@ -28,7 +28,7 @@ module _ (needs : ℕ → List ℕ) where
   loop-rows (a ∷ b ∷ path) w =
       ((b ∷ path, w), ((path ++ a ∷ [], walk-append b path a [] b w.1 w.0), rows-on_loops a b [] path w.0 w.1))
 
-  all-above : (a : ℕ) → ((b : ℕ) → IsOnLoop needs b → a ≤ b) → (rows : List ℕ) → AllByRecursion (IsOnLoop needs) rows → AllByRecursion (λ b. a ≤ b) rows
+  pub all-above : (a : ℕ) → ((b : ℕ) → IsOnLoop needs b → a ≤ b) → (rows : List ℕ) → AllByRecursion (IsOnLoop needs) rows → AllByRecursion (λ b. a ≤ b) rows
   all-above a least [] all = tt
   all-above a least (b ∷ rows) all = (least b all.0, all-above a least rows all.1)
 

@@ -4,3 +4,4 @@ pub mod Levels
 pub mod LeastPaths
 pub mod Blocks
 pub mod TrueNeeds
+pub mod LoopLaws

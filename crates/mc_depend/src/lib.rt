@@ -1,6 +1,7 @@
 // Loops of rows that need each other, and the inputs that each output needs.
 #![tactic(auto)]
 
+mod laws;
 mod least;
 mod least_loop;
 mod least_row;
@@ -10,6 +11,7 @@ mod needs_graph;
 mod outports;
 mod true_needs;
 
+pub use laws::{loop_is_told_or_none, told_loop_is_one};
 pub use loops::find_loop;
 pub use true_needs::needs_of;
 
