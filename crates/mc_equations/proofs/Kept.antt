@@ -1,0 +1,125 @@
+-- Values, memories and triggers fit before the first tick, and after each tick where they did before it.
+use Rattle.std.specs.Prelude.{◌≡◌, ℕ, ◌<◌, Bool, true, false, not, ◌&&◌, if◌then◌else◌, List, [], map, length, slice_index_or, None, ℤ, pos}
+use Rattle.std.proofs.Common.{refl, sym, ◌∙◌, ap, subst, arith}
+use Rattle.std.proofs.lemmas.List.{get_or_past}
+use native.Mathlib.Decide.{dec_lt}
+use Rattle.mc_base.specs.declared.Control.{Control}
+use Rattle.mc_base.specs.declared.Control.TheVariants.{Plain, Enabled, Triggered}
+use Rattle.mc_base.specs.declared.Decimal.{Decimal}
+use Rattle.mc_guards.specs.declared.TrigMem.{TrigMem}
+use Rattle.mc_guards.specs.declared.TrigMem.TheVariants.{NotYet}
+use Rattle.mc_fixed.specs.declared.FixType.{FixType}
+use Rattle.mc_fixed.specs.Conversion.{InType, quantize}
+use Rattle.mc_blocks.specs.declared.Kind.{Kind}
+use Rattle.mc_blocks.specs.declared.Kind.TheVariants.{Inport, Outport, SubSystem, Constant, Ground, Terminator, Gain, Sum, Product, UnitDelay, ZeroOrderHold, Switch, Relational, Logic, Convert, RateTransition, EnablePort, TriggerPort}
+use Rattle.mc_blocks.specs.Meaning.{op_of, has_value}
+use Rattle.mc_blocks.proofs.InType.{values_stay_in_type}
+use Rattle.mc_diagram.specs.Rows.{row_at, by_row, system_control, around}
+use Rattle.mc_diagram.specs.ResolvedTree.{ResolvedTree, IsResolvedTree, diagram_of}
+use Rattle.mc_diagram.specs.Diagram.{Diagram, type_at, op_at}
+use Rattle.mc_diagram.specs.Run.{value_at, is_delay, start_by, start_of, any_off, runs, is_reset_outport, is_disabled, row_value, row_memory, has_memory, values_by, memories_by, triggers_by}
+use Rattle.mc_diagram.proofs.ByRow.{by_row-at, length-by_row}
+use Rattle.mc_equations.specs.Traces.{HasInputs}
+use Rattle.mc_equations.specs.Fitting.{FitsRow, AreFit, AreInTypes, IsFit}
+use Rattle.mc_equations.proofs.Copied.{zero-in}
+use Rattle.mc_equations.proofs.Evaluable.{op-is, computed-fits, taken-fits}
+
+-- ---- Lists by row
+
+zero-fits : (d : Diagram) (b : ℕ) → FitsRow d b (pos 0)
+zero-fits d b = record { in_type = zero-in (type_at d.types b); ground = λ e. refl }
+
+-- what holds of 0 and of what each row is given holds along the list
+along : (d : Diagram) (f : ℕ → ℤ) (P : ℕ → ℤ → Type 0) → ((b : ℕ) → P b (pos 0)) → ((b : ℕ) → b < length d.rows → P b (f b)) → (b : ℕ) → P b (value_at (by_row d.rows f) b)
+along d f P zero each b = elim (dec_lt b (length d.rows)) [
+  | yes inside ↦ subst (P b) (sym (by_row-at d.rows f b (pos 0) inside)) (each b inside)
+  | no past ↦ subst (P b) (sym (get_or_past (by_row d.rows f) b (pos 0) (omega (arith, length-by_row d.rows f)))) (zero b)
+]
+
+are-fit : (d : Diagram) (f : ℕ → ℤ) → ((b : ℕ) → b < length d.rows → FitsRow d b (f b)) → AreFit d (by_row d.rows f)
+are-fit d f each = record { one_each = length-by_row d.rows f; each = along d f (FitsRow d) (zero-fits d) each }
+
+are-in : (d : Diagram) (f : ℕ → ℤ) → ((b : ℕ) → b < length d.rows → InType (type_at d.types b) (f b)) → AreInTypes d (by_row d.rows f)
+are-in d f each = record {
+  one_each = length-by_row d.rows f;
+  each = along d f (λ b number. InType (type_at d.types b) number) (λ b. zero-in (type_at d.types b)) each;
+}
+
+-- ---- One row
+
+quantized : (value : Decimal) (out : FixType) → InType out (quantize value out)
+quantized value out = values_stay_in_type (Constant value) [] out false [] (pos 0) tt
+
+start-in : (kind : Kind) (ts : List FixType) (out : FixType) (delays : Bool) (around_it : Control) → InType out (start_by (op_of kind ts out delays) kind around_it out)
+start-in (Inport port) ts out delays around_it = zero-in out
+start-in (Outport port reset initial) ts out delays Plain = zero-in out
+start-in (Outport port reset initial) ts out delays (Enabled resets) = quantized initial out
+start-in (Outport port reset initial) ts out delays (Triggered edge) = quantized initial out
+start-in (SubSystem control) ts out delays around_it = zero-in out
+start-in (Constant value) ts out delays around_it = zero-in out
+start-in Ground ts out delays around_it = zero-in out
+start-in Terminator ts out delays around_it = zero-in out
+start-in (Gain gain how) ts out delays around_it = zero-in out
+start-in (Sum count minus how) ts out delays around_it = zero-in out
+start-in (Product count how) ts out delays around_it = zero-in out
+start-in (UnitDelay initial) ts out delays around_it = quantized initial out
+start-in ZeroOrderHold ts out delays around_it = zero-in out
+start-in (Switch criterion threshold how) ts out delays around_it = zero-in out
+start-in (Relational compare) ts out delays around_it = zero-in out
+start-in (Logic op count) ts out delays around_it = zero-in out
+start-in (Convert how) ts out delays around_it = zero-in out
+start-in (RateTransition initial out_time) ts out true around_it = quantized initial out
+start-in (RateTransition initial out_time) ts out false around_it = zero-in out
+start-in EnablePort ts out delays around_it = zero-in out
+start-in TriggerPort ts out delays around_it = zero-in out
+
+-- one of two or more
+either : (P : ℤ → Type 0) (a : Bool) (y z : ℤ) → P y → P z → P (if a then y else z)
+either P true y z p q = p
+either P false y z p q = q
+
+module _ (r : ResolvedTree) (is : IsResolvedTree r) where
+  start-fits : (b : ℕ) → b < length r.tree.table.rows → FitsRow (diagram_of r) b (start_of (diagram_of r) b)
+  start-fits b inside =
+      let row = row_at r.tree.table.rows b in
+      let control = system_control r.tree.table.rows row.owner in
+      let ts = map (type_at r.types) row.inputs in
+      let delays = slice_index_or r.times.delays b false in record {
+        in_type = subst (λ op. InType (type_at r.types b) (start_by op row.kind control (type_at r.types b))) (sym (op-is r is b inside)) (start-in row.kind ts (type_at r.types b) delays control);
+        ground = λ e. ap (λ op. start_by op row.kind control (type_at r.types b)) (op-is r is b inside) ∙ ap (λ kind. start_by (op_of kind ts (type_at r.types b) delays) kind control (type_at r.types b)) e;
+      }
+
+  -- before the first tick
+  pub first-fit : IsFit (diagram_of r) (values_by (diagram_of r) None (start_of (diagram_of r))) (memories_by (diagram_of r) None (start_of (diagram_of r))) (triggers_by (diagram_of r) None (λ e. NotYet))
+  first-fit = record {
+    values = are-fit (diagram_of r) (start_of (diagram_of r)) start-fits;
+    memories = are-in (diagram_of r) (λ b. if has_memory (diagram_of r) None b then start_of (diagram_of r) b else pos 0)
+        (λ b inside. either (InType (type_at r.types b)) (has_memory (diagram_of r) None b) _ _ (start-fits b inside).in_type (zero-in (type_at r.types b)));
+    triggers = length-by_row r.tree.table.rows _;
+  }
+
+  module _ (t : ℕ) (x before m v : List ℤ) (g : List TrigMem) (has : HasInputs (diagram_of r) x) (fit : IsFit (diagram_of r) before m g) (now : AreFit (diagram_of r) v) where
+    value-fits : (b : ℕ) → b < length r.tree.table.rows → FitsRow (diagram_of r) b (row_value (diagram_of r) None t x before m g v b)
+    value-fits b inside =
+        let P = FitsRow (diagram_of r) b in
+        either P (not (has_value (row_at r.tree.table.rows b).kind)) _ _ (zero-fits (diagram_of r) b)
+        (either P (is_reset_outport (row_at r.tree.table.rows b).kind && is_disabled (diagram_of r) None x v g (around r.tree.table.rows None b)) _ _ (start-fits b inside)
+        (either P (runs (diagram_of r) None x v g t b) _ _ (computed-fits r is b inside x v has now (value_at m b) (fit.memories.each b)) (fit.values.each b)))
+
+    -- the values that are made from these
+    pub values-fit : AreFit (diagram_of r) (values_by (diagram_of r) None (row_value (diagram_of r) None t x before m g v))
+    values-fit = are-fit (diagram_of r) (row_value (diagram_of r) None t x before m g v) value-fits
+
+    memory-in : (b : ℕ) → b < length r.tree.table.rows → InType (type_at r.types b) (if has_memory (diagram_of r) None b then row_memory (diagram_of r) None t x m g v b else pos 0)
+    memory-in b inside = by (is_delay (op_at (diagram_of r) b)) refl
+      where
+        by : (delay : Bool) → is_delay (op_at (diagram_of r) b) ≡ delay → InType (type_at r.types b) (if delay then row_memory (diagram_of r) None t x m g v b else pos 0)
+        by true e =
+            let P = InType (type_at r.types b) in
+            either P (any_off (diagram_of r) None x v g (around r.tree.table.rows None b)) _ _ (start-fits b inside).in_type
+            (either P (runs (diagram_of r) None x v g t b) _ _ (taken-fits r is b inside x v has now e) (fit.memories.each b))
+        by false e = zero-in (type_at r.types b)
+
+    -- and the memories after the tick
+    pub memories-fit : AreInTypes (diagram_of r) (memories_by (diagram_of r) None (row_memory (diagram_of r) None t x m g v))
+    memories-fit = are-in (diagram_of r) (λ b. if has_memory (diagram_of r) None b then row_memory (diagram_of r) None t x m g v b else pos 0) memory-in

@@ -1,0 +1,9 @@
+pub mod Resolved
+pub mod RowLists
+pub mod RowInputs
+pub mod Systems
+pub mod Copied
+pub mod Evaluable
+pub mod Kept
+pub mod Rounds
+pub mod Runs

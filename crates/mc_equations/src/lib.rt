@@ -1,0 +1,12 @@
+// The values of a diagram's run, found by solving its equations tick by tick: plain and slow, for others to be compared with.
+#![tactic(auto)]
+
+mod activity;
+mod reading;
+mod row;
+mod run;
+mod tick;
+mod trace;
+
+pub use run::plain_run;
+pub use trace::is_trace_for;
