@@ -1,10 +1,10 @@
 -- One tick of the blocks of a diagram.
-use Rattle.std.specs.Prelude.{◌≡◌, ℕ, ◌+◌, ◌-◌, ◌<◌, true, false, List, length, ℤ}
+use Rattle.std.specs.Prelude.{◌≡◌, ℕ, ◌+◌, ◌-◌, ◌<◌, true, List, length, ℤ, pos}
 use Rattle.std.proofs.Common.{refl, sym, ◌∙◌, ap, subst, arith, true≢false, inl, inr}
 use Rattle.c_tree.specs.Values.{is_in_type}
 use Rattle.c_emitter.specs.declared.block.Block.{Block}
-use Rattle.c_emitter.specs.declared.block.Block.TheVariants.{Input, Output, Delay, Fixed}
-use Rattle.c_emitter.specs.Blocks.{TypedBlock, block_at, type_of, input_type, is_output, is_delay_block}
+use Rattle.c_emitter.specs.declared.block.Block.TheVariants.{Input, Output, Delay, Fixed, Sink}
+use Rattle.c_emitter.specs.Blocks.{TypedBlock, block_at, type_of, input_type, is_source_block, is_delay_block}
 use Rattle.c_emitter.proofs.NumberCells.{item}
 use Rattle.c_emitter.proofs.Containers.{zero-fits}
 use Rattle.c_emitter.proofs.BlockFacts.{FitsAt, IsWellMade, TakesFrom, AreBlocks}
@@ -16,6 +16,7 @@ TickAt (Input port) x v m n b = item v b ≡ item x (port - 1)
 TickAt (Output port source) x v m n b = item v b ≡ item v source
 TickAt (Delay source start) x v m n b = (item v b ≡ item m b) × (item n b ≡ item v source)
 TickAt (Fixed value) x v m n b = item v b ≡ value
+TickAt Sink x v m n b = item v b ≡ pos 0
 
 pub record IsBlockTick (blocks : List TypedBlock) (x v m n : List ℤ) : Type 0 where
   pub size : length v ≡ length blocks
@@ -42,9 +43,10 @@ module _ (blocks : List TypedBlock) (are : AreBlocks blocks) (x v m n : List ℤ
       let type : input_type blocks (1 + (port - 1)) ≡ type_of blocks b = ap (input_type blocks) number ∙ input-type-at blocks are b port h same in
       subst (FitsAt blocks b) (sym e) (subst (λ t. is_in_type t (item x (port - 1)) ≡ true) type (xs (port - 1)))
 
-  source-fits : (k : Block) (b : ℕ) → b < length blocks → block_at blocks b ≡ k → TickAt k x v m n b → is_output k ≡ false → FitsAt blocks b (item v b)
+  source-fits : (k : Block) (b : ℕ) → b < length blocks → block_at blocks b ≡ k → TickAt k x v m n b → is_source_block k ≡ true → FitsAt blocks b (item v b)
   source-fits (Input port) b h same e source = input-fits port b h same e
-  source-fits (Output port c) b h same e source = absurd (true≢false source)
+  source-fits (Output port c) b h same e source = absurd (true≢false (sym source))
+  source-fits Sink b h same e source = absurd (true≢false (sym source))
   source-fits (Fixed value) b h same e source = subst (FitsAt blocks b) (sym e) (are.fixed_fit b value h same)
   source-fits (Delay c start) b h same e source = subst (FitsAt blocks b) (sym e.0) (ms b h (ap is_delay_block same))
 
@@ -53,6 +55,7 @@ module _ (blocks : List TypedBlock) (are : AreBlocks blocks) (x v m n : List ℤ
   fits-at (Output port c) b h same made e =
       subst (FitsAt blocks b) (sym e) (fits-too b c made.2.0 (are.outputs_alike b port c h same) (source-fits (block_at blocks c) c made.2.0 refl (tick.each c made.2.0) made.2.1))
   fits-at (Fixed value) b h same made e = subst (FitsAt blocks b) (sym e) (are.fixed_fit b value h same)
+  fits-at Sink b h same made e = subst (FitsAt blocks b) (sym e) (zero-fits (type_of blocks b))
   fits-at (Delay c start) b h same made e = subst (FitsAt blocks b) (sym e.0) (ms b h (ap is_delay_block same))
 
   -- each value is of its row's type
@@ -63,6 +66,7 @@ module _ (blocks : List TypedBlock) (are : AreBlocks blocks) (x v m n : List ℤ
   later-memory (Input port) b h same made e delay = absurd (true≢false (sym delay))
   later-memory (Output port c) b h same made e delay = absurd (true≢false (sym delay))
   later-memory (Fixed value) b h same made e delay = absurd (true≢false (sym delay))
+  later-memory Sink b h same made e delay = absurd (true≢false (sym delay))
   later-memory (Delay c start) b h same made e delay = subst (FitsAt blocks b) (sym e.1) (fits-too b c made.0 (are.delays_alike b c start h same) (value-fits c made.0))
 
   -- and each memory after the tick

@@ -1,5 +1,5 @@
 -- The blocks of a diagram of one system are well made, and its outputs are theirs.
-use Rattle.std.specs.Prelude.{◌≡◌, ◌≢◌, ℕ, zero, suc, ◌+◌, ◌<◌, ◌≤◌, Bool, true, false, IsTrue, List, ◌∷◌, filter, count_by, length, None, ◌^◌, ℤ, pos, ◌*ℤ◌}
+use Rattle.std.specs.Prelude.{◌≡◌, ◌≢◌, ℕ, zero, suc, ◌+◌, ◌<◌, ◌≤◌, Bool, true, IsTrue, List, ◌∷◌, filter, count_by, length, None, ℤ}
 use Rattle.std.specs.List.{range_with_len}
 use Rattle.std.proofs.Common.{refl, sym, ◌∙◌, ap, ap₂, subst, arith, cond, inl, inr, true≢false}
 use Rattle.std.proofs.lemmas.List.{get_or_past}
@@ -7,6 +7,7 @@ use Rattle.std.proofs.lemmas.List.Sums.{length-filter}
 use Rattle.std.proofs.lemmas.Bool.{cases_lt}
 use Rattle.mc_fixed.specs.declared.FixType.{FixType}
 use Rattle.mc_fixed.specs.Conversion.{quantize}
+use Rattle.mc_blocks.specs.Meaning.{has_value}
 use Rattle.mc_blocks.specs.declared.Kind.{Kind}
 use Rattle.mc_blocks.specs.declared.Kind.TheVariants.{Inport, Outport}
 use Rattle.mc_blocks.specs.declared.Op.{Op}
@@ -19,13 +20,12 @@ use Rattle.c_tree.specs.declared.CType.TheVariants.{I64}
 use Rattle.c_tree.specs.Values.{is_in_type}
 use Rattle.c_emitter.specs.declared.block.Block.{Block}
 use Rattle.c_emitter.specs.declared.block.Block.TheVariants.{Input, Output, Delay, Fixed}
-use Rattle.c_emitter.specs.Names.{container}
 use Rattle.c_emitter.specs.Flat.{is_source, IsFlat}
-use Rattle.c_emitter.specs.Blocks.{TypedBlock, no_typed_block, block_at, type_of, blocks_of, is_input, is_output, is_delay_block, start_value, rows_below, input_count, output_count}
+use Rattle.c_emitter.specs.Blocks.{TypedBlock, no_typed_block, block_at, type_of, blocks_of, is_input, is_output, is_source_block, is_valued, is_delay_block, start_value, rows_below, input_count, output_count}
 use Rattle.c_emitter.proofs.Containers.{not-wide, zero-fits}
 use Rattle.c_emitter.proofs.BlockFacts.{FitsAt, IsSource, IsWellMade, TakesFrom, AreBlocks}
 use Rattle.c_emitter.proofs.Ports.{filter-all}
-use Rattle.c_emitter.proofs.FlatRows.{diagram, RowView, input_row, output_row as output_view, delay_row, fixed_row, view, root-row, type-is, takes-from, quantized-fits, blocks-length}
+use Rattle.c_emitter.proofs.FlatRows.{diagram, RowView, input_row, output_row as output_view, delay_row, fixed_row, sink_row, view, root-row, type-is, takes-from, quantized-fits, blocks-length}
 
 pub filter-agree : (p q : ℕ → Bool) (a n : ℕ) → ((b : ℕ) → a ≤ b → b < a + n → p b ≡ q b) → filter p (range_with_len a n) ≡ filter q (range_with_len a n)
 filter-agree p q a zero e = refl
@@ -45,24 +45,35 @@ module _ (rows : List Row) (types : List FixType) (ops : List Op) (flat : IsFlat
   input-is b (output_view port reset initial c kind wires below source op block) = ap is_inport kind ∙ sym (ap is_input block)
   input-is b (fixed_row value steady wires op fit block) = steady.no_inport ∙ sym (ap is_input block)
   input-is b (delay_row initial c kind wires below source op block) = ap is_inport kind ∙ sym (ap is_input block)
+  input-is b (sink_row c kind wires below source op block) = ap is_inport kind ∙ sym (ap is_input block)
 
   pub output-is : (b : ℕ) → RowView rows types ops b → is_outport (row_at rows b).kind ≡ is_output (block_at blocks b)
   output-is b (input_row port kind wires op block) = ap is_outport kind ∙ sym (ap is_output block)
   output-is b (output_view port reset initial c kind wires below source op block) = ap is_outport kind ∙ sym (ap is_output block)
   output-is b (fixed_row value steady wires op fit block) = steady.no_outport ∙ sym (ap is_output block)
   output-is b (delay_row initial c kind wires below source op block) = ap is_outport kind ∙ sym (ap is_output block)
+  output-is b (sink_row c kind wires below source op block) = ap is_outport kind ∙ sym (ap is_output block)
 
   pub delay-is : (b : ℕ) → RowView rows types ops b → is_delay (op_at (diagram rows types ops) b) ≡ is_delay_block (block_at blocks b)
   delay-is b (input_row port kind wires op block) = ap is_delay op ∙ sym (ap is_delay_block block)
   delay-is b (output_view port reset initial c kind wires below source op block) = ap is_delay op ∙ sym (ap is_delay_block block)
   delay-is b (fixed_row value steady wires op fit block) = ap is_delay op ∙ sym (ap is_delay_block block)
   delay-is b (delay_row initial c kind wires below source op block) = ap is_delay op ∙ sym (ap is_delay_block block)
+  delay-is b (sink_row c kind wires below source op block) = ap is_delay op ∙ sym (ap is_delay_block block)
 
-  pub source-is : (c : ℕ) → RowView rows types ops c → IsTrue (is_source (row_at rows c).kind) → is_output (block_at blocks c) ≡ false
-  source-is c (input_row port kind wires op block) source = ap is_output block
+  pub valued-is : (b : ℕ) → RowView rows types ops b → has_value (row_at rows b).kind ≡ is_valued (block_at blocks b)
+  valued-is b (input_row port kind wires op block) = ap has_value kind ∙ sym (ap is_valued block)
+  valued-is b (output_view port reset initial c kind wires below source op block) = ap has_value kind ∙ sym (ap is_valued block)
+  valued-is b (fixed_row value steady wires op fit block) = steady.valued ∙ sym (ap is_valued block)
+  valued-is b (delay_row initial c kind wires below source op block) = ap has_value kind ∙ sym (ap is_valued block)
+  valued-is b (sink_row c kind wires below source op block) = ap has_value kind ∙ sym (ap is_valued block)
+
+  pub source-is : (c : ℕ) → RowView rows types ops c → IsTrue (is_source (row_at rows c).kind) → is_source_block (block_at blocks c) ≡ true
+  source-is c (input_row port kind wires op block) source = ap is_source_block block
   source-is c (output_view port reset initial b kind wires below s op block) source = absurd (true≢false (sym source ∙ ap is_source kind))
-  source-is c (fixed_row value steady wires op fit block) source = ap is_output block
-  source-is c (delay_row initial b kind wires below s op block) source = ap is_output block
+  source-is c (fixed_row value steady wires op fit block) source = ap is_source_block block
+  source-is c (delay_row initial b kind wires below s op block) source = ap is_source_block block
+  source-is c (sink_row b kind wires below s op block) source = absurd (true≢false (sym source ∙ ap is_source kind))
 
   pub start-is : (b : ℕ) → b < length rows → RowView rows types ops b → start_of (diagram rows types ops) b ≡ start_value (block_at blocks b)
   start-is b h (input_row port kind wires op block) = ap₂ (λ o k. start_by o k (system_control rows (row_at rows b).owner) (type_at (diagram rows types ops).types b)) op kind ∙ sym (ap start_value block)
@@ -72,6 +83,7 @@ module _ (rows : List Row) (types : List FixType) (ops : List Op) (flat : IsFlat
       ∙ sym (ap start_value block)
   start-is b h (fixed_row value steady wires op fit block) = ap (λ o. start_by o (row_at rows b).kind (system_control rows (row_at rows b).owner) (type_at types b)) op ∙ sym (ap start_value block)
   start-is b h (delay_row initial c kind wires below source op block) = ap (λ o. start_by o (row_at rows b).kind (system_control rows (row_at rows b).owner) (type_at (diagram rows types ops).types b)) op ∙ sym (ap start_value block)
+  start-is b h (sink_row c kind wires below source op block) = ap₂ (λ o k. start_by o k (system_control rows (row_at rows b).owner) (type_at (diagram rows types ops).types b)) op kind ∙ sym (ap start_value block)
 
   -- ---- Counts
 
@@ -108,6 +120,7 @@ module _ (rows : List Row) (types : List FixType) (ops : List Op) (flat : IsFlat
   start-of-type b h (input_row port kind wires op block) = subst (λ k. FitsAt blocks b (start_value k)) (sym block) (zero-fits (type_of blocks b))
   start-of-type b h (output_view port reset initial c kind wires below source op block) = subst (λ k. FitsAt blocks b (start_value k)) (sym block) (zero-fits (type_of blocks b))
   start-of-type b h (fixed_row value steady wires op fit block) = subst (λ k. FitsAt blocks b (start_value k)) (sym block) (zero-fits (type_of blocks b))
+  start-of-type b h (sink_row c kind wires below source op block) = subst (λ k. FitsAt blocks b (start_value k)) (sym block) (zero-fits (type_of blocks b))
   start-of-type b h (delay_row initial c kind wires below source op block) =
       subst (λ k. FitsAt blocks b (start_value k)) (sym block)
       (subst (λ t. is_in_type t (quantize initial (type_at types b)) ≡ true) (sym (type-is rows types ops flat b h)) (quantized-fits initial (type_at types b)))
@@ -116,22 +129,25 @@ module _ (rows : List Row) (types : List FixType) (ops : List Op) (flat : IsFlat
   output-alike b port c h (input_row p kind wires op block) same = absurd (cc (sym block ∙ same))
   output-alike b port c h (output_view p reset initial s kind wires below source op block) same =
       let e : s ≡ c = cc (sym block ∙ same) in
-      subst (TakesFrom blocks b) e (takes-from rows types ops flat b s h below wires)
+      subst (TakesFrom blocks b) e (takes-from rows types ops flat b s h below (ap has_value kind) wires)
   output-alike b port c h (fixed_row value steady wires op fit block) same = absurd (cc (sym block ∙ same))
   output-alike b port c h (delay_row initial s kind wires below source op block) same = absurd (cc (sym block ∙ same))
+  output-alike b port c h (sink_row s kind wires below source op block) same = absurd (cc (sym block ∙ same))
 
   delay-alike : (b c : ℕ) (z : ℤ) → b < length rows → RowView rows types ops b → block_at blocks b ≡ Delay c z → TakesFrom blocks b c
   delay-alike b c z h (input_row p kind wires op block) same = absurd (cc (sym block ∙ same))
   delay-alike b c z h (output_view p reset initial s kind wires below source op block) same = absurd (cc (sym block ∙ same))
   delay-alike b c z h (fixed_row value steady wires op fit block) same = absurd (cc (sym block ∙ same))
+  delay-alike b c z h (sink_row s kind wires below source op block) same = absurd (cc (sym block ∙ same))
   delay-alike b c z h (delay_row initial s kind wires below source op block) same =
       let e : s ≡ c = cc (sym block ∙ same) in
-      subst (TakesFrom blocks b) e (takes-from rows types ops flat b s h below wires)
+      subst (TakesFrom blocks b) e (takes-from rows types ops flat b s h below (ap has_value kind) wires)
 
   fixed-fits : (b : ℕ) (z : ℤ) → b < length rows → RowView rows types ops b → block_at blocks b ≡ Fixed z → FitsAt blocks b z
   fixed-fits b z h (input_row p kind wires op block) same = absurd (cc (sym block ∙ same))
   fixed-fits b z h (output_view p reset initial s kind wires below source op block) same = absurd (cc (sym block ∙ same))
   fixed-fits b z h (delay_row initial s kind wires below source op block) same = absurd (cc (sym block ∙ same))
+  fixed-fits b z h (sink_row s kind wires below source op block) same = absurd (cc (sym block ∙ same))
   fixed-fits b z h (fixed_row value steady wires op fit block) same =
       let e : value ≡ z = cc (sym block ∙ same) in
       subst (FitsAt blocks b) e (subst (λ t. is_in_type t value ≡ true) (sym (type-is rows types ops flat b h)) fit)
@@ -154,6 +170,7 @@ module _ (rows : List Row) (types : List FixType) (ops : List Op) (flat : IsFlat
       let high : port ≤ output_count blocks = subst (λ n. port ≤ n) outputs-counted (subst (λ k. port_of k ≤ count_by (λ b. is_outport (row_at rows b).kind) (rows_of rows None)) kind range.1) in
       subst (IsWellMade blocks) (sym block) (low, high, source-made c below source)
   row-made b h (fixed_row value steady wires op fit block) = subst (IsWellMade blocks) (sym block) tt
+  row-made b h (sink_row c kind wires below source op block) = subst (IsWellMade blocks) (sym block) tt
   row-made b h (delay_row initial c kind wires below source op block) =
       subst (IsWellMade blocks) (sym block) (source-made c below source)
 
@@ -162,12 +179,14 @@ module _ (rows : List Row) (types : List FixType) (ops : List Op) (flat : IsFlat
   input-kind b k (output_view port reset initial c kind wires below source op block) same = absurd (cc (sym block ∙ same))
   input-kind b k (fixed_row value steady wires op fit block) same = absurd (cc (sym block ∙ same))
   input-kind b k (delay_row initial c kind wires below source op block) same = absurd (cc (sym block ∙ same))
+  input-kind b k (sink_row c kind wires below source op block) same = absurd (cc (sym block ∙ same))
 
   pub output-kind : (b k c : ℕ) → RowView rows types ops b → block_at blocks b ≡ Output k c → (is_outport (row_at rows b).kind ≡ true) × (port_of (row_at rows b).kind ≡ k)
   output-kind b k c (input_row port kind wires op block) same = absurd (cc (sym block ∙ same))
   output-kind b k c (output_view port reset initial s kind wires below source op block) same = let e : port ≡ k = cc (sym block ∙ same) in (ap is_outport kind, ap port_of kind ∙ e)
   output-kind b k c (fixed_row value steady wires op fit block) same = absurd (cc (sym block ∙ same))
   output-kind b k c (delay_row initial s kind wires below source op block) same = absurd (cc (sym block ∙ same))
+  output-kind b k c (sink_row s kind wires below source op block) same = absurd (cc (sym block ∙ same))
 
   pub are-blocks : AreBlocks blocks
   are-blocks = record {

@@ -11,7 +11,7 @@ use Rattle.mc_fixed.specs.declared.FixType.{FixType}
 use Rattle.mc_blocks.specs.Meaning.{has_value}
 use Rattle.mc_blocks.specs.declared.Op.{Op}
 use Rattle.mc_diagram.specs.declared.Row.{Row}
-use Rattle.mc_diagram.specs.Rows.{row_at, row_numbers, is_subsystem}
+use Rattle.mc_diagram.specs.Rows.{row_at, is_subsystem}
 use Rattle.mc_diagram.specs.Diagram.{type_at, op_at}
 use Rattle.mc_diagram.specs.Run.{is_delay}
 use Rattle.mc_profile.specs.declared.Function.{Function}
@@ -24,26 +24,22 @@ use Rattle.c_tree.specs.declared.FieldKind.TheVariants.{Number, Struct}
 use Rattle.c_tree.specs.Tree.{FieldTree, ProcedureTree}
 use Rattle.c_tree.specs.Written.{number_kind, struct_kind}
 use Rattle.c_emitter.specs.Names.{container, value_name, memory_name, now_name, input_name, output_name, out_name, update_name, start_name, reset_name, root_name, root_start_name, root_step_name}
-use Rattle.c_emitter.specs.Headers.{NamedField, number_field, named_fields, is_counter, or_filler, AreFields, system_fields, value_fields, memory_fields, child_fields, root_fields, Header, header, procedures_of, public_headers, now_param, port_param, parameters, all_parameters, out_headers, system_headers, root_headers}
+use Rattle.c_emitter.specs.Headers.{NamedField, number_field, named_fields, is_counter, or_filler, AreFields, system_fields, value_fields, memory_fields, child_fields, root_fields, Header, header, public_headers, now_param, port_param, parameters, system_headers, root_headers}
 use Rattle.c_emitter.specs.Code.{HasStruct, HasHeaders}
 use Rattle.c_emitter.specs.Flat.{IsFlat}
-use Rattle.c_emitter.specs.Blocks.{TypedBlock, block_at, is_delay_block, input_count, delay_rows, output_rows, output_needs, function_needs, type_of, output_type}
+use Rattle.c_emitter.specs.Blocks.{TypedBlock, block_at, is_delay_block, is_valued, input_count, value_rows, delay_rows, output_rows, output_needs, function_needs, type_of, output_type}
 use Rattle.c_emitter.specs.FlatProgram.{counter_name, typed_field, top_fields, root_fields_of, param, input_param, input_params, out_procedures, flat_program}
-use Rattle.c_emitter.proofs.FlatRows.{diagram, RowView, input_row, output_row as output_view, delay_row, fixed_row, view, type-is, holds-at}
-use Rattle.c_emitter.proofs.FlatBlocks.{blocks, same-length, own-rows, delay-is, filter-agree}
+use Rattle.c_emitter.proofs.FlatRows.{diagram, RowView, input_row, output_row as output_view, delay_row, fixed_row, sink_row, view, type-is, holds-at}
+use Rattle.c_emitter.proofs.FlatBlocks.{blocks, same-length, own-rows, delay-is, valued-is, filter-agree}
+use Rattle.c_emitter.proofs.BlockFacts.{HasValue}
 use Rattle.c_emitter.proofs.FlatNeeds.{outputs-are}
 use Rattle.c_emitter.proofs.FlatOutputs.{outputs-are-rows}
 use Rattle.c_emitter.proofs.FlatTrueNeeds.{are-true-needs}
 use Rattle.c_emitter.proofs.InputRows.{ports-are, input-types-are}
 use Rattle.c_emitter.proofs.OutputFields.{map-map}
 use Rattle.c_emitter.proofs.Procedures.{out_list, later_procedures}
-use Rattle.c_emitter.proofs.Ports.{filter-all}
 
-map-agree-range : {A : Type 0} (f g : ℕ → A) (a n : ℕ) → ((b : ℕ) → a ≤ b → b < a + n → f b ≡ g b) → map f (range_with_len a n) ≡ map g (range_with_len a n)
-map-agree-range f g a zero e = refl
-map-agree-range f g a (suc n) e = ap₂ ◌∷◌ (e a (omega arith) (omega arith)) (map-agree-range f g (a + 1) n (λ b low high. e b (omega arith) (omega arith)))
-
--- the same of a filter of a range
+-- two functions that agree on a range do so on those of it that pass a test
 map-agree-filter : {A : Type 0} (f g : ℕ → A) (p : ℕ → Bool) (a n : ℕ) → ((b : ℕ) → a ≤ b → b < a + n → f b ≡ g b) → map f (filter p (range_with_len a n)) ≡ map g (filter p (range_with_len a n))
 map-agree-filter f g p a zero e = refl
 map-agree-filter f g p a (suc n) e = by (p a) (map-agree-filter f g p (a + 1) n (λ b low high. e b (omega arith) (omega arith)))
@@ -87,7 +83,7 @@ module _ (rows : List Row) (types : List FixType) (ops : List Op) (flat : IsFlat
   counter = record { name = counter_name; kind = number_kind U8 }
 
   abbrev values : List NamedField
-  values = map (λ b. number_field (value_name b) (type_of bs b)) (range_with_len 0 (length bs))
+  values = map (λ b. number_field (value_name b) (type_of bs b)) (value_rows bs)
 
   abbrev memories : List NamedField
   memories = map (λ b. number_field (memory_name b) (type_of bs b)) (delay_rows bs)
@@ -99,22 +95,17 @@ module _ (rows : List Row) (types : List FixType) (ops : List Op) (flat : IsFlat
   top-named : named_fields (flat_program bs) (top_fields bs) ≡ values ++ memories ++ counter ∷ []
   top-named =
       let f : FieldTree → NamedField = λ f. record { name = f.name; kind = Rattle.c_emitter.specs.Headers.named_kind (flat_program bs) f.kind } in
-      let v : List FieldTree = map (λ b. typed_field (value_name b) (type_of bs b)) (range_with_len 0 (length bs)) in
+      let v : List FieldTree = map (λ b. typed_field (value_name b) (type_of bs b)) (value_rows bs) in
       let m : List FieldTree = map (λ b. typed_field (memory_name b) (type_of bs b)) (delay_rows bs) in
       let last : List FieldTree = record { name = counter_name; kind = Number U8 } ∷ [] in
-      map-append f (v ++ m) last ∙ ap (λ l. l ++ counter ∷ []) (map-append f v m ∙ ap₂ ◌++◌ (named-numbers value_name (type_of bs) (range_with_len 0 (length bs))) (named-numbers memory_name (type_of bs) (delay_rows bs)))
-
-  has-value-at : (b : ℕ) → RowView rows types ops b → has_value (row_at rows b).kind ≡ true
-  has-value-at b (input_row port kind wires op block) = ap has_value kind
-  has-value-at b (output_view port reset initial c kind wires below source op block) = ap has_value kind
-  has-value-at b (fixed_row value steady wires op fit block) = steady.valued
-  has-value-at b (delay_row initial c kind wires below source op block) = ap has_value kind
+      map-append f (v ++ m) last ∙ ap (λ l. l ++ counter ∷ []) (map-append f v m ∙ ap₂ ◌++◌ (named-numbers value_name (type_of bs) (value_rows bs)) (named-numbers memory_name (type_of bs) (delay_rows bs)))
 
   no-subsystem : (b : ℕ) → RowView rows types ops b → is_subsystem (row_at rows b).kind ≡ false
   no-subsystem b (input_row port kind wires op block) = ap is_subsystem kind
   no-subsystem b (output_view port reset initial c kind wires below source op block) = ap is_subsystem kind
   no-subsystem b (fixed_row value steady wires op fit block) = steady.no_subsystem
   no-subsystem b (delay_row initial c kind wires below source op block) = ap is_subsystem kind
+  no-subsystem b (sink_row c kind wires below source op block) = ap is_subsystem kind
 
   typed-at : (b : ℕ) → b < length rows → container (type_at types b) ≡ type_of bs b
   typed-at b h = sym (type-is rows types ops flat b h)
@@ -122,9 +113,9 @@ module _ (rows : List Row) (types : List FixType) (ops : List Op) (flat : IsFlat
   values-asked : value_fields (diagram rows types ops) None ≡ values
   values-asked =
       ap (λ own. map (λ b. number_field (value_name b) (container (type_at types b))) (filter (λ b. has_value (row_at rows b).kind) own)) (own-rows rows types ops flat)
-      ∙ ap (map (λ b. number_field (value_name b) (container (type_at types b)))) (filter-agree (λ b. has_value (row_at rows b).kind) (λ b. true) 0 (length rows) (λ b low high. has-value-at b (view rows types ops flat b (omega arith))) ∙ filter-all (row_numbers rows))
-      ∙ map-agree-range _ (λ b. number_field (value_name b) (type_of bs b)) 0 (length rows) (λ b low high. ap (number_field (value_name b)) (typed-at b (omega arith)))
-      ∙ ap (λ n. map (λ b. number_field (value_name b) (type_of bs b)) (range_with_len 0 n)) (sym (same-length rows types ops flat))
+      ∙ ap (map (λ b. number_field (value_name b) (container (type_at types b)))) (filter-agree (λ b. has_value (row_at rows b).kind) (λ b. is_valued (block_at bs b)) 0 (length rows) (λ b low high. valued-is rows types ops flat b (view rows types ops flat b (omega arith))))
+      ∙ map-agree-filter _ (λ b. number_field (value_name b) (type_of bs b)) (λ b. is_valued (block_at bs b)) 0 (length rows) (λ b low high. ap (number_field (value_name b)) (typed-at b (omega arith)))
+      ∙ ap (λ n. map (λ b. number_field (value_name b) (type_of bs b)) (filter (λ b. is_valued (block_at bs b)) (range_with_len 0 n))) (sym (same-length rows types ops flat))
 
   memories-asked : memory_fields (diagram rows types ops) None ≡ memories
   memories-asked =
@@ -146,14 +137,14 @@ module _ (rows : List Row) (types : List FixType) (ops : List Op) (flat : IsFlat
   counters-found : filter is_counter (values ++ memories ++ counter ∷ []) ≡ counter ∷ []
   counters-found =
       filter-append is_counter (values ++ memories) (counter ∷ [])
-      ∙ ap (λ l. l ++ counter ∷ []) (filter-append is_counter values memories ∙ ap₂ ◌++◌ (no-counters (λ b. number_field (value_name b) (type_of bs b)) (range_with_len 0 (length bs)) (λ b. refl)) (no-counters (λ b. number_field (memory_name b) (type_of bs b)) (delay_rows bs) (λ b. refl)))
+      ∙ ap (λ l. l ++ counter ∷ []) (filter-append is_counter values memories ∙ ap₂ ◌++◌ (no-counters (λ b. number_field (value_name b) (type_of bs b)) (value_rows bs) (λ b. refl)) (no-counters (λ b. number_field (memory_name b) (type_of bs b)) (delay_rows bs) (λ b. refl)))
 
   others-found : filter (λ f. not (is_counter f)) (values ++ memories ++ counter ∷ []) ≡ values ++ memories
   others-found =
       filter-append (λ f. not (is_counter f)) (values ++ memories) (counter ∷ [])
       ∙ append-nil (filter (λ f. not (is_counter f)) (values ++ memories))
       ∙ filter-append (λ f. not (is_counter f)) values memories
-      ∙ ap₂ ◌++◌ (all-others (λ b. number_field (value_name b) (type_of bs b)) (range_with_len 0 (length bs)) (λ b. refl)) (all-others (λ b. number_field (memory_name b) (type_of bs b)) (delay_rows bs) (λ b. refl))
+      ∙ ap₂ ◌++◌ (all-others (λ b. number_field (value_name b) (type_of bs b)) (value_rows bs) (λ b. refl)) (all-others (λ b. number_field (memory_name b) (type_of bs b)) (delay_rows bs) (λ b. refl))
 
   are-fields : AreFields (system_fields (diagram rows types ops) None) (values ++ memories ++ counter ∷ [])
   are-fields = record {
@@ -176,7 +167,7 @@ module _ (rows : List Row) (types : List FixType) (ops : List Op) (flat : IsFlat
   output-typed : (i : ℕ) → i < length (output_rows bs) → container (type_at types (slice_index_or (output_rows bs) i 0)) ≡ output_type bs (1 + i)
   output-typed i h =
       let o : ℕ = slice_index_or (output_rows bs) i 0 in
-      let below : o < length bs = holds-at (λ o. o < length bs) (output_rows bs) i 0 (outputs-are-rows bs) h in
+      let below : o < length bs = (holds-at (HasValue bs) (output_rows bs) i 0 (outputs-are-rows bs) h).0 in
       let within : o < length rows = (let same = same-length rows types ops flat in omega (arith, same, below)) in
       let place : i ≡ 1 + i - 1 = omega arith in
       typed-at o within ∙ ap (λ j. type_of bs (slice_index_or (output_rows bs) j 0)) place

@@ -19,10 +19,10 @@ use Rattle.c_tree.specs.Reading.{exprs_depth, stmts_depth, stmts_exprs_depth, Pr
 use Rattle.c_tree.specs.Lawful.{AreDistinct, AreApart, Reach, IsNumberAt, IsStructAt, exprs_length, AreLawfulExprs, IsLawfulStmt, param_names, procedure_names, IsLawfulKind, AreStructs, IsLawfulProcedure, AreProcedures, chains_of, HasRoot, IsLawful}
 use Rattle.c_emitter.specs.Names.{value_name, memory_name, now_name, input_name, output_name, root_name}
 use Rattle.c_emitter.specs.Headers.{now_param}
-use Rattle.c_emitter.specs.Blocks.{TypedBlock, delay_rows, input_count, output_rows, function_needs, type_of, input_row, input_type, output_type}
+use Rattle.c_emitter.specs.Blocks.{TypedBlock, value_rows, value_place, delay_rows, input_count, output_rows, function_needs, type_of, input_row, input_type, output_type}
 use Rattle.c_emitter.specs.Bodies.{takes, taken_ports, top_place, call_top, function_calls, update_place, output_copies, next_now, step_body, root_start_body, out_body, update_body, start_body, reset_body}
 use Rattle.c_emitter.specs.FlatProgram.{counter_name, typed_field, input_param, input_params, top_fields, root_fields_of, flat_structs, out_procedure, out_procedures, update_procedure, start_procedure, reset_procedure, root_start_procedure, root_step_procedure, flat_procedures, flat_program}
-use Rattle.c_emitter.proofs.BlockFacts.{AreBlocks}
+use Rattle.c_emitter.proofs.BlockFacts.{HasValue, AreBlocks, value-within}
 use Rattle.c_emitter.proofs.Ports.{port_reads, all-ports}
 use Rattle.c_emitter.proofs.Costs.{length-filter-le}
 use Rattle.c_emitter.proofs.Procedures.{get-at, out_list, later_procedures, length-outs, procedure-at}
@@ -120,11 +120,11 @@ module _ (blocks : List TypedBlock) (earlier : List ProcedureTree) (params : ℕ
   calls-lawful j [] all enough = tt
   calls-lawful j (n ∷ ns) all enough = (call-lawful j (Some n) (out_procedure blocks (j + 1) n) all.0 refl (ap suc (length-map (taken_ports blocks (Some n)) (input_param blocks))) enough, calls-lawful (j + 1) ns all.1 enough)
 
-  copies-lawful : (k : ℕ) (outs : List ℕ) → AllByRecursion (λ o. o < length blocks) outs → k + length outs ≤ top_place blocks → AllLawful (root_reach blocks earlier params) (map (λ (e : ℕ × ℕ). assign 0 e.0 (read (Rattle.c_tree.specs.declared.Leaf.TheVariants.Child (top_place blocks) e.1))) (enumerate_from k outs))
+  copies-lawful : (k : ℕ) (outs : List ℕ) → AllByRecursion (HasValue blocks) outs → k + length outs ≤ top_place blocks → AllLawful (root_reach blocks earlier params) (map (λ (e : ℕ × ℕ). assign 0 e.0 (read (Child (top_place blocks) (value_place blocks e.1)))) (enumerate_from k outs))
   copies-lawful k [] all h = tt
   copies-lawful k (o ∷ outs) all h =
-      let below : o < length blocks = all.0 in
-      ((root-number k (omega arith), (0, root-top, field-number blocks o (omega arith))), copies-lawful (k + 1) outs all.1 (omega arith))
+      let below = value-within blocks o all.0.0 all.0.1 in
+      ((root-number k (omega arith), (0, root-top, field-number blocks (value_place blocks o) (omega (arith, below)))), copies-lawful (k + 1) outs all.1 (omega arith))
 
   pub step-lawful : AllByRecursion (λ (e : ℕ × ℕ). slice_get earlier e.0 ≡ Some (out_procedure blocks (e.0 + 1) e.1)) (enumerate_from 0 (function_needs blocks)) → slice_get earlier (update_place blocks) ≡ Some (update_procedure blocks) → input_count blocks ≤ params → OutputsAreRows blocks →
       AllLawful (root_reach blocks earlier params) (step_body blocks)
@@ -154,7 +154,7 @@ calls-shallow : (blocks : List TypedBlock) (j : ℕ) (ns : List ℕ) → AreShal
 calls-shallow blocks j [] = record { statements = omega arith; expressions = omega arith }
 calls-shallow blocks j (n ∷ ns) = call-shallow blocks j (Some n) _ (calls-shallow blocks (j + 1) ns)
 
-copies-shallow : (blocks : List TypedBlock) (k : ℕ) (outs : List ℕ) → AreShallow (map (λ (e : ℕ × ℕ). assign 0 e.0 (read (Child (top_place blocks) e.1))) (enumerate_from k outs)) 1
+copies-shallow : (blocks : List TypedBlock) (k : ℕ) (outs : List ℕ) → AreShallow (map (λ (e : ℕ × ℕ). assign 0 e.0 (read (Child (top_place blocks) (value_place blocks e.1)))) (enumerate_from k outs)) 1
 copies-shallow blocks k [] = record { statements = omega arith; expressions = omega arith }
 copies-shallow blocks k (o ∷ outs) =
     let rest = copies-shallow blocks (k + 1) outs in
@@ -335,8 +335,8 @@ module _ (blocks : List TypedBlock) (are : AreBlocks blocks) (below : OutputsAre
   top-kinds =
       let m : List FieldTree = map (λ b. typed_field (memory_name b) (type_of blocks b)) (delay_rows blocks) in
       let last : List FieldTree = record { name = counter_name; kind = Number U8 } ∷ [] in
-      subst (AllByRecursion (λ f. IsLawfulKind 0 f.kind)) (sym (append_assoc (map (λ b. typed_field (value_name b) (type_of blocks b)) (range_with_len 0 (length blocks))) m last))
-      (kinds-lawful 0 value_name (type_of blocks) (range_with_len 0 (length blocks)) (m ++ last) (kinds-lawful 0 memory_name (type_of blocks) (delay_rows blocks) last (tt, tt)))
+      subst (AllByRecursion (λ f. IsLawfulKind 0 f.kind)) (sym (append_assoc (map (λ b. typed_field (value_name b) (type_of blocks b)) (value_rows blocks)) m last))
+      (kinds-lawful 0 value_name (type_of blocks) (value_rows blocks) (m ++ last) (kinds-lawful 0 memory_name (type_of blocks) (delay_rows blocks) last (tt, tt)))
 
   -- each output is one of those without a gap
   abbrev names : List (List ℕ)

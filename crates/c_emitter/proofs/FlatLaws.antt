@@ -1,5 +1,5 @@
 -- The program for a diagram of one system stays within the bound, starts each field, and calls each function once.
-use Rattle.std.specs.Prelude.{◌≡◌, ℕ, zero, suc, ◌+◌, ◌*◌, ◌<◌, ◌≤◌, max, Bool, true, false, List, [], ◌∷◌, ◌++◌, map, filter, fold, length, count_by, Option, Some, None, ℤ, pos}
+use Rattle.std.specs.Prelude.{◌≡◌, ℕ, ◌+◌, ◌*◌, ◌<◌, ◌≤◌, max, true, List, [], ◌∷◌, ◌++◌, map, filter, fold, length, Some, None, ℤ, pos}
 use Rattle.std.specs.List.{range_with_len, AllByRecursion}
 use Rattle.std.proofs.Common.{sym, ◌∙◌, ap, ap₂, subst, arith}
 use Rattle.std.proofs.Math.Nat.{mul-le-mul_left}
@@ -22,7 +22,7 @@ use Rattle.c_emitter.specs.Flat.{IsFlat}
 use Rattle.c_emitter.specs.Places.{path_to, place_in, cells_at}
 use Rattle.c_emitter.specs.Calls.{IsWholeTick, HasTopCalls, StoresOnce, stores_at}
 use Rattle.c_emitter.specs.Code.{StaysInBound, AtStart, Starts, top_number}
-use Rattle.c_emitter.specs.Blocks.{TypedBlock, block_at, is_delay_block, memory_place, function_needs, output_rows}
+use Rattle.c_emitter.specs.Blocks.{TypedBlock, block_at, is_delay_block, is_valued, value_place, memory_place, function_needs, output_rows}
 use Rattle.c_emitter.specs.Bodies.{top_place, update_place}
 use Rattle.c_emitter.specs.FlatProgram.{flat_program}
 use Rattle.c_emitter.proofs.NumberCells.{number_cells, value_at-number_cells, fields_at-cells_with}
@@ -31,13 +31,13 @@ use Rattle.c_emitter.proofs.BlockFacts.{top_state, value-in_state, memory-in_sta
 use Rattle.c_emitter.proofs.Costs.{step_cost, step-cost-le, outputs-few, functions-few}
 use Rattle.c_emitter.proofs.CallRuns.{top_call}
 use Rattle.c_emitter.proofs.StepRun.{root_state, step_log, step_stores}
-use Rattle.c_emitter.proofs.StartRun.{start_values, start-value-at, length-start_values}
+use Rattle.c_emitter.proofs.StartRun.{start_values, start-value-at}
 use Rattle.c_emitter.proofs.RootStart.{zero_outputs, length-zero_outputs, root-start}
-use Rattle.c_emitter.proofs.Places.{path-is, value-place, memory-is-at}
+use Rattle.c_emitter.proofs.Places.{path-is, value-is-at, memory-is-at}
 use Rattle.c_emitter.proofs.FlatCalls.{stored-once, step-tally}
 use Rattle.c_emitter.proofs.OutPlaces.{functions-are-at, update-is-at, called-procedures}
 use Rattle.c_emitter.proofs.FlatRows.{diagram, view}
-use Rattle.c_emitter.proofs.FlatBlocks.{blocks, same-length, are-blocks, own-rows, delay-is, start-is}
+use Rattle.c_emitter.proofs.FlatBlocks.{blocks, same-length, are-blocks, own-rows, delay-is, valued-is, start-is}
 use Rattle.c_emitter.proofs.FlatNeeds.{outputs-are}
 use Rattle.c_emitter.proofs.FlatOutputs.{tick_of, run-of, rows-of}
 
@@ -97,12 +97,13 @@ module _ (rows : List Row) (types : List FixType) (ops : List Op) (flat : IsFlat
       ap (λ path. cells_at path begun) (path-is bs few-rows rows)
       ∙ fields_at-cells_with (pos 0 ∷ zero_outputs bs) (number_cells (top_state bs starts starts (pos 0))) (top_place bs) (let size = length-zero_outputs bs in omega (arith, size))
 
-  top-value : (b : ℕ) → b < length rows → top_number (flat_program bs) (diagram rows types ops) begun (value_name b) ≡ start_of (diagram rows types ops) b
-  top-value b h =
+  top-value : (b : ℕ) → b < length rows → has_value (row_at rows b).kind ≡ true → top_number (flat_program bs) (diagram rows types ops) begun (value_name b) ≡ start_of (diagram rows types ops) b
+  top-value b h has =
       let within : b < length bs = (let same = same-length rows types ops flat in omega (arith, same)) in
-      ap₂ value_at top-cells (value-place bs few-rows b within)
-      ∙ value_at-number_cells (top_state bs starts starts (pos 0)) b
-      ∙ value-in_state bs starts starts (pos 0) b (length-start_values bs) within ∙ start-value-at bs b within
+      let valued : is_valued (block_at bs b) ≡ true = sym (valued-is rows types ops flat b (view rows types ops flat b h)) ∙ has in
+      ap₂ value_at top-cells (value-is-at bs few-rows b within valued)
+      ∙ value_at-number_cells (top_state bs starts starts (pos 0)) (value_place bs b)
+      ∙ value-in_state bs starts starts (pos 0) b within valued ∙ start-value-at bs b within
       ∙ sym (start-is rows types ops flat b h (view rows types ops flat b h))
 
   top-memory : (b : ℕ) → b < length rows → is_delay (op_at (diagram rows types ops) b) ≡ true → top_number (flat_program bs) (diagram rows types ops) begun (memory_name b) ≡ start_of (diagram rows types ops) b
@@ -111,14 +112,14 @@ module _ (rows : List Row) (types : List FixType) (ops : List Op) (flat : IsFlat
       let is_delay_too : is_delay_block (block_at bs b) ≡ true = sym (delay-is rows types ops flat b (view rows types ops flat b h)) ∙ delay in
       ap₂ value_at top-cells (memory-is-at bs few-rows b within is_delay_too)
       ∙ value_at-number_cells (top_state bs starts starts (pos 0)) (memory_place bs b)
-      ∙ memory-in_state bs starts starts (pos 0) b (length-start_values bs) within is_delay_too ∙ start-value-at bs b within
+      ∙ memory-in_state bs starts starts (pos 0) b within is_delay_too ∙ start-value-at bs b within
       ∙ sym (start-is rows types ops flat b h (view rows types ops flat b h))
 
   at-start : AtStart (flat_program bs) (diagram rows types ops) begun
   at-start = record {
     values =
         subst (λ own. AllByRecursion (λ b. top_number (flat_program bs) (diagram rows types ops) begun (value_name b) ≡ start_of (diagram rows types ops) b) (filter (λ b. has_value (row_at rows b).kind) own)) (sym (own-rows rows types ops flat))
-        (all-chosen (λ b. has_value (row_at rows b).kind) _ 0 (length rows) (λ b low high passes. top-value b (omega arith)));
+        (all-chosen (λ b. has_value (row_at rows b).kind) _ 0 (length rows) (λ b low high passes. top-value b (omega arith) passes));
     memories =
         subst (λ own. AllByRecursion (λ b. top_number (flat_program bs) (diagram rows types ops) begun (memory_name b) ≡ start_of (diagram rows types ops) b) (filter (λ b. is_delay (op_at (diagram rows types ops) b)) own)) (sym (own-rows rows types ops flat))
         (all-chosen (λ b. is_delay (op_at (diagram rows types ops) b)) _ 0 (length rows) (λ b low high passes. top-memory b (omega arith) passes));
@@ -147,18 +148,19 @@ module _ (rows : List Row) (types : List FixType) (ops : List Op) (flat : IsFlat
   on-top-append [] ds p q = q
   on-top-append (c ∷ cs) ds p q = (p.0, on-top-append cs ds p.1 q)
 
-  once-at : (b : ℕ) → b < length rows → stores_at (path_to (flat_program bs) rows None) (place_in (flat_program bs) None (value_name b)) (step_stores bs) ≤ 1
-  once-at b h =
+  once-at : (b : ℕ) → b < length rows → has_value (row_at rows b).kind ≡ true → stores_at (path_to (flat_program bs) rows None) (place_in (flat_program bs) None (value_name b)) (step_stores bs) ≤ 1
+  once-at b h has =
       let within : b < length bs = (let same = same-length rows types ops flat in omega (arith, same)) in
-      let stores : stores_at (path_to (flat_program bs) rows None) (place_in (flat_program bs) None (value_name b)) (step_stores bs) ≡ stores_at (top_place bs ∷ []) b (step_stores bs) = ap₂ (λ path f. stores_at path f (step_stores bs)) (path-is bs few-rows rows) (value-place bs few-rows b within) in
-      let count = step-tally bs b in
-      let once = stored-once bs b within in
+      let valued : is_valued (block_at bs b) ≡ true = sym (valued-is rows types ops flat b (view rows types ops flat b h)) ∙ has in
+      let stores : stores_at (path_to (flat_program bs) rows None) (place_in (flat_program bs) None (value_name b)) (step_stores bs) ≡ stores_at (top_place bs ∷ []) (value_place bs b) (step_stores bs) = ap₂ (λ path f. stores_at path f (step_stores bs)) (path-is bs few-rows rows) (value-is-at bs few-rows b within valued) in
+      let count = step-tally bs (value_place bs b) in
+      let once = stored-once bs b within valued in
       omega (arith, stores, count, once)
 
   calls-once : StoresOnce (flat_program bs) rows None (step_stores bs)
   calls-once =
       subst (λ own. AllByRecursion (λ b. stores_at (path_to (flat_program bs) rows None) (place_in (flat_program bs) None (value_name b)) (step_stores bs) ≤ 1) (filter (λ b. has_value (row_at rows b).kind) own)) (sym (own-rows rows types ops flat))
-      (all-chosen (λ b. has_value (row_at rows b).kind) _ 0 (length rows) (λ b low high passes. once-at b (omega arith)))
+      (all-chosen (λ b. has_value (row_at rows b).kind) _ 0 (length rows) (λ b low high passes. once-at b (omega arith) passes))
 
   pub tick-calls : (v : List ℤ) → HasTopCalls (flat_program bs) (diagram rows types ops) (tick_of bs v)
   tick-calls v = record {

@@ -7,7 +7,7 @@ use Rattle.mc_fixed.specs.declared.FixType.{FixType}
 use Rattle.mc_blocks.specs.declared.Op.{Op}
 use Rattle.mc_blocks.specs.Value.{feeds_through}
 use Rattle.mc_diagram.specs.declared.Row.{Row}
-use Rattle.mc_diagram.specs.Rows.{row_at, no_row, is_outport, port_of, outports_of}
+use Rattle.mc_diagram.specs.Rows.{row_at, no_row, port_of, outports_of}
 use Rattle.mc_diagram.specs.Diagram.{op_at}
 use Rattle.mc_diagram.specs.Needs.{needs_of, inputs_used, control_wires, Walk, HasNoLoop}
 use Rattle.mc_diagram.proofs.Inside.{Contains-nil}
@@ -16,7 +16,7 @@ use Rattle.mc_diagram.proofs.Tick.{row_at-past}
 use Rattle.c_emitter.specs.declared.block.Block.{Block}
 use Rattle.c_emitter.specs.Flat.{is_source, IsFlat}
 use Rattle.c_emitter.specs.Blocks.{TypedBlock, typed_row, block_at, is_output, is_output_of, output_row, output_rows, rows_below}
-use Rattle.c_emitter.proofs.FlatRows.{diagram, RowView, input_row, output_row as output_view, delay_row, fixed_row, view, root-row, block-is}
+use Rattle.c_emitter.proofs.FlatRows.{diagram, RowView, input_row, output_row as output_view, delay_row, fixed_row, sink_row, view, root-row, block-is}
 use Rattle.c_emitter.proofs.FlatBlocks.{blocks, same-length, output-rows-unordered}
 use Rattle.c_emitter.proofs.FlatTicks.{around-none, find-filter, position-find, find-agree}
 
@@ -29,6 +29,7 @@ module _ (rows : List Row) (types : List FixType) (ops : List Op) (flat : IsFlat
   same-test k b h (input_row port kind wires op block) = ap (λ x. is_output x && (port_of (row_at rows b).kind == k)) block ∙ sym (ap (is_output_of k) (sym (block-is rows types ops flat b h) ∙ block))
   same-test k b h (output_view port reset initial c kind wires below source op block) = ap₂ (λ x q. is_output x && (port_of q == k)) block kind ∙ sym (ap (is_output_of k) (sym (block-is rows types ops flat b h) ∙ block))
   same-test k b h (fixed_row value steady wires op fit block) = ap (λ x. is_output x && (port_of (row_at rows b).kind == k)) block ∙ sym (ap (is_output_of k) (sym (block-is rows types ops flat b h) ∙ block))
+  same-test k b h (sink_row c kind wires below source op block) = ap (λ x. is_output x && (port_of (row_at rows b).kind == k)) block ∙ sym (ap (is_output_of k) (sym (block-is rows types ops flat b h) ∙ block))
   same-test k b h (delay_row initial c kind wires below source op block) = ap (λ x. is_output x && (port_of (row_at rows b).kind == k)) block ∙ sym (ap (is_output_of k) (sym (block-is rows types ops flat b h) ∙ block))
 
   same-row : (k : ℕ) → find (λ b. port_of (row_at rows b).kind == k) (rows_below (blocks rows types ops flat) is_output (length (blocks rows types ops flat))) ≡ output_row (blocks rows types ops flat) k
@@ -52,6 +53,7 @@ module _ (rows : List Row) (types : List FixType) (ops : List Op) (flat : IsFlat
   source-needs : (b : ℕ) → b < length rows → RowView rows types ops b → IsTrue (is_source (row_at rows b).kind) → needs_of (diagram rows types ops) b ≡ []
   source-needs b h (input_row port kind wires op block) source = needs-by b (root-row rows types ops flat b h) ∙ ap₂ (λ o ws. (if feeds_through o then ws else []) ++ []) op wires
   source-needs b h (output_view port reset initial c kind wires below s op block) source = absurd (true≢false (sym source ∙ ap is_source kind))
+  source-needs b h (sink_row c kind wires below s op block) source = absurd (true≢false (sym source ∙ ap is_source kind))
   source-needs b h (fixed_row value steady wires op fit block) source = needs-by b (root-row rows types ops flat b h) ∙ ap₂ (λ o ws. (if feeds_through o then ws else []) ++ []) op wires
   source-needs b h (delay_row initial c kind wires below s op block) source = needs-by b (root-row rows types ops flat b h) ∙ ap (λ o. (if feeds_through o then (row_at rows b).inputs else []) ++ []) op
 
@@ -67,12 +69,14 @@ module _ (rows : List Row) (types : List FixType) (ops : List Op) (flat : IsFlat
   -- a row needs nothing, or one row that is a source
   pub data NeedsFew (b : ℕ) : Type 0 where
     none : needs_of (diagram rows types ops) b ≡ [] → NeedsFew b
-    one : (c : ℕ) → needs_of (diagram rows types ops) b ≡ c ∷ [] → needs_of (diagram rows types ops) c ≡ [] → IsTrue (is_outport (row_at rows b).kind) → IsTrue (is_source (row_at rows c).kind) → NeedsFew b
+    one : (c : ℕ) → needs_of (diagram rows types ops) b ≡ c ∷ [] → needs_of (diagram rows types ops) c ≡ [] → NeedsFew b
 
   row-needs : (b : ℕ) → b < length rows → RowView rows types ops b → NeedsFew b
   row-needs b h (input_row port kind wires op block) = none (source-needs b h (input_row port kind wires op block) (ap is_source kind))
   row-needs b h (output_view port reset initial c kind wires below source op block) =
-      one c (needs-by b (root-row rows types ops flat b h) ∙ ap₂ (λ o ws. (if feeds_through o then ws else []) ++ []) op wires) (source-needs c below (view rows types ops flat c below) source) (ap is_outport kind) source
+      one c (needs-by b (root-row rows types ops flat b h) ∙ ap₂ (λ o ws. (if feeds_through o then ws else []) ++ []) op wires) (source-needs c below (view rows types ops flat c below) source)
+  row-needs b h (sink_row c kind wires below source op block) =
+      one c (needs-by b (root-row rows types ops flat b h) ∙ ap₂ (λ o ws. (if feeds_through o then ws else []) ++ []) op wires) (source-needs c below (view rows types ops flat c below) source)
   row-needs b h (fixed_row value steady wires op fit block) = none (needs-by b (root-row rows types ops flat b h) ∙ ap₂ (λ o ws. (if feeds_through o then ws else []) ++ []) op wires)
   row-needs b h (delay_row initial c kind wires below source op block) = none (source-needs b h (delay_row initial c kind wires below source op block) (ap is_source kind))
 
@@ -83,11 +87,11 @@ module _ (rows : List Row) (types : List FixType) (ops : List Op) (flat : IsFlat
   needs-nothing b z [] e w = Contains-nil z (subst (λ l. Contains l z) e w)
   needs-nothing b z (p ∷ path) e w = Contains-nil p (subst (λ l. Contains l p) e w.0)
 
-  needs-self : (b c : ℕ) (path : List ℕ) → needs_of (diagram rows types ops) b ≡ c ∷ [] → needs_of (diagram rows types ops) c ≡ [] → IsTrue (is_outport (row_at rows b).kind) → IsTrue (is_source (row_at rows c).kind) → Walk (needs_of (diagram rows types ops)) b path b → ⊥
-  needs-self b c [] e f outport source w =
+  needs-self : (b c : ℕ) (path : List ℕ) → needs_of (diagram rows types ops) b ≡ c ∷ [] → needs_of (diagram rows types ops) c ≡ [] → Walk (needs_of (diagram rows types ops)) b path b → ⊥
+  needs-self b c [] e f w =
       let same : c ≡ b = of_one c b (subst (λ l. Contains l b) e w) in
       needs-nothing b b [] (subst (λ i. needs_of (diagram rows types ops) i ≡ []) same f) w
-  needs-self b c (p ∷ path) e f outport source w =
+  needs-self b c (p ∷ path) e f w =
       let same : c ≡ p = of_one c p (subst (λ l. Contains l p) e w.0) in
       needs-nothing p b path (subst (λ i. needs_of (diagram rows types ops) i ≡ []) same f) w.1
 
@@ -95,5 +99,5 @@ module _ (rows : List Row) (types : List FixType) (ops : List Op) (flat : IsFlat
   no-loop [] w = w
   no-loop (a ∷ path) w = elim (needs-few a) [
     | none e ↦ needs-nothing a a path e w
-    | one c e f outport source ↦ needs-self a c path e f outport source w
+    | one c e f ↦ needs-self a c path e f w
   ]

@@ -1,6 +1,6 @@
 -- The program for a diagram of one system gives the outputs of its run.
-use Rattle.std.specs.Prelude.{◌≡◌, ℕ, zero, suc, ◌+◌, ◌<◌, ◌≤◌, Bool, true, false, List, [], ◌∷◌, map, filter_map, length, Option, Some, None, unwrap_or, ℤ, pos}
-use Rattle.std.specs.List.{cons_option, range_with_len, position_from, AllByRecursion, AllZip}
+use Rattle.std.specs.Prelude.{◌≡◌, ℕ, zero, suc, ◌+◌, ◌<◌, ◌≤◌, Bool, true, false, List, [], ◌∷◌, map, length, slice_index_or, Some, None, unwrap_or, ℤ, pos}
+use Rattle.std.specs.List.{range_with_len, position_from, AllByRecursion, AllZip}
 use Rattle.std.proofs.Common.{refl, sym, ◌∙◌, ap, ap₂, subst, arith, cond}
 use Rattle.std.proofs.lemmas.List.{length-map}
 use Rattle.mc_base.specs.declared.Port.TheVariants.{Number}
@@ -15,7 +15,7 @@ use Rattle.mc_diagram.proofs.OneRun.{one_run}
 use Rattle.mc_diagram.specs.Run.{IsRun, RunFrom, outs, start_of, values_by}
 use Rattle.c_tree.specs.Values.{is_in_type}
 use Rattle.c_tree.specs.Cells.{Cells, value_at}
-use Rattle.c_tree.specs.Machine.{After, Outcome, done, behind, program_routines, routine_at, Routine, Scope, run_stmts}
+use Rattle.c_tree.specs.Machine.{program_routines, routine_at, Routine, Scope, run_stmts}
 use Rattle.c_tree.specs.Tree.{field_types}
 use Rattle.c_tree.specs.Tree.{stmts_of_list}
 use Rattle.c_tree.specs.Rows.{TickRow, Rows, tick_row, rows_after, rows_from, rows_of_start, with_tick, c_rows, step_run}
@@ -24,15 +24,16 @@ use Rattle.c_emitter.specs.Names.{container}
 use Rattle.c_emitter.specs.Systems.{IsTrace, input_type_of}
 use Rattle.c_emitter.specs.Code.{GivesOutputs}
 use Rattle.c_emitter.specs.Flat.{IsFlat}
-use Rattle.c_emitter.specs.Blocks.{TypedBlock, input_type, input_count, output_row, output_rows, is_output_of, output_count, function_needs}
+use Rattle.c_emitter.specs.Blocks.{TypedBlock, input_type, input_count, output_row, output_rows, is_output_of, output_count, function_needs, no_typed_block, block_at, is_valued}
 use Rattle.c_emitter.specs.Bodies.{update_place, step_body}
 use Rattle.c_emitter.specs.FlatProgram.{root_fields_of, root_step_procedure, update_procedure, flat_program}
 use Rattle.c_emitter.proofs.NumberCells.{number_cells, item}
 use Rattle.c_emitter.proofs.Straight.{finish}
 use Rattle.c_emitter.proofs.Containers.{container-has, zero-fits}
-use Rattle.c_emitter.proofs.BlockFacts.{FitsAt, AreBlocks, top_state}
+use Rattle.c_emitter.proofs.BlockFacts.{HasValue, FitsAt, AreBlocks, top_state}
 use Rattle.c_emitter.proofs.BlockTicks.{AreInputs, MemoriesFit, IsBlockTick, memories-still-fit}
 pub use Rattle.c_emitter.proofs.Members.{all-found}
+use Rattle.c_emitter.proofs.Members.{is-output-of}
 use Rattle.c_emitter.proofs.Costs.{step_cost, outputs-few, functions-few}
 use Rattle.c_emitter.proofs.StepRun.{root_state, step_log, step_stores, run-step}
 use Rattle.c_emitter.proofs.Procedures.{root_step-place, later-routine, found-before, earlier_than, all-out-routines}
@@ -42,7 +43,7 @@ use Rattle.c_emitter.proofs.FlatBlocks.{blocks, are-blocks}
 use Rattle.c_emitter.proofs.InputRows.{ports-are, input-types-are}
 use Rattle.c_emitter.proofs.FlatTicks.{block-tick, values-start, memories-start}
 use Rattle.c_emitter.proofs.FlatNeeds.{outputs-are, no-loop}
-use Rattle.c_emitter.proofs.StartRun.{start_values, start-value-at, length-start_values}
+use Rattle.c_emitter.proofs.StartRun.{start_values, start-value-at}
 use Rattle.c_emitter.proofs.RootStart.{zero_outputs, length-zero_outputs, root-start}
 
 -- the row of a tick with these values
@@ -51,7 +52,7 @@ tick_of blocks v = record { outputs = map (item v) (output_rows blocks); steps =
 
 -- each output is a row
 abbrev pub OutputsAreRows : List TypedBlock → Type 0
-OutputsAreRows blocks = AllByRecursion (λ o. o < length blocks) (output_rows blocks)
+OutputsAreRows blocks = AllByRecursion (HasValue blocks) (output_rows blocks)
 
 module _ (blocks : List TypedBlock) (are : AreBlocks blocks) (below : OutputsAreRows blocks) where
   few-outputs : length (output_rows blocks) ≤ 32
@@ -61,9 +62,9 @@ module _ (blocks : List TypedBlock) (are : AreBlocks blocks) (below : OutputsAre
   few-functions = let h = functions-few blocks in let few = few-outputs in omega (arith, h, few)
 
   -- a tick of the program
-  pub step-runs : (x before v m n outputs : List ℤ) → IsBlockTick blocks x v m n → AreInputs blocks x → MemoriesFit blocks m → length before ≡ length blocks → length outputs ≡ length (output_rows blocks) →
+  pub step-runs : (x before v m n outputs : List ℤ) → IsBlockTick blocks x v m n → AreInputs blocks x → MemoriesFit blocks m → length outputs ≡ length (output_rows blocks) →
       step_run (flat_program blocks) x (root_state blocks outputs before m) ≡ finish (root_state blocks (map (item v) (output_rows blocks)) v n) (step_cost blocks) (step_log blocks) (step_stores blocks)
-  step-runs x before v m n outputs tick xs ms size outs_size =
+  step-runs x before v m n outputs tick xs ms outs_size =
       let p = flat_program blocks in
       let cells : Cells = root_state blocks outputs before m in
       let found = found-before blocks 4 0 (update_procedure blocks) (omega arith) refl in
@@ -72,7 +73,7 @@ module _ (blocks : List TypedBlock) (are : AreBlocks blocks) (below : OutputsAre
       ap (λ o. (routine_at (program_routines p) (unwrap_or o 0)).run x cells 0) (root_step-place blocks)
       ∙ ap (λ (r : Routine). r.run x cells 0) (later-routine blocks 4 (root_step_procedure blocks) refl)
       ∙ behind-nothing (run_stmts scope (stmts_of_list (step_body blocks)) cells 0)
-      ∙ run-step blocks are x before v m n tick xs ms scope refl refl outputs size outs_size below few-functions (all-out-routines blocks (update_place blocks + 4) (omega arith)) found.0
+      ∙ run-step blocks are x before v m n tick xs ms scope refl refl outputs outs_size below few-functions (all-out-routines blocks (update_place blocks + 4) (omega arith)) found.0
       (subst (λ k. routine_at (earlier_than blocks 4) k ≡ Rattle.c_tree.specs.Machine.routine_of (Rattle.c_emitter.specs.FlatProgram.flat_structs blocks) [] found.0 k (update_procedure blocks)) same found.1)
 
   -- its row
@@ -107,26 +108,26 @@ module _ (rows : List Row) (types : List FixType) (ops : List Op) (flat : IsFlat
   abbrev bs : List TypedBlock
   bs = blocks rows types ops flat
 
-  one-tick : (x before m outputs v n : List ℤ) (rest : Cells → Rows) → IsBlockTick bs x v m n → AreInputs bs x → MemoriesFit bs m → length before ≡ length bs → length outputs ≡ length (output_rows bs) →
+  one-tick : (x before m outputs v n : List ℤ) (rest : Cells → Rows) → IsBlockTick bs x v m n → AreInputs bs x → MemoriesFit bs m → length outputs ≡ length (output_rows bs) →
       rows_after (flat_program bs) (step_run (flat_program bs) x (root_state bs outputs before m)) rest ≡ with_tick (tick_of bs v) (rest (root_state bs (map (item v) (output_rows bs)) v n))
-  one-tick x before m outputs v n rest tick xs ms size outs_size =
+  one-tick x before m outputs v n rest tick xs ms outs_size =
       let are = are-blocks rows types ops flat in
       let after : List ℤ = map (item v) (output_rows bs) in
-      ap (λ o. rows_after (flat_program bs) o rest) (step-runs bs are below x before v m n outputs tick xs ms size outs_size)
+      ap (λ o. rows_after (flat_program bs) o rest) (step-runs bs are below x before v m n outputs tick xs ms outs_size)
       ∙ ap (λ r. with_tick r (rest (root_state bs after v n))) (tick-row bs are below v n after (length-map (output_rows bs) (item v)))
 
   pub runs-from : (t : ℕ) (before m : List ℤ) (g : List TrigMem) (xs vs ms : List (List ℤ)) (gs : List (List TrigMem)) (outputs : List ℤ) → RunFrom (diagram rows types ops) None t before m g xs vs ms gs → IsTrace (diagram rows types ops) None xs →
-      length before ≡ length bs → length outputs ≡ length (output_rows bs) → MemoriesFit bs m → TicksAre bs (rows_from (flat_program bs) xs (root_state bs outputs before m)) vs
-  runs-from t before m g [] [] [] [] outputs run trace size outs_size memories_fit = record { ticks = refl; not_stuck = refl }
-  runs-from t before m g (x ∷ xs) (v ∷ vs) (n ∷ ms) (g' ∷ gs) outputs run trace size outs_size memories_fit =
+      length outputs ≡ length (output_rows bs) → MemoriesFit bs m → TicksAre bs (rows_from (flat_program bs) xs (root_state bs outputs before m)) vs
+  runs-from t before m g [] [] [] [] outputs run trace outs_size memories_fit = record { ticks = refl; not_stuck = refl }
+  runs-from t before m g (x ∷ xs) (v ∷ vs) (n ∷ ms) (g' ∷ gs) outputs run trace outs_size memories_fit =
       let are = are-blocks rows types ops flat in
       let tick = block-tick rows types ops flat t x before m g v n g' run.0 in
       let x_fits : AreInputs bs x = trace-fits (diagram rows types ops) bs 1 (input_count bs) x (subst (λ ps. AllZip (λ p v. InType (input_type_of (diagram rows types ops) None p) v) ps x) (ports-are rows types ops flat) trace.0) (input-types-are rows types ops flat) in
       let after : List ℤ = map (item v) (output_rows bs) in
-      let later = runs-from (suc t) v n g' xs vs ms gs after run.1 trace.1 tick.size (length-map (output_rows bs) (item v)) (memories-still-fit bs are x v m n tick x_fits memories_fit) in
-      let now = one-tick x before m outputs v n (rows_from (flat_program bs) xs) tick x_fits memories_fit size outs_size in
+      let later = runs-from (suc t) v n g' xs vs ms gs after run.1 trace.1 (length-map (output_rows bs) (item v)) (memories-still-fit bs are x v m n tick x_fits memories_fit) in
+      let now = one-tick x before m outputs v n (rows_from (flat_program bs) xs) tick x_fits memories_fit outs_size in
       record { ticks = ap (λ (r : Rows). r.ticks) now ∙ ap (λ l. tick_of bs v ∷ l) later.ticks; not_stuck = ap (λ (r : Rows). r.stuck_place) now ∙ later.not_stuck }
-  runs-from t before m g _ _ _ _ outputs run trace size outs_size memories_fit = absurd run
+  runs-from t before m g _ _ _ _ outputs run trace outs_size memories_fit = absurd run
 
 -- ---- The outputs' rows
 
@@ -138,8 +139,22 @@ position-within t (x ∷ xs) i j e = by (t x) e (λ k. position-within t xs (i +
     by true e later = let same : i ≡ j = cc e in omega arith
     by false e later = let h = later e in omega (arith, h)
 
+-- where a search stops, its test passes
+pub position-passes : {A : Type 0} (t : A → Bool) (xs : List A) (d : A) (i j : ℕ) → position_from t i xs ≡ Some j → (m : ℕ) × (i + m ≡ j) × (m < length xs) × (t (slice_index_or xs m d) ≡ true)
+position-passes t [] d i j e = absurd (cc e)
+position-passes t (x ∷ xs) d i j e = by (t x) refl e (λ q. position-passes t xs d (i + 1) j q)
+  where
+    by : (b : Bool) → t x ≡ b → cond b (Some i) (position_from t (i + 1) xs) ≡ Some j → (position_from t (i + 1) xs ≡ Some j → (m : ℕ) × (i + 1 + m ≡ j) × (m < length xs) × (t (slice_index_or xs m d) ≡ true)) →
+        (m : ℕ) × (i + m ≡ j) × (m < suc (length xs)) × (t (slice_index_or (x ∷ xs) m d) ≡ true)
+    by true q e later = let same : i ≡ j = cc e in (0, omega arith, omega arith, q)
+    by false q e later = let (m, place, below, passes) = later e in (suc m, omega (arith, place), omega (arith, below), passes)
+
 pub outputs-are-rows : (blocks : List TypedBlock) → OutputsAreRows blocks
-outputs-are-rows blocks = all-found (output_row blocks) (λ o. o < length blocks) (range_with_len 1 (output_count blocks)) (λ k o e. let h = position-within (λ (t : TypedBlock). is_output_of k t.block) blocks 0 o e in omega (arith, h))
+outputs-are-rows blocks =
+    all-found (output_row blocks) (HasValue blocks) (range_with_len 1 (output_count blocks)) (λ k o e.
+    let (m, place, below, passes) = position-passes (λ (t : TypedBlock). is_output_of k t.block) blocks no_typed_block 0 o e in
+    let same : m ≡ o = omega (arith, place) in
+    subst (HasValue blocks) same (below, ap is_valued (is-output-of k k (block_at blocks m) passes).1))
 
 -- ---- From the start
 
@@ -158,7 +173,7 @@ module _ (rows : List Row) (types : List FixType) (ops : List Op) (flat : IsFlat
       let starts : List ℤ = start_values flat_blocks in
       let begin : c_rows (flat_program flat_blocks) xs ≡ rows_from (flat_program flat_blocks) xs (root_state flat_blocks (zero_outputs flat_blocks) starts starts) = ap (λ o. rows_of_start (flat_program flat_blocks) o xs) (root-start flat_blocks are) in
       let run' = subst (λ b. RunFrom (diagram rows types ops) None 0 b starts g xs vs ms gs) (values-start rows types ops flat) (subst (λ l. RunFrom (diagram rows types ops) None 0 (values_by (diagram rows types ops) None (start_of (diagram rows types ops))) l g xs vs ms gs) (run.0 ∙ memories-start rows types ops flat) run.2) in
-      let all = runs-from rows types ops flat (outputs-are-rows flat_blocks) 0 starts starts g xs vs ms gs (zero_outputs flat_blocks) run' trace (length-start_values flat_blocks) (length-zero_outputs flat_blocks) starts-fit in
+      let all = runs-from rows types ops flat (outputs-are-rows flat_blocks) 0 starts starts g xs vs ms gs (zero_outputs flat_blocks) run' trace (length-zero_outputs flat_blocks) starts-fit in
       record { ticks = ap (λ (r : Rows). r.ticks) begin ∙ all.ticks; not_stuck = ap (λ (r : Rows). r.stuck_place) begin ∙ all.not_stuck }
 
   outputs-of : (vs : List (List ℤ)) → map (λ (row : TickRow). row.outputs) (map (tick_of flat_blocks) vs) ≡ map (outs (diagram rows types ops) None) vs

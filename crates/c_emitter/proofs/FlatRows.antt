@@ -9,7 +9,7 @@ use Rattle.mc_fixed.specs.Rounding.{nearest}
 use Rattle.mc_fixed.specs.Conversion.{quantize}
 use Rattle.mc_fixed.proofs.ConversionLaws.{clamped_in}
 use Rattle.mc_blocks.specs.declared.Kind.{Kind}
-use Rattle.mc_blocks.specs.declared.Kind.TheVariants.{Inport, Outport, UnitDelay, Constant, Ground}
+use Rattle.mc_blocks.specs.declared.Kind.TheVariants.{Inport, Outport, UnitDelay, Constant, Ground, Terminator}
 use Rattle.mc_blocks.specs.declared.Op.{Op}
 use Rattle.mc_blocks.specs.declared.Op.TheVariants as op
 use Rattle.mc_blocks.specs.Meaning.{op_of, has_value}
@@ -19,7 +19,7 @@ use Rattle.mc_diagram.specs.Diagram.{Diagram, type_at, op_at, op_in}
 use Rattle.mc_diagram.specs.Run.{start_of, start_by}
 use Rattle.mc_diagram.proofs.ByRow.{by_row-at}
 use Rattle.mc_profile.specs.Systems.{first_wire}
-use Rattle.c_emitter.specs.declared.block.Block.TheVariants.{Input, Output, Delay, Fixed}
+use Rattle.c_emitter.specs.declared.block.Block.TheVariants.{Input, Output, Delay, Fixed, Sink}
 use Rattle.c_emitter.specs.FlatDiagrams.{flat_diagram}
 use Rattle.c_emitter.specs.Flat.{is_source, HasFlatKind, IsFlatRow, IsFlat}
 use Rattle.c_emitter.specs.Names.{container}
@@ -54,6 +54,7 @@ module _ (rows : List Row) (types : List FixType) (ops : List Op) where
     output_row : (port : ℕ) (reset : Bool) (initial : _) (c : ℕ) → (row_at rows b).kind ≡ Outport port reset initial → (row_at rows b).inputs ≡ c ∷ [] → c < length rows → IsTrue (is_source (row_at rows c).kind) → op_at diagram b ≡ op.Copy → block_at (blocks_of diagram) b ≡ Output port c → RowView b
     fixed_row : (value : ℤ) → IsSteady (row_at rows b).kind → (row_at rows b).inputs ≡ [] → op_at diagram b ≡ op.Value value → is_in_type (container (type_at types b)) value ≡ true → block_at (blocks_of diagram) b ≡ Fixed value → RowView b
     delay_row : (initial : _) (c : ℕ) → (row_at rows b).kind ≡ UnitDelay initial → (row_at rows b).inputs ≡ c ∷ [] → c < length rows → IsTrue (is_source (row_at rows c).kind) → op_at diagram b ≡ op.Delay (quantize initial (type_at types b)) → block_at (blocks_of diagram) b ≡ Delay c (quantize initial (type_at types b)) → RowView b
+    sink_row : (c : ℕ) → (row_at rows b).kind ≡ Terminator → (row_at rows b).inputs ≡ c ∷ [] → c < length rows → IsTrue (is_source (row_at rows c).kind) → op_at diagram b ≡ op.Nothing → block_at (blocks_of diagram) b ≡ Sink → RowView b
 
   module _ (flat : IsFlat diagram) where
     flat-row : (b : ℕ) → b < length rows → IsFlatRow rows (row_at rows b)
@@ -79,9 +80,9 @@ module _ (rows : List Row) (types : List FixType) (ops : List Op) where
         let value : op_at diagram c ≡ op.Value (pos 0) = op-is c h ∙ ap (λ k. op_of k (map (type_at types) (row_at rows c).inputs) (type_at types c) false) e in
         block-is c h ∙ ap₂ (λ k o. block_by k (row_at rows c).inputs (start_of diagram c) (value_of o)) e value
 
-    -- a row can take what the row that it reads gives
-    pub takes-from : (b c : ℕ) → b < length rows → c < length rows → (row_at rows b).inputs ≡ c ∷ [] → TakesFrom (blocks_of diagram) b c
-    takes-from b c h below wires = elim (flat.alike b c h below wires) as (λ w. TakesFrom (blocks_of diagram) b c) [
+    -- a row with a value can take what the row that it reads gives
+    pub takes-from : (b c : ℕ) → b < length rows → c < length rows → IsTrue (has_value (row_at rows b).kind) → (row_at rows b).inputs ≡ c ∷ [] → TakesFrom (blocks_of diagram) b c
+    takes-from b c h below has wires = elim (flat.alike b c h below has wires) as (λ w. TakesFrom (blocks_of diagram) b c) [
       | inl same ↦ inl (type-is c below ∙ ap container same ∙ sym (type-is b h))
       | inr ground ↦ inr (ground-is c below ground)
     ]
@@ -101,6 +102,9 @@ module _ (rows : List Row) (types : List FixType) (ops : List Op) where
             delay_row initial one.0 e one.1 one.2 one.3 delay
             (block-is b h ∙ ap (λ k. block_by k (row_at rows b).inputs (start_of diagram b) (value_of (op_at diagram b))) e
             ∙ ap₂ (λ ws z. Delay (first_wire ws) z) one.1 (ap (λ o. start_by o (row_at rows b).kind (system_control rows (row_at rows b).owner) (type_at types b)) delay))
+        by Terminator e one = sink_row one.0 e one.1 one.2 one.3
+            (op-is b h ∙ ap (λ k. op_of k (map (type_at types) (row_at rows b).inputs) (type_at types b) false) e)
+            (block-is b h ∙ ap (λ k. block_by k (row_at rows b).inputs (start_of diagram b) (value_of (op_at diagram b))) e)
         by (Constant number) e none =
             let value : op_at diagram b ≡ op.Value (quantize number (type_at types b)) = op-is b h ∙ ap (λ k. op_of k (map (type_at types) (row_at rows b).inputs) (type_at types b) false) e in
             fixed_row (quantize number (type_at types b)) (subst IsSteady (sym e) (record { no_inport = refl; no_outport = refl; no_subsystem = refl; valued = refl })) none value (quantized-fits number (type_at types b))

@@ -1,6 +1,6 @@
 -- Runs of a diagram of one system, by its blocks.
-use Rattle.std.specs.Prelude.{◌≡◌, ℕ, zero, suc, ◌+◌, ◌-◌, ◌%◌, ◌<◌, ◌≤◌, ◌⊎◌, Bool, true, false, not, ◌&&◌, ◌||◌, ◌==◌, if◌then◌else◌, IsTrue, List, [], ◌∷◌, ◌++◌, map, filter, filter_map, find, length, slice_index_or, Contains, Option, Some, None, ℤ, pos}
-use Rattle.std.specs.List.{range_with_len, position_from, AllByRecursion}
+use Rattle.std.specs.Prelude.{◌≡◌, ℕ, zero, suc, ◌+◌, ◌-◌, ◌%◌, ◌<◌, ◌≤◌, Bool, true, false, not, ◌&&◌, if◌then◌else◌, List, [], ◌∷◌, map, filter, find, length, slice_index_or, Some, None, ℤ, pos}
+use Rattle.std.specs.List.{range_with_len, position_from}
 use Rattle.std.proofs.Common.{refl, sym, ◌∙◌, ap, ap₂, subst, arith, cond, true≢false}
 use Rattle.std.proofs.Math.Bool.{and-false, and-true}
 use Rattle.std.proofs.lemmas.List.{length-map}
@@ -21,12 +21,12 @@ use Rattle.mc_diagram.specs.Diagram.{Diagram, op_at, time_at}
 use Rattle.mc_diagram.specs.Run.{value_at, is_delay, start_of, runs, input_values, is_reset_outport, is_disabled, row_value, any_off, active_in, values_by, memories_by, has_memory, IsTick}
 use Rattle.mc_diagram.proofs.Equations.{value-of_row, memory-of_row}
 use Rattle.c_emitter.specs.declared.block.Block.{Block}
-use Rattle.c_emitter.specs.declared.block.Block.TheVariants.{Input, Output, Delay, Fixed}
+use Rattle.c_emitter.specs.declared.block.Block.TheVariants.{Input, Output, Delay, Fixed, Sink}
 use Rattle.c_emitter.specs.Flat.{IsFlat}
 use Rattle.c_emitter.specs.Blocks.{TypedBlock, block_at, is_delay_block, start_value}
 use Rattle.c_emitter.proofs.BlockTicks.{TickAt, IsBlockTick}
 use Rattle.c_emitter.proofs.StartRun.{start_values}
-use Rattle.c_emitter.proofs.FlatRows.{diagram, RowView, input_row, output_row as output_view, delay_row, fixed_row, view, root-row}
+use Rattle.c_emitter.proofs.FlatRows.{diagram, RowView, input_row, output_row as output_view, delay_row, fixed_row, sink_row, view, root-row}
 use Rattle.c_emitter.proofs.FlatBlocks.{blocks, same-length, delay-is, start-is}
 
 -- no subsystem is around a row of the root
@@ -65,6 +65,12 @@ module _ (rows : List Row) (types : List FixType) (ops : List Op) (flat : IsFlat
       ∙ ap (λ r. if r then start_of d b else (if runs d None x v g t b then rhs (op_at d b) (input_values d None x v g b) (value_at m b) else value_at before b)) (and-false (is_reset_outport (row_at rows b).kind))
       ∙ ap (λ r. if r then rhs (op_at d b) (input_values d None x v g b) (value_at m b) else value_at before b) (runs-always b root)
 
+  -- a row without one gives 0
+  no-value-is-zero : (b : ℕ) → b < length rows → has_value (row_at rows b).kind ≡ false → value_at v b ≡ pos 0
+  no-value-is-zero b h none =
+      value-of_row d None t x before m g v n g' tick b h refl
+      ∙ ap (λ i. if not i then pos 0 else (if is_reset_outport (row_at rows b).kind && is_disabled d None x v g (around rows None b) then start_of d b else (if runs d None x v g t b then rhs (op_at d b) (input_values d None x v g b) (value_at m b) else value_at before b))) none
+
   is-own : (b : ℕ) (k : Kind) → (row_at rows b).owner ≡ None → (row_at rows b).kind ≡ k → is_inport_of rows None b ≡ is_inport k
   is-own b k root kind = ap₂ (λ k o. is_inport k && same_system o None) kind root ∙ and-true (is_inport k)
 
@@ -97,6 +103,7 @@ module _ (rows : List Row) (types : List FixType) (ops : List Op) (flat : IsFlat
   row-tick b h (fixed_row value steady wires o fit block) =
       subst (λ k. TickAt k x v m n b) (sym block)
       (value-is-rhs b h steady.valued ∙ ap (λ o. rhs o (input_values d None x v g b) (value_at m b)) o)
+  row-tick b h (sink_row c kind wires below source o block) = subst (λ k. TickAt k x v m n b) (sym block) (no-value-is-zero b h (ap has_value kind))
   row-tick b h (delay_row initial c kind wires below source o block) =
       subst (λ k. TickAt k x v m n b) (sym block) (
         value-is-rhs b h (ap has_value kind) ∙ ap₂ (λ o is. rhs o is (value_at m b)) o (wire-inputs b c (UnitDelay initial) (root-row rows types ops flat b h) kind refl wires),
@@ -125,6 +132,7 @@ module _ (rows : List Row) (types : List FixType) (ops : List Op) (flat : IsFlat
   no-delay-start (Input port) e = refl
   no-delay-start (Output port c) e = refl
   no-delay-start (Fixed z) e = refl
+  no-delay-start Sink e = refl
   no-delay-start (Delay c z) e = absurd (true≢false e)
 
   memory-start : (b : ℕ) → b < length rows → (if has_memory (diagram rows types ops) None b then start_of (diagram rows types ops) b else pos 0) ≡ start_value (block_at (blocks rows types ops flat) b)

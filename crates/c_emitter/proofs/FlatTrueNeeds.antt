@@ -1,7 +1,7 @@
 -- The needs of the outputs of a diagram of one system.
-use Rattle.std.specs.Prelude.{◌≡◌, ℕ, suc, ◌+◌, ◌-◌, ◌^◌, ◌<◌, ◌≤◌, Bool, true, false, not, ◌&&◌, ◌==◌, if◌then◌else◌, IsTrue, List, [], ◌∷◌, ◌++◌, map, filter, length, slice_index_or, bit_and, IsBitSet, Contains, Some, None}
-use Rattle.std.specs.List.{AllZip, AllByRecursion, position_from, range_with_len}
-use Rattle.std.proofs.Common.{refl, sym, ◌∙◌, ap, ap₂, subst, arith, inl, inr, true≢false, cond, lit<}
+use Rattle.std.specs.Prelude.{◌≡◌, ℕ, ◌+◌, ◌-◌, ◌^◌, ◌<◌, ◌≤◌, Bool, true, false, not, ◌&&◌, ◌==◌, if◌then◌else◌, IsTrue, List, [], ◌∷◌, ◌++◌, map, filter, length, bit_and, IsBitSet, Contains, Some, None}
+use Rattle.std.specs.List.{AllZip, AllByRecursion, range_with_len}
+use Rattle.std.proofs.Common.{refl, sym, ◌∙◌, ap, ap₂, subst, arith, inl, inr, true≢false, lit<}
 use Rattle.std.proofs.Math.Pow.{pow-lt}
 use Rattle.std.proofs.lemmas.Bool.{not-true, eqb-false, ne_eqb}
 use Rattle.std.proofs.lemmas.Bool.Decides.{eqb_tells}
@@ -21,12 +21,12 @@ use Rattle.c_emitter.specs.Flat.{is_source, IsFlat}
 use Rattle.c_emitter.specs.Blocks.{TypedBlock, no_typed_block, block_at, source_of, source_need, need_of, is_output_of, output_count, output_row, output_rows, output_needs}
 use Rattle.c_emitter.proofs.BlockFacts.{IsWellMade}
 use Rattle.c_emitter.proofs.Ports.{has_bit-same, has_bit-other}
-use Rattle.c_emitter.proofs.FlatRows.{diagram, RowView, input_row, output_row as output_view, delay_row, fixed_row, view, root-row}
+use Rattle.c_emitter.proofs.FlatRows.{diagram, RowView, input_row, output_row as output_view, delay_row, fixed_row, sink_row, view, root-row}
 use Rattle.c_emitter.proofs.Members.{is-output-of}
 use Rattle.c_emitter.proofs.FlatBlocks.{blocks, same-length, are-blocks, output-kind}
 use Rattle.c_emitter.proofs.FlatTicks.{around-none}
 use Rattle.c_emitter.proofs.FlatNeeds.{outputs-are}
-use Rattle.c_emitter.proofs.FlatOutputs.{all-found}
+use Rattle.c_emitter.proofs.FlatOutputs.{all-found, position-passes}
 
 -- ---- Bits
 
@@ -74,6 +74,7 @@ module _ (rows : List Row) (types : List FixType) (ops : List Op) (flat : IsFlat
   source-needs c h (input_row port kind wires op block) source =
       needs-by c (root-row rows types ops flat c h) ∙ empty (is_inport_of rows None c) (feeds_through (Rattle.mc_diagram.specs.Diagram.op_at (diagram rows types ops) c)) (row_at rows c).inputs wires ∙ wires
   source-needs c h (output_view port reset initial s kind wires below src op block) source = absurd (true≢false (sym source ∙ ap is_source kind))
+  source-needs c h (sink_row s kind wires below src op block) source = absurd (true≢false (sym source ∙ ap is_source kind))
   source-needs c h (fixed_row value steady wires op fit block) source =
       needs-by c (root-row rows types ops flat c h) ∙ empty (is_inport_of rows None c) (feeds_through (Rattle.mc_diagram.specs.Diagram.op_at (diagram rows types ops) c)) (row_at rows c).inputs wires ∙ wires
   source-needs c h (delay_row initial s kind wires below src op block) source =
@@ -149,6 +150,7 @@ module _ (rows : List Row) (types : List FixType) (ops : List Op) (flat : IsFlat
 
   source-mask : (o c port : ℕ) (reset : Bool) (initial : _) → (row_at rows o).kind ≡ Outport port reset initial → needs o ≡ c ∷ [] → needs c ≡ [] → c < length rows → IsTrue (is_source (row_at rows c).kind) → RowView rows types ops c → IsMaskOf (TrueNeeds (diagram rows types ops) None o) (source_need (block_at bs c))
   source-mask o c port reset initial kind e f below source (output_view p r z s k wires b src op block) = absurd (true≢false (sym source ∙ ap is_source k))
+  source-mask o c port reset initial kind e f below source (sink_row s k wires b src op block) = absurd (true≢false (sym source ∙ ap is_source k))
   source-mask o c port reset initial kind e f below source (input_row p k wires op block) =
       let range = port-in-range c p below block in
       subst (IsMaskOf (TrueNeeds (diagram rows types ops) None o)) (sym (ap source_need block)) (input-mask o c p port reset initial kind e f below k range.0 range.1)
@@ -161,6 +163,7 @@ module _ (rows : List Row) (types : List FixType) (ops : List Op) (flat : IsFlat
   output-mask o h outport (input_row p kind wires op block) = absurd (true≢false (sym outport ∙ ap is_outport kind))
   output-mask o h outport (fixed_row value steady wires op fit block) = absurd (true≢false (sym outport ∙ steady.no_outport))
   output-mask o h outport (delay_row z s kind wires b src op block) = absurd (true≢false (sym outport ∙ ap is_outport kind))
+  output-mask o h outport (sink_row s kind wires b src op block) = absurd (true≢false (sym outport ∙ ap is_outport kind))
   output-mask o h outport (output_view port reset initial c kind wires below source op block) =
       subst (IsMaskOf (TrueNeeds (diagram rows types ops) None o)) (sym (ap (λ k. source_need (block_at bs (source_of k))) block))
       (source-mask o c port reset initial kind (output-needs o c port reset initial h kind wires op) (source-needs c below (view rows types ops flat c below) source) below source (view rows types ops flat c below))
@@ -169,16 +172,6 @@ module _ (rows : List Row) (types : List FixType) (ops : List Op) (flat : IsFlat
   masks-of : (outs : List ℕ) → AllByRecursion (λ o. (o < length rows) × IsTrue (is_outport (row_at rows o).kind)) outs → AllZip (λ o mask. IsMaskOf (TrueNeeds (diagram rows types ops) None o) mask) outs (map (need_of bs) outs)
   masks-of [] all = tt
   masks-of (o ∷ outs) all = (output-mask o all.0.0 all.0.1 (view rows types ops flat o all.0.0), masks-of outs all.1)
-
--- where a search stops, its test passes
-position-passes : {A : Type 0} (t : A → Bool) (xs : List A) (d : A) (i j : ℕ) → position_from t i xs ≡ Some j → (m : ℕ) × (i + m ≡ j) × (m < length xs) × (t (slice_index_or xs m d) ≡ true)
-position-passes t [] d i j e = absurd (cc e)
-position-passes t (x ∷ xs) d i j e = by (t x) refl e (λ q. position-passes t xs d (i + 1) j q)
-  where
-    by : (b : Bool) → t x ≡ b → cond b (Some i) (position_from t (i + 1) xs) ≡ Some j → (position_from t (i + 1) xs ≡ Some j → (m : ℕ) × (i + 1 + m ≡ j) × (m < length xs) × (t (slice_index_or xs m d) ≡ true)) →
-        (m : ℕ) × (i + m ≡ j) × (m < suc (length xs)) × (t (slice_index_or (x ∷ xs) m d) ≡ true)
-    by true q e later = let same : i ≡ j = cc e in (0, omega arith, omega arith, q)
-    by false q e later = let (m, place, below, passes) = later e in (suc m, omega (arith, place), omega (arith, below), passes)
 
 module _ (rows : List Row) (types : List FixType) (ops : List Op) (flat : IsFlat (diagram rows types ops)) where
   output-kind-at : (k o : ℕ) → output_row (blocks rows types ops flat) k ≡ Some o → (o < length rows) × IsTrue (is_outport (row_at rows o).kind)

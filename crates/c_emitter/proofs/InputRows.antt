@@ -13,7 +13,7 @@ use Rattle.mc_diagram.specs.Rows.{row_at, port_of, inports_of}
 use Rattle.mc_profile.specs.Ports.{input_ports}
 use Rattle.mc_profile.specs.Systems.{input_row}
 use Rattle.c_emitter.specs.declared.block.Block.{Block}
-use Rattle.c_emitter.specs.declared.block.Block.TheVariants.{Input, Output, Delay, Fixed}
+use Rattle.c_emitter.specs.declared.block.Block.TheVariants.{Input, Output, Delay, Fixed, Sink}
 use Rattle.mc_diagram.specs.Diagram.{type_at}
 use Rattle.c_emitter.specs.Names.{container}
 use Rattle.c_emitter.specs.Flat.{IsFlat}
@@ -31,6 +31,7 @@ input-is-port (Input port) e = (port, refl)
 input-is-port (Output port c) e = absurd (true≢false (sym e))
 input-is-port (Delay c z) e = absurd (true≢false (sym e))
 input-is-port (Fixed z) e = absurd (true≢false (sym e))
+input-is-port Sink e = absurd (true≢false (sym e))
 
 find-member : (t : ℕ → Bool) (P : ℕ → Type 0) (xs : List ℕ) (c : ℕ) → AllByRecursion P xs → find t xs ≡ Some c → P c
 find-member t P [] c all e = absurd (cc e)

@@ -14,15 +14,14 @@ use Rattle.c_tree.specs.Rows.{is_number}
 use Rattle.c_tree.specs.Lawful.{Reach, IsNumberAt, IsLawfulExpr, IsLawfulStmt, AreLawfulStmts}
 use Rattle.c_tree.specs.Reading.{expr_depth, stmts_depth, stmts_exprs_depth, stmt_depth, stmt_exprs_depth}
 use Rattle.c_emitter.specs.declared.block.Block.{Block}
-use Rattle.c_emitter.specs.declared.block.Block.TheVariants.{Input, Output, Delay, Fixed}
+use Rattle.c_emitter.specs.declared.block.Block.TheVariants.{Input, Output, Delay, Fixed, Sink}
 use Rattle.c_emitter.specs.Names.{value_name, memory_name}
-use Rattle.c_emitter.specs.Blocks.{TypedBlock, block_at, is_output, is_delay_block, port_of_input, source_of, start_value, input_count, memory_place, counter_place, delay_rows, source_need, is_taken_in, is_given_in, is_held_input, is_unheld, type_of}
-use Rattle.c_emitter.specs.Bodies.{number_expr, value_expr, store_value, store_by_port, store_memory, start_row, start_memory, hit_test, idle_test, set_counter, taken_stores, given_stores, out_body, unheld_stores, memory_stores, update_body, reset_body, start_body, is_delay_row, taken_ports}
+use Rattle.c_emitter.specs.Blocks.{TypedBlock, block_at, is_output, is_source_block, is_input, is_delay_block, port_of_input, source_of, start_value, input_count, value_place, memory_place, counter_place, value_rows, delay_rows, source_need, is_taken_in, is_given_in, is_held_input, is_unheld, type_of}
+use Rattle.c_emitter.specs.Bodies.{number_expr, value_expr, source_place, store_value, store_by_port, store_memory, start_row, start_memory, hit_test, idle_test, set_counter, taken_stores, given_stores, out_body, unheld_stores, memory_stores, update_body, reset_body, start_body, is_delay_row, is_valued_row, taken_ports}
 use Rattle.c_emitter.specs.FlatProgram.{counter_name, typed_field, top_fields}
 use Rattle.c_emitter.proofs.Chosen.{all-chosen}
-use Rattle.c_emitter.proofs.BlockFacts.{IsWellMade, AreBlocks, memory-within}
+use Rattle.c_emitter.proofs.BlockFacts.{HasValue, IsWellMade, AreBlocks, source-valued, output-valued, value-within, memory-within}
 use Rattle.c_emitter.proofs.Containers.{negative-small, positive-small}
-use Rattle.c_emitter.proofs.StartRun.{all-range}
 use Rattle.c_emitter.proofs.Ports.{single-port, all-ports}
 
 -- ---- Statements in lists
@@ -73,22 +72,21 @@ all-numbers name type (x ∷ xs) rest all = (refl, all-numbers name type xs rest
 module _ (blocks : List TypedBlock) where
   pub top-size : length (top_fields blocks) ≡ counter_place blocks + 1
   top-size =
-      let v : List FieldTree = map (λ b. typed_field (value_name b) (type_of blocks b)) (range_with_len 0 (length blocks)) in
+      let v : List FieldTree = map (λ b. typed_field (value_name b) (type_of blocks b)) (value_rows blocks) in
       let m : List FieldTree = map (λ b. typed_field (memory_name b) (type_of blocks b)) (delay_rows blocks) in
       let last : List FieldTree = record { name = counter_name; kind = Number U8 } ∷ [] in
       let a = length-append (v ++ m) last in
       let b = length-append v m in
-      let c = length-map (range_with_len 0 (length blocks)) (λ b. typed_field (value_name b) (type_of blocks b)) in
+      let c = length-map (value_rows blocks) (λ b. typed_field (value_name b) (type_of blocks b)) in
       let d = length-map (delay_rows blocks) (λ b. typed_field (memory_name b) (type_of blocks b)) in
-      let e = length-range_with_len 0 (length blocks) in
-      omega (arith, a, b, c, d, e)
+      omega (arith, a, b, c, d)
 
   top-numbers : AllByRecursion (λ f. is_number f ≡ true) (top_fields blocks)
   top-numbers =
       let m : List FieldTree = map (λ b. typed_field (memory_name b) (type_of blocks b)) (delay_rows blocks) in
       let last : List FieldTree = record { name = counter_name; kind = Number U8 } ∷ [] in
-      subst (AllByRecursion (λ f. is_number f ≡ true)) (sym (append_assoc (map (λ b. typed_field (value_name b) (type_of blocks b)) (range_with_len 0 (length blocks))) m last))
-      (all-numbers value_name (type_of blocks) (range_with_len 0 (length blocks)) (m ++ last) (all-numbers memory_name (type_of blocks) (delay_rows blocks) last (refl, tt)))
+      subst (AllByRecursion (λ f. is_number f ≡ true)) (sym (append_assoc (map (λ b. typed_field (value_name b) (type_of blocks b)) (value_rows blocks)) m last))
+      (all-numbers value_name (type_of blocks) (value_rows blocks) (m ++ last) (all-numbers memory_name (type_of blocks) (delay_rows blocks) last (refl, tt)))
 
   pub field-number : (k : ℕ) → k < counter_place blocks + 1 → IsNumberAt (top_fields blocks) k
   field-number k h = number-at (top_fields blocks) k top-numbers (let size = top-size in omega (arith, size))
@@ -99,11 +97,12 @@ number-shallow : (z : ℤ) → expr_depth (number_expr z) ≤ 4
 number-shallow (pos n) = omega arith
 number-shallow (negsuc n) = omega arith
 
-value-shallow : (k : Block) (param memory : ℕ) → expr_depth (value_expr k param memory) ≤ 4
-value-shallow (Input port) param memory = omega arith
-value-shallow (Output port c) param memory = omega arith
-value-shallow (Delay c start) param memory = omega arith
-value-shallow (Fixed value) param memory = number-shallow value
+value-shallow : (k : Block) (param source memory : ℕ) → expr_depth (value_expr k param source memory) ≤ 4
+value-shallow (Input port) param source memory = omega arith
+value-shallow (Output port c) param source memory = omega arith
+value-shallow (Delay c start) param source memory = omega arith
+value-shallow (Fixed value) param source memory = number-shallow value
+value-shallow Sink param source memory = omega arith
 
 number-lawful : (reach : Reach) (t : CType) (z : ℤ) → t ≢ I64 → is_in_type t z ≡ true → IsLawfulExpr reach (number_expr z)
 number-lawful reach t (pos n) narrow h = (n, refl, (let high = positive-small t n narrow h in omega (arith, high)))
@@ -114,8 +113,8 @@ module _ (blocks : List TypedBlock) (are : AreBlocks blocks) (structs : List Str
   abbrev pub reach : Reach
   reach = record { pures = []; structs = structs; procedures = earlier; fields = top_fields blocks; params = params; of = 0 }
 
-  row-number : (b : ℕ) → b < length blocks → IsNumberAt (top_fields blocks) b
-  row-number b h = field-number blocks b (omega arith)
+  value-number : (b : ℕ) → HasValue blocks b → IsNumberAt (top_fields blocks) (value_place blocks b)
+  value-number b has = field-number blocks (value_place blocks b) (let place = value-within blocks b has.0 has.1 in omega (arith, place))
 
   memory-number : (b : ℕ) → b < length blocks → is_delay_block (block_at blocks b) ≡ true → IsNumberAt (top_fields blocks) (memory_place blocks b)
   memory-number b h delay = field-number blocks (memory_place blocks b) (let place = memory-within blocks b h delay in omega (arith, place))
@@ -126,24 +125,27 @@ module _ (blocks : List TypedBlock) (are : AreBlocks blocks) (structs : List Str
   HasParam (Output port c) param = Unit {0}
   HasParam (Delay c start) param = Unit {0}
   HasParam (Fixed value) param = Unit {0}
+  HasParam Sink param = Unit {0}
 
-  value-lawful : (k : Block) (param b : ℕ) → b < length blocks → block_at blocks b ≡ k → IsWellMade blocks k → HasParam k param → IsLawfulExpr reach (value_expr k param (memory_place blocks b))
+  value-lawful : (k : Block) (param b : ℕ) → b < length blocks → block_at blocks b ≡ k → IsWellMade blocks k → HasParam k param → IsLawfulExpr reach (value_expr k param (value_place blocks (source_of k)) (memory_place blocks b))
   value-lawful (Input port) param b h same made has = has
-  value-lawful (Output port c) param b h same made has = row-number c made.2.0
+  value-lawful (Output port c) param b h same made has = value-number c (made.2.0, source-valued (block_at blocks c) made.2.1)
   value-lawful (Fixed value) param b h same made has = number-lawful reach (type_of blocks b) value (are.narrow b) (are.fixed_fit b value h same)
   value-lawful (Delay c start) param b h same made has = memory-number b h (ap is_delay_block same)
+  value-lawful Sink param b h same made has = (0, refl, lit< tt)
 
-  store-lawful : (param b : ℕ) → b < length blocks → HasParam (block_at blocks b) param → IsLawfulStmt reach (store_value blocks param b)
-  store-lawful param b h has = (row-number b h, value-lawful (block_at blocks b) param b h refl (are.each b h) has)
+  store-lawful : (param b : ℕ) → HasValue blocks b → HasParam (block_at blocks b) param → IsLawfulStmt reach (store_value blocks param b)
+  store-lawful param b valued has = (value-number b valued, value-lawful (block_at blocks b) param b valued.0 refl (are.each b valued.0) has)
 
-  source-within : (k : Block) → is_delay_block k ≡ true → IsWellMade blocks k → source_of k < length blocks
-  source-within (Input port) delay made = absurd (true≢false (sym delay))
-  source-within (Output port c) delay made = absurd (true≢false (sym delay))
-  source-within (Fixed value) delay made = absurd (true≢false (sym delay))
-  source-within (Delay c start) delay made = made.0
+  delay-reads : (k : Block) → is_delay_block k ≡ true → IsWellMade blocks k → HasValue blocks (source_of k)
+  delay-reads (Input port) delay made = absurd (true≢false (sym delay))
+  delay-reads (Output port c) delay made = absurd (true≢false (sym delay))
+  delay-reads (Fixed value) delay made = absurd (true≢false (sym delay))
+  delay-reads Sink delay made = absurd (true≢false (sym delay))
+  delay-reads (Delay c start) delay made = (made.0, source-valued (block_at blocks c) made.1)
 
   memory-lawful : (b : ℕ) → b < length blocks → is_delay_block (block_at blocks b) ≡ true → IsLawfulStmt reach (store_memory blocks b)
-  memory-lawful b h delay = (memory-number b h delay, row-number (source_of (block_at blocks b)) (source-within (block_at blocks b) delay (are.each b h)))
+  memory-lawful b h delay = (memory-number b h delay, value-number (source_of (block_at blocks b)) (delay-reads (block_at blocks b) delay (are.each b h)))
 
   hit-lawful : 0 < params → Rattle.c_tree.specs.Lawful.IsLawfulCond reach hit_test
   hit-lawful h = ((h, (1, refl, lit< tt)), (0, refl, lit< tt))
@@ -163,12 +165,14 @@ module _ (blocks : List TypedBlock) (are : AreBlocks blocks) (structs : List Str
   taken-param need (Output port c) size made e = tt
   taken-param need (Delay c start) size made e = tt
   taken-param need (Fixed value) size made e = tt
+  taken-param need Sink size made e = tt
 
   output-param : (k : Block) (param : ℕ) → is_output k ≡ true → HasParam k param
   output-param (Input port) param e = absurd (true≢false (sym e))
   output-param (Output port c) param e = tt
   output-param (Delay c start) param e = tt
   output-param (Fixed value) param e = tt
+  output-param Sink param e = tt
 
   pub out-lawful : (need : ℕ) → params ≡ suc (length (taken_ports blocks (Some need))) → AllLawful reach (out_body blocks need)
   out-lawful need size = (
@@ -177,9 +181,12 @@ module _ (blocks : List TypedBlock) (are : AreBlocks blocks) (structs : List Str
       lawful-append reach (taken_stores blocks need) (given_stores blocks need)
           (lawful-map reach (store_value blocks 1) _ (all-chosen (is_taken_in blocks need) _ 0 (length blocks) (λ b low high passes.
           let within : b < length blocks = omega arith in
-          store-lawful 1 b within (taken-param need (block_at blocks b) size (are.each b within) (eqb-true _ _ (and_parts _ _ passes).1)))))
+          let parts = and_parts _ _ passes in
+          let source = and_parts _ _ parts.0 in
+          store-lawful 1 b (within, source-valued (block_at blocks b) source.0) (taken-param need (block_at blocks b) size (are.each b within) (eqb-true _ _ parts.1)))))
           (lawful-map reach (store_value blocks 1) _ (all-chosen (is_given_in blocks need) _ 0 (length blocks) (λ b low high passes.
-          store-lawful 1 b (omega arith) (output-param (block_at blocks b) 1 (and_parts _ _ passes).0)))),
+          let given = and_parts _ _ passes in
+          store-lawful 1 b (omega arith, output-valued (block_at blocks b) given.0) (output-param (block_at blocks b) 1 given.0)))),
       tt,
     ),
     (counter-lawful 1 (lit< tt), tt),
@@ -195,18 +202,26 @@ module _ (blocks : List TypedBlock) (are : AreBlocks blocks) (structs : List Str
   port-param (Output port c) size made = tt
   port-param (Delay c start) size made = tt
   port-param (Fixed value) size made = tt
+  port-param Sink size made = tt
 
-  by-port-lawful : params ≡ suc (length (taken_ports blocks None)) → (b : ℕ) → b < length blocks → IsLawfulStmt reach (store_by_port blocks b)
-  by-port-lawful size b h = store-lawful (port_of_input (block_at blocks b)) b h (port-param (block_at blocks b) size (are.each b h))
+  by-port-lawful : params ≡ suc (length (taken_ports blocks None)) → (b : ℕ) → b < length blocks → is_source_block (block_at blocks b) ≡ true → IsLawfulStmt reach (store_by_port blocks b)
+  by-port-lawful size b h source = store-lawful (port_of_input (block_at blocks b)) b (h, source-valued (block_at blocks b) source) (port-param (block_at blocks b) size (are.each b h))
+
+  input-source : (k : Block) → is_input k ≡ true → is_source_block k ≡ true
+  input-source (Input port) e = refl
+  input-source (Output port c) e = absurd (true≢false (sym e))
+  input-source (Delay c start) e = refl
+  input-source (Fixed value) e = refl
+  input-source Sink e = absurd (true≢false (sym e))
 
   pub update-lawful : params ≡ suc (length (taken_ports blocks None)) → AllLawful reach (update_body blocks)
   update-lawful size = (
-    (idle-lawful, lawful-map reach (store_by_port blocks) _ (all-chosen (is_held_input blocks) _ 0 (length blocks) (λ b low high passes. by-port-lawful size b (omega arith))), tt),
+    (idle-lawful, lawful-map reach (store_by_port blocks) _ (all-chosen (is_held_input blocks) _ 0 (length blocks) (λ b low high passes. by-port-lawful size b (omega arith) (input-source (block_at blocks b) (and_parts _ _ passes).0))), tt),
     (
       (
         hit-lawful (omega (arith, size)),
         lawful-append reach (unheld_stores blocks) (memory_stores blocks)
-            (lawful-map reach (store_by_port blocks) _ (all-chosen (is_unheld blocks) _ 0 (length blocks) (λ b low high passes. by-port-lawful size b (omega arith))))
+            (lawful-map reach (store_by_port blocks) _ (all-chosen (is_unheld blocks) _ 0 (length blocks) (λ b low high passes. by-port-lawful size b (omega arith) (and_parts _ _ passes).0)))
             (lawful-map reach (store_memory blocks) _ (all-chosen (is_delay_row blocks) _ 0 (length blocks) (λ b low high passes. memory-lawful b (omega arith) passes))),
         tt,
       ),
@@ -226,17 +241,17 @@ module _ (blocks : List TypedBlock) (are : AreBlocks blocks) (structs : List Str
 
   pub start-lawful : AllLawful reach (start_body blocks)
   start-lawful =
-      lawful-append reach (map (start_row blocks) (range_with_len 0 (length blocks))) (reset_body blocks)
-      (lawful-map reach (start_row blocks) _ (all-range _ 0 (length blocks) (λ b low high.
+      lawful-append reach (map (start_row blocks) (value_rows blocks)) (reset_body blocks)
+      (lawful-map reach (start_row blocks) _ (all-chosen (is_valued_row blocks) _ 0 (length blocks) (λ b low high valued.
       let within : b < length blocks = omega arith in
-      (row-number b within, number-lawful reach (type_of blocks b) (start_value (block_at blocks b)) (are.narrow b) (are.starts b within)))))
+      (value-number b (within, valued), number-lawful reach (type_of blocks b) (start_value (block_at blocks b)) (are.narrow b) (are.starts b within)))))
       reset-lawful
 
 -- ---- Depths
 
 module _ (blocks : List TypedBlock) where
   store-shallow : (param b : ℕ) → (stmt_depth (store_value blocks param b) ≤ 1) × (stmt_exprs_depth (store_value blocks param b) ≤ 4)
-  store-shallow param b = (omega arith, value-shallow (block_at blocks b) param (memory_place blocks b))
+  store-shallow param b = (omega arith, value-shallow (block_at blocks b) param (source_place blocks b) (memory_place blocks b))
 
   counter-shallow : (n deep : ℕ) → 1 ≤ deep → AreShallow (set_counter blocks (pos n) ∷ []) deep
   counter-shallow n deep h = record { statements = omega arith; expressions = omega arith }
@@ -264,5 +279,5 @@ module _ (blocks : List TypedBlock) where
 
   pub start-shallow : AreShallow (start_body blocks) 1
   start-shallow =
-      shallow-append (map (start_row blocks) (range_with_len 0 (length blocks))) (reset_body blocks) 1
+      shallow-append (map (start_row blocks) (value_rows blocks)) (reset_body blocks) 1
       (shallow-map (start_row blocks) _ 1 (λ b. (omega arith, number-shallow (start_value (block_at blocks b))))) reset-shallow

@@ -13,8 +13,8 @@ use Rattle.c_tree.specs.declared.CType.TheVariants.{U8}
 use Rattle.c_tree.specs.declared.FieldKind.TheVariants.{Number, Struct}
 use Rattle.mc_profile.specs.Systems.{system_name}
 use Rattle.c_emitter.specs.Names.{value_name, memory_name, now_name, input_name, output_name, out_name, update_name, start_name, reset_name, root_start_name, root_step_name}
-use Rattle.c_emitter.specs.Blocks.{TypedBlock, delay_rows, output_rows, function_needs, type_of, output_type}
-use Rattle.c_emitter.specs.Bodies.{is_delay_row}
+use Rattle.c_emitter.specs.Blocks.{TypedBlock, value_rows, delay_rows, output_rows, function_needs, type_of, output_type}
+use Rattle.c_emitter.specs.Bodies.{is_delay_row, is_valued_row}
 use Rattle.c_emitter.specs.FlatProgram.{counter_name, typed_field, top_fields, root_fields_of, out_procedures, flat_procedures}
 use Rattle.c_emitter.proofs.NameFacts.{AreNumbered, numbered-names}
 use Rattle.c_emitter.proofs.NameLaws.{letter-name, out-name}
@@ -76,15 +76,15 @@ module _ (blocks : List TypedBlock) (rows : length blocks ≤ 20000) (outs : len
 
   pub top-distinct : AreDistinct (map (λ (f : FieldTree). f.name) (top_fields blocks))
   top-distinct =
-      let v : List FieldTree = map (λ b. typed_field (value_name b) (type_of blocks b)) (range_with_len 0 (length blocks)) in
+      let v : List FieldTree = map (λ b. typed_field (value_name b) (type_of blocks b)) (value_rows blocks) in
       let m : List FieldTree = map (λ b. typed_field (memory_name b) (type_of blocks b)) (delay_rows blocks) in
       let last : List FieldTree = record { name = counter_name; kind = Number U8 } ∷ [] in
-      let names : map (λ (f : FieldTree). f.name) (v ++ m ++ last) ≡ map value_name (range_with_len 0 (length blocks)) ++ (map memory_name (delay_rows blocks) ++ counter_name ∷ []) =
+      let names : map (λ (f : FieldTree). f.name) (v ++ m ++ last) ≡ map value_name (value_rows blocks) ++ (map memory_name (delay_rows blocks) ++ counter_name ∷ []) =
       ap (map (λ (f : FieldTree). f.name)) (append_assoc v m last)
       ∙ map-append (λ (f : FieldTree). f.name) v (m ++ last)
-      ∙ ap₂ ◌++◌ (field-names value_name (type_of blocks) (range_with_len 0 (length blocks))) (map-append (λ (f : FieldTree). f.name) m last ∙ ap (λ l. l ++ counter_name ∷ []) (field-names memory_name (type_of blocks) (delay_rows blocks))) in
+      ∙ ap₂ ◌++◌ (field-names value_name (type_of blocks) (value_rows blocks)) (map-append (λ (f : FieldTree). f.name) m last ∙ ap (λ l. l ++ counter_name ∷ []) (field-names memory_name (type_of blocks) (delay_rows blocks))) in
       subst AreDistinct (sym names)
-      (distinct-range value_name values-numbered (λ b h. letter-name 118 b h refl) 0 (length blocks) _ (omega arith)
+      (distinct-numbered value_name values-numbered (λ b h. letter-name 118 b h refl) (is_valued_row blocks) 0 (length blocks) _ (omega arith)
       (λ b. has-name-append (map memory_name (delay_rows blocks)) (counter_name ∷ []) (value_name b) ∙ or_from _ _ (no-name memory_name (value_name b) (delay_rows blocks) (λ c. refl)) refl)
       (distinct-numbered memory_name memories-numbered (λ b h. letter-name 109 b h refl) (is_delay_row blocks) 0 (length blocks) (counter_name ∷ []) (omega arith) (λ b. refl) (refl, refl, tt)))
 

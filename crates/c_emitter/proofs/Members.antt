@@ -8,7 +8,7 @@ use Rattle.std.proofs.lemmas.Bool.Decides.{eqb_tells}
 use Rattle.mc_profile.specs.Functions.{different}
 use Rattle.c_tree.specs.declared.CType.TheVariants.{I32}
 use Rattle.c_emitter.specs.declared.block.Block.{Block}
-use Rattle.c_emitter.specs.declared.block.Block.TheVariants.{Input, Output, Delay, Fixed}
+use Rattle.c_emitter.specs.declared.block.Block.TheVariants.{Input, Output, Delay, Fixed, Sink}
 use Rattle.c_emitter.specs.Blocks.{TypedBlock, no_typed_block, block_at, type_of, is_input_of, input_row, input_type, is_output_of, output_row, output_rows, output_source, output_sources, source_of, source_need, need_of, output_needs, function_needs, output_count}
 use Rattle.c_emitter.proofs.BlockFacts.{IsWellMade, AreBlocks}
 
@@ -116,6 +116,7 @@ feeder (t ∷ bs) b h = by t.block refl (λ there. feeder bs b there) h
     by (Input port) e go h = later (go h)
     by (Delay source start) e go h = later (go h)
     by (Fixed value) e go h = later (go h)
+    by Sink e go h = later (go h)
     by (Output port source) e go h = elim (or_cases (source == b) _ h) [
       | inl here ↦ record { row = 0; within = omega arith; port = port; is_output = e ∙ ap (Output port) (eqb-true source b here) }
       | inr there ↦ later (go there)
@@ -125,6 +126,7 @@ pub is-output-of : (k p : ℕ) (block : Block) → is_output_of k block ≡ true
 is-output-of k p (Input port) h = absurd (true≢false (sym h))
 is-output-of k p (Delay source start) h = absurd (true≢false (sym h))
 is-output-of k p (Fixed value) h = absurd (true≢false (sym h))
+is-output-of k p Sink h = absurd (true≢false (sym h))
 is-output-of k p (Output port source) h = (source, ap (λ q. Output q source) (eqb-true port k h))
 
 is-input-of : (k : ℕ) (block : Block) → is_input_of k block ≡ true → block ≡ Input k
@@ -132,6 +134,7 @@ is-input-of k (Input port) h = ap Input (eqb-true port k h)
 is-input-of k (Output port source) h = absurd (true≢false (sym h))
 is-input-of k (Delay source start) h = absurd (true≢false (sym h))
 is-input-of k (Fixed value) h = absurd (true≢false (sym h))
+is-input-of k Sink h = absurd (true≢false (sym h))
 
 module _ (blocks : List TypedBlock) (are : AreBlocks blocks) where
   -- the row of an input is found by its port

@@ -11,12 +11,12 @@ use Rattle.c_tree.specs.Rows.{field_position}
 use Rattle.mc_diagram.specs.declared.Row.{Row}
 use Rattle.mc_diagram.specs.Rows.{outward, enclosing}
 use Rattle.mc_profile.specs.Systems.{system_name}
-use Rattle.c_emitter.specs.Names.{value_name, memory_name, now_name, output_name}
+use Rattle.c_emitter.specs.Names.{value_name, memory_name, output_name}
 use Rattle.c_emitter.specs.Places.{place_in, path_to}
-use Rattle.c_emitter.specs.Blocks.{TypedBlock, block_at, is_delay_block, delay_rows, memory_place, output_rows, type_of, output_type}
-use Rattle.c_emitter.specs.Bodies.{is_delay_row, top_place}
+use Rattle.c_emitter.specs.Blocks.{TypedBlock, block_at, is_delay_block, is_valued, value_rows, value_place, delay_rows, memory_place, output_rows, type_of, output_type}
+use Rattle.c_emitter.specs.Bodies.{is_delay_row, is_valued_row, top_place}
 use Rattle.c_emitter.specs.FlatProgram.{typed_field, top_fields, root_fields_of, flat_program, counter_name}
-use Rattle.c_emitter.proofs.NameFacts.{AreNumbered, numbered-names, field-place, range-place, other-names}
+use Rattle.c_emitter.proofs.NameFacts.{AreNumbered, numbered-names, field-place, other-names}
 use Rattle.c_emitter.proofs.Procedures.{position-behind}
 
 pub values-numbered : AreNumbered value_name
@@ -32,26 +32,27 @@ module _ (blocks : List TypedBlock) (few : length blocks ≤ 20000) where
   abbrev memory_fields : List FieldTree
   memory_fields = map (λ b. typed_field (memory_name b) (type_of blocks b)) (delay_rows blocks)
 
-  split : top_fields blocks ≡ map (λ b. typed_field (value_name b) (type_of blocks b)) (range_with_len 0 (length blocks)) ++ (memory_fields ++ last_field)
-  split = append_assoc (map (λ b. typed_field (value_name b) (type_of blocks b)) (range_with_len 0 (length blocks))) memory_fields last_field
+  split : top_fields blocks ≡ map (λ b. typed_field (value_name b) (type_of blocks b)) (value_rows blocks) ++ (memory_fields ++ last_field)
+  split = append_assoc (map (λ b. typed_field (value_name b) (type_of blocks b)) (value_rows blocks)) memory_fields last_field
 
-  -- a value is at its row
-  pub value-place : (b : ℕ) → b < length blocks → place_in (flat_program blocks) None (value_name b) ≡ b
-  value-place b h =
+  -- values stand first
+  pub value-is-at : (b : ℕ) → b < length blocks → is_valued (block_at blocks b) ≡ true → place_in (flat_program blocks) None (value_name b) ≡ value_place blocks b
+  value-is-at b h valued =
+      let same : 0 + b ≡ b = omega arith in
+      let first : 0 + value_place blocks b ≡ value_place blocks b = omega arith in
       ap (λ fs. field_position fs (value_name b)) split
-      ∙ ap (λ o. unwrap_or o 0) (range-place value_name values-numbered (type_of blocks) 0 0 (length blocks) b b (memory_fields ++ last_field) (omega arith) (omega arith) (omega arith) refl)
+      ∙ ap (λ o. unwrap_or o 0) (field-place (is_valued_row blocks) value_name values-numbered (type_of blocks) 0 0 (length blocks) b b (memory_fields ++ last_field) same h valued (omega arith)) ∙ first
 
   -- a memory is behind the values
   pub memory-is-at : (b : ℕ) → b < length blocks → is_delay_block (block_at blocks b) ≡ true → place_in (flat_program blocks) None (memory_name b) ≡ memory_place blocks b
   memory-is-at b h delay =
       let same : 0 + b ≡ b = omega arith in
-      let size = length-map (range_with_len 0 (length blocks)) (λ b. typed_field (value_name b) (type_of blocks b)) in
-      let rows = length-range_with_len 0 (length blocks) in
+      let size = length-map (value_rows blocks) (λ b. typed_field (value_name b) (type_of blocks b)) in
       ap (λ fs. field_position fs (memory_name b)) split
       ∙ ap (λ o. unwrap_or o 0) (
-      position-behind (λ (f : FieldTree). bytes_eq f.name (memory_name b)) (map (λ b. typed_field (value_name b) (type_of blocks b)) (range_with_len 0 (length blocks))) (memory_fields ++ last_field) 0 (length blocks)
-      (other-names value_name (type_of blocks) (memory_name b) (range_with_len 0 (length blocks)) (λ c. refl)) (omega (arith, size, rows))
-      ∙ field-place (is_delay_row blocks) memory_name memories-numbered (type_of blocks) (length blocks) 0 (length blocks) b b last_field same h delay (omega arith)
+      position-behind (λ (f : FieldTree). bytes_eq f.name (memory_name b)) (map (λ b. typed_field (value_name b) (type_of blocks b)) (value_rows blocks)) (memory_fields ++ last_field) 0 (length (value_rows blocks))
+      (other-names value_name (type_of blocks) (memory_name b) (value_rows blocks) (λ c. refl)) (omega (arith, size))
+      ∙ field-place (is_delay_row blocks) memory_name memories-numbered (type_of blocks) (length (value_rows blocks)) 0 (length blocks) b b last_field same h delay (omega arith)
       )
 
   -- the system is behind the outputs

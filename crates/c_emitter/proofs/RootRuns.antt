@@ -10,12 +10,12 @@ use Rattle.c_tree.specs.declared.Why.TheVariants.{Range}
 use Rattle.c_tree.specs.declared.BinOp.TheVariants.{Add, Rem}
 use Rattle.c_tree.specs.Tree.{read, literal, binary, StmtTree, assign, stmts_of_list, ProcedureTree}
 use Rattle.c_tree.specs.Cells.{Cells, number, set_cell, value_at}
-use Rattle.c_tree.specs.Values.{Function, gives, eval, reads, is_in_type, stuck_at}
+use Rattle.c_tree.specs.Values.{eval, reads, is_in_type, stuck_at}
 use Rattle.c_tree.specs.Machine.{LoggedCall, stuck, behind, then_run, on_answer, store, Scope, Routine, routine_at, routine_of, run_stmt, run_stmts}
 use Rattle.c_tree.specs.Tree.{type_at, field_types}
 use Rattle.c_emitter.specs.declared.block.Block.TheVariants.{Input}
 use Rattle.c_emitter.specs.Names.{output_name}
-use Rattle.c_emitter.specs.Blocks.{TypedBlock, block_at, source_need, output_rows, output_type}
+use Rattle.c_emitter.specs.Blocks.{TypedBlock, block_at, source_need, value_place, output_rows, output_type}
 use Rattle.c_emitter.specs.Bodies.{taken_ports, top_place, call_top, next_now}
 use Rattle.c_emitter.specs.FlatProgram.{root_fields_of, flat_structs, out_procedure}
 use Rattle.c_emitter.proofs.NumberCells.{number_cells, cells_with, item, value_at-number_cells, fields_at-cells_with, set_number-cells_with}
@@ -123,26 +123,27 @@ copy-one blocks s k o zs tops steps h types place low below fits =
     ∙ ap (λ c. finish c (steps + 1) [] (own_store k ∷ [])) (set_number-cells_with zs (number_cells tops) k z (omega arith))
 
 abbrev pub copy_list : List TypedBlock → ℕ → List ℕ → List StmtTree
-copy_list blocks k outs = map (λ (e : ℕ × ℕ). assign 0 e.0 (read (Child (top_place blocks) e.1))) (enumerate_from k outs)
+copy_list blocks k outs = map (λ (e : ℕ × ℕ). assign 0 e.0 (read (Child (top_place blocks) (value_place blocks e.1)))) (enumerate_from k outs)
 
 pub run-copies : (blocks : List TypedBlock) (s : Scope) (k : ℕ) (outs : List ℕ) (front old tops : List ℤ) (steps : ℕ) → steps + length outs ≤ 2 ^ 32 → s.types ≡ field_types (root_fields_of blocks) →
-    top_place blocks ≡ length (front ++ old) → length front ≡ k → length old ≡ length outs → 0 < k → AllByRecursion (λ (e : ℕ × ℕ). is_in_type (output_type blocks e.0) (item tops e.1) ≡ true) (enumerate_from k outs) →
-    run_stmts s (stmts_of_list (copy_list blocks k outs)) (cells_with (front ++ old) (number_cells tops)) steps ≡ finish (cells_with (front ++ map (item tops) outs) (number_cells tops)) (steps + length outs) [] (map own_store (range_with_len k (length outs)))
+    top_place blocks ≡ length (front ++ old) → length front ≡ k → length old ≡ length outs → 0 < k → AllByRecursion (λ (e : ℕ × ℕ). is_in_type (output_type blocks e.0) (item tops (value_place blocks e.1)) ≡ true) (enumerate_from k outs) →
+    run_stmts s (stmts_of_list (copy_list blocks k outs)) (cells_with (front ++ old) (number_cells tops)) steps ≡ finish (cells_with (front ++ map (λ o. item tops (value_place blocks o)) outs) (number_cells tops)) (steps + length outs) [] (map own_store (range_with_len k (length outs)))
 run-copies blocks s k [] front [] tops steps h types place here same low fit = let count : steps ≡ steps + 0 = omega arith in ap (λ n. finish (cells_with (front ++ []) (number_cells tops)) n [] []) count
 run-copies blocks s k [] front (z ∷ zs) tops steps h types place here same low fit = absurd (omega arith)
 run-copies blocks s k (o ∷ outs) front [] tops steps h types place here same low fit = absurd (omega arith)
 run-copies blocks s k (o ∷ outs) front (y ∷ ys) tops steps h types place here same low fit =
-    let z : ℤ = item tops o in
+    let z : ℤ = item tops (value_place blocks o) in
+    let later : List ℤ = map (λ o. item tops (value_place blocks o)) outs in
     let size = length-append front (y ∷ ys) in
     let sizes = length-append (front ++ z ∷ []) ys in
     let one = length-append front (z ∷ []) in
-    let more : front ++ (z ∷ map (item tops) outs) ≡ front ++ z ∷ [] ++ map (item tops) outs = sym (append_assoc front (z ∷ []) (map (item tops) outs)) in
+    let more : front ++ (z ∷ later) ≡ front ++ z ∷ [] ++ later = sym (append_assoc front (z ∷ []) later) in
     let count : steps + 1 + length outs ≡ steps + suc (length outs) = omega arith in
-    ap (λ o. then_run o (run_stmts s (stmts_of_list (copy_list blocks (k + 1) outs)))) (copy-one blocks s k o (front ++ y ∷ ys) tops steps (omega arith) types place low (omega (arith, size)) fit.0)
+    ap (λ o. then_run o (run_stmts s (stmts_of_list (copy_list blocks (k + 1) outs)))) (copy-one blocks s k (value_place blocks o) (front ++ y ∷ ys) tops steps (omega arith) types place low (omega (arith, size)) fit.0)
     ∙ ap (λ l. behind [] (own_store k ∷ []) (run_stmts s (stmts_of_list (copy_list blocks (k + 1) outs)) (cells_with l (number_cells tops)) (steps + 1))) (set_at front y ys z k here ∙ sym (append_assoc front (z ∷ []) ys))
     ∙ ap (behind [] (own_store k ∷ [])) (run-copies blocks s (k + 1) outs (front ++ z ∷ []) ys tops (steps + 1) (omega arith) types (omega (arith, size, sizes, one)) (omega (arith, one)) (omega arith) (omega arith) fit.1)
     ∙ ap (λ l. finish (cells_with l (number_cells tops)) (steps + 1 + length outs) [] (own_store k ∷ map own_store (range_with_len (k + 1) (length outs)))) (sym more)
-    ∙ ap (λ n. finish (cells_with (front ++ (z ∷ map (item tops) outs)) (number_cells tops)) n [] (own_store k ∷ map own_store (range_with_len (k + 1) (length outs)))) count
+    ∙ ap (λ n. finish (cells_with (front ++ (z ∷ later)) (number_cells tops)) n [] (own_store k ∷ map own_store (range_with_len (k + 1) (length outs)))) count
 
 -- the tick modulo 1 stays 0
 pub run-now : (blocks : List TypedBlock) (s : Scope) (ys tops : List ℤ) (steps : ℕ) → steps < 2 ^ 32 → s.types ≡ field_types (root_fields_of blocks) →

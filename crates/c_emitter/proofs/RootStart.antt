@@ -16,8 +16,8 @@ use Rattle.c_tree.specs.Tree.{field_types}
 use Rattle.c_tree.specs.Rows.{zero_root, start_run}
 use Rattle.c_tree.proofs.Runs.{behind-nothing}
 use Rattle.c_emitter.specs.Names.{value_name, memory_name, output_name}
-use Rattle.c_emitter.specs.Blocks.{TypedBlock, delay_rows, output_rows, counter_place, type_of, output_type}
-use Rattle.c_emitter.specs.Bodies.{top_place, update_place, start_body, root_start_body}
+use Rattle.c_emitter.specs.Blocks.{TypedBlock, value_rows, delay_rows, output_rows, counter_place, type_of, output_type}
+use Rattle.c_emitter.specs.Bodies.{top_place, update_place, root_start_body}
 use Rattle.c_emitter.specs.FlatProgram.{typed_field, top_fields, root_fields_of, flat_structs, start_procedure, root_start_procedure, flat_program, counter_name}
 use Rattle.c_emitter.proofs.NumberCells.{cells_then, number_cells, cells_with, fields_at-cells_with, set_object-cells_with}
 use Rattle.c_emitter.proofs.Straight.{finish, own_store, begin_step-goes}
@@ -42,7 +42,7 @@ cells-append (z ∷ zs) b rest = ap (more_cells (number z)) (cells-append zs b r
 
 module _ (blocks : List TypedBlock) where
   abbrev pub zero_top : List ℤ
-  zero_top = zeros (range_with_len 0 (length blocks)) ++ (zeros (delay_rows blocks) ++ pos 0 ∷ [])
+  zero_top = zeros (value_rows blocks) ++ (zeros (delay_rows blocks) ++ pos 0 ∷ [])
 
   abbrev pub zero_outputs : List ℤ
   zero_outputs = zeros (range_with_len 1 (length (output_rows blocks)))
@@ -50,10 +50,10 @@ module _ (blocks : List TypedBlock) where
   top-zeros : zero_cells [] (top_fields blocks) ≡ number_cells zero_top
   top-zeros =
       let last : List FieldTree = record { name = counter_name; kind = Number U8 } ∷ [] in
-      ap (zero_cells []) (append_assoc (map (λ b. typed_field (value_name b) (type_of blocks b)) (range_with_len 0 (length blocks))) (map (λ b. typed_field (memory_name b) (type_of blocks b)) (delay_rows blocks)) last)
-      ∙ zero-numbers (range_with_len 0 (length blocks)) value_name (type_of blocks) [] (map (λ b. typed_field (memory_name b) (type_of blocks b)) (delay_rows blocks) ++ last)
-      ∙ ap (cells_then (zeros (range_with_len 0 (length blocks)))) (zero-numbers (delay_rows blocks) memory_name (type_of blocks) [] last ∙ sym (cells-append (zeros (delay_rows blocks)) (pos 0 ∷ []) no_cells))
-      ∙ sym (cells-append (zeros (range_with_len 0 (length blocks))) (zeros (delay_rows blocks) ++ pos 0 ∷ []) no_cells)
+      ap (zero_cells []) (append_assoc (map (λ b. typed_field (value_name b) (type_of blocks b)) (value_rows blocks)) (map (λ b. typed_field (memory_name b) (type_of blocks b)) (delay_rows blocks)) last)
+      ∙ zero-numbers (value_rows blocks) value_name (type_of blocks) [] (map (λ b. typed_field (memory_name b) (type_of blocks b)) (delay_rows blocks) ++ last)
+      ∙ ap (cells_then (zeros (value_rows blocks))) (zero-numbers (delay_rows blocks) memory_name (type_of blocks) [] last ∙ sym (cells-append (zeros (delay_rows blocks)) (pos 0 ∷ []) no_cells))
+      ∙ sym (cells-append (zeros (value_rows blocks)) (zeros (delay_rows blocks) ++ pos 0 ∷ []) no_cells)
 
   root-zeros : zero_root (flat_program blocks) ≡ cells_with (pos 0 ∷ zero_outputs) (number_cells zero_top)
   root-zeros =
@@ -65,19 +65,18 @@ module _ (blocks : List TypedBlock) where
 
   length-zero_top : length zero_top ≡ counter_place blocks + 1
   length-zero_top =
-      let a = length-append (zeros (range_with_len 0 (length blocks))) (zeros (delay_rows blocks) ++ pos 0 ∷ []) in
+      let a = length-append (zeros (value_rows blocks)) (zeros (delay_rows blocks) ++ pos 0 ∷ []) in
       let b = length-append (zeros (delay_rows blocks)) (pos 0 ∷ []) in
-      let c = length-map (range_with_len 0 (length blocks)) (λ (x : ℕ). pos 0) in
-      let d = length-range_with_len 0 (length blocks) in
-      let e = length-map (delay_rows blocks) (λ (x : ℕ). pos 0) in
-      omega (arith, a, b, c, d, e)
+      let c = length-map (value_rows blocks) (λ (x : ℕ). pos 0) in
+      let d = length-map (delay_rows blocks) (λ (x : ℕ). pos 0) in
+      omega (arith, a, b, c, d)
 
   -- the call of `top_start`
   module _ (are : AreBlocks blocks) where
     start-small : start_cost blocks are ≤ 2 ^ 31
     start-small =
         let rows = are.at_most in
-        let d = length-range_with_len 0 (length blocks) in
+        let d = Rattle.c_emitter.proofs.Chosen.length-chosen (Rattle.c_emitter.specs.Bodies.is_valued_row blocks) 0 (length blocks) in
         let m = Rattle.c_emitter.proofs.Chosen.length-chosen (Rattle.c_emitter.specs.Bodies.is_delay_row blocks) 0 (length blocks) in
         omega (arith, rows, d, m)
 

@@ -15,18 +15,21 @@ use Rattle.mc_diagram.specs.Diagram.{Diagram}
 use Rattle.c_emitter.specs.FlatDiagrams.{flat_diagram}
 use Rattle.mc_profile.specs.Functions.{different}
 use Rattle.c_emitter.specs.declared.block.Block.{Block}
-use Rattle.c_emitter.specs.declared.block.Block.TheVariants.{Input, Output, Delay, Fixed}
+use Rattle.c_emitter.specs.declared.block.Block.TheVariants.{Input, Output, Delay, Fixed, Sink}
 use Rattle.c_emitter.specs.Flat.{IsFlat, IsFlatAtEveryTick}
-use Rattle.c_emitter.specs.Blocks.{TypedBlock, no_typed_block, type_of, start_value, is_input_of, input_row, blocks_of, block_at, source_of, output_rows, is_output, is_output_of, output_row, output_source, output_count, rows_below, fixed_value}
+use Rattle.c_emitter.specs.Blocks.{TypedBlock, no_typed_block, type_of, start_value, is_input_of, input_row, blocks_of, block_at, source_of, output_rows, is_output, is_output_of, output_row, output_source, output_count, rows_below, fixed_value, value_place, memory_place, value_places}
+use Rattle.c_emitter.specs.Bodies.{value_expr, source_place, store_value}
+use Rattle.c_tree.specs.Tree.{assign}
+use Rattle.std.proofs.lemmas.List.FromFn.{get_or-map-range_with_len, length-map-range_with_len}
 use Rattle.c_emitter.proofs.Containers.{not-low}
-use Rattle.c_emitter.proofs.BlockFacts.{IsWellMade, AreBlocks}
+use Rattle.c_emitter.proofs.BlockFacts.{HasValue, IsWellMade, AreBlocks}
 use Rattle.c_emitter.proofs.Chosen.{range-snoc, below-passed, below-skipped, length-chosen}
 use Rattle.c_emitter.proofs.Members.{position-first}
 use Rattle.c_emitter.proofs.FlatRows.{holds-at, blocks-length}
 use Rattle.c_emitter.proofs.FlatOutputs.{position-within, outputs-are-rows}
 use Rattle.c_emitter.proofs.FlatBlocks.{are-blocks}
 
--- ---- The blocks of a diagram whose rows are int32
+-- ---- The blocks of a diagram
 
 pub are-blocks-of : (d : Diagram) → IsFlatAtEveryTick d → AreBlocks (blocks_of d)
 are-blocks-of d one = subst (λ e. AreBlocks (blocks_of e)) (sym one.every_tick) (are-blocks d.rows d.types d.ops (subst IsFlat one.every_tick one.flat))
@@ -117,6 +120,7 @@ output-step : (k : Block) (l : List ℕ) (n : ℕ) → length l ≡ n → length
 output-step (Input port) l n e = ap length (append-nil l) ∙ e
 output-step (Delay c z) l n e = ap length (append-nil l) ∙ e
 output-step (Fixed z) l n e = ap length (append-nil l) ∙ e
+output-step Sink l n e = ap length (append-nil l) ∙ e
 output-step (Output port c) l n e = length-append l (c ∷ []) ∙ ap (λ k. k + 1) e
 
 pub sources-more : (bs : List TypedBlock) (n : ℕ) → n < length bs → filter_map (λ (t : TypedBlock). output_source t.block) (take (n + 1) bs) ≡ filter_map (λ (t : TypedBlock). output_source t.block) (take n bs) ++ option_to_list (output_source (block_at bs n))
@@ -163,7 +167,7 @@ sources-few bs n h e =
 
 -- ---- What the code's loops owe
 
--- as many rows as the vector has, at most 20000
+-- as many rows as the slice has, at most 20000
 pub rows-of-view : (rows : List Row) (types : List FixType) (ops : List Op) (d : Diagram) → flat_diagram rows types ops ≡ d → length rows ≡ length d.rows
 rows-of-view rows types ops d e = ap (λ x. length x.rows) e
 
@@ -195,6 +199,7 @@ no-source (Input port) h = refl
 no-source (Output port c) h = absurd (h port c refl)
 no-source (Delay c z) h = refl
 no-source (Fixed z) h = refl
+no-source Sink h = refl
 
 pub no-source-step : (bs : List TypedBlock) (n : ℕ) (sources : List ℕ) (k : Block) → n < length bs → sources ≡ filter_map (λ (t : TypedBlock). output_source t.block) (take n bs) → k ≡ block_at bs n → ((port c : ℕ) → k ≡ Output port c → ⊥) →
     sources ≡ filter_map (λ (t : TypedBlock). output_source t.block) (take (n + 1) bs)
@@ -212,6 +217,25 @@ needs-step xs f n needs need seen h e same told =
     ∙ ap (λ x. different (old ++ x ∷ [])) same
     ∙ ap different (sym (map_more f xs n 0 h))
 
+-- ---- Places
+
+-- the places of the values, as they are made once
+pub place-at : (d : Diagram) → IsFlatAtEveryTick d → (places : List ℕ) → places ≡ value_places (blocks_of d) → (b : ℕ) → b < length d.rows → slice_index_or places b 0 ≡ value_place (blocks_of d) b
+place-at d one places e b h =
+    let size = blocks-are-rows d one in
+    ap (λ l. slice_index_or l b 0) e ∙ get_or-map-range_with_len (value_place (blocks_of d)) 0 (length (blocks_of d)) b b 0 (omega (arith, size, h)) (omega arith)
+
+pub place-within : (d : Diagram) → IsFlatAtEveryTick d → (places : List ℕ) → places ≡ value_places (blocks_of d) → (b : ℕ) → b < length d.rows → b < length places
+place-within d one places e b h =
+    let size = blocks-are-rows d one in
+    let made = ap length e ∙ length-map-range_with_len (value_place (blocks_of d)) 0 (length (blocks_of d)) in
+    omega (arith, size, made, h)
+
+-- a store of a value, where its place and those that it reads from are known
+pub store-is : (bs : List TypedBlock) (row : ℕ) (k : Block) (param field source memory : ℕ) → k ≡ block_at bs row → field ≡ value_place bs row → source ≡ value_place bs (source_of k) → memory ≡ memory_place bs row → assign 0 field (value_expr k param source memory) ≡ store_value bs param row
+store-is bs row k param field source memory same at from held =
+    ap₂ (assign 0) at (ap₂ (value_expr k param) (from ∙ ap (λ k. value_place bs (source_of k)) same) held ∙ ap (λ k. value_expr k param (source_place bs row) (memory_place bs row)) same)
+
 -- ---- Bounds
 
 pub port-bounds : (d : Diagram) → IsFlatAtEveryTick d → (b : ℕ) → b < length d.rows → (port : ℕ) → block_at (blocks_of d) b ≡ Input port → (0 < port) × (port ≤ 32)
@@ -227,6 +251,7 @@ source-is-row bs (Input port) some made = some
 source-is-row bs (Output port c) some made = made.2.0
 source-is-row bs (Delay c z) some made = made.0
 source-is-row bs (Fixed z) some made = some
+source-is-row bs Sink some made = some
 
 pub source-bound : (d : Diagram) → IsFlatAtEveryTick d → (b : ℕ) → b < length d.rows → source_of (block_at (blocks_of d) b) < length d.rows
 source-bound d one b h =
@@ -238,7 +263,8 @@ source-bound d one b h =
 pub output-rows-bound : (d : Diagram) → IsFlatAtEveryTick d → (xs : List ℕ) → xs ≡ output_rows (blocks_of d) → (n : ℕ) → n < length xs → slice_index_or xs n 0 < length d.rows
 output-rows-bound d one xs e n h =
     let size = blocks-are-rows d one in
-    let below = holds-at (λ o. o < length (blocks_of d)) xs n 0 (subst (AllByRecursion (λ o. o < length (blocks_of d))) (sym e) (outputs-are-rows (blocks_of d))) h in
+    let at = holds-at (HasValue (blocks_of d)) xs n 0 (subst (AllByRecursion (HasValue (blocks_of d))) (sym e) (outputs-are-rows (blocks_of d))) h in
+    let below : slice_index_or xs n 0 < length (blocks_of d) = at.0 in
     omega (arith, size, below)
 
 pub input-row-bound : (d : Diagram) → IsFlatAtEveryTick d → (port row : ℕ) → input_row (blocks_of d) port ≡ Some row → row < length d.rows
@@ -259,6 +285,7 @@ fixed-low : (bs : List TypedBlock) (are : AreBlocks bs) (b : ℕ) → b < length
 fixed-low bs are b h (Input port) same = omega (arith, ints)
 fixed-low bs are b h (Output port c) same = omega (arith, ints)
 fixed-low bs are b h (Delay c z) same = omega (arith, ints)
+fixed-low bs are b h Sink same = omega (arith, ints)
 fixed-low bs are b h (Fixed z) same = not-low (type_of bs b) z (are.narrow b) (are.fixed_fit b z h same)
 
 -- nor has a number that is always the same

@@ -3,7 +3,7 @@ use Rattle.std.specs.Prelude.{ℕ, ◌+◌, ◌-◌, ◌^◌, Bool, true, false,
 use Rattle.std.specs.Option.{option_map_or}
 use Rattle.std.specs.List.{range_with_len, position_from, list_any}
 use Rattle.mc_blocks.specs.declared.Kind.{Kind}
-use Rattle.mc_blocks.specs.declared.Kind.TheVariants.{Inport, Outport, UnitDelay, Constant, Ground}
+use Rattle.mc_blocks.specs.declared.Kind.TheVariants.{Inport, Outport, UnitDelay, Constant, Ground, Terminator}
 use Rattle.mc_blocks.specs.declared.Op.{Op}
 use Rattle.mc_blocks.specs.declared.Op.TheVariants.{Value}
 use Rattle.mc_diagram.specs.Rows.{row_at, by_row}
@@ -15,11 +15,11 @@ use Rattle.c_tree.specs.declared.CType.{CType}
 use Rattle.c_tree.specs.declared.CType.TheVariants.{I32}
 use Rattle.c_emitter.specs.Names.{container}
 use Rattle.c_emitter.specs.declared.block.Block.{Block}
-use Rattle.c_emitter.specs.declared.block.Block.TheVariants.{Input, Output, Delay, Fixed}
+use Rattle.c_emitter.specs.declared.block.Block.TheVariants.{Input, Output, Delay, Fixed, Sink}
 
 -- a row as a block; a row of another kind is in no such diagram
 abbrev pub no_block : Block
-no_block = Input 0
+no_block = Sink
 
 -- the value that an operation gives by itself
 abbrev pub value_of : Op → ℤ
@@ -32,6 +32,7 @@ block_by (Outport port reset initial) wires start value = Output port (first_wir
 block_by (UnitDelay initial) wires start value = Delay (first_wire wires) start
 block_by (Constant number) wires start value = Fixed value
 block_by Ground wires start value = Fixed value
+block_by Terminator wires start value = Sink
 block_by _ wires start value = no_block
 
 -- a block with the C type that holds its number
@@ -69,6 +70,19 @@ abbrev pub is_delay_block : Block → Bool
 is_delay_block (Delay source start) = true
 is_delay_block _ = false
 
+-- a block that others can read
+abbrev pub is_source_block : Block → Bool
+is_source_block (Input port) = true
+is_source_block (Output port source) = false
+is_source_block (Delay source start) = true
+is_source_block (Fixed value) = true
+is_source_block Sink = false
+
+-- a block with a value
+abbrev pub is_valued : Block → Bool
+is_valued Sink = false
+is_valued _ = true
+
 -- the port of an input
 abbrev pub port_of_input : Block → ℕ
 port_of_input (Input port) = port
@@ -80,6 +94,7 @@ source_of (Input port) = 0
 source_of (Output port source) = source
 source_of (Delay source start) = source
 source_of (Fixed value) = 0
+source_of Sink = 0
 
 -- the number of a block whose value is always the same
 abbrev pub fixed_value : Block → ℤ
@@ -125,12 +140,22 @@ input_type blocks k = option_map_or (type_of blocks) (input_row blocks k) I32
 abbrev pub delay_rows : List TypedBlock → List ℕ
 delay_rows blocks = rows_below blocks is_delay_block (length blocks)
 
--- values stand first, each at its row, then the memories in the order of their rows, and the counter behind them
+abbrev pub value_rows : List TypedBlock → List ℕ
+value_rows blocks = rows_below blocks is_valued (length blocks)
+
+-- values stand first, then the memories, both in the order of their rows, and the counter behind them
+abbrev pub value_place : List TypedBlock → ℕ → ℕ
+value_place blocks b = length (rows_below blocks is_valued b)
+
 abbrev pub memory_place : List TypedBlock → ℕ → ℕ
-memory_place blocks b = length blocks + length (rows_below blocks is_delay_block b)
+memory_place blocks b = length (value_rows blocks) + length (rows_below blocks is_delay_block b)
 
 abbrev pub counter_place : List TypedBlock → ℕ
-counter_place blocks = length blocks + length (delay_rows blocks)
+counter_place blocks = length (value_rows blocks) + length (delay_rows blocks)
+
+-- the places of the values, by row
+abbrev pub value_places : List TypedBlock → List ℕ
+value_places blocks = map (value_place blocks) (range_with_len 0 (length blocks))
 
 -- ---- Outputs and functions
 
@@ -180,7 +205,7 @@ feeds_output blocks b = list_any (λ c. c == b) (output_sources blocks)
 -- the source at a row is taken in the function with this need
 abbrev pub is_taken_in : List TypedBlock → ℕ → ℕ → Bool
 is_taken_in blocks need b =
-    not (is_output (block_at blocks b)) && feeds_output blocks b && (source_need (block_at blocks b) == need)
+    is_source_block (block_at blocks b) && feeds_output blocks b && (source_need (block_at blocks b) == need)
 
 -- the output at a row is given in the function with this need
 abbrev pub is_given_in : List TypedBlock → ℕ → ℕ → Bool
@@ -192,4 +217,4 @@ is_held_input blocks b = is_input (block_at blocks b) && feeds_output blocks b
 
 -- the source at a row is taken in the update alone
 abbrev pub is_unheld : List TypedBlock → ℕ → Bool
-is_unheld blocks b = not (is_output (block_at blocks b)) && not (feeds_output blocks b)
+is_unheld blocks b = is_source_block (block_at blocks b) && not (feeds_output blocks b)

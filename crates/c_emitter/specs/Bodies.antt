@@ -8,24 +8,30 @@ use Rattle.c_tree.specs.declared.Leaf.TheVariants.{Param, Own, Child}
 use Rattle.c_tree.specs.declared.Target.TheVariants.{Child as InChild}
 use Rattle.c_tree.specs.Tree.{ExprTree, literal, neg, read, binary, CondTree, compare, StmtTree, assign, branch, call, no_stmts, stmts_of_list, exprs_of_list}
 use Rattle.c_emitter.specs.declared.block.Block.{Block}
-use Rattle.c_emitter.specs.declared.block.Block.TheVariants.{Input, Output, Delay, Fixed}
-use Rattle.c_emitter.specs.Blocks.{TypedBlock, block_at, is_delay_block, port_of_input, source_of, start_value, chosen, input_count, memory_place, counter_place, output_rows, function_needs, is_taken_in, is_given_in, is_held_input, is_unheld}
+use Rattle.c_emitter.specs.declared.block.Block.TheVariants.{Input, Output, Delay, Fixed, Sink}
+use Rattle.c_emitter.specs.Blocks.{TypedBlock, block_at, is_delay_block, is_valued, port_of_input, source_of, start_value, chosen, input_count, value_place, memory_place, counter_place, output_rows, function_needs, is_taken_in, is_given_in, is_held_input, is_unheld}
 
 -- a number, which may be negative
 abbrev pub number_expr : ℤ → ExprTree
 number_expr (pos n) = literal (pos n)
 number_expr (negsuc n) = neg (literal (pos (suc n)))
 
--- what a row's value is stored from: an input from a parameter, an output from its source, a delay from its memory, and
--- one that is always the same from its number
-abbrev pub value_expr : Block → ℕ → ℕ → ExprTree
-value_expr (Input port) param memory = read (Param param)
-value_expr (Output port source) param memory = read (Own source)
-value_expr (Delay source start) param memory = read (Own memory)
-value_expr (Fixed value) param memory = number_expr value
+-- what a row's value is stored from: an input from a parameter, an output from the place of what it reads, a delay from
+-- that of its memory, and one that is always the same from its number; a sink's would be 0
+abbrev pub value_expr : Block → (param source memory : ℕ) → ExprTree
+value_expr (Input port) param source memory = read (Param param)
+value_expr (Output port c) param source memory = read (Own source)
+value_expr (Delay c start) param source memory = read (Own memory)
+value_expr (Fixed value) param source memory = number_expr value
+value_expr Sink param source memory = literal (pos 0)
+
+-- the place of the value that a row reads
+abbrev pub source_place : List TypedBlock → ℕ → ℕ
+source_place blocks b = value_place blocks (source_of (block_at blocks b))
 
 abbrev pub store_value : List TypedBlock → ℕ → ℕ → StmtTree
-store_value blocks param b = assign 0 b (value_expr (block_at blocks b) param (memory_place blocks b))
+store_value blocks param b =
+    assign 0 (value_place blocks b) (value_expr (block_at blocks b) param (source_place blocks b) (memory_place blocks b))
 
 -- the same where the parameters are those of all inputs, behind the tick
 abbrev pub store_by_port : List TypedBlock → ℕ → StmtTree
@@ -33,17 +39,20 @@ store_by_port blocks b = store_value blocks (port_of_input (block_at blocks b)) 
 
 -- a delay's memory takes the value of its source
 abbrev pub store_memory : List TypedBlock → ℕ → StmtTree
-store_memory blocks b = assign 0 (memory_place blocks b) (read (Own (source_of (block_at blocks b))))
+store_memory blocks b = assign 0 (memory_place blocks b) (read (Own (source_place blocks b)))
 
 -- the start of a row's value and of its memory
 abbrev pub start_row : List TypedBlock → ℕ → StmtTree
-start_row blocks b = assign 0 b (number_expr (start_value (block_at blocks b)))
+start_row blocks b = assign 0 (value_place blocks b) (number_expr (start_value (block_at blocks b)))
 
 abbrev pub start_memory : List TypedBlock → ℕ → StmtTree
 start_memory blocks b = assign 0 (memory_place blocks b) (number_expr (start_value (block_at blocks b)))
 
 abbrev pub is_delay_row : List TypedBlock → ℕ → Bool
 is_delay_row blocks b = is_delay_block (block_at blocks b)
+
+abbrev pub is_valued_row : List TypedBlock → ℕ → Bool
+is_valued_row blocks b = is_valued (block_at blocks b)
 
 -- each row runs at every tick: the tick modulo 1 is 0
 abbrev pub hit_test : CondTree
@@ -89,7 +98,7 @@ abbrev pub reset_body : List TypedBlock → List StmtTree
 reset_body blocks = chosen 0 (is_delay_row blocks) (start_memory blocks) (length blocks) ++ set_counter blocks (pos 0) ∷ []
 
 abbrev pub start_body : List TypedBlock → List StmtTree
-start_body blocks = map (start_row blocks) (range_with_len 0 (length blocks)) ++ reset_body blocks
+start_body blocks = chosen 0 (is_valued_row blocks) (start_row blocks) (length blocks) ++ reset_body blocks
 
 -- ---- The root
 
@@ -120,7 +129,7 @@ update_place blocks = length (function_needs blocks)
 
 -- each output takes its row's value
 abbrev pub output_copies : List TypedBlock → List StmtTree
-output_copies blocks = map (λ (e : ℕ × ℕ). assign 0 e.0 (read (Child (top_place blocks) e.1))) (enumerate_from 1 (output_rows blocks))
+output_copies blocks = map (λ (e : ℕ × ℕ). assign 0 e.0 (read (Child (top_place blocks) (value_place blocks e.1)))) (enumerate_from 1 (output_rows blocks))
 
 -- the tick modulo 1
 abbrev pub next_now : StmtTree

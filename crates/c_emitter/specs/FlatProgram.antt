@@ -8,7 +8,7 @@ use Rattle.c_tree.specs.Tree.{FieldTree, StructTree, StmtTree, stmts_of_list, Pa
 use Rattle.mc_profile.specs.Systems.{system_name}
 use Rattle.c_emitter.specs.Names.{value_name, memory_name, now_name, input_name, out_name, update_name, start_name, reset_name, root_name, root_start_name, root_step_name, output_name}
 use Rattle.c_emitter.specs.Headers.{now_param}
-use Rattle.c_emitter.specs.Blocks.{TypedBlock, type_of, input_type, delay_rows, output_rows, output_type, function_needs}
+use Rattle.c_emitter.specs.Blocks.{TypedBlock, type_of, input_type, value_rows, delay_rows, output_rows, output_type, function_needs}
 use Rattle.c_emitter.specs.Bodies.{taken_ports, out_body, update_body, start_body, reset_body, root_start_body, step_body}
 
 -- the counter of the calls of functions in a tick
@@ -22,7 +22,7 @@ typed_field name type = record { name = name; kind = Number type }
 
 abbrev pub top_fields : List TypedBlock → List FieldTree
 top_fields blocks =
-    map (λ b. typed_field (value_name b) (type_of blocks b)) (range_with_len 0 (length blocks))
+    map (λ b. typed_field (value_name b) (type_of blocks b)) (value_rows blocks)
     ++ map (λ b. typed_field (memory_name b) (type_of blocks b)) (delay_rows blocks)
     ++ record { name = counter_name; kind = Number U8 } ∷ []
 

@@ -1,10 +1,10 @@
 -- The statements that one pass over the rows makes.
-use Rattle.std.specs.Prelude.{ℕ, Bool, true, List, length}
+use Rattle.std.specs.Prelude.{ℕ, Bool, List, length}
 use Rattle.c_tree.specs.Tree.{StmtTree}
 use Rattle.c_emitter.specs.declared.pass.Pass.{Pass}
 use Rattle.c_emitter.specs.declared.pass.Pass.TheVariants.{Taken, Given, Held, Unheld, Memories, StartValues, StartMemories}
 use Rattle.c_emitter.specs.Blocks.{TypedBlock, chosen, is_taken_in, is_given_in, is_held_input, is_unheld}
-use Rattle.c_emitter.specs.Bodies.{store_value, store_by_port, store_memory, start_row, start_memory, is_delay_row}
+use Rattle.c_emitter.specs.Bodies.{store_value, store_by_port, store_memory, start_row, start_memory, is_delay_row, is_valued_row}
 
 -- the rows of a pass
 abbrev pub is_in_pass : List TypedBlock → Pass → ℕ → Bool
@@ -13,7 +13,7 @@ is_in_pass blocks (Given need) b = is_given_in blocks need b
 is_in_pass blocks Held b = is_held_input blocks b
 is_in_pass blocks Unheld b = is_unheld blocks b
 is_in_pass blocks Memories b = is_delay_row blocks b
-is_in_pass blocks StartValues b = true
+is_in_pass blocks StartValues b = is_valued_row blocks b
 is_in_pass blocks StartMemories b = is_delay_row blocks b
 
 -- what it makes of each

@@ -1,21 +1,25 @@
 ghost use Rattle.std.specs.Prelude.{◌≡◌};
 
 /// A row of a diagram of one system, with what its code needs of it: the port that it has, the row that it reads, and
-/// the stored integer that a delay starts with, or that a row without inputs always has.
+/// the stored integer that a delay starts with, or that a row without inputs always has. A sink, which a Terminator is,
+/// has no value and no code.
 #[derive(Clone, Copy, Drop)]
 pub(crate) enum Block {
     Input { port: u32 },
     Output { port: u32, source: u32 },
     Delay { source: u32, start: i64 },
     Fixed { value: i64 },
+    Sink,
 }
 
-/// The kinds of blocks that are counted.
+/// The kinds of blocks that are counted; sources are those that others can read.
 #[derive(Clone, Copy, Drop)]
 pub(crate) enum Sort {
     Inputs,
     Outputs,
     Delays,
+    Sources,
+    Values,
 }
 
 impl Block {
@@ -29,6 +33,11 @@ impl Block {
             Sort::Inputs => matches!(self, Block::Input { .. }),
             Sort::Outputs => matches!(self, Block::Output { .. }),
             Sort::Delays => matches!(self, Block::Delay { .. }),
+            Sort::Sources => matches!(
+                self,
+                Block::Input { .. } | Block::Delay { .. } | Block::Fixed { .. }
+            ),
+            Sort::Values => !matches!(self, Block::Sink),
         }
     }
 
@@ -72,7 +81,7 @@ impl Block {
         ensures { result ≡ source_of self }
     {
         match self {
-            Block::Input { .. } | Block::Fixed { .. } => 0,
+            Block::Input { .. } | Block::Fixed { .. } | Block::Sink => 0,
             Block::Output { source, .. } | Block::Delay { source, .. } => source,
         }
     }

@@ -2,7 +2,7 @@ ghost use Rattle.std.specs.Prelude.{◌≡◌, ℕ, ◌+◌, ◌-◌, ◌<◌, �
 ghost use Rattle.c_tree.specs.Tree.{branch, no_stmts, stmts_of_list};
 ghost use Rattle.c_tree.specs.Plain.{cond_tree, stmt_tree};
 ghost use Rattle.c_emitter.specs.Flat.{IsFlatAtEveryTick};
-ghost use Rattle.c_emitter.specs.Blocks.{blocks_of, counter_place, output_sources};
+ghost use Rattle.c_emitter.specs.Blocks.{blocks_of, counter_place, value_places, output_sources};
 ghost use Rattle.c_emitter.specs.Bodies.{hit_test, idle_test, set_counter, out_body, update_body, start_body, reset_body};
 
 use crate::block::Sort;
@@ -31,7 +31,7 @@ fn counter_place(d: &FlatDiagram) -> u32
     requires { IsFlatAtEveryTick d.now }
     ensures { result ≡ counter_place (blocks_of d.now) }
 {
-    d.rows.len() as u32 + count(d, Sort::Delays)
+    count(d, Sort::Values) + count(d, Sort::Delays)
 }
 
 // Whether no function was called in this tick.
@@ -69,16 +69,18 @@ fn under(alloc: Global, test: Cond, stores: Vec<Stmt>) -> Stmt
 pub(crate) fn out_body(
     alloc: Global,
     d: &FlatDiagram,
+    places: &[u32],
     sources: &[u64],
     need: u64,
 ) -> Result<Vec<Stmt>, Memory>
     requires flat { IsFlatAtEveryTick d.now }
+    requires places { places.now ≡ value_places (blocks_of d.now) }
     requires read { sources.now ≡ output_sources (blocks_of d.now) }
     ensures { IfOk result (λ v. map stmt_tree v.items ≡ out_body (blocks_of d.now) need) }
 {
     let mut stores = Vec::new(alloc);
-    push_pass(alloc, &mut stores, d, sources, Pass::Taken(need))?;
-    push_pass(alloc, &mut stores, d, sources, Pass::Given(need))?;
+    push_pass(alloc, &mut stores, d, places, sources, Pass::Taken(need))?;
+    push_pass(alloc, &mut stores, d, places, sources, Pass::Given(need))?;
     let mut body = Vec::new(alloc);
     body.push(under(alloc, hit_test(alloc)?, stores))?;
     body.push(set_counter(d, 1))?;
@@ -89,17 +91,19 @@ pub(crate) fn out_body(
 pub(crate) fn update_body(
     alloc: Global,
     d: &FlatDiagram,
+    places: &[u32],
     sources: &[u64],
 ) -> Result<Vec<Stmt>, Memory>
     requires flat { IsFlatAtEveryTick d.now }
+    requires places { places.now ≡ value_places (blocks_of d.now) }
     requires read { sources.now ≡ output_sources (blocks_of d.now) }
     ensures { IfOk result (λ v. map stmt_tree v.items ≡ update_body (blocks_of d.now)) }
 {
     let mut held = Vec::new(alloc);
-    push_pass(alloc, &mut held, d, sources, Pass::Held)?;
+    push_pass(alloc, &mut held, d, places, sources, Pass::Held)?;
     let mut stores = Vec::new(alloc);
-    push_pass(alloc, &mut stores, d, sources, Pass::Unheld)?;
-    push_pass(alloc, &mut stores, d, sources, Pass::Memories)?;
+    push_pass(alloc, &mut stores, d, places, sources, Pass::Unheld)?;
+    push_pass(alloc, &mut stores, d, places, sources, Pass::Memories)?;
     let mut body = Vec::new(alloc);
     body.push(under(alloc, idle_test(d), held))?;
     body.push(under(alloc, hit_test(alloc)?, stores))?;
@@ -112,13 +116,15 @@ fn push_reset(
     alloc: Global,
     body: &mut Vec<Stmt>,
     d: &FlatDiagram,
+    places: &[u32],
     sources: &[u64],
 ) -> Result<(), Memory>
     requires flat { IsFlatAtEveryTick d.now }
+    requires places { places.now ≡ value_places (blocks_of d.now) }
     requires read { sources.now ≡ output_sources (blocks_of d.now) }
     ensures { OnOk result (map stmt_tree body.new.items ≡ map stmt_tree body.old.items ++ reset_body (blocks_of d.now)) }
 {
-    push_pass(alloc, body, d, sources, Pass::StartMemories)?;
+    push_pass(alloc, body, d, places, sources, Pass::StartMemories)?;
     body.push(set_counter(d, 0))?;
     Ok(())
 }
@@ -127,14 +133,16 @@ fn push_reset(
 pub(crate) fn reset_body(
     alloc: Global,
     d: &FlatDiagram,
+    places: &[u32],
     sources: &[u64],
 ) -> Result<Vec<Stmt>, Memory>
     requires flat { IsFlatAtEveryTick d.now }
+    requires places { places.now ≡ value_places (blocks_of d.now) }
     requires read { sources.now ≡ output_sources (blocks_of d.now) }
     ensures { IfOk result (λ v. map stmt_tree v.items ≡ reset_body (blocks_of d.now)) }
 {
     let mut body = Vec::new(alloc);
-    push_reset(alloc, &mut body, d, sources)?;
+    push_reset(alloc, &mut body, d, places, sources)?;
     Ok(body)
 }
 
@@ -142,14 +150,16 @@ pub(crate) fn reset_body(
 pub(crate) fn start_body(
     alloc: Global,
     d: &FlatDiagram,
+    places: &[u32],
     sources: &[u64],
 ) -> Result<Vec<Stmt>, Memory>
     requires flat { IsFlatAtEveryTick d.now }
+    requires places { places.now ≡ value_places (blocks_of d.now) }
     requires read { sources.now ≡ output_sources (blocks_of d.now) }
     ensures { IfOk result (λ v. map stmt_tree v.items ≡ start_body (blocks_of d.now)) }
 {
     let mut body = Vec::new(alloc);
-    push_pass(alloc, &mut body, d, sources, Pass::StartValues)?;
-    push_reset(alloc, &mut body, d, sources)?;
+    push_pass(alloc, &mut body, d, places, sources, Pass::StartValues)?;
+    push_reset(alloc, &mut body, d, places, sources)?;
     Ok(body)
 }

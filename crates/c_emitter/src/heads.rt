@@ -4,7 +4,7 @@ ghost use Rattle.c_tree.specs.Tree.{ParamTree};
 ghost use Rattle.c_tree.specs.PlainField.{field_tree, field_trees};
 ghost use Rattle.c_emitter.specs.Flat.{IsFlatAtEveryTick};
 ghost use Rattle.c_emitter.specs.Names.{value_name, memory_name, output_name};
-ghost use Rattle.c_emitter.specs.Blocks.{blocks_of, type_of, delay_rows, output_rows, output_type};
+ghost use Rattle.c_emitter.specs.Blocks.{blocks_of, type_of, value_rows, delay_rows, output_rows, output_type};
 ghost use Rattle.c_emitter.specs.FlatProgram.{typed_field, top_fields, root_fields_of, input_params};
 ghost use Rattle.c_emitter.specs.Heads.{param_trees};
 
@@ -41,13 +41,15 @@ fn number_field(name: Text, of: CType) -> Field
     }
 }
 
-// Appends a field for the value of each row.
+// Appends a field for each value.
 fn push_values(alloc: Global, fields: &mut Vec<Field>, d: &FlatDiagram) -> Result<(), Memory>
     requires { IsFlatAtEveryTick d.now }
-    ensures { OnOk result (field_trees fields.new.items ≡ field_trees fields.old.items ++ map (λ b. typed_field (value_name b) (type_of (blocks_of d.now) b)) (range_with_len 0 (length (blocks_of d.now)))) }
+    ensures { OnOk result (field_trees fields.new.items ≡ field_trees fields.old.items ++ map (λ b. typed_field (value_name b) (type_of (blocks_of d.now) b)) (value_rows (blocks_of d.now))) }
 {
     for row in 0..d.rows.len() {
-        fields.push(number_field(numbered(alloc, "v", row)?, row_type(d, row)))?;
+        if block_at(d, row).is_of(Sort::Values) {
+            fields.push(number_field(numbered(alloc, "v", row)?, row_type(d, row)))?;
+        }
     }
     Ok(())
 }

@@ -6,6 +6,7 @@ mod bodies;
 mod few;
 mod flat;
 mod heads;
+mod kinds;
 mod pass;
 mod program;
 mod root;
@@ -13,6 +14,7 @@ mod rows;
 mod types;
 
 pub use flat::FlatDiagram;
+pub use kinds::is_emitted;
 pub use program::{emit, function_count};
 
 #[cfg(test)]

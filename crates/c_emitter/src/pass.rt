@@ -2,13 +2,13 @@ ghost use Rattle.std.specs.Prelude.{◌≡◌, ℕ, ◌+◌, ◌^◌, ◌<◌, �
 ghost use Rattle.c_tree.specs.Tree.{read, assign, StmtTree};
 ghost use Rattle.c_tree.specs.Plain.{expr_tree, stmt_tree};
 ghost use Rattle.c_emitter.specs.Flat.{IsFlatAtEveryTick};
-ghost use Rattle.c_emitter.specs.Blocks.{blocks_of, fixed_value, memory_place, output_sources};
+ghost use Rattle.c_emitter.specs.Blocks.{blocks_of, fixed_value, memory_place, value_places, output_sources};
 ghost use Rattle.c_emitter.specs.Bodies.{number_expr, value_expr};
 ghost use Rattle.c_emitter.specs.Passes.{is_in_pass, pass_stmt, pass_stmts};
 
 use crate::block::{Block, Sort};
 use crate::flat::FlatDiagram;
-use crate::rows::{block_at, need_of, source_need};
+use crate::rows::{block_at, count, need_of, source_need};
 use c_tree::{Expr, Leaf, Stmt};
 use mc_base::Memory;
 use std::alloc::Global;
@@ -49,16 +49,17 @@ fn number(alloc: Global, value: i64) -> Result<Expr, Memory>
     }
 }
 
-// What a row's value is stored from.
-fn value(alloc: Global, block: Block, param: u32, memory: u32) -> Result<Expr, Memory>
+// What a row's value is stored from, where the value that it reads and its memory are at these places.
+fn value(alloc: Global, block: Block, param: u32, source: u32, memory: u32) -> Result<Expr, Memory>
     requires { neg_ℤ (pos (2 ^ 31)) ≤ℤ fixed_value block }
-    ensures { IfOk result (λ e. expr_tree e ≡ value_expr block param memory) }
+    ensures { IfOk result (λ e. expr_tree e ≡ value_expr block param source memory) }
 {
     match block {
         Block::Input { .. } => Ok(Expr::Read(Leaf::Param(param))),
-        Block::Output { source, .. } => Ok(Expr::Read(Leaf::Own(source))),
+        Block::Output { .. } => Ok(Expr::Read(Leaf::Own(source))),
         Block::Delay { .. } => Ok(Expr::Read(Leaf::Own(memory))),
         Block::Fixed { value } => number(alloc, value),
+        Block::Sink => Ok(Expr::Literal(0)),
     }
 }
 
@@ -72,12 +73,12 @@ fn is_in(pass: Pass, d: &FlatDiagram, sources: &[u64], row: usize) -> bool
     let block = block_at(d, row);
     let feeds = sources.contains(&(row as u64));
     match pass {
-        Pass::Taken(need) => { !block.is_of(Sort::Outputs) && feeds && source_need(d, row) == need }
+        Pass::Taken(need) => { block.is_of(Sort::Sources) && feeds && source_need(d, row) == need }
         Pass::Given(need) => block.is_of(Sort::Outputs) && need_of(d, row) == need,
         Pass::Held => block.is_of(Sort::Inputs) && feeds,
-        Pass::Unheld => !block.is_of(Sort::Outputs) && !feeds,
+        Pass::Unheld => block.is_of(Sort::Sources) && !feeds,
         Pass::Memories | Pass::StartMemories => block.is_of(Sort::Delays),
-        Pass::StartValues => true,
+        Pass::StartValues => block.is_of(Sort::Values),
     }
 }
 
@@ -86,20 +87,26 @@ fn statement(
     alloc: Global,
     pass: Pass,
     d: &FlatDiagram,
+    places: &[u32],
     row: usize,
     memory: u32,
 ) -> Result<Stmt, Memory>
     requires flat { IsFlatAtEveryTick d.now }
+    requires places { places.now ≡ value_places (blocks_of d.now) }
     requires within { row < length d.now.rows }
     requires place { memory ≡ memory_place (blocks_of d.now) row }
     ensures { IfOk result (λ s. stmt_tree s ≡ pass_stmt (blocks_of d.now) pass row) }
 {
     let block = block_at(d, row);
-    let field = row as u32;
+    let field = places[row];
+    let source = places[block.source() as usize];
     match pass {
-        Pass::Taken(_) | Pass::Given(_) => Ok(set(field, value(alloc, block, 1, memory)?)),
-        Pass::Held | Pass::Unheld => Ok(set(field, value(alloc, block, block.port(), memory)?)),
-        Pass::Memories => Ok(set(memory, Expr::Read(Leaf::Own(block.source())))),
+        Pass::Taken(_) | Pass::Given(_) => Ok(set(field, value(alloc, block, 1, source, memory)?)),
+        Pass::Held | Pass::Unheld => {
+            let value = value(alloc, block, block.port(), source, memory)?;
+            Ok(set(field, value))
+        }
+        Pass::Memories => Ok(set(memory, Expr::Read(Leaf::Own(source)))),
         Pass::StartValues => Ok(set(field, number(alloc, block.start())?)),
         Pass::StartMemories => Ok(set(memory, number(alloc, block.start())?)),
     }
@@ -124,17 +131,19 @@ pub(crate) fn push_pass(
     alloc: Global,
     body: &mut Vec<Stmt>,
     d: &FlatDiagram,
+    places: &[u32],
     sources: &[u64],
     pass: Pass,
 ) -> Result<(), Memory>
     requires flat { IsFlatAtEveryTick d.now }
+    requires places { places.now ≡ value_places (blocks_of d.now) }
     requires read { sources.now ≡ output_sources (blocks_of d.now) }
     ensures { OnOk result (map stmt_tree body.new.items ≡ map stmt_tree body.old.items ++ pass_stmts (blocks_of d.now) pass) }
 {
-    let mut memory = d.rows.len() as u32;
+    let mut memory = count(d, Sort::Values);
     for row in 0..d.rows.len() {
         if is_in(pass, d, sources, row) {
-            body.push(statement(alloc, pass, d, row, memory)?)?;
+            body.push(statement(alloc, pass, d, places, row, memory)?)?;
         }
         memory = next_place(d, row, memory);
     }

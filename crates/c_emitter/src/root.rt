@@ -1,7 +1,7 @@
 ghost use Rattle.std.specs.Prelude.{◌≡◌, ℕ, ◌+◌, ◌-◌, ◌<◌, ◌≤◌, List, [], ◌∷◌, ◌++◌, map, length, Option, Some, None, IfOk, OnOk};
 ghost use Rattle.c_tree.specs.Plain.{expr_tree, stmt_tree};
 ghost use Rattle.c_emitter.specs.Flat.{IsFlatAtEveryTick};
-ghost use Rattle.c_emitter.specs.Blocks.{blocks_of, input_count, output_rows, function_needs};
+ghost use Rattle.c_emitter.specs.Blocks.{blocks_of, input_count, value_places, output_rows, function_needs};
 ghost use Rattle.c_emitter.specs.Bodies.{takes, taken_ports, top_place, call_top, function_calls, output_copies, next_now, step_body, root_start_body};
 
 use crate::block::Sort;
@@ -95,15 +95,17 @@ fn push_copies(
     body: &mut Vec<Stmt>,
     d: &FlatDiagram,
     top: u32,
+    places: &[u32],
     outputs: &[u64],
 ) -> Result<(), Memory>
     requires flat { IsFlatAtEveryTick d.now }
+    requires places { places.now ≡ value_places (blocks_of d.now) }
     requires place { top ≡ top_place (blocks_of d.now) }
     requires rows { outputs.now ≡ output_rows (blocks_of d.now) }
     ensures { OnOk result (map stmt_tree body.new.items ≡ map stmt_tree body.old.items ++ output_copies (blocks_of d.now)) }
 {
     for (output, row) in outputs.iter().enumerate() {
-        let value = Expr::Read(Leaf::Child(top, *row as u32));
+        let value = Expr::Read(Leaf::Child(top, places[*row as usize]));
         body.push(set(output as u32 + 1, value))?;
     }
     Ok(())
@@ -113,10 +115,12 @@ fn push_copies(
 pub(crate) fn step_body(
     alloc: Global,
     d: &FlatDiagram,
+    places: &[u32],
     outputs: &[u64],
     needs: &[u64],
 ) -> Result<Vec<Stmt>, Memory>
     requires flat { IsFlatAtEveryTick d.now }
+    requires places { places.now ≡ value_places (blocks_of d.now) }
     requires rows { outputs.now ≡ output_rows (blocks_of d.now) }
     requires functions { needs.now ≡ function_needs (blocks_of d.now) }
     ensures { IfOk result (λ v. map stmt_tree v.items ≡ step_body (blocks_of d.now)) }
@@ -125,7 +129,7 @@ pub(crate) fn step_body(
     let mut body = Vec::new(alloc);
     push_calls(alloc, &mut body, d, top, needs)?;
     body.push(call_top(alloc, d, top, needs.len() as u32, None)?)?;
-    push_copies(&mut body, d, top, outputs)?;
+    push_copies(&mut body, d, top, places, outputs)?;
     body.push(next_now(alloc)?)?;
     Ok(body)
 }

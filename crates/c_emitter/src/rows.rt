@@ -1,16 +1,17 @@
-ghost use Rattle.std.specs.Prelude.{◌≡◌, ℕ, ◌<◌, ◌≤◌, List, length, slice_index};
+ghost use Rattle.std.specs.Prelude.{◌≡◌, ℕ, ◌+◌, ◌<◌, ◌≤◌, List, length, slice_index, IfOk};
 ghost use Rattle.mc_diagram.specs.Diagram.{op_at};
 ghost use Rattle.mc_diagram.specs.Run.{start_of};
 ghost use Rattle.mc_profile.specs.Systems.{first_wire};
 ghost use Rattle.c_emitter.specs.Flat.{IsFlatAtEveryTick};
-ghost use Rattle.c_emitter.specs.Blocks.{blocks_of, value_of, block_at, rows_below, source_need, need_of, output_row, output_rows, output_sources, function_needs};
+ghost use Rattle.c_emitter.specs.Blocks.{blocks_of, value_of, block_at, rows_below, value_places, source_need, need_of, output_row, output_rows, output_sources, function_needs};
 ghost use Rattle.c_emitter.specs.Sorts.{is_of};
 
 use crate::block::{Block, Sort};
 use crate::few::Few;
 use crate::flat::FlatDiagram;
-use mc_base::Wires;
+use mc_base::{Memory, Wires};
 use mc_blocks::{Kind, Op};
+use std::alloc::Global;
 
 // The row that a row's one wire comes from.
 fn first_wire(wires: &Wires) -> u32
@@ -25,8 +26,9 @@ fn start_at(d: &FlatDiagram, row: usize) -> i64
     requires within { row < length d.now.rows }
     ensures { result ≡ start_of d.now row }
 {
-    match d.ops[row] {
-        Op::Delay(start) => start,
+    let op = &d.ops[row];
+    match op {
+        Op::Delay(start) => *start,
         _ => 0,
     }
 }
@@ -37,8 +39,9 @@ fn value_at(d: &FlatDiagram, row: usize) -> i64
     requires within { row < length d.now.rows }
     ensures { result ≡ value_of (op_at d.now row) }
 {
-    match d.ops[row] {
-        Op::Value(value) => value,
+    let op = &d.ops[row];
+    match op {
+        Op::Value(value) => *value,
         _ => 0,
     }
 }
@@ -63,7 +66,8 @@ pub(crate) fn block_at(d: &FlatDiagram, row: usize) -> Block
         Kind::Constant(_) | Kind::Ground => Block::Fixed {
             value: value_at(d, row),
         },
-        _ => Block::Input { port: 0 },
+        // A Terminator: no row is of another kind.
+        _ => Block::Sink,
     }
 }
 
@@ -79,6 +83,22 @@ pub(crate) fn count(d: &FlatDiagram, sort: Sort) -> u32
         }
     }
     count
+}
+
+// The places of the rows' values among the fields of `top`; a row without a value has that of the next one.
+pub(crate) fn value_places(alloc: Global, d: &FlatDiagram) -> Result<Vec<u32>, Memory>
+    requires { IsFlatAtEveryTick d.now }
+    ensures { IfOk result (λ v. v.items ≡ value_places (blocks_of d.now)) }
+{
+    let mut places = Vec::new(alloc);
+    let mut next = 0;
+    for row in 0..d.rows.len() {
+        places.push(next)?;
+        if block_at(d, row).is_of(Sort::Values) {
+            next += 1;
+        }
+    }
+    Ok(places)
 }
 
 // The row of the output with a port.

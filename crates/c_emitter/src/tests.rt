@@ -1,5 +1,6 @@
 use super::*;
 use c_tree::CType;
+use mc_blocks::Kind;
 use mc_fixed::FixType;
 use std::test::Fail;
 
@@ -24,5 +25,12 @@ fn each_container_holds_the_widths_up_to_its_own(rt: HostRuntime) -> Result<(), 
             None => assert!(rt; false, "{bits}"),
         }
     }
+    Ok(())
+}
+
+#[test]
+fn terminators_are_emitted_and_holds_are_not(rt: HostRuntime) -> Result<(), Fail> {
+    assert!(rt; is_emitted(&Kind::Terminator));
+    assert!(rt; !is_emitted(&Kind::ZeroOrderHold));
     Ok(())
 }

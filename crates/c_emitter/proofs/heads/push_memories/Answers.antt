@@ -13,9 +13,8 @@ use Rattle.c_emitter.proofs.heads.push_memories.Goals.{then-is_of+in_ok-numbered
 
 pub row_type-requires-clause-within : goal.row_type-requires-clause-within
 row_type-requires-clause-within c =
-    let size = rows-of-view c.d.inside.rows.items c.d.inside.types.items c.d.inside.ops.items c.args.d.now c.d.view_is in
-    let len = c.d.inside.rows.ok.0 in
-    omega (arith, size, len)
+    let size = rows-of-view c.d.inside.rows.now c.d.inside.types.now c.d.inside.ops.now c.args.d.now c.d.view_is in
+    omega (arith, size)
 
 pub loop-row-preserved : goal.loop-row-preserved
 loop-row-preserved c =
@@ -32,8 +31,7 @@ loop-row-preserved c =
 
 pub returns : goal.returns
 returns c =
-    let size = rows-of-view c.d.inside.rows.items c.d.inside.types.items c.d.inside.ops.items c.args.d.now c.d.view_is in
-    let len = c.d.inside.rows.ok.0 in
+    let size = rows-of-view c.d.inside.rows.now c.d.inside.types.now c.d.inside.ops.now c.args.d.now c.d.view_is in
     let blocks = blocks-are-rows c.args.d.now c.requires in
-    let all : c.loop-row.row ≡ length (blocks_of c.args.d.now) = omega (arith, size, len, blocks) in
+    let all : c.loop-row.row ≡ length (blocks_of c.args.d.now) = omega (arith, size, blocks) in
     c.loop-row.invariant ∙ ap (λ n. field_trees c.args.fields.now.items ++ chosen 0 (is_delay_row (blocks_of c.args.d.now)) (λ b. typed_field (memory_name b) (type_of (blocks_of c.args.d.now) b)) n) all

@@ -1,16 +1,16 @@
-use Rattle.std.proofs.Common.{◌∙◌, sym, ap, arith}
-use Rattle.c_emitter.specs.Blocks.{blocks_of, is_delay_block}
+use Rattle.std.proofs.Common.{◌∙◌, sym, ap, arith, length}
+use Rattle.c_emitter.specs.Blocks.{blocks_of, is_valued, is_delay_block}
 use Rattle.c_emitter.proofs.RowLoops.{blocks-are-rows, count-small, count-more, count-same}
 use Rattle.c_emitter.proofs.pass.next_place.Goals as goal
 
 pub overflow_add-result : goal.overflow_add-result
 overflow_add-result c =
     let size = blocks-are-rows c.args.d.now c.requires.flat in
-    let few = c.requires.flat.flat.at_most in
     let place = c.requires.place in
     let within = c.requires.within in
+    let values = count-small c.args.d.now c.requires.flat is_valued (length (blocks_of c.args.d.now)) (omega (arith, size)) in
     let small = count-small c.args.d.now c.requires.flat is_delay_block c.args.row (omega (arith, within)) in
-    omega (arith, size, few, place, small)
+    omega (arith, place, values, small)
 
 pub returns-then-is_of : goal.returns-then-is_of
 returns-then-is_of c =

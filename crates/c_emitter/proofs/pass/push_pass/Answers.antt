@@ -1,5 +1,4 @@
 use Rattle.std.proofs.Common.{◌≡◌, ◌∙◌, ◌++◌, sym, ap, arith, length, map}
-use Rattle.std.proofs.lemmas.List.{append-nil}
 use Rattle.c_tree.specs.Plain.{stmt_tree}
 use Rattle.c_emitter.specs.Blocks.{blocks_of, chosen}
 use Rattle.c_emitter.specs.Passes.{is_in_pass, pass_stmt}
@@ -7,13 +6,6 @@ use Rattle.c_emitter.proofs.PassLoops.{pass-passed, pass-skipped}
 use Rattle.c_emitter.proofs.RowLoops.{rows-of-view, blocks-are-rows}
 use Rattle.c_emitter.proofs.pass.push_pass.Goals as goal
 use Rattle.c_emitter.proofs.pass.push_pass.Goals.{then-is_in+in_ok-statement+in_ok-push, else-is_in}
-
-pub loop-row-init : goal.loop-row-init
-loop-row-init c =
-    let size = rows-of-view c.d.inside.rows.items c.d.inside.types.items c.d.inside.ops.items c.args.d.now c.d.view_is in
-    let len = c.d.inside.rows.ok.0 in
-    let blocks = blocks-are-rows c.args.d.now c.requires.flat in
-    record { place = omega (arith, size, len, blocks); stored = sym (append-nil (map stmt_tree c.args.body.now.items)) }
 
 pub loop-row-preserved : goal.loop-row-preserved
 loop-row-preserved c = record {
@@ -29,8 +21,7 @@ loop-row-preserved c = record {
 
 pub returns : goal.returns
 returns c =
-    let size = rows-of-view c.d.inside.rows.items c.d.inside.types.items c.d.inside.ops.items c.args.d.now c.d.view_is in
-    let len = c.d.inside.rows.ok.0 in
+    let size = rows-of-view c.d.inside.rows.now c.d.inside.types.now c.d.inside.ops.now c.args.d.now c.d.view_is in
     let blocks = blocks-are-rows c.args.d.now c.requires.flat in
-    let all : c.loop-row.row ≡ length (blocks_of c.args.d.now) = omega (arith, size, len, blocks) in
+    let all : c.loop-row.row ≡ length (blocks_of c.args.d.now) = omega (arith, size, blocks) in
     c.loop-row.invariant.stored ∙ ap (λ n. map stmt_tree c.args.body.now.items ++ chosen 0 (is_in_pass (blocks_of c.args.d.now) c.args.pass) (pass_stmt (blocks_of c.args.d.now) c.args.pass) n) all

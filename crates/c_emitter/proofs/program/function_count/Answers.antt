@@ -9,5 +9,5 @@ pub returns : goal.returns
 returns c =
     let d = c.args.d.now in
     let told : IsFunctionCount d (length (function_needs (blocks_of d))) =
-    subst (λ d. IsFunctionCount d (length (function_needs (blocks_of d)))) c.d.view_is (flat-function-count c.d.inside.rows.items c.d.inside.types.items c.d.inside.ops.items (subst IsFlat (sym c.d.view_is) c.requires)) in
+    subst (λ d. IsFunctionCount d (length (function_needs (blocks_of d)))) c.d.view_is (flat-function-count c.d.inside.rows.now c.d.inside.types.now c.d.inside.ops.now (subst IsFlat (sym c.d.view_is) c.requires)) in
     subst (IsFunctionCount d) (sym (ap length (c.as_slice.ensures ∙ c.function_needs.ensures))) told

@@ -7,9 +7,8 @@ use Rattle.c_emitter.proofs.rows.count.Goals.{then-is_of, else-is_of}
 
 pub overflow_add-count : goal.overflow_add-count
 overflow_add-count c =
-    let size = rows-of-view c.d.inside.rows.items c.d.inside.types.items c.d.inside.ops.items c.args.d.now c.d.view_is in
-    let len = c.d.inside.rows.ok.0 in
-    let small = count-small c.args.d.now c.requires (is_of c.args.sort) c.loop-row.row (omega (arith, size, len)) in
+    let size = rows-of-view c.d.inside.rows.now c.d.inside.types.now c.d.inside.ops.now c.args.d.now c.d.view_is in
+    let small = count-small c.args.d.now c.requires (is_of c.args.sort) c.loop-row.row (omega (arith, size)) in
     omega (arith, small)
 
 pub loop-row-preserved : goal.loop-row-preserved
@@ -22,8 +21,7 @@ loop-row-preserved c =
 
 pub returns : goal.returns
 returns c =
-    let size = rows-of-view c.d.inside.rows.items c.d.inside.types.items c.d.inside.ops.items c.args.d.now c.d.view_is in
-    let len = c.d.inside.rows.ok.0 in
+    let size = rows-of-view c.d.inside.rows.now c.d.inside.types.now c.d.inside.ops.now c.args.d.now c.d.view_is in
     let blocks = blocks-are-rows c.args.d.now c.requires in
-    let all : c.loop-row.row ≡ length (blocks_of c.args.d.now) = omega (arith, size, len, blocks) in
+    let all : c.loop-row.row ≡ length (blocks_of c.args.d.now) = omega (arith, size, blocks) in
     c.loop-row.invariant ∙ ap (λ n. length (rows_below (blocks_of c.args.d.now) (is_of c.args.sort) n)) all

@@ -5,16 +5,14 @@ use Rattle.c_emitter.proofs.rows.output_row.Goals as goal
 
 pub returns-then-is_output_of : goal.returns-then-is_output_of
 returns-then-is_output_of c =
-    let size = rows-of-view c.d.inside.rows.items c.d.inside.types.items c.d.inside.ops.items c.args.d.now c.d.view_is in
-    let len = c.d.inside.rows.ok.0 in
+    let size = rows-of-view c.d.inside.rows.now c.d.inside.types.now c.d.inside.ops.now c.args.d.now c.d.view_is in
     let blocks = blocks-are-rows c.args.d.now c.requires in
-    let within : c.loop-row.row < length (blocks_of c.args.d.now) = omega (arith, size, len, blocks) in
+    let within : c.loop-row.row < length (blocks_of c.args.d.now) = omega (arith, size, blocks) in
     this-output-row (blocks_of c.args.d.now) c.args.port c.loop-row.row within
     (ap (is_output_of c.args.port) (sym c.block_at.ensures) ∙ sym c.is_output_of.ensures ∙ c.if-is_output_of.true) c.loop-row.invariant
 
 pub returns : goal.returns
 returns c =
-    let size = rows-of-view c.d.inside.rows.items c.d.inside.types.items c.d.inside.ops.items c.args.d.now c.d.view_is in
-    let len = c.d.inside.rows.ok.0 in
+    let size = rows-of-view c.d.inside.rows.now c.d.inside.types.now c.d.inside.ops.now c.args.d.now c.d.view_is in
     let blocks = blocks-are-rows c.args.d.now c.requires in
-    no-output-row (blocks_of c.args.d.now) c.args.port (λ k h. c.loop-row.invariant k (omega (arith, size, len, blocks, h)))
+    no-output-row (blocks_of c.args.d.now) c.args.port (λ k h. c.loop-row.invariant k (omega (arith, size, blocks, h)))

@@ -9,20 +9,18 @@ use Rattle.c_emitter.proofs.rows.output_sources.Goals.{in-Output, in_default}
 
 pub push-requires : goal.push-requires
 push-requires c =
-    let size = rows-of-view c.d.inside.rows.items c.d.inside.types.items c.d.inside.ops.items c.args.d.now c.d.view_is in
-    let len = c.d.inside.rows.ok.0 in
+    let size = rows-of-view c.d.inside.rows.now c.d.inside.types.now c.d.inside.ops.now c.args.d.now c.d.view_is in
     let blocks = blocks-are-rows c.args.d.now c.requires in
     let few = (are-blocks-of c.args.d.now c.requires).few_outputs in
-    let below = sources-few (blocks_of c.args.d.now) c.loop-row.row (omega (arith, size, len, blocks)) (ap is_output (sym c.block_at.ensures) ∙ ap is_output c.in-Output.is) in
+    let below = sources-few (blocks_of c.args.d.now) c.loop-row.row (omega (arith, size, blocks)) (ap is_output (sym c.block_at.ensures) ∙ ap is_output c.in-Output.is) in
     let sources = ap length c.loop-row.invariant in
     omega (arith, few, below, sources)
 
 pub loop-row-preserved : goal.loop-row-preserved
 loop-row-preserved c =
-    let size = rows-of-view c.d.inside.rows.items c.d.inside.types.items c.d.inside.ops.items c.args.d.now c.d.view_is in
-    let len = c.d.inside.rows.ok.0 in
+    let size = rows-of-view c.d.inside.rows.now c.d.inside.types.now c.d.inside.ops.now c.args.d.now c.d.view_is in
     let blocks = blocks-are-rows c.args.d.now c.requires in
-    let within : c.loop-row.row < length (blocks_of c.args.d.now) = omega (arith, size, len, blocks) in
+    let within : c.loop-row.row < length (blocks_of c.args.d.now) = omega (arith, size, blocks) in
     elim c.match-block_at.branch [
       | in-Output w ↦
           w.sources-is ∙ w.push.ensures ∙ ap (λ x. c.loop-row.sources ++ x ∷ []) w.from.ensures ∙ ap (λ k. c.loop-row.sources ++ option_to_list (output_source k)) (sym w.in-Output.is)
@@ -32,7 +30,6 @@ loop-row-preserved c =
 
 pub returns : goal.returns
 returns c =
-    let size = rows-of-view c.d.inside.rows.items c.d.inside.types.items c.d.inside.ops.items c.args.d.now c.d.view_is in
-    let len = c.d.inside.rows.ok.0 in
+    let size = rows-of-view c.d.inside.rows.now c.d.inside.types.now c.d.inside.ops.now c.args.d.now c.d.view_is in
     let blocks = blocks-are-rows c.args.d.now c.requires in
-    c.loop-row.invariant ∙ ap (filter_map (λ (t : TypedBlock). output_source t.block)) (take_all c.loop-row.row (blocks_of c.args.d.now) (omega (arith, size, len, blocks)))
+    c.loop-row.invariant ∙ ap (filter_map (λ (t : TypedBlock). output_source t.block)) (take_all c.loop-row.row (blocks_of c.args.d.now) (omega (arith, size, blocks)))

@@ -3,6 +3,4 @@ use Rattle.c_emitter.proofs.RowLaws.{type-read}
 use Rattle.c_emitter.proofs.types.row_type.Goals as goal
 
 pub returns : goal.returns
-returns c =
-    c.container.ensures
-    ∙ type-read c.d.inside.rows.items c.d.inside.types.items c.d.inside.ops.items c.args.d.now c.d.view_is c.requires.flat.flat c.args.row c.requires.within c.index.result.now c.index.ensures
+returns c = c.container.ensures ∙ type-read c.d.inside.rows.now c.d.inside.types.now c.d.inside.ops.now c.args.d.now c.d.view_is c.requires.flat.flat c.args.row c.requires.within _
