@@ -13,3 +13,4 @@ pub mod Paths
 pub mod Standing
 pub mod Calling
 pub mod PlainCalls
+pub mod Halting

@@ -4,6 +4,7 @@ pub mod Slots
 pub mod Layouts
 pub mod LayoutExamples
 pub mod Answers
+pub mod Halts
 pub mod Reads
 pub mod Sound
 pub mod Seen

@@ -3,60 +3,45 @@ ghost use Rattle.std.specs.Prelude.{◌≡◌, ◌+◌, IfOk, ◌≤ℤ◌, ◌�
 ghost use Rattle.c_tree.specs.Values.{stuck_at, within, operate, compares, is_in_type, take_step, gives, least_of, greatest_of};
 ghost use Rattle.c_meaning.specs.Answers.{answered, IsLater};
 
-use c_tree::{BinOp, CType, Stuck, Why};
+use crate::halts::Halt;
+use c_tree::{BinOp, CType, Why};
 use mc_base::Compare;
 
 /// The most steps of one call from outside.
 const STEP_LIMIT: u64 = 1 << 32;
 
 /// A negated number.
-pub(crate) fn negate(line: u32, x: i64) -> Result<i64, Stuck>
+#[inline(always)]
+pub(crate) fn negate(line: u32, x: i64) -> Result<i64, Halt>
     ensures { (steps : ℕ) → answered result steps ≡ within CType.I64 Why.Overflow line (neg_ℤ x) steps }
 {
-    x.checked_neg().ok_or(Stuck {
-        line,
-        why: Why::Overflow,
-    })
+    x.checked_neg().ok_or(Halt::at(line, Why::Overflow))
 }
 
-fn divide(line: u32, x: i64, y: i64) -> Result<i64, Stuck>
+fn divide(line: u32, x: i64, y: i64) -> Result<i64, Halt>
     ensures { (steps : ℕ) → answered result steps ≡ operate BinOp.Div line x y steps }
 {
     if y == 0 {
-        return Err(Stuck {
-            line,
-            why: Why::ZeroDivisor,
-        });
+        return Err(Halt::at(line, Why::ZeroDivisor));
     }
-    x.checked_div(y).ok_or(Stuck {
-        line,
-        why: Why::Overflow,
-    })
+    x.checked_div(y).ok_or(Halt::at(line, Why::Overflow))
 }
 
-fn remainder(line: u32, x: i64, y: i64) -> Result<i64, Stuck>
+fn remainder(line: u32, x: i64, y: i64) -> Result<i64, Halt>
     ensures { (steps : ℕ) → answered result steps ≡ operate BinOp.Rem line x y steps }
 {
     if y == 0 {
-        return Err(Stuck {
-            line,
-            why: Why::ZeroDivisor,
-        });
+        return Err(Halt::at(line, Why::ZeroDivisor));
     }
-    x.checked_rem(y).ok_or(Stuck {
-        line,
-        why: Why::Overflow,
-    })
+    x.checked_rem(y).ok_or(Halt::at(line, Why::Overflow))
 }
 
 /// The result of an operator.
-pub(crate) fn operate(op: BinOp, line: u32, x: i64, y: i64) -> Result<i64, Stuck>
+#[inline(always)]
+pub(crate) fn operate(op: BinOp, line: u32, x: i64, y: i64) -> Result<i64, Halt>
     ensures { (steps : ℕ) → answered result steps ≡ operate op line x y steps }
 {
-    let overflow = Stuck {
-        line,
-        why: Why::Overflow,
-    };
+    let overflow = Halt::at(line, Why::Overflow);
     match op {
         BinOp::Add => x.checked_add(y).ok_or(overflow),
         BinOp::Sub => x.checked_sub(y).ok_or(overflow),
@@ -67,6 +52,7 @@ pub(crate) fn operate(op: BinOp, line: u32, x: i64, y: i64) -> Result<i64, Stuck
 }
 
 /// Whether a comparison holds.
+#[inline(always)]
 pub(crate) fn compares(how: Compare, x: i64, y: i64) -> bool
     ensures { result ≡ compares how x y }
 {
@@ -80,6 +66,7 @@ pub(crate) fn compares(how: Compare, x: i64, y: i64) -> bool
     }
 }
 
+#[inline(always)]
 fn least_of(of: CType) -> i64
     ensures { result ≡ least_of of }
 {
@@ -92,6 +79,7 @@ fn least_of(of: CType) -> i64
     }
 }
 
+#[inline(always)]
 fn greatest_of(of: CType) -> i64
     ensures { result ≡ greatest_of of }
 {
@@ -107,23 +95,24 @@ fn greatest_of(of: CType) -> i64
 }
 
 /// Whether a number is one of a type.
+#[inline(always)]
 pub(crate) fn is_in_type(of: CType, value: i64) -> bool
     ensures { result ≡ is_in_type of value }
 {
-    least_of(of) <= value && value <= greatest_of(of)
+    let above = least_of(of) <= value;
+    let below = value <= greatest_of(of);
+    above & below
 }
 
 /// Takes one more step, unless that is one too many.
-pub(crate) fn take_step(line: u32, steps: &mut u64) -> Result<(), Stuck>
+#[inline(always)]
+pub(crate) fn take_step(line: u32, steps: &mut u64) -> Result<(), Halt>
     ensures taken { answered result steps.new ≡ take_step line steps.old (gives tt) }
     ensures later { IsLater steps.old steps.new }
     ensures one { IfOk result (λ u. steps.new ≡ steps.old + 1) }
 {
     if *steps >= STEP_LIMIT {
-        return Err(Stuck {
-            line,
-            why: Why::Steps,
-        });
+        return Err(Halt::at(line, Why::Steps));
     }
     *steps += 1;
     Ok(())

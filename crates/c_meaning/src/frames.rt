@@ -5,15 +5,16 @@ ghost use Rattle.c_tree.specs.Plain.{expr_tree, cond_tree, pure_tree, program_tr
 ghost use Rattle.c_tree.specs.Tree.{exprs_of_list};
 ghost use Rattle.c_tree.specs.Machine.{arguments};
 ghost use Rattle.c_tree.specs.Values.{eval, eval_cond, functions_of, reads, and_then, within};
-ghost use Rattle.c_meaning.specs.Answers.{answered, put_answer, IsLater};
+ghost use Rattle.c_meaning.specs.Answers.{answered, judged, put_answer, IsLater};
 ghost use Rattle.c_meaning.specs.Reads.{view_reads, view_functions, IsNarrowExpr, AreNarrowExprs, IsNarrowCond, AreNarrow};
 ghost use Rattle.c_meaning.specs.States.{filled};
 ghost use Rattle.c_meaning.specs.Sound.{IsReady, zero_at};
 
 use crate::arithmetic::is_in_type;
+use crate::halts::{Halt, Verdict};
 use crate::slots::{Layout, slots_at};
-use crate::values::{View, eval, eval_cond};
-use c_tree::{CType, Cond, Expr, Program, Stuck, Why};
+use crate::values::{View, eval_any, eval_cond, read};
+use c_tree::{CType, Cond, Expr, Leaf, Program, Why};
 use mc_base::Text;
 
 /// A body: its program with the machine's tables, the procedure's position, its struct, and its arguments.
@@ -44,7 +45,18 @@ fn view_of<'a>(frame: &Frame<'a>, numbers: &'a [i64], line: u32) -> View<'a>
     }
 }
 
-/// The value of an expression of the body.
+// What a leaf of the body reads.
+#[inline(always)]
+fn leaf_of(frame: &Frame, numbers: &[i64], leaf: Leaf) -> i64
+    requires { IsReady (program_tree frame.now.program.now) frame.now.layouts.now frame.now.logged.now }
+    ensures { result ≡ reads frame.now.values.now (filled (zero_at (program_tree frame.now.program.now) frame.now.of) numbers.now) leaf }
+{
+    let view = view_of(frame, numbers, 0);
+    read(&view, leaf)
+}
+
+/// The value of an expression of the body. Leaves and literals take no view that stands in memory,
+/// and are asked for one by one, since a jump by a table costs more than both tests.
 #[inline(always)]
 pub(crate) fn value_of(
     frame: &Frame,
@@ -52,14 +64,37 @@ pub(crate) fn value_of(
     line: u32,
     e: &Expr,
     steps: &mut u64,
-) -> Result<i64, Stuck>
+) -> Result<i64, Halt>
+    requires ready { IsReady (program_tree frame.now.program.now) frame.now.layouts.now frame.now.logged.now }
+    requires narrow { IsNarrowExpr (expr_tree e.now) }
+    ensures value { answered result steps.new ≡ eval (functions_of [] (program_tree frame.now.program.now).pures) (reads frame.now.values.now (filled (zero_at (program_tree frame.now.program.now) frame.now.of) numbers.now)) line (expr_tree e.now) steps.old }
+    ensures later { IsLater steps.old steps.new }
+{
+    if let Expr::Read(leaf) = e {
+        return Ok(leaf_of(frame, numbers, *leaf));
+    }
+    if let Expr::Literal(value) = e {
+        return Ok(*value);
+    }
+    value_of_any(frame, numbers, line, e, steps)
+}
+
+// The same, by a call.
+#[inline(never)]
+fn value_of_any(
+    frame: &Frame,
+    numbers: &[i64],
+    line: u32,
+    e: &Expr,
+    steps: &mut u64,
+) -> Result<i64, Halt>
     requires ready { IsReady (program_tree frame.now.program.now) frame.now.layouts.now frame.now.logged.now }
     requires narrow { IsNarrowExpr (expr_tree e.now) }
     ensures value { answered result steps.new ≡ eval (functions_of [] (program_tree frame.now.program.now).pures) (reads frame.now.values.now (filled (zero_at (program_tree frame.now.program.now) frame.now.of) numbers.now)) line (expr_tree e.now) steps.old }
     ensures later { IsLater steps.old steps.new }
 {
     let view = view_of(frame, numbers, line);
-    eval(&view, e, steps)
+    eval_any(&view, e, steps)
 }
 
 /// Whether a condition of the body holds.
@@ -69,10 +104,10 @@ pub(crate) fn holds(
     line: u32,
     test: &Cond,
     steps: &mut u64,
-) -> Result<bool, Stuck>
+) -> Verdict
     requires ready { IsReady (program_tree frame.now.program.now) frame.now.layouts.now frame.now.logged.now }
     requires narrow { IsNarrowCond (cond_tree test.now) }
-    ensures value { answered result steps.new ≡ eval_cond (functions_of [] (program_tree frame.now.program.now).pures) (reads frame.now.values.now (filled (zero_at (program_tree frame.now.program.now) frame.now.of) numbers.now)) line (cond_tree test.now) steps.old }
+    ensures value { judged result steps.new ≡ eval_cond (functions_of [] (program_tree frame.now.program.now).pures) (reads frame.now.values.now (filled (zero_at (program_tree frame.now.program.now) frame.now.of) numbers.now)) line (cond_tree test.now) steps.old }
     ensures later { IsLater steps.old steps.new }
 {
     let view = view_of(frame, numbers, line);
@@ -88,7 +123,7 @@ fn argument(
     of: CType,
     e: &Expr,
     steps: &mut u64,
-) -> Result<i64, Stuck>
+) -> Result<i64, Halt>
     requires ready { IsReady (program_tree frame.now.program.now) frame.now.layouts.now frame.now.logged.now }
     requires narrow { IsNarrowExpr (expr_tree e.now) }
     ensures value { answered result steps.new ≡ and_then (eval (functions_of [] (program_tree frame.now.program.now).pures) (reads frame.now.values.now (filled (zero_at (program_tree frame.now.program.now) frame.now.of) numbers.now)) line (expr_tree e.now) steps.old) (within of Why.Range line) }
@@ -98,10 +133,7 @@ fn argument(
     if is_in_type(of, value) {
         Ok(value)
     } else {
-        Err(Stuck {
-            line,
-            why: Why::Range,
-        })
+        Err(Halt::at(line, Why::Range))
     }
 }
 
@@ -114,7 +146,7 @@ pub(crate) fn put_arguments(
     values: &[Expr],
     out: &mut [i64],
     steps: &mut u64,
-) -> Result<(), Stuck>
+) -> Result<(), Halt>
     requires ready { IsReady (program_tree frame.now.program.now) frame.now.layouts.now frame.now.logged.now }
     requires narrow { AreNarrowExprs (exprs_of_list (map expr_tree values.now)) }
     requires params { length params.now ≡ length values.now }

@@ -4,6 +4,7 @@
 mod arithmetic;
 mod calls;
 mod frames;
+mod halts;
 mod instances;
 mod layouts;
 mod machine;

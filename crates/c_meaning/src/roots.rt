@@ -47,8 +47,10 @@ pub(crate) fn run_root(
         values: &[],
     };
     let mut cost = Cost { steps: 0, calls: 0 };
-    run_procedure(&frame, procedure, root, inputs, numbers, &mut cost)?;
-    Ok(cost)
+    match run_procedure(&frame, procedure, root, inputs, numbers, &mut cost) {
+        Ok(()) => Ok(cost),
+        Err(halt) => Err(halt.place()),
+    }
 }
 
 fn output(slots: &[Slot], field: usize, numbers: &[i64]) -> i64

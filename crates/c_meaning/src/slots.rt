@@ -61,6 +61,7 @@ pub(crate) fn slot_in(slots: &[Slot], field: usize) -> Option<Slot>
 }
 
 /// The places of the fields of the struct at a position.
+#[inline(always)]
 pub(crate) fn slots_at(layouts: &[Layout], of: u32) -> &[Slot]
     ensures { result.now ≡ (layout_at layouts.now of).slots }
 {
@@ -71,6 +72,7 @@ pub(crate) fn slots_at(layouts: &[Layout], of: u32) -> &[Slot]
 }
 
 /// The numbers from a place on.
+#[inline(always)]
 pub(crate) fn numbers_from(numbers: &[i64], at: usize) -> &[i64]
     ensures { result.now ≡ drop at numbers.now }
 {
@@ -81,19 +83,31 @@ pub(crate) fn numbers_from(numbers: &[i64], at: usize) -> &[i64]
     }
 }
 
+/// The number that the field at a position holds, and 0 where it holds none.
+#[inline(always)]
+pub(crate) fn own_number(slots: &[Slot], numbers: &[i64], field: u32) -> i64
+    ensures { result ≡ number_in numbers.now (slice_get slots.now field) }
+{
+    match slots.get(field as usize) {
+        Some(Slot::Number { at, .. }) => numbers.get(*at).copied().unwrap_or(0),
+        _ => 0,
+    }
+}
+
 /// The number that a field of a field holds, and 0 where it holds none.
+#[inline(always)]
 pub(crate) fn number_under(
     layouts: &[Layout],
+    slots: &[Slot],
     numbers: &[i64],
-    slot: Option<Slot>,
+    outer: u32,
     field: u32,
 ) -> i64
-    ensures { result ≡ number_under layouts.now numbers.now slot field }
+    ensures { result ≡ number_under layouts.now numbers.now (slice_get slots.now outer) field }
 {
-    match slot {
+    match slots.get(outer as usize) {
         Some(Slot::Instance { at, of, .. }) => {
-            let inner = slots_at(layouts, of).get(field as usize).copied();
-            number_in(numbers_from(numbers, at), inner)
+            own_number(slots_at(layouts, *of), numbers_from(numbers, *at), field)
         }
         _ => 0,
     }

@@ -11,10 +11,12 @@ ghost use Rattle.c_meaning.specs.Seen.{seen, ended, IsCounted, IsStepped};
 
 use crate::arithmetic::{is_in_type, take_step};
 use crate::frames::{Frame, holds, put_arguments, value_of};
+use crate::halts::{Halt, Verdict};
 use crate::slots::{Slot, slots_at};
-use crate::values::first_of;
-use c_tree::{CType, Cond, Cost, Expr, Stmt, Stuck, Target, Why};
+use crate::values::{FEW, first_of, first_of_few};
+use c_tree::{CType, Cond, Cost, Expr, Stmt, Target, Why};
 
+#[inline(always)]
 fn slot_at(frame: &Frame, field: u32) -> Option<Slot>
     ensures { result ≡ slice_get (layout_at frame.now.layouts.now frame.now.of).slots field }
 {
@@ -24,6 +26,7 @@ fn slot_at(frame: &Frame, field: u32) -> Option<Slot>
 }
 
 // The place of a number field, and its type.
+#[inline(always)]
 #[tactic(auto, using(crate::proofs::Places::number_there))]
 fn number_slot(frame: &Frame, field: u32) -> (usize, CType)
     requires ready { IsReady (program_tree frame.now.program.now) frame.now.layouts.now frame.now.logged.now }
@@ -52,7 +55,8 @@ fn instance_slot(frame: &Frame, field: u32) -> (usize, usize, u32)
 }
 
 // Stores a number in a field, if it is in the field's type.
-fn store(frame: &Frame, line: u32, field: u32, value: i64, numbers: &mut [i64]) -> Result<(), Stuck>
+#[inline(always)]
+fn store(frame: &Frame, line: u32, field: u32, value: i64, numbers: &mut [i64]) -> Result<(), Halt>
     requires ready { IsReady (program_tree frame.now.program.now) frame.now.layouts.now frame.now.logged.now }
     requires room { length numbers.old ≡ (layout_at frame.now.layouts.now frame.now.of).size }
     requires number { IsNumberField (program_tree frame.now.program.now) frame.now.of field }
@@ -64,13 +68,11 @@ fn store(frame: &Frame, line: u32, field: u32, value: i64, numbers: &mut [i64]) 
         numbers[at] = value;
         Ok(())
     } else {
-        Err(Stuck {
-            line,
-            why: Why::Range,
-        })
+        Err(Halt::at(line, Why::Range))
     }
 }
 
+#[inline(always)]
 fn set_field(
     frame: &Frame,
     line: u32,
@@ -78,7 +80,7 @@ fn set_field(
     e: &Expr,
     numbers: &mut [i64],
     cost: &mut Cost,
-) -> Result<(), Stuck>
+) -> Result<(), Halt>
     requires ready { IsReady (program_tree frame.now.program.now) frame.now.layouts.now frame.now.logged.now }
     requires sound { IsSoundStmt (program_tree frame.now.program.now) frame.now.level frame.now.of (assign line field (expr_tree e.now)) }
     requires room { length numbers.old ≡ (layout_at frame.now.layouts.now frame.now.of).size }
@@ -101,7 +103,7 @@ pub(crate) fn run_all(
     stmts: &[Stmt],
     numbers: &mut [i64],
     cost: &mut Cost,
-) -> Result<(), Stuck>
+) -> Result<(), Halt>
     requires ready { IsReady (program_tree frame.now.program.now) frame.now.layouts.now frame.now.logged.now }
     requires sound { AreSoundStmts (program_tree frame.now.program.now) frame.now.level frame.now.of (stmts_of_list (map stmt_tree stmts.now)) }
     requires room { length numbers.old ≡ (layout_at frame.now.layouts.now frame.now.of).size }
@@ -117,7 +119,8 @@ pub(crate) fn run_all(
 }
 
 #[cycle(statement)]
-fn run(frame: &Frame, stmt: &Stmt, numbers: &mut [i64], cost: &mut Cost) -> Result<(), Stuck>
+#[inline(always)]
+fn run(frame: &Frame, stmt: &Stmt, numbers: &mut [i64], cost: &mut Cost) -> Result<(), Halt>
     requires ready { IsReady (program_tree frame.now.program.now) frame.now.layouts.now frame.now.logged.now }
     requires sound { IsSoundStmt (program_tree frame.now.program.now) frame.now.level frame.now.of (stmt_tree stmt.now) }
     requires room { length numbers.old ≡ (layout_at frame.now.layouts.now frame.now.of).size }
@@ -144,6 +147,7 @@ fn run(frame: &Frame, stmt: &Stmt, numbers: &mut [i64], cost: &mut Cost) -> Resu
 }
 
 #[cycle(statement)]
+#[inline(never)]
 fn run_if(
     frame: &Frame,
     line: u32,
@@ -152,7 +156,7 @@ fn run_if(
     on_false: &[Stmt],
     numbers: &mut [i64],
     cost: &mut Cost,
-) -> Result<(), Stuck>
+) -> Result<(), Halt>
     requires ready { IsReady (program_tree frame.now.program.now) frame.now.layouts.now frame.now.logged.now }
     requires sound { IsSoundStmt (program_tree frame.now.program.now) frame.now.level frame.now.of (branch line (cond_tree test.now) (stmts_of_list (map stmt_tree on_true.now)) (stmts_of_list (map stmt_tree on_false.now))) }
     requires room { length numbers.old ≡ (layout_at frame.now.layouts.now frame.now.of).size }
@@ -162,15 +166,15 @@ fn run_if(
     ensures counted { IsCounted cost.new }
 {
     take_step(line, &mut cost.steps)?;
-    let is_so = holds(frame, numbers, line, test, &mut cost.steps)?;
-    if is_so {
-        run_all(frame, on_true, numbers, cost)
-    } else {
-        run_all(frame, on_false, numbers, cost)
+    match holds(frame, numbers, line, test, &mut cost.steps) {
+        Verdict::Holds => run_all(frame, on_true, numbers, cost),
+        Verdict::Fails => run_all(frame, on_false, numbers, cost),
+        Verdict::Halts(at) => Err(at),
     }
 }
 
 #[cycle(statement)]
+#[inline(never)]
 fn run_call(
     frame: &Frame,
     line: u32,
@@ -179,7 +183,7 @@ fn run_call(
     values: &[Expr],
     numbers: &mut [i64],
     cost: &mut Cost,
-) -> Result<(), Stuck>
+) -> Result<(), Halt>
     requires ready { IsReady (program_tree frame.now.program.now) frame.now.layouts.now frame.now.logged.now }
     requires sound { IsSoundStmt (program_tree frame.now.program.now) frame.now.level frame.now.of (call line procedure target (exprs_of_list (map expr_tree values.now))) }
     requires room { length numbers.old ≡ (layout_at frame.now.layouts.now frame.now.of).size }
@@ -188,9 +192,65 @@ fn run_call(
         ≡ seen cost.old.calls (run_stmt (scope_at (program_tree frame.now.program.now) frame.now.level frame.now.of frame.now.values.now) (call line procedure target (exprs_of_list (map expr_tree values.now))) (filled (zero_at (program_tree frame.now.program.now) frame.now.of) numbers.old) cost.old.steps) }
     ensures counted { IsCounted cost.new }
 {
-    take_step(line, &mut cost.steps)?;
+    if values.len() <= FEW {
+        let mut room = [0; FEW];
+        let arguments = first_of_few(&mut room, values.len());
+        call_into(
+            frame, line, procedure, target, values, arguments, numbers, cost,
+        )
+    } else {
+        call_many(frame, line, procedure, target, values, numbers, cost)
+    }
+}
+
+#[cycle(statement)]
+#[inline(never)]
+fn call_many(
+    frame: &Frame,
+    line: u32,
+    procedure: u32,
+    target: Target,
+    values: &[Expr],
+    numbers: &mut [i64],
+    cost: &mut Cost,
+) -> Result<(), Halt>
+    requires ready { IsReady (program_tree frame.now.program.now) frame.now.layouts.now frame.now.logged.now }
+    requires sound { IsSoundStmt (program_tree frame.now.program.now) frame.now.level frame.now.of (call line procedure target (exprs_of_list (map expr_tree values.now))) }
+    requires room { length numbers.old ≡ (layout_at frame.now.layouts.now frame.now.of).size }
+    requires counted { IsCounted cost.old }
+    ensures ran { ended (zero_at (program_tree frame.now.program.now) frame.now.of) result numbers.new cost.new
+        ≡ seen cost.old.calls (run_stmt (scope_at (program_tree frame.now.program.now) frame.now.level frame.now.of frame.now.values.now) (call line procedure target (exprs_of_list (map expr_tree values.now))) (filled (zero_at (program_tree frame.now.program.now) frame.now.of) numbers.old) cost.old.steps) }
+    ensures counted { IsCounted cost.new }
+{
     let mut room = [0; 64];
     let arguments = first_of(&mut room, values.len());
+    call_into(
+        frame, line, procedure, target, values, arguments, numbers, cost,
+    )
+}
+
+// A call, whose arguments are put into a room for them.
+#[cycle(statement)]
+fn call_into(
+    frame: &Frame,
+    line: u32,
+    procedure: u32,
+    target: Target,
+    values: &[Expr],
+    arguments: &mut [i64],
+    numbers: &mut [i64],
+    cost: &mut Cost,
+) -> Result<(), Halt>
+    requires ready { IsReady (program_tree frame.now.program.now) frame.now.layouts.now frame.now.logged.now }
+    requires sound { IsSoundStmt (program_tree frame.now.program.now) frame.now.level frame.now.of (call line procedure target (exprs_of_list (map expr_tree values.now))) }
+    requires room { length numbers.old ≡ (layout_at frame.now.layouts.now frame.now.of).size }
+    requires counted { IsCounted cost.old }
+    requires space { length arguments.old ≡ length values.now }
+    ensures ran { ended (zero_at (program_tree frame.now.program.now) frame.now.of) result numbers.new cost.new
+        ≡ seen cost.old.calls (run_stmt (scope_at (program_tree frame.now.program.now) frame.now.level frame.now.of frame.now.values.now) (call line procedure target (exprs_of_list (map expr_tree values.now))) (filled (zero_at (program_tree frame.now.program.now) frame.now.of) numbers.old) cost.old.steps) }
+    ensures counted { IsCounted cost.new }
+{
+    take_step(line, &mut cost.steps)?;
     let callee = &frame.program.procedures[procedure as usize];
     put_arguments(
         frame,
@@ -212,7 +272,7 @@ fn run_at(
     arguments: &[i64],
     numbers: &mut [i64],
     cost: &mut Cost,
-) -> Result<(), Stuck>
+) -> Result<(), Halt>
     requires ready { IsReady (program_tree frame.now.program.now) frame.now.layouts.now frame.now.logged.now }
     requires there { IsCallOf (program_tree frame.now.program.now) frame.now.of procedure target }
     requires earlier { procedure < frame.now.level }
@@ -248,7 +308,7 @@ pub(crate) fn run_procedure(
     arguments: &[i64],
     numbers: &mut [i64],
     cost: &mut Cost,
-) -> Result<(), Stuck>
+) -> Result<(), Halt>
     requires ready { IsReady (program_tree frame.now.program.now) frame.now.layouts.now frame.now.logged.now }
     requires there { IsProcedureOf (program_tree frame.now.program.now) procedure of }
     requires earlier { procedure < frame.now.level }

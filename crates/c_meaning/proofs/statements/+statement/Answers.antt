@@ -97,31 +97,31 @@ run_at-returns-in-Child-clause-ran t c =
     let cells : Cells = filled (zero_at (program_tree c.args.frame.now.program.now) c.args.frame.now.of) numbers in
     target_left c.in-Child.f c.args.cost.now.calls c.args.cost.now.steps c.args.target cells cells (zero_at (program_tree c.args.frame.now.program.now) c.args.frame.now.of) c.instance_slot-at.result.2 there.0.struct (zeros_of (program_tree c.args.frame.now.program.now)) c.run_procedure-in-Child.result c.run_procedure-in-Child.new.numbers _ c.run_procedure-in-Child.new.cost ((routine_at (scope_at (program_tree c.args.frame.now.program.now) c.args.frame.now.level c.args.frame.now.of c.args.frame.now.values.now).routines c.args.procedure).run c.args.arguments.now) (take (at + size - at) (drop at numbers)) c.in-Child.is h.struct_is (h.fields_are ∙ (λ i. filled (zero_at (program_tree c.args.frame.now.program.now) there.0.struct) (take (sym n i) (drop at numbers)))) c.run_procedure-in-Child.ensures.ran (h.left c.run_procedure-in-Child.new.numbers long ∙ (λ i. filled (zero_at (program_tree c.args.frame.now.program.now) c.args.frame.now.of) (take at numbers ++ (c.run_procedure-in-Child.new.numbers ++ sym tail i))))
 
-pub run_call-first_of-arguments-requires : goal.run_call-first_of-arguments-requires
-run_call-first_of-arguments-requires t c =
+pub call_many-first_of-arguments-requires : goal.call_many-first_of-arguments-requires
+call_many-first_of-arguments-requires t c =
     omega (arith, exprs_length-list c.args.values.now, c.requires.sound.1.room)
 
-pub run_call-run_at-requires : goal.run_call-run_at-requires
-run_call-run_at-requires t c =
+pub call_into-run_at-requires : goal.call_into-run_at-requires
+call_into-run_at-requires t c =
     (omega arith, (c.requires.ready, (c.requires.sound.0, (c.requires.sound.2, (c.requires.room, record { count = omega (arith, c.in_ok-take_step.ensures.one); limit = omega arith })))))
 
-pub run_call-returns-clause-ran : goal.run_call-returns-clause-ran
-run_call-returns-clause-ran t c =
+pub call_into-returns-clause-ran : goal.call_into-returns-clause-ran
+call_into-returns-clause-ran t c =
     let q : ProcedureTree = c.requires.sound.1.procedure in
     let is : procedure_tree c.index-callee.result.now ≡ q = proc_is c.args.frame.now.program.now.procedures.items c.args.procedure q c.index-callee.result.now c.requires.sound.1.there c.index-callee.ensures in
     let same : (routine_at (scope_at (program_tree c.args.frame.now.program.now) c.args.frame.now.level c.args.frame.now.of c.args.frame.now.values.now).routines c.args.procedure).params ≡ map (λ x. x.1) c.deref.result.now = ap (λ (r : Routine). r.params) (routine_is (program_tree c.args.frame.now.program.now).structs (functions_of _ (program_tree c.args.frame.now.program.now).pures) (program_tree c.args.frame.now.program.now).procedures c.args.procedure c.args.frame.now.level q c.requires.sound.2 c.requires.sound.1.there) ∙ (λ i. map (λ x. x.type) (sym is i).params) ∙ proc_params c.index-callee.result.now ∙ (λ i. map (λ x. x.1) (sym c.deref.ensures.value i)) in
     call_gives (scope_at (program_tree c.args.frame.now.program.now) c.args.frame.now.level c.args.frame.now.of c.args.frame.now.values.now) c.args.line c.args.procedure c.args.cost.now.steps c.args.cost.now.calls _ _ c.args.target (map (λ x. x.1) c.deref.result.now) (exprs_of_list (map expr_tree c.args.values.now)) _ _ _ c.in_ok-take_step.ensures.taken same c.in_ok-put_arguments.ensures.value c.run_at.ensures.ran
 
-pub run_call-put_arguments-requires-clause-params : goal.run_call-put_arguments-requires-clause-params
-run_call-put_arguments-requires-clause-params t c =
+pub call_into-put_arguments-requires-clause-params : goal.call_into-put_arguments-requires-clause-params
+call_into-put_arguments-requires-clause-params t c =
     let q : ProcedureTree = c.requires.sound.1.procedure in
     let is : procedure_tree c.index-callee.result.now ≡ q = proc_is c.args.frame.now.program.now.procedures.items c.args.procedure q c.index-callee.result.now c.requires.sound.1.there c.index-callee.ensures in
     let n : length c.deref.result.now ≡ length c.index-callee.result.now.params.items = ap length c.deref.ensures.value in
     let m : length (procedure_tree c.index-callee.result.now).params ≡ length q.params = λ i. length (is i).params in
     omega (arith, proc_count c.index-callee.result.now, exprs_length-list c.args.values.now, c.requires.sound.1.count_is)
 
-pub run_call-returns-in_err-put_arguments-clause-ran : goal.run_call-returns-in_err-put_arguments-clause-ran
-run_call-returns-in_err-put_arguments-clause-ran t c =
+pub call_into-returns-in_err-put_arguments-clause-ran : goal.call_into-returns-in_err-put_arguments-clause-ran
+call_into-returns-in_err-put_arguments-clause-ran t c =
     let q : ProcedureTree = c.requires.sound.1.procedure in
     let is : procedure_tree c.index-callee.result.now ≡ q = proc_is c.args.frame.now.program.now.procedures.items c.args.procedure q c.index-callee.result.now c.requires.sound.1.there c.index-callee.ensures in
     let same : (routine_at (scope_at (program_tree c.args.frame.now.program.now) c.args.frame.now.level c.args.frame.now.of c.args.frame.now.values.now).routines c.args.procedure).params ≡ map (λ x. x.1) c.deref.result.now = ap (λ (r : Routine). r.params) (routine_is (program_tree c.args.frame.now.program.now).structs (functions_of _ (program_tree c.args.frame.now.program.now).pures) (program_tree c.args.frame.now.program.now).procedures c.args.procedure c.args.frame.now.level q c.requires.sound.2 c.requires.sound.1.there) ∙ (λ i. map (λ x. x.type) (sym is i).params) ∙ proc_params c.index-callee.result.now ∙ (λ i. map (λ x. x.1) (sym c.deref.ensures.value i)) in
@@ -131,8 +131,8 @@ pub run_if-run_all-requires : goal.run_if-run_all-requires
 run_if-run_all-requires t c =
     (omega arith, (c.requires.ready, (c.requires.sound.1, (c.requires.room, record { count = omega (arith, c.in_ok-take_step.ensures.one); limit = omega arith }))))
 
-pub run_if-run_all-requires-else-is_so : goal.run_if-run_all-requires-else-is_so
-run_if-run_all-requires-else-is_so t c =
+pub run_if-run_all-requires-in-Fails : goal.run_if-run_all-requires-in-Fails
+run_if-run_all-requires-in-Fails t c =
     (omega arith, (c.requires.ready, (c.requires.sound.2, (c.requires.room, record { count = omega (arith, c.in_ok-take_step.ensures.one); limit = omega arith }))))
 
 pub run_procedure-run_all-requires : goal.run_procedure-run_all-requires

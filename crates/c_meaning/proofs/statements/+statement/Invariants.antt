@@ -20,7 +20,13 @@ abbrev pub decreases-run_all : goal.decreases-run_all
 decreases-run_all l = before l.frame.now + 4 * stmts_depth (stmts_of_list (map stmt_tree l.stmts.now)) + 3
 
 abbrev pub decreases-run_at : goal.decreases-run_at
-decreases-run_at l = before l.frame.now + 3
+decreases-run_at l = before l.frame.now + 2
+
+abbrev pub decreases-call_into : goal.decreases-call_into
+decreases-call_into l = before l.frame.now + 3
+
+abbrev pub decreases-call_many : goal.decreases-call_many
+decreases-call_many l = before l.frame.now + 4
 
 abbrev pub decreases-run_call : goal.decreases-run_call
 decreases-run_call l = before l.frame.now + 5

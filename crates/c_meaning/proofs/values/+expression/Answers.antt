@@ -14,8 +14,8 @@ use Rattle.c_meaning.proofs.Narrow.{exprs_here, pures_take, pures_at, exprs_leng
 use Rattle.c_meaning.proofs.Evaluations.{neg_gives, binary_gives, binary_sticks, pick_gives, compare_gives, compare_sticks, both_goes_on, either_goes_on, negated_gives, eval_all_more, narrow_more, function_gives, function_there, function_past}
 use Rattle.c_meaning.proofs.values.+expression.Goals as goal
 
-pub call_pure-first_of-requires : goal.call_pure-first_of-requires
-call_pure-first_of-requires t c = omega (arith, exprs_length-list c.args.values.now, c.requires.narrow.0)
+pub call_many-first_of-requires : goal.call_many-first_of-requires
+call_many-first_of-requires t c = omega (arith, exprs_length-list c.args.values.now, c.requires.narrow.0)
 
 -- src/values.rt:63:21
 pub eval_any-returns-in-Err-eval-clause-value :
@@ -46,11 +46,11 @@ eval_any-eval-requires-in-Binary-2 t c = (omega (arith, ap (depth_of) c.in-Binar
 pub eval_any-eval_cond-requires : goal.eval_any-eval_cond-requires
 eval_any-eval_cond-requires t c = (omega (arith, ap (depth_of) c.in-Pick.is, ap (λ x. cond_depth (cond_tree x)) c.deref-in-Pick.ensures), (search rules, c.requires.pures))
 
-pub eval_any-eval-requires-then-holds : goal.eval_any-eval-requires-then-holds
-eval_any-eval-requires-then-holds t c = (omega (arith, ap (depth_of) c.in-Pick.is, ap (depth_of) c.deref-then-holds.ensures), (search rules, c.requires.pures))
+pub eval_any-eval-requires-in-Holds : goal.eval_any-eval-requires-in-Holds
+eval_any-eval-requires-in-Holds t c = (omega (arith, ap (depth_of) c.in-Pick.is, ap (depth_of) c.deref-in-Holds.ensures), (search rules, c.requires.pures))
 
-pub eval_any-eval-requires-else-holds : goal.eval_any-eval-requires-else-holds
-eval_any-eval-requires-else-holds t c = (omega (arith, ap (depth_of) c.in-Pick.is, ap (depth_of) c.deref-else-holds.ensures), (search rules, c.requires.pures))
+pub eval_any-eval-requires-in-Fails : goal.eval_any-eval-requires-in-Fails
+eval_any-eval-requires-in-Fails t c = (omega (arith, ap (depth_of) c.in-Pick.is, ap (depth_of) c.deref-in-Fails.ensures), (search rules, c.requires.pures))
 
 pub eval_cond-eval-requires : goal.eval_cond-eval-requires
 eval_cond-eval-requires t c = (omega (arith, ap (λ x. cond_depth (cond_tree x)) c.in-Compare.is), (search rules, c.requires.pures))
@@ -61,14 +61,11 @@ eval_cond-eval-requires-in-Compare t c = (omega (arith, ap (λ x. cond_depth (co
 pub eval_cond-eval_cond-requires : goal.eval_cond-eval_cond-requires
 eval_cond-eval_cond-requires t c = (omega (arith, ap (λ x. cond_depth (cond_tree x)) c.in-Both.is, ap (λ x. cond_depth (cond_tree x)) c.deref.ensures), (search rules, c.requires.pures))
 
-pub eval_cond-eval_cond-requires-then-holds : goal.eval_cond-eval_cond-requires-then-holds
-eval_cond-eval_cond-requires-then-holds t c = (omega (arith, ap (λ x. cond_depth (cond_tree x)) c.in-Both.is, ap (λ x. cond_depth (cond_tree x)) c.deref-then-holds.ensures), (search rules, c.requires.pures))
+pub eval_cond-eval_cond-requires-in-Holds : goal.eval_cond-eval_cond-requires-in-Holds
+eval_cond-eval_cond-requires-in-Holds t c = (omega (arith, ap (λ x. cond_depth (cond_tree x)) c.in-Both.is, ap (λ x. cond_depth (cond_tree x)) c.deref-in-Holds.ensures), (search rules, c.requires.pures))
 
 pub eval_cond-eval_cond-requires-in-Either : goal.eval_cond-eval_cond-requires-in-Either
 eval_cond-eval_cond-requires-in-Either t c = (omega (arith, ap (λ x. cond_depth (cond_tree x)) c.in-Either.is, ap (λ x. cond_depth (cond_tree x)) c.deref-in-Either.ensures), (search rules, c.requires.pures))
-
-pub eval_cond-eval_cond-requires-else-holds-2 : goal.eval_cond-eval_cond-requires-else-holds-2
-eval_cond-eval_cond-requires-else-holds-2 t c = (omega (arith, ap (λ x. cond_depth (cond_tree x)) c.in-Either.is, ap (λ x. cond_depth (cond_tree x)) c.deref-else-holds-2.ensures), (search rules, c.requires.pures))
 
 pub eval_cond-eval_cond-requires-in-Not : goal.eval_cond-eval_cond-requires-in-Not
 eval_cond-eval_cond-requires-in-Not t c = (omega (arith, ap (λ x. cond_depth (cond_tree x)) c.in-Not.is, ap (λ x. cond_depth (cond_tree x)) c.deref-in-Not.ensures), (search rules, c.requires.pures))
@@ -109,29 +106,16 @@ pub eval_cond-returns-in-Ok-eval-clause-value :
 eval_cond-returns-in-Ok-eval-clause-value t c =
     let f : SFits w64 c.in-Ok.x = search rules in
     let g : SFits w64 c.in-Ok-eval.y = search rules in
-    compare_gives _ _ _ _ _ _ _ _ _ _ _ _ _ _ _ (ap cond_tree c.in-Compare.is) refl refl c.in-Ok.ensures.value c.in-Ok-eval.ensures.value (ap (λ b. gives b c.eval-in-Compare.new.steps) (simp to_z-of_z at c.compares.ensures))
+    compare_gives _ _ _ _ _ _ _ _ _ _ _ _ _ _ _ (ap cond_tree c.in-Compare.is) refl refl c.in-Ok.ensures.value c.in-Ok-eval.ensures.value (c.verdict_of.ensures c.eval-in-Compare.new.steps ∙ ap (λ b. gives b c.eval-in-Compare.new.steps) (simp to_z-of_z at c.compares.ensures))
 
 -- src/values.rt:78:1
-pub eval_cond-returns-in_ok-eval_cond-in-Not-clause-value :
-    goal.eval_cond-returns-in_ok-eval_cond-in-Not-clause-value
-eval_cond-returns-in_ok-eval_cond-in-Not-clause-value t c =
-    negated_gives _ _ _ _ _ _ _ _ _ _ (ap cond_tree c.in-Not.is) c.deref-in-Not.ensures c.in_ok-eval_cond-in-Not.ensures.value refl
+pub eval_any-returns-in-Holds-clause-value : goal.eval_any-returns-in-Holds-clause-value
+eval_any-returns-in-Holds-clause-value t c =
+    pick_gives _ _ _ _ _ c.in-Pick.on_true.value c.in-Pick.on_false.value _ _ _ true c.eval_cond.new.steps _ (ap expr_tree c.in-Pick.is) c.deref-in-Pick.ensures c.deref-in-Holds.ensures c.in-Holds.ensures.value c.eval-in-Holds.ensures.value
 
-pub eval_any-returns-then-holds-clause-value : goal.eval_any-returns-then-holds-clause-value
-eval_any-returns-then-holds-clause-value t c =
-    pick_gives _ _ _ _ _ c.in-Pick.on_true.value c.in-Pick.on_false.value _ _ _ true c.eval_cond.new.steps _ (ap expr_tree c.in-Pick.is) c.deref-in-Pick.ensures c.deref-then-holds.ensures (ap (λ b. gives b c.eval_cond.new.steps) (sym c.if-holds.true) ∙ c.in_ok-holds-in-Pick.ensures.value) c.eval-then-holds.ensures.value
-
-pub eval_any-returns-else-holds-clause-value : goal.eval_any-returns-else-holds-clause-value
-eval_any-returns-else-holds-clause-value t c =
-    pick_gives _ _ _ _ _ c.in-Pick.on_true.value c.in-Pick.on_false.value _ _ _ false c.eval_cond.new.steps _ (ap expr_tree c.in-Pick.is) c.deref-in-Pick.ensures c.deref-else-holds.ensures (ap (λ b. gives b c.eval_cond.new.steps) (sym c.if-holds.false) ∙ c.in_ok-holds-in-Pick.ensures.value) c.eval-else-holds.ensures.value
-
-pub eval_cond-returns-then-holds-clause-value : goal.eval_cond-returns-then-holds-clause-value
-eval_cond-returns-then-holds-clause-value t c =
-    both_goes_on _ _ _ _ _ _ c.in-Both.right.value _ _ c.eval_cond.new.steps _ (ap cond_tree c.in-Both.is) c.deref.ensures c.deref-then-holds.ensures (ap (λ b. gives b c.eval_cond.new.steps) (sym c.if-holds.true) ∙ c.in_ok-holds-in-Both.ensures.value) c.eval_cond-then-holds.ensures.value
-
-pub eval_cond-returns-else-holds-2-clause-value : goal.eval_cond-returns-else-holds-2-clause-value
-eval_cond-returns-else-holds-2-clause-value t c =
-    either_goes_on _ _ _ _ _ _ c.in-Either.right.value _ _ c.eval_cond-in-Either.new.steps _ (ap cond_tree c.in-Either.is) c.deref-in-Either.ensures c.deref-else-holds-2.ensures (ap (λ b. gives b c.eval_cond-in-Either.new.steps) (sym c.if-holds-2.false) ∙ c.in_ok-holds-in-Either.ensures.value) c.eval_cond-else-holds-2.ensures.value
+pub eval_any-returns-in-Fails-clause-value : goal.eval_any-returns-in-Fails-clause-value
+eval_any-returns-in-Fails-clause-value t c =
+    pick_gives _ _ _ _ _ c.in-Pick.on_true.value c.in-Pick.on_false.value _ _ _ false c.eval_cond.new.steps _ (ap expr_tree c.in-Pick.is) c.deref-in-Pick.ensures c.deref-in-Fails.ensures c.in-Fails.ensures.value c.eval-in-Fails.ensures.value
 
 pub run_body-returns-clause-value : goal.run_body-returns-clause-value
 run_body-returns-clause-value t c =
@@ -158,3 +142,19 @@ pub run_pure-returns-in-None-clause-value : goal.run_pure-returns-in-None-clause
 run_pure-returns-in-None-clause-value t c =
     let h : length c.args.pures.now ≤ c.args.k = grind (arith, nat_tests) in
     sym (ap (λ (g : Function). g c.args.values.now c.args.steps.now) (function_past c.args.pures.now c.args.k h))
+
+pub eval_cond-returns-in-Holds-clause-value : goal.eval_cond-returns-in-Holds-clause-value
+eval_cond-returns-in-Holds-clause-value t c =
+    both_goes_on _ _ _ _ _ _ c.in-Both.right.value _ _ c.eval_cond.new.steps _ (ap cond_tree c.in-Both.is) c.deref.ensures c.deref-in-Holds.ensures c.in-Holds.ensures.value c.eval_cond-in-Holds.ensures.value
+
+pub eval_cond-returns-in-Fails-eval_cond-clause-value : goal.eval_cond-returns-in-Fails-eval_cond-clause-value
+eval_cond-returns-in-Fails-eval_cond-clause-value t c =
+    either_goes_on _ _ _ _ _ _ c.in-Either.right.value _ _ c.eval_cond-in-Either.new.steps _ (ap cond_tree c.in-Either.is) c.deref-in-Either.ensures c.deref-in-Fails-eval_cond.ensures c.in-Fails-eval_cond.ensures.value c.eval_cond-in-Fails-eval_cond.ensures.value
+
+pub eval_cond-returns-in-Holds-eval_cond-2-clause-value : goal.eval_cond-returns-in-Holds-eval_cond-2-clause-value
+eval_cond-returns-in-Holds-eval_cond-2-clause-value t c =
+    negated_gives _ _ _ _ _ _ _ true c.eval_cond-in-Not.new.steps _ (ap cond_tree c.in-Not.is) c.deref-in-Not.ensures c.in-Holds-eval_cond-2.ensures.value refl
+
+pub eval_cond-returns-in-Fails-eval_cond-2-clause-value : goal.eval_cond-returns-in-Fails-eval_cond-2-clause-value
+eval_cond-returns-in-Fails-eval_cond-2-clause-value t c =
+    negated_gives _ _ _ _ _ _ _ false c.eval_cond-in-Not.new.steps _ (ap cond_tree c.in-Not.is) c.deref-in-Not.ensures c.in-Fails-eval_cond-2.ensures.value refl

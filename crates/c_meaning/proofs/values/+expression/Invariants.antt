@@ -9,7 +9,13 @@ use Rattle.c_meaning.proofs.Measures.{bodies, depth_in, depth_of}
 use Rattle.c_meaning.proofs.values.+expression.Given as goal
 
 abbrev pub decreases-call_pure : goal.decreases-call_pure
-decreases-call_pure l = bodies l.view.now.pures.now + 8 * depth_in l.values.now + 4
+decreases-call_pure l = bodies l.view.now.pures.now + 8 * depth_in l.values.now + 5
+
+abbrev pub decreases-call_few : goal.decreases-call_few
+decreases-call_few l = bodies l.view.now.pures.now + 8 * depth_in l.values.now + 4
+
+abbrev pub decreases-call_many : goal.decreases-call_many
+decreases-call_many l = bodies l.view.now.pures.now + 8 * depth_in l.values.now + 4
 
 abbrev pub decreases-call_with : goal.decreases-call_with
 decreases-call_with l = bodies l.view.now.pures.now + 8 * depth_in l.values.now + 3

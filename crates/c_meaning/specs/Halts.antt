@@ -1,0 +1,16 @@
+-- Where the machine is stuck, as one number.
+use Rattle.std.specs.Prelude.{ℕ, zero, suc, ◌/◌, ◌%◌}
+use Rattle.c_tree.specs.declared.fault.Stuck.{Stuck}
+use Rattle.c_tree.specs.declared.fault.Why.{Why}
+use Rattle.c_tree.specs.declared.fault.Why.TheVariants.{Overflow, ZeroDivisor, Range, Steps}
+
+-- the cause with a number
+abbrev pub why_of : ℕ → Why
+why_of zero = Overflow
+why_of (suc zero) = ZeroDivisor
+why_of (suc (suc zero)) = Range
+why_of (suc (suc (suc n))) = Steps
+
+-- the place with a number: its line four times, and its cause
+abbrev pub stuck_of : ℕ → Stuck
+stuck_of code = record { line = code / 4; why = why_of (code % 4) }
