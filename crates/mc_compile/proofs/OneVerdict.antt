@@ -1,203 +1,157 @@
--- Each file has one verdict.
-use Rattle.std.specs.Prelude.{◌≡◌, refl, ℕ, ◌<◌, ◌≤◌, Bool, true, false, List, [], ◌∷◌, length, Option, Some, None, MatchOption, nat_lt, ◌⊎◌}
-use Rattle.std.proofs.lemmas.Bool.Decides.{nat_tests}
-use Rattle.std.specs.Str.Lines.{lines}
-use Rattle.std.proofs.Common.{sym, ◌∙◌, ap, subst, inl, inr, arith}
-use Rattle.mc_base.specs.declared.SyntaxKind.{SyntaxKind}
-use Rattle.mc_base.specs.declared.ModelKind.{ModelKind}
-use Rattle.mc_base.specs.Refusals.{TooLong, Syntax, NoModel, TwoModels, TooDeep, TooMany, Unsupported, Parameter, DoubleName, NoBlock, NoPort, TwoSources, Unconnected, TwoControls, Continuous, FloatType, NoType, TriggerSigned, TooWide, TimeInside, LongCycle, RateRatio, Loop}
-use Rattle.mc_diagram.specs.declared.Row.{Row}
-use Rattle.mdl_tree.specs.Spelling.{Items, LinesSpell, lines_fault, TreeOrFault}
-use Rattle.mc_compile.specs.Places.{least, lesser}
-use Rattle.mc_compile.specs.Rules.{broken}
-use Rattle.mc_compile.specs.FlatRows.{AreRowsOf}
-use Rattle.mc_compile.specs.Verdict.{file_limit, missing_model, surplus_model, HasSyntaxFault, HasNoModel, HasTwoModels, IsUnsupported, Verdict, Refused, Accepted, IsAccepted, HasVerdict, HasOneVerdict}
-use Rattle.mc_compile.proofs.RowLaws.{none_only}
-use Rattle.mc_compile.proofs.RowsAreOne.{rows-equal, rows_of_right}
+-- Each file has one verdict, by the laws of its table and of loops.
+use Rattle.std.specs.Prelude.{◌≡◌, refl, ℕ, List, [], ◌∷◌, Option, Some, None, option_map}
+use Rattle.std.proofs.Common.{sym, ◌∙◌, ap, subst, inl, inr}
+use Rattle.mc_base.specs.Refusals.{PlainRefusal, Unsupported, Loop}
+use Rattle.mc_diagram.specs.declared.table.Row.{Row}
+use Rattle.mc_diagram.specs.RowTable.{RowTable}
+use Rattle.mc_diagram.specs.Diagram.{Diagram}
+use Rattle.mc_diagram.specs.TypeRefusals.{type_refusal}
+use Rattle.mc_diagram.specs.Needs.{needs_of, HasNoLoop, IsLeastLoop}
+use Rattle.mc_table.specs.FileVerdicts.{FileVerdict, IsModelWith, HasFileVerdict, HasOneFileVerdict}
+use Rattle.mc_table.specs.FileVerdicts as file
+use Rattle.mc_table.specs.TableLaws.{IsTimeless, AcceptedTableIsTimeless}
+use Rattle.mc_depend.specs.LoopLaws.{LoopIsToldOrNone, ToldLoopIsOne}
+use Rattle.mc_compile.specs.Verdict.{IsDiagramOf, places_of, first_without_code, Verdict, Refused, Accepted, HasVerdict, HasOneVerdict}
+use Rattle.mc_compile.proofs.TypedTable.{timeless-diagram}
+use Rattle.mc_compile.proofs.OneDiagram.{diagram-is-one}
 
--- the lines of a text spell one tree, or have a fault
-abbrev TreesAndFaults : Type 0
-TreesAndFaults = (texts : List (List ℕ)) → TreeOrFault texts
+-- what is said of the first row without code
+abbrev without-code : Option Row → Option PlainRefusal
+without-code found = option_map (λ (row : Row). Unsupported row.place.line) found
 
--- the six verdicts that there are
-data View (bytes : List ℕ) : Verdict → Type 0 where
-  too_long : file_limit < length bytes → View bytes (Refused TooLong)
-  syntax_fault : (line : ℕ) (kind : SyntaxKind) → HasSyntaxFault bytes line kind → View bytes (Refused (Syntax line kind))
-  no_model : (line : ℕ) → HasNoModel bytes line → View bytes (Refused (NoModel line))
-  two_models : (line : ℕ) (kind : ModelKind) → HasTwoModels bytes line kind → View bytes (Refused (TwoModels line kind))
-  unsupported : (line : ℕ) → IsUnsupported bytes line → View bytes (Refused (Unsupported line))
-  accepted : (rows : List Row) → IsAccepted bytes rows → View bytes (Accepted rows)
+-- ---- A table
 
-view : (bytes : List ℕ) (v : Verdict) → HasVerdict bytes v → View bytes v
-view bytes (Refused TooLong) h = too_long h
-view bytes (Refused (Syntax line kind)) h = syntax_fault line kind h
-view bytes (Refused (NoModel line)) h = no_model line h
-view bytes (Refused (TwoModels line kind)) h = two_models line kind h
-view bytes (Refused (TooDeep line)) h = absurd h
-view bytes (Refused (TooMany line what count)) h = absurd h
-view bytes (Refused (Unsupported line)) h = unsupported line h
-view bytes (Refused (Parameter line _)) h = absurd h
-view bytes (Refused (DoubleName line)) h = absurd h
-view bytes (Refused (NoBlock line)) h = absurd h
-view bytes (Refused (NoPort line)) h = absurd h
-view bytes (Refused (TwoSources line)) h = absurd h
-view bytes (Refused (Unconnected line port)) h = absurd h
-view bytes (Refused (TwoControls line)) h = absurd h
-view bytes (Refused (Continuous line)) h = absurd h
-view bytes (Refused (FloatType line)) h = absurd h
-view bytes (Refused (NoType line why)) h = absurd h
-view bytes (Refused (TriggerSigned line)) h = absurd h
-view bytes (Refused (TooWide line bits)) h = absurd h
-view bytes (Refused (TimeInside line)) h = absurd h
-view bytes (Refused (LongCycle line what h)) g = absurd g
-view bytes (Refused (RateRatio line inside outside)) h = absurd h
-view bytes (Refused (Loop rows)) h = absurd h
-view bytes (Accepted rows) h = accepted rows h
+-- what the verdicts on a table are
+data OfTable (table : RowTable) : Verdict → Type 0 where
+  ill_typed : (refusal : PlainRefusal) → type_refusal table.rows ≡ Some refusal → OfTable table (Refused refusal)
+  looping : (d : Diagram) (loop : List ℕ) → IsDiagramOf table d → IsLeastLoop (needs_of d) loop → OfTable table (Refused (Loop (places_of d.rows loop)))
+  lacking : (d : Diagram) (refusal : PlainRefusal) → IsDiagramOf table d → HasNoLoop (needs_of d) → without-code (first_without_code d.rows) ≡ Some refusal → OfTable table (Refused refusal)
+  right : (d : Diagram) → IsDiagramOf table d → HasNoLoop (needs_of d) → first_without_code d.rows ≡ None → OfTable table (Accepted d)
 
--- ---- One
-
--- a text has one tree
-same_file : TreesAndFaults → (bytes : List ℕ) (file other : Items) → LinesSpell (lines bytes) file → LinesSpell (lines bytes) other → file ≡ other
-same_file law bytes file other h g = by_law (lines_fault (lines bytes)) (law (lines bytes))
-  where
-    by_law : (fault : Option (ℕ × SyntaxKind)) → MatchOption fault ((items : Items) × LinesSpell (lines bytes) items × ((third : Items) → LinesSpell (lines bytes) third → third ≡ items)) (λ fault. (items : Items) → ¬ (LinesSpell (lines bytes) items)) → file ≡ other
-    by_law None (items, spells, only) = only file h ∙ sym (only other g)
-    by_law (Some fault) none = absurd (none file h)
-
--- a text with a fault has none
-no_file : TreesAndFaults → (bytes : List ℕ) (line : ℕ) (kind : SyntaxKind) (file : Items) → lines_fault (lines bytes) ≡ Some (line, kind) → LinesSpell (lines bytes) file → ⊥
-no_file law bytes line kind file is h = by_law (lines_fault (lines bytes)) is (law (lines bytes))
-  where
-    by_law : (fault : Option (ℕ × SyntaxKind)) → fault ≡ Some (line, kind) → MatchOption fault ((items : Items) × LinesSpell (lines bytes) items × ((third : Items) → LinesSpell (lines bytes) third → third ≡ items)) (λ fault. (items : Items) → ¬ (LinesSpell (lines bytes) items)) → ⊥
-    by_law None e some = absurd (cc)
-    by_law (Some fault) e none = none file h
+-- there is one and no other
+abbrev OneOfTable : RowTable → Type 0
+OneOfTable table = (verdict : Verdict) × OfTable table verdict × ((other : Verdict) → OfTable table other → other ≡ verdict)
 
 some-equal : {A : Type 0} (a b : A) → Some a ≡ Some b → a ≡ b
 some-equal a b e = cc
 
-same : TreesAndFaults → (bytes : List ℕ) (v w : Verdict) → View bytes v → View bytes w → v ≡ w
-same law bytes _ _ (too_long h) (too_long g) = refl
-same law bytes _ _ (too_long h) (syntax_fault line kind (fits, fault)) = absurd (omega (arith, h, fits))
-same law bytes _ _ (too_long h) (no_model line (file, (fits, spells), missing)) = absurd (omega (arith, h, fits))
-same law bytes _ _ (too_long h) (two_models line kind (file, (fits, spells), missing, is)) = absurd (omega (arith, h, fits))
-same law bytes _ _ (too_long h) (unsupported line (file, (fits, spells), (missing, surplus), worst)) = absurd (omega (arith, h, fits))
-same law bytes _ _ (too_long h) (accepted rows (file, (fits, spells), (missing, surplus), right, are)) = absurd (omega (arith, h, fits))
-same law bytes _ _ (syntax_fault line kind (fits, fault)) (too_long g) = absurd (omega (arith, g, fits))
-same law bytes _ _ (syntax_fault line kind (fits, fault)) (syntax_fault line' kind' (fits', fault')) =
-    let e : (line, kind) ≡ (line', kind') = some-equal (line, kind) (line', kind') (sym fault ∙ fault') in
-    λ i. Refused (Syntax (e i).0 (e i).1)
-same law bytes _ _ (syntax_fault line kind (fits, fault)) (no_model line' (file, (fits', spells), missing)) = absurd (no_file law bytes line kind file fault spells)
-same law bytes _ _ (syntax_fault line kind (fits, fault)) (two_models line' kind' (file, (fits', spells), missing, is)) = absurd (no_file law bytes line kind file fault spells)
-same law bytes _ _ (syntax_fault line kind (fits, fault)) (unsupported line' (file, (fits', spells), (missing, surplus), worst)) = absurd (no_file law bytes line kind file fault spells)
-same law bytes _ _ (syntax_fault line kind (fits, fault)) (accepted rows (file, (fits', spells), (missing, surplus), right, are)) = absurd (no_file law bytes line kind file fault spells)
-same law bytes _ _ (no_model line (file, (fits, spells), missing)) (too_long g) = absurd (omega (arith, g, fits))
-same law bytes _ _ (no_model line (file, (fits, spells), missing)) (syntax_fault line' kind' (fits', fault)) = absurd (no_file law bytes line' kind' file fault spells)
-same law bytes _ _ (no_model line (file, (fits, spells), missing)) (no_model line' (file', (fits', spells'), missing')) =
-    let e = same_file law bytes file file' spells spells' in
-    ap (λ n. Refused (NoModel n)) (some-equal line line' (sym missing ∙ ap missing_model e ∙ missing'))
-same law bytes _ _ (no_model line (file, (fits, spells), missing)) (two_models line' kind' (file', (fits', spells'), missing', is')) =
-    let e = same_file law bytes file file' spells spells' in
-    let f : Some line ≡ None = sym missing ∙ ap missing_model e ∙ missing' in absurd (cc)
-same law bytes _ _ (no_model line (file, (fits, spells), missing)) (unsupported line' (file', (fits', spells'), (missing', surplus'), worst)) =
-    let e = same_file law bytes file file' spells spells' in
-    let f : Some line ≡ None = sym missing ∙ ap missing_model e ∙ missing' in absurd (cc)
-same law bytes _ _ (no_model line (file, (fits, spells), missing)) (accepted rows (file', (fits', spells'), (missing', surplus'), right, are)) =
-    let e = same_file law bytes file file' spells spells' in
-    let f : Some line ≡ None = sym missing ∙ ap missing_model e ∙ missing' in absurd (cc)
-same law bytes _ _ (two_models line kind (file, (fits, spells), missing, is)) (too_long g) = absurd (omega (arith, g, fits))
-same law bytes _ _ (two_models line kind (file, (fits, spells), missing, is)) (syntax_fault line' kind' (fits', fault)) = absurd (no_file law bytes line' kind' file fault spells)
-same law bytes _ _ (two_models line kind (file, (fits, spells), missing, is)) (no_model line' (file', (fits', spells'), missing')) =
-    let e = same_file law bytes file file' spells spells' in
-    let f : None ≡ Some line' = sym missing ∙ ap missing_model e ∙ missing' in absurd (cc)
-same law bytes _ _ (two_models line kind (file, (fits, spells), missing, is)) (two_models line' kind' (file', (fits', spells'), missing', is')) =
-    let e = same_file law bytes file file' spells spells' in
-    let f : (line, kind) ≡ (line', kind') = some-equal (line, kind) (line', kind') (sym is ∙ ap surplus_model e ∙ is') in
-    λ i. Refused (TwoModels (f i).0 (f i).1)
-same law bytes _ _ (two_models line kind (file, (fits, spells), missing, is)) (unsupported line' (file', (fits', spells'), (missing', surplus'), worst)) =
-    let e = same_file law bytes file file' spells spells' in
-    absurd (none_only (line, kind) (sym (sym is ∙ ap surplus_model e ∙ surplus')))
-same law bytes _ _ (two_models line kind (file, (fits, spells), missing, is)) (accepted rows (file', (fits', spells'), (missing', surplus'), right, are)) =
-    let e = same_file law bytes file file' spells spells' in
-    absurd (none_only (line, kind) (sym (sym is ∙ ap surplus_model e ∙ surplus')))
-same law bytes _ _ (unsupported line (file, (fits, spells), (missing, surplus), worst)) (too_long g) = absurd (omega (arith, g, fits))
-same law bytes _ _ (unsupported line (file, (fits, spells), (missing, surplus), worst)) (syntax_fault line' kind' (fits', fault)) = absurd (no_file law bytes line' kind' file fault spells)
-same law bytes _ _ (unsupported line (file, (fits, spells), (missing, surplus), worst)) (no_model line' (file', (fits', spells'), missing')) =
-    let e = same_file law bytes file file' spells spells' in
-    let f : None ≡ Some line' = sym missing ∙ ap missing_model e ∙ missing' in absurd (cc)
-same law bytes _ _ (unsupported line (file, (fits, spells), (missing, surplus), worst)) (two_models line' kind' (file', (fits', spells'), missing', is')) =
-    let e = same_file law bytes file file' spells spells' in
-    absurd (none_only (line', kind') (sym surplus ∙ ap surplus_model e ∙ is'))
-same law bytes _ _ (unsupported line (file, (fits, spells), (missing, surplus), worst)) (unsupported line' (file', (fits', spells'), (missing', surplus'), worst')) =
-    let e = same_file law bytes file file' spells spells' in
-    ap (λ n. Refused (Unsupported n)) (some-equal line line' (sym worst ∙ ap (λ f. least (broken f)) e ∙ worst'))
-same law bytes _ _ (unsupported line (file, (fits, spells), (missing, surplus), worst)) (accepted rows (file', (fits', spells'), (missing', surplus'), right, are)) =
-    let e = same_file law bytes file file' spells spells' in
-    let f : Some line ≡ None = sym worst ∙ ap (λ x. least (broken x)) e ∙ ap least right in absurd (cc)
-same law bytes _ _ (accepted rows (file, (fits, spells), (missing, surplus), right, are)) (too_long g) = absurd (omega (arith, g, fits))
-same law bytes _ _ (accepted rows (file, (fits, spells), (missing, surplus), right, are)) (syntax_fault line' kind' (fits', fault)) = absurd (no_file law bytes line' kind' file fault spells)
-same law bytes _ _ (accepted rows (file, (fits, spells), (missing, surplus), right, are)) (no_model line' (file', (fits', spells'), missing')) =
-    let e = same_file law bytes file file' spells spells' in
-    let f : None ≡ Some line' = sym missing ∙ ap missing_model e ∙ missing' in absurd (cc)
-same law bytes _ _ (accepted rows (file, (fits, spells), (missing, surplus), right, are)) (two_models line' kind' (file', (fits', spells'), missing', is')) =
-    let e = same_file law bytes file file' spells spells' in
-    absurd (none_only (line', kind') (sym surplus ∙ ap surplus_model e ∙ is'))
-same law bytes _ _ (accepted rows (file, (fits, spells), (missing, surplus), right, are)) (unsupported line' (file', (fits', spells'), (missing', surplus'), worst)) =
-    let e = same_file law bytes file file' spells spells' in
-    let f : None ≡ Some line' = sym (ap least right) ∙ ap (λ x. least (broken x)) e ∙ worst in absurd (cc)
-same law bytes _ _ (accepted rows (file, (fits, spells), (missing, surplus), right, are)) (accepted rows' (file', (fits', spells'), (missing', surplus'), right', are')) =
-    let e = same_file law bytes file file' spells spells' in
-    ap Accepted (rows-equal _ _ _ rows rows' are (subst (λ (x : Items). AreRowsOf x rows') (sym e) are'))
+some-none : {A : Type 0} (a : A) → Some a ≡ None → ⊥
+some-none a e = absurd (cc)
 
--- ---- And there is one
+-- a told loop is a loop
+looped : (needs : ℕ → List ℕ) (loop : List ℕ) → HasNoLoop needs → IsLeastLoop needs loop → ⊥
+looped needs [] none told = told
+looped needs (a ∷ path) none told = none (a ∷ path) told.is_loop
 
-lesser-none : (n : ℕ) (o : Option ℕ) → lesser (Some n) o ≡ None → ⊥
-lesser-none n None e = absurd (cc)
-lesser-none n (Some m) e = absurd (cc)
+module _ (table : RowTable) where
+  only-ill_typed : (refusal : PlainRefusal) → type_refusal table.rows ≡ Some refusal → (other : Verdict) → OfTable table other → other ≡ Refused refusal
+  only-ill_typed refusal e _ (ill_typed also f) = ap Refused (some-equal also refusal (sym f ∙ e))
+  only-ill_typed refusal e _ (looping d loop is told) = absurd (some-none refusal (sym e ∙ is.resolved.types_accepted))
+  only-ill_typed refusal e _ (lacking d also is none f) = absurd (some-none refusal (sym e ∙ is.resolved.types_accepted))
+  only-ill_typed refusal e _ (right d is none f) = absurd (some-none refusal (sym e ∙ is.resolved.types_accepted))
 
-pub least-none : (ns : List ℕ) → least ns ≡ None → ns ≡ []
-least-none [] e = refl
-least-none (n ∷ ns) e = absurd (lesser-none n (least ns) e)
+  module _ (d : Diagram) (is : IsDiagramOf table d) where
+    same : (other : Diagram) → IsDiagramOf table other → d ≡ other
+    same other also = diagram-is-one table d other is also
 
-abbrev Some_verdict : List ℕ → Type 0
-Some_verdict bytes = (v : Verdict) × HasVerdict bytes v
+    only-looping : ToldLoopIsOne → (loop : List ℕ) → IsLeastLoop (needs_of d) loop → (other : Verdict) → OfTable table other → other ≡ Refused (Loop (places_of d.rows loop))
+    only-looping law loop told _ (ill_typed also f) = absurd (some-none also (sym f ∙ is.resolved.types_accepted))
+    only-looping law loop told _ (looping other more also found) =
+        let here : IsLeastLoop (needs_of d) more = subst (λ (x : Diagram). IsLeastLoop (needs_of x) more) (sym (same other also)) found in
+        let one = law (needs_of d) more loop here told in
+        λ i. Refused (Loop (places_of (sym (same other also) i).rows (one i)))
+    only-looping law loop told _ (lacking other refusal also none f) =
+        absurd (looped (needs_of d) loop (subst (λ (x : Diagram). HasNoLoop (needs_of x)) (sym (same other also)) none) told)
+    only-looping law loop told _ (right other also none f) =
+        absurd (looped (needs_of d) loop (subst (λ (x : Diagram). HasNoLoop (needs_of x)) (sym (same other also)) none) told)
 
-of_file : (bytes : List ℕ) → length bytes ≤ file_limit → (file : Items) → LinesSpell (lines bytes) file → Some_verdict bytes
-of_file bytes fits file spells = by_model (missing_model file) refl
+    module _ (none : HasNoLoop (needs_of d)) where
+      no-told : (other : Diagram) (loop : List ℕ) → IsDiagramOf table other → IsLeastLoop (needs_of other) loop → ⊥
+      no-told other loop also found = looped (needs_of d) loop none (subst (λ (x : Diagram). IsLeastLoop (needs_of x) loop) (sym (same other also)) found)
+
+      same-first : (other : Diagram) → IsDiagramOf table other → first_without_code other.rows ≡ first_without_code d.rows
+      same-first other also = ap (λ (x : Diagram). first_without_code x.rows) (sym (same other also))
+
+      only-lacking : (refusal : PlainRefusal) → without-code (first_without_code d.rows) ≡ Some refusal → (other : Verdict) → OfTable table other → other ≡ Refused refusal
+      only-lacking refusal e _ (ill_typed also f) = absurd (some-none also (sym f ∙ is.resolved.types_accepted))
+      only-lacking refusal e _ (looping other loop also found) = absurd (no-told other loop also found)
+      only-lacking refusal e _ (lacking other more also no_loop f) =
+          ap Refused (some-equal more refusal (sym f ∙ ap without-code (same-first other also) ∙ e))
+      only-lacking refusal e _ (right other also no_loop f) = absurd (some-none refusal (sym e ∙ ap without-code (sym (same-first other also) ∙ f)))
+
+      only-right : first_without_code d.rows ≡ None → (other : Verdict) → OfTable table other → other ≡ Accepted d
+      only-right e _ (ill_typed also f) = absurd (some-none also (sym f ∙ is.resolved.types_accepted))
+      only-right e _ (looping other loop also found) = absurd (no-told other loop also found)
+      only-right e _ (lacking other more also no_loop f) = absurd (some-none more (sym f ∙ ap without-code (same-first other also ∙ e)))
+      only-right e _ (right other also no_loop f) = ap Accepted (sym (same other also))
+
+      of-rows : OneOfTable table
+      of-rows = by (first_without_code d.rows) refl
+        where
+          by : (found : Option Row) → first_without_code d.rows ≡ found → OneOfTable table
+          by (Some row) e = (Refused (Unsupported row.place.line), lacking d _ is none (ap without-code e), only-lacking (Unsupported row.place.line) (ap without-code e))
+          by None e = (Accepted d, right d is none e, only-right e)
+
+    of-diagram : LoopIsToldOrNone → ToldLoopIsOne → OneOfTable table
+    of-diagram loops one = elim (loops d) [
+      | inl none ↦ of-rows none
+      | inr (loop, told) ↦ (Refused (Loop (places_of d.rows loop)), looping d loop is told, only-looping one loop told)
+    ]
+
+  of-table : IsTimeless table → LoopIsToldOrNone → ToldLoopIsOne → OneOfTable table
+  of-table timeless loops one = by (type_refusal table.rows) refl
+    where
+      by : (found : Option PlainRefusal) → type_refusal table.rows ≡ found → OneOfTable table
+      by (Some refusal) e = (Refused refusal, ill_typed refusal e, only-ill_typed refusal e)
+      by None e = let some = timeless-diagram table timeless e in of-diagram some.0 some.1 loops one
+
+-- ---- A file
+
+-- a verdict is a refusal of the file, or a verdict on its table
+data View (bytes : List ℕ) : Verdict → Type 0 where
+  of_file : (refusal : PlainRefusal) → HasFileVerdict bytes (file.Refused refusal) → View bytes (Refused refusal)
+  of_model : (table : RowTable) (verdict : Verdict) → IsModelWith bytes table → OfTable table verdict → View bytes verdict
+
+view : (bytes : List ℕ) (verdict : Verdict) → HasVerdict bytes verdict → View bytes verdict
+view bytes (Refused refusal) (inl h) = of_file refusal h
+view bytes (Refused refusal) (inr (inl (table, with, e))) = of_model table (Refused refusal) with (ill_typed refusal e)
+view bytes (Refused refusal) (inr (inr (inl (d, (table, with, is), (loop, told, e))))) =
+    of_model table (Refused refusal) with (subst (λ r. OfTable table (Refused r)) (sym e) (looping d loop is told))
+view bytes (Refused refusal) (inr (inr (inr (d, (table, with, is), none, e)))) = of_model table (Refused refusal) with (lacking d refusal is none e)
+view bytes (Accepted d) accepted = of_model accepted.model.0 (Accepted d) accepted.model.1 (right d accepted.model.2 accepted.no_loop accepted.with_code)
+
+has : (bytes : List ℕ) (table : RowTable) (verdict : Verdict) → IsModelWith bytes table → OfTable table verdict → HasVerdict bytes verdict
+has bytes table _ with (ill_typed refusal e) = inr (inl (table, with, e))
+has bytes table _ with (looping d loop is told) = inr (inr (inl (d, (table, with, is), (loop, told, refl))))
+has bytes table _ with (lacking d refusal is none e) = inr (inr (inr (d, (table, with, is), none, e)))
+has bytes table _ with (right d is none e) = record { model = (table, with, is); no_loop = none; with_code = e }
+
+-- of two verdicts on a file's text and tree
+refused-equal : (a b : PlainRefusal) → file.Refused a ≡ file.Refused b → a ≡ b
+refused-equal a b e = cc
+
+table-equal : (a b : RowTable) → file.Accepted a ≡ file.Accepted b → a ≡ b
+table-equal a b e = cc
+
+not-both : (refusal : PlainRefusal) (table : RowTable) → file.Accepted table ≡ file.Refused refusal → ⊥
+not-both refusal table e = absurd (cc)
+
+only-file : (bytes : List ℕ) (refusal : PlainRefusal) → ((other : FileVerdict) → HasFileVerdict bytes other → other ≡ file.Refused refusal) →
+    (other : Verdict) → View bytes other → other ≡ Refused refusal
+only-file bytes refusal only _ (of_file more h) = ap Refused (refused-equal more refusal (only (file.Refused more) h))
+only-file bytes refusal only _ (of_model table verdict with of) = absurd (not-both refusal table (only (file.Accepted table) with))
+
+only-model : (bytes : List ℕ) (table : RowTable) (verdict : Verdict) → ((other : FileVerdict) → HasFileVerdict bytes other → other ≡ file.Accepted table) →
+    ((other : Verdict) → OfTable table other → other ≡ verdict) → (other : Verdict) → View bytes other → other ≡ verdict
+only-model bytes table verdict only one _ (of_file more h) = absurd (not-both more table (sym (only (file.Refused more) h)))
+only-model bytes table verdict only one _ (of_model also other with of) =
+    one other (subst (λ t. OfTable t other) (table-equal also table (only (file.Accepted also) with)) of)
+
+pub one_verdict : ((bytes : List ℕ) → HasOneFileVerdict bytes) → AcceptedTableIsTimeless → LoopIsToldOrNone → ToldLoopIsOne → (bytes : List ℕ) → HasOneVerdict bytes
+one_verdict files timeless loops one bytes = by (files bytes)
   where
-    by_least : missing_model file ≡ None → surplus_model file ≡ None → (worst : Option ℕ) → least (broken file) ≡ worst → Some_verdict bytes
-    by_least missing surplus (Some line) is = (Refused (Unsupported line), (file, (fits, spells), (missing, surplus), is))
-    by_least missing surplus None is =
-        let right = least-none (broken file) is in
-        let rows = rows_of_right file right in
-        (Accepted rows.0, (file, (fits, spells), (missing, surplus), right, rows.1))
-
-    by_surplus : missing_model file ≡ None → (surplus : Option (ℕ × ModelKind)) → surplus_model file ≡ surplus → Some_verdict bytes
-    by_surplus missing (Some (line, kind)) is = (Refused (TwoModels line kind), (file, (fits, spells), missing, is))
-    by_surplus missing None is = by_least missing is (least (broken file)) refl
-
-    by_model : (missing : Option ℕ) → missing_model file ≡ missing → Some_verdict bytes
-    by_model (Some line) is = (Refused (NoModel line), (file, (fits, spells), is))
-    by_model None is = by_surplus is (surplus_model file) refl
-
-of_text : TreesAndFaults → (bytes : List ℕ) → length bytes ≤ file_limit → Some_verdict bytes
-of_text law bytes fits = by_law (lines_fault (lines bytes)) refl (law (lines bytes))
-  where
-    by_law : (fault : Option (ℕ × SyntaxKind)) → lines_fault (lines bytes) ≡ fault → MatchOption fault ((items : Items) × LinesSpell (lines bytes) items × ((third : Items) → LinesSpell (lines bytes) third → third ≡ items)) (λ fault. (items : Items) → ¬ (LinesSpell (lines bytes) items)) → Some_verdict bytes
-    by_law None is (items, spells, only) = of_file bytes fits items spells
-    by_law (Some (line, kind)) is none = (Refused (Syntax line kind), (fits, is))
-
-of_bytes : TreesAndFaults → (bytes : List ℕ) → (length bytes ≤ file_limit) ⊎ (file_limit < length bytes) → Some_verdict bytes
-of_bytes law bytes (inl fits) = of_text law bytes fits
-of_bytes law bytes (inr long) = (Refused TooLong, long)
-
-at_most_or_more : (bytes : List ℕ) → (length bytes ≤ file_limit) ⊎ (file_limit < length bytes)
-at_most_or_more bytes = by_test (nat_lt file_limit (length bytes)) refl
-  where
-    by_test : (b : Bool) → nat_lt file_limit (length bytes) ≡ b → (length bytes ≤ file_limit) ⊎ (file_limit < length bytes)
-    by_test true is = inr (grind (arith, nat_tests))
-    by_test false is = inl (grind (arith, nat_tests))
-
-pub one_verdict : TreesAndFaults → (bytes : List ℕ) → HasOneVerdict bytes
-one_verdict law bytes =
-    let some = of_bytes law bytes (at_most_or_more bytes) in
-    (some.0, some.1, λ other is. same law bytes other some.0 (view bytes other is) (view bytes some.0 some.1))
+    by : HasOneFileVerdict bytes → HasOneVerdict bytes
+    by (file.Refused refusal, h, only) = (Refused refusal, inl h, λ other is. only-file bytes refusal only other (view bytes other is))
+    by (file.Accepted table, with, only) =
+        let of = of-table table (timeless with.0 table with.2 with.3) loops one in
+        (of.0, has bytes table of.0 with of.1, λ other is. only-model bytes table of.0 only of.2 other (view bytes other is))

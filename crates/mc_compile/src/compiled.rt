@@ -1,15 +1,18 @@
 use mc_base::{Memory, Refusal};
+use mc_diagram::BuildFault;
+use mc_fixed::FixType;
 use mdl_reader::ReadFault;
 use std::alloc::AllocError;
 use std::marker::Model;
 
-/// What a model is compiled to: the numbers of its rows, of its systems and of all their output functions, and the bytes
-/// of its C text.
+/// What a model is compiled to: the numbers of its rows, of its systems and of all their output functions, the types of
+/// the inputs of its root by port, and the bytes of its C text.
 #[derive(Drop)]
 pub struct Compiled {
     pub rows: u32,
     pub systems: u32,
     pub functions: u32,
+    pub inputs: Vec<FixType>,
     pub code: Vec<u8>,
 }
 
@@ -18,7 +21,7 @@ impl Model for Compiled {
 
     ghost Value = { Compilation };
 
-    ghost view = { λ c. record { rows = c.rows; systems = c.systems; functions = c.functions; code = c.code.items } };
+    ghost view = { λ c. record { rows = c.rows; systems = c.systems; functions = c.functions; inputs = c.inputs.items; code = c.code.items } };
 }
 
 /// Why a model wasn't compiled: it is refused, or there was no memory.
@@ -73,6 +76,20 @@ impl From<ReadFault> for CompileFault {
                 CompileFault::Refused(Refusal::Syntax { line, kind })
             }
             ReadFault::Memory => CompileFault::Memory,
+        }
+    }
+}
+
+impl From<BuildFault> for CompileFault {
+    ghost use Rattle.std.specs.Prelude.{◌≡◌};
+    ghost use Rattle.mc_compile.specs.Faults.{as_built_fault};
+
+    ghost from_gives = { λ built given. given ≡ as_built_fault built };
+
+    fn from(fault: BuildFault) -> CompileFault {
+        match fault {
+            BuildFault::Refused(refusal) => CompileFault::Refused(refusal),
+            BuildFault::Memory => CompileFault::Memory,
         }
     }
 }

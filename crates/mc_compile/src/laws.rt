@@ -1,11 +1,15 @@
 ghost use Rattle.std.specs.Prelude.{ℕ, List};
 ghost use Rattle.mc_compile.specs.Verdict.{HasOneVerdict};
 
-use mdl_tree::tree_or_fault;
+use mc_depend::{loop_is_told_or_none, told_loop_is_one};
+use mc_table::{accepted_table_is_timeless, one_file_verdict};
 
 /// Each file has one verdict and no other.
 pub fn one_verdict()
     ensures { (bytes : List ℕ) → HasOneVerdict bytes }
 {
-    tree_or_fault();
+    one_file_verdict();
+    accepted_table_is_timeless();
+    loop_is_told_or_none();
+    told_loop_is_one();
 }

@@ -1,22 +1,15 @@
 // A model's text compiled to C.
 #![tactic(auto)]
 
-mod blocks;
-mod checks;
+mod code;
 mod compiled;
 mod compiler;
-mod diagram;
+mod inputs;
+mod kinds;
 mod laws;
-mod lines;
-mod model;
-mod names;
-mod numbers;
-mod ports;
-mod root;
-mod rows;
-mod sections;
-mod sources;
-mod wiring;
+mod loops;
+mod resolved;
+mod times;
 
 pub use compiled::{CompileFault, Compiled};
 pub use compiler::compile;

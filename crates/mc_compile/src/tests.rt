@@ -1,3 +1,5 @@
+mod diagrams;
+mod models;
 mod saved;
 
 use mc_base::ParamName;

@@ -2,4 +2,5 @@ use Rattle.mc_compile.proofs.OneVerdict as verdict
 use Rattle.mc_compile.proofs.laws.one_verdict.Goals as goal
 
 pub returns : goal.returns
-returns c = verdict.one_verdict c.tree_or_fault.ensures
+returns c =
+    verdict.one_verdict c.one_file_verdict.ensures c.accepted_table_is_timeless.ensures c.loop_is_told_or_none.ensures c.told_loop_is_one.ensures

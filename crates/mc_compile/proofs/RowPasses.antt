@@ -1,0 +1,52 @@
+-- Passes over the rows of a table, step by step.
+use Rattle.std.specs.Prelude.{◌≡◌, refl, ℕ, zero, suc, ◌+◌, ◌<◌, ◌≤◌, Bool, true, false, not, List, ◌∷◌, find, drop, length, slice_index_or, Option, Some, None, option_map}
+use Rattle.std.specs.List.{range_with_len}
+use Rattle.std.proofs.Common.{sym, ◌∙◌, ap, cond, arith, true≢false, inl, inr, ◌⊎◌}
+use Rattle.std.proofs.lemmas.List.{at_drop_more}
+use native.Mathlib.Decide.{ℕ_discrete}
+use Rattle.mc_base.specs.Refusals.{Unsupported}
+use Rattle.mc_diagram.specs.declared.table.Row.{Row}
+use Rattle.c_emitter.specs.Flat.{is_emitted}
+use Rattle.mc_compile.specs.Verdict.{first_without_code}
+
+-- one row more has code, or is the first without it
+pub first-more : (rows : List Row) (i : ℕ) (row : Row) → i < length rows → row ≡ slice_index_or rows i row →
+    first_without_code (drop i rows) ≡ cond (is_emitted row.kind) (first_without_code (drop (i + 1) rows)) (Some row)
+first-more rows i row below is =
+    at_drop_more first_without_code rows i row below ∙ ap (λ (r : Row). first_without_code (r ∷ drop (i + 1) rows)) (sym is) ∙ by (is_emitted row.kind)
+  where
+    by : (t : Bool) → cond (not t) (Some row) (first_without_code (drop (i + 1) rows)) ≡ cond t (first_without_code (drop (i + 1) rows)) (Some row)
+    by true = refl
+    by false = refl
+
+le-cases : (a b : ℕ) → a ≤ b → (a < b) ⊎ (a ≡ b)
+le-cases a b low = elim (ℕ_discrete a b) [ yes same ↦ inr same | no differ ↦ inl (omega (arith, low, differ)) ]
+
+-- the first number of a range that passes a test
+pub first-in-range : (test : ℕ → Bool) (n a b : ℕ) → a ≤ b → b < a + n → ((k : ℕ) → a ≤ k → k < b → test k ≡ false) → test b ≡ true → find test (range_with_len a n) ≡ Some b
+first-in-range test zero a b low high none e = absurd (omega (arith, low, high))
+first-in-range test (suc n) a b low high none e = by (test a) refl (first-in-range test n (a + 1) b)
+  where
+    by : (t : Bool) → test a ≡ t →
+        (a + 1 ≤ b → b < a + 1 + n → ((k : ℕ) → a + 1 ≤ k → k < b → test k ≡ false) → test b ≡ true → find test (range_with_len (a + 1) n) ≡ Some b) →
+        cond t (Some a) (find test (range_with_len (a + 1) n)) ≡ Some b
+    by true q rest = elim (le-cases a b low) [
+      | inl less ↦ absurd (true≢false (sym q ∙ none a (omega arith) less))
+      | inr same ↦ ap Some same
+    ]
+    by false q rest = elim (le-cases a b low) [
+      | inl less ↦ rest (omega (arith, less)) (omega (arith, high)) (λ k above under. none k (omega (arith, above)) under) e
+      | inr same ↦ absurd (true≢false (sym e ∙ sym (ap test same) ∙ q))
+    ]
+
+-- none passes
+pub none-in-range : (test : ℕ → Bool) (n a : ℕ) → ((k : ℕ) → a ≤ k → k < a + n → test k ≡ false) → find test (range_with_len a n) ≡ None
+none-in-range test zero a none = refl
+none-in-range test (suc n) a none =
+    ap (λ t. cond t (Some a) (find test (range_with_len (a + 1) n))) (none a (omega arith) (omega arith))
+    ∙ none-in-range test n (a + 1) (λ k above under. none k (omega (arith, above)) (omega (arith, under)))
+
+-- nothing is told, so there is no such row
+pub none-mapped : (found : Option Row) → None ≡ option_map (λ (row : Row). Unsupported row.place.line) found → found ≡ None
+none-mapped None e = refl
+none-mapped (Some row) e = absurd (let wrong : ⊥ = cc e in wrong)
