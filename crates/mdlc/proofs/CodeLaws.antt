@@ -1,6 +1,7 @@
 -- How `run` and `exec` end, by what their parts come to.
 use Rattle.std.proofs.Common.{◌≡◌, ℕ, ◌≤◌, ◌⊎◌, inl, inr, List, [], length, refl, sym, ap, subst, ◌∙◌}
 use Rattle.std.specs.Prelude.{Option, Some, None, IsSomeAnd}
+use Rattle.std.specs.List.{AllZip}
 use Rattle.mc_fixed.specs.declared.types.FixType.{FixType}
 use Rattle.mc_edge.specs.Faults.{Rose}
 use Rattle.mc_edge.specs.Files.{File, OnFile, lookup, add_file}
@@ -13,13 +14,14 @@ use Rattle.c_tree.specs.Reading.{CText}
 use Rattle.c_tree.specs.Agreement.{ReadingsAgree}
 use Rattle.c_emitter.specs.Code.{Starts}
 use Rattle.c_meaning.specs.States.{MachineState, tree_of}
-use Rattle.mc_compile.specs.Compilation.{Compilation, diagram_of, IsCompiledFrom}
+use Rattle.mc_runner.specs.RowWalk.{IsNarrower}
+use Rattle.mc_compile.specs.Compilation.{Compilation, root_types, IsCompiledFrom}
 use Rattle.mdlc.specs.declared.tool.Ending.{Ending}
 use Rattle.mdlc.specs.declared.tool.Ending.TheVariants.{Compiled, Ran, Usage, Refused, BadTrace, CodeRefused, CodeTooLong, Stuck as IsStuck, ReadFault, WriteFault, PutFault, NoMemory}
 use Rattle.mdlc.specs.Words.{Run, Exec}
 use Rattle.mdlc.specs.Told.{HostTold, SinkTold, NoFault}
 use Rattle.mdlc.specs.Runs.{HasStepTypes, rows_in, rows_over, RunsTo}
-use Rattle.mdlc.specs.Endings.{OnNamed, root_types, code_limit, WritesWhole, RunsModel, ExecutesCode, LeavesHost, CountsPuts, Finds, Ends}
+use Rattle.mdlc.specs.Endings.{OnNamed, code_limit, WritesWhole, RunsModel, ExecutesCode, LeavesHost, CountsPuts, Finds, Ends}
 use Rattle.mdlc.specs.Acting.{WritesCompiled, NotStarted, StartsFrom, RunEnds}
 use Rattle.mdlc.proofs.Files.{there}
 use Rattle.mdlc.proofs.EndingLaws.{whole-front}
@@ -108,50 +110,51 @@ exec_ends e code trace bytes m h h1 h' b b' r run counts =
 
 -- ---- `run`
 
--- a machine of the code that a model was compiled to has its program and takes its inputs
+-- a machine of the code that a model was compiled to has its program, and takes all numbers of its inputs
 program-is : (c : Compilation) (m : MachineState) (bytes : List ℕ) (from : IsCompiledFrom bytes c) → StartsFrom c.code m → tree_of m ≡ from.compiled.code.program
 program-is c m bytes from starts = from.compiled.code.only (tree_of m) starts.reading
 
-inputs-are : (c : Compilation) (m : MachineState) (bytes : List ℕ) (from : IsCompiledFrom bytes c) → StartsFrom c.code m → m.program.inputs ≡ root_types from.table
-inputs-are c m bytes from starts =
+pub inputs-fit : (c : Compilation) (m : MachineState) (bytes : List ℕ) → IsCompiledFrom bytes c → StartsFrom c.code m → AllZip IsNarrower c.inputs m.program.inputs
+inputs-fit c m bytes from starts =
     let p : ProgramTree = from.compiled.code.program in
-    step-types from.table p m.program.inputs from.compiled.code.code.lawful from.compiled.code.code
-    (subst (λ (q : ProgramTree). HasStepTypes q m.program.inputs) (program-is c m bytes from starts) starts.inputs)
+    subst (λ (types : List FixType). AllZip IsNarrower types m.program.inputs) (sym from.compiled.inputs)
+    (step-types from.diagram p m.program.inputs from.compiled.code.code
+    (subst (λ (q : ProgramTree). HasStepTypes q m.program.inputs) (program-is c m bytes from starts) starts.inputs))
 
-as-compiled : (e : Ending) (c : Compilation) (m : MachineState) (bytes lines : List ℕ) (b b' : SinkTold) (from : IsCompiledFrom bytes c) → StartsFrom c.code m → RunsTo e (tree_of m) m.program.inputs lines b b' → RunsTo e from.compiled.code.program (root_types from.table) lines b b'
+as-compiled : (e : Ending) (c : Compilation) (m : MachineState) (bytes lines : List ℕ) (b b' : SinkTold) (from : IsCompiledFrom bytes c) → StartsFrom c.code m → RunsTo e (tree_of m) c.inputs lines b b' → RunsTo e from.compiled.code.program (root_types from.diagram) lines b b'
 as-compiled e c m bytes lines b b' from starts run =
-    subst (λ (types : List FixType). RunsTo e from.compiled.code.program types lines b b') (inputs-are c m bytes from starts)
-    (subst (λ (q : ProgramTree). RunsTo e q m.program.inputs lines b b') (program-is c m bytes from starts) run)
+    subst (λ (types : List FixType). RunsTo e from.compiled.code.program types lines b b') from.compiled.inputs
+    (subst (λ (q : ProgramTree). RunsTo e q c.inputs lines b b') (program-is c m bytes from starts) run)
 
 abbrev whole-of : (c : Compilation) (code bytes : List ℕ) (h h' : HostTold) → IsCompiledFrom bytes c → h'.written ≡ add_file h.written code c.code → WritesWhole code bytes h h'
 whole-of c code bytes h h' from written =
-    record { rows = from.table; verdict = from.verdict; compilation = c; right = from.compiled; written = written }
+    record { diagram = from.diagram; verdict = from.verdict; compilation = c; right = from.compiled; written = written }
 
-model-found : (e : Ending) (model code trace : List ℕ) (c : Compilation) (m : MachineState) (h h1 h' : HostTold) (b b' : SinkTold) → WritesCompiled c model code h h1 → StartsFrom c.code m → h'.written ≡ h1.written → OnNamed h1 trace (λ lines. RunsTo e (tree_of m) m.program.inputs lines b b') → OnNamed h model (λ bytes. RunsModel e trace code bytes h h' b b')
+model-found : (e : Ending) (model code trace : List ℕ) (c : Compilation) (m : MachineState) (h h1 h' : HostTold) (b b' : SinkTold) → WritesCompiled c model code h h1 → StartsFrom c.code m → h'.written ≡ h1.written → OnNamed h1 trace (λ lines. RunsTo e (tree_of m) c.inputs lines b b') → OnNamed h model (λ bytes. RunsModel e trace code bytes h h' b b')
 model-found e model code trace c m h h1 h' b b' w starts written lines =
     there h.files h.rest model (both h.files h.rest model (λ bytes. IsCompiledFrom bytes c) (λ _. h1.rest ≡ Some []) w.model w.told) (λ bytes k. record {
       whole = whole-of c code bytes h h' k.0 (written ∙ w.written);
-      runs = there h.files h.rest trace (retold trace h h1 (λ x. RunsTo e (tree_of m) m.program.inputs x b b') w.files k.1 lines) (λ x run. as-compiled e c m bytes x b b' k.0 starts run);
+      runs = there h.files h.rest trace (retold trace h h1 (λ x. RunsTo e (tree_of m) c.inputs x b b') w.files k.1 lines) (λ x run. as-compiled e c m bytes x b b' k.0 starts run);
     })
 
 model-whole : (model code : List ℕ) (c : Compilation) (h h1 h' : HostTold) → WritesCompiled c model code h h1 → h'.written ≡ h1.written → OnNamed h model (λ bytes. WritesWhole code bytes h h')
 model-whole model code c h h1 h' w written = there h.files h.rest model w.model (λ bytes from. whole-of c code bytes h h' from (written ∙ w.written))
 
 -- right code is stuck over no trace
-never-stuck : (at : Stuck) (c : Compilation) (m : MachineState) (bytes lines : List ℕ) → IsCompiledFrom bytes c → StartsFrom c.code m → (rows_over (tree_of m) m.program.inputs lines).stuck_place ≡ Some at → ⊥
+never-stuck : (at : Stuck) (c : Compilation) (m : MachineState) (bytes lines : List ℕ) → IsCompiledFrom bytes c → StartsFrom c.code m → (rows_over (tree_of m) c.inputs lines).stuck_place ≡ Some at → ⊥
 never-stuck at c m bytes lines from starts sticks =
     let p : ProgramTree = from.compiled.code.program in
-    let types : List FixType = root_types from.table in
+    let types : List FixType = root_types from.diagram in
     let moved : (rows_over p types lines).stuck_place ≡ Some at =
-    subst (λ (t : List FixType). (rows_over p t lines).stuck_place ≡ Some at) (inputs-are c m bytes from starts)
-    (subst (λ (q : ProgramTree). (rows_over q m.program.inputs lines).stuck_place ≡ Some at) (program-is c m bytes from starts) sticks) in
-    let free : (rows_over p types lines).stuck_place ≡ None = (from.compiled.code.code.bounded (rows_in types lines) (rows-trace from.table lines)).not_stuck in
+    subst (λ (t : List FixType). (rows_over p t lines).stuck_place ≡ Some at) from.compiled.inputs
+    (subst (λ (q : ProgramTree). (rows_over q c.inputs lines).stuck_place ≡ Some at) (program-is c m bytes from starts) sticks) in
+    let free : (rows_over p types lines).stuck_place ≡ None = (from.compiled.code.code.bounded (rows_in types lines) (rows-trace from.diagram lines)).not_stuck in
     cc (sym free ∙ moved)
 
 no-faults : (h h1 h' : HostTold) → NoFault h h1 → NoFault h1 h' → NoFault h h'
 no-faults h h1 h' a b = record { read = b.read ∙ a.read; write = b.write ∙ a.write }
 
-run-finds : (e : Ending) (model code trace : List ℕ) (c : Compilation) (m : MachineState) (h h1 h' : HostTold) (b b' : SinkTold) → WritesCompiled c model code h h1 → StartsFrom c.code m → RunEnds e (tree_of m) m.program.inputs trace h1 h' b b' → Finds e (Some (Run model code trace)) h h' b b'
+run-finds : (e : Ending) (model code trace : List ℕ) (c : Compilation) (m : MachineState) (h h1 h' : HostTold) (b b' : SinkTold) → WritesCompiled c model code h h1 → StartsFrom c.code m → RunEnds e (tree_of m) c.inputs trace h1 h' b b' → Finds e (Some (Run model code trace)) h h' b b'
 run-finds (Ran totals) model code trace c m h h1 h' b b' w starts run =
     record { model = model-found (Ran totals) model code trace c m h h1 h' b b' w starts run.left.written run.lines; no_fault = no-faults h h1 h' w.no_fault run.left.no_fault }
 run-finds (BadTrace line) model code trace c m h h1 h' b b' w starts run =
@@ -164,7 +167,7 @@ run-finds ReadFault model code trace c m h h1 h' b b' w starts run =
     (inr (subst (λ (n : ℕ). Rose n h'.read_faults) w.no_fault.read run.rose, model-whole model code c h h1 h' w run.written), run.silent)
 run-finds NoMemory model code trace c m h h1 h' b b' w starts run = memory run.some
   where
-    memory : (b' ≡ b) ⊎ OnNamed h1 trace (λ lines. RunsTo NoMemory (tree_of m) m.program.inputs lines b b') → Finds NoMemory (Some (Run model code trace)) h h' b b'
+    memory : (b' ≡ b) ⊎ OnNamed h1 trace (λ lines. RunsTo NoMemory (tree_of m) c.inputs lines b b') → Finds NoMemory (Some (Run model code trace)) h h' b b'
     memory (inl silent) = inl (inr (there h.files h.rest model (model-whole model code c h h1 h' w run.written) (λ bytes x. whole-front code bytes h h' x)), silent)
     memory (inr lines) = inr (model-found NoMemory model code trace c m h h1 h' b b' w starts run.written lines)
 run-finds (Compiled rows systems functions) model code trace c m h h1 h' b b' w starts run = absurd run
@@ -174,7 +177,7 @@ run-finds (CodeRefused fault) model code trace c m h h1 h' b b' w starts run = a
 run-finds CodeTooLong model code trace c m h h1 h' b b' w starts run = absurd run
 run-finds WriteFault model code trace c m h h1 h' b b' w starts run = absurd run
 
-pub run_ends : (e : Ending) (model code trace : List ℕ) (c : Compilation) (m : MachineState) (h h1 h' : HostTold) (b b' : SinkTold) → WritesCompiled c model code h h1 → StartsFrom c.code m → RunEnds e (tree_of m) m.program.inputs trace h1 h' b b' → CountsPuts e b b' → Ends e (Some (Run model code trace)) h h' b b'
+pub run_ends : (e : Ending) (model code trace : List ℕ) (c : Compilation) (m : MachineState) (h h1 h' : HostTold) (b b' : SinkTold) → WritesCompiled c model code h h1 → StartsFrom c.code m → RunEnds e (tree_of m) c.inputs trace h1 h' b b' → CountsPuts e b b' → Ends e (Some (Run model code trace)) h h' b b'
 run_ends e model code trace c m h h1 h' b b' w starts run counts =
     record { finds = run-finds e model code trace c m h h1 h' b b' w starts run; counts = counts }
 
@@ -190,7 +193,7 @@ starts-right : (c : Compilation) (bytes : List ℕ) (from : IsCompiledFrom bytes
 starts-right c bytes from p at cells text start =
     let q : ProgramTree = from.compiled.code.program in
     let same : start_run q ≡ stuck at cells = ap start_run (sym (from.compiled.code.only p text)) ∙ start in
-    subst (λ (o : Outcome). Starts q (diagram_of from.table) o) same from.compiled.code.code.started
+    subst (λ (o : Outcome). Starts q from.diagram o) same from.compiled.code.code.started
 
 -- that right code is not run comes of memory alone
 pub run_unstarted : ReadingsAgree → (e : Ending) (model code trace : List ℕ) (c : Compilation) (h h1 : HostTold) (b : SinkTold) → WritesCompiled c model code h h1 → NotStarted c.code e → Ends e (Some (Run model code trace)) h h1 b b

@@ -27,7 +27,7 @@ front-of code model h h' c from written =
 
 pub whole-front : (code model : List ℕ) (h h' : HostTold) → WritesWhole code model h h' → WritesCodeFront code model h h'
 whole-front code model h h' w =
-    front-of code model h h' w.compilation (record { table = w.rows; verdict = w.verdict; compiled = w.right }) w.written
+    front-of code model h h' w.compilation (record { diagram = w.diagram; verdict = w.verdict; compiled = w.right }) w.written
 
 -- all lines of a run are some of them
 lines-memory : (p : ProgramTree) (types : List FixType) (bytes : List ℕ) (b b' : SinkTold) → PutsTicks (c_rows p (rows_in types bytes)).ticks b b' → RunsToNoMemory p types bytes b b'

@@ -1,4 +1,5 @@
 pub mod Files
+pub mod Compiling
 pub mod OneAnswer
 pub mod StatusLaws
 pub mod TraceTypes

@@ -4,7 +4,7 @@ use Rattle.std.specs.Prelude.{Option, Some, None, IsSomeAnd, true, unwrap_or, sl
 use Rattle.mc_base.specs.Refusals.{PlainRefusal}
 use Rattle.mc_fixed.specs.declared.types.FixType.{FixType}
 use Rattle.mc_edge.specs.Files.{File, lookup}
-use Rattle.mc_diagram.specs.declared.Row.{Row}
+use Rattle.mc_diagram.specs.Diagram.{Diagram}
 use Rattle.c_tree.specs.Tree.{ParamTree, ProcedureTree, ProgramTree}
 use Rattle.c_tree.specs.Machine.{Outcome, done, stuck}
 use Rattle.c_tree.specs.Rows.{start_run}
@@ -26,13 +26,13 @@ OneVerdict = (bytes : List ℕ) → HasOneVerdict bytes
 one_only : OneVerdict → (model : List ℕ) (v w : Verdict) → HasVerdict model v → HasVerdict model w → v ≡ w
 one_only one model v w is_v is_w = let only = (one model).2 in only v is_v ∙ sym (only w is_w)
 
-pub accepted_only : OneVerdict → (model : List ℕ) (rows : List Row) (refusal : PlainRefusal) → HasVerdict model (Accepted rows) → HasVerdict model (IsRefused refusal) → ⊥
-accepted_only one model rows refusal a r =
-    let e : Accepted rows ≡ IsRefused refusal = one_only one model (Accepted rows) (IsRefused refusal) a r in cc
+pub accepted_only : OneVerdict → (model : List ℕ) (d : Diagram) (refusal : PlainRefusal) → HasVerdict model (Accepted d) → HasVerdict model (IsRefused refusal) → ⊥
+accepted_only one model d refusal a r =
+    let e : Accepted d ≡ IsRefused refusal = one_only one model (Accepted d) (IsRefused refusal) a r in cc
 
-pub same_rows : OneVerdict → (model : List ℕ) (rows other : List Row) → HasVerdict model (Accepted rows) → HasVerdict model (Accepted other) → rows ≡ other
-same_rows one model rows other a b =
-    let e : Accepted rows ≡ Accepted other = one_only one model (Accepted rows) (Accepted other) a b in cc
+pub same_diagram : OneVerdict → (model : List ℕ) (d other : Diagram) → HasVerdict model (Accepted d) → HasVerdict model (Accepted other) → d ≡ other
+same_diagram one model d other a b =
+    let e : Accepted d ≡ Accepted other = one_only one model (Accepted d) (Accepted other) a b in cc
 
 pub same_refusal : OneVerdict → (model : List ℕ) (r q : PlainRefusal) → HasVerdict model (IsRefused r) → HasVerdict model (IsRefused q) → r ≡ q
 same_refusal one model r q a b =
@@ -57,7 +57,7 @@ one_place (q ∷ qs) (suc i) zero a b distinct at_i at_j named =
     absurd (cc (sym distinct.1 ∙ later))
 one_place (q ∷ qs) (suc i) (suc j) a b distinct at_i at_j named = one_place qs i j a b distinct.2 at_i at_j named
 
-pub somes-same : (a b : List FixType) → map Some a ≡ map Some b → a ≡ b
+somes-same : (a b : List FixType) → map Some a ≡ map Some b → a ≡ b
 somes-same [] [] e = refl
 somes-same [] (y ∷ ys) e = absurd (cc)
 somes-same (x ∷ xs) [] e = absurd (cc)
@@ -76,12 +76,12 @@ same_types p a b lawful h k =
 
 -- ---- Statuses
 
-model-one : OneVerdict → (model : List ℕ) (n m : ℕ) {P Q : List Row → Type 0} → ((rows : List Row) → P rows → Q rows → n ≡ m) → ModelComes model n P → ModelComes model m Q → n ≡ m
+model-one : OneVerdict → (model : List ℕ) (n m : ℕ) {P Q : Diagram → Type 0} → ((d : Diagram) → P d → Q d → n ≡ m) → ModelComes model n P → ModelComes model m Q → n ≡ m
 model-one one model n m both (inl (r, is, n-is)) (inl (q, also, m-is)) = n-is ∙ sym m-is
-model-one one model n m both (inl (r, is, n-is)) (inr (rows, also, m-is)) = absurd (accepted_only one model rows r also is)
-model-one one model n m both (inr (rows, is, n-is)) (inl (r, also, m-is)) = absurd (accepted_only one model rows r is also)
-model-one one model n m {P} {Q} both (inr (rows, is, n-is)) (inr (other, also, m-is)) =
-    both rows n-is (subst Q (same_rows one model other rows also is) m-is)
+model-one one model n m both (inl (r, is, n-is)) (inr (d, also, m-is)) = absurd (accepted_only one model d r also is)
+model-one one model n m both (inr (d, is, n-is)) (inl (r, also, m-is)) = absurd (accepted_only one model d r is also)
+model-one one model n m {P} {Q} both (inr (d, is, n-is)) (inr (other, also, m-is)) =
+    both d n-is (subst Q (same_diagram one model other d also is) m-is)
 
 some-one : (o : Option (List ℕ)) (n m : ℕ) {P Q : List ℕ → Type 0} → IsSomeAnd o P → IsSomeAnd o Q → ((bytes : List ℕ) → P bytes → Q bytes → n ≡ m) → n ≡ m
 some-one None n m h k both = absurd h
@@ -108,8 +108,8 @@ code-one agree code trace n m (inr (inr (fits, (p, text, h)))) (inr (inr (also, 
 -- what is asked for comes to one status
 pub comes-one : OneVerdict → ReadingsAgree → (a : Asked) (fs : List File) (n m : ℕ) → Comes a fs n → Comes a fs m → n ≡ m
 comes-one one agree (Compile model code) fs n m h k =
-    some-one (lookup model fs) n m h k (λ bytes x y. model-one one bytes n m (λ rows p q. p ∙ sym q) x y)
+    some-one (lookup model fs) n m h k (λ bytes x y. model-one one bytes n m (λ d p q. p ∙ sym q) x y)
 comes-one one agree (Run model code trace) fs n m h k =
-    some-one (lookup model fs) n m h k (λ bytes x y. model-one one bytes n m (λ rows p q. some-one (lookup trace fs) n m p q (λ lines u v. u ∙ sym v)) x y)
+    some-one (lookup model fs) n m h k (λ bytes x y. model-one one bytes n m (λ d p q. some-one (lookup trace fs) n m p q (λ lines u v. u ∙ sym v)) x y)
 comes-one one agree (Exec code trace) fs n m h k =
     some-one (lookup code fs) n m h k (λ bytes x y. code-one agree bytes (lookup trace fs) n m x y)

@@ -6,7 +6,7 @@ use Rattle.mc_base.specs.Refusals.{PlainRefusal, plain_refusal, refusal_line}
 use Rattle.mc_fixed.specs.declared.types.FixType.{FixType}
 use Rattle.mc_edge.specs.Faults.{Rose, IsCalm}
 use Rattle.mc_edge.specs.Files.{add_file}
-use Rattle.mc_diagram.specs.declared.Row.{Row}
+use Rattle.mc_diagram.specs.Diagram.{Diagram}
 use Rattle.mc_trace.specs.declared.rows.BadLine.{BadLine}
 use Rattle.c_tree.specs.declared.fault.CFault.{CFault}
 use Rattle.c_tree.specs.declared.fault.Stuck.{Stuck}
@@ -17,7 +17,7 @@ use Rattle.c_tree.specs.Rows.{TickRow, start_run}
 use Rattle.c_tree.specs.Reading.{CFaultOf}
 use Rattle.c_tree.specs.Agreement.{ReadingsAgree}
 use Rattle.mc_compile.specs.Verdict.{HasVerdict, Refused as IsRefused}
-use Rattle.mc_compile.specs.Compilation.{Compilation, IsCompilationOf}
+use Rattle.mc_compile.specs.Compilation.{Compilation, root_types, IsCompilationOf}
 use Rattle.mc_runner.specs.declared.outcome.Totals.{Totals}
 use Rattle.mc_runner.specs.Texts.{ticks_text}
 use Rattle.mdlc.specs.declared.tool.Ending.{Ending}
@@ -26,11 +26,11 @@ use Rattle.mdlc.specs.Words.{Asked, Compile, Run, Exec}
 use Rattle.mdlc.specs.Told.{HostTold, SinkTold}
 use Rattle.mdlc.specs.Texts.{compiled_line, totals_line, code_refused_line, long_code_line, stuck_line}
 use Rattle.mdlc.specs.Runs.{HasStepTypes, rows_in, rows_over, bad_line, PutsTicks}
-use Rattle.mdlc.specs.Endings.{status_of, text_of, root_types, code_limit, WritesCode, WritesWhole, EndsRunUnread, ExecutesCode, IsStuckAtStart, PutsWhole, Finds, CountsPuts, EndsAt}
+use Rattle.mdlc.specs.Endings.{status_of, text_of, code_limit, WritesCode, WritesWhole, EndsRunUnread, ExecutesCode, IsStuckAtStart, PutsWhole, Finds, CountsPuts, EndsAt}
 use Rattle.mdlc.specs.Statuses.{IfFile, run_status, status_over}
 use Rattle.mdlc.specs.Headline.{Calm, Tells, TellsRefusal, Compiles, last_line, run_text, RunsAccepted, Runs, Executes, DoesRight}
 use Rattle.mdlc.proofs.Files.{any_file, known_file}
-use Rattle.mdlc.proofs.OneAnswer.{OneVerdict, accepted_only, same_rows, same_refusal, same_types}
+use Rattle.mdlc.proofs.OneAnswer.{OneVerdict, accepted_only, same_diagram, same_refusal, same_types}
 use Rattle.mdlc.proofs.TraceTypes.{rows-trace}
 
 -- ---- Texts one behind another
@@ -73,21 +73,21 @@ refusal-unsaid other s h h' b b' is =
 
 compiled : OneVerdict → (rows systems functions : ℕ) (model : List ℕ) (s : ℕ) (code : List ℕ) (h h' : HostTold) (b before b' : SinkTold) → s ≡ 0 → before ≡ b → PutsWhole (compiled_line rows systems functions) before b' → WritesCode rows systems functions code model h h' → Compiles model s code h h' b b'
 compiled one rows systems functions model s code h h' b before b' is same whole (c, from, r, y, f, written) = record {
-  accepted = λ table accepts. record {
+  accepted = λ d accepts. record {
     status = inl is;
     done = λ zero. record {
       compilation = c;
-      right = subst (λ (x : List Row). IsCompilationOf x c) (same_rows one model from.table table from.verdict accepts) from.compiled;
+      right = subst (λ (x : Diagram). IsCompilationOf x c) (same_diagram one model from.diagram d from.verdict accepts) from.compiled;
       written = written;
       line = rw (r, y, f) (put-alone b before b' (compiled_line rows systems functions) same whole);
     };
   };
-  refused = λ refusal refuses. absurd (accepted_only one model from.table refusal from.verdict refuses);
+  refused = λ refusal refuses. absurd (accepted_only one model from.diagram refusal from.verdict refuses);
 }
 
 compile-memory : (model : List ℕ) (s : ℕ) (code : List ℕ) (h h' : HostTold) (b b' : SinkTold) → s ≡ 10 → Compiles model s code h h' b b'
 compile-memory model s code h h' b b' is = record {
-  accepted = λ table accepts. record { status = inr is; done = λ zero. absurd (omega (arith, is, zero)) };
+  accepted = λ d accepts. record { status = inr is; done = λ zero. absurd (omega (arith, is, zero)) };
   refused = λ refusal refuses. refusal-unsaid refusal s h h' b b' is;
 }
 
@@ -96,7 +96,7 @@ compile-does one (Compiled rows systems functions) s model code h h' b before b'
     known_file h.files h.rest model ends.0.model (λ bytes w. compiled one rows systems functions bytes s code h h' b before b' is ends.1 whole w)
 compile-does one (Refused refusal) s model code h h' b before b' ends is whole calm =
     known_file h.files h.rest model ends.0.model (λ bytes v. record {
-      accepted = λ table accepts. absurd (accepted_only one bytes table (plain_refusal refusal) accepts v);
+      accepted = λ d accepts. absurd (accepted_only one bytes d (plain_refusal refusal) accepts v);
       refused = λ other refuses. refused one (plain_refusal refusal) other bytes s h h' b before b' is v refuses ends.0.written ends.1 whole;
     })
 compile-does one ReadFault s model code h h' b before b' ends is whole calm =
@@ -116,30 +116,30 @@ compile-does one PutFault s model code h h' b before b' ends is whole calm = abs
 -- ---- `run`
 
 -- a run to the end of the trace, or to its first bad line
-ran : (rows : List Row) (lines : List ℕ) (s : ℕ) (code : List ℕ) (h h' : HostTold) (b before b' : SinkTold) (c : Compilation) (right : IsCompilationOf rows c) (bad : Option BadLine) (last : List ℕ) → h'.written ≡ add_file h.written code c.code → s ≡ run_status None bad → bad_line (root_types rows) lines ≡ bad → (rows_over right.code.program (root_types rows) lines).stuck_place ≡ None → last ≡ last_line (rows_over right.code.program (root_types rows) lines).ticks None bad → PutsTicks (rows_over right.code.program (root_types rows) lines).ticks b before → PutsWhole last before b' → RunsAccepted rows lines s code h h' b b'
-ran rows lines s code h h' b before b' c right bad last written is first free text ticks whole = record {
+ran : (d : Diagram) (lines : List ℕ) (s : ℕ) (code : List ℕ) (h h' : HostTold) (b before b' : SinkTold) (c : Compilation) (right : IsCompilationOf d c) (bad : Option BadLine) (last : List ℕ) → h'.written ≡ add_file h.written code c.code → s ≡ run_status None bad → bad_line (root_types d) lines ≡ bad → (rows_over right.code.program (root_types d) lines).stuck_place ≡ None → last ≡ last_line (rows_over right.code.program (root_types d) lines).ticks None bad → PutsTicks (rows_over right.code.program (root_types d) lines).ticks b before → PutsWhole last before b' → RunsAccepted d lines s code h h' b b'
+ran d lines s code h h' b before b' c right bad last written is first free text ticks whole = record {
   status = inl (is ∙ ap (run_status None) (sym first));
   done = λ _. record {
     compilation = c;
     right = right;
     written = written;
-    outputs = right.code.code.outputs (rows_in (root_types rows) lines) (rows-trace rows lines);
-    lines = put-run b before b' (rows_over right.code.program (root_types rows) lines).ticks last ticks whole
-        ∙ ap (λ (x : List ℕ). append_known b.bytes (ticks_text (rows_over right.code.program (root_types rows) lines).ticks ++ x)) text
-        ∙ ap (append_known b.bytes) (text-by right.code.program (root_types rows) lines None bad free first);
+    outputs = right.code.code.outputs (rows_in (root_types d) lines) (rows-trace d lines);
+    lines = put-run b before b' (rows_over right.code.program (root_types d) lines).ticks last ticks whole
+        ∙ ap (λ (x : List ℕ). append_known b.bytes (ticks_text (rows_over right.code.program (root_types d) lines).ticks ++ x)) text
+        ∙ ap (append_known b.bytes) (text-by right.code.program (root_types d) lines None bad free first);
   };
 }
 
--- of a model that was compiled, what is shown for its rows holds of those of its verdict
-for-rows : OneVerdict → (bytes trace : List ℕ) (s : ℕ) (code : List ℕ) (h h' : HostTold) (b b' : SinkTold) (w : WritesWhole code bytes h h') → IfFile h trace (λ lines. RunsAccepted w.rows lines s code h h' b b') → Runs bytes trace s code h h' b b'
-for-rows one bytes trace s code h h' b b' w shown = record {
-  accepted = λ rows accepts. subst (λ (x : List Row). IfFile h trace (λ lines. RunsAccepted x lines s code h h' b b')) (same_rows one bytes w.rows rows w.verdict accepts) shown;
-  refused = λ refusal refuses. absurd (accepted_only one bytes w.rows refusal w.verdict refuses);
+-- of a model that was compiled, what is shown for its diagram holds of that of its verdict
+for-diagram : OneVerdict → (bytes trace : List ℕ) (s : ℕ) (code : List ℕ) (h h' : HostTold) (b b' : SinkTold) (w : WritesWhole code bytes h h') → IfFile h trace (λ lines. RunsAccepted w.diagram lines s code h h' b b') → Runs bytes trace s code h h' b b'
+for-diagram one bytes trace s code h h' b b' w shown = record {
+  accepted = λ d accepts. subst (λ (x : Diagram). IfFile h trace (λ lines. RunsAccepted x lines s code h h' b b')) (same_diagram one bytes w.diagram d w.verdict accepts) shown;
+  refused = λ refusal refuses. absurd (accepted_only one bytes w.diagram refusal w.verdict refuses);
 }
 
 run-memory : (model trace : List ℕ) (s : ℕ) (code : List ℕ) (h h' : HostTold) (b b' : SinkTold) → s ≡ 10 → Runs model trace s code h h' b b'
 run-memory model trace s code h h' b b' is = record {
-  accepted = λ rows accepts. any_file h.files h.rest trace (λ lines. record { status = inr is; done = λ other. absurd (other is) });
+  accepted = λ d accepts. any_file h.files h.rest trace (λ lines. record { status = inr is; done = λ other. absurd (other is) });
   refused = λ refusal refuses. refusal-unsaid refusal s h h' b b' is;
 }
 
@@ -149,14 +149,14 @@ not-calm b before b' rose same calm = let s = calm.same in let below = calm.belo
 
 run-does : OneVerdict → (e : Ending) (s : ℕ) (model code trace : List ℕ) (h h' : HostTold) (b before b' : SinkTold) → Finds e (Some (Run model code trace)) h h' b before → CountsPuts e b before → s ≡ status_of e → PutsWhole (text_of e) before b' → Calm h h' b b' → IfFile h model (λ bytes. Runs bytes trace s code h h' b b')
 run-does one (Ran totals) s model code trace h h' b before b' ends counts is whole calm =
-    known_file h.files h.rest model ends.model (λ bytes m. for-rows one bytes trace s code h h' b b' m.whole (known_file h.files h.rest trace m.runs (λ lines run.
-    ran m.whole.rows lines s code h h' b before b' m.whole.compilation m.whole.right None (text_of (Ran totals)) m.whole.written is run.good run.free (ap (λ (t : Totals). totals_line t.ticks t.steps t.calls) run.totals) run.lines whole)))
+    known_file h.files h.rest model ends.model (λ bytes m. for-diagram one bytes trace s code h h' b b' m.whole (known_file h.files h.rest trace m.runs (λ lines run.
+    ran m.whole.diagram lines s code h h' b before b' m.whole.compilation m.whole.right None (text_of (Ran totals)) m.whole.written is run.good run.free (ap (λ (t : Totals). totals_line t.ticks t.steps t.calls) run.totals) run.lines whole)))
 run-does one (BadTrace line) s model code trace h h' b before b' ends counts is whole calm =
-    known_file h.files h.rest model ends.model (λ bytes m. for-rows one bytes trace s code h h' b b' m.whole (known_file h.files h.rest trace m.runs (λ lines run.
-    ran m.whole.rows lines s code h h' b before b' m.whole.compilation m.whole.right (Some line) (text_of (BadTrace line)) m.whole.written is run.bad run.free refl run.lines whole)))
+    known_file h.files h.rest model ends.model (λ bytes m. for-diagram one bytes trace s code h h' b b' m.whole (known_file h.files h.rest trace m.runs (λ lines run.
+    ran m.whole.diagram lines s code h h' b before b' m.whole.compilation m.whole.right (Some line) (text_of (BadTrace line)) m.whole.written is run.bad run.free refl run.lines whole)))
 run-does one (Refused refusal) s model code trace h h' b before b' ends counts is whole calm =
     known_file h.files h.rest model ends.0.model (λ bytes v. record {
-      accepted = λ table accepts. absurd (accepted_only one bytes table (plain_refusal refusal) accepts v);
+      accepted = λ d accepts. absurd (accepted_only one bytes d (plain_refusal refusal) accepts v);
       refused = λ other refuses. refused one (plain_refusal refusal) other bytes s h h' b before b' is v refuses ends.0.written ends.1 whole;
     })
 run-does one ReadFault s model code trace h h' b before b' ends counts is whole calm = absurd (unread ends.0)

@@ -43,20 +43,20 @@ same-bytes : (rest : Option (List ℕ)) (told bytes : List ℕ) → rest ≡ Som
 same-bytes None told bytes e h = cc
 same-bytes (Some x) told bytes e h = sym h ∙ some-bytes x told e
 
-module _ (m m' : MachineState) (taken : Totals) (rest : Option (List ℕ)) (name : List ℕ) (h h' : HostTold) (b b' : SinkTold) (start : IsBehindStart m) (opened : OnNamed h name (λ bytes. rest ≡ Some bytes)) where
+module _ (m m' : MachineState) (types : List FixType) (taken : Totals) (rest : Option (List ℕ)) (name : List ℕ) (h h' : HostTold) (b b' : SinkTold) (start : IsBehindStart m) (opened : OnNamed h name (λ bytes. rest ≡ Some bytes)) where
   abbrev Over : Result (Unit {0}) RunFault → Type 0
-  Over result = RunsOver result rest m.program.inputs (standing m no_totals b.bytes) (standing m' taken b'.bytes)
+  Over result = RunsOver result rest types (standing m no_totals b.bytes) (standing m' taken b'.bytes)
 
   -- what holds of the bytes that were run holds of the file's
   on-file : (bytes : List ℕ) (P : List ℕ → Type 0) → IfSome rest (λ told. told ≡ bytes) → P bytes → OnNamed h name P
   on-file bytes P file holds = there h.files h.rest name opened (λ told is. subst P (same-bytes rest told bytes is file) holds)
 
-  rows-are : (bytes : List ℕ) → ticks_over (standing m no_totals b.bytes) (trace.rows_of bytes m.program.inputs).rows ≡ c_rows (tree_of m) (trace.rows_of bytes m.program.inputs).rows
-  rows-are bytes = same-rows m no_totals b.bytes (trace.rows_of bytes m.program.inputs).rows start
+  rows-are : (bytes : List ℕ) → ticks_over (standing m no_totals b.bytes) (trace.rows_of bytes types).rows ≡ c_rows (tree_of m) (trace.rows_of bytes types).rows
+  rows-are bytes = same-rows m no_totals b.bytes (trace.rows_of bytes types).rows start
 
-  pub whole-file : LeavesHost h h' → Over (Ok tt) → RunsFile (Ran taken) (tree_of m) m.program.inputs name h h' b b'
+  pub whole-file : LeavesHost h h' → Over (Ok tt) → RunsFile (Ran taken) (tree_of m) types name h h' b b'
   whole-file left over = record {
-    lines = on-file over.bytes (λ bytes. RunsWhole taken (tree_of m) m.program.inputs bytes b b') over.file (record {
+    lines = on-file over.bytes (λ bytes. RunsWhole taken (tree_of m) types bytes b b') over.file (record {
       good = over.ends.rows_only;
       free = ap (λ (r : Rows). r.stuck_place) (sym (rows-are over.bytes)) ∙ over.ends.unstuck;
       totals = over.ends.run.ticked.totals ∙ ap (λ (r : Rows). totals_of r.ticks) (rows-are over.bytes);
@@ -65,9 +65,9 @@ module _ (m m' : MachineState) (taken : Totals) (rest : Option (List ℕ)) (name
     left = left;
   }
 
-  pub bad-file : (line : BadLine) → LeavesHost h h' → Over (Err (fault.Trace line)) → RunsFile (BadTrace line) (tree_of m) m.program.inputs name h h' b b'
+  pub bad-file : (line : BadLine) → LeavesHost h h' → Over (Err (fault.Trace line)) → RunsFile (BadTrace line) (tree_of m) types name h h' b b'
   bad-file line left over = record {
-    lines = on-file over.bytes (λ bytes. RunsToBadLine line (tree_of m) m.program.inputs bytes b b') over.file (record {
+    lines = on-file over.bytes (λ bytes. RunsToBadLine line (tree_of m) types bytes b b') over.file (record {
       bad = over.ends.first_bad;
       free = ap (λ (r : Rows). r.stuck_place) (sym (rows-are over.bytes)) ∙ over.ends.unstuck;
       lines = over.ends.run.put ∙ ap (λ (r : Rows). append_known b.bytes (ticks_text r.ticks)) (rows-are over.bytes);
@@ -75,34 +75,34 @@ module _ (m m' : MachineState) (taken : Totals) (rest : Option (List ℕ)) (name
     left = left;
   }
 
-  stuck-lines : (at : Stuck) → LeavesHost h h' → Over (Err (fault.Stuck at)) → RunsFile (IsStuck at) (tree_of m) m.program.inputs name h h' b b'
+  stuck-lines : (at : Stuck) → LeavesHost h h' → Over (Err (fault.Stuck at)) → RunsFile (IsStuck at) (tree_of m) types name h h' b b'
   stuck-lines at left over = record {
-    lines = on-file over.bytes (λ bytes. RunsToStuck at (tree_of m) m.program.inputs bytes b b') over.file (record {
+    lines = on-file over.bytes (λ bytes. RunsToStuck at (tree_of m) types bytes b b') over.file (record {
       stuck = ap (λ (r : Rows). r.stuck_place) (sym (rows-are over.bytes)) ∙ over.ends.stuck;
       lines = over.ends.run.put ∙ ap (λ (r : Rows). append_known b.bytes (ticks_text r.ticks)) (rows-are over.bytes);
     });
     left = left;
   }
 
-  pub stuck-file : (at : Stuck) → LeavesHost h h' → Over (Err (fault.Stuck at)) → SticksOverFile at (tree_of m) m.program.inputs name h h' b b'
+  pub stuck-file : (at : Stuck) → LeavesHost h h' → Over (Err (fault.Stuck at)) → SticksOverFile at (tree_of m) types name h h' b b'
   stuck-file at left over = record {
     runs = stuck-lines at left over;
     over = (over.bytes, ap (λ (r : Rows). r.stuck_place) (sym (rows-are over.bytes)) ∙ over.ends.stuck);
   }
 
-  pub cut-file : LeavesHost h h' → Over (Err fault.Out) → RunsFile PutFault (tree_of m) m.program.inputs name h h' b b'
+  pub cut-file : LeavesHost h h' → Over (Err fault.Out) → RunsFile PutFault (tree_of m) types name h h' b b'
   cut-file left over = record {
-    lines = on-file over.bytes (λ bytes. RunsToPutFault (tree_of m) m.program.inputs bytes b b') over.file (record {
+    lines = on-file over.bytes (λ bytes. RunsToPutFault (tree_of m) types bytes b b') over.file (record {
       first = record { rows = over.ends.front.rows; behind = over.ends.front.behind; parts = over.ends.front.parts };
       front = subst (λ (r : Rows). PutsFront b.bytes b'.bytes (ticks_text r.ticks)) (same-rows m no_totals b.bytes over.ends.front.rows start) over.ends.put;
     });
     left = left;
   }
 
-  pub forget-file : h'.written ≡ h.written → Over (Err fault.Memory) → ForgetsFile (tree_of m) m.program.inputs name h h' b b'
+  pub forget-file : h'.written ≡ h.written → Over (Err fault.Memory) → ForgetsFile (tree_of m) types name h h' b b'
   forget-file written over = record {
     written = written;
-    some = inr (on-file over.bytes (λ bytes. RunsToNoMemory (tree_of m) m.program.inputs bytes b b') over.file (record {
+    some = inr (on-file over.bytes (λ bytes. RunsToNoMemory (tree_of m) types bytes b b') over.file (record {
       first = record { rows = over.ends.front.rows; behind = over.ends.front.behind; parts = over.ends.front.parts };
       count = over.ends.lines;
       lines = over.ends.put ∙ ap (λ (r : Rows). append_known b.bytes (ticks_text (take over.ends.lines r.ticks))) (same-rows m no_totals b.bytes over.ends.front.rows start);

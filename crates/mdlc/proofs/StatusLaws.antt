@@ -11,12 +11,13 @@ use Rattle.c_tree.specs.Machine.{Outcome, done, stuck}
 use Rattle.c_tree.specs.Rows.{start_run, rows_of_start}
 use Rattle.c_tree.specs.Reading.{CText}
 use Rattle.c_tree.specs.Agreement.{ReadingsAgree}
+use Rattle.mc_compile.specs.Compilation.{root_types}
 use Rattle.mdlc.specs.declared.tool.Ending.{Ending}
 use Rattle.mdlc.specs.declared.tool.Ending.TheVariants.{Compiled, Ran, Usage, Refused, BadTrace, CodeRefused, CodeTooLong, Stuck as IsStuck, ReadFault, WriteFault, PutFault, NoMemory}
 use Rattle.mdlc.specs.Words.{Asked, Compile, Run, Exec}
 use Rattle.mdlc.specs.Told.{HostTold, SinkTold}
 use Rattle.mdlc.specs.Runs.{HasStepTypes, rows_in, rows_over, bad_line, RunsTo}
-use Rattle.mdlc.specs.Endings.{status_of, OnNamed, root_types, code_limit, WritesWhole, RunsModel, ExecutesCode, Finds, EndsAt}
+use Rattle.mdlc.specs.Endings.{status_of, OnNamed, code_limit, WritesWhole, RunsModel, ExecutesCode, Finds, EndsAt}
 use Rattle.mdlc.specs.Statuses.{IsPlain, IsExactly, ProgramComes, Comes, ComesExactly, OnTold, run_status, status_over}
 use Rattle.mdlc.proofs.Files.{IfTold, there, at_there, told_one, told_two, told_any}
 use Rattle.mdlc.proofs.OneAnswer.{OneVerdict, comes-one}
@@ -33,8 +34,8 @@ not-plain n a h fault = told_any h.files h.rest (λ fs plain. absurd (fault plai
 
 run-comes : (e : Ending) (model code trace : List ℕ) (h h' : HostTold) (b b' : SinkTold) → ((types : List FixType) (p : ProgramTree) (lines : List ℕ) → RunsTo e p types lines b b' → status_of e ≡ run_status None (bad_line types lines)) → OnNamed h model (λ bytes. RunsModel e trace code bytes h h' b b') → ComesTo (status_of e) (Run model code trace) h
 run-comes e model code trace h h' b b' by_run found =
-    told_two h.files h.rest model trace {X = λ bytes. WritesWhole code bytes h h'} {P = λ bytes (w : WritesWhole code bytes h h') lines. RunsTo e w.right.code.program (root_types w.rows) lines b b'} (there h.files h.rest model found (λ bytes m. (m.whole, m.runs))) (λ fs known plain.
-    at_there (lookup model fs) known (λ bytes k. inr (k.0.rows, k.0.verdict, at_there (lookup trace fs) k.1 (λ lines run. by_run (root_types k.0.rows) k.0.right.code.program lines run))))
+    told_two h.files h.rest model trace {X = λ bytes. WritesWhole code bytes h h'} {P = λ bytes (w : WritesWhole code bytes h h') lines. RunsTo e w.right.code.program (root_types w.diagram) lines b b'} (there h.files h.rest model found (λ bytes m. (m.whole, m.runs))) (λ fs known plain.
+    at_there (lookup model fs) known (λ bytes k. inr (k.0.diagram, k.0.verdict, at_there (lookup trace fs) k.1 (λ lines run. by_run (root_types k.0.diagram) k.0.right.code.program lines run))))
 
 -- ---- A run of code
 
@@ -66,7 +67,7 @@ over p types lines place bad free good =
 
 compile-comes : (e : Ending) (model code : List ℕ) (h h' : HostTold) (b b' : SinkTold) → Finds e (Some (Compile model code)) h h' b b' → ComesTo (status_of e) (Compile model code) h
 compile-comes (Compiled rows systems functions) model code h h' b b' ends =
-    told_one h.files h.rest model ends.0.model (λ fs known plain. at_there (lookup model fs) known (λ bytes w. inr (w.1.table, w.1.verdict, refl)))
+    told_one h.files h.rest model ends.0.model (λ fs known plain. at_there (lookup model fs) known (λ bytes w. inr (w.1.diagram, w.1.verdict, refl)))
 compile-comes (Refused refusal) model code h h' b b' ends =
     told_one h.files h.rest model ends.0.model (λ fs known plain. at_there (lookup model fs) known (λ bytes v. inl (plain_refusal refusal, v, refl)))
 compile-comes ReadFault model code h h' b b' ends = not-plain 5 (Compile model code) h (λ plain. plain.no_read_fault refl)

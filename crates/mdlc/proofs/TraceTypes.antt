@@ -6,16 +6,15 @@ use Rattle.std.specs.Str.Lines.{lines}
 use Rattle.mc_base.specs.declared.Port.{Port}
 use Rattle.mc_fixed.specs.declared.types.FixType.{FixType}
 use Rattle.mc_fixed.specs.Conversion.{InType}
-use Rattle.mc_diagram.specs.declared.Row.{Row}
+use Rattle.mc_diagram.specs.Diagram.{Diagram}
 use Rattle.mc_profile.specs.Ports.{input_ports}
 use Rattle.mc_trace.specs.declared.rows.BadWhy.{BadWhy}
 use Rattle.mc_trace.specs.declared.rows.BadWhy.TheVariants.{Many}
 use Rattle.mc_trace.specs.Rows.{Trace, with_row, row_of, rows_behind, most_lines}
 use Rattle.c_emitter.specs.Systems.{input_type_of, IsTrace}
-use Rattle.mc_compile.specs.Compilation.{diagram_of}
+use Rattle.mc_compile.specs.Compilation.{root_types}
 use Rattle.mc_runner.proofs.RowWalk.{row_in_types}
 use Rattle.mdlc.specs.Runs.{rows_in}
-use Rattle.mdlc.specs.Endings.{root_types}
 
 -- numbers of the types of some ports are numbers for the ports
 by-port : (type : Port → FixType) (ports : List Port) (row : List ℤ) → AllZip InType (map type ports) row → AllZip (λ p v. InType (type p) v) ports row
@@ -41,6 +40,6 @@ all-ports : (type : Port → FixType) (ports : List Port) (rows : List (List ℤ
 all-ports type ports [] h = tt
 all-ports type ports (row ∷ rows) h = (by-port type ports row h.0, all-ports type ports rows h.1)
 
-pub rows-trace : (rows : List Row) (bytes : List ℕ) → IsTrace (diagram_of rows) None (rows_in (root_types rows) bytes)
-rows-trace rows bytes =
-    all-ports (input_type_of (diagram_of rows) None) (input_ports rows None) (rows_in (root_types rows) bytes) (rows-typed 0 (root_types rows) (lines bytes))
+pub rows-trace : (d : Diagram) (bytes : List ℕ) → IsTrace d None (rows_in (root_types d) bytes)
+rows-trace d bytes =
+    all-ports (input_type_of d None) (input_ports d.rows None) (rows_in (root_types d) bytes) (rows-typed 0 (root_types d) (lines bytes))

@@ -2,24 +2,25 @@
 use Rattle.std.specs.Prelude.{◌≡◌, ◌⊎◌, ℕ, ◌≤◌, Bool, true, false, List, length, Option, Some, None, IfSome, IsSomeAnd, ⊤}
 use Rattle.mc_fixed.specs.declared.types.FixType.{FixType}
 use Rattle.mc_edge.specs.Files.{File, lookup}
-use Rattle.mc_diagram.specs.declared.Row.{Row}
+use Rattle.mc_diagram.specs.Diagram.{Diagram}
 use Rattle.c_tree.specs.Tree.{ProgramTree}
 use Rattle.c_tree.specs.Reading.{CText}
 use Rattle.mc_compile.specs.Verdict.{HasVerdict, Accepted}
+use Rattle.mc_compile.specs.Compilation.{root_types}
 use Rattle.mdlc.specs.declared.tool.Ending.{Ending}
 use Rattle.mdlc.specs.declared.tool.Ending.TheVariants.{ReadFault}
 use Rattle.mdlc.specs.Words.{Asked, Compile, Run, Exec}
 use Rattle.mdlc.specs.Told.{HostTold, SinkTold}
 use Rattle.mdlc.specs.Runs.{HasStepTypes, rows_over, bad_line}
-use Rattle.mdlc.specs.Endings.{root_types, code_limit}
+use Rattle.mdlc.specs.Endings.{code_limit}
 use Rattle.mdlc.specs.Statuses.{OnTold, IsDone}
 use Rattle.mdlc.specs.Headline.{Calm}
 
 -- ---- What can be done
 
--- the model of these bytes is accepted, and P holds of its rows
-abbrev pub OnAccepted : List ℕ → (List Row → Type 0) → Type 0
-OnAccepted model P = (rows : List Row) × HasVerdict model (Accepted rows) × P rows
+-- the model of these bytes is accepted, and P holds of its diagram
+abbrev pub OnAccepted : List ℕ → (Diagram → Type 0) → Type 0
+OnAccepted model P = (d : Diagram) × HasVerdict model (Accepted d) × P d
 
 -- no line of the trace is bad, and no tick over it stuck
 pub record RunsFreely (p : ProgramTree) (types : List FixType) (trace : List ℕ) : Type 0 where
@@ -37,9 +38,9 @@ pub record CanExecute (code : List ℕ) (trace : Option (List ℕ)) : Type 0 whe
 
 -- with these files what is asked for can be done: the model is accepted, the code runs, and no line of the trace is bad
 abbrev pub CanDo : Asked → List File → Type 0
-CanDo (Compile model code) fs = IsSomeAnd (lookup model fs) (λ bytes. OnAccepted bytes (λ rows. ⊤))
+CanDo (Compile model code) fs = IsSomeAnd (lookup model fs) (λ bytes. OnAccepted bytes (λ d. ⊤))
 CanDo (Run model code trace) fs =
-    IsSomeAnd (lookup model fs) (λ bytes. OnAccepted bytes (λ rows. IsSomeAnd (lookup trace fs) (λ lines. bad_line (root_types rows) lines ≡ None)))
+    IsSomeAnd (lookup model fs) (λ bytes. OnAccepted bytes (λ d. IsSomeAnd (lookup trace fs) (λ lines. bad_line (root_types d) lines ≡ None)))
 CanDo (Exec code trace) fs = IsSomeAnd (lookup code fs) (λ bytes. CanExecute bytes (lookup trace fs))
 
 -- What can be done is done, unless memory runs out, where no count of faults rises or stands at its greatest value.

@@ -1,12 +1,11 @@
 -- How a call of the tool may end: for each ending what was found, what was written and what is put.
-use Rattle.std.specs.Prelude.{◌≡◌, ◌≢◌, ℕ, ◌<◌, ◌≤◌, ◌⊎◌, List, [], map, length, Option, Some, None, false}
+use Rattle.std.specs.Prelude.{◌≡◌, ◌≢◌, ℕ, ◌<◌, ◌≤◌, ◌⊎◌, List, [], length, Option, Some, None, false}
 use Rattle.std.specs.Io.KnownBytes.{append_known}
 use Rattle.mc_base.specs.Refusals.{PlainRefusal, plain_refusal, refusal_line}
 use Rattle.mc_fixed.specs.declared.types.FixType.{FixType}
 use Rattle.mc_edge.specs.Faults.{Rose}
 use Rattle.mc_edge.specs.Files.{OnFile, add_file, PutsFront, WritesFront}
-use Rattle.mc_diagram.specs.declared.Row.{Row}
-use Rattle.mc_profile.specs.Ports.{input_ports}
+use Rattle.mc_diagram.specs.Diagram.{Diagram}
 use Rattle.c_tree.specs.declared.fault.CFault.{CFault}
 use Rattle.c_tree.specs.declared.fault.Stuck.{Stuck}
 use Rattle.c_tree.specs.Tree.{ProgramTree}
@@ -14,9 +13,8 @@ use Rattle.c_tree.specs.Cells.{Cells}
 use Rattle.c_tree.specs.Machine.{After, done, stuck}
 use Rattle.c_tree.specs.Rows.{start_run}
 use Rattle.c_tree.specs.Reading.{CText, CFaultOf}
-use Rattle.c_emitter.specs.Systems.{input_type_of}
 use Rattle.mc_compile.specs.Verdict.{HasVerdict, Accepted, Refused as IsRefused}
-use Rattle.mc_compile.specs.Compilation.{Compilation, diagram_of, IsCompilationOf, IsCompiledFrom}
+use Rattle.mc_compile.specs.Compilation.{Compilation, root_types, IsCompilationOf, IsCompiledFrom}
 use Rattle.mdlc.specs.declared.tool.Ending.{Ending}
 use Rattle.mdlc.specs.declared.tool.Ending.TheVariants.{Compiled, Ran, Usage, Refused, BadTrace, CodeRefused, CodeTooLong, Stuck as IsStuck, ReadFault, WriteFault, PutFault, NoMemory}
 use Rattle.mdlc.specs.Words.{Asked, Compile, Run, Exec}
@@ -111,22 +109,18 @@ EndsCompile _ model code h h' = ⊥
 
 -- ---- Running the code of a model
 
--- the types of the root's inputs
-abbrev pub root_types : List Row → List FixType
-root_types rows = map (input_type_of (diagram_of rows) None) (input_ports rows None)
-
 -- a model was compiled, and its code written whole
 pub record WritesWhole (code model : List ℕ) (h h' : HostTold) : Type 0 where
-  pub rows : List Row
-  pub verdict : HasVerdict model (Accepted rows)
+  pub diagram : Diagram
+  pub verdict : HasVerdict model (Accepted diagram)
   pub compilation : Compilation
-  pub right : IsCompilationOf rows compilation
+  pub right : IsCompilationOf diagram compilation
   pub written : h'.written ≡ add_file h.written code compilation.code
 
 -- the model was compiled, its code written whole, and the program that it is run over the trace
 pub record RunsModel (e : Ending) (trace code model : List ℕ) (h h' : HostTold) (b b' : SinkTold) : Type 0 where
   pub whole : WritesWhole code model h h'
-  pub runs : OnNamed h trace (λ bytes. RunsTo e whole.right.code.program (root_types whole.rows) bytes b b')
+  pub runs : OnNamed h trace (λ bytes. RunsTo e whole.right.code.program (root_types whole.diagram) bytes b b')
 
 -- the same where nothing failed, and where no fault of reading or writing was counted
 pub record EndsRun (e : Ending) (model_name code_name trace_name : List ℕ) (h h' : HostTold) (b b' : SinkTold) : Type 0 where

@@ -5,7 +5,7 @@ use Rattle.mc_base.specs.Refusals.{PlainRefusal, refusal_line}
 use Rattle.mc_fixed.specs.declared.types.FixType.{FixType}
 use Rattle.mc_edge.specs.Faults.{IsCalm}
 use Rattle.mc_edge.specs.Files.{add_file}
-use Rattle.mc_diagram.specs.declared.Row.{Row}
+use Rattle.mc_diagram.specs.Diagram.{Diagram}
 use Rattle.mc_trace.specs.declared.rows.BadLine.{BadLine}
 use Rattle.c_tree.specs.declared.fault.CFault.{CFault}
 use Rattle.c_tree.specs.declared.fault.Stuck.{Stuck}
@@ -16,14 +16,14 @@ use Rattle.c_tree.specs.Rows.{TickRow, start_run}
 use Rattle.c_tree.specs.Reading.{CText, CFaultOf}
 use Rattle.c_emitter.specs.Code.{GivesOutputs}
 use Rattle.mc_compile.specs.Verdict.{HasVerdict, Accepted, Refused}
-use Rattle.mc_compile.specs.Compilation.{Compilation, diagram_of, IsCompilationOf}
+use Rattle.mc_compile.specs.Compilation.{Compilation, root_types, IsCompilationOf}
 use Rattle.mc_runner.specs.Texts.{ticks_text}
 use Rattle.mc_runner.specs.Runs.{totals_of}
 use Rattle.mdlc.specs.Words.{Asked, Compile, Run, Exec}
 use Rattle.mdlc.specs.Texts.{compiled_line, totals_line, bad_line_line, code_refused_line, long_code_line, stuck_line}
 use Rattle.mdlc.specs.Told.{HostTold, SinkTold}
 use Rattle.mdlc.specs.Runs.{HasStepTypes, rows_in, rows_over, bad_line}
-use Rattle.mdlc.specs.Endings.{root_types, code_limit}
+use Rattle.mdlc.specs.Endings.{code_limit}
 use Rattle.mdlc.specs.Statuses.{IfFile, IsDone, run_status, status_over}
 
 -- no count of faults rises in the call, or stands at its greatest value
@@ -44,21 +44,21 @@ pub record TellsRefusal (refusal : PlainRefusal) (s : ℕ) (h h' : HostTold) (b 
 
 -- ---- `compile`
 
--- right code for the rows is written as the one new file, and the compiled line put
-pub record WritesRightCode (rows : List Row) (code : List ℕ) (h h' : HostTold) (b b' : SinkTold) : Type 0 where
+-- right code for the diagram is written as the one new file, and the compiled line put
+pub record WritesRightCode (d : Diagram) (code : List ℕ) (h h' : HostTold) (b b' : SinkTold) : Type 0 where
   pub compilation : Compilation
-  pub right : IsCompilationOf rows compilation
+  pub right : IsCompilationOf d compilation
   pub written : h'.written ≡ add_file h.written code compilation.code
   pub line : b'.bytes ≡ append_known b.bytes (compiled_line compilation.rows compilation.systems compilation.functions)
 
 -- a model that the rules accept is compiled, unless memory runs out
-pub record CompilesAccepted (rows : List Row) (s : ℕ) (code : List ℕ) (h h' : HostTold) (b b' : SinkTold) : Type 0 where
+pub record CompilesAccepted (d : Diagram) (s : ℕ) (code : List ℕ) (h h' : HostTold) (b b' : SinkTold) : Type 0 where
   pub status : IsDone s
-  pub done : s ≡ 0 → WritesRightCode rows code h h' b b'
+  pub done : s ≡ 0 → WritesRightCode d code h h' b b'
 
 -- what a call does with the bytes of its model
 pub record Compiles (model : List ℕ) (s : ℕ) (code : List ℕ) (h h' : HostTold) (b b' : SinkTold) : Type 0 where
-  pub accepted : (rows : List Row) → HasVerdict model (Accepted rows) → CompilesAccepted rows s code h h' b b'
+  pub accepted : (d : Diagram) → HasVerdict model (Accepted d) → CompilesAccepted d s code h h' b b'
   pub refused : (refusal : PlainRefusal) → HasVerdict model (Refused refusal) → TellsRefusal refusal s h h' b b'
 
 -- ---- `run`
@@ -74,23 +74,23 @@ abbrev pub run_text : ProgramTree → List FixType → List ℕ → List ℕ
 run_text p types trace =
     let rows = rows_over p types trace in ticks_text rows.ticks ++ last_line rows.ticks rows.stuck_place (bad_line types trace)
 
--- Right code for the rows is written as the one new file. What is put is what its one reading gives over the trace, up to
+-- Right code for the diagram is written as the one new file. What is put is what its one reading gives over the trace, up to
 -- its first bad line, and those are the outputs of the diagram's one run.
-pub record RunsRightCode (rows : List Row) (trace code : List ℕ) (h h' : HostTold) (b b' : SinkTold) : Type 0 where
+pub record RunsRightCode (d : Diagram) (trace code : List ℕ) (h h' : HostTold) (b b' : SinkTold) : Type 0 where
   pub compilation : Compilation
-  pub right : IsCompilationOf rows compilation
+  pub right : IsCompilationOf d compilation
   pub written : h'.written ≡ add_file h.written code compilation.code
-  pub outputs : GivesOutputs right.code.program (diagram_of rows) (rows_in (root_types rows) trace)
-  pub lines : b'.bytes ≡ append_known b.bytes (run_text right.code.program (root_types rows) trace)
+  pub outputs : GivesOutputs right.code.program d (rows_in (root_types d) trace)
+  pub lines : b'.bytes ≡ append_known b.bytes (run_text right.code.program (root_types d) trace)
 
 -- the code of a model that the rules accept is run over the trace, unless memory runs out
-pub record RunsAccepted (rows : List Row) (trace : List ℕ) (s : ℕ) (code : List ℕ) (h h' : HostTold) (b b' : SinkTold) : Type 0 where
-  pub status : (s ≡ run_status None (bad_line (root_types rows) trace)) ⊎ (s ≡ 10)
-  pub done : s ≢ 10 → RunsRightCode rows trace code h h' b b'
+pub record RunsAccepted (d : Diagram) (trace : List ℕ) (s : ℕ) (code : List ℕ) (h h' : HostTold) (b b' : SinkTold) : Type 0 where
+  pub status : (s ≡ run_status None (bad_line (root_types d) trace)) ⊎ (s ≡ 10)
+  pub done : s ≢ 10 → RunsRightCode d trace code h h' b b'
 
 -- what a call does with the bytes of its model
 pub record Runs (model trace : List ℕ) (s : ℕ) (code : List ℕ) (h h' : HostTold) (b b' : SinkTold) : Type 0 where
-  pub accepted : (rows : List Row) → HasVerdict model (Accepted rows) → IfFile h trace (λ lines. RunsAccepted rows lines s code h h' b b')
+  pub accepted : (d : Diagram) → HasVerdict model (Accepted d) → IfFile h trace (λ lines. RunsAccepted d lines s code h h' b b')
   pub refused : (refusal : PlainRefusal) → HasVerdict model (Refused refusal) → TellsRefusal refusal s h h' b b'
 
 -- ---- `exec`

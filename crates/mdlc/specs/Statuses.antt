@@ -3,7 +3,7 @@ use Rattle.std.specs.Prelude.{◌≡◌, ◌≢◌, ◌⊎◌, ℕ, ◌<◌, ◌
 use Rattle.mc_base.specs.Refusals.{PlainRefusal}
 use Rattle.mc_fixed.specs.declared.types.FixType.{FixType}
 use Rattle.mc_edge.specs.Files.{File, lookup}
-use Rattle.mc_diagram.specs.declared.Row.{Row}
+use Rattle.mc_diagram.specs.Diagram.{Diagram}
 use Rattle.mc_trace.specs.declared.rows.BadLine.{BadLine}
 use Rattle.c_tree.specs.declared.fault.CFault.{CFault}
 use Rattle.c_tree.specs.declared.fault.Stuck.{Stuck}
@@ -12,10 +12,11 @@ use Rattle.c_tree.specs.Machine.{Outcome, done, stuck}
 use Rattle.c_tree.specs.Rows.{start_run}
 use Rattle.c_tree.specs.Reading.{CText, CFaultOf}
 use Rattle.mc_compile.specs.Verdict.{HasVerdict, Accepted, Refused}
+use Rattle.mc_compile.specs.Compilation.{root_types}
 use Rattle.mdlc.specs.Words.{Asked, Compile, Run, Exec}
 use Rattle.mdlc.specs.Told.{HostTold}
 use Rattle.mdlc.specs.Runs.{HasStepTypes, rows_over, bad_line}
-use Rattle.mdlc.specs.Endings.{root_types, code_limit}
+use Rattle.mdlc.specs.Endings.{code_limit}
 
 -- no status that a fault or want of memory gives
 pub record IsPlain (s : ℕ) : Type 0 where
@@ -31,11 +32,11 @@ pub record IsExactly (n s : ℕ) (P : Type 0) : Type 0 where
 
 -- ---- What is done with files, where nothing fails
 
--- a model that is refused gives status 3, and one that is accepted what P says of its rows
-abbrev pub ModelComes : List ℕ → ℕ → (List Row → Type 0) → Type 0
+-- a model that is refused gives status 3, and one that is accepted what P says of its diagram
+abbrev pub ModelComes : List ℕ → ℕ → (Diagram → Type 0) → Type 0
 ModelComes model n P =
     ((refusal : PlainRefusal) × HasVerdict model (Refused refusal) × (n ≡ 3))
-    ⊎ ((rows : List Row) × HasVerdict model (Accepted rows) × P rows)
+    ⊎ ((d : Diagram) × HasVerdict model (Accepted d) × P d)
 
 -- the status of a run, by the place where it is stuck and by the first bad line of its trace
 abbrev pub run_status : Option Stuck → Option BadLine → ℕ
@@ -62,10 +63,10 @@ CodeComes code trace n =
 
 -- with these files, what is asked for comes to this status where nothing fails
 abbrev pub Comes : Asked → List File → ℕ → Type 0
-Comes (Compile model code) fs n = IsSomeAnd (lookup model fs) (λ bytes. ModelComes bytes n (λ rows. n ≡ 0))
+Comes (Compile model code) fs n = IsSomeAnd (lookup model fs) (λ bytes. ModelComes bytes n (λ d. n ≡ 0))
 Comes (Run model code trace) fs n =
-    IsSomeAnd (lookup model fs) (λ bytes. ModelComes bytes n (λ rows.
-    IsSomeAnd (lookup trace fs) (λ lines. n ≡ run_status None (bad_line (root_types rows) lines))))
+    IsSomeAnd (lookup model fs) (λ bytes. ModelComes bytes n (λ d.
+    IsSomeAnd (lookup trace fs) (λ lines. n ≡ run_status None (bad_line (root_types d) lines))))
 Comes (Exec code trace) fs n = IsSomeAnd (lookup code fs) (λ bytes. CodeComes bytes (lookup trace fs) n)
 
 -- but for faults and want of memory, the status is n exactly where what is asked for comes to n

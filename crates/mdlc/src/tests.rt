@@ -168,11 +168,54 @@ fn refusals(rt: HostRuntime) -> Result<(), Fail> {
             "refused F4 TwoModels line 5 Second\n",
         ),
         ("Library {\n}\n", "refused F4 TwoModels line 1 Library\n"),
+        (
+            models::WIDE_PRODUCT,
+            "refused F19 TooWide line 14 bits 64\n",
+        ),
+        (models::UNLIKE, "refused F17 NoType line 8 Unlike\n"),
+        (models::UNTYPED, "refused F17 NoType line 3 Missing\n"),
     ] {
         let told = compiled(rt.alloc(), model.as_bytes())?;
         assert_eq!(rt; told.status, 3, "{line}");
         assert_eq!(rt; told.put.as_slice(), line.as_bytes(), "{line}");
         assert_eq!(rt; told.files, 0);
+    }
+    Ok(())
+}
+
+// The Sum's Block begins in line 8, and that of the block behind it in line 13.
+#[test]
+fn returned_sums(rt: HostRuntime) -> Result<(), Fail> {
+    for (kind, line) in [
+        ("Gain", "refused F23 Loop 8 13\n"),
+        ("UnitDelay", "refused F7 Unsupported line 8\n"),
+    ] {
+        let model = models::returned(rt.alloc(), kind)?;
+        let told = compiled(rt.alloc(), model.as_bytes())?;
+        assert_eq!(rt; told.status, 3, "{kind}");
+        assert_eq!(rt; told.put.as_slice(), line.as_bytes(), "{kind}");
+        assert_eq!(rt; told.files, 0);
+    }
+    Ok(())
+}
+
+#[test]
+fn inports_that_are_refused(rt: HostRuntime) -> Result<(), Fail> {
+    for (parameters, line) in [
+        (
+            "OutDataTypeStr \"int32\"\nSampleTime \"0\"\n",
+            "refused F15 Continuous line 5\n",
+        ),
+        (
+            "OutDataTypeStr \"double\"\n",
+            "refused F16 FloatType line 5\n",
+        ),
+        ("", "refused F17 NoType line 5 Missing\n"),
+    ] {
+        let model = models::one_wire_with(rt.alloc(), parameters)?;
+        let told = compiled(rt.alloc(), model.as_bytes())?;
+        assert_eq!(rt; told.status, 3, "{line}");
+        assert_eq!(rt; told.put.as_slice(), line.as_bytes(), "{line}");
     }
     Ok(())
 }
@@ -235,15 +278,21 @@ fn large_models(rt: HostRuntime) -> Result<(), Fail> {
         chain.put.as_slice(),
         b"compiled rows 52 systems 1 functions 1\n" as &[u8]
     );
-    let most = compiled(alloc, &models::own_delays(alloc, 20_000)?)?;
+    Ok(())
+}
+
+#[test]
+fn many_blocks(rt: HostRuntime) -> Result<(), Fail> {
+    let alloc = rt.alloc();
+    let most = compiled(alloc, &models::grounds(alloc, 20_000)?)?;
     assert_eq!(rt;
         most.put.as_slice(),
         b"compiled rows 20000 systems 1 functions 0\n" as &[u8]
     );
-    let more = compiled(alloc, &models::own_delays(alloc, 20_001)?)?;
+    let more = compiled(alloc, &models::grounds(alloc, 20_001)?)?;
     assert_eq!(rt;
         more.put.as_slice(),
-        b"refused F7 Unsupported line 80003\n" as &[u8]
+        b"refused F6 TooMany line 80003 Blocks 20001\n" as &[u8]
     );
     Ok(())
 }

@@ -82,6 +82,48 @@ pub const BY_DEFAULTS: &str =
 pub const SURROUNDED: &str =
     "Stateflow {\n  machine {\n  }\n}\nModel {\n  Version 7.8\n  GraphicalInterface {\n    NumRootInports 1\n  }\n  System {\n    Location [480, 85, 980, 386]\n    Annotation {\n      Text \"a wire\"\n    }\n    Block {\n      BlockType Inport\n      Name \"In1\"\n      OutDataTypeStr \"int32\"\n      Position [25, 33, 55, 47]\n    }\n    Block {\n      BlockType Outport\n      Name \"Out1\"\n      PortProperties {\n        Port 2\n      }\n    }\n    Line {\n      SrcBlock \"In1\"\n      SrcPort 1\n      Points [0, 0]\n      DstBlock \"Out1\"\n      DstPort 1\n    }\n  }\n  System {\n  }\n}\n";
 
+/// A Product of two numbers of 32 bits.
+pub const WIDE_PRODUCT: &str =
+    "Model {\nSystem {\nBlock {\nBlockType Inport\nName \"In1\"\nOutDataTypeStr \"uint32\"\n}\nBlock {\nBlockType Inport\nName \"In2\"\nPort \"2\"\nOutDataTypeStr \"uint32\"\n}\nBlock {\nBlockType Product\nName \"P\"\n}\nBlock {\nBlockType Outport\nName \"Out1\"\n}\nLine {\nSrcBlock \"In1\"\nSrcPort 1\nDstBlock \"P\"\nDstPort 1\n}\nLine {\nSrcBlock \"In2\"\nSrcPort 1\nDstBlock \"P\"\nDstPort 2\n}\nLine {\nSrcBlock \"P\"\nSrcPort 1\nDstBlock \"Out1\"\nDstPort 1\n}\n}\n}\n";
+
+/// An Inport wired to an Outport of another type.
+pub const UNLIKE: &str =
+    "Model {\nSystem {\nBlock {\nBlockType Inport\nName \"In1\"\nOutDataTypeStr \"int8\"\n}\nBlock {\nBlockType Outport\nName \"Out1\"\nOutDataTypeStr \"int16\"\n}\nLine {\nSrcBlock \"In1\"\nSrcPort 1\nDstBlock \"Out1\"\nDstPort 1\n}\n}\n}\n";
+
+/// Two Unit Delays, each wired to the other.
+pub const UNTYPED: &str =
+    "Model {\nSystem {\nBlock {\nBlockType UnitDelay\nName \"a\"\n}\nBlock {\nBlockType UnitDelay\nName \"b\"\n}\nLine {\nSrcBlock \"a\"\nSrcPort 1\nDstBlock \"b\"\nDstPort 1\n}\nLine {\nSrcBlock \"b\"\nSrcPort 1\nDstBlock \"a\"\nDstPort 1\n}\n}\n}\n";
+
+/// One Inport wired to one Outport, and to a Terminator beside it.
+pub const ENDED: &[u8] =
+    b"Model {\nSystem {\nBlock {\nBlockType Inport\nName \"In1\"\nOutDataTypeStr \"int32\"\n}\nBlock {\nBlockType Terminator\nName \"T\"\n}\nBlock {\nBlockType Outport\nName \"Out1\"\n}\nLine {\nSrcBlock \"In1\"\nSrcPort 1\nBranch {\nDstBlock \"T\"\nDstPort 1\n}\nBranch {\nDstBlock \"Out1\"\nDstPort 1\n}\n}\n}\n}\n";
+
+/// A Constant and a Ground, each wired to an Outport with a type of its own.
+pub const CONSTANTS: &[u8] =
+    b"Model {\nSystem {\nBlock {\nBlockType Constant\nName \"C\"\nValue \"300\"\nOutDataTypeStr \"int16\"\n}\nBlock {\nBlockType Ground\nName \"G\"\n}\nBlock {\nBlockType Outport\nName \"Out1\"\nOutDataTypeStr \"int16\"\n}\nBlock {\nBlockType Outport\nName \"Out2\"\nPort \"2\"\nOutDataTypeStr \"fixdt(0,20,4)\"\n}\nLine {\nSrcBlock \"C\"\nSrcPort 1\nDstBlock \"Out1\"\nDstPort 1\n}\nLine {\nSrcBlock \"G\"\nSrcPort 1\nDstBlock \"Out2\"\nDstPort 1\n}\n}\n}\n";
+
+const BEFORE_A_TYPE: &str =
+    "Model {\n  Name \"one\"\n  System {\n    Name \"one\"\n    Block {\n      BlockType Inport\n      Name \"In1\"\n      Port \"1\"\n";
+
+const BEHIND_A_TYPE: &str =
+    "    }\n    Block {\n      BlockType Outport\n      Name \"Out1\"\n      Port \"1\"\n    }\n    Line {\n      SrcBlock \"In1\"\n      SrcPort 1\n      DstBlock \"Out1\"\n      DstPort 1\n    }\n  }\n}\n";
+
+/// The first model with these parameters in the place of its Inport's type.
+pub fn one_wire_with(alloc: Global, parameters: &str) -> Result<String, AllocError> {
+    format!(in alloc; "{BEFORE_A_TYPE}{parameters}{BEHIND_A_TYPE}")
+}
+
+const BEFORE_A_RETURN: &str =
+    "Model {\nSystem {\nBlock {\nBlockType Inport\nName \"In1\"\nOutDataTypeStr \"int32\"\n}\nBlock {\nBlockType Sum\nName \"S\"\nInputs \"|+-\"\n}\nBlock {\n";
+
+const BEHIND_A_RETURN: &str =
+    "Name \"R\"\n}\nBlock {\nBlockType Outport\nName \"Out1\"\n}\nLine {\nSrcBlock \"In1\"\nSrcPort 1\nDstBlock \"S\"\nDstPort 1\n}\nLine {\nSrcBlock \"R\"\nSrcPort 1\nDstBlock \"S\"\nDstPort 2\n}\nLine {\nSrcBlock \"S\"\nSrcPort 1\nBranch {\nDstBlock \"R\"\nDstPort 1\n}\nBranch {\nDstBlock \"Out1\"\nDstPort 1\n}\n}\n}\n}\n";
+
+/// A Sum that is wired back to its second input through a block of this type.
+pub fn returned(alloc: Global, kind: &str) -> Result<String, AllocError> {
+    format!(in alloc; "{BEFORE_A_RETURN}BlockType {kind}\n{BEHIND_A_RETURN}")
+}
+
 /// So many sections, each inside the one before, and none of them closed.
 pub fn nested(alloc: Global, count: u32) -> Result<Vec<u8>, AllocError> {
     let mut text = Vec::new(alloc);
@@ -151,16 +193,29 @@ pub fn backward_chain(alloc: Global, count: u32) -> Result<Vec<u8>, AllocError> 
     Ok(text)
 }
 
-/// So many Unit Delays, each wired to itself.
-pub fn own_delays(alloc: Global, count: u32) -> Result<Vec<u8>, AllocError> {
+/// For each type an Inport of it, wired to an Outport.
+pub fn typed_wires(alloc: Global, types: &[&str]) -> Result<Vec<u8>, AllocError> {
+    let mut text = b"Model {\nSystem {\n".to_vec(alloc)?;
+    for (at, kind) in types.iter().enumerate() {
+        let port = at + 1;
+        let blocks = format!(in alloc;
+            "Block {{\nBlockType Inport\nName \"i{port}\"\nPort \"{port}\"\nOutDataTypeStr \"{kind}\"\n}}\nBlock {{\nBlockType Outport\nName \"o{port}\"\nPort \"{port}\"\n}}\n"
+        )?;
+        text.extend_from_slice(blocks.as_bytes())?;
+        let source = format!(in alloc; "i{port}")?;
+        let target = format!(in alloc; "o{port}")?;
+        push_line(alloc, &mut text, source.as_str(), target.as_str())?;
+    }
+    text.extend_from_slice(b"}\n}\n")?;
+    Ok(text)
+}
+
+/// So many Grounds.
+pub fn grounds(alloc: Global, count: u32) -> Result<Vec<u8>, AllocError> {
     let mut text = b"Model {\nSystem {\n".to_vec(alloc)?;
     for k in 0..count {
-        let name = format!(in alloc; "d{k}")?;
-        push_delay(alloc, &mut text, name.as_str())?;
-    }
-    for k in 0..count {
-        let name = format!(in alloc; "d{k}")?;
-        push_line(alloc, &mut text, name.as_str(), name.as_str())?;
+        let block = format!(in alloc; "Block {{\nBlockType Ground\nName \"g{k}\"\n}}\n")?;
+        text.extend_from_slice(block.as_bytes())?;
     }
     text.extend_from_slice(b"}\n}\n")?;
     Ok(text)

@@ -77,7 +77,7 @@ fn executed(alloc: Global, code: &[u8], trace: &[u8]) -> Result<Put, AllocError>
 // The steps are the machine's own count, and the code that was written puts the same by `exec`.
 #[test]
 fn models_are_run(rt: HostRuntime) -> Result<(), Fail> {
-    let loose = models::own_delays(rt.alloc(), 1)?;
+    let loose = models::grounds(rt.alloc(), 1)?;
     for (model, trace, lines, calls) in [
         (
             models::ONE_WIRE,
@@ -97,6 +97,18 @@ fn models_are_run(rt: HostRuntime) -> Result<(), Fail> {
             b"\n \r\n",
             b"\n\nticks 2 steps ",
             b" calls 2\n",
+        ),
+        (
+            models::ENDED,
+            b"5\n-7\n2147483647",
+            b"5\n-7\n2147483647\nticks 3 steps ",
+            b" calls 6\n",
+        ),
+        (
+            models::CONSTANTS,
+            b"\n\n",
+            b"300 0\n300 0\nticks 2 steps ",
+            b" calls 4\n",
         ),
     ] {
         let put = ran(rt.alloc(), model, trace)?;
@@ -143,6 +155,68 @@ fn lines_that_are_no_row(rt: HostRuntime) -> Result<(), Fail> {
     )?;
     assert_eq!(rt; longest.status, 0);
     assert!(rt; longest.text.starts_with(b"5\nticks 1 "));
+    Ok(())
+}
+
+// Types of each size that C has, with a sign and without, and two types of other sizes.
+const TYPES: [&str; 8] = [
+    "int8",
+    "uint8",
+    "int16",
+    "uint16",
+    "int32",
+    "uint32",
+    "boolean",
+    "fixdt(1,12,3)",
+];
+
+// Their least numbers, and their greatest.
+const ENDS: &[u8] = b"-128 0 -32768 0 -2147483648 0 0 -2048
+127 255 32767 65535 2147483647 4294967295 1 2047
+";
+
+#[test]
+fn numbers_at_the_ends_of_their_types(rt: HostRuntime) -> Result<(), Fail> {
+    let model = models::typed_wires(rt.alloc(), &TYPES)?;
+    let put = ran(rt.alloc(), &model, ENDS)?;
+    assert_eq!(rt; put.status, 0);
+    assert!(rt; put.text.starts_with(ENDS));
+    assert!(rt; put.text.ends_with(b" calls 18\n"));
+    Ok(())
+}
+
+#[test]
+fn numbers_beyond_their_types(rt: HostRuntime) -> Result<(), Fail> {
+    let model = models::typed_wires(rt.alloc(), &TYPES)?;
+    for (trace, text) in [
+        ("-129 0 0 0 0 0 0 0\n", "trace line 1 Range 1\n"),
+        ("128 0 0 0 0 0 0 0\n", "trace line 1 Range 1\n"),
+        ("0 -1 0 0 0 0 0 0\n", "trace line 1 Range 2\n"),
+        ("0 256 0 0 0 0 0 0\n", "trace line 1 Range 2\n"),
+        ("0 0 -32769 0 0 0 0 0\n", "trace line 1 Range 3\n"),
+        ("0 0 32768 0 0 0 0 0\n", "trace line 1 Range 3\n"),
+        ("0 0 0 -1 0 0 0 0\n", "trace line 1 Range 4\n"),
+        ("0 0 0 65536 0 0 0 0\n", "trace line 1 Range 4\n"),
+        ("0 0 0 0 -2147483649 0 0 0\n", "trace line 1 Range 5\n"),
+        ("0 0 0 0 2147483648 0 0 0\n", "trace line 1 Range 5\n"),
+        ("0 0 0 0 0 -1 0 0\n", "trace line 1 Range 6\n"),
+        ("0 0 0 0 0 4294967296 0 0\n", "trace line 1 Range 6\n"),
+        ("0 0 0 0 0 0 -1 0\n", "trace line 1 Range 7\n"),
+        ("0 0 0 0 0 0 2 0\n", "trace line 1 Range 7\n"),
+        ("0 0 0 0 0 0 0 -2049\n", "trace line 1 Range 8\n"),
+        ("0 0 0 0 0 0 0 2048\n", "trace line 1 Range 8\n"),
+    ] {
+        let put = ran(rt.alloc(), &model, trace.as_bytes())?;
+        assert_eq!(rt; put.status, 4, "{trace}");
+        assert_eq!(rt; put.text.as_slice(), text.as_bytes(), "{trace}");
+    }
+    let narrow = models::one_wire_with(rt.alloc(), "OutDataTypeStr \"int8\"\n")?;
+    let put = ran(rt.alloc(), narrow.as_bytes(), b"1\n2\n200\n")?;
+    assert_eq!(rt; put.status, 4);
+    assert_eq!(rt;
+        put.text.as_slice(),
+        b"1\n2\ntrace line 3 Range 1\n" as &[u8]
+    );
     Ok(())
 }
 

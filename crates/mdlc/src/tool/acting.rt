@@ -53,7 +53,7 @@ fn run_model<H: Host, S: Sink>(
     };
     readings_agree();
     match started(alloc, &compiled.code) {
-        Ok(mut machine) => run_file(alloc, host, out, &mut machine, trace),
+        Ok(mut machine) => run_file(alloc, host, out, &mut machine, &compiled.inputs, trace),
         // Right code is read and starts, so that memory alone can be wanting.
         Err(ending) => ending,
     }
@@ -82,7 +82,10 @@ fn exec_code<H: Host, S: Sink>(
         Ok(machine) => machine,
         Err(ending) => return ending,
     };
-    run_file(alloc, host, out, &mut machine, trace)
+    let Ok(types) = machine.checked().inputs().to_vec(alloc) else {
+        return Ending::NoMemory;
+    };
+    run_file(alloc, host, out, &mut machine, &types, trace)
 }
 
 /// Does what the words ask for, but for the last text that is put.

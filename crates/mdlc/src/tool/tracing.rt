@@ -1,5 +1,7 @@
 ghost use Rattle.std.specs.Prelude.{◌≡◌, false};
+ghost use Rattle.std.specs.List.{AllZip};
 ghost use Rattle.c_meaning.specs.States.{tree_of};
+ghost use Rattle.mc_runner.specs.RowWalk.{IsNarrower};
 ghost use Rattle.mdlc.specs.Told.{told, sink_told};
 ghost use Rattle.mdlc.specs.Endings.{CountsPuts};
 ghost use Rattle.mdlc.specs.Acting.{IsBehindStart, RunEnds};
@@ -8,27 +10,27 @@ ghost use Rattle.mdlc.specs.Completeness.{IfReadFault};
 use super::Ending;
 use c_meaning::Machine;
 use mc_edge::{Host, Sink};
+use mc_fixed::FixType;
 use mc_runner::{RunFault, Totals, run_trace};
 use std::alloc::Global;
 
-/// Runs the file `trace` through a machine, and puts a line for each tick.
+/// Runs the file `trace`, whose numbers are of these types, through a machine, and puts a line for each tick.
 pub fn run_file<H: Host, S: Sink>(
     alloc: Global,
     host: &mut H,
     out: &mut S,
     machine: &mut Machine,
+    types: &[FixType],
     trace: &str,
 ) -> Ending
-    requires { IsBehindStart machine.old }
+    requires start { IsBehindStart machine.old }
+    requires types { AllZip IsNarrower types.now machine.old.program.inputs }
     ensures ends { let at = told H.files H.rest H.written H.sure H.read_faults H.write_faults in
         let sink = sink_told S.bytes S.faults in
-        RunEnds result (tree_of machine.old) machine.old.program.inputs trace.now (at host.old) (at host.new) (sink out.old) (sink out.new) }
+        RunEnds result (tree_of machine.old) types.now trace.now (at host.old) (at host.new) (sink out.old) (sink out.new) }
     ensures counts { let sink = sink_told S.bytes S.faults in CountsPuts result (sink out.old) (sink out.new) }
     ensures unsure { IfReadFault result (H.sure host.old trace.now ≡ false) }
 {
-    let Ok(types) = machine.checked().inputs().to_vec(alloc) else {
-        return Ending::NoMemory;
-    };
     if host.open_read(trace).is_err() {
         return Ending::ReadFault;
     }
@@ -37,7 +39,7 @@ pub fn run_file<H: Host, S: Sink>(
         steps: 0,
         calls: 0,
     };
-    match run_trace(alloc, machine, &types, host, out, &mut totals) {
+    match run_trace(alloc, machine, types, host, out, &mut totals) {
         Ok(()) => Ending::Ran(totals),
         Err(RunFault::Read) => Ending::ReadFault,
         Err(RunFault::Out) => Ending::PutFault,

@@ -1,12 +1,22 @@
 use Rattle.std.proofs.Common.{rules, refl, ◌≡◌, ◌≤◌, List, ℕ, length, subst, sym}
-use Rattle.c_meaning.specs.States.{MachineState}
-use Rattle.mdlc.specs.Told.{HostTold, told, sink_told}
+use Rattle.std.specs.List.{AllZip}
+use Rattle.mc_fixed.specs.declared.types.FixType.{FixType}
+use Rattle.c_meaning.specs.States.{MachineState, tree_of}
+use Rattle.mc_runner.specs.RowWalk.{IsNarrower}
+use Rattle.mdlc.specs.Told.{HostTold, SinkTold, told, sink_told}
 use Rattle.mdlc.specs.Endings.{code_limit, LeavesHost}
-use Rattle.mdlc.specs.Acting.{StartsFrom}
+use Rattle.mdlc.specs.Acting.{StartsFrom, RunEnds}
 use Rattle.mdlc.specs.Words.{Exec}
 use Rattle.mdlc.proofs.CodeLaws.{CodeRead, exec_ends}
+use Rattle.mdlc.proofs.RunLaws.{narrow}
 use Rattle.mdlc.proofs.Unsure.{unsure_second}
 use Rattle.mdlc.proofs.tool.acting.exec_code.Goals as goal
+
+pub run_file-requires-clause-types : goal.run_file-requires-clause-types
+run_file-requires-clause-types g c =
+    let inputs : List FixType = c.in-Ok-started.machine.program.inputs in
+    let same : c.deref-2.result.now ≡ inputs = search rules in
+    subst (λ (types : List FixType). AllZip IsNarrower types inputs) (sym same) (narrow inputs)
 
 pub returns-clause-ends : goal.returns-clause-ends
 returns-clause-ends g c =
@@ -15,6 +25,8 @@ returns-clause-ends g c =
     let before : HostTold = told g.H.Host.files g.H.Host.rest g.H.Host.written g.H.Host.sure g.H.Host.read_faults g.H.Host.write_faults c.args.host.now in
     let between : HostTold = told g.H.Host.files g.H.Host.rest g.H.Host.written g.H.Host.sure g.H.Host.read_faults g.H.Host.write_faults c.read_all.new.host in
     let after : HostTold = told g.H.Host.files g.H.Host.rest g.H.Host.written g.H.Host.sure g.H.Host.read_faults g.H.Host.write_faults c.run_file.new.host in
+    let put : SinkTold = sink_told g.S.Sink.bytes g.S.Sink.faults c.args.out.now in
+    let later : SinkTold = sink_told g.S.Sink.bytes g.S.Sink.faults c.run_file.new.out in
     let same : c.deref.result.now ≡ bytes = search rules in
     let starts : StartsFrom bytes m = subst (λ (x : List ℕ). StartsFrom x m) same (search rules) in
     let left : LeavesHost before between = record { written = search rules; no_fault = record { read = search rules; write = search rules } } in
@@ -26,7 +38,10 @@ returns-clause-ends g c =
       files = search rules;
       same = left;
     } in
-    exec_ends c.run_file.result c.args.code.now c.args.trace.now bytes m before between after (sink_told g.S.Sink.bytes g.S.Sink.faults c.args.out.now) (sink_told g.S.Sink.bytes g.S.Sink.faults c.run_file.new.out) read c.run_file.ensures.ends c.run_file.ensures.counts
+    let typed : c.deref-2.result.now ≡ m.program.inputs = search rules in
+    let run : RunEnds c.run_file.result (tree_of m) m.program.inputs c.args.trace.now between after put later =
+    subst (λ (types : List FixType). RunEnds c.run_file.result (tree_of m) types c.args.trace.now between after put later) typed c.run_file.ensures.ends in
+    exec_ends c.run_file.result c.args.code.now c.args.trace.now bytes m before between after put later read run c.run_file.ensures.counts
 
 pub returns-clause-unsure : goal.returns-clause-unsure
 returns-clause-unsure g c =

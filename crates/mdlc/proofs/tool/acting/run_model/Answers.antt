@@ -1,12 +1,25 @@
-use Rattle.std.proofs.Common.{rules, refl, ◌≡◌, List, ℕ, subst}
-use Rattle.c_meaning.specs.States.{MachineState}
+use Rattle.std.proofs.Common.{rules, refl, ◌≡◌, List, ℕ, subst, sym}
+use Rattle.std.specs.List.{AllZip}
+use Rattle.mc_fixed.specs.declared.types.FixType.{FixType}
+use Rattle.c_meaning.specs.States.{MachineState, tree_of}
+use Rattle.mc_runner.specs.RowWalk.{IsNarrower}
 use Rattle.mc_compile.specs.Compilation.{Compilation}
-use Rattle.mdlc.specs.Told.{HostTold, told, sink_told}
+use Rattle.mdlc.specs.Told.{HostTold, SinkTold, told, sink_told}
 use Rattle.mdlc.specs.Words.{Run}
-use Rattle.mdlc.specs.Acting.{WritesCompiled, StartsFrom, NotStarted}
-use Rattle.mdlc.proofs.CodeLaws.{run_ends, run_unstarted}
+use Rattle.mdlc.specs.Acting.{WritesCompiled, StartsFrom, NotStarted, RunEnds}
+use Rattle.mdlc.proofs.CodeLaws.{inputs-fit, run_ends, run_unstarted}
 use Rattle.mdlc.proofs.Unsure.{unsure_second}
 use Rattle.mdlc.proofs.tool.acting.run_model.Goals as goal
+
+pub run_file-requires-clause-types : goal.run_file-requires-clause-types
+run_file-requires-clause-types g c =
+    let compiled : Compilation = c.in-Ok.compiled in
+    let m : MachineState = c.in-Ok-started.machine in
+    let same : c.deref.result.now ≡ compiled.code = search rules in
+    let starts : StartsFrom compiled.code m = subst (λ (x : List ℕ). StartsFrom x m) same (search rules) in
+    let typed : c.deref-in-Ok-started.result.now ≡ compiled.inputs = search rules in
+    let from = c.in-Ok.ensures.compiled.compiled in
+    subst (λ (types : List FixType). AllZip IsNarrower types m.program.inputs) (sym typed) (inputs-fit compiled m from.0 from.1 starts)
 
 pub returns-in-Ok-started-clause-ends : goal.returns-in-Ok-started-clause-ends
 returns-in-Ok-started-clause-ends g c =
@@ -18,7 +31,12 @@ returns-in-Ok-started-clause-ends g c =
     let writes : WritesCompiled compiled c.args.model.now c.args.code.now before between = c.in-Ok.ensures.compiled in
     let same : c.deref.result.now ≡ compiled.code = search rules in
     let starts : StartsFrom compiled.code m = subst (λ (x : List ℕ). StartsFrom x m) same (search rules) in
-    run_ends c.run_file.result c.args.model.now c.args.code.now c.args.trace.now compiled m before between after (sink_told g.S.Sink.bytes g.S.Sink.faults c.args.out.now) (sink_told g.S.Sink.bytes g.S.Sink.faults c.run_file.new.out) writes starts c.run_file.ensures.ends c.run_file.ensures.counts
+    let typed : c.deref-in-Ok-started.result.now ≡ compiled.inputs = search rules in
+    let put : SinkTold = sink_told g.S.Sink.bytes g.S.Sink.faults c.args.out.now in
+    let later : SinkTold = sink_told g.S.Sink.bytes g.S.Sink.faults c.run_file.new.out in
+    let run : RunEnds c.run_file.result (tree_of m) compiled.inputs c.args.trace.now between after put later =
+    subst (λ (types : List FixType). RunEnds c.run_file.result (tree_of m) types c.args.trace.now between after put later) typed c.run_file.ensures.ends in
+    run_ends c.run_file.result c.args.model.now c.args.code.now c.args.trace.now compiled m before between after put later writes starts run c.run_file.ensures.counts
 
 pub returns-in-Ok-started-clause-unsure : goal.returns-in-Ok-started-clause-unsure
 returns-in-Ok-started-clause-unsure g c =
