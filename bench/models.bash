@@ -1,0 +1,96 @@
+# Models, C texts and traces of a given size, for bench/table and bench/hostile. Each function writes to standard output.
+
+# A chain of so many Unit Delays between an Inport and an Outport, in this order or, with `backward`, in the other.
+delay_chain() {
+  awk -v n="$1" -v order="${2:-forward}" 'BEGIN {
+    first = "Block {\nBlockType Inport\nName \"d0\"\nOutDataTypeStr \"int32\"\n}\n"
+    last = "Block {\nBlockType Outport\nName \"o\"\n}\n"
+    printf "Model {\nSystem {\n%s", order == "forward" ? first : last
+    for (j = 1; j <= n; j++) {
+      k = order == "forward" ? j : n + 1 - j
+      printf "Block {\nBlockType UnitDelay\nName \"d%d\"\nInitialCondition \"%d\"\n}\n", k, k
+    }
+    printf "%s", order == "forward" ? last : first
+    for (k = 0; k < n; k++) printf "Line {\nSrcBlock \"d%d\"\nSrcPort 1\nDstBlock \"d%d\"\nDstPort 1\n}\n", k, k + 1
+    printf "Line {\nSrcBlock \"d%d\"\nSrcPort 1\nDstBlock \"o\"\nDstPort 1\n}\n}\n}\n", n
+  }'
+}
+
+# So many rows of eight types: in each chain a Constant, Unit Delays that inherit its type, and a Terminator; with `backward`
+# each row stands before the one that it inherits from.
+mixed_rows() {
+  awk -v n="$1" -v order="${2:-forward}" 'BEGIN {
+    split("int8 uint8 int16 uint16 int32 uint32 boolean fixdt(1,24,5)", types, " ")
+    long = int(n / 8)
+    printf "Model {\nSystem {\n"
+    for (c = 1; c <= 8; c++) for (j = 0; j < long; j++) {
+      k = order == "forward" ? j : long - 1 - j
+      if (k == 0) printf "Block {\nBlockType Constant\nName \"c%d_0\"\nValue \"1\"\nOutDataTypeStr \"%s\"\n}\n", c, types[c]
+      else if (k == long - 1) printf "Block {\nBlockType Terminator\nName \"c%d_%d\"\n}\n", c, k
+      else printf "Block {\nBlockType UnitDelay\nName \"c%d_%d\"\nInitialCondition \"1\"\n}\n", c, k
+    }
+    for (c = 1; c <= 8; c++) for (k = 0; k + 1 < long; k++)
+      printf "Line {\nSrcBlock \"c%d_%d\"\nSrcPort 1\nDstBlock \"c%d_%d\"\nDstPort 1\n}\n", c, k, c, k + 1
+    printf "}\n}\n"
+  }'
+}
+
+# The one-wire model $1, with so many bytes in its Model: ordinary lines, or one long one.
+padded_model() {
+  printf 'Model {\n'
+  case "$2" in
+    lines) yes '  GraphicalInterface {
+    NumRootInports	    1
+    Position		      [25, 33, 55, 47]
+    Name		      "a name"
+  }' | head -c "$(($3 / 114 * 114))" ;;
+    long) printf '  Description "'; head -c "$3" /dev/zero | tr '\0' 'x'; printf '"\n' ;;
+  esac
+  sed 1d "$1"
+}
+
+# A C text of so many bytes, of small procedures.
+small_procedures() {
+  awk -v size="$1" 'BEGIN {
+    text = "#include <stdint.h>\nstruct root {\n    int32_t y1;\n};\n"
+    printf "%s", text
+    at = length(text)
+    for (k = 1; at < size; k++) {
+      text = sprintf("static void p%d(struct root *s, int32_t a) {\n    if ((int64_t)a < (int64_t)s->y1) {\n        s->y1 = (int32_t)((int64_t)a + INT64_C(%d));\n    }\n}\n", k, k % 1000)
+      printf "%s", text
+      at += length(text)
+    }
+    print "void root_start(struct root *s) {\n    p1(s, (int32_t)INT64_C(1));\n}\nvoid root_step(struct root *s, int32_t u1) {\n    p1(s, (int32_t)(int64_t)u1);\n}"
+  }'
+}
+
+# So many children, each called once in a tick, with nested expressions over pure functions.
+nested_calls() {
+  awk -v n="$1" 'BEGIN {
+    print "#include <stdint.h>"
+    print "static int64_t clip(int64_t v, int64_t lo, int64_t hi) {\n    return (((int64_t)v < (int64_t)lo) ? (int64_t)lo : (((int64_t)v > (int64_t)hi) ? (int64_t)hi : (int64_t)v));\n}"
+    print "struct part {\n    int32_t x;\n    int32_t y;\n};"
+    print "struct root {\n    int32_t y1;"
+    for (k = 1; k <= n; k++) printf "    struct part c%d;\n", k
+    print "};"
+    print "static void mix(struct part *s, int32_t a) {"
+    print "    s->x = (int32_t)clip((((int64_t)s->x * INT64_C(31)) + (((int64_t)a - (int64_t)s->y) * ((int64_t)a + INT64_C(7)))), (-INT64_C(1000000)), INT64_C(1000000));"
+    print "    if (((int64_t)s->x > INT64_C(0)) && ((int64_t)a != INT64_C(0))) {\n        s->y = (int32_t)(((int64_t)s->x / (((int64_t)a * (int64_t)a) + INT64_C(1))) % INT64_C(1009));\n    } else {\n        s->y = (int32_t)(-((int64_t)s->y / INT64_C(2)));\n    }\n}"
+    print "static void part_out1(struct part *s, int32_t a) {\n    mix(s, (int32_t)(int64_t)a);\n    mix(s, (int32_t)clip(((int64_t)a + (int64_t)s->y), (-INT64_C(30000)), INT64_C(30000)));\n}"
+    print "void root_start(struct root *s) {\n}"
+    print "void root_step(struct root *s, int32_t u1) {"
+    print "    part_out1(&s->c1, (int32_t)clip((int64_t)u1, (-INT64_C(30000)), INT64_C(30000)));"
+    for (k = 2; k <= n; k++) printf "    part_out1(&s->c%d, (int32_t)clip((int64_t)s->c%d.y, (-INT64_C(30000)), INT64_C(30000)));\n", k, k - 1
+    printf "    s->y1 = (int32_t)(int64_t)s->c%d.x;\n}\n", n
+  }'
+}
+
+# A trace of one input and so many ticks.
+long_trace() { awk -v n="$1" 'BEGIN { for (k = 1; k <= n; k++) print (k * 7919) % 20011 - 10005 }'; }
+
+# A program that does the same ticks by the compiled code $1, and prints the last output, so that nothing is left out.
+native_driver() {
+  printf '#include "%s"\n#include <stdio.h>\n#include <stdlib.h>\nstatic struct root r;\nint main(int n, char **w) {\n' "$1"
+  printf '  int ticks = atoi(w[1]);\n  root_start(&r);\n  for (int k = 1; k <= ticks; k++) root_step(&r, (int32_t)((long)k * 7919 %% 20011 - 10005));\n'
+  printf '  printf("%%ld\\n", (long)r.y1);\n  return n - 2;\n}\n'
+}
