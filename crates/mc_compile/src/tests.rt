@@ -1,12 +1,30 @@
 mod diagrams;
 mod models;
-mod saved;
 
 use mc_base::ParamName;
 use mdl_params::Defaults;
 use mdl_reader::read_mdl;
 use mdl_tree::{Item, Section};
 use std::test::Fail;
+
+/// Defaults for Gains, and a Gain that has a number of its own.
+const WITH_DEFAULTS: &[u8] = b"Model {
+  BlockParameterDefaults {
+    Block {
+      BlockType Gain
+      Gain \"1\"
+      SampleTime \"0.5\"
+    }
+  }
+  System {
+    Block {
+      BlockType Gain
+      Name \"g\"
+      Gain \"2.5\"
+    }
+  }
+}
+";
 
 // The first Gain among the Blocks of a System.
 fn first_gain(system: &Section) -> Option<&Section> {
@@ -23,8 +41,8 @@ fn first_gain(system: &Section) -> Option<&Section> {
 }
 
 #[test]
-fn saved_model(rt: HostRuntime) -> Result<(), Fail> {
-    let file = read_mdl(rt.alloc(), saved::TEXT)?;
+fn defaults_stand_for_what_a_block_does_not_write(rt: HostRuntime) -> Result<(), Fail> {
+    let file = read_mdl(rt.alloc(), WITH_DEFAULTS)?;
     let model = file.section(b"Model").ok_or("Model")?;
     let defaults = Defaults::new(rt.alloc(), model)?;
     let system = model.section(b"System").ok_or("System")?;
@@ -35,7 +53,7 @@ fn saved_model(rt: HostRuntime) -> Result<(), Fail> {
     );
     assert_eq!(rt;
         defaults.param(gain, b"Gain", ParamName::SampleTime),
-        b"-1".as_slice()
+        b"0.5".as_slice()
     );
     Ok(())
 }
