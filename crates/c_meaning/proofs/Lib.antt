@@ -14,3 +14,4 @@ pub mod Standing
 pub mod Calling
 pub mod PlainCalls
 pub mod Halting
+pub mod Orders

@@ -1,5 +1,5 @@
 // Numbers of int64_t, where each result is a number of the type or the machine is stuck.
-ghost use Rattle.std.specs.Prelude.{◌≡◌, ◌+◌, IfOk, ◌≤ℤ◌, ◌↔◌, ℕ, neg_ℤ, IsTrue, true};
+ghost use Rattle.std.specs.Prelude.{◌≡◌, ◌+◌, IfOk, ◌≤ℤ◌, ◌↔◌, ℕ, pos, neg_ℤ, IsTrue, true};
 ghost use Rattle.c_tree.specs.Values.{stuck_at, within, operate, compares, is_in_type, take_step, gives, least_of, greatest_of};
 ghost use Rattle.c_meaning.specs.Answers.{answered, IsLater};
 
@@ -36,9 +36,26 @@ fn remainder(line: u32, x: i64, y: i64) -> Result<i64, Halt>
     x.checked_rem(y).ok_or(Halt::at(line, Why::Overflow))
 }
 
-/// The result of an operator.
+/// The result of an operator. Those that most expressions have are asked for one by one, since a jump by a table costs more.
 #[inline(always)]
 pub(crate) fn operate(op: BinOp, line: u32, x: i64, y: i64) -> Result<i64, Halt>
+    ensures { (steps : ℕ) → answered result steps ≡ operate op line x y steps }
+{
+    if let BinOp::Add = op {
+        return x.checked_add(y).ok_or(Halt::at(line, Why::Overflow));
+    }
+    if let BinOp::Sub = op {
+        return x.checked_sub(y).ok_or(Halt::at(line, Why::Overflow));
+    }
+    if let BinOp::Mul = op {
+        return x.checked_mul(y).ok_or(Halt::at(line, Why::Overflow));
+    }
+    operate_any(op, line, x, y)
+}
+
+// The same, by a call.
+#[inline(never)]
+fn operate_any(op: BinOp, line: u32, x: i64, y: i64) -> Result<i64, Halt>
     ensures { (steps : ℕ) → answered result steps ≡ operate op line x y steps }
 {
     let overflow = Halt::at(line, Why::Overflow);
@@ -51,47 +68,68 @@ pub(crate) fn operate(op: BinOp, line: u32, x: i64, y: i64) -> Result<i64, Halt>
     }
 }
 
-/// Whether a comparison holds.
+// Whether a comparison holds of a number and a greater one.
 #[inline(always)]
+fn holds_below(how: Compare) -> bool
+    ensures { result ≡ compares how (pos 0) (pos 1) }
+{
+    matches!(how, Compare::Ne | Compare::Lt | Compare::Le)
+}
+
+// Whether a comparison holds of a number and itself.
+#[inline(always)]
+fn holds_of_same(how: Compare) -> bool
+    ensures { result ≡ compares how (pos 0) (pos 0) }
+{
+    matches!(how, Compare::Eq | Compare::Le | Compare::Ge)
+}
+
+// Whether a comparison holds of a number and a less one.
+#[inline(always)]
+fn holds_above(how: Compare) -> bool
+    ensures { result ≡ compares how (pos 1) (pos 0) }
+{
+    matches!(how, Compare::Ne | Compare::Ge | Compare::Gt)
+}
+
+/// Whether a comparison holds. The order of the numbers is met with what the comparison asks for, without a jump by a table.
+#[inline(always)]
+#[tactic(auto, using(crate::proofs::Orders::by_order))]
 pub(crate) fn compares(how: Compare, x: i64, y: i64) -> bool
     ensures { result ≡ compares how x y }
 {
-    match how {
-        Compare::Eq => x == y,
-        Compare::Ne => x != y,
-        Compare::Lt => x < y,
-        Compare::Le => x <= y,
-        Compare::Ge => x >= y,
-        Compare::Gt => x > y,
-    }
+    let below = (x < y) & holds_below(how);
+    let same = (x == y) & holds_of_same(how);
+    let above = (x > y) & holds_above(how);
+    below | same | above
 }
+
+// The least number of each type, in the order of the types.
+static LEAST: [i64; 7] = [-(1 << 7), 0, -(1 << 15), 0, -(1 << 31), 0, i64::MIN];
+
+// The greatest number of each type.
+static GREATEST: [i64; 7] = [
+    0x7f,
+    0xff,
+    0x7fff,
+    0xffff,
+    0x7fff_ffff,
+    0xffff_ffff,
+    i64::MAX,
+];
 
 #[inline(always)]
 fn least_of(of: CType) -> i64
     ensures { result ≡ least_of of }
 {
-    match of {
-        CType::I8 => -(1 << 7),
-        CType::I16 => -(1 << 15),
-        CType::I32 => -(1 << 31),
-        CType::I64 => i64::MIN,
-        CType::U8 | CType::U16 | CType::U32 => 0,
-    }
+    LEAST[of as usize]
 }
 
 #[inline(always)]
 fn greatest_of(of: CType) -> i64
     ensures { result ≡ greatest_of of }
 {
-    match of {
-        CType::I8 => 0x7f,
-        CType::U8 => 0xff,
-        CType::I16 => 0x7fff,
-        CType::U16 => 0xffff,
-        CType::I32 => 0x7fff_ffff,
-        CType::U32 => 0xffff_ffff,
-        CType::I64 => i64::MAX,
-    }
+    GREATEST[of as usize]
 }
 
 /// Whether a number is one of a type.
