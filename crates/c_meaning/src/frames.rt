@@ -7,13 +7,12 @@ ghost use Rattle.c_tree.specs.Machine.{arguments};
 ghost use Rattle.c_tree.specs.Values.{eval, eval_cond, functions_of, reads, and_then, within};
 ghost use Rattle.c_meaning.specs.Answers.{answered, judged, put_answer, IsLater};
 ghost use Rattle.c_meaning.specs.Reads.{view_reads, view_functions, IsNarrowExpr, AreNarrowExprs, IsNarrowCond, AreNarrow};
-ghost use Rattle.c_meaning.specs.Slots.{layout_at};
 ghost use Rattle.c_meaning.specs.States.{filled};
 ghost use Rattle.c_meaning.specs.Sound.{IsReady, zero_at};
 
 use crate::arithmetic::is_in_type;
 use crate::halts::{Halt, Verdict};
-use crate::slots::{Layout, Slot, slots_at};
+use crate::slots::{Layout, slots_at};
 use crate::values::{View, eval_any, eval_cond, read};
 use c_tree::{CType, Cond, Expr, Leaf, Program, Why};
 use mc_base::Text;
@@ -29,18 +28,9 @@ pub(crate) struct Frame<'a> {
     pub(crate) values: &'a [i64],
 }
 
-/// The places of the fields of the body's struct.
 #[inline(always)]
-pub(crate) fn slots_of<'a>(frame: &Frame<'a>) -> &'a [Slot]
-    ensures { result.now ≡ (layout_at frame.now.layouts.now frame.now.of).slots }
-{
-    slots_at(frame.layouts, frame.of)
-}
-
-#[inline(always)]
-fn view_of<'a>(frame: &Frame<'a>, slots: &'a [Slot], numbers: &'a [i64], line: u32) -> View<'a>
-    requires ready { IsReady (program_tree frame.now.program.now) frame.now.layouts.now frame.now.logged.now }
-    requires slots { slots.now ≡ (layout_at frame.now.layouts.now frame.now.of).slots }
+fn view_of<'a>(frame: &Frame<'a>, numbers: &'a [i64], line: u32) -> View<'a>
+    requires { IsReady (program_tree frame.now.program.now) frame.now.layouts.now frame.now.logged.now }
     ensures pures { result.pures.now ≡ frame.now.program.now.pure.items }
     ensures line { result.line ≡ line }
     ensures reads { view_reads result ≡ reads frame.now.values.now (filled (zero_at (program_tree frame.now.program.now) frame.now.of) numbers.now) }
@@ -48,7 +38,7 @@ fn view_of<'a>(frame: &Frame<'a>, slots: &'a [Slot], numbers: &'a [i64], line: u
     View {
         pures: &frame.program.pure,
         layouts: frame.layouts,
-        slots,
+        slots: slots_at(frame.layouts, frame.of),
         numbers,
         values: frame.values,
         line,
@@ -57,12 +47,11 @@ fn view_of<'a>(frame: &Frame<'a>, slots: &'a [Slot], numbers: &'a [i64], line: u
 
 // What a leaf of the body reads.
 #[inline(always)]
-fn leaf_of(frame: &Frame, slots: &[Slot], numbers: &[i64], leaf: Leaf) -> i64
-    requires ready { IsReady (program_tree frame.now.program.now) frame.now.layouts.now frame.now.logged.now }
-    requires slots { slots.now ≡ (layout_at frame.now.layouts.now frame.now.of).slots }
+fn leaf_of(frame: &Frame, numbers: &[i64], leaf: Leaf) -> i64
+    requires { IsReady (program_tree frame.now.program.now) frame.now.layouts.now frame.now.logged.now }
     ensures { result ≡ reads frame.now.values.now (filled (zero_at (program_tree frame.now.program.now) frame.now.of) numbers.now) leaf }
 {
-    let view = view_of(frame, slots, numbers, 0);
+    let view = view_of(frame, numbers, 0);
     read(&view, leaf)
 }
 
@@ -71,20 +60,18 @@ fn leaf_of(frame: &Frame, slots: &[Slot], numbers: &[i64], leaf: Leaf) -> i64
 #[inline(always)]
 pub(crate) fn value_of(
     frame: &Frame,
-    slots: &[Slot],
     numbers: &[i64],
     line: u32,
     e: &Expr,
     steps: &mut u64,
 ) -> Result<i64, Halt>
     requires ready { IsReady (program_tree frame.now.program.now) frame.now.layouts.now frame.now.logged.now }
-    requires slots { slots.now ≡ (layout_at frame.now.layouts.now frame.now.of).slots }
     requires narrow { IsNarrowExpr (expr_tree e.now) }
     ensures value { answered result steps.new ≡ eval (functions_of [] (program_tree frame.now.program.now).pures) (reads frame.now.values.now (filled (zero_at (program_tree frame.now.program.now) frame.now.of) numbers.now)) line (expr_tree e.now) steps.old }
     ensures later { IsLater steps.old steps.new }
 {
     if let Expr::Read(leaf) = e {
-        return Ok(leaf_of(frame, slots, numbers, *leaf));
+        return Ok(leaf_of(frame, numbers, *leaf));
     }
     if let Expr::Literal(value) = e {
         return Ok(*value);
@@ -106,7 +93,7 @@ fn value_of_any(
     ensures value { answered result steps.new ≡ eval (functions_of [] (program_tree frame.now.program.now).pures) (reads frame.now.values.now (filled (zero_at (program_tree frame.now.program.now) frame.now.of) numbers.now)) line (expr_tree e.now) steps.old }
     ensures later { IsLater steps.old steps.new }
 {
-    let view = view_of(frame, slots_of(frame), numbers, line);
+    let view = view_of(frame, numbers, line);
     eval_any(&view, e, steps)
 }
 
@@ -123,7 +110,7 @@ pub(crate) fn holds(
     ensures value { judged result steps.new ≡ eval_cond (functions_of [] (program_tree frame.now.program.now).pures) (reads frame.now.values.now (filled (zero_at (program_tree frame.now.program.now) frame.now.of) numbers.now)) line (cond_tree test.now) steps.old }
     ensures later { IsLater steps.old steps.new }
 {
-    let view = view_of(frame, slots_of(frame), numbers, line);
+    let view = view_of(frame, numbers, line);
     eval_cond(&view, test, steps)
 }
 
@@ -142,7 +129,7 @@ fn argument(
     ensures value { answered result steps.new ≡ and_then (eval (functions_of [] (program_tree frame.now.program.now).pures) (reads frame.now.values.now (filled (zero_at (program_tree frame.now.program.now) frame.now.of) numbers.now)) line (expr_tree e.now) steps.old) (within of Why.Range line) }
     ensures later { IsLater steps.old steps.new }
 {
-    let value = value_of(frame, slots_of(frame), numbers, line, e, steps)?;
+    let value = value_of(frame, numbers, line, e, steps)?;
     if is_in_type(of, value) {
         Ok(value)
     } else {

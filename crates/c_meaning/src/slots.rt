@@ -54,7 +54,6 @@ pub(crate) fn number_in(numbers: &[i64], slot: Option<Slot>) -> i64
 }
 
 /// The place of the field at a position.
-#[inline(always)]
 pub(crate) fn slot_in(slots: &[Slot], field: usize) -> Option<Slot>
     ensures { result ≡ slice_get slots.now field }
 {

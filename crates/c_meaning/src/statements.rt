@@ -10,22 +10,30 @@ ghost use Rattle.c_meaning.specs.Sound.{IsReady, IsSoundStmt, AreSoundStmts, IsN
 ghost use Rattle.c_meaning.specs.Seen.{seen, ended, IsCounted, IsStepped};
 
 use crate::arithmetic::{is_in_type, take_step};
-use crate::frames::{Frame, holds, put_arguments, slots_of, value_of};
+use crate::frames::{Frame, holds, put_arguments, value_of};
 use crate::halts::{Halt, Verdict};
-use crate::slots::{Slot, slot_in};
+use crate::slots::{Slot, slots_at};
 use crate::values::{FEW, first_of, first_of_few};
 use c_tree::{CType, Cond, Cost, Expr, Stmt, Target, Why};
+
+#[inline(always)]
+fn slot_at(frame: &Frame, field: u32) -> Option<Slot>
+    ensures { result ≡ slice_get (layout_at frame.now.layouts.now frame.now.of).slots field }
+{
+    slots_at(frame.layouts, frame.of)
+        .get(field as usize)
+        .copied()
+}
 
 // The place of a number field, and its type.
 #[inline(always)]
 #[tactic(auto, using(crate::proofs::Places::number_there))]
-fn number_slot(frame: &Frame, slots: &[Slot], field: u32) -> (usize, CType)
+fn number_slot(frame: &Frame, field: u32) -> (usize, CType)
     requires ready { IsReady (program_tree frame.now.program.now) frame.now.layouts.now frame.now.logged.now }
-    requires slots { slots.now ≡ (layout_at frame.now.layouts.now frame.now.of).slots }
     requires number { IsNumberField (program_tree frame.now.program.now) frame.now.of field }
     ensures { slice_get (layout_at frame.now.layouts.now frame.now.of).slots field ≡ Some (Slot.Number result.0 result.1) }
 {
-    match slot_in(slots, field as usize) {
+    match slot_at(frame, field) {
         Some(Slot::Number { at, of }) => (at, of),
         Some(Slot::Instance { .. }) => unreachable!(),
         None => unreachable!(),
@@ -39,7 +47,7 @@ fn instance_slot(frame: &Frame, field: u32) -> (usize, usize, u32)
     requires instance { IsInstanceField (program_tree frame.now.program.now) frame.now.of field }
     ensures { slice_get (layout_at frame.now.layouts.now frame.now.of).slots field ≡ Some (Slot.Instance result.0 result.1 result.2) }
 {
-    match slot_in(slots_of(frame), field as usize) {
+    match slot_at(frame, field) {
         Some(Slot::Instance { at, size, of }) => (at, size, of),
         Some(Slot::Number { .. }) => unreachable!(),
         None => unreachable!(),
@@ -48,22 +56,14 @@ fn instance_slot(frame: &Frame, field: u32) -> (usize, usize, u32)
 
 // Stores a number in a field, if it is in the field's type.
 #[inline(always)]
-fn store(
-    frame: &Frame,
-    slots: &[Slot],
-    line: u32,
-    field: u32,
-    value: i64,
-    numbers: &mut [i64],
-) -> Result<(), Halt>
+fn store(frame: &Frame, line: u32, field: u32, value: i64, numbers: &mut [i64]) -> Result<(), Halt>
     requires ready { IsReady (program_tree frame.now.program.now) frame.now.layouts.now frame.now.logged.now }
     requires room { length numbers.old ≡ (layout_at frame.now.layouts.now frame.now.of).size }
-    requires slots { slots.now ≡ (layout_at frame.now.layouts.now frame.now.of).slots }
     requires number { IsNumberField (program_tree frame.now.program.now) frame.now.of field }
     ensures { (cost : Cost) → ended (zero_at (program_tree frame.now.program.now) frame.now.of) result numbers.new cost
         ≡ seen cost.calls (store line (type_at (scope_at (program_tree frame.now.program.now) frame.now.level frame.now.of frame.now.values.now).types field) field value (filled (zero_at (program_tree frame.now.program.now) frame.now.of) numbers.old) cost.steps) }
 {
-    let (at, of) = number_slot(frame, slots, field);
+    let (at, of) = number_slot(frame, field);
     if is_in_type(of, value) {
         numbers[at] = value;
         Ok(())
@@ -75,7 +75,6 @@ fn store(
 #[inline(always)]
 fn set_field(
     frame: &Frame,
-    slots: &[Slot],
     line: u32,
     field: u32,
     e: &Expr,
@@ -83,7 +82,6 @@ fn set_field(
     cost: &mut Cost,
 ) -> Result<(), Halt>
     requires ready { IsReady (program_tree frame.now.program.now) frame.now.layouts.now frame.now.logged.now }
-    requires slots { slots.now ≡ (layout_at frame.now.layouts.now frame.now.of).slots }
     requires sound { IsSoundStmt (program_tree frame.now.program.now) frame.now.level frame.now.of (assign line field (expr_tree e.now)) }
     requires room { length numbers.old ≡ (layout_at frame.now.layouts.now frame.now.of).size }
     requires counted { IsCounted cost.old }
@@ -92,8 +90,8 @@ fn set_field(
     ensures counted { IsCounted cost.new }
 {
     take_step(line, &mut cost.steps)?;
-    match value_of(frame, slots, numbers, line, e, &mut cost.steps) {
-        Ok(value) => store(frame, slots, line, field, value, numbers),
+    match value_of(frame, numbers, line, e, &mut cost.steps) {
+        Ok(value) => store(frame, line, field, value, numbers),
         Err(at) => Err(at),
     }
 }
@@ -114,24 +112,16 @@ pub(crate) fn run_all(
         ≡ seen cost.old.calls (run_stmts (scope_at (program_tree frame.now.program.now) frame.now.level frame.now.of frame.now.values.now) (stmts_of_list (map stmt_tree stmts.now)) (filled (zero_at (program_tree frame.now.program.now) frame.now.of) numbers.old) cost.old.steps) }
     ensures counted { IsCounted cost.new }
 {
-    let slots = slots_of(frame);
     for i in 0..stmts.len() {
-        run(frame, slots, &stmts[i], numbers, cost)?;
+        run(frame, &stmts[i], numbers, cost)?;
     }
     Ok(())
 }
 
 #[cycle(statement)]
 #[inline(always)]
-fn run(
-    frame: &Frame,
-    slots: &[Slot],
-    stmt: &Stmt,
-    numbers: &mut [i64],
-    cost: &mut Cost,
-) -> Result<(), Halt>
+fn run(frame: &Frame, stmt: &Stmt, numbers: &mut [i64], cost: &mut Cost) -> Result<(), Halt>
     requires ready { IsReady (program_tree frame.now.program.now) frame.now.layouts.now frame.now.logged.now }
-    requires slots { slots.now ≡ (layout_at frame.now.layouts.now frame.now.of).slots }
     requires sound { IsSoundStmt (program_tree frame.now.program.now) frame.now.level frame.now.of (stmt_tree stmt.now) }
     requires room { length numbers.old ≡ (layout_at frame.now.layouts.now frame.now.of).size }
     requires counted { IsCounted cost.old }
@@ -140,9 +130,7 @@ fn run(
     ensures counted { IsCounted cost.new }
 {
     match stmt {
-        Stmt::Set { line, field, value } => {
-            set_field(frame, slots, *line, *field, value, numbers, cost)
-        }
+        Stmt::Set { line, field, value } => set_field(frame, *line, *field, value, numbers, cost),
         Stmt::If {
             line,
             test,

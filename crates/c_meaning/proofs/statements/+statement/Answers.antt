@@ -37,7 +37,7 @@ run-returns-in-If-clause-ran t c =
 pub run_all-run-requires : goal.run_all-run-requires
 run_all-run-requires t c =
     let h = stmts_depth_at c.args.stmts.now c.loop-i.i c.index-stmts-i.result (omega arith) c.index-stmts-i.is in
-    (omega arith, (c.requires.ready, (c.slots_of-slots.ensures, (sound_here (program_tree c.args.frame.now.program.now) c.args.frame.now.level c.args.frame.now.of c.args.stmts.now c.loop-i.i c.index-stmts-i.result (omega arith) c.index-stmts-i.is c.loop-i.invariant.sound, (c.loop-i.auto.numbers ∙ c.requires.room, c.loop-i.invariant.counted)))))
+    (omega arith, (c.requires.ready, (sound_here (program_tree c.args.frame.now.program.now) c.args.frame.now.level c.args.frame.now.of c.args.stmts.now c.loop-i.i c.index-stmts-i.result (omega arith) c.index-stmts-i.is c.loop-i.invariant.sound, (c.loop-i.auto.numbers ∙ c.requires.room, c.loop-i.invariant.counted))))
 
 pub run_all-returns-in_err-run-clause-ran : goal.run_all-returns-in_err-run-clause-ran
 run_all-returns-in_err-run-clause-ran t c =
