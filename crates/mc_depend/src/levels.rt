@@ -24,7 +24,7 @@ pub(crate) fn levels_to(alloc: Global, g: &Graph, z: u32) -> Result<Vec<usize>, 
     Ok(steps)
 }
 
-// Counts one step more.
+// Numbers the rows from which `k + 1` steps lead to `z`, and no fewer.
 fn advance(g: &Graph, z: u32, k: usize, steps: &mut [usize])
     requires len { length steps.old ≡ g.now.n }
     requires few { k ≤ g.now.n }

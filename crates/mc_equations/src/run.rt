@@ -18,8 +18,8 @@ use std::alloc::Global;
 /// The values of a diagram's run over a trace, by tick and row. The diagram has no loop, and each row of the trace has a
 /// number for each Inport of the root, by its port and in its type.
 ///
-/// The plain way, for others to be compared with: at each tick all rows are gone over until no value changes. Fails where
-/// memory runs out, and only then.
+/// The plain way, for others to be compared with: at each tick all rows are gone over until no value changes. The only fault
+/// is want of memory.
 pub fn plain_run(alloc: Global, r: &Resolved, inputs: &[Vec<i64>]) -> Result<Vec<Vec<i64>>, Memory>
     requires no_loop { HasNoLoop (needs_of (diagram_of r.now)) }
     requires inputs { IsTraceFor (diagram_of r.now) (map (λ x. x.items) inputs.now) }

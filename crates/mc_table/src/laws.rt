@@ -34,7 +34,7 @@ pub fn accepted_table_is_well_formed()
     ensures { AcceptedTableIsWellFormed }
 {}
 
-/// All its rows are those of one system.
+/// All rows of a table of a tree that isn't refused by what is read so far are those of one system.
 pub fn accepted_table_is_one_system()
     ensures { AcceptedTableIsOneSystem }
 {}

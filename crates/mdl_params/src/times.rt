@@ -15,7 +15,8 @@ use mc_base::{Decimal, Frac, TimeText, frac_of, is_blank, read_decimal, read_pla
 /// a period and an offset, in the units of the model, with parts up to 10^9 and 0 <= o < p. `-1`, `[-1 0]` and
 /// `[-1, 0]` are inherited, and `inf`, `Inf` and `[inf 0]` are constant. Blanks at both ends don't count.
 ///
-/// Fails with `Continuous` exactly where the period is 0, and with `Parameter` at any other text.
+/// Fails with `Continuous` exactly at the number 0 and at a pair of numbers whose period is 0, and with `Parameter` at any
+/// other text.
 pub fn sample_time(text: &[u8]) -> Result<TimeText, ParamFault>
     ensures { ReadsTimeAs result (time_form text.now) }
 {
