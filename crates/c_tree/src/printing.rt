@@ -12,7 +12,7 @@ use crate::program::Program;
 use mc_base::Memory;
 use std::alloc::{AllocError, Global};
 
-/// The text of a lawful program: C99 of the subset that is read again, one statement or declaration a line.
+/// The text of a lawful program: C99 of the subset that is read again.
 /// It has one reading: the program, but for the lines, which are those of the text.
 pub fn print(alloc: Global, p: &Program) -> Result<Vec<u8>, Memory>
     requires { IsLawful (program_tree p.now) }
@@ -24,7 +24,7 @@ pub fn print(alloc: Global, p: &Program) -> Result<Vec<u8>, Memory>
     }
 }
 
-// The text of a program.
+// The text of a program, with one statement or declaration a line.
 fn text_of(alloc: Global, program: &Program) -> Result<Vec<u8>, AllocError>
     ensures { IfOk result (λ text. text.items ≡ program_bytes (program_tree program.now)) }
 {

@@ -223,7 +223,7 @@ impl fmt::Display for Refusal {
 /// The line that tells a refusal, with its end.
 ///
 /// The words are `refused`, the refusal's number and name, and what it holds, as in
-/// `refused F13 Unconnected line 7 port enable`. Fails where memory runs out, and only then.
+/// `refused F13 Unconnected line 7 port enable`. The only fault is want of memory.
 pub fn refusal_text(alloc: Global, r: &Refusal) -> Result<Vec<u8>, Memory>
     ensures { IfOk result (λ text. text.items ≡ refusal_line (plain_refusal r.now)) }
 {

@@ -163,6 +163,7 @@ impl Builder {
         push_section(&mut self.current, section)?;
         Ok(())
     }
+
     /// Takes a further line of a value in brackets.
     fn continue_value(&mut self, mut parameter: Parameter, text: &[u8]) -> Result<(), ReadFault>
         requires { self.old.begun ≡ None }
