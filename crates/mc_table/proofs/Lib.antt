@@ -25,6 +25,7 @@ pub mod BuildLemmas
 pub mod AcceptedLists
 pub mod AcceptedModel
 pub mod AcceptedKinds
+pub mod TypedBlocks
 pub mod AcceptedTexts
 pub mod AcceptedRows
 pub mod AcceptedWires

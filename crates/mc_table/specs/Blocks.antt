@@ -48,9 +48,13 @@ abbrev mutual
     | false ↦ blocks_inside e depth rest
   ]
 
+-- the type that the items of a block's section write, where their BlockType is one that is read
+abbrev pub written_type : Items → Option BlockType
+written_type items = option_and_then block_type_of (first_value (codes "BlockType") items)
+
 -- the type of a block, where its BlockType is one that is read
 abbrev pub block_type : Block → Option BlockType
-block_type b = option_and_then block_type_of (first_value (codes "BlockType") b.items)
+block_type b = written_type b.items
 
 -- whether a block is of this type
 abbrev pub is_a : BlockType → Block → Bool

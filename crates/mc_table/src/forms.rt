@@ -10,7 +10,7 @@ ghost use Rattle.mc_table.specs.Held.{seen, all_seen};
 ghost use Rattle.mc_table.specs.Passes.{is_same_typed};
 ghost use Rattle.mc_table.specs.HeldModels.{tree_of};
 
-use crate::block::{Block, writes_type};
+use crate::block::Block;
 use crate::counts::{
     logic_count, product_count, sum_signs, whole_number, writes_gain, writes_minus_one,
     writes_number,
@@ -63,7 +63,10 @@ fn is_time_form(may_be_constant: bool, text: &[u8]) -> bool
 pub(crate) fn is_a(block_type: BlockType, block: &Block) -> bool
     ensures { result ≡ written.is_a block_type (seen block.now) }
 {
-    writes_type(block.section, block_type)
+    match block.block_type {
+        Some(own) => own == block_type,
+        None => false,
+    }
 }
 
 /// Whether the text of a block's output type has its form.

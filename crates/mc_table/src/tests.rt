@@ -1,7 +1,7 @@
 use super::*;
 use mc_base::{Control, Decimal, Frac, Place, TimeText, refusal_text};
 use mc_blocks::{How, Kind};
-use mc_diagram::BuildFault;
+use mc_diagram::{BuildFault, Tree};
 use mc_fixed::{FixType, Over, Round, TypeText};
 use mdl_reader::read_mdl;
 use std::test::Fail;
@@ -125,8 +125,8 @@ fn files_are_refused(rt: HostRuntime) -> Result<(), Fail> {
 }
 
 #[test]
-fn blocks_are_refused(rt: HostRuntime) -> Result<(), Fail> {
-    for (items, expected) in [
+fn blocks_that_are_not_read(rt: HostRuntime) -> Result<(), Fail> {
+    let cases = [
         // a type that isn't read, the first of two, and none at all
         (
             b"Block { / BlockType Scope / Name a / }".as_slice(),
@@ -153,6 +153,16 @@ fn blocks_are_refused(rt: HostRuntime) -> Result<(), Fail> {
             b"Block { / BlockType Constant / Name a / Value true / SampleTime 1 / }".as_slice(),
             b"refused F7 Unsupported line 3\n".as_slice(),
         ),
+    ];
+    for (items, expected) in cases {
+        assert_eq!(rt; answer(rt, items)?.as_slice(), expected);
+    }
+    Ok(())
+}
+
+#[test]
+fn names_and_ports_that_stand_twice(rt: HostRuntime) -> Result<(), Fail> {
+    let cases = [
         // a name twice, the first of two such, and a port twice
         (
             b"Block { / BlockType Inport / Name a / } / Block { / BlockType Ground / Name a / }".as_slice(),
@@ -166,6 +176,16 @@ fn blocks_are_refused(rt: HostRuntime) -> Result<(), Fail> {
             b"Block { / BlockType Inport / Name a / } / Block { / BlockType Inport / Name b / }".as_slice(),
             b"refused F9 DoubleName line 7\n".as_slice(),
         ),
+    ];
+    for (items, expected) in cases {
+        assert_eq!(rt; answer(rt, items)?.as_slice(), expected);
+    }
+    Ok(())
+}
+
+#[test]
+fn periods_0_and_floating_point_types(rt: HostRuntime) -> Result<(), Fail> {
+    let cases = [
         // a period 0 before a floating-point type, the first of two, and a number against a truth value
         (
             b"Block { / BlockType Constant / Name a / } / Block { / BlockType Constant / Name b / SampleTime 0 / }".as_slice(),
@@ -187,7 +207,8 @@ fn blocks_are_refused(rt: HostRuntime) -> Result<(), Fail> {
             b"Block { / BlockType Constant / Name a / Value true / }".as_slice(),
             b"".as_slice(),
         ),
-    ] {
+    ];
+    for (items, expected) in cases {
         assert_eq!(rt; answer(rt, items)?.as_slice(), expected);
     }
     Ok(())
@@ -195,7 +216,7 @@ fn blocks_are_refused(rt: HostRuntime) -> Result<(), Fail> {
 
 #[test]
 fn parameters_are_refused(rt: HostRuntime) -> Result<(), Fail> {
-    for (items, expected) in [
+    let cases = [
         // the first in the order of the table, of the first block
         (
             b"Block { / BlockType Ground / }".as_slice(),
@@ -230,15 +251,16 @@ fn parameters_are_refused(rt: HostRuntime) -> Result<(), Fail> {
             b"Block { / BlockType Gain / Name a / Gain 2147483647 / }".as_slice(),
             b"refused F13 Unconnected line 3 port 1\n".as_slice(),
         ),
-    ] {
+    ];
+    for (items, expected) in cases {
         assert_eq!(rt; answer(rt, items)?.as_slice(), expected);
     }
     Ok(())
 }
 
 #[test]
-fn lines_are_refused(rt: HostRuntime) -> Result<(), Fail> {
-    for (items, expected) in [
+fn places_that_lines_miss(rt: HostRuntime) -> Result<(), Fail> {
+    let cases = [
         // a line that leads, and one of the newer form
         (
             b"Block { / BlockType Inport / Name a / } / Block { / BlockType Outport / Name b / } / Line { / SrcBlock a / SrcPort 1 / DstBlock b / DstPort 1 / }".as_slice(),
@@ -278,6 +300,16 @@ fn lines_are_refused(rt: HostRuntime) -> Result<(), Fail> {
             b"Block { / BlockType Inport / Name a / } / Block { / BlockType Outport / Name b / } / Line { / SrcBlock a / SrcPort 2 / DstBlock b / DstPort 1 / } / Line { / SrcBlock a / SrcPort 1 / DstBlock z / DstPort 1 / }".as_slice(),
             b"refused F10 NoBlock line 17\n".as_slice(),
         ),
+    ];
+    for (items, expected) in cases {
+        assert_eq!(rt; answer(rt, items)?.as_slice(), expected);
+    }
+    Ok(())
+}
+
+#[test]
+fn inputs_of_two_lines_or_of_none(rt: HostRuntime) -> Result<(), Fail> {
+    let cases = [
         // a second line to an input, or a branch of the first
         (
             b"Block { / BlockType Inport / Name a / } / Block { / BlockType Outport / Name b / } / Line { / SrcBlock a / SrcPort 1 / DstBlock b / DstPort 1 / } / Line { / SrcBlock a / SrcPort 1 / DstBlock b / DstPort 1 / }".as_slice(),
@@ -305,7 +337,8 @@ fn lines_are_refused(rt: HostRuntime) -> Result<(), Fail> {
             b"Block { / BlockType Inport / Name a / } / Block { / BlockType Sum / Name b / } / Line { / SrcBlock a / SrcPort 1 / DstBlock b / DstPort 1 / }".as_slice(),
             b"refused F13 Unconnected line 7 port 2\n".as_slice(),
         ),
-    ] {
+    ];
+    for (items, expected) in cases {
         assert_eq!(rt; answer(rt, items)?.as_slice(), expected);
     }
     Ok(())
@@ -342,6 +375,108 @@ fn crowds_are_refused(rt: HostRuntime) -> Result<(), Fail> {
     Ok(())
 }
 
+/// The items of a System with so many subsystems, each inside the one before and four lines below it.
+fn nested(rt: HostRuntime, count: u32) -> Result<Vec<u8>, Fail> {
+    let mut text = Vec::new(rt.alloc());
+    for _ in 0..count {
+        text.extend_from_slice(b"Block {\nBlockType SubSystem\nName s\nSystem {\n")?;
+    }
+    for _ in 0..count {
+        text.extend_from_slice(b"}\n}\n")?;
+    }
+    Ok(text)
+}
+
+#[test]
+fn deep_subsystems_are_refused(rt: HostRuntime) -> Result<(), Fail> {
+    let deepest = nested(rt, 32)?;
+    assert_eq!(rt;
+        answer(rt, deepest.as_slice())?.as_slice(),
+        b"refused F7 Unsupported line 3\n".as_slice()
+    );
+    let mut deep = nested(rt, 33)?;
+    assert_eq!(rt;
+        answer(rt, deep.as_slice())?.as_slice(),
+        b"refused F5 TooDeep line 131\n".as_slice()
+    );
+    // it is told before a crowd of ports in the root
+    deep.extend_from_slice(ports(rt, "Inport", 33)?.as_slice())?;
+    assert_eq!(rt;
+        answer(rt, deep.as_slice())?.as_slice(),
+        b"refused F5 TooDeep line 131\n".as_slice()
+    );
+    // and of two that are too deep the first is told
+    let deeper = nested(rt, 34)?;
+    assert_eq!(rt;
+        answer(rt, deeper.as_slice())?.as_slice(),
+        b"refused F5 TooDeep line 131\n".as_slice()
+    );
+    Ok(())
+}
+
+/// The step that a file writes.
+fn step_in(rt: HostRuntime, text: &[u8]) -> Result<Option<Frac>, Fail> {
+    let text = lines(rt, text)?;
+    let file = read_mdl(rt.alloc(), text.as_slice())?;
+    Ok(fixed_step(&file))
+}
+
+#[test]
+fn a_step_is_written_anywhere_but_in_the_system(rt: HostRuntime) -> Result<(), Fail> {
+    let half = Some(Frac { num: 1, den: 2 });
+    let cases = [
+        (
+            b"Model { / FixedStep 0.5 / System { / } / }".as_slice(),
+            half,
+        ),
+        (
+            b"Model { / A { / B { / FixedStep 0.5 / } / } / System { / } / }".as_slice(),
+            half,
+        ),
+        (
+            b"Model { / System { / FixedStep 3 / } / FixedStep 0.5 / }".as_slice(),
+            half,
+        ),
+        (
+            b"Model { / System { / FixedStep 0.5 / } / }".as_slice(),
+            None,
+        ),
+        (
+            b"FixedStep 0.5 / Model { / System { / } / }".as_slice(),
+            None,
+        ),
+        (b"Data { / FixedStep 0.5 / }".as_slice(), None),
+    ];
+    for (text, step) in cases {
+        assert_eq!(rt; step_in(rt, text)?, step);
+    }
+    Ok(())
+}
+
+#[test]
+fn the_first_step_decides(rt: HostRuntime) -> Result<(), Fail> {
+    let greatest = Frac {
+        num: 1_000_000_000,
+        den: 1,
+    };
+    let cases = [
+        (b"FixedStep auto / FixedStep 0.5".as_slice(), None),
+        (b"FixedStep 0".as_slice(), None),
+        (b"FixedStep -0.5".as_slice(), None),
+        (b"FixedStep 1000000000".as_slice(), Some(greatest)),
+        (b"FixedStep 1000000001".as_slice(), None),
+        (b"FixedStep 0.0000000001".as_slice(), None),
+    ];
+    for (written, step) in cases {
+        let mut text = Vec::new(rt.alloc());
+        text.extend_from_slice(b"Model { / System { / } / ")?;
+        text.extend_from_slice(written)?;
+        text.extend_from_slice(b" / }")?;
+        assert_eq!(rt; step_in(rt, text.as_slice())?, step);
+    }
+    Ok(())
+}
+
 const INT32: FixType = FixType {
     signed: true,
     bits: 32,
@@ -364,13 +499,19 @@ const DIFFERENCE: &[u8] = b"Model { / FixedStep 0.5 / System { \
 / Line { / SrcBlock s / SrcPort 1 / Branch { / DstBlock d / DstPort 1 / } / Branch { / DstBlock o / DstPort 1 / } / } \
 / } / }";
 
-#[test]
-fn rows_are_made(rt: HostRuntime) -> Result<(), Fail> {
+/// The tree of that model.
+fn difference(rt: HostRuntime) -> Result<Tree, Fail> {
     let text = lines(rt, DIFFERENCE)?;
     let file = read_mdl(rt.alloc(), text.as_slice())?;
-    let Ok(tree) = build(rt.alloc(), &file) else {
-        return Err(Fail::from("refused"));
-    };
+    match build(rt.alloc(), &file) {
+        Ok(tree) => Ok(tree),
+        Err(_) => Err(Fail::from("refused")),
+    }
+}
+
+#[test]
+fn rows_are_made(rt: HostRuntime) -> Result<(), Fail> {
+    let tree = difference(rt)?;
     let rows = tree.table().rows.as_slice();
     assert_eq!(rt; rows.len(), 4);
     for (row, line, kind, inputs, type_text) in [
@@ -421,6 +562,12 @@ fn rows_are_made(rt: HostRuntime) -> Result<(), Fail> {
         assert_eq!(rt; found.type_text, type_text);
         assert_eq!(rt; found.time_text, TimeText::Inherit);
     }
+    Ok(())
+}
+
+#[test]
+fn the_root_has_all_rows(rt: HostRuntime) -> Result<(), Fail> {
+    let tree = difference(rt)?;
     assert_eq!(rt; tree.table().fixed_step, Some(Frac { num: 1, den: 2 }));
     let root = tree.root();
     assert_eq!(rt; root.row, None);

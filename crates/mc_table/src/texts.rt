@@ -7,7 +7,8 @@ ghost use Rattle.mc_table.specs.Parameters as parameter;
 ghost use Rattle.mc_table.specs.Held.{seen};
 ghost use Rattle.mc_table.specs.HeldModels.{tree_of};
 
-use crate::block::{Block, take_blocks};
+use crate::block::Block;
+use crate::blocks::take_blocks;
 use crate::model::ModelText;
 use mc_base::{Memory, ParamName};
 use mdl_params::{BlockType, Defaults};
@@ -47,7 +48,7 @@ pub(crate) fn type_name<'a>(block: &Block<'a>) -> &'a [u8]
 pub(crate) fn block_type(block: &Block) -> Option<BlockType>
     ensures { result ≡ written.block_type (seen block.now) }
 {
-    BlockType::of(block.section.param(b"BlockType")?.bytes())
+    block.block_type
 }
 
 /// The default of this parameter of a type of block, if that type has it.

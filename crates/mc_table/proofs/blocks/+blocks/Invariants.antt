@@ -2,7 +2,7 @@ use Rattle.std.proofs.Common.{◌≡◌, ◌≤◌, ◌++◌, length, drop}
 use Rattle.mdl_tree.specs.Values.{items_of}
 use Rattle.mc_table.specs.Blocks.{blocks_in, blocks_inside}
 use Rattle.mc_table.specs.Held.{all_seen}
-use Rattle.mc_table.proofs.block.+blocks.Given as goal
+use Rattle.mc_table.proofs.blocks.+blocks.Given as goal
 
 abbrev pub invariant-take_blocks-loop-item : goal.invariant-take_blocks-loop-item
 invariant-take_blocks-loop-item l = record {

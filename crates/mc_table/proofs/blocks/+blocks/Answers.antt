@@ -6,8 +6,8 @@ use Rattle.mdl_tree.proofs.Rows.{section_in, items_from}
 use Rattle.mc_table.specs.Blocks.{blocks_in, blocks_inside}
 use Rattle.mc_table.specs.Held.{all_seen, taken}
 use Rattle.mc_table.proofs.BlockLemmas.{blocks_in-other, length-news, more-block, inside-system, inside-end}
-use Rattle.mc_table.proofs.block.+blocks.Goals as goal
-use Rattle.mc_table.proofs.block.+blocks.Goals.{take_blocks-in-Section+then-eq+in_ok-take_block, take_blocks-in-Section+else-eq, take_blocks-in_default}
+use Rattle.mc_table.proofs.blocks.+blocks.Goals as goal
+use Rattle.mc_table.proofs.blocks.+blocks.Goals.{take_blocks-in-Section+then-eq+in_ok-take_block, take_blocks-in-Section+else-eq, take_blocks-in_default}
 
 pub take_blocks-loop-item-preserved : goal.take_blocks-loop-item-preserved
 take_blocks-loop-item-preserved t c =
