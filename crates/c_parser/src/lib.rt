@@ -8,6 +8,7 @@ mod definitions;
 mod exprs;
 mod fault;
 mod file;
+mod lines;
 mod openers;
 mod operands;
 mod params;
@@ -20,6 +21,7 @@ mod words;
 mod written;
 
 pub use fault::ReadCFault;
+pub use lines::last_line;
 pub use parser::parse_c;
 pub use written::{
     Argument, Number, WrittenCond, WrittenExpr, WrittenField, WrittenKind, WrittenLeaf,

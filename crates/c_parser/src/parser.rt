@@ -7,8 +7,9 @@ ghost use Rattle.c_parser.specs.Limited.{limits_of};
 ghost use Rattle.c_parser.specs.ParsedText.{GivesText};
 
 use crate::fault::ReadCFault;
+use crate::lines::last_line;
 use crate::reader::{Limits, Reader, syntax_on};
-use crate::tokens::{Tokens, line_behind};
+use crate::tokens::Tokens;
 use crate::words::is;
 use crate::written::WrittenProgram;
 use std::alloc::Global;
@@ -30,16 +31,6 @@ fn split_line(bytes: &[u8]) -> (&[u8], &[u8])
         (&bytes[..at], &bytes[at + 1..])
     } else {
         (bytes, &[])
-    }
-}
-
-// The last line of a text.
-fn last_line(bytes: &[u8]) -> u32
-    ensures { result ≡ tokens.last_line bytes.now }
-{
-    match bytes.split_last() {
-        Some((_, front)) => line_behind(1, front),
-        None => 1,
     }
 }
 

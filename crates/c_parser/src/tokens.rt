@@ -5,6 +5,7 @@ ghost use Rattle.c_tree.specs.Parsing.{first_text};
 ghost use Rattle.c_parser.specs.Lines.{line_behind};
 
 use crate::bytes::{Piece, first_piece};
+use crate::lines::line_behind;
 use std::marker::Model;
 
 /// A token: its bytes, and the line of the first of them.
@@ -36,21 +37,6 @@ impl<'a> Model for Tokens<'a> {
     ghost Value = { List read.Token };
 
     ghost view = { λ t. read.tokens_from 0 t.line t.bytes.now };
-}
-
-/// The line behind some bytes that begin on a line.
-pub(crate) fn line_behind(line: u32, bytes: &[u8]) -> u32
-    ensures { result ≡ line_behind line bytes.now }
-{
-    let mut line = line;
-    let mut rest = bytes;
-    while let Some((first, others)) = rest.split_first() {
-        if *first == b'\n' {
-            line = line.saturating_add(1);
-        }
-        rest = others;
-    }
-    line
 }
 
 impl<'a> Tokens<'a> {

@@ -10,7 +10,6 @@ mod field_rules;
 mod fields;
 mod interface;
 mod known;
-mod lines;
 mod lookups;
 mod name_table;
 mod numbers;

@@ -8,10 +8,9 @@ ghost use Rattle.c_reader.specs.Reading.{IsRead, IsReadFault};
 
 use crate::checked::Checked;
 use crate::interface::{input_types, output_count};
-use crate::lines::last_line;
 use crate::places::procedure_named;
 use crate::programs::resolve_program;
-use c_parser::{ReadCFault, parse_c};
+use c_parser::{ReadCFault, last_line, parse_c};
 use c_tree::Program;
 use mc_base::Memory;
 use std::alloc::Global;

@@ -1,7 +1,6 @@
 ghost use Rattle.std.specs.Prelude.{◌≡◌, IfOk};
 ghost use Rattle.std.specs.Option.{option_copied};
 ghost use Rattle.mdl_tree.specs.Values.{section_tree};
-ghost use Rattle.mdl_params.specs.Language.{default_text};
 ghost use Rattle.mc_table.specs.Blocks as written;
 ghost use Rattle.mc_table.specs.Parameters as parameter;
 ghost use Rattle.mc_table.specs.Held.{seen};
@@ -51,16 +50,6 @@ pub(crate) fn block_type(block: &Block) -> Option<BlockType>
     block.block_type
 }
 
-/// The default of this parameter of a type of block, if that type has it.
-fn default_of(kind: &[u8], name: ParamName) -> Option<&'static [u8]>
-    ensures { option_copied result ≡ default_text kind.now name }
-{
-    match BlockType::of(kind)?.default_of(name) {
-        Some(text) => Some(text.as_bytes()),
-        None => None,
-    }
-}
-
 /// The text that stands for a block's parameter, if the file gives one or its type has it.
 pub(crate) fn found_text<'a>(
     model: &'a ModelText,
@@ -69,11 +58,7 @@ pub(crate) fn found_text<'a>(
 ) -> Option<&'a [u8]>
     ensures { option_copied result ≡ parameter.found_text (tree_of model.now) (seen block.now) name }
 {
-    let kind = type_name(block);
-    match model.defaults.written(block.section, kind, name) {
-        Some(text) => Some(text),
-        None => default_of(kind, name),
-    }
+    model.defaults.found(block.section, type_name(block), name)
 }
 
 /// The same of a parameter that the block's type has.

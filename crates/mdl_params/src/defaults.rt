@@ -64,13 +64,8 @@ impl Defaults {
     }
 
     /// The text that the file gives for a parameter of a block of this type: the block's own, else that of
-    /// its type. None exactly where neither has the parameter.
-    pub fn written<'a>(
-        &'a self,
-        block: &'a Section,
-        kind: &[u8],
-        name: ParamName,
-    ) -> Option<&'a [u8]>
+    /// its type.
+    fn written<'a>(&'a self, block: &'a Section, kind: &[u8], name: ParamName) -> Option<&'a [u8]>
         ensures { option_copied result ≡ written_text self.now (section_tree block.now).items kind.now name }
     {
         match own_value(block, name) {
@@ -79,16 +74,23 @@ impl Defaults {
         }
     }
 
-    /// The text that stands for a parameter of a block: what the file gives, else the default of the
-    /// block's type, which is to have that parameter.
+    /// The text that stands for a parameter of a block of this type: what the file gives, else the default
+    /// of the type. None exactly where the file gives none, and no type of this name has the parameter.
+    pub fn found<'a>(&'a self, block: &'a Section, kind: &[u8], name: ParamName) -> Option<&'a [u8]>
+        ensures { option_copied result ≡ parameter_text self.now (section_tree block.now).items kind.now name }
+    {
+        match self.written(block, kind, name) {
+            Some(text) => Some(text),
+            None => default_text(kind, name).map(|text| text.as_bytes()),
+        }
+    }
+
+    /// The same of a parameter that the block's type is to have.
     pub fn param<'a>(&'a self, block: &'a Section, kind: &[u8], name: ParamName) -> &'a [u8]
         requires { IsSome (default_text kind.now name) }
         ensures { parameter_text self.now (section_tree block.now).items kind.now name ≡ Some result.now }
     {
-        match self.written(block, kind, name) {
-            Some(text) => text,
-            None => default_text(kind, name).unwrap().as_bytes(),
-        }
+        self.found(block, kind, name).unwrap()
     }
 }
 

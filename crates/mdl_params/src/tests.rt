@@ -68,7 +68,7 @@ fn saved_model(rt: HostRuntime) -> Result<(), Fail> {
         b"Floor".as_slice()
     );
     assert_eq!(rt;
-        defaults.written(&block, kind, ParamName::Name),
+        defaults.found(&block, kind, ParamName::Name),
         Some(b"Long gain".as_slice())
     );
     Ok(())

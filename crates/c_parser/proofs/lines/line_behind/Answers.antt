@@ -1,7 +1,7 @@
 use Rattle.std.proofs.Common.{◌∙◌, sym, ap}
 use Rattle.c_parser.specs.Lines.{line_behind}
 use Rattle.c_parser.proofs.TokenLines.{same-line}
-use Rattle.c_reader.proofs.lines.line_behind.Goals as goal
+use Rattle.c_parser.proofs.lines.line_behind.Goals as goal
 
 pub loop-first-preserved : goal.loop-first-preserved
 loop-first-preserved c =

@@ -1,6 +1,6 @@
 use Rattle.std.proofs.Common.{◌≡◌, ◌<◌, length}
 use Rattle.c_parser.specs.Lines.{line_behind}
-use Rattle.c_reader.proofs.lines.line_behind.Given as goal
+use Rattle.c_parser.proofs.lines.line_behind.Given as goal
 
 abbrev pub invariant-loop-first : goal.invariant-loop-first
 invariant-loop-first l =

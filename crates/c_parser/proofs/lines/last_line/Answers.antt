@@ -1,6 +1,6 @@
 use Rattle.std.proofs.Common.{◌<◌, arith}
 use Rattle.c_parser.proofs.LastLine.{last-line-is}
-use Rattle.c_reader.proofs.lines.last_line.Goals as goal
+use Rattle.c_parser.proofs.lines.last_line.Goals as goal
 
 pub returns-in-Some : goal.returns-in-Some
 returns-in-Some c =

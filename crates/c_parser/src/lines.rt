@@ -4,7 +4,7 @@ ghost use Rattle.c_tree.specs.Tokens as tokens;
 ghost use Rattle.c_parser.specs.Lines.{line_behind};
 
 /// The line behind some bytes that begin on a line.
-fn line_behind(line: u32, bytes: &[u8]) -> u32
+pub(crate) fn line_behind(line: u32, bytes: &[u8]) -> u32
     ensures { result ≡ line_behind line bytes.now }
 {
     let mut line = line;
@@ -18,8 +18,8 @@ fn line_behind(line: u32, bytes: &[u8]) -> u32
     line
 }
 
-/// The last line of a text.
-pub(crate) fn last_line(bytes: &[u8]) -> u32
+/// The last line of a text, counted from 1; a line end as the last byte begins none.
+pub fn last_line(bytes: &[u8]) -> u32
     ensures { result ≡ tokens.last_line bytes.now }
 {
     match bytes.split_last() {
