@@ -1,6 +1,6 @@
 -- Blocks by the types that are kept of them.
-use Rattle.std.proofs.Common.{rules, ◌≡◌, refl, sym, ◌∙◌, ap, Bool, true, false, true≢false, List, ℕ, Option, None, Some}
-use Rattle.std.specs.Prelude.{bytes_eq, codes, option_and_then}
+use Rattle.std.proofs.Common.{rules, ◌≡◌, refl, sym, ◌∙◌, ap, Bool, true, false, true≢false, cond, List, ℕ, Option, None, Some, is_some}
+use Rattle.std.specs.Prelude.{bytes_eq, codes, option_and_then, option_map}
 use Rattle.std.specs.Option.{option_map_or}
 use Rattle.std.proofs.lemmas.Slice.Eq.{bytes_eq-Decides}
 use denote.Enum.Bare.{sameb, same_true, same_false}
@@ -9,7 +9,10 @@ use Rattle.mdl_params.specs.declared.block_type.BlockType.{BlockType}
 use Rattle.mdl_params.specs.declared.block_type.BlockType.TheVariants.{Inport, Outport, SubSystem, Constant, Ground, Terminator, Gain, Sum, Product, UnitDelay, ZeroOrderHold, Switch, RelationalOperator, Logic, DataTypeConversion, RateTransition, EnablePort, TriggerPort}
 use Rattle.mdl_params.specs.contracts.block_type.BlockType.{the_type}
 use Rattle.mdl_params.specs.BlockTypes.{block_type_name, block_type_of}
-use Rattle.mc_table.specs.Blocks.{Block, block_type, is_a}
+use Rattle.mc_base.specs.declared.ParamName.TheVariants.{Operator}
+use Rattle.mc_table.specs.Blocks.{Block, ModelTree, block_type, is_a}
+use Rattle.mc_table.specs.Words.{sum_signs, product_count, logic_count}
+use Rattle.mc_table.specs.Parameters.{text_of, is_inputs_form}
 use Rattle.mc_table.proofs.AcceptedLists.{none-some, some-same}
 use Rattle.mc_table.proofs.AcceptedKinds.{is-a, is_named}
 
@@ -61,3 +64,12 @@ is-none b type none = by (first_value (codes "BlockType") b.items) none
     by : (text : Option (List ℕ)) → option_and_then block_type_of text ≡ None → false ≡ option_map_or (bytes_eq (block_type_name type)) text false
     by None e = refl
     by (Some text) e = no-name type text e (bytes_eq (block_type_name type) text) refl
+
+-- what is made of something is there where that is
+pub mapped-some : {A B : Type 0} (f : A → B) (o : Option A) → is_some (option_map f o) ≡ is_some o
+mapped-some f None = refl
+mapped-some f (Some x) = refl
+
+-- the form of a sum's inputs is that of its signs
+pub inputs-of_sum : (m : ModelTree) (b : Block) (text : List ℕ) → is_a Sum b ≡ true → is_some (sum_signs text) ≡ is_inputs_form m b text
+inputs-of_sum m b text h = sym (ap (λ t. cond t (is_some (sum_signs text)) (cond (is_a Product b) (is_some (product_count text)) (is_some (logic_count (text_of m b Operator) text)))) h)

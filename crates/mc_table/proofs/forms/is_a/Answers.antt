@@ -5,7 +5,7 @@ use Rattle.mc_table.proofs.forms.is_a.Goals as goal
 
 pub returns-in-Some : goal.returns-in-Some
 returns-in-Some c =
-    c.eq.ensures ∙ is-same (seen c.args.block.now) c.args.block_type c.in-Some.own (sym c.args.block.now.by_section ∙ sym c.in-Some.is)
+    c.eq.ensures ∙ is-same (seen c.args.block.now) c.args.block_type c.in-Some.own (sym c.args.block.now.by_section ∙ c.in-Some.is)
 
 pub returns-in-None : goal.returns-in-None
-returns-in-None c = is-none (seen c.args.block.now) c.args.block_type (sym c.args.block.now.by_section ∙ sym c.in-None.is)
+returns-in-None c = is-none (seen c.args.block.now) c.args.block_type (sym c.args.block.now.by_section ∙ c.in-None.is)
