@@ -1,9 +1,10 @@
-ghost use Rattle.std.specs.Prelude.{◌≡◌, ◌≤◌, length};
-ghost use Rattle.mc_blocks.specs.Limits.{HasInputTypes, IsWithinLimits};
+ghost use Rattle.std.specs.Prelude.{◌≡◌, ◌≤◌, ◌∷◌, [], false, length};
+ghost use Rattle.mc_blocks.specs.declared.kind.Kind.TheVariants as kind;
+ghost use Rattle.mc_blocks.specs.Limits.{HasConstant, HasInputTypes, IsWithinLimits};
 ghost use Rattle.mc_blocks.specs.Meaning as meaning;
 
 use crate::gain::gain_of;
-use crate::kind::Kind;
+use crate::kind::{GainText, How, Kind};
 use crate::op::Op;
 use crate::width::total_frac;
 use mc_fixed::{FixType, quantize};
@@ -20,6 +21,20 @@ fn sum_fracs(inputs: &[FixType]) -> [u8; 16]
     fracs
 }
 
+/// What a gain computes of an input of this type.
+fn gain_op(gain: &GainText, how: How, input: FixType, out: FixType) -> Op
+    requires { HasConstant gain.now }
+    ensures { result ≡ meaning.op_of (kind.Gain gain.now how) (input ∷ []) out false }
+{
+    let (m, frac) = gain_of(gain);
+    Op::Gain {
+        m,
+        frac: input.frac + frac,
+        to: out,
+        how,
+    }
+}
+
 /// What a row computes, with its numbers as stored integers: a threshold in the second input's type, a gain in its own
 /// one, and all others in the row's.
 ///
@@ -34,51 +49,32 @@ pub fn resolve(k: &Kind, inputs: &[FixType], out: FixType, delays: bool) -> Op
         Kind::SubSystem(_) | Kind::Terminator | Kind::EnablePort | Kind::TriggerPort => Op::Nothing,
         Kind::Constant(value) => Op::Value(quantize(&value, out)),
         Kind::Ground => Op::Value(0),
-        Kind::Gain { gain, how } => {
-            let (m, frac) = gain_of(&gain);
-            let frac = inputs[0].frac + frac;
-            Op::Gain {
-                m,
-                frac,
-                to: out,
-                how,
-            }
-        }
-        Kind::Sum { count, minus, how } => {
-            let fracs = sum_fracs(inputs);
-            Op::Sum {
-                count,
-                minus,
-                fracs,
-                to: out,
-                how,
-            }
-        }
-        Kind::Product { count, how } => {
-            let frac = total_frac(inputs);
-            Op::Product {
-                count,
-                frac,
-                to: out,
-                how,
-            }
-        }
+        Kind::Gain { gain, how } => gain_op(&gain, how, inputs[0], out),
+        Kind::Sum { count, minus, how } => Op::Sum {
+            count,
+            minus,
+            fracs: sum_fracs(inputs),
+            to: out,
+            how,
+        },
+        Kind::Product { count, how } => Op::Product {
+            count,
+            frac: total_frac(inputs),
+            to: out,
+            how,
+        },
         Kind::UnitDelay { initial } => Op::Delay(quantize(&initial, out)),
         Kind::Switch {
             criterion,
             threshold,
             how,
-        } => {
-            let threshold = quantize(&threshold, inputs[1]);
-            let fracs = [inputs[0].frac, inputs[2].frac];
-            Op::Switch {
-                criterion,
-                threshold,
-                fracs,
-                to: out,
-                how,
-            }
-        }
+        } => Op::Switch {
+            criterion,
+            threshold: quantize(&threshold, inputs[1]),
+            fracs: [inputs[0].frac, inputs[2].frac],
+            to: out,
+            how,
+        },
         Kind::Relational(compare) => {
             let fracs = [inputs[0].frac, inputs[1].frac];
             Op::Relational { compare, fracs }
