@@ -1,22 +1,24 @@
-ghost use Rattle.std.specs.Prelude.{◌≡◌, ◌++◌, IfOk, OnOk, flat_map, option_map, option_to_list};
+ghost use Rattle.std.specs.Prelude.{◌≡◌, ◌++◌, All, IfOk, IfSome, OnOk, flat_map, option_map, option_to_list};
 ghost use Rattle.std.specs.Option.{option_copied};
 ghost use Rattle.mdl_tree.specs.Walks.{first_value};
 ghost use Rattle.mdl_tree.specs.Values.{section_tree};
 ghost use Rattle.mc_table.specs.Lines as written;
 ghost use Rattle.mc_table.specs.Held.{trees_of};
-ghost use Rattle.mc_table.specs.HeldLines.{place_seen, places_seen, ends_seen, target_in, ends_to, ends_of_line};
+ghost use Rattle.mc_table.specs.HeldLines.{place_seen, places_seen, ends_seen, target_in, ends_to, ends_of_line, IsFoundIn, AreFoundIn};
 
+use crate::names::{Names, place_of};
 use crate::sections::take_parts;
 use mc_base::Memory;
 use mdl_tree::Section;
 use std::alloc::Global;
 
-/// A place that a line names: the line of the section that names it, a block's name, and the text of a port, if there
-/// is one.
+/// A place that a line names: the line of the section that names it, a block's name, the place of the first block of
+/// that name, if there is one, and the text of a port, if there is one.
 #[derive(Clone, Copy, Drop)]
 pub(crate) struct Place<'a> {
     pub line: u32,
-    pub block: &'a [u8],
+    pub name: &'a [u8],
+    pub block: Option<usize>,
     pub port: Option<&'a [u8]>,
 }
 
@@ -38,38 +40,52 @@ fn text_named<'a>(section: &'a Section, name: &[u8]) -> Option<&'a [u8]>
 }
 
 /// The place that a section names by these two parameters, if it names a block.
-fn named_by<'a>(section: &'a Section, block: &[u8], port: &[u8]) -> Option<Place<'a>>
-    ensures { option_map place_seen result ≡ written.named_by block.now port.now (section_tree section.now) }
+fn named_by<'a>(
+    places: &Names,
+    section: &'a Section,
+    block: &[u8],
+    port: &[u8],
+) -> Option<Place<'a>>
+    ensures place { option_map place_seen result ≡ written.named_by block.now port.now (section_tree section.now) }
+    ensures found { IfSome result (IsFoundIn places.now) }
 {
     let name = text_named(section, block)?;
     Some(Place {
         line: section.line,
-        block: name,
+        name,
+        block: place_of(places, name),
         port: text_named(section, port),
     })
 }
 
 /// The place from which a line leads, if it has one.
-fn source_of(line: &Section) -> Option<Place>
-    ensures { option_map place_seen result ≡ written.source_of (section_tree line.now) }
+fn source_of<'a>(places: &Names, line: &'a Section) -> Option<Place<'a>>
+    ensures place { option_map place_seen result ≡ written.source_of (section_tree line.now) }
+    ensures found { IfSome result (IsFoundIn places.now) }
 {
-    named_by(line, b"SrcBlock", b"SrcPort")
+    named_by(places, line, b"SrcBlock", b"SrcPort")
 }
 
 /// The place to which a part of a line leads, if it names one.
-fn target_of(part: &Section) -> Option<Place>
-    ensures { option_map place_seen result ≡ target_in (section_tree part.now) }
+fn target_of<'a>(places: &Names, part: &'a Section) -> Option<Place<'a>>
+    ensures place { option_map place_seen result ≡ target_in (section_tree part.now) }
+    ensures found { IfSome result (IsFoundIn places.now) }
 {
-    named_by(part, b"DstBlock", b"DstPort")
+    named_by(places, part, b"DstBlock", b"DstPort")
 }
 
 /// The places from which these lines lead, also those that lead nowhere.
-pub(crate) fn sources_of<'a>(alloc: Global, lines: &[&'a Section]) -> Result<Vec<Place<'a>>, Memory>
-    ensures { IfOk result (λ v. places_seen v.items ≡ flat_map (λ line. option_to_list (written.source_of line)) (trees_of lines.now)) }
+pub(crate) fn sources_of<'a>(
+    alloc: Global,
+    places: &Names,
+    lines: &[&'a Section],
+) -> Result<Vec<Place<'a>>, Memory>
+    ensures places { IfOk result (λ v. places_seen v.items ≡ flat_map (λ line. option_to_list (written.source_of line)) (trees_of lines.now)) }
+    ensures found { IfOk result (λ v. All (IsFoundIn places.now) v.items) }
 {
     let mut sources = Vec::new(alloc);
     for line in lines {
-        if let Some(source) = source_of(*line) {
+        if let Some(source) = source_of(places, *line) {
             sources.push(source)?;
         }
     }
@@ -79,13 +95,17 @@ pub(crate) fn sources_of<'a>(alloc: Global, lines: &[&'a Section]) -> Result<Vec
 /// Takes a line's ends from this source to the targets that its parts name.
 fn take_targets<'a>(
     ends: &mut Vec<LineEnd<'a>>,
+    places: &Names,
     source: Place<'a>,
     parts: &[&'a Section],
 ) -> Result<(), Memory>
-    ensures { OnOk result (ends_seen ends.new.items ≡ ends_seen ends.old.items ++ ends_to (place_seen source.entry) (trees_of parts.now)) }
+    requires before { All (AreFoundIn places.now) ends.old.items }
+    requires source { IsFoundIn places.now source }
+    ensures ends { OnOk result (ends_seen ends.new.items ≡ ends_seen ends.old.items ++ ends_to (place_seen source.entry) (trees_of parts.now)) }
+    ensures found { OnOk result (All (AreFoundIn places.now) ends.new.items) }
 {
     for part in parts {
-        if let Some(target) = target_of(*part) {
+        if let Some(target) = target_of(places, *part) {
             ends.push(LineEnd { source, target })?;
         }
     }
@@ -96,25 +116,33 @@ fn take_targets<'a>(
 fn take_ends<'a>(
     alloc: Global,
     ends: &mut Vec<LineEnd<'a>>,
+    places: &Names,
     line: &'a Section,
 ) -> Result<(), Memory>
-    ensures { OnOk result (ends_seen ends.new.items ≡ ends_seen ends.old.items ++ ends_of_line (section_tree line.now)) }
+    requires before { All (AreFoundIn places.now) ends.old.items }
+    ensures ends { OnOk result (ends_seen ends.new.items ≡ ends_seen ends.old.items ++ ends_of_line (section_tree line.now)) }
+    ensures found { OnOk result (All (AreFoundIn places.now) ends.new.items) }
 {
-    let Some(source) = source_of(line) else {
+    let Some(source) = source_of(places, line) else {
         return Ok(());
     };
     let mut parts = Vec::new(alloc);
     take_parts(&mut parts, line)?;
-    take_targets(ends, source, parts.as_slice())
+    take_targets(ends, places, source, parts.as_slice())
 }
 
 /// The ends of these lines; a line without a source has none.
-pub(crate) fn ends_of<'a>(alloc: Global, lines: &[&'a Section]) -> Result<Vec<LineEnd<'a>>, Memory>
-    ensures { IfOk result (λ v. ends_seen v.items ≡ flat_map ends_of_line (trees_of lines.now)) }
+pub(crate) fn ends_of<'a>(
+    alloc: Global,
+    places: &Names,
+    lines: &[&'a Section],
+) -> Result<Vec<LineEnd<'a>>, Memory>
+    ensures ends { IfOk result (λ v. ends_seen v.items ≡ flat_map ends_of_line (trees_of lines.now)) }
+    ensures found { IfOk result (λ v. All (AreFoundIn places.now) v.items) }
 {
     let mut ends = Vec::new(alloc);
     for line in lines {
-        take_ends(alloc, &mut ends, *line)?;
+        take_ends(alloc, &mut ends, places, *line)?;
     }
     Ok(ends)
 }
