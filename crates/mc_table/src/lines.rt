@@ -74,24 +74,6 @@ fn target_of<'a>(places: &Names, part: &'a Section) -> Option<Place<'a>>
     named_by(places, part, b"DstBlock", b"DstPort")
 }
 
-/// The places from which these lines lead, also those that lead nowhere.
-pub(crate) fn sources_of<'a>(
-    alloc: Global,
-    places: &Names,
-    lines: &[&'a Section],
-) -> Result<Vec<Place<'a>>, Memory>
-    ensures places { IfOk result (λ v. places_seen v.items ≡ flat_map (λ line. option_to_list (written.source_of line)) (trees_of lines.now)) }
-    ensures found { IfOk result (λ v. All (IsFoundIn places.now) v.items) }
-{
-    let mut sources = Vec::new(alloc);
-    for line in lines {
-        if let Some(source) = source_of(places, *line) {
-            sources.push(source)?;
-        }
-    }
-    Ok(sources)
-}
-
 /// Takes a line's ends from this source to the targets that its parts name.
 fn take_targets<'a>(
     ends: &mut Vec<LineEnd<'a>>,
@@ -112,37 +94,52 @@ fn take_targets<'a>(
     Ok(())
 }
 
-/// Takes the ends of one line.
-fn take_ends<'a>(
+/// Takes the place from which one line leads, if it has one, and the line's ends.
+fn take_line<'a>(
     alloc: Global,
+    sources: &mut Vec<Place<'a>>,
     ends: &mut Vec<LineEnd<'a>>,
     places: &Names,
     line: &'a Section,
 ) -> Result<(), Memory>
-    requires before { All (AreFoundIn places.now) ends.old.items }
+    requires sources { All (IsFoundIn places.now) sources.old.items }
+    requires ends { All (AreFoundIn places.now) ends.old.items }
+    ensures sources { OnOk result (places_seen sources.new.items ≡ places_seen sources.old.items ++ option_to_list (written.source_of (section_tree line.now))) }
     ensures ends { OnOk result (ends_seen ends.new.items ≡ ends_seen ends.old.items ++ ends_of_line (section_tree line.now)) }
-    ensures found { OnOk result (All (AreFoundIn places.now) ends.new.items) }
+    ensures found { OnOk result (All (IsFoundIn places.now) sources.new.items) }
+    ensures both { OnOk result (All (AreFoundIn places.now) ends.new.items) }
 {
     let Some(source) = source_of(places, line) else {
         return Ok(());
     };
+    sources.push(source)?;
     let mut parts = Vec::new(alloc);
     take_parts(&mut parts, line)?;
     take_targets(ends, places, source, parts.as_slice())
 }
 
-/// The ends of these lines; a line without a source has none.
-pub(crate) fn ends_of<'a>(
+/// The places that lines name: those from which they lead, also to nowhere, and the ends of lines with such a place.
+#[derive(Drop)]
+pub(crate) struct LinePlaces<'a> {
+    pub sources: Vec<Place<'a>>,
+    pub ends: Vec<LineEnd<'a>>,
+}
+
+/// The places that these lines name.
+pub(crate) fn places_of<'a>(
     alloc: Global,
     places: &Names,
     lines: &[&'a Section],
-) -> Result<Vec<LineEnd<'a>>, Memory>
-    ensures ends { IfOk result (λ v. ends_seen v.items ≡ flat_map ends_of_line (trees_of lines.now)) }
-    ensures found { IfOk result (λ v. All (AreFoundIn places.now) v.items) }
+) -> Result<LinePlaces<'a>, Memory>
+    ensures sources { IfOk result (λ named. places_seen named.sources.items ≡ flat_map (λ line. option_to_list (written.source_of line)) (trees_of lines.now)) }
+    ensures ends { IfOk result (λ named. ends_seen named.ends.items ≡ flat_map ends_of_line (trees_of lines.now)) }
+    ensures found { IfOk result (λ named. All (IsFoundIn places.now) named.sources.items) }
+    ensures both { IfOk result (λ named. All (AreFoundIn places.now) named.ends.items) }
 {
+    let mut sources = Vec::new(alloc);
     let mut ends = Vec::new(alloc);
     for line in lines {
-        take_ends(alloc, &mut ends, places, *line)?;
+        take_line(alloc, &mut sources, &mut ends, places, *line)?;
     }
-    Ok(ends)
+    Ok(LinePlaces { sources, ends })
 }

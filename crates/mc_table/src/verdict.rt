@@ -8,19 +8,18 @@ ghost use Rattle.mc_table.specs.HeldModels.{tree_of};
 ghost use Rattle.mc_table.specs.Numbered.{IsNumbered};
 ghost use Rattle.mc_table.specs.Parameters.{name_of};
 ghost use Rattle.mc_table.specs.Lines as written;
-ghost use Rattle.mc_table.specs.HeldLines.{ends_seen, AreFound};
+ghost use Rattle.mc_table.specs.HeldLines.{places_seen, ends_seen, IsFound, AreFound};
 ghost use Rattle.mc_table.specs.NameMaps.{AreNamesOf, first_places};
-ghost use Rattle.mc_table.specs.Held.{trees_of};
 ghost use Rattle.mc_table.specs.Wiring.{IsRootOf, IsOneSystem, IsWiringOf, IsVerdictBy, IsVerdictOf, places_refusal, inputs_refusal, lines_refusal};
 
 use crate::connections::refusal_of_inputs;
 use crate::crowds::{least_crowd, too_many_blocks};
 use crate::doubles::least_double;
 use crate::file::{no_model, two_models};
-use crate::lines::{LineEnd, ends_of, sources_of};
+use crate::lines::{LineEnd, LinePlaces, Place, places_of};
 use crate::model::ModelText;
 use crate::named::least_missing;
-use crate::names::{BlockNames, Names, names_of};
+use crate::names::{BlockNames, names_of};
 use crate::parts::least_newer_line;
 use crate::passes::{least_continuous, least_deep, least_float, least_parameter, least_unread};
 use crate::sections::sections_named;
@@ -87,26 +86,18 @@ pub(crate) enum Verdict<'a> {
 }
 
 /// The first refusal of a model of one system for a place that its lines name.
-fn refusal_of_places(
-    alloc: Global,
-    model: &ModelText,
-    places: &Names,
-    lines: &[&Section],
-    ends: &[LineEnd],
-) -> Result<Option<Refusal>, Memory>
+fn refusal_of_places(model: &ModelText, sources: &[Place], ends: &[LineEnd]) -> Option<Refusal>
     requires one { IsOneSystem (tree_of model.now) }
-    requires places { AreNamesOf (map (name_of (tree_of model.now)) (tree_of model.now).blocks) places.now }
-    requires lines { trees_of lines.now ≡ written.lines_of (tree_of model.now) None }
+    requires found { All (IsFound (tree_of model.now)) sources.now }
+    requires both { All (AreFound (tree_of model.now)) ends.now }
+    requires sources { places_seen sources.now ≡ refused.sources_in (tree_of model.now) None }
     requires ends { ends_seen ends.now ≡ written.ends_of (tree_of model.now) None }
-    requires found { All (AreFound (tree_of model.now)) ends.now }
-    ensures { IfOk result (λ r. as_plain r ≡ places_refusal (tree_of model.now)) }
+    ensures { as_plain result ≡ places_refusal (tree_of model.now) }
 {
-    let held = sources_of(alloc, places, lines)?;
-    let sources = held.as_slice();
-    if let Some(refusal) = least_missing(model, sources, ends) {
-        return Ok(Some(refusal));
+    match least_missing(model, sources, ends) {
+        Some(refusal) => Some(refusal),
+        None => least_missing_port(model, sources, ends),
     }
-    Ok(least_missing_port(model, sources, ends))
 }
 
 /// The verdict on a model of one system for how these line ends lead.
@@ -141,11 +132,10 @@ fn verdict_of_lines<'a>(
     ensures { IfOk result (λ v. IsVerdictBy (first_there (places_refusal (tree_of model.now) ∷ inputs_refusal (tree_of model.now) ∷ [])) (tree_of model.now) v) }
 {
     let BlockNames { places, firsts } = names;
-    let held = sections_named(alloc, model.system, b"Line")?;
-    let lines = held.as_slice();
-    let ends = ends_of(alloc, &places, lines)?;
-    let found = refusal_of_places(alloc, model, &places, lines, ends.as_slice())?;
-    match found {
+    let lines = sections_named(alloc, model.system, b"Line")?;
+    let named = places_of(alloc, &places, lines.as_slice())?;
+    let LinePlaces { sources, ends } = named;
+    match refusal_of_places(model, sources.as_slice(), ends.as_slice()) {
         Some(refusal) => Ok(Verdict::Refused(refusal)),
         None => verdict_of_ends(alloc, model, firsts, ends),
     }
