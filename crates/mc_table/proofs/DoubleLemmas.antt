@@ -2,10 +2,8 @@
 use Rattle.std.proofs.Common.{◌≡◌, refl, sym, ◌∙◌, ap, ap₂, ℕ, suc, zero, ◌+◌, ◌<◌, ◌≤◌, Bool, true, false, ◌&&◌, ◌||◌, cond, List, [], ◌∷◌, ◌++◌, length, take, drop, reverse, slice_index_or, drop-cons, drop_of_length-le, Option, None, Some, map, arith}
 use Rattle.std.specs.Prelude.{◌==◌}
 use Rattle.std.specs.List.{list_any}
-use Rattle.std.specs.Option.{option_copied}
-use Rattle.std.proofs.lemmas.List.{take-map, take_more, reverse-append, length-map}
+use Rattle.std.proofs.lemmas.List.{take_more, reverse-append}
 use Rattle.std.proofs.lemmas.List.Folds.{list_any-append}
-use denote.Ref.{Bor}
 use Rattle.mc_base.specs.Refusals.{PlainRefusal}
 use Rattle.mdl_params.specs.declared.BlockType.TheVariants.{Inport, Outport}
 use Rattle.mc_diagram.specs.Rows.{same_system}
@@ -14,7 +12,7 @@ use Rattle.mc_table.specs.Blocks.{Block, ModelTree, no_block, block_at, is_a}
 use Rattle.mc_table.specs.Parameters.{name_of}
 use Rattle.mc_table.specs.Lines.{own_port}
 use Rattle.mc_table.specs.TreeRefusals.{same_name, are_doubles, repeats_from, double_names}
-use Rattle.mc_table.specs.NameMaps.{is_name, place_of, is_before, names_seen}
+use Rattle.mc_table.specs.NameMaps.{is_name, place_of, is_before}
 use Rattle.mc_table.specs.Doubles.{have_one_port, is_port, are_alike, IsFlat, is_double_at, double_at, double_refusal, doubles_from}
 use Rattle.mc_diagram.proofs.FirstRefusals.{earlier_assoc, earlier-none}
 use Rattle.mc_table.proofs.NameLemmas.{bytes_eq-swap, place-before}
@@ -84,17 +82,6 @@ no_name (Some name) = refl
 -- no name is like one that isn't there
 pub none-before : (names : List (Option (List ℕ))) (own : Option (List ℕ)) → None ≡ own → false ≡ list_any (λ n. same_name n own) names
 none-before names own e = sym (any-none (λ n. same_name n None) no_name names) ∙ ap (λ o. list_any (λ n. same_name n o) names) e
-
--- the names before a place are those of the blocks before it
-pub names-before : (m : ModelTree) (names : List (Option (Bor (List ℕ)))) (at : ℕ) → names_seen names ≡ map (name_of m) m.blocks → at < length m.blocks → at < length names →
-    list_any (λ n. same_name n (option_copied (slice_index_or names at None))) (take at (names_seen names))
-    ≡ list_any (λ a. same_name (name_of m a) (name_of m (block_at m at))) (take at m.blocks)
-names-before m names at e h k =
-    let own : option_copied (slice_index_or names at None) ≡ name_of m (block_at m at) =
-    sym (index-map option_copied names at None None k) ∙ ap (λ ns. slice_index_or ns at None) e ∙ index-map (name_of m) m.blocks at no_block None h in
-    ap₂ (λ o ns. list_any (λ n. same_name n o) (take at ns)) own e
-    ∙ ap (list_any (λ n. same_name n (name_of m (block_at m at)))) (take-map (name_of m) at m.blocks)
-    ∙ any-map (λ n. same_name n (name_of m (block_at m at))) (name_of m) (take at m.blocks)
 
 -- ---- Ports
 
@@ -166,7 +153,3 @@ pub doubles-end : (m : ModelTree) (i : ℕ) (least : Option PlainRefusal) → Is
 doubles-end m i least flat h all =
     sym (earlier-none least) ∙ ap (λ xs. earlier_of least (doubles_from m (reverse (take i m.blocks)) xs)) (sym (drop_of_length-le m.blocks h)) ∙ all
     ∙ ap (λ xs. least_line (map double_refusal xs)) (repeats-flat m [] m.blocks tt flat)
-
--- there are as many names as blocks
-pub as-many : (m : ModelTree) (names : List (Option (Bor (List ℕ)))) → names_seen names ≡ map (name_of m) m.blocks → length names ≡ length m.blocks
-as-many m names e = sym (length-map names option_copied) ∙ ap length e ∙ length-map m.blocks (name_of m)

@@ -1,7 +1,8 @@
 -- How a map from inputs follows the places of line ends.
 use Rattle.std.proofs.Common.{◌≡◌, refl, sym, ◌∙◌, ap, ap₂, ℕ, ◌+◌, Bool, true, false, ◌&&◌, cond, List, [], ◌∷◌, ◌++◌, length, Option, None, Some, is_some, arith, true≢false}
 use Rattle.std.specs.Prelude.{◌==◌}
-use Rattle.std.specs.Option.{option_or}
+use Rattle.std.specs.Option.{option_or, option_copied}
+use denote.Ref.{Bor}
 use Rattle.std.proofs.lemmas.Bool.Decides.{nat_tests}
 use Rattle.indexmap.specs.IndexMap.{IndexMap, Updates}
 use Rattle.mc_table.specs.declared.inputs.Input.{Input}
@@ -100,3 +101,13 @@ inputs-new leads own inputs wider key place h e new last updates input =
     by_test : (t : Bool) → are_one key input ≡ t → cond t (Some (length leads)) (end_at inputs input) ≡ first_lead input (leads ++ own ∷ [])
     by_test true f = sym (lead-new leads own input (named true f) (before f))
     by_test false f = h input ∙ sym (lead-other leads own input (named false f))
+
+-- ---- What a look-up gave
+
+pub copied_None : (found : Option (Bor ℕ)) → is_some found ≡ false → option_copied found ≡ None
+copied_None None e = refl
+copied_None (Some r) e = absurd (true≢false e)
+
+pub copied_some : (found : Option (Bor ℕ)) → is_some (option_copied found) ≡ is_some found
+copied_some None = refl
+copied_some (Some r) = refl

@@ -1,10 +1,10 @@
 -- Line ends at inputs to which earlier ones lead, one by one, and when a model has one system.
-use Rattle.std.proofs.Common.{◌≡◌, refl, sym, ◌∙◌, ap, ℕ, ◌+◌, ◌<◌, false, List, [], length, take, drop, reverse, slice_index_or, Option, None, Some, map, arith}
+use Rattle.std.proofs.Common.{◌≡◌, refl, sym, ◌∙◌, ap, ℕ, ◌+◌, ◌<◌, Bool, cond, false, List, [], length, take, drop, reverse, slice_index_or, Option, None, Some, map, arith}
 use Rattle.std.specs.Prelude.{filter}
 use Rattle.std.specs.Option.{option_map_or}
 use Rattle.std.proofs.lemmas.List.{length-map}
 use Rattle.indexmap.specs.IndexMap.{IndexMap}
-use Rattle.mc_base.specs.Refusals.{PlainRefusal}
+use Rattle.mc_base.specs.Refusals.{PlainRefusal, TwoSources}
 use Rattle.mc_table.specs.declared.inputs.Input.{Input}
 use Rattle.mc_table.specs.declared.lines.LineEnd as held_end
 use Rattle.mc_table.specs.Blocks.{ModelTree, is_subsystem}
@@ -15,7 +15,7 @@ use Rattle.mc_table.specs.NameMaps.{is_before}
 use Rattle.mc_table.specs.Doubles.{IsFlat}
 use Rattle.mc_diagram.specs.FirstRefusal.{earlier_of}
 use Rattle.mc_table.specs.Inputs.{input_at, end_at, first_lead, AreInputsOf}
-use Rattle.mc_table.specs.Wiring.{is_double_target, double_target, double_targets_from}
+use Rattle.mc_table.specs.Wiring.{IsOneSystem, double_lead, is_double_target, double_target, double_targets_from}
 use Rattle.mc_table.proofs.MissingLemmas.{targets-same}
 use Rattle.mc_table.proofs.DoubleLemmas.{index-map}
 use Rattle.mc_table.proofs.WiringLemmas.{led_before, double-more}
@@ -49,3 +49,16 @@ end-more m ends i d least now whole same h found all =
     let own : slice_index_or (targets_in m None) i t ≡ t = ap (λ ts. slice_index_or ts i t) (sym (targets-held m ends same)) ∙ index-map (λ (e : held_end.LineEnd). place_seen e.target) ends i d t h in
     ap (λ o. earlier_of o (double_targets_from m (reverse (take (i + 1) (targets_in m None))) (drop (i + 1) (targets_in m None)))) found
     ∙ double-more m i t least whole (omega (arith, many, h)) own all
+
+-- the refusal of a line end by its lead is that by its target
+pub led-double : {S : Type 0} (m : ModelTree) (ends : List held_end.LineEnd) (i : ℕ) (d : held_end.LineEnd) (leads : List (Option Input)) (inputs : IndexMap Input ℕ S) → IsOneSystem m → ends_seen ends ≡ ends_of m None → i < length ends →
+    leads ≡ map (input_at m) (targets_in m None) → AreInputsOf (map (input_at m) (targets_in m None)) inputs →
+    double_lead inputs (slice_index_or leads i None) (slice_index_or ends i d).target.line i ≡ double_target m (place_seen (slice_index_or ends i d).target) i
+led-double m ends i d leads inputs one same h leading led =
+    let t = place_seen (slice_index_or ends i d).target in
+    let many = length-map ends (λ (e : held_end.LineEnd). place_seen e.target) in
+    let own : slice_index_or leads i None ≡ input_at m t =
+    ap (λ xs. slice_index_or xs i None) (leading ∙ ap (map (input_at m)) (sym (targets-held m ends same)))
+    ∙ index-map (input_at m) (targets_seen ends) i t None (omega (arith, many, h))
+    ∙ ap (input_at m) (index-map (λ (e : held_end.LineEnd). place_seen e.target) ends i d t h) in
+    ap (λ (x : Bool). cond x (Some (TwoSources t.line)) None) (double-by_map m t i inputs (slice_index_or leads i None) led one.flat one.plain own)

@@ -12,6 +12,8 @@ pub mod NameLemmas
 pub mod InputLemmas
 pub mod TargetLemmas
 pub mod WiringLemmas
+pub mod FoundLemmas
+pub mod FirstLemmas
 pub mod WireLemmas
 pub mod LedLemmas
 pub mod VerdictLemmas

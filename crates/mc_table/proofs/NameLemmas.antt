@@ -1,6 +1,6 @@
 -- How a map from names follows the names.
-use Rattle.std.proofs.Common.{◌≡◌, refl, sym, ◌∙◌, ap, ℕ, suc, zero, ◌+◌, Bool, true, false, ◌||◌, cond, List, [], ◌∷◌, ◌++◌, length, take, Option, None, Some, is_some, arith, true≢false}
-use Rattle.std.specs.Option.{option_or, option_copied}
+use Rattle.std.proofs.Common.{◌≡◌, refl, sym, ◌∙◌, ap, ap₂, ℕ, suc, zero, ◌+◌, Bool, true, false, ◌||◌, cond, List, [], ◌∷◌, ◌++◌, length, take, Option, None, Some, arith}
+use Rattle.std.specs.Option.{option_or}
 use Rattle.std.specs.Prelude.{◌≤◌, nat_lt}
 use Rattle.std.specs.List.{position_from, list_any}
 use Rattle.std.proofs.lemmas.Bool.Decides.{nat_tests}
@@ -9,7 +9,7 @@ use Rattle.std.proofs.lemmas.Slice.Eq.{bytes_eq-Decides}
 use Rattle.std.proofs.lemmas.Map.Text.{hash_map_updates_str}
 use denote.Ref.{Bor}
 use Rattle.indexmap.specs.IndexMap.{IndexMap, UpdatesBy}
-use Rattle.mc_table.specs.NameMaps.{is_name, place_of, place_in, AreNamesOf, names_seen, is_before}
+use Rattle.mc_table.specs.NameMaps.{is_name, place_of, place_in, first_taken, place_with, AreNamesOf, is_before}
 
 pub bytes_eq-swap : (a b : List ℕ) → bytes_eq a b ≡ bytes_eq b a
 bytes_eq-swap a b = by_tests (bytes_eq a b) (bytes_eq b a) refl refl
@@ -42,6 +42,22 @@ position_from-push test k (y ∷ ys) x = by_test (test y) (position_from-push te
     by_test true more = refl
     by_test false more = more ∙ ap (λ n. option_or (position_from test (k + 1) ys) (cond (test x) (Some n) None)) (sum k (length ys))
 
+pub position_from-append : {X : Type 0} (test : X → Bool) (k : ℕ) (xs ys : List X) →
+    position_from test k (xs ++ ys) ≡ option_or (position_from test k xs) (position_from test (k + length xs) ys)
+position_from-append test k [] ys = ap (λ n. position_from test n ys) (sum k)
+  where
+    sum : (k : ℕ) → k ≡ k + 0
+    sum k = omega arith
+position_from-append test k (x ∷ xs) ys = by_test (test x) (position_from-append test (k + 1) xs ys)
+  where
+    sum : (k n : ℕ) → k + 1 + n ≡ k + suc n
+    sum k n = omega arith
+
+    by_test : (t : Bool) → position_from test (k + 1) (xs ++ ys) ≡ option_or (position_from test (k + 1) xs) (position_from test (k + 1 + length xs) ys) →
+        cond t (Some k) (position_from test (k + 1) (xs ++ ys)) ≡ option_or (cond t (Some k) (position_from test (k + 1) xs)) (position_from test (k + suc (length xs)) ys)
+    by_test true more = refl
+    by_test false more = more ∙ ap (λ n. option_or (position_from test (k + 1) xs) (position_from test n ys)) (sum k (length xs))
+
 place-push : (names : List (Option (List ℕ))) (own : Option (List ℕ)) (name : List ℕ) →
     place_of name (names ++ own ∷ []) ≡ option_or (place_of name names) (cond (is_name name own) (Some (length names)) None)
 place-push names own name =
@@ -55,55 +71,56 @@ place-other : (names : List (Option (List ℕ))) (own : Option (List ℕ)) (name
 place-other names own name e =
     place-push names own name ∙ ap (λ t. option_or (place_of name names) (cond t (Some (length names)) None)) e ∙ option_or-None (place_of name names)
 
--- a name that an earlier one is
-place-again : (names : List (Option (List ℕ))) (own : Option (List ℕ)) (name : List ℕ) → is_some (place_of name names) ≡ true → place_of name (names ++ own ∷ []) ≡ place_of name names
-place-again names own name e = place-push names own name ∙ keeps (place_of name names) _ e
+-- a name that is taken at a place behind others has the first place at which it was taken
+pub first-taken : {S : Type 0} (olds rest : List (Option (List ℕ))) (own : Option (List ℕ)) (map : IndexMap (Bor (List ℕ)) ℕ S) (name : List ℕ) (place : ℕ) → AreNamesOf olds map → own ≡ Some name → place ≡ length olds →
+    place_of name (olds ++ own ∷ rest) ≡ Some (first_taken (place_in map name) place)
+first-taken olds rest own map name place h e last =
+    position_from-append (is_name name) 0 olds (own ∷ rest) ∙ ap₂ option_or (sym (h name)) here ∙ by (place_in map name)
   where
-    keeps : (o more : Option ℕ) → is_some o ≡ true → option_or o more ≡ o
-    keeps None more e = absurd (true≢false (sym e))
-    keeps (Some n) more e = refl
+    there : place ≡ length olds → 0 + length olds ≡ place
+    there e = omega arith
 
--- a name that none is
-place-new : (names : List (Option (List ℕ))) (own : Option (List ℕ)) (name : List ℕ) → is_name name own ≡ true → place_of name names ≡ None → place_of name (names ++ own ∷ []) ≡ Some (length names)
-place-new names own name same e =
-    place-push names own name ∙ ap (λ t. option_or (place_of name names) (cond t (Some (length names)) None)) same ∙ ap (λ o. option_or o (Some (length names))) e
+    here : position_from (is_name name) (0 + length olds) (own ∷ rest) ≡ Some place
+    here =
+        ap (λ t. cond t (Some (0 + length olds)) (position_from (is_name name) (0 + length olds + 1) rest)) (ap (is_name name) e ∙ (bytes_eq-Decides name name).1 refl)
+        ∙ ap Some (there last)
+
+    by : (o : Option ℕ) → option_or o (Some place) ≡ Some (first_taken o place)
+    by None = refl
+    by (Some first) = refl
 
 -- ---- The map
 
 pub names-unnamed : {S : Type 0} (names : List (Option (List ℕ))) (own : Option (List ℕ)) (map : IndexMap (Bor (List ℕ)) ℕ S) → AreNamesOf names map → own ≡ None → AreNamesOf (names ++ own ∷ []) map
 names-unnamed names own map h e name = h name ∙ sym (place-other names own name (ap (is_name name) e))
 
-pub names-known : {S : Type 0} (names : List (Option (List ℕ))) (own : Option (List ℕ)) (map : IndexMap (Bor (List ℕ)) ℕ S) (key : List ℕ) → AreNamesOf names map → own ≡ Some key → is_some (place_in map key) ≡ true →
-    AreNamesOf (names ++ own ∷ []) map
-names-known names own map key h e known name = h name ∙ sym (by_test (bytes_eq name key) refl)
+pub names-taken : {S : Type 0} (olds : List (Option (List ℕ))) (own : Option (List ℕ)) (map wider : IndexMap (Bor (List ℕ)) ℕ S) (name : List ℕ) (place : ℕ) → AreNamesOf olds map → own ≡ Some name → place ≡ length olds →
+    ((other : List ℕ) → place_in wider other ≡ place_with name place map other) → AreNamesOf (olds ++ own ∷ []) wider
+names-taken olds own map wider name place h e last taken other = taken other ∙ by (bytes_eq name other) refl
   where
-    by_test : (t : Bool) → bytes_eq name key ≡ t → place_of name (names ++ own ∷ []) ≡ place_of name names
-    by_test true f = place-again names own name (ap is_some (sym (h name)) ∙ ap (λ n. is_some (place_in map n)) ((bytes_eq-Decides name key).0 f) ∙ known)
-    by_test false f = place-other names own name (ap (is_name name) e ∙ f)
+    by : (t : Bool) → bytes_eq name other ≡ t → cond t (Some (first_taken (place_in map name) place)) (place_in map other) ≡ place_of other (olds ++ own ∷ [])
+    by true f = sym (first-taken olds [] own map name place h e last) ∙ ap (λ n. place_of n (olds ++ own ∷ [])) ((bytes_eq-Decides name other).0 f)
+    by false f = h other ∙ sym (place-other olds own other (ap (is_name other) e ∙ bytes_eq-swap other name ∙ f))
 
-pub names-new : {S : Type 0} (names : List (Option (List ℕ))) (own : Option (List ℕ)) (map wider : IndexMap (Bor (List ℕ)) ℕ S) (key : List ℕ) (place : ℕ) → AreNamesOf names map → own ≡ Some key → place_in map key ≡ None → place ≡ length names →
-    UpdatesBy (λ x y. bytes_eq x.now y.now) (λ k. bytes_eq key k.now) map wider (Some place) → AreNamesOf (names ++ own ∷ []) wider
-names-new names own map wider key place h e new last updates name =
-    hash_map_updates_str key map wider (Some place) updates name ∙ ap (λ r. cond (bytes_eq key name) (Some r) (place_in map name)) last ∙ by_test (bytes_eq key name) refl
+-- a name that wasn't taken before
+pub taken-new : {S : Type 0} (before after : IndexMap (Bor (List ℕ)) ℕ S) (name : List ℕ) (place : ℕ) → None ≡ place_in before name →
+    UpdatesBy (λ x y. bytes_eq x.now y.now) (λ k. bytes_eq name k.now) before after (Some place) → (other : List ℕ) → place_in after other ≡ place_with name place before other
+taken-new before after name place e updates other =
+    hash_map_updates_str name before after (Some place) updates other ∙ ap (λ o. cond (bytes_eq name other) (Some (first_taken o place)) (place_in before other)) e
+
+-- one that was taken before is put back to its first place
+pub taken-again : {S : Type 0} (before between after : IndexMap (Bor (List ℕ)) ℕ S) (name : List ℕ) (place first : ℕ) → Some first ≡ place_in before name →
+    UpdatesBy (λ x y. bytes_eq x.now y.now) (λ k. bytes_eq name k.now) before between (Some place) → UpdatesBy (λ x y. bytes_eq x.now y.now) (λ k. bytes_eq name k.now) between after (Some first) →
+    (other : List ℕ) → place_in after other ≡ place_with name place before other
+taken-again before between after name place first e updates back other =
+    hash_map_updates_str name between after (Some first) back other
+    ∙ ap (λ o. cond (bytes_eq name other) (Some first) o) (hash_map_updates_str name before between (Some place) updates other)
+    ∙ by (bytes_eq name other)
+    ∙ ap (λ o. cond (bytes_eq name other) (Some (first_taken o place)) (place_in before other)) e
   where
-    named : (t : Bool) → bytes_eq key name ≡ t → is_name name own ≡ t
-    named t f = ap (is_name name) e ∙ bytes_eq-swap name key ∙ f
-
-    before : bytes_eq key name ≡ true → place_of name names ≡ None
-    before f = sym (h name) ∙ ap (λ n. place_in map n) (sym ((bytes_eq-Decides key name).0 f)) ∙ new
-
-    by_test : (t : Bool) → bytes_eq key name ≡ t → cond t (Some (length names)) (place_in map name) ≡ place_of name (names ++ own ∷ [])
-    by_test true f = sym (place-new names own name (named true f) (before f))
-    by_test false f = h name ∙ sym (place-other names own name (named false f))
-
--- what a look-up gave
-pub copied_None : (found : Option (Bor ℕ)) → is_some found ≡ false → option_copied found ≡ None
-copied_None None e = refl
-copied_None (Some r) e = absurd (true≢false e)
-
-pub copied_some : (found : Option (Bor ℕ)) → is_some (option_copied found) ≡ is_some found
-copied_some None = refl
-copied_some (Some r) = refl
+    by : (t : Bool) → cond t (Some first) (cond t (Some place) (place_in before other)) ≡ cond t (Some first) (place_in before other)
+    by true = refl
+    by false = refl
 
 not_below : (k n : ℕ) → n ≤ k → nat_lt k n ≡ false
 not_below k n h = grind (arith, nat_tests)
@@ -136,9 +153,3 @@ place-before test k (suc i) (x ∷ xs) = by (test x) (ap (is_before (position_fr
         is_before (cond t (Some k) (position_from test (k + 1) xs)) (k + suc i) ≡ (t || list_any test (take i xs))
     by true same = below k i
     by false same = same
-
--- one name more in memory
-pub seen-push : (olds : List (Option (Bor (List ℕ)))) (name : Option (Bor (List ℕ))) (rest : List (Option (List ℕ))) →
-    names_seen (olds ++ name ∷ []) ++ rest ≡ names_seen olds ++ option_copied name ∷ rest
-seen-push [] name rest = refl
-seen-push (o ∷ olds) name rest = ap (λ xs. option_copied o ∷ xs) (seen-push olds name rest)

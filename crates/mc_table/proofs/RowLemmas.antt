@@ -1,7 +1,8 @@
 -- What holds of a block from which a row is made.
 use Rattle.std.proofs.Common.{◌≡◌, refl, sym, ◌∙◌, ap, subst, ℕ, zero, suc, ◌+◌, ◌^◌, ◌<◌, ◌≤◌, nat_le, Bool, true, false, ◌&&◌, cond, true≢false, List, [], ◌∷◌, ◌++◌, map, take, slice_index_or, length, Option, None, Some, is_some, arith}
 use Rattle.std.proofs.lemmas.Bool.Decides.{nat_tests}
-use Rattle.std.specs.Prelude.{bytes_eq, filter, unwrap_or, option_and_then}
+use Rattle.std.specs.Prelude.{bytes_eq, filter, unwrap_or, option_and_then, slice_get}
+use Rattle.std.proofs.lemmas.Option.{slice_get-get_or}
 use Rattle.std.specs.List.{AllZip, list_all, list_any}
 use Rattle.mc_base.specs.declared.base.ParamName.TheVariants as param
 use Rattle.mc_base.specs.declared.base.ParamName.TheVariants.{Name}
@@ -15,6 +16,7 @@ use Rattle.mc_table.specs.Blocks.{Block, ModelTree, no_block, block_at, block_ty
 use Rattle.mc_table.specs.Held.{seen, all_seen}
 use Rattle.mc_table.specs.HeldModels.{tree_of}
 use Rattle.mc_table.specs.Numbered.{IsNumbered}
+use Rattle.mc_table.specs.Wiring.{StandsAtNumber}
 use Rattle.mc_table.specs.Words.{whole_number}
 use Rattle.mc_table.specs.Parameters.{type_name, text_of, parameters_of, has_form, same_typed}
 use Rattle.mc_table.specs.Lines.{own_port}
@@ -88,6 +90,20 @@ seen-long (b ∷ blocks) = ap suc (seen-long blocks)
 
 pub seen-inside : (m : ModelText) (i : ℕ) → i < length m.blocks.items → i < length (tree_of m).blocks
 seen-inside m i h = subst (λ n. i < n) (sym (seen-long m.blocks.items)) h
+
+-- a block stands at its number
+pub stands-at : (m : ModelText) (blocks : List held.Block) → blocks ≡ m.blocks.items → IsNumbered 0 (tree_of m).blocks → (i : ℕ) (b : held.Block) → i < length blocks → b ≡ slice_index_or blocks i b →
+    StandsAtNumber (tree_of m) (seen b)
+stands-at m blocks same are i b h e =
+    stands b (subst (λ (xs : List held.Block). i < length xs) same h) (subst (λ (xs : List held.Block). b ≡ slice_index_or xs i b) same e)
+  where
+    stands : (b : held.Block) → i < length m.blocks.items → b ≡ slice_index_or m.blocks.items i b → StandsAtNumber (tree_of m) (seen b)
+    stands b h e =
+        let inside = seen-inside m i h in
+        let at = seen-at m i b h e in
+        let number : b.number ≡ 0 + i = ap (λ (x : Block). x.number) at ∙ numbered-at 0 (tree_of m).blocks i are inside in
+        let own : b.number ≡ i = omega (arith, number) in
+        ap (slice_get (tree_of m).blocks) own ∙ slice_get-get_or (tree_of m).blocks i no_block inside ∙ ap Some (sym at)
 
 -- its number is that of a row
 pub number-fits : (m : ModelTree) (b : Block) (i : ℕ) → IsNumbered 0 m.blocks → length m.blocks ≤ 20000 → i < length m.blocks → b ≡ block_at m i → b.number < 2 ^ 32

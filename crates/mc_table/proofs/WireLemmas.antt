@@ -4,11 +4,8 @@ use Rattle.std.specs.Prelude.{◌==◌, find, filter, filter_map, slice_get, opt
 use Rattle.std.specs.List.{range_with_len}
 use Rattle.mc_base.specs.declared.base.Port.{Port}
 use Rattle.mc_base.specs.declared.base.Port.TheVariants.{Number}
-use Rattle.indexmap.specs.IndexMap.{IndexMap}
-use denote.Ref.{Bor}
 use Rattle.mc_table.specs.Blocks.{Block, ModelTree, is_subsystem, is_outport, inside, blocks_that}
-use Rattle.mc_table.specs.Lines.{Place, LineEnd, has_name, own_port, block_named, output_of, row_of_output, row_of_source}
-use Rattle.mc_table.specs.NameMaps.{AreNamesOf, place_in, place_of}
+use Rattle.mc_table.specs.Lines.{Place, has_name, own_port, block_named, output_of, row_of_output, row_of_source}
 use Rattle.mc_table.specs.Doubles.{IsFlat}
 use Rattle.mc_table.specs.Numbered.{IsNumbered}
 use Rattle.mc_table.specs.HeldLines.{end_seen, ends_seen}
@@ -16,11 +13,6 @@ use Rattle.mc_table.specs.declared.lines.LineEnd as held_end
 use Rattle.mc_table.proofs.MissingLemmas.{flat_blocks}
 use Rattle.mc_table.proofs.TargetLemmas.{named_plain}
 use Rattle.mc_table.proofs.WiringLemmas.{number_below, range-more}
-
--- the place of a name that may be there
-pub place-by : {S : Type 0} (names : List (Option (List ℕ))) (places : IndexMap (Bor (List ℕ)) ℕ S) (own : Option (List ℕ)) → AreNamesOf names places → option_and_then (place_in places) own ≡ option_and_then (λ n. place_of n names) own
-place-by names places None h = refl
-place-by names places (Some name) h = h name
 
 -- the number of a block that is found by its name
 pub named_below : (m : ModelTree) (name : List ℕ) (b : Block) → IsFlat m.blocks → IsNumbered 0 m.blocks → Some b ≡ block_named m None name → b.number < length m.blocks

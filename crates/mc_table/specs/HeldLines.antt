@@ -1,14 +1,19 @@
 -- The ends of lines in memory, as plain ones.
-use Rattle.std.specs.Prelude.{List, map, filter_map, Option, codes}
+use Rattle.std.specs.Prelude.{◌≡◌, ℕ, List, map, filter_map, Option, codes}
 use Rattle.std.specs.Option.{option_copied}
+use denote.Ref.{Bor}
+use Rattle.indexmap.specs.IndexMap.{IndexMap}
 use Rattle.mdl_tree.specs.Walks.{SectionTree}
 use Rattle.mc_table.specs.declared.lines.Place as held
 use Rattle.mc_table.specs.declared.lines.LineEnd as held_end
+use Rattle.mc_table.specs.Blocks.{ModelTree}
+use Rattle.mc_table.specs.Parameters.{name_of}
 use Rattle.mc_table.specs.Lines.{Place, LineEnd, named_by, source_of, targets_of, ends_from}
+use Rattle.mc_table.specs.NameMaps.{place_of, place_in}
 
 -- a place in memory as a plain one
 abbrev pub place_seen : held.Place → Place
-place_seen p = record { line = p.line; block = p.block.now; port = option_copied p.port }
+place_seen p = record { line = p.line; block = p.name.now; port = option_copied p.port }
 
 -- the same of all in a list
 abbrev pub places_seen : List held.Place → List Place
@@ -37,3 +42,19 @@ ends_of_line line = ends_from (source_of line) (targets_of line)
 -- the targets of ends in memory
 abbrev pub targets_seen : List held_end.LineEnd → List Place
 targets_seen ends = map (λ (e : held_end.LineEnd). place_seen e.target) ends
+
+-- the block of a place is the one that a map gives to its name
+abbrev pub IsFoundIn : {S : Type 0} → IndexMap (Bor (List ℕ)) ℕ S → held.Place → Type 0
+IsFoundIn places p = p.block ≡ place_in places p.name.now
+
+-- the same of both places of a line end
+abbrev pub AreFoundIn : {S : Type 0} → IndexMap (Bor (List ℕ)) ℕ S → held_end.LineEnd → Type 0
+AreFoundIn places e = IsFoundIn places e.source × IsFoundIn places e.target
+
+-- the block of a place is the first of its name among all blocks of a model
+abbrev pub IsFound : ModelTree → held.Place → Type 0
+IsFound m p = p.block ≡ place_of p.name.now (map (name_of m) m.blocks)
+
+-- the same of both places of a line end
+abbrev pub AreFound : ModelTree → held_end.LineEnd → Type 0
+AreFound m e = IsFound m e.source × IsFound m e.target

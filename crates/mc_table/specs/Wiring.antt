@@ -1,9 +1,12 @@
 -- How the lines of a model of one system lead, and what was found of a model.
-use Rattle.std.specs.Prelude.{◌≡◌, ℕ, ◌≤◌, Bool, ◌||◌, List, [], ◌∷◌, map, filter, find, length, take, Option, None, Some, is_none, option_map, if◌then◌else◌}
+use Rattle.std.specs.Prelude.{◌≡◌, All, ℕ, ◌≤◌, Bool, ◌||◌, List, [], ◌∷◌, map, filter, find, length, take, Option, None, Some, is_none, false, option_map, option_and_then, slice_get, slice_index_or, if◌then◌else◌}
+use Rattle.std.specs.Option.{option_map_or}
 use Rattle.std.specs.List.{list_any, position_from, range_with_len}
 use Rattle.mc_base.specs.declared.Port.TheVariants.{Number}
 use Rattle.mc_base.specs.Refusals.{PlainRefusal, plain_refusal, TwoSources, Unconnected}
 use Rattle.mc_diagram.specs.FirstRefusal.{least_line, first_there}
+use Rattle.indexmap.specs.IndexMap.{IndexMap}
+use Rattle.mc_table.specs.declared.inputs.Input.{Input}
 use Rattle.mc_table.specs.declared.wiring.Wiring.{Wiring}
 use Rattle.mc_table.specs.declared.verdict.Verdict.{Verdict}
 use Rattle.mc_table.specs.declared.verdict.Verdict.TheVariants.{Refused, Wired}
@@ -12,11 +15,11 @@ use Rattle.mc_table.specs.Parameters.{name_of}
 use Rattle.mc_table.specs.Lines.{Place, ends_of, leads_to, input_count, wire_into}
 use Rattle.mc_table.specs.TreeRefusals.{targets_in, at_one_input, repeats_from, double_names, missing_blocks, missing_ports, double_sources, unconnected_ports, double_controls}
 use Rattle.mc_table.specs.SoFar.{model_refusal_so_far}
-use Rattle.mc_table.specs.HeldLines.{ends_seen}
-use Rattle.mc_table.specs.NameMaps.{AreNamesOf}
+use Rattle.mc_table.specs.HeldLines.{ends_seen, AreFound}
+use Rattle.mc_table.specs.NameMaps.{first_places, is_before}
 use Rattle.mc_table.specs.Doubles.{IsFlat}
 use Rattle.mc_table.specs.Numbered.{IsNumbered}
-use Rattle.mc_table.specs.Inputs.{input_at, AreInputsOf}
+use Rattle.mc_table.specs.Inputs.{input_at, end_at, AreInputsOf}
 
 -- whether a block is a control port
 abbrev pub is_control : Block → Bool
@@ -36,9 +39,20 @@ pub record IsOneSystem (m : ModelTree) : Type 0 where
 
 -- how the lines of a model of one system lead
 pub record IsWiringOf (m : ModelTree) (wiring : Wiring) : Type 0 where
-  pub places : AreNamesOf (map (name_of m) m.blocks) wiring.places
+  pub firsts : wiring.firsts.items ≡ first_places (map (name_of m) m.blocks)
   pub ends : ends_seen wiring.ends.items ≡ ends_of m None
+  pub found : All (AreFound m) wiring.ends.items
+  pub leads : wiring.leads.items ≡ map (input_at m) (targets_in m None)
   pub inputs : AreInputsOf (map (input_at m) (targets_in m None)) wiring.inputs
+
+-- a block stands at its number
+abbrev pub StandsAtNumber : ModelTree → Block → Type 0
+StandsAtNumber m b = slice_get m.blocks b.number ≡ Some b
+
+-- the place of the first line end that leads to an input of the block with a number, as the wiring has it
+abbrev pub end_led : Wiring → (block number : ℕ) → Option ℕ
+end_led wiring block number =
+    option_and_then (λ first. end_at wiring.inputs (record { block = first; number = number })) (slice_index_or wiring.firsts.items block None)
 
 -- the row that an input of a block reads, by its number
 abbrev pub numbered_wire : ModelTree → Block → (number : ℕ) → Option ℕ
@@ -53,6 +67,10 @@ is_double_target m target at = list_any (λ a. at_one_input m None a target) (ta
 -- the refusal of a line end at an input to which an earlier one leads
 abbrev pub double_target : ModelTree → Place → (at : ℕ) → Option PlainRefusal
 double_target m target at = if is_double_target m target at then Some (TwoSources target.line) else None
+
+-- the refusal of a line end with this lead, where one before its place leads to the same input
+abbrev pub double_lead : {S : Type 0} → IndexMap Input ℕ S → Option Input → (line at : ℕ) → Option PlainRefusal
+double_lead inputs lead line at = if option_map_or (λ input. is_before (end_at inputs input) at) lead false then Some (TwoSources line) else None
 
 -- the refusal of a target
 abbrev pub target_refusal : Place → PlainRefusal

@@ -1,34 +1,21 @@
-ghost use Rattle.std.specs.Prelude.{◌≡◌, ◌<◌, length, slice_index_or, take, map, None};
+ghost use Rattle.std.specs.Prelude.{◌≡◌, ◌<◌, length, map};
 ghost use Rattle.std.specs.List.{list_any};
-ghost use Rattle.std.specs.Option.{option_copied};
 ghost use Rattle.mc_diagram.specs.FirstRefusal.{least_line, as_plain};
 ghost use Rattle.mc_table.specs.Parameters.{name_of};
 ghost use Rattle.mc_table.specs.TreeRefusals as refused;
 ghost use Rattle.mc_table.specs.Held.{seen, all_seen};
 ghost use Rattle.mc_table.specs.HeldModels.{tree_of};
-ghost use Rattle.mc_table.specs.NameMaps.{AreNamesOf, names_seen};
+ghost use Rattle.mc_table.specs.NameMaps.{first_places};
 ghost use Rattle.mc_table.specs.Doubles as doubles;
 
 use crate::block::Block;
 use crate::forms::is_a;
 use crate::kinds::own_port;
 use crate::model::ModelText;
-use crate::names::{Names, is_before, place_of};
+use crate::names::{is_before, item_at};
 use mc_base::Refusal;
 use mc_diagram::earlier;
 use mdl_params::BlockType;
-
-/// Whether an earlier name is the one at this place.
-fn has_name_before(names: &[Option<&[u8]>], places: &Names, at: usize) -> bool
-    requires places { AreNamesOf (names_seen names.now) places.now }
-    requires at { at < length names.now }
-    ensures { result ≡ list_any (λ n. refused.same_name n (option_copied (slice_index_or names.now at None))) (take at (names_seen names.now)) }
-{
-    match names[at] {
-        Some(name) => is_before(place_of(places, name), at),
-        None => false,
-    }
-}
 
 /// Whether two blocks are both of this type.
 fn are_both(block_type: BlockType, one: &Block, other: &Block) -> bool
@@ -78,32 +65,23 @@ fn has_port_before(model: &ModelText, earlier: &[Block], block: &Block) -> bool
 }
 
 /// Whether an earlier block has the name or the port of the one at this place.
-fn is_double(model: &ModelText, names: &[Option<&[u8]>], places: &Names, at: usize) -> bool
-    requires names { names_seen names.now ≡ map (name_of (tree_of model.now)) (tree_of model.now).blocks }
-    requires places { AreNamesOf (names_seen names.now) places.now }
+fn is_double(model: &ModelText, firsts: &[Option<usize>], at: usize) -> bool
+    requires firsts { firsts.now ≡ first_places (map (name_of (tree_of model.now)) (tree_of model.now).blocks) }
     requires at { at < length model.now.blocks.items }
-    requires there { at < length names.now }
     ensures { result ≡ doubles.is_double_at (tree_of model.now) at }
 {
     let blocks = model.blocks.as_slice();
     let (earlier, _) = blocks.split_at(at);
-    has_name_before(names, places, at) || has_port_before(model, earlier, &blocks[at])
+    is_before(item_at(firsts, at), at) || has_port_before(model, earlier, &blocks[at])
 }
 
 /// The refusal of the block at this place, where an earlier one has its name or its port.
-fn double_found(
-    model: &ModelText,
-    names: &[Option<&[u8]>],
-    places: &Names,
-    at: usize,
-) -> Option<Refusal>
-    requires names { names_seen names.now ≡ map (name_of (tree_of model.now)) (tree_of model.now).blocks }
-    requires places { AreNamesOf (names_seen names.now) places.now }
+fn double_found(model: &ModelText, firsts: &[Option<usize>], at: usize) -> Option<Refusal>
+    requires firsts { firsts.now ≡ first_places (map (name_of (tree_of model.now)) (tree_of model.now).blocks) }
     requires at { at < length model.now.blocks.items }
-    requires there { at < length names.now }
     ensures { as_plain result ≡ doubles.double_at (tree_of model.now) at }
 {
-    if is_double(model, names, places, at) {
+    if is_double(model, firsts, at) {
         Some(Refusal::DoubleName {
             line: model.blocks.as_slice()[at].section.line,
         })
@@ -113,19 +91,14 @@ fn double_found(
 }
 
 /// The first block with the name or the port of an earlier one.
-pub(crate) fn least_double(
-    model: &ModelText,
-    names: &[Option<&[u8]>],
-    places: &Names,
-) -> Option<Refusal>
+pub(crate) fn least_double(model: &ModelText, firsts: &[Option<usize>]) -> Option<Refusal>
     requires flat { doubles.IsFlat (tree_of model.now).blocks }
-    requires names { names_seen names.now ≡ map (name_of (tree_of model.now)) (tree_of model.now).blocks }
-    requires places { AreNamesOf (names_seen names.now) places.now }
+    requires firsts { firsts.now ≡ first_places (map (name_of (tree_of model.now)) (tree_of model.now).blocks) }
     ensures { as_plain result ≡ least_line (refused.double_names (tree_of model.now)) }
 {
     let mut least = None;
-    for at in 0..names.len() {
-        least = earlier(least, double_found(model, names, places, at));
+    for at in 0..model.blocks.len() {
+        least = earlier(least, double_found(model, firsts, at));
     }
     least
 }

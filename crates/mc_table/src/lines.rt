@@ -1,22 +1,24 @@
-ghost use Rattle.std.specs.Prelude.{◌≡◌, ◌++◌, IfOk, OnOk, flat_map, option_map, option_to_list};
+ghost use Rattle.std.specs.Prelude.{◌≡◌, ◌++◌, All, IfOk, IfSome, OnOk, flat_map, option_map, option_to_list};
 ghost use Rattle.std.specs.Option.{option_copied};
 ghost use Rattle.mdl_tree.specs.Walks.{first_value};
 ghost use Rattle.mdl_tree.specs.Values.{section_tree};
 ghost use Rattle.mc_table.specs.Lines as written;
 ghost use Rattle.mc_table.specs.Held.{trees_of};
-ghost use Rattle.mc_table.specs.HeldLines.{place_seen, places_seen, ends_seen, target_in, ends_to, ends_of_line};
+ghost use Rattle.mc_table.specs.HeldLines.{place_seen, places_seen, ends_seen, target_in, ends_to, ends_of_line, IsFoundIn, AreFoundIn};
 
+use crate::names::{Names, place_of};
 use crate::sections::take_parts;
 use mc_base::Memory;
 use mdl_tree::Section;
 use std::alloc::Global;
 
-/// A place that a line names: the line of the section that names it, a block's name, and the text of a port, if there
-/// is one.
+/// A place that a line names: the line of the section that names it, a block's name, the place of the first block of
+/// that name, if there is one, and the text of a port, if there is one.
 #[derive(Clone, Copy, Drop)]
 pub(crate) struct Place<'a> {
     pub line: u32,
-    pub block: &'a [u8],
+    pub name: &'a [u8],
+    pub block: Option<usize>,
     pub port: Option<&'a [u8]>,
 }
 
@@ -38,83 +40,106 @@ fn text_named<'a>(section: &'a Section, name: &[u8]) -> Option<&'a [u8]>
 }
 
 /// The place that a section names by these two parameters, if it names a block.
-fn named_by<'a>(section: &'a Section, block: &[u8], port: &[u8]) -> Option<Place<'a>>
-    ensures { option_map place_seen result ≡ written.named_by block.now port.now (section_tree section.now) }
+fn named_by<'a>(
+    places: &Names,
+    section: &'a Section,
+    block: &[u8],
+    port: &[u8],
+) -> Option<Place<'a>>
+    ensures place { option_map place_seen result ≡ written.named_by block.now port.now (section_tree section.now) }
+    ensures found { IfSome result (IsFoundIn places.now) }
 {
     let name = text_named(section, block)?;
     Some(Place {
         line: section.line,
-        block: name,
+        name,
+        block: place_of(places, name),
         port: text_named(section, port),
     })
 }
 
 /// The place from which a line leads, if it has one.
-fn source_of(line: &Section) -> Option<Place>
-    ensures { option_map place_seen result ≡ written.source_of (section_tree line.now) }
+fn source_of<'a>(places: &Names, line: &'a Section) -> Option<Place<'a>>
+    ensures place { option_map place_seen result ≡ written.source_of (section_tree line.now) }
+    ensures found { IfSome result (IsFoundIn places.now) }
 {
-    named_by(line, b"SrcBlock", b"SrcPort")
+    named_by(places, line, b"SrcBlock", b"SrcPort")
 }
 
 /// The place to which a part of a line leads, if it names one.
-fn target_of(part: &Section) -> Option<Place>
-    ensures { option_map place_seen result ≡ target_in (section_tree part.now) }
+fn target_of<'a>(places: &Names, part: &'a Section) -> Option<Place<'a>>
+    ensures place { option_map place_seen result ≡ target_in (section_tree part.now) }
+    ensures found { IfSome result (IsFoundIn places.now) }
 {
-    named_by(part, b"DstBlock", b"DstPort")
-}
-
-/// The places from which these lines lead, also those that lead nowhere.
-pub(crate) fn sources_of<'a>(alloc: Global, lines: &[&'a Section]) -> Result<Vec<Place<'a>>, Memory>
-    ensures { IfOk result (λ v. places_seen v.items ≡ flat_map (λ line. option_to_list (written.source_of line)) (trees_of lines.now)) }
-{
-    let mut sources = Vec::new(alloc);
-    for line in lines {
-        if let Some(source) = source_of(*line) {
-            sources.push(source)?;
-        }
-    }
-    Ok(sources)
+    named_by(places, part, b"DstBlock", b"DstPort")
 }
 
 /// Takes a line's ends from this source to the targets that its parts name.
 fn take_targets<'a>(
     ends: &mut Vec<LineEnd<'a>>,
+    places: &Names,
     source: Place<'a>,
     parts: &[&'a Section],
 ) -> Result<(), Memory>
-    ensures { OnOk result (ends_seen ends.new.items ≡ ends_seen ends.old.items ++ ends_to (place_seen source.entry) (trees_of parts.now)) }
+    requires before { All (AreFoundIn places.now) ends.old.items }
+    requires source { IsFoundIn places.now source }
+    ensures ends { OnOk result (ends_seen ends.new.items ≡ ends_seen ends.old.items ++ ends_to (place_seen source.entry) (trees_of parts.now)) }
+    ensures found { OnOk result (All (AreFoundIn places.now) ends.new.items) }
 {
     for part in parts {
-        if let Some(target) = target_of(*part) {
+        if let Some(target) = target_of(places, *part) {
             ends.push(LineEnd { source, target })?;
         }
     }
     Ok(())
 }
 
-/// Takes the ends of one line.
-fn take_ends<'a>(
+/// Takes the place from which one line leads, if it has one, and the line's ends.
+fn take_line<'a>(
     alloc: Global,
+    sources: &mut Vec<Place<'a>>,
     ends: &mut Vec<LineEnd<'a>>,
+    places: &Names,
     line: &'a Section,
 ) -> Result<(), Memory>
-    ensures { OnOk result (ends_seen ends.new.items ≡ ends_seen ends.old.items ++ ends_of_line (section_tree line.now)) }
+    requires sources { All (IsFoundIn places.now) sources.old.items }
+    requires ends { All (AreFoundIn places.now) ends.old.items }
+    ensures sources { OnOk result (places_seen sources.new.items ≡ places_seen sources.old.items ++ option_to_list (written.source_of (section_tree line.now))) }
+    ensures ends { OnOk result (ends_seen ends.new.items ≡ ends_seen ends.old.items ++ ends_of_line (section_tree line.now)) }
+    ensures found { OnOk result (All (IsFoundIn places.now) sources.new.items) }
+    ensures both { OnOk result (All (AreFoundIn places.now) ends.new.items) }
 {
-    let Some(source) = source_of(line) else {
+    let Some(source) = source_of(places, line) else {
         return Ok(());
     };
+    sources.push(source)?;
     let mut parts = Vec::new(alloc);
     take_parts(&mut parts, line)?;
-    take_targets(ends, source, parts.as_slice())
+    take_targets(ends, places, source, parts.as_slice())
 }
 
-/// The ends of these lines; a line without a source has none.
-pub(crate) fn ends_of<'a>(alloc: Global, lines: &[&'a Section]) -> Result<Vec<LineEnd<'a>>, Memory>
-    ensures { IfOk result (λ v. ends_seen v.items ≡ flat_map ends_of_line (trees_of lines.now)) }
+/// The places that lines name: those from which they lead, also to nowhere, and the ends of lines with such a place.
+#[derive(Drop)]
+pub(crate) struct LinePlaces<'a> {
+    pub sources: Vec<Place<'a>>,
+    pub ends: Vec<LineEnd<'a>>,
+}
+
+/// The places that these lines name.
+pub(crate) fn places_of<'a>(
+    alloc: Global,
+    places: &Names,
+    lines: &[&'a Section],
+) -> Result<LinePlaces<'a>, Memory>
+    ensures sources { IfOk result (λ named. places_seen named.sources.items ≡ flat_map (λ line. option_to_list (written.source_of line)) (trees_of lines.now)) }
+    ensures ends { IfOk result (λ named. ends_seen named.ends.items ≡ flat_map ends_of_line (trees_of lines.now)) }
+    ensures found { IfOk result (λ named. All (IsFoundIn places.now) named.sources.items) }
+    ensures both { IfOk result (λ named. All (AreFoundIn places.now) named.ends.items) }
 {
+    let mut sources = Vec::new(alloc);
     let mut ends = Vec::new(alloc);
     for line in lines {
-        take_ends(alloc, &mut ends, *line)?;
+        take_line(alloc, &mut sources, &mut ends, places, *line)?;
     }
-    Ok(ends)
+    Ok(LinePlaces { sources, ends })
 }

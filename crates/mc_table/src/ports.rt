@@ -1,11 +1,9 @@
-ghost use Rattle.std.specs.Prelude.{◌≡◌, map, None};
+ghost use Rattle.std.specs.Prelude.{◌≡◌, All, None};
 ghost use Rattle.std.specs.Option.{option_copied};
-ghost use Rattle.mc_table.specs.Parameters.{name_of};
 ghost use Rattle.mc_table.specs.Lines as lines;
 ghost use Rattle.mc_table.specs.Held.{seen};
 ghost use Rattle.mc_table.specs.HeldModels.{tree_of};
-ghost use Rattle.mc_table.specs.HeldLines.{place_seen, places_seen};
-ghost use Rattle.mc_table.specs.NameMaps.{AreNamesOf};
+ghost use Rattle.mc_table.specs.HeldLines.{place_seen, places_seen, IsFound};
 ghost use Rattle.mc_table.specs.Doubles.{IsFlat};
 ghost use Rattle.mc_diagram.specs.FirstRefusal.{least_in, as_plain};
 ghost use Rattle.mc_table.specs.Missing.{port_within, no_output_found, numbered_input};
@@ -17,7 +15,6 @@ use crate::kinds::operand_count;
 use crate::lines::Place;
 use crate::model::ModelText;
 use crate::named::block_named;
-use crate::names::Names;
 use crate::texts::{block_type, text_of};
 use mc_base::{ParamName, Port, Refusal};
 use mc_diagram::earlier;
@@ -128,42 +125,38 @@ fn port_within(text: Option<&[u8]>, most: usize) -> Option<u128>
 }
 
 /// The output from which a line leads, if the block that it names has it, in a model of one system.
-pub(crate) fn output_of(model: &ModelText, places: &Names, source: &Place) -> Option<u128>
+pub(crate) fn output_of(model: &ModelText, source: &Place) -> Option<u128>
     requires flat { IsFlat (tree_of model.now).blocks }
-    requires places { AreNamesOf (map (name_of (tree_of model.now)) (tree_of model.now).blocks) places.now }
+    requires found { IsFound (tree_of model.now) source.now }
     ensures { result ≡ lines.output_of (tree_of model.now) None (place_seen source.now) }
 {
-    match block_named(model, places, source.block) {
+    match block_named(model, source) {
         Some(block) => port_within(source.port, output_count(model, block)),
         None => None,
     }
 }
 
 /// The refusal of a source whose block hasn't the port.
-fn no_output_found(model: &ModelText, places: &Names, source: &Place) -> Option<Refusal>
+fn no_output_found(model: &ModelText, source: &Place) -> Option<Refusal>
     requires flat { IsFlat (tree_of model.now).blocks }
-    requires places { AreNamesOf (map (name_of (tree_of model.now)) (tree_of model.now).blocks) places.now }
+    requires found { IsFound (tree_of model.now) source.now }
     ensures { as_plain result ≡ no_output_found (tree_of model.now) (place_seen source.now) }
 {
-    match output_of(model, places, source) {
+    match output_of(model, source) {
         Some(_) => None,
         None => Some(Refusal::NoPort { line: source.line }),
     }
 }
 
 /// The first source of a line whose block hasn't the port, in a model of one system.
-pub(crate) fn least_without_output(
-    model: &ModelText,
-    places: &Names,
-    sources: &[Place],
-) -> Option<Refusal>
+pub(crate) fn least_without_output(model: &ModelText, sources: &[Place]) -> Option<Refusal>
     requires flat { IsFlat (tree_of model.now).blocks }
-    requires places { AreNamesOf (map (name_of (tree_of model.now)) (tree_of model.now).blocks) places.now }
+    requires found { All (IsFound (tree_of model.now)) sources.now }
     ensures { as_plain result ≡ least_in (no_output_found (tree_of model.now)) (places_seen sources.now) }
 {
     let mut least = None;
     for source in sources {
-        least = earlier(least, no_output_found(model, places, source));
+        least = earlier(least, no_output_found(model, source));
     }
     least
 }

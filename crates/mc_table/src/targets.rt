@@ -1,14 +1,12 @@
-ghost use Rattle.std.specs.Prelude.{◌≡◌, ◌≤◌, [], IfOk, None, false, filter, map, option_and_then};
+ghost use Rattle.std.specs.Prelude.{◌≡◌, ◌≤◌, [], All, IfOk, None, false, filter, map, option_and_then};
 ghost use Rattle.std.specs.Option.{option_copied};
 ghost use Rattle.mc_diagram.specs.FirstRefusal.{least_line, least_in, as_plain};
 ghost use Rattle.mc_table.specs.Blocks.{is_subsystem};
-ghost use Rattle.mc_table.specs.Parameters.{name_of};
 ghost use Rattle.mc_table.specs.Lines as lines;
 ghost use Rattle.mc_table.specs.TreeRefusals as refused;
 ghost use Rattle.mc_table.specs.Held.{seen};
 ghost use Rattle.mc_table.specs.HeldModels.{tree_of};
-ghost use Rattle.mc_table.specs.HeldLines.{place_seen, places_seen, ends_seen, targets_seen};
-ghost use Rattle.mc_table.specs.NameMaps.{AreNamesOf};
+ghost use Rattle.mc_table.specs.HeldLines.{place_seen, places_seen, ends_seen, targets_seen, IsFound, AreFound};
 ghost use Rattle.mc_table.specs.Doubles.{IsFlat};
 ghost use Rattle.mc_table.specs.Missing.{no_input_found, numbered_input};
 ghost use Rattle.mc_table.specs.Inputs as led;
@@ -18,7 +16,6 @@ use crate::inputs::Input;
 use crate::lines::{LineEnd, Place};
 use crate::model::ModelText;
 use crate::named::block_named;
-use crate::names::{Names, place_of};
 use crate::ports::{input_count, least_without_output, numbered_input};
 use mc_base::{Memory, Port, Refusal};
 use mc_diagram::earlier;
@@ -44,41 +41,41 @@ fn numbered_port(text: Option<&[u8]>, most: u32) -> Option<Port>
 }
 
 /// The input to which a line leads, if the block that it names has it, in a model of one system.
-fn input_of(model: &ModelText, places: &Names, target: &Place) -> Option<Port>
+fn input_of(model: &ModelText, target: &Place) -> Option<Port>
     requires flat { IsFlat (tree_of model.now).blocks }
     requires systems { filter is_subsystem (tree_of model.now).blocks ≡ [] }
-    requires places { AreNamesOf (map (name_of (tree_of model.now)) (tree_of model.now).blocks) places.now }
+    requires found { IsFound (tree_of model.now) target.now }
     ensures { result ≡ lines.input_of (tree_of model.now) None (place_seen target.now) }
 {
-    match block_named(model, places, target.block) {
+    match block_named(model, target) {
         Some(block) => numbered_port(target.port, plain_input_count(model, block)),
         None => None,
     }
 }
 
 /// The refusal of a target whose block hasn't the port.
-fn no_input_found(model: &ModelText, places: &Names, target: &Place) -> Option<Refusal>
+fn no_input_found(model: &ModelText, target: &Place) -> Option<Refusal>
     requires flat { IsFlat (tree_of model.now).blocks }
     requires systems { filter is_subsystem (tree_of model.now).blocks ≡ [] }
-    requires places { AreNamesOf (map (name_of (tree_of model.now)) (tree_of model.now).blocks) places.now }
+    requires found { IsFound (tree_of model.now) target.now }
     ensures { as_plain result ≡ no_input_found (tree_of model.now) (place_seen target.now) }
 {
-    match input_of(model, places, target) {
+    match input_of(model, target) {
         Some(_) => None,
         None => Some(Refusal::NoPort { line: target.line }),
     }
 }
 
 /// The first target of a line whose block hasn't the port, in a model of one system.
-fn least_without_input(model: &ModelText, places: &Names, ends: &[LineEnd]) -> Option<Refusal>
+fn least_without_input(model: &ModelText, ends: &[LineEnd]) -> Option<Refusal>
     requires flat { IsFlat (tree_of model.now).blocks }
     requires systems { filter is_subsystem (tree_of model.now).blocks ≡ [] }
-    requires places { AreNamesOf (map (name_of (tree_of model.now)) (tree_of model.now).blocks) places.now }
+    requires found { All (AreFound (tree_of model.now)) ends.now }
     ensures { as_plain result ≡ least_in (no_input_found (tree_of model.now)) (targets_seen ends.now) }
 {
     let mut least = None;
     for end in ends {
-        least = earlier(least, no_input_found(model, places, &end.target));
+        least = earlier(least, no_input_found(model, &end.target));
     }
     least
 }
@@ -86,20 +83,20 @@ fn least_without_input(model: &ModelText, places: &Names, ends: &[LineEnd]) -> O
 /// The first place of a line whose block hasn't the port, in a model of one system with these lines.
 pub(crate) fn least_missing_port(
     model: &ModelText,
-    places: &Names,
     sources: &[Place],
     ends: &[LineEnd],
 ) -> Option<Refusal>
     requires flat { IsFlat (tree_of model.now).blocks }
     requires systems { filter is_subsystem (tree_of model.now).blocks ≡ [] }
-    requires places { AreNamesOf (map (name_of (tree_of model.now)) (tree_of model.now).blocks) places.now }
+    requires found { All (IsFound (tree_of model.now)) sources.now }
+    requires both { All (AreFound (tree_of model.now)) ends.now }
     requires sources { places_seen sources.now ≡ refused.sources_in (tree_of model.now) None }
     requires ends { ends_seen ends.now ≡ lines.ends_of (tree_of model.now) None }
     ensures { as_plain result ≡ least_line (refused.missing_ports (tree_of model.now)) }
 {
     earlier(
-        least_without_output(model, places, sources),
-        least_without_input(model, places, ends),
+        least_without_output(model, sources),
+        least_without_input(model, ends),
     )
 }
 
@@ -114,14 +111,14 @@ fn numbered(block: usize, port: Option<Port>) -> Option<Input>
 }
 
 /// The input to which a line leads, by the place of its block, in a model of one system.
-pub(crate) fn input_at(model: &ModelText, places: &Names, target: &Place) -> Option<Input>
+pub(crate) fn input_at(model: &ModelText, target: &Place) -> Option<Input>
     requires flat { IsFlat (tree_of model.now).blocks }
     requires systems { filter is_subsystem (tree_of model.now).blocks ≡ [] }
-    requires places { AreNamesOf (map (name_of (tree_of model.now)) (tree_of model.now).blocks) places.now }
+    requires found { IsFound (tree_of model.now) target.now }
     ensures { result ≡ led.input_at (tree_of model.now) (place_seen target.now) }
 {
-    match place_of(places, target.block) {
-        Some(block) => numbered(block, input_of(model, places, target)),
+    match target.block {
+        Some(block) => numbered(block, input_of(model, target)),
         None => None,
     }
 }
@@ -130,17 +127,16 @@ pub(crate) fn input_at(model: &ModelText, places: &Names, target: &Place) -> Opt
 pub(crate) fn inputs_at(
     alloc: Global,
     model: &ModelText,
-    places: &Names,
     ends: &[LineEnd],
 ) -> Result<Vec<Option<Input>>, Memory>
     requires flat { IsFlat (tree_of model.now).blocks }
     requires systems { filter is_subsystem (tree_of model.now).blocks ≡ [] }
-    requires places { AreNamesOf (map (name_of (tree_of model.now)) (tree_of model.now).blocks) places.now }
+    requires found { All (AreFound (tree_of model.now)) ends.now }
     ensures { IfOk result (λ v. v.items ≡ map (led.input_at (tree_of model.now)) (targets_seen ends.now)) }
 {
     let mut inputs = Vec::new(alloc);
     for end in ends {
-        inputs.push(input_at(model, places, &end.target))?;
+        inputs.push(input_at(model, &end.target))?;
     }
     Ok(inputs)
 }

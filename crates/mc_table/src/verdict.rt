@@ -1,4 +1,4 @@
-ghost use Rattle.std.specs.Prelude.{◌≡◌, ◌∷◌, [], IfOk, None, map};
+ghost use Rattle.std.specs.Prelude.{◌≡◌, ◌∷◌, [], All, IfOk, None, map};
 ghost use Rattle.mc_diagram.specs.FirstRefusal.{least_line, first_there, as_plain};
 ghost use Rattle.mdl_tree.specs.Values.{section_tree};
 ghost use Rattle.mc_table.specs.Blocks.{model_with};
@@ -8,19 +8,18 @@ ghost use Rattle.mc_table.specs.HeldModels.{tree_of};
 ghost use Rattle.mc_table.specs.Numbered.{IsNumbered};
 ghost use Rattle.mc_table.specs.Parameters.{name_of};
 ghost use Rattle.mc_table.specs.Lines as written;
-ghost use Rattle.mc_table.specs.HeldLines.{ends_seen};
-ghost use Rattle.mc_table.specs.NameMaps.{AreNamesOf};
-ghost use Rattle.mc_table.specs.Held.{trees_of};
+ghost use Rattle.mc_table.specs.HeldLines.{places_seen, ends_seen, IsFound, AreFound};
+ghost use Rattle.mc_table.specs.NameMaps.{AreNamesOf, first_places};
 ghost use Rattle.mc_table.specs.Wiring.{IsRootOf, IsOneSystem, IsWiringOf, IsVerdictBy, IsVerdictOf, places_refusal, inputs_refusal, lines_refusal};
 
 use crate::connections::refusal_of_inputs;
 use crate::crowds::{least_crowd, too_many_blocks};
 use crate::doubles::least_double;
 use crate::file::{no_model, two_models};
-use crate::lines::{LineEnd, ends_of, sources_of};
+use crate::lines::{LineEnd, LinePlaces, Place, places_of};
 use crate::model::ModelText;
 use crate::named::least_missing;
-use crate::names::{Names, block_names, places_of};
+use crate::names::{BlockNames, names_of};
 use crate::parts::least_newer_line;
 use crate::passes::{least_continuous, least_deep, least_float, least_parameter, least_unread};
 use crate::sections::sections_named;
@@ -87,40 +86,34 @@ pub(crate) enum Verdict<'a> {
 }
 
 /// The first refusal of a model of one system for a place that its lines name.
-fn refusal_of_places(
-    alloc: Global,
-    model: &ModelText,
-    places: &Names,
-    lines: &[&Section],
-    ends: &[LineEnd],
-) -> Result<Option<Refusal>, Memory>
+fn refusal_of_places(model: &ModelText, sources: &[Place], ends: &[LineEnd]) -> Option<Refusal>
     requires one { IsOneSystem (tree_of model.now) }
-    requires places { AreNamesOf (map (name_of (tree_of model.now)) (tree_of model.now).blocks) places.now }
-    requires lines { trees_of lines.now ≡ written.lines_of (tree_of model.now) None }
+    requires found { All (IsFound (tree_of model.now)) sources.now }
+    requires both { All (AreFound (tree_of model.now)) ends.now }
+    requires sources { places_seen sources.now ≡ refused.sources_in (tree_of model.now) None }
     requires ends { ends_seen ends.now ≡ written.ends_of (tree_of model.now) None }
-    ensures { IfOk result (λ r. as_plain r ≡ places_refusal (tree_of model.now)) }
+    ensures { as_plain result ≡ places_refusal (tree_of model.now) }
 {
-    let held = sources_of(alloc, lines)?;
-    let sources = held.as_slice();
-    if let Some(refusal) = least_missing(model, places, sources, ends) {
-        return Ok(Some(refusal));
+    match least_missing(model, sources, ends) {
+        Some(refusal) => Some(refusal),
+        None => least_missing_port(model, sources, ends),
     }
-    Ok(least_missing_port(model, places, sources, ends))
 }
 
 /// The verdict on a model of one system for how these line ends lead.
 fn verdict_of_ends<'a>(
     alloc: Global,
     model: &'a ModelText,
-    places: Names<'a>,
+    firsts: Vec<Option<usize>>,
     ends: Vec<LineEnd<'a>>,
 ) -> Result<Verdict<'a>, Memory>
     requires one { IsOneSystem (tree_of model.now) }
-    requires places { AreNamesOf (map (name_of (tree_of model.now)) (tree_of model.now).blocks) places }
+    requires firsts { firsts.items ≡ first_places (map (name_of (tree_of model.now)) (tree_of model.now).blocks) }
     requires ends { ends_seen ends.items ≡ written.ends_of (tree_of model.now) None }
+    requires found { All (AreFound (tree_of model.now)) ends.items }
     ensures { IfOk result (λ v. IsVerdictBy (inputs_refusal (tree_of model.now)) (tree_of model.now) v) }
 {
-    let wiring = wiring_of(alloc, model, places, ends)?;
+    let wiring = wiring_of(alloc, model, firsts, ends)?;
     match refusal_of_inputs(model, &wiring) {
         Some(refusal) => Ok(Verdict::Refused(refusal)),
         None => Ok(Verdict::Wired(wiring)),
@@ -131,19 +124,20 @@ fn verdict_of_ends<'a>(
 fn verdict_of_lines<'a>(
     alloc: Global,
     model: &'a ModelText,
-    places: Names<'a>,
+    names: BlockNames<'a>,
 ) -> Result<Verdict<'a>, Memory>
     requires one { IsOneSystem (tree_of model.now) }
-    requires places { AreNamesOf (map (name_of (tree_of model.now)) (tree_of model.now).blocks) places }
+    requires places { AreNamesOf (map (name_of (tree_of model.now)) (tree_of model.now).blocks) names.places }
+    requires firsts { names.firsts.items ≡ first_places (map (name_of (tree_of model.now)) (tree_of model.now).blocks) }
     ensures { IfOk result (λ v. IsVerdictBy (first_there (places_refusal (tree_of model.now) ∷ inputs_refusal (tree_of model.now) ∷ [])) (tree_of model.now) v) }
 {
-    let held = sections_named(alloc, model.system, b"Line")?;
-    let lines = held.as_slice();
-    let ends = ends_of(alloc, lines)?;
-    let found = refusal_of_places(alloc, model, &places, lines, ends.as_slice())?;
-    match found {
+    let BlockNames { places, firsts } = names;
+    let lines = sections_named(alloc, model.system, b"Line")?;
+    let named = places_of(alloc, &places, lines.as_slice())?;
+    let LinePlaces { sources, ends } = named;
+    match refusal_of_places(model, sources.as_slice(), ends.as_slice()) {
         Some(refusal) => Ok(Verdict::Refused(refusal)),
-        None => verdict_of_ends(alloc, model, places, ends),
+        None => verdict_of_ends(alloc, model, firsts, ends),
     }
 }
 
@@ -152,12 +146,10 @@ fn verdict_of_names<'a>(alloc: Global, model: &'a ModelText) -> Result<Verdict<'
     requires { IsOneSystem (tree_of model.now) }
     ensures { IfOk result (λ v. IsVerdictBy (lines_refusal (tree_of model.now)) (tree_of model.now) v) }
 {
-    let held = block_names(alloc, model)?;
-    let names = held.as_slice();
-    let places = places_of(alloc, names)?;
-    match least_double(model, names, &places) {
+    let names = names_of(alloc, model)?;
+    match least_double(model, names.firsts.as_slice()) {
         Some(refusal) => Ok(Verdict::Refused(refusal)),
-        None => verdict_of_lines(alloc, model, places),
+        None => verdict_of_lines(alloc, model, names),
     }
 }
 

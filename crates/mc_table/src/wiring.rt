@@ -1,122 +1,89 @@
-ghost use Rattle.std.specs.Prelude.{◌≡◌, ◌++◌, [], IfOk, OnOk, option_to_list, None, false, filter, map, option_and_then, option_map, slice_get};
+ghost use Rattle.std.specs.Prelude.{◌≡◌, ◌++◌, [], All, IfOk, OnOk, option_to_list, None, false, filter, map, option_and_then, option_map, slice_get};
 ghost use Rattle.std.specs.Option.{option_copied};
 ghost use Rattle.mc_table.specs.Blocks.{is_subsystem};
-ghost use Rattle.mc_table.specs.Parameters as parameter;
+ghost use Rattle.mc_table.specs.Parameters.{name_of};
 ghost use Rattle.mc_table.specs.Lines as lines;
 ghost use Rattle.mc_table.specs.TableOf as table;
 ghost use Rattle.mc_table.specs.Held.{seen};
 ghost use Rattle.mc_table.specs.HeldModels.{tree_of};
-ghost use Rattle.mc_table.specs.HeldLines.{place_seen, ends_seen};
-ghost use Rattle.mc_table.specs.NameMaps as written;
-ghost use Rattle.mc_table.specs.Wiring.{IsOneSystem, IsWiringOf, first_end_into, numbered_wire};
-ghost use Rattle.mc_table.specs.Inputs as led;
-ghost use Rattle.mc_table.specs.TreeRefusals.{targets_in};
+ghost use Rattle.mc_table.specs.HeldLines.{place_seen, ends_seen, IsFound, AreFound};
+ghost use Rattle.mc_table.specs.NameMaps.{first_places};
+ghost use Rattle.mc_table.specs.Wiring.{IsOneSystem, IsWiringOf, StandsAtNumber, end_led, numbered_wire};
 
 use crate::block::Block;
 use crate::inputs::{Input, Inputs, end_at, inputs_of};
 use crate::lines::{LineEnd, Place};
 use crate::model::ModelText;
 use crate::named::block_named;
-use crate::names::{Names, place_of};
+use crate::names::item_at;
 use crate::ports::output_of;
 use crate::targets::{inputs_at, plain_input_count};
-use crate::texts::name_of;
 use mc_base::{Memory, Wires};
 use std::alloc::Global;
 
-/// How the lines of a model of one system lead: the places of the names of blocks, the ends of lines, and for each
-/// input the first of these that leads to it.
+/// How the lines of a model of one system lead: for each block the place of the first one with its name, the ends of
+/// lines, the inputs to which these lead, and for each input the first line end that leads to it.
 #[derive(Drop)]
 pub(crate) struct Wiring<'a> {
-    pub places: Names<'a>,
+    pub firsts: Vec<Option<usize>>,
     pub ends: Vec<LineEnd<'a>>,
+    pub leads: Vec<Option<Input>>,
     pub inputs: Inputs,
 }
 
-/// The first of these line ends at each input, in a model of one system whose blocks have these names.
-fn led_inputs(
-    alloc: Global,
-    model: &ModelText,
-    places: &Names,
-    ends: &[LineEnd],
-) -> Result<Inputs, Memory>
-    requires one { IsOneSystem (tree_of model.now) }
-    requires places { written.AreNamesOf (map (parameter.name_of (tree_of model.now)) (tree_of model.now).blocks) places.now }
-    requires ends { ends_seen ends.now ≡ lines.ends_of (tree_of model.now) None }
-    ensures { IfOk result (λ inputs. led.AreInputsOf (map (led.input_at (tree_of model.now)) (targets_in (tree_of model.now) None)) inputs) }
-{
-    let leads = inputs_at(alloc, model, places, ends)?;
-    inputs_of(alloc, leads.as_slice())
-}
-
-/// How these line ends lead, in a model of one system whose blocks have these names.
+/// How these line ends lead, in a model of one system whose names are first at these places.
 pub(crate) fn wiring_of<'a>(
     alloc: Global,
     model: &'a ModelText,
-    places: Names<'a>,
+    firsts: Vec<Option<usize>>,
     ends: Vec<LineEnd<'a>>,
 ) -> Result<Wiring<'a>, Memory>
     requires one { IsOneSystem (tree_of model.now) }
-    requires places { written.AreNamesOf (map (parameter.name_of (tree_of model.now)) (tree_of model.now).blocks) places }
+    requires firsts { firsts.items ≡ first_places (map (name_of (tree_of model.now)) (tree_of model.now).blocks) }
+    requires found { All (AreFound (tree_of model.now)) ends.items }
     requires ends { ends_seen ends.items ≡ lines.ends_of (tree_of model.now) None }
     ensures { IfOk result (λ wiring. IsWiringOf (tree_of model.now) wiring) }
 {
-    let inputs = led_inputs(alloc, model, &places, ends.as_slice())?;
+    let leads = inputs_at(alloc, model, ends.as_slice())?;
+    let inputs = inputs_of(alloc, leads.as_slice())?;
     Ok(Wiring {
-        places,
+        firsts,
         ends,
+        leads,
         inputs,
     })
 }
 
-/// The place of the first block with the name of a block.
-fn own_place(model: &ModelText, places: &Names, block: &Block) -> Option<usize>
-    ensures { result ≡ option_and_then (written.place_in places.now) (parameter.name_of (tree_of model.now) (seen block.now)) }
-{
-    match name_of(model, block) {
-        Some(name) => place_of(places, name),
-        None => None,
-    }
-}
-
 /// The place of the first line end that leads to an input of a block.
-pub(crate) fn end_into(
-    model: &ModelText,
-    wiring: &Wiring,
-    block: &Block,
-    number: u32,
-) -> Option<usize>
-    requires one { IsOneSystem (tree_of model.now) }
-    requires wiring { IsWiringOf (tree_of model.now) wiring.now }
-    requires own { (seen block.now).owner ≡ None }
-    ensures { result ≡ first_end_into (tree_of model.now) (seen block.now) number }
+pub(crate) fn end_into(wiring: &Wiring, block: &Block, number: u32) -> Option<usize>
+    ensures { result ≡ end_led wiring.now block.now.number number }
 {
-    match own_place(model, &wiring.places, block) {
+    match item_at(wiring.firsts.as_slice(), block.number) {
         Some(block) => end_at(&wiring.inputs, Input { block, number }),
         None => None,
     }
 }
 
-/// The number of the block of this name as that of a row, in a model of one system.
-fn row_named(model: &ModelText, places: &Names, name: &[u8]) -> Option<u32>
+/// The number of the block that a place names as that of a row, in a model of one system.
+fn row_named(model: &ModelText, place: &Place) -> Option<u32>
     requires one { IsOneSystem (tree_of model.now) }
-    requires places { written.AreNamesOf (map (parameter.name_of (tree_of model.now)) (tree_of model.now).blocks) places.now }
-    ensures { result ≡ option_map (λ b. b.number) (lines.block_named (tree_of model.now) None name.now) }
+    requires found { IsFound (tree_of model.now) place.now }
+    ensures { result ≡ option_map (λ b. b.number) (lines.block_named (tree_of model.now) None place.now.name.now) }
 {
-    match block_named(model, places, name) {
+    match block_named(model, place) {
         Some(block) => Some(block.number as u32),
         None => None,
     }
 }
 
 /// The row of the output from which a line leads, if the block that it names has it, in a model of one system.
-fn row_of_source(model: &ModelText, places: &Names, source: &Place) -> Option<u32>
+fn row_of_source(model: &ModelText, source: &Place) -> Option<u32>
     requires one { IsOneSystem (tree_of model.now) }
-    requires places { written.AreNamesOf (map (parameter.name_of (tree_of model.now)) (tree_of model.now).blocks) places.now }
+    requires found { IsFound (tree_of model.now) source.now }
     ensures { result ≡ lines.row_of_source (tree_of model.now) None (place_seen source.now) }
 {
-    match output_of(model, places, source) {
-        Some(_) => row_named(model, places, source.block),
+    match output_of(model, source) {
+        Some(_) => row_named(model, source),
         None => None,
     }
 }
@@ -135,7 +102,7 @@ fn row_at(model: &ModelText, wiring: &Wiring, at: usize) -> Option<u32>
     ensures { result ≡ option_and_then (λ e. lines.row_of_source (tree_of model.now) None e.source) (slice_get (lines.ends_of (tree_of model.now) None) at) }
 {
     match line_end(wiring.ends.as_slice(), at) {
-        Some(end) => row_of_source(model, &wiring.places, &end.source),
+        Some(end) => row_of_source(model, &end.source),
         None => None,
     }
 }
@@ -145,9 +112,10 @@ fn wire_into(model: &ModelText, wiring: &Wiring, block: &Block, number: u32) -> 
     requires one { IsOneSystem (tree_of model.now) }
     requires wiring { IsWiringOf (tree_of model.now) wiring.now }
     requires own { (seen block.now).owner ≡ None }
+    requires stands { StandsAtNumber (tree_of model.now) (seen block.now) }
     ensures { result ≡ numbered_wire (tree_of model.now) (seen block.now) number }
 {
-    match end_into(model, wiring, block, number) {
+    match end_into(wiring, block, number) {
         Some(at) => row_at(model, wiring, at),
         None => None,
     }
@@ -173,6 +141,7 @@ fn input_wires(
     requires one { IsOneSystem (tree_of model.now) }
     requires wiring { IsWiringOf (tree_of model.now) wiring.now }
     requires own { (seen block.now).owner ≡ None }
+    requires stands { StandsAtNumber (tree_of model.now) (seen block.now) }
     requires plain { is_subsystem (seen block.now) ≡ false }
     ensures { IfOk result (λ wires. wires.items ≡ table.wires_of (tree_of model.now) (seen block.now)) }
 {
@@ -193,6 +162,7 @@ pub(crate) fn wires_of(
     requires one { IsOneSystem (tree_of model.now) }
     requires wiring { IsWiringOf (tree_of model.now) wiring.now }
     requires own { (seen block.now).owner ≡ None }
+    requires stands { StandsAtNumber (tree_of model.now) (seen block.now) }
     requires plain { is_subsystem (seen block.now) ≡ false }
     ensures { IfOk result (λ wires. wires ≡ table.wires_of (tree_of model.now) (seen block.now)) }
 {

@@ -9,7 +9,13 @@ use Rattle.mc_diagram.specs.FirstRefusal.{as_plain, earlier_of, least_in}
 use Rattle.mc_table.specs.Wiring.{unconnected_found}
 use Rattle.mc_table.proofs.PassLemmas.{least-more, least-end}
 use Rattle.mc_table.proofs.WiringLemmas.{owner-at, plain-at, least-loose}
+use Rattle.mc_table.proofs.RowLemmas.{stands-at}
 use Rattle.mc_table.proofs.connections.least_unconnected.Goals as goal
+
+pub unconnected_found-requires-clause-stands : goal.unconnected_found-requires-clause-stands
+unconnected_found-requires-clause-stands c =
+    stands-at c.args.model.now c.as_slice-block-items.result.now c.as_slice-block-items.ensures.value c.requires.one.numbered
+    c.loop-block.block-index c.block-item.result c.loop-block-test.true c.block-item.is
 
 pub unconnected_found-requires-clause-own : goal.unconnected_found-requires-clause-own
 unconnected_found-requires-clause-own c =

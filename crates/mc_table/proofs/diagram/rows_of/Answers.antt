@@ -4,7 +4,7 @@ use Rattle.std.specs.List.{AllZip}
 use Rattle.mc_table.specs.TableOf.{IsRowOf}
 use Rattle.mc_table.specs.Held.{all_seen}
 use Rattle.mc_table.specs.HeldModels.{tree_of}
-use Rattle.mc_table.proofs.RowLemmas.{zip-more}
+use Rattle.mc_table.proofs.RowLemmas.{zip-more, stands-at}
 use Rattle.mc_table.proofs.ReadableBlocks.{placed-at}
 use Rattle.mc_table.proofs.diagram.rows_of.Goals as goal
 
@@ -12,6 +12,11 @@ pub wires_of-requires-clause-own : goal.wires_of-requires-clause-own
 wires_of-requires-clause-own c =
     (placed-at c.args.model.now c.as_slice-block-items.result.now c.as_slice-block-items.ensures.value c.requires.accepted c.requires.one
     c.loop-block.block-index c.block-item.result c.loop-block-test.true c.block-item.is).own
+
+pub wires_of-requires-clause-stands : goal.wires_of-requires-clause-stands
+wires_of-requires-clause-stands c =
+    stands-at c.args.model.now c.as_slice-block-items.result.now c.as_slice-block-items.ensures.value c.requires.one.numbered
+    c.loop-block.block-index c.block-item.result c.loop-block-test.true c.block-item.is
 
 pub wires_of-requires-clause-plain : goal.wires_of-requires-clause-plain
 wires_of-requires-clause-plain c =

@@ -1,8 +1,7 @@
 use Rattle.std.proofs.Common.{None, sym, ◌∙◌, ap, subst, take, slice_index_or, ◌++◌, ◌∷◌, [], is_some, arith}
 use Rattle.std.proofs.lemmas.List.{take_more, length-take-le}
 use Rattle.mc_table.specs.Inputs.{AreInputsOf}
-use Rattle.mc_table.proofs.NameLemmas.{copied_None, copied_some}
-use Rattle.mc_table.proofs.InputLemmas.{inputs-none, inputs-known, inputs-new}
+use Rattle.mc_table.proofs.InputLemmas.{inputs-none, inputs-known, inputs-new, copied_None, copied_some}
 use Rattle.mc_table.proofs.inputs.inputs_of.Goals as goal
 use Rattle.mc_table.proofs.inputs.inputs_of.Goals.{in-Some+then-is_none+in_ok-insert, in-Some+else-is_none, in_default}
 

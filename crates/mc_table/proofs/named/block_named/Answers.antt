@@ -8,15 +8,15 @@ use Rattle.mc_table.proofs.named.block_named.Goals as goal
 pub returns-in-Some : goal.returns-in-Some
 returns-in-Some c =
     let m = tree_of c.args.model.now in
-    let name = c.args.name.now in
+    let name = c.args.place.now.name.now in
     got-at c.as_slice.result.now c.in-Some.at c.block_at.result c.block_at.ensures
     ∙ ap (λ xs. slice_get (all_seen xs) c.in-Some.at) c.as_slice.ensures.value
-    ∙ ap (option_and_then (slice_get m.blocks)) (sym c.in-Some.is ∙ c.place_of.ensures ∙ c.requires.places name)
+    ∙ ap (option_and_then (slice_get m.blocks)) (sym c.in-Some.is ∙ c.requires.found)
     ∙ sym (named-at m name c.requires.flat)
 
 pub returns-in-None : goal.returns-in-None
 returns-in-None c =
     let m = tree_of c.args.model.now in
-    let name = c.args.name.now in
-    ap (option_and_then (slice_get m.blocks)) (sym c.in-None.is ∙ c.place_of.ensures ∙ c.requires.places name)
+    let name = c.args.place.now.name.now in
+    ap (option_and_then (slice_get m.blocks)) (sym c.in-None.is ∙ c.requires.found)
     ∙ sym (named-at m name c.requires.flat)

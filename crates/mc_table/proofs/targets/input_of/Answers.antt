@@ -9,7 +9,7 @@ use Rattle.mc_table.proofs.targets.input_of.Goals as goal
 
 pub plain_input_count-requires : goal.plain_input_count-requires
 plain_input_count-requires c =
-    named_plain (tree_of c.args.model.now) c.args.target.now.block.now (seen c.in-Some.block.now) c.requires.flat c.requires.systems
+    named_plain (tree_of c.args.model.now) c.args.target.now.name.now (seen c.in-Some.block.now) c.requires.flat c.requires.systems
     (sym c.block_named.ensures ∙ ap (option_map (λ (b : Bor held.Block). seen b.now)) c.in-Some.is)
 
 pub returns-in-Some : goal.returns-in-Some

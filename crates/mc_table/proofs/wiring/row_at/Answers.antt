@@ -3,8 +3,16 @@ use Rattle.std.specs.Prelude.{option_and_then, slice_get, None}
 use Rattle.std.specs.Option.{option_copied}
 use Rattle.mc_table.specs.Lines.{LineEnd, row_of_source}
 use Rattle.mc_table.specs.HeldModels.{tree_of}
+use Rattle.mc_table.specs.HeldLines.{AreFound}
+use Rattle.mc_table.proofs.FoundLemmas.{all-at}
 use Rattle.mc_table.proofs.WireLemmas.{end-at}
 use Rattle.mc_table.proofs.wiring.row_at.Goals as goal
+
+pub row_of_source-requires-clause-found : goal.row_of_source-requires-clause-found
+row_of_source-requires-clause-found c =
+    let items = c.args.wiring.now.ends.items in
+    (all-at (AreFound (tree_of c.args.model.now)) items c.args.at c.in-Some.end.now
+    (sym (ap option_copied (sym c.in-Some.is) ∙ c.line_end.ensures ∙ ap (λ xs. slice_get xs c.args.at) c.as_slice.ensures.value)) c.requires.wiring.found).0
 
 pub returns-in-Some : goal.returns-in-Some
 returns-in-Some c =

@@ -11,7 +11,7 @@ pub overflow_cast-result : goal.overflow_cast-result
 overflow_cast-result c =
     let m = tree_of c.args.model.now in
     let below : c.in-Some.block.now.number < length m.blocks =
-    named_below m c.args.name.now (seen c.in-Some.block.now) c.requires.one.flat c.requires.one.numbered (ap (option_map (λ (b : Bor held.Block). seen b.now)) (sym c.in-Some.is) ∙ c.block_named.ensures) in
+    named_below m c.args.place.now.name.now (seen c.in-Some.block.now) c.requires.one.flat c.requires.one.numbered (ap (option_map (λ (b : Bor held.Block). seen b.now)) (sym c.in-Some.is) ∙ c.block_named.ensures) in
     let few = c.requires.one.few in
     search rules
 

@@ -1,9 +1,0 @@
-use Rattle.std.proofs.Common.{◌≡◌, ◌++◌, drop}
-use Rattle.std.specs.Prelude.{flat_map}
-use Rattle.mc_table.specs.Held.{trees_of}
-use Rattle.mc_table.specs.HeldLines.{ends_seen, ends_of_line}
-use Rattle.mc_table.proofs.lines.ends_of.Given as goal
-
-abbrev pub invariant-loop-line : goal.invariant-loop-line
-invariant-loop-line l =
-    ends_seen l.ends.items ++ flat_map ends_of_line (trees_of (drop l.line-index l.lines)) ≡ flat_map ends_of_line (trees_of l.fn.lines)
