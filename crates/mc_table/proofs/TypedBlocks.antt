@@ -1,5 +1,5 @@
 -- Blocks by the types that are kept of them.
-use Rattle.std.proofs.Common.{rules, ◌≡◌, refl, sym, ◌∙◌, ap, Bool, true, false, true≢false, cond, List, ℕ, Option, None, Some, is_some}
+use Rattle.std.proofs.Common.{rules, ◌≡◌, refl, sym, ◌∙◌, ap, Bool, true, false, cond, List, ℕ, Option, None, Some, is_some}
 use Rattle.std.specs.Prelude.{bytes_eq, codes, option_and_then, option_map}
 use Rattle.std.specs.Option.{option_map_or}
 use Rattle.std.proofs.lemmas.Slice.Eq.{bytes_eq-Decides}

@@ -10,12 +10,13 @@ use Rattle.mdl_tree.specs.Walks.{SectionTree, first_value}
 use Rattle.mdl_params.specs.BlockTypes.{block_type_of}
 use Rattle.mc_diagram.specs.FirstRefusal.{least_line, first_there, least_in}
 use Rattle.mc_table.specs.Blocks.{Block, ModelTree, block_type, is_subsystem, model_with}
-use Rattle.mc_table.specs.TreeRefusals.{deep_subsystems, too_many_blocks, crowded_systems, bad_parameters, is_unsupported, is_newer_line, line_parts}
-use Rattle.mc_table.specs.SoFar.{is_later, writes_period, is_not_read, unread_found, unsupported_so_far, blocks_refusal}
+use Rattle.mc_table.specs.TreeRefusals.{deep_subsystems, too_many_blocks, crowded_systems, bad_parameters, double_names, missing_blocks, missing_ports, double_sources, unconnected_ports, double_controls, continuous_blocks, float_blocks, is_unsupported, is_newer_line, line_parts}
+use Rattle.mc_table.specs.SoFar.{is_later, writes_period, is_not_read, unread_found, unsupported_so_far, model_refusal_so_far, blocks_refusal, types_refusal}
 use Rattle.mc_table.specs.Doubles.{IsFlat}
 use Rattle.mc_table.specs.Numbered.{IsNumbered}
-use Rattle.mc_table.specs.Wiring.{is_control, IsRootOf, IsOneSystem}
+use Rattle.mc_table.specs.Wiring.{is_control, IsRootOf, IsOneSystem, lines_refusal}
 use Rattle.mc_table.proofs.FormLemmas.{or-left, or-right}
+use Rattle.mc_table.proofs.AcceptedLists.{none-some}
 use Rattle.mc_diagram.proofs.FirstRefusals.{least-where, least_line-append, none-first, none-later}
 use Rattle.mc_table.proofs.OneSystem.{none_found, no_subsystems, flat-in}
 
@@ -81,3 +82,36 @@ one-system m numbered root none =
 -- the blocks of a model are those in its System
 pub model-root : (m : ModelTree) (model system : SectionTree) → m ≡ model_with model system → IsRootOf m
 model-root m model system e = subst (λ (n : ModelTree). IsRootOf n) (sym e) refl
+
+-- ---- What is told behind the refusals of blocks
+
+-- nothing is told by five, so what is told behind them is
+behind-five : (a b c d e rest : Option PlainRefusal) → option_or (option_or a (option_or b (option_or c None))) (option_or d (option_or e None)) ≡ None →
+    rest ≡ option_or a (option_or b (option_or c (option_or d (option_or e rest))))
+behind-five (Some x) b c d e rest none = absurd (none-some x (sym none))
+behind-five None (Some x) c d e rest none = absurd (none-some x (sym none))
+behind-five None None (Some x) d e rest none = absurd (none-some x (sym none))
+behind-five None None None (Some x) e rest none = absurd (none-some x (sym none))
+behind-five None None None None (Some x) rest none = absurd (none-some x (sym none))
+behind-five None None None None None rest none = refl
+
+-- the first that is told by eight, in groups or one after another
+eight-flat : (a b c d e f g h : Option PlainRefusal) →
+    option_or (option_or a (option_or (option_or b (option_or c None)) (option_or (option_or d (option_or e (option_or f None))) None))) (option_or (option_or g (option_or h None)) None)
+    ≡ option_or a (option_or b (option_or c (option_or d (option_or e (option_or f (option_or g (option_or h None)))))))
+eight-flat (Some x) b c d e f g h = refl
+eight-flat None (Some x) c d e f g h = refl
+eight-flat None None (Some x) d e f g h = refl
+eight-flat None None None (Some x) e f g h = refl
+eight-flat None None None None (Some x) f g h = refl
+eight-flat None None None None None (Some x) g h = refl
+eight-flat None None None None None None (Some x) h = refl
+eight-flat None None None None None None None (Some x) = refl
+eight-flat None None None None None None None None = refl
+
+-- where nothing is refused of a model's blocks, its first refusal is that for names, lines, times and types
+pub behind-blocks : (m : ModelTree) → blocks_refusal m ≡ None → first_there (lines_refusal m ∷ types_refusal m ∷ []) ≡ model_refusal_so_far m
+behind-blocks m none =
+    eight-flat (least_line (double_names m)) (least_line (missing_blocks m)) (least_line (missing_ports m)) (least_line (double_sources m)) (least_line (unconnected_ports m)) (least_line (double_controls m))
+    (least_line (continuous_blocks m)) (least_line (float_blocks m))
+    ∙ behind-five (least_line (deep_subsystems m)) (too_many_blocks m) (least_line (crowded_systems m)) (least_line (unsupported_so_far m)) (least_line (bad_parameters m)) _ none

@@ -4,17 +4,19 @@ use Rattle.std.specs.Option.{option_map_or}
 use Rattle.std.specs.List.{list_any, position_from, range_with_len}
 use Rattle.mc_base.specs.declared.Port.TheVariants.{Number}
 use Rattle.mc_base.specs.Refusals.{PlainRefusal, plain_refusal, TwoSources, Unconnected}
-use Rattle.mc_diagram.specs.FirstRefusal.{least_line, first_there}
+use Rattle.mc_diagram.specs.FirstRefusal.{as_plain, least_line, first_there}
 use Rattle.indexmap.specs.IndexMap.{IndexMap}
 use Rattle.mc_table.specs.declared.inputs.Input.{Input}
 use Rattle.mc_table.specs.declared.wiring.Wiring.{Wiring}
+use Rattle.mc_table.specs.declared.verdict.BlocksVerdict.{BlocksVerdict}
+use Rattle.mc_table.specs.declared.verdict.BlocksVerdict.TheVariants as blocks
 use Rattle.mc_table.specs.declared.verdict.Verdict.{Verdict}
 use Rattle.mc_table.specs.declared.verdict.Verdict.TheVariants.{Refused, Wired}
 use Rattle.mc_table.specs.Blocks.{Block, ModelTree, blocks_in, is_subsystem, is_enable, is_trigger}
 use Rattle.mc_table.specs.Parameters.{name_of}
 use Rattle.mc_table.specs.Lines.{Place, ends_of, leads_to, input_count, wire_into}
 use Rattle.mc_table.specs.TreeRefusals.{targets_in, at_one_input, repeats_from, double_names, missing_blocks, missing_ports, double_sources, unconnected_ports, double_controls}
-use Rattle.mc_table.specs.SoFar.{model_refusal_so_far}
+use Rattle.mc_table.specs.SoFar.{model_refusal_so_far, blocks_refusal, types_refusal}
 use Rattle.mc_table.specs.HeldLines.{ends_seen, AreFound}
 use Rattle.mc_table.specs.NameMaps.{first_places, is_before}
 use Rattle.mc_table.specs.Doubles.{IsFlat}
@@ -112,6 +114,11 @@ lines_refusal m = first_there (least_line (double_names m) ∷ places_refusal m 
 abbrev pub IsVerdictBy : Option PlainRefusal → ModelTree → Verdict → Type 0
 IsVerdictBy found m (Refused refusal) = found ≡ Some (plain_refusal refusal)
 IsVerdictBy found m (Wired wiring) = (found ≡ None) × IsOneSystem m × IsWiringOf m wiring
+
+-- the verdict on a model's blocks: the first refusal for them and their parameters, or else that for their times and types
+abbrev pub IsBlocksVerdict : ModelTree → BlocksVerdict → Type 0
+IsBlocksVerdict m (blocks.Refused refusal) = blocks_refusal m ≡ Some (plain_refusal refusal)
+IsBlocksVerdict m (blocks.Read types) = (blocks_refusal m ≡ None) × (as_plain types ≡ types_refusal m)
 
 -- the verdict on a model, by what is read so far
 abbrev pub IsVerdictOf : ModelTree → Verdict → Type 0

@@ -28,7 +28,7 @@ fn rows_of(alloc: Global, model: &ModelText, wiring: &Wiring) -> Result<Vec<Row>
     requires wiring { IsWiringOf (tree_of model.now) wiring.now }
     ensures { IfOk result (λ rows. AllZip (IsRowOf (tree_of model.now)) (tree_of model.now).blocks rows.items) }
 {
-    let mut rows = Vec::new(alloc);
+    let mut rows = Vec::with_capacity(alloc, model.blocks.len())?;
     for block in model.blocks.as_slice() {
         let inputs = wires_of(alloc, model, wiring, block)?;
         rows.push(row_of(model, block, inputs))?;

@@ -39,8 +39,8 @@ pub(crate) fn names_of<'a>(alloc: Global, model: &'a ModelText) -> Result<BlockN
     ensures firsts { IfOk result (λ names. names.firsts.items ≡ first_places (map (name_of (tree_of model.now)) (tree_of model.now).blocks)) }
 {
     let mut places = IndexMap::new(alloc);
-    let mut firsts = Vec::new(alloc);
     let blocks = model.blocks.as_slice();
+    let mut firsts = Vec::with_capacity(alloc, blocks.len())?;
     for (place, block) in blocks.iter().enumerate() {
         let first = match name_of(model, block) {
             Some(name) => Some(take_name(&mut places, name, place)?),

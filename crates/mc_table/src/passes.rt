@@ -21,46 +21,37 @@ pub(crate) fn least_deep(model: &ModelText) -> Option<Refusal>
     least
 }
 
-/// The first parameter whose text hasn't its form.
-pub(crate) fn least_parameter(model: &ModelText) -> Option<Refusal>
-    ensures { as_plain result ≡ least_line (refused.bad_parameters (tree_of model.now)) }
-{
-    let mut least = None;
-    for block in model.blocks.as_slice() {
-        least = earlier(least, parameter_found(model, block));
-    }
-    least
+/// What is refused of single blocks: the first that isn't read, or not yet, the first parameter whose text hasn't its
+/// form, the first period 0, and the first floating-point type.
+#[derive(Drop)]
+pub(crate) struct BlockRefusals {
+    pub unread: Option<Refusal>,
+    pub parameter: Option<Refusal>,
+    pub continuous: Option<Refusal>,
+    pub float: Option<Refusal>,
 }
 
-/// The first period 0.
-pub(crate) fn least_continuous(model: &ModelText) -> Option<Refusal>
-    ensures { as_plain result ≡ least_line (refused.continuous_blocks (tree_of model.now)) }
+/// What is refused of a model's blocks, all in one walk, since each block's section is read for each.
+pub(crate) fn block_refusals(model: &ModelText) -> BlockRefusals
+    ensures unread { as_plain result.unread ≡ least_in (so_far.unread_found (tree_of model.now)) (tree_of model.now).blocks }
+    ensures parameter { as_plain result.parameter ≡ least_line (refused.bad_parameters (tree_of model.now)) }
+    ensures continuous { as_plain result.continuous ≡ least_line (refused.continuous_blocks (tree_of model.now)) }
+    ensures float { as_plain result.float ≡ least_line (refused.float_blocks (tree_of model.now)) }
 {
-    let mut least = None;
+    let mut unread = None;
+    let mut parameter = None;
+    let mut continuous = None;
+    let mut float = None;
     for block in model.blocks.as_slice() {
-        least = earlier(least, continuous_found(model, block));
+        unread = earlier(unread, unread_found(model, block));
+        parameter = earlier(parameter, parameter_found(model, block));
+        continuous = earlier(continuous, continuous_found(model, block));
+        float = earlier(float, float_found(model, block));
     }
-    least
-}
-
-/// The first floating-point type.
-pub(crate) fn least_float(model: &ModelText) -> Option<Refusal>
-    ensures { as_plain result ≡ least_line (refused.float_blocks (tree_of model.now)) }
-{
-    let mut least = None;
-    for block in model.blocks.as_slice() {
-        least = earlier(least, float_found(model, block));
+    BlockRefusals {
+        unread,
+        parameter,
+        continuous,
+        float,
     }
-    least
-}
-
-/// The first block that isn't read, or not yet.
-pub(crate) fn least_unread(model: &ModelText) -> Option<Refusal>
-    ensures { as_plain result ≡ least_in (so_far.unread_found (tree_of model.now)) (tree_of model.now).blocks }
-{
-    let mut least = None;
-    for block in model.blocks.as_slice() {
-        least = earlier(least, unread_found(model, block));
-    }
-    least
 }

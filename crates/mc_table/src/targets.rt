@@ -134,7 +134,7 @@ pub(crate) fn inputs_at(
     requires found { All (AreFound (tree_of model.now)) ends.now }
     ensures { IfOk result (λ v. v.items ≡ map (led.input_at (tree_of model.now)) (targets_seen ends.now)) }
 {
-    let mut inputs = Vec::new(alloc);
+    let mut inputs = Vec::with_capacity(alloc, ends.len())?;
     for end in ends {
         inputs.push(input_at(model, &end.target))?;
     }

@@ -1,5 +1,5 @@
 ghost use Rattle.std.specs.Prelude.{◌≡◌, ◌∷◌, [], All, IfOk, None, map};
-ghost use Rattle.mc_diagram.specs.FirstRefusal.{least_line, first_there, as_plain};
+ghost use Rattle.mc_diagram.specs.FirstRefusal.{least_line, least_in, first_there, as_plain};
 ghost use Rattle.mdl_tree.specs.Values.{section_tree};
 ghost use Rattle.mc_table.specs.Blocks.{model_with};
 ghost use Rattle.mc_table.specs.TreeRefusals as refused;
@@ -10,7 +10,7 @@ ghost use Rattle.mc_table.specs.Parameters.{name_of};
 ghost use Rattle.mc_table.specs.Lines as written;
 ghost use Rattle.mc_table.specs.HeldLines.{places_seen, ends_seen, IsFound, AreFound};
 ghost use Rattle.mc_table.specs.NameMaps.{AreNamesOf, first_places};
-ghost use Rattle.mc_table.specs.Wiring.{IsRootOf, IsOneSystem, IsWiringOf, IsVerdictBy, IsVerdictOf, places_refusal, inputs_refusal, lines_refusal};
+ghost use Rattle.mc_table.specs.Wiring.{IsRootOf, IsOneSystem, IsWiringOf, IsBlocksVerdict, IsVerdictBy, IsVerdictOf, places_refusal, inputs_refusal, lines_refusal};
 
 use crate::connections::refusal_of_inputs;
 use crate::crowds::{least_crowd, too_many_blocks};
@@ -21,7 +21,7 @@ use crate::model::ModelText;
 use crate::named::least_missing;
 use crate::names::{BlockNames, names_of};
 use crate::parts::least_newer_line;
-use crate::passes::{least_continuous, least_deep, least_float, least_parameter, least_unread};
+use crate::passes::{BlockRefusals, block_refusals, least_deep};
 use crate::sections::sections_named;
 use crate::targets::least_missing_port;
 use crate::texts::read_model;
@@ -31,13 +31,18 @@ use mc_diagram::earlier;
 use mdl_tree::Section;
 use std::alloc::Global;
 
-/// The first block or line that isn't read, or not yet.
-fn least_unsupported(alloc: Global, model: &ModelText) -> Result<Option<Refusal>, Memory>
-    requires { IsNumbered 0 (tree_of model.now).blocks }
+/// The first block or line that isn't read, or not yet, where this is the first such block.
+fn least_unsupported(
+    alloc: Global,
+    model: &ModelText,
+    unread: Option<Refusal>,
+) -> Result<Option<Refusal>, Memory>
+    requires numbered { IsNumbered 0 (tree_of model.now).blocks }
+    requires unread { as_plain unread ≡ least_in (so_far.unread_found (tree_of model.now)) (tree_of model.now).blocks }
     ensures { IfOk result (λ r. as_plain r ≡ least_line (so_far.unsupported_so_far (tree_of model.now))) }
 {
     let newer = least_newer_line(alloc, model)?;
-    Ok(earlier(least_unread(model), newer))
+    Ok(earlier(unread, newer))
 }
 
 /// The first refusal of a model for how many blocks there are, and where.
@@ -54,27 +59,46 @@ fn refusal_of_numbers(model: &ModelText) -> Option<Refusal>
     least_crowd(model)
 }
 
-/// The first refusal of a model for its blocks and their parameters, by what is read so far.
-pub(crate) fn refusal_of_blocks(alloc: Global, model: &ModelText) -> Result<Option<Refusal>, Memory>
-    requires { IsNumbered 0 (tree_of model.now).blocks }
-    ensures { IfOk result (λ r. as_plain r ≡ so_far.blocks_refusal (tree_of model.now)) }
+/// The first refusal for a period 0 or a floating-point type, where these are the first of each.
+fn refusal_of_types(continuous: Option<Refusal>, float: Option<Refusal>) -> Option<Refusal>
+    ensures { as_plain result ≡ first_there (as_plain continuous ∷ as_plain float ∷ []) }
 {
-    if let Some(refusal) = refusal_of_numbers(model) {
-        return Ok(Some(refusal));
+    match continuous {
+        Some(refusal) => Some(refusal),
+        None => float,
     }
-    if let Some(refusal) = least_unsupported(alloc, model)? {
-        return Ok(Some(refusal));
-    }
-    Ok(least_parameter(model))
 }
 
-/// The first refusal of a model for a period 0 or a floating-point type.
-pub(crate) fn refusal_of_types(model: &ModelText) -> Option<Refusal>
-    ensures { as_plain result ≡ so_far.types_refusal (tree_of model.now) }
+/// What was found of a model's blocks: the first refusal for them and their parameters, or else the first refusal for
+/// their times and types, if there is one.
+#[derive(Drop)]
+pub(crate) enum BlocksVerdict {
+    Refused(Refusal),
+    Read { types: Option<Refusal> },
+}
+
+/// The verdict on a model's blocks, by what is read so far.
+pub(crate) fn verdict_of_blocks(alloc: Global, model: &ModelText) -> Result<BlocksVerdict, Memory>
+    requires { IsNumbered 0 (tree_of model.now).blocks }
+    ensures { IfOk result (λ v. IsBlocksVerdict (tree_of model.now) v) }
 {
-    match least_continuous(model) {
-        Some(refusal) => Some(refusal),
-        None => least_float(model),
+    if let Some(refusal) = refusal_of_numbers(model) {
+        return Ok(BlocksVerdict::Refused(refusal));
+    }
+    let BlockRefusals {
+        unread,
+        parameter,
+        continuous,
+        float,
+    } = block_refusals(model);
+    if let Some(refusal) = least_unsupported(alloc, model, unread)? {
+        return Ok(BlocksVerdict::Refused(refusal));
+    }
+    match parameter {
+        Some(refusal) => Ok(BlocksVerdict::Refused(refusal)),
+        None => Ok(BlocksVerdict::Read {
+            types: refusal_of_types(continuous, float),
+        }),
     }
 }
 
@@ -153,27 +177,23 @@ fn verdict_of_names<'a>(alloc: Global, model: &'a ModelText) -> Result<Verdict<'
     }
 }
 
-/// The verdict on a model of one system with this wiring for its times and types.
-fn verdict_of_types<'a>(model: &ModelText, wiring: Wiring<'a>) -> Verdict<'a>
+/// The verdict on a model of one system for its names, lines, times and types, where this is the first refusal for the
+/// last two.
+fn verdict_of_system<'a>(
+    alloc: Global,
+    model: &'a ModelText,
+    types: Option<Refusal>,
+) -> Result<Verdict<'a>, Memory>
     requires one { IsOneSystem (tree_of model.now) }
-    requires wiring { IsWiringOf (tree_of model.now) wiring }
-    ensures { IsVerdictBy (so_far.types_refusal (tree_of model.now)) (tree_of model.now) result }
-{
-    match refusal_of_types(model) {
-        Some(refusal) => Verdict::Refused(refusal),
-        None => Verdict::Wired(wiring),
-    }
-}
-
-/// The verdict on a model of one system for its names, lines, times and types.
-fn verdict_of_system<'a>(alloc: Global, model: &'a ModelText) -> Result<Verdict<'a>, Memory>
-    requires { IsOneSystem (tree_of model.now) }
+    requires types { as_plain types ≡ so_far.types_refusal (tree_of model.now) }
     ensures { IfOk result (λ v. IsVerdictBy (first_there (lines_refusal (tree_of model.now) ∷ so_far.types_refusal (tree_of model.now) ∷ [])) (tree_of model.now) v) }
 {
-    let verdict = verdict_of_names(alloc, model)?;
-    match verdict {
+    match verdict_of_names(alloc, model)? {
         Verdict::Refused(refusal) => Ok(Verdict::Refused(refusal)),
-        Verdict::Wired(wiring) => Ok(verdict_of_types(model, wiring)),
+        Verdict::Wired(wiring) => match types {
+            Some(refusal) => Ok(Verdict::Refused(refusal)),
+            None => Ok(Verdict::Wired(wiring)),
+        },
     }
 }
 
@@ -183,10 +203,9 @@ pub(crate) fn first_refusal<'a>(alloc: Global, model: &'a ModelText) -> Result<V
     requires root { IsRootOf (tree_of model.now) }
     ensures { IfOk result (λ v. IsVerdictOf (tree_of model.now) v) }
 {
-    let found = refusal_of_blocks(alloc, model)?;
-    match found {
-        Some(refusal) => Ok(Verdict::Refused(refusal)),
-        None => verdict_of_system(alloc, model),
+    match verdict_of_blocks(alloc, model)? {
+        BlocksVerdict::Refused(refusal) => Ok(Verdict::Refused(refusal)),
+        BlocksVerdict::Read { types } => verdict_of_system(alloc, model, types),
     }
 }
 

@@ -14,5 +14,5 @@ pub returns : goal.returns
 returns c =
     let m = tree_of c.args.model.now in
     c.earlier.ensures
-    ∙ ap₂ earlier_of (c.least_unread.ensures ∙ least-where (is_not_read m) (λ (b : Block). Unsupported b.line) m.blocks) c.in_ok-newer.ensures
+    ∙ ap₂ earlier_of (c.requires.unread ∙ least-where (is_not_read m) (λ (b : Block). Unsupported b.line) m.blocks) c.in_ok-newer.ensures
     ∙ sym (least_line-append (map (λ (b : Block). Unsupported b.line) (filter (is_not_read m) m.blocks)) (map newer_refusal (filter is_newer_line (line_parts m))))
