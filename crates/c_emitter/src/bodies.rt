@@ -26,8 +26,8 @@ fn hit_test(alloc: Global) -> Result<Cond, Memory>
     ))
 }
 
-// The place of the counter.
-fn counter_place(d: &FlatDiagram) -> u32
+/// The place of the counter, which is behind each value and each memory.
+pub(crate) fn counter_place(d: &FlatDiagram) -> u32
     requires { IsFlatAtEveryTick d.now }
     ensures { result ≡ counter_place (blocks_of d.now) }
 {
@@ -101,7 +101,8 @@ pub(crate) fn update_body(
 {
     let mut held = Vec::new(alloc);
     push_pass(alloc, &mut held, d, places, sources, Pass::Held)?;
-    let mut stores = Vec::new(alloc);
+    let most = count(d, Sort::Sources) as usize + count(d, Sort::Delays) as usize;
+    let mut stores = Vec::with_capacity(alloc, most)?;
     push_pass(alloc, &mut stores, d, places, sources, Pass::Unheld)?;
     push_pass(alloc, &mut stores, d, places, sources, Pass::Memories)?;
     let mut body = Vec::new(alloc);
@@ -141,7 +142,7 @@ pub(crate) fn reset_body(
     requires read { sources.now ≡ output_sources (blocks_of d.now) }
     ensures { IfOk result (λ v. map stmt_tree v.items ≡ reset_body (blocks_of d.now)) }
 {
-    let mut body = Vec::new(alloc);
+    let mut body = Vec::with_capacity(alloc, count(d, Sort::Delays) as usize + 1)?;
     push_reset(alloc, &mut body, d, places, sources)?;
     Ok(body)
 }
@@ -158,7 +159,7 @@ pub(crate) fn start_body(
     requires read { sources.now ≡ output_sources (blocks_of d.now) }
     ensures { IfOk result (λ v. map stmt_tree v.items ≡ start_body (blocks_of d.now)) }
 {
-    let mut body = Vec::new(alloc);
+    let mut body = Vec::with_capacity(alloc, counter_place(d) as usize + 1)?;
     push_pass(alloc, &mut body, d, places, sources, Pass::StartValues)?;
     push_reset(alloc, &mut body, d, places, sources)?;
     Ok(body)

@@ -9,6 +9,7 @@ ghost use Rattle.c_emitter.specs.FlatProgram.{typed_field, top_fields, root_fiel
 ghost use Rattle.c_emitter.specs.Heads.{param_trees};
 
 use crate::block::Sort;
+use crate::bodies::counter_place;
 use crate::flat::FlatDiagram;
 use crate::root::takes;
 use crate::rows::{block_at, count};
@@ -72,7 +73,7 @@ pub(crate) fn top_fields(alloc: Global, d: &FlatDiagram) -> Result<Vec<Field>, M
     requires { IsFlatAtEveryTick d.now }
     ensures { IfOk result (λ v. field_trees v.items ≡ top_fields (blocks_of d.now)) }
 {
-    let mut fields = Vec::new(alloc);
+    let mut fields = Vec::with_capacity(alloc, counter_place(d) as usize + 1)?;
     push_values(alloc, &mut fields, d)?;
     push_memories(alloc, &mut fields, d)?;
     fields.push(Field {

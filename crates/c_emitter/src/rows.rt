@@ -90,7 +90,7 @@ pub(crate) fn value_places(alloc: Global, d: &FlatDiagram) -> Result<Vec<u32>, M
     requires { IsFlatAtEveryTick d.now }
     ensures { IfOk result (λ v. v.items ≡ value_places (blocks_of d.now)) }
 {
-    let mut places = Vec::new(alloc);
+    let mut places = Vec::with_capacity(alloc, d.rows.len())?;
     let mut next = 0;
     for row in 0..d.rows.len() {
         places.push(next)?;

@@ -7,7 +7,7 @@ use Rattle.c_emitter.proofs.rows.value_places.Goals as goal
 use Rattle.c_emitter.proofs.rows.value_places.Goals.{then-is_of, else-is_of}
 
 pub loop-row-init : goal.loop-row-init
-loop-row-init c = record { made = c.new-places.ensures.items; place = refl }
+loop-row-init c = record { made = c.in_ok-places.ensures.items; place = refl }
 
 pub overflow_add-next : goal.overflow_add-next
 overflow_add-next c =
