@@ -79,9 +79,11 @@ pub fn run_tool<H: Host, S: Sink>(alloc: Global, words: &[String], host: &mut H,
     run(alloc, words, host, out)
 }
 
-/// Over a host that has these files and doesn't fail, what can be done with them is done, unless memory runs out.
+/// The same over a host that has these files and doesn't fail: what can be done with them is done, unless memory runs out.
 pub fn run_surely(alloc: Global, words: &[String], files: Vec<(String, Vec<u8>)>) -> u8
-    ensures { IfSome (asked_by (word_bytes words.now)) (λ asked. CanDo asked (files_of files.items) → IsDone result) }
+    ensures usage { IsExactly 2 result (asked_by (word_bytes words.now) ≡ None) }
+    ensures comes { IfSome (asked_by (word_bytes words.now)) (λ asked. ComesExactly result asked (files_of files.items)) }
+    ensures done { IfSome (asked_by (word_bytes words.now)) (λ asked. CanDo asked (files_of files.items) → IsDone result) }
 {
     let mut host = SureHost::new(files);
     let mut out = SureSink::new();
