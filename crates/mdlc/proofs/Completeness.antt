@@ -149,3 +149,10 @@ pub surely : (a : Option Asked) (h : SureHostState) (fs : List File) (s : ℕ) �
 surely None h fs s same done = tt
 surely (Some a) h fs s same done = λ can.
     let there : CanDo a h.files = subst (CanDo a) (sym same) can in done (sure-of h a there) calm calm there
+
+pub surely_comes : (a : Option Asked) (h : SureHostState) (fs : List File) (s : ℕ) → h.files ≡ fs → IfSome a (λ a. ComesExactly s a h.files) → IfSome a (λ a. ComesExactly s a fs)
+surely_comes a h fs s same comes = subst (λ (x : List File). IfSome a (λ a. ComesExactly s a x)) same comes
+
+-- a count that stands still below its greatest value has not risen
+pub unrisen : (s n : ℕ) → (s ≡ n → Rose 0 0) → s ≢ n
+unrisen s n rises is = let rose : Rose 0 0 = rises is in omega arith

@@ -1,4 +1,4 @@
-ghost use Rattle.std.specs.Prelude.{◌≡◌, None, IfSome};
+ghost use Rattle.std.specs.Prelude.{◌≡◌, ◌≢◌, None, IfSome};
 ghost use Rattle.mc_edge.specs.Faults.{Rose, IsCalm};
 ghost use Rattle.mc_edge.specs.Fakes.{files_of};
 ghost use Rattle.mdlc.specs.Words.{word_bytes, asked_by};
@@ -79,11 +79,13 @@ pub fn run_tool<H: Host, S: Sink>(alloc: Global, words: &[String], host: &mut H,
     run(alloc, words, host, out)
 }
 
-/// The same over a host that has these files and doesn't fail: what can be done with them is done, unless memory runs out.
+/// Over a host that has these files and doesn't fail: what can be done with them is done, unless memory runs out. The status is
+/// 0, 2, 3, 4, 8 or 9 only where `run_tool` gives it for these files, and never 6 or 7.
 pub fn run_surely(alloc: Global, words: &[String], files: Vec<(String, Vec<u8>)>) -> u8
+    ensures done { IfSome (asked_by (word_bytes words.now)) (λ asked. CanDo asked (files_of files.items) → IsDone result) }
     ensures usage { IsExactly 2 result (asked_by (word_bytes words.now) ≡ None) }
     ensures comes { IfSome (asked_by (word_bytes words.now)) (λ asked. ComesExactly result asked (files_of files.items)) }
-    ensures done { IfSome (asked_by (word_bytes words.now)) (λ asked. CanDo asked (files_of files.items) → IsDone result) }
+    ensures never { (result ≢ 6) × (result ≢ 7) }
 {
     let mut host = SureHost::new(files);
     let mut out = SureSink::new();
