@@ -1,6 +1,4 @@
-use Rattle.std.proofs.Common.{ap, subst}
-use Rattle.std.specs.Prelude.{List, IfSome}
-use Rattle.mc_edge.specs.Files.{File}
+use Rattle.std.proofs.Common.{ap}
 use Rattle.mc_edge.specs.Fakes.{SureHostState, files_of}
 use Rattle.mdlc.specs.Words.{word_bytes, asked_by}
 use Rattle.mdlc.proofs.Completeness.{surely, surely_comes, unrisen}
