@@ -4,6 +4,3 @@ use Rattle.mc_table.proofs.tests.rows_are_made.Goals as goal
 
 pub invariant_of-row-items-2-clause-lowest : goal.invariant_of-row-items-2-clause-lowest
 invariant_of-row-items-2-clause-lowest g c = (lit≤ tt, IsGcd-from_mod 7 1 1 (IsGcd-from_zero 1 0 refl))
-
-pub invariant_of-assert_eq : goal.invariant_of-assert_eq
-invariant_of-assert_eq g c = record { lowest = (lit≤ tt, IsGcd-from_mod 1 2 1 (IsGcd-from_mod 2 1 1 (IsGcd-from_zero 1 0 refl))) }
