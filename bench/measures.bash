@@ -1,14 +1,37 @@
 # How times, memory and their ratios are measured and printed, for bench/table.
 
-# The least processor time of three runs of a command, in nanoseconds: it says the same whatever else the machine does, within
-# what a shared cache costs.
+# The processor time of a command, in nanoseconds.
+spent_by() {
+  local TIMEFORMAT='%3U %3S'
+  { time "$@" >/dev/null 2>&1; } 2>&1 | tail -n 1 | awk '{ printf "%.0f", ($1 + $2) * 1e9 }'
+}
+
+# The lesser of two times, where 0 is none.
+lesser() {
+  if [ "$1" = 0 ] || [ "$2" -lt "$1" ]; then echo "$2"; else echo "$1"; fi
+}
+
+# The least processor time of three runs of a command: it says the same whatever else the machine does, within what a shared
+# cache costs.
 least() {
-  local best=0 spent TIMEFORMAT='%3U %3S'
-  for _ in 1 2 3; do
-    spent=$({ time "$@" >/dev/null 2>&1; } 2>&1 | tail -n 1 | awk '{ printf "%.0f", ($1 + $2) * 1e9 }')
-    if [ "$best" = 0 ] || [ "$spent" -lt "$best" ]; then best=$spent; fi
-  done
+  local best=0
+  for _ in 1 2 3; do best=$(lesser "$best" "$(spent_by "$@")"); done
   echo "$((best > 0 ? best : 1000000))"
+}
+
+ten_times() {
+  for _ in 1 2 3 4 5 6 7 8 9 10; do "$@"; done
+}
+
+# The least times of compiling the models $2 and $3 with the program $1, of 15 rounds in each of which the first is compiled ten
+# times and the second once: so both meet the machine in the same state, and the clock's thousandths of a second count less.
+least_in_turn() {
+  local small=0 large=0
+  for _ in $(seq 15); do
+    small=$(lesser "$small" "$(spent_by ten_times "$1" compile "$2" "$2.c")")
+    large=$(lesser "$large" "$(spent_by "$1" compile "$3" "$3.c")")
+  done
+  echo "$((small / 10)) $large"
 }
 
 # The greatest memory of a command, in bytes; 0 where /usr/bin/time is missing.
