@@ -1,0 +1,110 @@
+"""Forms of parameters, and the numbers and types that they mean. Values are bytes; None means that a text isn't of its form."""
+
+import re
+from fractions import Fraction
+from math import floor
+
+BLANKS = b" \t"
+DECIMAL = re.compile(r"([+-]?)(\d+\.?\d*|\.\d+)(?:[eE]([+-]?)(\d+))?", re.A)
+QUOTIENT = re.compile(r"([+-]?)(\d+)/(\d+)", re.A)
+FIXED = re.compile(r"fixdt\([ \t]*(0|1|true|false)[ \t]*,[ \t]*(\d+)[ \t]*,[ \t]*(\d+)[ \t]*\)", re.A)
+PAIR = re.compile(r"\[([^ ,\[\]]+)(?: |, |,)([^ ,\[\]]+)\]")
+MOST_DIGITS, MOST_EXPONENT, MOST_PART = 18, 18, 10**9
+
+# A type is its sign, its bits and how many of them stand after the point.
+BOOLEAN = (0, 1, 0)
+TYPES = {f"{'u' * (1 - sign)}int{bits}": (sign, bits, 0) for sign in (0, 1) for bits in (8, 16, 32)} | {"boolean": BOOLEAN}
+FLOAT, INHERITED, BACK = "float", "inherited", "back"
+
+
+def text_of(value):
+    return value.strip(BLANKS).decode("latin1")
+
+
+def is_long(digits):
+    return len(digits.lstrip("0")) > MOST_DIGITS
+
+
+def quotient(sign, above, below):
+    if int(below) == 0 or is_long(above) or is_long(below):
+        return None
+    return Fraction(int(above), int(below)) * (-1 if sign else 1)
+
+
+def decimal(sign, written, is_small, power):
+    digits, behind = written.replace(".", ""), len(written.partition(".")[2])
+    if is_long(digits) or is_long(power):
+        return None
+    exponent = int(power) * (-1 if is_small else 1) - behind
+    if int(digits) and abs(exponent) > MOST_EXPONENT:
+        return None
+    return int(digits) * Fraction(10) ** (exponent if int(digits) else 0) * (-1 if sign else 1)
+
+
+def bare_number(text):
+    if text in ("true", "false"):
+        return Fraction(text == "true")
+    if found := QUOTIENT.fullmatch(text):
+        return quotient(found[1] == "-", found[2], found[3])
+    if found := DECIMAL.fullmatch(text):
+        return decimal(found[1] == "-", found[2], found[3] == "-", found[4] or "0")
+    return None
+
+
+def number(value):
+    text = text_of(value)
+    return bare_number(text[1:-1] if text[:1] == "[" and text[-1:] == "]" else text)
+
+
+def whole(value):
+    found = None if value is None else number(value)
+    return int(found) if found is not None and found.denominator == 1 else None
+
+
+def type_of(value):
+    text = text_of(value)
+    if text in TYPES:
+        return TYPES[text]
+    if text in ("double", "single", "half"):
+        return FLOAT
+    if text.startswith("Inherit: Logical"):
+        return BOOLEAN
+    if text.startswith("Inherit:"):
+        return BACK if "back propagation" in text else INHERITED
+    if found := FIXED.fullmatch(text):
+        sign, bits, point = int(found[1] in ("1", "true")), int(found[2]), int(found[3])
+        if 1 + sign <= bits <= 32 and point <= 31:
+            return sign, bits, point
+    return None
+
+
+def time_of(value):
+    """'inherited', 'constant', 'zero' or 'period'."""
+    text = text_of(value)
+    if text in ("-1", "[-1 0]", "[-1, 0]"):
+        return INHERITED
+    if text in ("inf", "Inf", "[inf 0]"):
+        return "constant"
+    pair = PAIR.fullmatch(text)
+    period, offset = map(bare_number, pair.groups()) if pair else (number(value), Fraction(0))
+    if period is None or offset is None:
+        return None
+    if period == 0:
+        return "zero"
+    is_small = all(max(it.numerator, it.denominator) <= MOST_PART for it in (period, offset))
+    return "period" if is_small and 0 <= offset < period else None
+
+
+def nearest(number):
+    return floor(number + Fraction(1, 2))
+
+
+def bounds(type):
+    sign, bits, _ = type
+    return (-(2 ** (bits - 1)), 2 ** (bits - 1) - 1) if sign else (0, 2**bits - 1)
+
+
+def quantize(number, type):
+    """The number of the type that is nearest."""
+    least, greatest = bounds(type)
+    return min(max(nearest(number * 2 ** type[2]), least), greatest)

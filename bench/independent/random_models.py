@@ -1,0 +1,315 @@
+"""Random models, right and wrong, given to the built program and to the rules; prints each on which the two differ."""
+
+import random
+import re
+
+import model_rules
+import model_text
+from model_values import bounds, whole
+
+TYPES = ["int8", "int16", "int32", "uint8", "uint16", "uint32", "boolean", "fixdt(1,16,4)", "fixdt(0,12,3)", "fixdt(true, 32 ,31)", "fixdt(1,2,0)", "fixdt(0,1,0)", "fixdt(0,32,31)", "fixdt(1,31,1)"]
+ODD_TYPES = ["double", "single", "half", "Inherit: auto", "Inherit: Logical (see settings)", "Inherit: Inherit via back propagation", "Inherit: Same as first input", "fixdt(1,33,0)", "fixdt(1,1,0)", "fixdt(0,0,0)", "fixdt(1,8,32)", "fixdt(2,8,0)", "fixdt(1,8)", "Int8", " int8 ", "fixdt (1,8,0)", "fixdt(1,08,0)", "fixdt(false,8,0)", "", "Inherit:", "inherit: auto", "fixdt(1,8,0,0)", "fixdt(\t1,8,0)"]
+NUMBERS = ["0", "1", "-1", "2.5", "[3]", "1/3", "-7/2", "1e3", "1.5e-3", "true", "false", "+4", ".5", "5.", "1e9", "-1e18", "127", "128", "-129", "0.0625", "123456789012345678", "0e99", "[-2.25]", "4294967295", "[1/2]", "-.5", "000000000000000000001"]
+ODD_NUMBERS = ["", "[]", "1e19", "1e-19", "1234567890123456789", "[ 5]", "[[5]]", "1/0", "1e", "e1", ".", "--1", "1 2", "x", "0x10", "1,000", "1.0e-18", "0.1e-18", "1/-2", "[true]", "inf", "1/3.0", "0/5", "00", "1e0000000000000000000018", "0e1234567890123456789", "123456789.1234567890", "10e18", "-", "1/", "/1", " 5 ", "2147483647.49", "2147483647.5", "-2147483648.5", "-2147483648.51"]
+TIMES = ["-1", "[-1 0]", "[-1, 0]"]
+ODD_TIMES = ["inf", "[inf 0]", "0", "0.1", "[0.5 0.25]", "[0.5 0.5]", "[0 -1]", "[0 x]", "-2", "[-1]", "[-1,0]", "-1.0", "[1,0]", "[1  0]", "[1 , 0]", "1e10", "1/1000000001", "1000000001", "[5]", "Inf", "[Inf 0]", "", "[0]", " -1 ", "[0.1 0", "0/3", "-0", "[0,0]", "1000000000", "[3 -1]"]
+SIMPLE = ["Inport", "Outport", "Constant", "Ground", "Terminator", "UnitDelay"]
+KINDS = [*SIMPLE, "Gain", "Sum", "Product", "Switch", "RelationalOperator", "Logic", "DataTypeConversion"]
+UNKNOWN = ["SubSystem", "Scope", "ZeroOrderHold", "RateTransition", "EnablePort", "inport", "Mux", ""]
+
+# Parameters by type of block: lawful texts, others, and how often one is written.
+INHERITED_TYPE = ("OutDataTypeStr", TYPES, ODD_TYPES, 0.3)
+TRUTH_TYPE = ("OutDataTypeStr", ["boolean", "int8", "int32", "uint16"], ODD_TYPES, 0.3)
+TIME = ("SampleTime", TIMES, ODD_TIMES, 0.1)
+SIZE = ("PortDimensions", ["-1", "1", "1.0", "[1]"], ["2", "", "[1 1]", "0"], 0.1)
+ROUNDING = ("RndMeth", ["Ceiling", "Convergent", "Floor", "Nearest", "Round", "Zero"], ["Simplest", "floor", ""], 0.3)
+OVERFLOW = ("SaturateOnIntegerOverflow", ["on", "off"], ["On", "1", ""], 0.3)
+PARAMETERS = {
+    "Inport": [("OutDataTypeStr", TYPES, ODD_TYPES, 0.97), TIME, SIZE],
+    "Outport": [("OutDataTypeStr", ["Inherit: auto"] * 4 + TYPES[:1], ODD_TYPES, 0.2), ("OutputWhenDisabled", ["held", "reset"], ["Held", "", "held "], 0.1), ("InitialOutput", NUMBERS + ["[]"], ODD_NUMBERS, 0.1), TIME, SIZE],
+    "Constant": [("Value", NUMBERS, ODD_NUMBERS, 0.9), ("OutDataTypeStr", TYPES, ODD_TYPES, 0.95), TIME],
+    "Ground": [],
+    "Terminator": [],
+    "UnitDelay": [("InitialCondition", NUMBERS, ODD_NUMBERS, 0.6), ("X0", NUMBERS, ODD_NUMBERS, 0.2), TIME],
+    "Gain": [("Gain", NUMBERS, ODD_NUMBERS, 0.9), ("ParamDataTypeStr", TYPES + ["Inherit: Same as input"] * 9, ODD_TYPES, 0.3), INHERITED_TYPE, ROUNDING, OVERFLOW, TIME],
+    "Sum": [("Inputs", ["++", "+-", "|++", "1", "3", "|+|-|", "2.0", "--", "[2]"], ["", "17", "0", "||", "+ +", "-1", "1.5", "+" * 17, " ++", "+*", "+1"], 0.8), INHERITED_TYPE, ROUNDING, OVERFLOW, TIME],
+    "Product": [("Inputs", ["2", "1", "**", "***", "3", "+2"], ["", "17", "0", "*/", "/*", "* *", "*|*", "*" * 17], 0.8), INHERITED_TYPE, ROUNDING, OVERFLOW, TIME],
+    "Switch": [("Criteria", ["u2 >= Threshold", "u2 > Threshold", "u2 ~= 0"], ["u2>=Threshold", "", "u2 >= Threshold "], 0.5), ("Threshold", NUMBERS, ODD_NUMBERS, 0.5), INHERITED_TYPE, ROUNDING, OVERFLOW, TIME],
+    "RelationalOperator": [("Operator", ["==", "~=", "<", "<=", ">", ">="], ["!=", "", "=> ", "< "], 0.8), TRUTH_TYPE, TIME],
+    "Logic": [("Operator", ["AND", "OR", "NAND", "NOR", "XOR", "NXOR", "NOT"], ["and", "", "NOT "], 0.8), ("Inputs", ["1", "2", "3", "16"], ["0", "17", "++", "1.5", "", "true"], 0.5), TRUTH_TYPE, TIME],
+    "DataTypeConversion": [("ConvertRealWorld", ["Real World Value (RWV)", "Real World Value"], ["Stored Integer (SI)", "", "real World Value"], 0.2), ("OutDataTypeStr", TYPES, ODD_TYPES, 0.95), ROUNDING, OVERFLOW, TIME],
+}
+BYTES = b'"{}[]#\\ \t\r\x00\xff0123456789aZ._$-+e/,'
+LINES = [b"}", b"{", b"Block {", b'"more"', b"System {", b"Branch {", b"Line {", b'Name "x', b"P [1", b"BlockType Inport", b"x y z", b"1a", b"$a.b_ 3", b"Model {", b"a{", b"a {b", b'"a" b', b'N "a" # c', b"FixedStep 0.1", b'SrcBlock "B1"', b'Src "a"']
+
+
+def escaped(text):
+    return text.replace("\\", "\\\\").replace('"', '\\"').replace("\n", "\\n")
+
+
+class ModelText:
+    """A model being written; `wrong` is how often something in it isn't as it should be."""
+
+    def __init__(self, chance):
+        self.chance, self.lines = chance, []
+        self.wrong = chance.choice([0, 0, 0.005, 0.02, 0.1])
+        self.kinds = SIMPLE if self.is_lucky(0.6) else KINDS
+
+    def is_lucky(self, often):
+        return self.chance.random() < often
+
+    def is_wrong(self, share=1):
+        return self.is_lucky(self.wrong * share)
+
+    def put(self, depth, text):
+        self.lines.append(("  " * depth if self.is_lucky(0.9) else self.chance.choice(["", "\t", " \t "])) + text)
+        if self.is_lucky(0.01):
+            self.lines.append(self.chance.choice(["", "# a comment", "#}", "   ", '# "']))
+
+    def param(self, depth, name, value):
+        gap = self.chance.choice([" ", "\t", "   "])
+        is_plain = re.fullmatch(r'[^\s"\[{#]([^"\n]*[^\s{"])?', value) or re.fullmatch(r"\[[^\t\n]*\]", value)
+        if is_plain and self.is_lucky(0.3):
+            self.put(depth, f"{name}{gap}{value}")
+        elif len(value) > 2 and self.is_lucky(0.05):
+            cut = self.chance.randrange(1, len(value))
+            self.put(depth, f'{name}{gap}"{escaped(value[:cut])}"')
+            self.put(depth, f'"{escaped(value[cut:])}"')
+        else:
+            self.put(depth, f'{name}{gap}"{escaped(value)}"')
+
+    def section(self, depth, name, body):
+        self.put(depth, self.chance.choice([f"{name} {{", f"{name}{{", f"{name}\t{{"]))
+        body()
+        self.put(depth, "}")
+
+    def parameters(self, kind):
+        for name, lawful, others, often in PARAMETERS.get(kind, []):
+            if self.is_lucky(often):
+                yield name, self.chance.choice(others if self.is_wrong() else lawful)
+
+    def block(self, kind, name, port):
+        rows = [] if self.is_wrong(0.25) else [("BlockType", kind)]
+        rows += [] if self.is_wrong(0.25) else [("Name", name)]
+        if port is not None:
+            rows.append(("Port", self.chance.choice([f"{port}"] * 9 + [f"{port}.0", f"+{port}", f"[{port}]"])))
+        rows += self.parameters(kind)
+        if rows and self.is_lucky(0.05):
+            rows.append(self.chance.choice(rows))
+        if self.is_lucky(0.2):
+            self.chance.shuffle(rows)
+        for key, value in rows:
+            self.param(3, key, value)
+        if self.is_lucky(0.05):
+            self.put(3, "Position [1, 2;")
+            self.put(3, " 3, 4]")
+        if self.is_lucky(0.02):
+            self.section(3, "Port", lambda: self.put(4, "PortNumber 1"))
+
+    def defaults(self):
+        for _ in range(self.chance.randrange(4)):
+            self.section(2, "Block", self.default)
+
+    def default(self):
+        kind = self.chance.choice(self.kinds)
+        if self.is_lucky(0.95):
+            self.param(3, "BlockType", kind)
+        for name, value in self.parameters(kind):
+            if self.is_lucky(0.5):
+                self.param(3, name, value)
+
+    def line_end(self, depth, name, port):
+        if not self.is_wrong(0.25):
+            self.param(depth, "DstBlock", "nobody" if self.is_wrong(0.25) else name)
+        if not self.is_wrong(0.25):
+            lawful = [f"{port}", f"{port}", f"{port}.0", f"[{port}]", f"+{port}"]
+            self.param(depth, "DstPort", self.chance.choice(["0", "17", "", "2", "1", "trigger", "-1"] if self.is_wrong() else lawful))
+
+    def branches(self, depth, ends):
+        if len(ends) > 1 and self.is_lucky(0.3):
+            self.section(depth, "Branch", lambda: self.branches(depth + 1, ends[1:]))
+            ends = ends[:1]
+        for end in ends:
+            self.section(depth, "Branch", lambda: self.line_end(depth + 1, *end))
+
+    def line(self, source, ends):
+        if not self.is_wrong(0.25):
+            self.param(3, "SrcBlock", self.chance.choice(["nobody", ""]) if self.is_wrong(0.25) else source)
+        if not self.is_wrong(0.25):
+            self.param(3, "SrcPort", self.chance.choice(["2", "0", "", "x", "enable", "1.5"] if self.is_wrong() else ["1", "1", "1.0", "[1]", "true"]))
+        if self.is_wrong(0.125):
+            self.param(3, self.chance.choice(["Src", "Dst"]), "4#out:1")
+        if len(ends) > 1:
+            self.branches(3, ends)
+        else:
+            self.line_end(3, *ends[0])
+
+    def taken(self, write):
+        """The lines that a call writes, taken off again."""
+        before = len(self.lines)
+        write()
+        found = self.lines[before:]
+        del self.lines[before:]
+        return found
+
+    def some_kinds(self):
+        kinds = self.chance.choices(self.kinds, k=self.chance.choice([0, 1, 2, 3, 5, 8, 13, 20]))
+        kinds += ["Inport", "Outport"] * self.is_lucky(0.5)
+        kinds += [self.chance.choice(["Inport", "Outport"])] * self.chance.choice([30, 31, 32, 33]) * self.is_lucky(0.01)
+        self.chance.shuffle(kinds)
+        return [self.chance.choice(UNKNOWN) if self.is_wrong(0.25) else it for it in kinds]
+
+    def some_names(self, count):
+        names = []
+        for at in range(count):
+            new = self.chance.choice([f"B{at}", f"block {at}", f"n\n{at}", f'"q"{at}', f"x\\{at}", f"{at}"])
+            names.append(self.chance.choice(names) if names and self.is_wrong(0.3) else new)
+        return names
+
+    def some_ports(self, kinds):
+        ports = {}
+        for kind in ("Inport", "Outport"):
+            places = [at for at, it in enumerate(kinds) if it == kind]
+            numbers = self.chance.sample(range(1, len(places) + 1), len(places))
+            wrong = [0, 1, len(places) + 1, 2]
+            ports |= {at: self.chance.choice(wrong) if self.is_wrong() else it for at, it in zip(places, numbers)}
+        return ports
+
+    def some_ends(self, kinds, blocks):
+        """Line ends as source, destination and port."""
+        sources = [at for at, it in enumerate(kinds) if it not in ("Outport", "Terminator")]
+        for at, kind in enumerate(kinds):
+            for port in range(1, inputs_of(kind, blocks[at]) + 1):
+                earlier = [it for it in sources if it < at]
+                if sources and not self.is_wrong(0.5):
+                    yield self.chance.choice(earlier if earlier and self.is_lucky(0.7) else sources), at, port
+                    if self.is_wrong(0.25):
+                        yield self.chance.choice(sources), at, port
+
+    def system(self):
+        kinds = self.some_kinds()
+        names, ports = self.some_names(len(kinds)), self.some_ports(kinds)
+        parts = [self.taken(lambda: self.section(2, "Block", lambda: self.block(kind, names[at], ports.get(at)))) for at, kind in enumerate(kinds)]
+        ends = list(self.some_ends(kinds, parts))
+        self.chance.shuffle(ends)
+        while ends:
+            first = ends.pop()
+            same = [it for it in ends if it[0] == first[0]] if self.is_lucky(0.4) else []
+            ends = [it for it in ends if it not in same]
+            targets = [(names[at], port) for _, at, port in [first, *same]]
+            parts.append(self.taken(lambda: self.section(2, "Line", lambda: self.line(names[first[0]], targets))))
+        if self.is_lucky(0.1):
+            parts.append(["Annotation {", '  Name "note"', "}"])
+        if self.is_lucky(0.1):
+            parts.append(["Line {", '  SrcBlock "nobody"' if self.is_wrong() else '  Name "loose"', "}"])
+        if self.is_lucky(0.15):
+            self.chance.shuffle(parts)
+        self.lines += [line for part in parts for line in part]
+
+    def model(self):
+        self.param(1, "Name", "m")
+        if self.is_lucky(0.2):
+            self.param(1, "FixedStep", self.chance.choice(["auto", "0.1", "1", "-1", "0", "x", "1/3", "2e9"]))
+        if self.is_lucky(0.3):
+            self.section(1, "BlockParameterDefaults", self.defaults)
+        self.section(1, "System", self.system)
+        if self.is_lucky(0.03):
+            self.section(1, "System", lambda: None)
+
+    def written(self):
+        if self.is_lucky(0.02):
+            self.section(0, self.chance.choice(["Library", "Other"]), lambda: None)
+        self.section(0, "Model", self.model)
+        if self.is_lucky(0.01):
+            self.section(0, "Model", lambda: None)
+        end = "\r\n" if self.is_lucky(0.05) else "\n"
+        return (end.join(self.lines) + end * self.is_lucky(0.9)).encode("latin1")
+
+
+def inputs_of(kind, lines):
+    """How many inputs a block has by its own text."""
+    if kind not in KINDS:
+        return 0
+    section = model_text.read("\n".join(lines).encode("latin1")).sections[0]
+    section.params.insert(0, (b"BlockType", kind.encode()))
+    found = model_rules.Row(section, {}).inputs()
+    return 2 if found is None else found
+
+
+def with_byte(chance, line):
+    changed = bytearray(line)
+    at = chance.randrange(len(line) + 1)
+    changed[at : at + chance.choice([0, 1])] = chance.choice([b"", bytes([chance.choice(BYTES)])])
+    return bytes(changed)
+
+
+def damaged(chance, data):
+    """The text with a few of its lines changed."""
+    lines = data.split(b"\n")
+    for _ in range(chance.choice([1, 1, 2, 4])):
+        at, other = chance.randrange(len(lines)), chance.randrange(len(lines))
+        what = chance.randrange(7)
+        if what == 0:
+            lines[at : at + 1] = []
+        elif what == 1:
+            lines.insert(at, lines[other])
+        elif what == 2:
+            lines[at], lines[other] = lines[other], lines[at]
+        elif what == 3:
+            lines.insert(at, chance.choice(LINES))
+        elif what == 4:
+            lines[at:] = []
+        elif what == 5:
+            lines[at] += chance.choice([b" ", b"\r", b" }", b" {", b" x", b"\t"])
+        else:
+            lines[at] = with_byte(chance, lines[at])
+        lines = lines or [b""]
+    return b"\n".join(lines)
+
+
+def some_row(chance, types):
+    """A row of a trace, with numbers at the ends of their types."""
+    return [chance.choice([*bounds(it), chance.randint(*bounds(it)), sorted((*bounds(it), chance.randint(-9, 9)))[1]]) for it in types]
+
+
+def bad_line(chance, types):
+    """A line that is no row, and its cause."""
+    fields, at = [str(max(0, bounds(it)[0])) for it in types], chance.randrange(len(types))
+    least, greatest = bounds(types[at])
+    bad = chance.choice([("Range", [str(least - 1), str(greatest + 1)]), ("Form", ["x", "+1", "1234567890123456789", "-", "1.0", "--1"]), ("Count", None)])
+    if bad[0] == "Count":
+        return " ".join([*fields, "0"]), f"Count {len(types) + 1}"
+    fields[at] = chance.choice(bad[1])
+    return " ".join(fields), f"{bad[0]} {at + 1}"
+
+
+def compare_runs(chance, model, program):
+    """What differs where the program runs an accepted model, or None."""
+    types = [row.type for row in model.ports(b"Inport")]
+    trace = [some_row(chance, types) for _ in range(chance.randrange(6))]
+    lines = [" ".join(map(str, it)) for it in trace]
+    wanted = "".join(f"{it}\n" for it in model.run(trace))
+    if types and chance.random() < 0.2:
+        line, cause = bad_line(chance, types)
+        return program.differs(["run", *program.files("".join(f"{it}\n" for it in [*lines, line]))], 4, f"{wanted}trace line {len(lines) + 1} {cause}\n")
+    words = program.files("".join(f"{it}\n" for it in lines))
+    status, text = program.call("run", *words)
+    found = re.fullmatch(re.escape(wanted) + r"ticks (\d+) steps (\d+) calls (\d+)\n", text)
+    ticks, steps, calls = map(int, found.groups()) if found else (0, 0, 0)
+    bound = 12 * (len(model.rows) + 1) * (1 + len(model.ports(b"Outport")))
+    if status or not found or ticks != len(trace) or calls != ticks * (model.functions() + 1) or steps > ticks * bound:
+        return "run", wanted, status, text
+    by_gcc = program.differs_by_gcc(chance, trace, len(model.ports(b"Outport")), wanted, warns=True)
+    return by_gcc or program.differs(["exec", *words[1:]], 0, text)
+
+
+def compare_one(chance, program):
+    """The kind of a random model, and what differs, or None."""
+    data = ModelText(chance).written()
+    data = damaged(chance, data) if chance.random() < 0.3 else data
+    program.write("model", data)
+    wanted = model_rules.verdict(data)
+    if isinstance(wanted, str):
+        return wanted.split()[0], program.differs(["compile", *program.files("")[:2]], 3, f"refused {wanted}\n")
+    text = f"compiled rows {len(wanted.rows)} systems 1 functions {wanted.functions()}\n"
+    return "accepted", program.differs(["compile", *program.files("")[:2]], 0, text) or compare_runs(chance, wanted, program)
