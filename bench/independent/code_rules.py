@@ -1,6 +1,6 @@
 """What the rules of docs/FORMATS.md say of a C text: its first fault, or what its program gives over a trace.
 
-Written from the rules alone, without a look at the compiler, so that the two can be compared. Plain and slow, and without the limits on
+Written from the rules and not from the compiler, so that the two can be compared. Plain and slow, and without the limits on
 depth and number."""
 
 import re

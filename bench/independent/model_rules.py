@@ -1,6 +1,6 @@
 """What the rules of docs/FORMATS.md say of a model's file: its refusal, or what it is compiled to and what it gives over a trace.
 
-Written from the rules alone, without a look at the compiler, so that the two can be compared. Plain and slow."""
+Written from the rules and not from the compiler, so that the two can be compared. Plain and slow."""
 
 import re
 

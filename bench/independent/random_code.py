@@ -31,7 +31,8 @@ class CodeText:
 
     def name(self, base):
         taken = {*self.pures, *self.procs}
-        new = next(it for it in (f"{base}{number}" for number in range(1, 100)) if it not in taken)
+        first = self.chance.choice([1, 1, 9, 12])
+        new = next(it for it in (f"{base}{number}" for number in range(first, first + 100)) if it not in taken)
         return self.chance.choice(NAMES_IN_USE) if self.is_wrong() else new
 
     def type(self, type):
