@@ -8,7 +8,7 @@ use Rattle.mc_fixed.specs.Conversion.{InType}
 use Rattle.mc_blocks.specs.declared.kind.Kind.{Kind}
 use Rattle.mc_blocks.specs.declared.kind.Kind.TheVariants as kind
 use Rattle.mc_blocks.specs.declared.op.Op.{Op}
-use Rattle.mc_blocks.specs.declared.op.Op.TheVariants.{Copy, Value, Delay, Gain, Sum, Product, Switch, Relational, Logic, Convert, Nothing}
+use Rattle.mc_blocks.specs.declared.op.Op.TheVariants.{Copy, Value, Delay, Line, Gain, Sum, Product, Switch, Relational, Logic, Convert, Nothing}
 use Rattle.mc_blocks.specs.Value.{greatest_in, rhs}
 use Rattle.mc_blocks.specs.Width.{input_type}
 use Rattle.mc_blocks.specs.Meaning.{op_of, sum_fracs}
@@ -16,7 +16,7 @@ use Rattle.mc_blocks.specs.Limits.{IsWithinLimits, HasInputTypes}
 use Rattle.mc_blocks.specs.Evaluation.{PassesInType, ReadsInTypes, IsEvaluable}
 use Rattle.mc_blocks.specs.Laws.{ConversionFits, NumbersFit}
 use Rattle.mc_blocks.proofs.Fits.{narrow_rows_fit, length_types, length_fracs, first_fracs}
-use Rattle.mc_blocks.proofs.InType.{values_stay_in_type}
+use Rattle.mc_blocks.proofs.lemmas.InType.{values_stay_in_type}
 
 -- a number that is brought into a type with 62 bits has at most that many, and at most 93 fraction bits
 pub small_number : (magnitude F : ℕ) (to : FixType) → ConversionFits magnitude F to → magnitude ≤ 2 ^ 62
@@ -34,6 +34,7 @@ abbrev pub HasInputs : Op → List ℤ → Type 0
 HasInputs Copy vs = 0 < length vs
 HasInputs (Value v) vs = ⊤
 HasInputs (Delay initial) vs = ⊤
+HasInputs (Line length start) vs = ⊤
 HasInputs (Gain m frac to how) vs = length vs ≡ 1
 HasInputs (Sum count minus fracs to how) vs = (length vs ≡ count) × (count ≤ 16) × (greatest_in (take count fracs) ≤ 31) × (length (take count fracs) ≡ count)
 HasInputs (Product count frac to how) vs = length vs ≡ count
@@ -62,6 +63,7 @@ has_inputs (kind.Gain gain how) ts out delays vs memory limits has reads passes 
 has_inputs (kind.Sum count minus how) ts out delays vs memory limits has reads passes = (sym (length_types ts vs reads) ∙ has, limits.1, sum_fracs-le ts count has, ap length (first_fracs ts count has) ∙ length_fracs ts ∙ has)
 has_inputs (kind.Product count how) ts out delays vs memory limits has reads passes = sym (length_types ts vs reads) ∙ has
 has_inputs (kind.UnitDelay initial) ts out delays vs memory limits has reads passes = tt
+has_inputs (kind.Delay length initial) ts out delays vs memory limits has reads passes = tt
 has_inputs kind.ZeroOrderHold ts out delays vs memory limits has reads passes = passes.0
 has_inputs (kind.Switch criterion threshold how) ts out delays vs memory limits has reads passes = (sym (length_types ts vs reads) ∙ has, refl)
 has_inputs (kind.Relational compare) ts out delays vs memory limits has reads passes = (sym (length_types ts vs reads) ∙ has, refl, max-le (max-le (omega arith) (input_type ts 0).in_profile.2) (input_type ts 1).in_profile.2)

@@ -1,3 +1,4 @@
+pub mod lemmas
 pub mod FieldLaws
 pub mod RowLaws
-pub mod LineWalk
+pub mod LineLaws

@@ -3,7 +3,7 @@ use Rattle.std.specs.Prelude.{◌≡◌, refl, true, false, [], ◌∷◌, ◌++
 use Rattle.mc_fixed.specs.Types.{int8, int32, boolean}
 use Rattle.mc_trace.specs.declared.rows.BadWhy.TheVariants.{Count, Form, Range}
 use Rattle.mc_trace.specs.declared.lines.Next.TheVariants.{Line, More, Long, End}
-use Rattle.mc_trace.specs.Lines.{next_line_of}
+use Rattle.mc_trace.specs.Lines.{next_line_of, whole_lines}
 use Rattle.mc_trace.specs.Rows.{rows_of, row_of}
 
 trace-three : rows_of (codes "5\n-7\n2147483647") (int32 ∷ []) ≡ record { rows = (pos 5 ∷ []) ∷ (negsuc 6 ∷ []) ∷ (pos 2147483647 ∷ []) ∷ []; bad = None }
@@ -47,3 +47,10 @@ next-carriage = refl
 
 next-long : next_line_of (replicate 4097 49) 0 false ≡ Long
 next-long = refl
+
+-- a line that has its end, one that ends in bytes 13 and 10, and the beginning of a third
+whole-two : whole_lines (codes "5\n-7\r\n21") ≡ codes "5" ∷ codes "-7" ∷ []
+whole-two = refl
+
+whole-none : whole_lines (codes "21") ≡ []
+whole-none = refl

@@ -1,6 +1,7 @@
 -- The lines of a trace or a script.
-use Rattle.std.specs.Prelude.{ℕ, suc, ◌+◌, ◌-◌, Bool, true, false, ◌&&◌, ◌||◌, List, length, drop, slice_index, nat_lt, nat_le, ◌==◌, if◌then◌else◌}
-use Rattle.std.specs.List.{position_or_len}
+use Rattle.std.specs.Prelude.{ℕ, suc, ◌+◌, ◌-◌, Bool, true, false, ◌&&◌, ◌||◌, List, [], ◌∷◌, length, drop, slice_index, nat_lt, nat_le, ◌==◌, if◌then◌else◌}
+use Rattle.std.specs.List.{position_or_len, slice_split}
+use Rattle.std.specs.Str.Lines.{strip_carriage_return}
 use Rattle.mc_trace.specs.declared.lines.Next.{Next}
 use Rattle.mc_trace.specs.declared.lines.Next.TheVariants.{Line, More, Long, End}
 
@@ -35,3 +36,13 @@ line_at from text ended =
 -- the next line from a place on, in bytes that are the whole text or its beginning
 abbrev pub next_line_of : List ℕ → ℕ → Bool → Next
 next_line_of bytes from ended = line_at from (drop from bytes) ended
+
+-- the parts between bytes 10 as lines: all but the last, without a byte 13 directly before the end
+abbrev pub ended_parts : List (List ℕ) → List (List ℕ)
+ended_parts [] = []
+ended_parts (x ∷ []) = []
+ended_parts (x ∷ y ∷ more) = strip_carriage_return x ∷ ended_parts (y ∷ more)
+
+-- the whole lines of a text: those that have their end
+abbrev pub whole_lines : List ℕ → List (List ℕ)
+whole_lines text = ended_parts (slice_split (λ c. c == 10) text)

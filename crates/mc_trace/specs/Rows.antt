@@ -6,7 +6,7 @@ use Rattle.mc_fixed.specs.Conversion.{least_of, greatest_of}
 use Rattle.mc_trace.specs.declared.rows.BadLine.{BadLine}
 use Rattle.mc_trace.specs.declared.rows.BadWhy.{BadWhy}
 use Rattle.mc_trace.specs.declared.rows.BadWhy.TheVariants.{Long, Many, Count, Form, Range}
-use Rattle.mc_trace.specs.Lines.{longest}
+use Rattle.mc_trace.specs.Lines.{longest, whole_lines}
 use Rattle.mc_trace.specs.Fields.{fields, field_number}
 
 -- the value of the field with this number, by what it writes: a number of the type
@@ -58,3 +58,7 @@ rows_behind line types (text ∷ texts) =
 -- the rows of a trace's bytes
 abbrev pub rows_of : List ℕ → List FixType → Trace
 rows_of bytes types = rows_behind 0 types (lines bytes)
+
+-- the rows of the whole lines among them
+abbrev pub whole_rows_of : List ℕ → List FixType → Trace
+whole_rows_of bytes types = rows_behind 0 types (whole_lines bytes)

@@ -4,9 +4,11 @@
 mod fields;
 mod lines;
 mod rows;
+mod walk;
 
 pub use lines::{LONGEST_LINE, Next, next_line};
 pub use rows::{BadLine, BadWhy, read_row};
+pub use walk::{last_row, next_row};
 
 #[cfg(test)]
 mod tests;

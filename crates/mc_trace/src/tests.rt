@@ -73,3 +73,34 @@ fn rows_are_read(rt: HostRuntime) -> Result<(), Fail> {
     assert_eq!(rt; read_row(b" ", &[], &mut []), Ok(()));
     Ok(())
 }
+
+#[test]
+fn rows_follow_each_other(rt: HostRuntime) -> Result<(), Fail> {
+    let int8 = FixType::new(true, 8, 0).ok_or("int8")?;
+    let text = b"5\n200\r\n-7";
+    let mut into = [0];
+    assert_eq!(rt; next_row(text, 0, 0, &[int8], &mut into), Ok(Some(2)));
+    assert_eq!(rt; into, [5]);
+    let bad = |line: u32, why: BadWhy| BadLine { line, why };
+    assert_eq!(rt;
+        next_row(text, 2, 1, &[int8], &mut into),
+        Err(bad(2, BadWhy::Range(1)))
+    );
+    assert_eq!(rt; next_row(text, 7, 2, &[int8], &mut into), Ok(None));
+    assert_eq!(rt;
+        next_row(text, 0, u32::MAX, &[int8], &mut into),
+        Err(bad(u32::MAX, BadWhy::Many))
+    );
+    assert_eq!(rt; last_row(b"-7", 2, &[int8], &mut into), Ok(true));
+    assert_eq!(rt; into, [-7]);
+    assert_eq!(rt; last_row(b"", 2, &[int8], &mut into), Ok(false));
+    assert_eq!(rt;
+        last_row(b"x", u32::MAX, &[int8], &mut into),
+        Err(bad(u32::MAX, BadWhy::Many))
+    );
+    assert_eq!(rt;
+        last_row(b"x", 2, &[int8], &mut into),
+        Err(bad(3, BadWhy::Form(1)))
+    );
+    Ok(())
+}

@@ -9,8 +9,8 @@ use Rattle.mc_diagram.specs.declared.table.Row.{Row}
 use Rattle.mc_diagram.specs.Rows.{no_row, by_row}
 use Rattle.mc_diagram.specs.Types.{is_boolean_by_kind}
 use Rattle.mc_diagram.specs.TypeRefusals.{followed_type, type_of_row}
-use Rattle.mc_diagram.proofs.ByRow.{by_row-at, length-by_row}
-use Rattle.mc_types.proofs.FollowedLemmas.{past-followed}
+use Rattle.mc_diagram.proofs.lemmas.ByRow.{by_row-at, length-by_row}
+use Rattle.mc_types.proofs.lemmas.FollowedLemmas.{past-followed}
 
 -- past the end a row is boolean
 pub past_boolean : (rows : List Row) (b : ℕ) → length rows ≤ b → type_of_row rows b ≡ Some boolean

@@ -7,7 +7,7 @@ use Rattle.mc_diagram.specs.declared.table.Row.{Row}
 use Rattle.mc_diagram.specs.RowTable.{RowTable}
 use Rattle.mc_diagram.specs.Nested.{System, system, no_more, AreSystemsOf}
 use Rattle.mc_diagram.specs.WellFormed.{IsWellFormed}
-use Rattle.mc_diagram.proofs.WellFormedTests.{well_formed-from}
+use Rattle.mc_diagram.proofs.lemmas.WellFormedTests.{well_formed-from}
 use Rattle.mc_types.specs.Samples.{inport_row}
 
 abbrev pub one_input : List Row → RowTable

@@ -1,8 +1,5 @@
-pub mod SameType
-pub mod FollowedLemmas
+pub mod lemmas
 pub mod PathLemmas
 pub mod FaultLemmas
-pub mod PassLemmas
-pub mod Accepted
 pub mod Countable
 pub mod InputTree

@@ -13,7 +13,7 @@ use Rattle.mc_types.specs.declared.marks.Mark.{Mark}
 use Rattle.mc_types.specs.declared.marks.Mark.TheVariants.{New, OnPath, Settled}
 use Rattle.mc_types.specs.Marks.{mark_at, is_new, met_by}
 use Rattle.mc_types.specs.Walks.{LeadsTo, AreMarks, IsPath, AllMeet}
-use Rattle.mc_types.proofs.FollowedLemmas.{past-followed, followed-step, round-followed, leads-one, leads-more}
+use Rattle.mc_types.proofs.lemmas.FollowedLemmas.{past-followed, followed-step, round-followed, leads-one, leads-more}
 
 -- a row of which nothing is known is one of the table
 pub new-inside : (marks : List Mark) (b : ℕ) → is_new (mark_at marks b) ≡ true → b < length marks

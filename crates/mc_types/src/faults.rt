@@ -4,7 +4,7 @@ ghost use Rattle.mc_base.specs.Refusals as plain;
 ghost use Rattle.mc_fixed.specs.declared.FixType.{FixType};
 ghost use Rattle.mc_blocks.specs.Limits.{HasInputTypes, IsWithinLimits};
 ghost use Rattle.mc_blocks.specs.Width as width;
-ghost use Rattle.mc_diagram.specs.Rows.{by_row, row_at};
+ghost use Rattle.mc_diagram.specs.Rows.{by_row, row_at, trigger_wire};
 ghost use Rattle.mc_diagram.specs.Types as type;
 ghost use Rattle.mc_diagram.specs.FirstRefusal.{least_line, as_plain, found_where};
 ghost use Rattle.mc_diagram.specs.TypeRefusals.{followed_type, line_at, type_faults};
@@ -12,7 +12,7 @@ ghost use Rattle.mc_diagram.specs.TypeRefusals as refusal;
 ghost use Rattle.mc_types.specs.Inferred.{AreCountable};
 
 use crate::rows::{
-    boolean, first_wire, is_boolean_by_kind, is_port, is_triggered, met_at, row_at, type_at,
+    boolean, first_wire, is_boolean_by_kind, is_port, met_at, row_at, trigger_wire, type_at,
 };
 use crate::rules::written_type;
 use mc_base::{Memory, Refusal, TypeWhy};
@@ -50,14 +50,14 @@ fn input_met(rows: &[Row], met: &[Option<FixType>], b: usize) -> Option<FixType>
     }
 }
 
-/// The type of the row that the first input of a row reads, if both are there.
-fn input_type(rows: &[Row], met: &[Option<FixType>], b: usize) -> Option<FixType>
+/// The type of the row that triggers a subsystem, if both are there.
+fn trigger_type(rows: &[Row], met: &[Option<FixType>], b: usize) -> Option<FixType>
     requires met { met.now ≡ by_row rows.now (followed_type rows.now) }
     requires row { b < length rows.now }
-    ensures { result ≡ option_and_then (refusal.type_of_row rows.now) (refusal.first_wire rows.now b) }
+    ensures { result ≡ option_and_then (refusal.type_of_row rows.now) (trigger_wire rows.now b) }
 {
-    match first_wire(row_at(rows, b)) {
-        Some(input) => type_of_row(rows, met, input as usize),
+    match trigger_wire(row_at(rows, b)) {
+        Some(wire) => type_of_row(rows, met, wire as usize),
         None => None,
     }
 }
@@ -110,17 +110,15 @@ fn is_signed(t: Option<FixType>) -> bool
     }
 }
 
-/// The refusal of a triggered subsystem whose control has a signed type.
+/// The refusal of a subsystem whose trigger has a signed type.
 pub(crate) fn trigger_fault(rows: &[Row], met: &[Option<FixType>], b: usize) -> Option<Refusal>
     requires met { met.now ≡ by_row rows.now (followed_type rows.now) }
     requires row { b < length rows.now }
     ensures { as_plain result ≡ found_where (refusal.has_signed_trigger rows.now) (λ e. plain.TriggerSigned (line_at rows.now e)) b }
 {
-    let row = row_at(rows, b);
-    if is_triggered(&row.kind) && is_signed(input_type(rows, met, b)) {
-        Some(Refusal::TriggerSigned {
-            line: row.place.line,
-        })
+    if is_signed(trigger_type(rows, met, b)) {
+        let line = row_at(rows, b).place.line;
+        Some(Refusal::TriggerSigned { line })
     } else {
         None
     }

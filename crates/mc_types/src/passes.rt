@@ -24,7 +24,7 @@ fn least_bad_type(rows: &[Row], met: &[Option<FixType>]) -> Option<Refusal>
     least
 }
 
-/// The first triggered subsystem whose control has a signed type.
+/// The first subsystem whose trigger has a signed type.
 fn least_signed_trigger(rows: &[Row], met: &[Option<FixType>]) -> Option<Refusal>
     requires { met.now ≡ by_row rows.now (followed_type rows.now) }
     ensures { as_plain result ≡ least_line (signed_triggers rows.now) }

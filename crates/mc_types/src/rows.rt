@@ -1,5 +1,6 @@
 ghost use Rattle.std.specs.Prelude.{◌≡◌, ◌<◌, ◌&&◌, ◌||◌, length, slice_get, slice_index_or, Some, None, if◌then◌else◌};
 ghost use Rattle.mc_fixed.specs.Types.{boolean};
+ghost use Rattle.mc_diagram.specs.Rows.{control_of, trigger_among};
 ghost use Rattle.mc_diagram.specs.Rows as row;
 ghost use Rattle.mc_diagram.specs.Types.{is_boolean_by_kind};
 ghost use Rattle.mc_diagram.specs.Types as type;
@@ -66,9 +67,23 @@ pub(crate) fn is_port(kind: &Kind) -> bool
     matches!(kind, Kind::Inport { .. } | Kind::Outport { .. })
 }
 
-/// Whether a row is a subsystem that a trigger controls.
-pub(crate) fn is_triggered(kind: &Kind) -> bool
-    ensures { result ≡ row.is_triggered (row.control_of kind.now) }
+/// The trigger among the control wires of a subsystem, if it has one.
+fn trigger_among(control: &Control, wires: &[u32]) -> Option<u32>
+    ensures { result ≡ trigger_among control.now wires.now }
 {
-    matches!(kind, Kind::SubSystem(Control::Triggered(_)))
+    match control {
+        Control::Plain | Control::Enabled { .. } => None,
+        Control::Triggered(_) => wires.first().copied(),
+        Control::Both { .. } => wires.get(1).copied(),
+    }
+}
+
+/// The row that triggers a row, if that is a subsystem with a trigger.
+pub(crate) fn trigger_wire(row: &Row) -> Option<u32>
+    ensures { result ≡ trigger_among (control_of row.now.kind) row.now.inputs }
+{
+    match &row.kind {
+        Kind::SubSystem(control) => trigger_among(control, row.inputs.wires()),
+        _ => None,
+    }
 }

@@ -34,6 +34,12 @@ const INT32: FixType = FixType {
     frac: 0,
 };
 
+const BOOLEAN: FixType = FixType {
+    signed: false,
+    bits: 1,
+    frac: 0,
+};
+
 const UINT32: FixType = FixType {
     signed: false,
     bits: 32,
@@ -200,6 +206,57 @@ fn a_trigger_is_not_signed(rt: HostRuntime) -> Result<(), Fail> {
     let met = follow_types(alloc, rows.as_slice())?;
     let refused = refusal_of_rules(rows.as_slice(), met.as_slice());
     assert!(rt; matches!(refused, Some(Refusal::TriggerSigned { line: 9 })));
+    Ok(())
+}
+
+/// A subsystem at line 9 that rows of these types enable and trigger.
+fn with_both_controls(
+    alloc: Global,
+    enable: FixType,
+    trigger: FixType,
+) -> Result<Vec<Row>, Memory> {
+    let first = Kind::Inport { port: 1 };
+    let second = Kind::Inport { port: 2 };
+    let control = Control::Both {
+        reset: false,
+        edge: Edge::Rising,
+    };
+    let subsystem = Kind::SubSystem(control);
+    Ok(vec![in alloc;
+        row(3, first, Vec::new(alloc), TypeText::Fixed(enable)),
+        row(4, second, Vec::new(alloc), TypeText::Fixed(trigger)),
+        row(9, subsystem, vec![in alloc; 0, 1]?, TypeText::Inherit),
+    ]?)
+}
+
+#[test]
+fn of_two_controls_the_trigger_alone_has_no_sign(rt: HostRuntime) -> Result<(), Fail> {
+    let alloc = rt.alloc();
+    let signed_trigger = with_both_controls(alloc, BOOLEAN, INT8)?;
+    let met = follow_types(alloc, signed_trigger.as_slice())?;
+    let refused = refusal_of_rules(signed_trigger.as_slice(), met.as_slice());
+    assert!(rt; matches!(refused, Some(Refusal::TriggerSigned { line: 9 })));
+    let signed_enable = with_both_controls(alloc, INT8, BOOLEAN)?;
+    let met = follow_types(alloc, signed_enable.as_slice())?;
+    assert!(rt; refusal_of_rules(signed_enable.as_slice(), met.as_slice()).is_none());
+    Ok(())
+}
+
+#[test]
+fn a_delay_of_several_samples_has_its_inputs_type(rt: HostRuntime) -> Result<(), Fail> {
+    let alloc = rt.alloc();
+    let inport = Kind::Inport { port: 1 };
+    let delay = Kind::Delay {
+        length: 3,
+        initial: NOTHING,
+    };
+    let rows = vec![in alloc;
+        row(4, inport, Vec::new(alloc), TypeText::Fixed(INT16)),
+        row(6, delay, vec![in alloc; 0]?, TypeText::Inherit),
+    ]?;
+    let met = follow_types(alloc, rows.as_slice())?;
+    assert_eq!(rt; met.as_slice(), [Some(INT16), Some(INT16)].as_slice());
+    assert!(rt; refusal_of_rules(rows.as_slice(), met.as_slice()).is_none());
     Ok(())
 }
 

@@ -1,4 +1,4 @@
-use Rattle.mc_types.proofs.Accepted.{rules-refused}
+use Rattle.mc_types.proofs.lemmas.Accepted.{rules-refused}
 use Rattle.mc_types.proofs.infer.infer.Goals as goal
 
 pub returns-in-Some-clause-refused : goal.returns-in-Some-clause-refused

@@ -1,6 +1,6 @@
 use Rattle.std.proofs.Common.{◌∙◌, ap, sym, rules}
 use Rattle.mc_diagram.specs.FirstRefusal.{as_plain}
-use Rattle.mc_types.proofs.Accepted.{types-accepted, widths-refused}
+use Rattle.mc_types.proofs.lemmas.Accepted.{types-accepted, widths-refused}
 use Rattle.mc_types.proofs.infer.narrow_types.Goals as goal
 
 pub returns-in-Some-clause-refused : goal.returns-in-Some-clause-refused

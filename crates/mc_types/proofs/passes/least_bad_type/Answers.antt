@@ -3,8 +3,8 @@ use Rattle.std.specs.List.{range_with_len}
 use Rattle.mc_diagram.specs.FirstRefusal.{least_line, as_plain, earlier_of, least_in}
 use Rattle.mc_diagram.specs.TypeRefusals.{type_faults}
 use Rattle.mc_diagram.specs.Rows.{row_numbers}
-use Rattle.mc_diagram.proofs.FirstRefusals.{least-each}
-use Rattle.mc_types.proofs.PassLemmas.{least-more, least-end}
+use Rattle.mc_diagram.proofs.lemmas.FirstRefusals.{least-each}
+use Rattle.mc_types.proofs.lemmas.PassLemmas.{least-more, least-end}
 use Rattle.mc_types.proofs.passes.least_bad_type.Goals as goal
 
 pub loop-b-preserved : goal.loop-b-preserved

@@ -4,8 +4,8 @@ use Rattle.mc_base.specs.Refusals.{TriggerSigned}
 use Rattle.mc_diagram.specs.TypeRefusals.{has_signed_trigger, line_at}
 use Rattle.mc_diagram.specs.Rows.{row_numbers}
 use Rattle.mc_diagram.specs.FirstRefusal.{as_plain, earlier_of, least_in, found_where}
-use Rattle.mc_diagram.proofs.FirstRefusals.{least-where}
-use Rattle.mc_types.proofs.PassLemmas.{least-more, least-end}
+use Rattle.mc_diagram.proofs.lemmas.FirstRefusals.{least-where}
+use Rattle.mc_types.proofs.lemmas.PassLemmas.{least-more, least-end}
 use Rattle.mc_types.proofs.passes.least_signed_trigger.Goals as goal
 
 pub loop-b-preserved : goal.loop-b-preserved

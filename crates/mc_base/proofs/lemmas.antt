@@ -1,0 +1,5 @@
+-- Lemmas that proofs of the crates above use.
+pub mod DigitLaws
+pub mod LeastMultiple
+pub mod Lowest
+pub mod NumberBounds

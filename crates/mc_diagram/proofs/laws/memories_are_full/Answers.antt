@@ -1,0 +1,5 @@
+use Rattle.mc_diagram.proofs.FullMemories as proof
+use Rattle.mc_diagram.proofs.laws.memories_are_full.Goals as goal
+
+pub returns : goal.returns
+returns c = proof.memories_are_full

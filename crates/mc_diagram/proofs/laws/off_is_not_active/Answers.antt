@@ -1,0 +1,5 @@
+use Rattle.mc_diagram.proofs.TickLaws as proof
+use Rattle.mc_diagram.proofs.laws.off_is_not_active.Goals as goal
+
+pub returns : goal.returns
+returns c = proof.off_is_not_active

@@ -1,0 +1,5 @@
+use Rattle.mc_diagram.proofs.TickLaws as proof
+use Rattle.mc_diagram.proofs.laws.ticks_have_rows.Goals as goal
+
+pub returns : goal.returns
+returns c = proof.ticks_have_rows
