@@ -8,7 +8,7 @@ use Rattle.std.proofs.lemmas.List.{length-replicate}
 use Rattle.std.proofs.Math.IntN.{pos-*ℤ-pos, negsuc-*ℤ-pos}
 use Rattle.mc_base.specs.Literals.{Ratio, ratio_of}
 use Rattle.mc_base.specs.declared.Decimal.{Decimal}
-use Rattle.mc_base.specs.declared.ParamName.TheVariants.{Inputs, Operator, OutPortSampleTime, OutPortSampleTimeOpt}
+use Rattle.mc_base.specs.declared.ParamName.TheVariants.{Inputs, Operator, OutPortSampleTime, OutPortSampleTimeOpt, DelayLength}
 use Rattle.mc_base.specs.declared.ParamName.TheVariants as param
 use Rattle.mc_fixed.specs.declared.TypeText.{TypeText}
 use Rattle.mc_fixed.specs.declared.TypeText.TheVariants as type
@@ -16,7 +16,7 @@ use Rattle.mc_fixed.specs.Conversion.{fits_32}
 use Rattle.mc_fixed.specs.Rounding.{nearest}
 use Rattle.mdl_tree.specs.Walks.{first_value}
 use Rattle.mdl_params.specs.declared.BlockType.{BlockType}
-use Rattle.mdl_params.specs.declared.BlockType.TheVariants.{Inport, Outport, SubSystem, Constant, Ground, Terminator, Gain, Sum, Product, UnitDelay, ZeroOrderHold, Switch, RelationalOperator, Logic, DataTypeConversion, RateTransition, EnablePort, TriggerPort}
+use Rattle.mdl_params.specs.declared.BlockType.TheVariants.{Inport, Outport, SubSystem, Constant, Ground, Terminator, Gain, Sum, Product, UnitDelay, Delay, ZeroOrderHold, Switch, RelationalOperator, Logic, DataTypeConversion, RateTransition, EnablePort, TriggerPort}
 use Rattle.mdl_params.specs.BlockTypes.{block_types, block_type_name, block_type_of, beside}
 use Rattle.mdl_params.specs.Forms.{number_form}
 use Rattle.mc_blocks.specs.declared.Kind.{Kind}
@@ -26,7 +26,7 @@ use Rattle.mc_blocks.specs.Limits.{IsCount}
 use Rattle.mc_diagram.specs.Rows.{is_subsystem, is_inport, is_outport, port_of}
 use Rattle.mc_diagram.specs.WellFormed.{has_output, wires_wanted, is_enable_port, is_trigger_port, IsKind, IsGain, IsGainNumber}
 use Rattle.mc_table.specs.Blocks.{Block, ModelTree, block_type, is_a}
-use Rattle.mc_table.specs.Words.{value_of, number_up_to, whole_number, up_to_16, signs_in, sum_signs, minus_mask, product_count, logic_count, logics, writes_gain}
+use Rattle.mc_table.specs.Words.{value_of, number_up_to, samples_in, whole_number, up_to_16, signs_in, sum_signs, minus_mask, product_count, logic_count, logics, writes_gain}
 use Rattle.mc_table.specs.Parameters.{text_of, parameters_of, has_form, is_inputs_form, is_time_form}
 use Rattle.mc_table.specs.Lines.{own_port, input_count_by, output_count_by}
 use Rattle.mc_table.specs.TableOf.{HasKind, gain_with, out_time_text}
@@ -35,7 +35,7 @@ use Rattle.mdl_params.specs.Times.{time_form}
 use Rattle.mc_table.specs.SoFar.{is_later}
 use Rattle.mc_table.proofs.SignLemmas.{minus_mask-bound}
 use Rattle.mc_table.proofs.FormLemmas.{formed}
-use Rattle.mc_table.proofs.AcceptedLists.{none-some, some-same, found-passes}
+use Rattle.mc_table.proofs.lemmas.AcceptedLists.{none-some, some-same, found-passes}
 
 -- ---- The type of a block
 
@@ -111,9 +111,10 @@ factors-count text n e = by (number_up_to 16 text) refl e
     by None p e = stars (list_all (λ c. c == 42) text) (up_to_16 text) refl e
     by (Some k) p e = subst (IsUpTo 16) (some-same k n e) (number-up-to 16 text k p).1
 
-value-count : (o : Option ℕ) → ((n : ℕ) → o ≡ Some n → IsUpTo 16 n) → is_some o ≡ true → IsUpTo 16 (unwrap_or o 0)
-value-count None h e = absurd (true≢false (sym e))
-value-count (Some n) h e = h n refl
+-- a count that is there is within its limit
+value-count : (most : ℕ) (o : Option ℕ) → ((n : ℕ) → o ≡ Some n → IsUpTo most n) → is_some o ≡ true → IsUpTo most (unwrap_or o 0)
+value-count most None h e = absurd (true≢false (sym e))
+value-count most (Some n) h e = h n refl
 
 -- ---- The shape of a kind
 
@@ -155,6 +156,7 @@ shape m b Sum k now h =
     subst (HasShape m b Sum) (sym h) (plain m b Sum (kind.Sum _ _ _) refl refl refl refl refl refl (count-signs (sum_signs (text_of m b Inputs))) refl)
 shape m b Product k now h = subst (HasShape m b Product) (sym h) (plain m b Product (kind.Product _ _) refl refl refl refl refl refl refl refl)
 shape m b UnitDelay k now h = subst (HasShape m b UnitDelay) (sym h.2) (plain m b UnitDelay (kind.UnitDelay h.0) refl refl refl refl refl refl refl refl)
+shape m b Delay k now h = subst (HasShape m b Delay) (sym h.2) (plain m b Delay (kind.Delay _ h.0) refl refl refl refl refl refl refl refl)
 shape m b ZeroOrderHold k now h = absurd (true≢false now)
 shape m b Switch k now h = subst (HasShape m b Switch) (sym h.2) (plain m b Switch (kind.Switch _ _ _) refl refl refl refl refl refl refl refl)
 shape m b RelationalOperator k now h =
@@ -222,7 +224,7 @@ module _ (m : ModelTree) (b : Block) (forms : list_all (has_form m b) (parameter
           And) (unwrap_or (cond t (Some 1) (number_up_to 16 inputs)) 0))) (sym e)
           (no-negation (bytes_eq operator (codes "AND")) (bytes_eq operator (codes "OR")) (bytes_eq operator (codes "NAND"))
           (bytes_eq operator (codes "NOR")) (bytes_eq operator (codes "XOR")) (bytes_eq operator (codes "NXOR")) (unwrap_or (number_up_to 16 inputs) 0)
-          (value-count (number_up_to 16 inputs) (λ n p. (number-up-to 16 inputs n p).1) h))
+          (value-count 16 (number_up_to 16 inputs) (λ n p. (number-up-to 16 inputs n p).1) h))
 
   -- a time of its form that isn't constant is inherited or each period
   out-form : (opt : Bool) → bytes_eq (text_of m b OutPortSampleTimeOpt) (codes "Inherit") ≡ opt → is_time_form false (time_form (text_of m b OutPortSampleTime)) ≡ true →
@@ -244,8 +246,11 @@ module _ (m : ModelTree) (b : Block) (forms : list_all (has_form m b) (parameter
       subst IsKind (sym h) (sum-kind (sum_signs (text_of m b Inputs)) refl (inputs-form Sum e (formed m b Sum Inputs e forms refl)))
   kind-within Product k e h =
       subst IsKind (sym h)
-      (value-count (product_count (text_of m b Inputs)) (factors-count (text_of m b Inputs)) (inputs-form Product e (formed m b Product Inputs e forms refl)))
+      (value-count 16 (product_count (text_of m b Inputs)) (factors-count (text_of m b Inputs)) (inputs-form Product e (formed m b Product Inputs e forms refl)))
   kind-within UnitDelay k e h = subst IsKind (sym h.2) tt
+  kind-within Delay k e h =
+      subst IsKind (sym h.2)
+      (value-count 65_535 (samples_in (text_of m b DelayLength)) (λ n p. (number-up-to 65_535 (text_of m b DelayLength) n p).1) (formed m b Delay DelayLength e forms refl))
   kind-within ZeroOrderHold k e h = subst IsKind (sym h) tt
   kind-within Switch k e h = subst IsKind (sym h.2) tt
   kind-within RelationalOperator k e h = subst IsKind (sym h) tt

@@ -1,6 +1,6 @@
 -- The rows of a model in which nothing is refused: their places, their ports and their system.
-use Rattle.std.proofs.Common.{◌≡◌, refl, sym, ◌∙◌, ap, ap₂, subst, ℕ, suc, ◌+◌, ◌<◌, ◌≤◌, nat_lt, Bool, true, false, ◌&&◌, ◌||◌, cond, true≢false, List, [], ◌∷◌, ◌++◌, map, length, count_by, Option, None, Some, is_some, unwrap_or, arith, codes, ltb-true, ltb-false}
-use Rattle.std.specs.Prelude.{◌==◌, filter, bytes_eq}
+use Rattle.std.proofs.Common.{◌≡◌, refl, sym, ◌∙◌, ap, ap₂, subst, ℕ, suc, ◌+◌, ◌<◌, ◌≤◌, nat_lt, Bool, true, false, ◌&&◌, ◌||◌, cond, true≢false, List, [], ◌∷◌, ◌++◌, map, length, count_by, Option, None, Some, is_some, unwrap_or, arith, ltb-true, ltb-false}
+use Rattle.std.specs.Prelude.{◌==◌, filter}
 use Rattle.std.specs.Option.{option_map_or}
 use Rattle.std.specs.List.{AllByRecursion, AllZip, range_with_len}
 use Rattle.std.proofs.lemmas.List.{get_or_past}
@@ -13,10 +13,8 @@ use Rattle.mc_base.specs.declared.Many.TheVariants.{Inports, Outports}
 use Rattle.mc_base.specs.declared.ParamName.TheVariants as param
 use Rattle.mc_base.specs.Refusals.{DoubleName, TooMany}
 use Rattle.mc_base.specs.Numbers.{reported_number}
-use Rattle.mdl_tree.specs.Walks.{first_value}
 use Rattle.mdl_params.specs.declared.BlockType.{BlockType}
 use Rattle.mdl_params.specs.declared.BlockType.TheVariants.{Inport, Outport}
-use Rattle.mdl_params.specs.BlockTypes.{block_type_name}
 use Rattle.mc_blocks.specs.declared.Kind.{Kind}
 use Rattle.mc_blocks.specs.declared.Kind.TheVariants as kind
 use Rattle.mc_diagram.specs.declared.table.Row.{Row}
@@ -26,18 +24,16 @@ use Rattle.mc_diagram.specs.Nested.{AreSystemsOf}
 use Rattle.mc_table.specs.Blocks.{Block, ModelTree, no_block, block_at, block_type, blocks_of, blocks_that, is_a}
 use Rattle.mc_table.specs.Blocks as block
 use Rattle.mc_table.specs.Words.{number_up_to}
-use Rattle.mc_table.specs.Parameters.{type_name, name_of, text_of, same_typed, is_form}
+use Rattle.mc_table.specs.Parameters.{name_of, text_of, same_typed, is_form}
 use Rattle.mc_table.specs.Lines.{own_port}
 use Rattle.mc_table.specs.TableOf.{IsRowOf}
 use Rattle.mc_table.specs.TableLaws.{one_system}
 use Rattle.mc_table.specs.TreeRefusals.{are_doubles, repeats, same_name, crowd}
-use Rattle.mc_table.proofs.NameLemmas.{bytes_eq-swap}
 use Rattle.mc_table.proofs.FormLemmas.{formed}
-use Rattle.mc_table.proofs.AcceptedLists.{none-some, cons-empty, append-empty, map-empty, first-empty, zip-length, zip-at, filter-range, filter-range-none, filter-range-len, unlike, all-by-place}
-use Rattle.mc_table.proofs.AcceptedModel.{IsAccepted, IsGood, AreRootBlocks, accepted-sound, good_block, read_now, few_blocks}
+use Rattle.mc_table.proofs.lemmas.AcceptedLists.{none-some, cons-empty, append-empty, map-empty, first-empty, zip-length, zip-at, filter-range, filter-range-none, filter-range-len, unlike, all-by-place}
+use Rattle.mc_table.proofs.lemmas.AcceptedModel.{IsAccepted, IsGood, AreRootBlocks, accepted-sound, good_block, read_now, few_blocks}
 use Rattle.mc_table.proofs.AcceptedKinds.{HasShape, shape, is_named, is-a, IsUpTo, number-up-to, value-there}
 use Rattle.mc_table.proofs.AcceptedTexts.{kind-is, row-within, type-is}
-use Rattle.std.proofs.lemmas.Slice.Eq.{bytes_eq-Decides}
 
 -- ---- Kinds and lists
 
@@ -52,6 +48,7 @@ no-control (kind.Gain gain how) e = refl
 no-control (kind.Sum count minus how) e = refl
 no-control (kind.Product count how) e = refl
 no-control (kind.UnitDelay initial) e = refl
+no-control (kind.Delay length initial) e = refl
 no-control kind.ZeroOrderHold e = refl
 no-control (kind.Switch criterion threshold how) e = refl
 no-control (kind.Relational compare) e = refl
@@ -64,10 +61,6 @@ no-control kind.TriggerPort e = refl
 filter-none : {A : Type 0} (test : A → Bool) → ((x : A) → test x ≡ false) → (xs : List A) → filter test xs ≡ []
 filter-none test none [] = refl
 filter-none test none (x ∷ xs) = ap (λ t. cond t (x ∷ filter test xs) (filter test xs)) (none x) ∙ filter-none test none xs
-
-filter-same : {A : Type 0} (f g : A → Bool) → ((x : A) → f x ≡ g x) → (xs : List A) → filter f xs ≡ filter g xs
-filter-same f g same [] = refl
-filter-same f g same (x ∷ xs) = ap₂ (λ t ys. cond t (x ∷ ys) ys) (same x) (filter-same f g same xs)
 
 count-none : {A : Type 0} (test : A → Bool) → ((x : A) → test x ≡ false) → (xs : List A) → count_by test xs ≡ 0
 count-none test none xs = sym (length-filter test xs) ∙ ap length (filter-none test none xs)
@@ -172,7 +165,7 @@ module _ (m : ModelTree) (rows : List Row) (are : AreRows m rows) where
 pub record IsPortTest (type : BlockType) (test : Kind → Bool) : Type 0 where
   pub same : (m : ModelTree) (b : Block) (t : BlockType) (k : Kind) → HasShape m b t k → test k ≡ is_named type t
   pub port : (m : ModelTree) (b : Block) (t : BlockType) (k : Kind) → HasShape m b t k → test k ≡ true → port_of k ≡ own_port m b
-  pub named : bytes_eq (block_type_name type) [] ≡ false
+  pub typed : {m : ModelTree} (b : Block) (good : IsGood m b) → is_a type b ≡ true → type ≡ good.type
   pub numbered : (m : ModelTree) (b : Block) → IsGood m b → is_a type b ≡ true → is_some (number_up_to (same_typed m b) (text_of m b param.Port)) ≡ true
   pub few : (m : ModelTree) → IsAccepted m → length (blocks_that (is_a type) m None) ≤ 32
   pub doubles : (m : ModelTree) (a b : Block) → is_a type a ≡ true → is_a type b ≡ true →
@@ -203,7 +196,7 @@ pub inports : IsPortTest Inport is_inport
 inports = record {
   same = λ m b t k s. s.inport;
   port = λ m b t k s e. s.port (ap (λ t. t || is_outport k) e);
-  named = refl;
+  typed = λ b good is. type-is b Inport good.type refl good.is is;
   numbered = λ m b good is. port-form Inport m b good (type-is b Inport good.type refl good.is is) (λ e. formed m b Inport param.Port e good.formed refl);
   few = λ m accepted. no-crowd m Inports block.is_inport (crowds m accepted).0;
   doubles = λ m a b p q. ap₂ (λ t u. ((t && u) || (block.is_outport a && block.is_outport b)) && own_port m a == own_port m b) p q;
@@ -213,19 +206,13 @@ pub outports : IsPortTest Outport is_outport
 outports = record {
   same = λ m b t k s. s.outport;
   port = λ m b t k s e. s.port (ap (λ t. is_inport k || t) e ∙ or_true (is_inport k));
-  named = refl;
+  typed = λ b good is. type-is b Outport good.type refl good.is is;
   numbered = λ m b good is. port-form Outport m b good (type-is b Outport good.type refl good.is is) (λ e. formed m b Outport param.Port e good.formed refl);
   few = λ m accepted. no-crowd m Outports block.is_outport (crowds m accepted).1;
   doubles = λ m a b p q.
       ap₂ (λ t u. ((block.is_inport a && block.is_inport b) || (t && u)) && own_port m a == own_port m b) p q
       ∙ ap (λ t. t && own_port m a == own_port m b) (or_true (block.is_inport a && block.is_inport b));
 }
-
--- a block's type by its name
-name-is : (type : BlockType) (o : Option (List ℕ)) → bytes_eq (block_type_name type) [] ≡ false →
-    bytes_eq (unwrap_or o []) (block_type_name type) ≡ option_map_or (bytes_eq (block_type_name type)) o false
-name-is type None named = bytes_eq-swap [] (block_type_name type) ∙ named
-name-is type (Some text) named = bytes_eq-swap text (block_type_name type)
 
 double-by : (t u d : Bool) → (t && (u || d)) ≡ false → t ≡ true → d ≡ false
 double-by true true d e f = absurd (true≢false e)
@@ -249,19 +236,11 @@ module _ (m : ModelTree) (rows : List Row) (are : AreRows m rows) (type : BlockT
   few-ports =
       subst (λ n. n ≤ 32) (sym (count-ports ∙ ap (λ bs. length (filter (is_a type) bs)) (sym are.root.all_own))) (tests.few m are.accepted)
 
-  same-type : (b : Block) → b.owner ≡ None → is_a type b ≡ true → type_name b ≡ block_type_name type → same_typed m b ≡ length (filter (is_a type) m.blocks)
-  same-type b own is name =
-      ap (λ o. length (filter (λ c. bytes_eq (type_name c) (type_name b)) (blocks_of m o))) own
-      ∙ ap (λ bs. length (filter (λ c. bytes_eq (type_name c) (type_name b)) bs)) are.root.all_own
-      ∙ ap length (filter-same (λ c. bytes_eq (type_name c) (type_name b)) (is_a type)
-      (λ c. ap (bytes_eq (type_name c)) name ∙ name-is type (first_value (codes "BlockType") c.items) tests.named) m.blocks)
-
-  name-at : (b : Block) (good : IsGood m b) → is_a type b ≡ true → type_name b ≡ block_type_name type
-  name-at b good is = by (first_value (codes "BlockType") b.items) is
-    where
-      by : (o : Option (List ℕ)) → option_map_or (bytes_eq (block_type_name type)) o false ≡ true → unwrap_or o [] ≡ block_type_name type
-      by None e = absurd (true≢false (sym e))
-      by (Some text) e = sym ((bytes_eq-Decides (block_type_name type) text).0 e)
+  same-type : (b : Block) (good : IsGood m b) → b.owner ≡ None → is_a type b ≡ true → same_typed m b ≡ length (filter (is_a type) m.blocks)
+  same-type b good own is =
+      ap (λ t. option_map_or (λ type. length (blocks_that (is_a type) m b.owner)) t 0) (good.is ∙ ap Some (sym (tests.typed b good is)))
+      ∙ ap (λ o. length (blocks_that (is_a type) m o)) own
+      ∙ ap (λ bs. length (filter (is_a type) bs)) are.root.all_own
 
   port-within : (i : ℕ) → i < length rows → test (row_at rows i).kind ≡ true → IsUpTo (length (filter (is_a type) m.blocks)) (port_of (row_at rows i).kind)
   port-within i h own =
@@ -272,7 +251,7 @@ module _ (m : ModelTree) (rows : List Row) (are : AreRows m rows) (type : BlockT
       let range = number-up-to (same_typed m b) (text_of m b param.Port) number.0 number.1 in
       let port : port_of (row_at rows i).kind ≡ number.0 =
       tests.port m b good.type (row_at rows i).kind (shape-at m rows are i h) own ∙ ap (λ o. unwrap_or o 0) range.0 in
-      subst (λ n. IsUpTo n (port_of (row_at rows i).kind)) (same-type b (are.root.owner i (within m rows are i h)) is (name-at b good is))
+      subst (λ n. IsUpTo n (port_of (row_at rows i).kind)) (same-type b good (are.root.owner i (within m rows are i h)) is)
       (subst (IsUpTo (same_typed m b)) (sym port) range.1)
 
   -- two rows of one port, the first before the second

@@ -13,7 +13,7 @@ use Rattle.mc_table.specs.Numbered.{IsNumbered}
 use Rattle.mc_table.specs.SoFar.{model_refusal_so_far}
 use Rattle.mc_table.specs.TableOf.{IsTableOf}
 use Rattle.mc_table.specs.TableLaws.{one_system, IsTimeless, AcceptedTableIsWellFormed, AcceptedTableIsOneSystem, AcceptedTableIsTimeless}
-use Rattle.mc_table.proofs.AcceptedModel.{accepted-model, root_blocks, read-table}
+use Rattle.mc_table.proofs.lemmas.AcceptedModel.{accepted-model, root_blocks, read-table}
 use Rattle.mc_table.proofs.AcceptedTexts.{step-within}
 use Rattle.mc_table.proofs.AcceptedRows.{AreRows, nested, each-row, controls, one-system, inports, outports, has-ports}
 use Rattle.mc_table.proofs.AcceptedWires.{wired}

@@ -20,7 +20,7 @@ use Rattle.mc_fixed.specs.declared.TypeText.TheVariants as type
 use Rattle.mdl_tree.specs.Spelling.{Items}
 use Rattle.mdl_tree.specs.Walks.{first_value}
 use Rattle.mdl_params.specs.declared.BlockType.{BlockType}
-use Rattle.mdl_params.specs.declared.BlockType.TheVariants.{Inport, Outport, SubSystem, Constant, Ground, Terminator, Gain, Sum, Product, UnitDelay, ZeroOrderHold, Switch, RelationalOperator, Logic, DataTypeConversion, RateTransition, EnablePort, TriggerPort}
+use Rattle.mdl_params.specs.declared.BlockType.TheVariants.{Inport, Outport, SubSystem, Constant, Ground, Terminator, Gain, Sum, Product, UnitDelay, Delay, ZeroOrderHold, Switch, RelationalOperator, Logic, DataTypeConversion, RateTransition, EnablePort, TriggerPort}
 use Rattle.mdl_params.specs.declared.ParamFault.TheVariants.{Parameter}
 use Rattle.mdl_params.specs.BlockTypes.{block_type_name, block_type_of}
 use Rattle.mdl_params.specs.Language.{parameters, is_same_param}
@@ -36,8 +36,8 @@ use Rattle.mc_table.specs.TreeRefusals.{is_inherited, is_truth}
 use Rattle.mc_table.specs.TableOf.{IsNumber, IsTypeText, IsTimeText, HasKind, IsRowOf, positive_parts, IsStepOf, first_outside_system}
 use Rattle.mc_table.proofs.FormLemmas.{formed}
 use Rattle.mc_table.proofs.TimeValues.{inherited-or-each, any-time, above-zero}
-use Rattle.mc_table.proofs.AcceptedLists.{none-some, some-same, not-false}
-use Rattle.mc_table.proofs.AcceptedModel.{IsGood}
+use Rattle.mc_table.proofs.lemmas.AcceptedLists.{none-some, some-same, not-false}
+use Rattle.mc_table.proofs.lemmas.AcceptedModel.{IsGood}
 use Rattle.mc_table.proofs.AcceptedKinds.{is-a, is_named, kind-within}
 
 -- ---- Kinds
@@ -124,6 +124,7 @@ module _ (m : ModelTree) (b : Block) (row : Row) (good : IsGood m b) (is : IsRow
   type-within Sum k e h = subst (λ k. IsTypeTextOf k row.type_text) (sym h) tt
   type-within Product k e h = subst (λ k. IsTypeTextOf k row.type_text) (sym h) tt
   type-within UnitDelay k e h = subst (λ k. IsTypeTextOf k row.type_text) (sym h.2) (written UnitDelay e)
+  type-within Delay k e h = subst (λ k. IsTypeTextOf k row.type_text) (sym h.2) (written Delay e)
   type-within ZeroOrderHold k e h = subst (λ k. IsTypeTextOf k row.type_text) (sym h) (written ZeroOrderHold e)
   type-within Switch k e h = subst (λ k. IsTypeTextOf k row.type_text) (sym h.2) tt
   type-within RelationalOperator k e h =
@@ -165,6 +166,7 @@ module _ (m : ModelTree) (b : Block) (row : Row) (good : IsGood m b) (is : IsRow
   time-within Sum k e h = subst (λ k. IsTimeTextOf k row.time_text) (sym h) (time-by Sum e refl (timed Sum e) (formed m b Sum SampleTime e good.formed refl))
   time-within Product k e h = subst (λ k. IsTimeTextOf k row.time_text) (sym h) (time-by Product e refl (timed Product e) (formed m b Product SampleTime e good.formed refl))
   time-within UnitDelay k e h = subst (λ k. IsTimeTextOf k row.time_text) (sym h.2) (time-by UnitDelay e refl (timed UnitDelay e) (formed m b UnitDelay SampleTime e good.formed refl))
+  time-within Delay k e h = subst (λ k. IsTimeTextOf k row.time_text) (sym h.2) (time-by Delay e refl (timed Delay e) (formed m b Delay SampleTime e good.formed refl))
   time-within ZeroOrderHold k e h = subst (λ k. IsTimeTextOf k row.time_text) (sym h) (time-by ZeroOrderHold e refl (timed ZeroOrderHold e) (formed m b ZeroOrderHold SampleTime e good.formed refl))
   time-within Switch k e h = subst (λ k. IsTimeTextOf k row.time_text) (sym h.2) (time-by Switch e refl (timed Switch e) (formed m b Switch SampleTime e good.formed refl))
   time-within RelationalOperator k e h = subst (λ k. IsTimeTextOf k row.time_text) (sym h) (time-by RelationalOperator e refl (timed RelationalOperator e) (formed m b RelationalOperator SampleTime e good.formed refl))

@@ -18,7 +18,7 @@ use Rattle.mc_fixed.specs.declared.TypeText.TheVariants as type
 use Rattle.mdl_tree.specs.Spelling.{Items, End, Param, Section}
 use Rattle.mdl_tree.specs.Walks.{SectionTree, first_section, sections_named}
 use Rattle.mdl_params.specs.declared.BlockType.{BlockType}
-use Rattle.mdl_params.specs.declared.BlockType.TheVariants.{Inport, Outport, SubSystem, Constant, Ground, Terminator, Gain, Sum, Product, UnitDelay, ZeroOrderHold, Switch, RelationalOperator, Logic, DataTypeConversion, RateTransition, EnablePort, TriggerPort}
+use Rattle.mdl_params.specs.declared.BlockType.TheVariants.{Inport, Outport, SubSystem, Constant, Ground, Terminator, Gain, Sum, Product, UnitDelay, Delay, ZeroOrderHold, Switch, RelationalOperator, Logic, DataTypeConversion, RateTransition, EnablePort, TriggerPort}
 use Rattle.mdl_params.specs.declared.ParamFault.{ParamFault}
 use Rattle.mdl_params.specs.Forms.{number_form}
 use Rattle.mc_blocks.specs.declared.Kind.{Kind}
@@ -38,10 +38,10 @@ use Rattle.mc_table.specs.SoFar.{model_refusal_so_far}
 use Rattle.mc_table.proofs.FormLemmas.{of-all, of-none, among, form-text, formed, parameter-type, output-type, block-time, gain-number}
 use Rattle.mc_table.proofs.NumberValues.{number-decimal, decimal-of, initial-of}
 use Rattle.mc_table.proofs.TypeValues.{type-of}
-use Rattle.mc_table.proofs.AcceptedLists.{cons-empty, map-empty, all-by-place, zip-length, zip-at}
+use Rattle.mc_table.proofs.lemmas.AcceptedLists.{cons-empty, map-empty, all-by-place, zip-length, zip-at}
 use Rattle.mc_table.proofs.TimeValues.{time-of}
 use Rattle.mc_table.proofs.AcceptedTexts.{row-within, step-within}
-use Rattle.mc_table.proofs.AcceptedModel.{none_later, all-none, nothing_listed, accepted-model, accepted-sound, sound-model, IsSound, IsGood, good_block}
+use Rattle.mc_table.proofs.lemmas.AcceptedModel.{none_later, all-none, nothing_listed, accepted-model, accepted-sound, sound-model, IsSound, IsGood, good_block}
 
 -- ---- The model
 
@@ -161,6 +161,9 @@ module _ (m : ModelTree) (b : Block) (good : IsGood m b) where
   kind-there UnitDelay e =
       let d = decimal-of (text_of m b InitialCondition) (formed m b UnitDelay InitialCondition e good.formed refl) in
       (kind.UnitDelay d.0, (d.0, d.1, refl))
+  kind-there Delay e =
+      let d = decimal-of (text_of m b InitialCondition) (formed m b Delay InitialCondition e good.formed refl) in
+      (kind.Delay _ d.0, (d.0, d.1, refl))
   kind-there ZeroOrderHold e = (kind.ZeroOrderHold, refl)
   kind-there Switch e =
       let d = decimal-of (text_of m b Threshold) (formed m b Switch Threshold e good.formed refl) in

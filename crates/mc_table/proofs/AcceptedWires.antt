@@ -18,8 +18,8 @@ use Rattle.mc_table.specs.Words.{whole_number}
 use Rattle.mc_table.specs.Lines.{Place, LineEnd, lines_of, source_of, targets_of, ends_from, ends_of, has_name, block_named, input_of, output_of, input_count, input_count_by, output_count, output_count_by, data_ports, control_ports, ports_of, leads_to, own_port, row_of_output, row_of_source, wire_into}
 use Rattle.mc_table.specs.TableOf.{entering}
 use Rattle.mc_table.specs.TreeRefusals.{sources_in, targets_in, is_connected}
-use Rattle.mc_table.proofs.AcceptedLists.{append-empty, map-empty, first-empty, empty-at, all-fail, filter-append, not-false, all-map, all-append, all-split, found-at, found-has, found-any, IsThere, all-there}
-use Rattle.mc_table.proofs.AcceptedModel.{IsGood}
+use Rattle.mc_table.proofs.lemmas.AcceptedLists.{append-empty, map-empty, first-empty, empty-at, all-fail, filter-append, not-false, all-map, all-append, all-split, found-at, found-has, found-any, IsThere, all-there}
+use Rattle.mc_table.proofs.lemmas.AcceptedModel.{IsGood}
 use Rattle.mc_table.proofs.AcceptedTexts.{type-is}
 use Rattle.mc_table.proofs.AcceptedRows.{AreRows, as_many, within, row-of, good-at, shape-at, owner-at}
 
@@ -69,6 +69,7 @@ reads-root rows (kind.Gain gain how) = refl
 reads-root rows (kind.Sum count minus how) = refl
 reads-root rows (kind.Product count how) = refl
 reads-root rows (kind.UnitDelay initial) = refl
+reads-root rows (kind.Delay length initial) = refl
 reads-root rows kind.ZeroOrderHold = refl
 reads-root rows (kind.Switch criterion threshold how) = refl
 reads-root rows (kind.Relational compare) = refl

@@ -1,21 +1,27 @@
 -- Blocks with the name or the port of an earlier one, block by block.
-use Rattle.std.proofs.Common.{◌≡◌, refl, sym, ◌∙◌, ap, ap₂, ℕ, suc, zero, ◌+◌, ◌<◌, ◌≤◌, Bool, true, false, ◌&&◌, ◌||◌, cond, List, [], ◌∷◌, ◌++◌, length, take, drop, reverse, slice_index_or, drop-cons, drop_of_length-le, Option, None, Some, map, arith}
-use Rattle.std.specs.Prelude.{◌==◌}
+use Rattle.std.proofs.Common.{◌≡◌, refl, sym, ◌∙◌, ap, ap₂, ℕ, suc, zero, ◌+◌, ◌<◌, ◌≤◌, Bool, true, false, ◌&&◌, ◌||◌, cond, true≢false, codes, List, [], ◌∷◌, ◌++◌, length, take, drop, reverse, slice_index_or, drop-cons, drop_of_length-le, Option, None, Some, map, arith}
+use Rattle.std.specs.Prelude.{◌==◌, nat_eq, bytes_eq}
 use Rattle.std.specs.List.{list_any}
+use Rattle.std.specs.Option.{option_eq, option_map_or}
+use Rattle.std.proofs.lemmas.Slice.Eq.{bytes_eq-Decides}
 use Rattle.std.proofs.lemmas.List.{take_more, reverse-append}
 use Rattle.std.proofs.lemmas.List.Folds.{list_any-append}
+use Rattle.indexmap.specs.IndexSet.{IndexSet, contains, Updates}
 use Rattle.mc_base.specs.Refusals.{PlainRefusal}
+use Rattle.mdl_tree.specs.Walks.{first_value}
 use Rattle.mdl_params.specs.declared.BlockType.TheVariants.{Inport, Outport}
 use Rattle.mc_diagram.specs.Rows.{same_system}
 use Rattle.mc_diagram.specs.FirstRefusal.{least_line, earlier_of}
-use Rattle.mc_table.specs.Blocks.{Block, ModelTree, no_block, block_at, is_a}
+use Rattle.mc_table.specs.declared.doubles.SystemPort.{SystemPort}
+use Rattle.mc_table.specs.Blocks.{Block, ModelTree, no_block, block_at, is_inport, is_outport}
 use Rattle.mc_table.specs.Parameters.{name_of}
 use Rattle.mc_table.specs.Lines.{own_port}
 use Rattle.mc_table.specs.TreeRefusals.{same_name, are_doubles, repeats_from, double_names}
 use Rattle.mc_table.specs.NameMaps.{is_name, place_of, is_before}
-use Rattle.mc_table.specs.Doubles.{have_one_port, is_port, are_alike, IsFlat, is_double_at, double_at, double_refusal, doubles_from}
-use Rattle.mc_diagram.proofs.FirstRefusals.{earlier_assoc, earlier-none}
+use Rattle.mc_table.specs.Doubles.{port_as, port_of, same_ports, is_port, have_one_port, are_alike, ArePortsOf, is_taken, Takes, IsFlat, is_double_at, double_found, double_refusal, doubles_from}
+use Rattle.mc_diagram.proofs.lemmas.FirstRefusals.{earlier_assoc, earlier-none}
 use Rattle.mc_table.proofs.NameLemmas.{bytes_eq-swap, place-before}
+use Rattle.mc_table.proofs.TypedLemmas.{system-same}
 
 -- ---- Tests of lists
 
@@ -85,19 +91,90 @@ none-before names own e = sym (any-none (λ n. same_name n None) no_name names) 
 
 -- ---- Ports
 
-not_both : (a b : Bool) → b ≡ false → (a && b) ≡ false
-not_both true b e = e
-not_both false b e = refl
-
--- a block that is no port has the port of none
-pub no_port : (m : ModelTree) (b : Block) (blocks : List Block) → is_port b ≡ false → list_any (λ a. have_one_port m a b) blocks ≡ false
-no_port m b blocks e = any-none (λ a. have_one_port m a b) (λ a. by a (is_a Inport b) (is_a Outport b) refl refl e) blocks
+-- a port is among those of earlier blocks where one of them has it
+pub ports-before : {S : Type 0} (m : ModelTree) (b : Block) (before : List Block) (ports : IndexSet SystemPort S) → ArePortsOf m before ports →
+    is_taken ports (port_of m b) ≡ list_any (λ a. have_one_port m a b) before
+ports-before m b before ports are = by (port_of m b)
   where
-    by : (a : Block) (t u : Bool) → is_a Inport b ≡ t → is_a Outport b ≡ u → (t || u) ≡ false → have_one_port m a b ≡ false
-    by a true u p q r = cc
-    by a false true p q r = cc
-    by a false false p q r =
-        ap (λ t. t && own_port m a == own_port m b) (ap₂ ◌||◌ (not_both (is_a Inport a) (is_a Inport b) p) (not_both (is_a Outport a) (is_a Outport b) q))
+    by : (port : Option SystemPort) → is_taken ports port ≡ list_any (λ a. option_map_or (is_port (port_of m a)) port false) before
+    by None = sym (any-none (λ (a : Block). false) (λ a. refl) before)
+    by (Some port) = are port
+
+or-none : (t : Bool) → t ≡ (t || false)
+or-none true = refl
+or-none false = refl
+
+-- the port of one block more
+pub ports-more : {S : Type 0} (m : ModelTree) (b : Block) (before : List Block) (ports wider : IndexSet SystemPort S) → ArePortsOf m before ports → Takes ports wider (port_of m b) →
+    ArePortsOf m (before ++ b ∷ []) wider
+ports-more m b before ports wider are takes port =
+    takes port ∙ ap₂ ◌||◌ (are port) (or-none (is_port (port_of m b) port))
+    ∙ sym (list_any-append (λ a. is_port (port_of m a) port) before (b ∷ []))
+
+-- what a set takes
+pub takes-none : {S : Type 0} (ports : IndexSet SystemPort S) → Takes ports ports None
+takes-none ports other = or-none (contains same_ports ports other)
+
+pub takes-one : {S : Type 0} (ports wider : IndexSet SystemPort S) (port : SystemPort) → Updates same_ports ports wider port true → Takes ports wider (Some port)
+takes-one ports wider port updates other = updates.0 other ∙ by (same_ports port other) (contains same_ports ports other)
+  where
+    by : (t u : Bool) → cond t true u ≡ (u || t)
+    by true true = refl
+    by true false = refl
+    by false true = refl
+    by false false = refl
+
+-- an Inport is no Outport
+one-type : (b : Block) → (is_inport b && is_outport b) ≡ false
+one-type b = by (first_value (codes "BlockType") b.items)
+  where
+    by_text : (text : List ℕ) (t : Bool) → bytes_eq (codes "Inport") text ≡ t → (t && bytes_eq (codes "Outport") text) ≡ false
+    by_text text true e = ap (bytes_eq (codes "Outport")) (sym ((bytes_eq-Decides (codes "Inport") text).0 e))
+    by_text text false e = refl
+
+    by : (text : Option (List ℕ)) → (option_map_or (bytes_eq (codes "Inport")) text false && option_map_or (bytes_eq (codes "Outport")) text false) ≡ false
+    by None = refl
+    by (Some text) = by_text text (bytes_eq (codes "Inport") text) refl
+
+and-between : (s t n : Bool) → ((s && t) && n) ≡ (s && (t && n))
+and-between true t n = refl
+and-between false t n = refl
+
+and-none : (s : Bool) → false ≡ (s && false)
+and-none true = refl
+and-none false = refl
+
+-- two blocks with one port are in one system, and both Inports or both Outports
+one-port : (m : ModelTree) (a b : Block) →
+    have_one_port m a b ≡ (same_system a.owner b.owner && (((is_inport a && is_inport b) || (is_outport a && is_outport b)) && own_port m a == own_port m b))
+one-port m a b = by (is_inport a) (is_outport a) (is_inport b) (is_outport b) (one-type a) (one-type b)
+  where
+    in_one : Bool
+    in_one = option_eq nat_eq a.owner b.owner
+
+    equal : Bool
+    equal = own_port m a == own_port m b
+
+    sided : (t : Bool) → ((in_one && t) && equal) ≡ (same_system a.owner b.owner && (t && equal))
+    sided t = and-between in_one t equal ∙ ap (λ s. s && (t && equal)) (system-same a.owner b.owner)
+
+    by : (i j k l : Bool) → (i && j) ≡ false → (k && l) ≡ false →
+        option_map_or (is_port (cond i (Some (port_as m a Inport)) (cond j (Some (port_as m a Outport)) None)))
+        (cond k (Some (port_as m b Inport)) (cond l (Some (port_as m b Outport)) None)) false
+        ≡ (same_system a.owner b.owner && (((i && k) || (j && l)) && equal))
+    by true true k l e f = absurd (true≢false e)
+    by true false true true e f = absurd (true≢false f)
+    by true false true false e f = sided true
+    by true false false true e f = sided false
+    by true false false false e f = and-none (same_system a.owner b.owner)
+    by false true true true e f = absurd (true≢false f)
+    by false true true false e f = sided false
+    by false true false true e f = sided true
+    by false true false false e f = and-none (same_system a.owner b.owner)
+    by false false true true e f = absurd (true≢false f)
+    by false false true false e f = and-none (same_system a.owner b.owner)
+    by false false false true e f = and-none (same_system a.owner b.owner)
+    by false false false false e f = and-none (same_system a.owner b.owner)
 
 -- ---- Doubles
 
@@ -123,23 +200,31 @@ one_more i = omega arith
 -- one block more is looked at
 pub doubles-more : (m : ModelTree) (i : ℕ) (least whole : Option PlainRefusal) → i < length m.blocks →
     earlier_of least (doubles_from m (reverse (take i m.blocks)) (drop i m.blocks)) ≡ whole →
-    earlier_of (earlier_of least (double_at m i)) (doubles_from m (reverse (take (i + 1) m.blocks)) (drop (i + 1) m.blocks)) ≡ whole
+    earlier_of (earlier_of least (double_found (block_at m i) (is_double_at m i))) (doubles_from m (reverse (take (i + 1) m.blocks)) (drop (i + 1) m.blocks)) ≡ whole
 doubles-more m i least whole h all =
     let b = block_at m i in
     let rest = drop (i + 1) m.blocks in
     let before = reverse (take i m.blocks) in
     let front : reverse (take (i + 1) m.blocks) ≡ b ∷ before = ap reverse (take_more m.blocks i no_block h) ∙ reverse-append (take i m.blocks) (b ∷ []) in
     let split : drop i m.blocks ≡ b ∷ rest = drop-cons m.blocks i no_block h ∙ ap (λ k. b ∷ drop k m.blocks) (one_more i) in
-    earlier_assoc least (double_at m i) (doubles_from m (reverse (take (i + 1) m.blocks)) rest)
-    ∙ ap (earlier_of least) (ap (λ xs. earlier_of (double_at m i) (doubles_from m xs rest)) front
+    earlier_assoc least (double_found b (is_double_at m i)) (doubles_from m (reverse (take (i + 1) m.blocks)) rest)
+    ∙ ap (earlier_of least) (ap (λ xs. earlier_of (double_found b (is_double_at m i)) (doubles_from m xs rest)) front
     ∙ sym (ap (doubles_from m before) split ∙ double-front m b before rest (is_double_at m i) (any-reverse (λ a. are_alike m a b) (take i m.blocks))))
     ∙ all
+
+-- blocks of one system are alike where they are doubles
+alike-flat : (m : ModelTree) (a b : Block) → a.owner ≡ None → b.owner ≡ None → are_alike m a b ≡ are_doubles m a b
+alike-flat m a b first second =
+    let names = same_name (name_of m a) (name_of m b) in
+    let ports = ((is_inport a && is_inport b) || (is_outport a && is_outport b)) && own_port m a == own_port m b in
+    let same : same_system a.owner b.owner ≡ true = ap₂ same_system first second in
+    ap (λ t. names || t) (one-port m a b ∙ ap (λ s. s && ports) same) ∙ sym (ap (λ s. s && (names || ports)) same)
 
 any-flat : (m : ModelTree) (b : Block) (before : List Block) → b.owner ≡ None → IsFlat before →
     list_any (λ a. are_alike m a b) before ≡ list_any (λ a. are_doubles m a b) before
 any-flat m b [] own flat = refl
 any-flat m b (a ∷ before) own flat =
-    ap₂ ◌||◌ (sym (ap₂ (λ o p. same_system o p && are_alike m a b) flat.0 own)) (any-flat m b before own flat.1)
+    ap₂ ◌||◌ (alike-flat m a b flat.0 own) (any-flat m b before own flat.1)
 
 repeats-flat : (m : ModelTree) (before rest : List Block) → IsFlat before → IsFlat rest →
     repeats_from (are_alike m) before rest ≡ repeats_from (are_doubles m) before rest

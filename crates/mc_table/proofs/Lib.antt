@@ -1,3 +1,4 @@
+pub mod lemmas
 pub mod TableIsOne
 pub mod StepLemmas
 pub mod PassLemmas
@@ -24,10 +25,9 @@ pub mod SignLemmas
 pub mod OneFileVerdict
 pub mod RowLemmas
 pub mod BuildLemmas
-pub mod AcceptedLists
-pub mod AcceptedModel
 pub mod AcceptedKinds
 pub mod TypedBlocks
+pub mod TypedLemmas
 pub mod AcceptedTexts
 pub mod AcceptedRows
 pub mod AcceptedWires

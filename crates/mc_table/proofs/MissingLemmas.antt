@@ -18,7 +18,7 @@ use Rattle.mc_table.specs.Doubles.{IsFlat}
 use Rattle.mc_table.specs.Missing.{missing_found, missing_refusal}
 use Rattle.mc_table.specs.HeldLines.{ends_seen, targets_seen, end_seen}
 use Rattle.mc_table.specs.declared.lines.LineEnd as held_end
-use Rattle.mc_diagram.proofs.FirstRefusals.{earlier_assoc, least-where, least-append}
+use Rattle.mc_diagram.proofs.lemmas.FirstRefusals.{earlier_assoc, least-where, least-append}
 
 -- ---- Blocks by name
 

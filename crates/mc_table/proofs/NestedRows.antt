@@ -7,7 +7,7 @@ use Rattle.mc_base.specs.declared.Place.{Place}
 use Rattle.mc_base.specs.Refusals.{TooDeep}
 use Rattle.mdl_tree.specs.Walks.{SectionTree}
 use Rattle.mdl_params.specs.declared.BlockType.{BlockType}
-use Rattle.mdl_params.specs.declared.BlockType.TheVariants.{Inport, Outport, SubSystem, Constant, Ground, Terminator, Gain, Sum, Product, UnitDelay, ZeroOrderHold, Switch, RelationalOperator, Logic, DataTypeConversion, RateTransition, EnablePort, TriggerPort}
+use Rattle.mdl_params.specs.declared.BlockType.TheVariants.{Inport, Outport, SubSystem, Constant, Ground, Terminator, Gain, Sum, Product, UnitDelay, Delay, ZeroOrderHold, Switch, RelationalOperator, Logic, DataTypeConversion, RateTransition, EnablePort, TriggerPort}
 use Rattle.mc_blocks.specs.declared.Kind.{Kind}
 use Rattle.mc_diagram.specs.declared.table.Row.{Row}
 use Rattle.mc_diagram.specs.Rows.{no_row, row_at, is_subsystem, outward, around}
@@ -18,8 +18,8 @@ use Rattle.mc_table.specs.TableOf.{HasKind, IsRowOf, IsTableOf}
 use Rattle.mc_table.specs.TableLaws.{TreeIsNested}
 use Rattle.mc_table.specs.TreeRefusals.{deep_subsystems, too_many_blocks, unsupported, model_refusal}
 use Rattle.mc_table.proofs.FlatLemmas.{model-numbered}
-use Rattle.mc_table.proofs.AcceptedLists.{fails-at, map-empty, zip-length, zip-at}
-use Rattle.mc_table.proofs.AcceptedModel.{IsSound, sound-model, good_block, passes, all-none, nothing_listed, few_blocks, numbered-at}
+use Rattle.mc_table.proofs.lemmas.AcceptedLists.{fails-at, map-empty, zip-length, zip-at}
+use Rattle.mc_table.proofs.lemmas.AcceptedModel.{IsSound, sound-model, good_block, passes, all-none, nothing_listed, few_blocks, numbered-at}
 use Rattle.mc_table.proofs.AcceptedKinds.{is-a, is_named}
 use Rattle.mc_table.proofs.AcceptedTexts.{kind-is}
 use Rattle.mc_table.proofs.AcceptedTrees.{read-by}
@@ -37,6 +37,7 @@ subsystem-kind m b Gain k h = ap is_subsystem h.4
 subsystem-kind m b Sum k h = ap is_subsystem h
 subsystem-kind m b Product k h = ap is_subsystem h
 subsystem-kind m b UnitDelay k h = ap is_subsystem h.2
+subsystem-kind m b Delay k h = ap is_subsystem h.2
 subsystem-kind m b ZeroOrderHold k h = ap is_subsystem h
 subsystem-kind m b Switch k h = ap is_subsystem h.2
 subsystem-kind m b RelationalOperator k h = ap is_subsystem h

@@ -15,7 +15,7 @@ use Rattle.mc_table.specs.Lines.{parts_of_line, lines_of}
 use Rattle.mc_table.specs.TreeRefusals.{crowd, crowded_systems, line_of_system, line_parts, is_newer_line}
 use Rattle.mc_table.specs.Held.{trees_of}
 use Rattle.mc_table.specs.Numbered.{IsNumbered, parts_among, parts_inside, crowd_at, crowd_in, crowd_found, newer_refusal, newer_found}
-use Rattle.mc_diagram.proofs.FirstRefusals.{earlier_assoc, least_line-append}
+use Rattle.mc_diagram.proofs.lemmas.FirstRefusals.{earlier_assoc, least_line-append}
 
 -- each of the blocks stands at its number
 AreAt : List Block → List Block → Type 0

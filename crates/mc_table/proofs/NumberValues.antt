@@ -11,9 +11,9 @@ use Rattle.mc_base.specs.Numbers.{AreLowest}
 use Rattle.mc_base.specs.Literals.{Ratio, Exponent, in_lowest_terms, are_digits, is_numeral, is_short, significant_len, with_sign, exponent_of, times_power_of_ten, point_value, with_exponent, quotient_value, after_digits, plain_value, number_value, without_brackets, ratio_of}
 use Rattle.mc_base.specs.declared.Decimal.{Decimal}
 use Rattle.mc_base.specs.declared.NumFault.{NumFault}
-use Rattle.mc_base.proofs.DigitLaws.{are_digits-take_while}
-use Rattle.mc_base.proofs.Lowest.{in_lowest_terms_is}
-use Rattle.mc_base.proofs.NumberBounds.{in_lowest_terms-le, powers, power_pos, product_bound, short_value, positive_value, numeral_digits}
+use Rattle.mc_base.proofs.lemmas.DigitLaws.{are_digits-take_while}
+use Rattle.mc_base.proofs.lemmas.Lowest.{in_lowest_terms_is}
+use Rattle.mc_base.proofs.lemmas.NumberBounds.{in_lowest_terms-le, powers, power_pos, product_bound, short_value, positive_value, numeral_digits}
 use Rattle.mdl_params.specs.declared.ParamFault.{ParamFault}
 use Rattle.mdl_params.specs.declared.ParamFault.TheVariants.{Parameter}
 use Rattle.mdl_params.specs.Forms.{number_form}

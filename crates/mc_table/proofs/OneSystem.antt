@@ -14,7 +14,7 @@ use Rattle.mc_table.specs.SoFar.{is_later, writes_period, is_not_read, unread_fo
 use Rattle.mc_table.specs.Held.{taken, blocks_held}
 use Rattle.mc_table.specs.Doubles.{IsFlat}
 use Rattle.mc_diagram.specs.FirstRefusal.{earlier_of, least_in}
-use Rattle.mc_diagram.proofs.FirstRefusals.{none-later}
+use Rattle.mc_diagram.proofs.lemmas.FirstRefusals.{none-later}
 use Rattle.mc_table.proofs.FormLemmas.{or-left, or-right}
 use Rattle.mc_table.proofs.BlockLemmas.{blocks_in-block, blocks_in-other}
 

@@ -12,7 +12,7 @@ use Rattle.mc_table.specs.Parameters.{has_form, parameters_of}
 use Rattle.mc_table.specs.TreeRefusals.{bad_parameters}
 use Rattle.mc_table.specs.SoFar.{parameter_found}
 use Rattle.mc_table.specs.Held.{seen, all_seen}
-use Rattle.mc_diagram.proofs.FirstRefusals.{earlier_assoc, earlier-none, least-each}
+use Rattle.mc_diagram.proofs.lemmas.FirstRefusals.{earlier_assoc, earlier-none, least-each}
 
 one_more : (i : ℕ) → suc i ≡ i + 1
 one_more i = omega arith

@@ -9,8 +9,8 @@ use Rattle.mc_table.specs.Readable.{IsReadable}
 use Rattle.mc_table.specs.Wiring.{IsOneSystem}
 use Rattle.mc_table.specs.Held.{seen}
 use Rattle.mc_table.specs.HeldModels.{tree_of}
-use Rattle.mc_table.proofs.AcceptedLists.{fails-at}
-use Rattle.mc_table.proofs.AcceptedModel.{accepted-model, accepted-sound, good_block, read_now, flat-at}
+use Rattle.mc_table.proofs.lemmas.AcceptedLists.{fails-at}
+use Rattle.mc_table.proofs.lemmas.AcceptedModel.{accepted-model, accepted-sound, good_block, read_now, flat-at}
 use Rattle.mc_table.proofs.RowLemmas.{seen-at, seen-inside, number-fits}
 
 readable-at : (m : ModelTree) → model_refusal_so_far m ≡ None → length m.blocks ≤ 20000 → (i : ℕ) → i < length m.blocks → IsReadable m (block_at m i)

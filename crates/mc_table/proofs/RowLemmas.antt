@@ -1,9 +1,10 @@
 -- What holds of a block from which a row is made.
 use Rattle.std.proofs.Common.{◌≡◌, refl, sym, ◌∙◌, ap, subst, ℕ, zero, suc, ◌+◌, ◌^◌, ◌<◌, ◌≤◌, nat_le, Bool, true, false, ◌&&◌, cond, true≢false, List, [], ◌∷◌, ◌++◌, map, take, slice_index_or, length, Option, None, Some, is_some, arith}
 use Rattle.std.proofs.lemmas.Bool.Decides.{nat_tests}
-use Rattle.std.specs.Prelude.{bytes_eq, filter, unwrap_or, option_and_then, slice_get}
+use Rattle.std.specs.Prelude.{filter, unwrap_or, option_and_then, slice_get}
 use Rattle.std.proofs.lemmas.Option.{slice_get-get_or}
 use Rattle.std.specs.List.{AllZip, list_all, list_any}
+use Rattle.std.specs.Option.{option_map_or}
 use Rattle.mc_base.specs.declared.base.ParamName.TheVariants as param
 use Rattle.mc_base.specs.declared.base.ParamName.TheVariants.{Name}
 use Rattle.mc_diagram.specs.Rows.{same_system}
@@ -12,15 +13,15 @@ use Rattle.mdl_params.specs.Language.{parameters, is_same_param}
 use Rattle.mc_diagram.specs.declared.table.Row.{Row}
 use Rattle.mc_table.specs.declared.block.Block as held
 use Rattle.mc_table.specs.declared.model.ModelText.{ModelText}
-use Rattle.mc_table.specs.Blocks.{Block, ModelTree, no_block, block_at, block_type, blocks_of, blocks_that}
+use Rattle.mc_table.specs.Blocks.{Block, ModelTree, no_block, block_at, block_type, is_a, blocks_of, blocks_that}
 use Rattle.mc_table.specs.Held.{seen, all_seen}
 use Rattle.mc_table.specs.HeldModels.{tree_of}
 use Rattle.mc_table.specs.Numbered.{IsNumbered}
 use Rattle.mc_table.specs.Wiring.{StandsAtNumber}
 use Rattle.mc_table.specs.Words.{whole_number}
-use Rattle.mc_table.specs.Parameters.{type_name, text_of, parameters_of, has_form, same_typed}
+use Rattle.mc_table.specs.Parameters.{text_of, parameters_of, has_form, same_typed}
 use Rattle.mc_table.specs.Lines.{own_port}
-use Rattle.mc_table.proofs.AcceptedModel.{numbered-at}
+use Rattle.mc_table.proofs.lemmas.AcceptedModel.{numbered-at}
 use Rattle.mc_table.proofs.FormLemmas.{formed}
 
 -- ---- Ports
@@ -53,7 +54,8 @@ pub port-fits : (m : ModelTree) (b : Block) (t : BlockType) → block_type b ≡
     list_any (is_same_param param.Port) (Name ∷ map (λ p. p.0) (parameters t)) ≡ true → length m.blocks ≤ 20000 → own_port m b < 2 ^ 32
 port-fits m b t typed forms among few =
     let port = up-to (same_typed m b) (whole_number (text_of m b param.Port)) (formed m b t param.Port typed forms among) in
-    let alike = few-typed m (λ c. bytes_eq (type_name c) (type_name b)) b.owner in
+    let alike : same_typed m b ≤ length m.blocks =
+    subst (λ o. option_map_or (λ type. length (blocks_that (is_a type) m b.owner)) o 0 ≤ length m.blocks) (sym typed) (few-typed m (is_a t) b.owner) in
     omega (arith, port, alike, few)
 
 -- ---- Rows, block by block

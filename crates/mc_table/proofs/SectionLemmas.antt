@@ -9,7 +9,7 @@ use Rattle.mdl_tree.specs.declared.tree.Item.TheViews as views
 use Rattle.mdl_tree.specs.Spelling.{Items, End}
 use Rattle.mdl_tree.specs.Walks.{SectionTree, sections_named}
 use Rattle.mdl_tree.specs.Values.{with_row, with_item, items_of, section_tree}
-use Rattle.mdl_tree.proofs.Rows.{section_in, items_from}
+use Rattle.mdl_tree.proofs.lemmas.Rows.{section_in, items_from}
 use Rattle.mc_table.specs.Walks.{item_alone}
 use Rattle.mc_table.specs.Lines.{branches_in, parts_of_line}
 use Rattle.mc_table.specs.Held.{trees_of}

@@ -7,7 +7,7 @@ use Rattle.mdl_tree.specs.declared.tree.Item.{Item, Param, Section'}
 use Rattle.mdl_tree.specs.declared.tree.Item.TheViews as views
 use Rattle.mdl_tree.specs.Spelling.{Items, End}
 use Rattle.mdl_tree.specs.Values.{with_row, with_item, items_of}
-use Rattle.mdl_tree.proofs.Rows.{section_in, items_from}
+use Rattle.mdl_tree.proofs.lemmas.Rows.{section_in, items_from}
 use Rattle.mc_table.specs.Walks.{item_alone, is_system_first, first_behind}
 use Rattle.mc_table.specs.TableOf.{first_at_any_depth, first_outside_system}
 

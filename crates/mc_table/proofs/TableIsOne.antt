@@ -21,7 +21,7 @@ use Rattle.mdl_params.specs.Forms.{number_form, type_form}
 use Rattle.mdl_params.specs.Times.{time_of, time_form}
 use Rattle.mdl_params.specs.Times as form
 use Rattle.mdl_params.specs.declared.BlockType.{BlockType}
-use Rattle.mdl_params.specs.declared.BlockType.TheVariants.{Inport, Outport, SubSystem, Constant, Ground, Terminator, Gain, Sum, Product, UnitDelay, ZeroOrderHold, Switch, RelationalOperator, Logic as LogicBlock, DataTypeConversion, RateTransition, EnablePort, TriggerPort}
+use Rattle.mdl_params.specs.declared.BlockType.TheVariants.{Inport, Outport, SubSystem, Constant, Ground, Terminator, Gain, Sum, Product, UnitDelay, Delay, ZeroOrderHold, Switch, RelationalOperator, Logic as LogicBlock, DataTypeConversion, RateTransition, EnablePort, TriggerPort}
 use Rattle.mc_blocks.specs.declared.Kind.{Kind}
 use Rattle.mc_blocks.specs.declared.Kind.TheVariants as kind
 use Rattle.mc_diagram.specs.declared.table.Row.{Row}
@@ -132,6 +132,7 @@ kind-one m b Gain k l p q =
 kind-one m b Sum k l p q = p ∙ sym q
 kind-one m b Product k l p q = p ∙ sym q
 kind-one m b UnitDelay k l p q = p.2 ∙ ap kind.UnitDelay (number-one (text_of m b InitialCondition) p.0 q.0 p.1 q.1) ∙ sym q.2
+kind-one m b Delay k l p q = p.2 ∙ ap (kind.Delay _) (number-one (text_of m b InitialCondition) p.0 q.0 p.1 q.1) ∙ sym q.2
 kind-one m b ZeroOrderHold k l p q = p ∙ sym q
 kind-one m b Switch k l p q = p.2 ∙ ap (λ d. kind.Switch _ d _) (number-one (text_of m b Threshold) p.0 q.0 p.1 q.1) ∙ sym q.2
 kind-one m b RelationalOperator k l p q = p ∙ sym q

@@ -9,7 +9,7 @@ use Rattle.mc_base.specs.declared.ParamName.TheVariants.{Inputs, Operator}
 use Rattle.mc_base.specs.Refusals.{PlainRefusal, NoPort}
 use Rattle.mdl_tree.specs.Walks.{first_value}
 use Rattle.mdl_params.specs.declared.block_type.BlockType.{BlockType}
-use Rattle.mdl_params.specs.declared.block_type.BlockType.TheVariants.{Inport, Outport, SubSystem, Constant, Ground, Terminator, Gain, Sum, Product, UnitDelay, ZeroOrderHold, Switch, RelationalOperator, Logic, DataTypeConversion, RateTransition, EnablePort, TriggerPort}
+use Rattle.mdl_params.specs.declared.block_type.BlockType.TheVariants.{Inport, Outport, SubSystem, Constant, Ground, Terminator, Gain, Sum, Product, UnitDelay, Delay, ZeroOrderHold, Switch, RelationalOperator, Logic, DataTypeConversion, RateTransition, EnablePort, TriggerPort}
 use Rattle.mdl_params.specs.BlockTypes.{block_type_name, block_types, block_type_of}
 use Rattle.mc_diagram.specs.FirstRefusal.{least_line, least_in, earlier_of}
 use Rattle.mc_table.specs.Blocks.{Block, ModelTree, block_type, is_subsystem, inside}
@@ -21,8 +21,8 @@ use Rattle.mc_table.specs.HeldLines.{ends_seen, targets_seen}
 use Rattle.mc_table.specs.Missing.{no_output_found, no_input_found, numbered_input}
 use Rattle.mc_table.specs.Doubles.{IsFlat}
 use Rattle.mc_table.specs.declared.lines.LineEnd as held_end
-use Rattle.mc_diagram.proofs.FirstRefusals.{least_line-append, least-where}
-use Rattle.mc_table.proofs.AcceptedLists.{found-passes}
+use Rattle.mc_diagram.proofs.lemmas.FirstRefusals.{least_line-append, least-where}
+use Rattle.mc_table.proofs.lemmas.AcceptedLists.{found-passes}
 use Rattle.mc_table.proofs.MissingLemmas.{targets-same, flat_blocks}
 use Rattle.mc_table.proofs.PortLemmas.{found-plain, no_controls, numbered_input-found}
 
@@ -91,6 +91,7 @@ few-typed m b Gain plain = omega arith
 few-typed m b Sum plain = few-signs (text_of m b Inputs)
 few-typed m b Product plain = few-stars (text_of m b Inputs)
 few-typed m b UnitDelay plain = omega arith
+few-typed m b Delay plain = omega arith
 few-typed m b ZeroOrderHold plain = omega arith
 few-typed m b Switch plain = omega arith
 few-typed m b RelationalOperator plain = omega arith

@@ -6,7 +6,7 @@ use Rattle.mc_base.specs.declared.TimeText.{TimeText}
 use Rattle.mc_base.specs.declared.TimeText.TheVariants as time
 use Rattle.mc_base.specs.declared.ParamName.TheVariants.{SampleTime}
 use Rattle.mdl_params.specs.declared.BlockType.{BlockType}
-use Rattle.mdl_params.specs.declared.BlockType.TheVariants.{Inport, Outport, SubSystem, Constant, Ground, Terminator, Gain, Sum, Product, UnitDelay, ZeroOrderHold, Switch, RelationalOperator, Logic, DataTypeConversion, RateTransition, EnablePort, TriggerPort}
+use Rattle.mdl_params.specs.declared.BlockType.TheVariants.{Inport, Outport, SubSystem, Constant, Ground, Terminator, Gain, Sum, Product, UnitDelay, Delay, ZeroOrderHold, Switch, RelationalOperator, Logic, DataTypeConversion, RateTransition, EnablePort, TriggerPort}
 use Rattle.mdl_params.specs.Times.{time_form, time_of}
 use Rattle.mc_blocks.specs.declared.Kind.{Kind}
 use Rattle.mc_diagram.specs.declared.table.Row.{Row}
@@ -20,8 +20,8 @@ use Rattle.mc_table.specs.TreeRefusals.{is_unsupported}
 use Rattle.mc_table.specs.SoFar.{is_later, writes_period, is_not_read}
 use Rattle.mc_table.specs.SoFar as written
 use Rattle.mc_table.proofs.FormLemmas.{or-right}
-use Rattle.mc_table.proofs.AcceptedLists.{fails-at}
-use Rattle.mc_table.proofs.AcceptedModel.{read_now}
+use Rattle.mc_table.proofs.lemmas.AcceptedLists.{fails-at}
+use Rattle.mc_table.proofs.lemmas.AcceptedModel.{read_now}
 use Rattle.mc_table.proofs.AcceptedTexts.{kind-is}
 use Rattle.mc_table.proofs.AcceptedRows.{AreRows, within, row-of, good-at}
 
@@ -50,6 +50,7 @@ kind-without m b Gain k t now h none = subst (λ k. is_each (written_by k t) ≡
 kind-without m b Sum k t now h none = subst (λ k. is_each (written_by k t) ≡ false) (sym h) none
 kind-without m b Product k t now h none = subst (λ k. is_each (written_by k t) ≡ false) (sym h) none
 kind-without m b UnitDelay k t now h none = subst (λ k. is_each (written_by k t) ≡ false) (sym h.2) none
+kind-without m b Delay k t now h none = subst (λ k. is_each (written_by k t) ≡ false) (sym h.2) none
 kind-without m b ZeroOrderHold k t now h none = absurd (true≢false now)
 kind-without m b Switch k t now h none = subst (λ k. is_each (written_by k t) ≡ false) (sym h.2) none
 kind-without m b RelationalOperator k t now h none = subst (λ k. is_each (written_by k t) ≡ false) (sym h) none

@@ -6,14 +6,14 @@ use Rattle.std.proofs.lemmas.Slice.Eq.{bytes_eq-Decides}
 use denote.Enum.Bare.{sameb, same_true, same_false}
 use Rattle.mdl_tree.specs.Walks.{first_value}
 use Rattle.mdl_params.specs.declared.block_type.BlockType.{BlockType}
-use Rattle.mdl_params.specs.declared.block_type.BlockType.TheVariants.{Inport, Outport, SubSystem, Constant, Ground, Terminator, Gain, Sum, Product, UnitDelay, ZeroOrderHold, Switch, RelationalOperator, Logic, DataTypeConversion, RateTransition, EnablePort, TriggerPort}
+use Rattle.mdl_params.specs.declared.block_type.BlockType.TheVariants.{Inport, Outport, SubSystem, Constant, Ground, Terminator, Gain, Sum, Product, UnitDelay, Delay, ZeroOrderHold, Switch, RelationalOperator, Logic, DataTypeConversion, RateTransition, EnablePort, TriggerPort}
 use Rattle.mdl_params.specs.contracts.block_type.BlockType.{the_type}
 use Rattle.mdl_params.specs.BlockTypes.{block_type_name, block_type_of}
 use Rattle.mc_base.specs.declared.ParamName.TheVariants.{Operator}
 use Rattle.mc_table.specs.Blocks.{Block, ModelTree, block_type, is_a}
 use Rattle.mc_table.specs.Words.{sum_signs, product_count, logic_count}
 use Rattle.mc_table.specs.Parameters.{text_of, is_inputs_form}
-use Rattle.mc_table.proofs.AcceptedLists.{none-some, some-same}
+use Rattle.mc_table.proofs.lemmas.AcceptedLists.{none-some, some-same}
 use Rattle.mc_table.proofs.AcceptedKinds.{is-a, is_named}
 
 -- each type is the one of its name
@@ -28,6 +28,7 @@ of-name Gain = refl
 of-name Sum = refl
 of-name Product = refl
 of-name UnitDelay = refl
+of-name Delay = refl
 of-name ZeroOrderHold = refl
 of-name Switch = refl
 of-name RelationalOperator = refl

@@ -16,8 +16,8 @@ use Rattle.mc_table.specs.Doubles.{IsFlat}
 use Rattle.mc_table.specs.Numbered.{IsNumbered}
 use Rattle.mc_table.specs.Wiring.{is_control, IsRootOf, IsOneSystem, lines_refusal}
 use Rattle.mc_table.proofs.FormLemmas.{or-left, or-right}
-use Rattle.mc_table.proofs.AcceptedLists.{none-some}
-use Rattle.mc_diagram.proofs.FirstRefusals.{least-where, least_line-append, none-first, none-later}
+use Rattle.mc_table.proofs.lemmas.AcceptedLists.{none-some}
+use Rattle.mc_diagram.proofs.lemmas.FirstRefusals.{least-where, least_line-append, none-first, none-later}
 use Rattle.mc_table.proofs.OneSystem.{none_found, no_subsystems, flat-in}
 
 pub or-both : (a b : Option PlainRefusal) → option_or a b ≡ None → (a ≡ None) × (b ≡ None)

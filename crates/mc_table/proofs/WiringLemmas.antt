@@ -30,7 +30,7 @@ use Rattle.mc_table.specs.Wiring.{is_double_target, double_target, target_refusa
 use Rattle.mc_table.proofs.DoubleLemmas.{any-same, any-none, any-map, any-reverse}
 use Rattle.mc_table.proofs.NameLemmas.{place-before}
 use Rattle.mc_table.proofs.MissingLemmas.{named-at}
-use Rattle.mc_diagram.proofs.FirstRefusals.{earlier_assoc, earlier-none, least_line-append}
+use Rattle.mc_diagram.proofs.lemmas.FirstRefusals.{earlier_assoc, earlier-none, least_line-append}
 use Rattle.mc_table.proofs.PortLemmas.{no_controls}
 use Rattle.mc_table.proofs.TargetLemmas.{input-named}
 

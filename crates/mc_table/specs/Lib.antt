@@ -3,6 +3,7 @@ pub mod Walks
 pub mod Held
 pub mod HeldModels
 pub mod Passes
+pub mod Typed
 pub mod Numbered
 pub mod NameMaps
 pub mod Doubles

@@ -9,7 +9,7 @@ use Rattle.mc_base.specs.declared.ParamName.TheVariants as param
 use Rattle.mdl_tree.specs.Spelling.{Items, End, Param, Section}
 use Rattle.mdl_tree.specs.Walks.{SectionTree, sections_named, first_value}
 use Rattle.mdl_params.specs.declared.BlockType.{BlockType}
-use Rattle.mdl_params.specs.declared.BlockType.TheVariants.{Inport, Outport, SubSystem, Constant, Ground, Terminator, Gain, Sum, Product, UnitDelay, ZeroOrderHold, Switch, RelationalOperator, Logic, DataTypeConversion, RateTransition, EnablePort, TriggerPort}
+use Rattle.mdl_params.specs.declared.BlockType.TheVariants.{Inport, Outport, SubSystem, Constant, Ground, Terminator, Gain, Sum, Product, UnitDelay, Delay, ZeroOrderHold, Switch, RelationalOperator, Logic, DataTypeConversion, RateTransition, EnablePort, TriggerPort}
 use Rattle.mc_table.specs.Blocks.{Block, ModelTree, block_type, is_inport, is_outport, is_subsystem, is_enable, is_trigger, inside, system_items, blocks_of, blocks_that}
 use Rattle.mc_table.specs.Words.{whole_number, sum_signs, product_count, logic_count}
 use Rattle.mc_table.specs.Parameters.{text_of, name_of}
@@ -88,6 +88,7 @@ input_count_by m b Gain = 1
 input_count_by m b Sum = option_map_or length (sum_signs (text_of m b Inputs)) 0
 input_count_by m b Product = unwrap_or (product_count (text_of m b Inputs)) 0
 input_count_by m b UnitDelay = 1
+input_count_by m b Delay = 1
 input_count_by m b ZeroOrderHold = 1
 input_count_by m b Switch = 3
 input_count_by m b RelationalOperator = 2
@@ -113,6 +114,7 @@ output_count_by m b Gain = 1
 output_count_by m b Sum = 1
 output_count_by m b Product = 1
 output_count_by m b UnitDelay = 1
+output_count_by m b Delay = 1
 output_count_by m b ZeroOrderHold = 1
 output_count_by m b Switch = 1
 output_count_by m b RelationalOperator = 1

@@ -3,7 +3,7 @@ use Rattle.std.specs.Prelude.{ℕ, Bool, true, false, ◌||◌, ◌==◌, if◌t
 use Rattle.std.specs.List.{starts_with, list_any}
 use Rattle.std.specs.Option.{option_map_or}
 use Rattle.mc_base.specs.declared.ParamName.{ParamName}
-use Rattle.mc_base.specs.declared.ParamName.TheVariants.{Name, OutDataTypeStr, SampleTime, PortDimensions, OutputWhenDisabled, InitialOutput, SystemSampleTime, ParamDataTypeStr, RndMeth, SaturateOnIntegerOverflow, Inputs, InitialCondition, Criteria, Threshold, Operator, ConvertRealWorld, Integrity, Deterministic, OutPortSampleTimeOpt, OutPortSampleTime, StatesWhenEnabling, TriggerType}
+use Rattle.mc_base.specs.declared.ParamName.TheVariants.{Name, OutDataTypeStr, SampleTime, PortDimensions, OutputWhenDisabled, InitialOutput, SystemSampleTime, ParamDataTypeStr, RndMeth, SaturateOnIntegerOverflow, Inputs, InitialCondition, Criteria, Threshold, Operator, ConvertRealWorld, Integrity, Deterministic, OutPortSampleTimeOpt, OutPortSampleTime, StatesWhenEnabling, TriggerType, DelayLength, DelayLengthSource, InitialConditionSource, ExternalReset}
 use Rattle.mc_base.specs.declared.ParamName.TheVariants as param
 use Rattle.mc_fixed.specs.TypeTexts.{Meaning, Inherit, Logical, Back, Fixed}
 use Rattle.mdl_tree.specs.Walks.{first_value}
@@ -16,7 +16,7 @@ use Rattle.mdl_params.specs.Forms.{type_form}
 use Rattle.mdl_params.specs.Times.{TimeMeaning, time_form}
 use Rattle.mdl_params.specs.Times as time
 use Rattle.mc_table.specs.Blocks.{Block, ModelTree, block_type, is_a, blocks_that}
-use Rattle.mc_table.specs.Words.{number_up_to, writes_number, writes_minus_one, writes_gain, is_among, rounds, overs, edges, resets, comparisons, logics, criteria, sum_signs, product_count, logic_count}
+use Rattle.mc_table.specs.Words.{number_up_to, samples_in, writes_number, writes_minus_one, writes_gain, is_among, rounds, overs, edges, resets, comparisons, logics, criteria, sum_signs, product_count, logic_count}
 
 -- ---- Texts
 
@@ -87,9 +87,9 @@ is_output_type_form b text =
 abbrev pub is_operator_form : Block → List ℕ → Bool
 is_operator_form b text = if is_a block.Logic b then is_among logics text else is_among comparisons text
 
--- how many blocks of its type are in a block's system
+-- how many blocks of its type are in a block's system; of one whose type isn't read there are none
 abbrev pub same_typed : ModelTree → Block → ℕ
-same_typed m b = length (blocks_that (λ c. bytes_eq (type_name c) (type_name b)) m b.owner)
+same_typed m b = option_map_or (λ type. length (blocks_that (is_a type) m b.owner)) (block_type b) 0
 
 -- whether this text is of the form of a block's parameter
 abbrev pub is_form : ModelTree → Block → ParamName → List ℕ → Bool
@@ -118,6 +118,10 @@ is_form m b Criteria text = is_among criteria text
 is_form m b Operator text = is_operator_form b text
 is_form m b ConvertRealWorld text = starts_with nat_eq text (codes "Real World Value")
 is_form m b OutPortSampleTimeOpt text = bytes_eq text (codes "Specify") || bytes_eq text (codes "Inherit")
+is_form m b DelayLength text = is_some (samples_in text)
+is_form m b DelayLengthSource text = bytes_eq text (codes "Dialog")
+is_form m b InitialConditionSource text = bytes_eq text (codes "Dialog")
+is_form m b ExternalReset text = bytes_eq text (codes "None")
 
 -- whether a block's parameter has a text of its form
 abbrev pub has_form : ModelTree → Block → ParamName → Bool

@@ -1,16 +1,11 @@
 -- One pass over the blocks of a model.
-use Rattle.std.specs.Prelude.{ℕ, Bool, ◌&&◌, Option, bytes_eq}
+use Rattle.std.specs.Prelude.{ℕ, Bool, ◌&&◌, Option}
 use Rattle.mc_base.specs.declared.ModelKind.TheVariants.{Library}
 use Rattle.mc_base.specs.Refusals.{PlainRefusal, TwoModels}
 use Rattle.mdl_tree.specs.Walks.{SectionTree}
 use Rattle.mc_diagram.specs.Rows.{same_system}
 use Rattle.mdl_params.specs.declared.BlockType.{BlockType}
 use Rattle.mc_table.specs.Blocks.{Block, is_a}
-use Rattle.mc_table.specs.Parameters.{type_name}
-
--- whether another block has the type of a block, and is in its system
-abbrev pub is_same_typed : Block → Block → Bool
-is_same_typed b c = same_system c.owner b.owner && bytes_eq (type_name c) (type_name b)
 
 -- whether a block has a type, and is in a system
 abbrev pub is_typed_in : BlockType → Option ℕ → Block → Bool

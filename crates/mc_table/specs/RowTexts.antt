@@ -1,7 +1,7 @@
 -- The types of blocks whose kinds aren't told yet.
 use Rattle.std.specs.Prelude.{Bool, true, false}
 use Rattle.mdl_params.specs.declared.BlockType.{BlockType}
-use Rattle.mdl_params.specs.declared.BlockType.TheVariants.{Inport, Outport, SubSystem, Constant, Ground, Terminator, Gain, Sum, Product, UnitDelay, ZeroOrderHold, Switch, RelationalOperator, Logic, DataTypeConversion, RateTransition, EnablePort, TriggerPort}
+use Rattle.mdl_params.specs.declared.BlockType.TheVariants.{Inport, Outport, SubSystem, Constant, Ground, Terminator, Gain, Sum, Product, UnitDelay, Delay, ZeroOrderHold, Switch, RelationalOperator, Logic, DataTypeConversion, RateTransition, EnablePort, TriggerPort}
 
 -- whether the kind of such a block isn't told yet
 abbrev pub is_without_kind : BlockType → Bool
@@ -15,6 +15,7 @@ is_without_kind Gain = false
 is_without_kind Sum = false
 is_without_kind Product = false
 is_without_kind UnitDelay = false
+is_without_kind Delay = false
 is_without_kind ZeroOrderHold = false
 is_without_kind Switch = false
 is_without_kind RelationalOperator = false

@@ -8,7 +8,7 @@ use Rattle.mc_base.specs.Refusals as refusal
 use Rattle.mdl_tree.specs.Spelling.{Items}
 use Rattle.mdl_tree.specs.Walks.{SectionTree, first_section}
 use Rattle.mdl_params.specs.declared.BlockType.{BlockType}
-use Rattle.mdl_params.specs.declared.BlockType.TheVariants.{Inport, Outport, SubSystem, Constant, Ground, Terminator, Gain, Sum, Product, UnitDelay, ZeroOrderHold, Switch, RelationalOperator, Logic, DataTypeConversion, RateTransition, EnablePort, TriggerPort}
+use Rattle.mdl_params.specs.declared.BlockType.TheVariants.{Inport, Outport, SubSystem, Constant, Ground, Terminator, Gain, Sum, Product, UnitDelay, Delay, ZeroOrderHold, Switch, RelationalOperator, Logic, DataTypeConversion, RateTransition, EnablePort, TriggerPort}
 use Rattle.mdl_params.specs.declared.ParamFault.{ParamFault}
 use Rattle.mdl_params.specs.Times.{TimeMeaning, Inherit as NoTime, Constant as Always, Each, time_form}
 use Rattle.mc_diagram.specs.FirstRefusal.{least_line, first_there, found_where}
@@ -29,6 +29,7 @@ is_later Gain = false
 is_later Sum = false
 is_later Product = false
 is_later UnitDelay = false
+is_later Delay = false
 is_later ZeroOrderHold = true
 is_later Switch = false
 is_later RelationalOperator = false

@@ -13,8 +13,8 @@ use Rattle.mc_diagram.specs.declared.times.Time.{Time}
 use Rattle.mc_table.specs.TreeRefusals.{tree_refusal}
 use Rattle.mc_diagram.specs.TypeRefusals.{type_refusal}
 use Rattle.mc_diagram.specs.TimeRefusals.{written_time_refusal, rate_refusal}
-use Rattle.mc_table.specs.Samples.{tree, one, plant, triggered, twice, constants, sums, tests, enabled}
-use Rattle.mc_table.specs.TableSamples.{one_table, plant_table, passed_table, twice_table, constants_table, sums_table, tests_table, enabled_table, zero_decimal, one_decimal, half_five, product_table, times_table, rates_table, pair_table, round_table, triggered_table, every, of_1, of_2, of_3, of_million, of_999999, of_1000003}
+use Rattle.mc_table.specs.Samples.{tree, one, plant, triggered, controlled, twice, constants, sums, tests, enabled}
+use Rattle.mc_table.specs.TableSamples.{one_table, plant_table, passed_table, controlled_table, twice_table, constants_table, sums_table, tests_table, enabled_table, zero_decimal, one_decimal, half_five, product_table, times_table, rates_table, pair_table, round_table, triggered_table, every, of_1, of_2, of_3, of_million, of_999999, of_1000003}
 
 pub table-one : TableOf (tree one) one_table
 table-one = record {
@@ -72,6 +72,46 @@ table-passed = record {
   );
   fixed_step = refl;
 }
+
+-- the controls of a row stand enable first, whatever order its lines have
+pub table-controlled : TableOf (tree (controlled (codes "reset") [])) controlled_table
+table-controlled = record {
+  rows = (
+    record { place = refl; owner = refl; kind = refl; inputs = refl; type_text = refl; time_text = refl },
+    (
+      record { place = refl; owner = refl; kind = refl; inputs = refl; type_text = refl; time_text = refl },
+      (
+        record { place = refl; owner = refl; kind = refl; inputs = refl; type_text = refl; time_text = refl },
+        (
+          record { place = refl; owner = refl; kind = refl; inputs = refl; type_text = refl; time_text = refl },
+          (
+            record { place = refl; owner = refl; kind = refl; inputs = refl; type_text = refl; time_text = refl },
+            (
+              record { place = refl; owner = refl; kind = refl; inputs = refl; type_text = refl; time_text = refl },
+              (
+                record { place = refl; owner = refl; kind = refl; inputs = refl; type_text = refl; time_text = refl },
+                (
+                  record { place = refl; owner = refl; kind = (zero_decimal, refl, refl); inputs = refl; type_text = refl; time_text = refl },
+                  (
+                    record { place = refl; owner = refl; kind = (zero_decimal, refl, refl); inputs = refl; type_text = refl; time_text = refl },
+                    (
+                      record { place = refl; owner = refl; kind = (zero_decimal, refl, refl); inputs = refl; type_text = refl; time_text = refl },
+                      tt,
+                    ),
+                  ),
+                ),
+              ),
+            ),
+          ),
+        ),
+      ),
+    ),
+  );
+  fixed_step = refl;
+}
+
+types-controlled : type_refusal controlled_table.rows ≡ None
+types-controlled = refl
 
 pub table-twice : TableOf (tree twice) twice_table
 table-twice = record {

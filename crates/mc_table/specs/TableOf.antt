@@ -2,10 +2,11 @@
 use Rattle.std.specs.Prelude.{◌≡◌, ℕ, false, ◌==◌, if◌then◌else◌, List, [], filter_map, find, length, Option, Some, None, MatchOption, MatchBool, Bool, is_some, unwrap_or, option_map, option_and_then, option_to_list, Ok, pos, bytes_eq, codes}
 use Rattle.std.specs.List.{AllZip}
 use Rattle.std.specs.Option.{option_or}
-use Rattle.mc_base.specs.declared.ParamName.TheVariants.{OutDataTypeStr, SampleTime, OutputWhenDisabled, InitialOutput, ParamDataTypeStr, RndMeth, SaturateOnIntegerOverflow, Inputs, InitialCondition, Criteria, Threshold, Operator, OutPortSampleTimeOpt, OutPortSampleTime, StatesWhenEnabling, TriggerType}
+use Rattle.mc_base.specs.declared.ParamName.TheVariants.{OutDataTypeStr, SampleTime, OutputWhenDisabled, InitialOutput, ParamDataTypeStr, RndMeth, SaturateOnIntegerOverflow, Inputs, InitialCondition, Criteria, Threshold, Operator, OutPortSampleTimeOpt, OutPortSampleTime, StatesWhenEnabling, TriggerType, DelayLength}
 use Rattle.mc_base.specs.declared.ParamName.TheVariants as param
 use Rattle.mc_base.specs.declared.Control.{Control}
-use Rattle.mc_base.specs.declared.Control.TheVariants.{Plain, Enabled, Triggered}
+use Rattle.mc_base.specs.declared.Control.TheVariants.{Plain, Enabled, Triggered, Both}
+use Rattle.mc_base.specs.declared.Edge.{Edge}
 use Rattle.mc_base.specs.declared.Edge.TheVariants.{Rising}
 use Rattle.mc_base.specs.declared.Compare.TheVariants as compare
 use Rattle.mc_base.specs.declared.Decimal.{Decimal}
@@ -30,14 +31,14 @@ use Rattle.mc_blocks.specs.declared.Kind.TheVariants as kind
 use Rattle.mdl_tree.specs.Spelling.{Items, End, Param, Section}
 use Rattle.mdl_tree.specs.Walks.{first_section}
 use Rattle.mdl_params.specs.declared.BlockType.{BlockType}
-use Rattle.mdl_params.specs.declared.BlockType.TheVariants.{Inport, Outport, SubSystem, Constant, Ground, Terminator, Gain, Sum, Product, UnitDelay, ZeroOrderHold, Switch, RelationalOperator, Logic, DataTypeConversion, RateTransition, EnablePort, TriggerPort}
+use Rattle.mdl_params.specs.declared.BlockType.TheVariants.{Inport, Outport, SubSystem, Constant, Ground, Terminator, Gain, Sum, Product, UnitDelay, Delay, ZeroOrderHold, Switch, RelationalOperator, Logic, DataTypeConversion, RateTransition, EnablePort, TriggerPort}
 use Rattle.mdl_params.specs.BlockTypes.{beside}
 use Rattle.mdl_params.specs.Forms.{number_form, type_form}
 use Rattle.mdl_params.specs.Times.{time_form, time_of}
 use Rattle.mc_diagram.specs.declared.table.Row.{Row}
 use Rattle.mc_diagram.specs.RowTable.{RowTable}
 use Rattle.mc_table.specs.Blocks.{Block, ModelTree, model_with, block_at, blocks_of, inside, block_type, is_inport, is_subsystem, is_enable, is_trigger}
-use Rattle.mc_table.specs.Words.{value_of, sum_signs, minus_mask, product_count, logic_count, rounds, overs, edges, resets, comparisons, logics, criteria}
+use Rattle.mc_table.specs.Words.{value_of, samples_in, sum_signs, minus_mask, product_count, logic_count, rounds, overs, edges, resets, comparisons, logics, criteria}
 use Rattle.mc_table.specs.Parameters.{text_of, has_parameter}
 use Rattle.mc_table.specs.Lines.{data_ports, control_ports, own_port, wire_into}
 
@@ -84,11 +85,20 @@ gain_with d type.Logical = Typed d boolean
 gain_with d type.Back = Own d
 gain_with d (type.Fixed t) = Typed d t
 
--- how a subsystem is controlled, by the port blocks inside it; one with both is refused
+-- whether an EnablePort resets the states
+abbrev pub resets_states : ModelTree → Block → Bool
+resets_states m enable = unwrap_or (beside (text_of m enable StatesWhenEnabling) resets) false
+
+-- what a TriggerPort waits for
+abbrev pub edge_of : ModelTree → Block → Edge
+edge_of m trigger = unwrap_or (beside (text_of m trigger TriggerType) edges) Rising
+
+-- how a subsystem is controlled, by the first EnablePort and the first TriggerPort inside it
 abbrev pub control_by : ModelTree → (enable trigger : Option Block) → Control
-control_by m (Some b) trigger = Enabled (unwrap_or (beside (text_of m b StatesWhenEnabling) resets) false)
-control_by m None (Some b) = Triggered (unwrap_or (beside (text_of m b TriggerType) edges) Rising)
 control_by m None None = Plain
+control_by m (Some enable) None = Enabled (resets_states m enable)
+control_by m None (Some trigger) = Triggered (edge_of m trigger)
+control_by m (Some enable) (Some trigger) = Both (resets_states m enable) (edge_of m trigger)
 
 -- how a subsystem block is controlled
 abbrev pub control_of : ModelTree → Block → Control
@@ -117,6 +127,9 @@ HasKind m b Sum k =
     k ≡ kind.Sum (length signs) (minus_mask signs) (how_of m b)
 HasKind m b Product k = k ≡ kind.Product (unwrap_or (product_count (text_of m b Inputs)) 0) (how_of m b)
 HasKind m b UnitDelay k = (d : Decimal) × IsNumber (text_of m b InitialCondition) d × (k ≡ kind.UnitDelay d)
+HasKind m b Delay k =
+    (d : Decimal) × IsNumber (text_of m b InitialCondition) d
+    × (k ≡ kind.Delay (unwrap_or (samples_in (text_of m b DelayLength)) 0) d)
 HasKind m b ZeroOrderHold k = k ≡ kind.ZeroOrderHold
 HasKind m b Switch k =
     (d : Decimal) × IsNumber (text_of m b Threshold) d

@@ -11,8 +11,8 @@ use Rattle.mc_fixed.specs.declared.FixType.{FixType}
 use Rattle.mc_fixed.specs.declared.TypeText.{TypeText}
 use Rattle.mc_fixed.specs.declared.TypeText.TheVariants as type
 use Rattle.mc_fixed.specs.Types.{int8, int32, boolean}
-use Rattle.mc_base.specs.declared.Control.TheVariants.{Plain, Enabled, Triggered}
-use Rattle.mc_base.specs.declared.Edge.TheVariants.{Rising}
+use Rattle.mc_base.specs.declared.Control.TheVariants.{Plain, Enabled, Triggered, Both}
+use Rattle.mc_base.specs.declared.Edge.TheVariants.{Rising, Falling}
 use Rattle.mc_fixed.specs.declared.Round.TheVariants.{Floor, Zero}
 use Rattle.mc_fixed.specs.declared.Over.TheVariants.{Saturate, Wrap}
 use Rattle.mc_blocks.specs.declared.How.{How}
@@ -201,6 +201,22 @@ passed_table t = record {
       ∷ row 4 23 (Some 2) kind.TriggerPort [] type.Inherit time.Inherit
       ∷ row 5 27 (Some 2) (kind.Outport 1 false zero_decimal) (3 ∷ []) type.Inherit time.Inherit
       ∷ root_row 6 39 (kind.Outport 1 false zero_decimal) (5 ∷ []) type.Inherit ∷ [];
+  fixed_step = None;
+}
+
+-- a subsystem with an enable that resets its states, and a trigger, with a delay of three samples inside
+abbrev pub controlled_table : RowTable
+controlled_table = record {
+  rows =
+      root_row 0 3 (kind.Inport 1) [] (type.Fixed int32) ∷ root_row 1 9 (kind.Inport 2) [] (type.Fixed boolean)
+      ∷ root_row 2 15 (kind.Inport 3) [] (type.Fixed boolean)
+      ∷ root_row 3 21 (kind.SubSystem (Both true Falling)) (1 ∷ 2 ∷ []) type.Inherit
+      ∷ row 4 25 (Some 3) kind.EnablePort [] type.Inherit time.Inherit
+      ∷ row 5 30 (Some 3) kind.TriggerPort [] type.Inherit time.Inherit
+      ∷ row 6 35 (Some 3) (kind.Inport 1) (0 ∷ []) type.Inherit time.Inherit
+      ∷ row 7 39 (Some 3) (kind.Delay 3 zero_decimal) (6 ∷ []) type.Inherit time.Inherit
+      ∷ row 8 44 (Some 3) (kind.Outport 1 false zero_decimal) (7 ∷ []) type.Inherit time.Inherit
+      ∷ root_row 9 62 (kind.Outport 1 false zero_decimal) (8 ∷ []) type.Inherit ∷ [];
   fixed_step = None;
 }
 

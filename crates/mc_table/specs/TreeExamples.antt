@@ -9,7 +9,7 @@ use Rattle.mc_base.specs.Refusals.{PlainRefusal, NoModel, TwoModels, TooDeep, To
 use Rattle.mdl_tree.specs.Spelling.{End}
 use Rattle.mc_table.specs.Blocks.{no_block}
 use Rattle.mc_table.specs.TreeRefusals.{tree_refusal, too_many_blocks}
-use Rattle.mc_table.specs.Samples.{tree, block, set, inport, subsystem, line, model, one, one_with, through, triggered}
+use Rattle.mc_table.specs.Samples.{tree, block, set, inport, subsystem, line, model, one, one_with, through, triggered, controlled}
 
 abbrev refusal_of : List ℕ → Option PlainRefusal
 refusal_of text = tree_refusal (tree text)
@@ -166,8 +166,48 @@ refusal-two_controls = refl
 refusal-enable_too : refusal_of (triggered (codes "boolean") (block (codes "EnablePort") (codes "e") [])) ≡ Some (Unconnected 15 Enable)
 refusal-enable_too = refl
 
+-- one of each kind may be there, and no second one of either
+refusal-both : refusal_of (controlled (codes "reset") []) ≡ None
+refusal-both = refl
+
+refusal-second_enable : refusal_of (controlled (codes "reset") (block (codes "EnablePort") (codes "e2") [])) ≡ Some (TwoControls 60)
+refusal-second_enable = refl
+
+refusal-second_trigger : refusal_of (controlled (codes "reset") (block (codes "TriggerPort") (codes "t2") [])) ≡ Some (TwoControls 60)
+refusal-second_trigger = refl
+
+refusal-root_trigger : refusal_of (model (block (codes "TriggerPort") (codes "t") [])) ≡ Some (TwoControls 3)
+refusal-root_trigger = refl
+
 refusal-root_control : refusal_of (model (block (codes "EnablePort") (codes "e") [])) ≡ Some (TwoControls 3)
 refusal-root_control = refl
+
+-- delays of several samples
+abbrev delayed : (name value : List ℕ) → Option PlainRefusal
+delayed name value = refusal_of (through (codes "Delay") (set name value))
+
+refusal-delay : delayed (codes "DelayLength") (codes "65535") ≡ None
+refusal-delay = refl
+
+refusal-delay_length : delayed (codes "DelayLength") (codes "65536") ≡ Some (Parameter 13 param.DelayLength)
+refusal-delay_length = refl
+
+refusal-delay_of_none : delayed (codes "DelayLength") (codes "0") ≡ Some (Parameter 13 param.DelayLength)
+refusal-delay_of_none = refl
+
+refusal-length_source : delayed (codes "DelayLengthSource") (codes "Input port") ≡ Some (Parameter 13 param.DelayLengthSource)
+refusal-length_source = refl
+
+refusal-initial_source : delayed (codes "InitialConditionSource") (codes "Input port") ≡ Some (Parameter 13 param.InitialConditionSource)
+refusal-initial_source = refl
+
+refusal-external_reset : delayed (codes "ExternalReset") (codes "Rising") ≡ Some (Parameter 13 param.ExternalReset)
+refusal-external_reset = refl
+
+-- the first of a delay's parameters out of form is told, in their order
+refusal-delay_order : refusal_of (through (codes "Delay") (set (codes "ExternalReset") (codes "Rising") ++ set (codes "InitialCondition") (codes "x")))
+    ≡ Some (Parameter 13 param.InitialCondition)
+refusal-delay_order = refl
 
 -- times and types
 refusal-continuous : refusal_of (one_with (codes "int32") (set (codes "SampleTime") (codes "0"))) ≡ Some (Continuous 5)

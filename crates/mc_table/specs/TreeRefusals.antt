@@ -179,14 +179,14 @@ abbrev pub unconnected_ports : ModelTree → List PlainRefusal
 unconnected_ports m =
     flat_map (λ b. map (Unconnected b.line) (filter (λ port. not (is_connected m b port)) (ports_of m b))) m.blocks
 
--- the control ports of a system
-abbrev pub controls_in : ModelTree → Option ℕ → List Block
-controls_in m o = blocks_that (λ b. is_enable b || is_trigger b) m o
+-- the control ports of one kind beyond what a system may have: any in the root, and the second one in a subsystem
+abbrev pub too_many_of : (Block → Bool) → ModelTree → Option ℕ → List Block
+too_many_of test m None = blocks_that test m None
+too_many_of test m (Some e) = option_to_list (slice_get (blocks_that test m (Some e)) 1)
 
--- those beyond what a system may have: any in the root, and the second one in a subsystem
+-- those of both kinds
 abbrev pub too_many_controls : ModelTree → Option ℕ → List Block
-too_many_controls m None = controls_in m None
-too_many_controls m (Some e) = option_to_list (slice_get (controls_in m (Some e)) 1)
+too_many_controls m o = too_many_of is_enable m o ++ too_many_of is_trigger m o
 
 -- the control ports that a system may not have
 abbrev pub double_controls : ModelTree → List PlainRefusal

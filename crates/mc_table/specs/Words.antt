@@ -41,6 +41,10 @@ abbrev pub number_up_to : ℕ → List ℕ → Option ℕ
 number_up_to most text =
     option_and_then (λ n. if nat_le 1 n && nat_le n most then Some n else None) (whole_number text)
 
+-- how many samples a delay remembers, by the text of its length: 1 to 65,535
+abbrev pub samples_in : List ℕ → Option ℕ
+samples_in text = number_up_to 65_535 text
+
 -- whether a fraction is -1
 abbrev pub is_minus_one : ℤ → ℕ → Bool
 is_minus_one (pos n) den = false

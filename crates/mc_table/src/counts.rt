@@ -10,6 +10,9 @@ use mdl_params::number;
 /// The most inputs that a block has.
 const MOST_INPUTS: u32 = 16;
 
+/// The most samples that a delay remembers.
+const MOST_SAMPLES: u32 = 65_535;
+
 /// The whole number, not below 0, that a text writes, if it writes one.
 pub(crate) fn whole_number(text: &[u8]) -> Option<u128>
     ensures { result ≡ words.whole_number text.now }
@@ -33,6 +36,13 @@ pub(crate) fn number_up_to(most: u32, text: &[u8]) -> Option<u32>
     } else {
         None
     }
+}
+
+/// How many samples a delay remembers, by the text of its length.
+pub(crate) fn samples_in(text: &[u8]) -> Option<u32>
+    ensures { result ≡ words.samples_in text.now }
+{
+    number_up_to(MOST_SAMPLES, text)
 }
 
 /// Whether a text is a number.

@@ -1,16 +1,16 @@
-ghost use Rattle.std.specs.Prelude.{◌≡◌, length, filter};
+ghost use Rattle.std.specs.Prelude.{◌≡◌, length};
 ghost use Rattle.mc_base.specs.Numbers.{reported_number};
 ghost use Rattle.mc_diagram.specs.FirstRefusal.{least_line, as_plain};
 ghost use Rattle.mc_table.specs.Blocks as written;
 ghost use Rattle.mc_table.specs.TreeRefusals as refused;
-ghost use Rattle.mc_table.specs.Held.{seen, all_seen};
+ghost use Rattle.mc_table.specs.Held.{seen};
 ghost use Rattle.mc_table.specs.HeldModels.{tree_of};
-ghost use Rattle.mc_table.specs.Passes.{is_typed_in};
 ghost use Rattle.mc_table.specs.Numbered.{IsNumbered, crowd_at, crowd_in, crowd_found};
 
 use crate::block::Block;
-use crate::forms::{is_a, same_system};
+use crate::forms::is_a;
 use crate::model::ModelText;
+use crate::typed::{TypedIn, count_at};
 use mc_base::{Many, Refusal};
 use mc_diagram::earlier;
 use mdl_params::BlockType;
@@ -42,31 +42,11 @@ pub(crate) fn too_many_blocks(model: &ModelText) -> Option<Refusal>
     }
 }
 
-/// Whether a block has a type, and is in a system.
-fn is_typed_in(block: &Block, block_type: BlockType, system: Option<usize>) -> bool
-    ensures { result ≡ is_typed_in block_type system (seen block.now) }
-{
-    same_system(block.owner, system) && is_a(block_type, block)
-}
-
-/// How many of the blocks have a type, and are in a system.
-fn count_typed(blocks: &[Block], block_type: BlockType, system: Option<usize>) -> usize
-    ensures { result ≡ length (filter (is_typed_in block_type system) (all_seen blocks.now)) }
-{
-    let mut count = 0;
-    for block in blocks {
-        if is_typed_in(block, block_type, system) {
-            count += 1;
-        }
-    }
-    count
-}
-
 /// How many blocks of a type are in a system.
 pub(crate) fn count_in(model: &ModelText, block_type: BlockType, system: Option<usize>) -> usize
     ensures { result ≡ length (written.blocks_that (written.is_a block_type) (tree_of model.now) system) }
 {
-    count_typed(model.blocks.as_slice(), block_type, system)
+    count_at(&model.counts, TypedIn { system, block_type })
 }
 
 /// The refusal of so many ports of one kind at this line.

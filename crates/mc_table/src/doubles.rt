@@ -1,11 +1,10 @@
-ghost use Rattle.std.specs.Prelude.{◌≡◌, ◌<◌, length, map};
-ghost use Rattle.std.specs.List.{list_any};
+ghost use Rattle.std.specs.Prelude.{◌≡◌, ◌||◌, IfOk, OnOk, None, map, slice_index_or};
 ghost use Rattle.mc_diagram.specs.FirstRefusal.{least_line, as_plain};
 ghost use Rattle.mc_table.specs.Parameters.{name_of};
 ghost use Rattle.mc_table.specs.TreeRefusals as refused;
-ghost use Rattle.mc_table.specs.Held.{seen, all_seen};
+ghost use Rattle.mc_table.specs.Held.{seen};
 ghost use Rattle.mc_table.specs.HeldModels.{tree_of};
-ghost use Rattle.mc_table.specs.NameMaps.{first_places};
+ghost use Rattle.mc_table.specs.NameMaps.{first_places, is_before as is_earlier};
 ghost use Rattle.mc_table.specs.Doubles as doubles;
 
 use crate::block::Block;
@@ -13,77 +12,71 @@ use crate::forms::is_a;
 use crate::kinds::own_port;
 use crate::model::ModelText;
 use crate::names::{is_before, item_at};
-use mc_base::Refusal;
+use crate::typed::TypedIn;
+use indexmap::IndexSet;
+use mc_base::{Memory, Refusal};
 use mc_diagram::earlier;
 use mdl_params::BlockType;
+use std::alloc::Global;
 
-/// Whether two blocks are both of this type.
-fn are_both(block_type: BlockType, one: &Block, other: &Block) -> bool
-    ensures { result ≡ doubles.are_both block_type (seen one.now) (seen other.now) }
-{
-    is_a(block_type, one) && is_a(block_type, other)
+/// The port that an Inport or an Outport gives its system, on one side, by its number.
+#[derive(Clone, Copy, Debug, PartialEq, Eq, Hash)]
+pub(crate) struct SystemPort {
+    pub side: TypedIn,
+    pub number: u128,
 }
 
-/// Whether two blocks are both Inports, or both Outports.
-fn are_ports(one: &Block, other: &Block) -> bool
-    ensures { result ≡ doubles.are_ports (seen one.now) (seen other.now) }
+/// The port that a block of a type gives its system.
+fn port_as(model: &ModelText, block: &Block, block_type: BlockType) -> SystemPort
+    ensures { result ≡ doubles.port_as (tree_of model.now) (seen block.now) block_type }
 {
-    are_both(BlockType::Inport, one, other) || are_both(BlockType::Outport, one, other)
-}
-
-/// Whether two blocks are Inports, or Outports, with the same port.
-fn have_one_port(model: &ModelText, one: &Block, other: &Block) -> bool
-    ensures { result ≡ doubles.have_one_port (tree_of model.now) (seen one.now) (seen other.now) }
-{
-    are_ports(one, other) && own_port(model, one) == own_port(model, other)
-}
-
-/// Whether one of the earlier blocks has the port of a block.
-fn has_port_among(model: &ModelText, earlier: &[Block], block: &Block) -> bool
-    ensures { result ≡ list_any (λ a. doubles.have_one_port (tree_of model.now) a (seen block.now)) (all_seen earlier.now) }
-{
-    for other in earlier {
-        if have_one_port(model, other, block) {
-            return true;
-        }
+    SystemPort {
+        side: TypedIn {
+            system: block.owner,
+            block_type,
+        },
+        number: own_port(model, block),
     }
-    false
 }
 
-/// Whether a block is an Inport or an Outport.
-fn is_port(block: &Block) -> bool
-    ensures { result ≡ doubles.is_port (seen block.now) }
+/// The same of an Inport or an Outport; another block gives none.
+fn port_of(model: &ModelText, block: &Block) -> Option<SystemPort>
+    ensures { result ≡ doubles.port_of (tree_of model.now) (seen block.now) }
 {
-    is_a(BlockType::Inport, block) || is_a(BlockType::Outport, block)
+    if is_a(BlockType::Inport, block) {
+        Some(port_as(model, block, BlockType::Inport))
+    } else if is_a(BlockType::Outport, block) {
+        Some(port_as(model, block, BlockType::Outport))
+    } else {
+        None
+    }
 }
 
-/// The same, where only an Inport or Outport is looked for among the earlier blocks.
-fn has_port_before(model: &ModelText, earlier: &[Block], block: &Block) -> bool
-    ensures { result ≡ list_any (λ a. doubles.have_one_port (tree_of model.now) a (seen block.now)) (all_seen earlier.now) }
+/// Takes a port, if it is there, and says whether it was taken before.
+fn take_port(ports: &mut IndexSet<SystemPort>, port: Option<SystemPort>) -> Result<bool, Memory>
+    ensures before { IfOk result (λ before. before ≡ doubles.is_taken ports.old port) }
+    ensures taken { OnOk result (doubles.Takes ports.old ports.new port) }
 {
-    is_port(block) && has_port_among(model, earlier, block)
+    match port {
+        Some(port) => Ok(!ports.insert(port)?),
+        None => Ok(false),
+    }
 }
 
-/// Whether an earlier block has the name or the port of the one at this place.
-fn is_double(model: &ModelText, firsts: &[Option<usize>], at: usize) -> bool
-    requires firsts { firsts.now ≡ first_places (map (name_of (tree_of model.now)) (tree_of model.now).blocks) }
-    requires at { at < length model.now.blocks.items }
-    ensures { result ≡ doubles.is_double_at (tree_of model.now) at }
+/// Whether a block at a place has the name of an earlier one, or the port of one.
+fn is_double(firsts: &[Option<usize>], at: usize, has_port_before: bool) -> bool
+    ensures { result ≡ (is_earlier (slice_index_or firsts.now at None) at || has_port_before) }
 {
-    let blocks = model.blocks.as_slice();
-    let (earlier, _) = blocks.split_at(at);
-    is_before(item_at(firsts, at), at) || has_port_before(model, earlier, &blocks[at])
+    is_before(item_at(firsts, at), at) || has_port_before
 }
 
-/// The refusal of the block at this place, where an earlier one has its name or its port.
-fn double_found(model: &ModelText, firsts: &[Option<usize>], at: usize) -> Option<Refusal>
-    requires firsts { firsts.now ≡ first_places (map (name_of (tree_of model.now)) (tree_of model.now).blocks) }
-    requires at { at < length model.now.blocks.items }
-    ensures { as_plain result ≡ doubles.double_at (tree_of model.now) at }
+/// The refusal of a block that may have the name or the port of an earlier one.
+fn double_found(block: &Block, is_double: bool) -> Option<Refusal>
+    ensures { as_plain result ≡ doubles.double_found (seen block.now) is_double }
 {
-    if is_double(model, firsts, at) {
+    if is_double {
         Some(Refusal::DoubleName {
-            line: model.blocks.as_slice()[at].section.line,
+            line: block.section.line,
         })
     } else {
         None
@@ -91,14 +84,22 @@ fn double_found(model: &ModelText, firsts: &[Option<usize>], at: usize) -> Optio
 }
 
 /// The first block with the name or the port of an earlier one.
-pub(crate) fn least_double(model: &ModelText, firsts: &[Option<usize>]) -> Option<Refusal>
+pub(crate) fn least_double(
+    alloc: Global,
+    model: &ModelText,
+    firsts: &[Option<usize>],
+) -> Result<Option<Refusal>, Memory>
     requires flat { doubles.IsFlat (tree_of model.now).blocks }
     requires firsts { firsts.now ≡ first_places (map (name_of (tree_of model.now)) (tree_of model.now).blocks) }
-    ensures { as_plain result ≡ least_line (refused.double_names (tree_of model.now)) }
+    ensures { IfOk result (λ r. as_plain r ≡ least_line (refused.double_names (tree_of model.now))) }
 {
+    let mut ports = IndexSet::new(alloc);
     let mut least = None;
-    for at in 0..model.blocks.len() {
-        least = earlier(least, double_found(model, firsts, at));
+    let blocks = model.blocks.as_slice();
+    for (at, block) in blocks.iter().enumerate() {
+        let has_port_before = take_port(&mut ports, port_of(model, block))?;
+        let is_double = is_double(firsts, at, has_port_before);
+        least = earlier(least, double_found(block, is_double));
     }
-    least
+    Ok(least)
 }

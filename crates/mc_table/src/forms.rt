@@ -1,22 +1,21 @@
-ghost use Rattle.std.specs.Prelude.{◌≡◌, length, is_some, filter};
+ghost use Rattle.std.specs.Prelude.{◌≡◌, is_some};
 ghost use Rattle.mdl_params.specs.declared.block_type.BlockType.TheVariants as block;
 ghost use Rattle.mdl_params.specs.Forms.{type_form};
 ghost use Rattle.mdl_params.specs.Times.{time_form};
 ghost use Rattle.mc_table.specs.Blocks as written;
 ghost use Rattle.mc_table.specs.Words as words;
 ghost use Rattle.mc_table.specs.Parameters as parameter;
-ghost use Rattle.mc_diagram.specs.Rows.{same_system};
-ghost use Rattle.mc_table.specs.Held.{seen, all_seen};
-ghost use Rattle.mc_table.specs.Passes.{is_same_typed};
+ghost use Rattle.mc_table.specs.Held.{seen};
 ghost use Rattle.mc_table.specs.HeldModels.{tree_of};
 
 use crate::block::Block;
 use crate::counts::{
-    logic_count, product_count, sum_signs, whole_number, writes_gain, writes_minus_one,
+    logic_count, product_count, samples_in, sum_signs, whole_number, writes_gain, writes_minus_one,
     writes_number,
 };
+use crate::crowds::count_in;
 use crate::model::ModelText;
-use crate::texts::{found_text, text_of, type_name};
+use crate::texts::{block_type, found_text, text_of};
 use crate::words::{
     comparison_named, criterion_named, edge_named, logic_named, over_named, reset_named,
     round_named,
@@ -114,42 +113,14 @@ fn is_up_to(most: usize, text: &[u8]) -> bool
     }
 }
 
-/// Whether two systems are one, each given by its subsystem block.
-pub(crate) fn same_system(one: Option<usize>, other: Option<usize>) -> bool
-    ensures { result ≡ same_system one other }
-{
-    match (one, other) {
-        (Some(one), Some(other)) => one == other,
-        (None, None) => true,
-        _ => false,
-    }
-}
-
-/// Whether another block has the type of a block, and is in its system.
-fn is_same_typed(block: &Block, other: &Block) -> bool
-    ensures { result ≡ is_same_typed (seen block.now) (seen other.now) }
-{
-    same_system(other.owner, block.owner) && type_name(other) == type_name(block)
-}
-
-/// How many blocks of its type are in a block's system.
+/// How many blocks of its type are in a block's system; of one whose type isn't read there are none.
 fn same_typed(model: &ModelText, block: &Block) -> usize
     ensures { result ≡ parameter.same_typed (tree_of model.now) (seen block.now) }
 {
-    count_same_typed(block, model.blocks.as_slice())
-}
-
-/// How many of the blocks have the type of a block, and are in its system.
-fn count_same_typed(block: &Block, blocks: &[Block]) -> usize
-    ensures { result ≡ length (filter (is_same_typed (seen block.now)) (all_seen blocks.now)) }
-{
-    let mut count = 0;
-    for other in blocks {
-        if is_same_typed(block, other) {
-            count += 1;
-        }
+    match block_type(block) {
+        Some(block_type) => count_in(model, block_type, block.owner),
+        None => 0,
     }
-    count
 }
 
 /// Whether this text is of the form of a block's parameter.
@@ -184,6 +155,11 @@ fn is_form(model: &ModelText, block: &Block, name: ParamName, text: &[u8]) -> bo
         ParamName::OutPortSampleTimeOpt => {
             text == b"Specify".as_slice() || text == b"Inherit".as_slice()
         }
+        ParamName::DelayLength => samples_in(text).is_some(),
+        ParamName::DelayLengthSource | ParamName::InitialConditionSource => {
+            text == b"Dialog".as_slice()
+        }
+        ParamName::ExternalReset => text == b"None".as_slice(),
     }
 }
 

@@ -12,7 +12,7 @@ ghost use Rattle.mc_table.specs.Held.{seen};
 ghost use Rattle.mc_table.specs.HeldModels.{tree_of};
 
 use crate::block::Block;
-use crate::counts::{SignMask, logic_count, product_count, sum_signs, whole_number};
+use crate::counts::{SignMask, logic_count, product_count, samples_in, sum_signs, whole_number};
 use crate::model::ModelText;
 use crate::texts::text_of;
 use crate::words::{
@@ -162,11 +162,29 @@ pub(crate) fn gain_kind(model: &ModelText, block: &Block) -> Kind
 }
 
 /// The kind of a unit delay.
-pub(crate) fn delay_kind(model: &ModelText, block: &Block) -> Kind
+pub(crate) fn unit_delay_kind(model: &ModelText, block: &Block) -> Kind
     requires { words.writes_number (parameter.text_of (tree_of model.now) (seen block.now) param.InitialCondition) ≡ true }
     ensures { table.HasKind (tree_of model.now) (seen block.now) block_type.UnitDelay result }
 {
     Kind::UnitDelay {
+        initial: number_of(model, block, ParamName::InitialCondition),
+    }
+}
+
+/// How many samples a delay remembers; a text without such a number counts as 0.
+fn length_of(model: &ModelText, block: &Block) -> u32
+    ensures { result ≡ unwrap_or (words.samples_in (parameter.text_of (tree_of model.now) (seen block.now) param.DelayLength)) 0 }
+{
+    samples_in(text_of(model, block, ParamName::DelayLength)).unwrap_or(0)
+}
+
+/// The kind of a delay of several samples.
+pub(crate) fn delay_kind(model: &ModelText, block: &Block) -> Kind
+    requires { words.writes_number (parameter.text_of (tree_of model.now) (seen block.now) param.InitialCondition) ≡ true }
+    ensures { table.HasKind (tree_of model.now) (seen block.now) block_type.Delay result }
+{
+    Kind::Delay {
+        length: length_of(model, block),
         initial: number_of(model, block, ParamName::InitialCondition),
     }
 }

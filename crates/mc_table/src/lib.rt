@@ -29,6 +29,7 @@ mod sections;
 mod step;
 mod targets;
 mod texts;
+mod typed;
 mod verdict;
 mod wiring;
 mod words;

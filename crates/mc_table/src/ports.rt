@@ -54,6 +54,7 @@ fn input_count_by(model: &ModelText, block: &Block, block_type: BlockType) -> us
         | BlockType::Terminator
         | BlockType::Gain
         | BlockType::UnitDelay
+        | BlockType::Delay
         | BlockType::ZeroOrderHold
         | BlockType::DataTypeConversion
         | BlockType::RateTransition => 1,
@@ -93,6 +94,7 @@ fn output_count_by(model: &ModelText, block: &Block, block_type: BlockType) -> u
         | BlockType::Sum
         | BlockType::Product
         | BlockType::UnitDelay
+        | BlockType::Delay
         | BlockType::ZeroOrderHold
         | BlockType::Switch
         | BlockType::RelationalOperator

@@ -15,7 +15,7 @@ use crate::block::Block;
 use crate::checks::has_parameter;
 use crate::kinds::{
     constant_kind, convert_kind, delay_kind, gain_kind, inport_kind, logic_kind, outport_kind,
-    product_kind, relational_kind, sum_kind, switch_kind, type_text_of,
+    product_kind, relational_kind, sum_kind, switch_kind, type_text_of, unit_delay_kind,
 };
 use crate::model::ModelText;
 use crate::texts::text_of;
@@ -43,7 +43,8 @@ pub(crate) fn kind_of(model: &ModelText, block: &Block, block_type: BlockType) -
         BlockType::Gain => Some(gain_kind(model, block)),
         BlockType::Sum => Some(sum_kind(model, block)),
         BlockType::Product => Some(product_kind(model, block)),
-        BlockType::UnitDelay => Some(delay_kind(model, block)),
+        BlockType::UnitDelay => Some(unit_delay_kind(model, block)),
+        BlockType::Delay => Some(delay_kind(model, block)),
         BlockType::ZeroOrderHold => Some(Kind::ZeroOrderHold),
         BlockType::Switch => Some(switch_kind(model, block)),
         BlockType::RelationalOperator => Some(relational_kind(model, block)),

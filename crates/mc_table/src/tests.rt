@@ -251,6 +251,18 @@ fn parameters_are_refused(rt: HostRuntime) -> Result<(), Fail> {
             b"Block { / BlockType Gain / Name a / Gain 2147483647 / }".as_slice(),
             b"refused F13 Unconnected line 3 port 1\n".as_slice(),
         ),
+        (
+            b"Block { / BlockType Delay / Name a / DelayLength 65536 / }".as_slice(),
+            b"refused F8 Parameter line 3 DelayLength\n".as_slice(),
+        ),
+        (
+            b"Block { / BlockType Delay / Name a / DelayLength 65535 / X0 x / }".as_slice(),
+            b"refused F13 Unconnected line 3 port 1\n".as_slice(),
+        ),
+        (
+            b"Block { / BlockType Delay / Name a / ExternalReset Rising / DelayLengthSource Port / }".as_slice(),
+            b"refused F8 Parameter line 3 DelayLengthSource\n".as_slice(),
+        ),
     ];
     for (items, expected) in cases {
         assert_eq!(rt; answer(rt, items)?.as_slice(), expected);
@@ -501,7 +513,12 @@ const DIFFERENCE: &[u8] = b"Model { / FixedStep 0.5 / System { \
 
 /// The tree of that model.
 fn difference(rt: HostRuntime) -> Result<Tree, Fail> {
-    let text = lines(rt, DIFFERENCE)?;
+    tree_of(rt, DIFFERENCE)
+}
+
+/// The tree of a file that is accepted, whose lines are written with `/` between them.
+fn tree_of(rt: HostRuntime, text: &[u8]) -> Result<Tree, Fail> {
+    let text = lines(rt, text)?;
     let file = read_mdl(rt.alloc(), text.as_slice())?;
     match build(rt.alloc(), &file) {
         Ok(tree) => Ok(tree),
@@ -562,6 +579,22 @@ fn rows_are_made(rt: HostRuntime) -> Result<(), Fail> {
         assert_eq!(rt; found.type_text, type_text);
         assert_eq!(rt; found.time_text, TimeText::Inherit);
     }
+    Ok(())
+}
+
+#[test]
+fn a_delay_of_several_samples_is_read(rt: HostRuntime) -> Result<(), Fail> {
+    let tree = tree_of(
+        rt,
+        b"Model { / System { / Block { / BlockType Ground / Name g / } / Block { / BlockType Delay / Name d / DelayLength 3 / InitialCondition 7 / } / Line { / SrcBlock g / SrcPort 1 / DstBlock d / DstPort 1 / } / } / }",
+    )?;
+    let delay = tree.table().rows.as_slice().get(1).ok_or("row")?;
+    let Kind::Delay { length, initial } = delay.kind else {
+        return Err(Fail::from("kind"));
+    };
+    assert_eq!(rt; length, 3);
+    assert_eq!(rt; (initial.num, initial.den), (7, 1));
+    assert_eq!(rt; delay.inputs.wires(), [0].as_slice());
     Ok(())
 }
 

@@ -9,6 +9,7 @@ ghost use Rattle.mc_table.specs.HeldModels.{tree_of};
 use crate::block::Block;
 use crate::blocks::take_blocks;
 use crate::model::ModelText;
+use crate::typed::type_counts;
 use mc_base::{Memory, ParamName};
 use mdl_params::{BlockType, Defaults};
 use mdl_tree::Section;
@@ -25,11 +26,13 @@ pub(crate) fn read_model<'a>(
     let defaults = Defaults::new(alloc, model)?;
     let mut blocks = Vec::new(alloc);
     take_blocks(&mut blocks, None, 0, system)?;
+    let counts = type_counts(alloc, blocks.as_slice())?;
     Ok(ModelText {
         model,
         system,
         blocks,
         defaults,
+        counts,
     })
 }
 

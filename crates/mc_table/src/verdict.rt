@@ -171,7 +171,7 @@ fn verdict_of_names<'a>(alloc: Global, model: &'a ModelText) -> Result<Verdict<'
     ensures { IfOk result (λ v. IsVerdictBy (lines_refusal (tree_of model.now)) (tree_of model.now) v) }
 {
     let names = names_of(alloc, model)?;
-    match least_double(model, names.firsts.as_slice()) {
+    match least_double(alloc, model, names.firsts.as_slice())? {
         Some(refusal) => Ok(Verdict::Refused(refusal)),
         None => verdict_of_lines(alloc, model, names),
     }

@@ -1,2 +1,2 @@
-pub mod KindLemmas
+pub mod lemmas
 pub mod FoundTexts

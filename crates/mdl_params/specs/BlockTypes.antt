@@ -1,13 +1,13 @@
 -- The types of blocks, and their names.
 use Rattle.std.specs.Prelude.{ℕ, List, [], ◌∷◌, Option, None, Some, codes, bytes_eq, find, if◌then◌else◌}
 use Rattle.mdl_params.specs.declared.block_type.BlockType.{BlockType}
-use Rattle.mdl_params.specs.declared.block_type.BlockType.TheVariants.{Inport, Outport, SubSystem, Constant, Ground, Terminator, Gain, Sum, Product, UnitDelay, ZeroOrderHold, Switch, RelationalOperator, Logic, DataTypeConversion, RateTransition, EnablePort, TriggerPort}
+use Rattle.mdl_params.specs.declared.block_type.BlockType.TheVariants.{Inport, Outport, SubSystem, Constant, Ground, Terminator, Gain, Sum, Product, UnitDelay, Delay, ZeroOrderHold, Switch, RelationalOperator, Logic, DataTypeConversion, RateTransition, EnablePort, TriggerPort}
 
 -- all types
 abbrev pub block_types : List BlockType
 block_types =
     Inport ∷ Outport ∷ SubSystem ∷ Constant ∷ Ground ∷ Terminator
-    ∷ Gain ∷ Sum ∷ Product ∷ UnitDelay ∷ ZeroOrderHold ∷ Switch
+    ∷ Gain ∷ Sum ∷ Product ∷ UnitDelay ∷ Delay ∷ ZeroOrderHold ∷ Switch
     ∷ RelationalOperator ∷ Logic ∷ DataTypeConversion ∷ RateTransition ∷ EnablePort ∷ TriggerPort ∷ []
 
 -- the name that a model writes as the BlockType
@@ -22,6 +22,7 @@ block_type_name Gain = codes "Gain"
 block_type_name Sum = codes "Sum"
 block_type_name Product = codes "Product"
 block_type_name UnitDelay = codes "UnitDelay"
+block_type_name Delay = codes "Delay"
 block_type_name ZeroOrderHold = codes "ZeroOrderHold"
 block_type_name Switch = codes "Switch"
 block_type_name RelationalOperator = codes "RelationalOperator"

@@ -1,12 +1,13 @@
 -- What stands for a block's parameter.
-use Rattle.std.specs.Prelude.{◌≡◌, ℕ, List, [], ◌∷◌, Option, None, Some, codes, option_map, unwrap_or, if◌then◌else◌}
+use Rattle.std.specs.Prelude.{◌≡◌, ℕ, Bool, not, ◌&&◌, bytes_eq, List, [], ◌∷◌, Option, None, Some, codes, option_map, unwrap_or, if◌then◌else◌}
 use Rattle.std.specs.Option.{option_or}
 use Rattle.mc_base.specs.declared.base.ParamName.{ParamName}
 use Rattle.mc_base.specs.declared.base.ParamName.TheVariants.{InitialCondition}
 use Rattle.mc_base.specs.Refusals.{param_word}
 use Rattle.mdl_tree.specs.Spelling.{Items, End, Param, Section}
 use Rattle.mdl_tree.specs.Walks.{SectionTree, sections_named, first_section, first_value}
-use Rattle.mdl_params.specs.BlockTypes.{beside}
+use Rattle.mdl_params.specs.declared.block_type.BlockType.TheVariants.{Delay}
+use Rattle.mdl_params.specs.BlockTypes.{block_type_name, beside}
 use Rattle.mdl_params.specs.Language.{is_same_param, default_text}
 
 -- ---- The defaults of a model
@@ -47,16 +48,19 @@ AddsKind old new block =
 
 -- ---- The text that stands for a parameter
 
--- a parameter by its name, and an initial condition also by its second name `X0`
-abbrev pub by_names : (List ℕ → Option (List ℕ)) → ParamName → Option (List ℕ)
-by_names value name =
-    option_or (value (param_word name)) (if is_same_param name InitialCondition then value (codes "X0") else None)
+-- whether a parameter of a block of this type has the second name `X0`: an initial condition, but that of a Delay
+abbrev pub has_second_name : (kind : List ℕ) → ParamName → Bool
+has_second_name kind name = is_same_param name InitialCondition && not (bytes_eq kind (block_type_name Delay))
+
+-- a parameter of a block of this type by its name, and where it has a second name also by that
+abbrev pub by_names : (List ℕ → Option (List ℕ)) → (kind : List ℕ) → ParamName → Option (List ℕ)
+by_names value kind name = option_or (value (param_word name)) (if has_second_name kind name then value (codes "X0") else None)
 
 -- the text that a file gives: the block's own, else that of its type among the model's defaults
 abbrev pub written_text : DefaultTexts → Items → List ℕ → ParamName → Option (List ℕ)
 written_text texts block kind name =
-    option_or (by_names (λ wanted. first_value wanted block) name)
-    (by_names (λ wanted. beside wanted (unwrap_or (beside kind texts) [])) name)
+    option_or (by_names (λ wanted. first_value wanted block) kind name)
+    (by_names (λ wanted. beside wanted (unwrap_or (beside kind texts) [])) kind name)
 
 -- the same, else the default of its type
 abbrev pub parameter_text : DefaultTexts → Items → List ℕ → ParamName → Option (List ℕ)

@@ -1,6 +1,6 @@
 -- Worked texts of parameters.
 use Rattle.std.specs.Prelude.{◌≡◌, refl, [], ◌∷◌, None, Some, Ok, Err, codes}
-use Rattle.mc_base.specs.declared.base.ParamName.TheVariants.{Name, InitialCondition, SampleTime}
+use Rattle.mc_base.specs.declared.base.ParamName.TheVariants.{Name, InitialCondition, SampleTime, DelayLength}
 use Rattle.mdl_params.specs.declared.fault.ParamFault.TheVariants.{Parameter, Float, Continuous}
 use Rattle.mdl_tree.specs.Spelling.{End, Param, Section}
 use Rattle.mdl_params.specs.Defaults.{parameter_text, kinds_of, default_blocks}
@@ -60,6 +60,12 @@ text-own_second_name = refl
 
 text-of_type : parameter_text ((codes "UnitDelay", (codes "X0", codes "3") ∷ []) ∷ []) End (codes "UnitDelay") InitialCondition ≡ Some (codes "3")
 text-of_type = refl
+
+text-no_second_name : parameter_text [] (Param (codes "X0") (codes "7") 4 End) (codes "Delay") InitialCondition ≡ Some (codes "0")
+text-no_second_name = refl
+
+text-delay_length : parameter_text [] End (codes "Delay") DelayLength ≡ Some (codes "2")
+text-delay_length = refl
 
 text-default : parameter_text [] End (codes "ZeroOrderHold") SampleTime ≡ Some (codes "1")
 text-default = refl

@@ -2,12 +2,12 @@
 use Rattle.std.specs.Prelude.{ℕ, Bool, List, [], ◌∷◌, map, Option, None, Some, codes, option_and_then, if◌then◌else◌}
 use Rattle.std.specs.Borrow.{Bor}
 use Rattle.mc_base.specs.declared.base.ParamName.{ParamName}
-use Rattle.mc_base.specs.declared.base.ParamName.TheVariants.{OutDataTypeStr, SampleTime, PortDimensions, OutputWhenDisabled, InitialOutput, SystemSampleTime, ParamDataTypeStr, RndMeth, SaturateOnIntegerOverflow, Inputs, InitialCondition, Criteria, Threshold, Operator, ConvertRealWorld, Integrity, Deterministic, OutPortSampleTimeOpt, OutPortSampleTime, StatesWhenEnabling, TriggerType}
+use Rattle.mc_base.specs.declared.base.ParamName.TheVariants.{OutDataTypeStr, SampleTime, PortDimensions, OutputWhenDisabled, InitialOutput, SystemSampleTime, ParamDataTypeStr, RndMeth, SaturateOnIntegerOverflow, Inputs, InitialCondition, Criteria, Threshold, Operator, ConvertRealWorld, Integrity, Deterministic, OutPortSampleTimeOpt, OutPortSampleTime, StatesWhenEnabling, TriggerType, DelayLength, DelayLengthSource, InitialConditionSource, ExternalReset}
 use Rattle.mc_base.specs.declared.base.ParamName.TheVariants as param
 use Rattle.mc_base.specs.contracts.base.ParamName.{the_type}
 use denote.Enum.Bare.{sameb}
 use Rattle.mdl_params.specs.declared.block_type.BlockType.{BlockType}
-use Rattle.mdl_params.specs.declared.block_type.BlockType.TheVariants.{Inport, Outport, SubSystem, Constant, Ground, Terminator, Gain, Sum, Product, UnitDelay, ZeroOrderHold, Switch, RelationalOperator, Logic, DataTypeConversion, RateTransition, EnablePort, TriggerPort}
+use Rattle.mdl_params.specs.declared.block_type.BlockType.TheVariants.{Inport, Outport, SubSystem, Constant, Ground, Terminator, Gain, Sum, Product, UnitDelay, Delay, ZeroOrderHold, Switch, RelationalOperator, Logic, DataTypeConversion, RateTransition, EnablePort, TriggerPort}
 use Rattle.mdl_params.specs.BlockTypes.{block_type_of}
 
 -- the parameters of a block that computes in fixed point, behind its own
@@ -31,6 +31,9 @@ parameters Gain =
 parameters Sum = (Inputs, codes "++") ∷ (OutDataTypeStr, codes "Inherit: Same as first input") ∷ arithmetic
 parameters Product = (Inputs, codes "2") ∷ (OutDataTypeStr, codes "Inherit: Same as first input") ∷ arithmetic
 parameters UnitDelay = (InitialCondition, codes "0") ∷ (SampleTime, codes "-1") ∷ []
+parameters Delay =
+    (DelayLength, codes "2") ∷ (DelayLengthSource, codes "Dialog") ∷ (InitialCondition, codes "0")
+    ∷ (InitialConditionSource, codes "Dialog") ∷ (ExternalReset, codes "None") ∷ (SampleTime, codes "-1") ∷ []
 parameters ZeroOrderHold = (SampleTime, codes "1") ∷ []
 parameters Switch =
     (Criteria, codes "u2 >= Threshold") ∷ (Threshold, codes "0") ∷ (OutDataTypeStr, codes "Inherit: Same as first input") ∷ arithmetic

@@ -5,25 +5,45 @@ use crate::language;
 use mc_base::ParamName;
 
 /// A type of blocks that is read.
-#[derive(Clone, Copy, Debug, PartialEq, Eq, Drop)]
+#[derive(Clone, Copy, Debug, PartialEq, Eq, Hash, Drop)]
 pub enum BlockType {
+    /// An input of a system.
     Inport,
+    /// An output of a system.
     Outport,
+    /// A subsystem.
     SubSystem,
+    /// A constant.
     Constant,
+    /// A constant 0.
     Ground,
+    /// The end of a line.
     Terminator,
+    /// A product with a number.
     Gain,
+    /// A sum with signs.
     Sum,
+    /// A product.
     Product,
+    /// A delay of one sample.
     UnitDelay,
+    /// A delay of several samples.
+    Delay,
+    /// A hold at a rate of its own.
     ZeroOrderHold,
+    /// A choice of two inputs.
     Switch,
+    /// A comparison.
     RelationalOperator,
+    /// A logical operator.
     Logic,
+    /// A conversion.
     DataTypeConversion,
+    /// A hold or a delay between two rates.
     RateTransition,
+    /// The enable of a subsystem.
     EnablePort,
+    /// The trigger of a subsystem.
     TriggerPort,
 }
 
@@ -32,7 +52,7 @@ impl BlockType {
     ghost use Rattle.mdl_params.specs.Language.{plain_parameters, parameters, default_among};
 
     /// All types.
-    pub const ALL: [BlockType; 18] = [
+    pub const ALL: [BlockType; 19] = [
         BlockType::Inport,
         BlockType::Outport,
         BlockType::SubSystem,
@@ -43,6 +63,7 @@ impl BlockType {
         BlockType::Sum,
         BlockType::Product,
         BlockType::UnitDelay,
+        BlockType::Delay,
         BlockType::ZeroOrderHold,
         BlockType::Switch,
         BlockType::RelationalOperator,
@@ -68,6 +89,7 @@ impl BlockType {
             BlockType::Sum => "Sum",
             BlockType::Product => "Product",
             BlockType::UnitDelay => "UnitDelay",
+            BlockType::Delay => "Delay",
             BlockType::ZeroOrderHold => "ZeroOrderHold",
             BlockType::Switch => "Switch",
             BlockType::RelationalOperator => "RelationalOperator",
@@ -104,6 +126,7 @@ impl BlockType {
             BlockType::Sum => &language::SUM,
             BlockType::Product => &language::PRODUCT,
             BlockType::UnitDelay => &language::UNIT_DELAY,
+            BlockType::Delay => &language::DELAY,
             BlockType::ZeroOrderHold => &language::ZERO_ORDER_HOLD,
             BlockType::Switch => &language::SWITCH,
             BlockType::RelationalOperator => &language::RELATIONAL_OPERATOR,

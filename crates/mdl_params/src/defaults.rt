@@ -4,7 +4,7 @@ ghost use Rattle.mdl_tree.specs.Values.{section_tree};
 ghost use Rattle.mdl_tree.specs.Walks.{first_value};
 ghost use Rattle.mdl_params.specs.BlockTypes.{beside};
 ghost use Rattle.mdl_params.specs.Language.{default_text};
-ghost use Rattle.mdl_params.specs.Defaults.{AddsKind, IsDefaults, by_names, written_text, parameter_text};
+ghost use Rattle.mdl_params.specs.Defaults.{AddsKind, IsDefaults, has_second_name, by_names, written_text, parameter_text};
 ghost use Rattle.mdl_params.specs.Texts.{plain_texts, plain_kinds};
 
 use crate::block_type::BlockType;
@@ -15,7 +15,7 @@ use mdl_tree::{Item, Section};
 use std::alloc::Global;
 use std::marker::Model;
 
-/// The second name of an initial condition.
+/// The second name of an initial condition, but for that of a Delay.
 const SECOND_NAME: &[u8] = b"X0";
 
 /// The parameters of each type of block.
@@ -68,9 +68,11 @@ impl Defaults {
     fn written<'a>(&'a self, block: &'a Section, kind: &[u8], name: ParamName) -> Option<&'a [u8]>
         ensures { option_copied result ≡ written_text self.now (section_tree block.now).items kind.now name }
     {
-        match own_value(block, name) {
+        match own_value(block, kind, name) {
             Some(value) => Some(value.bytes()),
-            None => value_among(texts_for(&self.kinds, kind), name).map(|value| value.bytes()),
+            None => value_among(texts_for(&self.kinds, kind), kind, name).map(
+                |value| value.bytes(),
+            ),
         }
     }
 
@@ -111,12 +113,19 @@ fn read_kinds(alloc: Global, model: &Section) -> Result<Kinds, Memory>
     Ok(kinds)
 }
 
+/// Whether a parameter of a block of this type has a second name.
+fn has_second_name(kind: &[u8], name: ParamName) -> bool
+    ensures { result ≡ has_second_name kind.now name }
+{
+    name == ParamName::InitialCondition && kind != BlockType::Delay.name().as_bytes()
+}
+
 /// The value of a block's own parameter.
-fn own_value(block: &Section, name: ParamName) -> Option<&Text>
-    ensures { option_copied result ≡ by_names (λ wanted. first_value wanted (section_tree block.now).items) name }
+fn own_value<'a>(block: &'a Section, kind: &[u8], name: ParamName) -> Option<&'a Text>
+    ensures { option_copied result ≡ by_names (λ wanted. first_value wanted (section_tree block.now).items) kind.now name }
 {
     match block.param(name.as_str().as_bytes()) {
-        None if name == ParamName::InitialCondition => block.param(SECOND_NAME),
+        None if has_second_name(kind, name) => block.param(SECOND_NAME),
         found => found,
     }
 }
@@ -131,12 +140,12 @@ fn texts_for<'a>(kinds: &'a Kinds, kind: &[u8]) -> &'a [ParamText]
     }
 }
 
-/// The value of a parameter among others.
-fn value_among(texts: &[ParamText], name: ParamName) -> Option<&Text>
-    ensures { option_copied result ≡ by_names (λ wanted. beside wanted (plain_texts texts.now)) name }
+/// The value of a parameter of a type of block among others.
+fn value_among<'a>(texts: &'a [ParamText], kind: &[u8], name: ParamName) -> Option<&'a Text>
+    ensures { option_copied result ≡ by_names (λ wanted. beside wanted (plain_texts texts.now)) kind.now name }
 {
     match value_of(texts, name.as_str().as_bytes()) {
-        None if name == ParamName::InitialCondition => value_of(texts, SECOND_NAME),
+        None if has_second_name(kind, name) => value_of(texts, SECOND_NAME),
         found => found,
     }
 }

@@ -3,10 +3,11 @@
 
 use mc_base::ParamName;
 use mc_base::ParamName::{
-    ConvertRealWorld, Criteria, Deterministic, Gain, InitialCondition, InitialOutput, Inputs,
-    Integrity, Operator, OutDataTypeStr, OutPortSampleTime, OutPortSampleTimeOpt,
-    OutputWhenDisabled, ParamDataTypeStr, Port, PortDimensions, RndMeth, SampleTime,
-    SaturateOnIntegerOverflow, StatesWhenEnabling, SystemSampleTime, Threshold, TriggerType, Value,
+    ConvertRealWorld, Criteria, DelayLength, DelayLengthSource, Deterministic, ExternalReset, Gain,
+    InitialCondition, InitialConditionSource, InitialOutput, Inputs, Integrity, Operator,
+    OutDataTypeStr, OutPortSampleTime, OutPortSampleTimeOpt, OutputWhenDisabled, ParamDataTypeStr,
+    Port, PortDimensions, RndMeth, SampleTime, SaturateOnIntegerOverflow, StatesWhenEnabling,
+    SystemSampleTime, Threshold, TriggerType, Value,
 };
 
 /// A parameter and its default.
@@ -62,6 +63,15 @@ pub(crate) static PRODUCT: [Parameter; 5] = [
 ];
 
 pub(crate) static UNIT_DELAY: [Parameter; 2] = [(InitialCondition, "0"), (SampleTime, "-1")];
+
+pub(crate) static DELAY: [Parameter; 6] = [
+    (DelayLength, "2"),
+    (DelayLengthSource, "Dialog"),
+    (InitialCondition, "0"),
+    (InitialConditionSource, "Dialog"),
+    (ExternalReset, "None"),
+    (SampleTime, "-1"),
+];
 
 pub(crate) static ZERO_ORDER_HOLD: [Parameter; 1] = [(SampleTime, "1")];
 

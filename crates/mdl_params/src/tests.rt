@@ -74,7 +74,7 @@ fn saved_model(rt: HostRuntime) -> Result<(), Fail> {
     Ok(())
 }
 
-// What stands for the initial condition of a delay with these parameters, where X0 is 3 in the defaults.
+// What stands for the initial condition of a unit delay with these parameters, where X0 is 3 in the defaults.
 fn initial_condition(alloc: Global, params: &[(&str, &str)]) -> Result<u8, Memory> {
     let defaults = defaults(alloc, &[&[("BlockType", "UnitDelay"), ("X0", "3")]])?;
     let delay = section(alloc, "Block", params)?;
@@ -90,6 +90,23 @@ fn initial_conditions(rt: HostRuntime) -> Result<(), Fail> {
         initial_condition(rt.alloc(), &[("X0", "7"), ("InitialCondition", "5")])?,
         b'5'
     );
+    Ok(())
+}
+
+#[test]
+fn delays_of_several_samples(rt: HostRuntime) -> Result<(), Fail> {
+    let defaults = defaults(rt.alloc(), &[&[("BlockType", "Delay"), ("X0", "3")]])?;
+    let delay = section(rt.alloc(), "Block", &[("DelayLength", "5"), ("X0", "7")])?;
+    for (name, text) in [
+        (ParamName::DelayLength, b"5".as_slice()),
+        (ParamName::DelayLengthSource, b"Dialog"),
+        (ParamName::InitialCondition, b"0"),
+        (ParamName::InitialConditionSource, b"Dialog"),
+        (ParamName::ExternalReset, b"None"),
+        (ParamName::SampleTime, b"-1"),
+    ] {
+        assert_eq!(rt; defaults.param(&delay, b"Delay", name), text);
+    }
     Ok(())
 }
 

@@ -6,7 +6,7 @@ use Rattle.mc_base.specs.Numbers.{reported_number}
 use Rattle.mdl_tree.specs.Text.{Statement, Opens, Closes, Sets, Adds, Faulty, statements_of}
 use Rattle.mdl_tree.specs.Spelling.{Items, End, Param, Section, append_items, LinesSpell, fault_from, lines_fault}
 use Rattle.mdl_tree.specs.Walks.{SectionTree}
-use Rattle.mdl_tree.proofs.OneTree.{append_items-End, with_parameter, with_section, parts, onto, onto-End, one_part, one_tree}
+use Rattle.mdl_tree.proofs.lemmas.OneTree.{append_items-End, with_parameter, with_section, parts, onto, onto-End, one_part, one_tree}
 use Rattle.mdl_reader.specs.Building.{tree_from, with_items, section_item, file_of}
 
 -- ---- The first fault

@@ -2,7 +2,7 @@ use Rattle.std.proofs.Common.{◌≡◌, Some, ◌+◌, ◌≤◌, ◌++◌, sym
 use Rattle.std.specs.Prelude.{bytes_eq}
 use Rattle.std.specs.Result.{OnOk}
 use Rattle.mdl_tree.specs.Values.{items_of, with_item}
-use Rattle.mdl_tree.proofs.Rows.{section_in, items_from}
+use Rattle.mdl_tree.proofs.lemmas.Rows.{section_in, items_from}
 use Rattle.mc_table.specs.Blocks.{blocks_in, blocks_inside}
 use Rattle.mc_table.specs.Held.{all_seen, taken}
 use Rattle.mc_table.proofs.BlockLemmas.{blocks_in-other, length-news, more-block, inside-system, inside-end}

@@ -5,7 +5,7 @@ use Rattle.mc_diagram.specs.RowTable.{RowTable}
 use Rattle.mc_diagram.specs.Nested.{system, no_more}
 use Rattle.mc_table.specs.TableOf.{IsRowOf}
 use Rattle.mc_table.specs.HeldModels.{tree_of}
-use Rattle.mc_table.proofs.AcceptedLists.{zip-length}
+use Rattle.mc_table.proofs.lemmas.AcceptedLists.{zip-length}
 use Rattle.mc_table.proofs.AcceptedTable.{model_table_is_diagram}
 use Rattle.mc_table.proofs.diagram.accepted_tree.Goals as goal
 

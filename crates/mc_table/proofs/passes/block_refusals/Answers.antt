@@ -9,7 +9,7 @@ use Rattle.mc_table.specs.SoFar.{unread_found, parameter_found, continuous_found
 use Rattle.mc_table.specs.Held.{all_seen}
 use Rattle.mc_table.specs.HeldModels.{tree_of}
 use Rattle.mc_diagram.specs.FirstRefusal.{as_plain, earlier_of, least_in}
-use Rattle.mc_diagram.proofs.FirstRefusals.{least-where}
+use Rattle.mc_diagram.proofs.lemmas.FirstRefusals.{least-where}
 use Rattle.mc_table.proofs.PassLemmas.{least-more, least-end, least-parameters}
 use Rattle.mc_table.proofs.passes.block_refusals.Goals as goal
 

@@ -6,7 +6,7 @@ use Rattle.mc_table.specs.SoFar.{deep_found}
 use Rattle.mc_table.specs.Held.{all_seen}
 use Rattle.mc_table.specs.HeldModels.{tree_of}
 use Rattle.mc_diagram.specs.FirstRefusal.{as_plain, earlier_of, least_in}
-use Rattle.mc_diagram.proofs.FirstRefusals.{least-where}
+use Rattle.mc_diagram.proofs.lemmas.FirstRefusals.{least-where}
 use Rattle.mc_table.proofs.PassLemmas.{least-more, least-end}
 use Rattle.mc_table.proofs.passes.least_deep.Goals as goal
 

@@ -40,9 +40,13 @@ gain_kind-requires-clause-type_text c =
     parameter-type (text_of m b ParamDataTypeStr) (formed m b block.Gain ParamDataTypeStr typed c.requires.forms refl)
     (of-none (writes_float m b) ParamDataTypeStr (parameters_of b) c.requires.float (among b block.Gain ParamDataTypeStr typed refl))
 
+pub unit_delay_kind-requires : goal.unit_delay_kind-requires
+unit_delay_kind-requires c =
+    formed (tree_of c.args.model.now) (seen c.args.block.now) block.UnitDelay InitialCondition (c.requires.typed ∙ ap Some c.in-UnitDelay.is) c.requires.forms refl
+
 pub delay_kind-requires : goal.delay_kind-requires
 delay_kind-requires c =
-    formed (tree_of c.args.model.now) (seen c.args.block.now) block.UnitDelay InitialCondition (c.requires.typed ∙ ap Some c.in-UnitDelay.is) c.requires.forms refl
+    formed (tree_of c.args.model.now) (seen c.args.block.now) block.Delay InitialCondition (c.requires.typed ∙ ap Some c.in-Delay.is) c.requires.forms refl
 
 pub switch_kind-requires : goal.switch_kind-requires
 switch_kind-requires c =

@@ -3,8 +3,8 @@ use Rattle.std.specs.Prelude.{bytes_eq}
 use Rattle.mdl_tree.specs.Spelling.{End}
 use Rattle.mdl_tree.specs.Values.{items_of}
 use Rattle.mdl_tree.specs.Walks.{sections_named}
-use Rattle.mdl_tree.proofs.Rows.{section_in}
-use Rattle.mdl_params.proofs.KindLemmas.{sections_named-yes}
+use Rattle.mdl_tree.proofs.lemmas.Rows.{section_in}
+use Rattle.mdl_params.proofs.lemmas.KindLemmas.{sections_named-yes}
 use Rattle.mc_table.specs.Walks.{item_alone}
 use Rattle.mc_table.proofs.sections.named_in.Goals as goal
 

@@ -7,7 +7,7 @@ use Rattle.mc_table.specs.SoFar.{is_not_read}
 use Rattle.mc_table.specs.HeldModels.{tree_of}
 use Rattle.mc_diagram.specs.FirstRefusal.{earlier_of}
 use Rattle.mc_table.specs.Numbered.{newer_refusal}
-use Rattle.mc_diagram.proofs.FirstRefusals.{least-where, least_line-append}
+use Rattle.mc_diagram.proofs.lemmas.FirstRefusals.{least-where, least_line-append}
 use Rattle.mc_table.proofs.verdict.least_unsupported.Goals as goal
 
 pub returns : goal.returns

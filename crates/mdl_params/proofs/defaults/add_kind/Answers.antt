@@ -2,7 +2,7 @@ use Rattle.std.proofs.Common.{sym, ap, ◌∙◌, Some, is_some, Vec, Global, �
 use Rattle.std.specs.Map.{lookup}
 use Rattle.indexmap.proofs.CallerLemmas.{insert_entry-new}
 use Rattle.mdl_tree.specs.Values.{items_of}
-use Rattle.mdl_params.proofs.KindLemmas.{named, is_none, AddsKind-known, AddsKind-new}
+use Rattle.mdl_params.proofs.lemmas.KindLemmas.{named, is_none, AddsKind-known, AddsKind-new}
 use Rattle.mdl_params.proofs.defaults.add_kind.Goals as goal
 
 pub returns-then-contains_key : goal.returns-then-contains_key

@@ -4,11 +4,11 @@ use Rattle.std.specs.Option.{option_or}
 use Rattle.mdl_tree.specs.Spelling.{Items}
 use Rattle.mdl_tree.specs.Values.{items_of, with_item, section_tree}
 use Rattle.mdl_tree.specs.Walks.{SectionTree, sections_named}
-use Rattle.mdl_tree.proofs.Rows.{section_in, items_from}
+use Rattle.mdl_tree.proofs.lemmas.Rows.{section_in, items_from}
 use Rattle.mdl_params.specs.BlockTypes.{beside}
 use Rattle.mdl_params.specs.Defaults.{DefaultTexts, kinds_of}
 use Rattle.mdl_params.specs.Texts.{plain_kinds}
-use Rattle.mdl_params.proofs.KindLemmas.{kinds_of-more, sections_named-yes, sections_named-no}
+use Rattle.mdl_params.proofs.lemmas.KindLemmas.{kinds_of-more, sections_named-yes, sections_named-no}
 use Rattle.mdl_params.proofs.defaults.read_kinds.Goals as goal
 use Rattle.mdl_params.proofs.defaults.read_kinds.Goals.{in-Section+then-eq+in_ok-add_kind, in-Section+else-eq, in_default-item}
 

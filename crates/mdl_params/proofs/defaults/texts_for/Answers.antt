@@ -2,7 +2,7 @@ use Rattle.std.proofs.Common.{ap, ◌∙◌, [], Vec, Global, unwrap_or}
 use Rattle.std.specs.Prelude.{option_map}
 use Rattle.mdl_params.specs.declared.texts.ParamText.{ParamText}
 use Rattle.mdl_params.specs.Texts.{plain_texts}
-use Rattle.mdl_params.proofs.KindLemmas.{lookup-plain}
+use Rattle.mdl_params.proofs.lemmas.KindLemmas.{lookup-plain}
 use Rattle.mdl_params.proofs.defaults.texts_for.Goals as goal
 
 pub returns-in-Some : goal.returns-in-Some

@@ -1,7 +1,7 @@
 use Rattle.std.proofs.Common.{◌≡◌, OnOk, subst}
 use Rattle.mdl_tree.specs.Spelling.{Items, End}
 use Rattle.mdl_tree.specs.Values.{section_tree}
-use Rattle.mdl_tree.proofs.Rows.{section_in}
+use Rattle.mdl_tree.proofs.lemmas.Rows.{section_in}
 use Rattle.mdl_reader.specs.Building.{with_items}
 use Rattle.mdl_reader.proofs.builder.push_section.Goals as goal
 

@@ -18,12 +18,12 @@ use Rattle.mc_table.specs.Doubles.{IsFlat}
 use Rattle.mc_table.specs.TableOf.{IsTableOf, model_of, TableOf}
 use Rattle.mc_table.specs.TreeRefusals.{no_model, two_models, deep_subsystems, too_many_blocks, crowded_systems, is_unsupported, is_newer_line, unsupported, line_parts, model_refusal, bad_parameters, double_names, missing_blocks, missing_ports, double_sources, unconnected_ports, double_controls, continuous_blocks, float_blocks, writes_zero, writes_float, is_float_constant}
 use Rattle.mc_table.specs.SoFar.{is_later, writes_period, is_not_read, unread_found, unsupported_so_far, model_refusal_so_far, tree_refusal_so_far}
-use Rattle.mc_diagram.proofs.FirstRefusals.{least-where}
+use Rattle.mc_diagram.proofs.lemmas.FirstRefusals.{least-where}
 use Rattle.mc_table.proofs.FlatLemmas.{model-numbered}
 use Rattle.mc_table.proofs.MissingLemmas.{flat_blocks}
 use Rattle.mc_table.proofs.OneSystem.{no_subsystems, flat-model}
 use Rattle.mc_table.proofs.FormLemmas.{or-left, or-right}
-use Rattle.mc_table.proofs.AcceptedLists.{append-empty, map-empty, fails-at, empty-at}
+use Rattle.mc_table.proofs.lemmas.AcceptedLists.{append-empty, map-empty, fails-at, empty-at}
 
 -- ---- No refusal
 
