@@ -15,9 +15,9 @@ use Rattle.mc_diagram.specs.WellFormed.{IsNested, IsWired, IsWireIn, IsOwner, wi
 use Rattle.mc_diagram.specs.Diagram.{Diagram, op_at}
 use Rattle.mc_diagram.specs.Needs.{inputs_used, control_wires, needs_of, needs_inside}
 use Rattle.mc_diagram.specs.Walk.{Walk, IsLoop, HasNoLoop, IsLeastLoop}
-use Rattle.mc_diagram.proofs.Enclosing.{enclosing-step}
-use Rattle.mc_diagram.proofs.Inside.{Contains-nil, needs_inside-among}
-use Rattle.mc_diagram.proofs.Tick.{row_at-past, needs-bounded}
+use Rattle.mc_diagram.proofs.lemmas.Enclosing.{enclosing-step}
+use Rattle.mc_diagram.proofs.lemmas.Inside.{Contains-nil, needs_inside-among}
+use Rattle.mc_diagram.proofs.lemmas.Tick.{row_at-past, needs-bounded}
 use Rattle.mc_depend.specs.Needed.{needed, IsGraphOf, AreEdgesBelow}
 use Rattle.mc_depend.proofs.NeededSteps.{needed-edge, edge-needed, Contains-front, Contains-behind, Contains-cases, walk-to_graph}
 use Rattle.mc_depend.proofs.Comparing.{le-or-above}

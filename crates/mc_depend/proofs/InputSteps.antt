@@ -6,19 +6,19 @@ use Rattle.std.proofs.lemmas.List.{get_or_default, get_or-append_right, get_or_a
 use Rattle.std.proofs.lemmas.Nat.{pow_apart}
 use Rattle.std.specs.Int.Bits.{bit_or, and_zero_l}
 use Rattle.mc_base.specs.declared.Control.{Control}
-use Rattle.mc_base.specs.declared.Control.TheVariants.{Plain, Enabled, Triggered}
+use Rattle.mc_base.specs.declared.Control.TheVariants.{Plain, Enabled, Triggered, Both}
 use Rattle.mc_blocks.specs.declared.Kind.TheVariants.{Inport}
 use Rattle.mc_graph.specs.NeedsGraph.{NeedsGraph}
 use Rattle.mc_graph.specs.Masks.{AreMasks}
 use Rattle.mc_graph.specs.Reaching as graph
-use Rattle.mc_graph.proofs.Bits.{set-from_one, or-left, or-right, or-cases}
+use Rattle.mc_graph.proofs.lemmas.Bits.{set-from_one, or-left, or-right, or-cases}
 use Rattle.mc_diagram.specs.declared.table.Row.{Row}
 use Rattle.mc_diagram.specs.Rows.{row_at, no_row, control_of, control_at, system_control, same_system, is_enabled, is_triggered}
 use Rattle.mc_diagram.specs.Walk.{Reaches}
 use Rattle.mc_diagram.specs.Diagram.{Diagram}
 use Rattle.mc_diagram.specs.Needs.{needs_inside, IsInputRow, TrueNeeds, IsMaskOf}
-use Rattle.mc_diagram.proofs.Tick.{row_at-past}
-use Rattle.mc_diagram.proofs.RestsOnNeeds.{same_system-equal}
+use Rattle.mc_diagram.proofs.lemmas.Tick.{row_at-past}
+use Rattle.mc_diagram.proofs.lemmas.RestsOnNeeds.{same_system-equal}
 use Rattle.mc_depend.specs.Needed.{needed, IsGraphOf}
 use Rattle.mc_depend.specs.TrueNeeds.{AreInputBits, AreReachedInputs, control_mask}
 use Rattle.mc_depend.proofs.Comparing.{le-or-above}
@@ -102,16 +102,22 @@ control-bits : (c : Control) (k : ℕ) → IsBitSet (control_mask c) k → (32 �
 control-bits Plain k set = absurd (set (and_zero_l (2 ^ k)))
 control-bits (Enabled reset) k set = let e : k ≡ 32 = one-bit 32 k set in (omega arith, omega arith)
 control-bits (Triggered edge) k set = let e : k ≡ 33 = one-bit 33 k set in (omega arith, omega arith)
+control-bits (Both reset edge) k set = elim (or-cases (2 ^ 32) (2 ^ 33) k set) [
+  | inl enable ↦ let e : k ≡ 32 = one-bit 32 k enable in (omega arith, omega arith)
+  | inr trigger ↦ let e : k ≡ 33 = one-bit 33 k trigger in (omega arith, omega arith)
+]
 
 control-enable : (c : Control) → IsBitSet (control_mask c) 32 ↔ IsTrue (is_enabled c)
 control-enable Plain = (λ b. absurd (b refl), λ t. absurd (true≢false (sym t)))
 control-enable (Enabled reset) = (λ b. refl, λ t e. let no : 2 ^ 32 ≡ 0 = e in omega arith)
 control-enable (Triggered edge) = (λ b. absurd (b refl), λ t. absurd (true≢false (sym t)))
+control-enable (Both reset edge) = (λ b. refl, λ t e. let no : 2 ^ 32 ≡ 0 = e in omega arith)
 
 control-trigger : (c : Control) → IsBitSet (control_mask c) 33 ↔ IsTrue (is_triggered c)
 control-trigger Plain = (λ b. absurd (b refl), λ t. absurd (true≢false (sym t)))
 control-trigger (Enabled reset) = (λ b. absurd (b refl), λ t. absurd (true≢false (sym t)))
 control-trigger (Triggered edge) = (λ b. refl, λ t e. let no : 2 ^ 33 ≡ 0 = e in omega arith)
+control-trigger (Both reset edge) = (λ b. refl, λ t e. let no : 2 ^ 33 ≡ 0 = e in omega arith)
 
 pub control_inside : (rows : List Row) (b : ℕ) (row : Row) → b < length rows → row ≡ get_or rows b row → control_mask (control_of row.kind) ≡ control_mask (control_at rows b)
 control_inside rows b row inside read = ap (λ (r : Row). control_mask (control_of r.kind)) (read ∙ get_or_default rows b row no_row inside)

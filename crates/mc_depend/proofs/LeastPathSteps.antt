@@ -1,11 +1,12 @@
 -- A path of least steps, row by row.
-use Rattle.std.specs.Prelude.{◌≡◌, ℕ, suc, ◌<◌, ◌≤◌, IsTrue, List, [], ◌∷◌, ◌++◌, length, get_or, Contains, Option, Some, None, refl}
+use Rattle.std.specs.Prelude.{◌≡◌, ℕ, suc, ◌<◌, ◌≤◌, IsTrue, List, [], ◌∷◌, ◌++◌, length, get_or, replicate, Contains, Option, Some, None, refl}
 use Rattle.std.specs.Ordering.{nat_cmp, is_le, ordering_then}
 use Rattle.std.specs.Cmp.{nat_cmp_is}
 use Rattle.std.specs.declared.cmp.Ordering.TheVariants.{Less, Equal}
 use Rattle.std.specs.Cmp.Lexicographic.{slice_cmp}
-use Rattle.std.proofs.Common.{arith, sym, ap, subst, ◌∙◌, inl, inr, append_assoc}
-use Rattle.std.proofs.lemmas.List.{append-nil}
+use Rattle.std.proofs.Common.{arith, sym, ap, subst, ◌∙◌, inl, inr, append_assoc, set, length-set, get_or-set_same, get_or-set_other}
+use Rattle.std.proofs.lemmas.List.{append-nil, get_or-replicate, length-replicate, get_or_past}
+use native.Mathlib.Decide.{ℕ_discrete}
 use Rattle.mc_diagram.specs.Walk.{Walk}
 use Rattle.std.proofs.lemmas.List.{get_or_default}
 use Rattle.mc_graph.specs.NeedsGraph.{NeedsGraph}
@@ -13,9 +14,9 @@ use Rattle.mc_graph.specs.EdgeChains.{from, to}
 use Rattle.mc_depend.specs.Needed.{needed}
 use Rattle.mc_depend.proofs.NeededSteps.{needed-edge, edge-needed}
 use Rattle.mc_depend.specs.Least.{IsLeastOf, lesser_of}
-use Rattle.mc_depend.proofs.LeastSteps.{IsAmong, least-take, least-pass, least-same}
+use Rattle.mc_depend.proofs.LeastSteps.{IsAmong, least-init, least-take, least-pass, least-same}
 use Rattle.mc_depend.specs.Levels.{AreLevels}
-use Rattle.mc_depend.specs.LeastPaths.{IsLeastPath, IsNextOn}
+use Rattle.mc_depend.specs.LeastPaths.{IsLeastPath, IsNextOn, AreNextOn}
 use Rattle.mc_depend.proofs.Comparing.{le-or-above}
 
 -- lists with these first items, in order
@@ -92,41 +93,93 @@ module _ (needs : ℕ → List ℕ) (z : ℕ) (steps : List ℕ) (s k : ℕ) (le
 abbrev pub LeadsOn : List (ℕ × ℕ) → List ℕ → ℕ → ℕ → Type 0
 LeadsOn edges steps at e = (to edges e ≡ at) × ((0 < get_or steps (from edges e) 0) × (suc (get_or steps (from edges e) 0) ≡ get_or steps at 0))
 
-module _ (edges : List (ℕ × ℕ)) (steps : List ℕ) (at i j a b : ℕ) (next : j ≡ suc i) (from_is : a ≡ from edges i) (to_is : b ≡ to edges i) where
-  abbrev Given : Type 0
-  Given = (b ≡ at) × ((0 < get_or steps a 0) × (suc (get_or steps a 0) ≡ get_or steps at 0))
+-- for each row the least one along the first i edges
+pub record NextLoop (edges : List (ℕ × ℕ)) (steps : List ℕ) (next : List (Option ℕ)) (i : ℕ) : Type 0 where
+  pub len : length next ≡ length steps
+  pub least : (at : ℕ) → at < length steps → IsLeastOf (IsAmong (LeadsOn edges steps at) (from edges) i) (get_or next at None)
 
-  pub next_take : (found : Option ℕ) → Given → IsLeastOf (IsAmong (LeadsOn edges steps at) (from edges) i) found → IsLeastOf (IsAmong (LeadsOn edges steps at) (from edges) j) (Some (lesser_of found a))
-  next_take found given h =
-      subst (λ n. IsLeastOf (IsAmong (LeadsOn edges steps at) (from edges) n) (Some (lesser_of found a))) (sym next)
-      (subst (λ n. IsLeastOf (IsAmong (LeadsOn edges steps at) (from edges) (suc i)) (Some (lesser_of found n))) (sym from_is)
-      (least-take (LeadsOn edges steps at) (from edges) i found
-      (subst (λ n. (to edges i ≡ at) × ((0 < get_or steps n 0) × (suc (get_or steps n 0) ≡ get_or steps at 0))) from_is (sym to_is ∙ given.0, given.1)) h))
+module _ (edges : List (ℕ × ℕ)) (steps : List ℕ) where
+  pub next_begins : (n : ℕ) (next : List (Option ℕ)) → next ≡ replicate n None → length steps ≡ n → NextLoop edges steps next 0
+  next_begins n next e len = subst (λ xs. NextLoop edges steps xs 0) (sym e) (record {
+    len = length-replicate n None ∙ sym len;
+    least = λ at below. subst (IsLeastOf (IsAmong (LeadsOn edges steps at) (from edges) 0)) (sym (get_or-replicate n at None None (omega arith)))
+        (least-init (LeadsOn edges steps at) (from edges));
+  })
 
-  pub next_pass : (found : Option ℕ) → (Given → ⊥) → IsLeastOf (IsAmong (LeadsOn edges steps at) (from edges) i) found → IsLeastOf (IsAmong (LeadsOn edges steps at) (from edges) j) found
-  next_pass found fails h =
-      subst (λ n. IsLeastOf (IsAmong (LeadsOn edges steps at) (from edges) n) found) (sym next)
-      (least-pass (LeadsOn edges steps at) (from edges) i found
-      (λ g. fails (to_is ∙ g.0, subst (λ n. (0 < get_or steps n 0) × (suc (get_or steps n 0) ≡ get_or steps at 0)) (sym from_is) g.1)) h)
+  module _ (i j a b : ℕ) (one_more : j ≡ suc i) (from_is : a ≡ from edges i) (to_is : b ≡ to edges i) (next : List (Option ℕ)) (loop : NextLoop edges steps next i) where
+    -- the way goes on from b to a
+    abbrev Given : Type 0
+    Given = (0 < get_or steps a 0) × (suc (get_or steps a 0) ≡ get_or steps b 0)
 
-pub next_done : (g : NeedsGraph) (steps : List ℕ) (at i : ℕ) (found : Option ℕ) → i ≡ length g.edges → IsLeastOf (IsAmong (LeadsOn g.edges steps at) (from g.edges) i) found → IsLeastOf (IsNextOn (needed g) steps at) found
-next_done g steps at i found all h = least-same (IsAmong (LeadsOn g.edges steps at) (from g.edges) i) (IsNextOn (needed g) steps at) found
-    (λ c m. record {
-      needs_it = edge-needed at c g.edges (
-        m.0,
-        (let l = m.1 in omega arith),
-        get_or_default g.edges m.0 (c, at) (0, 0) (let l = m.1 in omega arith) ∙ λ i. (sym m.3 i, m.2.0 i),
-      );
-      on_way = subst (λ n. 0 < get_or steps n 0) (sym m.3) m.2.1.0;
-      shorter = subst (λ n. suc (get_or steps n 0) ≡ get_or steps at 0) (sym m.3) m.2.1.1;
+    -- what edge i says of row b
+    here : Given → LeadsOn edges steps b i
+    here given = (sym to_is, subst (λ n. (0 < get_or steps n 0) × (suc (get_or steps n 0) ≡ get_or steps b 0)) from_is given)
+
+    -- it says nothing of another row
+    not-here : (at : ℕ) → (at ≡ b → ⊥) → LeadsOn edges steps at i → ⊥
+    not-here at differ leads = differ (sym leads.0 ∙ sym to_is)
+
+    pub next_take : b < length steps → Given → (later : List (Option ℕ)) → later ≡ set next b (Some (lesser_of (get_or next b None) a)) → NextLoop edges steps later j
+    next_take inside given later e =
+        subst (λ xs. NextLoop edges steps xs j) (sym e) (subst (λ n. NextLoop edges steps (set next b (Some (lesser_of (get_or next b None) a))) n) (sym one_more) (record {
+          len = length-set next b (Some (lesser_of (get_or next b None) a)) ∙ loop.len;
+          least = λ at below. elim (ℕ_discrete at b) [
+            | yes same ↦
+                subst (λ n. IsLeastOf (IsAmong (LeadsOn edges steps n) (from edges) (suc i)) (get_or (set next b (Some (lesser_of (get_or next b None) a))) n None)) (sym same)
+                (subst (IsLeastOf (IsAmong (LeadsOn edges steps b) (from edges) (suc i)))
+                (sym (get_or-set_same next b (Some (lesser_of (get_or next b None) a)) None (let l = loop.len in omega arith)))
+                (subst (λ n. IsLeastOf (IsAmong (LeadsOn edges steps b) (from edges) (suc i)) (Some (lesser_of (get_or next b None) n))) (sym from_is)
+                (least-take (LeadsOn edges steps b) (from edges) i (get_or next b None) (here given) (loop.least b inside))))
+            | no differ ↦
+                subst (IsLeastOf (IsAmong (LeadsOn edges steps at) (from edges) (suc i)))
+                (sym (get_or-set_other next b at (Some (lesser_of (get_or next b None) a)) None differ))
+                (least-pass (LeadsOn edges steps at) (from edges) i (get_or next at None) (not-here at differ) (loop.least at below))
+          ];
+        }))
+
+    pub next_pass : (Given → ⊥) → NextLoop edges steps next j
+    next_pass fails = subst (NextLoop edges steps next) (sym one_more) (record {
+      len = loop.len;
+      least = λ at below. least-pass (LeadsOn edges steps at) (from edges) i (get_or next at None)
+          (λ leads. fails (subst (λ n. (0 < get_or steps n 0) × (suc (get_or steps n 0) ≡ get_or steps b 0)) (sym from_is)
+          (subst (λ n. (0 < get_or steps (from edges i) 0) × (suc (get_or steps (from edges i) 0) ≡ get_or steps n 0)) (sym leads.0 ∙ sym to_is) leads.1)))
+          (loop.least at below);
     })
-    (λ c n.
-    let e = needed-edge at c g.edges n.needs_it in
-    let read : get_or g.edges e.0 (0, 0) ≡ (c, at) = get_or_default g.edges e.0 (0, 0) (c, at) e.1 ∙ e.2 in
-    let first : c ≡ from g.edges e.0 = sym (ap (λ (x : ℕ × ℕ). x.0) read) in (
-      e.0,
-      (let l = e.1 in omega arith),
-      (ap (λ (x : ℕ × ℕ). x.1) read, subst (λ n. (0 < get_or steps n 0) × (suc (get_or steps n 0) ≡ get_or steps at 0)) first (n.on_way, n.shorter)),
-      first,
-    ))
-    h
+
+module _ (g : NeedsGraph) (steps : List ℕ) where
+  next-of-row : (at : ℕ) (found : Option ℕ) → IsLeastOf (IsAmong (LeadsOn g.edges steps at) (from g.edges) (length g.edges)) found → IsLeastOf (IsNextOn (needed g) steps at) found
+  next-of-row at found h = least-same (IsAmong (LeadsOn g.edges steps at) (from g.edges) (length g.edges)) (IsNextOn (needed g) steps at) found
+      (λ c m. record {
+        needs_it = edge-needed at c g.edges (
+          m.0,
+          m.1,
+          get_or_default g.edges m.0 (c, at) (0, 0) m.1 ∙ λ i. (sym m.3 i, m.2.0 i),
+        );
+        on_way = subst (λ n. 0 < get_or steps n 0) (sym m.3) m.2.1.0;
+        shorter = subst (λ n. suc (get_or steps n 0) ≡ get_or steps at 0) (sym m.3) m.2.1.1;
+      })
+      (λ c n.
+      let e = needed-edge at c g.edges n.needs_it in
+      let read : get_or g.edges e.0 (0, 0) ≡ (c, at) = get_or_default g.edges e.0 (0, 0) (c, at) e.1 ∙ e.2 in
+      let first : c ≡ from g.edges e.0 = sym (ap (λ (x : ℕ × ℕ). x.0) read) in (
+        e.0,
+        e.1,
+        (ap (λ (x : ℕ × ℕ). x.1) read, subst (λ n. (0 < get_or steps n 0) × (suc (get_or steps n 0) ≡ get_or steps at 0)) first (n.on_way, n.shorter)),
+        first,
+      ))
+      h
+
+  pub next_ends : (i : ℕ) (next : List (Option ℕ)) → i ≡ length g.edges → NextLoop g.edges steps next i → AreNextOn (needed g) steps next
+  next_ends i next all loop = record {
+    len = loop.len;
+    least = λ at below. next-of-row at (get_or next at None)
+        (subst (λ n. IsLeastOf (IsAmong (LeadsOn g.edges steps at) (from g.edges) n) (get_or next at None)) all (loop.least at below));
+  }
+
+-- what is read of a row from which steps are counted
+pub next-read : (needs : ℕ → List ℕ) (steps : List ℕ) (next : List (Option ℕ)) (at : ℕ) (found : Option ℕ) → AreNextOn needs steps next → 0 < get_or steps at 0 →
+    found ≡ get_or next at found → IsLeastOf (IsNextOn needs steps at) found
+next-read needs steps next at found are counted read = elim (le-or-above (length steps) at) [
+  | inl past ↦ absurd (let none = get_or_past steps at 0 past in omega arith)
+  | inr inside ↦ subst (IsLeastOf (IsNextOn needs steps at)) (sym (read ∙ get_or_default next at found None (let l = are.len in omega arith))) (are.least at inside)
+]

@@ -1,9 +1,7 @@
 -- One more level of rows from which a row is reached.
-use Rattle.std.specs.Prelude.{◌≡◌, ◌≢◌, ℕ, zero, suc, ◌<◌, ◌≤◌, List, [], ◌∷◌, length, Contains, ◌⊎◌, refl}
-use Rattle.std.proofs.Common.{cond, eqb, get_or, set, sym, ap, subst, ◌∙◌, arith, inl, inr, length-set, get_or-set_same, get_or-set_other}
-use Rattle.std.proofs.lemmas.Bool.{eq-eqb, ne_eqb}
+use Rattle.std.specs.Prelude.{◌≡◌, ℕ, zero, suc, ◌<◌, ◌≤◌, List, [], ◌∷◌, length, Contains, ◌⊎◌, refl}
+use Rattle.std.proofs.Common.{get_or, sym, ap, subst, ◌∙◌, arith, inl, inr}
 use Rattle.std.proofs.lemmas.List.{get_or_default}
-use Rattle.std.proofs.lemmas.List.Sums.{sum_by-set}
 use Rattle.mc_graph.specs.EdgeChains.{from, to}
 use Rattle.mc_diagram.specs.Walk.{Walk}
 use Rattle.mc_depend.specs.Levels.{AreLevels, IsAtLevel, unreached}
@@ -23,92 +21,6 @@ pub record IsAdvancing (edges : List (ℕ × ℕ)) (z k : ℕ) (old new : List �
 -- what an index reads
 pub edge-at : (edges : List (ℕ × ℕ)) (e : ℕ) → e < length edges → Contains edges (from edges e, to edges e)
 edge-at edges e below = (e, below, get_or_default edges e (from edges e, to edges e) (0, 0) below)
-
-module _ (edges : List (ℕ × ℕ)) (z k : ℕ) (old : List ℕ) where
-  -- a row at level k is so before and after
-  at-before : (k' : ℕ) (new : List ℕ) (a : ℕ) → k' ≡ k → ((b : ℕ) → 0 < get_or new b 0 → (0 < get_or old b 0) ⊎ (get_or new b 0 ≡ suc k)) → ((b : ℕ) → 0 < get_or old b 0 → get_or new b 0 ≡ get_or old b 0) →
-      IsAtLevel z new k' a → IsAtLevel z old k' a
-  at-before zero new a same fresh kept h = h
-  at-before (suc n) new a same fresh kept h = elim (fresh a (omega arith)) [
-    | inl was ↦ sym (kept a was) ∙ h
-    | inr now ↦ absurd (omega arith)
-  ]
-
-  at-after : (k' : ℕ) (new : List ℕ) (a : ℕ) → ((b : ℕ) → 0 < get_or old b 0 → get_or new b 0 ≡ get_or old b 0) →
-      IsAtLevel z old k' a → IsAtLevel z new k' a
-  at-after zero new a kept h = h
-  at-after (suc n) new a kept h = kept a (omega arith) ∙ h
-
-  module _ (new : List ℕ) (i : ℕ) (adv : IsAdvancing edges z k old new i) where
-    pub level-before : (a : ℕ) → IsAtLevel z new k a → IsAtLevel z old k a
-    level-before a h = at-before k new a refl (λ b q. elim (adv.fresh b q) [ inl was ↦ inl was | inr now ↦ inr now.0 ]) adv.kept h
-
-    pub level-after : (a : ℕ) → IsAtLevel z old k a → IsAtLevel z new k a
-    level-after a h = at-after k new a adv.kept h
-
-    done-more : (later : List ℕ) → ((b : ℕ) → 0 < get_or new b 0 → 0 < get_or later b 0) → (IsAtLevel z old k (from edges i) → 0 < get_or later (to edges i) 0) →
-        (e : ℕ) → e < suc i → IsAtLevel z old k (from edges e) → 0 < get_or later (to edges e) 0
-    done-more later grows here e below at = elim (le-or-above i e) [
-      | inl up ↦ let same : i ≡ e = omega arith in subst (λ n. 0 < get_or later (to edges n) 0) same (here (subst (λ n. IsAtLevel z old k (from edges n)) (sym same) at))
-      | inr down ↦ grows (to edges e) (adv.done e down at)
-    ]
-
-    -- nothing is set
-    pub advance-skip : (IsAtLevel z new k (from edges i) → 0 < get_or new (to edges i) 0) → IsAdvancing edges z k old new (suc i)
-    advance-skip here = record {
-      len = adv.len;
-      kept = adv.kept;
-      fresh = adv.fresh;
-      done = done-more new (λ b h. h) (λ at. here (level-after (from edges i) at));
-      moved = adv.moved;
-    }
-
-    module _ (inside : i < length edges) (b : ℕ) (goes : b ≡ to edges i) (in_list : b < length new) (free : get_or new b 0 ≡ 0) (at : IsAtLevel z new k (from edges i)) where
-      same-at : get_or (set new b (suc k)) b 0 ≡ suc k
-      same-at = get_or-set_same new b (suc k) 0 in_list
-
-      other-at : (c : ℕ) → c ≢ b → get_or (set new b (suc k)) c 0 ≡ get_or new c 0
-      other-at c ne = get_or-set_other new b c (suc k) 0 ne
-
-      cases : (c : ℕ) → (c ≡ b) ⊎ (get_or (set new b (suc k)) c 0 ≡ get_or new c 0)
-      cases c = elim (le-or-above c b) [
-        | inl low ↦ elim (le-or-above b c) [ inl high ↦ inl (omega arith) | inr below ↦ inr (other-at c (λ e. omega arith)) ]
-        | inr above ↦ inr (other-at c (λ e. omega arith))
-      ]
-
-      grows : (c : ℕ) → 0 < get_or new c 0 → 0 < get_or (set new b (suc k)) c 0
-      grows c h = elim (cases c) [
-        | inl same ↦ absurd (let e : get_or new c 0 ≡ 0 = ap (λ n. get_or new n 0) same ∙ free in omega arith)
-        | inr other ↦ omega arith
-      ]
-
-      fewer : unreached (set new b (suc k)) < unreached new
-      fewer =
-          let e = sum_by-set (λ count. cond (eqb count 0) 1 0) new b (suc k) 0 in_list in
-          let one : cond {A = ℕ} (eqb (get_or new b 0) 0) 1 0 ≡ 1 = ap (λ t. cond {A = ℕ} t 1 0) (eq-eqb (get_or new b 0) 0 free) in
-          let none : cond {A = ℕ} (eqb (suc k) 0) 1 0 ≡ 0 = ap (λ t. cond {A = ℕ} t 1 0) (ne_eqb (suc k) 0 (λ q. omega arith)) in
-          omega (arith, e, one, none)
-
-      pub advance-set : IsAdvancing edges z k old (set new b (suc k)) (suc i)
-      advance-set = record {
-        len = length-set new b (suc k) ∙ adv.len;
-        kept = λ c h. elim (cases c) [
-          | inl same ↦ absurd (let e : get_or new c 0 ≡ 0 = ap (λ n. get_or new n 0) same ∙ free in let was = adv.kept c h in omega arith)
-          | inr other ↦ other ∙ adv.kept c h
-        ];
-        fresh = λ c h. elim (cases c) [
-          | inl same ↦ inr (
-            ap (λ n. get_or (set new b (suc k)) n 0) same ∙ same-at,
-            (from edges i, subst (λ n. Contains edges (from edges i, n)) (sym goes ∙ sym same) (edge-at edges i inside), level-before (from edges i) at),
-          )
-          | inr other ↦ elim (adv.fresh c (omega arith)) [ inl was ↦ inl was | inr now ↦ inr (other ∙ now.0, now.1) ]
-        ];
-        done = done-more (set new b (suc k)) grows (λ h. subst (λ n. 0 < get_or (set new b (suc k)) n 0) goes (omega (arith, same-at)));
-        moved = inr (elim adv.moved [
-          | inl same ↦ let f = fewer in let s : unreached new ≡ unreached old = ap unreached same in omega (arith, f, s)
-          | inr less ↦ let f = fewer in omega (arith, f, less)
-        ]);
-      }
 
 -- a path of which one step is known
 module _ (needs : ℕ → List ℕ) (edges : List (ℕ × ℕ)) (edge-of : (b a : ℕ) → Contains (needs b) a → Contains edges (a, b)) (need-of : (b a : ℕ) → Contains edges (a, b) → Contains (needs b) a) (z k : ℕ) (old : List ℕ) (levels : AreLevels needs z k old) where
@@ -186,22 +98,6 @@ module _ (needs : ℕ → List ℕ) (edges : List (ℕ × ℕ)) (edge-of : (b a 
         | inl was ↦ was
         | inr at ↦ done-at old adv b a w.0 at.0
       ]
-
--- in steps of one
-module _ (edges : List (ℕ × ℕ)) (z k : ℕ) (old new : List ℕ) (i j a b : ℕ) (next : j ≡ suc i) (inside : i < length edges) (from_is : a ≡ from edges i) (to_is : b ≡ to edges i) (adv : IsAdvancing edges z k old new i) where
-  pub advance_take : (k1 : ℕ) → k1 ≡ suc k → b < length new → (get_or new b 0 ≡ 0) × IsAtLevel z new k a → IsAdvancing edges z k old (set new b k1) j
-  advance_take k1 more in_list passes =
-      subst (λ n. IsAdvancing edges z k old (set new b n) j) (sym more)
-      (subst (λ n. IsAdvancing edges z k old (set new b (suc k)) n) (sym next)
-      (advance-set edges z k old new i adv inside b to_is in_list passes.0 (subst (λ n. IsAtLevel z new k n) from_is passes.1)))
-
-  pub advance_pass : ((get_or new b 0 ≡ 0) × IsAtLevel z new k a → ⊥) → IsAdvancing edges z k old new j
-  advance_pass fails =
-      subst (λ n. IsAdvancing edges z k old new n) (sym next)
-      (advance-skip edges z k old new i adv (λ at. elim (zero-or-above (get_or new (to edges i) 0)) [
-        | inl none ↦ absurd (fails (ap (λ n. get_or new n 0) to_is ∙ none, subst (λ n. IsAtLevel z new k n) (sym from_is) at))
-        | inr some ↦ some
-      ]))
 
 -- a graph's needs
 module _ (g : NeedsGraph) (z k : ℕ) (old new : List ℕ) (levels : AreLevels (needed g) z k old) (adv : IsAdvancing g.edges z k old new (length g.edges)) where

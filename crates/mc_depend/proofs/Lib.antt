@@ -1,7 +1,8 @@
+pub mod lemmas
 pub mod Comparing
-pub mod LoopRows
 pub mod LeastSteps
 pub mod LevelSteps
+pub mod NumberSteps
 pub mod LeastPathSteps
 pub mod NeededSteps
 pub mod BlockSteps

@@ -9,13 +9,13 @@ use Rattle.mc_diagram.specs.Rows.{outward}
 use Rattle.mc_diagram.specs.Diagram.{Diagram, op_at}
 use Rattle.mc_diagram.specs.Needs.{control_wires, needs_of}
 use Rattle.mc_diagram.specs.Walk.{Walk, HasNoLoop, IsLeastFrom, IsLeastLoop}
-use Rattle.mc_diagram.proofs.Inside.{Contains-nil}
-use Rattle.mc_diagram.proofs.Tick.{row_at-past}
+use Rattle.mc_diagram.proofs.lemmas.Inside.{Contains-nil}
+use Rattle.mc_diagram.proofs.lemmas.Tick.{row_at-past}
 use Rattle.mc_depend.specs.Needed.{IsOnLoop}
 use Rattle.mc_depend.specs.Least.{IsLeastOf}
 use Rattle.mc_depend.specs.LoopLaws.{LoopIsToldOrNone}
 use Rattle.mc_depend.proofs.Comparing.{le-or-above}
-use Rattle.mc_depend.proofs.LoopRows.{loop-rows, all-above, none-on_loop}
+use Rattle.mc_depend.proofs.lemmas.LoopRows.{loop-rows, all-above, none-on_loop}
 use Rattle.mc_depend.proofs.ShortWalks.{first-below, short-walk}
 use Rattle.mc_depend.proofs.LeastSearches.{Decided, least-found}
 use Rattle.mc_depend.proofs.FirstWays.{Way, IsFirstWay, way-decided, first-way}

@@ -1,7 +1,7 @@
 -- The inputs of a system as bits, and for each row those that it reaches inside it.
-use Rattle.std.specs.Prelude.{◌≡◌, ℕ, suc, ◌<◌, ◌^◌, List, length, slice_index, Option, IsBitSet, ◌↔◌}
+use Rattle.std.specs.Prelude.{◌≡◌, ℕ, suc, ◌+◌, ◌<◌, ◌^◌, List, length, slice_index, Option, IsBitSet, ◌↔◌}
 use Rattle.mc_base.specs.declared.Control.{Control}
-use Rattle.mc_base.specs.declared.Control.TheVariants.{Plain, Enabled, Triggered}
+use Rattle.mc_base.specs.declared.Control.TheVariants.{Plain, Enabled, Triggered, Both}
 use Rattle.mc_diagram.specs.declared.table.Row.{Row}
 use Rattle.mc_diagram.specs.Walk.{Reaches}
 use Rattle.mc_diagram.specs.Diagram.{Diagram}
@@ -18,8 +18,9 @@ pub record AreReachedInputs (d : Diagram) (s : Option ℕ) (masks : List ℕ) : 
   pub bits : (b k : ℕ) → b < length d.rows →
       IsBitSet (slice_index masks b) k ↔ ((k < 32) × ((i : ℕ) × IsInputRow d.rows s (suc k) i × Reaches (needs_inside d s) b i))
 
--- the bit of a control: 32 for an enable, 33 for a trigger
+-- the bits of the controls: 32 for an enable, 33 for a trigger
 abbrev pub control_mask : Control → ℕ
 control_mask Plain = 0
 control_mask (Enabled reset) = 2 ^ 32
 control_mask (Triggered edge) = 2 ^ 33
+control_mask (Both reset edge) = 2 ^ 32 + 2 ^ 33

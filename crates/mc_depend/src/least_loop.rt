@@ -1,9 +1,9 @@
-ghost use Rattle.std.specs.Prelude.{◌≡◌, ℕ, ◌<◌, ◌∷◌, ◌↔◌, suc, List, Some, IfOk, IsTrue, length, slice_index};
+ghost use Rattle.std.specs.Prelude.{◌≡◌, ℕ, ◌<◌, ◌∷◌, ◌↔◌, suc, List, Some, None, IfOk, IsTrue, length, replicate, slice_index, slice_index_or, slice_set};
 ghost use Rattle.mc_diagram.specs.Walk.{IsLeastLoop};
-ghost use Rattle.mc_depend.specs.Least.{IsLeastOf};
+ghost use Rattle.mc_depend.specs.Least.{IsLeastOf, lesser_of};
 ghost use Rattle.mc_depend.specs.Needed.{needed, IsOnLoop};
 ghost use Rattle.mc_depend.specs.Levels.{AreLevelsTo};
-ghost use Rattle.mc_depend.specs.LeastPaths.{IsLeastPath, IsNextOn};
+ghost use Rattle.mc_depend.specs.LeastPaths.{IsLeastPath, AreNextOn};
 
 use crate::least::lesser;
 use crate::levels::levels_to;
@@ -20,45 +20,54 @@ pub(crate) fn least_loop(alloc: Global, g: &Graph, row: u32) -> Result<Vec<u32>,
     follow(alloc, g, &steps, row)
 }
 
-// The rows from `row` on along a shortest way back to it, the least row at each step.
+// The rows from `row` on along a shortest way back to it, the least row at each step. In time linear in rows and edges.
 fn follow(alloc: Global, g: &Graph, steps: &[usize], row: u32) -> Result<Vec<u32>, Memory>
     requires len { length steps.now ≡ g.now.n }
     requires reached { 0 < slice_index steps.now row }
     requires levels { AreLevelsTo (needed g.now) row steps.now }
     ensures { IfOk result (λ v. (path : List ℕ) × (v.items ≡ row ∷ path) × IsLeastPath (needed g.now) row steps.now row path) }
 {
+    let nearer = next_rows(alloc, g, steps)?;
     let mut rows = Vec::new(alloc);
     rows.push(row)?;
     let mut at = row;
-    while let Some(next) = least_next(g, steps, at) {
+    while let Some(next) = nearer[at as usize] {
         rows.push(next)?;
         at = next;
     }
     Ok(rows)
 }
 
-// The least row that `at` needs and from which the way is one step shorter.
-fn least_next(g: &Graph, steps: &[usize], at: u32) -> Option<u32>
-    requires len { length steps.now ≡ g.now.n }
-    requires row { at < g.now.n }
-    ensures { IsLeastOf (IsNextOn (needed g.now) steps.now at) result }
+// For each row the least one that it needs and from which the way is one step shorter.
+fn next_rows(alloc: Global, g: &Graph, steps: &[usize]) -> Result<Vec<Option<u32>>, Memory>
+    requires { length steps.now ≡ g.now.n }
+    ensures { IfOk result (λ v. AreNextOn (needed g.now) steps.now v.items) }
 {
-    let mut least = None;
-    for edge in g.edges.iter() {
-        if leads_on(steps, *edge, at) {
-            least = Some(lesser(least, edge.0));
-        }
-    }
-    least
+    let mut next = vec![in alloc; None; g.n as usize]?;
+    find_next(g, steps, &mut next);
+    Ok(next)
 }
 
-// Whether `at` needs the row that an edge leads from, and the way from there is one step shorter.
-fn leads_on(steps: &[usize], edge: (u32, u32), at: u32) -> bool
-    requires from_in { edge.0 < length steps.now }
-    requires at_in { at < length steps.now }
-    ensures { IsTrue result ↔ ((edge.1 ≡ at) × ((0 < slice_index steps.now edge.0) × (suc (slice_index steps.now edge.0) ≡ slice_index steps.now at))) }
+// Finds these rows, edge by edge.
+fn find_next(g: &Graph, steps: &[usize], next: &mut [Option<u32>])
+    requires len { length steps.now ≡ g.now.n }
+    requires none { next.old ≡ replicate g.now.n None }
+    ensures { AreNextOn (needed g.now) steps.now next.new }
 {
-    edge.1 == at && is_nearer(steps, edge.0, at)
+    for edge in g.edges.iter() {
+        if is_nearer(steps, edge.0, edge.1) {
+            keep_lesser(next, edge.1, edge.0);
+        }
+    }
+}
+
+// Keeps the lesser of what was found for row `at` and `c`.
+fn keep_lesser(next: &mut [Option<u32>], at: u32, c: u32)
+    requires { at < length next.old }
+    ensures { next.new ≡ slice_set next.old at (Some (lesser_of (slice_index_or next.old at None) c)) }
+{
+    let found = next[at as usize];
+    next[at as usize] = Some(lesser(found, c));
 }
 
 // Whether the way from row `c` is one step shorter than that from `at`.

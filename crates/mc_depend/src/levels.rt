@@ -1,14 +1,15 @@
-ghost use Rattle.std.specs.Prelude.{◌≡◌, ◌+◌, ◌<◌, ◌≤◌, ◌^◌, ◌↔◌, IfOk, IsTrue, length, slice_index};
+ghost use Rattle.std.specs.Prelude.{◌≡◌, ℕ, ◌+◌, ◌<◌, ◌≤◌, suc, List, length, slice_index, replicate, Contains, IfOk, OnOk};
+ghost use Rattle.mc_graph.specs.EdgeChains.{AreChains};
 ghost use Rattle.mc_depend.specs.Needed.{needed, IsOnLoop};
-ghost use Rattle.mc_depend.specs.Levels.{AreLevels, AreLevelsTo, IsAtLevel, unreached};
+ghost use Rattle.mc_depend.specs.Levels.{AreLevels, AreLevelsTo, IsFront, IsNumbering, unreached};
 
 use mc_base::Memory;
-use mc_graph::Graph;
+use mc_graph::{Chains, Graph, chains_of};
 use std::alloc::Global;
 
 // For each row the least number of steps that lead from it to `z`, or 0, as far as it is needed to come back from `z` to it.
 //
-// In time linear in edges, for each step of a shortest loop through `z`.
+// In time linear in rows and edges: each row is in front once, and each edge is looked at once.
 pub(crate) fn levels_to(alloc: Global, g: &Graph, z: u32) -> Result<Vec<usize>, Memory>
     requires { IsOnLoop (needed g.now) z }
     ensures len { IfOk result (λ v. length v.items ≡ g.now.n) }
@@ -16,45 +17,78 @@ pub(crate) fn levels_to(alloc: Global, g: &Graph, z: u32) -> Result<Vec<usize>, 
     ensures levels { IfOk result (λ v. AreLevelsTo (needed g.now) z v.items) }
 {
     let mut steps = vec![in alloc; 0; g.n as usize]?;
-    let mut k = 0;
-    while steps[z as usize] == 0 {
-        advance(g, z, k, &mut steps);
-        k += 1;
-    }
+    count_steps(alloc, g, z, &mut steps)?;
     Ok(steps)
 }
 
-// Numbers the rows from which `k + 1` steps lead to `z`, and no fewer.
-fn advance(g: &Graph, z: u32, k: usize, steps: &mut [usize])
+// Counts the steps, level by level, until `z` itself is reached.
+fn count_steps(alloc: Global, g: &Graph, z: u32, steps: &mut [usize]) -> Result<(), Memory>
+    requires none { steps.old ≡ replicate g.now.n 0 }
+    requires row { z < g.now.n }
+    requires on_loop { IsOnLoop (needed g.now) z }
+    ensures reached { OnOk result (0 < slice_index steps.new z) }
+    ensures levels { OnOk result (AreLevelsTo (needed g.now) z steps.new) }
+{
+    let chains = chains_of(alloc, g)?;
+    let mut front = vec![in alloc; z]?;
+    let mut k = 0;
+    'levels: while steps[z as usize] == 0 {
+        front = advance(alloc, g, &chains, &front, k, steps)?;
+        k += 1;
+    }
+    Ok(())
+}
+
+// Numbers the rows from which `k + 1` steps lead to `z`, and no fewer, and gives them; those of `k` steps are in front.
+fn advance(
+    alloc: Global,
+    g: &Graph,
+    chains: &Chains,
+    front: &[u32],
+    k: usize,
+    steps: &mut [usize],
+) -> Result<Vec<u32>, Memory>
+    requires chained { AreChains g.now chains.now.last.items chains.now.before.items }
     requires len { length steps.old ≡ g.now.n }
     requires few { k ≤ g.now.n }
-    ensures levels { AreLevels (needed g.now) z k steps.old → AreLevels (needed g.now) z (k + 1) steps.new }
-    ensures falls { AreLevels (needed g.now) z k steps.old → IsOnLoop (needed g.now) z → slice_index steps.old z ≡ 0 → unreached steps.new < unreached steps.old }
+    requires inside { (a : ℕ) → Contains front.now a → a < g.now.n }
+    ensures levels { IfOk result (λ next. (z : ℕ) → AreLevels (needed g.now) z k steps.old → IsFront z k steps.old front.now →
+        AreLevels (needed g.now) z (k + 1) steps.new × IsFront z (k + 1) steps.new next.items) }
+    ensures falls { OnOk result ((z : ℕ) → AreLevels (needed g.now) z k steps.old → IsFront z k steps.old front.now →
+        IsOnLoop (needed g.now) z → slice_index steps.old z ≡ 0 → unreached steps.new < unreached steps.old) }
 {
-    for edge in g.edges.iter() {
-        if is_next(steps, z, *edge, k) {
-            steps[edge.1 as usize] = k + 1;
+    let mut next = Vec::new(alloc);
+    for a in front {
+        number(g, chains, *a, k + 1, steps, &mut next)?;
+    }
+    Ok(next)
+}
+
+// Gives the number to the rows that need row `a` and have none yet, and lists them.
+fn number(
+    g: &Graph,
+    chains: &Chains,
+    a: u32,
+    count: usize,
+    steps: &mut [usize],
+    next: &mut Vec<u32>,
+) -> Result<(), Memory>
+    requires chained { AreChains g.now chains.now.last.items chains.now.before.items }
+    requires len { length steps.old ≡ g.now.n }
+    requires row { a < g.now.n }
+    requires count { 0 < count }
+    ensures { OnOk result ((front before : List ℕ) (i : ℕ) → i < length front → slice_index front i ≡ a →
+        IsNumbering g.now count front before steps.old next.old.items i (length g.now.edges) →
+        IsNumbering g.now count front before steps.new next.new.items (suc i) (length g.now.edges)) }
+{
+    let mut place = chains.last[a as usize];
+    while place > 0 {
+        let b = g.edges[place - 1].1;
+        if steps[b as usize] == 0 {
+            steps[b as usize] = count;
+            next.push(b)?;
         }
+        place = chains.before[place - 1];
     }
-}
-
-// Whether the row that an edge leads to has no number yet, and the one that it needs is at level `k`.
-fn is_next(steps: &[usize], z: u32, edge: (u32, u32), k: usize) -> bool
-    requires from_in { edge.0 < length steps.now }
-    requires to_in { edge.1 < length steps.now }
-    ensures { IsTrue result ↔ ((slice_index steps.now edge.1 ≡ 0) × IsAtLevel z steps.now k edge.0) }
-{
-    steps[edge.1 as usize] == 0 && is_at_level(steps, z, edge.0, k)
-}
-
-// Whether `k` steps lead from row `a` to `z`, and no fewer.
-fn is_at_level(steps: &[usize], z: u32, a: u32, k: usize) -> bool
-    requires { a < length steps.now }
-    ensures { IsTrue result ↔ IsAtLevel z steps.now k a }
-{
-    if k == 0 {
-        a == z
-    } else {
-        steps[a as usize] == k
-    }
+    Ok(())
 }

@@ -1,6 +1,8 @@
 ghost use Rattle.std.specs.Prelude.{ℕ, ◌<◌, IsTrue, length, slice_index_or};
 
 use super::loops::find_in;
+use super::true_needs::control_mask;
+use mc_base::{Control, Edge};
 use mc_graph::Graph;
 use std::test::Fail;
 
@@ -60,6 +62,45 @@ fn a_row_that_needs_itself_is_a_loop(rt: HostRuntime) -> Result<(), Fail> {
     let told = find_in(rt.alloc(), &g)?.ok_or("no loop is told")?;
     assert_eq!(rt; told.as_slice(), [1].as_slice());
     Ok(())
+}
+
+#[test]
+fn enable_of_its_own_output(rt: HostRuntime) -> Result<(), Fail> {
+    // Row 0 is an Inport, 1 the subsystem, 2 its Inport, 3 its EnablePort and 4 its Outport, which enables it.
+    let edges = vec![in rt.alloc(); (0, 2), (4, 2), (4, 3), (2, 4), (4, 4), (4, 5)]?;
+    let g = graph(6, edges).ok_or("an edge leaves the graph")?;
+    let told = find_in(rt.alloc(), &g)?.ok_or("no loop is told")?;
+    assert_eq!(rt; told.as_slice(), [2, 4].as_slice());
+    Ok(())
+}
+
+#[test]
+fn one_long_loop(rt: HostRuntime) -> Result<(), Fail> {
+    let mut edges = Vec::new(rt.alloc());
+    for b in 1..20_000 {
+        edges.push((b, b - 1))?;
+    }
+    edges.push((0, 19_999))?;
+    let g = graph(20_000, edges).ok_or("an edge leaves the graph")?;
+    let told = find_in(rt.alloc(), &g)?.ok_or("no loop is told")?;
+    assert_eq!(rt; told.len(), 20_000);
+    assert!(rt; told.iter().enumerate().all(|(k, b)| *b as usize == k));
+    Ok(())
+}
+
+#[test]
+fn an_enable_and_a_trigger_have_a_bit_each(rt: HostRuntime) {
+    let edge = Edge::Rising;
+    assert_eq!(rt; control_mask(Control::Plain), 0);
+    assert_eq!(rt;
+        control_mask(Control::Enabled { reset: false }),
+        0x1_0000_0000
+    );
+    assert_eq!(rt; control_mask(Control::Triggered(edge)), 0x2_0000_0000);
+    assert_eq!(rt;
+        control_mask(Control::Both { reset: true, edge }),
+        0x3_0000_0000
+    );
 }
 
 #[test]

@@ -29,7 +29,7 @@ pub fn needs_of(alloc: Global, r: &Resolved, system: Option<u32>) -> Result<Vec<
     masks_at(alloc, &reached, control, &own)
 }
 
-// The masks of some rows, with that of the control.
+// The masks of some rows, with that of the controls.
 fn masks_at(alloc: Global, reached: &[u64], control: u64, rows: &[u32]) -> Result<Vec<u64>, Memory>
     requires { All (λ b. b < length reached.now) rows.now }
     ensures { IfOk result (λ v. AllZip (λ b mask. (mask ≡ bit_or (slice_index reached.now b) control) × (mask < 2 ^ 64)) rows.now v.items) }
@@ -86,7 +86,7 @@ fn port_bit(port: u32) -> u64
     }
 }
 
-// The bit of the system's control.
+// The bits of the system's controls.
 fn control_at(rows: &[Row], system: Option<u32>) -> u64
     ensures { result ≡ mask_of_control (system_control rows.now system) }
 {
@@ -96,7 +96,7 @@ fn control_at(rows: &[Row], system: Option<u32>) -> u64
     }
 }
 
-// The bit of a row's control.
+// The bits of a row's controls.
 #[tactic(auto, using(crate::proofs::InputSteps::control_inside, crate::proofs::InputSteps::control_past))]
 fn row_control(rows: &[Row], s: u32) -> u64
     ensures { result ≡ mask_of_control (control_of_row rows.now s) }
@@ -107,7 +107,7 @@ fn row_control(rows: &[Row], s: u32) -> u64
     kind_control(&rows[s as usize].kind)
 }
 
-// The bit of a kind's control.
+// The bits of a kind's controls.
 fn kind_control(kind: &Kind) -> u64
     ensures { result ≡ mask_of_control (control_of kind.now) }
 {
@@ -117,13 +117,14 @@ fn kind_control(kind: &Kind) -> u64
     }
 }
 
-// Bit 32 for an enable, and bit 33 for a trigger.
-fn control_mask(control: Control) -> u64
+// Bit 32 for an enable, bit 33 for a trigger.
+pub(crate) fn control_mask(control: Control) -> u64
     ensures { result ≡ mask_of_control control }
 {
     match control {
         Control::Plain => 0,
         Control::Enabled { .. } => 1 << 32,
         Control::Triggered(_) => 1 << 33,
+        Control::Both { .. } => 0b11 << 32,
     }
 }

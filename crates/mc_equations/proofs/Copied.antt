@@ -13,9 +13,9 @@ use Rattle.mc_fixed.specs.declared.TypeText.TheVariants.{Inherit, Logical, Back,
 use Rattle.mc_fixed.specs.Types.{boolean}
 use Rattle.mc_fixed.specs.Conversion.{InType}
 use Rattle.mc_blocks.specs.declared.Kind.{Kind}
-use Rattle.mc_blocks.specs.declared.Kind.TheVariants.{Inport, Outport, SubSystem, Constant, Ground, Terminator, Gain, Sum, Product, UnitDelay, ZeroOrderHold, Switch, Relational, Logic, Convert, RateTransition, EnablePort, TriggerPort}
+use Rattle.mc_blocks.specs.declared.Kind.TheVariants.{Inport, Outport, SubSystem, Constant, Ground, Terminator, Gain, Sum, Product, UnitDelay, Delay, ZeroOrderHold, Switch, Relational, Logic, Convert, RateTransition, EnablePort, TriggerPort}
 use Rattle.mc_blocks.specs.Value.{input}
-use Rattle.mc_blocks.proofs.InType.{values_stay_in_type}
+use Rattle.mc_blocks.proofs.lemmas.InType.{values_stay_in_type}
 use Rattle.mc_diagram.specs.declared.table.Row.{Row}
 use Rattle.mc_diagram.specs.Rows.{row_at, no_row, is_inport, is_outport}
 use Rattle.mc_diagram.specs.RowTable.{RowTable}
@@ -25,8 +25,8 @@ use Rattle.mc_diagram.specs.FirstRefusal.{least_line}
 use Rattle.mc_diagram.specs.TypeRefusals.{known_type, written_type, followed_type, type_of_row, same_type, are_unlike, is_unlike, type_faults, bad_types, type_refusal}
 use Rattle.mc_diagram.specs.ResolvedTree.{ResolvedTree, IsResolvedTree, diagram_of}
 use Rattle.mc_diagram.specs.Run.{value_at}
-use Rattle.mc_diagram.proofs.OneType.{meets-one}
-use Rattle.mc_diagram.proofs.TypeFollowed.{type_followed}
+use Rattle.mc_diagram.proofs.lemmas.OneType.{meets-one}
+use Rattle.mc_diagram.proofs.lemmas.TypeFollowed.{type_followed}
 use Rattle.mc_equations.specs.Fitting.{FitsRow, AreFit}
 
 -- 0 lies in every type
@@ -127,6 +127,7 @@ ground-wire (Gain gain how) e h = absurd (true≢false (sym e))
 ground-wire (Sum count minus how) e h = absurd (true≢false (sym e))
 ground-wire (Product count how) e h = absurd (true≢false (sym e))
 ground-wire (UnitDelay initial) e h = absurd (true≢false (sym e))
+ground-wire (Delay length initial) e h = absurd (true≢false (sym e))
 ground-wire ZeroOrderHold e h = absurd (true≢false (sym e))
 ground-wire (Switch criterion threshold how) e h = absurd (true≢false (sym e))
 ground-wire (Relational compare) e h = absurd (true≢false (sym e))

@@ -7,21 +7,21 @@ use Rattle.mc_base.specs.declared.TimeText.{TimeText}
 use Rattle.mc_fixed.specs.declared.FixType.{FixType}
 use Rattle.mc_fixed.specs.Conversion.{InType}
 use Rattle.mc_blocks.specs.declared.Kind.{Kind}
-use Rattle.mc_blocks.specs.declared.Kind.TheVariants.{Inport, Outport, SubSystem, Constant, Ground, Terminator, Gain, Sum, Product, UnitDelay, ZeroOrderHold, Switch, Relational, Logic, Convert, RateTransition, EnablePort, TriggerPort}
+use Rattle.mc_blocks.specs.declared.Kind.TheVariants.{Inport, Outport, SubSystem, Constant, Ground, Terminator, Gain, Sum, Product, UnitDelay, Delay, ZeroOrderHold, Switch, Relational, Logic, Convert, RateTransition, EnablePort, TriggerPort}
 use Rattle.mc_blocks.specs.declared.Op.{Op}
 use Rattle.mc_blocks.specs.declared.Op.TheVariants.{Nothing}
 use Rattle.mc_blocks.specs.Value.{rhs, input}
 use Rattle.mc_blocks.specs.Meaning.{op_of}
 use Rattle.mc_blocks.specs.Evaluation.{PassesInType, ReadsInTypes, IsEvaluable}
-use Rattle.mc_blocks.proofs.InType.{values_stay_in_type}
+use Rattle.mc_blocks.proofs.lemmas.InType.{values_stay_in_type}
 use Rattle.mc_diagram.specs.Rows.{row_at, is_inport, same_system, port_of}
 use Rattle.mc_diagram.specs.ResolvedTree.{ResolvedTree, IsResolvedTree, diagram_of}
 use Rattle.mc_diagram.specs.WellFormed.{wires_wanted}
 use Rattle.mc_diagram.specs.Diagram.{Diagram, type_at, op_at, op_in}
 use Rattle.mc_diagram.specs.Run.{value_at, is_delay, input_values}
-use Rattle.mc_diagram.proofs.ByRow.{by_row-at}
-use Rattle.mc_diagram.proofs.Resolving.{has_types, within_limits}
-use Rattle.mc_diagram.proofs.Accepted.{rows_are_narrow}
+use Rattle.mc_diagram.proofs.lemmas.ByRow.{by_row-at}
+use Rattle.mc_diagram.proofs.lemmas.Resolving.{has_types, within_limits}
+use Rattle.mc_diagram.proofs.lemmas.Accepted.{rows_are_narrow}
 use Rattle.mc_equations.specs.Traces.{HasInputs}
 use Rattle.mc_equations.specs.Fitting.{FitsRow, AreFit}
 use Rattle.mc_equations.proofs.Copied.{PassesOn, passed, passes-on}
@@ -88,6 +88,9 @@ module _ (r : ResolvedTree) (is : IsResolvedTree r) (b : ℕ) (inside : b < leng
     delay-in : (initial : Decimal) → own_kind ≡ UnitDelay initial → FirstIn own_inputs
     delay-in initial e = own-in (UnitDelay initial) e refl (passes-on r is b (UnitDelay initial) inside e refl refl (λ text. inl text) refl)
 
+    line-in : (length : ℕ) (initial : Decimal) → own_kind ≡ Delay length initial → FirstIn own_inputs
+    line-in length initial e = own-in (Delay length initial) e refl (passes-on r is b (Delay length initial) inside e refl refl (λ text. inl text) refl)
+
     hold-in : own_kind ≡ ZeroOrderHold → FirstIn own_inputs
     hold-in e = own-in ZeroOrderHold e refl (passes-on r is b ZeroOrderHold inside e refl refl (λ text. inl text) refl)
 
@@ -107,6 +110,7 @@ module _ (r : ResolvedTree) (is : IsResolvedTree r) (b : ℕ) (inside : b < leng
     passes (Sum count minus how) e delays memory h = tt
     passes (Product count how) e delays memory h = tt
     passes (UnitDelay initial) e delays memory h = h
+    passes (Delay length initial) e delays memory h = h
     passes ZeroOrderHold e delays memory h = hold-in e
     passes (Switch criterion threshold how) e delays memory h = tt
     passes (Relational compare) e delays memory h = tt
@@ -120,6 +124,7 @@ module _ (r : ResolvedTree) (is : IsResolvedTree r) (b : ℕ) (inside : b < leng
     -- what a delay takes lies in the row's type
     taken-in : (kind : Kind) → own_kind ≡ kind → (delays : Bool) → is_delay (op_of kind own_types own_type delays) ≡ true → InType own_type (input own_inputs 0)
     taken-in (UnitDelay initial) e delays h = (delay-in initial e).1
+    taken-in (Delay length initial) e delays h = (line-in length initial e).1
     taken-in (RateTransition initial out) e true h = (transition-in initial out e).1
     taken-in (RateTransition initial out) e false h = absurd (true≢false (sym h))
     taken-in (Inport port) e delays h = absurd (true≢false (sym h))
@@ -154,6 +159,7 @@ module _ (r : ResolvedTree) (is : IsResolvedTree r) (b : ℕ) (inside : b < leng
     reads (Sum count minus how) e = all-in (Sum count minus how) e refl
     reads (Product count how) e = all-in (Product count how) e refl
     reads (UnitDelay initial) e = tt
+    reads (Delay length initial) e = tt
     reads ZeroOrderHold e = tt
     reads (Switch criterion threshold how) e = all-in (Switch criterion threshold how) e refl
     reads (Relational compare) e = all-in (Relational compare) e refl

@@ -1,24 +1,27 @@
 -- Values, memories and triggers fit before the first tick, and after each tick where they did before it.
-use Rattle.std.specs.Prelude.{◌≡◌, ℕ, ◌<◌, Bool, true, false, not, ◌&&◌, if◌then◌else◌, List, [], map, length, slice_index_or, None, ℤ, pos}
+use Rattle.std.specs.Prelude.{◌≡◌, ℕ, zero, suc, ◌<◌, Bool, true, false, not, ◌&&◌, if◌then◌else◌, List, [], ◌∷◌, ◌++◌, map, replicate, length, slice_index_or, None, ℤ, pos}
+use Rattle.std.specs.List.{AllByRecursion}
 use Rattle.std.proofs.Common.{refl, sym, ◌∙◌, ap, subst, arith}
 use Rattle.std.proofs.lemmas.List.{get_or_past}
 use native.Mathlib.Decide.{dec_lt}
 use Rattle.mc_base.specs.declared.Control.{Control}
-use Rattle.mc_base.specs.declared.Control.TheVariants.{Plain, Enabled, Triggered}
+use Rattle.mc_base.specs.declared.Control.TheVariants.{Plain, Enabled, Triggered, Both}
 use Rattle.mc_base.specs.declared.Decimal.{Decimal}
 use Rattle.mc_guards.specs.declared.TrigMem.{TrigMem}
 use Rattle.mc_guards.specs.declared.TrigMem.TheVariants.{NotYet}
 use Rattle.mc_fixed.specs.declared.FixType.{FixType}
 use Rattle.mc_fixed.specs.Conversion.{InType, quantize}
 use Rattle.mc_blocks.specs.declared.Kind.{Kind}
-use Rattle.mc_blocks.specs.declared.Kind.TheVariants.{Inport, Outport, SubSystem, Constant, Ground, Terminator, Gain, Sum, Product, UnitDelay, ZeroOrderHold, Switch, Relational, Logic, Convert, RateTransition, EnablePort, TriggerPort}
-use Rattle.mc_blocks.specs.Meaning.{op_of, has_value}
-use Rattle.mc_blocks.proofs.InType.{values_stay_in_type}
+use Rattle.mc_blocks.specs.declared.Kind.TheVariants.{Inport, Outport, SubSystem, Constant, Ground, Terminator, Gain, Sum, Product, UnitDelay, Delay, ZeroOrderHold, Switch, Relational, Logic, Convert, RateTransition, EnablePort, TriggerPort}
+use Rattle.mc_blocks.specs.declared.Op.{Op}
+use Rattle.mc_blocks.specs.declared.Op.TheVariants as op
+use Rattle.mc_blocks.specs.Meaning.{op_of, has_value, delay_length}
+use Rattle.mc_blocks.proofs.lemmas.InType.{values_stay_in_type}
 use Rattle.mc_diagram.specs.Rows.{row_at, by_row, system_control, around}
 use Rattle.mc_diagram.specs.ResolvedTree.{ResolvedTree, IsResolvedTree, diagram_of}
 use Rattle.mc_diagram.specs.Diagram.{Diagram, type_at, op_at}
-use Rattle.mc_diagram.specs.Run.{value_at, is_delay, start_by, start_of, any_off, runs, is_reset_outport, is_disabled, row_value, row_memory, has_memory, values_by, memories_by, triggers_by}
-use Rattle.mc_diagram.proofs.ByRow.{by_row-at, length-by_row}
+use Rattle.mc_diagram.specs.Run.{memory_at, first_of, moved_on, is_delay, start_by, start_of, initial_memory, any_off, runs, is_reset_outport, is_disabled, row_value, row_memory, has_memory, values_by, memories_by, triggers_by}
+use Rattle.mc_diagram.proofs.lemmas.ByRow.{by_row-at, length-by_row}
 use Rattle.mc_equations.specs.Traces.{HasInputs}
 use Rattle.mc_equations.specs.Fitting.{FitsRow, AreFit, AreInTypes, IsFit}
 use Rattle.mc_equations.proofs.Copied.{zero-in}
@@ -29,21 +32,59 @@ use Rattle.mc_equations.proofs.Evaluable.{op-is, computed-fits, taken-fits}
 zero-fits : (d : Diagram) (b : ℕ) → FitsRow d b (pos 0)
 zero-fits d b = record { in_type = zero-in (type_at d.types b); ground = λ e. refl }
 
--- what holds of 0 and of what each row is given holds along the list
-along : (d : Diagram) (f : ℕ → ℤ) (P : ℕ → ℤ → Type 0) → ((b : ℕ) → P b (pos 0)) → ((b : ℕ) → b < length d.rows → P b (f b)) → (b : ℕ) → P b (value_at (by_row d.rows f) b)
-along d f P zero each b = elim (dec_lt b (length d.rows)) [
-  | yes inside ↦ subst (P b) (sym (by_row-at d.rows f b (pos 0) inside)) (each b inside)
-  | no past ↦ subst (P b) (sym (get_or_past (by_row d.rows f) b (pos 0) (omega (arith, length-by_row d.rows f)))) (zero b)
+-- what holds of what stands past the end and of what each row is given holds along the list
+along : {X : Type 0} (d : Diagram) (f : ℕ → X) (nothing : X) (P : ℕ → X → Type 0) → ((b : ℕ) → P b nothing) → ((b : ℕ) → b < length d.rows → P b (f b)) →
+    (b : ℕ) → P b (slice_index_or (by_row d.rows f) b nothing)
+along d f nothing P none each b = elim (dec_lt b (length d.rows)) [
+  | yes inside ↦ subst (P b) (sym (by_row-at d.rows f b nothing inside)) (each b inside)
+  | no past ↦ subst (P b) (sym (get_or_past (by_row d.rows f) b nothing (omega (arith, length-by_row d.rows f)))) (none b)
 ]
 
 are-fit : (d : Diagram) (f : ℕ → ℤ) → ((b : ℕ) → b < length d.rows → FitsRow d b (f b)) → AreFit d (by_row d.rows f)
-are-fit d f each = record { one_each = length-by_row d.rows f; each = along d f (FitsRow d) (zero-fits d) each }
+are-fit d f each = record { one_each = length-by_row d.rows f; each = along d f (pos 0) (FitsRow d) (zero-fits d) each }
 
-are-in : (d : Diagram) (f : ℕ → ℤ) → ((b : ℕ) → b < length d.rows → InType (type_at d.types b) (f b)) → AreInTypes d (by_row d.rows f)
+are-in : (d : Diagram) (f : ℕ → List ℤ) → ((b : ℕ) → b < length d.rows → AllByRecursion (InType (type_at d.types b)) (f b)) → AreInTypes d (by_row d.rows f)
 are-in d f each = record {
   one_each = length-by_row d.rows f;
-  each = along d f (λ b number. InType (type_at d.types b) number) (λ b. zero-in (type_at d.types b)) each;
+  each = along d f [] (λ b. AllByRecursion (InType (type_at d.types b))) (λ b. tt) each;
 }
+
+-- ---- What a row remembers
+
+-- the first of some numbers of a type, or 0
+pub oldest-in : (type : FixType) (memory : List ℤ) → AllByRecursion (InType type) memory → InType type (first_of memory)
+oldest-in type [] all = zero-in type
+oldest-in type (v ∷ memory) all = all.0
+
+all-repeated : (P : ℤ → Type 0) (n : ℕ) (v : ℤ) → P v → AllByRecursion P (replicate n v)
+all-repeated P zero v p = tt
+all-repeated P (suc n) v p = (p, all-repeated P n v p)
+
+all-pushed : (P : ℤ → Type 0) (vs : List ℤ) (v : ℤ) → AllByRecursion P vs → P v → AllByRecursion P (vs ++ v ∷ [])
+all-pushed P [] v all p = (p, tt)
+all-pushed P (w ∷ vs) v all p = (all.0, all-pushed P vs v all.1 p)
+
+all-moved : (P : ℤ → Type 0) (memory : List ℤ) (v : ℤ) → AllByRecursion P memory → P v → AllByRecursion P (moved_on memory v)
+all-moved P [] v all p = (p, tt)
+all-moved P (w ∷ memory) v all p = all-pushed P memory v all.1 p
+
+no-delay-none : (op : Op) (v : ℤ) → (if is_delay op then replicate (delay_length op) v else []) ≡ replicate (delay_length op) v
+no-delay-none op.Copy v = refl
+no-delay-none (op.Value w) v = refl
+no-delay-none (op.Delay initial) v = refl
+no-delay-none (op.Line length start) v = refl
+no-delay-none (op.Gain m frac to how) v = refl
+no-delay-none (op.Sum count minus fracs to how) v = refl
+no-delay-none (op.Product count frac to how) v = refl
+no-delay-none (op.Switch criterion threshold fracs to how) v = refl
+no-delay-none (op.Relational compare fracs) v = refl
+no-delay-none (op.Logic o count) v = refl
+no-delay-none (op.Convert frac to how) v = refl
+no-delay-none op.Nothing v = refl
+
+-- a row that is no delay remembers nothing at first
+pub first-or-none : (d : Diagram) (b : ℕ) → (if has_memory d None b then initial_memory d b else []) ≡ initial_memory d b
+first-or-none d b = no-delay-none (op_at d b) (start_of d b)
 
 -- ---- One row
 
@@ -55,6 +96,7 @@ start-in (Inport port) ts out delays around_it = zero-in out
 start-in (Outport port reset initial) ts out delays Plain = zero-in out
 start-in (Outport port reset initial) ts out delays (Enabled resets) = quantized initial out
 start-in (Outport port reset initial) ts out delays (Triggered edge) = quantized initial out
+start-in (Outport port reset initial) ts out delays (Both resets edge) = quantized initial out
 start-in (SubSystem control) ts out delays around_it = zero-in out
 start-in (Constant value) ts out delays around_it = zero-in out
 start-in Ground ts out delays around_it = zero-in out
@@ -63,6 +105,7 @@ start-in (Gain gain how) ts out delays around_it = zero-in out
 start-in (Sum count minus how) ts out delays around_it = zero-in out
 start-in (Product count how) ts out delays around_it = zero-in out
 start-in (UnitDelay initial) ts out delays around_it = quantized initial out
+start-in (Delay length initial) ts out delays around_it = quantized initial out
 start-in ZeroOrderHold ts out delays around_it = zero-in out
 start-in (Switch criterion threshold how) ts out delays around_it = zero-in out
 start-in (Relational compare) ts out delays around_it = zero-in out
@@ -74,7 +117,7 @@ start-in EnablePort ts out delays around_it = zero-in out
 start-in TriggerPort ts out delays around_it = zero-in out
 
 -- one of two or more
-either : (P : ℤ → Type 0) (a : Bool) (y z : ℤ) → P y → P z → P (if a then y else z)
+either : {X : Type 0} (P : X → Type 0) (a : Bool) (y z : X) → P y → P z → P (if a then y else z)
 either P true y z p q = p
 either P false y z p q = q
 
@@ -89,37 +132,41 @@ module _ (r : ResolvedTree) (is : IsResolvedTree r) where
         ground = λ e. ap (λ op. start_by op row.kind control (type_at r.types b)) (op-is r is b inside) ∙ ap (λ kind. start_by (op_of kind ts (type_at r.types b) delays) kind control (type_at r.types b)) e;
       }
 
+  first-in : (b : ℕ) → b < length r.tree.table.rows → AllByRecursion (InType (type_at r.types b)) (initial_memory (diagram_of r) b)
+  first-in b inside = all-repeated (InType (type_at r.types b)) (delay_length (op_at (diagram_of r) b)) (start_of (diagram_of r) b) (start-fits b inside).in_type
+
   -- before the first tick
-  pub first-fit : IsFit (diagram_of r) (values_by (diagram_of r) None (start_of (diagram_of r))) (memories_by (diagram_of r) None (start_of (diagram_of r))) (triggers_by (diagram_of r) None (λ e. NotYet))
+  pub first-fit : IsFit (diagram_of r) (values_by (diagram_of r) None (start_of (diagram_of r))) (memories_by (diagram_of r) None (initial_memory (diagram_of r))) (triggers_by (diagram_of r) None (λ e. NotYet))
   first-fit = record {
     values = are-fit (diagram_of r) (start_of (diagram_of r)) start-fits;
-    memories = are-in (diagram_of r) (λ b. if has_memory (diagram_of r) None b then start_of (diagram_of r) b else pos 0)
-        (λ b inside. either (InType (type_at r.types b)) (has_memory (diagram_of r) None b) _ _ (start-fits b inside).in_type (zero-in (type_at r.types b)));
+    memories = are-in (diagram_of r) (λ b. if has_memory (diagram_of r) None b then initial_memory (diagram_of r) b else [])
+        (λ b inside. either (AllByRecursion (InType (type_at r.types b))) (has_memory (diagram_of r) None b) _ _ (first-in b inside) tt);
     triggers = length-by_row r.tree.table.rows _;
   }
 
-  module _ (t : ℕ) (x before m v : List ℤ) (g : List TrigMem) (has : HasInputs (diagram_of r) x) (fit : IsFit (diagram_of r) before m g) (now : AreFit (diagram_of r) v) where
+  module _ (t : ℕ) (x before : List ℤ) (m : List (List ℤ)) (v : List ℤ) (g : List TrigMem) (has : HasInputs (diagram_of r) x) (fit : IsFit (diagram_of r) before m g) (now : AreFit (diagram_of r) v) where
     value-fits : (b : ℕ) → b < length r.tree.table.rows → FitsRow (diagram_of r) b (row_value (diagram_of r) None t x before m g v b)
     value-fits b inside =
         let P = FitsRow (diagram_of r) b in
         either P (not (has_value (row_at r.tree.table.rows b).kind)) _ _ (zero-fits (diagram_of r) b)
         (either P (is_reset_outport (row_at r.tree.table.rows b).kind && is_disabled (diagram_of r) None x v g (around r.tree.table.rows None b)) _ _ (start-fits b inside)
-        (either P (runs (diagram_of r) None x v g t b) _ _ (computed-fits r is b inside x v has now (value_at m b) (fit.memories.each b)) (fit.values.each b)))
+        (either P (runs (diagram_of r) None x v g t b) _ _ (computed-fits r is b inside x v has now (first_of (memory_at m b)) (oldest-in (type_at r.types b) (memory_at m b) (fit.memories.each b))) (fit.values.each b)))
 
     -- the values that are made from these
     pub values-fit : AreFit (diagram_of r) (values_by (diagram_of r) None (row_value (diagram_of r) None t x before m g v))
     values-fit = are-fit (diagram_of r) (row_value (diagram_of r) None t x before m g v) value-fits
 
-    memory-in : (b : ℕ) → b < length r.tree.table.rows → InType (type_at r.types b) (if has_memory (diagram_of r) None b then row_memory (diagram_of r) None t x m g v b else pos 0)
+    memory-in : (b : ℕ) → b < length r.tree.table.rows → AllByRecursion (InType (type_at r.types b)) (if has_memory (diagram_of r) None b then row_memory (diagram_of r) None t x m g v b else [])
     memory-in b inside = by (is_delay (op_at (diagram_of r) b)) refl
       where
-        by : (delay : Bool) → is_delay (op_at (diagram_of r) b) ≡ delay → InType (type_at r.types b) (if delay then row_memory (diagram_of r) None t x m g v b else pos 0)
+        by : (delay : Bool) → is_delay (op_at (diagram_of r) b) ≡ delay → AllByRecursion (InType (type_at r.types b)) (if delay then row_memory (diagram_of r) None t x m g v b else [])
         by true e =
-            let P = InType (type_at r.types b) in
-            either P (any_off (diagram_of r) None x v g (around r.tree.table.rows None b)) _ _ (start-fits b inside).in_type
-            (either P (runs (diagram_of r) None x v g t b) _ _ (taken-fits r is b inside x v has now e) (fit.memories.each b))
-        by false e = zero-in (type_at r.types b)
+            let P = AllByRecursion (InType (type_at r.types b)) in
+            either P (any_off (diagram_of r) None x v g (around r.tree.table.rows None b)) _ _ (first-in b inside)
+            (either P (runs (diagram_of r) None x v g t b) _ _
+            (all-moved (InType (type_at r.types b)) (memory_at m b) _ (fit.memories.each b) (taken-fits r is b inside x v has now e)) (fit.memories.each b))
+        by false e = tt
 
     -- and the memories after the tick
     pub memories-fit : AreInTypes (diagram_of r) (memories_by (diagram_of r) None (row_memory (diagram_of r) None t x m g v))
-    memories-fit = are-in (diagram_of r) (λ b. if has_memory (diagram_of r) None b then row_memory (diagram_of r) None t x m g v b else pos 0) memory-in
+    memories-fit = are-in (diagram_of r) (λ b. if has_memory (diagram_of r) None b then row_memory (diagram_of r) None t x m g v b else []) memory-in

@@ -3,7 +3,7 @@ use Rattle.std.specs.Prelude.{◌≡◌, length}
 use Rattle.std.proofs.Common.{◌∙◌, ap}
 use Rattle.mc_diagram.specs.ResolvedTree.{ResolvedTree, IsResolvedTree}
 use Rattle.mc_diagram.specs.Diagram.{op_in}
-use Rattle.mc_diagram.proofs.ByRow.{length-by_row}
+use Rattle.mc_diagram.proofs.lemmas.ByRow.{length-by_row}
 
 pub ops-len : (r : ResolvedTree) → IsResolvedTree r → length r.ops ≡ length r.tree.table.rows
 ops-len r is = ap length is.resolved.are_ops ∙ length-by_row r.tree.table.rows (op_in r.tree.table.rows r.types r.times.delays)

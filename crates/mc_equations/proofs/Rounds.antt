@@ -6,12 +6,12 @@ use Rattle.mc_diagram.specs.Rows.{is_inside}
 use Rattle.mc_diagram.specs.Diagram.{Diagram}
 use Rattle.mc_diagram.specs.Needs.{needs_of, needs_inside, HasNoLoop}
 use Rattle.mc_diagram.specs.Run.{value_at}
-use Rattle.mc_diagram.proofs.ByRow.{by_row-agree, by_row-equal}
-use Rattle.mc_diagram.proofs.Agreement.{row_value-agree}
-use Rattle.mc_diagram.proofs.Walks.{Within}
-use Rattle.mc_diagram.proofs.Tick.{agree-for, guarded, next_round, from-members, short}
+use Rattle.mc_diagram.proofs.lemmas.ByRow.{by_row-agree, by_row-equal}
+use Rattle.mc_diagram.proofs.lemmas.Agreement.{row_value-agree}
+use Rattle.mc_diagram.proofs.lemmas.Walks.{Within}
+use Rattle.mc_diagram.proofs.lemmas.Tick.{agree-for, guarded, next_round, from-members, short}
 
-module _ (d : Diagram) (t : ℕ) (x before m : List ℤ) (g : List TrigMem) where
+module _ (d : Diagram) (t : ℕ) (x before : List ℤ) (m : List (List ℤ)) (g : List TrigMem) where
   -- the values after some rounds from the first ones
   pub rounds : List ℤ → ℕ → List ℤ
   rounds first zero = first
@@ -23,7 +23,7 @@ module _ (d : Diagram) (t : ℕ) (x before m : List ℤ) (g : List TrigMem) wher
   made-alike v w b h =
       ap (λ z. if is_inside d.rows None b then z else pos 0)
       (row_value-agree d None x x v w g t before m b
-      (agree-for d None x x v w g b (λ e q. inr refl) (λ q. refl) (from-members d None t x before m g v w (needs_inside d None b) h)))
+      (agree-for d None x x v w g b (λ e q. (inr refl, inr refl)) (λ q. refl) (from-members d None t x before m g v w (needs_inside d None b) h)))
 
   round-alike : (v w : List ℤ) → ((c : ℕ) → value_at v c ≡ value_at w c) → next_round d None t x before m g v ≡ next_round d None t x before m g w
   round-alike v w h = by_row-equal d.rows (guarded d None t x before m g v) (guarded d None t x before m g w) (λ b. made-alike v w b (λ c k. h c))

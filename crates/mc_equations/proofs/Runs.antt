@@ -6,11 +6,11 @@ use Rattle.mc_guards.specs.declared.TrigMem.{TrigMem}
 use Rattle.mc_guards.specs.declared.TrigMem.TheVariants.{NotYet}
 use Rattle.mc_diagram.specs.Diagram.{Diagram}
 use Rattle.mc_diagram.specs.Needs.{needs_of, HasNoLoop}
-use Rattle.mc_diagram.specs.Run.{start_of, row_memory, row_trigger, values_by, memories_by, triggers_by, IsTick, RunFrom, IsRun}
+use Rattle.mc_diagram.specs.Run.{start_of, initial_memory, row_memory, row_trigger, values_by, memories_by, triggers_by, IsTick, RunFrom, IsRun}
 use Rattle.mc_diagram.specs.Laws.{Run, IsRunOver}
-use Rattle.mc_diagram.proofs.Tick.{solution-only}
-use Rattle.mc_diagram.proofs.Ticks.{before_tick, tick-from}
-use Rattle.mc_diagram.proofs.OneRun.{whole_run, whole-only, one_run}
+use Rattle.mc_diagram.proofs.lemmas.Tick.{solution-only}
+use Rattle.mc_diagram.proofs.lemmas.Ticks.{before_tick, tick-from}
+use Rattle.mc_diagram.proofs.lemmas.OneRun.{whole_run, whole-only, one_run}
 
 -- the run over a trace, where there is no loop
 pub run_of : Diagram → List (List ℤ) → Run
@@ -30,18 +30,18 @@ run_of-only d xs none other r = whole-only d None none xs other.values other.mem
 abbrev pub first_values : Diagram → List ℤ
 first_values d = values_by d None (start_of d)
 
-pub first-memories : (d : Diagram) (xs vs ms : List (List ℤ)) (gs : List (List TrigMem)) → IsRun d None xs vs ms gs → slice_index_or ms 0 [] ≡ memories_by d None (start_of d)
+pub first-memories : (d : Diagram) (xs vs : List (List ℤ)) (ms : List (List (List ℤ))) (gs : List (List TrigMem)) → IsRun d None xs vs ms gs → slice_index_or ms 0 [] ≡ memories_by d None (initial_memory d)
 first-memories d xs vs [] gs r = absurd r
 first-memories d xs vs (m ∷ ms) [] r = absurd r
 first-memories d xs vs (m ∷ ms) (g ∷ gs) r = r.0
 
-pub first-triggers : (d : Diagram) (xs vs ms : List (List ℤ)) (gs : List (List TrigMem)) → IsRun d None xs vs ms gs → slice_index_or gs 0 [] ≡ triggers_by d None (λ e. NotYet)
+pub first-triggers : (d : Diagram) (xs vs : List (List ℤ)) (ms : List (List (List ℤ))) (gs : List (List TrigMem)) → IsRun d None xs vs ms gs → slice_index_or gs 0 [] ≡ triggers_by d None (λ e. NotYet)
 first-triggers d xs vs [] gs r = absurd r
 first-triggers d xs vs (m ∷ ms) [] r = absurd r
 first-triggers d xs vs (m ∷ ms) (g ∷ gs) r = r.1
 
 -- the equations of tick t of a run
-pub tick-of : (d : Diagram) (xs vs ms : List (List ℤ)) (gs : List (List TrigMem)) (t : ℕ) → IsRun d None xs vs ms gs → t < length xs →
+pub tick-of : (d : Diagram) (xs vs : List (List ℤ)) (ms : List (List (List ℤ))) (gs : List (List TrigMem)) (t : ℕ) → IsRun d None xs vs ms gs → t < length xs →
     IsTick d None t (slice_index_or xs t []) (before_tick (first_values d) vs t) (slice_index_or ms t []) (slice_index_or gs t []) (slice_index_or vs t []) (slice_index_or ms (suc t) []) (slice_index_or gs (suc t) [])
 tick-of d xs vs [] gs t r h = absurd r
 tick-of d xs vs (m ∷ ms) [] t r h = absurd r
@@ -51,18 +51,18 @@ tick-of d xs vs (m ∷ ms) (g ∷ gs) t r h =
     (tick-from d None 0 t (first_values d) m g xs vs ms gs r.2 h)
 
 -- a run has values for each tick
-values-from : (d : Diagram) (k : ℕ) (before m : List ℤ) (g : List TrigMem) (xs vs ms : List (List ℤ)) (gs : List (List TrigMem)) → RunFrom d None k before m g xs vs ms gs → length vs ≡ length xs
+values-from : (d : Diagram) (k : ℕ) (before : List ℤ) (m : List (List ℤ)) (g : List TrigMem) (xs vs : List (List ℤ)) (ms : List (List (List ℤ))) (gs : List (List TrigMem)) → RunFrom d None k before m g xs vs ms gs → length vs ≡ length xs
 values-from d k before m g [] [] [] [] r = refl
 values-from d k before m g (x ∷ xs) (v ∷ vs) (m' ∷ ms) (g' ∷ gs) r = ap suc (values-from d (suc k) v m' g' xs vs ms gs r.1)
 values-from d k before m g _ _ _ _ r = absurd r
 
-pub values-each : (d : Diagram) (xs vs ms : List (List ℤ)) (gs : List (List TrigMem)) → IsRun d None xs vs ms gs → length vs ≡ length xs
+pub values-each : (d : Diagram) (xs vs : List (List ℤ)) (ms : List (List (List ℤ))) (gs : List (List TrigMem)) → IsRun d None xs vs ms gs → length vs ≡ length xs
 values-each d xs vs [] gs r = absurd r
 values-each d xs vs (m ∷ ms) [] r = absurd r
 values-each d xs vs (m ∷ ms) (g ∷ gs) r = values-from d 0 (first_values d) m g xs vs ms gs r.2
 
 -- What a tick comes to, from the same givens, is the same.
-module _ (d : Diagram) (none : HasNoLoop (needs_of d)) (t : ℕ) (x before m : List ℤ) (g : List TrigMem) (v m' w n : List ℤ) (g' h : List TrigMem)
+module _ (d : Diagram) (none : HasNoLoop (needs_of d)) (t : ℕ) (x before : List ℤ) (m : List (List ℤ)) (g : List TrigMem) (v : List ℤ) (m' : List (List ℤ)) (w : List ℤ) (n : List (List ℤ)) (g' h : List TrigMem)
     (tick : IsTick d None t x before m g v m' g') (other : IsTick d None t x before m g w n h) where
   pub same-values : v ≡ w
   same-values = solution-only d None t x before m g none v tick.values ∙ sym (solution-only d None t x before m g none w other.values)
@@ -75,7 +75,7 @@ module _ (d : Diagram) (none : HasNoLoop (needs_of d)) (t : ℕ) (x before m : L
 
 -- A tick from what the run over xs has before it is the run's.
 module _ (d : Diagram) (none : HasNoLoop (needs_of d)) (xs : List (List ℤ)) (t : ℕ) (below : t < length xs)
-    (x before m : List ℤ) (g : List TrigMem) (v m' : List ℤ) (g' : List TrigMem)
+    (x before : List ℤ) (m : List (List ℤ)) (g : List TrigMem) (v : List ℤ) (m' : List (List ℤ)) (g' : List TrigMem)
     (x_is : slice_index_or xs t [] ≡ x) (before_is : before ≡ before_tick (first_values d) (run_of d xs).values t)
     (m_is : m ≡ slice_index_or (run_of d xs).memories t []) (g_is : g ≡ slice_index_or (run_of d xs).triggers t [])
     (tick : IsTick d None t x before m g v m' g') where

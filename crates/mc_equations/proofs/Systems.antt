@@ -7,8 +7,8 @@ use Rattle.mc_guards.specs.Activity.{is_high, active, off}
 use Rattle.mc_diagram.specs.Rows.{row_at, control_at, is_enabled, enclosing}
 use Rattle.mc_diagram.specs.WellFormed.{IsNested}
 use Rattle.mc_diagram.specs.Diagram.{Diagram}
-use Rattle.mc_diagram.specs.Run.{trigger_at, control_value, active_in, any_off, is_disabled}
-use Rattle.mc_diagram.proofs.Enclosing.{enclosing-step}
+use Rattle.mc_diagram.specs.Run.{trigger_at, enable_value, trigger_value, active_in, any_off, is_disabled}
+use Rattle.mc_diagram.proofs.lemmas.Enclosing.{enclosing-step}
 
 -- how far a system stands in the table: outward it falls
 abbrev pub rank : Option ℕ → ℕ
@@ -23,22 +23,23 @@ module _ (d : Diagram) (nested : IsNested d.rows) (v : List ℤ) (g : List TrigM
   abbrev Outside : Bool → Type 0
   Outside outside = outside ≡ active_in d None x v g (enclosing d.rows None (row_at d.rows e).owner)
 
-  abbrev Controlled : Control → ℤ → Type 0
-  Controlled control value = (control ≡ control_at d.rows e) × (value ≡ control_value d None x v g e)
+  -- the subsystem's control and what its enable is
+  abbrev Enables : Control → ℤ → Type 0
+  Enables control enable = (control ≡ control_at d.rows e) × (enable ≡ enable_value d None x v g e)
 
-  pub active-here : (outside : Bool) (control : Control) (memory : TrigMem) (value : ℤ) →
-      Outside outside → memory ≡ trigger_at g e → Controlled control value →
-      active outside control memory value ≡ active_in d None x v g (enclosing d.rows None system)
-  active-here outside control memory value p m q =
-      (λ i. active (p i) (q.0 i) (m i) (q.1 i)) ∙ ap (active_in d None x v g) (sym around-is)
+  pub active-here : (outside : Bool) (control : Control) (memory : TrigMem) (enable trigger : ℤ) →
+      Outside outside → memory ≡ trigger_at g e → Enables control enable → trigger ≡ trigger_value d None x v g e →
+      active outside control memory enable trigger ≡ active_in d None x v g (enclosing d.rows None system)
+  active-here outside control memory enable trigger p m q t =
+      (λ i. active (p i) (q.0 i) (m i) (q.1 i) (t i)) ∙ ap (active_in d None x v g) (sym around-is)
 
-  pub off-here : (outside off_outside : Bool) (control : Control) (value : ℤ) →
-      Outside outside → off_outside ≡ any_off d None x v g (enclosing d.rows None (row_at d.rows e).owner) → Controlled control value →
-      (off outside control value || off_outside) ≡ any_off d None x v g (enclosing d.rows None system)
-  off-here outside off_outside control value p o q =
+  pub off-here : (outside off_outside : Bool) (control : Control) (enable : ℤ) →
+      Outside outside → off_outside ≡ any_off d None x v g (enclosing d.rows None (row_at d.rows e).owner) → Enables control enable →
+      (off outside control enable || off_outside) ≡ any_off d None x v g (enclosing d.rows None system)
+  off-here outside off_outside control enable p o q =
       (λ i. off (p i) (q.0 i) (q.1 i) || o i) ∙ ap (any_off d None x v g) (sym around-is)
 
-  pub disabled-here : (outside : Bool) (control : Control) (value : ℤ) → Outside outside → Controlled control value →
-      (is_enabled control && (outside && not (is_high value))) ≡ is_disabled d None x v g (enclosing d.rows None system)
-  disabled-here outside control value p q =
+  pub disabled-here : (outside : Bool) (control : Control) (enable : ℤ) → Outside outside → Enables control enable →
+      (is_enabled control && (outside && not (is_high enable))) ≡ is_disabled d None x v g (enclosing d.rows None system)
+  disabled-here outside control enable p q =
       (λ i. is_enabled (q.0 i) && (p i && not (is_high (q.1 i)))) ∙ ap (is_disabled d None x v g) (sym around-is)

@@ -1,11 +1,12 @@
 -- Numbers that rows can have.
 use Rattle.std.specs.Prelude.{◌≡◌, ℕ, List, length, ℤ, pos}
+use Rattle.std.specs.List.{AllByRecursion}
 use Rattle.mc_guards.specs.declared.TrigMem.{TrigMem}
 use Rattle.mc_fixed.specs.Conversion.{InType}
 use Rattle.mc_blocks.specs.declared.Kind.TheVariants.{Ground}
 use Rattle.mc_diagram.specs.Rows.{row_at}
 use Rattle.mc_diagram.specs.Diagram.{Diagram, type_at}
-use Rattle.mc_diagram.specs.Run.{value_at}
+use Rattle.mc_diagram.specs.Run.{value_at, memory_at}
 
 -- row b can have this number: it lies in the row's type, and is 0 at a Ground, which rows of any type copy
 pub record FitsRow (d : Diagram) (b : ℕ) (number : ℤ) : Type 0 where
@@ -17,13 +18,13 @@ pub record AreFit (d : Diagram) (v : List ℤ) : Type 0 where
   pub one_each : length v ≡ length d.rows
   pub each : (b : ℕ) → FitsRow d b (value_at v b)
 
--- a memory for each row, in the row's type
-pub record AreInTypes (d : Diagram) (m : List ℤ) : Type 0 where
+-- a memory for each row, all of whose numbers lie in the row's type
+pub record AreInTypes (d : Diagram) (m : List (List ℤ)) : Type 0 where
   pub one_each : length m ≡ length d.rows
-  pub each : (b : ℕ) → InType (type_at d.types b) (value_at m b)
+  pub each : (b : ℕ) → AllByRecursion (InType (type_at d.types b)) (memory_at m b)
 
 -- before a tick each row has a value, a memory and a trigger, which it can have
-pub record IsFit (d : Diagram) (before m : List ℤ) (g : List TrigMem) : Type 0 where
+pub record IsFit (d : Diagram) (before : List ℤ) (m : List (List ℤ)) (g : List TrigMem) : Type 0 where
   pub values : AreFit d before
   pub memories : AreInTypes d m
   pub triggers : length g ≡ length d.rows

@@ -1,6 +1,7 @@
-ghost use Rattle.std.specs.Prelude.{◌≡◌, ◌<◌, ◌&&◌, not, List, None, IfSome, length, ℤ};
+ghost use Rattle.std.specs.Prelude.{◌≡◌, ◌<◌, ◌&&◌, not, All, List, None, IfSome, length, slice_get, ℤ};
 ghost use Rattle.mc_guards.specs.declared.TrigMem.{TrigMem};
 ghost use Rattle.mc_guards.specs.Activity.{is_high};
+ghost use Rattle.mc_diagram.specs.Diagram.{Diagram};
 ghost use Rattle.mc_diagram.specs.ResolvedTree.{diagram_of};
 ghost use Rattle.mc_diagram.specs.Rows.{enclosing, is_enabled, system_control as control_of_system};
 ghost use Rattle.mc_diagram.specs.Run as run;
@@ -21,15 +22,47 @@ pub(crate) fn system_control(r: &Resolved, system: Option<u32>) -> Control
     }
 }
 
-// The value of the control of subsystem `e`, 0 where it has none.
-pub(crate) fn control_value(r: &Resolved, values: &[i64], e: usize) -> i64
-    requires values { length values.now ≡ length r.now.tree.table.rows }
-    requires subsystem { e < length r.now.tree.table.rows }
-    ensures { (x : List ℤ) (g : List TrigMem) → result ≡ run.control_value (diagram_of r.now) None x values.now g e }
+// The value of the wire at a place among some wires, 0 where there is none.
+fn value_of_wire(values: &[i64], wires: &[u32], place: usize) -> i64
+    requires { All (λ c. c < length values.now) wires.now }
+    ensures { (d : Diagram) (x : List ℤ) (g : List TrigMem) →
+        result ≡ run.wire_value d None x values.now g (slice_get wires.now place) }
 {
-    match row(r, e).inputs.wires().first() {
+    match wires.get(place) {
         Some(wire) => values[*wire as usize],
         None => 0,
+    }
+}
+
+// The value of the enable of subsystem `e`, 0 where it has none.
+fn enable_value(r: &Resolved, values: &[i64], e: usize) -> i64
+    requires values { length values.now ≡ length r.now.tree.table.rows }
+    requires subsystem { e < length r.now.tree.table.rows }
+    ensures { (x : List ℤ) (g : List TrigMem) →
+        result ≡ run.enable_value (diagram_of r.now) None x values.now g e }
+{
+    let subsystem = row(r, e);
+    match control(&subsystem.kind) {
+        Control::Plain | Control::Triggered(_) => 0,
+        Control::Enabled { .. } | Control::Both { .. } => {
+            value_of_wire(values, subsystem.inputs.wires(), 0)
+        }
+    }
+}
+
+// The value of the trigger of subsystem `e`, 0 where it has none.
+pub(crate) fn trigger_value(r: &Resolved, values: &[i64], e: usize) -> i64
+    requires values { length values.now ≡ length r.now.tree.table.rows }
+    requires subsystem { e < length r.now.tree.table.rows }
+    ensures { (x : List ℤ) (g : List TrigMem) →
+        result ≡ run.trigger_value (diagram_of r.now) None x values.now g e }
+{
+    let subsystem = row(r, e);
+    let wires = subsystem.inputs.wires();
+    match control(&subsystem.kind) {
+        Control::Plain | Control::Enabled { .. } => 0,
+        Control::Triggered(_) => value_of_wire(values, wires, 0),
+        Control::Both { .. } => value_of_wire(values, wires, 1),
     }
 }
 
@@ -51,12 +84,14 @@ pub(crate) fn is_active(
         Some(e) => {
             let subsystem = row(r, e as usize);
             let outside = is_active(r, triggers, values, subsystem.owner);
-            let value = control_value(r, values, e as usize);
+            let enable = enable_value(r, values, e as usize);
+            let trigger = trigger_value(r, values, e as usize);
             active(
                 outside,
                 &control(&subsystem.kind),
                 triggers[e as usize],
-                value,
+                enable,
+                trigger,
             )
         }
     }
@@ -80,14 +115,14 @@ pub(crate) fn is_off(
         Some(e) => {
             let subsystem = row(r, e as usize);
             let outside = is_active(r, triggers, values, subsystem.owner);
-            let value = control_value(r, values, e as usize);
+            let enable = enable_value(r, values, e as usize);
             let is_off_outside = is_off(r, triggers, values, subsystem.owner);
-            off(outside, &control(&subsystem.kind), value) || is_off_outside
+            off(outside, &control(&subsystem.kind), enable) || is_off_outside
         }
     }
 }
 
-// Whether a system is an enabled subsystem that is disabled now, inside an active system.
+// Whether a system is a subsystem with an enable that is disabled by it now, inside an active system.
 pub(crate) fn is_disabled(
     r: &Resolved,
     triggers: &[TrigMem],
@@ -105,19 +140,19 @@ pub(crate) fn is_disabled(
         Some(e) => {
             let subsystem = row(r, e as usize);
             let outside = is_active(r, triggers, values, subsystem.owner);
-            let value = control_value(r, values, e as usize);
-            disables(outside, &control(&subsystem.kind), value)
+            let enable = enable_value(r, values, e as usize);
+            disables(outside, &control(&subsystem.kind), enable)
         }
     }
 }
 
-// Whether a value disables an enabled subsystem, given whether the system around it is active.
-fn disables(outside: bool, control: &Control, value: i64) -> bool
-    ensures { result ≡ (is_enabled control.now && (outside && not (is_high value))) }
+// Whether an enable disables the subsystem that it controls, given whether the system around it is active.
+fn disables(outside: bool, control: &Control, enable: i64) -> bool
+    ensures { result ≡ (is_enabled control.now && (outside && not (is_high enable))) }
 {
     match control {
-        Control::Enabled { .. } => outside && value <= 0,
-        _ => false,
+        Control::Plain | Control::Triggered(_) => false,
+        Control::Enabled { .. } | Control::Both { .. } => outside && enable <= 0,
     }
 }
 

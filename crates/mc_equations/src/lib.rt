@@ -5,6 +5,7 @@ mod activity;
 mod reading;
 mod row;
 mod run;
+mod samples;
 mod tick;
 mod trace;
 

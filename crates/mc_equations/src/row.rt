@@ -1,17 +1,18 @@
-ghost use Rattle.std.specs.Prelude.{◌≡◌, ◌<◌, List, [], None, IfOk, if◌then◌else◌, length, pos, ℤ};
+ghost use Rattle.std.specs.Prelude.{◌≡◌, ◌<◌, List, [], None, IfOk, if◌then◌else◌, length, ℤ};
 ghost use Rattle.mc_guards.specs.declared.TrigMem.TheVariants.{NotYet};
 ghost use Rattle.mc_fixed.specs.Conversion.{InType};
 ghost use Rattle.mc_blocks.specs.Meaning as meaning;
 ghost use Rattle.mc_blocks.specs.Value.{input, rhs as value_of};
 ghost use Rattle.mc_diagram.specs.ResolvedTree.{diagram_of};
-ghost use Rattle.mc_diagram.specs.Rows.{row_at, control_of, is_triggered as is_triggered_control, system_control as control_of_system};
+ghost use Rattle.mc_diagram.specs.Rows.{row_at, is_triggered as is_triggered_control, system_control as control_of_system};
 ghost use Rattle.mc_diagram.specs.Diagram.{op_at, type_at};
 ghost use Rattle.mc_diagram.specs.Run as run;
 ghost use Rattle.mc_equations.specs.Fitting.{AreFit, IsFit};
 ghost use Rattle.mc_equations.specs.Traces.{HasInputs};
 
-use crate::activity::{control_value, is_active, is_disabled, is_off, runs, system_control};
-use crate::reading::{input_values, op, row, type_of};
+use crate::activity::{is_active, is_disabled, is_off, runs, system_control, trigger_value};
+use crate::reading::{control, input_values, op, row, type_of};
+use crate::samples::Samples;
 use mc_base::{Control, Memory};
 use mc_blocks::{Kind, Op, rhs};
 use mc_diagram::Resolved;
@@ -19,11 +20,11 @@ use mc_fixed::quantize;
 use mc_guards::{TrigMem, next_memory};
 use std::alloc::Global;
 
-// What each row has before a tick, by its number: its value, its memory, and what its trigger remembers.
+// What each row has before a tick, by its number: its value, what it remembers, and what its trigger remembers.
 #[derive(Drop)]
 pub(crate) struct State {
     pub values: Vec<i64>,
-    pub memories: Vec<i64>,
+    pub memories: Vec<Samples>,
     pub triggers: Vec<TrigMem>,
 }
 
@@ -33,7 +34,7 @@ pub(crate) fn start(r: &Resolved, b: usize) -> i64
     ensures { result ≡ run.start_of (diagram_of r.now) b }
 {
     match op(r, b) {
-        Op::Delay(initial) => initial,
+        Op::Delay(initial) | Op::Line { start: initial, .. } => initial,
         Op::Copy => initial_output(r, b),
         _ => 0,
     }
@@ -53,15 +54,30 @@ fn initial_output(r: &Resolved, b: usize) -> i64
     }
 }
 
-// The memory of row `b` before the first tick, 0 where it is no delay.
-pub(crate) fn first_memory(r: &Resolved, b: usize) -> i64
-    requires { b < length r.now.tree.table.rows }
-    ensures { result ≡ (if run.has_memory (diagram_of r.now) None b then run.start_of (diagram_of r.now) b else pos 0) }
+// How many samples an operation remembers.
+fn delay_length(op: &Op) -> usize
+    ensures { result ≡ meaning.delay_length op.now }
 {
-    match op(r, b) {
-        Op::Delay(_) => start(r, b),
+    match op {
+        Op::Delay(_) => 1,
+        Op::Line { length, .. } => *length as usize,
         _ => 0,
     }
+}
+
+// What row `b` remembers before the first tick: its start, as many times as it has samples.
+pub(crate) fn first_memory(alloc: Global, r: &Resolved, b: usize) -> Result<Samples, Memory>
+    requires { b < length r.now.tree.table.rows }
+    ensures { IfOk result (λ m. m ≡ run.initial_memory (diagram_of r.now) b) }
+{
+    Samples::repeated(alloc, start(r, b), delay_length(&op(r, b)))
+}
+
+// Whether an operation passes on what its row remembers.
+fn is_delay(op: &Op) -> bool
+    ensures { result ≡ run.is_delay op.now }
+{
+    matches!(op, Op::Delay(_) | Op::Line { .. })
 }
 
 // Whether rows of a kind have a value.
@@ -111,10 +127,10 @@ pub(crate) fn row_value(
     if !runs(r, tick, triggers, values, b) {
         return Ok(before.values[b]);
     }
-    computed(alloc, r, inputs, values, before.memories[b], b)
+    computed(alloc, r, inputs, values, before.memories[b].first(), b)
 }
 
-// What row `b` computes of its inputs and this memory.
+// What row `b` computes of its inputs and the first that it remembers.
 fn computed(
     alloc: Global,
     r: &Resolved,
@@ -133,7 +149,7 @@ fn computed(
     Ok(rhs(&op(r, b), read.as_slice(), memory))
 }
 
-// The memory of row `b` after a tick with these values, 0 where it is no delay.
+// What row `b` remembers after a tick with these values, nothing where it is no delay.
 pub(crate) fn row_memory(
     alloc: Global,
     r: &Resolved,
@@ -142,25 +158,27 @@ pub(crate) fn row_memory(
     before: &State,
     values: &[i64],
     b: usize,
-) -> Result<i64, Memory>
+) -> Result<Samples, Memory>
     requires inputs { HasInputs (diagram_of r.now) inputs.now }
     requires before { IsFit (diagram_of r.now) before.now.values.items before.now.memories.items before.now.triggers.items }
     requires values { AreFit (diagram_of r.now) values.now }
     requires row { b < length r.now.tree.table.rows }
     ensures { IfOk result (λ m. m ≡ (if run.has_memory (diagram_of r.now) None b
-        then run.row_memory (diagram_of r.now) None tick inputs.now before.now.memories.items before.now.triggers.items values.now b else pos 0)) }
+        then run.row_memory (diagram_of r.now) None tick inputs.now before.now.memories.items before.now.triggers.items values.now b else [])) }
 {
-    if !matches!(op(r, b), Op::Delay(_)) {
-        return Ok(0);
+    if !is_delay(&op(r, b)) {
+        return Ok(Samples::none(alloc));
     }
     let triggers = before.triggers.as_slice();
     if is_off(r, triggers, values, row(r, b).owner) {
-        return Ok(start(r, b));
+        return first_memory(alloc, r, b);
     }
+    let memory = &before.memories[b];
     if !runs(r, tick, triggers, values, b) {
-        return Ok(before.memories[b]);
+        return memory.copied(alloc);
     }
-    first_input(alloc, r, inputs, values, b)
+    let taken = first_input(alloc, r, inputs, values, b)?;
+    memory.moved_on(alloc, taken)
 }
 
 // The value of the first input of row `b`, 0 where it has none.
@@ -192,16 +210,19 @@ pub(crate) fn row_trigger(r: &Resolved, before: &[TrigMem], values: &[i64], e: u
         then run.row_trigger (diagram_of r.now) None x before.now values.now e else NotYet) }
 {
     let row = row(r, e);
-    if !is_triggered(&row.kind) || is_off(r, before, values, row.owner) {
+    if !is_triggered(&control(&row.kind)) || is_off(r, before, values, row.owner) {
         return TrigMem::NotYet;
     }
     let outside = is_active(r, before, values, row.owner);
-    next_memory(outside, before[e], control_value(r, values, e))
+    next_memory(outside, before[e], trigger_value(r, values, e))
 }
 
-// Whether a row is a triggered subsystem.
-fn is_triggered(kind: &Kind) -> bool
-    ensures { result ≡ is_triggered_control (control_of kind.now) }
+// Whether a subsystem has a trigger, alone or beside an enable.
+fn is_triggered(control: &Control) -> bool
+    ensures { result ≡ is_triggered_control control.now }
 {
-    matches!(kind, Kind::SubSystem(Control::Triggered(_)))
+    match control {
+        Control::Plain | Control::Enabled { .. } => false,
+        Control::Triggered(_) | Control::Both { .. } => true,
+    }
 }

@@ -37,7 +37,7 @@ pub fn plain_run(alloc: Global, r: &Resolved, inputs: &[Vec<i64>]) -> Result<Vec
 // What stands before the first tick.
 fn first_state(alloc: Global, r: &Resolved) -> Result<State, Memory>
     ensures values { IfOk result (λ first. first.values.items ≡ run.values_by (diagram_of r.now) None (run.start_of (diagram_of r.now))) }
-    ensures memories { IfOk result (λ first. first.memories.items ≡ run.memories_by (diagram_of r.now) None (run.start_of (diagram_of r.now))) }
+    ensures memories { IfOk result (λ first. first.memories.items ≡ run.memories_by (diagram_of r.now) None (run.initial_memory (diagram_of r.now))) }
     ensures triggers { IfOk result (λ first. first.triggers.items ≡ run.triggers_by (diagram_of r.now) None (λ e. NotYet)) }
     ensures fit { IfOk result (λ first. IsFit (diagram_of r.now) first.values.items first.memories.items first.triggers.items) }
 {
@@ -46,7 +46,7 @@ fn first_state(alloc: Global, r: &Resolved) -> Result<State, Memory>
     let mut triggers = Vec::new(alloc);
     for b in 0..row_count(r) {
         values.push(start(r, b))?;
-        memories.push(first_memory(r, b))?;
+        memories.push(first_memory(alloc, r, b)?)?;
         triggers.push(TrigMem::NotYet)?;
     }
     Ok(State {

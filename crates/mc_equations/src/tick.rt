@@ -8,6 +8,7 @@ ghost use Rattle.mc_equations.specs.Traces.{HasInputs};
 
 use crate::reading::row_count;
 use crate::row::{State, row_memory, row_trigger, row_value};
+use crate::samples::Samples;
 use mc_base::Memory;
 use mc_diagram::Resolved;
 use mc_guards::TrigMem;
@@ -88,7 +89,7 @@ fn round(
     Ok(next)
 }
 
-// The memories of all rows after a tick with these values.
+// What all rows remember after a tick with these values.
 fn memories_after(
     alloc: Global,
     r: &Resolved,
@@ -96,7 +97,7 @@ fn memories_after(
     inputs: &[i64],
     before: &State,
     values: &[i64],
-) -> Result<Vec<i64>, Memory>
+) -> Result<Vec<Samples>, Memory>
     requires inputs { HasInputs (diagram_of r.now) inputs.now }
     requires before { IsFit (diagram_of r.now) before.now.values.items before.now.memories.items before.now.triggers.items }
     requires values { AreFit (diagram_of r.now) values.now }

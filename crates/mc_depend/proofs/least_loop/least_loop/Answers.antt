@@ -3,7 +3,7 @@ use Rattle.mc_diagram.specs.Walk.{IsLeastLoop}
 use Rattle.mc_depend.specs.Needed.{needed}
 use Rattle.mc_depend.specs.Levels.{AreLevelsTo}
 use Rattle.mc_depend.specs.LeastPaths.{IsLeastPath}
-use Rattle.mc_depend.proofs.LoopRows.{least-loop}
+use Rattle.mc_depend.proofs.lemmas.LoopRows.{least-loop}
 use Rattle.mc_depend.proofs.least_loop.least_loop.Goals as goal
 
 on-ok : {V E : Type 0} (P Q : V → Type 0) → ((v : V) → P v → Q v) → (r : Result V E) → IfOk r P → IfOk r Q

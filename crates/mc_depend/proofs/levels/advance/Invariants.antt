@@ -1,5 +1,6 @@
-use Rattle.mc_depend.proofs.LevelSteps.{IsAdvancing}
+use Rattle.std.proofs.Common.{◌+◌, length}
+use Rattle.mc_depend.specs.Levels.{IsNumbering}
 use Rattle.mc_depend.proofs.levels.advance.Given as goal
 
-abbrev pub invariant-loop-edge : goal.invariant-loop-edge
-invariant-loop-edge l = IsAdvancing l.g.edges l.z l.k l.initial.steps l.steps l.edge-index
+abbrev pub invariant-loop-a : goal.invariant-loop-a
+invariant-loop-a l = IsNumbering l.g (l.k + 1) l.front l.initial.steps l.steps l.next.items l.a-index (length l.g.edges)

@@ -1,7 +1,7 @@
 use Rattle.std.proofs.Common.{subst}
 use Rattle.mc_depend.specs.Least.{IsLeastOf}
 use Rattle.mc_depend.specs.Needed.{needed, IsOnLoop}
-use Rattle.mc_depend.proofs.LoopRows.{none-on_loop}
+use Rattle.mc_depend.proofs.lemmas.LoopRows.{none-on_loop}
 use Rattle.mc_depend.proofs.loops.search.Goals as goal
 
 pub returns-in-None : goal.returns-in-None

@@ -9,7 +9,7 @@ use Rattle.mc_diagram.specs.ResolvedTree.{ResolvedTree, IsResolvedTree, diagram_
 use Rattle.mc_diagram.specs.Diagram.{Diagram, op_at, op_in}
 use Rattle.mc_diagram.specs.Rows.{row_at, no_row, is_inport, same_system, is_inport_of, around_inside}
 use Rattle.mc_diagram.specs.Needs.{inputs_used, control_wires, needs_inside}
-use Rattle.mc_diagram.proofs.ByRow.{length-by_row}
+use Rattle.mc_diagram.proofs.lemmas.ByRow.{length-by_row}
 use Rattle.mc_depend.specs.Needed.{AreEdgesBelow}
 use Rattle.mc_depend.proofs.GraphSteps.{edges_to, edges-step}
 use Rattle.mc_depend.proofs.needs_graph.needs_edges.Goals as goal

@@ -15,9 +15,11 @@ returns-in-Some t c x =
     let inside : c.in-Some.e < length d.rows = subst (λ (o : Option ℕ). IfSome o (λ e. e < length d.rows)) c.in-Some.is c.requires.system in
     let in_triggers : c.in-Some.e < length c.args.triggers.now = omega (arith, c.requires.triggers, inside) in
     let read = c.row-subsystem.ensures.row in
-    let value_fits : FitsSigned w64 c.control_value-value.result = search rules in
+    let enable_fits : FitsSigned w64 c.enable_value-enable.result = search rules in
+    let trigger_fits : FitsSigned w64 c.trigger_value-trigger.result = search rules in
     c.active.ensures
-    ∙ active-here d c.row-subsystem.ensures.resolved.tree.table.nested c.args.values.now c.args.triggers.now c.args.system c.in-Some.e c.in-Some.is inside x _ _ _ _
+    ∙ active-here d c.row-subsystem.ensures.resolved.tree.table.nested c.args.values.now c.args.triggers.now c.args.system c.in-Some.e c.in-Some.is inside x _ _ _ _ _
     (c.is_active-outside.ensures x ∙ ap (λ (r : Row). active_in d None x c.args.values.now c.args.triggers.now (enclosing d.rows None r.owner)) read)
     (get_or_default c.args.triggers.now c.in-Some.e _ NotYet in_triggers)
-    (c.control.ensures ∙ ap (λ (r : Row). control_of r.kind) read, to_z-of_z w64 _ value_fits ∙ c.control_value-value.ensures x c.args.triggers.now)
+    (c.control.ensures ∙ ap (λ (r : Row). control_of r.kind) read, to_z-of_z w64 _ enable_fits ∙ c.enable_value-enable.ensures x c.args.triggers.now)
+    (to_z-of_z w64 _ trigger_fits ∙ c.trigger_value-trigger.ensures x c.args.triggers.now)

@@ -12,21 +12,21 @@ returns-then-off t c x =
     let d = diagram_of c.args.r.now in
     let inside : c.in-Some.e < length d.rows = subst (λ (o : Option ℕ). IfSome o (λ e. e < length d.rows)) c.in-Some.is c.requires.system in
     let read = c.row-subsystem.ensures.row in
-    let value_fits : FitsSigned w64 c.control_value-value.result = search rules in
+    let enable_fits : FitsSigned w64 c.enable_value-enable.result = search rules in
     c.if-off.true ∙ ap (λ b. b || c.is_off-is_off_outside.result) (sym c.if-off.true ∙ c.off.ensures)
     ∙ off-here d c.row-subsystem.ensures.resolved.tree.table.nested c.args.values.now c.args.triggers.now c.args.system c.in-Some.e c.in-Some.is inside x _ _ _ _
     (c.is_active-outside.ensures x ∙ ap (λ (r : Row). active_in d None x c.args.values.now c.args.triggers.now (enclosing d.rows None r.owner)) read)
     (c.is_off-is_off_outside.ensures x ∙ ap (λ (r : Row). any_off d None x c.args.values.now c.args.triggers.now (enclosing d.rows None r.owner)) read)
-    (c.control.ensures ∙ ap (λ (r : Row). control_of r.kind) read, to_z-of_z w64 _ value_fits ∙ c.control_value-value.ensures x c.args.triggers.now)
+    (c.control.ensures ∙ ap (λ (r : Row). control_of r.kind) read, to_z-of_z w64 _ enable_fits ∙ c.enable_value-enable.ensures x c.args.triggers.now)
 
 pub returns-else-off : goal.returns-else-off
 returns-else-off t c x =
     let d = diagram_of c.args.r.now in
     let inside : c.in-Some.e < length d.rows = subst (λ (o : Option ℕ). IfSome o (λ e. e < length d.rows)) c.in-Some.is c.requires.system in
     let read = c.row-subsystem.ensures.row in
-    let value_fits : FitsSigned w64 c.control_value-value.result = search rules in
+    let enable_fits : FitsSigned w64 c.enable_value-enable.result = search rules in
     ap (λ b. b || c.is_off-is_off_outside.result) (sym c.if-off.false ∙ c.off.ensures)
     ∙ off-here d c.row-subsystem.ensures.resolved.tree.table.nested c.args.values.now c.args.triggers.now c.args.system c.in-Some.e c.in-Some.is inside x _ _ _ _
     (c.is_active-outside.ensures x ∙ ap (λ (r : Row). active_in d None x c.args.values.now c.args.triggers.now (enclosing d.rows None r.owner)) read)
     (c.is_off-is_off_outside.ensures x ∙ ap (λ (r : Row). any_off d None x c.args.values.now c.args.triggers.now (enclosing d.rows None r.owner)) read)
-    (c.control.ensures ∙ ap (λ (r : Row). control_of r.kind) read, to_z-of_z w64 _ value_fits ∙ c.control_value-value.ensures x c.args.triggers.now)
+    (c.control.ensures ∙ ap (λ (r : Row). control_of r.kind) read, to_z-of_z w64 _ enable_fits ∙ c.enable_value-enable.ensures x c.args.triggers.now)

@@ -1,13 +1,13 @@
-use Rattle.std.proofs.Common.{◌≡◌, None, map, pos, if◌then◌else◌}
+use Rattle.std.proofs.Common.{◌≡◌, None, map, [], if◌then◌else◌}
 use Rattle.std.specs.List.{range_with_len}
 use Rattle.mc_guards.specs.declared.TrigMem.TheVariants.{NotYet}
 use Rattle.mc_diagram.specs.ResolvedTree.{diagram_of}
-use Rattle.mc_diagram.specs.Run.{start_of, has_memory}
+use Rattle.mc_diagram.specs.Run.{start_of, initial_memory, has_memory}
 use Rattle.mc_equations.proofs.run.first_state.Given as goal
 
 abbrev pub invariant-loop-b : goal.invariant-loop-b
 invariant-loop-b l = record {
   values : l.values.items ≡ map (start_of (diagram_of l.fn.r)) (range_with_len 0 l.b);
-  memories : l.memories.items ≡ map (λ b. if has_memory (diagram_of l.fn.r) None b then start_of (diagram_of l.fn.r) b else pos 0) (range_with_len 0 l.b);
+  memories : l.memories.items ≡ map (λ b. if has_memory (diagram_of l.fn.r) None b then initial_memory (diagram_of l.fn.r) b else []) (range_with_len 0 l.b);
   triggers : l.triggers.items ≡ map (λ b. NotYet) (range_with_len 0 l.b);
 }

@@ -1,6 +1,6 @@
 use Rattle.std.proofs.Common.{◌≡◌, [], map, take, slice_index_or}
 use Rattle.mc_diagram.specs.ResolvedTree.{diagram_of}
-use Rattle.mc_diagram.proofs.Ticks.{before_tick}
+use Rattle.mc_diagram.proofs.lemmas.Ticks.{before_tick}
 use Rattle.mc_equations.specs.Fitting.{IsFit}
 use Rattle.mc_equations.proofs.Runs.{run_of, first_values}
 use Rattle.mc_equations.proofs.run.plain_run.Given as goal

@@ -1,6 +1,5 @@
-use Rattle.std.proofs.Common.{◌≡◌, ◌∙◌, None, map, length, pos, if◌then◌else◌, sym, ap, subst, arith, rules, FitsSigned, w64}
+use Rattle.std.proofs.Common.{◌≡◌, ◌∙◌, None, map, length, [], if◌then◌else◌, sym, ap, subst, arith}
 use Rattle.std.specs.List.{range_with_len}
-use Rattle.std.proofs.lemmas.Int.{to_z-of_z}
 use Rattle.mc_diagram.specs.ResolvedTree.{diagram_of}
 use Rattle.mc_diagram.specs.Run.{has_memory, row_memory}
 use Rattle.mc_equations.specs.Fitting.{AreInTypes}
@@ -11,9 +10,8 @@ use Rattle.mc_equations.proofs.tick.memories_after.Goals as goal
 pub loop-b-preserved : goal.loop-b-preserved
 loop-b-preserved c =
     let d = diagram_of c.args.r.now in
-    let memory_fits : FitsSigned w64 c.in_ok-row_memory.field-0 = search rules in
-    row-more (λ b. if has_memory d None b then row_memory d None c.args.tick c.args.inputs.now c.args.before.now.memories.items c.args.before.now.triggers.items c.args.values.now b else pos 0)
-    c.loop-b.b c.loop-b.next.items _ _ c.loop-b.invariant c.in_ok-push.ensures.items (to_z-of_z w64 _ memory_fits ∙ c.in_ok-row_memory.ensures)
+    row-more (λ b. if has_memory d None b then row_memory d None c.args.tick c.args.inputs.now c.args.before.now.memories.items c.args.before.now.triggers.items c.args.values.now b else [])
+    c.loop-b.b c.loop-b.next.items _ _ c.loop-b.invariant c.in_ok-push.ensures.items c.in_ok-row_memory.ensures
 
 pub returns-clause-fit : goal.returns-clause-fit
 returns-clause-fit c =
@@ -21,6 +19,6 @@ returns-clause-fit c =
     let low = c.loop-b-test.false in
     let high = c.loop-b.auto.b-end in
     let all : c.loop-b.b ≡ length c.args.r.now.tree.table.rows = omega (arith, c.row_count-b-end.ensures.count, low, high) in
-    let made = c.loop-b.invariant ∙ ap (λ n. map (λ b. if has_memory d None b then row_memory d None c.args.tick c.args.inputs.now c.args.before.now.memories.items c.args.before.now.triggers.items c.args.values.now b else pos 0) (range_with_len 0 n)) all in
+    let made = c.loop-b.invariant ∙ ap (λ n. map (λ b. if has_memory d None b then row_memory d None c.args.tick c.args.inputs.now c.args.before.now.memories.items c.args.before.now.triggers.items c.args.values.now b else []) (range_with_len 0 n)) all in
     subst (AreInTypes d) (sym made)
     (memories-fit c.args.r.now c.row_count-b-end.ensures.resolved c.args.tick c.args.inputs.now c.args.before.now.values.items c.args.before.now.memories.items c.args.values.now c.args.before.now.triggers.items c.requires.inputs c.requires.before c.requires.values)

@@ -1,4 +1,4 @@
-use Rattle.std.proofs.Common.{◌≡◌, None, map, pos, if◌then◌else◌}
+use Rattle.std.proofs.Common.{◌≡◌, None, map, [], if◌then◌else◌}
 use Rattle.std.specs.List.{range_with_len}
 use Rattle.mc_diagram.specs.ResolvedTree.{diagram_of}
 use Rattle.mc_diagram.specs.Run.{has_memory, row_memory}
@@ -6,4 +6,4 @@ use Rattle.mc_equations.proofs.tick.memories_after.Given as goal
 
 abbrev pub invariant-loop-b : goal.invariant-loop-b
 invariant-loop-b l =
-    l.next.items ≡ map (λ b. if has_memory (diagram_of l.fn.r) None b then row_memory (diagram_of l.fn.r) None l.tick l.inputs l.before.memories.items l.before.triggers.items l.values b else pos 0) (range_with_len 0 l.b)
+    l.next.items ≡ map (λ b. if has_memory (diagram_of l.fn.r) None b then row_memory (diagram_of l.fn.r) None l.tick l.inputs l.before.memories.items l.before.triggers.items l.values b else []) (range_with_len 0 l.b)

@@ -1,6 +1,6 @@
 use Rattle.std.proofs.Common.{◌∙◌, ap, length, List, []}
 use Rattle.mc_guards.specs.declared.TrigMem.{TrigMem}
-use Rattle.mc_diagram.proofs.ByRow.{length-by_row}
+use Rattle.mc_diagram.proofs.lemmas.ByRow.{length-by_row}
 use Rattle.mc_equations.proofs.tick.next_state.Goals as goal
 
 pub returns-clause-fit : goal.returns-clause-fit

@@ -2,7 +2,7 @@ use Rattle.std.proofs.Common.{◌≡◌, ◌∙◌, ◌+◌, None, length, sym, 
 use Rattle.std.specs.Cmp.{signed_Decides}
 use Rattle.std.proofs.lemmas.Slice.Eq.{slice_eq-Decides}
 use Rattle.mc_diagram.specs.ResolvedTree.{diagram_of}
-use Rattle.mc_diagram.proofs.Tick.{next_round}
+use Rattle.mc_diagram.proofs.lemmas.Tick.{next_round}
 use Rattle.mc_equations.specs.Fitting.{AreFit}
 use Rattle.mc_equations.proofs.Rounds.{rounds, no-round, round-more, rounds-solve}
 use Rattle.mc_equations.proofs.tick.solution.Goals as goal

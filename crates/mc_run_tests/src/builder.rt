@@ -1,0 +1,161 @@
+ghost use Rattle.std.specs.Prelude.{◌≡◌, ◌<◌, IfOk, pos};
+ghost use Rattle.mc_blocks.specs.declared.Kind.TheVariants.{Outport};
+ghost use Rattle.mc_diagram.specs.Nested.{next, no_more, system, system_of};
+ghost use Rattle.mc_run_tests.specs.Parts.{line_of, row_of, source_of, sum_of};
+
+use mc_base::{Control, Decimal, Frac, Memory, Place, TimeText, Wires};
+use mc_blocks::{How, Kind};
+use mc_diagram::{Row, Subsystem};
+use mc_fixed::{FixType, Over, Round, TypeText};
+use std::alloc::Global;
+
+/// 32 bits with a sign.
+pub fn int32() -> FixType {
+    FixType {
+        signed: true,
+        bits: 32,
+        frac: 0,
+    }
+}
+
+/// One bit without a sign.
+pub fn boolean() -> FixType {
+    FixType {
+        signed: false,
+        bits: 1,
+        frac: 0,
+    }
+}
+
+/// A whole number.
+pub fn whole(number: u8) -> Decimal
+    ensures { result.num ≡ pos number }
+{
+    Decimal {
+        num: i128::from(number),
+        den: 1,
+    }
+}
+
+/// An output of its system at port 1, which is held or reset and begins with this number.
+pub fn outport(reset: bool, initial: Decimal) -> Kind
+    ensures { result ≡ Outport 1 reset initial }
+{
+    Kind::Outport {
+        port: 1,
+        reset,
+        initial,
+    }
+}
+
+/// The sum of two inputs, of which those with a bit are subtracted, rounded down and saturated.
+pub fn sum(minus: u32) -> Kind
+    ensures { result ≡ sum_of minus }
+{
+    Kind::Sum {
+        count: 2,
+        minus,
+        how: How {
+            round: Round::Floor,
+            over: Over::Saturate,
+        },
+    }
+}
+
+/// So many seconds.
+pub fn seconds(number: u8) -> Frac
+    ensures num { result.num ≡ number }
+    ensures den { result.den ≡ 1 }
+{
+    Frac {
+        num: u64::from(number),
+        den: 1,
+    }
+}
+
+/// This part of a second.
+pub fn part_of_second(part: u8) -> Frac
+    requires { 0 < part }
+    ensures num { result.num ≡ 1 }
+    ensures den { result.den ≡ part }
+{
+    Frac {
+        num: 1,
+        den: u64::from(part),
+    }
+}
+
+/// A row of this number in a system, which reads these rows. It stands at the line of its number, and inherits its type and
+/// its sample time.
+pub fn row(number: u32, owner: Option<u32>, kind: Kind, inputs: Vec<u32>) -> Row
+    ensures { result ≡ row_of number owner kind inputs.items }
+{
+    Row {
+        place: Place {
+            row: number,
+            line: number,
+        },
+        owner,
+        kind,
+        inputs: Wires::new(inputs),
+        type_text: TypeText::Inherit,
+        time_text: TimeText::Inherit,
+    }
+}
+
+/// The same without inputs, and with a written type and this text of its sample time.
+pub fn source(
+    alloc: Global,
+    number: u32,
+    owner: Option<u32>,
+    kind: Kind,
+    type_of: FixType,
+    time_text: TimeText,
+) -> Row
+    ensures { result ≡ source_of number owner kind type_of time_text }
+{
+    Row {
+        place: Place {
+            row: number,
+            line: number,
+        },
+        owner,
+        kind,
+        inputs: Wires::new(Vec::new(alloc)),
+        type_text: TypeText::Fixed(type_of),
+        time_text,
+    }
+}
+
+/// A system of these rows, the root where it has no row of its own, without subsystems inside.
+pub fn leaf(alloc: Global, row: Option<u32>, control: Control, own: Vec<u32>) -> Subsystem
+    ensures { system_of result ≡ system row (line_of row) control own.items no_more }
+{
+    Subsystem {
+        row,
+        line: row.unwrap_or(0),
+        control,
+        own: Wires::new(own),
+        children: Vec::new(alloc),
+    }
+}
+
+/// The same with one subsystem directly inside.
+pub fn with_child(
+    alloc: Global,
+    row: Option<u32>,
+    control: Control,
+    own: Vec<u32>,
+    child: Subsystem,
+) -> Result<Subsystem, Memory>
+    ensures { IfOk result (λ s.
+        system_of s ≡ system row (line_of row) control own.items (next (system_of child) no_more)) }
+{
+    Ok(Subsystem {
+        row,
+        line: row.unwrap_or(0),
+        control,
+        own: Wires::new(own),
+        children: vec![in alloc; child]?,
+    })
+}

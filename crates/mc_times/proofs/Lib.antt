@@ -1,0 +1,17 @@
+pub mod HullLemmas
+pub mod SpreadSteps
+pub mod Outward
+pub mod FeedSteps
+pub mod GivenSteps
+pub mod CollectSteps
+pub mod BackSteps
+pub mod OneInput
+pub mod RunSteps
+pub mod Divisors
+pub mod LineNumbers
+pub mod BaseSteps
+pub mod PeriodSteps
+pub mod Growing
+pub mod DenominatorSteps
+pub mod WrittenTicks
+pub mod FormedRows
