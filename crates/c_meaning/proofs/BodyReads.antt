@@ -3,17 +3,17 @@ use Rattle.std.proofs.Common.{Bool, ◌≡◌, sym, ◌∙◌, ap, ℕ, zero, su
 use Rattle.std.proofs.Math.ListN.{set}
 use Rattle.std.proofs.Math.Path.{fun_ext}
 use native.Mathlib.Numerals.{unary_clauses}
-use Rattle.c_tree.specs.declared.code.CType.{CType}
-use Rattle.c_tree.specs.declared.code.Expr.{Expr}
-use Rattle.c_tree.specs.declared.code.Leaf.{Leaf}
-use Rattle.c_tree.specs.declared.code.Leaf.TheVariants.{Param, Own, Child}
-use Rattle.c_tree.specs.declared.fault.Stuck.{Stuck}
-use Rattle.c_tree.specs.declared.fault.Why.TheVariants.{Range}
-use Rattle.c_tree.specs.declared.program.Pure.{Pure}
-use Rattle.c_tree.specs.Tree.{ExprTree, CondTree, ProgramTree, exprs_of_list}
-use Rattle.c_tree.specs.Plain.{expr_tree, pure_tree}
-use Rattle.c_tree.specs.Machine.{arguments}
-use Rattle.c_tree.specs.Values.{Answer, gives, sticks, and_then, within, Function, functions_of, eval, eval_cond, reads}
+use Rattle.c_syntax.specs.declared.code.CType.{CType}
+use Rattle.c_syntax.specs.declared.code.Expr.{Expr}
+use Rattle.c_syntax.specs.declared.code.Leaf.{Leaf}
+use Rattle.c_syntax.specs.declared.code.Leaf.TheVariants.{Param, Own, Child}
+use Rattle.c_syntax.specs.declared.fault.Stuck.{Stuck}
+use Rattle.c_syntax.specs.declared.fault.Why.TheVariants.{Range}
+use Rattle.c_syntax.specs.declared.program.Pure.{Pure}
+use Rattle.c_syntax.specs.Tree.{ExprTree, CondTree, ProgramTree, exprs_of_list}
+use Rattle.c_syntax.specs.Plain.{expr_tree, pure_tree}
+use Rattle.c_machine.specs.Machine.{arguments}
+use Rattle.c_machine.specs.Values.{Answer, gives, sticks, and_then, within, Function, functions_of, eval, eval_cond, reads}
 use Rattle.mc_base.specs.declared.text.Text.{Text}
 use Rattle.c_meaning.specs.declared.values.View.{View}
 use Rattle.c_meaning.specs.Reads.{view_reads, view_functions}
@@ -27,7 +27,7 @@ pub frame_reads : (p : ProgramTree) (layouts : List StructLayout) (logged : List
 frame_reads p layouts logged v of values s ready same_layouts same_slots same_numbers same_values = fun_ext (λ leaf. at_leaf leaf)
   where
     at_leaf : (leaf : Leaf) → view_reads v leaf ≡ reads values (filled (zero_at p of) s) leaf
-    at_leaf (Param k) = λ i. Rattle.c_tree.specs.Values.int_at (same_values i) k
+    at_leaf (Param k) = λ i. Rattle.c_machine.specs.Values.int_at (same_values i) k
     at_leaf (Own f) = (λ i. Rattle.c_meaning.specs.Slots.number_in (same_numbers i) (slice_get (same_slots i) f)) ∙ sym (own_is p.structs layouts (zeros_of p) ready.laid of s f)
     at_leaf (Child f g) = (λ i. Rattle.c_meaning.specs.Slots.number_under (same_layouts i) (same_numbers i) (slice_get (same_slots i) f) g) ∙ sym (under_is p.structs layouts (zeros_of p) ready.laid of s f g)
 

@@ -2,15 +2,16 @@
 use Rattle.std.proofs.Common.{◌≡◌, sym, ◌∙◌, ℕ, ◌<◌, ℤ, List, [], length, arith, slice_get, Option, Some, Result, Ok, Err, subst}
 use Rattle.std.specs.Prelude.{option_and_then, IfOk, IfErr, IfSome}
 use Rattle.std.proofs.lemmas.Option.{slice_get_within}
-use Rattle.c_tree.specs.declared.fault.Cost.{Cost}
-use Rattle.c_tree.specs.declared.fault.Stuck.{Stuck}
-use Rattle.c_tree.specs.declared.program.Program.{Program}
-use Rattle.c_tree.specs.Lawful.{IsLawful}
-use Rattle.c_tree.specs.Machine.{call_from_outside}
-use Rattle.c_tree.specs.Plain.{program_tree}
-use Rattle.c_tree.specs.Rows.{root_struct, zero_root}
-use Rattle.c_tree.specs.Tree.{ProgramTree}
-use Rattle.c_reader.specs.Checked.{CheckedProgram}
+use Rattle.c_syntax.specs.declared.fault.Cost.{Cost}
+use Rattle.c_syntax.specs.declared.fault.Stuck.{Stuck}
+use Rattle.c_syntax.specs.declared.program.Program.{Program}
+use Rattle.c_syntax.specs.Lawful.{IsLawful}
+use Rattle.c_machine.specs.Machine.{call_from_outside}
+use Rattle.c_syntax.specs.Plain.{program_tree}
+use Rattle.c_syntax.specs.RootFields.{root_struct}
+use Rattle.c_machine.specs.Rows.{zero_root}
+use Rattle.c_syntax.specs.Tree.{ProgramTree}
+use Rattle.c_checked.specs.Checked.{CheckedProgram}
 use Rattle.c_meaning.specs.Instances.{StructInstance, instances, instance_at, child_named, number_named}
 use Rattle.c_meaning.specs.Machines.{IsCallable, IsCall, IsStuckCall}
 use Rattle.c_meaning.specs.Numbering.{counts_of, AreNumbered, instances_of, instances_in, HasInstance}

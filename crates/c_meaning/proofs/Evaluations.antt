@@ -6,22 +6,22 @@ use Rattle.std.proofs.Math.Seq.{get_or-append_seam}
 use native.Mathlib.Numerals.{unary_clauses}
 use Rattle.std.proofs.Math.ListN.{set}
 use Rattle.mc_base.specs.declared.base.Compare.{Compare}
-use Rattle.c_tree.specs.declared.fault.Stuck.{Stuck}
-use Rattle.c_tree.specs.declared.fault.Why.TheVariants.{Overflow, Steps}
-use Rattle.c_tree.specs.declared.code.BinOp.{BinOp}
-use Rattle.c_tree.specs.declared.code.CType.TheVariants.{I64}
-use Rattle.c_tree.specs.declared.code.Leaf.{Leaf}
-use Rattle.c_tree.specs.declared.code.Leaf.TheVariants.{Param, Own, Child}
-use Rattle.c_tree.specs.declared.program.Pure.{Pure}
-use Rattle.c_tree.specs.Cells.{no_cells}
+use Rattle.c_syntax.specs.declared.fault.Stuck.{Stuck}
+use Rattle.c_syntax.specs.declared.fault.Why.TheVariants.{Overflow, Steps}
+use Rattle.c_syntax.specs.declared.code.BinOp.{BinOp}
+use Rattle.c_syntax.specs.declared.code.CType.TheVariants.{I64}
+use Rattle.c_syntax.specs.declared.code.Leaf.{Leaf}
+use Rattle.c_syntax.specs.declared.code.Leaf.TheVariants.{Param, Own, Child}
+use Rattle.c_syntax.specs.declared.program.Pure.{Pure}
+use Rattle.c_machine.specs.Cells.{no_cells}
 use Rattle.c_meaning.specs.declared.values.View.{View}
 use Rattle.c_meaning.specs.Slots.{number_in, number_under}
 use Rattle.c_meaning.specs.Reads.{view_reads, AreNarrowExprs}
-use Rattle.c_tree.specs.declared.code.Expr.{Expr}
-use Rattle.c_tree.specs.declared.code.Cond.{Cond}
-use Rattle.c_tree.specs.Plain.{expr_tree, cond_tree, pure_tree}
-use Rattle.c_tree.specs.Tree.{neg, binary, pick, ExprTrees, compare, both, either, negated, exprs_of_list, PureTree}
-use Rattle.c_tree.specs.Values.{Answer, gives, sticks, and_then, Function, eval, eval_cond, eval_all, take_step, within, operate, compares, function_at, function_of, functions_of, reads, step_limit, stuck_at}
+use Rattle.c_syntax.specs.declared.code.Expr.{Expr}
+use Rattle.c_syntax.specs.declared.code.Cond.{Cond}
+use Rattle.c_syntax.specs.Plain.{expr_tree, cond_tree, pure_tree}
+use Rattle.c_syntax.specs.Tree.{neg, binary, pick, ExprTrees, compare, both, either, negated, exprs_of_list, PureTree}
+use Rattle.c_machine.specs.Values.{Answer, gives, sticks, and_then, Function, eval, eval_cond, eval_all, take_step, within, operate, compares, function_at, function_of, functions_of, reads, step_limit, stuck_at}
 
 pub take_set : (xs : List ℤ) (k : ℕ) (v : ℤ) → k < length xs → take (k + 1) (set xs k v) ≡ take k xs ++ v ∷ []
 take_set [] k v h = absurd (omega arith)

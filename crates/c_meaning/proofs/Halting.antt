@@ -1,8 +1,8 @@
 -- The numbers of places.
 use Rattle.std.proofs.Common.{◌≡◌, ◌∙◌, ap, ℕ, ◌+◌, ◌*◌, ◌<◌}
 use Rattle.std.proofs.Math.Arith.{digits_div, digits_mod}
-use Rattle.c_tree.specs.declared.fault.Why.{Why}
-use Rattle.c_tree.specs.Values.{stuck_at}
+use Rattle.c_syntax.specs.declared.fault.Why.{Why}
+use Rattle.c_machine.specs.Values.{stuck_at}
 use Rattle.c_meaning.specs.Halts.{stuck_of, why_of}
 
 pub stuck_is : (line code : ℕ) (why : Why) → code < 4 → why_of code ≡ why → stuck_of (line * 4 + code) ≡ stuck_at line why

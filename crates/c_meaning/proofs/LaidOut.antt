@@ -4,16 +4,16 @@ use Rattle.std.specs.Prelude.{⊤}
 use Rattle.std.specs.List.{AllByRecursion}
 use Rattle.std.proofs.lemmas.List.{get_or_append_left}
 use Rattle.std.proofs.Math.Seq.{get_or-append_seam}
-use Rattle.c_tree.specs.declared.program.FieldKind.{FieldKind}
-use Rattle.c_tree.specs.declared.program.FieldKind.TheVariants as kind
-use Rattle.c_tree.specs.Lawful.{IsLawfulKind, AreStructs}
+use Rattle.c_syntax.specs.declared.program.FieldKind.{FieldKind}
+use Rattle.c_syntax.specs.declared.program.FieldKind.TheVariants as kind
+use Rattle.c_syntax.specs.Lawful.{IsLawfulKind, AreStructs}
 use Rattle.c_meaning.specs.declared.slots.Slot.TheVariants.{Instance}
 use Rattle.c_meaning.proofs.Places.{end_is}
 use native.Mathlib.Numerals.{unary_clauses}
-use Rattle.c_tree.specs.declared.program.Field.{Field}
-use Rattle.c_tree.specs.PlainField.{field_tree, field_trees}
-use Rattle.c_tree.specs.Tree.{FieldTree, StructTree, struct_fields, no_struct}
-use Rattle.c_tree.specs.Cells.{Cells, object, no_cells, more_cells, zero_cell, zero_cells, zero_instances}
+use Rattle.c_syntax.specs.declared.program.Field.{Field}
+use Rattle.c_syntax.specs.PlainField.{field_tree, field_trees}
+use Rattle.c_syntax.specs.Tree.{FieldTree, StructTree, struct_fields, no_struct}
+use Rattle.c_machine.specs.Cells.{Cells, object, no_cells, more_cells, zero_cell, zero_cells, zero_instances}
 use Rattle.c_meaning.specs.States.{numbers_of}
 use Rattle.c_meaning.specs.Slots.{StructLayout, layout_at, no_layout}
 use Rattle.c_meaning.specs.Layouts.{kind_size, slot_of, slots_from, end_of, layout_of, layouts_of, AreLaidOut}

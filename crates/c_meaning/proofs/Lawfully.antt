@@ -1,20 +1,20 @@
 -- What the machine needs holds of a lawful program.
 use Rattle.std.proofs.Common.{Bool, true, ◌≡◌, refl, sym, ◌∙◌, ap, ℕ, zero, suc, ◌+◌, ◌<◌, ◌≤◌, List, [], ◌∷◌, ◌++◌, length, arith, map, slice_get, Some, zero-add, length-append, append_assoc, subst}
 use Rattle.std.specs.List.{AllByRecursion}
-use Rattle.c_tree.specs.declared.code.CType.{CType}
-use Rattle.c_tree.specs.declared.code.Target.{Target}
-use Rattle.c_tree.specs.declared.code.Target.TheVariants as target
-use Rattle.c_tree.specs.declared.program.FieldKind.{FieldKind}
-use Rattle.c_tree.specs.declared.program.FieldKind.TheVariants as kind
-use Rattle.c_tree.specs.Tree.{ExprTree, literal, neg, read, binary, pick, pure, ExprTrees, no_exprs, more_exprs, CondTree, compare, both, either, negated, StmtTree, assign, branch, call, StmtTrees, no_stmts, more_stmts, FieldTree, struct_fields, PureTree, ProcedureTree, ProgramTree}
-use Rattle.c_tree.specs.Rows.{is_number_kind}
-use Rattle.c_tree.specs.Reading.{PureFits, ProcedureFits}
-use Rattle.c_tree.specs.Lawful.{Reach, IsNumberAt, IsLawfulExpr, AreLawfulExprs, IsLawfulCond, IsLawfulTarget, IsLawfulStmt, AreLawfulStmts, ArePures, AreProcedures, IsLawful}
+use Rattle.c_syntax.specs.declared.code.CType.{CType}
+use Rattle.c_syntax.specs.declared.code.Target.{Target}
+use Rattle.c_syntax.specs.declared.code.Target.TheVariants as target
+use Rattle.c_syntax.specs.declared.program.FieldKind.{FieldKind}
+use Rattle.c_syntax.specs.declared.program.FieldKind.TheVariants as kind
+use Rattle.c_syntax.specs.Tree.{ExprTree, literal, neg, read, binary, pick, pure, ExprTrees, no_exprs, more_exprs, CondTree, compare, both, either, negated, StmtTree, assign, branch, call, StmtTrees, no_stmts, more_stmts, FieldTree, struct_fields, PureTree, ProcedureTree, ProgramTree}
+use Rattle.c_syntax.specs.RootFields.{is_number_kind}
+use Rattle.c_syntax.specs.Limits.{PureFits, ProcedureFits}
+use Rattle.c_syntax.specs.Lawful.{Reach, IsNumberAt, IsLawfulExpr, AreLawfulExprs, IsLawfulCond, IsLawfulTarget, IsLawfulStmt, AreLawfulStmts, ArePures, AreProcedures, IsLawful}
 use Rattle.c_meaning.specs.Reads.{IsNarrowExpr, AreNarrowExprs, IsNarrowCond, AreNarrow}
 use Rattle.c_meaning.specs.Slots.{StructLayout}
 use Rattle.c_meaning.specs.Layouts.{layouts_of}
 use Rattle.c_meaning.specs.Sound.{IsNumberField, IsCallOf, IsSoundStmt, AreSoundStmts, zeros_of, IsReady}
-use Rattle.c_tree.specs.Machine.{is_interface}
+use Rattle.c_machine.specs.Machine.{is_interface}
 use Rattle.c_meaning.proofs.LaidOut.{laid_out}
 
 pub all_at : {A : Type 0} (P : A → Type 0) (xs : List A) (k : ℕ) (x : A) → AllByRecursion P xs → slice_get xs k ≡ Some x → P x

@@ -13,5 +13,6 @@ pub mod Paths
 pub mod Standing
 pub mod Calling
 pub mod PlainCalls
+pub mod CheckedExamples
 pub mod Halting
 pub mod Orders

@@ -2,21 +2,21 @@
 use Rattle.std.proofs.Common.{◌≡◌, ℕ, zero, suc, ◌+◌, ◌*◌, ◌<◌, ◌≤◌, List, [], ◌∷◌, length, arith, take, map, get_or, ap, ◌∙◌, sym, Vec, refl, drop, Bool, false, slice_get, slice_index_or, Some, subst}
 use native.Mathlib.Numerals.{unary_clauses}
 use Rattle.mc_base.specs.declared.text.Text.{Text}
-use Rattle.c_tree.specs.declared.code.CType.{CType}
-use Rattle.c_tree.specs.declared.code.Cond.{Cond}
-use Rattle.c_tree.specs.declared.code.Stmt.{Stmt}
-use Rattle.c_tree.specs.declared.code.Stmt.TheViews as stmt_views
-use Rattle.c_tree.specs.declared.program.Procedure.{Procedure}
-use Rattle.c_tree.specs.Machine.{is_interface}
+use Rattle.c_syntax.specs.declared.code.CType.{CType}
+use Rattle.c_syntax.specs.declared.code.Cond.{Cond}
+use Rattle.c_syntax.specs.declared.code.Stmt.{Stmt}
+use Rattle.c_syntax.specs.declared.code.Stmt.TheViews as stmt_views
+use Rattle.c_syntax.specs.declared.program.Procedure.{Procedure}
+use Rattle.c_machine.specs.Machine.{is_interface}
 use Rattle.c_meaning.specs.Sound.{IsSoundStmt, AreSoundStmts}
 use Rattle.std.specs.declared.alloc.Global.{Global}
-use Rattle.c_tree.specs.declared.code.Expr.{Expr}
-use Rattle.c_tree.specs.declared.code.Cond.TheViews as views
-use Rattle.c_tree.specs.declared.program.Pure.{Pure}
-use Rattle.c_tree.specs.Plain.{expr_tree, cond_tree, stmt_tree, procedure_tree, param_trees}
-use Rattle.c_tree.specs.Tree.{exprs_of_list, pure, branch, stmts_of_list, ProcedureTree, ProgramTree}
-use Rattle.c_tree.specs.Reading.{expr_depth, exprs_depth, stmt_depth, stmts_depth}
-use Rattle.c_tree.proofs.PlainLaws.{expr_tree-Pure, stmt_tree-If}
+use Rattle.c_syntax.specs.declared.code.Expr.{Expr}
+use Rattle.c_syntax.specs.declared.code.Cond.TheViews as views
+use Rattle.c_syntax.specs.declared.program.Pure.{Pure}
+use Rattle.c_syntax.specs.Plain.{expr_tree, cond_tree, stmt_tree, procedure_tree, param_trees}
+use Rattle.c_syntax.specs.Tree.{exprs_of_list, pure, branch, stmts_of_list, ProcedureTree, ProgramTree}
+use Rattle.c_syntax.specs.Limits.{expr_depth, exprs_depth, stmt_depth, stmts_depth}
+use Rattle.c_syntax.proofs.lemmas.PlainLaws.{expr_tree-Pure, stmt_tree-If}
 
 abbrev pub depth_of : Expr → ℕ
 depth_of e = expr_depth (expr_tree e)

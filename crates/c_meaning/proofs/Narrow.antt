@@ -1,15 +1,15 @@
 -- Calls with few arguments.
 use Rattle.std.proofs.Common.{◌≡◌, ℕ, zero, suc, ◌<◌, List, [], ◌∷◌, length, arith, take, drop, map, refl, ap, sym, ◌∙◌, get_or, subst, ℤ, Vec}
 use Rattle.std.specs.declared.alloc.Global.{Global}
-use Rattle.c_tree.specs.declared.code.Cond.TheViews as views
-use Rattle.c_tree.specs.declared.code.Leaf.{Leaf}
-use Rattle.c_tree.proofs.PlainLaws.{expr_tree-Pure}
-use Rattle.c_tree.specs.Values.{Answer, Function, eval}
-use Rattle.c_tree.specs.declared.code.Expr.{Expr}
-use Rattle.c_tree.specs.declared.program.Pure.{Pure}
-use Rattle.c_tree.specs.Tree.{pure, exprs_of_list}
-use Rattle.c_tree.specs.Lawful.{exprs_length}
-use Rattle.c_tree.specs.Plain.{expr_tree, pure_tree}
+use Rattle.c_syntax.specs.declared.code.Cond.TheViews as views
+use Rattle.c_syntax.specs.declared.code.Leaf.{Leaf}
+use Rattle.c_syntax.proofs.lemmas.PlainLaws.{expr_tree-Pure}
+use Rattle.c_machine.specs.Values.{Answer, Function, eval}
+use Rattle.c_syntax.specs.declared.code.Expr.{Expr}
+use Rattle.c_syntax.specs.declared.program.Pure.{Pure}
+use Rattle.c_syntax.specs.Tree.{pure, exprs_of_list}
+use Rattle.c_syntax.specs.Lawful.{exprs_length}
+use Rattle.c_syntax.specs.Plain.{expr_tree, pure_tree}
 use Rattle.c_meaning.specs.Reads.{IsNarrowExpr, AreNarrowExprs, AreNarrow}
 
 pub exprs_length-list : (es : List Expr) → exprs_length (exprs_of_list (map expr_tree es)) ≡ length es

@@ -5,13 +5,13 @@ use Rattle.std.specs.List.{AllByRecursion}
 use Rattle.std.proofs.lemmas.List.{get_or_append_left}
 use Rattle.std.proofs.lemmas.Option.{slice_get-map}
 use Rattle.std.proofs.Math.Seq.{get_or-append_seam}
-use Rattle.c_tree.specs.declared.code.CType.{CType}
-use Rattle.c_tree.specs.declared.program.Field.{Field}
-use Rattle.c_tree.specs.declared.program.FieldKind.{FieldKind}
-use Rattle.c_tree.specs.declared.program.FieldKind.TheVariants as kind
-use Rattle.c_tree.specs.Lawful.{IsLawfulKind, AreStructs}
-use Rattle.c_tree.specs.PlainField.{field_tree, field_trees}
-use Rattle.c_tree.specs.Tree.{FieldTree, StructTree, struct_fields, no_struct}
+use Rattle.c_syntax.specs.declared.code.CType.{CType}
+use Rattle.c_syntax.specs.declared.program.Field.{Field}
+use Rattle.c_syntax.specs.declared.program.FieldKind.{FieldKind}
+use Rattle.c_syntax.specs.declared.program.FieldKind.TheVariants as kind
+use Rattle.c_syntax.specs.Lawful.{IsLawfulKind, AreStructs}
+use Rattle.c_syntax.specs.PlainField.{field_tree, field_trees}
+use Rattle.c_syntax.specs.Tree.{FieldTree, StructTree, struct_fields, no_struct}
 use Rattle.c_meaning.specs.Instances.{StructInstance, whole_instance, instance_under, kind_instances, field_instances, struct_instances}
 use Rattle.c_meaning.specs.Numbering.{kind_count, fields_count, counts_of, AreNumbered, struct_count, kind_before}
 use Rattle.c_meaning.proofs.LaidOut.{take_one, map-one, past_end}

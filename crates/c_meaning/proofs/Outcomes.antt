@@ -1,19 +1,18 @@
 -- Steps of a run.
-use Rattle.std.proofs.Common.{Bool, ◌≡◌, refl, sym, ◌∙◌, ap, slice_index_or, ℕ, zero, suc, ◌+◌, ◌<◌, ◌≤◌, ℤ, true, false, nat_lt, if◌then◌else◌, List, [], ◌∷◌, ◌++◌, length, arith, take, drop, map, slice_get, Some, get_or, add-zero, zero-add, length-append, subst}
+use Rattle.std.proofs.Common.{Bool, ◌≡◌, refl, sym, ◌∙◌, ap, slice_index_or, ℕ, zero, suc, ◌+◌, ◌<◌, ◌≤◌, ℤ, true, false, nat_lt, if◌then◌else◌, List, [], ◌∷◌, ◌++◌, length, arith, take, drop, map, slice_get, Some, get_or, add-zero, zero-add, length-append, subst, Result, Ok, Err}
 use native.Mathlib.Numerals.{unary_clauses}
-use Rattle.c_tree.specs.declared.code.CType.{CType}
-use Rattle.c_tree.specs.declared.code.Stmt.{Stmt}
-use Rattle.c_tree.specs.declared.code.Target.{Target}
-use Rattle.c_tree.specs.declared.fault.Stuck.{Stuck}
-use Rattle.c_tree.specs.declared.fault.Why.TheVariants.{Range, Steps}
-use Rattle.c_tree.specs.Plain.{stmt_tree}
-use Rattle.c_tree.specs.Tree.{ExprTree, ExprTrees, CondTree, assign, branch, call, StmtTrees, stmts_of_list, StructTree, type_at, ProcedureTree, ProgramTree}
-use Rattle.c_tree.specs.Cells.{number, object, no_cells, Cells, set_cell, fields_at}
-use Rattle.c_tree.specs.Values.{gives, sticks, stuck_at, step_limit, take_step, is_in_type, Function, functions_of, eval, eval_cond, reads}
-use Rattle.c_tree.specs.Machine.{LoggedCall, StoredField, Outcome, done, stuck, behind, then_run, on_answer, begin_step, in_child, call_under, on_target, Routine, routine_at, Scope, arguments, store, run_stmt, run_stmts, is_interface, call_entry, routine_of, routines_of}
-use Rattle.c_tree.proofs.Runs.{routines_of-at}
-use Rattle.std.proofs.Common.{Result, Ok, Err}
-use Rattle.c_tree.specs.declared.fault.Cost.{Cost}
+use Rattle.c_syntax.specs.declared.code.CType.{CType}
+use Rattle.c_syntax.specs.declared.code.Stmt.{Stmt}
+use Rattle.c_syntax.specs.declared.code.Target.{Target}
+use Rattle.c_syntax.specs.declared.fault.Stuck.{Stuck}
+use Rattle.c_syntax.specs.declared.fault.Why.TheVariants.{Range, Steps}
+use Rattle.c_syntax.specs.Plain.{stmt_tree}
+use Rattle.c_syntax.specs.Tree.{ExprTree, ExprTrees, CondTree, assign, branch, call, StmtTrees, stmts_of_list, StructTree, type_at, ProcedureTree, ProgramTree}
+use Rattle.c_machine.specs.Cells.{number, object, no_cells, Cells, set_cell, fields_at}
+use Rattle.c_machine.specs.Values.{gives, sticks, stuck_at, step_limit, take_step, is_in_type, Function, functions_of, eval, eval_cond, reads}
+use Rattle.c_machine.specs.Machine.{LoggedCall, StoredField, Outcome, done, stuck, behind, then_run, on_answer, begin_step, in_child, call_under, on_target, Routine, routine_at, Scope, arguments, store, run_stmt, run_stmts, is_interface, call_entry, routine_of, routines_of}
+use Rattle.c_machine.proofs.lemmas.Runs.{routines_of-at}
+use Rattle.c_syntax.specs.declared.fault.Cost.{Cost}
 use Rattle.c_meaning.specs.States.{filled}
 use Rattle.c_meaning.specs.Seen.{Seen, ran, halted, seen, ended}
 use Rattle.c_meaning.specs.Sound.{scope_at}

@@ -1,13 +1,13 @@
 -- Instances at paths: their numbers, and runs in them.
 use Rattle.std.proofs.Common.{◌≡◌, refl, sym, ◌∙◌, ap, ℕ, zero, suc, ◌+◌, ◌-◌, ◌≤◌, ℤ, List, [], ◌∷◌, ◌++◌, length, arith, take, drop, slice_get, slice_index_or, Some, Result, Ok, Err, append_assoc, length-append}
 use Rattle.std.proofs.lemmas.List.{take-append-drop}
-use Rattle.c_tree.specs.declared.fault.Cost.{Cost}
-use Rattle.c_tree.specs.declared.fault.Stuck.{Stuck}
-use Rattle.c_tree.specs.declared.program.FieldKind.{FieldKind}
-use Rattle.c_tree.specs.declared.program.FieldKind.TheVariants as kind
-use Rattle.c_tree.specs.Tree.{FieldTree, StructTree, struct_fields, ProgramTree}
-use Rattle.c_tree.specs.Cells.{Cells, object, no_cells, set_cell, fields_at}
-use Rattle.c_tree.specs.Machine.{Outcome, in_child, at_path, routine_at, program_routines, call_from_outside}
+use Rattle.c_syntax.specs.declared.fault.Cost.{Cost}
+use Rattle.c_syntax.specs.declared.fault.Stuck.{Stuck}
+use Rattle.c_syntax.specs.declared.program.FieldKind.{FieldKind}
+use Rattle.c_syntax.specs.declared.program.FieldKind.TheVariants as kind
+use Rattle.c_syntax.specs.Tree.{FieldTree, StructTree, struct_fields, ProgramTree}
+use Rattle.c_machine.specs.Cells.{Cells, object, no_cells, set_cell, fields_at}
+use Rattle.c_machine.specs.Machine.{Outcome, in_child, at_path, routine_at, program_routines, call_from_outside}
 use Rattle.c_meaning.specs.declared.slots.Slot.TheVariants.{Instance}
 use Rattle.c_meaning.specs.Instances.{cells_under}
 use Rattle.c_meaning.specs.Layouts.{slot_of, slots_from, kind_size, AreLaidOut}

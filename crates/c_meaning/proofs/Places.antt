@@ -2,12 +2,12 @@
 use Rattle.std.proofs.Common.{◌≡◌, refl, sym, ◌∙◌, ap, ℕ, zero, suc, ◌+◌, ◌-◌, ◌<◌, ◌≤◌, ℤ, pos, Bool, List, [], ◌∷◌, ◌++◌, length, arith, take, drop, slice_get, slice_index_or, Option, Some, None, append_assoc, length-append, subst, zero-add, add-zero}
 use Rattle.std.proofs.Math.ListN.{set}
 use native.Mathlib.Numerals.{unary_clauses}
-use Rattle.c_tree.specs.declared.code.CType.{CType}
-use Rattle.c_tree.specs.declared.program.FieldKind.{FieldKind}
-use Rattle.c_tree.specs.declared.program.FieldKind.TheVariants as kind
-use Rattle.c_tree.specs.Tree.{ProgramTree, FieldTree, StructTree, struct_fields, field_types, type_at, kind_type}
-use Rattle.c_tree.specs.Cells.{Cell, number, object, Cells, no_cells, more_cells, cell_value, cell_fields, set_cell, value_at, fields_at, zero_cell, zero_cells}
-use Rattle.c_tree.specs.Values.{int_at}
+use Rattle.c_syntax.specs.declared.code.CType.{CType}
+use Rattle.c_syntax.specs.declared.program.FieldKind.{FieldKind}
+use Rattle.c_syntax.specs.declared.program.FieldKind.TheVariants as kind
+use Rattle.c_syntax.specs.Tree.{ProgramTree, FieldTree, StructTree, struct_fields, field_types, type_at, kind_type}
+use Rattle.c_machine.specs.Cells.{Cell, number, object, Cells, no_cells, more_cells, cell_value, cell_fields, set_cell, value_at, fields_at, zero_cell, zero_cells}
+use Rattle.c_machine.specs.Values.{int_at}
 use Rattle.c_meaning.specs.States.{numbers_in, numbers_of, with_first, filled_cell, filled}
 use Rattle.c_meaning.specs.declared.slots.Slot.{Slot}
 use Rattle.c_meaning.specs.declared.slots.Slot.TheVariants.{Number, Instance}

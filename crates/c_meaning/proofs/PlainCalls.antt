@@ -1,11 +1,11 @@
 -- Calls of procedures without further parameters.
 use Rattle.std.proofs.Common.{◌≡◌, refl, sym, ◌∙◌, ap, ℕ, zero, suc, ◌<◌, ℤ, List, [], ◌∷◌, length, arith, map, slice_get, Some, get_or, true, subst}
 use Rattle.std.specs.List.{AllZip}
-use Rattle.c_tree.specs.declared.program.Procedure.{Procedure}
-use Rattle.c_tree.specs.Plain.{procedure_tree, program_tree}
-use Rattle.c_tree.specs.Rows.{root_struct}
-use Rattle.c_tree.specs.Tree.{ParamTree, ProcedureTree}
-use Rattle.c_tree.specs.Values.{is_in_type}
+use Rattle.c_syntax.specs.declared.program.Procedure.{Procedure}
+use Rattle.c_syntax.specs.Plain.{procedure_tree, program_tree}
+use Rattle.c_syntax.specs.RootFields.{root_struct}
+use Rattle.c_syntax.specs.Tree.{ParamTree, ProcedureTree}
+use Rattle.c_machine.specs.Values.{is_in_type}
 use Rattle.c_meaning.specs.declared.instances.Numbering.{Numbering}
 use Rattle.c_meaning.specs.Machines.{IsCallable}
 use Rattle.c_meaning.specs.Numbering.{instances_in, IsNumbering, IsPlace}

@@ -4,26 +4,27 @@ use native.Mathlib.Numerals.{unary_clauses}
 use Rattle.std.specs.List.{position_from}
 use Rattle.std.proofs.lemmas.Slice.Eq.{bytes_eq-Decides}
 use Rattle.std.proofs.Math.ListN.{set}
-use Rattle.c_tree.specs.declared.fault.Cost.{Cost}
-use Rattle.c_tree.specs.declared.fault.Stuck.{Stuck}
-use Rattle.c_tree.specs.declared.program.Field.{Field}
-use Rattle.c_tree.specs.declared.program.Procedure.{Procedure}
-use Rattle.c_tree.specs.declared.program.Program.{Program}
-use Rattle.c_tree.specs.Outputs.{has_name, numbers_from, output_name, output_count}
-use Rattle.c_tree.specs.Tree.{FieldTree, struct_fields, ProgramTree}
-use Rattle.c_tree.specs.Plain.{procedure_tree, program_tree}
-use Rattle.c_tree.specs.PlainField.{field_tree, field_trees}
-use Rattle.c_tree.specs.Rows.{step_run, start_run, zero_root, root_struct, root_fields, procedure_named, field_position, output_fields, number_names}
-use Rattle.c_tree.specs.Lawful.{AreDistinct, IsLawful, pure_names, procedure_names}
-use Rattle.c_tree.specs.Cells.{Cells, value_at}
-use Rattle.c_tree.specs.Machine.{Outcome, done, stuck, After, is_interface, call_from_outside}
-use Rattle.c_tree.proofs.NameFacts.{has_name-there, AreDistinct-back}
+use Rattle.c_syntax.specs.declared.fault.Cost.{Cost}
+use Rattle.c_syntax.specs.declared.fault.Stuck.{Stuck}
+use Rattle.c_syntax.specs.declared.program.Field.{Field}
+use Rattle.c_syntax.specs.declared.program.Procedure.{Procedure}
+use Rattle.c_syntax.specs.declared.program.Program.{Program}
+use Rattle.c_syntax.specs.Outputs.{has_name, numbers_from, output_name, output_count}
+use Rattle.c_syntax.specs.Tree.{FieldTree, struct_fields, ProgramTree}
+use Rattle.c_syntax.specs.Plain.{procedure_tree, program_tree}
+use Rattle.c_syntax.specs.PlainField.{field_tree, field_trees}
+use Rattle.c_machine.specs.Rows.{step_run, start_run, zero_root}
+use Rattle.c_syntax.specs.RootFields.{root_struct, root_fields, procedure_named, field_position, output_fields, number_names}
+use Rattle.c_syntax.specs.Lawful.{AreDistinct, IsLawful, pure_names, procedure_names}
+use Rattle.c_machine.specs.Cells.{Cells, value_at}
+use Rattle.c_machine.specs.Machine.{Outcome, done, stuck, After, is_interface, call_from_outside}
+use Rattle.c_syntax.proofs.lemmas.NameFacts.{has_name-there, AreDistinct-back}
 use Rattle.c_meaning.specs.Seen.{ran, halted, seen}
 use Rattle.c_meaning.specs.Slots.{StructLayout, layout_at, number_in}
 use Rattle.c_meaning.specs.Layouts.{layouts_of}
 use Rattle.c_meaning.specs.States.{filled}
 use Rattle.c_meaning.specs.declared.slots.Slot.{Slot}
-use Rattle.c_reader.specs.Checked.{CheckedProgram}
+use Rattle.c_checked.specs.Checked.{CheckedProgram}
 use Rattle.c_meaning.specs.declared.machine.NewFault.{NewFault}
 use Rattle.c_meaning.specs.declared.roots.Tables.{Tables}
 use Rattle.c_meaning.specs.Machines.{IsTick, IsStarted, IsStartFault}

@@ -4,12 +4,12 @@ use Rattle.std.specs.Prelude.{option_map, option_and_then}
 use Rattle.std.specs.List.{position_from}
 use Rattle.std.proofs.lemmas.Iterator.Adapters.{option_map_id}
 use Rattle.std.proofs.lemmas.Option.{slice_get_past}
-use Rattle.c_tree.specs.declared.program.Field.{Field}
-use Rattle.c_tree.specs.declared.program.FieldKind.{FieldKind}
-use Rattle.c_tree.specs.declared.program.FieldKind.TheVariants as kind
-use Rattle.c_tree.specs.Cells.{Cells}
-use Rattle.c_tree.specs.PlainField.{field_tree, field_trees}
-use Rattle.c_tree.specs.Tree.{FieldTree, struct_fields, ProgramTree}
+use Rattle.c_syntax.specs.declared.program.Field.{Field}
+use Rattle.c_syntax.specs.declared.program.FieldKind.{FieldKind}
+use Rattle.c_syntax.specs.declared.program.FieldKind.TheVariants as kind
+use Rattle.c_machine.specs.Cells.{Cells}
+use Rattle.c_syntax.specs.PlainField.{field_tree, field_trees}
+use Rattle.c_syntax.specs.Tree.{FieldTree, struct_fields, ProgramTree}
 use Rattle.c_meaning.specs.declared.slots.Slot.TheVariants.{Instance}
 use Rattle.c_meaning.specs.Instances.{StructInstance, instance_under, field_named, field_child, child_named, field_number, number_named, cells_under}
 use Rattle.c_meaning.specs.Layouts.{slot_of, slots_from, kind_size, AreLaidOut}

@@ -1,10 +1,10 @@
 -- Instances all of whose numbers are 0.
 use Rattle.std.proofs.Common.{◌≡◌, refl, sym, ◌∙◌, ap, ℕ, zero, suc, ℤ, pos, List, [], ◌∷◌, ◌++◌, length, take, drop, replicate, slice_index_or}
 use Rattle.std.specs.List.{AllByRecursion}
-use Rattle.c_tree.specs.declared.program.FieldKind.{FieldKind}
-use Rattle.c_tree.specs.declared.program.FieldKind.TheVariants as kind
-use Rattle.c_tree.specs.Tree.{FieldTree, StructTree}
-use Rattle.c_tree.specs.Cells.{Cell, number, object, Cells, no_cells, more_cells, zero_cell, zero_cells, zero_instances}
+use Rattle.c_syntax.specs.declared.program.FieldKind.{FieldKind}
+use Rattle.c_syntax.specs.declared.program.FieldKind.TheVariants as kind
+use Rattle.c_syntax.specs.Tree.{FieldTree, StructTree}
+use Rattle.c_machine.specs.Cells.{Cell, number, object, Cells, no_cells, more_cells, zero_cell, zero_cells, zero_instances}
 use Rattle.c_meaning.specs.States.{numbers_in, filled_cell, filled}
 
 abbrev mutual

@@ -1,7 +1,7 @@
 -- What the code's evaluations give.
 use Rattle.std.specs.Prelude.{ℕ, ◌≤◌, ◌^◌, max, Bool, true, false, Result, Ok, Err}
-use Rattle.c_tree.specs.declared.fault.Stuck.{Stuck}
-use Rattle.c_tree.specs.Values.{Answer, gives, sticks}
+use Rattle.c_syntax.specs.declared.fault.Stuck.{Stuck}
+use Rattle.c_machine.specs.Values.{Answer, gives, sticks}
 use Rattle.c_meaning.specs.declared.halts.Verdict.{Verdict}
 use Rattle.c_meaning.specs.declared.halts.Verdict.TheVariants.{Holds, Fails, Halts}
 

@@ -1,8 +1,8 @@
 -- Where the machine is stuck, as one number.
 use Rattle.std.specs.Prelude.{ℕ, zero, suc, ◌/◌, ◌%◌}
-use Rattle.c_tree.specs.declared.fault.Stuck.{Stuck}
-use Rattle.c_tree.specs.declared.fault.Why.{Why}
-use Rattle.c_tree.specs.declared.fault.Why.TheVariants.{Overflow, ZeroDivisor, Range, Steps}
+use Rattle.c_syntax.specs.declared.fault.Stuck.{Stuck}
+use Rattle.c_syntax.specs.declared.fault.Why.{Why}
+use Rattle.c_syntax.specs.declared.fault.Why.TheVariants.{Overflow, ZeroDivisor, Range, Steps}
 
 -- the cause with a number
 abbrev pub why_of : ℕ → Why

@@ -1,9 +1,9 @@
 -- The instances of three structs: the root holds a middle one, a number and a leaf, and the middle one a number and two leaves.
 use Rattle.std.specs.Prelude.{◌≡◌, refl, ℤ, pos, [], ◌∷◌, Some, None, codes}
-use Rattle.c_tree.specs.declared.code.CType.TheVariants.{I8, I32}
-use Rattle.c_tree.specs.declared.program.FieldKind.TheVariants.{Number, Struct}
-use Rattle.c_tree.specs.Cells.{Cells, number, object, no_cells, more_cells}
-use Rattle.c_tree.specs.Tree.{StructTree, ProgramTree}
+use Rattle.c_syntax.specs.declared.code.CType.TheVariants.{I8, I32}
+use Rattle.c_syntax.specs.declared.program.FieldKind.TheVariants.{Number, Struct}
+use Rattle.c_machine.specs.Cells.{Cells, number, object, no_cells, more_cells}
+use Rattle.c_syntax.specs.Tree.{StructTree, ProgramTree}
 use Rattle.c_meaning.specs.Instances.{instances, child_named, number_named}
 
 abbrev pub leaf : StructTree

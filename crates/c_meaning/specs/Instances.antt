@@ -1,11 +1,11 @@
 -- The instances of a program's structs, numbered from the root's, which is 0: each before those inside it, in the order of its fields.
 use Rattle.std.specs.Prelude.{ℕ, ◌+◌, ℤ, List, [], ◌∷◌, ◌++◌, length, map, Option, Some, None, option_and_then, slice_get, slice_index_or, bytes_eq}
 use Rattle.std.specs.List.{position_from}
-use Rattle.c_tree.specs.declared.program.FieldKind.{FieldKind}
-use Rattle.c_tree.specs.declared.program.FieldKind.TheVariants.{Number, Struct}
-use Rattle.c_tree.specs.Tree.{FieldTree, StructTree, struct_fields, ProgramTree}
-use Rattle.c_tree.specs.Cells.{Cells, value_at, fields_at}
-use Rattle.c_tree.specs.Rows.{root_struct}
+use Rattle.c_syntax.specs.declared.program.FieldKind.{FieldKind}
+use Rattle.c_syntax.specs.declared.program.FieldKind.TheVariants.{Number, Struct}
+use Rattle.c_syntax.specs.Tree.{FieldTree, StructTree, struct_fields, ProgramTree}
+use Rattle.c_machine.specs.Cells.{Cells, value_at, fields_at}
+use Rattle.c_syntax.specs.RootFields.{root_struct}
 
 -- an instance: the positions of the fields that lead to it, and its struct
 pub record StructInstance : Type 0 where

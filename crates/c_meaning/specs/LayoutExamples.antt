@@ -1,9 +1,9 @@
 -- The layouts of two structs, the second of which holds the first between two numbers.
 use Rattle.std.specs.Prelude.{◌≡◌, refl, ℤ, pos, List, [], ◌∷◌, Some, codes}
-use Rattle.c_tree.specs.declared.code.CType.TheVariants.{I8, I32}
-use Rattle.c_tree.specs.declared.program.FieldKind.TheVariants as kind
-use Rattle.c_tree.specs.Tree.{StructTree}
-use Rattle.c_tree.specs.Cells.{Cells, number, object, no_cells, more_cells}
+use Rattle.c_syntax.specs.declared.code.CType.TheVariants.{I8, I32}
+use Rattle.c_syntax.specs.declared.program.FieldKind.TheVariants as kind
+use Rattle.c_syntax.specs.Tree.{StructTree}
+use Rattle.c_machine.specs.Cells.{Cells, number, object, no_cells, more_cells}
 use Rattle.c_meaning.specs.declared.slots.Slot.TheVariants.{Number, Instance}
 use Rattle.c_meaning.specs.Layouts.{layouts_of}
 use Rattle.c_meaning.specs.Slots.{StructLayout, number_in, number_under}

@@ -1,10 +1,10 @@
 -- The places of the fields of each struct.
 use Rattle.std.specs.Prelude.{◌≡◌, ℕ, ◌+◌, List, [], ◌∷◌, ◌++◌, length, slice_index_or}
-use Rattle.c_tree.specs.Cells.{Cells, no_cells, zero_cells}
+use Rattle.c_machine.specs.Cells.{Cells, no_cells, zero_cells}
 use Rattle.c_meaning.specs.States.{numbers_of}
-use Rattle.c_tree.specs.declared.program.FieldKind.{FieldKind}
-use Rattle.c_tree.specs.declared.program.FieldKind.TheVariants as kind
-use Rattle.c_tree.specs.Tree.{FieldTree, StructTree, struct_fields}
+use Rattle.c_syntax.specs.declared.program.FieldKind.{FieldKind}
+use Rattle.c_syntax.specs.declared.program.FieldKind.TheVariants as kind
+use Rattle.c_syntax.specs.Tree.{FieldTree, StructTree, struct_fields}
 use Rattle.c_meaning.specs.declared.slots.Slot.{Slot}
 use Rattle.c_meaning.specs.declared.slots.Slot.TheVariants.{Number, Instance}
 use Rattle.c_meaning.specs.Slots.{StructLayout, layout_at}

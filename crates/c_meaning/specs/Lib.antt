@@ -12,3 +12,4 @@ pub mod Roots
 pub mod Instances
 pub mod Numbering
 pub mod InstanceExamples
+pub mod MachineExamples

@@ -2,15 +2,15 @@
 use Rattle.std.specs.Prelude.{◌≡◌, ℕ, List, ℤ, true, ⊤, Some, slice_get}
 use Rattle.std.specs.List.{AllZip}
 use Rattle.mc_fixed.specs.Conversion.{InType}
-use Rattle.c_tree.specs.declared.fault.Cost.{Cost}
-use Rattle.c_tree.specs.declared.fault.Stuck.{Stuck}
-use Rattle.c_tree.specs.Cells.{Cells}
-use Rattle.c_tree.specs.Machine.{After, done, stuck, cost_of, call_from_outside}
-use Rattle.c_tree.specs.Plain.{program_tree}
-use Rattle.c_tree.specs.Rows.{start_run, step_run, tick_row}
-use Rattle.c_tree.specs.Tree.{ParamTree, ProcedureTree}
-use Rattle.c_tree.specs.Values.{is_in_type}
-use Rattle.c_reader.specs.Checked.{CheckedProgram}
+use Rattle.c_syntax.specs.declared.fault.Cost.{Cost}
+use Rattle.c_syntax.specs.declared.fault.Stuck.{Stuck}
+use Rattle.c_machine.specs.Cells.{Cells}
+use Rattle.c_machine.specs.Machine.{After, done, stuck, cost_of, call_from_outside}
+use Rattle.c_syntax.specs.Plain.{program_tree}
+use Rattle.c_machine.specs.Rows.{start_run, step_run, tick_row}
+use Rattle.c_syntax.specs.Tree.{ParamTree, ProcedureTree}
+use Rattle.c_machine.specs.Values.{is_in_type}
+use Rattle.c_checked.specs.Checked.{CheckedProgram}
 use Rattle.c_meaning.specs.Instances.{StructInstance, instance_at}
 use Rattle.c_meaning.specs.States.{MachineState, tree_of, fields_of}
 use Rattle.c_meaning.specs.declared.machine.NewFault.{NewFault}

@@ -1,11 +1,11 @@
 -- How many instances stand in each struct's, and where the numbers of each stand.
 use Rattle.std.specs.Prelude.{◌≡◌, ℕ, suc, ◌+◌, ◌<◌, ◌^◌, ℤ, List, [], ◌∷◌, ◌++◌, length, take, option_map, option_and_then, Option, Some, None, slice_get, slice_index_or}
-use Rattle.c_tree.specs.declared.program.FieldKind.{FieldKind}
-use Rattle.c_tree.specs.declared.program.FieldKind.TheVariants as kind
-use Rattle.c_tree.specs.Tree.{FieldTree, StructTree, struct_fields, ProgramTree}
-use Rattle.c_tree.specs.Plain.{program_tree}
+use Rattle.c_syntax.specs.declared.program.FieldKind.{FieldKind}
+use Rattle.c_syntax.specs.declared.program.FieldKind.TheVariants as kind
+use Rattle.c_syntax.specs.Tree.{FieldTree, StructTree, struct_fields, ProgramTree}
+use Rattle.c_syntax.specs.Plain.{program_tree}
 use Rattle.c_meaning.specs.declared.instances.Numbering.{Numbering}
-use Rattle.c_tree.specs.Values.{int_at}
+use Rattle.c_machine.specs.Values.{int_at}
 use Rattle.c_meaning.specs.declared.slots.Slot.{Slot}
 use Rattle.c_meaning.specs.declared.slots.Slot.TheVariants.{Number, Instance}
 use Rattle.c_meaning.specs.Slots.{StructLayout, layout_at}

@@ -1,11 +1,11 @@
 -- What the leaves of an expression read, and which of them the machine can evaluate.
 use Rattle.std.specs.Prelude.{◌≤◌, ℤ, List, [], ◌∷◌, map, slice_get, ⊤}
-use Rattle.c_tree.specs.declared.code.Leaf.{Leaf}
-use Rattle.c_tree.specs.declared.code.Leaf.TheVariants.{Param, Own, Child}
-use Rattle.c_tree.specs.Tree.{ExprTree, literal, neg, read, binary, pick, pure, ExprTrees, no_exprs, more_exprs, CondTree, compare, both, either, negated, PureTree}
-use Rattle.c_tree.specs.Lawful.{exprs_length}
-use Rattle.c_tree.specs.Plain.{pure_tree}
-use Rattle.c_tree.specs.Values.{Function, functions_of, int_at}
+use Rattle.c_syntax.specs.declared.code.Leaf.{Leaf}
+use Rattle.c_syntax.specs.declared.code.Leaf.TheVariants.{Param, Own, Child}
+use Rattle.c_syntax.specs.Tree.{ExprTree, literal, neg, read, binary, pick, pure, ExprTrees, no_exprs, more_exprs, CondTree, compare, both, either, negated, PureTree}
+use Rattle.c_syntax.specs.Lawful.{exprs_length}
+use Rattle.c_syntax.specs.Plain.{pure_tree}
+use Rattle.c_machine.specs.Values.{Function, functions_of, int_at}
 use Rattle.c_meaning.specs.declared.values.View.{View}
 use Rattle.c_meaning.specs.Slots.{number_in, number_under}
 

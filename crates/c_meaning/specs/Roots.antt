@@ -1,12 +1,12 @@
 -- What a call from outside leaves, and what a machine keeps.
 use Rattle.std.specs.Prelude.{◌≡◌, ◌<◌, ◌^◌, ℕ, ℤ, Bool, List, length, Result, Ok, Err, unwrap_or, codes}
-use Rattle.c_tree.specs.declared.fault.Cost.{Cost}
-use Rattle.c_tree.specs.declared.fault.Stuck.{Stuck}
-use Rattle.c_tree.specs.Cells.{Cells}
-use Rattle.c_tree.specs.Plain.{program_tree}
-use Rattle.c_tree.specs.Tree.{ProgramTree}
-use Rattle.c_tree.specs.Rows.{root_struct, root_fields, output_fields, procedure_named}
-use Rattle.c_reader.specs.Checked.{CheckedProgram}
+use Rattle.c_syntax.specs.declared.fault.Cost.{Cost}
+use Rattle.c_syntax.specs.declared.fault.Stuck.{Stuck}
+use Rattle.c_machine.specs.Cells.{Cells}
+use Rattle.c_syntax.specs.Plain.{program_tree}
+use Rattle.c_syntax.specs.Tree.{ProgramTree}
+use Rattle.c_syntax.specs.RootFields.{root_struct, root_fields, output_fields, procedure_named}
+use Rattle.c_checked.specs.Checked.{CheckedProgram}
 use Rattle.c_meaning.specs.declared.roots.Tables.{Tables}
 use Rattle.c_meaning.specs.Numbering.{AreNumbered, instances_of}
 use Rattle.c_meaning.specs.Seen.{Seen, ran, halted}

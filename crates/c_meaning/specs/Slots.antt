@@ -1,6 +1,6 @@
 -- Where the numbers of an instance stand, in the order of its fields.
 use Rattle.std.specs.Prelude.{ℕ, ℤ, pos, List, [], drop, Option, Some, None, slice_get, slice_index_or}
-use Rattle.c_tree.specs.Values.{int_at}
+use Rattle.c_machine.specs.Values.{int_at}
 use Rattle.c_meaning.specs.declared.slots.Slot.{Slot}
 use Rattle.c_meaning.specs.declared.slots.Slot.TheVariants.{Number, Instance}
 

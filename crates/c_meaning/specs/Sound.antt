@@ -1,14 +1,14 @@
 -- What the machine needs of a program to run it, which each lawful program has.
 use Rattle.std.specs.Prelude.{◌≡◌, ℕ, ℤ, ◌<◌, ◌≤◌, Bool, List, [], length, map, take, Some, slice_get, slice_index_or, ⊤}
-use Rattle.c_tree.specs.declared.code.CType.{CType}
-use Rattle.c_tree.specs.declared.code.Target.{Target}
-use Rattle.c_tree.specs.declared.code.Target.TheVariants.{Own, Child}
-use Rattle.c_tree.specs.declared.program.FieldKind.TheVariants.{Number, Struct}
-use Rattle.c_tree.specs.Tree.{StmtTree, assign, branch, call, StmtTrees, no_stmts, more_stmts, FieldTree, struct_fields, field_types, ProcedureTree, ProgramTree}
-use Rattle.c_tree.specs.Cells.{Cells, no_cells, zero_instances}
-use Rattle.c_tree.specs.Lawful.{exprs_length}
-use Rattle.c_tree.specs.Machine.{Scope, routines_of, is_interface}
-use Rattle.c_tree.specs.Values.{functions_of}
+use Rattle.c_syntax.specs.declared.code.CType.{CType}
+use Rattle.c_syntax.specs.declared.code.Target.{Target}
+use Rattle.c_syntax.specs.declared.code.Target.TheVariants.{Own, Child}
+use Rattle.c_syntax.specs.declared.program.FieldKind.TheVariants.{Number, Struct}
+use Rattle.c_syntax.specs.Tree.{StmtTree, assign, branch, call, StmtTrees, no_stmts, more_stmts, FieldTree, struct_fields, field_types, ProcedureTree, ProgramTree}
+use Rattle.c_machine.specs.Cells.{Cells, no_cells, zero_instances}
+use Rattle.c_syntax.specs.Lawful.{exprs_length}
+use Rattle.c_machine.specs.Machine.{Scope, routines_of, is_interface}
+use Rattle.c_machine.specs.Values.{functions_of}
 use Rattle.c_meaning.specs.Reads.{IsNarrowExpr, AreNarrowExprs, IsNarrowCond, AreNarrow}
 use Rattle.c_meaning.specs.Slots.{StructLayout}
 use Rattle.c_meaning.specs.Layouts.{AreLaidOut}

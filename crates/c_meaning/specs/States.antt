@@ -1,10 +1,10 @@
 -- A machine: its program, and the numbers of all its fields, in the order in which they stand.
 use Rattle.std.specs.Prelude.{List, [], ◌∷◌, ◌++◌, ℤ, take, drop, length}
-use Rattle.c_tree.specs.Cells.{Cell, number, object, Cells, no_cells, more_cells}
-use Rattle.c_tree.specs.Plain.{program_tree}
-use Rattle.c_tree.specs.Rows.{zero_root}
-use Rattle.c_tree.specs.Tree.{ProgramTree}
-use Rattle.c_reader.specs.Checked.{CheckedProgram}
+use Rattle.c_machine.specs.Cells.{Cell, number, object, Cells, no_cells, more_cells}
+use Rattle.c_syntax.specs.Plain.{program_tree}
+use Rattle.c_machine.specs.Rows.{zero_root}
+use Rattle.c_syntax.specs.Tree.{ProgramTree}
+use Rattle.c_checked.specs.Checked.{CheckedProgram}
 
 abbrev mutual
   -- the numbers of a field, and of the fields inside it

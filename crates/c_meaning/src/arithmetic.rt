@@ -1,10 +1,10 @@
 // Numbers of int64_t, where each result is a number of the type or the machine is stuck.
 ghost use Rattle.std.specs.Prelude.{◌≡◌, ◌+◌, IfOk, ◌≤ℤ◌, ◌↔◌, ℕ, pos, neg_ℤ, IsTrue, true};
-ghost use Rattle.c_tree.specs.Values.{stuck_at, within, operate, compares, is_in_type, take_step, gives, least_of, greatest_of};
+ghost use Rattle.c_machine.specs.Values.{stuck_at, within, operate, compares, is_in_type, take_step, gives, least_of, greatest_of};
 ghost use Rattle.c_meaning.specs.Answers.{answered, IsLater};
 
 use crate::halts::Halt;
-use c_tree::{BinOp, CType, Why};
+use c_syntax::{BinOp, CType, Why};
 use mc_base::Compare;
 
 /// The most steps of one call from outside.

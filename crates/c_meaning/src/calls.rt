@@ -1,7 +1,7 @@
 // Calls from outside of the procedures of an instance.
 ghost use Rattle.std.specs.Prelude.{◌≡◌, ◌<◌, length, slice_get, Some};
-ghost use Rattle.c_tree.specs.Machine.{call_from_outside};
-ghost use Rattle.c_tree.specs.Plain.{program_tree};
+ghost use Rattle.c_machine.specs.Machine.{call_from_outside};
+ghost use Rattle.c_syntax.specs.Plain.{program_tree};
 ghost use Rattle.c_meaning.specs.Instances.{StructInstance};
 ghost use Rattle.c_meaning.specs.Numbering.{instances_in, IsPlace, IsNumbering, HasInstance};
 ghost use Rattle.c_meaning.specs.Roots.{root_ended};
@@ -12,7 +12,7 @@ ghost use Rattle.c_meaning.specs.States.{filled};
 
 use crate::instances::{Numbering, Place, place_of};
 use crate::roots::{run_root, size_at};
-use c_tree::{Cost, Stuck};
+use c_syntax::{Cost, Stuck};
 
 // The place of an instance that is there.
 fn place_there(numbering: &Numbering, instance: u32) -> Place

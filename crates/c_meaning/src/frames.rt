@@ -1,10 +1,10 @@
 // What the body of a procedure sees, and its expressions.
 ghost use Rattle.std.specs.Prelude.{◌≡◌, ◌≤◌, [], length, map};
-ghost use Rattle.c_tree.specs.Cells.{no_cells};
-ghost use Rattle.c_tree.specs.Plain.{expr_tree, cond_tree, pure_tree, program_tree};
-ghost use Rattle.c_tree.specs.Tree.{exprs_of_list};
-ghost use Rattle.c_tree.specs.Machine.{arguments};
-ghost use Rattle.c_tree.specs.Values.{eval, eval_cond, functions_of, reads, and_then, within};
+ghost use Rattle.c_machine.specs.Cells.{no_cells};
+ghost use Rattle.c_syntax.specs.Plain.{expr_tree, cond_tree, pure_tree, program_tree};
+ghost use Rattle.c_syntax.specs.Tree.{exprs_of_list};
+ghost use Rattle.c_machine.specs.Machine.{arguments};
+ghost use Rattle.c_machine.specs.Values.{eval, eval_cond, functions_of, reads, and_then, within};
 ghost use Rattle.c_meaning.specs.Answers.{answered, judged, put_answer, IsLater};
 ghost use Rattle.c_meaning.specs.Reads.{view_reads, view_functions, IsNarrowExpr, AreNarrowExprs, IsNarrowCond, AreNarrow};
 ghost use Rattle.c_meaning.specs.States.{filled};
@@ -14,7 +14,7 @@ use crate::arithmetic::is_in_type;
 use crate::halts::{Halt, Verdict};
 use crate::slots::{Layout, slots_at};
 use crate::values::{View, eval_any, eval_cond, read};
-use c_tree::{CType, Cond, Expr, Leaf, Program, Why};
+use c_syntax::{CType, Cond, Expr, Leaf, Program, Why};
 use mc_base::Text;
 
 /// A body: its program with the machine's tables, the procedure's position, its struct, and its arguments.

@@ -1,9 +1,9 @@
 ghost use Rattle.std.specs.Prelude.{◌≡◌, ◌<◌, ℕ};
-ghost use Rattle.c_tree.specs.Values.{gives, stuck_at};
+ghost use Rattle.c_machine.specs.Values.{gives, stuck_at};
 ghost use Rattle.c_meaning.specs.Answers.{judged};
 ghost use Rattle.c_meaning.specs.Halts.{why_of};
 
-use c_tree::{Stuck, Why};
+use c_syntax::{Stuck, Why};
 use std::marker::Model;
 
 /// A place where the machine is stuck, in one word, so that a result with it is passed in registers. It is seen as the place.
@@ -14,7 +14,7 @@ pub(crate) struct Halt {
 
 impl Model for Halt {
     ghost use Rattle.std.specs.Prelude.{◌<◌, ◌^◌};
-    ghost use Rattle.c_tree.specs.declared.fault.Stuck.{Stuck};
+    ghost use Rattle.c_syntax.specs.declared.fault.Stuck.{Stuck};
     ghost use Rattle.c_meaning.specs.Halts.{stuck_of};
 
     ghost Value = { Stuck };

@@ -1,8 +1,8 @@
 // The instances of a program's structs by their numbers.
 ghost use Rattle.std.specs.Prelude.{◌≡◌, ◌+◌, ◌<◌, ◌≤◌, ◌^◌, IfOk, IfSome, IfNone, length, slice_get, slice_index_or, suc, [], option_and_then};
-ghost use Rattle.c_tree.specs.Plain.{program_tree};
-ghost use Rattle.c_tree.specs.PlainField.{field_trees};
-ghost use Rattle.c_tree.specs.Tree.{struct_fields};
+ghost use Rattle.c_syntax.specs.Plain.{program_tree};
+ghost use Rattle.c_syntax.specs.PlainField.{field_trees};
+ghost use Rattle.c_syntax.specs.Tree.{struct_fields};
 ghost use Rattle.c_meaning.specs.Instances.{child_named, number_named};
 ghost use Rattle.c_meaning.specs.Numbering.{kind_count, fields_count, counts_of, instances_in, struct_count, slot_number, IsHeld, IsStep, IsPlace, IsNumbering};
 ghost use Rattle.c_meaning.specs.Sound.{zero_at};
@@ -11,7 +11,7 @@ ghost use Rattle.c_meaning.specs.States.{filled};
 use crate::names::field_named;
 use crate::roots::fields_of;
 use crate::slots::{Layout, Slot, number_in, numbers_from, slot_in, slots_at};
-use c_tree::{Field, FieldKind, Program, StructDef};
+use c_syntax::{Field, FieldKind, Program, StructDef};
 use std::alloc::{AllocError, Global};
 
 /// How many instances an instance of the struct at a position is, with those inside it.

@@ -1,10 +1,10 @@
 // The places of the fields of each struct of a program.
 ghost use Rattle.std.specs.Prelude.{◌≡◌, [], IfOk};
-ghost use Rattle.c_tree.specs.PlainField.{field_trees};
+ghost use Rattle.c_syntax.specs.PlainField.{field_trees};
 ghost use Rattle.c_meaning.specs.Layouts.{kind_size, slot_of, layout_of, layouts_of};
 
 use crate::slots::{Layout, Slot};
-use c_tree::{Field, FieldKind, StructDef};
+use c_syntax::{Field, FieldKind, StructDef};
 use std::alloc::{AllocError, Global};
 
 fn kind_size(earlier: &[Layout], kind: FieldKind) -> usize

@@ -1,6 +1,6 @@
 ghost use Rattle.std.specs.Prelude.{◌≡◌, ◌<◌, length, IfOk, IfErr, IfSome, option_and_then};
-ghost use Rattle.c_tree.specs.Plain.{program_tree};
-ghost use Rattle.c_tree.specs.Rows.{root_struct};
+ghost use Rattle.c_syntax.specs.Plain.{program_tree};
+ghost use Rattle.c_syntax.specs.RootFields.{root_struct};
 ghost use Rattle.c_meaning.specs.Instances.{instances, instance_at, child_named, number_named};
 ghost use Rattle.c_meaning.specs.Machines.{IsStarted, IsStartFault, IsRow, IsTick, IsStuckTick, IsCallable, IsCall, IsStuckCall};
 ghost use Rattle.c_meaning.specs.Numbering.{IsNumbering};
@@ -12,8 +12,8 @@ use crate::calls::run_instance;
 use crate::instances::{Numbering, child_of, count_at, number_of};
 use crate::roots::{Tables, put_outputs, run_root, size_at, tables_of, zeros};
 use crate::slots::slots_at;
-use c_reader::Checked;
-use c_tree::{Cost, Stuck};
+use c_checked::Checked;
+use c_syntax::{Cost, Stuck};
 use std::alloc::{AllocError, Global};
 use std::marker::Model;
 
@@ -45,8 +45,8 @@ pub struct Machine {
 }
 
 impl Model for Machine {
-    ghost use Rattle.c_tree.specs.contracts.code.Expr as expression;
-    ghost use Rattle.c_tree.specs.contracts.code.Stmt as statement;
+    ghost use Rattle.c_syntax.specs.contracts.code.Expr as expression;
+    ghost use Rattle.c_syntax.specs.contracts.code.Stmt as statement;
     ghost use Rattle.std.specs.Coded.{codes};
     ghost use Rattle.c_meaning.specs.States.{MachineState};
     ghost use Rattle.c_meaning.specs.Roots.{IsMachine};

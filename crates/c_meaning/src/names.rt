@@ -1,10 +1,10 @@
 // What stands under a name.
 ghost use Rattle.std.specs.Prelude.{◌≡◌, ◌≤◌, length, map, bytes_eq, IfOk, if◌then◌else◌, true, ◌&&◌, nat_eq, nat_lt, drop, reverse, codes};
 ghost use Rattle.std.specs.List.{position_from, starts_with, prefix_len};
-ghost use Rattle.c_tree.specs.Machine.{is_interface};
+ghost use Rattle.c_machine.specs.Machine.{is_interface};
 ghost use Rattle.std.specs.Char.{is_ascii_digit};
 
-use c_tree::{Field, Procedure, StructDef};
+use c_syntax::{Field, Procedure, StructDef};
 use std::alloc::{AllocError, Global};
 
 pub(crate) fn struct_named(structs: &[StructDef], name: &[u8]) -> Option<usize>

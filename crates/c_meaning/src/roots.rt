@@ -1,12 +1,12 @@
 // The root of a program: its procedures and its outputs.
 ghost use Rattle.std.specs.Prelude.{◌≡◌, ◌+◌, [], IfOk, length, map, slice_get, unwrap_or, replicate, pos};
-ghost use Rattle.c_tree.specs.Machine.{call_from_outside};
-ghost use Rattle.c_tree.specs.Outputs.{numbers_from, output_name};
-ghost use Rattle.c_tree.specs.Plain.{program_tree};
-ghost use Rattle.c_tree.specs.PlainField.{field_trees};
-ghost use Rattle.c_tree.specs.Rows.{field_position, output_fields, root_fields, procedure_named};
-ghost use Rattle.c_tree.specs.Lawful.{IsLawful};
-ghost use Rattle.c_tree.specs.Tree.{struct_fields};
+ghost use Rattle.c_machine.specs.Machine.{call_from_outside};
+ghost use Rattle.c_syntax.specs.Outputs.{numbers_from, output_name};
+ghost use Rattle.c_syntax.specs.Plain.{program_tree};
+ghost use Rattle.c_syntax.specs.PlainField.{field_trees};
+ghost use Rattle.c_syntax.specs.RootFields.{field_position, output_fields, root_fields, procedure_named};
+ghost use Rattle.c_syntax.specs.Lawful.{IsLawful};
+ghost use Rattle.c_syntax.specs.Tree.{struct_fields};
 ghost use Rattle.c_meaning.specs.Roots.{root_ended, AreTables, AreCounts};
 ghost use Rattle.c_meaning.specs.Seen.{seen};
 ghost use Rattle.c_meaning.specs.Slots.{layout_at, number_in};
@@ -19,7 +19,7 @@ use crate::layouts::layouts_of;
 use crate::names::{are_logged, field_named, procedure_named};
 use crate::slots::{Layout, Slot, number_in};
 use crate::statements::run_procedure;
-use c_tree::{Cost, Field, Program, Stuck};
+use c_syntax::{Cost, Field, Program, Stuck};
 use std::alloc::{AllocError, Global};
 
 /// A call from outside of a procedure of a struct, on all the numbers of an instance.

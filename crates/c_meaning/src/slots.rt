@@ -2,7 +2,7 @@
 ghost use Rattle.std.specs.Prelude.{◌≡◌, drop, slice_get};
 ghost use Rattle.c_meaning.specs.Slots.{layout_at, number_in, number_under};
 
-use c_tree::CType;
+use c_syntax::CType;
 use std::marker::Model;
 
 /// The place of a field in the numbers of its instance: a number of a type, or so many numbers of an instance of a struct.

@@ -1,9 +1,9 @@
 // What statements do to the numbers of an instance.
 ghost use Rattle.std.specs.Prelude.{◌≡◌, ◌≤◌, ◌<◌, ◌+◌, List, length, map, slice_get, slice_index_or, Some, false, if◌then◌else◌};
-ghost use Rattle.c_tree.specs.declared.fault.Cost.{Cost};
-ghost use Rattle.c_tree.specs.Plain.{expr_tree, cond_tree, stmt_tree, program_tree};
-ghost use Rattle.c_tree.specs.Tree.{assign, branch, call, exprs_of_list, stmts_of_list, FieldTree, struct_fields, type_at, ProcedureTree};
-ghost use Rattle.c_tree.specs.Machine.{run_stmt, run_stmts, store, on_target, routine_at};
+ghost use Rattle.c_syntax.specs.declared.fault.Cost.{Cost};
+ghost use Rattle.c_syntax.specs.Plain.{expr_tree, cond_tree, stmt_tree, program_tree};
+ghost use Rattle.c_syntax.specs.Tree.{assign, branch, call, exprs_of_list, stmts_of_list, FieldTree, struct_fields, type_at, ProcedureTree};
+ghost use Rattle.c_machine.specs.Machine.{run_stmt, run_stmts, store, on_target, routine_at};
 ghost use Rattle.c_meaning.specs.Slots.{layout_at};
 ghost use Rattle.c_meaning.specs.States.{filled};
 ghost use Rattle.c_meaning.specs.Sound.{IsReady, IsSoundStmt, AreSoundStmts, IsNumberField, IsInstanceField, IsCallOf, IsProcedureOf, scope_at, zero_at};
@@ -14,7 +14,7 @@ use crate::frames::{Frame, holds, put_arguments, value_of};
 use crate::halts::{Halt, Verdict};
 use crate::slots::{Slot, slots_at};
 use crate::values::{FEW, first_of, first_of_few};
-use c_tree::{CType, Cond, Cost, Expr, Stmt, Target, Why};
+use c_syntax::{CType, Cond, Cost, Expr, Stmt, Target, Why};
 
 #[inline(always)]
 fn slot_at(frame: &Frame, field: u32) -> Option<Slot>

@@ -1,16 +1,16 @@
 // What expressions and conditions give.
 ghost use Rattle.std.specs.Prelude.{◌≡◌, ◌≤◌, List, [], length, map, slice_get};
-ghost use Rattle.c_tree.specs.Tree.{pure, exprs_of_list};
-ghost use Rattle.c_tree.specs.Plain.{expr_tree, cond_tree, pure_tree};
-ghost use Rattle.c_tree.specs.Values.{eval, eval_all, eval_cond, function_at, function_of, functions_of, reads};
-ghost use Rattle.c_tree.specs.Cells.{no_cells};
+ghost use Rattle.c_syntax.specs.Tree.{pure, exprs_of_list};
+ghost use Rattle.c_syntax.specs.Plain.{expr_tree, cond_tree, pure_tree};
+ghost use Rattle.c_machine.specs.Values.{eval, eval_all, eval_cond, function_at, function_of, functions_of, reads};
+ghost use Rattle.c_machine.specs.Cells.{no_cells};
 ghost use Rattle.c_meaning.specs.Answers.{answered, judged, put_answer, IsLater};
 ghost use Rattle.c_meaning.specs.Reads.{view_reads, view_functions, IsNarrowExpr, AreNarrowExprs, IsNarrowCond, AreNarrow};
 
 use crate::arithmetic::{compares, negate, operate, take_step};
 use crate::halts::{Halt, Verdict, verdict_of};
 use crate::slots::{Layout, Slot, number_under, own_number};
-use c_tree::{Cond, Expr, Leaf, Pure};
+use c_syntax::{Cond, Expr, Leaf, Pure};
 
 /// What an expression sees: the pure functions before it, its arguments, the numbers and places of its instance, and its line.
 #[derive(Clone, Copy)]

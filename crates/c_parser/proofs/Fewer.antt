@@ -1,10 +1,23 @@
 -- Behind whatever is read there are fewer tokens.
 use Rattle.std.proofs.Common.{◌≡◌, refl, ap, ℕ, zero, suc, ◌+◌, ◌<◌, ◌≤◌, List, [], ◌∷◌, length, Bool, true, false, codes, bytes_eq, Result, Ok, Err, arith}
-use Rattle.c_tree.specs.declared.fault.CFault.{CFault}
-use Rattle.c_tree.specs.Tokens.{Token, is_name}
-use Rattle.c_tree.specs.Written.{own, child, WrittenExpr, WrittenCond}
-use Rattle.c_tree.specs.Resolve.{◌>>=◌, ◌>>◌}
-use Rattle.c_tree.specs.Parsing.{Parsed, Want, want_value, want_test, want_any, Operand, value, test, Opener, number_opener, call_opener, paren_opener, no_opener, Inside, minus_inside, not_inside, cast_inside, first_inside, ValueJoint, op_joint, compare_joint, no_value_joint, TestJoint, and_joint, or_joint, pick_joint, no_test_joint, Comma, another, closed, no_comma, Step, one_more, the_end, after_step, many, or_syntax, or_syntax_unless, next, parse_word, parse_name, parse_type, parse_literal, parse_cast, parse_field_name, parse_inner, parse_leaf_from, parse_leaf, value_only, test_only, deeper_value, deeper_test, parse_number, values_step_by, values_step, parse_values, join_value, join_test, join, parse_inside, parse_opened, opened_too_deep, parse_operand, parse_expr, parse_cond, first_text, value_joint, test_joint, comma_of, opener_of, inside_of, type_of_text}
+use Rattle.c_syntax.specs.declared.fault.CFault.{CFault}
+use Rattle.c_grammar.specs.Tokens.{Token}
+use Rattle.c_syntax.specs.Names.{is_name}
+use Rattle.c_grammar.specs.Written.{own, child, WrittenExpr, WrittenCond}
+use Rattle.c_grammar.specs.Results.{◌>>=◌, ◌>>◌}
+use Rattle.c_grammar.specs.Parsing.{Parsed, Operand, value, test, Step, one_more, the_end, after_step, many, or_syntax, or_syntax_unless, next, parse_word, parse_name, parse_type, parse_literal, parse_cast, parse_field_name, parse_inner, parse_leaf_from, parse_leaf, value_only, test_only, deeper_value, deeper_test, parse_number, values_step_by, values_step, parse_values, join_value, join_test, join, parse_inside, parse_opened, opened_too_deep, parse_operand, parse_expr, parse_cond, first_text, value_joint, test_joint, comma_of, opener_of, inside_of, type_of_text}
+use Rattle.c_grammar.specs.declared.openers.Comma.{Comma}
+use Rattle.c_grammar.specs.declared.openers.Comma.TheVariants.{Another as another, Closed as closed, Nothing as no_comma}
+use Rattle.c_grammar.specs.declared.openers.Inside.{Inside}
+use Rattle.c_grammar.specs.declared.openers.Inside.TheVariants.{Minus as minus_inside, Not as not_inside, Cast as cast_inside, First as first_inside}
+use Rattle.c_grammar.specs.declared.openers.Opener.{Opener}
+use Rattle.c_grammar.specs.declared.openers.Opener.TheVariants.{Number as number_opener, Call as call_opener, Paren as paren_opener, Nothing as no_opener}
+use Rattle.c_grammar.specs.declared.openers.TestJoint.{TestJoint}
+use Rattle.c_grammar.specs.declared.openers.TestJoint.TheVariants.{And as and_joint, Or as or_joint, Pick as pick_joint, Nothing as no_test_joint}
+use Rattle.c_grammar.specs.declared.openers.ValueJoint.{ValueJoint}
+use Rattle.c_grammar.specs.declared.openers.ValueJoint.TheVariants.{Operator as op_joint, Comparison as compare_joint, Nothing as no_value_joint}
+use Rattle.c_grammar.specs.declared.openers.Want.{Want}
+use Rattle.c_grammar.specs.declared.openers.Want.TheVariants.{Value as want_value, Test as want_test, Any as want_any}
 
 -- fewer than so many are left
 pub record Below {X : Type 0} (n : ℕ) (r : Parsed X) : Type 0 where

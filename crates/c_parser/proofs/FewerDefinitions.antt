@@ -1,10 +1,18 @@
 -- Behind statements and definitions there are fewer tokens.
 use Rattle.std.proofs.Common.{◌≡◌, refl, ℕ, zero, suc, ◌+◌, ◌<◌, List, [], ◌∷◌, length, Bool, true, false, codes, bytes_eq, nat_le, Result, Ok, Err, arith}
-use Rattle.c_tree.specs.declared.fault.CFault.{CFault}
-use Rattle.c_tree.specs.Tokens.{Token}
-use Rattle.c_tree.specs.Written.{WrittenCond, WrittenStmt, WrittenStmts, own_target, WrittenPureParam, WrittenParam, WrittenPure, WrittenField, WrittenStruct, WrittenProcedure}
-use Rattle.c_tree.specs.Resolve.{◌>>=◌, ◌>>◌}
-use Rattle.c_tree.specs.Parsing.{Parsed, Limits, Argument, Comma, another, closed, no_comma, StmtOpener, store_opener, if_opener, invoke_opener, no_stmt, TargetOpener, own_opener, field_opener, no_target, Definition, static_definition, struct_definition, void_definition, no_definition, Step, one_more, many, or_syntax, or_syntax_unless, or_deep_unless, next, parse_word, parse_name, parse_cast, parse_field_name, parse_expr, parse_cond, first_text, comma_of, type_of_text, parse_target_from, parse_target, target_opener_of, stmt_opener_of, definition_of, arguments_step_by, arguments_step, parse_store, parse_call, stmts_step_by, stmts_step, parse_block, parse_second, parse_if, parse_stmt_opened, stmt_too_deep, parse_stmt, parse_pure_param, pure_params_step_by, pure_params_step, parse_param, params_step_by, params_step, parse_pure, parse_kind, parse_field, fields_step_by, fields_step, parse_struct, parse_procedure_behind, parse_procedure, pures_step_by, pures_step, structs_step_by, structs_step, procedures_step}
+use Rattle.c_syntax.specs.declared.fault.CFault.{CFault}
+use Rattle.c_grammar.specs.Tokens.{Token}
+use Rattle.c_grammar.specs.Written.{WrittenCond, WrittenStmt, WrittenStmts, own_target, WrittenPureParam, WrittenParam, WrittenPure, WrittenField, WrittenStruct, WrittenProcedure}
+use Rattle.c_grammar.specs.Results.{◌>>=◌, ◌>>◌}
+use Rattle.c_grammar.specs.Parsing.{Parsed, Limits, Argument, Step, one_more, many, or_syntax, or_syntax_unless, or_deep_unless, next, parse_word, parse_name, parse_cast, parse_field_name, parse_expr, parse_cond, first_text, comma_of, type_of_text, parse_target_from, parse_target, target_opener_of, stmt_opener_of, definition_of, arguments_step_by, arguments_step, parse_store, parse_call, stmts_step_by, stmts_step, parse_block, parse_second, parse_if, parse_stmt_opened, stmt_too_deep, parse_stmt, parse_pure_param, pure_params_step_by, pure_params_step, parse_param, params_step_by, params_step, parse_pure, parse_kind, parse_field, fields_step_by, fields_step, parse_struct, parse_procedure_behind, parse_procedure, pures_step_by, pures_step, structs_step_by, structs_step, procedures_step}
+use Rattle.c_grammar.specs.declared.openers.Comma.{Comma}
+use Rattle.c_grammar.specs.declared.openers.Comma.TheVariants.{Another as another, Closed as closed, Nothing as no_comma}
+use Rattle.c_grammar.specs.declared.openers.Definition.{Definition}
+use Rattle.c_grammar.specs.declared.openers.Definition.TheVariants.{Static as static_definition, Struct as struct_definition, Void as void_definition, Nothing as no_definition}
+use Rattle.c_grammar.specs.declared.openers.StmtOpener.{StmtOpener}
+use Rattle.c_grammar.specs.declared.openers.StmtOpener.TheVariants.{Store as store_opener, If as if_opener, Call as invoke_opener, Nothing as no_stmt}
+use Rattle.c_grammar.specs.declared.openers.TargetOpener.{TargetOpener}
+use Rattle.c_grammar.specs.declared.openers.TargetOpener.TheVariants.{Own as own_opener, Field as field_opener, Nothing as no_target}
 use Rattle.c_parser.proofs.Fewer.{Below, StepBelow, below-ok, below-err, below-then, below-after, below-unless, below-more, step-more, step-err, step-end, step-then, step-wider, many-below, next-below, word-below, name-below, cast-below, field_name-below, expr-below, cond-below}
 
 step-unless : {X Y : Type 0} (n : ℕ) (r : Result X CFault) (s : Result (Step Y) CFault) → StepBelow n s → StepBelow n (r >> s)

@@ -1,10 +1,13 @@
 -- Operands and statements by the levels that are left.
 use Rattle.std.proofs.Common.{◌≡◌, sym, ◌∙◌, ap, ℕ, zero, suc, ◌-◌, ◌<◌, List, Ok, Err, arith}
-use Rattle.c_tree.specs.declared.fault.CFault.{CFault}
-use Rattle.c_tree.specs.Tokens.{Token}
-use Rattle.c_tree.specs.Resolve.{◌>>=◌}
-use Rattle.c_tree.specs.Written.{WrittenStmt}
-use Rattle.c_tree.specs.Parsing.{Parsed, Limits, Want, Operand, Opener, StmtOpener, next, opener_of, opened_too_deep, parse_opened, parse_operand, stmt_opener_of, stmt_too_deep, parse_stmt_opened, parse_stmt}
+use Rattle.c_syntax.specs.declared.fault.CFault.{CFault}
+use Rattle.c_grammar.specs.Tokens.{Token}
+use Rattle.c_grammar.specs.Results.{◌>>=◌}
+use Rattle.c_grammar.specs.Written.{WrittenStmt}
+use Rattle.c_grammar.specs.Parsing.{Parsed, Limits, Operand, next, opener_of, opened_too_deep, parse_opened, parse_operand, stmt_opener_of, stmt_too_deep, parse_stmt_opened, parse_stmt}
+use Rattle.c_grammar.specs.declared.openers.Opener.{Opener}
+use Rattle.c_grammar.specs.declared.openers.StmtOpener.{StmtOpener}
+use Rattle.c_grammar.specs.declared.openers.Want.{Want}
 
 -- no level is left
 pub operand-none : (last levels : ℕ) (want : Want) (tokens : List Token) (t : Token) (rest : List Token) (opens_as : Opener) → levels ≡ 0 → next last tokens ≡ Ok (t, rest) → opens_as ≡ opener_of want t.text → parse_operand last levels want tokens ≡ opened_too_deep last t opens_as

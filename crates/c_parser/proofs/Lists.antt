@@ -1,10 +1,10 @@
 -- Lists as they are read: elements so far, and those that the rest gives.
 use Rattle.std.proofs.Common.{◌≡◌, refl, sym, ◌∙◌, ap, subst, ℕ, zero, suc, ◌+◌, ◌<◌, List, [], ◌∷◌, ◌++◌, map, length, append_assoc, Option, Some, Result, Ok, Err, arith}
 use Rattle.std.proofs.lemmas.List.{map-append}
-use Rattle.c_tree.specs.declared.fault.CFault.{CFault}
-use Rattle.c_tree.specs.Tokens.{Token}
-use Rattle.c_tree.specs.Resolve.{◌>>=◌}
-use Rattle.c_tree.specs.Parsing.{Parsed, Step, one_more, the_end, after_step, many}
+use Rattle.c_syntax.specs.declared.fault.CFault.{CFault}
+use Rattle.c_grammar.specs.Tokens.{Token}
+use Rattle.c_grammar.specs.Results.{◌>>=◌}
+use Rattle.c_grammar.specs.Parsing.{Parsed, Step, one_more, the_end, after_step, many}
 use Rattle.c_parser.specs.Gives.{GivesMore, behind}
 
 -- how a list goes on

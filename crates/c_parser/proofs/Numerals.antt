@@ -7,8 +7,8 @@ use Rattle.std.proofs.lemmas.Bool.{le-leb, leb-true}
 use Rattle.std.proofs.lemmas.Str.{digit_value_digit}
 use Rattle.std.specs.Int.{IsInRange}
 use Rattle.mc_base.specs.Literals.{are_digits}
-use Rattle.c_tree.specs.Prefix.{is_literal, digits_value}
-use Rattle.c_tree.proofs.LiteralLaws.{and_both, and_first, and_second}
+use Rattle.c_grammar.specs.Prefix.{is_literal, digits_value}
+use Rattle.c_grammar.proofs.lemmas.LiteralLaws.{and_both, and_first, and_second}
 use Rattle.c_parser.specs.Numerals.{is_plain_numeral}
 
 digit-is : (d : ℕ) → is_ascii_digit d ≡ true → digit_value d ≡ d - 48

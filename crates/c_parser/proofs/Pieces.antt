@@ -5,8 +5,9 @@ use Rattle.std.specs.Char.{is_ascii_digit}
 use Rattle.std.proofs.lemmas.Bool.{eqb-true}
 use Rattle.std.proofs.lemmas.List.Sums.{prefix_len-le-length}
 use Rattle.mc_base.specs.Numbers.{reported_number}
-use Rattle.c_tree.specs.Tokens.{Piece, blank, comment, token, sign_class, class_of, is_white_space, is_word_start, is_word_byte, is_double_sign, piece_of, piece_tokens, line_after, tokens_from, comment_end}
-use Rattle.c_tree.proofs.LiteralLaws.{and_first, and_second}
+use Rattle.c_grammar.specs.Tokens.{Piece, blank, comment, token, sign_class, class_of, is_white_space, is_double_sign, piece_of, piece_tokens, line_after, tokens_from, comment_end}
+use Rattle.c_syntax.specs.Names.{is_word_start, is_word_byte}
+use Rattle.c_grammar.proofs.lemmas.LiteralLaws.{and_first, and_second}
 use Rattle.c_parser.specs.declared.bytes.Piece.TheVariants.{Skip, Token}
 use Rattle.c_parser.specs.Pieces.{IsSkipped, IsFirstToken, IsPiece}
 use Rattle.c_parser.proofs.TokenLines.{tokens-behind}

@@ -1,7 +1,7 @@
 -- Tokens behind bytes that are skipped, and the lines that can be told.
 use Rattle.std.proofs.Common.{◌≡◌, refl, sym, ◌∙◌, ap, subst, ℕ, zero, suc, ◌+◌, ◌-◌, ◌≤◌, ◌<◌, Bool, true, false, ◌==◌, if◌then◌else◌, min, List, [], ◌∷◌, length, drop, take, arith}
 use Rattle.mc_base.specs.Numbers.{reported_number}
-use Rattle.c_tree.specs.Tokens.{Token, Piece, blank, comment, token, class_of, piece_of, piece_tokens, line_after, tokens_from}
+use Rattle.c_grammar.specs.Tokens.{Token, Piece, blank, comment, token, class_of, piece_of, piece_tokens, line_after, tokens_from}
 use Rattle.std.proofs.lemmas.Bool.{eqb-true}
 use Rattle.c_parser.specs.Lines.{line_behind}
 use Rattle.c_parser.specs.Pieces.{IsFirstToken}

@@ -1,13 +1,13 @@
 -- The program of a text is that of the tokens behind its first line.
 use Rattle.std.proofs.Common.{◌≡◌, sym, ◌∙◌, ap, ℕ, Bool, true, List, Result, Ok, Err}
 use Rattle.std.specs.List.{after_first}
-use Rattle.c_tree.specs.Tokens.{Token, has_header, tokens_from, last_line, is_line_end}
-use Rattle.c_tree.specs.Parsing.{Limits, the_limits, parse_file}
-use Rattle.c_parser.specs.declared.fault.ReadCFault.{ReadCFault}
-use Rattle.c_parser.specs.declared.fault.ReadCFault.TheVariants.{Refused, Memory}
-use Rattle.c_parser.specs.declared.written.WrittenProgram.{WrittenProgram as Program}
+use Rattle.c_grammar.specs.Tokens.{Token, has_header, tokens_from, last_line, is_line_end}
+use Rattle.c_grammar.specs.Parsing.{Limits, the_limits, parse_file}
+use Rattle.c_grammar.specs.declared.fault.ReadCFault.{ReadCFault}
+use Rattle.c_grammar.specs.declared.fault.ReadCFault.TheVariants.{Refused, Memory}
+use Rattle.c_grammar.specs.declared.written.WrittenProgram.{WrittenProgram as Program}
 use Rattle.c_parser.specs.GivesProgram.{GivesProgram}
-use Rattle.c_parsing.specs.ParsedText.{parse_behind, parse_text}
+use Rattle.c_grammar.specs.ParsedText.{parse_behind, parse_text}
 use Rattle.c_parser.specs.ParsedText.{GivesText}
 
 -- a text with the first line

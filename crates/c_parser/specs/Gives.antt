@@ -1,10 +1,10 @@
 -- What a part of the reading answers: what the grammar gives, or that memory ran out.
 use Rattle.std.specs.Prelude.{◌≡◌, List, ◌++◌, Option, Some, None, Result, Ok, Err, ⊤}
-use Rattle.c_tree.specs.declared.fault.CFault.{CFault}
-use Rattle.c_tree.specs.Tokens.{Token}
-use Rattle.c_tree.specs.Parsing.{Parsed, Step, one_more, the_end}
-use Rattle.c_parser.specs.declared.fault.ReadCFault.{ReadCFault}
-use Rattle.c_parser.specs.declared.fault.ReadCFault.TheVariants.{Refused, Memory}
+use Rattle.c_syntax.specs.declared.fault.CFault.{CFault}
+use Rattle.c_grammar.specs.Tokens.{Token}
+use Rattle.c_grammar.specs.Parsing.{Parsed, Step, one_more, the_end}
+use Rattle.c_grammar.specs.declared.fault.ReadCFault.{ReadCFault}
+use Rattle.c_grammar.specs.declared.fault.ReadCFault.TheVariants.{Refused, Memory}
 
 -- a token that is passed
 abbrev pub passed : Result (List Token) CFault → Parsed (Unit {0})

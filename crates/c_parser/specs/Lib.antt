@@ -1,10 +1,8 @@
 pub mod Lines
 pub mod Pieces
 pub mod Gives
-pub mod WrittenTrees
 pub mod Numerals
 pub mod ParsedText
-pub mod Openers
 pub mod Operands
 pub mod Limited
 pub mod Parts

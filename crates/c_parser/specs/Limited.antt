@@ -1,5 +1,5 @@
 -- Limits of the source.
-use Rattle.c_tree.specs.Parsing.{Limits}
+use Rattle.c_grammar.specs.Parsing.{Limits}
 use Rattle.c_parser.specs.declared.reader.Limits.{Limits as Kept}
 
 -- the limits on depths and numbers

@@ -1,8 +1,8 @@
 -- Operands of the source.
-use Rattle.c_tree.specs.Parsing.{Operand, value, test}
+use Rattle.c_grammar.specs.Parsing.{Operand, value, test}
 use Rattle.c_parser.specs.declared.operands.Operand.{Operand as Read}
 use Rattle.c_parser.specs.declared.operands.Operand.TheVariants.{Value, Test}
-use Rattle.c_parser.specs.WrittenTrees.{expr_of, cond_of}
+use Rattle.c_grammar.specs.WrittenTrees.{expr_of, cond_of}
 
 -- an expression or a condition
 abbrev pub operand_of : Read → Operand

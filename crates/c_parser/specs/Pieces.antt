@@ -1,7 +1,7 @@
 -- The pieces that a text is read in.
 use Rattle.std.specs.Prelude.{◌≡◌, ℕ, ◌≤◌, ◌<◌, List, ◌∷◌, length, take, drop}
 use Rattle.mc_base.specs.Numbers.{reported_number}
-use Rattle.c_tree.specs.Tokens.{tokens_from}
+use Rattle.c_grammar.specs.Tokens.{tokens_from}
 use Rattle.c_parser.specs.Lines.{line_behind}
 use Rattle.c_parser.specs.declared.bytes.Piece.{Piece}
 use Rattle.c_parser.specs.declared.bytes.Piece.TheVariants.{Skip, Token}

@@ -1,11 +1,11 @@
 // Expressions, conditions and choices of their parts.
 ghost use Rattle.std.specs.Prelude.{◌≡◌, IfOk, map};
-ghost use Rattle.c_tree.specs.Written as written;
-ghost use Rattle.c_tree.specs.Parsing.{exprs_from, stmts_from};
-ghost use Rattle.c_parser.specs.WrittenTrees.{expr_of, cond_of, stmt_of, choice_of};
+ghost use Rattle.c_grammar.specs.Written as written;
+ghost use Rattle.c_grammar.specs.Parsing.{exprs_from, stmts_from};
+ghost use Rattle.c_grammar.specs.WrittenTrees.{expr_of, cond_of, stmt_of, choice_of};
 
-use crate::written::{WrittenCond, WrittenExpr, WrittenStmt};
-use c_tree::BinOp;
+use c_grammar::{WrittenCond, WrittenExpr, WrittenStmt};
+use c_syntax::BinOp;
 use mc_base::Memory;
 use std::alloc::Global;
 

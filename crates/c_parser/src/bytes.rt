@@ -2,7 +2,8 @@
 ghost use Rattle.std.specs.Prelude.{◌≡◌, ◌==◌, ◌&&◌, ◌∷◌};
 ghost use Rattle.std.specs.List.{prefix_len};
 ghost use Rattle.std.specs.Char.{is_ascii_digit};
-ghost use Rattle.c_tree.specs.Tokens as tokens;
+ghost use Rattle.c_grammar.specs.Tokens as tokens;
+ghost use Rattle.c_syntax.specs.Names as names;
 ghost use Rattle.c_parser.specs.Pieces.{IsPiece};
 
 /// What a text begins with, by its length: what has no token, or a token.
@@ -19,13 +20,13 @@ fn is_white_space(byte: u8) -> bool
 }
 
 fn is_word_start(byte: u8) -> bool
-    ensures { result ≡ tokens.is_word_start byte }
+    ensures { result ≡ names.is_word_start byte }
 {
     byte.is_ascii_alphabetic() || byte == b'_'
 }
 
 pub(crate) fn is_word_byte(byte: u8) -> bool
-    ensures { result ≡ tokens.is_word_byte byte }
+    ensures { result ≡ names.is_word_byte byte }
 {
     is_word_start(byte) || byte.is_ascii_digit()
 }
@@ -58,7 +59,7 @@ fn comment_end(bytes: &[u8]) -> Option<usize>
 
 // How many letters, digits and `_` bytes begin with.
 fn word_len(bytes: &[u8]) -> usize
-    ensures { result ≡ prefix_len tokens.is_word_byte bytes.now }
+    ensures { result ≡ prefix_len names.is_word_byte bytes.now }
 {
     bytes.iter().take_while(|b| is_word_byte(**b)).count()
 }

@@ -1,16 +1,15 @@
 // Stores and calls of procedures.
 ghost use Rattle.std.specs.Prelude.{◌≡◌, map, length, suc};
-ghost use Rattle.c_tree.specs.Parsing as parsing;
+ghost use Rattle.c_grammar.specs.Parsing as parsing;
 ghost use Rattle.c_parser.specs.Gives.{Gives, GivesMore, read_as, behind};
 ghost use Rattle.c_parser.specs.Limited.{limits_of};
-ghost use Rattle.c_parser.specs.Openers as seen;
-ghost use Rattle.c_parser.specs.WrittenTrees.{target_of, argument_of, stmt_of};
+ghost use Rattle.c_grammar.specs.WrittenTrees.{target_of, argument_of, stmt_of};
 
-use crate::openers::{Comma, TargetOpener, comma_of, target_opener_of};
+use crate::openers::{comma_of, target_opener_of};
 use crate::operands::Parse;
 use crate::reader::{Read, Reader, syntax_on};
 use crate::tokens::{Token, Tokens};
-use crate::written::{Argument, WrittenStmt, WrittenTarget};
+use c_grammar::{Argument, Comma, TargetOpener, WrittenStmt, WrittenTarget};
 
 impl Reader {
     fn target_from<'a>(
@@ -19,7 +18,7 @@ impl Reader {
         tokens: Tokens<'a>,
         opener: TargetOpener,
     ) -> Read<'a, WrittenTarget<'a>>
-        ensures { read_as target_of result ≡ parsing.parse_target_from self.last token.now tokens.entry (seen.target_opener_seen opener) }
+        ensures { read_as target_of result ≡ parsing.parse_target_from self.last token.now tokens.entry opener }
     {
         match opener {
             TargetOpener::Own => Ok((WrittenTarget::Own, tokens)),

@@ -1,18 +1,16 @@
 // Pure functions and procedures.
 ghost use Rattle.std.specs.Prelude.{◌≡◌, map, codes};
-ghost use Rattle.c_tree.specs.Parsing as parsing;
+ghost use Rattle.c_grammar.specs.Parsing as parsing;
 ghost use Rattle.c_parser.specs.Gives.{Gives, read_as};
 ghost use Rattle.c_parser.specs.Limited.{limits_of};
-ghost use Rattle.c_parser.specs.Openers as seen;
 ghost use Rattle.c_parser.specs.Parts as parts;
-ghost use Rattle.c_parser.specs.WrittenTrees.{pure_of, procedure_of};
+ghost use Rattle.c_grammar.specs.WrittenTrees.{pure_of, procedure_of};
 
-use crate::openers::Definition;
 use crate::operands::Parse;
 use crate::reader::{Read, Reader, syntax_on};
 use crate::tokens::{Token, Tokens};
 use crate::words::is;
-use crate::written::{WrittenExpr, WrittenProcedure, WrittenPure};
+use c_grammar::{Definition, WrittenExpr, WrittenProcedure, WrittenPure};
 
 impl Reader {
     // What a pure function returns, with the line of its `return`, up to the `}`.
@@ -111,7 +109,7 @@ impl Reader {
         definition: Definition,
     ) -> Parse<'a, WrittenProcedure<'a>>
         ensures { Gives procedure_of result
-            (parsing.parse_procedure self.last (limits_of self.limits) token.now tokens.now (seen.definition_seen definition)) }
+            (parsing.parse_procedure self.last (limits_of self.limits) token.now tokens.now definition) }
     {
         match definition {
             Definition::Static => {

@@ -1,24 +1,23 @@
 // Expressions and conditions by recursive descent, at most so many levels deep.
 ghost use Rattle.std.specs.Prelude.{◌≡◌, map, codes, length, suc};
-ghost use Rattle.c_tree.specs.Parsing as parsing;
+ghost use Rattle.c_grammar.specs.Parsing as parsing;
 ghost use Rattle.c_parser.specs.Gives.{Gives, GivesMore, behind};
-ghost use Rattle.c_parser.specs.Openers as seen;
 ghost use Rattle.c_parser.specs.Operands.{operand_of};
-ghost use Rattle.c_parser.specs.WrittenTrees.{expr_of, cond_of};
+ghost use Rattle.c_grammar.specs.WrittenTrees.{expr_of, cond_of};
+ghost use Rattle.c_grammar.specs.declared.openers.Want.TheVariants as wants;
+ghost use Rattle.c_grammar.specs.declared.openers.Inside.TheVariants as insides;
+ghost use Rattle.c_grammar.specs.declared.openers.TestJoint.TheVariants as joints;
 
 use crate::build;
-use crate::openers::{
-    Comma, Inside, Opener, TestJoint, ValueJoint, Want, comma_of, inside_of, opener_of, test_joint,
-    value_joint,
-};
+use crate::openers::{comma_of, inside_of, opener_of, test_joint, value_joint};
 use crate::operands::{Operand, Parse};
 use crate::reader::{Reader, deep_on, syntax_on};
 use crate::tokens::{Token, Tokens};
-use crate::written::{WrittenCond, WrittenExpr};
+use c_grammar::{Comma, Inside, Opener, TestJoint, ValueJoint, Want, WrittenCond, WrittenExpr};
 
 impl Reader {
     fn too_deep<'a>(self, token: &Token<'a>, opener: Opener) -> Parse<'a, Operand<'a>>
-        ensures { Gives operand_of result (parsing.opened_too_deep self.last token.now (seen.opener_seen opener)) }
+        ensures { Gives operand_of result (parsing.opened_too_deep self.last token.now opener) }
     {
         match opener {
             Opener::Number | Opener::Call | Opener::Paren => Err(deep_on(token.line).into()),
@@ -28,7 +27,7 @@ impl Reader {
 
     #[cycle(expressions)]
     fn operand<'a>(self, levels: u32, want: Want, tokens: &Tokens<'a>) -> Parse<'a, Operand<'a>>
-        ensures { Gives operand_of result (parsing.parse_operand self.last levels (seen.want_of want) tokens.now) }
+        ensures { Gives operand_of result (parsing.parse_operand self.last levels want tokens.now) }
     {
         let (token, rest) = self.next(tokens)?;
         let opener = opener_of(want, token.text);
@@ -131,7 +130,7 @@ impl Reader {
 
     #[cycle(expressions)]
     fn minus<'a>(self, levels: u32, tokens: &Tokens<'a>) -> Parse<'a, Operand<'a>>
-        ensures { Gives operand_of result (parsing.parse_inside self.last (parsing.parse_operand self.last levels) parsing.want_any tokens.now parsing.minus_inside) }
+        ensures { Gives operand_of result (parsing.parse_inside self.last (parsing.parse_operand self.last levels) wants.Any tokens.now insides.Minus) }
     {
         let (_, rest) = self.next(tokens)?;
         let (operand, rest) = self.value(levels, &rest)?;
@@ -141,7 +140,7 @@ impl Reader {
 
     #[cycle(expressions)]
     fn negation<'a>(self, levels: u32, tokens: &Tokens<'a>) -> Parse<'a, Operand<'a>>
-        ensures { Gives operand_of result (parsing.parse_inside self.last (parsing.parse_operand self.last levels) parsing.want_any tokens.now parsing.not_inside) }
+        ensures { Gives operand_of result (parsing.parse_inside self.last (parsing.parse_operand self.last levels) wants.Any tokens.now insides.Not) }
     {
         let (_, rest) = self.next(tokens)?;
         let (operand, rest) = self.test(levels, &rest)?;
@@ -150,7 +149,7 @@ impl Reader {
     }
 
     fn cast_leaf<'a>(self, tokens: &Tokens<'a>) -> Parse<'a, Operand<'a>>
-        ensures { Gives operand_of result (parsing.parse_inside self.last (parsing.parse_operand self.last 0) parsing.want_any tokens.now parsing.cast_inside) }
+        ensures { Gives operand_of result (parsing.parse_inside self.last (parsing.parse_operand self.last 0) wants.Any tokens.now insides.Cast) }
     {
         let (_, rest) = self.next(tokens)?;
         let rest = self.word(&rest, b")")?;
@@ -167,7 +166,7 @@ impl Reader {
         tokens: &Tokens<'a>,
         joint: ValueJoint,
     ) -> Parse<'a, Operand<'a>>
-        ensures { Gives operand_of result (parsing.join_value self.last (parsing.parse_operand self.last levels) (expr_of left.entry) token.now tokens.now (seen.value_joint_seen joint)) }
+        ensures { Gives operand_of result (parsing.join_value self.last (parsing.parse_operand self.last levels) (expr_of left.entry) token.now tokens.now joint) }
     {
         match joint {
             ValueJoint::Operator(op) => {
@@ -193,7 +192,7 @@ impl Reader {
         token: &Token<'a>,
         tokens: &Tokens<'a>,
     ) -> Parse<'a, Operand<'a>>
-        ensures { Gives operand_of result (parsing.join_test self.last (parsing.parse_operand self.last levels) (cond_of test.entry) token.now tokens.now parsing.pick_joint) }
+        ensures { Gives operand_of result (parsing.join_test self.last (parsing.parse_operand self.last levels) (cond_of test.entry) token.now tokens.now joints.Pick) }
     {
         let (on_true, rest) = self.value(levels, tokens)?;
         let rest = self.word(&rest, b":")?;
@@ -213,7 +212,7 @@ impl Reader {
         tokens: &Tokens<'a>,
         joint: TestJoint,
     ) -> Parse<'a, Operand<'a>>
-        ensures { Gives operand_of result (parsing.join_test self.last (parsing.parse_operand self.last levels) (cond_of left.entry) token.now tokens.now (seen.test_joint_seen joint)) }
+        ensures { Gives operand_of result (parsing.join_test self.last (parsing.parse_operand self.last levels) (cond_of left.entry) token.now tokens.now joint) }
     {
         match joint {
             TestJoint::And => {
@@ -238,7 +237,7 @@ impl Reader {
         token: &Token<'a>,
         tokens: &Tokens<'a>,
     ) -> Parse<'a, Operand<'a>>
-        ensures { Gives operand_of result (parsing.join self.last (parsing.parse_operand self.last levels) (seen.want_of want) (operand_of first.entry) (token.now, tokens.now)) }
+        ensures { Gives operand_of result (parsing.join self.last (parsing.parse_operand self.last levels) want (operand_of first.entry) (token.now, tokens.now)) }
     {
         match first {
             Operand::Value(left) => self.join_value(
@@ -260,7 +259,7 @@ impl Reader {
 
     #[cycle(expressions)]
     fn joined<'a>(self, levels: u32, want: Want, tokens: &Tokens<'a>) -> Parse<'a, Operand<'a>>
-        ensures { Gives operand_of result (parsing.parse_inside self.last (parsing.parse_operand self.last levels) (seen.want_of want) tokens.now parsing.first_inside) }
+        ensures { Gives operand_of result (parsing.parse_inside self.last (parsing.parse_operand self.last levels) want tokens.now insides.First) }
     {
         let (first, rest) = self.operand(levels, Want::Any, tokens)?;
         let (token, rest) = self.next(&rest)?;
@@ -277,7 +276,7 @@ impl Reader {
         tokens: &Tokens<'a>,
         inside: Inside,
     ) -> Parse<'a, Operand<'a>>
-        ensures { Gives operand_of result (parsing.parse_inside self.last (parsing.parse_operand self.last levels) (seen.want_of want) tokens.now (seen.inside_seen inside)) }
+        ensures { Gives operand_of result (parsing.parse_inside self.last (parsing.parse_operand self.last levels) want tokens.now inside) }
     {
         match inside {
             Inside::Minus => self.minus(levels, tokens),
@@ -296,7 +295,7 @@ impl Reader {
         tokens: &Tokens<'a>,
         opener: Opener,
     ) -> Parse<'a, Operand<'a>>
-        ensures { Gives operand_of result (parsing.parse_opened self.last (parsing.parse_operand self.last levels) (seen.want_of want) token.now tokens.now (seen.opener_seen opener)) }
+        ensures { Gives operand_of result (parsing.parse_opened self.last (parsing.parse_operand self.last levels) want token.now tokens.now opener) }
     {
         match opener {
             Opener::Number => self.number(tokens),

@@ -1,19 +1,20 @@
 // A whole file behind its first line.
 ghost use Rattle.std.specs.Prelude.{◌≡◌, map, length, suc};
-ghost use Rattle.c_tree.specs.Parsing as parsing;
+ghost use Rattle.c_grammar.specs.Parsing as parsing;
 ghost use Rattle.c_parser.specs.Gives.{Gives, GivesMore, behind};
 ghost use Rattle.c_parser.specs.FileParts as parts;
 ghost use Rattle.c_parser.specs.GivesProgram.{GivesProgram};
 ghost use Rattle.c_parser.specs.Limited.{limits_of};
-ghost use Rattle.c_parser.specs.WrittenTrees.{pure_of, struct_of, procedure_of};
+ghost use Rattle.c_grammar.specs.WrittenTrees.{pure_of, struct_of, procedure_of};
 
-use crate::fault::ReadCFault;
-use crate::openers::{Definition, definition_of};
+use crate::openers::definition_of;
 use crate::operands::Parse;
 use crate::params::has_room;
 use crate::reader::{Reader, deep_on, syntax_on};
 use crate::tokens::Tokens;
-use crate::written::{WrittenProcedure, WrittenProgram, WrittenPure, WrittenStruct};
+use c_grammar::{
+    Definition, ReadCFault, WrittenProcedure, WrittenProgram, WrittenPure, WrittenStruct,
+};
 
 impl Reader {
     fn pures_step<'a>(self, count: usize, tokens: Tokens<'a>) -> Parse<'a, Option<WrittenPure<'a>>>

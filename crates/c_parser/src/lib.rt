@@ -6,7 +6,6 @@ mod bytes;
 mod calls;
 mod definitions;
 mod exprs;
-mod fault;
 mod file;
 mod lines;
 mod openers;
@@ -18,13 +17,6 @@ mod statements;
 mod structs;
 mod tokens;
 mod words;
-mod written;
 
-pub use fault::ReadCFault;
 pub use lines::last_line;
 pub use parser::parse_c;
-pub use written::{
-    Argument, Number, WrittenCond, WrittenExpr, WrittenField, WrittenKind, WrittenLeaf,
-    WrittenParam, WrittenProcedure, WrittenProgram, WrittenPure, WrittenPureParam, WrittenStmt,
-    WrittenStruct, WrittenTarget,
-};

@@ -1,6 +1,6 @@
 // Lines of a text.
 ghost use Rattle.std.specs.Prelude.{◌≡◌};
-ghost use Rattle.c_tree.specs.Tokens as tokens;
+ghost use Rattle.c_grammar.specs.Tokens as tokens;
 ghost use Rattle.c_parser.specs.Lines.{line_behind};
 
 /// The line behind some bytes that begin on a line.

@@ -1,51 +1,17 @@
 // What a token opens, by its text and by what may stand there.
 ghost use Rattle.std.specs.Prelude.{◌≡◌, if◌then◌else◌};
-ghost use Rattle.c_tree.specs.Parsing as parsing;
-ghost use Rattle.c_parser.specs.Openers as seen;
+ghost use Rattle.c_grammar.specs.Parsing as parsing;
 
 use crate::words::{compare_of_text, is, is_name, op_of_text};
-use c_tree::BinOp;
+use c_grammar::{
+    Comma, Definition, Inside, Opener, StmtOpener, TargetOpener, TestJoint, ValueJoint, Want,
+};
+use c_syntax::BinOp;
 use mc_base::Compare;
 
-/// What is wanted of an operand: an expression, a condition, or either.
-#[derive(Clone, Copy, Drop)]
-pub(crate) enum Want {
-    Value,
-    Test,
-    Any,
-}
-
-impl Want {
-    fn takes_value(self) -> bool
-        ensures { result ≡ parsing.wants_value (seen.want_of self) }
-    {
-        match self {
-            Want::Value | Want::Any => true,
-            Want::Test => false,
-        }
-    }
-
-    fn takes_test(self) -> bool
-        ensures { result ≡ parsing.wants_test (seen.want_of self) }
-    {
-        match self {
-            Want::Test | Want::Any => true,
-            Want::Value => false,
-        }
-    }
-}
-
 /// What a token opens where an operand is wanted.
-#[derive(Clone, Copy, Drop)]
-pub(crate) enum Opener {
-    Number,
-    Call,
-    Paren,
-    Nothing,
-}
-
 pub(crate) fn opener_of(want: Want, text: &[u8]) -> Opener
-    ensures { seen.opener_seen result ≡ parsing.opener_of (seen.want_of want) text.now }
+    ensures { result ≡ parsing.opener_of want text.now }
 {
     if want.takes_value() && is(text, b"INT64_C") {
         Opener::Number
@@ -59,16 +25,8 @@ pub(crate) fn opener_of(want: Want, text: &[u8]) -> Opener
 }
 
 /// What a token behind the `(` of an operand begins.
-#[derive(Clone, Copy, Drop)]
-pub(crate) enum Inside {
-    Minus,
-    Not,
-    Cast,
-    First,
-}
-
 pub(crate) fn inside_of(want: Want, text: &[u8]) -> Inside
-    ensures { seen.inside_seen result ≡ parsing.inside_of (seen.want_of want) text.now }
+    ensures { result ≡ parsing.inside_of want text.now }
 {
     if want.takes_value() && is(text, b"-") {
         Inside::Minus
@@ -81,16 +39,8 @@ pub(crate) fn inside_of(want: Want, text: &[u8]) -> Inside
     }
 }
 
-/// What a token is behind an expression that is the first operand.
-#[derive(Clone, Copy, Drop)]
-pub(crate) enum ValueJoint {
-    Operator(BinOp),
-    Comparison(Compare),
-    Nothing,
-}
-
 fn operator_of(want: Want, text: &[u8]) -> Option<BinOp>
-    ensures { result ≡ (if parsing.wants_value (seen.want_of want) then parsing.op_of_text text.now else None) }
+    ensures { result ≡ (if parsing.wants_value want then parsing.op_of_text text.now else None) }
 {
     if want.takes_value() {
         op_of_text(text)
@@ -100,7 +50,7 @@ fn operator_of(want: Want, text: &[u8]) -> Option<BinOp>
 }
 
 fn comparison_of(want: Want, text: &[u8]) -> Option<Compare>
-    ensures { result ≡ (if parsing.wants_test (seen.want_of want) then parsing.compare_of_text text.now else None) }
+    ensures { result ≡ (if parsing.wants_test want then parsing.compare_of_text text.now else None) }
 {
     if want.takes_test() {
         compare_of_text(text)
@@ -109,8 +59,9 @@ fn comparison_of(want: Want, text: &[u8]) -> Option<Compare>
     }
 }
 
+/// What a token is behind an expression that is the first operand.
 pub(crate) fn value_joint(want: Want, text: &[u8]) -> ValueJoint
-    ensures { seen.value_joint_seen result ≡ parsing.value_joint (seen.want_of want) text.now }
+    ensures { result ≡ parsing.value_joint want text.now }
 {
     if let Some(op) = operator_of(want, text) {
         ValueJoint::Operator(op)
@@ -122,16 +73,8 @@ pub(crate) fn value_joint(want: Want, text: &[u8]) -> ValueJoint
 }
 
 /// What a token is behind a condition that is the first operand.
-#[derive(Clone, Copy, Drop)]
-pub(crate) enum TestJoint {
-    And,
-    Or,
-    Pick,
-    Nothing,
-}
-
 pub(crate) fn test_joint(want: Want, text: &[u8]) -> TestJoint
-    ensures { seen.test_joint_seen result ≡ parsing.test_joint (seen.want_of want) text.now }
+    ensures { result ≡ parsing.test_joint want text.now }
 {
     if want.takes_test() && is(text, b"&&") {
         TestJoint::And
@@ -145,15 +88,8 @@ pub(crate) fn test_joint(want: Want, text: &[u8]) -> TestJoint
 }
 
 /// What stands between the elements of a list in parentheses, and at its end.
-#[derive(Clone, Copy, Drop)]
-pub(crate) enum Comma {
-    Another,
-    Closed,
-    Nothing,
-}
-
 pub(crate) fn comma_of(text: &[u8]) -> Comma
-    ensures { seen.comma_seen result ≡ parsing.comma_of text.now }
+    ensures { result ≡ parsing.comma_of text.now }
 {
     if is(text, b",") {
         Comma::Another
@@ -165,16 +101,8 @@ pub(crate) fn comma_of(text: &[u8]) -> Comma
 }
 
 /// What a token opens where a statement is wanted.
-#[derive(Clone, Copy, Drop)]
-pub(crate) enum StmtOpener {
-    Store,
-    If,
-    Call,
-    Nothing,
-}
-
 pub(crate) fn stmt_opener_of(text: &[u8]) -> StmtOpener
-    ensures { seen.stmt_opener_seen result ≡ parsing.stmt_opener_of text.now }
+    ensures { result ≡ parsing.stmt_opener_of text.now }
 {
     if is(text, b"s") {
         StmtOpener::Store
@@ -188,15 +116,8 @@ pub(crate) fn stmt_opener_of(text: &[u8]) -> StmtOpener
 }
 
 /// What a token opens where the target of a call is wanted.
-#[derive(Clone, Copy, Drop)]
-pub(crate) enum TargetOpener {
-    Own,
-    Field,
-    Nothing,
-}
-
 pub(crate) fn target_opener_of(text: &[u8]) -> TargetOpener
-    ensures { seen.target_opener_seen result ≡ parsing.target_opener_of text.now }
+    ensures { result ≡ parsing.target_opener_of text.now }
 {
     if is(text, b"s") {
         TargetOpener::Own
@@ -208,16 +129,8 @@ pub(crate) fn target_opener_of(text: &[u8]) -> TargetOpener
 }
 
 /// The kind of definition that a token opens.
-#[derive(Clone, Copy, Drop)]
-pub(crate) enum Definition {
-    Static,
-    Struct,
-    Void,
-    Nothing,
-}
-
 pub(crate) fn definition_of(text: &[u8]) -> Definition
-    ensures { seen.definition_seen result ≡ parsing.definition_of text.now }
+    ensures { result ≡ parsing.definition_of text.now }
 {
     if is(text, b"static") {
         Definition::Static

@@ -1,16 +1,13 @@
 // The parts of operands that have no operands in them, and the ends of the others.
 ghost use Rattle.std.specs.Prelude.{◌≡◌, codes, bytes_eq};
-ghost use Rattle.c_tree.specs.Parsing as parsing;
+ghost use Rattle.c_grammar.specs.Parsing as parsing;
 ghost use Rattle.c_parser.specs.Gives.{Gives, read_as};
-ghost use Rattle.c_parser.specs.Openers as seen;
-ghost use Rattle.c_parser.specs.WrittenTrees.{leaf_of, expr_of, cond_of};
+ghost use Rattle.c_grammar.specs.WrittenTrees.{leaf_of, expr_of, cond_of};
 
-use crate::fault::ReadCFault;
-use crate::openers::Opener;
 use crate::reader::{Read, Reader, deep_on, syntax_on};
 use crate::tokens::{Token, Tokens};
 use crate::words::{is, is_name};
-use crate::written::{WrittenCond, WrittenExpr, WrittenLeaf};
+use c_grammar::{Opener, ReadCFault, WrittenCond, WrittenExpr, WrittenLeaf};
 
 /// An operand is an expression or a condition.
 #[derive(Drop)]

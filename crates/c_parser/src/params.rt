@@ -1,17 +1,17 @@
 // The parameters of pure functions and of procedures.
 ghost use Rattle.std.specs.Prelude.{◌≡◌, ◌+◌, map, length, suc, nat_le, vec_len};
-ghost use Rattle.c_tree.specs.Parsing as parsing;
+ghost use Rattle.c_grammar.specs.Parsing as parsing;
 ghost use Rattle.c_parser.specs.Gives.{Gives, GivesMore, behind};
 ghost use Rattle.c_parser.specs.Limited.{limits_of};
 ghost use Rattle.c_parser.specs.Parts as parts;
-ghost use Rattle.c_parser.specs.WrittenTrees.{param_of, pure_param_of};
+ghost use Rattle.c_grammar.specs.WrittenTrees.{param_of, pure_param_of};
 
-use crate::openers::{Comma, comma_of};
+use crate::openers::comma_of;
 use crate::operands::Parse;
 use crate::reader::{Reader, deep_on, syntax_on};
 use crate::tokens::Tokens;
 use crate::words::{is, type_of_text};
-use crate::written::{WrittenParam, WrittenPureParam};
+use c_grammar::{Comma, WrittenParam, WrittenPureParam};
 
 /// Whether one more is allowed where at most so many are.
 pub(crate) fn has_room(count: usize, most: usize) -> bool

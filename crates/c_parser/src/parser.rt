@@ -1,17 +1,16 @@
 // A whole text.
 ghost use Rattle.std.specs.Prelude.{◌≡◌, ◌||◌, ◌++◌, ◌∷◌, [], bytes_eq};
 ghost use Rattle.std.specs.List.{position_or_len, before_first, after_first};
-ghost use Rattle.c_tree.specs.Tokens as tokens;
-ghost use Rattle.c_tree.specs.Parsing as parsing;
+ghost use Rattle.c_grammar.specs.Tokens as tokens;
+ghost use Rattle.c_grammar.specs.Parsing as parsing;
 ghost use Rattle.c_parser.specs.Limited.{limits_of};
 ghost use Rattle.c_parser.specs.ParsedText.{GivesText};
 
-use crate::fault::ReadCFault;
 use crate::lines::last_line;
 use crate::reader::{Limits, Reader, syntax_on};
 use crate::tokens::Tokens;
 use crate::words::is;
-use crate::written::WrittenProgram;
+use c_grammar::{ReadCFault, WrittenProgram};
 use std::alloc::Global;
 
 // Where the first line ends, or the length.

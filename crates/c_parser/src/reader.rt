@@ -1,14 +1,14 @@
 // The small parts of a file: each takes the tokens that it reads and gives those behind them, or the first fault.
 ghost use Rattle.std.specs.Prelude.{◌≡◌};
-ghost use Rattle.c_tree.specs.Parsing as parsing;
-ghost use Rattle.c_tree.specs.declared.fault.CKind.TheVariants.{Syntax, Deep};
-ghost use Rattle.c_tree.specs.Prefix as prefix;
+ghost use Rattle.c_grammar.specs.Parsing as parsing;
+ghost use Rattle.c_syntax.specs.declared.fault.CKind.TheVariants.{Syntax, Deep};
+ghost use Rattle.c_grammar.specs.Prefix as prefix;
 ghost use Rattle.c_parser.specs.Gives.{passed, read_as};
 
 use crate::tokens::{Token, Tokens};
 use crate::words::{is, is_name, literal_of_text, type_of_text};
-use crate::written::Number;
-use c_tree::{CFault, CKind, CType};
+use c_grammar::Number;
+use c_syntax::{CFault, CKind, CType};
 use std::alloc::Global;
 
 /// How deep expressions and statements may be, and how many pure functions and parameters there may be.

@@ -1,18 +1,17 @@
 // Statements by recursive descent, at most so many levels deep.
 ghost use Rattle.std.specs.Prelude.{◌≡◌, map, codes, bytes_eq, length, suc};
-ghost use Rattle.c_tree.specs.Parsing as parsing;
+ghost use Rattle.c_grammar.specs.Parsing as parsing;
 ghost use Rattle.c_parser.specs.Gives.{Gives, GivesMore, behind};
 ghost use Rattle.c_parser.specs.Limited.{limits_of};
-ghost use Rattle.c_parser.specs.Openers as seen;
-ghost use Rattle.c_parser.specs.WrittenTrees.{stmt_of, cond_of};
+ghost use Rattle.c_grammar.specs.WrittenTrees.{stmt_of, cond_of};
 
 use crate::build;
-use crate::openers::{StmtOpener, stmt_opener_of};
+use crate::openers::stmt_opener_of;
 use crate::operands::Parse;
 use crate::reader::{Reader, deep_on, syntax_on};
 use crate::tokens::{Token, Tokens};
 use crate::words::is;
-use crate::written::{WrittenCond, WrittenStmt};
+use c_grammar::{StmtOpener, WrittenCond, WrittenStmt};
 
 impl Reader {
     fn statement_too_deep<'a>(
@@ -20,7 +19,7 @@ impl Reader {
         token: &Token<'a>,
         opener: StmtOpener,
     ) -> Parse<'a, WrittenStmt<'a>>
-        ensures { Gives stmt_of result (parsing.stmt_too_deep self.last (limits_of self.limits) token.now (seen.stmt_opener_seen opener)) }
+        ensures { Gives stmt_of result (parsing.stmt_too_deep self.last (limits_of self.limits) token.now opener) }
     {
         match opener {
             StmtOpener::Store | StmtOpener::If | StmtOpener::Call => Err(deep_on(
@@ -52,7 +51,7 @@ impl Reader {
     ) -> Parse<'a, WrittenStmt<'a>>
         ensures { Gives stmt_of result
             (parsing.parse_stmt_opened self.last (limits_of self.limits) (parsing.parse_stmt self.last (limits_of self.limits) levels)
-            token.now tokens.now (seen.stmt_opener_seen opener)) }
+            token.now tokens.now opener) }
     {
         match opener {
             StmtOpener::Store => self.store(token, tokens),

@@ -1,16 +1,16 @@
 // Structs and their fields.
 ghost use Rattle.std.specs.Prelude.{◌≡◌, map, codes, bytes_eq, length, suc};
-ghost use Rattle.c_tree.specs.Parsing as parsing;
+ghost use Rattle.c_grammar.specs.Parsing as parsing;
 ghost use Rattle.c_parser.specs.Gives.{Gives, GivesMore, read_as, behind};
 ghost use Rattle.c_parser.specs.FileParts as parts;
 ghost use Rattle.c_parser.specs.Limited.{limits_of};
-ghost use Rattle.c_parser.specs.WrittenTrees.{kind_of, field_of, struct_of};
+ghost use Rattle.c_grammar.specs.WrittenTrees.{kind_of, field_of, struct_of};
 
 use crate::operands::Parse;
 use crate::reader::{Read, Reader, syntax_on};
 use crate::tokens::{Token, Tokens};
 use crate::words::{is, type_of_text};
-use crate::written::{WrittenField, WrittenKind, WrittenStruct};
+use c_grammar::{WrittenField, WrittenKind, WrittenStruct};
 
 impl Reader {
     fn kind<'a>(self, token: &Token<'a>, tokens: Tokens<'a>) -> Read<'a, WrittenKind<'a>>

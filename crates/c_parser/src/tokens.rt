@@ -1,7 +1,7 @@
 // The tokens of a text, one after another.
 ghost use Rattle.std.specs.Prelude.{◌≡◌, ◌∷◌, [], MatchOption};
-ghost use Rattle.c_tree.specs.Tokens.{tokens_from};
-ghost use Rattle.c_tree.specs.Parsing.{first_text};
+ghost use Rattle.c_grammar.specs.Tokens.{tokens_from};
+ghost use Rattle.c_grammar.specs.Parsing.{first_text};
 ghost use Rattle.c_parser.specs.Lines.{line_behind};
 
 use crate::bytes::{Piece, first_piece};
@@ -16,7 +16,7 @@ pub(crate) struct Token<'a> {
 }
 
 impl<'a> Model for Token<'a> {
-    ghost use Rattle.c_tree.specs.Tokens as read;
+    ghost use Rattle.c_grammar.specs.Tokens as read;
 
     ghost Value = { read.Token };
 
@@ -32,7 +32,7 @@ pub(crate) struct Tokens<'a> {
 
 impl<'a> Model for Tokens<'a> {
     ghost use Rattle.std.specs.Prelude.{List};
-    ghost use Rattle.c_tree.specs.Tokens as read;
+    ghost use Rattle.c_grammar.specs.Tokens as read;
 
     ghost Value = { List read.Token };
 

@@ -1,14 +1,14 @@
 // The single words of a file, by their bytes.
 ghost use Rattle.std.specs.Prelude.{◌≡◌, bytes_eq, codes, MatchOption, true, false};
 ghost use Rattle.c_parser.specs.Numerals as numerals;
-ghost use Rattle.c_tree.specs.Prefix.{is_literal, digits_value};
+ghost use Rattle.c_grammar.specs.Prefix.{is_literal, digits_value};
 ghost use Rattle.std.specs.List.{list_any, list_all};
-ghost use Rattle.c_tree.specs.Tokens as tokens;
-ghost use Rattle.c_tree.specs.Parsing as parsing;
+ghost use Rattle.c_syntax.specs.Names as tokens;
+ghost use Rattle.c_grammar.specs.Parsing as parsing;
 
 use crate::bytes::is_word_byte;
-use crate::written::Number;
-use c_tree::{BinOp, CType};
+use c_grammar::Number;
+use c_syntax::{BinOp, CType};
 use mc_base::{Compare, capped_number, is_numeral};
 
 // The keywords of C99 that begin with a lower-case letter.

@@ -3,7 +3,7 @@ use Rattle.std.proofs.Common.{◌≡◌, refl, ap, ◌∙◌, subst, ℕ, suc, �
 use Rattle.std.specs.Prelude.{int_div, int_rem}
 use Rattle.std.specs.Ordering.{int_eq}
 use Rattle.std.specs.Int.{int_rem_euclid}
-use Rattle.mc_fixed.proofs.RoundingLaws.{close}
+use Rattle.mc_fixed.proofs.lemmas.RoundingLaws.{close}
 use Rattle.std.proofs.Math.Nat.{div-mul-le_self, le-mul_of_pos_right}
 use Rattle.std.proofs.lemmas.Int.{ints, quot-rem, rem_below}
 use Rattle.mc_base.specs.declared.Compare.TheVariants.{Eq, Ne, Lt, Le, Ge, Gt}
@@ -11,11 +11,11 @@ use Rattle.mc_fixed.specs.declared.Round.{Round}
 use Rattle.mc_fixed.specs.declared.Round.TheVariants.{Ceiling, Convergent, Floor, Nearest, Zero}
 use Rattle.mc_fixed.specs.declared.Round.TheVariants as round
 use Rattle.mc_fixed.specs.Rounding.{floor_div, rounded}
-use Rattle.c_tree.specs.declared.BinOp.TheVariants.{Add, Sub, Div, Rem}
-use Rattle.c_tree.specs.declared.Leaf.{Leaf}
-use Rattle.c_tree.specs.Tree.{ExprTree, literal, binary, pick, CondTree, compare, both, either}
-use Rattle.c_tree.specs.Cells.{no_cells}
-use Rattle.c_tree.specs.Values.{gives, Function, reads}
+use Rattle.c_syntax.specs.declared.BinOp.TheVariants.{Add, Sub, Div, Rem}
+use Rattle.c_syntax.specs.declared.Leaf.{Leaf}
+use Rattle.c_syntax.specs.Tree.{ExprTree, literal, binary, pick, CondTree, compare, both, either}
+use Rattle.c_machine.specs.Cells.{no_cells}
+use Rattle.c_machine.specs.Values.{gives, Function, reads}
 use Rattle.c_prelude.specs.Bodies.{argument, quotient, rest, half, minus_half, one_above, one_below, floor_body, ceiling_body, zero_body, nearer, nearest_body, away_body, is_odd, even_body, clamp_body, offset_rest, wrap_body}
 use Rattle.c_prelude.proofs.Division as division
 use Rattle.c_prelude.proofs.Division.{by_rest, by_rest_is, quotient-le}

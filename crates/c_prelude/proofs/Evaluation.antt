@@ -4,13 +4,13 @@ use Rattle.std.specs.Prelude.{int_div, int_rem}
 use Rattle.std.specs.Ordering.{int_eq}
 use Rattle.std.proofs.lemmas.Int.{ints}
 use Rattle.mc_base.specs.declared.Compare.{Compare}
-use Rattle.c_tree.specs.declared.BinOp.{BinOp}
-use Rattle.c_tree.specs.declared.BinOp.TheVariants.{Add, Sub, Div, Rem}
-use Rattle.c_tree.specs.declared.CType.TheVariants.{I64}
-use Rattle.c_tree.specs.declared.Leaf.{Leaf}
-use Rattle.c_tree.specs.declared.Why.TheVariants.{Overflow, ZeroDivisor}
-use Rattle.c_tree.specs.Tree.{ExprTree, literal, neg, read, binary, pick, CondTree, compare, both, either}
-use Rattle.c_tree.specs.Values.{gives, sticks, stuck_at, and_then, Function, eval, eval_cond, operate, within, is_in_type, compares}
+use Rattle.c_syntax.specs.declared.BinOp.{BinOp}
+use Rattle.c_syntax.specs.declared.BinOp.TheVariants.{Add, Sub, Div, Rem}
+use Rattle.c_syntax.specs.declared.CType.TheVariants.{I64}
+use Rattle.c_syntax.specs.declared.Leaf.{Leaf}
+use Rattle.c_syntax.specs.declared.Why.TheVariants.{Overflow, ZeroDivisor}
+use Rattle.c_syntax.specs.Tree.{ExprTree, literal, neg, read, binary, pick, CondTree, compare, both, either}
+use Rattle.c_machine.specs.Values.{gives, sticks, stuck_at, and_then, Function, eval, eval_cond, operate, within, is_in_type, compares}
 
 both_true : (a b : Bool) → a ≡ true → b ≡ true → (a && b) ≡ true
 both_true true b e f = f

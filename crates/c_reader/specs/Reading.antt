@@ -1,10 +1,10 @@
 -- What a text of C is read as.
 use Rattle.std.specs.Prelude.{ℕ, List, ⊤}
-use Rattle.c_tree.specs.Plain.{program_tree}
-use Rattle.c_tree.specs.Reading.{CText, CFaultOf}
-use Rattle.c_parser.specs.declared.fault.ReadCFault.{ReadCFault}
-use Rattle.c_parser.specs.declared.fault.ReadCFault.TheVariants.{Refused, Memory}
-use Rattle.c_reader.specs.Checked.{CheckedProgram}
+use Rattle.c_syntax.specs.Plain.{program_tree}
+use Rattle.c_rules.specs.Reading.{CText, CFaultOf}
+use Rattle.c_grammar.specs.declared.fault.ReadCFault.{ReadCFault}
+use Rattle.c_grammar.specs.declared.fault.ReadCFault.TheVariants.{Refused, Memory}
+use Rattle.c_checked.specs.Checked.{CheckedProgram}
 
 -- the bytes are no text of a program, and this is their first fault; of want of memory nothing is said
 abbrev pub IsReadFault : List ℕ → ReadCFault → Type 0

@@ -1,18 +1,16 @@
 // A whole text.
 ghost use Rattle.std.specs.Prelude.{◌≡◌, ◌<◌, ◌^◌, length, IfOk, IfErr, OnErr};
-ghost use Rattle.c_tree.specs.Lawful.{IsLawful};
-ghost use Rattle.c_tree.specs.Plain.{program_tree};
-ghost use Rattle.c_parsing.specs.ParsedText.{read_text};
-ghost use Rattle.c_reader.specs.Gives.{Gives};
+ghost use Rattle.c_syntax.specs.Lawful.{IsLawful};
+ghost use Rattle.c_syntax.specs.Plain.{program_tree};
+ghost use Rattle.c_reading.specs.ReadText.{read_text};
+ghost use Rattle.c_resolver.specs.Gives.{Gives};
 ghost use Rattle.c_reader.specs.Reading.{IsRead, IsReadFault};
 
-use crate::checked::Checked;
-use crate::interface::{input_types, output_count};
-use crate::places::procedure_named;
-use crate::programs::resolve_program;
-use c_parser::{ReadCFault, last_line, parse_c};
-use c_tree::Program;
-use mc_base::Memory;
+use c_checked::Checked;
+use c_grammar::ReadCFault;
+use c_parser::{last_line, parse_c};
+use c_resolver::{check_root, resolve_program};
+use c_syntax::Program;
 use std::alloc::Global;
 
 /// The program of a text, its names resolved.
@@ -22,23 +20,6 @@ fn read_program(alloc: Global, bytes: &[u8]) -> Result<Program, ReadCFault>
 {
     let written = parse_c(alloc, bytes)?;
     resolve_program(alloc, last_line(bytes), &written)
-}
-
-/// A lawful program with what its root takes and gives.
-fn check_root(alloc: Global, program: Program) -> Result<Checked, Memory>
-    requires lawful { IsLawful (program_tree program) }
-    requires few { length program.procedures.items < 2 ^ 32 }
-    ensures { IfOk result (λ checked. checked.program ≡ program) }
-{
-    let Some(k) = procedure_named(&program, b"root_step") else {
-        return Err(Memory);
-    };
-    let Some(step) = program.procedures.get(k as usize) else {
-        return Err(Memory);
-    };
-    let inputs = input_types(alloc, step.params.as_slice())?;
-    let outputs = output_count(alloc, &program)?;
-    Ok(Checked::new(program, inputs, outputs))
 }
 
 /// The one program of a C text of the subset in `docs/FORMATS.md`.

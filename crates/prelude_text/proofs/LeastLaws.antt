@@ -1,12 +1,11 @@
 -- The least program with the eight functions is lawful.
 use Rattle.std.proofs.Common.{◌≡◌, refl, sym, ap, ◌∙◌, subst, ◌≤◌, lit≤, List, [], ◌∷◌, ◌++◌, length, codes}
 use Rattle.std.proofs.lemmas.List.{length-map}
-use Rattle.c_tree.specs.declared.code.CType.TheVariants.{I32}
-use Rattle.c_tree.specs.declared.program.FieldKind.TheVariants.{Number}
-use Rattle.c_tree.specs.Tree.{StructTree, ProcedureTree, PureTree, ProgramTree}
-use Rattle.c_tree.specs.Lawful.{AreDistinct, AreStructs, AreProcedures, HasRoot, IsLawful, procedure_names}
-use Rattle.c_tree.specs.Prefix.{pure_limit}
-use Rattle.c_tree.specs.Reading.{IsWithinLimits}
+use Rattle.c_syntax.specs.declared.code.CType.TheVariants.{I32}
+use Rattle.c_syntax.specs.declared.program.FieldKind.TheVariants.{Number}
+use Rattle.c_syntax.specs.Tree.{StructTree, ProcedureTree, PureTree, ProgramTree}
+use Rattle.c_syntax.specs.Lawful.{AreDistinct, AreStructs, AreProcedures, HasRoot, IsLawful, procedure_names}
+use Rattle.c_syntax.specs.Limits.{pure_limit, IsWithinLimits}
 use Rattle.c_prelude.specs.Rules.{names, IsPrelude}
 use Rattle.prelude_text.specs.Root.{root_struct, root_procedure}
 

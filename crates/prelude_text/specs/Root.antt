@@ -1,8 +1,8 @@
 -- The least root: one field, and procedures that store 0 in it.
 use Rattle.std.specs.Prelude.{ℕ, List, [], ◌∷◌, codes, pos, false}
-use Rattle.c_tree.specs.declared.code.CType.TheVariants.{I32}
-use Rattle.c_tree.specs.declared.program.FieldKind.TheVariants.{Number}
-use Rattle.c_tree.specs.Tree.{literal, assign, no_stmts, more_stmts, StructTree, ProcedureTree}
+use Rattle.c_syntax.specs.declared.code.CType.TheVariants.{I32}
+use Rattle.c_syntax.specs.declared.program.FieldKind.TheVariants.{Number}
+use Rattle.c_syntax.specs.Tree.{literal, assign, no_stmts, more_stmts, StructTree, ProcedureTree}
 
 -- struct root { int32_t now; };
 abbrev pub root_struct : StructTree

@@ -1,11 +1,11 @@
 ghost use Rattle.std.specs.Prelude.{◌≡◌, [], ◌∷◌, codes, map, IfOk};
-ghost use Rattle.c_tree.specs.Plain.{procedure_tree, program_tree};
-ghost use Rattle.c_tree.specs.Lawful.{IsLawful};
+ghost use Rattle.c_syntax.specs.Plain.{procedure_tree, program_tree};
+ghost use Rattle.c_syntax.specs.Lawful.{IsLawful};
 ghost use Rattle.c_prelude.specs.Rules.{IsPrelude};
 ghost use Rattle.prelude_text.specs.Root.{root_struct, root_procedure};
 
 use c_prelude::prelude;
-use c_tree::{CType, Expr, Field, FieldKind, Procedure, Program, Stmt, StructDef};
+use c_syntax::{CType, Expr, Field, FieldKind, Procedure, Program, Stmt, StructDef};
 use mc_base::{Memory, Text};
 use std::alloc::Global;
 

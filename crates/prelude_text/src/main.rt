@@ -2,8 +2,8 @@
 #![tactic(auto)]
 
 ghost use Rattle.std.specs.Prelude.{IfOk};
-ghost use Rattle.c_tree.specs.Tree.{ProgramTree};
-ghost use Rattle.c_tree.specs.Lawful.{IsTextOf};
+ghost use Rattle.c_syntax.specs.Tree.{ProgramTree};
+ghost use Rattle.c_rules.specs.Reading.{IsTextOf};
 ghost use Rattle.c_prelude.specs.Rules.{IsPrelude};
 
 use crate::least::program;
@@ -23,7 +23,7 @@ fn text(alloc: Global) -> Result<Vec<u8>, Memory>
     ensures { IfOk result (λ text. (p : ProgramTree) × IsPrelude p.pures × IsTextOf text.items p) }
 {
     let program = program(alloc)?;
-    c_tree::print(alloc, &program)
+    c_printer::print(alloc, &program)
 }
 
 fn main(rt: HostRuntime) -> ExitCode {

@@ -1,49 +1,28 @@
 ghost use Rattle.std.specs.Prelude.{◌≡◌, IsTrue, Some, slice_get, []};
-ghost use Rattle.c_tree.specs.Plain.{program_tree};
-ghost use Rattle.c_tree.specs.Tree.{ProcedureTree};
+ghost use Rattle.c_checked.specs.Checked.{IsChecked};
+ghost use Rattle.c_syntax.specs.Plain.{program_tree};
+ghost use Rattle.c_syntax.specs.Tree.{ProcedureTree};
 ghost use Rattle.c_meaning.specs.Machines.{IsCallable};
 
 use super::*;
 use crate::instances::place_of;
-use c_reader::read_c;
-use c_tree::{Program, Why};
+use c_checked::Checked;
+use c_syntax::{Program, Why};
+use programs::{nested, stuck_at_start};
 use std::test::Fail;
 
-// Instances: 0 is the root, 1 its m, 2 and 3 the l and r of m, and 4 its n.
-const NESTED: &[u8] = b"#include <stdint.h>
-struct leaf { int8_t v; int32_t w; };
-struct mid { int32_t a; struct leaf l; struct leaf r; };
-struct root { struct mid m; int32_t y1; struct leaf n; };
-static void leaf_update(struct leaf *s) {
-  if (INT64_C(0) < (int64_t)s->w) {
-    s->v = (int8_t)((int64_t)s->v + INT64_C(100));
-  }
-  s->w = (int32_t)((int64_t)s->w + INT64_C(1));
-}
-static void mid_out1(struct mid *s) {
-  s->a = (int32_t)INT64_C(5);
-  leaf_update(&s->r);
-}
-void root_start(struct root *s) {
-  s->y1 = (int32_t)INT64_C(9);
-}
-void root_step(struct root *s) {
-  s->y1 = (int32_t)((int64_t)s->y1 / (int64_t)s->m.a);
-}
-";
+mod programs;
 
-const STUCK_AT_START: &[u8] = b"#include <stdint.h>
-struct root { int8_t y1; };
-void root_start(struct root *s) {
-  s->y1 = (int8_t)INT64_C(128);
+// The machine of a program without inputs and with one output.
+fn machine_of(alloc: Global, program: Program) -> Result<Machine, NewFault>
+    requires { IsChecked (record { program = program; inputs = []; outputs = 1 }) }
+{
+    Machine::new(alloc, Checked::new(program, Vec::new(alloc), 1))
 }
-void root_step(struct root *s) { }
-";
 
-// The machine of a text that is a program.
-fn machine_of(alloc: Global, text: &[u8]) -> Result<Machine, NewFault> {
-    match read_c(alloc, text) {
-        Ok(checked) => Machine::new(alloc, checked),
+fn nested_machine(alloc: Global) -> Result<Machine, NewFault> {
+    match nested(alloc) {
+        Ok(program) => machine_of(alloc, program),
         Err(_) => Err(NewFault::Memory),
     }
 }
@@ -108,7 +87,7 @@ fn took(steps: u64, calls: u64) -> Option<Result<Cost, Stuck>> {
 
 #[test]
 fn instances_by_name(rt: HostRuntime) -> Result<(), Fail> {
-    let machine = machine_of(rt.alloc(), NESTED)?;
+    let machine = nested_machine(rt.alloc())?;
     assert_eq!(rt; machine.child(0, b"m"), Some(1));
     assert_eq!(rt; machine.child(1, b"l"), Some(2));
     assert_eq!(rt; machine.child(1, b"r"), Some(3));
@@ -122,7 +101,7 @@ fn instances_by_name(rt: HostRuntime) -> Result<(), Fail> {
 
 #[test]
 fn numbers_by_name(rt: HostRuntime) -> Result<(), Fail> {
-    let machine = machine_of(rt.alloc(), NESTED)?;
+    let machine = nested_machine(rt.alloc())?;
     assert_eq!(rt; machine.field(0, b"y1"), Some(9));
     assert_eq!(rt; machine.field(1, b"a"), Some(0));
     assert_eq!(rt; machine.field(4, b"w"), Some(0));
@@ -134,7 +113,7 @@ fn numbers_by_name(rt: HostRuntime) -> Result<(), Fail> {
 
 #[test]
 fn ticks(rt: HostRuntime) -> Result<(), Fail> {
-    let mut machine = machine_of(rt.alloc(), NESTED)?;
+    let mut machine = nested_machine(rt.alloc())?;
     let mut outputs = [0];
     assert_eq!(rt;
         tick_of(&mut machine, &mut outputs),
@@ -150,7 +129,8 @@ fn starts_that_are_stuck(rt: HostRuntime) -> Result<(), Fail> {
         line: 4,
         why: Why::Range,
     };
-    match machine_of(rt.alloc(), STUCK_AT_START) {
+    let program = stuck_at_start(rt.alloc())?;
+    match machine_of(rt.alloc(), program) {
         Ok(_) => assert!(rt; false),
         Err(fault) => assert_eq!(rt; fault, NewFault::Stuck(at)),
     }
@@ -159,7 +139,7 @@ fn starts_that_are_stuck(rt: HostRuntime) -> Result<(), Fail> {
 
 #[test]
 fn calls_of_instances(rt: HostRuntime) -> Result<(), Fail> {
-    let mut machine = machine_of(rt.alloc(), NESTED)?;
+    let mut machine = nested_machine(rt.alloc())?;
     assert_eq!(rt; call_of(&mut machine, 1, 1), took(4, 2));
     assert_eq!(rt; machine.field(1, b"a"), Some(5));
     assert_eq!(rt; machine.field(2, b"w"), Some(0));
@@ -172,7 +152,7 @@ fn calls_of_instances(rt: HostRuntime) -> Result<(), Fail> {
 
 #[test]
 fn calls_that_are_stuck(rt: HostRuntime) -> Result<(), Fail> {
-    let mut machine = machine_of(rt.alloc(), NESTED)?;
+    let mut machine = nested_machine(rt.alloc())?;
     assert_eq!(rt; call_of(&mut machine, 1, 1), took(4, 2));
     assert_eq!(rt; call_of(&mut machine, 1, 1), took(5, 2));
     assert_eq!(rt; call_of(&mut machine, 1, 1), stuck(7, Why::Range));

@@ -1,6 +1,6 @@
 use Rattle.std.proofs.Common.{◌≡◌, [], sym, ◌∙◌, ap, ℕ, ◌+◌, ◌-◌, ◌≤◌, ℤ, List, ◌++◌, length, arith, rules, take, drop, Some, subst}
-use Rattle.c_tree.specs.Machine.{call_from_outside}
-use Rattle.c_tree.specs.Plain.{program_tree}
+use Rattle.c_machine.specs.Machine.{call_from_outside}
+use Rattle.c_syntax.specs.Plain.{program_tree}
 use Rattle.c_meaning.specs.Instances.{StructInstance}
 use Rattle.c_meaning.specs.Roots.{root_ended}
 use Rattle.c_meaning.specs.Seen.{seen}

@@ -1,13 +1,12 @@
-use Rattle.std.proofs.Common.{◌≡◌, ◌++◌, take, drop, map}
-use Rattle.c_tree.specs.Tree.{exprs_of_list}
-use Rattle.c_tree.specs.Plain.{expr_tree, program_tree}
-use Rattle.c_tree.specs.Machine.{arguments}
-use Rattle.c_tree.specs.Values.{and_then, gives, functions_of, reads}
+use Rattle.std.proofs.Common.{◌≡◌, ◌++◌, take, drop, map, []}
+use Rattle.c_syntax.specs.Tree.{exprs_of_list}
+use Rattle.c_syntax.specs.Plain.{expr_tree, program_tree}
+use Rattle.c_machine.specs.Machine.{arguments}
+use Rattle.c_machine.specs.Values.{and_then, gives, functions_of, reads}
 use Rattle.c_meaning.specs.Answers.{IsLater}
 use Rattle.c_meaning.specs.Reads.{AreNarrowExprs}
 use Rattle.c_meaning.specs.States.{filled}
 use Rattle.c_meaning.specs.Sound.{zero_at}
-use Rattle.std.proofs.Common.{[]}
 use Rattle.c_meaning.proofs.frames.put_arguments.Given as goal
 
 abbrev pub invariant-loop-i : goal.invariant-loop-i

@@ -1,6 +1,6 @@
 use Rattle.std.proofs.Common.{sym, subst, map, List}
-use Rattle.c_tree.specs.declared.program.Pure.{Pure}
-use Rattle.c_tree.specs.Plain.{pure_tree, expr_tree}
+use Rattle.c_syntax.specs.declared.program.Pure.{Pure}
+use Rattle.c_syntax.specs.Plain.{pure_tree, expr_tree}
 use Rattle.c_meaning.specs.Reads.{AreNarrow}
 use Rattle.c_meaning.proofs.BodyReads.{eval_same}
 use Rattle.c_meaning.proofs.frames.value_of_any.Goals as goal

@@ -1,5 +1,5 @@
 use Rattle.std.proofs.Common.{refl}
-use Rattle.c_tree.specs.Plain.{program_tree}
+use Rattle.c_syntax.specs.Plain.{program_tree}
 use Rattle.c_meaning.proofs.BodyReads.{frame_reads}
 use Rattle.c_meaning.proofs.frames.view_of.Goals as goal
 

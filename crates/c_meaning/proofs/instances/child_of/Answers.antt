@@ -1,5 +1,5 @@
 use Rattle.std.proofs.Common.{arith, ◌∙◌, ap}
-use Rattle.c_tree.specs.Plain.{program_tree}
+use Rattle.c_syntax.specs.Plain.{program_tree}
 use Rattle.c_meaning.specs.Instances.{field_named}
 use Rattle.c_meaning.specs.Numbering.{fields_count, struct_count}
 use Rattle.c_meaning.proofs.Standing.{whole_count, place_count, named_is, position_within, child_unnamed, child_none, child_some}

@@ -1,5 +1,5 @@
 use Rattle.std.proofs.Common.{ap, ◌∙◌, refl}
-use Rattle.c_tree.specs.declared.program.Field.{Field}
+use Rattle.c_syntax.specs.declared.program.Field.{Field}
 use Rattle.c_meaning.proofs.Numbered.{number_uncounted, struct_counted}
 use Rattle.c_meaning.proofs.instances.count_before.Goals as goal
 

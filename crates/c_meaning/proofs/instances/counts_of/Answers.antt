@@ -1,7 +1,7 @@
 use Rattle.std.proofs.Common.{◌≡◌, arith, ◌∙◌, ap, subst, sym, suc, take, ◌++◌, ◌∷◌, [], Option, Some, ℕ}
 use Rattle.std.specs.Prelude.{IfSome}
-use Rattle.c_tree.specs.PlainField.{field_trees}
-use Rattle.c_tree.specs.Tree.{StructTree}
+use Rattle.c_syntax.specs.PlainField.{field_trees}
+use Rattle.c_syntax.specs.Tree.{StructTree}
 use Rattle.c_meaning.specs.Numbering.{fields_count, counts_of}
 use Rattle.c_meaning.proofs.Numbered.{counts_more}
 use Rattle.c_meaning.proofs.instances.counts_of.Goals as goal

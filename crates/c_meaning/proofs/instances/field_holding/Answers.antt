@@ -1,6 +1,6 @@
 use Rattle.std.proofs.Common.{arith, ◌∙◌, ◌+◌, ap}
-use Rattle.c_tree.specs.declared.program.Field.{Field}
-use Rattle.c_tree.specs.PlainField.{field_tree}
+use Rattle.c_syntax.specs.declared.program.Field.{Field}
+use Rattle.c_syntax.specs.PlainField.{field_tree}
 use Rattle.c_meaning.specs.Numbering.{kind_count, fields_count}
 use Rattle.c_meaning.proofs.Numbered.{count_more, tree_there, take_trees}
 use Rattle.c_meaning.proofs.instances.field_holding.Goals as goal

@@ -1,5 +1,5 @@
 use Rattle.std.proofs.Common.{◌≡◌, take}
-use Rattle.c_tree.specs.PlainField.{field_trees}
+use Rattle.c_syntax.specs.PlainField.{field_trees}
 use Rattle.c_meaning.specs.Numbering.{fields_count}
 use Rattle.c_meaning.proofs.instances.fields_count.Given as goal
 

@@ -1,5 +1,5 @@
 use Rattle.std.proofs.Common.{◌∙◌, ap, slice_get}
-use Rattle.c_tree.specs.Plain.{program_tree}
+use Rattle.c_syntax.specs.Plain.{program_tree}
 use Rattle.c_meaning.specs.Instances.{field_named}
 use Rattle.c_meaning.specs.Numbering.{slot_number}
 use Rattle.c_meaning.specs.Sound.{zero_at}

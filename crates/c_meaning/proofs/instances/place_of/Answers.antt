@@ -1,5 +1,5 @@
 use Rattle.std.proofs.Common.{arith}
-use Rattle.c_tree.specs.Plain.{program_tree}
+use Rattle.c_syntax.specs.Plain.{program_tree}
 use Rattle.c_meaning.proofs.Standing.{way_begins, way_goes, way_lost, way_fits}
 use Rattle.c_meaning.proofs.instances.place_of.Goals as goal
 

@@ -1,4 +1,4 @@
-use Rattle.c_tree.specs.Plain.{program_tree}
+use Rattle.c_syntax.specs.Plain.{program_tree}
 use Rattle.c_meaning.specs.Numbering.{IsOnWay}
 use Rattle.c_meaning.proofs.instances.place_of.Given as goal
 

@@ -1,6 +1,6 @@
 use Rattle.std.proofs.Common.{subst, List, ap, slice_get}
-use Rattle.c_tree.specs.Plain.{program_tree}
-use Rattle.c_tree.specs.Tree.{FieldTree}
+use Rattle.c_syntax.specs.Plain.{program_tree}
+use Rattle.c_syntax.specs.Tree.{FieldTree}
 use Rattle.c_meaning.specs.Numbering.{IsHeld}
 use Rattle.c_meaning.proofs.Standing.{held_slot, step_is}
 use Rattle.c_meaning.proofs.instances.step_into.Goals as goal

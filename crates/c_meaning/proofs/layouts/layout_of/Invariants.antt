@@ -1,5 +1,5 @@
 use Rattle.std.proofs.Common.{◌≡◌, take}
-use Rattle.c_tree.specs.PlainField.{field_trees}
+use Rattle.c_syntax.specs.PlainField.{field_trees}
 use Rattle.c_meaning.specs.Layouts.{slots_from, end_of}
 use Rattle.c_meaning.proofs.layouts.layout_of.Given as goal
 

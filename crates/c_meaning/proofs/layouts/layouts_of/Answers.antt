@@ -1,6 +1,6 @@
 use Rattle.std.proofs.Common.{◌≡◌, arith, ◌∙◌, ap, sym, take, ◌++◌, ◌∷◌, []}
-use Rattle.c_tree.specs.PlainField.{field_trees}
-use Rattle.c_tree.specs.Tree.{StructTree}
+use Rattle.c_syntax.specs.PlainField.{field_trees}
+use Rattle.c_syntax.specs.Tree.{StructTree}
 use Rattle.c_meaning.specs.Layouts.{layout_of, layouts_of}
 use Rattle.c_meaning.proofs.LaidOut.{layouts_more}
 use Rattle.c_meaning.proofs.layouts.layouts_of.Goals as goal

@@ -1,5 +1,5 @@
 use Rattle.std.proofs.Common.{◌≡◌, take, map}
-use Rattle.c_tree.specs.Machine.{is_interface}
+use Rattle.c_machine.specs.Machine.{is_interface}
 use Rattle.c_meaning.proofs.names.are_logged.Given as goal
 
 abbrev pub invariant-loop-q : goal.invariant-loop-q

@@ -1,7 +1,7 @@
 use Rattle.std.proofs.Common.{◌≡◌, map}
-use Rattle.c_tree.specs.Outputs.{numbers_from, output_name}
-use Rattle.c_tree.specs.PlainField.{field_trees}
-use Rattle.c_tree.specs.Rows.{field_position}
+use Rattle.c_syntax.specs.Outputs.{numbers_from, output_name}
+use Rattle.c_syntax.specs.PlainField.{field_trees}
+use Rattle.c_syntax.specs.RootFields.{field_position}
 use Rattle.c_meaning.proofs.roots.output_fields.Given as goal
 
 abbrev pub invariant-loop-k : goal.invariant-loop-k

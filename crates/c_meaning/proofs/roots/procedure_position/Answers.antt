@@ -1,6 +1,6 @@
 use Rattle.std.proofs.Common.{ap, ◌∙◌, unwrap_or, List, bytes_eq}
 use Rattle.std.specs.List.{position_from}
-use Rattle.c_tree.specs.declared.program.Procedure.{Procedure}
+use Rattle.c_syntax.specs.declared.program.Procedure.{Procedure}
 use Rattle.c_meaning.proofs.RootLaws.{procedure_position_is}
 use Rattle.c_meaning.proofs.roots.procedure_position.Goals as goal
 

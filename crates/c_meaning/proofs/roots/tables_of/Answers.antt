@@ -1,9 +1,9 @@
 use Rattle.std.proofs.Common.{arith, length, ◌<◌, ap, ◌∙◌, refl, map, List}
-use Rattle.c_tree.specs.Machine.{is_interface}
-use Rattle.c_tree.specs.Outputs.{numbers_from, output_name}
-use Rattle.c_tree.specs.Plain.{program_tree}
-use Rattle.c_tree.specs.Rows.{field_position}
-use Rattle.c_tree.specs.declared.program.Procedure.{Procedure}
+use Rattle.c_machine.specs.Machine.{is_interface}
+use Rattle.c_syntax.specs.Outputs.{numbers_from, output_name}
+use Rattle.c_syntax.specs.Plain.{program_tree}
+use Rattle.c_syntax.specs.RootFields.{field_position}
+use Rattle.c_syntax.specs.declared.program.Procedure.{Procedure}
 use Rattle.c_meaning.specs.Layouts.{layouts_of}
 use Rattle.c_meaning.specs.Numbering.{counts_of}
 use Rattle.c_meaning.proofs.Calling.{counts_are}

@@ -1,15 +1,15 @@
 use Rattle.std.proofs.Common.{◌≡◌, ◌≤◌, ◌+◌, ◌-◌, ◌++◌, ℤ, List, length, map, take, drop, ℕ, ap, sym, ◌∙◌, subst, arith, rules, slice_index_or, false}
 use Rattle.std.proofs.lemmas.Grind.{common_steps}
-use Rattle.c_tree.specs.declared.code.Target.{Target}
-use Rattle.c_tree.specs.Plain.{expr_tree, stmt_tree, program_tree, procedure_tree}
-use Rattle.c_tree.specs.Reading.{stmt_depth, stmts_depth}
-use Rattle.c_tree.specs.Tree.{StmtTree, StmtTrees, ProcedureTree, call, exprs_of_list, stmts_of_list}
-use Rattle.c_tree.specs.Machine.{run_stmt, run_stmts, routine_at, Routine}
-use Rattle.c_tree.specs.Values.{functions_of}
+use Rattle.c_syntax.specs.declared.code.Target.{Target}
+use Rattle.c_syntax.specs.Plain.{expr_tree, stmt_tree, program_tree, procedure_tree}
+use Rattle.c_syntax.specs.Limits.{stmt_depth, stmts_depth}
+use Rattle.c_syntax.specs.Tree.{StmtTree, StmtTrees, ProcedureTree, call, exprs_of_list, stmts_of_list}
+use Rattle.c_machine.specs.Machine.{run_stmt, run_stmts, routine_at, Routine}
+use Rattle.c_machine.specs.Values.{functions_of}
 use Rattle.c_meaning.specs.Slots.{layout_at}
 use Rattle.c_meaning.specs.States.{filled}
 use Rattle.c_meaning.specs.Sound.{IsSoundStmt, AreSoundStmts, IsCallOf, IsProcedureOf, IsInstanceField, scope_at, zero_at, zeros_of}
-use Rattle.c_tree.specs.Cells.{Cells}
+use Rattle.c_machine.specs.Cells.{Cells}
 use Rattle.c_meaning.specs.Seen.{seen}
 use Rattle.c_meaning.proofs.Narrow.{exprs_length-list}
 use Rattle.c_meaning.proofs.Measures.{if_depth, stmts_depth_at, sound_here, sound_more, procs_at, proc_is, proc_logged, proc_params, proc_count}

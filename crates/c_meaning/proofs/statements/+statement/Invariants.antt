@@ -1,8 +1,8 @@
 use Rattle.std.proofs.Common.{◌≡◌, ◌+◌, ◌*◌, map, take, drop, ℕ, max}
-use Rattle.c_tree.specs.Plain.{stmt_tree, program_tree}
-use Rattle.c_tree.specs.Reading.{stmt_depth, stmts_depth}
-use Rattle.c_tree.specs.Tree.{stmts_of_list}
-use Rattle.c_tree.specs.Machine.{run_stmts}
+use Rattle.c_syntax.specs.Plain.{stmt_tree, program_tree}
+use Rattle.c_syntax.specs.Limits.{stmt_depth, stmts_depth}
+use Rattle.c_syntax.specs.Tree.{stmts_of_list}
+use Rattle.c_machine.specs.Machine.{run_stmts}
 use Rattle.c_meaning.specs.States.{filled}
 use Rattle.c_meaning.specs.Sound.{AreSoundStmts, scope_at, zero_at}
 use Rattle.c_meaning.specs.Seen.{seen, IsCounted}

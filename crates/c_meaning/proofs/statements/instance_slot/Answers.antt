@@ -1,4 +1,4 @@
-use Rattle.c_tree.specs.Plain.{program_tree}
+use Rattle.c_syntax.specs.Plain.{program_tree}
 use Rattle.c_meaning.proofs.Places.{instance_there}
 use Rattle.c_meaning.proofs.statements.instance_slot.Goals as goal
 

@@ -1,7 +1,6 @@
-use Rattle.std.proofs.Common.{SFits, w64}
+use Rattle.std.proofs.Common.{SFits, w64, rules}
 use Rattle.std.proofs.lemmas.Int.{to_z-of_z}
-use Rattle.std.proofs.Common.{rules}
-use Rattle.c_tree.specs.Plain.{program_tree, expr_tree}
+use Rattle.c_syntax.specs.Plain.{program_tree, expr_tree}
 use Rattle.c_meaning.specs.Sound.{scope_at}
 use Rattle.c_meaning.proofs.Outcomes.{assign_gives}
 use Rattle.c_meaning.proofs.statements.set_field.Goals as goal

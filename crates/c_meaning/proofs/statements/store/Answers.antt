@@ -1,8 +1,8 @@
 use Rattle.std.proofs.Common.{arith, sym, ap, ◌∙◌, w64}
 use Rattle.std.proofs.lemmas.Int.{to_z-of_z}
 use Rattle.std.proofs.Math.ListN.{set}
-use Rattle.c_tree.specs.Plain.{program_tree}
-use Rattle.c_tree.specs.Values.{is_in_type}
+use Rattle.c_syntax.specs.Plain.{program_tree}
+use Rattle.c_machine.specs.Values.{is_in_type}
 use Rattle.c_meaning.specs.Sound.{zero_at}
 use Rattle.c_meaning.specs.States.{filled}
 use Rattle.c_meaning.specs.Seen.{halted}

@@ -1,14 +1,13 @@
 use Rattle.std.proofs.Common.{rules, ◌≡◌, ◌≤◌, [], length, map, ◌+◌, ◌*◌, ◌<◌, arith, ap, sym, ◌∙◌, refl, SFits, w64, true, false, get_or, take}
 use Rattle.std.proofs.Math.ListN.{set}
 use Rattle.std.proofs.lemmas.Int.{to_z-of_z}
-use Rattle.c_tree.specs.Tree.{exprs_of_list}
-use Rattle.c_tree.specs.Plain.{expr_tree, cond_tree, pure_tree}
-use Rattle.c_tree.specs.Values.{eval, functions_of}
+use Rattle.c_syntax.specs.Tree.{exprs_of_list}
+use Rattle.c_syntax.specs.Plain.{expr_tree, cond_tree, pure_tree}
+use Rattle.c_machine.specs.Values.{eval, functions_of, gives, Function}
 use Rattle.c_meaning.specs.Reads.{view_reads, view_functions}
-use Rattle.c_tree.specs.Values.{gives, Function}
 use Rattle.std.proofs.lemmas.Bool.Decides.{nat_tests}
 use Rattle.c_meaning.proofs.Measures.{bodies, bodies_at, depth_of, depth_in, depth_under, depth_at}
-use Rattle.c_tree.specs.Reading.{cond_depth}
+use Rattle.c_syntax.specs.Limits.{cond_depth}
 use Rattle.std.proofs.lemmas.Grind.{common_steps}
 use Rattle.c_meaning.proofs.Narrow.{exprs_here, pures_take, pures_at, exprs_length-list, pure_narrow, pure_gives}
 use Rattle.c_meaning.proofs.Evaluations.{neg_gives, binary_gives, binary_sticks, pick_gives, compare_gives, compare_sticks, both_goes_on, either_goes_on, negated_gives, eval_all_more, narrow_more, function_gives, function_there, function_past}

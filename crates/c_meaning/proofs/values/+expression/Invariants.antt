@@ -1,8 +1,8 @@
 use Rattle.std.proofs.Common.{◌≡◌, ◌++◌, map, take, drop, ◌+◌, ◌*◌}
-use Rattle.c_tree.specs.Tree.{exprs_of_list}
-use Rattle.c_tree.specs.Reading.{cond_depth}
-use Rattle.c_tree.specs.Plain.{expr_tree, cond_tree}
-use Rattle.c_tree.specs.Values.{eval_all, and_then, gives}
+use Rattle.c_syntax.specs.Tree.{exprs_of_list}
+use Rattle.c_syntax.specs.Limits.{cond_depth}
+use Rattle.c_syntax.specs.Plain.{expr_tree, cond_tree}
+use Rattle.c_machine.specs.Values.{eval_all, and_then, gives}
 use Rattle.c_meaning.specs.Answers.{IsLater}
 use Rattle.c_meaning.specs.Reads.{view_reads, view_functions, AreNarrowExprs}
 use Rattle.c_meaning.proofs.Measures.{bodies, depth_in, depth_of}

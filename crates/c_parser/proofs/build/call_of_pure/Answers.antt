@@ -1,5 +1,5 @@
 use Rattle.std.proofs.Common.{ap}
-use Rattle.c_tree.specs.Written as written
+use Rattle.c_grammar.specs.Written as written
 use Rattle.c_parser.proofs.Rows.{exprs-of_vec}
 use Rattle.c_parser.proofs.build.call_of_pure.Goals as goal
 

@@ -1,4 +1,4 @@
-use Rattle.c_parser.specs.WrittenTrees.{cond_of, choice_of}
+use Rattle.c_grammar.specs.WrittenTrees.{cond_of, choice_of}
 use Rattle.c_parser.proofs.Rows.{stmts-of_vec}
 use Rattle.c_parser.proofs.build.choice.Goals as goal
 

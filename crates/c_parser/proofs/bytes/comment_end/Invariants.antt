@@ -1,5 +1,5 @@
 use Rattle.std.proofs.Common.{◌≡◌, ◌+◌, length, option_map}
-use Rattle.c_tree.specs.Tokens.{comment_end}
+use Rattle.c_grammar.specs.Tokens.{comment_end}
 use Rattle.c_parser.proofs.bytes.comment_end.Given as goal
 
 abbrev pub invariant-loop-rest : goal.invariant-loop-rest

@@ -1,7 +1,7 @@
 use Rattle.std.proofs.Common.{arith}
 use Rattle.std.specs.Char.{is_ascii_digit}
 use Rattle.std.proofs.lemmas.List.Sums.{prefix_len-le-length}
-use Rattle.c_tree.specs.Tokens.{is_word_byte}
+use Rattle.c_syntax.specs.Names.{is_word_byte}
 use Rattle.c_parser.proofs.Pieces.{blank-piece, word-piece, number-piece}
 use Rattle.c_parser.proofs.bytes.first_piece.Goals as goal
 

@@ -1,10 +1,10 @@
 use Rattle.std.proofs.Common.{sym, subst}
-use Rattle.c_tree.specs.declared.program.Program.{Program}
-use Rattle.c_tree.specs.Plain.{program_tree}
-use Rattle.c_tree.specs.Reading.{CText}
-use Rattle.c_parsing.proofs.Texts.{texts_agree}
+use Rattle.c_syntax.specs.declared.program.Program.{Program}
+use Rattle.c_syntax.specs.Plain.{program_tree}
+use Rattle.c_rules.specs.Reading.{CText}
+use Rattle.c_reading.proofs.lemmas.ReadTexts.{texts_agree}
 use Rattle.c_reader.specs.Reading.{IsReadFault}
-use Rattle.c_reader.proofs.RootLaws.{refused-same, refused-text}
+use Rattle.c_reader.proofs.Refusals.{refused-same, refused-text}
 use Rattle.c_reader.proofs.reader.read_c.Goals as goal
 
 pub returns-in_err-program-clause-refused : goal.returns-in_err-program-clause-refused

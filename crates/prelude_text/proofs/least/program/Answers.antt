@@ -1,5 +1,5 @@
 use Rattle.std.proofs.Common.{map}
-use Rattle.c_tree.specs.Plain.{pure_tree, procedure_tree}
+use Rattle.c_syntax.specs.Plain.{pure_tree, procedure_tree}
 use Rattle.prelude_text.proofs.LeastLaws.{parts-lawful}
 use Rattle.prelude_text.proofs.least.program.Goals as goal
 

@@ -1,8 +1,8 @@
 use Rattle.std.proofs.Common.{subst, sym, ◌∙◌, ap, length, ℤ, List}
 use Rattle.c_meaning.specs.Machines.{IsStarted}
 use Rattle.c_meaning.proofs.Places.{whole_again}
-use Rattle.c_tree.specs.declared.program.Program.{Program}
-use Rattle.c_tree.specs.Plain.{program_tree}
+use Rattle.c_syntax.specs.declared.program.Program.{Program}
+use Rattle.c_syntax.specs.Plain.{program_tree}
 use Rattle.c_meaning.specs.Roots.{AreTables}
 use Rattle.c_meaning.proofs.RootLaws.{start_left, stuck_left}
 use Rattle.c_meaning.proofs.machine.Machine.new.Goals as goal

@@ -1,4 +1,4 @@
-use Rattle.std.proofs.Common.{arith, ap}
+use Rattle.std.proofs.Common.{arith}
 use Rattle.c_meaning.proofs.PlainCalls.{plain_is}
 use Rattle.c_meaning.proofs.machine.tests.is_plain.Goals as goal
 

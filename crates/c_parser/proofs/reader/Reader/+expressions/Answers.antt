@@ -1,10 +1,9 @@
 use Rattle.std.proofs.Common.{◌≡◌, refl, sym, ◌∙◌, ap, subst, ◌<◌, Ok, arith}
-use Rattle.c_tree.specs.Parsing.{next, opener_of}
+use Rattle.c_grammar.specs.Parsing.{next, opener_of}
 use Rattle.c_parser.specs.Gives.{Gives}
-use Rattle.c_parser.specs.Openers as seen
 use Rattle.c_parser.specs.Operands.{operand_of}
 use Rattle.c_parser.proofs.Levels.{operand-some}
-use Rattle.c_parser.specs.WrittenTrees.{expr_of}
+use Rattle.c_grammar.specs.WrittenTrees.{expr_of}
 use Rattle.c_parser.proofs.Lists.{more-is, going-pushed-uncounted}
 use Rattle.c_parser.proofs.Fewer.{values_step-falls}
 use Rattle.c_parser.proofs.reader.Reader.+expressions.Goals as goal
@@ -22,5 +21,5 @@ operand-returns t c =
     let some : 0 < c.args.levels = omega arith in
     let first : next c.args.self.last c.args.tokens.now ≡ Ok (c.in_ok-token.token, c.in_ok-token.rest) = sym c.in_ok-token.ensures in
     let text : c.token.inside.text.now ≡ c.in_ok-token.token.text = cc in
-    let opens : seen.opener_seen c.opener_of-opener.result ≡ opener_of (seen.want_of c.args.want) c.in_ok-token.token.text = c.opener_of-opener.ensures ∙ ap (opener_of (seen.want_of c.args.want)) text in
-    subst (Gives operand_of c.opened.result) (sym (operand-some c.args.self.last c.args.levels (seen.want_of c.args.want) c.args.tokens.now c.in_ok-token.token c.in_ok-token.rest (seen.opener_seen c.opener_of-opener.result) some first opens)) c.opened.ensures
+    let opens : c.opener_of-opener.result ≡ opener_of c.args.want c.in_ok-token.token.text = c.opener_of-opener.ensures ∙ ap (opener_of c.args.want) text in
+    subst (Gives operand_of c.opened.result) (sym (operand-some c.args.self.last c.args.levels c.args.want c.args.tokens.now c.in_ok-token.token c.in_ok-token.rest c.opener_of-opener.result some first opens)) c.opened.ensures

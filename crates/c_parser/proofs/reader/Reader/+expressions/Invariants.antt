@@ -1,7 +1,7 @@
 use Rattle.std.proofs.Common.{◌+◌, ◌*◌, length, map, suc}
-use Rattle.c_tree.specs.Parsing.{many, values_step, parse_operand}
+use Rattle.c_grammar.specs.Parsing.{many, values_step, parse_operand}
 use Rattle.c_parser.specs.Gives.{behind}
-use Rattle.c_parser.specs.WrittenTrees.{expr_of}
+use Rattle.c_grammar.specs.WrittenTrees.{expr_of}
 use Rattle.c_parser.proofs.Lists.{Going}
 use Rattle.c_parser.proofs.reader.Reader.+expressions.Given as goal
 

@@ -1,9 +1,8 @@
 use Rattle.std.proofs.Common.{◌≡◌, refl, sym, ◌∙◌, ap, subst, ◌<◌, Ok, arith}
-use Rattle.c_tree.specs.Parsing.{next, stmt_opener_of, stmts_step, parse_stmt}
+use Rattle.c_grammar.specs.Parsing.{next, stmt_opener_of, stmts_step, parse_stmt}
 use Rattle.c_parser.specs.Gives.{Gives}
-use Rattle.c_parser.specs.Openers as seen
 use Rattle.c_parser.specs.Limited.{limits_of}
-use Rattle.c_parser.specs.WrittenTrees.{stmt_of}
+use Rattle.c_grammar.specs.WrittenTrees.{stmt_of}
 use Rattle.c_parser.proofs.Levels.{stmt-some}
 use Rattle.c_parser.proofs.Lists.{more-is, going-begins, going-pushed-uncounted}
 use Rattle.c_parser.proofs.FewerDefinitions.{stmts_step-falls}
@@ -23,5 +22,5 @@ statement-returns t c =
     let some : 0 < c.args.levels = omega arith in
     let first : next c.args.self.last c.args.tokens.now ≡ Ok (c.in_ok-token.token, c.in_ok-token.rest) = sym c.in_ok-token.ensures in
     let text : c.token.inside.text.now ≡ c.in_ok-token.token.text = cc in
-    let opens : seen.stmt_opener_seen c.stmt_opener_of-opener.result ≡ stmt_opener_of c.in_ok-token.token.text = c.stmt_opener_of-opener.ensures ∙ ap stmt_opener_of text in
-    subst (Gives stmt_of c.statement_from.result) (sym (stmt-some c.args.self.last (limits_of c.args.self.limits) c.args.levels c.args.tokens.now c.in_ok-token.token c.in_ok-token.rest (seen.stmt_opener_seen c.stmt_opener_of-opener.result) some first opens)) c.statement_from.ensures
+    let opens : c.stmt_opener_of-opener.result ≡ stmt_opener_of c.in_ok-token.token.text = c.stmt_opener_of-opener.ensures ∙ ap stmt_opener_of text in
+    subst (Gives stmt_of c.statement_from.result) (sym (stmt-some c.args.self.last (limits_of c.args.self.limits) c.args.levels c.args.tokens.now c.in_ok-token.token c.in_ok-token.rest c.stmt_opener_of-opener.result some first opens)) c.statement_from.ensures

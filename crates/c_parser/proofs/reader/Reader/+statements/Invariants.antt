@@ -1,7 +1,7 @@
 use Rattle.std.proofs.Common.{◌+◌, ◌*◌, length, map, suc}
-use Rattle.c_tree.specs.Parsing.{many, stmts_step, parse_stmt}
+use Rattle.c_grammar.specs.Parsing.{many, stmts_step, parse_stmt}
 use Rattle.c_parser.specs.Limited.{limits_of}
-use Rattle.c_parser.specs.WrittenTrees.{stmt_of}
+use Rattle.c_grammar.specs.WrittenTrees.{stmt_of}
 use Rattle.c_parser.proofs.Lists.{Going}
 use Rattle.c_parser.proofs.reader.Reader.+statements.Given as goal
 

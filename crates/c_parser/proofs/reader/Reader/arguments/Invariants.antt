@@ -1,7 +1,7 @@
 use Rattle.std.proofs.Common.{length, map, suc}
-use Rattle.c_tree.specs.Parsing.{many, arguments_step}
+use Rattle.c_grammar.specs.Parsing.{many, arguments_step}
 use Rattle.c_parser.specs.Limited.{limits_of}
-use Rattle.c_parser.specs.WrittenTrees.{argument_of}
+use Rattle.c_grammar.specs.WrittenTrees.{argument_of}
 use Rattle.c_parser.proofs.Lists.{Going}
 use Rattle.c_parser.proofs.reader.Reader.arguments.Given as goal
 

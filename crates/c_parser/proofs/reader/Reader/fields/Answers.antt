@@ -1,9 +1,9 @@
 use Rattle.std.proofs.Common.{◌∙◌, ap, suc, [], ◌∷◌, ◌++◌, map, length, Vec}
 use Rattle.std.specs.declared.alloc.Global.{Global}
-use Rattle.c_tree.specs.Parsing.{many, fields_step, parse_field}
+use Rattle.c_grammar.specs.Parsing.{many, fields_step, parse_field}
 use Rattle.c_parser.specs.Limited.{limits_of}
-use Rattle.c_parser.specs.WrittenTrees.{field_of}
-use Rattle.c_parser.specs.declared.written.WrittenField.{WrittenField}
+use Rattle.c_grammar.specs.WrittenTrees.{field_of}
+use Rattle.c_grammar.specs.declared.written.WrittenField.{WrittenField}
 use Rattle.c_parser.proofs.PartsLaws.{first-gives}
 use Rattle.c_parser.proofs.reader.Reader.fields.Goals as goal
 

@@ -1,6 +1,6 @@
 use Rattle.std.proofs.Common.{refl}
 use Rattle.c_parser.specs.Limited.{limits_of}
-use Rattle.c_parser.specs.WrittenTrees.{field_of}
+use Rattle.c_grammar.specs.WrittenTrees.{field_of}
 use Rattle.c_parser.proofs.Lists.{more-is, going-pushed-uncounted}
 use Rattle.c_parser.proofs.FewerDefinitions.{fields_step-falls}
 use Rattle.c_parser.proofs.reader.Reader.later_fields.Goals as goal

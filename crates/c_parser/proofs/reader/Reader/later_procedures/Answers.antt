@@ -1,6 +1,6 @@
 use Rattle.std.proofs.Common.{refl}
 use Rattle.c_parser.specs.Limited.{limits_of}
-use Rattle.c_parser.specs.WrittenTrees.{procedure_of}
+use Rattle.c_grammar.specs.WrittenTrees.{procedure_of}
 use Rattle.c_parser.proofs.Lists.{more-is, going-pushed-uncounted}
 use Rattle.c_parser.proofs.FewerDefinitions.{procedures_step-falls}
 use Rattle.c_parser.proofs.reader.Reader.later_procedures.Goals as goal

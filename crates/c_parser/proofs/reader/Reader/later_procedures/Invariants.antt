@@ -1,8 +1,8 @@
 use Rattle.std.proofs.Common.{length, map, suc}
-use Rattle.c_tree.specs.Parsing.{many, procedures_step}
+use Rattle.c_grammar.specs.Parsing.{many, procedures_step}
 use Rattle.c_parser.specs.Gives.{behind}
 use Rattle.c_parser.specs.Limited.{limits_of}
-use Rattle.c_parser.specs.WrittenTrees.{procedure_of}
+use Rattle.c_grammar.specs.WrittenTrees.{procedure_of}
 use Rattle.c_parser.proofs.Lists.{Going}
 use Rattle.c_parser.proofs.reader.Reader.later_procedures.Given as goal
 

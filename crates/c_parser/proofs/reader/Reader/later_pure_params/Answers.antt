@@ -1,5 +1,5 @@
 use Rattle.c_parser.specs.Limited.{limits_of}
-use Rattle.c_parser.specs.WrittenTrees.{pure_param_of}
+use Rattle.c_grammar.specs.WrittenTrees.{pure_param_of}
 use Rattle.c_parser.proofs.Lists.{more-is, going-pushed}
 use Rattle.c_parser.proofs.FewerDefinitions.{pure_params_step-falls}
 use Rattle.c_parser.proofs.reader.Reader.later_pure_params.Goals as goal

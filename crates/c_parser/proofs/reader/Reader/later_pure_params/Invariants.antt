@@ -1,8 +1,8 @@
 use Rattle.std.proofs.Common.{length, map, suc, vec_len}
-use Rattle.c_tree.specs.Parsing.{many, pure_params_step}
+use Rattle.c_grammar.specs.Parsing.{many, pure_params_step}
 use Rattle.c_parser.specs.Gives.{behind}
 use Rattle.c_parser.specs.Limited.{limits_of}
-use Rattle.c_parser.specs.WrittenTrees.{pure_param_of}
+use Rattle.c_grammar.specs.WrittenTrees.{pure_param_of}
 use Rattle.c_parser.proofs.Lists.{Going}
 use Rattle.c_parser.proofs.reader.Reader.later_pure_params.Given as goal
 

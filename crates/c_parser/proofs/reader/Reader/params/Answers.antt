@@ -1,6 +1,6 @@
-use Rattle.c_tree.specs.Parsing.{params_step}
+use Rattle.c_grammar.specs.Parsing.{params_step}
 use Rattle.c_parser.specs.Limited.{limits_of}
-use Rattle.c_parser.specs.WrittenTrees.{param_of}
+use Rattle.c_grammar.specs.WrittenTrees.{param_of}
 use Rattle.c_parser.proofs.Lists.{more-is, going-begins, going-pushed}
 use Rattle.c_parser.proofs.FewerDefinitions.{params_step-falls}
 use Rattle.c_parser.proofs.reader.Reader.params.Goals as goal

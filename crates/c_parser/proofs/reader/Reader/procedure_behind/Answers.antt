@@ -1,7 +1,7 @@
 use Rattle.std.proofs.Common.{subst}
 use Rattle.c_parser.specs.Gives.{Gives}
 use Rattle.c_parser.specs.Limited.{limits_of}
-use Rattle.c_parser.specs.WrittenTrees.{procedure_of}
+use Rattle.c_grammar.specs.WrittenTrees.{procedure_of}
 use Rattle.c_parser.proofs.PartsLaws.{procedure_parts-is}
 use Rattle.c_parser.proofs.reader.Reader.procedure_behind.Goals as goal
 

@@ -1,10 +1,10 @@
 use Rattle.std.proofs.Common.{◌∙◌, ap, suc, [], ◌∷◌, ◌++◌, map, length, Vec}
 use Rattle.std.specs.declared.alloc.Global.{Global}
-use Rattle.c_tree.specs.Parsing.{many, procedures_step}
+use Rattle.c_grammar.specs.Parsing.{many, procedures_step}
 use Rattle.c_parser.specs.Limited.{limits_of}
-use Rattle.c_parser.specs.WrittenTrees.{procedure_of}
+use Rattle.c_grammar.specs.WrittenTrees.{procedure_of}
 use Rattle.c_parser.specs.FileParts.{first_procedure}
-use Rattle.c_parser.specs.declared.written.WrittenProcedure.{WrittenProcedure}
+use Rattle.c_grammar.specs.declared.written.WrittenProcedure.{WrittenProcedure}
 use Rattle.c_parser.proofs.PartsLaws.{first-gives}
 use Rattle.c_parser.proofs.reader.Reader.procedures.Goals as goal
 

@@ -1,10 +1,10 @@
 use Rattle.std.proofs.Common.{◌≡◌, ◌∙◌, ap, subst, suc, [], ◌∷◌, ◌++◌, map, length, Vec, arith}
 use Rattle.std.specs.declared.alloc.Global.{Global}
-use Rattle.c_tree.specs.Parsing.{many, pure_params_step, parse_pure_param}
+use Rattle.c_grammar.specs.Parsing.{many, pure_params_step, parse_pure_param}
 use Rattle.c_parser.specs.Gives.{Gives, behind}
 use Rattle.c_parser.specs.Limited.{limits_of}
-use Rattle.c_parser.specs.WrittenTrees.{pure_param_of}
-use Rattle.c_parser.specs.declared.written.WrittenPureParam.{WrittenPureParam}
+use Rattle.c_grammar.specs.WrittenTrees.{pure_param_of}
+use Rattle.c_grammar.specs.declared.written.WrittenPureParam.{WrittenPureParam}
 use Rattle.c_parser.proofs.PartsLaws.{first-gives}
 use Rattle.c_parser.proofs.reader.Reader.pure_params.Goals as goal
 

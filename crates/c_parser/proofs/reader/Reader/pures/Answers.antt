@@ -1,6 +1,6 @@
-use Rattle.c_tree.specs.Parsing.{pures_step}
+use Rattle.c_grammar.specs.Parsing.{pures_step}
 use Rattle.c_parser.specs.Limited.{limits_of}
-use Rattle.c_parser.specs.WrittenTrees.{pure_of}
+use Rattle.c_grammar.specs.WrittenTrees.{pure_of}
 use Rattle.c_parser.proofs.Lists.{more-is, going-begins, going-pushed}
 use Rattle.c_parser.proofs.FewerDefinitions.{pures_step-falls}
 use Rattle.c_parser.proofs.reader.Reader.pures.Goals as goal

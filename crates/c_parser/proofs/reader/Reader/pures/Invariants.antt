@@ -1,7 +1,7 @@
 use Rattle.std.proofs.Common.{length, map, suc, vec_len}
-use Rattle.c_tree.specs.Parsing.{many, pures_step}
+use Rattle.c_grammar.specs.Parsing.{many, pures_step}
 use Rattle.c_parser.specs.Limited.{limits_of}
-use Rattle.c_parser.specs.WrittenTrees.{pure_of}
+use Rattle.c_grammar.specs.WrittenTrees.{pure_of}
 use Rattle.c_parser.proofs.Lists.{Going}
 use Rattle.c_parser.proofs.reader.Reader.pures.Given as goal
 

@@ -1,7 +1,7 @@
 use Rattle.std.proofs.Common.{refl}
-use Rattle.c_tree.specs.Parsing.{structs_step}
+use Rattle.c_grammar.specs.Parsing.{structs_step}
 use Rattle.c_parser.specs.Limited.{limits_of}
-use Rattle.c_parser.specs.WrittenTrees.{struct_of}
+use Rattle.c_grammar.specs.WrittenTrees.{struct_of}
 use Rattle.c_parser.proofs.Lists.{more-is, going-begins, going-pushed-uncounted}
 use Rattle.c_parser.proofs.FewerDefinitions.{structs_step-falls}
 use Rattle.c_parser.proofs.reader.Reader.structs.Goals as goal

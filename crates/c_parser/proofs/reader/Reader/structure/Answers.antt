@@ -1,7 +1,7 @@
 use Rattle.std.proofs.Common.{subst}
 use Rattle.c_parser.specs.Gives.{Gives}
 use Rattle.c_parser.specs.Limited.{limits_of}
-use Rattle.c_parser.specs.WrittenTrees.{struct_of}
+use Rattle.c_grammar.specs.WrittenTrees.{struct_of}
 use Rattle.c_parser.proofs.PartsLaws.{struct_parts-is}
 use Rattle.c_parser.proofs.reader.Reader.structure.Goals as goal
 

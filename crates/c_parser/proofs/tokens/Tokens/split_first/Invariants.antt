@@ -1,5 +1,5 @@
 use Rattle.std.proofs.Common.{◌≡◌, ◌<◌, length}
-use Rattle.c_tree.specs.Tokens.{tokens_from}
+use Rattle.c_grammar.specs.Tokens.{tokens_from}
 use Rattle.c_parser.proofs.tokens.Tokens.split_first.Given as goal
 
 abbrev pub invariant-loop-first : goal.invariant-loop-first

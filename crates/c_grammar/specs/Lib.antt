@@ -1,0 +1,12 @@
+pub mod Tokens
+pub mod Written
+pub mod Grammar
+pub mod Prefix
+pub mod Openings
+pub mod Results
+pub mod Parsing
+pub mod ParsedText
+pub mod WrittenTrees
+pub mod TextLines
+pub mod OpeningExamples
+pub mod LimitExamples

@@ -1,0 +1,62 @@
+-- The tree of number fields that the machine works on.
+use Rattle.std.specs.Prelude.{ℕ, zero, suc, ℤ, pos, List, [], ◌∷◌, ◌++◌, slice_index_or}
+use Rattle.c_syntax.specs.declared.program.FieldKind.{FieldKind}
+use Rattle.c_syntax.specs.declared.program.FieldKind.TheVariants.{Number, Struct}
+use Rattle.c_syntax.specs.Tree.{FieldTree, StructTree}
+
+-- a field is a number, or an instance of a struct with fields of its own
+mutual
+  -- a field
+  pub data Cell : Type 0 where
+    number : (value : ℤ) → Cell
+    object : (fields : Cells) → Cell
+
+  -- the fields of an instance
+  pub data Cells : Type 0 where
+    no_cells : Cells
+    more_cells : (first : Cell) (rest : Cells) → Cells
+
+-- the number that a field holds, and 0 where it holds none
+abbrev pub cell_value : Cell → ℤ
+cell_value (number value) = value
+cell_value (object fields) = pos 0
+
+-- the fields of the instance that a field holds, and none where it holds a number
+abbrev pub cell_fields : Cell → Cells
+cell_fields (number value) = no_cells
+cell_fields (object fields) = fields
+
+-- the field at a position, and the number 0 past the end
+abbrev pub cell_at : Cells → ℕ → Cell
+cell_at no_cells i = number (pos 0)
+cell_at (more_cells c cs) zero = c
+cell_at (more_cells c cs) (suc i) = cell_at cs i
+
+-- these fields with the one at a position replaced
+abbrev pub set_cell : Cells → ℕ → Cell → Cells
+set_cell no_cells i c = no_cells
+set_cell (more_cells b cs) zero c = more_cells c cs
+set_cell (more_cells b cs) (suc i) c = more_cells b (set_cell cs i c)
+
+-- the number of the field at a position
+abbrev pub value_at : Cells → ℕ → ℤ
+value_at cells i = cell_value (cell_at cells i)
+
+-- the fields of the instance at a position
+abbrev pub fields_at : Cells → ℕ → Cells
+fields_at cells i = cell_fields (cell_at cells i)
+
+-- a field all of whose numbers are 0; `earlier` has such an instance of each struct that it may name
+abbrev pub zero_cell : List Cells → FieldKind → Cell
+zero_cell earlier (Number type) = number (pos 0)
+zero_cell earlier (Struct k) = object (slice_index_or earlier k no_cells)
+
+-- the fields of a struct, all of whose numbers are 0
+abbrev pub zero_cells : List Cells → List FieldTree → Cells
+zero_cells earlier [] = no_cells
+zero_cells earlier (f ∷ fs) = more_cells (zero_cell earlier f.kind) (zero_cells earlier fs)
+
+-- an instance of each struct all of whose numbers are 0; a struct holds only earlier ones
+abbrev pub zero_instances : List Cells → List StructTree → List Cells
+zero_instances earlier [] = earlier
+zero_instances earlier (s ∷ ss) = zero_instances (earlier ++ zero_cells earlier s.fields ∷ []) ss

@@ -1,8 +1,0 @@
-pub mod Texts
-pub mod Answering
-pub mod Words
-pub mod Lists
-pub mod Exprs
-pub mod Statements
-pub mod Definitions
-pub mod File

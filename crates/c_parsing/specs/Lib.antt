@@ -1,2 +1,0 @@
-pub mod ParsedText
-pub mod ParsedTextExamples

@@ -1,0 +1,15 @@
+pub mod TokenLaws
+pub mod Lookups
+pub mod PrintedLists
+pub mod Lexing
+pub mod TextReading
+pub mod PrintedTrees
+pub mod PrintedBodies
+pub mod PrintedHeads
+pub mod FieldPlaces
+pub mod Params
+pub mod PrintedResolving
+pub mod PrintedScopes
+pub mod PrintedProgram
+pub mod PrintedReading
+pub mod PrintedProcedures

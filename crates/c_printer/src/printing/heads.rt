@@ -1,0 +1,159 @@
+// Pure functions, structs and procedures.
+ghost use Rattle.std.specs.Prelude.{◌≡◌, ◌++◌, map, OnOk};
+ghost use Rattle.std.specs.List.{flat_map};
+ghost use Rattle.c_syntax.specs.Plain.{pure_tree, procedure_tree, program_tree};
+ghost use Rattle.c_syntax.specs.PlainField.{field_tree, field_trees};
+ghost use Rattle.c_printer.specs.Printing.{pure_head_bytes, pure_bytes, pure_params_bytes, kind_bytes, field_bytes, struct_bytes, private_bytes, param_bytes, procedure_head_bytes, procedure_bytes};
+
+use crate::printing::body::{put_expr, put_stmts, type_text};
+use crate::printing::names::{Params, Scope, struct_fields, struct_name};
+use crate::printing::put;
+use c_syntax::{CType, Field, FieldKind, Procedure, Program, Pure, StructDef};
+use mc_base::Text;
+use std::alloc::{AllocError, Global};
+
+pub(super) fn put_pure(
+    alloc: Global,
+    out: &mut Vec<u8>,
+    program: &Program,
+    pure: &Pure,
+) -> Result<(), AllocError>
+    ensures { OnOk result (out.new.items ≡ out.old.items ++ pure_bytes (program_tree program.now) (pure_tree pure.now)) }
+{
+    put_pure_head(out, pure)?;
+    put(out, b"    return ")?;
+    let scope = Scope {
+        program,
+        fields: &[],
+        params: Params::Pure(&pure.params),
+    };
+    put_expr(alloc, out, &scope, &pure.body)?;
+    put(out, b";\n}\n")
+}
+
+fn put_pure_head(out: &mut Vec<u8>, pure: &Pure) -> Result<(), AllocError>
+    ensures { OnOk result (out.new.items ≡ out.old.items ++ pure_head_bytes (pure_tree pure.now)) }
+{
+    put(out, b"\nstatic int64_t ")?;
+    put(out, pure.name.bytes())?;
+    put(out, b"(")?;
+    put_pure_params(out, &pure.params)?;
+    put(out, b") {\n")
+}
+
+fn put_pure_params(out: &mut Vec<u8>, params: &[Text]) -> Result<(), AllocError>
+    ensures { OnOk result (out.new.items ≡ out.old.items ++ pure_params_bytes params.now) }
+{
+    let Some((first, later)) = params.split_first() else {
+        return Ok(());
+    };
+    put(out, b"int64_t ")?;
+    put(out, first.bytes())?;
+    for name in later {
+        put(out, b", int64_t ")?;
+        put(out, name.bytes())?;
+    }
+    Ok(())
+}
+
+pub(super) fn put_struct(
+    out: &mut Vec<u8>,
+    program: &Program,
+    def: &StructDef,
+) -> Result<(), AllocError>
+    ensures { OnOk result (out.new.items ≡ out.old.items ++ struct_bytes (program_tree program.now) def.now) }
+{
+    put(out, b"\nstruct ")?;
+    put(out, def.name.bytes())?;
+    put(out, b" {\n")?;
+    put_fields(out, program, &def.fields)?;
+    put(out, b"};\n")
+}
+
+fn put_fields(out: &mut Vec<u8>, program: &Program, fields: &[Field]) -> Result<(), AllocError>
+    ensures { OnOk result (out.new.items
+        ≡ out.old.items ++ flat_map (field_bytes (program_tree program.now)) (field_trees fields.now)) }
+{
+    for field in fields {
+        put_field(out, program, field)?;
+    }
+    Ok(())
+}
+
+fn put_field(out: &mut Vec<u8>, program: &Program, field: &Field) -> Result<(), AllocError>
+    ensures { OnOk result (out.new.items
+        ≡ out.old.items ++ field_bytes (program_tree program.now) (field_tree field.now)) }
+{
+    put(out, b"    ")?;
+    put_kind(out, program, field.kind)?;
+    put(out, b" ")?;
+    put(out, field.name.bytes())?;
+    put(out, b";\n")
+}
+
+fn put_kind(out: &mut Vec<u8>, program: &Program, kind: FieldKind) -> Result<(), AllocError>
+    ensures { OnOk result (out.new.items ≡ out.old.items ++ kind_bytes (program_tree program.now) kind) }
+{
+    match kind {
+        FieldKind::Number(of) => put(out, type_text(of)),
+        FieldKind::Struct(k) => {
+            put(out, b"struct ")?;
+            put(out, struct_name(program, k))
+        }
+    }
+}
+
+pub(super) fn put_procedure(
+    alloc: Global,
+    out: &mut Vec<u8>,
+    program: &Program,
+    procedure: &Procedure,
+) -> Result<(), AllocError>
+    ensures { OnOk result (out.new.items
+        ≡ out.old.items ++ procedure_bytes (program_tree program.now) (procedure_tree procedure.now)) }
+{
+    put_procedure_head(out, program, procedure)?;
+    let scope = Scope {
+        program,
+        fields: struct_fields(program, procedure.of),
+        params: Params::Procedure(&procedure.params),
+    };
+    put_stmts(alloc, out, &scope, 4, &procedure.body)?;
+    put(out, b"}\n")
+}
+
+fn put_procedure_head(
+    out: &mut Vec<u8>,
+    program: &Program,
+    procedure: &Procedure,
+) -> Result<(), AllocError>
+    ensures { OnOk result (out.new.items
+        ≡ out.old.items ++ procedure_head_bytes (program_tree program.now) (procedure_tree procedure.now)) }
+{
+    put(out, b"\n")?;
+    put(out, private_text(procedure.private))?;
+    put(out, procedure.name.bytes())?;
+    put(out, b"(struct ")?;
+    put(out, struct_name(program, procedure.of))?;
+    put(out, b" *s")?;
+    put_params(out, &procedure.params)?;
+    put(out, b") {\n")
+}
+
+fn private_text(private: bool) -> &'static [u8]
+    ensures { result.now ≡ private_bytes private }
+{
+    if private { b"static void " } else { b"void " }
+}
+
+fn put_params(out: &mut Vec<u8>, params: &[(Text, CType)]) -> Result<(), AllocError>
+    ensures { OnOk result (out.new.items ≡ out.old.items ++ flat_map param_bytes (map (λ q. record { name = q.0; type = q.1 }) params.now)) }
+{
+    for (name, of) in params {
+        put(out, b", ")?;
+        put(out, type_text(*of))?;
+        put(out, b" ")?;
+        put(out, name.bytes())?;
+    }
+    Ok(())
+}

@@ -1,5 +1,0 @@
-use Rattle.c_tree.proofs.PlainLaws.{expr_tree-Pure}
-use Rattle.c_reader.proofs.exprs.call_of_pure.Goals as goal
-
-pub returns : goal.returns
-returns c = expr_tree-Pure c.args.k c.args.values

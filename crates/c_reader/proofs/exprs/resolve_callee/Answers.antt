@@ -1,8 +1,0 @@
-use Rattle.std.proofs.Common.{sym, ◌∙◌, ap}
-use Rattle.c_tree.specs.Resolve.{resolve_pure_call}
-use Rattle.c_reader.specs.Scopes.{known_of}
-use Rattle.c_reader.proofs.Rows.{count_of_exprs}
-use Rattle.c_reader.proofs.exprs.resolve_callee.Goals as goal
-
-pub returns : goal.returns
-returns c = c.resolve_pure_call.ensures ∙ ap (λ n. resolve_pure_call (known_of c.args.known.now) c.args.name.now n) (sym (count_of_exprs c.args.values.now))

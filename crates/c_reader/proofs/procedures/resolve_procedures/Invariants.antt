@@ -1,8 +1,0 @@
-use Rattle.std.proofs.Common.{◌≡◌, map, drop}
-use Rattle.c_tree.specs.Resolve as rules
-use Rattle.c_parser.specs.WrittenTrees.{procedure_of}
-use Rattle.c_reader.specs.Scopes.{known_of}
-use Rattle.c_reader.proofs.procedures.resolve_procedures.Given as goal
-
-abbrev pub invariant-loop-p : goal.invariant-loop-p
-invariant-loop-p l = rules.resolve_procedures (known_of l.initial.known) (map procedure_of l.procedures) ≡ rules.resolve_procedures (known_of l.known) (map procedure_of (drop l.p-index l.procedures))

@@ -1,0 +1,117 @@
+-- What the grammar spells is parsed: words and leaves.
+use Rattle.std.proofs.Common.{◌≡◌, refl, ◌∙◌, ap, ℕ, suc, ◌^◌, ◌<◌, List, [], ◌∷◌, Bool, true, false, ◌==◌, nat_lt, Some, None, Ok, codes, bytes_eq, decimal, if◌then◌else◌, unwrap_or, arith}
+use Rattle.std.proofs.lemmas.Bool.{leb-true, eqb-true}
+use Rattle.std.proofs.lemmas.Slice.Eq.{bytes_eq-Decides}
+use Rattle.c_syntax.specs.declared.code.CType.{CType}
+use Rattle.c_syntax.specs.declared.code.CType.TheVariants.{I8, U8, I16, U16, I32, U32, I64}
+use Rattle.c_grammar.specs.Tokens.{Token}
+use Rattle.c_syntax.specs.Names.{is_name}
+use Rattle.c_grammar.specs.Written.{WrittenLeaf, param, own, child, read}
+use Rattle.c_grammar.specs.Grammar.{Spelling, ◌⨾◌, word, at_line, name_word, literal_word, never, type_text, cast_spelling, leaf_spelling}
+use Rattle.c_grammar.specs.Prefix.{is_literal, digits_value}
+use Rattle.c_grammar.specs.Parsing.{parse_word, parse_name, parse_type, parse_literal, parse_cast, parse_field_name, parse_leaf_from, parse_leaf, first_text, type_of_text}
+use Rattle.c_grammar.proofs.lemmas.PrefixLaws.{Front, word-front, seq-parts, name_word-inner, not_word, Parens, parens-parts, Firm}
+use Rattle.c_grammar.proofs.lemmas.LiteralLaws.{numeral, literals-agree}
+
+-- the token that a spelling with its line begins with
+pub record LineFront (line : ℕ) (a : Spelling) (tokens rest : List Token) : Type 0 where
+  pub token : Token
+  pub later : List Token
+  pub list : tokens ≡ token ∷ later
+  pub is : token.line ≡ line
+  pub inner : a (token ∷ later) ≡ Some rest
+
+pub line-front : (line : ℕ) (a : Spelling) (tokens rest : List Token) → at_line line a tokens ≡ Some rest → LineFront line a tokens rest
+line-front line a [] rest h = cc
+line-front line a (t ∷ tokens) rest h = by (t.line == line) refl h
+  where
+    by : (b : Bool) → (t.line == line) ≡ b → (if b then a (t ∷ tokens) else None) ≡ Some rest → LineFront line a (t ∷ tokens) rest
+    by true e k = record { token = t; later = tokens; list = refl; is = eqb-true t.line line e; inner = k }
+    by false e k = cc
+
+-- what a spelling of one word leaves behind a token
+pub word-rest : (text : List ℕ) (t : Token) (tokens rest : List Token) → word text (t ∷ tokens) ≡ Some rest → (t.text ≡ text) × (tokens ≡ rest)
+word-rest text t tokens rest h = by (bytes_eq t.text text) refl h
+  where
+    by : (b : Bool) → bytes_eq t.text text ≡ b → (if b then Some tokens else None) ≡ Some rest → (t.text ≡ text) × (tokens ≡ rest)
+    by true e k = ((bytes_eq-Decides t.text text).0 e, ap (λ o. unwrap_or o tokens) k)
+    by false e k = cc
+
+module _ (last : ℕ) where
+  pub word-parsed : (text : List ℕ) (tokens rest : List Token) → word text tokens ≡ Some rest → parse_word last text tokens ≡ Ok (tt, rest)
+  word-parsed text tokens rest h =
+      let f : Front text tokens rest = word-front text tokens rest h in
+      let same : bytes_eq f.token.text text ≡ true = (bytes_eq-Decides f.token.text text).1 f.same in
+      ap (parse_word last text) f.list ∙ rw same refl
+
+  pub name-parsed : (name : List ℕ) (tokens rest : List Token) → name_word name tokens ≡ Some rest → parse_name last tokens ≡ Ok (name, rest)
+  name-parsed name tokens rest h =
+      let n : _ = name_word-inner name tokens rest h in
+      let f : Front name tokens rest = word-front name tokens rest n.1 in
+      ap (parse_name last) f.list ∙ rw (ap is_name f.same ∙ n.0) (ap (λ x. Ok (x, rest)) f.same)
+
+  pub type-known : (type : CType) → type_of_text (type_text type) ≡ Some type
+  type-known I8 = refl
+  type-known U8 = refl
+  type-known I16 = refl
+  type-known U16 = refl
+  type-known I32 = refl
+  type-known U32 = refl
+  type-known I64 = refl
+
+  pub type-parsed : (type : CType) (tokens rest : List Token) → word (type_text type) tokens ≡ Some rest → parse_type last tokens ≡ Ok (type, rest)
+  type-parsed type tokens rest h =
+      let f : Front (type_text type) tokens rest = word-front (type_text type) tokens rest h in
+      ap (parse_type last) f.list ∙ rw (ap type_of_text f.same ∙ type-known type) refl
+
+  pub literal-parsed : (v : ℕ) (tokens rest : List Token) → literal_word v tokens ≡ Some rest → parse_literal last tokens ≡ Ok (v, rest)
+  literal-parsed v tokens rest h = by (nat_lt v (2 ^ 63)) refl h
+    where
+      by : (b : Bool) → nat_lt v (2 ^ 63) ≡ b → (if b then word (decimal v) else never) tokens ≡ Some rest → parse_literal last tokens ≡ Ok (v, rest)
+      by false e k = cc
+      by true e k =
+          let small : v < 2 ^ 63 = leb-true (suc v) (2 ^ 63) e in
+          let f : Front (decimal v) tokens rest = word-front (decimal v) tokens rest k in
+          ap (parse_literal last) f.list ∙ rw (ap is_literal f.same ∙ literals-agree v e) (ap (λ x. Ok (digits_value 0 x, rest)) f.same ∙ ap (λ n. Ok (n, rest)) (numeral v (omega (arith, small))).value)
+
+  pub cast-parsed : (type : CType) (tokens rest : List Token) → cast_spelling type tokens ≡ Some rest → parse_cast last tokens ≡ Ok (type, rest)
+  cast-parsed type tokens rest h =
+      let q : Parens (word (type_text type)) tokens rest = parens-parts (word (type_text type)) tokens rest h in
+      rw (word-parsed (codes "(") tokens q.inner q.start, type-parsed type q.inner q.behind q.body, word-parsed (codes ")") q.behind rest q.close) refl
+
+  -- a field behind `s`
+  pub field_name-parsed : (name : List ℕ) (tokens rest : List Token) → (word (codes "->") ⨾ name_word name) tokens ≡ Some rest → parse_field_name last tokens ≡ Ok (name, rest)
+  field_name-parsed name tokens rest h =
+      let p : _ = seq-parts (word (codes "->")) (name_word name) tokens rest h in
+      rw (word-parsed (codes "->") tokens p.0 p.1, name-parsed name p.0 rest p.2) refl
+
+  firm-text : (rest : List Token) → Firm rest → bytes_eq (first_text rest) (codes ".") ≡ false
+  unfolding Firm
+  firm-text rest firm = ap (λ ts. bytes_eq (first_text ts) (codes ".")) firm.2 ∙ firm.3
+
+  leaf_from-parsed : (leaf : WrittenLeaf) (t : Token) (tokens rest : List Token) → leaf_spelling leaf (t ∷ tokens) ≡ Some rest → Firm rest → parse_leaf_from last t tokens (bytes_eq t.text (codes "s")) ≡ Ok (leaf, rest)
+  leaf_from-parsed (param name) t tokens rest h firm =
+      let n : _ = name_word-inner name (t ∷ tokens) rest h in
+      let w : _ = word-rest name t tokens rest n.1 in
+      let named : is_name t.text ≡ true = ap is_name w.0 ∙ n.0 in
+      rw (not_word t.text (codes "s") named refl, named) (ap (λ x. Ok (param x, tokens)) w.0 ∙ ap (λ ts. Ok (param name, ts)) w.1)
+  leaf_from-parsed (own field) t tokens rest h firm =
+      let p : _ = seq-parts (word (codes "s")) (word (codes "->") ⨾ name_word field) (t ∷ tokens) rest h in
+      let w : _ = word-rest (codes "s") t tokens p.0 p.1 in
+      let is_own : bytes_eq t.text (codes "s") ≡ true = (bytes_eq-Decides t.text (codes "s")).1 w.0 in
+      rw (is_own, w.1, field_name-parsed field p.0 rest p.2, firm-text rest firm) refl
+  leaf_from-parsed (child field inner) t tokens rest h firm =
+      let p : _ = seq-parts (word (codes "s")) (word (codes "->") ⨾ name_word field ⨾ word (codes ".") ⨾ name_word inner) (t ∷ tokens) rest h in
+      let q : _ = seq-parts (word (codes "->")) (name_word field ⨾ word (codes ".") ⨾ name_word inner) p.0 rest p.2 in
+      let r : _ = seq-parts (name_word field) (word (codes ".") ⨾ name_word inner) q.0 rest q.2 in
+      let d : _ = seq-parts (word (codes ".")) (name_word inner) r.0 rest r.2 in
+      let f : Front (codes ".") r.0 d.0 = word-front (codes ".") r.0 d.0 d.1 in
+      let w : _ = word-rest (codes "s") t tokens p.0 p.1 in
+      let is_own : bytes_eq t.text (codes "s") ≡ true = (bytes_eq-Decides t.text (codes "s")).1 w.0 in
+      let is_dot : bytes_eq f.token.text (codes ".") ≡ true = (bytes_eq-Decides f.token.text (codes ".")).1 f.same in
+      rw (is_own, w.1, word-parsed (codes "->") p.0 q.0 q.1, name-parsed field q.0 r.0 r.1, f.list, is_dot, name-parsed inner d.0 rest d.2) refl
+
+  pub leaf-parsed : (line : ℕ) (leaf : WrittenLeaf) (tokens rest : List Token) → at_line line (leaf_spelling leaf) tokens ≡ Some rest → Firm rest → parse_leaf last tokens ≡ Ok (read line leaf, rest)
+  leaf-parsed line leaf tokens rest h firm =
+      let f : LineFront line (leaf_spelling leaf) tokens rest = line-front line (leaf_spelling leaf) tokens rest h in
+      ap (parse_leaf last) f.list ∙ rw (leaf_from-parsed leaf f.token f.later rest f.inner firm) (ap (λ n. Ok (read n leaf, rest)) f.is)

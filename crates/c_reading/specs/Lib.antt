@@ -1,0 +1,6 @@
+pub mod Agreement
+pub mod ReadText
+pub mod ReadingExamples
+pub mod FaultExamples
+pub mod RoundsExamples
+pub mod ReadTextExamples

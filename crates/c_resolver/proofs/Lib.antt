@@ -1,0 +1,15 @@
+pub mod NameLists
+pub mod FieldPlaces
+pub mod Each
+pub mod Rows
+pub mod NamedPlaces
+pub mod Fails
+pub mod ChoiceLaws
+pub mod ParamLaws
+pub mod PureLaws
+pub mod OutputLaws
+pub mod FieldLists
+pub mod StructLaws
+pub mod ProcedureLaws
+pub mod NumberNames
+pub mod RootLaws

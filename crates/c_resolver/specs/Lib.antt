@@ -1,0 +1,5 @@
+pub mod Scopes
+pub mod Gives
+pub mod Choices
+pub mod Params
+pub mod Fields

@@ -1,0 +1,89 @@
+// What a field of a struct stands for.
+ghost use Rattle.std.specs.Prelude.{◌≡◌, map, not, ◌||◌, IfOk};
+ghost use Rattle.c_syntax.specs.Outputs as named;
+ghost use Rattle.c_rules.specs.Resolve as rules;
+ghost use Rattle.c_grammar.specs.WrittenTrees.{kind_of, field_of};
+ghost use Rattle.c_resolver.specs.Fields.{names_in, named_kind};
+ghost use Rattle.c_resolver.specs.Scopes.{known_of};
+
+use crate::faults::unless_fault;
+use crate::known::Known;
+use crate::name_table::{NameTable, table_of_texts};
+use crate::numbers::Numbers;
+use crate::outputs::looks_like_output;
+use c_grammar::{WrittenField, WrittenKind};
+use c_syntax::{CKind, FieldKind};
+use mc_base::{Memory, Text};
+use std::alloc::Global;
+
+/// The number fields of these names, with their outputs.
+pub(crate) fn numbers_of<'n, 'a>(
+    alloc: Global,
+    names: Vec<&'a [u8]>,
+    outputs: &'n [Text],
+) -> Result<Numbers<'n, 'a>, Memory>
+    requires { outputs.now ≡ named.output_names (map (λ x. x.now) names.items) }
+    ensures { IfOk result (λ numbers. names_in numbers ≡ map (λ x. x.now) names.entry.items) }
+{
+    let outputs = table_of_texts(alloc, outputs)?;
+    Ok(Numbers { names, outputs })
+}
+
+/// Whether a field is written as a number.
+fn is_number(kind: WrittenKind) -> bool
+    ensures { result ≡ rules.is_number_written (kind_of kind.entry) }
+{
+    match kind {
+        WrittenKind::Number(_) => true,
+        WrittenKind::Struct(_) => false,
+    }
+}
+
+/// Whether a field of the root's struct may have this name.
+fn may_be_named(numbers: &Numbers, is_number: bool, name: &[u8]) -> bool
+    ensures { result ≡ named.may_be_named (names_in numbers.now) is_number name.now }
+{
+    if !looks_like_output(name) {
+        return true;
+    }
+    is_number && numbers.outputs.contains(name)
+}
+
+/// Whether a field may have its name, in the root's struct or in another.
+fn may_stand(is_root: bool, numbers: &Numbers, field: &WrittenField) -> bool
+    ensures { result ≡ (not is_root || named.may_be_named (names_in numbers.now) (rules.is_number_written (kind_of field.now.kind)) field.now.name.now) }
+{
+    if !is_root {
+        return true;
+    }
+    may_be_named(numbers, is_number(field.kind), field.name)
+}
+
+/// What the kind of a field stands for.
+fn resolve_kind(known: &Known, kind: WrittenKind) -> Result<FieldKind, CKind>
+    ensures { result ≡ rules.resolve_kind (known_of known.now) (kind_of kind.entry) }
+{
+    match kind {
+        WrittenKind::Number(ty) => Ok(FieldKind::Number(ty)),
+        WrittenKind::Struct(name) => match known.struct_position(name) {
+            Some(k) => Ok(FieldKind::Struct(k)),
+            None => Err(CKind::Name),
+        },
+    }
+}
+
+/// What the kind of a field stands for, where the field keeps the rules behind these names.
+pub(crate) fn resolve_field(
+    known: &Known,
+    is_root: bool,
+    numbers: &Numbers,
+    earlier: &NameTable,
+    field: &WrittenField,
+) -> Result<FieldKind, CKind>
+    ensures { rules.resolve_field (known_of known.now) is_root (names_in numbers.now) earlier.now (field_of field.now) ≡ named_kind field.now.name.now result }
+{
+    unless_fault(!earlier.contains(field.name), CKind::Name)?;
+    let kind = resolve_kind(known, field.kind)?;
+    unless_fault(may_stand(is_root, numbers, field), CKind::TypeRule)?;
+    Ok(kind)
+}

@@ -1,0 +1,25 @@
+// The resolver of C: the program that a written program stands for, or the first construct that breaks a static rule.
+#![tactic(auto)]
+
+mod calls;
+mod chains;
+mod exprs;
+mod faults;
+mod field_rules;
+mod fields;
+mod interface;
+mod known;
+mod lookups;
+mod name_table;
+mod numbers;
+mod outputs;
+mod params;
+mod procedures;
+mod programs;
+mod pures;
+mod roots;
+mod stmts;
+mod structs;
+
+pub use interface::check_root;
+pub use programs::resolve_program;

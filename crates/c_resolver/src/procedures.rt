@@ -1,0 +1,145 @@
+// Procedures.
+ghost use Rattle.std.specs.Prelude.{◌≡◌, ◌+◌, ◌++◌, ◌∷◌, [], map, false, OnOk, IfOk};
+ghost use Rattle.c_syntax.specs.Outputs.{has_name};
+ghost use Rattle.c_syntax.specs.Plain.{procedure_tree};
+ghost use Rattle.c_rules.specs.Resolve as rules;
+ghost use Rattle.c_syntax.specs.Chains as chain;
+ghost use Rattle.c_grammar.specs.WrittenTrees.{procedure_of};
+ghost use Rattle.c_resolver.specs.Gives.{Gives};
+ghost use Rattle.c_resolver.specs.Params.{plain_param};
+ghost use Rattle.c_resolver.specs.Scopes.{known_of};
+
+use crate::chains::stmts_chain;
+use crate::faults::{on_line, unless_fault};
+use crate::known::{Known, Scope};
+use crate::params::resolve_params;
+use crate::roots::is_lawful_root;
+use crate::stmts::resolve_stmts;
+use c_grammar::{ReadCFault, WrittenParam, WrittenProcedure, WrittenPureParam};
+use c_syntax::{CKind, CType, Procedure};
+use mc_base::{Memory, Text};
+use std::alloc::{AllocError, Global};
+
+/// The position of the struct of a procedure, whose name and parameters keep the rules.
+fn resolve_head(known: &Known, p: &WrittenProcedure) -> Result<u32, CKind>
+    ensures { result ≡ rules.resolve_head (known_of known.now) (procedure_of p.now) }
+{
+    unless_fault(!known.has_function(p.name), CKind::Name)?;
+    match known.struct_position(p.of) {
+        Some(of) => {
+            unless_fault(is_lawful_root(p), CKind::TypeRule)?;
+            Ok(of)
+        }
+        None => Err(CKind::Name),
+    }
+}
+
+/// Parameters without their types.
+fn plain_params<'a>(
+    alloc: Global,
+    params: &[WrittenParam<'a>],
+) -> Result<Vec<WrittenPureParam<'a>>, AllocError>
+    ensures { IfOk result (λ plain. plain.items ≡ map plain_param params.now) }
+{
+    let mut plain = Vec::new(alloc);
+    for param in params {
+        plain.push(WrittenPureParam {
+            line: param.line,
+            name: param.name,
+        })?;
+    }
+    Ok(plain)
+}
+
+/// The names of parameters, as texts of their own, and their types.
+fn typed_texts_of(alloc: Global, params: &[WrittenParam]) -> Result<Vec<(Text, CType)>, Memory>
+    ensures { IfOk result (λ typed. typed.items ≡ map (λ q. (q.name.now, q.ty)) params.now) }
+{
+    let mut typed = Vec::new(alloc);
+    for param in params {
+        typed.push((Text::copy_of(alloc, param.name)?, param.ty))?;
+    }
+    Ok(typed)
+}
+
+/// What a procedure stands for.
+fn resolve_procedure<'a>(
+    alloc: Global,
+    known: &Known<'a>,
+    p: &WrittenProcedure<'a>,
+) -> Result<Procedure, ReadCFault>
+    ensures resolved { Gives procedure_tree result (rules.resolve_procedure (known_of known.now) (procedure_of p.now)) }
+    ensures new { OnOk result (has_name (rules.function_names (known_of known.now)) p.now.name.now ≡ false) }
+    ensures named { IfOk result (λ procedure. procedure.name ≡ p.now.name.now) }
+{
+    let of = on_line(p.line, resolve_head(known, p))?;
+    let plain = plain_params(alloc, p.params.as_slice())?;
+    let names = resolve_params(alloc, known, plain.as_slice())?;
+    let scope = Scope {
+        known,
+        of: Some(of),
+        params: &names,
+    };
+    let body = resolve_stmts(alloc, &scope, p.body.as_slice())?;
+    Ok(Procedure {
+        name: Text::copy_of(alloc, p.name)?,
+        private: p.private,
+        of,
+        params: typed_texts_of(alloc, p.params.as_slice())?,
+        body,
+    })
+}
+
+impl<'a> Known<'a> {
+    /// The same with one more procedure, whose name is new.
+    fn with_procedure(self, name: &'a [u8], procedure: Procedure) -> Result<Known<'a>, Memory>
+        requires new { has_name (rules.function_names (known_of self)) name.now ≡ false }
+        requires named { procedure.name ≡ name.now }
+        ensures { IfOk result (λ known. let before = known_of self.entry in let more = procedure_tree procedure in
+            known_of known ≡ record before { procedures = before.procedures ++ more ∷ []; chains = before.chains ++ (chain.stmts_chain before.chains more.body + 1) ∷ [] }) }
+    {
+        let Known {
+            pures,
+            pure_names,
+            structs,
+            struct_names,
+            field_names,
+            mut procedures,
+            mut procedure_names,
+            mut chains,
+        } = self;
+        let longest = stmts_chain(chains.as_slice(), procedure.body.as_slice());
+        let Some(length) = longest.checked_add(1) else {
+            return Err(Memory);
+        };
+        chains.push(length)?;
+        procedures.push(procedure)?;
+        procedure_names.push(name)?;
+        Ok(Known {
+            pures,
+            pure_names,
+            structs,
+            struct_names,
+            field_names,
+            procedures,
+            procedure_names,
+            chains,
+        })
+    }
+}
+
+/// What is known behind procedures, each known to those after it.
+pub(crate) fn resolve_procedures<'a>(
+    alloc: Global,
+    known: Known<'a>,
+    procedures: &[WrittenProcedure<'a>],
+) -> Result<Known<'a>, ReadCFault>
+    ensures { Gives known_of result (rules.resolve_procedures (known_of known.entry) (map procedure_of procedures.now)) }
+{
+    let mut known = known;
+    for p in procedures {
+        let procedure = resolve_procedure(alloc, &known, p)?;
+        known = known.with_procedure(p.name, procedure)?;
+    }
+    Ok(known)
+}

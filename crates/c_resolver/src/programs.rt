@@ -1,0 +1,72 @@
+// Programs.
+ghost use Rattle.std.specs.Prelude.{◌≡◌, ◌<◌, ◌^◌, [], length, IfOk};
+ghost use Rattle.c_syntax.specs.Plain.{program_tree};
+ghost use Rattle.c_rules.specs.Resolve as rules;
+ghost use Rattle.c_grammar.specs.WrittenTrees as written;
+ghost use Rattle.c_resolver.specs.Gives.{Gives};
+ghost use Rattle.c_resolver.specs.Scopes.{known_of};
+
+use crate::faults::{on_line, unless_fault};
+use crate::known::Known;
+use crate::name_table::NameTable;
+use crate::procedures::resolve_procedures;
+use crate::pures::resolve_pures;
+use crate::structs::resolve_structs;
+use c_grammar::{ReadCFault, WrittenProgram};
+use c_syntax::{CKind, Program};
+use std::alloc::Global;
+
+/// What is known before the first definition.
+fn nothing_known<'a>(alloc: Global) -> Known<'a>
+    ensures { known_of result ≡ record { pures = []; structs = []; procedures = []; chains = [] } }
+{
+    Known {
+        pures: Vec::new(alloc),
+        pure_names: NameTable::new(alloc),
+        structs: Vec::new(alloc),
+        struct_names: NameTable::new(alloc),
+        field_names: Vec::new(alloc),
+        procedures: Vec::new(alloc),
+        procedure_names: NameTable::new(alloc),
+        chains: Vec::new(alloc),
+    }
+}
+
+/// Whether the root's struct and its two procedures are there.
+fn has_root(known: &Known) -> bool
+    ensures { result ≡ rules.has_root (known_of known.now) }
+{
+    known.has_struct(b"root")
+        && known.has_procedure(b"root_start")
+        && known.has_procedure(b"root_step")
+}
+
+/// The program of these definitions.
+fn program_of(known: Known) -> Program
+    ensures tree { let all = known_of known.entry in program_tree result ≡ record { pures = all.pures; structs = all.structs; procedures = all.procedures } }
+    ensures few { length result.procedures.items < 2 ^ 32 }
+{
+    let Known {
+        pures,
+        structs,
+        procedures,
+        ..
+    } = known;
+    Program {
+        pure: pures,
+        structs,
+        procedures,
+    }
+}
+
+/// What a written program stands for; the last line of its text is where a missing root is told.
+pub fn resolve_program(alloc: Global, last: u32, p: &WrittenProgram) -> Result<Program, ReadCFault>
+    ensures resolved { Gives program_tree result (rules.resolve_program last (written.program_of p.now)) }
+    ensures few { IfOk result (λ program. length program.procedures.items < 2 ^ 32) }
+{
+    let known = resolve_pures(alloc, nothing_known(alloc), p.pures.as_slice())?;
+    let known = resolve_structs(alloc, known, p.structs.as_slice())?;
+    let known = resolve_procedures(alloc, known, p.procedures.as_slice())?;
+    on_line(last, unless_fault(has_root(&known), CKind::Name))?;
+    Ok(program_of(known))
+}

@@ -1,0 +1,94 @@
+// Pure functions.
+ghost use Rattle.std.specs.Prelude.{◌≡◌, ◌++◌, ◌∷◌, [], map, false, OnOk, IfOk};
+ghost use Rattle.c_syntax.specs.Outputs.{has_name};
+ghost use Rattle.c_syntax.specs.Plain.{pure_tree};
+ghost use Rattle.c_rules.specs.Resolve as rules;
+ghost use Rattle.c_grammar.specs.WrittenTrees.{pure_of};
+ghost use Rattle.c_resolver.specs.Gives.{Gives};
+ghost use Rattle.c_resolver.specs.Scopes.{known_of};
+
+use crate::exprs::resolve_expr;
+use crate::faults::fault_at;
+use crate::known::{Known, Scope};
+use crate::params::{resolve_params, texts_of};
+use c_grammar::{ReadCFault, WrittenPure};
+use c_syntax::{CKind, Pure};
+use mc_base::{Memory, Text};
+use std::alloc::Global;
+
+/// What a pure function stands for.
+fn resolve_pure<'a>(
+    alloc: Global,
+    known: &Known<'a>,
+    p: &WrittenPure<'a>,
+) -> Result<Pure, ReadCFault>
+    ensures resolved { Gives pure_tree result (rules.resolve_pure (known_of known.now) (pure_of p.now)) }
+    ensures new { OnOk result (has_name (rules.function_names (known_of known.now)) p.now.name.now ≡ false) }
+    ensures named { IfOk result (λ pure. pure.name ≡ p.now.name.now) }
+{
+    if known.has_function(p.name) {
+        return Err(ReadCFault::Refused(fault_at(p.line, CKind::Name)));
+    }
+    let names = resolve_params(alloc, known, p.params.as_slice())?;
+    let scope = Scope {
+        known,
+        of: None,
+        params: &names,
+    };
+    let body = resolve_expr(alloc, &scope, &p.body)?;
+    Ok(Pure {
+        name: Text::copy_of(alloc, p.name)?,
+        params: texts_of(alloc, p.params.as_slice())?,
+        body,
+        line: p.return_line,
+    })
+}
+
+impl<'a> Known<'a> {
+    /// The same with one more pure function, whose name is new.
+    #[tactic(auto, using(crate::proofs::Each::map_push))]
+    fn with_pure(self, name: &'a [u8], pure: Pure) -> Result<Known<'a>, Memory>
+        requires new { has_name (rules.function_names (known_of self)) name.now ≡ false }
+        requires named { pure.name ≡ name.now }
+        ensures { IfOk result (λ known. known_of known ≡ record (known_of self.entry) { pures = (known_of self.entry).pures ++ pure_tree pure ∷ [] }) }
+    {
+        let Known {
+            mut pures,
+            mut pure_names,
+            structs,
+            struct_names,
+            field_names,
+            procedures,
+            procedure_names,
+            chains,
+        } = self;
+        pures.push(pure)?;
+        pure_names.push(name)?;
+        Ok(Known {
+            pures,
+            pure_names,
+            structs,
+            struct_names,
+            field_names,
+            procedures,
+            procedure_names,
+            chains,
+        })
+    }
+}
+
+/// What is known behind pure functions, each known to those after it.
+pub(crate) fn resolve_pures<'a>(
+    alloc: Global,
+    known: Known<'a>,
+    pures: &[WrittenPure<'a>],
+) -> Result<Known<'a>, ReadCFault>
+    ensures { Gives known_of result (rules.resolve_pures (known_of known.entry) (map pure_of pures.now)) }
+{
+    let mut known = known;
+    for p in pures {
+        let pure = resolve_pure(alloc, &known, p)?;
+        known = known.with_pure(p.name, pure)?;
+    }
+    Ok(known)
+}

@@ -1,0 +1,105 @@
+// Statements.
+ghost use Rattle.std.specs.Prelude.{◌≡◌, map};
+ghost use Rattle.c_syntax.specs.Tree as tree;
+ghost use Rattle.c_syntax.specs.Tree.{stmts_of_list};
+ghost use Rattle.c_syntax.specs.Plain.{cond_tree, stmt_tree};
+ghost use Rattle.c_grammar.specs.Parsing.{stmts_from};
+ghost use Rattle.c_rules.specs.Resolve as rules;
+ghost use Rattle.c_grammar.specs.WrittenTrees.{stmt_of};
+ghost use Rattle.c_resolver.specs.Gives.{Gives};
+ghost use Rattle.c_resolver.specs.Scopes.{names_of};
+ghost use Rattle.c_resolver.specs.Choices.{resolve_second};
+
+use crate::calls::{resolve_call_of_procedure, resolve_store};
+use crate::exprs::{resolve_cond, resolve_expr};
+use crate::faults::on_line;
+use crate::known::Scope;
+use c_grammar::{ReadCFault, WrittenStmt};
+use c_syntax::{Cond, Stmt};
+use std::alloc::Global;
+
+/// A choice.
+fn choice(line: u32, test: Cond, yes: Vec<Stmt>, no: Vec<Stmt>) -> Stmt
+    ensures { stmt_tree result ≡ tree.branch line (cond_tree test) (stmts_of_list (map stmt_tree yes.items)) (stmts_of_list (map stmt_tree no.items)) }
+{
+    Stmt::If {
+        line,
+        test,
+        yes,
+        no,
+    }
+}
+
+/// What a statement stands for.
+#[cycle(statement)]
+fn resolve_stmt(alloc: Global, scope: &Scope, s: &WrittenStmt) -> Result<Stmt, ReadCFault>
+    ensures { Gives stmt_tree result (rules.resolve_stmt (names_of scope.now) (stmt_of s.now)) }
+{
+    match s {
+        WrittenStmt::Set {
+            line,
+            field,
+            cast,
+            value,
+        } => {
+            let field = on_line(*line, resolve_store(scope, field, *cast))?;
+            let value = resolve_expr(alloc, scope, value)?;
+            Ok(Stmt::Set {
+                line: *line,
+                field,
+                value,
+            })
+        }
+        WrittenStmt::If {
+            line,
+            test,
+            yes,
+            has_else,
+            no,
+        } => {
+            let test = resolve_cond(alloc, scope, test)?;
+            let on_true = resolve_stmts(alloc, scope, yes)?;
+            let on_false = resolve_else(alloc, scope, *has_else, no)?;
+            Ok(choice(*line, test, on_true, on_false))
+        }
+        WrittenStmt::Call {
+            line,
+            procedure,
+            target,
+            values,
+        } => resolve_call_of_procedure(alloc, scope, *line, procedure, *target, values.as_slice()),
+    }
+}
+
+/// What the second block of a choice stands for, where it is written.
+#[cycle(statement)]
+fn resolve_else(
+    alloc: Global,
+    scope: &Scope,
+    has_else: bool,
+    no: &[WrittenStmt],
+) -> Result<Vec<Stmt>, ReadCFault>
+    ensures { Gives (λ v. stmts_of_list (map stmt_tree v.items)) result (resolve_second (names_of scope.now) has_else (stmts_from (map stmt_of no.now))) }
+{
+    if has_else {
+        resolve_stmts(alloc, scope, no)
+    } else {
+        Ok(Vec::new(alloc))
+    }
+}
+
+/// What statements stand for.
+#[cycle(statement)]
+pub(crate) fn resolve_stmts(
+    alloc: Global,
+    scope: &Scope,
+    ss: &[WrittenStmt],
+) -> Result<Vec<Stmt>, ReadCFault>
+    ensures { Gives (λ v. stmts_of_list (map stmt_tree v.items)) result (rules.resolve_stmts (names_of scope.now) (stmts_from (map stmt_of ss.now))) }
+{
+    let mut resolved = Vec::new(alloc);
+    for s in ss {
+        resolved.push(resolve_stmt(alloc, scope, s)?)?;
+    }
+    Ok(resolved)
+}

@@ -1,0 +1,4 @@
+-- Lemmas that proofs of the crates above use.
+pub mod PlainLaws
+pub mod NamePlaces
+pub mod NameFacts

@@ -1,0 +1,12 @@
+pub mod Tree
+pub mod PlainField
+pub mod Plain
+pub mod Names
+pub mod Kinds
+pub mod Outputs
+pub mod RootFields
+pub mod Limits
+pub mod Chains
+pub mod Lawful
+pub mod ProgramExamples
+pub mod RoundsProgram
