@@ -1,0 +1,15 @@
+pub mod PlainCalls
+pub mod BalancedLaws
+pub mod Evaluation
+pub mod IntegerProducts
+pub mod Conversions
+pub mod ExactLaws
+pub mod TruthLaws
+pub mod Writable
+pub mod RowLaws
+pub mod Terms
+pub mod TestLaws
+pub mod DepthLaws
+pub mod ReadingLaws
+pub mod LawfulLaws
+pub mod LawfulTests

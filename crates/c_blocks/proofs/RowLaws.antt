@@ -1,0 +1,218 @@
+-- The expression of a row gives what the row computes: kind by kind.
+use Rattle.std.proofs.Common.{◌≡◌, refl, sym, ap, ◌∙◌, subst, ℕ, zero, suc, ◌+◌, ◌-◌, ◌*◌, ◌^◌, ◌<◌, ◌≤◌, Bool, true, false, if◌then◌else◌, List, [], ◌∷◌, length, map, take, get_or, sum, ℤ, pos, ◌*ℤ◌, nat_le, unsigned_abs, arith}
+use Rattle.std.specs.List.{AllZip}
+use Rattle.std.proofs.Math.Nat.{mul-le-mul_right}
+use Rattle.std.proofs.Math.Seq.{take-length}
+use Rattle.std.proofs.lemmas.Int.{unsigned_abs-mul}
+use Rattle.mc_base.specs.declared.Compare.{Compare}
+use Rattle.mc_fixed.specs.declared.FixType.{FixType}
+use Rattle.mc_fixed.specs.Conversion.{InType, quantize}
+use Rattle.mc_blocks.specs.declared.How.{How}
+use Rattle.mc_blocks.specs.declared.Kind.{Kind}
+use Rattle.mc_blocks.specs.declared.Kind.TheVariants as kind
+use Rattle.mc_blocks.specs.declared.Op.{Op}
+use Rattle.mc_blocks.specs.declared.Op.TheVariants as op
+use Rattle.mc_blocks.specs.Value.{rhs, input, conversion, passes, greatest_in, aligned_number, exact_sum, exact_product, logic_of, is_true, number_of_bool}
+use Rattle.mc_blocks.specs.Value as value
+use Rattle.mc_blocks.specs.Width.{gain_of, input_type, wide_bits}
+use Rattle.mc_blocks.specs.Meaning.{op_of, sum_fracs}
+use Rattle.mc_blocks.specs.Limits.{IsWithinLimits, HasInputTypes}
+use Rattle.mc_blocks.specs.Evaluation.{ReadsInTypes}
+use Rattle.mc_blocks.specs.Laws.{ConversionFits, NarrowRowsFit, ValuesStayInType, sum_magnitude, product_magnitude}
+use Rattle.c_syntax.specs.declared.BinOp.TheVariants.{Mul}
+use Rattle.c_syntax.specs.declared.Leaf.{Leaf}
+use Rattle.c_syntax.specs.Tree.{ExprTree, CondTree, PureTree, binary, pick, compare}
+use Rattle.c_machine.specs.Values.{gives, and_then, Function, functions_of, eval, step_limit}
+use Rattle.c_prelude.specs.Rules.{IsPrelude, WholeNumbersStay}
+use Rattle.c_blocks.specs.RowCode.{rhs_code, input_code, converted, written, truth, truths, logic_code, aligned, sum_code, product_code, passes_code, nought}
+use Rattle.c_blocks.specs.Computed.{returns, conversion_returns}
+use Rattle.c_blocks.specs.Laws.{RowsAreComputed, ReturnsAreFew}
+use Rattle.c_blocks.proofs.Evaluation.{Gives, Holds, gives_mul, gives_written, holds_compare}
+use Rattle.c_blocks.proofs.Conversions.{aligned_gives, converted_gives}
+use Rattle.c_blocks.proofs.ExactLaws.{sum_gives, product_gives}
+use Rattle.c_blocks.proofs.Writable.{small_number, constant_small, gain_small_of, length_fracs, first_fracs}
+use Rattle.c_blocks.proofs.TruthLaws.{same_compare, truth_gives, logic_holds, passes_holds}
+
+-- ---- Lists of inputs
+
+length_types : (ts : List FixType) (vs : List ℤ) → AllZip InType ts vs → length vs ≡ length ts
+length_types [] [] a = refl
+length_types [] (v ∷ vs) a = absurd a
+length_types (t ∷ ts) [] a = absurd a
+length_types (t ∷ ts) (v ∷ vs) a = ap suc (length_types ts vs a.1)
+
+length_read : (reads : Leaf → ℤ) (leaves : List Leaf) → length (map reads leaves) ≡ length leaves
+length_read reads [] = refl
+length_read reads (l ∷ leaves) = ap suc (length_read reads leaves)
+
+whole_list : {A : Type 0} (xs : List A) (n : ℕ) → length xs ≡ n → take n xs ≡ xs
+whole_list xs n e = subst (λ k. take k xs ≡ xs) e (take-length xs)
+
+-- ---- Rows
+
+no_step : (functions : List Function) (reads : Leaf → ℤ) (line : ℕ) (e : ExprTree) (x : ℤ) → Gives functions reads line e x → (steps : ℕ) → eval functions reads line e steps ≡ gives x (steps + 0)
+no_step functions reads line e x h steps = h steps ∙ ap (gives x) (let same : steps ≡ steps + 0 = omega arith in same)
+
+module _ (ps : List PureTree) (prelude : IsPrelude ps) (stay : WholeNumbersStay) (reads : Leaf → ℤ) (line : ℕ) where
+  abbrev functions : List Function
+  functions = functions_of [] ps
+
+  abbrev Is : ExprTree → ℤ → Type 0
+  Is e x = Gives functions reads line e x
+
+  -- so many calls later the expression gives this number
+  abbrev Comes : ExprTree → ℤ → ℕ → Type 0
+  Comes e x calls = (steps : ℕ) → steps + 2 ≤ step_limit → eval functions reads line e steps ≡ gives x (steps + calls)
+
+  comes_at_once : (e : ExprTree) (x : ℤ) → Is e x → Comes e x 0
+  comes_at_once e x h steps room = no_step functions reads line e x h steps
+
+  input_gives : (leaves : List Leaf) (i : ℕ) → Is (input_code leaves i) (input (map reads leaves) i)
+  input_gives [] i = λ steps. refl
+  input_gives (l ∷ leaves) zero = λ steps. refl
+  input_gives (l ∷ leaves) (suc i) = input_gives leaves i
+
+  converted_comes : (e : ExprTree) (v : ℤ) (f : ℕ) (to : FixType) (how : How) → Is e v → ConversionFits (unsigned_abs v) f to → Comes (converted e f to how) (conversion v f to how) (conversion_returns f to)
+  converted_comes e v f to how h fits = converted_gives ps prelude stay reads line e v f to how h fits
+
+  lesser_fits : (lesser magnitude F : ℕ) (to : FixType) → lesser ≤ magnitude → ConversionFits magnitude F to → ConversionFits lesser F to
+  lesser_fits lesser magnitude F to le h = (omega (arith, mul-le-mul_right (2 ^ (to.frac - F)) le, h.0), h.1)
+
+  gain_comes : (leaves : List Leaf) (m : ℤ) (f : ℕ) (to : FixType) (how : How) → unsigned_abs m < 2 ^ 63 →
+      ConversionFits (unsigned_abs (input (map reads leaves) 0) * unsigned_abs m) f to →
+      Comes (converted (binary Mul (input_code leaves 0) (written m)) f to how) (conversion (input (map reads leaves) 0 *ℤ m) f to how) (conversion_returns f to)
+  gain_comes leaves m f to how small fits =
+      let v = input (map reads leaves) 0 in
+      let same = unsigned_abs-mul v m in
+      let bound : unsigned_abs (v *ℤ m) < 2 ^ 63 = omega (arith, same, small_number (unsigned_abs v * unsigned_abs m) f to fits) in
+      converted_comes (binary Mul (input_code leaves 0) (written m)) (v *ℤ m) f to how
+      (gives_mul functions reads line (input_code leaves 0) (written m) v m (input_gives leaves 0) (gives_written functions reads line m small) bound)
+      (lesser_fits (unsigned_abs (v *ℤ m)) (unsigned_abs v * unsigned_abs m) f to (omega (arith, same)) fits)
+
+  sum_comes : (minus F : ℕ) (fs : List ℕ) (leaves : List Leaf) (to : FixType) (how : How) → length fs ≤ 16 → ConversionFits (sum_magnitude F fs (map reads leaves)) F to →
+      Comes (converted (sum_code minus F fs leaves) F to how) (conversion (exact_sum minus F 0 fs (map reads leaves)) F to how) (conversion_returns F to)
+  sum_comes minus F fs leaves to how few fits =
+      let vs = map reads leaves in
+      let exact = sum_gives functions reads line minus F fs leaves few (small_number (sum_magnitude F fs vs) F to fits) in
+      converted_comes (sum_code minus F fs leaves) (exact_sum minus F 0 fs vs) F to how exact.0
+      (lesser_fits (unsigned_abs (exact_sum minus F 0 fs vs)) (sum_magnitude F fs vs) F to exact.1 fits)
+
+  product_comes : (leaves : List Leaf) (f : ℕ) (to : FixType) (how : How) → length leaves ≤ 16 → ConversionFits (product_magnitude (map reads leaves)) f to →
+      Comes (converted (product_code leaves) f to how) (conversion (exact_product (map reads leaves)) f to how) (conversion_returns f to)
+  product_comes leaves f to how few fits =
+      let vs = map reads leaves in
+      let exact = product_gives functions reads line leaves few (small_number (product_magnitude vs) f to fits) in
+      converted_comes (product_code leaves) (exact_product vs) f to how exact.0
+      (lesser_fits (unsigned_abs (exact_product vs)) (product_magnitude vs) f to exact.1 fits)
+
+  -- one of two expressions, each of which comes to its number after calls of its own
+  pick_comes : (test : CondTree) (b : Bool) (d e : ExprTree) (x y : ℤ) (f g : ℕ) (to : FixType) → Holds functions reads line test b → Comes d x (conversion_returns f to) → Comes e y (conversion_returns g to) →
+      Comes (pick test d e) (if b then x else y) (conversion_returns (if b then f else g) to)
+  pick_comes test b d e x y f g to h p q steps room =
+      ap (λ r. and_then r (λ holds. if holds then eval functions reads line d else eval functions reads line e)) (h steps) ∙ by b
+    where
+      by : (b : Bool) → (if b then eval functions reads line d else eval functions reads line e) steps ≡ gives (if b then x else y) (steps + conversion_returns (if b then f else g) to)
+      by true = p steps room
+      by false = q steps room
+
+  comparison_gives : (how : Compare) (d e : ExprTree) (v w : ℤ) (f g F : ℕ) → Is d v → Is e w → unsigned_abs (aligned_number v f F) ≤ 2 ^ 62 → unsigned_abs (aligned_number w g F) ≤ 2 ^ 62 →
+      Is (truth (compare how (aligned d f F) (aligned e g F))) (number_of_bool (value.compares how (aligned_number v f F) (aligned_number w g F)))
+  comparison_gives how d e v w f g F h k small low =
+      let x = aligned_number v f F in
+      let y = aligned_number w g F in
+      truth_gives functions reads line (compare how (aligned d f F) (aligned e g F)) (value.compares how x y)
+      (subst (Holds functions reads line (compare how (aligned d f F) (aligned e g F))) (same_compare how x y)
+      (holds_compare functions reads line how (aligned d f F) (aligned e g F) x y (aligned_gives functions reads line d v f F h small) (aligned_gives functions reads line e w g F k low)))
+
+  -- ---- All kinds
+
+  module _ (stays : ValuesStayInType) (narrow_fit : NarrowRowsFit) (leaves : List Leaf) (memory : ExprTree) (m : ℤ) (known : Is memory m) where
+    abbrev vs : List ℤ
+    vs = map reads leaves
+
+    count_is : (ts : List FixType) (count : ℕ) → length ts ≡ count → AllZip InType ts vs → length leaves ≡ count
+    count_is ts count has reads_in = sym (length_read reads leaves) ∙ length_types ts vs reads_in ∙ has
+
+    abbrev RowComes : Op → Type 0
+    RowComes o = Comes (rhs_code o leaves memory) (rhs o vs m) (returns o vs)
+
+    by_kind : (k : Kind) (ts : List FixType) (out : FixType) (delays : Bool) → IsWithinLimits k → HasInputTypes k ts → wide_bits k ts out ≤ 62 → ReadsInTypes k ts vs → RowComes (op_of k ts out delays)
+    by_kind (kind.Inport port) ts out delays limits has narrow reads_in = comes_at_once (input_code leaves 0) (input vs 0) (input_gives leaves 0)
+    by_kind (kind.Outport port reset initial) ts out delays limits has narrow reads_in = comes_at_once (input_code leaves 0) (input vs 0) (input_gives leaves 0)
+    by_kind (kind.SubSystem control) ts out delays limits has narrow reads_in = comes_at_once nought (pos 0) (λ steps. refl)
+    by_kind (kind.Constant value) ts out delays limits has narrow reads_in = comes_at_once (written (quantize value out)) (quantize value out) (gives_written functions reads line (quantize value out) (constant_small stays narrow_fit value out))
+    by_kind kind.Ground ts out delays limits has narrow reads_in = comes_at_once nought (pos 0) (λ steps. refl)
+    by_kind kind.Terminator ts out delays limits has narrow reads_in = comes_at_once nought (pos 0) (λ steps. refl)
+    by_kind (kind.Gain gain how) ts out delays limits has narrow reads_in =
+        gain_comes leaves (gain_of gain).0 ((input_type ts 0).frac + (gain_of gain).1) out how (gain_small_of stays narrow_fit gain how ts out has narrow) (narrow_fit (kind.Gain gain how) ts out delays vs has reads_in narrow)
+    by_kind (kind.Sum count minus how) ts out delays limits has narrow reads_in =
+        sum_comes minus (greatest_in (take count (sum_fracs ts))) (take count (sum_fracs ts)) leaves out how
+        (subst (λ fs. length fs ≤ 16) (sym (first_fracs ts count has)) (omega (arith, length_fracs ts, has, limits.1)))
+        (narrow_fit (kind.Sum count minus how) ts out delays vs has reads_in narrow)
+    by_kind (kind.Product count how) ts out delays limits has narrow reads_in =
+        let f = sum (map (λ (t : FixType). t.frac) ts) in
+        let many = count_is ts count has reads_in in
+        let whole : take count vs ≡ vs = whole_list vs count (length_read reads leaves ∙ many) in
+        let fits = narrow_fit (kind.Product count how) ts out delays vs has reads_in narrow in
+        subst (λ us. Comes (converted (product_code leaves) f out how) (conversion (exact_product us) f out how) (conversion_returns f out)) (sym whole)
+        (product_comes leaves f out how (omega (arith, many, limits.1)) (subst (λ us. ConversionFits (product_magnitude us) f out) whole fits))
+    by_kind (kind.UnitDelay initial) ts out delays limits has narrow reads_in = comes_at_once memory m known
+    by_kind (kind.Delay samples initial) ts out delays limits has narrow reads_in = comes_at_once memory m known
+    by_kind kind.ZeroOrderHold ts out delays limits has narrow reads_in = comes_at_once (input_code leaves 0) (input vs 0) (input_gives leaves 0)
+    by_kind (kind.Switch criterion threshold how) ts out delays limits has narrow reads_in =
+        let level = quantize threshold (input_type ts 1) in
+        let f = (input_type ts 0).frac in
+        let g = (input_type ts 2).frac in
+        let fits = narrow_fit (kind.Switch criterion threshold how) ts out delays vs has reads_in narrow in
+        pick_comes (passes_code criterion (input_code leaves 1) level) (passes criterion (input vs 1) level) (converted (input_code leaves 0) f out how) (converted (input_code leaves 2) g out how)
+        (conversion (input vs 0) f out how) (conversion (input vs 2) g out how) f g out
+        (passes_holds functions reads line criterion (input_code leaves 1) (input vs 1) level (input_gives leaves 1) (constant_small stays narrow_fit threshold (input_type ts 1)))
+        (converted_comes (input_code leaves 0) (input vs 0) f out how (input_gives leaves 0) fits.0)
+        (converted_comes (input_code leaves 2) (input vs 2) g out how (input_gives leaves 2) fits.1)
+    by_kind (kind.Relational how) ts out delays limits has narrow reads_in =
+        let f = (input_type ts 0).frac in
+        let g = (input_type ts 1).frac in
+        let F = greatest_in (f ∷ g ∷ []) in
+        let fits = narrow_fit (kind.Relational how) ts out delays vs has reads_in narrow in
+        comes_at_once (truth (compare how (aligned (input_code leaves 0) f F) (aligned (input_code leaves 1) g F))) (number_of_bool (value.compares how (aligned_number (input vs 0) f F) (aligned_number (input vs 1) g F)))
+        (comparison_gives how (input_code leaves 0) (input_code leaves 1) (input vs 0) (input vs 1) f g F (input_gives leaves 0) (input_gives leaves 1) fits.0 fits.1)
+    by_kind (kind.Logic o count) ts out delays limits has narrow reads_in =
+        let many = count_is ts count has reads_in in
+        let whole : take count vs ≡ vs = whole_list vs count (length_read reads leaves ∙ many) in
+        subst (λ us. Comes (truth (logic_code o (truths leaves))) (number_of_bool (logic_of o (map is_true us))) 0) (sym whole)
+        (comes_at_once (truth (logic_code o (truths leaves))) (number_of_bool (logic_of o (map is_true vs)))
+        (truth_gives functions reads line (logic_code o (truths leaves)) (logic_of o (map is_true vs)) (logic_holds functions reads line o leaves (omega (arith, many, limits.1)))))
+    by_kind (kind.Convert how) ts out delays limits has narrow reads_in =
+        converted_comes (input_code leaves 0) (input vs 0) (input_type ts 0).frac out how (input_gives leaves 0) (narrow_fit (kind.Convert how) ts out delays vs has reads_in narrow)
+    by_kind (kind.RateTransition initial time) ts out true limits has narrow reads_in = comes_at_once memory m known
+    by_kind (kind.RateTransition initial time) ts out false limits has narrow reads_in = comes_at_once (input_code leaves 0) (input vs 0) (input_gives leaves 0)
+    by_kind kind.EnablePort ts out delays limits has narrow reads_in = comes_at_once nought (pos 0) (λ steps. refl)
+    by_kind kind.TriggerPort ts out delays limits has narrow reads_in = comes_at_once nought (pos 0) (λ steps. refl)
+
+-- ---- The laws
+
+pub rows_are_computed : ValuesStayInType → NarrowRowsFit → WholeNumbersStay → RowsAreComputed
+rows_are_computed stays narrow_fit stay o leaves memory m ps reads line steps prelude h room known =
+    let comes = by_kind ps prelude stay reads line stays narrow_fit leaves memory m known h.kind h.types h.out h.delays h.within_limits h.has_types h.narrow h.reads steps room in
+    subst (λ o. eval (functions_of [] ps) reads line (rhs_code o leaves memory) steps ≡ gives (rhs o (map reads leaves) m) (steps + returns o (map reads leaves))) (sym h.is_op) comes
+
+conversion_few : (f : ℕ) (to : FixType) → conversion_returns f to ≤ 2
+conversion_few f to = by (nat_le f to.frac)
+  where
+    by : (b : Bool) → (if b then 1 else 2) ≤ 2
+    by true = omega arith
+    by false = omega arith
+
+pub returns_are_few : ReturnsAreFew
+returns_are_few op.Copy us = omega arith
+returns_are_few (op.Value v) us = omega arith
+returns_are_few (op.Delay initial) us = omega arith
+returns_are_few (op.Line samples start) us = omega arith
+returns_are_few (op.Gain m frac to how) us = conversion_few frac to
+returns_are_few (op.Sum count minus fracs to how) us = conversion_few (greatest_in (take count fracs)) to
+returns_are_few (op.Product count frac to how) us = conversion_few frac to
+returns_are_few (op.Switch criterion threshold fracs to how) us = conversion_few (if passes criterion (input us 1) threshold then get_or fracs 0 0 else get_or fracs 1 0) to
+returns_are_few (op.Relational how fracs) us = omega arith
+returns_are_few (op.Logic o count) us = omega arith
+returns_are_few (op.Convert frac to how) us = conversion_few frac to
+returns_are_few op.Nothing us = omega arith

@@ -1,0 +1,139 @@
+-- Tests of truth hold where the operators do.
+use Rattle.std.proofs.Common.{◌≡◌, refl, sym, ap, ◌∙◌, subst, ℕ, suc, ◌≤◌, Bool, true, false, ◌&&◌, ◌||◌, cond, List, [], ◌∷◌, length, map, fold, ℤ, pos, unsigned_abs, ◌<◌, ◌^◌}
+use Rattle.std.specs.List.{AllZip, list_all, list_any}
+use Rattle.mc_base.specs.declared.Compare.{Compare}
+use Rattle.mc_base.specs.declared.Compare.TheVariants.{Eq, Ne, Lt, Le, Ge as AtLeast, Gt as Above}
+use Rattle.mc_blocks.specs.declared.Criterion.{Criterion}
+use Rattle.mc_blocks.specs.declared.Criterion.TheVariants.{Ge, Gt, NotZero}
+use Rattle.mc_blocks.specs.declared.Logic.{Logic}
+use Rattle.mc_blocks.specs.declared.Logic.TheVariants.{And, Or, Nand, Nor, Xor, Nxor, Not}
+use Rattle.mc_blocks.specs.Value as value
+use Rattle.mc_blocks.specs.Value.{is_true, xor, odd_trues, logic_of, number_of_bool, passes}
+use Rattle.c_syntax.specs.declared.Leaf.{Leaf}
+use Rattle.c_syntax.specs.Tree.{ExprTree, CondTree, literal, read, both, either}
+use Rattle.c_machine.specs.Values as c
+use Rattle.c_machine.specs.Values.{Function}
+use Rattle.c_blocks.specs.RowCode.{nought, truth, truths, is_true_code, differ, always, never, all_hold, some_holds, odd_hold, logic_code, passes_code, written}
+use Rattle.c_blocks.proofs.BalancedLaws.{balanced_related, balanced_total, total}
+use Rattle.c_blocks.proofs.Evaluation.{Gives, Holds, gives_pick, gives_written, holds_compare, holds_both, holds_either, holds_negated}
+
+-- comparisons of C are those of blocks
+pub same_compare : (how : Compare) (x y : ℤ) → c.compares how x y ≡ value.compares how x y
+same_compare Eq x y = refl
+same_compare Ne x y = refl
+same_compare Lt x y = refl
+same_compare Le x y = refl
+same_compare AtLeast x y = refl
+same_compare Above x y = refl
+
+-- ---- Truth values
+
+and_assoc : (p q r : Bool) → ((p && q) && r) ≡ (p && (q && r))
+and_assoc true q r = refl
+and_assoc false q r = refl
+
+and_true : (p : Bool) → (p && true) ≡ p
+and_true true = refl
+and_true false = refl
+
+or_assoc : (p q r : Bool) → ((p || q) || r) ≡ (p || (q || r))
+or_assoc true q r = refl
+or_assoc false q r = refl
+
+or_false : (p : Bool) → (p || false) ≡ p
+or_false true = refl
+or_false false = refl
+
+xor_assoc : (p q r : Bool) → xor (xor p q) r ≡ xor p (xor q r)
+xor_assoc false q r = refl
+xor_assoc true false r = refl
+xor_assoc true true false = refl
+xor_assoc true true true = refl
+
+xor_false : (p : Bool) → xor p false ≡ p
+xor_false true = refl
+xor_false false = refl
+
+all_total : (bs : List Bool) → total ◌&&◌ true bs ≡ list_all (λ b. b) bs
+all_total [] = refl
+all_total (b ∷ bs) = ap (λ r. b && r) (all_total bs)
+
+any_total : (bs : List Bool) → total ◌||◌ false bs ≡ list_any (λ b. b) bs
+any_total [] = refl
+any_total (b ∷ bs) = ap (λ r. b || r) (any_total bs)
+
+odd_from : (bs : List Bool) (p : Bool) → xor p (total xor false bs) ≡ fold xor p bs
+odd_from [] p = xor_false p
+odd_from (b ∷ bs) p = sym (xor_assoc p b (total xor false bs)) ∙ odd_from bs (xor p b)
+
+odd_total : (bs : List Bool) → total xor false bs ≡ odd_trues bs
+odd_total bs = odd_from bs false
+
+differ_is_xor : (p q : Bool) → c.compares Ne (cond p (pos 1) (pos 0)) (cond q (pos 1) (pos 0)) ≡ xor p q
+differ_is_xor true true = refl
+differ_is_xor true false = refl
+differ_is_xor false true = refl
+differ_is_xor false false = refl
+
+pub bit_is : (p : Bool) → cond p (pos 1) (pos 0) ≡ number_of_bool p
+bit_is true = refl
+bit_is false = refl
+
+-- ---- Tests
+
+module _ (functions : List Function) (reads : Leaf → ℤ) (line : ℕ) where
+  abbrev Has : CondTree → Bool → Type 0
+  Has t b = Holds functions reads line t b
+
+  pub truth_gives : (t : CondTree) (b : Bool) → Has t b → Gives functions reads line (truth t) (number_of_bool b)
+  truth_gives t b h = subst (Gives functions reads line (truth t)) (bit_is b) (gives_pick functions reads line t (literal (pos 1)) nought b (pos 1) (pos 0) h (λ steps. refl) (λ steps. refl))
+
+  pub is_true_holds : (e : ExprTree) (v : ℤ) → Gives functions reads line e v → Has (is_true_code e) (is_true v)
+  is_true_holds e v h = holds_compare functions reads line Ne e nought v (pos 0) h (λ steps. refl)
+
+  differ_holds : (s t : CondTree) (p q : Bool) → Has s p → Has t q → Has (differ s t) (xor p q)
+  differ_holds s t p q f g =
+      subst (Has (differ s t)) (differ_is_xor p q)
+      (holds_compare functions reads line Ne (truth s) (truth t) (cond p (pos 1) (pos 0)) (cond q (pos 1) (pos 0))
+      (gives_pick functions reads line s (literal (pos 1)) nought p (pos 1) (pos 0) f (λ steps. refl) (λ steps. refl))
+      (gives_pick functions reads line t (literal (pos 1)) nought q (pos 1) (pos 0) g (λ steps. refl) (λ steps. refl)))
+
+  truths_hold : (leaves : List Leaf) → AllZip Has (truths leaves) (map is_true (map reads leaves))
+  truths_hold [] = tt
+  truths_hold (l ∷ leaves) = (is_true_holds (read l) (reads l) (λ steps. refl), truths_hold leaves)
+
+  module _ (tests : List CondTree) (bs : List Bool) (few : length bs ≤ 16) (related : AllZip Has tests bs) where
+    all_holds : Has (all_hold tests) (list_all (λ b. b) bs)
+    all_holds = subst (Has (all_hold tests)) (balanced_total ◌&&◌ true and_assoc and_true bs few ∙ all_total bs)
+        (balanced_related both ◌&&◌ Has (holds_both functions reads line) always true (λ steps. refl) tests bs related)
+
+    some_hold : Has (some_holds tests) (list_any (λ b. b) bs)
+    some_hold = subst (Has (some_holds tests)) (balanced_total ◌||◌ false or_assoc or_false bs few ∙ any_total bs)
+        (balanced_related either ◌||◌ Has (holds_either functions reads line) never false (λ steps. refl) tests bs related)
+
+    odd_holds : Has (odd_hold tests) (odd_trues bs)
+    odd_holds = subst (Has (odd_hold tests)) (balanced_total xor false xor_assoc xor_false bs few ∙ odd_total bs)
+        (balanced_related differ xor Has differ_holds never false (λ steps. refl) tests bs related)
+
+    logic_by : (op : Logic) → Has (logic_code op tests) (logic_of op bs)
+    logic_by And = all_holds
+    logic_by Or = some_hold
+    logic_by Nand = holds_negated functions reads line (all_hold tests) (list_all (λ b. b) bs) all_holds
+    logic_by Nor = holds_negated functions reads line (some_holds tests) (list_any (λ b. b) bs) some_hold
+    logic_by Xor = odd_holds
+    logic_by Nxor = holds_negated functions reads line (odd_hold tests) (odd_trues bs) odd_holds
+    logic_by Not = holds_negated functions reads line (some_holds tests) (list_any (λ b. b) bs) some_hold
+
+  length_truths : (leaves : List Leaf) → length (map is_true (map reads leaves)) ≡ length leaves
+  length_truths [] = refl
+  length_truths (l ∷ leaves) = ap suc (length_truths leaves)
+
+  pub logic_holds : (op : Logic) (leaves : List Leaf) → length leaves ≤ 16 → Has (logic_code op (truths leaves)) (logic_of op (map is_true (map reads leaves)))
+  logic_holds op leaves few =
+      logic_by (truths leaves) (map is_true (map reads leaves)) (subst (λ n. n ≤ 16) (sym (length_truths leaves)) few) (truths_hold leaves) op
+
+  pub passes_holds : (criterion : Criterion) (e : ExprTree) (v threshold : ℤ) → Gives functions reads line e v → unsigned_abs threshold < 2 ^ 63 →
+      Has (passes_code criterion e threshold) (passes criterion v threshold)
+  passes_holds Ge e v threshold h small = holds_compare functions reads line AtLeast e (written threshold) v threshold h (gives_written functions reads line threshold small)
+  passes_holds Gt e v threshold h small = holds_compare functions reads line Above e (written threshold) v threshold h (gives_written functions reads line threshold small)
+  passes_holds NotZero e v threshold h small = is_true_holds e v h

@@ -1,0 +1,5 @@
+use Rattle.c_blocks.proofs.PlainCalls.{expr_tree-Pure}
+use Rattle.c_blocks.proofs.expression.call.Goals as goal
+
+pub returns : goal.returns
+returns c = expr_tree-Pure c.args.function c.args.values

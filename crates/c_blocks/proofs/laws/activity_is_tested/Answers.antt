@@ -1,0 +1,5 @@
+use Rattle.c_blocks.proofs.TestLaws.{activity_is_tested}
+use Rattle.c_blocks.proofs.laws.activity_is_tested.Goals as goal
+
+pub returns : goal.returns
+returns c = activity_is_tested

@@ -1,0 +1,5 @@
+use Rattle.c_blocks.proofs.LawfulTests.{tests_are_lawful}
+use Rattle.c_blocks.proofs.laws.tests_are_lawful.Goals as goal
+
+pub returns : goal.returns
+returns c = tests_are_lawful

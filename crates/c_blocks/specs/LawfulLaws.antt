@@ -1,0 +1,34 @@
+-- The expressions of rows and the tests of activity keep the static rules of C.
+use Rattle.std.specs.Prelude.{◌^◌, ◌<◌, List}
+use Rattle.std.specs.List.{AllByRecursion}
+use Rattle.mc_base.specs.declared.Control.{Control}
+use Rattle.mc_blocks.specs.declared.Op.{Op}
+use Rattle.mc_diagram.specs.declared.Time.{Time}
+use Rattle.c_syntax.specs.declared.Leaf.{Leaf}
+use Rattle.c_syntax.specs.Tree.{ExprTree}
+use Rattle.c_syntax.specs.Lawful.{Reach, IsLawfulLeaf, IsLawfulExpr, IsLawfulCond}
+use Rattle.c_prelude.specs.Rules.{IsPrelude}
+use Rattle.c_blocks.specs.declared.leaves.ControlLeaves.{ControlLeaves}
+use Rattle.c_blocks.specs.TestCode.{active_by, disabled_by, off_by, hit_test}
+use Rattle.c_blocks.specs.TestLaws.{OnTest, control_leaves}
+use Rattle.c_blocks.specs.RowCode.{rhs_code}
+use Rattle.c_blocks.specs.Resolved.{IsRowOp}
+
+-- where its leaves stand for something, the expression for its memory is lawful and the eight functions are there, a
+-- row's expression is lawful
+abbrev pub RowsAreLawful : Type 0
+RowsAreLawful =
+    (reach : Reach) (op : Op) (leaves : List Leaf) (memory : ExprTree) → IsPrelude reach.pures → IsRowOp op →
+    AllByRecursion (IsLawfulLeaf reach) leaves → IsLawfulExpr reach memory → IsLawfulExpr reach (rhs_code op leaves memory)
+
+-- so are the tests
+pub record AreLawfulTests (reach : Reach) (control : Control) (leaves : ControlLeaves) (time : Time) (now : Leaf) : Type 0 where
+  pub active : OnTest (IsLawfulCond reach) (active_by control leaves)
+  pub disabled : OnTest (IsLawfulCond reach) (disabled_by control leaves)
+  pub off : OnTest (IsLawfulCond reach) (off_by control leaves)
+  pub hit : OnTest (IsLawfulCond reach) (hit_test time now)
+
+abbrev pub TestsAreLawful : Type 0
+TestsAreLawful =
+    (reach : Reach) (control : Control) (leaves : ControlLeaves) (time : Time) (now : Leaf) →
+    AllByRecursion (IsLawfulLeaf reach) (control_leaves control leaves) → IsLawfulLeaf reach now → time.period < 2 ^ 63 → AreLawfulTests reach control leaves time now

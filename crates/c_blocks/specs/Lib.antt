@@ -1,0 +1,11 @@
+pub mod Balanced
+pub mod RowCode
+pub mod Joints
+pub mod TestCode
+pub mod Computed
+pub mod Reading
+pub mod Resolved
+pub mod Laws
+pub mod TestLaws
+pub mod LawfulLaws
+pub mod RowCodeExamples

@@ -1,0 +1,83 @@
+-- Expressions of rows over a few numbers, by the eight functions; the last number of each line counts their calls.
+use Rattle.std.specs.Prelude.{◌≡◌, refl, ℕ, true, List, [], ◌∷◌, map, length, ℤ, pos, neg_ℤ}
+use Rattle.std.specs.List.{range_with_len}
+use Rattle.std.proofs.Common.{lit≤}
+use Rattle.mc_base.specs.declared.Compare.TheVariants.{Lt}
+use Rattle.mc_fixed.specs.declared.FixType.{FixType}
+use Rattle.mc_fixed.specs.declared.Round.TheVariants.{Floor, Nearest, Zero, Convergent}
+use Rattle.mc_fixed.specs.declared.Over.TheVariants.{Saturate, Wrap}
+use Rattle.mc_fixed.specs.Types.{uint8}
+use Rattle.mc_blocks.specs.declared.Logic.TheVariants.{Xor, Nand}
+use Rattle.mc_blocks.specs.declared.Criterion.TheVariants.{Gt, NotZero}
+use Rattle.mc_blocks.specs.declared.Op.{Op}
+use Rattle.mc_blocks.specs.declared.Op.TheVariants.{Delay, Line, Gain, Sum, Product, Switch, Relational, Logic, Convert}
+use Rattle.c_syntax.specs.declared.Leaf.TheVariants.{Param, Own}
+use Rattle.c_syntax.specs.Tree.{read}
+use Rattle.c_machine.specs.Cells.{Cells, no_cells, more_cells, number}
+use Rattle.c_machine.specs.Values.{gives, eval, reads, functions_of}
+use Rattle.c_prelude.specs.Bodies.{function_trees}
+use Rattle.c_blocks.specs.RowCode.{rhs_code}
+
+-- 11 is remembered, in one field
+abbrev memory : Cells
+memory = more_cells (number (pos 11)) no_cells
+
+-- over these inputs, as the parameters of a procedure, the expression gives a number in so many calls
+abbrev Gives : Op → List ℤ → ℤ → ℕ → Type 0
+Gives op vs v calls =
+    eval (functions_of [] function_trees) (reads vs memory) 0 (rhs_code op (map Param (range_with_len 0 (length vs))) (read (Own 0))) 0 ≡ gives v calls
+
+-- 8 bits with a sign and one bit after the point
+abbrev halves8 : FixType
+halves8 = record { signed = true; bits = 8; frac = 1; in_profile = (lit≤ tt, lit≤ tt, lit≤ tt) }
+
+-- -3/32 of 100 is -9.375, that is -18.75 halves
+gain : Gives (Gain (neg_ℤ (pos 3)) 5 halves8 (record { round = Nearest; over = Wrap })) (pos 100 ∷ []) (neg_ℤ (pos 19)) 2
+gain = refl
+
+-- 5 - 7/4 + 9/2 is 15.5 halves
+sum : Gives (Sum 3 2 (0 ∷ 2 ∷ 1 ∷ []) halves8 (record { round = Floor; over = Saturate })) (pos 5 ∷ pos 7 ∷ pos 9 ∷ []) (pos 15) 2
+sum = refl
+
+-- without bits to round, beyond the type
+sum_above : Gives (Sum 2 0 (0 ∷ 0 ∷ []) uint8 (record { round = Floor; over = Wrap })) (pos 200 ∷ pos 100 ∷ []) (pos 44) 1
+sum_above = refl
+
+-- 1 - 2 + 3 - 4 + 5
+five_terms : Gives (Sum 5 10 (0 ∷ 0 ∷ 0 ∷ 0 ∷ 0 ∷ []) uint8 (record { round = Floor; over = Wrap })) (pos 1 ∷ pos 2 ∷ pos 3 ∷ pos 4 ∷ pos 5 ∷ []) (pos 3) 1
+five_terms = refl
+
+-- -54/8 is -13.5 halves, halfway between two
+product : Gives (Product 2 3 halves8 (record { round = Convergent; over = Saturate })) (pos 9 ∷ neg_ℤ (pos 6) ∷ []) (neg_ℤ (pos 14)) 2
+product = refl
+
+-- 140 halves are beyond the type
+first_passes : Gives (Switch Gt (pos 4) (0 ∷ 2 ∷ []) halves8 (record { round = Zero; over = Saturate })) (pos 70 ∷ pos 5 ∷ pos 9 ∷ []) (pos 127) 1
+first_passes = refl
+
+-- -9/4 is -4.5 halves
+third_passes : Gives (Switch NotZero (pos 0) (0 ∷ 2 ∷ []) halves8 (record { round = Zero; over = Saturate })) (pos 70 ∷ pos 0 ∷ neg_ℤ (pos 9) ∷ []) (neg_ℤ (pos 4)) 2
+third_passes = refl
+
+-- 3/2 isn't below 11/8
+less : Gives (Relational Lt (1 ∷ 3 ∷ [])) (pos 3 ∷ pos 11 ∷ []) (pos 0) 0
+less = refl
+
+two_true : Gives (Logic Xor 3) (pos 1 ∷ pos 0 ∷ neg_ℤ (pos 5) ∷ []) (pos 0) 0
+two_true = refl
+
+three_true : Gives (Logic Xor 4) (pos 1 ∷ pos 7 ∷ pos 0 ∷ pos 2 ∷ []) (pos 1) 0
+three_true = refl
+
+not_both : Gives (Logic Nand 2) (pos 1 ∷ pos 0 ∷ []) (pos 1) 0
+not_both = refl
+
+-- 200 halves are -56 halves modulo 256
+finer : Gives (Convert 0 halves8 (record { round = Floor; over = Wrap })) (pos 100 ∷ []) (neg_ℤ (pos 56)) 1
+finer = refl
+
+held : Gives (Delay (pos 7)) (pos 5 ∷ []) (pos 11) 0
+held = refl
+
+oldest : Gives (Line 3 (neg_ℤ (pos 7))) (pos 5 ∷ []) (pos 11) 0
+oldest = refl

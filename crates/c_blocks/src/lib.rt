@@ -1,0 +1,25 @@
+// What a row computes and when a system is active, as expressions and conditions of C over leaves that are given.
+#![tactic(auto)]
+
+mod activity;
+mod balanced;
+mod conversion;
+mod exact;
+mod expression;
+mod laws;
+mod leaves;
+mod rows;
+mod truth;
+
+pub use activity::{active_by, both_tests, disabled_by, hit_test, level_code, off_by};
+pub use expression::written;
+pub use laws::{
+    activity_is_tested, all_tests_are_plain, both_are_tested, hits_are_tested, numbers_are_written,
+    returns_are_few, row_ops_are_writable, rows_are_computed, rows_are_lawful, rows_are_shallow,
+    rows_read_their_leaves, tests_are_lawful,
+};
+pub use leaves::ControlLeaves;
+pub use rows::value_code;
+
+#[cfg(test)]
+mod tests;

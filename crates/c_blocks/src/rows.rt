@@ -1,0 +1,125 @@
+ghost use Rattle.std.specs.Prelude.{◌≡◌, ◌≤◌, IfOk, length, get_or};
+ghost use Rattle.mc_blocks.specs.Value.{greatest_in};
+ghost use Rattle.c_syntax.specs.Plain.{expr_tree, cond_tree};
+ghost use Rattle.c_syntax.specs.Tree.{compare, pick};
+ghost use Rattle.c_blocks.specs.RowCode as code;
+ghost use Rattle.c_blocks.specs.Resolved.{IsRowOp};
+
+use crate::conversion::{aligned, converted};
+use crate::exact::{greatest_frac, product, sum};
+use crate::expression::{binary, choice, truth, written};
+use crate::laws::row_ops_are_writable;
+use crate::truth::{logic, passes};
+use c_syntax::{BinOp, Cond, Expr, Leaf};
+use mc_base::{Compare, Memory};
+use mc_blocks::{How, Op};
+use mc_fixed::FixType;
+use std::alloc::Global;
+
+/// An input by its place, 0 past the last one.
+fn input(inputs: &[Leaf], place: usize) -> Expr
+    ensures { expr_tree result ≡ code.input_code inputs.now place }
+{
+    match inputs.get(place) {
+        Some(leaf) => Expr::Read(*leaf),
+        None => Expr::Literal(0),
+    }
+}
+
+/// 1 where two inputs compare so as exact numbers, else 0.
+fn comparison(alloc: Global, how: Compare, fracs: &[u8], inputs: &[Leaf]) -> Result<Expr, Memory>
+    requires two { length fracs.now ≡ 2 }
+    requires unit { greatest_in fracs.now ≤ 31 }
+    ensures { IfOk result (λ e. expr_tree e ≡ code.truth (compare how
+        (code.aligned (code.input_code inputs.now 0) (get_or fracs.now 0 0) (greatest_in fracs.now))
+        (code.aligned (code.input_code inputs.now 1) (get_or fracs.now 1 0) (greatest_in fracs.now)))) }
+{
+    let common = u32::from(greatest_frac(fracs));
+    let left = aligned(alloc, input(inputs, 0), u32::from(fracs[0]), common)?;
+    let right = aligned(alloc, input(inputs, 1), u32::from(fracs[1]), common)?;
+    truth(alloc, Cond::Compare(how, left, right))
+}
+
+/// The sum of inputs of so many fraction bits, converted into a type; bit i of `minus` subtracts input i + 1.
+fn converted_sum(
+    alloc: Global,
+    minus: u32,
+    fracs: &[u8],
+    inputs: &[Leaf],
+    to: FixType,
+    how: How,
+) -> Result<Expr, Memory>
+    requires few { length fracs.now ≤ 16 }
+    requires unit { greatest_in fracs.now ≤ 31 }
+    ensures { let common = greatest_in fracs.now in IfOk result
+        (λ e. expr_tree e ≡ code.converted (code.sum_code minus common fracs.now inputs.now) common to how) }
+{
+    let exact = sum(alloc, minus, fracs, inputs)?;
+    converted(alloc, exact, u32::from(greatest_frac(fracs)), to, how)
+}
+
+/// The first input where a test holds, else the third one, each converted into a type.
+fn converted_either(
+    alloc: Global,
+    test: Cond,
+    fracs: [u8; 2],
+    inputs: &[Leaf],
+    to: FixType,
+    how: How,
+) -> Result<Expr, Memory>
+    requires first { get_or fracs 0 0 ≤ 31 }
+    requires third { get_or fracs 1 0 ≤ 31 }
+    ensures { IfOk result (λ e. expr_tree e ≡ pick (cond_tree test)
+        (code.converted (code.input_code inputs.now 0) (get_or fracs 0 0) to how)
+        (code.converted (code.input_code inputs.now 2) (get_or fracs 1 0) to how)) }
+{
+    let first = converted(alloc, input(inputs, 0), u32::from(fracs[0]), to, how)?;
+    let third = converted(alloc, input(inputs, 2), u32::from(fracs[1]), to, how)?;
+    choice(alloc, test, first, third)
+}
+
+/// The expression for the value of a row: what the row computes of its inputs and its memory, in C, with two calls of
+/// pure functions at most. `memory` is the expression for what a delay remembers; any other row drops it.
+///
+/// Fails only for want of memory.
+pub fn value_code(alloc: Global, op: &Op, inputs: &[Leaf], memory: Expr) -> Result<Expr, Memory>
+    requires { IsRowOp op.now }
+    ensures { IfOk result (λ e. expr_tree e ≡ code.rhs_code op.now inputs.now (expr_tree memory)) }
+{
+    row_ops_are_writable();
+    match *op {
+        Op::Copy => Ok(input(inputs, 0)),
+        Op::Value(v) => written(alloc, v),
+        Op::Delay(_) | Op::Line { .. } => Ok(memory),
+        Op::Gain { m, frac, to, how } => {
+            let exact = binary(alloc, BinOp::Mul, input(inputs, 0), written(alloc, m)?)?;
+            converted(alloc, exact, u32::from(frac), to, how)
+        }
+        Op::Sum {
+            count,
+            minus,
+            fracs,
+            to,
+            how,
+        } => converted_sum(alloc, minus, &fracs[..usize::from(count)], inputs, to, how),
+        Op::Product { frac, to, how, .. } => {
+            converted(alloc, product(alloc, inputs)?, u32::from(frac), to, how)
+        }
+        Op::Switch {
+            criterion,
+            threshold,
+            fracs,
+            to,
+            how,
+        } => {
+            let test = passes(alloc, criterion, input(inputs, 1), threshold)?;
+            converted_either(alloc, test, fracs, inputs, to, how)
+        }
+        Op::Relational { compare, fracs } => comparison(alloc, compare, &fracs, inputs),
+        Op::Logic { op, .. } => truth(alloc, logic(alloc, op, inputs)?),
+        Op::Convert { frac, to, how } => {
+            converted(alloc, input(inputs, 0), u32::from(frac), to, how)
+        }
+        Op::Nothing => Ok(Expr::Literal(0)),
+    }
+}
