@@ -1,0 +1,5 @@
+pub mod Pairs
+pub mod Bits
+pub mod Chosen
+pub mod Made
+pub mod Least

@@ -1,0 +1,3 @@
+pub mod PlainCertificate
+pub mod Sound
+pub mod SoundExamples

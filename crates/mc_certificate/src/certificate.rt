@@ -1,0 +1,26 @@
+use std::marker::Model;
+
+/// That the outputs at two places of a list of representatives, counted from 0, differ in their needs: this bit lies in
+/// the need of just one of them.
+#[derive(Clone, Copy, Debug, PartialEq, Eq, Drop)]
+pub struct Difference {
+    pub first: u8,
+    pub second: u8,
+    pub bit: u8,
+}
+
+/// Outputs, numbered from 0, no two of which one function can give: for each two of their places, in order, a bit in
+/// which the needs differ.
+#[derive(Drop)]
+pub struct Certificate {
+    pub representatives: Vec<u8>,
+    pub differ: Vec<Difference>,
+}
+
+impl Model for Certificate {
+    ghost use Rattle.mc_certificate.specs.PlainCertificate.{PlainCertificate};
+
+    ghost Value = { PlainCertificate };
+
+    ghost view = { λ c. record { representatives = c.representatives.items; differ = c.differ.items } };
+}

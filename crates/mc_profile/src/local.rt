@@ -1,0 +1,99 @@
+ghost use Rattle.std.specs.Prelude.{◌≡◌, Some, IfOk, map};
+ghost use Rattle.mc_diagram.specs.Nested.{Agrees, row_of, system_of};
+ghost use Rattle.mc_diagram.specs.ResolvedTree.{diagram_of};
+ghost use Rattle.mc_diagram.specs.Rows.{subsystems_of};
+ghost use Rattle.mc_profile.specs.Locals.{local_of as local_of_system};
+ghost use Rattle.mc_profile.specs.Systems.{IsInTable};
+
+use crate::children::{child_uses, control_wires};
+use crate::local_rows::{local_rows, types_of};
+use crate::profile::Profile;
+use crate::system::{control, own, row};
+use mc_base::{Control, Memory, Wires};
+use mc_blocks::{Kind, Op};
+use mc_diagram::{Resolved, Subsystem, Time};
+use mc_fixed::FixType;
+use std::alloc::Global;
+use std::marker::Model;
+
+/// A system as the system around it sees it. Inputs and outputs stand by port, controls enable before trigger; an
+/// output has its Outport row.
+#[derive(Drop)]
+pub struct Header {
+    pub row: Option<u32>,
+    pub control: Control,
+    pub inputs: Vec<FixType>,
+    pub controls: Vec<FixType>,
+    pub outputs: Vec<(u32, FixType)>,
+    pub profile: Profile,
+}
+
+impl Model for Header {
+    ghost use Rattle.mc_profile.specs.SystemHeader.{SystemHeader};
+
+    ghost Value = { SystemHeader };
+
+    ghost view = { λ h. record { row = h.row; control = h.control; inputs = h.inputs.items; controls = h.controls.items; outputs = h.outputs.items; profile = h.profile } };
+}
+
+/// A child with the wires that enter its ports and its controls.
+#[derive(Drop)]
+pub struct ChildUse {
+    pub header: Header,
+    pub wires: Wires,
+    pub controls: Wires,
+}
+
+/// A row of a system with all that its code is made from. For an Inport `inputs` is empty.
+#[derive(Drop)]
+pub struct LocalRow {
+    pub row: u32,
+    pub kind: Kind,
+    pub inputs: Wires,
+    pub op: Op,
+    pub out: FixType,
+    pub time: Time,
+    pub delays: bool,
+}
+
+/// A system by its own rows, in the order of the file, and its children, in theirs.
+#[derive(Drop)]
+pub struct Local {
+    pub row: Option<u32>,
+    pub control: Control,
+    pub controls: Vec<FixType>,
+    pub rows: Vec<LocalRow>,
+    pub children: Vec<ChildUse>,
+}
+
+impl Model for Local {
+    ghost use Rattle.mc_profile.specs.LocalSystem.{LocalSystem};
+
+    ghost Value = { LocalSystem };
+
+    ghost view = { λ s. record { row = s.row; control = s.control; controls = s.controls.items; rows = s.rows.items; children = s.children.items } };
+}
+
+/// The system `s` of a resolved tree by its own rows, where its children have these headers, in order.
+///
+/// In time linear in the rows of the system and in the rows and the headers of its children.
+pub fn local_of(
+    alloc: Global,
+    r: &Resolved,
+    s: &Subsystem,
+    headers: &[Header],
+) -> Result<Local, Memory>
+    requires system { Agrees r.now.tree.table.rows (system_of s.now) }
+    requires headers { map (λ h. h.row) headers.now ≡ map Some (subsystems_of r.now.tree.table.rows (row_of (system_of s.now))) }
+    requires inside { IsInTable r.now.tree.table.rows (row_of (system_of s.now)) }
+    ensures { IfOk result (λ local. local ≡ local_of_system (diagram_of r.now) r.now.times.delays (row_of (system_of s.now)) headers.now) }
+{
+    let control_row = control_wires(alloc, r, row(s))?;
+    Ok(Local {
+        row: row(s),
+        control: control(s),
+        controls: types_of(alloc, r, control_row.wires())?,
+        rows: local_rows(alloc, r, own(s))?,
+        children: child_uses(alloc, r, s, headers)?,
+    })
+}

@@ -1,0 +1,72 @@
+ghost use Rattle.std.specs.Prelude.{◌≡◌, ◌<◌, ◌==◌, All, IfOk, IfSome, filter, find, length};
+ghost use Rattle.mc_diagram.specs.Rows.{is_inport as is_inport_kind, port_of as port_of_kind, row_at as row_of_table};
+ghost use Rattle.mc_profile.specs.Locals.{ported};
+
+use crate::reading::row_at;
+use mc_base::Memory;
+use mc_blocks::Kind;
+use mc_diagram::Resolved;
+use std::alloc::Global;
+
+/// The Inports among the rows of a system, by port.
+pub(crate) fn inports(alloc: Global, r: &Resolved, own: &[u32]) -> Result<Vec<u32>, Memory>
+    requires { All (λ b. b < length r.now.tree.table.rows) own.now }
+    ensures inports { IfOk result (λ v. v.items ≡ ported r.now.tree.table.rows is_inport_kind own.now) }
+    ensures rows { IfOk result (λ v. All (λ b. b < length r.now.tree.table.rows) v.items) }
+{
+    let inports = own_inports(alloc, r, own)?;
+    let mut found = Vec::new(alloc);
+    for k in 0..inports.len() {
+        if let Some(b) = row_with_port(r, &inports, k + 1) {
+            found.push(b)?;
+        }
+    }
+    Ok(found)
+}
+
+// The same in the order of the file.
+fn own_inports(alloc: Global, r: &Resolved, own: &[u32]) -> Result<Vec<u32>, Memory>
+    requires { All (λ b. b < length r.now.tree.table.rows) own.now }
+    ensures inports { IfOk result (λ v. v.items ≡ filter (λ b. is_inport_kind (row_of_table r.now.tree.table.rows b).kind) own.now) }
+    ensures rows { IfOk result (λ v. All (λ b. b < length r.now.tree.table.rows) v.items) }
+{
+    let mut inports = Vec::new(alloc);
+    for b in own {
+        if is_inport(&row_at(r, *b).kind) {
+            inports.push(*b)?;
+        }
+    }
+    Ok(inports)
+}
+
+// The first of some rows with the port.
+fn row_with_port(r: &Resolved, rows: &[u32], port: usize) -> Option<u32>
+    requires { All (λ b. b < length r.now.tree.table.rows) rows.now }
+    ensures rows { IfSome result (λ b. b < length r.now.tree.table.rows) }
+    ensures first { result ≡ find (λ b. port_of_kind (row_of_table r.now.tree.table.rows b).kind == port) rows.now }
+{
+    for b in rows {
+        if port_of(&row_at(r, *b).kind) as usize == port {
+            return Some(*b);
+        }
+    }
+    None
+}
+
+/// Whether a row is an Inport.
+pub(crate) fn is_inport(kind: &Kind) -> bool
+    ensures { result ≡ is_inport_kind kind.now }
+{
+    matches!(kind, Kind::Inport { .. })
+}
+
+// The port of an Inport or Outport; a row of another kind has 0.
+fn port_of(kind: &Kind) -> u32
+    ensures { result ≡ port_of_kind kind.now }
+{
+    match kind {
+        Kind::Inport { port } => *port,
+        Kind::Outport { port, .. } => *port,
+        _ => 0,
+    }
+}

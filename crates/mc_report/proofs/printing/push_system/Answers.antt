@@ -1,0 +1,24 @@
+use Rattle.std.proofs.Common.{◌≡◌, ap, ◌∙◌}
+use Rattle.std.specs.String.{string_bytes}
+use Rattle.mc_report.specs.declared.report.SystemReport.TheInside.{Inside}
+use Rattle.mc_report.specs.PlainReport.{PlainReport}
+use Rattle.mc_report.proofs.Systems.{whole}
+use Rattle.mc_report.proofs.printing.push_system.Goals as goal
+
+pub returns : goal.returns
+returns c =
+    let outputs : _ ≡ c.args.report.now.outputs = ap (λ (i : Inside). i.outputs) c.report-inside.view_is
+    ∙ ap (λ (r : PlainReport). r.outputs) c.report.view_is in
+    let functions : c.deref-2.result.now ≡ c.args.report.now.profile.functions =
+    c.deref-2.ensures.value ∙ ap (λ (i : Inside). i.profile.functions) c.report-inside.view_is
+    ∙ ap (λ (r : PlainReport). r.profile.functions) c.report.view_is
+    in
+    let differ : c.deref-4.result.now ≡ c.args.report.now.certificate.differ =
+    c.deref-4.ensures.value ∙ ap (λ (i : Inside). i.certificate.differ) c.report-inside.view_is
+    ∙ ap (λ (r : PlainReport). r.certificate.differ) c.report.view_is
+    in
+    whole c.args.report.now c.deref.result.now c.deref-3.result.now _ c.deref-2.result.now c.deref-4.result.now
+    (string_bytes c.args.out.now) (string_bytes c.push_system_line.new.out) (string_bytes c.push_functions.new.out)
+    (string_bytes c.push_differences.new.out)
+    (c.deref.ensures.value ∙ c.in_ok-ports.ensures) (c.deref-3.ensures.value ∙ c.in_ok-ports.ensures) outputs
+    functions differ c.in_ok-push_system_line.ensures c.in_ok-push_functions.ensures c.in_ok-push_differences.ensures

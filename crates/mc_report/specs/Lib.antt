@@ -1,0 +1,4 @@
+pub mod PlainReport
+pub mod Reports
+pub mod Texts
+pub mod TextExamples

@@ -1,0 +1,64 @@
+-- Which reports there are, and those of a diagram.
+use Rattle.std.specs.Prelude.{◌≡◌, ℕ, ◌≤◌, ⊤, List, [], ◌∷◌, length, All, Option}
+use Rattle.std.specs.List.{AllZip}
+use Rattle.mc_base.specs.declared.Port.{Port}
+use Rattle.mc_base.specs.declared.Port.TheVariants.{Number, Enable, Trigger}
+use Rattle.mc_certificate.specs.Sound.{IsCertificateFor}
+use Rattle.mc_diagram.specs.Diagram.{Diagram}
+use Rattle.mc_diagram.specs.Needs.{AreTrueNeeds}
+use Rattle.mc_diagram.specs.Rows.{inports_of, outports_of, system_control}
+use Rattle.mc_profile.specs.Functions.{functions_for}
+use Rattle.mc_profile.specs.Ports.{control_ports, ports_in, ports_mask}
+use Rattle.mc_profile.specs.Systems.{systems}
+use Rattle.mc_report.specs.PlainReport.{PlainReport}
+use Rattle.mc_report.specs.Texts.{ports_of, report_text}
+
+-- no control, one, or an enable and then a trigger
+abbrev pub AreControls : List Port → Type 0
+AreControls [] = ⊤
+AreControls (Number k ∷ ports) = ⊥
+AreControls (Enable ∷ []) = ⊤
+AreControls (Enable ∷ Number k ∷ ports) = ⊥
+AreControls (Enable ∷ Enable ∷ ports) = ⊥
+AreControls (Enable ∷ Trigger ∷ []) = ⊤
+AreControls (Enable ∷ Trigger ∷ p ∷ ports) = ⊥
+AreControls (Trigger ∷ []) = ⊤
+AreControls (Trigger ∷ p ∷ ports) = ⊥
+
+-- a set of inputs that the system of a report has
+abbrev pub AreInputs : PlainReport → ℕ → Type 0
+AreInputs r mask = ports_mask (ports_in mask (ports_of r)) ≡ mask
+
+-- A report that is right for some needs of its outputs: its functions are those for them, which part the outputs and
+-- stand by the least output of each, and its certificate has the least output of each function and, for each two of
+-- them, the least bit that lies in just one of their needs.
+pub record IsReport (r : PlainReport) : Type 0 where
+  pub inputs : r.inputs ≤ 32
+  pub controls : AreControls r.controls
+  pub outputs : r.outputs ≤ 32
+  pub needs : List ℕ
+  pub one_each : length needs ≡ r.outputs
+  pub in_inputs : All (AreInputs r) needs
+  pub row : r.profile.row ≡ r.row
+  pub functions : r.profile.functions ≡ functions_for needs
+  pub certificate : IsCertificateFor needs r.certificate
+
+-- ---- Reports of a diagram
+
+-- the report on a system, whose outputs have these needs
+pub record IsReportOn (d : Diagram) (s : Option ℕ) (r : PlainReport) : Type 0 where
+  pub row : r.row ≡ s
+  pub inputs : r.inputs ≡ length (inports_of d.rows s)
+  pub controls : r.controls ≡ control_ports (system_control d.rows s)
+  pub outputs : r.outputs ≡ length (outports_of d.rows s)
+  pub needs : List ℕ
+  pub are_needs : AreTrueNeeds d s needs
+  pub profile_row : r.profile.row ≡ s
+  pub functions : r.profile.functions ≡ functions_for needs
+  pub certificate : IsCertificateFor needs r.certificate
+
+-- the text of the reports on all systems of a diagram: the root, and then the subsystem rows in order
+pub record IsReportText (d : Diagram) (text : List ℕ) : Type 0 where
+  pub reports : List PlainReport
+  pub each : AllZip (IsReportOn d) (systems d.rows) reports
+  pub is : text ≡ report_text reports

@@ -1,0 +1,12 @@
+// The text that tells the output functions of each system, with certificates that no interface has fewer.
+#![tactic(auto)]
+
+mod lines;
+mod printing;
+mod report;
+
+pub use printing::print_report;
+pub use report::SystemReport;
+
+#[cfg(test)]
+mod tests;
