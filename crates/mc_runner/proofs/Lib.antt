@@ -1,7 +1,7 @@
 pub mod OutputLines
 pub mod StepBounds
 pub mod TickBounds
-pub mod RowWalk
-pub mod RunSteps
-pub mod LongTraces
-pub mod FileRuns
+pub mod RowRooms
+pub mod Standings
+pub mod Walks
+pub mod Files

@@ -1,6 +1,11 @@
 -- Words with a space between each two.
-use Rattle.std.proofs.Common.{◌≡◌, refl, sym, ◌∙◌, append_assoc, ap, ℕ, ◌<◌, List, [], ◌∷◌, ◌++◌, length, take, drop, suc, ◌-◌, map, get_or, rules, arith}
-use Rattle.std.specs.Prelude.{ℤ, flat_map, Result, Ok, Err, OnOk}
+use Rattle.std.proofs.Common.{◌≡◌, refl, sym, ◌∙◌, ap, subst, ℕ, zero, ◌+◌, ◌<◌, List, [], ◌∷◌, ◌++◌, length, take, drop, suc, ◌-◌, map, get_or, rules, arith}
+use Rattle.std.specs.Prelude.{ℤ, flat_map, Option, Result, OnErr}
+use Rattle.std.proofs.lemmas.Grind.{flat_map-append}
+use Rattle.std.proofs.lemmas.List.{append-nil, take-append-drop}
+use Rattle.mc_edge.specs.Files.{PutsFront}
+use Rattle.mc_edge.specs.Buffers.{PutsAllBut}
+use Rattle.mc_runner.proofs.Standings.{both_texts, front_of_more, front_of_error}
 use Rattle.std.proofs.Math.Seq.{take-length}
 use Rattle.std.specs.Fmt.{signed_decimal}
 use Rattle.std.specs.List.{join_with_byte}
@@ -20,8 +25,35 @@ pub no_numbers : (numbers : List ℤ) → length numbers ≡ 0 → join_with_byt
 no_numbers [] none = refl
 no_numbers (x ∷ xs) none = absurd (omega arith)
 
-pub appended_twice : {T E : Type 0} (result : Result T E) (text one two part behind whole : List ℕ) →
-    one ≡ text ++ part → OnOk result (two ≡ one ++ behind) → whole ≡ part ++ behind → OnOk result (two ≡ text ++ whole)
-appended_twice (Ok value) text one two part behind whole first second all =
-    second ∙ ap (λ xs. xs ++ behind) first ∙ append_assoc text part behind ∙ ap (λ xs. text ++ xs) (sym all)
-appended_twice (Err fault) text one two part behind whole first second all = tt
+-- ---- Numbers that are put one after another
+
+-- the text of a number behind a space
+abbrev pub behind : ℤ → List ℕ
+behind n = 32 ∷ signed_decimal n
+
+take_next : (xs : List ℤ) (i : ℕ) (d : ℤ) → i < length xs → take (suc i) xs ≡ take i xs ++ get_or xs i d ∷ []
+take_next [] i d within = absurd (omega arith)
+take_next (x ∷ xs) zero d within = refl
+take_next (x ∷ xs) (suc i) d within = ap (λ ys. x ∷ ys) (take_next xs i d (omega arith))
+
+texts_next : (xs : List ℤ) (i : ℕ) (d : ℤ) → i < length xs → flat_map behind (take i xs) ++ behind (get_or xs i d) ≡ flat_map behind (take (i + 1) xs)
+texts_next xs i d within =
+    let size : suc i ≡ i + 1 = omega arith in
+    sym (ap (λ k. flat_map behind (take k xs)) (sym size) ∙ ap (flat_map behind) (take_next xs i d within) ∙ flat_map-append behind (take i xs) (get_or xs i d ∷ [])
+    ∙ ap (λ t. flat_map behind (take i xs) ++ t) (append-nil (behind (get_or xs i d))))
+
+pub others_taken : (xs : List ℤ) (i : ℕ) (d : ℤ) (w w' w'' : List ℕ) (b b' b'' : Option (List ℕ)) → i < length xs → PutsAllBut w' (w ++ flat_map behind (take i xs)) b b' →
+    PutsAllBut w'' (w' ++ behind (get_or xs i d)) b' b'' → PutsAllBut w'' (w ++ flat_map behind (take (i + 1) xs)) b b''
+others_taken xs i d w w' w'' b b' b'' within so_far next =
+    subst (λ t. PutsAllBut w'' (w ++ t) b b'') (texts_next xs i d within)
+    (both_texts w w' w'' (flat_map behind (take i xs)) (behind (get_or xs i d)) b b' b'' so_far next)
+
+pub others_cut : {T E : Type 0} (result : Result T E) (xs : List ℤ) (i : ℕ) (d : ℤ) (w w' : List ℕ) (b b' b'' : Option (List ℕ)) → i < length xs → PutsAllBut w' (w ++ flat_map behind (take i xs)) b b' →
+    PutsFront b' b'' (w' ++ behind (get_or xs i d)) → OnErr result (PutsFront b b'' (w ++ flat_map behind xs))
+others_cut result xs i d w w' b b' b'' within so_far next =
+    let whole : flat_map behind (take (i + 1) xs) ++ flat_map behind (drop (i + 1) xs) ≡ flat_map behind xs =
+    sym (flat_map-append behind (take (i + 1) xs) (drop (i + 1) xs)) ∙ ap (flat_map behind) (take-append-drop (i + 1) xs) in
+    let front : PutsFront b b'' (w ++ flat_map behind (take (i + 1) xs)) =
+    subst (λ t. PutsFront b b'' (w ++ t)) (texts_next xs i d within)
+    (front_of_more w w' (flat_map behind (take i xs)) (behind (get_or xs i d)) b b' b'' so_far next) in
+    subst (λ t. OnErr result (PutsFront b b'' (w ++ t))) whole (front_of_error result w (flat_map behind (take (i + 1) xs)) (flat_map behind (drop (i + 1) xs)) b b'' front)

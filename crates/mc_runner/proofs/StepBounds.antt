@@ -4,20 +4,20 @@ use Rattle.std.specs.Prelude.{◌+ℤ◌, ◌-ℤ◌, ◌*ℤ◌, ℤ, pos, neg_
 use Rattle.std.specs.Ordering.{int_eq}
 use Rattle.std.proofs.lemmas.Bool.{ltb-true}
 use Rattle.std.proofs.lemmas.List.{length-append, length-map}
-use Rattle.c_tree.specs.declared.code.BinOp.{BinOp}
-use Rattle.c_tree.specs.declared.code.BinOp.TheVariants.{Add, Sub, Mul, Div, Rem}
-use Rattle.c_tree.specs.declared.code.CType.{CType}
-use Rattle.c_tree.specs.declared.code.CType.TheVariants.{I64}
-use Rattle.c_tree.specs.declared.code.Leaf.{Leaf}
-use Rattle.c_tree.specs.declared.code.Target.{Target}
-use Rattle.c_tree.specs.declared.code.Target.TheVariants.{Own, Child}
-use Rattle.c_tree.specs.declared.fault.Why.{Why}
-use Rattle.c_tree.specs.declared.fault.Why.TheVariants.{Overflow, ZeroDivisor, Range, Steps}
-use Rattle.c_tree.specs.Tree.{ExprTree, literal, neg, read, binary, pick, pure, ExprTrees, no_exprs, more_exprs, CondTree, compare, both, either, negated, PureTree, StmtTree, assign, branch, call, StmtTrees, no_stmts, more_stmts, StructTree, ProcedureTree, ProgramTree, struct_fields, field_types, type_at}
-use Rattle.c_tree.specs.Cells.{Cells, no_cells, fields_at}
-use Rattle.c_tree.specs.Values.{Answer, gives, sticks, and_then, within, is_in_type, stuck_at, step_limit, operate, compares, Function, function_at, function_of, functions_of, reads, eval, eval_all, eval_cond}
-use Rattle.c_tree.specs.Machine.{After, Outcome, done, stuck, behind, then_run, begin_step, on_answer, in_child, on_target, arguments, store, LoggedCall, StoredField, call_under, Scope, run_stmt, run_stmts, Routine, routine_at, routine_of, routines_of, program_routines, call_entry, is_interface}
-use Rattle.c_tree.specs.Rows.{step_run}
+use Rattle.c_syntax.specs.declared.code.BinOp.{BinOp}
+use Rattle.c_syntax.specs.declared.code.BinOp.TheVariants.{Add, Sub, Mul, Div, Rem}
+use Rattle.c_syntax.specs.declared.code.CType.{CType}
+use Rattle.c_syntax.specs.declared.code.CType.TheVariants.{I64}
+use Rattle.c_syntax.specs.declared.code.Leaf.{Leaf}
+use Rattle.c_syntax.specs.declared.code.Target.{Target}
+use Rattle.c_syntax.specs.declared.code.Target.TheVariants.{Own, Child}
+use Rattle.c_syntax.specs.declared.fault.Why.{Why}
+use Rattle.c_syntax.specs.declared.fault.Why.TheVariants.{Overflow, ZeroDivisor, Range, Steps}
+use Rattle.c_syntax.specs.Tree.{ExprTree, literal, neg, read, binary, pick, pure, ExprTrees, no_exprs, more_exprs, CondTree, compare, both, either, negated, PureTree, StmtTree, assign, branch, call, StmtTrees, no_stmts, more_stmts, StructTree, ProcedureTree, ProgramTree, struct_fields, field_types, type_at}
+use Rattle.c_machine.specs.Cells.{Cells, no_cells, fields_at}
+use Rattle.c_machine.specs.Values.{Answer, gives, sticks, and_then, within, is_in_type, stuck_at, step_limit, operate, compares, Function, function_at, function_of, functions_of, reads, eval, eval_all, eval_cond}
+use Rattle.c_machine.specs.Machine.{After, Outcome, done, stuck, behind, then_run, begin_step, on_answer, in_child, on_target, arguments, store, LoggedCall, StoredField, call_under, Scope, run_stmt, run_stmts, Routine, routine_at, routine_of, routines_of, program_routines, call_entry, is_interface}
+use Rattle.c_machine.specs.Rows.{step_run}
 
 -- ---- Expressions
 

@@ -1,5 +1,5 @@
 pub mod Texts
 pub mod Ticks
-pub mod RowWalk
 pub mod Runs
+pub mod Walks
 pub mod Examples

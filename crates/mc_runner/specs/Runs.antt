@@ -1,14 +1,14 @@
 -- What a run over the rows of a trace comes to.
-use Rattle.std.specs.Prelude.{◌≡◌, ℕ, ◌+◌, ◌≤◌, ℤ, List, ◌++◌, length, take, Option, None, Some, IfSome, Result, MatchResult}
+use Rattle.std.specs.Prelude.{◌≡◌, ℕ, ◌+◌, ℤ, List, [], ◌++◌, length, Option, None, Some, IfSome, Result, MatchResult}
 use Rattle.std.specs.List.{sum_by}
-use Rattle.std.specs.Io.KnownBytes.{append_known}
+use Rattle.std.specs.Io.KnownBytes.{append_known, prepend_known}
 use Rattle.mc_edge.specs.Files.{PutsFront}
 use Rattle.mc_fixed.specs.declared.types.FixType.{FixType}
-use Rattle.c_tree.specs.declared.fault.Stuck.{Stuck}
-use Rattle.c_tree.specs.Rows.{TickRow, Rows, rows_from, calls_of}
+use Rattle.c_syntax.specs.declared.fault.Stuck.{Stuck}
+use Rattle.c_machine.specs.Rows.{TickRow, Rows, rows_from, calls_of}
 use Rattle.c_meaning.specs.States.{tree_of, fields_of}
 use Rattle.mc_trace.specs.declared.rows.BadLine.{BadLine}
-use Rattle.mc_trace.specs.Rows.{Trace, rows_of}
+use Rattle.mc_trace.specs.Rows.{Trace, rows_of, whole_rows_of}
 use Rattle.mc_runner.specs.declared.outcome.Totals.{Totals}
 use Rattle.mc_runner.specs.declared.outcome.RunFault.{RunFault}
 use Rattle.mc_runner.specs.declared.outcome.RunFault.TheVariants as fault
@@ -23,6 +23,10 @@ no_totals = record { ticks = 0; steps = 0; calls = 0 }
 abbrev pub totals_of : List TickRow → Totals
 totals_of ticks = record { ticks = length ticks; steps = sum_by (λ tick. tick.steps) ticks; calls = sum_by calls_of ticks }
 
+-- totals, and what these took behind them
+abbrev pub added : Totals → Totals → Totals
+added t more = record { ticks = t.ticks + more.ticks; steps = t.steps + more.steps; calls = t.calls + more.calls }
+
 -- the ticks of these rows, on the machine as it stands
 abbrev pub ticks_over : Standing → List (List ℤ) → Rows
 ticks_over s rows = rows_from (tree_of s.machine) rows (fields_of s.machine)
@@ -31,7 +35,7 @@ ticks_over s rows = rows_from (tree_of s.machine) rows (fields_of s.machine)
 pub record HasTicked (rows : Rows) (s s' : Standing) : Type 0 where
   pub program : s'.machine.program ≡ s.machine.program
   pub fields : fields_of s'.machine ≡ rows.cells
-  pub totals : s'.totals ≡ totals_of rows.ticks
+  pub totals : s'.totals ≡ added s.totals (totals_of rows.ticks)
 
 -- and their lines were put
 pub record HasRun (rows : Rows) (s s' : Standing) : Type 0 where
@@ -55,41 +59,58 @@ pub record StoppedStuck (at : Stuck) (trace : Trace) (s s' : Standing) : Type 0 
   pub stuck : (ticks_over s trace.rows).stuck_place ≡ Some at
   pub run : HasRun (ticks_over s trace.rows) s s'
 
--- some first rows of the trace, of which none is stuck
-pub record Front (trace : Trace) (s : Standing) : Type 0 where
+-- some first rows of a trace
+pub record Front (trace : Trace) : Type 0 where
   pub rows : List (List ℤ)
   pub behind : List (List ℤ)
   pub parts : trace.rows ≡ rows ++ behind
-  pub unstuck : (ticks_over s rows).stuck_place ≡ None
 
--- some first rows have ticked, and a front of their lines was put
+-- some first rows have ticked, of which the last may be stuck, and a front of their lines was put
 pub record StoppedByOut (trace : Trace) (s s' : Standing) : Type 0 where
-  pub front : Front trace s
+  pub front : Front trace
   pub ticked : HasTicked (ticks_over s front.rows) s s'
   pub put : PutsFront s.put s'.put (ticks_text (ticks_over s front.rows).ticks)
 
--- some first rows have ticked, and their lines were put, whole, but perhaps the last
-pub record StoppedByMemory (trace : Trace) (s s' : Standing) : Type 0 where
-  pub front : Front trace s
-  pub ticked : HasTicked (ticks_over s front.rows) s s'
-  pub lines : ℕ
-  pub all_but_one : length (ticks_over s front.rows).ticks ≤ lines + 1
-  pub put : s'.put ≡ append_known s.put (ticks_text (take lines (ticks_over s front.rows).ticks))
+-- ---- Over bytes
 
--- what a run stopped by this fault comes to; a trace that can't be read has not begun
+-- What a run over bytes is stopped by. Memory is taken before the first row, so that nothing has changed without it.
 abbrev pub StoppedBy : RunFault → Trace → Standing → Standing → Type 0
-StoppedBy fault.Read trace s s' = s' ≡ s
+StoppedBy fault.Read trace s s' = ⊥
 StoppedBy fault.Out trace s s' = StoppedByOut trace s s'
 StoppedBy (fault.Trace bad) trace s s' = StoppedAtLine bad trace s s'
 StoppedBy (fault.Stuck at) trace s s' = StoppedStuck at trace s s'
-StoppedBy fault.Memory trace s s' = StoppedByMemory trace s s'
+StoppedBy fault.Memory trace s s' = s' ≡ s
 
 -- what a run over a trace comes to, by its result
 abbrev pub Ends : Result (Unit {0}) RunFault → Trace → Standing → Standing → Type 0
 Ends result trace s s' = MatchResult result (λ _. RanWhole trace s s') (λ fault. StoppedBy fault trace s s')
 
--- it was a run over some bytes, which are those that were left of the file, where the host tells them
-pub record RunsOver (result : Result (Unit {0}) RunFault) (rest : Option (List ℕ)) (types : List FixType) (s s' : Standing) : Type 0 where
-  pub bytes : List ℕ
-  pub file : IfSome rest (λ told. told ≡ bytes)
-  pub ends : Ends result (rows_of bytes types) s s'
+-- ---- Over a file
+
+-- a file in two parts: what was taken of it, and what is left
+pub record Parts : Type 0 where
+  pub taken : List ℕ
+  pub left : List ℕ
+
+-- the rows of the whole file, and those of the whole lines among what was taken
+abbrev pub file_rows : Parts → List FixType → Trace
+file_rows parts types = rows_of (parts.taken ++ parts.left) types
+
+abbrev pub taken_rows : Parts → List FixType → Trace
+taken_rows parts types = whole_rows_of parts.taken types
+
+-- What a run over a file is stopped by. Where it can't be read on, each whole line among what was taken is a row that has ticked
+-- and whose line was put. Memory is taken before the first byte.
+abbrev pub StoppedReading : RunFault → Parts → List FixType → Standing → Standing → Type 0
+StoppedReading fault.Read parts types s s' = RanWhole (taken_rows parts types) s s'
+StoppedReading fault.Out parts types s s' = StoppedByOut (file_rows parts types) s s'
+StoppedReading (fault.Trace bad) parts types s s' = StoppedAtLine bad (file_rows parts types) s s'
+StoppedReading (fault.Stuck at) parts types s s' = StoppedStuck at (file_rows parts types) s s'
+StoppedReading fault.Memory parts types s s' = (s' ≡ s) × (parts.taken ≡ [])
+
+-- it was a run over a file that is told to be such where the host tells it: what was taken of it in the call, and what is left
+pub record RunsOver (result : Result (Unit {0}) RunFault) (rest rest' : Option (List ℕ)) (types : List FixType) (s s' : Standing) : Type 0 where
+  pub parts : Parts
+  pub took : rest ≡ prepend_known parts.taken rest'
+  pub left : IfSome rest' (λ told. told ≡ parts.left)
+  pub ends : MatchResult result (λ _. RanWhole (file_rows parts types) s s') (λ fault. StoppedReading fault parts types s s')

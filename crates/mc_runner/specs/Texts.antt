@@ -2,7 +2,7 @@
 use Rattle.std.specs.Prelude.{ℕ, ℤ, List, map, flat_map}
 use Rattle.std.specs.Fmt.{signed_decimal}
 use Rattle.mc_base.specs.Bytes.{line_of_words}
-use Rattle.c_tree.specs.Rows.{TickRow}
+use Rattle.c_machine.specs.Rows.{TickRow}
 
 -- the line of a tick with these outputs: their decimal numbers, with a space between each two
 abbrev pub outputs_line : List ℤ → List ℕ

@@ -1,31 +1,40 @@
 -- Where a run stands, and what one tick adds to it.
-use Rattle.std.specs.Prelude.{◌≡◌, ℕ, ◌+◌, ◌*◌, ◌^◌, ◌≤◌, ℤ, List, Option}
-use Rattle.std.specs.Io.KnownBytes.{append_known}
+use Rattle.std.specs.Prelude.{◌≡◌, ℕ, ◌+◌, ◌*◌, ◌^◌, ◌≤◌, ℤ, List, [], ◌++◌, Option}
 use Rattle.mc_edge.specs.Files.{PutsFront}
-use Rattle.c_tree.specs.declared.fault.Cost.{Cost}
-use Rattle.c_tree.specs.declared.fault.Stuck.{Stuck}
+use Rattle.mc_edge.specs.Buffers.{PutsAllBut}
+use Rattle.c_syntax.specs.declared.fault.Cost.{Cost}
+use Rattle.c_syntax.specs.declared.fault.Stuck.{Stuck}
 use Rattle.c_meaning.specs.States.{MachineState}
 use Rattle.c_meaning.specs.Machines.{IsTick, IsStuckTick}
+use Rattle.mc_fixed.specs.declared.types.FixType.{FixType}
+use Rattle.mc_fixed.specs.Conversion.{InType}
 use Rattle.mc_runner.specs.declared.outcome.Totals.{Totals}
 use Rattle.mc_runner.specs.declared.outcome.RunFault.{RunFault}
 use Rattle.mc_runner.specs.declared.outcome.RunFault.TheVariants as fault
 use Rattle.mc_runner.specs.Texts.{outputs_line}
 
--- a machine, what its ticks took so far, and what was put, where the sink tells it
+-- a machine, what its ticks took so far, what was put, where the sink tells it, and the lines that wait to be put
 pub record Standing : Type 0 where
   pub machine : MachineState
   pub totals : Totals
   pub put : Option (List ℕ)
+  pub waiting : List ℕ
 
+-- where a run stands with nothing that waits
 abbrev pub standing : MachineState → Totals → Option (List ℕ) → Standing
-standing machine totals put = record { machine = machine; totals = totals; put = put }
+standing machine totals put = record { machine = machine; totals = totals; put = put; waiting = [] }
+
+-- each number of the first type is one of the second
+abbrev pub IsNarrower : FixType → FixType → Type 0
+IsNarrower t wide = (v : ℤ) → InType t v → InType wide v
 
 -- the totals with one more tick, which took this
 abbrev pub counted : Totals → Cost → Totals
 counted t cost = record { ticks = t.ticks + 1; steps = t.steps + cost.steps; calls = t.calls + cost.calls }
 
--- no tick took more than 2 ^ 32 steps, nor more than one call besides a call for each step
+-- no more ticks than a trace has lines, and none took more than 2 ^ 32 steps, nor more than one call besides a call for each step
 pub record StaysWithin (t : Totals) : Type 0 where
+  pub ticks : t.ticks ≤ 4294967295
   pub steps : t.steps ≤ t.ticks * 2 ^ 32
   pub calls : t.calls ≤ t.ticks * (2 ^ 32 + 1)
 
@@ -36,11 +45,15 @@ pub record Ticked (row outputs : List ℤ) (s s' : Standing) : Type 0 where
   pub program : s'.machine.program ≡ s.machine.program
   pub totals : s'.totals ≡ counted s.totals cost
 
--- a tick of this row was executed, and its line put
+-- this text is put or waits behind what waited
+abbrev pub Takes : List ℕ → Standing → Standing → Type 0
+Takes text s s' = PutsAllBut s'.waiting (s.waiting ++ text) s.put s'.put
+
+-- a tick of this row was executed, and its line is put or waits
 pub record TicksOn (row : List ℤ) (s s' : Standing) : Type 0 where
   pub outputs : List ℤ
   pub ticked : Ticked row outputs s s'
-  pub put : s'.put ≡ append_known s.put (outputs_line outputs)
+  pub line : Takes (outputs_line outputs) s s'
 
 -- a tick of this row is stuck
 pub record StuckOn (at : Stuck) (row : List ℤ) (s s' : Standing) : Type 0 where
@@ -48,18 +61,13 @@ pub record StuckOn (at : Stuck) (row : List ℤ) (s s' : Standing) : Type 0 wher
   pub program : s'.machine.program ≡ s.machine.program
   pub totals : s'.totals ≡ s.totals
   pub put : s'.put ≡ s.put
+  pub waiting : s'.waiting ≡ s.waiting
 
--- a tick of this row was executed, and a front of its line put
+-- a tick of this row was executed, and a front put of what waited and its line
 pub record CutOn (row : List ℤ) (s s' : Standing) : Type 0 where
   pub outputs : List ℤ
   pub ticked : Ticked row outputs s s'
-  pub put : PutsFront s.put s'.put (outputs_line outputs)
-
--- a tick of this row was executed, and nothing put
-pub record SilentOn (row : List ℤ) (s s' : Standing) : Type 0 where
-  pub outputs : List ℤ
-  pub ticked : Ticked row outputs s s'
-  pub put : s'.put ≡ s.put
+  pub put : PutsFront s.put s'.put (s.waiting ++ outputs_line outputs)
 
 -- why a tick of this row ends a run
 abbrev pub StopsOn : RunFault → List ℤ → Standing → Standing → Type 0
@@ -67,4 +75,4 @@ StopsOn fault.Read row s s' = ⊥
 StopsOn fault.Out row s s' = CutOn row s s'
 StopsOn (fault.Trace bad) row s s' = ⊥
 StopsOn (fault.Stuck at) row s s' = StuckOn at row s s'
-StopsOn fault.Memory row s s' = SilentOn row s s'
+StopsOn fault.Memory row s s' = ⊥

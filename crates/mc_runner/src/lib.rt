@@ -1,9 +1,11 @@
 //! A trace through the machine: one line of outputs for each row.
 #![tactic(auto)]
 
-mod gather;
+mod line;
+mod lines;
 mod outcome;
 mod rows;
+mod run;
 mod runner;
 mod tick;
 mod trace_file;

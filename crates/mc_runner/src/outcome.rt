@@ -1,4 +1,4 @@
-use c_tree::Stuck;
+use c_syntax::Stuck;
 use mc_trace::BadLine;
 
 /// What a run took: its ticks, and the steps and the calls of interface procedures in them.

@@ -1,46 +1,42 @@
-// The rows of a trace, one after another.
-ghost use Rattle.std.specs.Prelude.{◌≡◌, ◌≤◌, length, MatchResult, MatchOption};
-ghost use Rattle.mc_runner.specs.RowWalk.{trace_left, IsNextRow, IsOver, IsBadNext};
+// The next row of a trace, into the room of a run.
+ghost use Rattle.std.specs.Prelude.{◌≡◌, ◌≤◌, [], length, drop, Some, MatchResult, MatchOption};
+ghost use Rattle.mc_trace.specs.Lines.{whole_lines};
+ghost use Rattle.mc_trace.specs.Pieces.{rows_after, BeginsBadly, IsNextRow, BeginsLine, EndsTrace};
+ghost use Rattle.mc_runner.specs.Walks.{IsFilled};
 
+use crate::run::Run;
 use mc_fixed::FixType;
-use mc_trace::{BadLine, BadWhy, Next, next_line, read_row};
+use mc_trace::{BadLine, last_row, next_row};
 
-// How many lines a trace may have.
-const MOST_LINES: u32 = u32::MAX;
-
-// Reads the row of the line at a place into `into`, and says where the trace goes on, or that it is at its end. So many
-// lines stand before that place.
-pub(crate) fn next_row(
-    trace: &[u8],
-    at: usize,
-    lines: u32,
+// Reads the row of the line that begins at the place `from`, and says where the trace goes on. None where its end isn't there.
+pub(crate) fn fill_row(
+    run: &mut Run,
     types: &[FixType],
-    into: &mut [i64],
+    text: &[u8],
+    from: usize,
 ) -> Result<Option<usize>, BadLine>
-    requires within { at ≤ length trace.now }
-    requires room { length into.old ≡ length types.now }
+    requires within { from ≤ length text.now }
+    requires room { length run.old.row.items ≡ length types.now }
+    requires few { run.old.totals.ticks ≤ 4294967295 }
     ensures next { MatchResult result
-        (λ next. MatchOption next (IsOver (trace_left trace.now types.now lines at))
-        (λ after. IsNextRow trace.now types.now lines at after into.new))
-        (λ bad. IsBadNext bad (trace_left trace.now types.now lines at)) }
-    ensures room { length into.new ≡ length into.old }
+        (λ next. MatchOption next (BeginsLine (drop from text.now))
+        (λ after. IsNextRow text.now types.now run.old.totals.ticks from after run.new.row.items))
+        (λ bad. BeginsBadly bad (drop from text.now) types.now run.old.totals.ticks) }
+    ensures filled { IsFilled run.old run.new }
 {
-    match next_line(trace, at, true) {
-        Next::End | Next::More => Ok(None),
-        _ if lines == MOST_LINES => Err(BadLine {
-            line: lines,
-            why: BadWhy::Many,
-        }),
-        Next::Long => Err(BadLine {
-            line: lines + 1,
-            why: BadWhy::Long,
-        }),
-        Next::Line { start, end, after } => match read_row(&trace[start..end], types, into) {
-            Ok(()) => Ok(Some(after)),
-            Err(why) => Err(BadLine {
-                line: lines + 1,
-                why,
-            }),
-        },
-    }
+    let lines = run.totals.ticks as u32;
+    next_row(text, from, lines, types, &mut run.row)
+}
+
+// Reads the row of a last line, which has no end. False where it is empty, and so no line.
+pub(crate) fn fill_last(run: &mut Run, types: &[FixType], text: &[u8]) -> Result<bool, BadLine>
+    requires unended { whole_lines text.now ≡ [] }
+    requires room { length run.old.row.items ≡ length types.now }
+    requires few { run.old.totals.ticks ≤ 4294967295 }
+    ensures last { MatchResult result (λ there. EndsTrace there text.now types.now run.old.totals.ticks run.new.row.items)
+        (λ bad. rows_after run.old.totals.ticks types.now text.now ≡ record { rows = []; bad = Some bad }) }
+    ensures filled { IsFilled run.old run.new }
+{
+    let lines = run.totals.ticks as u32;
+    last_row(text, lines, types, &mut run.row)
 }

@@ -1,27 +1,43 @@
 -- What is known of a file that was read and compiled.
-use Rattle.std.proofs.Common.{◌≡◌, ℕ, List, [], subst, ◌∙◌}
+use Rattle.std.proofs.Common.{◌≡◌, ℕ, ◌<◌, inl, List, [], length, refl, sym, subst, ◌∙◌}
 use Rattle.std.specs.Prelude.{Option, Some}
+use Rattle.mc_base.specs.Refusals.{PlainRefusal, TooLong}
 use Rattle.mc_edge.specs.Files.{File, OnFile, WritesFront}
+use Rattle.mc_compile.specs.Verdict.{HasVerdict, Refused}
 use Rattle.mc_compile.specs.Compilation.{Compilation, IsCompiledFrom}
 use Rattle.mdlc.specs.Told.{HostTold}
-use Rattle.mdlc.specs.Endings.{WritesCodeFront}
-use Rattle.mdlc.proofs.Files.{there}
+use Rattle.mdlc.specs.Endings.{OnNamed, OnBytes, WritesCodeFront, EndsCompiled}
+use Rattle.mdlc.specs.Acting.{WritesCompiled}
+use Rattle.mdlc.proofs.Files.{there, named}
 
-module _ (files : Option (List File)) (rest : Option (List ℕ)) (name bytes : List ℕ) (c : Compilation) (whole : OnFile files rest name (λ x. bytes ≡ x)) (from : IsCompiledFrom bytes c) where
-  of-file : (x : List ℕ) → bytes ≡ x → IsCompiledFrom x c
-  of-file x is = subst (λ (y : List ℕ). IsCompiledFrom y c) is from
-
+module _ (h : HostTold) (name bytes : List ℕ) (c : Compilation) (whole : OnNamed h name (λ x. bytes ≡ x)) (from : IsCompiledFrom bytes c) where
   -- the file was compiled
-  pub compiled-file : OnFile files rest name (λ x. IsCompiledFrom x c)
-  compiled-file = there files rest name whole of-file
+  pub compiled-file : OnBytes h name (λ x. IsCompiledFrom x c)
+  compiled-file = record { bytes = bytes; file = there h.files h.rest name whole (λ x is. sym is); holds = from }
 
   -- and a front of its code written
-  pub front-file : (code : List ℕ) (h h' : HostTold) → WritesFront h.written h'.written code c.code → OnFile files rest name (λ x. WritesCodeFront code x h h')
-  front-file code h h' front = there files rest name whole (front-from code h h' front)
+  pub front-file : (code : List ℕ) (h0 h' : HostTold) → WritesFront h0.written h'.written code c.code → OnNamed h name (λ x. WritesCodeFront code x h0 h')
+  front-file code h0 h' front = there h.files h.rest name whole front-from
     where
-      front-from : (code : List ℕ) (h h' : HostTold) → WritesFront h.written h'.written code c.code → (x : List ℕ) → bytes ≡ x → WritesCodeFront code x h h'
-      front-from code h h' front x is = (c, of-file x is, front)
+      front-from : (x : List ℕ) → bytes ≡ x → WritesCodeFront code x h0 h'
+      front-from x is = (c, subst (λ (y : List ℕ). IsCompiledFrom y c) is from, front)
+
+-- the file was refused
+pub refused-file : (h : HostTold) (name bytes : List ℕ) (refusal : PlainRefusal) → OnNamed h name (λ x. bytes ≡ x) → HasVerdict bytes (Refused refusal) → OnNamed h name (λ x. HasVerdict x (Refused refusal))
+refused-file h name bytes refusal whole verdict =
+    there h.files h.rest name whole (λ x is. subst (λ (y : List ℕ). HasVerdict y (Refused refusal)) is verdict)
+
+-- a file with too many bytes is refused for that
+pub long-file : (h : HostTold) (name : List ℕ) → OnNamed h name (λ x. 16_777_216 < length x) → OnNamed h name (λ x. HasVerdict x (Refused TooLong))
+long-file h name long = there h.files h.rest name long (λ x more. inl (inl (more, refl)))
 
 -- writing leaves what is unread
 pub still-read : (files : Option (List File)) (rest : Option (List ℕ)) (name : List ℕ) (now later : Option (List ℕ)) → OnFile files rest name (λ _. now ≡ Some []) → later ≡ now → OnFile files rest name (λ _. later ≡ Some [])
 still-read files rest name now later told same = there files rest name told (λ x empty. same ∙ empty)
+
+-- a call of `compile` ends so
+pub compile_ends : (c : Compilation) (model code : List ℕ) (h h' : HostTold) → WritesCompiled c model code h h' → EndsCompiled c.rows c.systems c.functions model code h h'
+compile_ends c model code h h' w = record {
+  model = there h.files h.rest model (named h model w.model) (λ bytes from. (c, from, refl, refl, refl, w.written));
+  no_fault = w.no_fault;
+}

@@ -5,20 +5,17 @@ use Rattle.std.proofs.lemmas.Bool.Decides.{eqb_tells}
 use Rattle.mc_edge.specs.Faults.{Rose, IsCalm}
 use Rattle.mc_edge.specs.Fakes.{SureHostState}
 use Rattle.mc_edge.specs.Files.{File, lookup}
-use Rattle.c_tree.specs.Rows.{start_run}
-use Rattle.c_tree.specs.Agreement.{ReadingsAgree}
-use Rattle.mdlc.specs.declared.tool.Ending.{Ending}
-use Rattle.mdlc.specs.declared.tool.Ending.TheVariants.{ReadFault, WriteFault}
+use Rattle.c_machine.specs.Rows.{start_run}
+use Rattle.c_reading.specs.Agreement.{ReadingsAgree}
 use Rattle.mdlc.specs.Words.{Asked, Compile, Run, Exec}
 use Rattle.mdlc.specs.Told.{HostTold, SinkTold}
-use Rattle.mdlc.specs.Endings.{EndsRunUnread, Finds, CountsPuts, EndsAt}
+use Rattle.mdlc.specs.Endings.{EndsAt}
 use Rattle.mdlc.specs.Statuses.{Comes, ComesExactly, OnTold, run_status, IsDone}
 use Rattle.mdlc.specs.Completeness.{CanDo, IsComplete, first_file, second_file, IsSureOf, IsUnsureOf, BecomesUnsureOf}
 use Rattle.mdlc.proofs.Files.{at_there}
 use Rattle.mdlc.proofs.OneAnswer.{OneVerdict}
 use Rattle.mdlc.proofs.StatusLaws.{comes-over, over, told-map, comes_exactly}
-use Rattle.mdlc.proofs.RightLaws.{later-puts}
-use Rattle.mdlc.proofs.Unsure.{only_read, only_write, only_put}
+use Rattle.mdlc.proofs.EndingLaws.{no_read, no_write, no_put}
 
 -- ---- What can be done comes to status 0
 
@@ -43,49 +40,13 @@ done-by s a fs comes reads writes puts can = by (eqb_tells s 10)
     by (inl ten) = inr ten.1
     by (inr other) = inl (comes.wherever 0 (can-comes a fs can) (record { no_read_fault = reads; no_write_fault = writes; no_put_fault = puts; no_want_of_memory = other.1 }))
 
--- ---- Faults are counted
-
-read-rose : (a : Option Asked) (h h' : HostTold) (b b' : SinkTold) → Finds ReadFault a h h' b b' → Rose h.read_faults h'.read_faults
-read-rose None h h' b b' ends = absurd ends.0
-read-rose (Some (Compile model code)) h h' b b' ends = ends.0.rose
-read-rose (Some (Run model code trace)) h h' b b' ends = unread ends.0
-  where
-    unread : EndsRunUnread model code trace h h' → Rose h.read_faults h'.read_faults
-    unread (inl u) = u.rose
-    unread (inr u) = u.0
-read-rose (Some (Exec code trace)) h h' b b' ends = ends.0
-
-write-rose : (a : Option Asked) (h h' : HostTold) (b b' : SinkTold) → Finds WriteFault a h h' b b' → Rose h.write_faults h'.write_faults
-write-rose None h h' b b' ends = absurd ends.0
-write-rose (Some (Compile model code)) h h' b b' ends = ends.0.rose
-write-rose (Some (Run model code trace)) h h' b b' ends = ends.0.rose
-write-rose (Some (Exec code trace)) h h' b b' ends = absurd ends
-
-no-read : (s : ℕ) (a : Option Asked) (h h' : HostTold) (b b' : SinkTold) → EndsAt s a h h' b b' → IsCalm h.read_faults h'.read_faults → s ≢ 5
-no-read s a h h' b b' (e, before, ends, inl (is, whole)) calm five =
-    let rose : Rose h.read_faults h'.read_faults = read-rose a h h' b before (subst (λ (x : Ending). Finds x a h h' b before) (only_read e (sym is ∙ five)) ends.finds) in
-    let same = calm.same in let below = calm.below in omega arith
-no-read s a h h' b b' (e, before, ends, inr (seven, part)) calm five = omega arith
-
-no-write : (s : ℕ) (a : Option Asked) (h h' : HostTold) (b b' : SinkTold) → EndsAt s a h h' b b' → IsCalm h.write_faults h'.write_faults → s ≢ 6
-no-write s a h h' b b' (e, before, ends, inl (is, whole)) calm six =
-    let rose : Rose h.write_faults h'.write_faults = write-rose a h h' b before (subst (λ (x : Ending). Finds x a h h' b before) (only_write e (sym is ∙ six)) ends.finds) in
-    let same = calm.same in let below = calm.below in omega arith
-no-write s a h h' b b' (e, before, ends, inr (seven, part)) calm six = omega arith
-
-no-put : (s : ℕ) (a : Option Asked) (h h' : HostTold) (b b' : SinkTold) → EndsAt s a h h' b b' → IsCalm b.faults b'.faults → s ≢ 7
-no-put s a h h' b b' (e, before, ends, inl (is, whole)) calm seven =
-    let rose : Rose b.faults before.faults = subst (λ (x : Ending). CountsPuts x b before) (only_put e (sym is ∙ seven)) ends.counts in
-    let kept = whole.no_fault in let same = calm.same in let below = calm.below in omega arith
-no-put s a h h' b b' (e, before, ends, inr (is, part)) calm seven =
-    let rose = part.rose in let same = calm.same in let below = calm.below in let later = later-puts e b before ends.counts below in
-    omega arith
+-- ---- Where no count rises
 
 pub complete : OneVerdict → ReadingsAgree → (s : ℕ) (a : Option Asked) (h h' : HostTold) (b b' : SinkTold) → EndsAt s a h h' b b' → IsComplete s a h h' b b'
 complete one agree s None h h' b b' ends = λ calm. tt
 complete one agree s (Some a) h h' b b' ends = λ calm.
     told-map h.files h.rest (comes_exactly one agree s (Some a) h h' b b' ends) (λ fs comes.
-    done-by s a fs comes (no-read s (Some a) h h' b b' ends calm.reads) (no-write s (Some a) h h' b b' ends calm.writes) (no-put s (Some a) h h' b b' ends calm.puts))
+    done-by s a fs comes (no_read s (Some a) h h' b b' ends calm.reads) (no_write s (Some a) h h' b b' ends calm.writes) (no_put s (Some a) h h' b b' ends calm.puts))
 
 -- ---- A host that is sure of its files
 
@@ -104,7 +65,7 @@ pub surely_done : {H : Type 0} (files : H → Option (List File)) (sure : H → 
 surely_done files sure x one agree s None h h' b b' ends unsure = tt
 surely_done files sure x one agree s (Some a) h h' b b' ends unsure =
     told-map h.files h.rest (comes_exactly one agree s (Some a) h h' b b' ends) (λ fs comes of writes puts.
-    done-by s a fs comes (λ five. sure-not-unsure files sure x a of (unsure five)) (no-write s (Some a) h h' b b' ends writes) (no-put s (Some a) h h' b b' ends puts))
+    done-by s a fs comes (λ five. sure-not-unsure files sure x a of (unsure five)) (no_write s (Some a) h h' b b' ends writes) (no_put s (Some a) h h' b b' ends puts))
 
 -- ---- The host that doesn't fail
 

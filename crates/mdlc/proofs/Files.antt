@@ -1,7 +1,9 @@
 -- What is known of files that a host may tell.
-use Rattle.std.proofs.Common.{List, ℕ}
+use Rattle.std.proofs.Common.{List, ℕ, sym, subst}
 use Rattle.std.specs.Prelude.{Option, Some, None, IsSomeAnd, IfSome, OnSome}
 use Rattle.mc_edge.specs.Files.{File, OnFile, lookup}
+use Rattle.mdlc.specs.Told.{HostTold}
+use Rattle.mdlc.specs.Endings.{OnNamed, OnBytes}
 
 -- P holds of the file of this name, if it is there and told
 abbrev pub IfNamed : Option (List File) → Option (List ℕ) → List ℕ → (List ℕ → Type 0) → Type 0
@@ -40,6 +42,10 @@ pub there : (files : Option (List File)) (rest : Option (List ℕ)) (name : List
 there None rest name h q = h
 there (Some fs) None name h q = h
 there (Some fs) (Some xs) name h q = at_there (lookup name fs) h q
+
+-- what is known of some bytes is known of the file that they are
+pub named : (h : HostTold) (name : List ℕ) {P : List ℕ → Type 0} → OnBytes h name P → OnNamed h name P
+named h name {P = P} known = there h.files h.rest name known.file (λ told is. subst P (sym is) known.holds)
 
 -- what follows of the files from what is known of one of them
 pub told_one : (files : Option (List File)) (rest : Option (List ℕ)) (name : List ℕ) {P : List ℕ → Type 0} {Q : List File → Type 0} → OnFile files rest name P → ((fs : List File) → IsSomeAnd (lookup name fs) P → Q fs) → IfTold files rest Q

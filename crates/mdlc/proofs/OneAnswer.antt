@@ -5,18 +5,20 @@ use Rattle.mc_base.specs.Refusals.{PlainRefusal}
 use Rattle.mc_fixed.specs.declared.types.FixType.{FixType}
 use Rattle.mc_edge.specs.Files.{File, lookup}
 use Rattle.mc_diagram.specs.Diagram.{Diagram}
-use Rattle.c_tree.specs.Tree.{ParamTree, ProcedureTree, ProgramTree}
-use Rattle.c_tree.specs.Machine.{Outcome, done, stuck}
-use Rattle.c_tree.specs.Rows.{start_run}
-use Rattle.c_tree.specs.Outputs.{has_name}
-use Rattle.c_tree.specs.Lawful.{IsLawful, AreDistinct, procedure_names, pure_names}
-use Rattle.c_tree.specs.Agreement.{ReadingsAgree}
-use Rattle.c_tree.proofs.NameFacts.{AreDistinct-back, has_name-there}
-use Rattle.c_reader.specs.Checked.{fix_type}
+use Rattle.mc_diagram.specs.ResolvedTable.{ResolvedTable, diagram_of_table}
+use Rattle.c_syntax.specs.Tree.{ParamTree, ProcedureTree, ProgramTree}
+use Rattle.c_machine.specs.Machine.{Outcome, done, stuck}
+use Rattle.c_machine.specs.Rows.{start_run}
+use Rattle.c_syntax.specs.Outputs.{has_name}
+use Rattle.c_syntax.specs.Lawful.{IsLawful, AreDistinct, procedure_names, pure_names}
+use Rattle.c_reading.specs.Agreement.{ReadingsAgree}
+use Rattle.c_syntax.proofs.lemmas.NameFacts.{AreDistinct-back, has_name-there}
+use Rattle.c_checked.specs.Checked.{fix_type}
 use Rattle.mc_compile.specs.Verdict.{Verdict, HasVerdict, Accepted, Refused as IsRefused, HasOneVerdict}
+use Rattle.mc_compile.specs.Compilation.{root_types}
 use Rattle.mdlc.specs.Words.{Asked, Compile, Run, Exec}
-use Rattle.mdlc.specs.Runs.{HasStepTypes}
-use Rattle.mdlc.specs.Statuses.{ModelComes, ProgramComes, CodeComes, Comes, status_over}
+use Rattle.mdlc.specs.Runs.{HasStepTypes, bad_line}
+use Rattle.mdlc.specs.Statuses.{ModelComes, ProgramComes, CodeComes, Comes, run_status, status_over}
 
 -- ---- Verdicts
 
@@ -26,12 +28,12 @@ OneVerdict = (bytes : List ℕ) → HasOneVerdict bytes
 one_only : OneVerdict → (model : List ℕ) (v w : Verdict) → HasVerdict model v → HasVerdict model w → v ≡ w
 one_only one model v w is_v is_w = let only = (one model).2 in only v is_v ∙ sym (only w is_w)
 
-pub accepted_only : OneVerdict → (model : List ℕ) (d : Diagram) (refusal : PlainRefusal) → HasVerdict model (Accepted d) → HasVerdict model (IsRefused refusal) → ⊥
+pub accepted_only : OneVerdict → (model : List ℕ) (d : ResolvedTable) (refusal : PlainRefusal) → HasVerdict model (Accepted d) → HasVerdict model (IsRefused refusal) → ⊥
 accepted_only one model d refusal a r =
     let e : Accepted d ≡ IsRefused refusal = one_only one model (Accepted d) (IsRefused refusal) a r in cc
 
-pub same_diagram : OneVerdict → (model : List ℕ) (d other : Diagram) → HasVerdict model (Accepted d) → HasVerdict model (Accepted other) → d ≡ other
-same_diagram one model d other a b =
+pub same_resolution : OneVerdict → (model : List ℕ) (d other : ResolvedTable) → HasVerdict model (Accepted d) → HasVerdict model (Accepted other) → d ≡ other
+same_resolution one model d other a b =
     let e : Accepted d ≡ Accepted other = one_only one model (Accepted d) (Accepted other) a b in cc
 
 pub same_refusal : OneVerdict → (model : List ℕ) (r q : PlainRefusal) → HasVerdict model (IsRefused r) → HasVerdict model (IsRefused q) → r ≡ q
@@ -81,7 +83,7 @@ model-one one model n m both (inl (r, is, n-is)) (inl (q, also, m-is)) = n-is �
 model-one one model n m both (inl (r, is, n-is)) (inr (d, also, m-is)) = absurd (accepted_only one model d r also is)
 model-one one model n m both (inr (d, is, n-is)) (inl (r, also, m-is)) = absurd (accepted_only one model d r is also)
 model-one one model n m {P} {Q} both (inr (d, is, n-is)) (inr (other, also, m-is)) =
-    both d n-is (subst Q (same_diagram one model other d also is) m-is)
+    both (diagram_of_table d) n-is (subst (λ (x : ResolvedTable). Q (diagram_of_table x)) (same_resolution one model other d also is) m-is)
 
 some-one : (o : Option (List ℕ)) (n m : ℕ) {P Q : List ℕ → Type 0} → IsSomeAnd o P → IsSomeAnd o Q → ((bytes : List ℕ) → P bytes → Q bytes → n ≡ m) → n ≡ m
 some-one None n m h k both = absurd h
@@ -105,11 +107,15 @@ code-one agree code trace n m (inr (inr (fits, (p, text, h)))) (inr (inr (also, 
     let same : q ≡ p = agree.one code q p too text in
     outcome-one p (start_run p) trace n m (agree.lawful code p text) h (subst (λ (x : ProgramTree). ProgramComes x (start_run x) trace m) same k)
 
+-- the status of a run of a diagram's code over the trace of this name
+abbrev RunComes : List ℕ → List File → ℕ → Diagram → Type 0
+RunComes trace fs n d = IsSomeAnd (lookup trace fs) (λ lines. n ≡ run_status None (bad_line (root_types d) lines))
+
 -- what is asked for comes to one status
 pub comes-one : OneVerdict → ReadingsAgree → (a : Asked) (fs : List File) (n m : ℕ) → Comes a fs n → Comes a fs m → n ≡ m
 comes-one one agree (Compile model code) fs n m h k =
-    some-one (lookup model fs) n m h k (λ bytes x y. model-one one bytes n m (λ d p q. p ∙ sym q) x y)
+    some-one (lookup model fs) n m h k (λ bytes x y. model-one one bytes n m {P = λ d. n ≡ 0} {Q = λ d. m ≡ 0} (λ d p q. p ∙ sym q) x y)
 comes-one one agree (Run model code trace) fs n m h k =
-    some-one (lookup model fs) n m h k (λ bytes x y. model-one one bytes n m (λ d p q. some-one (lookup trace fs) n m p q (λ lines u v. u ∙ sym v)) x y)
+    some-one (lookup model fs) n m h k (λ bytes x y. model-one one bytes n m {P = RunComes trace fs n} {Q = RunComes trace fs m} (λ d p q. some-one (lookup trace fs) n m p q (λ lines u v. u ∙ sym v)) x y)
 comes-one one agree (Exec code trace) fs n m h k =
     some-one (lookup code fs) n m h k (λ bytes x y. code-one agree bytes (lookup trace fs) n m x y)

@@ -1,21 +1,22 @@
 -- That what is asked for is done where nothing fails, by the way in which a call ended.
-use Rattle.std.proofs.Common.{◌≡◌, ◌≢◌, ℕ, ◌-◌, ◌^◌, ◌<◌, ◌≤◌, inl, inr, List, ◌++◌, length, refl, sym, ap, subst, ◌∙◌, append_assoc, arith}
+use Rattle.std.proofs.Common.{◌≡◌, ◌≢◌, ◌⊎◌, ℕ, ◌<◌, ◌≤◌, inl, inr, List, ◌++◌, length, refl, sym, ap, subst, ◌∙◌, append_assoc, arith}
 use Rattle.std.specs.Prelude.{Option, Some, None}
 use Rattle.std.specs.Io.KnownBytes.{append_known}
+use Rattle.std.proofs.lemmas.Bool.Decides.{eqb_tells}
 use Rattle.mc_base.specs.Refusals.{PlainRefusal, plain_refusal, refusal_line}
 use Rattle.mc_fixed.specs.declared.types.FixType.{FixType}
-use Rattle.mc_edge.specs.Faults.{Rose, IsCalm}
 use Rattle.mc_edge.specs.Files.{add_file}
 use Rattle.mc_diagram.specs.Diagram.{Diagram}
+use Rattle.mc_diagram.specs.ResolvedTable.{ResolvedTable, diagram_of_table}
 use Rattle.mc_trace.specs.declared.rows.BadLine.{BadLine}
-use Rattle.c_tree.specs.declared.fault.CFault.{CFault}
-use Rattle.c_tree.specs.declared.fault.Stuck.{Stuck}
-use Rattle.c_tree.specs.Tree.{ProgramTree}
-use Rattle.c_tree.specs.Cells.{Cells}
-use Rattle.c_tree.specs.Machine.{After, done, stuck}
-use Rattle.c_tree.specs.Rows.{TickRow, start_run}
-use Rattle.c_tree.specs.Reading.{CFaultOf}
-use Rattle.c_tree.specs.Agreement.{ReadingsAgree}
+use Rattle.c_syntax.specs.declared.fault.CFault.{CFault}
+use Rattle.c_syntax.specs.declared.fault.Stuck.{Stuck}
+use Rattle.c_syntax.specs.Tree.{ProgramTree}
+use Rattle.c_machine.specs.Cells.{Cells}
+use Rattle.c_machine.specs.Machine.{After, done, stuck}
+use Rattle.c_machine.specs.Rows.{TickRow, start_run}
+use Rattle.c_rules.specs.Reading.{CFaultOf}
+use Rattle.c_reading.specs.Agreement.{ReadingsAgree}
 use Rattle.mc_compile.specs.Verdict.{HasVerdict, Refused as IsRefused}
 use Rattle.mc_compile.specs.Compilation.{Compilation, root_types, IsCompilationOf}
 use Rattle.mc_runner.specs.declared.outcome.Totals.{Totals}
@@ -26,11 +27,12 @@ use Rattle.mdlc.specs.Words.{Asked, Compile, Run, Exec}
 use Rattle.mdlc.specs.Told.{HostTold, SinkTold}
 use Rattle.mdlc.specs.Texts.{compiled_line, totals_line, code_refused_line, long_code_line, stuck_line}
 use Rattle.mdlc.specs.Runs.{HasStepTypes, rows_in, rows_over, bad_line, PutsTicks}
-use Rattle.mdlc.specs.Endings.{status_of, text_of, code_limit, WritesCode, WritesWhole, EndsRunUnread, ExecutesCode, IsStuckAtStart, PutsWhole, Finds, CountsPuts, EndsAt}
-use Rattle.mdlc.specs.Statuses.{IfFile, run_status, status_over}
-use Rattle.mdlc.specs.Headline.{Calm, Tells, TellsRefusal, Compiles, last_line, run_text, RunsAccepted, Runs, Executes, DoesRight}
-use Rattle.mdlc.proofs.Files.{any_file, known_file}
-use Rattle.mdlc.proofs.OneAnswer.{OneVerdict, accepted_only, same_diagram, same_refusal, same_types}
+use Rattle.mdlc.specs.Endings.{status_of, text_of, code_limit, WritesCode, WritesWhole, StartsCode, IsStuckAtStart, PutsWhole, Finds, EndsAt}
+use Rattle.mdlc.specs.Statuses.{IsPlain, IfFile, run_status, status_over}
+use Rattle.mdlc.specs.Headline.{Tells, TellsRefusal, Compiles, last_line, run_text, RunsAccepted, Runs, Executes, Does, DoesRight}
+use Rattle.mdlc.proofs.Files.{any_file, known_file, named}
+use Rattle.mdlc.proofs.EndingLaws.{SaysFound, says_found, calm_plain}
+use Rattle.mdlc.proofs.OneAnswer.{OneVerdict, accepted_only, same_resolution, same_refusal, same_types}
 use Rattle.mdlc.proofs.TraceTypes.{rows-trace}
 
 -- ---- Texts one behind another
@@ -77,12 +79,12 @@ compiled one rows systems functions model s code h h' b before b' is same whole 
     status = inl is;
     done = λ zero. record {
       compilation = c;
-      right = subst (λ (x : Diagram). IsCompilationOf x c) (same_diagram one model from.diagram d from.verdict accepts) from.compiled;
+      right = subst (λ (x : ResolvedTable). IsCompilationOf (diagram_of_table x) c) (same_resolution one model from.resolved d from.verdict accepts) from.compiled;
       written = written;
       line = rw (r, y, f) (put-alone b before b' (compiled_line rows systems functions) same whole);
     };
   };
-  refused = λ refusal refuses. absurd (accepted_only one model from.diagram refusal from.verdict refuses);
+  refused = λ refusal refuses. absurd (accepted_only one model from.resolved refusal from.verdict refuses);
 }
 
 compile-memory : (model : List ℕ) (s : ℕ) (code : List ℕ) (h h' : HostTold) (b b' : SinkTold) → s ≡ 10 → Compiles model s code h h' b b'
@@ -91,27 +93,24 @@ compile-memory model s code h h' b b' is = record {
   refused = λ refusal refuses. refusal-unsaid refusal s h h' b b' is;
 }
 
-compile-does : OneVerdict → (e : Ending) (s : ℕ) (model code : List ℕ) (h h' : HostTold) (b before b' : SinkTold) → Finds e (Some (Compile model code)) h h' b before → s ≡ status_of e → PutsWhole (text_of e) before b' → Calm h h' b b' → IfFile h model (λ bytes. Compiles bytes s code h h' b b')
-compile-does one (Compiled rows systems functions) s model code h h' b before b' ends is whole calm =
+compile-does : OneVerdict → (e : Ending) (s : ℕ) (model code : List ℕ) (h h' : HostTold) (b before b' : SinkTold) → Finds e (Some (Compile model code)) h h' b before → IsPlain (status_of e) → s ≡ status_of e → PutsWhole (text_of e) before b' → IfFile h model (λ bytes. Compiles bytes s code h h' b b')
+compile-does one (Compiled rows systems functions) s model code h h' b before b' ends plain is whole =
     known_file h.files h.rest model ends.0.model (λ bytes w. compiled one rows systems functions bytes s code h h' b before b' is ends.1 whole w)
-compile-does one (Refused refusal) s model code h h' b before b' ends is whole calm =
+compile-does one (Refused refusal) s model code h h' b before b' ends plain is whole =
     known_file h.files h.rest model ends.0.model (λ bytes v. record {
       accepted = λ d accepts. absurd (accepted_only one bytes d (plain_refusal refusal) accepts v);
       refused = λ other refuses. refused one (plain_refusal refusal) other bytes s h h' b before b' is v refuses ends.0.written ends.1 whole;
     })
-compile-does one ReadFault s model code h h' b before b' ends is whole calm =
-    let rose = ends.0.rose in let reads = calm.reads in absurd (omega arith)
-compile-does one WriteFault s model code h h' b before b' ends is whole calm =
-    let rose = ends.0.rose in let writes = calm.writes in absurd (omega arith)
-compile-does one NoMemory s model code h h' b before b' ends is whole calm =
-    any_file h.files h.rest model (λ bytes. compile-memory bytes s code h h' b b' is)
-compile-does one (Ran totals) s model code h h' b before b' ends is whole calm = absurd ends.0
-compile-does one Usage s model code h h' b before b' ends is whole calm = absurd ends.0
-compile-does one (BadTrace line) s model code h h' b before b' ends is whole calm = absurd ends.0
-compile-does one (CodeRefused fault) s model code h h' b before b' ends is whole calm = absurd ends.0
-compile-does one CodeTooLong s model code h h' b before b' ends is whole calm = absurd ends.0
-compile-does one (IsStuck at) s model code h h' b before b' ends is whole calm = absurd ends.0
-compile-does one PutFault s model code h h' b before b' ends is whole calm = absurd ends.0
+compile-does one ReadFault s model code h h' b before b' ends plain is whole = absurd (plain.no_read_fault refl)
+compile-does one WriteFault s model code h h' b before b' ends plain is whole = absurd (plain.no_write_fault refl)
+compile-does one NoMemory s model code h h' b before b' ends plain is whole = absurd (plain.no_want_of_memory refl)
+compile-does one (Ran totals) s model code h h' b before b' ends plain is whole = absurd ends.0
+compile-does one Usage s model code h h' b before b' ends plain is whole = absurd ends.0
+compile-does one (BadTrace line) s model code h h' b before b' ends plain is whole = absurd ends.0
+compile-does one (CodeRefused fault) s model code h h' b before b' ends plain is whole = absurd ends.0
+compile-does one CodeTooLong s model code h h' b before b' ends plain is whole = absurd ends.0
+compile-does one (IsStuck at) s model code h h' b before b' ends plain is whole = absurd ends.0
+compile-does one PutFault s model code h h' b before b' ends plain is whole = absurd ends.0
 
 -- ---- `run`
 
@@ -131,10 +130,10 @@ ran d lines s code h h' b before b' c right bad last written is first free text 
 }
 
 -- of a model that was compiled, what is shown for its diagram holds of that of its verdict
-for-diagram : OneVerdict → (bytes trace : List ℕ) (s : ℕ) (code : List ℕ) (h h' : HostTold) (b b' : SinkTold) (w : WritesWhole code bytes h h') → IfFile h trace (λ lines. RunsAccepted w.diagram lines s code h h' b b') → Runs bytes trace s code h h' b b'
+for-diagram : OneVerdict → (bytes trace : List ℕ) (s : ℕ) (code : List ℕ) (h h' : HostTold) (b b' : SinkTold) (w : WritesWhole code bytes h h') → IfFile h trace (λ lines. RunsAccepted (diagram_of_table w.resolved) lines s code h h' b b') → Runs bytes trace s code h h' b b'
 for-diagram one bytes trace s code h h' b b' w shown = record {
-  accepted = λ d accepts. subst (λ (x : Diagram). IfFile h trace (λ lines. RunsAccepted x lines s code h h' b b')) (same_diagram one bytes w.diagram d w.verdict accepts) shown;
-  refused = λ refusal refuses. absurd (accepted_only one bytes w.diagram refusal w.verdict refuses);
+  accepted = λ d accepts. subst (λ (x : ResolvedTable). IfFile h trace (λ lines. RunsAccepted (diagram_of_table x) lines s code h h' b b')) (same_resolution one bytes w.resolved d w.verdict accepts) shown;
+  refused = λ refusal refuses. absurd (accepted_only one bytes w.resolved refusal w.verdict refuses);
 }
 
 run-memory : (model trace : List ℕ) (s : ℕ) (code : List ℕ) (h h' : HostTold) (b b' : SinkTold) → s ≡ 10 → Runs model trace s code h h' b b'
@@ -143,46 +142,36 @@ run-memory model trace s code h h' b b' is = record {
   refused = λ refusal refuses. refusal-unsaid refusal s h h' b b' is;
 }
 
--- a count that rose by a time in the call is not calm at its end
-not-calm : (b before b' : SinkTold) → Rose b.faults before.faults → b'.faults ≡ before.faults → IsCalm b.faults b'.faults → ⊥
-not-calm b before b' rose same calm = let s = calm.same in let below = calm.below in omega arith
-
-run-does : OneVerdict → (e : Ending) (s : ℕ) (model code trace : List ℕ) (h h' : HostTold) (b before b' : SinkTold) → Finds e (Some (Run model code trace)) h h' b before → CountsPuts e b before → s ≡ status_of e → PutsWhole (text_of e) before b' → Calm h h' b b' → IfFile h model (λ bytes. Runs bytes trace s code h h' b b')
-run-does one (Ran totals) s model code trace h h' b before b' ends counts is whole calm =
-    known_file h.files h.rest model ends.model (λ bytes m. for-diagram one bytes trace s code h h' b b' m.whole (known_file h.files h.rest trace m.runs (λ lines run.
-    ran m.whole.diagram lines s code h h' b before b' m.whole.compilation m.whole.right None (text_of (Ran totals)) m.whole.written is run.good run.free (ap (λ (t : Totals). totals_line t.ticks t.steps t.calls) run.totals) run.lines whole)))
-run-does one (BadTrace line) s model code trace h h' b before b' ends counts is whole calm =
-    known_file h.files h.rest model ends.model (λ bytes m. for-diagram one bytes trace s code h h' b b' m.whole (known_file h.files h.rest trace m.runs (λ lines run.
-    ran m.whole.diagram lines s code h h' b before b' m.whole.compilation m.whole.right (Some line) (text_of (BadTrace line)) m.whole.written is run.bad run.free refl run.lines whole)))
-run-does one (Refused refusal) s model code trace h h' b before b' ends counts is whole calm =
+run-does : OneVerdict → (e : Ending) (s : ℕ) (model code trace : List ℕ) (h h' : HostTold) (b before b' : SinkTold) → Finds e (Some (Run model code trace)) h h' b before → IsPlain (status_of e) → s ≡ status_of e → PutsWhole (text_of e) before b' → IfFile h model (λ bytes. Runs bytes trace s code h h' b b')
+run-does one (Ran totals) s model code trace h h' b before b' ends plain is whole =
+    known_file h.files h.rest model (named h model ends.model) (λ bytes m. for-diagram one bytes trace s code h h' b b' m.whole (known_file h.files h.rest trace (named h trace m.runs) (λ lines run.
+    ran (diagram_of_table m.whole.resolved) lines s code h h' b before b' m.whole.compilation m.whole.right None (text_of (Ran totals)) m.whole.written is run.good run.free (ap (λ (t : Totals). totals_line t.ticks t.steps t.calls) run.totals) run.lines whole)))
+run-does one (BadTrace line) s model code trace h h' b before b' ends plain is whole =
+    known_file h.files h.rest model (named h model ends.model) (λ bytes m. for-diagram one bytes trace s code h h' b b' m.whole (known_file h.files h.rest trace (named h trace m.runs) (λ lines run.
+    ran (diagram_of_table m.whole.resolved) lines s code h h' b before b' m.whole.compilation m.whole.right (Some line) (text_of (BadTrace line)) m.whole.written is run.bad run.free refl run.lines whole)))
+run-does one (Refused refusal) s model code trace h h' b before b' ends plain is whole =
     known_file h.files h.rest model ends.0.model (λ bytes v. record {
       accepted = λ d accepts. absurd (accepted_only one bytes d (plain_refusal refusal) accepts v);
       refused = λ other refuses. refused one (plain_refusal refusal) other bytes s h h' b before b' is v refuses ends.0.written ends.1 whole;
     })
-run-does one ReadFault s model code trace h h' b before b' ends counts is whole calm = absurd (unread ends.0)
-  where
-    unread : EndsRunUnread model code trace h h' → ⊥
-    unread (inl u) = let rose = u.rose in let reads = calm.reads in omega arith
-    unread (inr u) = let rose = u.0 in let reads = calm.reads in omega arith
-run-does one WriteFault s model code trace h h' b before b' ends counts is whole calm =
-    let rose = ends.0.rose in let writes = calm.writes in absurd (omega arith)
-run-does one PutFault s model code trace h h' b before b' ends counts is whole calm = absurd (not-calm b before b' counts whole.no_fault calm.puts)
-run-does one NoMemory s model code trace h h' b before b' ends counts is whole calm =
-    any_file h.files h.rest model (λ bytes. run-memory bytes trace s code h h' b b' is)
-run-does one (Compiled rows systems functions) s model code trace h h' b before b' ends counts is whole calm = absurd ends
-run-does one Usage s model code trace h h' b before b' ends counts is whole calm = absurd ends
-run-does one (CodeRefused fault) s model code trace h h' b before b' ends counts is whole calm = absurd ends
-run-does one CodeTooLong s model code trace h h' b before b' ends counts is whole calm = absurd ends
-run-does one (IsStuck at) s model code trace h h' b before b' ends counts is whole calm = absurd ends
+run-does one ReadFault s model code trace h h' b before b' ends plain is whole = absurd (plain.no_read_fault refl)
+run-does one WriteFault s model code trace h h' b before b' ends plain is whole = absurd (plain.no_write_fault refl)
+run-does one PutFault s model code trace h h' b before b' ends plain is whole = absurd (plain.no_put_fault refl)
+run-does one NoMemory s model code trace h h' b before b' ends plain is whole = absurd (plain.no_want_of_memory refl)
+run-does one (Compiled rows systems functions) s model code trace h h' b before b' ends plain is whole = absurd ends
+run-does one Usage s model code trace h h' b before b' ends plain is whole = absurd ends
+run-does one (CodeRefused fault) s model code trace h h' b before b' ends plain is whole = absurd ends
+run-does one CodeTooLong s model code trace h h' b before b' ends plain is whole = absurd ends
+run-does one (IsStuck at) s model code trace h h' b before b' ends plain is whole = absurd ends
 
 -- ---- `exec`
 
 apart : (after : After) (at : Stuck) (cells : Cells) → done after ≡ stuck at cells → ⊥
 apart after at cells e = cc
 
--- of code that is run, what is shown for its program and its types holds of each reading
-executed : ReadingsAgree → (e : Ending) (bytes trace : List ℕ) (s : ℕ) (h h' : HostTold) (b before b' : SinkTold) (x : ExecutesCode e trace bytes h b before) → h'.written ≡ h.written → IfFile h trace (λ lines. Tells (status_over x.program x.types lines) (run_text x.program x.types lines) s b b') → Executes bytes trace s h h' b b'
-executed agree e bytes trace s h h' b before b' x written over = record {
+-- of code that has started, what is shown for its program and its types holds of each reading
+executed : ReadingsAgree → (bytes trace : List ℕ) (s : ℕ) (h h' : HostTold) (b b' : SinkTold) (x : StartsCode bytes) → h'.written ≡ h.written → IfFile h trace (λ lines. Tells (status_over x.program x.types lines) (run_text x.program x.types lines) s b b') → Executes bytes trace s h h' b b'
+executed agree bytes trace s h h' b b' x written over = record {
   unwritten = written;
   long = λ long. let fits = x.fits in absurd (omega (arith, long, fits));
   unread = λ fits fault is. absurd (agree.apart bytes x.program fault x.reading is);
@@ -267,60 +256,68 @@ exec-stuck : ReadingsAgree → (at : Stuck) (s : ℕ) (code trace : List ℕ) (h
 exec-stuck agree at s code trace h h' b before b' (inl ends) is whole =
     known_file h.files h.rest code ends.code (λ bytes x. exec-start agree at bytes trace s h h' b before b' is x ends.left.written ends.silent whole)
 exec-stuck agree at s code trace h h' b before b' (inr ends) is whole =
-    known_file h.files h.rest code ends.code (λ bytes x. executed agree (IsStuck at) bytes trace s h h' b before b' x ends.left.written (known_file h.files h.rest trace x.runs (λ lines run.
-    told-run x.program x.types lines s b before b' (Some at) (bad_line x.types lines) run.stuck refl is run.lines whole)))
+    known_file h.files h.rest code (named h code ends.code) (λ bytes x. executed agree bytes trace s h h' b b' x.starts ends.left.written (known_file h.files h.rest trace (named h trace x.runs) (λ lines run.
+    told-run x.starts.program x.starts.types lines s b before b' (Some at) (bad_line x.starts.types lines) run.stuck refl is run.lines whole)))
 
-exec-does : ReadingsAgree → (e : Ending) (s : ℕ) (code trace : List ℕ) (h h' : HostTold) (b before b' : SinkTold) → Finds e (Some (Exec code trace)) h h' b before → CountsPuts e b before → s ≡ status_of e → PutsWhole (text_of e) before b' → Calm h h' b b' → IfFile h code (λ bytes. Executes bytes trace s h h' b b')
-exec-does agree (Ran totals) s code trace h h' b before b' ends counts is whole calm =
-    known_file h.files h.rest code ends.code (λ bytes x. executed agree (Ran totals) bytes trace s h h' b before b' x ends.left.written (known_file h.files h.rest trace x.runs (λ lines run.
-    told-run x.program x.types lines s b before b' None None run.free run.good is run.lines (subst (λ (t : Totals). PutsWhole (totals_line t.ticks t.steps t.calls) before b') run.totals whole))))
-exec-does agree (BadTrace line) s code trace h h' b before b' ends counts is whole calm =
-    known_file h.files h.rest code ends.code (λ bytes x. executed agree (BadTrace line) bytes trace s h h' b before b' x ends.left.written (known_file h.files h.rest trace x.runs (λ lines run.
-    told-run x.program x.types lines s b before b' None (Some line) run.free run.bad is run.lines whole)))
-exec-does agree (IsStuck at) s code trace h h' b before b' ends counts is whole calm = exec-stuck agree at s code trace h h' b before b' ends is whole
-exec-does agree (CodeRefused fault) s code trace h h' b before b' ends counts is whole calm =
+exec-does : ReadingsAgree → (e : Ending) (s : ℕ) (code trace : List ℕ) (h h' : HostTold) (b before b' : SinkTold) → Finds e (Some (Exec code trace)) h h' b before → IsPlain (status_of e) → s ≡ status_of e → PutsWhole (text_of e) before b' → IfFile h code (λ bytes. Executes bytes trace s h h' b b')
+exec-does agree (Ran totals) s code trace h h' b before b' ends plain is whole =
+    known_file h.files h.rest code (named h code ends.code) (λ bytes x. executed agree bytes trace s h h' b b' x.starts ends.left.written (known_file h.files h.rest trace (named h trace x.runs) (λ lines run.
+    told-run x.starts.program x.starts.types lines s b before b' None None run.free run.good is run.lines (subst (λ (t : Totals). PutsWhole (totals_line t.ticks t.steps t.calls) before b') run.totals whole))))
+exec-does agree (BadTrace line) s code trace h h' b before b' ends plain is whole =
+    known_file h.files h.rest code (named h code ends.code) (λ bytes x. executed agree bytes trace s h h' b b' x.starts ends.left.written (known_file h.files h.rest trace (named h trace x.runs) (λ lines run.
+    told-run x.starts.program x.starts.types lines s b before b' None (Some line) run.free run.bad is run.lines whole)))
+exec-does agree (IsStuck at) s code trace h h' b before b' ends plain is whole = exec-stuck agree at s code trace h h' b before b' ends is whole
+exec-does agree (CodeRefused fault) s code trace h h' b before b' ends plain is whole =
     known_file h.files h.rest code ends.code (λ bytes x. exec-unread agree fault bytes trace s h h' b before b' is x.0 x.1 ends.left.written ends.silent whole)
-exec-does agree CodeTooLong s code trace h h' b before b' ends counts is whole calm =
+exec-does agree CodeTooLong s code trace h h' b before b' ends plain is whole =
     known_file h.files h.rest code ends.code (λ bytes long. exec-long bytes trace s h h' b before b' is long ends.left.written ends.silent whole)
-exec-does agree ReadFault s code trace h h' b before b' ends counts is whole calm =
-    let rose = ends.0 in let reads = calm.reads in absurd (omega arith)
-exec-does agree PutFault s code trace h h' b before b' ends counts is whole calm = absurd (not-calm b before b' counts whole.no_fault calm.puts)
-exec-does agree NoMemory s code trace h h' b before b' ends counts is whole calm =
-    any_file h.files h.rest code (λ bytes. exec-memory bytes trace s h h' b b' is ends.0)
-exec-does agree (Compiled rows systems functions) s code trace h h' b before b' ends counts is whole calm = absurd ends
-exec-does agree Usage s code trace h h' b before b' ends counts is whole calm = absurd ends
-exec-does agree (Refused refusal) s code trace h h' b before b' ends counts is whole calm = absurd ends
-exec-does agree WriteFault s code trace h h' b before b' ends counts is whole calm = absurd ends
+exec-does agree ReadFault s code trace h h' b before b' ends plain is whole = absurd (plain.no_read_fault refl)
+exec-does agree PutFault s code trace h h' b before b' ends plain is whole = absurd (plain.no_put_fault refl)
+exec-does agree NoMemory s code trace h h' b before b' ends plain is whole = absurd (plain.no_want_of_memory refl)
+exec-does agree (Compiled rows systems functions) s code trace h h' b before b' ends plain is whole = absurd ends
+exec-does agree Usage s code trace h h' b before b' ends plain is whole = absurd ends
+exec-does agree (Refused refusal) s code trace h h' b before b' ends plain is whole = absurd ends
+exec-does agree WriteFault s code trace h h' b before b' ends plain is whole = absurd ends
+
+-- `exec` writes nothing
+exec-unwritten : (e : Ending) (code trace : List ℕ) (h h' : HostTold) (b b' : SinkTold) → Finds e (Some (Exec code trace)) h h' b b' → h'.written ≡ h.written
+exec-unwritten (Ran totals) code trace h h' b b' ends = ends.left.written
+exec-unwritten (BadTrace line) code trace h h' b b' ends = ends.left.written
+exec-unwritten (IsStuck at) code trace h h' b b' (inl ends) = ends.left.written
+exec-unwritten (IsStuck at) code trace h h' b b' (inr ends) = ends.left.written
+exec-unwritten (CodeRefused fault) code trace h h' b b' ends = ends.left.written
+exec-unwritten CodeTooLong code trace h h' b b' ends = ends.left.written
+exec-unwritten ReadFault code trace h h' b b' (inl ends) = ends.0.written
+exec-unwritten ReadFault code trace h h' b b' (inr ends) = ends.1
+exec-unwritten PutFault code trace h h' b b' ends = ends.0
+exec-unwritten NoMemory code trace h h' b b' ends = ends.0
+exec-unwritten (Compiled rows systems functions) code trace h h' b b' ends = absurd ends
+exec-unwritten Usage code trace h h' b b' ends = absurd ends
+exec-unwritten (Refused refusal) code trace h h' b b' ends = absurd ends
+exec-unwritten WriteFault code trace h h' b b' ends = absurd ends
 
 -- ---- All
 
-does : OneVerdict → ReadingsAgree → (e : Ending) (s : ℕ) (a : Option Asked) (h h' : HostTold) (b before b' : SinkTold) → Finds e a h h' b before → CountsPuts e b before → s ≡ status_of e → PutsWhole (text_of e) before b' → DoesRight s a h h' b b'
-does one agree e s None h h' b before b' ends counts is whole = λ calm. tt
-does one agree e s (Some (Compile model code)) h h' b before b' ends counts is whole = λ calm. compile-does one e s model code h h' b before b' ends is whole calm
-does one agree e s (Some (Run model code trace)) h h' b before b' ends counts is whole = λ calm. run-does one e s model code trace h h' b before b' ends counts is whole calm
-does one agree e s (Some (Exec code trace)) h h' b before b' ends counts is whole = λ calm. exec-does agree e s code trace h h' b before b' ends counts is whole calm
+does : OneVerdict → ReadingsAgree → (e : Ending) (s : ℕ) (a : Option Asked) (h h' : HostTold) (b before b' : SinkTold) → Finds e a h h' b before → IsPlain (status_of e) → s ≡ status_of e → PutsWhole (text_of e) before b' → Does s a h h' b b'
+does one agree e s None h h' b before b' ends plain is whole = tt
+does one agree e s (Some (Compile model code)) h h' b before b' ends plain is whole = compile-does one e s model code h h' b before b' ends plain is whole
+does one agree e s (Some (Run model code trace)) h h' b before b' ends plain is whole = run-does one e s model code trace h h' b before b' ends plain is whole
+does one agree e s (Some (Exec code trace)) h h' b before b' ends plain is whole = exec-does agree e s code trace h h' b before b' ends plain is whole
 
--- a count of the sink doesn't fall
-pub later-puts : (e : Ending) (b before : SinkTold) → CountsPuts e b before → b.faults < 2 ^ 64 - 1 → b.faults ≤ before.faults
-later-puts PutFault b before counts below = omega (arith, counts, below)
-later-puts (Compiled rows systems functions) b before counts below = omega (arith, counts)
-later-puts (Ran totals) b before counts below = omega (arith, counts)
-later-puts Usage b before counts below = omega (arith, counts)
-later-puts (Refused refusal) b before counts below = omega (arith, counts)
-later-puts (BadTrace line) b before counts below = omega (arith, counts)
-later-puts (CodeRefused fault) b before counts below = omega (arith, counts)
-later-puts CodeTooLong b before counts below = omega (arith, counts)
-later-puts (IsStuck at) b before counts below = omega (arith, counts)
-later-puts ReadFault b before counts below = omega (arith, counts)
-later-puts WriteFault b before counts below = omega (arith, counts)
-later-puts NoMemory b before counts below = omega (arith, counts)
-
--- where the last put failed, a count of the sink rose
-cut : (s : ℕ) (a : Option Asked) (h h' : HostTold) (b before b' : SinkTold) → (b.faults < 2 ^ 64 - 1 → b.faults ≤ before.faults) → Rose before.faults b'.faults → DoesRight s a h h' b b'
-cut s a h h' b before b' later rose calm =
-    let same = calm.puts.same in let below = calm.puts.below in let more = later below in absurd (omega arith)
+-- want of memory, whatever was found
+starved : (e : Ending) (s : ℕ) (a : Option Asked) (h h' : HostTold) (b before b' : SinkTold) → s ≡ 10 → Finds e a h h' b before → Does s a h h' b b'
+starved e s None h h' b before b' is ends = tt
+starved e s (Some (Compile model code)) h h' b before b' is ends = any_file h.files h.rest model (λ bytes. compile-memory bytes s code h h' b b' is)
+starved e s (Some (Run model code trace)) h h' b before b' is ends = any_file h.files h.rest model (λ bytes. run-memory bytes trace s code h h' b b' is)
+starved e s (Some (Exec code trace)) h h' b before b' is ends =
+    any_file h.files h.rest code (λ bytes. exec-memory bytes trace s h h' b b' is (exec-unwritten e code trace h h' b before ends))
 
 pub does_right : OneVerdict → ReadingsAgree → (s : ℕ) (a : Option Asked) (h h' : HostTold) (b b' : SinkTold) → EndsAt s a h h' b b' → DoesRight s a h h' b b'
-does_right one agree s a h h' b b' (e, before, ends, inl (is, whole)) = does one agree e s a h h' b before b' ends.finds ends.counts is whole
-does_right one agree s a h h' b b' (e, before, ends, inr (seven, part)) =
-    cut s a h h' b before b' (later-puts e b before ends.counts) part.rose
+does_right one agree s a h h' b b' e calm = by (eqb_tells s 10)
+  where
+    by : {A B : Type 0} → (A × (s ≡ 10)) ⊎ (B × (s ≢ 10)) → Does s a h h' b b'
+    by (inl ten) = starved e.found s a h h' b e.before b' ten.1 e.ends.finds
+    by (inr other) =
+        let plain : IsPlain s = calm_plain s a h h' b b' e calm other.1 in
+        let f : SaysFound s a h h' b b' = says_found s a h h' b b' e plain.no_put_fault other.1 in
+        does one agree f.found s a h h' b f.before b' f.ends.finds (subst IsPlain f.status plain) f.status f.whole

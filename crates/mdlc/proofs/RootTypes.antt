@@ -11,21 +11,21 @@ use Rattle.mc_fixed.specs.Types.{int8, int16, int32, uint8, uint16, uint32}
 use Rattle.mc_fixed.specs.Conversion.{InType}
 use Rattle.mc_diagram.specs.Diagram.{Diagram}
 use Rattle.mc_profile.specs.Ports.{input_ports}
-use Rattle.c_tree.specs.declared.code.CType.{CType}
-use Rattle.c_tree.specs.declared.code.CType.TheVariants.{I8, U8, I16, U16, I32, U32, I64}
-use Rattle.c_tree.specs.Tree.{ParamTree, ProcedureTree, ProgramTree}
-use Rattle.c_tree.specs.Values.{is_in_type}
-use Rattle.c_tree.specs.Lawful.{AreDistinct, procedure_names, pure_names}
-use Rattle.c_tree.proofs.NameFacts.{AreDistinct-back}
-use Rattle.c_reader.specs.Checked.{fix_type}
+use Rattle.c_syntax.specs.declared.code.CType.{CType}
+use Rattle.c_syntax.specs.declared.code.CType.TheVariants.{I8, U8, I16, U16, I32, U32, I64}
+use Rattle.c_syntax.specs.Tree.{ParamTree, ProcedureTree, ProgramTree}
+use Rattle.c_machine.specs.Values.{is_in_type}
+use Rattle.c_syntax.specs.Lawful.{AreDistinct, procedure_names, pure_names}
+use Rattle.c_syntax.proofs.lemmas.NameFacts.{AreDistinct-back}
+use Rattle.c_checked.specs.Checked.{fix_type}
 use Rattle.c_emitter.specs.Names.{container, root_name, root_step_name}
-use Rattle.c_emitter.specs.Systems.{input_type_of}
+use Rattle.mc_profile.specs.Traces.{input_type_of}
 use Rattle.c_emitter.specs.Headers.{Header, header, struct_at, procedures_of, public_headers, port_param, root_headers}
 use Rattle.c_emitter.specs.Code.{IsCodeFor}
-use Rattle.c_emitter.proofs.Containers.{container-has}
-use Rattle.c_emitter.proofs.FlatRows.{holds-at}
+use Rattle.c_emitter.proofs.lemmas.Containers.{container-has}
+use Rattle.c_emitter.proofs.lemmas.FlatRows.{holds-at}
 use Rattle.mc_compile.specs.Compilation.{root_types}
-use Rattle.mc_runner.specs.RowWalk.{IsNarrower}
+use Rattle.mc_runner.specs.Ticks.{IsNarrower}
 use Rattle.mdlc.specs.Runs.{HasStepTypes}
 use Rattle.mdlc.proofs.OneAnswer.{one_place}
 

@@ -1,28 +1,28 @@
 -- What a machine's run over a file comes to, of a machine behind its start.
-use Rattle.std.proofs.Common.{◌≡◌, ℕ, inr, List, [], ◌∷◌, take, sym, ap, subst, ◌∙◌}
+use Rattle.std.proofs.Common.{◌≡◌, ℕ, inr, List, [], ◌∷◌, ◌++◌, sym, ap, subst, ◌∙◌, arith}
 use Rattle.std.specs.Prelude.{Option, Some, None, IfSome, Result, Ok, Err, ℤ, unwrap_or}
 use Rattle.std.specs.List.{AllZip}
-use Rattle.std.specs.Io.KnownBytes.{append_known}
+use Rattle.std.specs.Io.KnownBytes.{append_known, prepend_known, IsAtEnd}
 use Rattle.mc_fixed.specs.declared.types.FixType.{FixType}
+use Rattle.mc_edge.specs.Faults.{Rose}
 use Rattle.mc_edge.specs.Files.{PutsFront}
 use Rattle.mc_trace.specs.declared.rows.BadLine.{BadLine}
 use Rattle.mc_trace.specs.Rows as trace
-use Rattle.c_tree.specs.declared.fault.Stuck.{Stuck}
-use Rattle.c_tree.specs.Machine.{Outcome}
-use Rattle.c_tree.specs.Rows.{Rows, c_rows, rows_from, rows_of_start}
+use Rattle.c_syntax.specs.declared.fault.Stuck.{Stuck}
+use Rattle.c_machine.specs.Machine.{Outcome}
+use Rattle.c_machine.specs.Rows.{Rows, c_rows, rows_from, rows_of_start}
 use Rattle.c_meaning.specs.States.{MachineState, tree_of}
 use Rattle.mc_runner.specs.declared.outcome.Totals.{Totals}
 use Rattle.mc_runner.specs.declared.outcome.RunFault.{RunFault}
 use Rattle.mc_runner.specs.declared.outcome.RunFault.TheVariants as fault
 use Rattle.mc_runner.specs.Texts.{ticks_text}
-use Rattle.mc_runner.specs.Ticks.{standing}
-use Rattle.mc_runner.specs.Runs.{no_totals, totals_of, ticks_over, RunsOver}
-use Rattle.mc_runner.specs.RowWalk.{IsNarrower}
+use Rattle.mc_runner.specs.Ticks.{Standing, standing, IsNarrower}
+use Rattle.mc_runner.specs.Runs.{no_totals, totals_of, added, ticks_over, Parts, RunsOver}
 use Rattle.mdlc.specs.declared.tool.Ending.TheVariants.{Ran, BadTrace, Stuck as IsStuck, PutFault}
 use Rattle.mdlc.specs.Told.{HostTold, SinkTold}
-use Rattle.mdlc.specs.Runs.{RunsWhole, RunsToBadLine, RunsToStuck, RunsToPutFault, RunsToNoMemory}
-use Rattle.mdlc.specs.Endings.{OnNamed, LeavesHost}
-use Rattle.mdlc.specs.Acting.{IsBehindStart, RunsFile, SticksOverFile, ForgetsFile}
+use Rattle.mdlc.specs.Runs.{RunsWhole, RunsToBadLine, RunsToStuck, RunsToPutFault}
+use Rattle.mdlc.specs.Endings.{OnNamed, OnBytes, LeavesHost, TakesFile}
+use Rattle.mdlc.specs.Acting.{IsBehindStart, RunsFile, MissesFile, ForgetsFile}
 use Rattle.mdlc.proofs.Files.{there}
 
 -- types are no wider than themselves
@@ -38,73 +38,107 @@ same-rows m totals put rows (after, start, fields) =
 some-bytes : (x y : List ℕ) → Some x ≡ Some y → x ≡ y
 some-bytes x y e = ap (λ (o : Option (List ℕ)). unwrap_or o x) e
 
--- the bytes that were run are those of the file
-same-bytes : (rest : Option (List ℕ)) (told bytes : List ℕ) → rest ≡ Some told → IfSome rest (λ x. x ≡ bytes) → bytes ≡ told
-same-bytes None told bytes e h = cc
-same-bytes (Some x) told bytes e h = sym h ∙ some-bytes x told e
+-- what was taken of a file that is told, and what is left of it, are its bytes
+both-parts : (rest rest' : Option (List ℕ)) (told : List ℕ) (parts : Parts) → rest ≡ Some told → rest ≡ prepend_known parts.taken rest' → IfSome rest' (λ x. x ≡ parts.left) → told ≡ parts.taken ++ parts.left
+both-parts rest None told parts is took left =
+    let none : Some told ≡ None = sym is ∙ took in cc
+both-parts rest (Some x) told parts is took left =
+    some-bytes told (parts.taken ++ parts.left) (sym is ∙ took ∙ ap (λ (y : List ℕ). Some (parts.taken ++ y)) left)
+
+same-totals : (t u : Totals) → t.ticks ≡ u.ticks → t.steps ≡ u.steps → t.calls ≡ u.calls → t ≡ u
+same-totals t u ticks steps calls = λ i. record { ticks = ticks i; steps = steps i; calls = calls i }
+
+-- totals behind none are themselves
+behind-none : (t : Totals) → added no_totals t ≡ t
+behind-none t = same-totals (added no_totals t) t (omega arith) (omega arith) (omega arith)
+
+-- a sink is what it tells
+same-sink : (b b' : SinkTold) → b'.bytes ≡ b.bytes → b'.faults ≡ b.faults → b' ≡ b
+same-sink b b' bytes faults = λ i. record { bytes = bytes i; faults = faults i }
 
 module _ (m m' : MachineState) (types : List FixType) (taken : Totals) (rest : Option (List ℕ)) (name : List ℕ) (h h' : HostTold) (b b' : SinkTold) (start : IsBehindStart m) (opened : OnNamed h name (λ bytes. rest ≡ Some bytes)) where
   abbrev Over : Result (Unit {0}) RunFault → Type 0
-  Over result = RunsOver result rest types (standing m no_totals b.bytes) (standing m' taken b'.bytes)
+  Over result = RunsOver result rest h'.rest types (standing m no_totals b.bytes) (standing m' taken b'.bytes)
 
-  -- what holds of the bytes that were run holds of the file's
-  on-file : (bytes : List ℕ) (P : List ℕ → Type 0) → IfSome rest (λ told. told ≡ bytes) → P bytes → OnNamed h name P
-  on-file bytes P file holds = there h.files h.rest name opened (λ told is. subst P (same-bytes rest told bytes is file) holds)
-
-  rows-are : (bytes : List ℕ) → ticks_over (standing m no_totals b.bytes) (trace.rows_of bytes types).rows ≡ c_rows (tree_of m) (trace.rows_of bytes types).rows
-  rows-are bytes = same-rows m no_totals b.bytes (trace.rows_of bytes types).rows start
-
-  pub whole-file : LeavesHost h h' → Over (Ok tt) → RunsFile (Ran taken) (tree_of m) types name h h' b b'
-  whole-file left over = record {
-    lines = on-file over.bytes (λ bytes. RunsWhole taken (tree_of m) types bytes b b') over.file (record {
-      good = over.ends.rows_only;
-      free = ap (λ (r : Rows). r.stuck_place) (sym (rows-are over.bytes)) ∙ over.ends.unstuck;
-      totals = over.ends.run.ticked.totals ∙ ap (λ (r : Rows). totals_of r.ticks) (rows-are over.bytes);
-      lines = over.ends.run.put ∙ ap (λ (r : Rows). append_known b.bytes (ticks_text r.ticks)) (rows-are over.bytes);
-    });
-    left = left;
+  -- what holds of the two parts of the bytes that were run holds of the file's
+  on-file : (parts : Parts) (P : List ℕ → Type 0) → rest ≡ prepend_known parts.taken h'.rest → IfSome h'.rest (λ told. told ≡ parts.left) → P (parts.taken ++ parts.left) → OnBytes h name P
+  on-file parts P took left holds = record {
+    bytes = parts.taken ++ parts.left;
+    file = there h.files h.rest name opened (λ told is. both-parts rest h'.rest told parts is took left);
+    holds = holds;
   }
+
+  rows-are : (rows : List (List ℤ)) → ticks_over (standing m no_totals b.bytes) rows ≡ c_rows (tree_of m) rows
+  rows-are rows = same-rows m no_totals b.bytes rows start
+
+  unstuck : (rows : List (List ℤ)) (place : Option Stuck) → (ticks_over (standing m no_totals b.bytes) rows).stuck_place ≡ place → (c_rows (tree_of m) rows).stuck_place ≡ place
+  unstuck rows place is = ap (λ (r : Rows). r.stuck_place) (sym (rows-are rows)) ∙ is
+
+  puts : (rows : List (List ℤ)) → b'.bytes ≡ append_known b.bytes (ticks_text (ticks_over (standing m no_totals b.bytes) rows).ticks) → b'.bytes ≡ append_known b.bytes (ticks_text (c_rows (tree_of m) rows).ticks)
+  puts rows put = put ∙ ap (λ (r : Rows). append_known b.bytes (ticks_text r.ticks)) (rows-are rows)
+
+  -- the rows of both parts together
+  abbrev rows-of : Parts → List (List ℤ)
+  rows-of parts = (trace.rows_of (parts.taken ++ parts.left) types).rows
+
+  pub whole-file : LeavesHost h h' → IsAtEnd h'.rest → Over (Ok tt) → RunsFile (Ran taken) (tree_of m) types name h h' b b'
+  whole-file left end over =
+      let rows : List (List ℤ) = rows-of over.parts in record {
+        lines = on-file over.parts (λ bytes. RunsWhole taken (tree_of m) types bytes b b') over.took over.left (record {
+          good = over.ends.rows_only;
+          free = unstuck rows None over.ends.unstuck;
+          totals = over.ends.run.ticked.totals ∙ behind-none _ ∙ ap (λ (r : Rows). totals_of r.ticks) (rows-are rows);
+          lines = puts rows over.ends.run.put;
+        });
+        end = end;
+        left = left;
+      }
 
   pub bad-file : (line : BadLine) → LeavesHost h h' → Over (Err (fault.Trace line)) → RunsFile (BadTrace line) (tree_of m) types name h h' b b'
-  bad-file line left over = record {
-    lines = on-file over.bytes (λ bytes. RunsToBadLine line (tree_of m) types bytes b b') over.file (record {
-      bad = over.ends.first_bad;
-      free = ap (λ (r : Rows). r.stuck_place) (sym (rows-are over.bytes)) ∙ over.ends.unstuck;
-      lines = over.ends.run.put ∙ ap (λ (r : Rows). append_known b.bytes (ticks_text r.ticks)) (rows-are over.bytes);
-    });
-    left = left;
-  }
+  bad-file line left over =
+      let rows : List (List ℤ) = rows-of over.parts in record {
+        lines = on-file over.parts (λ bytes. RunsToBadLine line (tree_of m) types bytes b b') over.took over.left (record {
+          bad = over.ends.first_bad;
+          free = unstuck rows None over.ends.unstuck;
+          lines = puts rows over.ends.run.put;
+        });
+        end = tt;
+        left = left;
+      }
 
-  stuck-lines : (at : Stuck) → LeavesHost h h' → Over (Err (fault.Stuck at)) → RunsFile (IsStuck at) (tree_of m) types name h h' b b'
-  stuck-lines at left over = record {
-    lines = on-file over.bytes (λ bytes. RunsToStuck at (tree_of m) types bytes b b') over.file (record {
-      stuck = ap (λ (r : Rows). r.stuck_place) (sym (rows-are over.bytes)) ∙ over.ends.stuck;
-      lines = over.ends.run.put ∙ ap (λ (r : Rows). append_known b.bytes (ticks_text r.ticks)) (rows-are over.bytes);
-    });
-    left = left;
-  }
-
-  pub stuck-file : (at : Stuck) → LeavesHost h h' → Over (Err (fault.Stuck at)) → SticksOverFile at (tree_of m) types name h h' b b'
-  stuck-file at left over = record {
-    runs = stuck-lines at left over;
-    over = (over.bytes, ap (λ (r : Rows). r.stuck_place) (sym (rows-are over.bytes)) ∙ over.ends.stuck);
-  }
+  pub stuck-file : (at : Stuck) → LeavesHost h h' → Over (Err (fault.Stuck at)) → RunsFile (IsStuck at) (tree_of m) types name h h' b b'
+  stuck-file at left over =
+      let rows : List (List ℤ) = rows-of over.parts in record {
+        lines = on-file over.parts (λ bytes. RunsToStuck at (tree_of m) types bytes b b') over.took over.left (record {
+          stuck = unstuck rows (Some at) over.ends.stuck;
+          lines = puts rows over.ends.run.put;
+        });
+        end = tt;
+        left = left;
+      }
 
   pub cut-file : LeavesHost h h' → Over (Err fault.Out) → RunsFile PutFault (tree_of m) types name h h' b b'
   cut-file left over = record {
-    lines = on-file over.bytes (λ bytes. RunsToPutFault (tree_of m) types bytes b b') over.file (record {
+    lines = on-file over.parts (λ bytes. RunsToPutFault (tree_of m) types bytes b b') over.took over.left (record {
       first = record { rows = over.ends.front.rows; behind = over.ends.front.behind; parts = over.ends.front.parts };
-      front = subst (λ (r : Rows). PutsFront b.bytes b'.bytes (ticks_text r.ticks)) (same-rows m no_totals b.bytes over.ends.front.rows start) over.ends.put;
+      front = subst (λ (r : Rows). PutsFront b.bytes b'.bytes (ticks_text r.ticks)) (rows-are over.ends.front.rows) over.ends.put;
     });
+    end = tt;
     left = left;
   }
 
-  pub forget-file : h'.written ≡ h.written → Over (Err fault.Memory) → ForgetsFile (tree_of m) types name h h' b b'
-  forget-file written over = record {
-    written = written;
-    some = inr (on-file over.bytes (λ bytes. RunsToNoMemory (tree_of m) types bytes b b') over.file (record {
-      first = record { rows = over.ends.front.rows; behind = over.ends.front.behind; parts = over.ends.front.parts };
-      count = over.ends.lines;
-      lines = over.ends.put ∙ ap (λ (r : Rows). append_known b.bytes (ticks_text (take over.ends.lines r.ticks))) (same-rows m no_totals b.bytes over.ends.front.rows start);
-    }));
-  }
+  -- the lines of the whole lines among what was taken
+  takes-file : Over (Err fault.Read) → TakesFile (tree_of m) types name h h' b b'
+  takes-file over =
+      let rows : List (List ℤ) = (trace.whole_rows_of over.parts.taken types).rows in record {
+        taken = over.parts.taken;
+        file = there h.files h.rest name opened (λ told is. sym is ∙ over.took);
+        lines = record { good = over.ends.rows_only; free = unstuck rows None over.ends.unstuck; lines = puts rows over.ends.run.put };
+      }
+
+  pub lost-file : Rose h.read_faults h'.read_faults → h'.written ≡ h.written → Over (Err fault.Read) → MissesFile (tree_of m) types name h h' b b'
+  lost-file rose written over = record { rose = rose; written = written; lines = inr (takes-file over) }
+
+  pub forget-file : h'.written ≡ h.written → b'.faults ≡ b.faults → Over (Err fault.Memory) → ForgetsFile h h' b b'
+  forget-file written faults over =
+      let bytes : b'.bytes ≡ b.bytes = ap (λ (s : Standing). s.put) over.ends.0 in record { written = written; silent = same-sink b b' bytes faults }

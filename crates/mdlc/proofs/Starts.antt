@@ -1,9 +1,9 @@
 -- A machine behind its start, by what its making says.
 use Rattle.std.specs.Prelude.{List, ℕ}
 use Rattle.std.proofs.Common.{sym, subst}
-use Rattle.c_tree.specs.Plain.{program_tree}
-use Rattle.c_tree.specs.Reading.{CText}
-use Rattle.c_reader.specs.Checked.{CheckedProgram, IsChecked}
+use Rattle.c_syntax.specs.Plain.{program_tree}
+use Rattle.c_rules.specs.Reading.{CText}
+use Rattle.c_checked.specs.Checked.{CheckedProgram, IsChecked}
 use Rattle.c_reader.specs.Reading.{IsRead}
 use Rattle.c_meaning.specs.States.{MachineState}
 use Rattle.c_meaning.specs.Machines.{IsStarted}

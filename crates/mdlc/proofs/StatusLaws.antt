@@ -1,25 +1,26 @@
 -- To which status a call comes, by the way in which it ended.
-use Rattle.std.proofs.Common.{◌≡◌, ℕ, ◌≤◌, inl, inr, List, length, refl, sym, ap, subst, ◌∙◌, arith}
+use Rattle.std.proofs.Common.{◌≡◌, ℕ, inl, inr, List, refl, sym, ap, subst, ◌∙◌, arith}
 use Rattle.std.specs.Prelude.{Option, Some, None, IsSomeAnd}
 use Rattle.mc_base.specs.Refusals.{plain_refusal}
 use Rattle.mc_fixed.specs.declared.types.FixType.{FixType}
 use Rattle.mc_edge.specs.Files.{File, lookup}
 use Rattle.mc_trace.specs.declared.rows.BadLine.{BadLine}
-use Rattle.c_tree.specs.declared.fault.Stuck.{Stuck}
-use Rattle.c_tree.specs.Tree.{ProgramTree}
-use Rattle.c_tree.specs.Machine.{Outcome, done, stuck}
-use Rattle.c_tree.specs.Rows.{start_run, rows_of_start}
-use Rattle.c_tree.specs.Reading.{CText}
-use Rattle.c_tree.specs.Agreement.{ReadingsAgree}
+use Rattle.c_syntax.specs.declared.fault.Stuck.{Stuck}
+use Rattle.c_syntax.specs.Tree.{ProgramTree}
+use Rattle.c_machine.specs.Machine.{Outcome, done, stuck}
+use Rattle.c_machine.specs.Rows.{start_run, rows_of_start}
+use Rattle.c_reading.specs.Agreement.{ReadingsAgree}
+use Rattle.mc_diagram.specs.ResolvedTable.{diagram_of_table}
 use Rattle.mc_compile.specs.Compilation.{root_types}
 use Rattle.mdlc.specs.declared.tool.Ending.{Ending}
 use Rattle.mdlc.specs.declared.tool.Ending.TheVariants.{Compiled, Ran, Usage, Refused, BadTrace, CodeRefused, CodeTooLong, Stuck as IsStuck, ReadFault, WriteFault, PutFault, NoMemory}
 use Rattle.mdlc.specs.Words.{Asked, Compile, Run, Exec}
 use Rattle.mdlc.specs.Told.{HostTold, SinkTold}
 use Rattle.mdlc.specs.Runs.{HasStepTypes, rows_in, rows_over, bad_line, RunsTo}
-use Rattle.mdlc.specs.Endings.{status_of, OnNamed, code_limit, WritesWhole, RunsModel, ExecutesCode, Finds, EndsAt}
+use Rattle.mdlc.specs.Endings.{status_of, OnBytes, WritesWhole, RunsModel, StartsCode, ExecutesCode, Finds, EndsAt, IsSaidOf, Puts}
 use Rattle.mdlc.specs.Statuses.{IsPlain, IsExactly, ProgramComes, Comes, ComesExactly, OnTold, run_status, status_over}
-use Rattle.mdlc.proofs.Files.{IfTold, there, at_there, told_one, told_two, told_any}
+use Rattle.mdlc.proofs.Files.{IfTold, named, there, at_there, told_one, told_two, told_any}
+use Rattle.mdlc.proofs.EndingLaws.{SaysFound, says_found}
 use Rattle.mdlc.proofs.OneAnswer.{OneVerdict, comes-one}
 
 -- where the files are told, the status that is no fault's is that to which the command comes
@@ -32,20 +33,12 @@ not-plain n a h fault = told_any h.files h.rest (λ fs plain. absurd (fault plai
 
 -- ---- A run of a model's code
 
-run-comes : (e : Ending) (model code trace : List ℕ) (h h' : HostTold) (b b' : SinkTold) → ((types : List FixType) (p : ProgramTree) (lines : List ℕ) → RunsTo e p types lines b b' → status_of e ≡ run_status None (bad_line types lines)) → OnNamed h model (λ bytes. RunsModel e trace code bytes h h' b b') → ComesTo (status_of e) (Run model code trace) h
+run-comes : (e : Ending) (model code trace : List ℕ) (h h' : HostTold) (b b' : SinkTold) → ((types : List FixType) (p : ProgramTree) (lines : List ℕ) → RunsTo e p types lines b b' → status_of e ≡ run_status None (bad_line types lines)) → OnBytes h model (λ bytes. RunsModel e trace code bytes h h' b b') → ComesTo (status_of e) (Run model code trace) h
 run-comes e model code trace h h' b b' by_run found =
-    told_two h.files h.rest model trace {X = λ bytes. WritesWhole code bytes h h'} {P = λ bytes (w : WritesWhole code bytes h h') lines. RunsTo e w.right.code.program (root_types w.diagram) lines b b'} (there h.files h.rest model found (λ bytes m. (m.whole, m.runs))) (λ fs known plain.
-    at_there (lookup model fs) known (λ bytes k. inr (k.0.diagram, k.0.verdict, at_there (lookup trace fs) k.1 (λ lines run. by_run (root_types k.0.diagram) k.0.right.code.program lines run))))
+    told_two h.files h.rest model trace {X = λ bytes. WritesWhole code bytes h h'} {P = λ bytes (w : WritesWhole code bytes h h') lines. RunsTo e w.right.code.program (root_types (diagram_of_table w.resolved)) lines b b'} (there h.files h.rest model (named h model found) (λ bytes m. (m.whole, named h trace m.runs))) (λ fs known plain.
+    at_there (lookup model fs) known (λ bytes k. inr (k.0.resolved, k.0.verdict, at_there (lookup trace fs) k.1 (λ lines run. by_run (root_types (diagram_of_table k.0.resolved)) k.0.right.code.program lines run))))
 
 -- ---- A run of code
-
--- what is known of code that is run
-pub record IsReadAs (code : List ℕ) : Type 0 where
-  pub program : ProgramTree
-  pub types : List FixType
-  pub inputs : HasStepTypes program types
-  pub reading : CText code program
-  pub fits : length code ≤ code_limit
 
 -- a program that is stuck in its start is stuck over each trace
 pub comes-over : (p : ProgramTree) (types : List FixType) (trace : Option (List ℕ)) (n : ℕ) (o : Outcome) → start_run p ≡ o → HasStepTypes p types → IsSomeAnd trace (λ lines. n ≡ status_over p types lines) → ProgramComes p o trace n
@@ -54,9 +47,9 @@ comes-over p types None n (stuck at cells) e k h = absurd h
 comes-over p types (Some lines) n (stuck at cells) e k h =
     h ∙ ap (λ (o : Outcome). run_status (rows_of_start p o (rows_in types lines)).stuck_place (bad_line types lines)) e
 
-exec-comes : (e : Ending) (code trace : List ℕ) (h : HostTold) (b b' : SinkTold) → ((types : List FixType) (p : ProgramTree) (lines : List ℕ) → RunsTo e p types lines b b' → status_of e ≡ status_over p types lines) → OnNamed h code (λ bytes. ExecutesCode e trace bytes h b b') → ComesTo (status_of e) (Exec code trace) h
-exec-comes e code trace h b b' by_run found =
-    told_two h.files h.rest code trace {X = IsReadAs} {P = λ bytes (x : IsReadAs bytes) lines. RunsTo e x.program x.types lines b b'} (there h.files h.rest code found (λ bytes x. (record { program = x.program; types = x.types; inputs = x.inputs; reading = x.reading; fits = x.fits }, x.runs))) (λ fs known plain.
+exec-comes : (e : Ending) (code trace : List ℕ) (h h' : HostTold) (b b' : SinkTold) → ((types : List FixType) (p : ProgramTree) (lines : List ℕ) → RunsTo e p types lines b b' → status_of e ≡ status_over p types lines) → OnBytes h code (λ bytes. ExecutesCode e trace bytes h h' b b') → ComesTo (status_of e) (Exec code trace) h
+exec-comes e code trace h h' b b' by_run found =
+    told_two h.files h.rest code trace {X = StartsCode} {P = λ bytes (x : StartsCode bytes) lines. RunsTo e x.program x.types lines b b'} (there h.files h.rest code (named h code found) (λ bytes x. (x.starts, named h trace x.runs))) (λ fs known plain.
     at_there (lookup code fs) known (λ bytes k. inr (inr (k.0.fits, (k.0.program, k.0.reading, comes-over k.0.program k.0.types (lookup trace fs) (status_of e) (start_run k.0.program) refl k.0.inputs (at_there (lookup trace fs) k.1 (λ lines run. by_run k.0.types k.0.program lines run)))))))
 
 -- ---- Each ending
@@ -67,7 +60,7 @@ over p types lines place bad free good =
 
 compile-comes : (e : Ending) (model code : List ℕ) (h h' : HostTold) (b b' : SinkTold) → Finds e (Some (Compile model code)) h h' b b' → ComesTo (status_of e) (Compile model code) h
 compile-comes (Compiled rows systems functions) model code h h' b b' ends =
-    told_one h.files h.rest model ends.0.model (λ fs known plain. at_there (lookup model fs) known (λ bytes w. inr (w.1.diagram, w.1.verdict, refl)))
+    told_one h.files h.rest model ends.0.model (λ fs known plain. at_there (lookup model fs) known (λ bytes w. inr (w.1.resolved, w.1.verdict, refl)))
 compile-comes (Refused refusal) model code h h' b b' ends =
     told_one h.files h.rest model ends.0.model (λ fs known plain. at_there (lookup model fs) known (λ bytes v. inl (plain_refusal refusal, v, refl)))
 compile-comes ReadFault model code h h' b b' ends = not-plain 5 (Compile model code) h (λ plain. plain.no_read_fault refl)
@@ -103,13 +96,13 @@ stuck-comes at code trace h h' b b' (inl ends) =
     told_one h.files h.rest code ends.code (λ fs known plain. at_there (lookup code fs) known (λ bytes x.
     inr (inr (x.fits, (x.program, x.reading, subst (λ (o : Outcome). ProgramComes x.program o (lookup trace fs) 9) (sym x.start) refl)))))
 stuck-comes at code trace h h' b b' (inr ends) =
-    exec-comes (IsStuck at) code trace h b b' (λ types p lines run. sym (ap (λ (x : Option Stuck). run_status x (bad_line types lines)) run.stuck)) ends.code
+    exec-comes (IsStuck at) code trace h h' b b' (λ types p lines run. sym (ap (λ (x : Option Stuck). run_status x (bad_line types lines)) run.stuck)) ends.code
 
 executing-comes : (e : Ending) (code trace : List ℕ) (h h' : HostTold) (b b' : SinkTold) → Finds e (Some (Exec code trace)) h h' b b' → ComesTo (status_of e) (Exec code trace) h
 executing-comes (Ran totals) code trace h h' b b' ends =
-    exec-comes (Ran totals) code trace h b b' (λ types p lines run. over p types lines None None run.free run.good) ends.code
+    exec-comes (Ran totals) code trace h h' b b' (λ types p lines run. over p types lines None None run.free run.good) ends.code
 executing-comes (BadTrace line) code trace h h' b b' ends =
-    exec-comes (BadTrace line) code trace h b b' (λ types p lines run. over p types lines None (Some line) run.free run.bad) ends.code
+    exec-comes (BadTrace line) code trace h h' b b' (λ types p lines run. over p types lines None (Some line) run.free run.bad) ends.code
 executing-comes (IsStuck at) code trace h h' b b' ends = stuck-comes at code trace h h' b b' ends
 executing-comes (CodeRefused fault) code trace h h' b b' ends =
     told_one h.files h.rest code ends.code (λ fs known plain. at_there (lookup code fs) known (λ bytes x. inr (inl (x.0, (fault, x.1, refl)))))
@@ -135,18 +128,24 @@ told-map None rest h q = tt
 told-map (Some fs) None h q = tt
 told-map (Some fs) (Some xs) h q = q fs h
 
+-- of a status that a fault or want of memory gives nothing is said
+unplain : (s : ℕ) (a : Asked) (h : HostTold) → (IsPlain s → ⊥) → OnTold (Some a) h (ComesExactly s)
+unplain s a h fault =
+    told_any h.files h.rest (λ fs. record { only = λ plain. absurd (fault plain); wherever = λ n also plain. absurd (fault plain) })
+
 pub comes_exactly : OneVerdict → ReadingsAgree → (s : ℕ) (a : Option Asked) (h h' : HostTold) (b b' : SinkTold) → EndsAt s a h h' b b' → OnTold a h (ComesExactly s)
-comes_exactly one agree s None h h' b b' ends = tt
-comes_exactly one agree s (Some a) h h' b b' (e, before, ends, inl (is, whole)) =
-    told-map h.files h.rest (comes-to e a h h' b before ends.finds) (λ fs comes. record {
-      only = λ plain. subst (Comes a fs) (sym is) (comes (subst IsPlain is plain));
-      wherever = λ n also plain. comes-one one agree a fs s n (subst (Comes a fs) (sym is) (comes (subst IsPlain is plain))) also;
-    })
-comes_exactly one agree s (Some a) h h' b b' (e, before, ends, inr (seven, part)) =
-    told_any h.files h.rest (λ fs. record {
-      only = λ plain. absurd (plain.no_put_fault seven);
-      wherever = λ n also plain. absurd (plain.no_put_fault seven);
-    })
+comes_exactly one agree s None h h' b b' e = tt
+comes_exactly one agree s (Some a) h h' b b' e = by e.found e.said e.before e.ends.finds e.says e.puts
+  where
+    by : (found said : Ending) (before : SinkTold) → Finds found (Some a) h h' b before → IsSaidOf said found → Puts said s before b' → OnTold (Some a) h (ComesExactly s)
+    by found said before finds (inl same) (inl (is, whole)) =
+        let status : s ≡ status_of found = is ∙ ap status_of same in
+        told-map h.files h.rest (comes-to found a h h' b before finds) (λ fs comes. record {
+          only = λ plain. subst (Comes a fs) (sym status) (comes (subst IsPlain status plain));
+          wherever = λ n also plain. comes-one one agree a fs s n (subst (Comes a fs) (sym status) (comes (subst IsPlain status plain))) also;
+        })
+    by found said before finds (inr none) (inl (is, whole)) = unplain s a h (λ plain. plain.no_want_of_memory (is ∙ ap status_of none.0))
+    by found said before finds says (inr (seven, part)) = unplain s a h (λ plain. plain.no_put_fault seven)
 
 -- the same of one status that no fault gives
 exactly-by : (n s : ℕ) (a : Option Asked) (h : HostTold) → IsPlain n → OnTold a h (ComesExactly s) → OnTold a h (λ a fs. IsExactly n s (Comes a fs n))
@@ -170,3 +169,49 @@ plain_eight = record { no_read_fault = omega arith; no_write_fault = omega arith
 
 pub plain_nine : IsPlain 9
 plain_nine = record { no_read_fault = omega arith; no_write_fault = omega arith; no_put_fault = omega arith; no_want_of_memory = omega arith }
+
+-- ---- Words that ask for nothing
+
+only-usage : (e : Ending) → status_of e ≡ 2 → e ≡ Usage
+only-usage (Compiled rows systems functions) is = absurd (omega (arith, is))
+only-usage (Ran totals) is = absurd (omega (arith, is))
+only-usage Usage is = refl
+only-usage (Refused refusal) is = absurd (omega (arith, is))
+only-usage (BadTrace line) is = absurd (omega (arith, is))
+only-usage (CodeRefused fault) is = absurd (omega (arith, is))
+only-usage CodeTooLong is = absurd (omega (arith, is))
+only-usage (IsStuck at) is = absurd (omega (arith, is))
+only-usage ReadFault is = absurd (omega (arith, is))
+only-usage WriteFault is = absurd (omega (arith, is))
+only-usage PutFault is = absurd (omega (arith, is))
+only-usage NoMemory is = absurd (omega (arith, is))
+
+nothing-asked : (a : Option Asked) (h h' : HostTold) (b b' : SinkTold) → Finds Usage a h h' b b' → a ≡ None
+nothing-asked None h h' b b' ends = refl
+nothing-asked (Some (Compile model code)) h h' b b' ends = absurd ends.0
+nothing-asked (Some (Run model code trace)) h h' b b' ends = absurd ends
+nothing-asked (Some (Exec code trace)) h h' b b' ends = absurd ends
+
+unasked : (e : Ending) (h h' : HostTold) (b b' : SinkTold) → Finds e None h h' b b' → IsPlain (status_of e) → status_of e ≡ 2
+unasked (Compiled rows systems functions) h h' b b' ends plain = absurd ends.0
+unasked (Ran totals) h h' b b' ends plain = absurd ends.0
+unasked Usage h h' b b' ends plain = refl
+unasked (Refused refusal) h h' b b' ends plain = absurd ends.0
+unasked (BadTrace line) h h' b b' ends plain = absurd ends.0
+unasked (CodeRefused fault) h h' b b' ends plain = absurd ends.0
+unasked CodeTooLong h h' b b' ends plain = absurd ends.0
+unasked (IsStuck at) h h' b b' ends plain = absurd ends.0
+unasked ReadFault h h' b b' ends plain = absurd ends.0
+unasked WriteFault h h' b b' ends plain = absurd ends.0
+unasked PutFault h h' b b' ends plain = absurd ends.0
+unasked NoMemory h h' b b' ends plain = absurd (plain.no_want_of_memory refl)
+
+pub usage : (s : ℕ) (a : Option Asked) (h h' : HostTold) (b b' : SinkTold) → EndsAt s a h h' b b' → IsExactly 2 s (a ≡ None)
+usage s a h h' b b' e = record {
+  only = λ two.
+      let f : SaysFound s a h h' b b' = says_found s a h h' b b' e (λ seven. omega (arith, two, seven)) (λ ten. omega (arith, two, ten)) in
+      nothing-asked a h h' b f.before (subst (λ (x : Ending). Finds x a h h' b f.before) (only-usage f.found (sym f.status ∙ two)) f.ends.finds);
+  wherever = λ none plain.
+      let f : SaysFound s a h h' b b' = says_found s a h h' b b' e plain.no_put_fault plain.no_want_of_memory in
+      f.status ∙ unasked f.found h h' b f.before (subst (λ (x : Option Asked). Finds f.found x h h' b f.before) none f.ends.finds) (subst IsPlain f.status plain);
+}

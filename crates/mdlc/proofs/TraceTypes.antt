@@ -11,9 +11,9 @@ use Rattle.mc_profile.specs.Ports.{input_ports}
 use Rattle.mc_trace.specs.declared.rows.BadWhy.{BadWhy}
 use Rattle.mc_trace.specs.declared.rows.BadWhy.TheVariants.{Many}
 use Rattle.mc_trace.specs.Rows.{Trace, with_row, row_of, rows_behind, most_lines}
-use Rattle.c_emitter.specs.Systems.{input_type_of, IsTrace}
+use Rattle.mc_profile.specs.Traces.{input_type_of, IsTrace}
 use Rattle.mc_compile.specs.Compilation.{root_types}
-use Rattle.mc_runner.proofs.RowWalk.{row_in_types}
+use Rattle.mc_trace.proofs.lemmas.RowWalk.{row_in_types}
 use Rattle.mdlc.specs.Runs.{rows_in}
 
 -- numbers of the types of some ports are numbers for the ports

@@ -3,26 +3,24 @@ use Rattle.std.specs.Prelude.{◌≡◌, ℕ, List, [], ◌⊎◌, Some, ⊤}
 use Rattle.mc_fixed.specs.declared.types.FixType.{FixType}
 use Rattle.mc_edge.specs.Faults.{Rose}
 use Rattle.mc_edge.specs.Files.{add_file}
-use Rattle.c_tree.specs.declared.fault.Stuck.{Stuck}
-use Rattle.c_tree.specs.Tree.{ProgramTree}
-use Rattle.c_tree.specs.Cells.{Cells}
-use Rattle.c_tree.specs.Machine.{After, done, stuck}
-use Rattle.c_tree.specs.Rows.{start_run}
-use Rattle.c_tree.specs.Reading.{CText, CFaultOf}
+use Rattle.c_syntax.specs.Tree.{ProgramTree}
+use Rattle.c_machine.specs.Cells.{Cells}
+use Rattle.c_machine.specs.Machine.{After, done, stuck}
+use Rattle.c_machine.specs.Rows.{start_run}
+use Rattle.c_rules.specs.Reading.{CText, CFaultOf}
 use Rattle.c_meaning.specs.States.{MachineState, tree_of, fields_of}
 use Rattle.mc_compile.specs.Compilation.{Compilation, IsCompiledFrom}
 use Rattle.mdlc.specs.declared.tool.Ending.{Ending}
 use Rattle.mdlc.specs.declared.tool.Ending.TheVariants.{Compiled, Ran, BadTrace, CodeRefused, Stuck as IsStuck, ReadFault, PutFault, NoMemory}
 use Rattle.mdlc.specs.Told.{HostTold, SinkTold, NoFault}
-use Rattle.mdlc.specs.Runs.{HasStepTypes, rows_over, RunsTo}
-use Rattle.mdlc.specs.Endings.{OnNamed, PutsNothing, EndsCompile, LeavesHost}
+use Rattle.mdlc.specs.Runs.{HasStepTypes, RunsTo}
+use Rattle.mdlc.specs.Endings.{OnNamed, OnBytes, PutsNothing, EndsCompile, LeavesHost, ReadsToEnd, TakesFile}
 
 -- ---- Compiling a model into a file
 
 -- the model of this name was compiled, and its code written whole; of what the host tells to read, nothing is left
 pub record WritesCompiled (c : Compilation) (model_name code_name : List ℕ) (h h' : HostTold) : Type 0 where
-  pub compiled : (bytes : List ℕ) × IsCompiledFrom bytes c
-  pub model : OnNamed h model_name (λ bytes. IsCompiledFrom bytes c)
+  pub model : OnBytes h model_name (λ bytes. IsCompiledFrom bytes c)
   pub written : h'.written ≡ add_file h.written code_name c.code
   pub files : h'.files ≡ h.files
   pub told : OnNamed h model_name (λ _. h'.rest ≡ Some [])
@@ -56,31 +54,27 @@ NotStarted bytes _ = ⊥
 
 -- the trace of this name was run, up to an ending
 pub record RunsFile (e : Ending) (p : ProgramTree) (types : List FixType) (trace : List ℕ) (h h' : HostTold) (b b' : SinkTold) : Type 0 where
-  pub lines : OnNamed h trace (λ bytes. RunsTo e p types bytes b b')
+  pub lines : OnBytes h trace (λ bytes. RunsTo e p types bytes b b')
+  pub end : ReadsToEnd e h'
   pub left : LeavesHost h h'
 
--- and was stuck over some bytes, whether the host tells its files or not
-pub record SticksOverFile (at : Stuck) (p : ProgramTree) (types : List FixType) (trace : List ℕ) (h h' : HostTold) (b b' : SinkTold) : Type 0 where
-  pub runs : RunsFile (IsStuck at) p types trace h h' b b'
-  pub over : (bytes : List ℕ) × ((rows_over p types bytes).stuck_place ≡ Some at)
-
--- the trace can't be read, and nothing was put
-pub record MissesFile (h h' : HostTold) (b b' : SinkTold) : Type 0 where
+-- a fault of reading the trace: it isn't opened, and nothing was put, or the lines of all whole lines among what was taken were
+pub record MissesFile (p : ProgramTree) (types : List FixType) (trace : List ℕ) (h h' : HostTold) (b b' : SinkTold) : Type 0 where
   pub rose : Rose h.read_faults h'.read_faults
   pub written : h'.written ≡ h.written
-  pub silent : PutsNothing b b'
+  pub lines : PutsNothing b b' ⊎ TakesFile p types trace h h' b b'
 
--- memory ran out before the run or in it
-pub record ForgetsFile (p : ProgramTree) (types : List FixType) (trace : List ℕ) (h h' : HostTold) (b b' : SinkTold) : Type 0 where
+-- memory ran out, before anything was read or put
+pub record ForgetsFile (h h' : HostTold) (b b' : SinkTold) : Type 0 where
   pub written : h'.written ≡ h.written
-  pub some : PutsNothing b b' ⊎ OnNamed h trace (λ bytes. RunsTo NoMemory p types bytes b b')
+  pub silent : PutsNothing b b'
 
 -- how a run of a program over the trace of this name ends
 abbrev pub RunEnds : Ending → ProgramTree → List FixType → List ℕ → HostTold → HostTold → SinkTold → SinkTold → Type 0
 RunEnds (Ran totals) p types trace h h' b b' = RunsFile (Ran totals) p types trace h h' b b'
 RunEnds (BadTrace line) p types trace h h' b b' = RunsFile (BadTrace line) p types trace h h' b b'
-RunEnds (IsStuck at) p types trace h h' b b' = SticksOverFile at p types trace h h' b b'
+RunEnds (IsStuck at) p types trace h h' b b' = RunsFile (IsStuck at) p types trace h h' b b'
 RunEnds PutFault p types trace h h' b b' = RunsFile PutFault p types trace h h' b b'
-RunEnds ReadFault p types trace h h' b b' = MissesFile h h' b b'
-RunEnds NoMemory p types trace h h' b b' = ForgetsFile p types trace h h' b b'
+RunEnds ReadFault p types trace h h' b b' = MissesFile p types trace h h' b b'
+RunEnds NoMemory p types trace h h' b b' = ForgetsFile h h' b b'
 RunEnds _ p types trace h h' b b' = ⊥

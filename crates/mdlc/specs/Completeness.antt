@@ -3,8 +3,9 @@ use Rattle.std.specs.Prelude.{◌≡◌, ◌⊎◌, ℕ, ◌≤◌, Bool, true, 
 use Rattle.mc_fixed.specs.declared.types.FixType.{FixType}
 use Rattle.mc_edge.specs.Files.{File, lookup}
 use Rattle.mc_diagram.specs.Diagram.{Diagram}
-use Rattle.c_tree.specs.Tree.{ProgramTree}
-use Rattle.c_tree.specs.Reading.{CText}
+use Rattle.mc_diagram.specs.ResolvedTable.{ResolvedTable, diagram_of_table}
+use Rattle.c_syntax.specs.Tree.{ProgramTree}
+use Rattle.c_rules.specs.Reading.{CText}
 use Rattle.mc_compile.specs.Verdict.{HasVerdict, Accepted}
 use Rattle.mc_compile.specs.Compilation.{root_types}
 use Rattle.mdlc.specs.declared.tool.Ending.{Ending}
@@ -20,7 +21,7 @@ use Rattle.mdlc.specs.Headline.{Calm}
 
 -- the model of these bytes is accepted, and P holds of its diagram
 abbrev pub OnAccepted : List ℕ → (Diagram → Type 0) → Type 0
-OnAccepted model P = (d : Diagram) × HasVerdict model (Accepted d) × P d
+OnAccepted model P = (r : ResolvedTable) × HasVerdict model (Accepted r) × P (diagram_of_table r)
 
 -- no line of the trace is bad, and no tick over it stuck
 pub record RunsFreely (p : ProgramTree) (types : List FixType) (trace : List ℕ) : Type 0 where

@@ -1,18 +1,18 @@
 -- How a call of the tool may end: for each ending what was found, what was written and what is put.
-use Rattle.std.specs.Prelude.{◌≡◌, ◌≢◌, ℕ, ◌<◌, ◌≤◌, ◌⊎◌, List, [], length, Option, Some, None, false}
-use Rattle.std.specs.Io.KnownBytes.{append_known}
+use Rattle.std.specs.Prelude.{◌≡◌, ◌≢◌, ℕ, ◌<◌, ◌≤◌, ◌⊎◌, List, [], length, Option, Some, None, false, ⊤}
+use Rattle.std.specs.Io.KnownBytes.{append_known, prepend_known, IsAtEnd}
 use Rattle.mc_base.specs.Refusals.{PlainRefusal, plain_refusal, refusal_line}
 use Rattle.mc_fixed.specs.declared.types.FixType.{FixType}
 use Rattle.mc_edge.specs.Faults.{Rose}
 use Rattle.mc_edge.specs.Files.{OnFile, add_file, PutsFront, WritesFront}
-use Rattle.mc_diagram.specs.Diagram.{Diagram}
-use Rattle.c_tree.specs.declared.fault.CFault.{CFault}
-use Rattle.c_tree.specs.declared.fault.Stuck.{Stuck}
-use Rattle.c_tree.specs.Tree.{ProgramTree}
-use Rattle.c_tree.specs.Cells.{Cells}
-use Rattle.c_tree.specs.Machine.{After, done, stuck}
-use Rattle.c_tree.specs.Rows.{start_run}
-use Rattle.c_tree.specs.Reading.{CText, CFaultOf}
+use Rattle.mc_diagram.specs.ResolvedTable.{ResolvedTable, diagram_of_table}
+use Rattle.c_syntax.specs.declared.fault.CFault.{CFault}
+use Rattle.c_syntax.specs.declared.fault.Stuck.{Stuck}
+use Rattle.c_syntax.specs.Tree.{ProgramTree}
+use Rattle.c_machine.specs.Cells.{Cells}
+use Rattle.c_machine.specs.Machine.{After, done, stuck}
+use Rattle.c_machine.specs.Rows.{start_run}
+use Rattle.c_rules.specs.Reading.{CText, CFaultOf}
 use Rattle.mc_compile.specs.Verdict.{HasVerdict, Accepted, Refused as IsRefused}
 use Rattle.mc_compile.specs.Compilation.{Compilation, root_types, IsCompilationOf, IsCompiledFrom}
 use Rattle.mdlc.specs.declared.tool.Ending.{Ending}
@@ -20,7 +20,7 @@ use Rattle.mdlc.specs.declared.tool.Ending.TheVariants.{Compiled, Ran, Usage, Re
 use Rattle.mdlc.specs.Words.{Asked, Compile, Run, Exec}
 use Rattle.mdlc.specs.Texts.{compiled_line, totals_line, usage_line, bad_line_line, code_refused_line, long_code_line, stuck_line, read_fault_line, write_fault_line, no_memory_line}
 use Rattle.mdlc.specs.Told.{HostTold, SinkTold, NoFault}
-use Rattle.mdlc.specs.Runs.{HasStepTypes, RunsTo}
+use Rattle.mdlc.specs.Runs.{HasStepTypes, RunsTaken, RunsTo}
 
 -- the status of an ending
 abbrev pub status_of : Ending → ℕ
@@ -57,6 +57,12 @@ text_of NoMemory = no_memory_line
 -- P holds of the bytes of the file of this name, where the host tells its files
 abbrev pub OnNamed : HostTold → List ℕ → (List ℕ → Type 0) → Type 0
 OnNamed h name P = OnFile h.files h.rest name P
+
+-- P holds of some bytes, which are those of the file of this name where the host tells its files
+pub record OnBytes (h : HostTold) (name : List ℕ) (P : List ℕ → Type 0) : Type 0 where
+  pub bytes : List ℕ
+  pub file : OnNamed h name (λ told. told ≡ bytes)
+  pub holds : P bytes
 
 -- the model was compiled, with these counts, and the code written whole
 abbrev pub WritesCode : (rows systems functions : ℕ) → (code model : List ℕ) → HostTold → HostTold → Type 0
@@ -107,44 +113,69 @@ EndsCompile WriteFault model code h h' = EndsWriteFault model code h h'
 EndsCompile NoMemory model code h h' = EndsNoMemory model code h h'
 EndsCompile _ model code h h' = ⊥
 
+-- ---- Running over a trace
+
+-- where a whole trace was run, nothing of it is left to read
+abbrev pub ReadsToEnd : Ending → HostTold → Type 0
+ReadsToEnd (Ran totals) h' = IsAtEnd h'.rest
+ReadsToEnd (Compiled rows systems functions) h' = ⊤
+ReadsToEnd Usage h' = ⊤
+ReadsToEnd (Refused refusal) h' = ⊤
+ReadsToEnd (BadTrace line) h' = ⊤
+ReadsToEnd (CodeRefused fault) h' = ⊤
+ReadsToEnd CodeTooLong h' = ⊤
+ReadsToEnd (IsStuck at) h' = ⊤
+ReadsToEnd ReadFault h' = ⊤
+ReadsToEnd WriteFault h' = ⊤
+ReadsToEnd PutFault h' = ⊤
+ReadsToEnd NoMemory h' = ⊤
+
+-- bytes were taken of the trace of this name, and the lines of all whole lines among them put
+pub record TakesFile (p : ProgramTree) (types : List FixType) (trace : List ℕ) (h h' : HostTold) (b b' : SinkTold) : Type 0 where
+  pub taken : List ℕ
+  pub file : OnNamed h trace (λ told. Some told ≡ prepend_known taken h'.rest)
+  pub lines : RunsTaken p types taken b b'
+
 -- ---- Running the code of a model
 
 -- a model was compiled, and its code written whole
 pub record WritesWhole (code model : List ℕ) (h h' : HostTold) : Type 0 where
-  pub diagram : Diagram
-  pub verdict : HasVerdict model (Accepted diagram)
+  pub resolved : ResolvedTable
+  pub verdict : HasVerdict model (Accepted resolved)
   pub compilation : Compilation
-  pub right : IsCompilationOf diagram compilation
+  pub right : IsCompilationOf (diagram_of_table resolved) compilation
   pub written : h'.written ≡ add_file h.written code compilation.code
 
 -- the model was compiled, its code written whole, and the program that it is run over the trace
 pub record RunsModel (e : Ending) (trace code model : List ℕ) (h h' : HostTold) (b b' : SinkTold) : Type 0 where
   pub whole : WritesWhole code model h h'
-  pub runs : OnNamed h trace (λ bytes. RunsTo e whole.right.code.program (root_types whole.diagram) bytes b b')
+  pub runs : OnBytes h trace (λ bytes. RunsTo e whole.right.code.program (root_types (diagram_of_table whole.resolved)) bytes b b')
+  pub end : ReadsToEnd e h'
 
 -- the same where nothing failed, and where no fault of reading or writing was counted
 pub record EndsRun (e : Ending) (model_name code_name trace_name : List ℕ) (h h' : HostTold) (b b' : SinkTold) : Type 0 where
-  pub model : OnNamed h model_name (λ bytes. RunsModel e trace_name code_name bytes h h' b b')
+  pub model : OnBytes h model_name (λ bytes. RunsModel e trace_name code_name bytes h h' b b')
   pub no_fault : NoFault h h'
 
--- a fault of reading the model, or the trace behind the code
-abbrev pub EndsRunUnread : (model code trace : List ℕ) → HostTold → HostTold → Type 0
-EndsRunUnread model code trace h h' =
-    EndsReadFault model h h' ⊎ (Rose h.read_faults h'.read_faults × OnNamed h model (λ bytes. WritesWhole code bytes h h'))
+-- the model was compiled, its code written whole, and the trace couldn't be opened, or not read to its end
+pub record LosesTrace (trace code model : List ℕ) (h h' : HostTold) (b b' : SinkTold) : Type 0 where
+  pub whole : WritesWhole code model h h'
+  pub lines : PutsNothing b b' ⊎ TakesFile whole.right.code.program (root_types (diagram_of_table whole.resolved)) trace h h' b b'
 
--- memory ran out before the code was written whole, or behind some lines of the run
-abbrev pub EndsRunNoMemory : (model code trace : List ℕ) → HostTold → HostTold → SinkTold → SinkTold → Type 0
-EndsRunNoMemory model code trace h h' b b' =
-    (EndsNoMemory model code h h' × PutsNothing b b') ⊎ OnNamed h model (λ bytes. RunsModel NoMemory trace code bytes h h' b b')
+-- a fault of reading the model, or the trace behind the code
+abbrev pub EndsRunUnread : (model code trace : List ℕ) → HostTold → HostTold → SinkTold → SinkTold → Type 0
+EndsRunUnread model code trace h h' b b' =
+    (EndsReadFault model h h' × PutsNothing b b')
+    ⊎ (Rose h.read_faults h'.read_faults × OnBytes h model (λ bytes. LosesTrace trace code bytes h h' b b'))
 
 abbrev pub EndsRunning : Ending → (model code trace : List ℕ) → HostTold → HostTold → SinkTold → SinkTold → Type 0
 EndsRunning (Ran totals) model code trace h h' b b' = EndsRun (Ran totals) model code trace h h' b b'
 EndsRunning (BadTrace line) model code trace h h' b b' = EndsRun (BadTrace line) model code trace h h' b b'
-EndsRunning PutFault model code trace h h' b b' = OnNamed h model (λ bytes. RunsModel PutFault trace code bytes h h' b b')
+EndsRunning PutFault model code trace h h' b b' = OnBytes h model (λ bytes. RunsModel PutFault trace code bytes h h' b b')
 EndsRunning (Refused refusal) model code trace h h' b b' = EndsRefused (plain_refusal refusal) model h h' × PutsNothing b b'
-EndsRunning ReadFault model code trace h h' b b' = EndsRunUnread model code trace h h' × PutsNothing b b'
+EndsRunning ReadFault model code trace h h' b b' = EndsRunUnread model code trace h h' b b'
 EndsRunning WriteFault model code trace h h' b b' = EndsWriteFault model code h h' × PutsNothing b b'
-EndsRunning NoMemory model code trace h h' b b' = EndsRunNoMemory model code trace h h' b b'
+EndsRunning NoMemory model code trace h h' b b' = EndsNoMemory model code h h' × PutsNothing b b'
 EndsRunning _ model code trace h h' b b' = ⊥
 
 -- ---- Executing code
@@ -153,8 +184,8 @@ EndsRunning _ model code trace h h' b b' = ⊥
 abbrev pub code_limit : ℕ
 code_limit = 536_870_912
 
--- the bytes are not too many, and the text of a program, which isn't stuck in its start and is run over the trace
-pub record ExecutesCode (e : Ending) (trace code : List ℕ) (h : HostTold) (b b' : SinkTold) : Type 0 where
+-- the bytes are not too many, and the text of a program, which isn't stuck in its start
+pub record StartsCode (code : List ℕ) : Type 0 where
   pub fits : length code ≤ code_limit
   pub program : ProgramTree
   pub reading : CText code program
@@ -162,7 +193,17 @@ pub record ExecutesCode (e : Ending) (trace code : List ℕ) (h : HostTold) (b b
   pub start : start_run program ≡ done after
   pub types : List FixType
   pub inputs : HasStepTypes program types
-  pub runs : OnNamed h trace (λ bytes. RunsTo e program types bytes b b')
+
+-- and is run over the trace
+pub record ExecutesCode (e : Ending) (trace code : List ℕ) (h h' : HostTold) (b b' : SinkTold) : Type 0 where
+  pub starts : StartsCode code
+  pub runs : OnBytes h trace (λ bytes. RunsTo e starts.program starts.types bytes b b')
+  pub end : ReadsToEnd e h'
+
+-- and whose trace couldn't be opened, or not read to its end
+pub record LosesTraceOf (trace code : List ℕ) (h h' : HostTold) (b b' : SinkTold) : Type 0 where
+  pub starts : StartsCode code
+  pub lines : PutsNothing b b' ⊎ TakesFile starts.program starts.types trace h h' b b'
 
 -- the bytes are not too many, and no text of a program
 abbrev pub IsUnread : CFault → List ℕ → Type 0
@@ -182,7 +223,7 @@ pub record LeavesHost (h h' : HostTold) : Type 0 where
   pub no_fault : NoFault h h'
 
 pub record EndsExec (e : Ending) (code_name trace_name : List ℕ) (h h' : HostTold) (b b' : SinkTold) : Type 0 where
-  pub code : OnNamed h code_name (λ bytes. ExecutesCode e trace_name bytes h b b')
+  pub code : OnBytes h code_name (λ bytes. ExecutesCode e trace_name bytes h h' b b')
   pub left : LeavesHost h h'
 
 -- the code is such, and nothing was put
@@ -195,24 +236,21 @@ abbrev pub EndsExecStuck : Stuck → (code trace : List ℕ) → HostTold → Ho
 EndsExecStuck at code trace h h' b b' =
     EndsAtCode code (IsStuckAtStart at) h h' b b' ⊎ EndsExec (IsStuck at) code trace h h' b b'
 
--- memory ran out before the run or behind some of its lines, and nothing was written
-abbrev pub EndsExecNoMemory : (code trace : List ℕ) → HostTold → HostTold → SinkTold → SinkTold → Type 0
-EndsExecNoMemory code trace h h' b b' =
-    (h'.written ≡ h.written) × (PutsNothing b b' ⊎ OnNamed h code (λ bytes. ExecutesCode NoMemory trace bytes h b b'))
-
--- a fault of reading the code, or the trace behind it
-abbrev pub EndsExecUnread : HostTold → HostTold → SinkTold → SinkTold → Type 0
-EndsExecUnread h h' b b' = Rose h.read_faults h'.read_faults × (h'.written ≡ h.written) × PutsNothing b b'
+-- A fault of reading the code, or of the trace behind it: the trace isn't looked for before the code was read and started.
+abbrev pub EndsExecUnread : (code trace : List ℕ) → HostTold → HostTold → SinkTold → SinkTold → Type 0
+EndsExecUnread code trace h h' b b' =
+    (EndsReadFault code h h' × PutsNothing b b')
+    ⊎ (Rose h.read_faults h'.read_faults × (h'.written ≡ h.written) × OnBytes h code (λ bytes. LosesTraceOf trace bytes h h' b b'))
 
 abbrev pub EndsExecuting : Ending → (code trace : List ℕ) → HostTold → HostTold → SinkTold → SinkTold → Type 0
 EndsExecuting (Ran totals) code trace h h' b b' = EndsExec (Ran totals) code trace h h' b b'
 EndsExecuting (BadTrace line) code trace h h' b b' = EndsExec (BadTrace line) code trace h h' b b'
-EndsExecuting PutFault code trace h h' b b' = (h'.written ≡ h.written) × OnNamed h code (λ bytes. ExecutesCode PutFault trace bytes h b b')
+EndsExecuting PutFault code trace h h' b b' = (h'.written ≡ h.written) × OnBytes h code (λ bytes. ExecutesCode PutFault trace bytes h h' b b')
 EndsExecuting (CodeRefused fault) code trace h h' b b' = EndsAtCode code (IsUnread fault) h h' b b'
 EndsExecuting CodeTooLong code trace h h' b b' = EndsAtCode code (λ bytes. code_limit < length bytes) h h' b b'
 EndsExecuting (IsStuck at) code trace h h' b b' = EndsExecStuck at code trace h h' b b'
-EndsExecuting ReadFault code trace h h' b b' = EndsExecUnread h h' b b'
-EndsExecuting NoMemory code trace h h' b b' = EndsExecNoMemory code trace h h' b b'
+EndsExecuting ReadFault code trace h h' b b' = EndsExecUnread code trace h h' b b'
+EndsExecuting NoMemory code trace h h' b b' = (h'.written ≡ h.written) × PutsNothing b b'
 EndsExecuting _ code trace h h' b b' = ⊥
 
 -- ---- All commands
@@ -262,7 +300,12 @@ IsSaidOf said found = (said ≡ found) ⊎ ((said ≡ NoMemory) × (found ≢ Pu
 abbrev pub Puts : Ending → ℕ → SinkTold → SinkTold → Type 0
 Puts e s b b' = ((s ≡ status_of e) × PutsWhole (text_of e) b b') ⊎ ((s ≡ 7) × PutsPart (text_of e) b b')
 
--- A call that gave this status ended in some way, which says what the words ask for, what was found, written and put;
--- `before` is the sink behind the lines of the ticks.
-abbrev pub EndsAt : ℕ → Option Asked → HostTold → HostTold → SinkTold → SinkTold → Type 0
-EndsAt s a h h' b b' = (e : Ending) × (before : SinkTold) × Ends e a h h' b before × Puts e s before b'
+-- A call that gave this status ended in some way: what the words ask for, what was found and written, and what was put up to
+-- `before`, the sink behind the lines of the ticks. Behind them the text of that ending was put, or that for want of memory.
+pub record EndsAt (s : ℕ) (a : Option Asked) (h h' : HostTold) (b b' : SinkTold) : Type 0 where
+  pub found : Ending
+  pub said : Ending
+  pub before : SinkTold
+  pub ends : Ends found a h h' b before
+  pub says : IsSaidOf said found
+  pub puts : Puts said s before b'

@@ -6,14 +6,15 @@ use Rattle.mc_fixed.specs.declared.types.FixType.{FixType}
 use Rattle.mc_edge.specs.Faults.{IsCalm}
 use Rattle.mc_edge.specs.Files.{add_file}
 use Rattle.mc_diagram.specs.Diagram.{Diagram}
+use Rattle.mc_diagram.specs.ResolvedTable.{ResolvedTable, diagram_of_table}
 use Rattle.mc_trace.specs.declared.rows.BadLine.{BadLine}
-use Rattle.c_tree.specs.declared.fault.CFault.{CFault}
-use Rattle.c_tree.specs.declared.fault.Stuck.{Stuck}
-use Rattle.c_tree.specs.Tree.{ProgramTree}
-use Rattle.c_tree.specs.Cells.{Cells}
-use Rattle.c_tree.specs.Machine.{After, done, stuck}
-use Rattle.c_tree.specs.Rows.{TickRow, start_run}
-use Rattle.c_tree.specs.Reading.{CText, CFaultOf}
+use Rattle.c_syntax.specs.declared.fault.CFault.{CFault}
+use Rattle.c_syntax.specs.declared.fault.Stuck.{Stuck}
+use Rattle.c_syntax.specs.Tree.{ProgramTree}
+use Rattle.c_machine.specs.Cells.{Cells}
+use Rattle.c_machine.specs.Machine.{After, done, stuck}
+use Rattle.c_machine.specs.Rows.{TickRow, start_run}
+use Rattle.c_rules.specs.Reading.{CText, CFaultOf}
 use Rattle.c_emitter.specs.Code.{GivesOutputs}
 use Rattle.mc_compile.specs.Verdict.{HasVerdict, Accepted, Refused}
 use Rattle.mc_compile.specs.Compilation.{Compilation, root_types, IsCompilationOf}
@@ -58,7 +59,7 @@ pub record CompilesAccepted (d : Diagram) (s : ℕ) (code : List ℕ) (h h' : Ho
 
 -- what a call does with the bytes of its model
 pub record Compiles (model : List ℕ) (s : ℕ) (code : List ℕ) (h h' : HostTold) (b b' : SinkTold) : Type 0 where
-  pub accepted : (d : Diagram) → HasVerdict model (Accepted d) → CompilesAccepted d s code h h' b b'
+  pub accepted : (r : ResolvedTable) → HasVerdict model (Accepted r) → CompilesAccepted (diagram_of_table r) s code h h' b b'
   pub refused : (refusal : PlainRefusal) → HasVerdict model (Refused refusal) → TellsRefusal refusal s h h' b b'
 
 -- ---- `run`
@@ -90,7 +91,7 @@ pub record RunsAccepted (d : Diagram) (trace : List ℕ) (s : ℕ) (code : List 
 
 -- what a call does with the bytes of its model
 pub record Runs (model trace : List ℕ) (s : ℕ) (code : List ℕ) (h h' : HostTold) (b b' : SinkTold) : Type 0 where
-  pub accepted : (d : Diagram) → HasVerdict model (Accepted d) → IfFile h trace (λ lines. RunsAccepted d lines s code h h' b b')
+  pub accepted : (r : ResolvedTable) → HasVerdict model (Accepted r) → IfFile h trace (λ lines. RunsAccepted (diagram_of_table r) lines s code h h' b b')
   pub refused : (refusal : PlainRefusal) → HasVerdict model (Refused refusal) → TellsRefusal refusal s h h' b b'
 
 -- ---- `exec`

@@ -1,19 +1,19 @@
 -- What a program gives over the rows of a trace, and what of it is put.
-use Rattle.std.specs.Prelude.{◌≡◌, ℕ, ℤ, List, ◌++◌, take, Option, Some, None, slice_get, codes}
+use Rattle.std.specs.Prelude.{◌≡◌, ℕ, ℤ, List, ◌++◌, Option, Some, None, slice_get, codes}
 use Rattle.std.specs.Io.KnownBytes.{append_known}
 use Rattle.mc_fixed.specs.declared.types.FixType.{FixType}
 use Rattle.mc_edge.specs.Files.{PutsFront}
 use Rattle.mc_trace.specs.declared.rows.BadLine.{BadLine}
 use Rattle.mc_trace.specs.Rows as trace
-use Rattle.c_tree.specs.declared.fault.Stuck.{Stuck}
-use Rattle.c_tree.specs.Tree.{ProcedureTree, ProgramTree}
-use Rattle.c_tree.specs.Rows.{TickRow, Rows, c_rows}
-use Rattle.c_reader.specs.Checked.{AreInputsOf}
+use Rattle.c_syntax.specs.declared.fault.Stuck.{Stuck}
+use Rattle.c_syntax.specs.Tree.{ProcedureTree, ProgramTree}
+use Rattle.c_machine.specs.Rows.{TickRow, Rows, c_rows}
+use Rattle.c_checked.specs.Checked.{AreInputsOf}
 use Rattle.mc_runner.specs.declared.outcome.Totals.{Totals}
 use Rattle.mc_runner.specs.Texts.{ticks_text}
 use Rattle.mc_runner.specs.Runs.{totals_of}
 use Rattle.mdlc.specs.declared.tool.Ending.{Ending}
-use Rattle.mdlc.specs.declared.tool.Ending.TheVariants.{Ran, BadTrace, Stuck as IsStuck, PutFault, NoMemory}
+use Rattle.mdlc.specs.declared.tool.Ending.TheVariants.{Ran, BadTrace, Stuck as IsStuck, PutFault}
 use Rattle.mdlc.specs.Told.{SinkTold}
 
 -- the types are those of the numbers that `root_step` takes
@@ -68,11 +68,11 @@ pub record RunsToPutFault (p : ProgramTree) (types : List FixType) (bytes : List
   pub first : FirstRows types bytes
   pub front : PutsFront b.bytes b'.bytes (ticks_text (c_rows p first.rows).ticks)
 
--- some first rows were run, and some of their lines put, whole
-pub record RunsToNoMemory (p : ProgramTree) (types : List FixType) (bytes : List ℕ) (b b' : SinkTold) : Type 0 where
-  pub first : FirstRows types bytes
-  pub count : ℕ
-  pub lines : PutsTicks (take count (c_rows p first.rows).ticks) b b'
+-- each whole line among the bytes that were taken is a row that was run
+pub record RunsTaken (p : ProgramTree) (types : List FixType) (taken : List ℕ) (b b' : SinkTold) : Type 0 where
+  pub good : (trace.whole_rows_of taken types).bad ≡ None
+  pub free : (c_rows p (trace.whole_rows_of taken types).rows).stuck_place ≡ None
+  pub lines : PutsTicks (c_rows p (trace.whole_rows_of taken types).rows).ticks b b'
 
 -- how a run over a trace may end, and what lines were put by then
 abbrev pub RunsTo : Ending → ProgramTree → List FixType → List ℕ → (b b' : SinkTold) → Type 0
@@ -80,5 +80,4 @@ RunsTo (Ran totals) p types bytes b b' = RunsWhole totals p types bytes b b'
 RunsTo (BadTrace line) p types bytes b b' = RunsToBadLine line p types bytes b b'
 RunsTo (IsStuck at) p types bytes b b' = RunsToStuck at p types bytes b b'
 RunsTo PutFault p types bytes b b' = RunsToPutFault p types bytes b b'
-RunsTo NoMemory p types bytes b b' = RunsToNoMemory p types bytes b b'
 RunsTo _ p types bytes b b' = ⊥

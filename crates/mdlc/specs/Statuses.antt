@@ -4,13 +4,14 @@ use Rattle.mc_base.specs.Refusals.{PlainRefusal}
 use Rattle.mc_fixed.specs.declared.types.FixType.{FixType}
 use Rattle.mc_edge.specs.Files.{File, lookup}
 use Rattle.mc_diagram.specs.Diagram.{Diagram}
+use Rattle.mc_diagram.specs.ResolvedTable.{ResolvedTable, diagram_of_table}
 use Rattle.mc_trace.specs.declared.rows.BadLine.{BadLine}
-use Rattle.c_tree.specs.declared.fault.CFault.{CFault}
-use Rattle.c_tree.specs.declared.fault.Stuck.{Stuck}
-use Rattle.c_tree.specs.Tree.{ProgramTree}
-use Rattle.c_tree.specs.Machine.{Outcome, done, stuck}
-use Rattle.c_tree.specs.Rows.{start_run}
-use Rattle.c_tree.specs.Reading.{CText, CFaultOf}
+use Rattle.c_syntax.specs.declared.fault.CFault.{CFault}
+use Rattle.c_syntax.specs.declared.fault.Stuck.{Stuck}
+use Rattle.c_syntax.specs.Tree.{ProgramTree}
+use Rattle.c_machine.specs.Machine.{Outcome, done, stuck}
+use Rattle.c_machine.specs.Rows.{start_run}
+use Rattle.c_rules.specs.Reading.{CText, CFaultOf}
 use Rattle.mc_compile.specs.Verdict.{HasVerdict, Accepted, Refused}
 use Rattle.mc_compile.specs.Compilation.{root_types}
 use Rattle.mdlc.specs.Words.{Asked, Compile, Run, Exec}
@@ -36,7 +37,7 @@ pub record IsExactly (n s : ℕ) (P : Type 0) : Type 0 where
 abbrev pub ModelComes : List ℕ → ℕ → (Diagram → Type 0) → Type 0
 ModelComes model n P =
     ((refusal : PlainRefusal) × HasVerdict model (Refused refusal) × (n ≡ 3))
-    ⊎ ((d : Diagram) × HasVerdict model (Accepted d) × P d)
+    ⊎ ((r : ResolvedTable) × HasVerdict model (Accepted r) × P (diagram_of_table r))
 
 -- the status of a run, by the place where it is stuck and by the first bad line of its trace
 abbrev pub run_status : Option Stuck → Option BadLine → ℕ

@@ -1,6 +1,6 @@
 // The whole tool, over any host and sink.
 
-use c_tree::{CFault, Stuck};
+use c_syntax::{CFault, Stuck};
 use mc_base::Refusal;
 use mc_runner::Totals;
 use mc_trace::BadLine;

@@ -1,6 +1,6 @@
 use c_parser::parse_c;
 use c_reader::{ReadCFault, read_c};
-use c_tree::{CFault, CKind};
+use c_syntax::{CFault, CKind};
 use std::alloc::{AllocError, Global};
 use std::test::Fail;
 

@@ -1,3 +1,5 @@
+ghost use Rattle.std.specs.Prelude.{◌<◌};
+
 use super::{models, words_of};
 use crate::tool::{run_surely, run_tool};
 use mc_edge::{MemHost, MemSink};
@@ -40,9 +42,23 @@ fn called(
     fails: &[u64],
     put_fails: &[u64],
 ) -> Result<Put, AllocError> {
+    called_in_pieces(alloc, line, files, fails, put_fails, 4096)
+}
+
+// The same, where a call of the host or of the sink moves so many bytes at most.
+fn called_in_pieces(
+    alloc: Global,
+    line: &str,
+    files: Files<'_>,
+    fails: &[u64],
+    put_fails: &[u64],
+    piece: usize,
+) -> Result<Put, AllocError>
+    requires { 0 < piece }
+{
     let words = words_of(alloc, line)?;
-    let mut host = MemHost::new(alloc, files_of(alloc, files)?, fails.to_vec(alloc)?, 4096);
-    let mut out = MemSink::new(alloc, put_fails.to_vec(alloc)?, 4096);
+    let mut host = MemHost::new(alloc, files_of(alloc, files)?, fails.to_vec(alloc)?, piece);
+    let mut out = MemSink::new(alloc, put_fails.to_vec(alloc)?, piece);
     let status = run_tool(alloc, &words, &mut host, &mut out);
     let mut code = Vec::new(alloc);
     for file in host.written() {
@@ -368,6 +384,70 @@ fn faults_of_runs(rt: HostRuntime) -> Result<(), Fail> {
         assert_eq!(rt; put.text.as_slice(), text.as_bytes(), "{line}");
         assert_eq!(rt; put.files, written, "{line}");
     }
+    Ok(())
+}
+
+// A line ends at a seam, before one and behind one, and the last has no end.
+#[test]
+fn traces_in_pieces(rt: HostRuntime) -> Result<(), Fail> {
+    let alloc = rt.alloc();
+    let code = storing(alloc, "(int32_t)(int64_t)u1")?;
+    for (trace, status, text) in [
+        (
+            b"5\n-7\r\n2147483647" as &[u8],
+            0,
+            "5\n-7\n2147483647\nticks 3 steps 3 calls 0\n",
+        ),
+        (b"5\n-7\nx\n8\n", 4, "5\n-7\ntrace line 3 Form 1\n"),
+    ] {
+        let files = Files {
+            model: b"",
+            code: code.as_bytes(),
+            trace,
+        };
+        for piece in 1..65 {
+            let put = called_in_pieces(alloc, "exec b.c t", files, &[], &[], piece)?;
+            assert_eq!(rt; put.status, status, "{piece}");
+            assert_eq!(rt; put.text.as_slice(), text.as_bytes(), "{piece}");
+        }
+    }
+    Ok(())
+}
+
+// With 36 empty lines the code has 198 bytes. Call 0 of the host opens it, 99 calls read it in pieces of two bytes, and call 100
+// finds its end; call 101 opens the trace, call 102 reads its first line, and call 103 fails.
+#[test]
+fn a_trace_that_cannot_be_read_on(rt: HostRuntime) -> Result<(), Fail> {
+    let alloc = rt.alloc();
+    let mut code = storing(alloc, "(int32_t)(int64_t)u1")?;
+    for _ in 0..36 {
+        code.push_str("\n")?;
+    }
+    let files = Files {
+        model: b"",
+        code: code.as_bytes(),
+        trace: b"5\n-7\n",
+    };
+    let put = called_in_pieces(alloc, "exec b.c t", files, &[103], &[], 2)?;
+    assert_eq!(rt; put.status, 5);
+    assert_eq!(rt; put.text.as_slice(), b"5\nread fault\n" as &[u8]);
+    Ok(())
+}
+
+#[test]
+fn refused_code_without_its_trace(rt: HostRuntime) -> Result<(), Fail> {
+    let alloc = rt.alloc();
+    let files = Files {
+        model: b"",
+        code: b"int main;",
+        trace: b"",
+    };
+    let put = called(alloc, "exec b.c missing", files, &[], &[])?;
+    assert_eq!(rt; put.status, 8);
+    assert_eq!(rt;
+        put.text.as_slice(),
+        b"code refused line 1 Syntax\n" as &[u8]
+    );
     Ok(())
 }
 

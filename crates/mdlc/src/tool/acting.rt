@@ -10,7 +10,7 @@ use super::compiling::compile_into;
 use super::starting::started;
 use super::tracing::run_file;
 use crate::words::{Command, command};
-use c_tree::readings_agree;
+use c_reading::readings_agree;
 use mc_edge::{Host, ReadAllFault, Sink, read_all};
 use std::alloc::Global;
 

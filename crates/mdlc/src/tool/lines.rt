@@ -4,7 +4,7 @@ ghost use Rattle.mc_base.specs.Bytes.{line_of_words};
 ghost use Rattle.mc_base.specs.Refusals.{at_line};
 ghost use Rattle.mdlc.specs.Texts as text;
 
-use c_tree::{CFault, CKind, Stuck, Why};
+use c_syntax::{CFault, CKind, Stuck, Why};
 use mc_runner::Totals;
 use mc_trace::{BadLine, BadWhy};
 use std::alloc::{AllocError, Global};

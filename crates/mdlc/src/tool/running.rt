@@ -10,7 +10,7 @@ ghost use Rattle.mdlc.specs.Completeness.{CanDo, IsComplete, IsSureOf, IsUnsureO
 
 use super::acting::act;
 use super::finishing::finish;
-use c_tree::readings_agree;
+use c_reading::readings_agree;
 use mc_compile::one_verdict;
 use mc_edge::{Host, Sink, SureHost, SureSink};
 use std::alloc::Global;

@@ -1,7 +1,7 @@
 ghost use Rattle.std.specs.Prelude.{◌≡◌, false};
 ghost use Rattle.std.specs.List.{AllZip};
 ghost use Rattle.c_meaning.specs.States.{tree_of};
-ghost use Rattle.mc_runner.specs.RowWalk.{IsNarrower};
+ghost use Rattle.mc_runner.specs.Ticks.{IsNarrower};
 ghost use Rattle.mdlc.specs.Told.{told, sink_told};
 ghost use Rattle.mdlc.specs.Endings.{CountsPuts};
 ghost use Rattle.mdlc.specs.Acting.{IsBehindStart, RunEnds};

@@ -2,12 +2,12 @@ use Rattle.std.proofs.Common.{rules, refl, ◌≡◌, ◌≤◌, List, ℕ, leng
 use Rattle.std.specs.List.{AllZip}
 use Rattle.mc_fixed.specs.declared.types.FixType.{FixType}
 use Rattle.c_meaning.specs.States.{MachineState, tree_of}
-use Rattle.mc_runner.specs.RowWalk.{IsNarrower}
+use Rattle.mc_runner.specs.Ticks.{IsNarrower}
 use Rattle.mdlc.specs.Told.{HostTold, SinkTold, told, sink_told}
 use Rattle.mdlc.specs.Endings.{code_limit, LeavesHost}
-use Rattle.mdlc.specs.Acting.{StartsFrom, RunEnds}
+use Rattle.mdlc.specs.Acting.{StartsFrom, NotStarted, RunEnds}
 use Rattle.mdlc.specs.Words.{Exec}
-use Rattle.mdlc.proofs.CodeLaws.{CodeRead, exec_ends}
+use Rattle.mdlc.proofs.CodeLaws.{CodeRead, exec_ends, exec_unstarted}
 use Rattle.mdlc.proofs.RunLaws.{narrow}
 use Rattle.mdlc.proofs.Unsure.{unsure_second}
 use Rattle.mdlc.proofs.tool.acting.exec_code.Goals as goal
@@ -17,6 +17,17 @@ run_file-requires-clause-types g c =
     let inputs : List FixType = c.in-Ok-started.machine.program.inputs in
     let same : c.deref-2.result.now ≡ inputs = search rules in
     subst (λ (types : List FixType). AllZip IsNarrower types inputs) (sym same) (narrow inputs)
+
+pub returns-in-Err-clause-ends : goal.returns-in-Err-clause-ends
+returns-in-Err-clause-ends g c =
+    let bytes : List ℕ = c.in-Ok.bytes.items in
+    let before : HostTold = told g.H.Host.files g.H.Host.rest g.H.Host.written g.H.Host.sure g.H.Host.read_faults g.H.Host.write_faults c.args.host.now in
+    let between : HostTold = told g.H.Host.files g.H.Host.rest g.H.Host.written g.H.Host.sure g.H.Host.read_faults g.H.Host.write_faults c.read_all.new.host in
+    let same : c.deref.result.now ≡ bytes = search rules in
+    let fits : length bytes ≤ code_limit = subst (λ (x : List ℕ). length x ≤ code_limit) same (subst (λ (n : ℕ). n ≤ code_limit) (sym c.deref.ensures.len) c.in-Ok.ensures.fits) in
+    let left : LeavesHost before between = record { written = search rules; no_fault = record { read = search rules; write = search rules } } in
+    let unstarted : NotStarted bytes c.in-Err.ending = subst (λ (x : List ℕ). NotStarted x c.in-Err.ending) same (search rules) in
+    exec_unstarted c.in-Err.ending c.args.code.now c.args.trace.now bytes before between _ c.in-Ok.ensures.whole fits left unstarted
 
 pub returns-clause-ends : goal.returns-clause-ends
 returns-clause-ends g c =

@@ -2,7 +2,7 @@ use Rattle.std.proofs.Common.{rules, refl, ◌≡◌, List, ℕ, subst, sym}
 use Rattle.std.specs.List.{AllZip}
 use Rattle.mc_fixed.specs.declared.types.FixType.{FixType}
 use Rattle.c_meaning.specs.States.{MachineState, tree_of}
-use Rattle.mc_runner.specs.RowWalk.{IsNarrower}
+use Rattle.mc_runner.specs.Ticks.{IsNarrower}
 use Rattle.mc_compile.specs.Compilation.{Compilation}
 use Rattle.mdlc.specs.Told.{HostTold, SinkTold, told, sink_told}
 use Rattle.mdlc.specs.Words.{Run}
@@ -18,8 +18,8 @@ run_file-requires-clause-types g c =
     let same : c.deref.result.now ≡ compiled.code = search rules in
     let starts : StartsFrom compiled.code m = subst (λ (x : List ℕ). StartsFrom x m) same (search rules) in
     let typed : c.deref-in-Ok-started.result.now ≡ compiled.inputs = search rules in
-    let from = c.in-Ok.ensures.compiled.compiled in
-    subst (λ (types : List FixType). AllZip IsNarrower types m.program.inputs) (sym typed) (inputs-fit compiled m from.0 from.1 starts)
+    let writes = c.in-Ok.ensures.compiled in
+    subst (λ (types : List FixType). AllZip IsNarrower types m.program.inputs) (sym typed) (inputs-fit compiled m writes.model.bytes writes.model.holds starts)
 
 pub returns-in-Ok-started-clause-ends : goal.returns-in-Ok-started-clause-ends
 returns-in-Ok-started-clause-ends g c =

@@ -1,11 +1,14 @@
-use Rattle.mdlc.proofs.StatusLaws.{comes_exactly, exactly, plain_three, plain_four, plain_eight, plain_nine}
+use Rattle.mdlc.proofs.StatusLaws.{comes_exactly, exactly, usage, plain_three, plain_four, plain_eight, plain_nine}
 use Rattle.mdlc.proofs.RightLaws.{does_right}
-use Rattle.mdlc.proofs.EndingLaws.{no_count}
+use Rattle.mdlc.proofs.EndingLaws.{no_count, read_fault, write_fault, put_fault}
 use Rattle.mdlc.proofs.Completeness.{complete, surely_done}
 use Rattle.mdlc.proofs.tool.running.run_tool.Goals as goal
 
 pub returns-clause-right : goal.returns-clause-right
 returns-clause-right g c = does_right c.one_verdict.ensures c.readings_agree.ensures _ _ _ _ _ _ c.run.ensures.ended
+
+pub returns-clause-usage : goal.returns-clause-usage
+returns-clause-usage g c = usage _ _ _ _ _ _ c.run.ensures.ended
 
 pub returns-clause-comes : goal.returns-clause-comes
 returns-clause-comes g c = comes_exactly c.one_verdict.ensures c.readings_agree.ensures _ _ _ _ _ _ c.run.ensures.ended
@@ -21,6 +24,15 @@ returns-clause-no_program g c = exactly c.one_verdict.ensures c.readings_agree.e
 
 pub returns-clause-stuck : goal.returns-clause-stuck
 returns-clause-stuck g c = exactly c.one_verdict.ensures c.readings_agree.ensures 9 plain_nine _ _ _ _ _ _ c.run.ensures.ended
+
+pub returns-clause-read_fault : goal.returns-clause-read_fault
+returns-clause-read_fault g c = read_fault _ _ _ _ _ _ c.run.ensures.ended
+
+pub returns-clause-write_fault : goal.returns-clause-write_fault
+returns-clause-write_fault g c = write_fault _ _ _ _ _ _ c.run.ensures.ended
+
+pub returns-clause-put_fault : goal.returns-clause-put_fault
+returns-clause-put_fault g c = put_fault _ _ _ _ _ _ c.run.ensures.ended
 
 pub returns-clause-no_fault : goal.returns-clause-no_fault
 returns-clause-no_fault g c = no_count _ _ _ _ _ _ c.run.ensures.ended

@@ -1,5 +1,5 @@
 use Rattle.std.proofs.Common.{rules}
-use Rattle.c_reader.specs.Checked.{IsChecked}
+use Rattle.c_checked.specs.Checked.{IsChecked}
 use Rattle.mdlc.proofs.Starts.{starts}
 use Rattle.mdlc.proofs.tool.starting.started.Goals as goal
 
