@@ -3,8 +3,8 @@ use Rattle.std.specs.Prelude.{◌≡◌, ◌≢◌, ℕ, ◌+◌, ◌<◌, ◌�
 use Rattle.std.proofs.Common.{refl, sym, ◌∙◌, ap, ap₂, subst, arith, inl, inr, true≢false}
 use Rattle.std.proofs.lemmas.Bool.{cases_lt}
 use Rattle.std.proofs.lemmas.List.{get_or_append_left, get_or-append-add, length-append, length-map, get_or_push}
-use Rattle.c_tree.specs.declared.CType.TheVariants.{I64}
-use Rattle.c_tree.specs.Values.{is_in_type}
+use Rattle.c_syntax.specs.declared.CType.TheVariants.{I64}
+use Rattle.c_machine.specs.Values.{is_in_type}
 use Rattle.c_emitter.specs.declared.block.Block.{Block}
 use Rattle.c_emitter.specs.declared.block.Block.TheVariants.{Input, Output, Delay, Fixed, Sink}
 use Rattle.c_emitter.specs.Blocks.{TypedBlock, block_at, type_of, start_value, is_output, is_source_block, is_valued, is_delay_block, input_count, output_count, rows_below, value_rows, delay_rows, value_place, memory_place, counter_place}

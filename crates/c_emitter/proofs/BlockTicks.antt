@@ -1,12 +1,12 @@
 -- One tick of the blocks of a diagram.
 use Rattle.std.specs.Prelude.{◌≡◌, ℕ, ◌+◌, ◌-◌, ◌<◌, true, List, length, ℤ, pos}
 use Rattle.std.proofs.Common.{refl, sym, ◌∙◌, ap, subst, arith, true≢false, inl, inr}
-use Rattle.c_tree.specs.Values.{is_in_type}
+use Rattle.c_machine.specs.Values.{is_in_type}
 use Rattle.c_emitter.specs.declared.block.Block.{Block}
 use Rattle.c_emitter.specs.declared.block.Block.TheVariants.{Input, Output, Delay, Fixed, Sink}
 use Rattle.c_emitter.specs.Blocks.{TypedBlock, block_at, type_of, input_type, is_source_block, is_delay_block}
 use Rattle.c_emitter.proofs.NumberCells.{item}
-use Rattle.c_emitter.proofs.Containers.{zero-fits}
+use Rattle.c_emitter.proofs.lemmas.Containers.{zero-fits}
 use Rattle.c_emitter.proofs.BlockFacts.{FitsAt, IsWellMade, TakesFrom, AreBlocks}
 use Rattle.c_emitter.proofs.Members.{input-type-at}
 

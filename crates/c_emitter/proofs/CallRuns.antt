@@ -1,14 +1,13 @@
 -- What a call of a procedure of `top` does to the root.
 use Rattle.std.specs.Prelude.{◌≡◌, ℕ, ◌+◌, ◌-◌, ◌^◌, ◌<◌, true, if◌then◌else◌, List, [], ◌∷◌, map, length, Option, ℤ, pos}
 use Rattle.std.proofs.Common.{refl, ◌∙◌, ap, arith}
-use Rattle.c_tree.specs.declared.CType.TheVariants.{I32}
-use Rattle.c_tree.specs.declared.Leaf.TheVariants.{Own}
-use Rattle.c_tree.specs.declared.Target.TheVariants.{Child as InChild}
-use Rattle.c_tree.specs.Tree.{ExprTrees, read, exprs_of_list, StructTree, struct_fields, ProcedureTree}
-use Rattle.c_tree.specs.Cells.{Cells}
-use Rattle.c_tree.specs.Values.{Function, reads}
-use Rattle.c_tree.specs.Machine.{LoggedCall, StoredField, behind, on_answer, on_target, in_child, arguments, store_under, Scope, Routine, routine_at, routine_of, run_stmt, run_stmts, is_interface}
-use Rattle.c_tree.specs.Tree.{field_types}
+use Rattle.c_syntax.specs.declared.CType.TheVariants.{I32}
+use Rattle.c_syntax.specs.declared.Leaf.TheVariants.{Own}
+use Rattle.c_syntax.specs.declared.Target.TheVariants.{Child as InChild}
+use Rattle.c_syntax.specs.Tree.{ExprTrees, read, exprs_of_list, StructTree, struct_fields, ProcedureTree, field_types}
+use Rattle.c_machine.specs.Cells.{Cells}
+use Rattle.c_machine.specs.Values.{Function, reads}
+use Rattle.c_machine.specs.Machine.{LoggedCall, StoredField, behind, on_answer, on_target, in_child, arguments, store_under, Scope, Routine, routine_at, routine_of, run_stmt, run_stmts, is_interface}
 use Rattle.c_emitter.specs.Blocks.{TypedBlock}
 use Rattle.c_emitter.specs.Bodies.{taken_ports, top_place, call_top}
 use Rattle.c_emitter.proofs.NumberCells.{number_cells, cells_with, item, value_at-cells_with, fields_at-cells_with, set_object-cells_with}

@@ -16,16 +16,16 @@ use Rattle.mc_diagram.specs.declared.Row.{Row}
 use Rattle.mc_diagram.specs.Rows.{row_at, rows_of, row_numbers, same_system, is_inport, is_outport, port_of, system_control}
 use Rattle.mc_diagram.specs.Diagram.{op_at, type_at}
 use Rattle.mc_diagram.specs.Run.{is_delay, start_of, start_by}
-use Rattle.c_tree.specs.declared.CType.TheVariants.{I64}
-use Rattle.c_tree.specs.Values.{is_in_type}
+use Rattle.c_syntax.specs.declared.CType.TheVariants.{I64}
+use Rattle.c_machine.specs.Values.{is_in_type}
 use Rattle.c_emitter.specs.declared.block.Block.{Block}
 use Rattle.c_emitter.specs.declared.block.Block.TheVariants.{Input, Output, Delay, Fixed}
 use Rattle.c_emitter.specs.Flat.{is_source, IsFlat}
 use Rattle.c_emitter.specs.Blocks.{TypedBlock, no_typed_block, block_at, type_of, blocks_of, is_input, is_output, is_source_block, is_valued, is_delay_block, start_value, rows_below, input_count, output_count}
-use Rattle.c_emitter.proofs.Containers.{not-wide, zero-fits}
+use Rattle.c_emitter.proofs.lemmas.Containers.{not-wide, zero-fits}
 use Rattle.c_emitter.proofs.BlockFacts.{FitsAt, IsSource, IsWellMade, TakesFrom, AreBlocks}
 use Rattle.c_emitter.proofs.Ports.{filter-all}
-use Rattle.c_emitter.proofs.FlatRows.{diagram, RowView, input_row, output_row as output_view, delay_row, fixed_row, sink_row, view, root-row, type-is, takes-from, quantized-fits, blocks-length}
+use Rattle.c_emitter.proofs.lemmas.FlatRows.{diagram, RowView, input_row, output_row as output_view, delay_row, fixed_row, sink_row, view, root-row, type-is, takes-from, quantized-fits, blocks-length}
 
 pub filter-agree : (p q : ℕ → Bool) (a n : ℕ) → ((b : ℕ) → a ≤ b → b < a + n → p b ≡ q b) → filter p (range_with_len a n) ≡ filter q (range_with_len a n)
 filter-agree p q a zero e = refl

@@ -7,8 +7,8 @@ use Rattle.std.proofs.lemmas.List.Elements.{filter-append}
 use Rattle.std.proofs.lemmas.List.Sums.{length-filter}
 use Rattle.std.proofs.lemmas.Bool.{eq-eqb, ne_eqb, and_parts}
 use Rattle.std.proofs.lemmas.Bool.Decides.{eqb_tells}
-use Rattle.mc_profile.specs.Functions.{different}
-use Rattle.c_tree.specs.Machine.{StoredField}
+use Rattle.mc_cluster.specs.Classes.{different}
+use Rattle.c_machine.specs.Machine.{StoredField}
 use Rattle.c_emitter.specs.Places.{same_path}
 use Rattle.c_emitter.specs.declared.block.Block.{Block}
 use Rattle.c_emitter.specs.declared.block.Block.TheVariants.{Input, Output, Delay, Fixed, Sink}

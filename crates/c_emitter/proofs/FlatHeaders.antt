@@ -18,18 +18,18 @@ use Rattle.mc_profile.specs.declared.Function.{Function}
 use Rattle.mc_profile.specs.Functions.{function_for, functions_for}
 use Rattle.mc_profile.specs.Ports.{has_bit, bit_of, input_ports, ports_in}
 use Rattle.mc_profile.specs.Systems.{system_name}
-use Rattle.c_tree.specs.declared.CType.{CType}
-use Rattle.c_tree.specs.declared.CType.TheVariants.{U8, I32}
-use Rattle.c_tree.specs.declared.FieldKind.TheVariants.{Number, Struct}
-use Rattle.c_tree.specs.Tree.{FieldTree, ProcedureTree}
-use Rattle.c_tree.specs.Written.{number_kind, struct_kind}
+use Rattle.c_syntax.specs.declared.CType.{CType}
+use Rattle.c_syntax.specs.declared.CType.TheVariants.{U8, I32}
+use Rattle.c_syntax.specs.declared.FieldKind.TheVariants.{Number, Struct}
+use Rattle.c_syntax.specs.Tree.{FieldTree, ProcedureTree}
+use Rattle.c_syntax.specs.Kinds.{number_kind, struct_kind}
 use Rattle.c_emitter.specs.Names.{container, value_name, memory_name, now_name, input_name, output_name, out_name, update_name, start_name, reset_name, root_name, root_start_name, root_step_name}
 use Rattle.c_emitter.specs.Headers.{NamedField, number_field, named_fields, is_counter, or_filler, AreFields, system_fields, value_fields, memory_fields, child_fields, root_fields, Header, header, public_headers, now_param, port_param, parameters, system_headers, root_headers}
 use Rattle.c_emitter.specs.Code.{HasStruct, HasHeaders}
 use Rattle.c_emitter.specs.Flat.{IsFlat}
 use Rattle.c_emitter.specs.Blocks.{TypedBlock, block_at, is_delay_block, is_valued, input_count, value_rows, delay_rows, output_rows, output_needs, function_needs, type_of, output_type}
 use Rattle.c_emitter.specs.FlatProgram.{counter_name, typed_field, top_fields, root_fields_of, param, input_param, input_params, out_procedures, flat_program}
-use Rattle.c_emitter.proofs.FlatRows.{diagram, RowView, input_row, output_row as output_view, delay_row, fixed_row, sink_row, view, type-is, holds-at}
+use Rattle.c_emitter.proofs.lemmas.FlatRows.{diagram, RowView, input_row, output_row as output_view, delay_row, fixed_row, sink_row, view, type-is, holds-at}
 use Rattle.c_emitter.proofs.FlatBlocks.{blocks, same-length, own-rows, delay-is, valued-is, filter-agree}
 use Rattle.c_emitter.proofs.BlockFacts.{HasValue}
 use Rattle.c_emitter.proofs.FlatNeeds.{outputs-are}
@@ -48,7 +48,7 @@ map-agree-filter f g p a (suc n) e = by (p a) (map-agree-filter f g p (a + 1) n 
     by true rest = ap₂ ◌∷◌ (e a (omega arith) (omega arith)) rest
     by false rest = rest
 
-filter-nothing : (p : ℕ → Bool) (a n : ℕ) → ((b : ℕ) → a ≤ b → b < a + n → p b ≡ false) → filter p (range_with_len a n) ≡ []
+pub filter-nothing : (p : ℕ → Bool) (a n : ℕ) → ((b : ℕ) → a ≤ b → b < a + n → p b ≡ false) → filter p (range_with_len a n) ≡ []
 filter-nothing p a zero e = refl
 filter-nothing p a (suc n) e = ap (λ t. cond t (a ∷ filter p (range_with_len (a + 1) n)) (filter p (range_with_len (a + 1) n))) (e a (omega arith) (omega arith)) ∙ filter-nothing p (a + 1) n (λ b low high. e b (omega arith) (omega arith))
 
@@ -100,7 +100,7 @@ module _ (rows : List Row) (types : List FixType) (ops : List Op) (flat : IsFlat
       let last : List FieldTree = record { name = counter_name; kind = Number U8 } ∷ [] in
       map-append f (v ++ m) last ∙ ap (λ l. l ++ counter ∷ []) (map-append f v m ∙ ap₂ ◌++◌ (named-numbers value_name (type_of bs) (value_rows bs)) (named-numbers memory_name (type_of bs) (delay_rows bs)))
 
-  no-subsystem : (b : ℕ) → RowView rows types ops b → is_subsystem (row_at rows b).kind ≡ false
+  pub no-subsystem : (b : ℕ) → RowView rows types ops b → is_subsystem (row_at rows b).kind ≡ false
   no-subsystem b (input_row port kind wires op block) = ap is_subsystem kind
   no-subsystem b (output_view port reset initial c kind wires below source op block) = ap is_subsystem kind
   no-subsystem b (fixed_row value steady wires op fit block) = steady.no_subsystem

@@ -7,16 +7,16 @@ use Rattle.std.proofs.lemmas.List.{length-map, length-append, append_assoc, appe
 use Rattle.std.proofs.lemmas.List.FromFn.{length-range_with_len}
 use Rattle.std.proofs.lemmas.Bool.{or_from, or_right}
 use Rattle.mc_profile.specs.Systems.{system_name}
-use Rattle.c_tree.specs.declared.CType.{CType}
-use Rattle.c_tree.specs.declared.CType.TheVariants.{U8, I32, I64}
-use Rattle.c_tree.specs.declared.FieldKind.TheVariants.{Number, Struct}
-use Rattle.c_tree.specs.Tree.{StmtTree, StmtTrees, no_stmts, more_stmts, assign, branch, call, stmts_of_list, exprs_of_list, read, FieldTree, StructTree, ParamTree, ProcedureTree}
-use Rattle.c_tree.specs.Outputs.{has_name, numbers_from, output_names, looks_like_output, may_be_named}
-use Rattle.c_tree.specs.Rows.{is_number, number_names}
-use Rattle.c_tree.specs.Resolve.{stmt_chain, stmts_chain}
-use Rattle.c_tree.specs.declared.Leaf.TheVariants.{Child}
-use Rattle.c_tree.specs.Reading.{exprs_depth, stmts_depth, stmts_exprs_depth, ProcedureFits}
-use Rattle.c_tree.specs.Lawful.{AreDistinct, AreApart, Reach, IsNumberAt, IsStructAt, exprs_length, AreLawfulExprs, IsLawfulStmt, param_names, procedure_names, IsLawfulKind, AreStructs, IsLawfulProcedure, AreProcedures, chains_of, HasRoot, IsLawful}
+use Rattle.c_syntax.specs.declared.CType.{CType}
+use Rattle.c_syntax.specs.declared.CType.TheVariants.{U8, I32, I64}
+use Rattle.c_syntax.specs.declared.FieldKind.TheVariants.{Number, Struct}
+use Rattle.c_syntax.specs.Tree.{StmtTree, StmtTrees, no_stmts, more_stmts, assign, branch, call, stmts_of_list, exprs_of_list, read, FieldTree, StructTree, ParamTree, ProcedureTree}
+use Rattle.c_syntax.specs.Outputs.{has_name, numbers_from, output_names, looks_like_output, may_be_named}
+use Rattle.c_syntax.specs.RootFields.{is_number, number_names}
+use Rattle.c_syntax.specs.Chains.{stmt_chain, stmts_chain}
+use Rattle.c_syntax.specs.declared.Leaf.TheVariants.{Child}
+use Rattle.c_syntax.specs.Limits.{exprs_depth, stmts_depth, stmts_exprs_depth, ProcedureFits}
+use Rattle.c_syntax.specs.Lawful.{AreDistinct, AreApart, Reach, IsNumberAt, IsStructAt, exprs_length, AreLawfulExprs, IsLawfulStmt, param_names, procedure_names, IsLawfulKind, AreStructs, IsLawfulProcedure, AreProcedures, chains_of, HasRoot, IsLawful}
 use Rattle.c_emitter.specs.Names.{value_name, memory_name, now_name, input_name, output_name, root_name}
 use Rattle.c_emitter.specs.Headers.{now_param}
 use Rattle.c_emitter.specs.Blocks.{TypedBlock, value_rows, value_place, delay_rows, input_count, output_rows, function_needs, type_of, input_row, input_type, output_type}

@@ -13,10 +13,11 @@ use Rattle.mc_diagram.specs.Rows.{row_at, outports_of}
 use Rattle.mc_diagram.specs.Diagram.{op_at}
 use Rattle.mc_diagram.specs.Run.{is_delay, start_of}
 use Rattle.mc_profile.specs.Systems.{systems, systems_inside}
-use Rattle.c_tree.specs.Cells.{Cells, value_at}
-use Rattle.c_tree.specs.Machine.{LoggedCall}
-use Rattle.c_tree.specs.Rows.{TickRow, c_rows, start_run}
-use Rattle.c_emitter.specs.Systems.{step_bound, IsTrace}
+use Rattle.mc_profile.specs.Traces.{IsTrace}
+use Rattle.c_machine.specs.Cells.{Cells, value_at}
+use Rattle.c_machine.specs.Machine.{LoggedCall}
+use Rattle.c_machine.specs.Rows.{TickRow, c_rows, start_run}
+use Rattle.c_emitter.specs.Systems.{step_bound}
 use Rattle.c_emitter.specs.Names.{value_name, memory_name}
 use Rattle.c_emitter.specs.Flat.{IsFlat}
 use Rattle.c_emitter.specs.Places.{path_to, place_in, cells_at}
@@ -36,7 +37,7 @@ use Rattle.c_emitter.proofs.RootStart.{zero_outputs, length-zero_outputs, root-s
 use Rattle.c_emitter.proofs.Places.{path-is, value-is-at, memory-is-at}
 use Rattle.c_emitter.proofs.FlatCalls.{stored-once, step-tally}
 use Rattle.c_emitter.proofs.OutPlaces.{functions-are-at, update-is-at, called-procedures}
-use Rattle.c_emitter.proofs.FlatRows.{diagram, view}
+use Rattle.c_emitter.proofs.lemmas.FlatRows.{diagram, view}
 use Rattle.c_emitter.proofs.FlatBlocks.{blocks, same-length, are-blocks, own-rows, delay-is, valued-is, start-is}
 use Rattle.c_emitter.proofs.FlatNeeds.{outputs-are}
 use Rattle.c_emitter.proofs.FlatOutputs.{tick_of, run-of, rows-of}

@@ -10,13 +10,13 @@ use Rattle.mc_diagram.specs.declared.Row.{Row}
 use Rattle.mc_diagram.specs.Rows.{row_at, no_row, port_of, outports_of}
 use Rattle.mc_diagram.specs.Diagram.{op_at}
 use Rattle.mc_diagram.specs.Needs.{needs_of, inputs_used, control_wires, Walk, HasNoLoop}
-use Rattle.mc_diagram.proofs.Inside.{Contains-nil}
-use Rattle.mc_diagram.proofs.NeedsExamples.{of_one}
-use Rattle.mc_diagram.proofs.Tick.{row_at-past}
+use Rattle.mc_diagram.proofs.lemmas.Inside.{Contains-nil}
+use Rattle.mc_diagram.proofs.lemmas.NeedsExamples.{of_one}
+use Rattle.mc_diagram.proofs.lemmas.Tick.{row_at-past}
 use Rattle.c_emitter.specs.declared.block.Block.{Block}
 use Rattle.c_emitter.specs.Flat.{is_source, IsFlat}
 use Rattle.c_emitter.specs.Blocks.{TypedBlock, typed_row, block_at, is_output, is_output_of, output_row, output_rows, rows_below}
-use Rattle.c_emitter.proofs.FlatRows.{diagram, RowView, input_row, output_row as output_view, delay_row, fixed_row, sink_row, view, root-row, block-is}
+use Rattle.c_emitter.proofs.lemmas.FlatRows.{diagram, RowView, input_row, output_row as output_view, delay_row, fixed_row, sink_row, view, root-row, block-is}
 use Rattle.c_emitter.proofs.FlatBlocks.{blocks, same-length, output-rows-unordered}
 use Rattle.c_emitter.proofs.FlatTicks.{around-none, find-filter, position-find, find-agree}
 

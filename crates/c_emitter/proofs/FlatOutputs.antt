@@ -11,17 +11,16 @@ use Rattle.mc_blocks.specs.declared.Op.{Op}
 use Rattle.mc_diagram.specs.declared.Row.{Row}
 use Rattle.mc_diagram.specs.Diagram.{Diagram}
 use Rattle.mc_diagram.specs.Laws.{HasOneRun}
-use Rattle.mc_diagram.proofs.OneRun.{one_run}
-use Rattle.mc_diagram.specs.Run.{IsRun, RunFrom, outs, start_of, values_by}
-use Rattle.c_tree.specs.Values.{is_in_type}
-use Rattle.c_tree.specs.Cells.{Cells, value_at}
-use Rattle.c_tree.specs.Machine.{program_routines, routine_at, Routine, Scope, run_stmts}
-use Rattle.c_tree.specs.Tree.{field_types}
-use Rattle.c_tree.specs.Tree.{stmts_of_list}
-use Rattle.c_tree.specs.Rows.{TickRow, Rows, tick_row, rows_after, rows_from, rows_of_start, with_tick, c_rows, step_run}
-use Rattle.c_tree.proofs.Runs.{behind-nothing}
+use Rattle.mc_diagram.proofs.lemmas.OneRun.{one_run}
+use Rattle.mc_diagram.specs.Run.{IsRun, RunFrom, outs}
+use Rattle.mc_profile.specs.Traces.{IsTrace, input_type_of}
+use Rattle.c_machine.specs.Values.{is_in_type}
+use Rattle.c_machine.specs.Cells.{Cells, value_at}
+use Rattle.c_machine.specs.Machine.{program_routines, routine_at, Routine, Scope, run_stmts}
+use Rattle.c_syntax.specs.Tree.{field_types, stmts_of_list}
+use Rattle.c_machine.specs.Rows.{TickRow, Rows, tick_row, rows_after, rows_from, rows_of_start, with_tick, c_rows, step_run}
+use Rattle.c_machine.proofs.lemmas.Runs.{behind-nothing}
 use Rattle.c_emitter.specs.Names.{container}
-use Rattle.c_emitter.specs.Systems.{IsTrace, input_type_of}
 use Rattle.c_emitter.specs.Code.{GivesOutputs}
 use Rattle.c_emitter.specs.Flat.{IsFlat}
 use Rattle.c_emitter.specs.Blocks.{TypedBlock, input_type, input_count, output_row, output_rows, is_output_of, output_count, function_needs, no_typed_block, block_at, is_valued}
@@ -29,7 +28,7 @@ use Rattle.c_emitter.specs.Bodies.{update_place, step_body}
 use Rattle.c_emitter.specs.FlatProgram.{root_fields_of, root_step_procedure, update_procedure, flat_program}
 use Rattle.c_emitter.proofs.NumberCells.{number_cells, item}
 use Rattle.c_emitter.proofs.Straight.{finish}
-use Rattle.c_emitter.proofs.Containers.{container-has, zero-fits}
+use Rattle.c_emitter.proofs.lemmas.Containers.{container-has, zero-fits}
 use Rattle.c_emitter.proofs.BlockFacts.{HasValue, FitsAt, AreBlocks, top_state}
 use Rattle.c_emitter.proofs.BlockTicks.{AreInputs, MemoriesFit, IsBlockTick, memories-still-fit}
 pub use Rattle.c_emitter.proofs.Members.{all-found}
@@ -38,10 +37,10 @@ use Rattle.c_emitter.proofs.Costs.{step_cost, outputs-few, functions-few}
 use Rattle.c_emitter.proofs.StepRun.{root_state, step_log, step_stores, run-step}
 use Rattle.c_emitter.proofs.Procedures.{root_step-place, later-routine, found-before, earlier_than, all-out-routines}
 use Rattle.c_emitter.proofs.OutputFields.{output-places, read-outputs}
-use Rattle.c_emitter.proofs.FlatRows.{diagram}
+use Rattle.c_emitter.proofs.lemmas.FlatRows.{diagram}
 use Rattle.c_emitter.proofs.FlatBlocks.{blocks, are-blocks}
 use Rattle.c_emitter.proofs.InputRows.{ports-are, input-types-are}
-use Rattle.c_emitter.proofs.FlatTicks.{block-tick, values-start, memories-start}
+use Rattle.c_emitter.proofs.FlatTicks.{firsts, HoldOne, block-tick, hold-one-still, values-start, memories-start, hold-one-first}
 use Rattle.c_emitter.proofs.FlatNeeds.{outputs-are, no-loop}
 use Rattle.c_emitter.proofs.StartRun.{start_values, start-value-at}
 use Rattle.c_emitter.proofs.RootStart.{zero_outputs, length-zero_outputs, root-start}
@@ -74,7 +73,7 @@ module _ (blocks : List TypedBlock) (are : AreBlocks blocks) (below : OutputsAre
       ∙ ap (λ (r : Routine). r.run x cells 0) (later-routine blocks 4 (root_step_procedure blocks) refl)
       ∙ behind-nothing (run_stmts scope (stmts_of_list (step_body blocks)) cells 0)
       ∙ run-step blocks are x before v m n tick xs ms scope refl refl outputs outs_size below few-functions (all-out-routines blocks (update_place blocks + 4) (omega arith)) found.0
-      (subst (λ k. routine_at (earlier_than blocks 4) k ≡ Rattle.c_tree.specs.Machine.routine_of (Rattle.c_emitter.specs.FlatProgram.flat_structs blocks) [] found.0 k (update_procedure blocks)) same found.1)
+      (subst (λ k. routine_at (earlier_than blocks 4) k ≡ Rattle.c_machine.specs.Machine.routine_of (Rattle.c_emitter.specs.FlatProgram.flat_structs blocks) [] found.0 k (update_procedure blocks)) same found.1)
 
   -- its row
   pub tick-row : (v n : List ℤ) (outputs : List ℤ) → length outputs ≡ length (output_rows blocks) →
@@ -116,18 +115,18 @@ module _ (rows : List Row) (types : List FixType) (ops : List Op) (flat : IsFlat
       ap (λ o. rows_after (flat_program bs) o rest) (step-runs bs are below x before v m n outputs tick xs ms outs_size)
       ∙ ap (λ r. with_tick r (rest (root_state bs after v n))) (tick-row bs are below v n after (length-map (output_rows bs) (item v)))
 
-  pub runs-from : (t : ℕ) (before m : List ℤ) (g : List TrigMem) (xs vs ms : List (List ℤ)) (gs : List (List TrigMem)) (outputs : List ℤ) → RunFrom (diagram rows types ops) None t before m g xs vs ms gs → IsTrace (diagram rows types ops) None xs →
-      length outputs ≡ length (output_rows bs) → MemoriesFit bs m → TicksAre bs (rows_from (flat_program bs) xs (root_state bs outputs before m)) vs
-  runs-from t before m g [] [] [] [] outputs run trace outs_size memories_fit = record { ticks = refl; not_stuck = refl }
-  runs-from t before m g (x ∷ xs) (v ∷ vs) (n ∷ ms) (g' ∷ gs) outputs run trace outs_size memories_fit =
+  pub runs-from : (t : ℕ) (before : List ℤ) (m : List (List ℤ)) (g : List TrigMem) (xs vs : List (List ℤ)) (ms : List (List (List ℤ))) (gs : List (List TrigMem)) (outputs : List ℤ) → RunFrom (diagram rows types ops) None t before m g xs vs ms gs → IsTrace (diagram rows types ops) None xs →
+      length outputs ≡ length (output_rows bs) → HoldOne (diagram rows types ops) m → MemoriesFit bs (firsts m) → TicksAre bs (rows_from (flat_program bs) xs (root_state bs outputs before (firsts m))) vs
+  runs-from t before m g [] [] [] [] outputs run trace outs_size one memories_fit = record { ticks = refl; not_stuck = refl }
+  runs-from t before m g (x ∷ xs) (v ∷ vs) (n ∷ ms) (g' ∷ gs) outputs run trace outs_size one memories_fit =
       let are = are-blocks rows types ops flat in
-      let tick = block-tick rows types ops flat t x before m g v n g' run.0 in
+      let tick = block-tick rows types ops flat t x before m g v n g' run.0 one in
       let x_fits : AreInputs bs x = trace-fits (diagram rows types ops) bs 1 (input_count bs) x (subst (λ ps. AllZip (λ p v. InType (input_type_of (diagram rows types ops) None p) v) ps x) (ports-are rows types ops flat) trace.0) (input-types-are rows types ops flat) in
       let after : List ℤ = map (item v) (output_rows bs) in
-      let later = runs-from (suc t) v n g' xs vs ms gs after run.1 trace.1 (length-map (output_rows bs) (item v)) (memories-still-fit bs are x v m n tick x_fits memories_fit) in
-      let now = one-tick x before m outputs v n (rows_from (flat_program bs) xs) tick x_fits memories_fit outs_size in
+      let later = runs-from (suc t) v n g' xs vs ms gs after run.1 trace.1 (length-map (output_rows bs) (item v)) (hold-one-still rows types ops flat t x before m g v n g' run.0 one) (memories-still-fit bs are x v (firsts m) (firsts n) tick x_fits memories_fit) in
+      let now = one-tick x before (firsts m) outputs v (firsts n) (rows_from (flat_program bs) xs) tick x_fits memories_fit outs_size in
       record { ticks = ap (λ (r : Rows). r.ticks) now ∙ ap (λ l. tick_of bs v ∷ l) later.ticks; not_stuck = ap (λ (r : Rows). r.stuck_place) now ∙ later.not_stuck }
-  runs-from t before m g _ _ _ _ outputs run trace outs_size memories_fit = absurd run
+  runs-from t before m g _ _ _ _ outputs run trace outs_size one memories_fit = absurd run
 
 -- ---- The outputs' rows
 
@@ -165,15 +164,19 @@ module _ (rows : List Row) (types : List FixType) (ops : List Op) (flat : IsFlat
   starts-fit : MemoriesFit flat_blocks (start_values flat_blocks)
   starts-fit b h delay = subst (FitsAt flat_blocks b) (sym (start-value-at flat_blocks b h)) ((are-blocks rows types ops flat).starts b h)
 
-  pub started-rows : (xs vs ms : List (List ℤ)) (gs : List (List TrigMem)) → IsRun (diagram rows types ops) None xs vs ms gs → IsTrace (diagram rows types ops) None xs → TicksAre flat_blocks (c_rows (flat_program flat_blocks) xs) vs
+  pub started-rows : (xs vs : List (List ℤ)) (ms : List (List (List ℤ))) (gs : List (List TrigMem)) → IsRun (diagram rows types ops) None xs vs ms gs → IsTrace (diagram rows types ops) None xs → TicksAre flat_blocks (c_rows (flat_program flat_blocks) xs) vs
   started-rows xs vs [] gs run trace = absurd run
   started-rows xs vs (m ∷ ms) [] run trace = absurd run
   started-rows xs vs (m ∷ ms) (g ∷ gs) run trace =
       let are = are-blocks rows types ops flat in
       let starts : List ℤ = start_values flat_blocks in
       let begin : c_rows (flat_program flat_blocks) xs ≡ rows_from (flat_program flat_blocks) xs (root_state flat_blocks (zero_outputs flat_blocks) starts starts) = ap (λ o. rows_of_start (flat_program flat_blocks) o xs) (root-start flat_blocks are) in
-      let run' = subst (λ b. RunFrom (diagram rows types ops) None 0 b starts g xs vs ms gs) (values-start rows types ops flat) (subst (λ l. RunFrom (diagram rows types ops) None 0 (values_by (diagram rows types ops) None (start_of (diagram rows types ops))) l g xs vs ms gs) (run.0 ∙ memories-start rows types ops flat) run.2) in
-      let all = runs-from rows types ops flat (outputs-are-rows flat_blocks) 0 starts starts g xs vs ms gs (zero_outputs flat_blocks) run' trace (length-zero_outputs flat_blocks) starts-fit in
+      let run' = subst (λ b. RunFrom (diagram rows types ops) None 0 b m g xs vs ms gs) (values-start rows types ops flat) run.2 in
+      let first : firsts m ≡ starts = ap firsts run.0 ∙ memories-start rows types ops flat in
+      let one : HoldOne (diagram rows types ops) m = subst (HoldOne (diagram rows types ops)) (sym run.0) (hold-one-first rows types ops flat) in
+      let fit : MemoriesFit flat_blocks (firsts m) = subst (MemoriesFit flat_blocks) (sym first) starts-fit in
+      let later = runs-from rows types ops flat (outputs-are-rows flat_blocks) 0 starts m g xs vs ms gs (zero_outputs flat_blocks) run' trace (length-zero_outputs flat_blocks) one fit in
+      let all = subst (λ f. TicksAre flat_blocks (rows_from (flat_program flat_blocks) xs (root_state flat_blocks (zero_outputs flat_blocks) starts f)) vs) first later in
       record { ticks = ap (λ (r : Rows). r.ticks) begin ∙ all.ticks; not_stuck = ap (λ (r : Rows). r.stuck_place) begin ∙ all.not_stuck }
 
   outputs-of : (vs : List (List ℤ)) → map (λ (row : TickRow). row.outputs) (map (tick_of flat_blocks) vs) ≡ map (outs (diagram rows types ops) None) vs

@@ -1,5 +1,5 @@
 -- The needs of the outputs of a diagram of one system.
-use Rattle.std.specs.Prelude.{◌≡◌, ℕ, ◌+◌, ◌-◌, ◌^◌, ◌<◌, ◌≤◌, Bool, true, false, not, ◌&&◌, ◌==◌, if◌then◌else◌, IsTrue, List, [], ◌∷◌, ◌++◌, map, filter, length, bit_and, IsBitSet, Contains, Some, None}
+use Rattle.std.specs.Prelude.{◌≡◌, ℕ, ◌-◌, ◌^◌, ◌<◌, ◌≤◌, Bool, true, false, not, ◌&&◌, ◌==◌, if◌then◌else◌, IsTrue, List, [], ◌∷◌, ◌++◌, map, filter, length, bit_and, IsBitSet, Contains, Some, None}
 use Rattle.std.specs.List.{AllZip, AllByRecursion, range_with_len}
 use Rattle.std.proofs.Common.{refl, sym, ◌∙◌, ap, ap₂, subst, arith, inl, inr, true≢false, lit<}
 use Rattle.std.proofs.Math.Pow.{pow-lt}
@@ -13,15 +13,15 @@ use Rattle.mc_blocks.specs.Value.{feeds_through}
 use Rattle.mc_diagram.specs.declared.Row.{Row}
 use Rattle.mc_diagram.specs.Rows.{row_at, is_inport, is_outport, is_inport_of, is_system, same_system}
 use Rattle.mc_diagram.specs.Needs.{needs_inside, inputs_used, control_wires, Walk, Reaches, IsInputRow, TrueNeeds, IsMaskOf, AreTrueNeeds}
-use Rattle.mc_diagram.proofs.Inside.{Contains-nil}
-use Rattle.mc_diagram.proofs.NeedsExamples.{of_one}
+use Rattle.mc_diagram.proofs.lemmas.Inside.{Contains-nil}
+use Rattle.mc_diagram.proofs.lemmas.NeedsExamples.{of_one}
 use Rattle.mc_profile.specs.Ports.{has_bit}
 use Rattle.c_emitter.specs.declared.block.Block.TheVariants.{Input}
 use Rattle.c_emitter.specs.Flat.{is_source, IsFlat}
 use Rattle.c_emitter.specs.Blocks.{TypedBlock, no_typed_block, block_at, source_of, source_need, need_of, is_output_of, output_count, output_row, output_rows, output_needs}
 use Rattle.c_emitter.proofs.BlockFacts.{IsWellMade}
 use Rattle.c_emitter.proofs.Ports.{has_bit-same, has_bit-other}
-use Rattle.c_emitter.proofs.FlatRows.{diagram, RowView, input_row, output_row as output_view, delay_row, fixed_row, sink_row, view, root-row}
+use Rattle.c_emitter.proofs.lemmas.FlatRows.{diagram, RowView, input_row, output_row as output_view, delay_row, fixed_row, sink_row, view, root-row}
 use Rattle.c_emitter.proofs.Members.{is-output-of}
 use Rattle.c_emitter.proofs.FlatBlocks.{blocks, same-length, are-blocks, output-kind}
 use Rattle.c_emitter.proofs.FlatTicks.{around-none}

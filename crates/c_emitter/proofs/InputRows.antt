@@ -1,5 +1,5 @@
 -- The inputs of a diagram of one system, by port.
-use Rattle.std.specs.Prelude.{◌≡◌, ℕ, zero, suc, ◌+◌, ◌-◌, ◌<◌, ◌≤◌, Bool, true, false, ◌==◌, List, [], ◌∷◌, map, filter_map, find, length, slice_index_or, Option, Some, None}
+use Rattle.std.specs.Prelude.{◌≡◌, ℕ, zero, suc, ◌+◌, ◌-◌, ◌<◌, ◌≤◌, Bool, true, false, ◌==◌, List, [], ◌∷◌, map, filter_map, find, length, slice_get, Option, Some, None, unwrap_or}
 use Rattle.std.specs.List.{cons_option, range_with_len, AllByRecursion}
 use Rattle.std.proofs.Common.{refl, sym, ◌∙◌, ap, subst, arith, cond, true≢false}
 use Rattle.std.proofs.lemmas.Bool.{eq-eqb, eqb-true}
@@ -12,6 +12,7 @@ use Rattle.mc_diagram.specs.declared.Row.{Row}
 use Rattle.mc_diagram.specs.Rows.{row_at, port_of, inports_of}
 use Rattle.mc_profile.specs.Ports.{input_ports}
 use Rattle.mc_profile.specs.Systems.{input_row}
+use Rattle.mc_profile.specs.Traces.{input_type_of}
 use Rattle.c_emitter.specs.declared.block.Block.{Block}
 use Rattle.c_emitter.specs.declared.block.Block.TheVariants.{Input, Output, Delay, Fixed, Sink}
 use Rattle.mc_diagram.specs.Diagram.{type_at}
@@ -19,10 +20,10 @@ use Rattle.c_emitter.specs.Names.{container}
 use Rattle.c_emitter.specs.Flat.{IsFlat}
 use Rattle.c_emitter.specs.Blocks.{TypedBlock, block_at, input_type, is_input, port_of_input, rows_below, input_count}
 use Rattle.c_emitter.proofs.BlockFacts.{IsWellMade}
-use Rattle.c_emitter.proofs.Members.{Has, has-range, has-filter, all-found, input-type-at}
+use Rattle.c_emitter.proofs.Members.{Has, has-range, has-filter, input-type-at}
 use Rattle.c_emitter.proofs.Pigeons.{each-port, found-of, length-found}
 use Rattle.c_emitter.proofs.Chosen.{all-chosen}
-use Rattle.c_emitter.proofs.FlatRows.{diagram, view, type-is, holds-at}
+use Rattle.c_emitter.proofs.lemmas.FlatRows.{diagram, view, type-is}
 use Rattle.c_emitter.proofs.FlatBlocks.{blocks, same-length, are-blocks, input-rows, input-kind}
 
 -- the port of a block that is an input
@@ -50,14 +51,14 @@ find-passes t (x ∷ xs) c e = by (t x) refl e (λ q. find-passes t xs c q)
     by false q e later = later e
 
 -- where each is found, they stand in order
-found-at : (f : ℕ → Option ℕ) (a n i : ℕ) → AllByRecursion (λ k. (c : ℕ) × (f k ≡ Some c)) (range_with_len a n) → i < n → f (a + i) ≡ Some (slice_index_or (filter_map f (range_with_len a n)) i 0)
+found-at : (f : ℕ → Option ℕ) (a n i : ℕ) → AllByRecursion (λ k. (c : ℕ) × (f k ≡ Some c)) (range_with_len a n) → i < n → f (a + i) ≡ slice_get (filter_map f (range_with_len a n)) i
 found-at f a zero i all h = absurd (omega arith)
 found-at f a (suc n) zero all h =
     let here : a + 0 ≡ a = omega arith in
-    ap f here ∙ all.0.1 ∙ ap (λ o. Some (slice_index_or (cons_option o (filter_map f (range_with_len (a + 1) n))) 0 0)) (sym all.0.1)
+    ap f here ∙ all.0.1 ∙ ap (λ o. slice_get (cons_option o (filter_map f (range_with_len (a + 1) n))) 0) (sym all.0.1)
 found-at f a (suc n) (suc i) all h =
     let next : a + suc i ≡ a + 1 + i = omega arith in
-    ap f next ∙ found-at f (a + 1) n i all.1 (omega arith) ∙ ap (λ o. Some (slice_index_or (cons_option o (filter_map f (range_with_len (a + 1) n))) (suc i) 0)) (sym all.0.1)
+    ap f next ∙ found-at f (a + 1) n i all.1 (omega arith) ∙ ap (λ o. slice_get (cons_option o (filter_map f (range_with_len (a + 1) n))) (suc i)) (sym all.0.1)
 
 module _ (rows : List Row) (types : List FixType) (ops : List Op) (flat : IsFlat (diagram rows types ops)) where
   abbrev bs : List TypedBlock
@@ -107,46 +108,33 @@ module _ (rows : List Row) (types : List FixType) (ops : List Op) (flat : IsFlat
   pub ports-are : input_ports rows None ≡ map Number (range_with_len 1 (input_count bs))
   ports-are = append-nil (map Number (range_with_len 1 (length (inports_of rows None)))) ∙ ap (λ n. map Number (range_with_len 1 n)) inports-count
 
-  inports-are-rows : AllByRecursion (λ c. c < length rows) (inports_of rows None)
-  inports-are-rows =
-      subst (AllByRecursion (λ c. c < length rows)) (sym inports-by)
-      (all-found (λ k. find (λ b. port_of (row_at rows b).kind == k) own) (λ c. c < length rows) (range_with_len 1 (input_count bs)) (λ k c e.
-      find-member (λ b. port_of (row_at rows b).kind == k) (λ c. c < length rows) own c
-      (all-chosen (λ b. is_input (block_at bs b)) (λ c. c < length rows) 0 (length bs) (λ b low high passes. let same = same-length rows types ops flat in omega (arith, same))) e))
-
-  found-row : (k : ℕ) → 1 ≤ k → k < 1 + input_count bs → find (λ b. port_of (row_at rows b).kind == k) own ≡ Some (input_row rows None (Number k))
+  found-row : (k : ℕ) → 1 ≤ k → k < 1 + input_count bs → find (λ b. port_of (row_at rows b).kind == k) own ≡ input_row rows None (Number k)
   found-row k low high =
       let number : 1 + (k - 1) ≡ k = omega (arith, low) in
       let search : ℕ → Option ℕ = λ k. find (λ b. port_of (row_at rows b).kind == k) own in
       ap search (sym number)
       ∙ found-at search 1 (input_count bs) (k - 1) (all-in 1 (input_count bs) (omega arith) (omega arith)) (omega (arith, low, high))
-      ∙ ap (λ l. Some (slice_index_or l (k - 1) 0)) (sym inports-by)
+      ∙ ap (λ l. slice_get l (k - 1)) (sym inports-by)
 
   abbrev IsInputRow : ℕ → Type 0
   IsInputRow b = (b < length bs) × (is_input (block_at bs b) ≡ true)
 
   -- the row of an input is that input
-  input-at : (k : ℕ) → 1 ≤ k → k < 1 + input_count bs → (input_row rows None (Number k) < length bs) × (block_at bs (input_row rows None (Number k)) ≡ Input k)
+  input-at : (k : ℕ) → 1 ≤ k → k < 1 + input_count bs → (r : ℕ) × (input_row rows None (Number k) ≡ Some r) × (r < length bs) × (block_at bs r ≡ Input k)
   input-at k low high =
-      let r : ℕ = input_row rows None (Number k) in
-      let found = found-row k low high in
+      let (r, found) = input-found k low high in
       let is : IsInputRow r = find-member (λ b. port_of (row_at rows b).kind == k) IsInputRow own r (all-chosen (λ b. is_input (block_at bs b)) IsInputRow 0 (length bs) (λ b low high passes. (omega arith, passes))) found in
       let p = input-is-port (block_at bs r) is.1 in
       let within : r < length bs = is.0 in
       let below : r < length rows = (let same = same-length rows types ops flat in omega (arith, same, within)) in
       let kind = input-kind rows types ops flat r p.0 (view rows types ops flat r below) p.1 in
       let port : p.0 ≡ k = sym (ap port_of kind) ∙ eqb-true (port_of (row_at rows r).kind) k (find-passes (λ b. port_of (row_at rows b).kind == k) own r found) in
-      (within, p.1 ∙ ap Input port)
+      (r, sym (found-row k low high) ∙ found, within, p.1 ∙ ap Input port)
 
   -- an input has the container of its type
-  pub input-types-are : (k : ℕ) → 1 ≤ k → k < 1 + input_count bs → input_type bs k ≡ container (type_at types (input_row rows None (Number k)))
+  pub input-types-are : (k : ℕ) → 1 ≤ k → k < 1 + input_count bs → input_type bs k ≡ container (input_type_of (diagram rows types ops) None (Number k))
   input-types-are k low high =
-      let r : ℕ = input_row rows None (Number k) in
-      let at = input-at k low high in
-      let within : r < length bs = at.0 in
-      input-type-at bs (are-blocks rows types ops flat) r k within at.1
+      let (r, row, within, block) = input-at k low high in
+      input-type-at bs (are-blocks rows types ops flat) r k within block
       ∙ type-is rows types ops flat r (let same = same-length rows types ops flat in omega (arith, same, within))
-
-  -- the row of an input is one of the table
-  pub input-row-within : (k : ℕ) → 1 ≤ k → k < 1 + input_count bs → input_row rows None (Number k) < length rows
-  input-row-within k low high = holds-at (λ c. c < length rows) (inports_of rows None) (k - 1) 0 inports-are-rows (let count = inports-count in omega (arith, count))
+      ∙ ap (λ o. container (type_at types (unwrap_or o (length rows)))) (sym row)

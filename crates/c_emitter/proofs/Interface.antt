@@ -7,8 +7,8 @@ use Rattle.std.proofs.lemmas.List.{reverse-append, length-reverse, drop_at}
 use Rattle.std.proofs.lemmas.Bool.{lt-ltb, and_from, cond_both}
 use Rattle.std.proofs.lemmas.Fmt.{decimal_nonempty}
 use Rattle.c_emitter.proofs.Digits.{decimal-digits, prefix_len-all, list_all-reverse}
-use Rattle.c_tree.specs.Machine.{is_interface, trailing_digits, ends_with_number}
-use Rattle.c_tree.specs.Tokens.{ends_with}
+use Rattle.c_machine.specs.Machine.{is_interface, trailing_digits, ends_with_number}
+use Rattle.c_syntax.specs.Names.{ends_with}
 use Rattle.c_emitter.specs.Names.{out_name, update_name}
 
 pub update-is_interface : is_interface (update_name None) ≡ true

@@ -1,18 +1,18 @@
 -- The bodies of the procedures of `top` read and store number fields, and stay within the limits.
-use Rattle.std.specs.Prelude.{◌≡◌, ◌≢◌, ℕ, zero, suc, ◌+◌, ◌-◌, ◌<◌, ◌≤◌, ◌^◌, true, List, [], ◌∷◌, ◌++◌, map, filter, length, Some, None, ℤ, pos, negsuc}
+use Rattle.std.specs.Prelude.{◌≡◌, ◌≢◌, ℕ, zero, suc, ◌+◌, ◌<◌, ◌≤◌, ◌^◌, true, List, [], ◌∷◌, ◌++◌, map, filter, length, Some, None, ℤ, pos, negsuc}
 use Rattle.std.specs.List.{range_with_len, AllByRecursion}
 use Rattle.std.proofs.Common.{refl, sym, ◌∙◌, ap, subst, arith, true≢false, lit<}
 use Rattle.std.proofs.lemmas.List.{length-map, length-append, append_assoc}
 use Rattle.std.proofs.lemmas.List.FromFn.{length-range_with_len}
 use Rattle.std.proofs.lemmas.Bool.{and_parts, eqb-true}
-use Rattle.c_tree.specs.declared.FieldKind.TheVariants.{Number}
-use Rattle.c_tree.specs.declared.CType.{CType}
-use Rattle.c_tree.specs.declared.CType.TheVariants.{U8, I64}
-use Rattle.c_tree.specs.Tree.{StmtTree, stmts_of_list, StructTree, ProcedureTree, FieldTree}
-use Rattle.c_tree.specs.Values.{is_in_type}
-use Rattle.c_tree.specs.Rows.{is_number}
-use Rattle.c_tree.specs.Lawful.{Reach, IsNumberAt, IsLawfulExpr, IsLawfulStmt, AreLawfulStmts}
-use Rattle.c_tree.specs.Reading.{expr_depth, stmts_depth, stmts_exprs_depth, stmt_depth, stmt_exprs_depth}
+use Rattle.c_syntax.specs.declared.FieldKind.TheVariants.{Number}
+use Rattle.c_syntax.specs.declared.CType.{CType}
+use Rattle.c_syntax.specs.declared.CType.TheVariants.{U8, I64}
+use Rattle.c_syntax.specs.Tree.{StmtTree, stmts_of_list, StructTree, ProcedureTree, FieldTree}
+use Rattle.c_machine.specs.Values.{is_in_type}
+use Rattle.c_syntax.specs.RootFields.{is_number}
+use Rattle.c_syntax.specs.Lawful.{Reach, IsNumberAt, IsLawfulExpr, IsLawfulStmt, AreLawfulStmts}
+use Rattle.c_syntax.specs.Limits.{expr_depth, stmts_depth, stmts_exprs_depth, stmt_depth, stmt_exprs_depth}
 use Rattle.c_emitter.specs.declared.block.Block.{Block}
 use Rattle.c_emitter.specs.declared.block.Block.TheVariants.{Input, Output, Delay, Fixed, Sink}
 use Rattle.c_emitter.specs.Names.{value_name, memory_name}
@@ -21,7 +21,7 @@ use Rattle.c_emitter.specs.Bodies.{number_expr, value_expr, source_place, store_
 use Rattle.c_emitter.specs.FlatProgram.{counter_name, typed_field, top_fields}
 use Rattle.c_emitter.proofs.Chosen.{all-chosen}
 use Rattle.c_emitter.proofs.BlockFacts.{HasValue, IsWellMade, AreBlocks, source-valued, output-valued, value-within, memory-within}
-use Rattle.c_emitter.proofs.Containers.{negative-small, positive-small}
+use Rattle.c_emitter.proofs.lemmas.Containers.{negative-small, positive-small}
 use Rattle.c_emitter.proofs.Ports.{single-port, all-ports}
 
 -- ---- Statements in lists
@@ -147,13 +147,13 @@ module _ (blocks : List TypedBlock) (are : AreBlocks blocks) (structs : List Str
   memory-lawful : (b : ℕ) → b < length blocks → is_delay_block (block_at blocks b) ≡ true → IsLawfulStmt reach (store_memory blocks b)
   memory-lawful b h delay = (memory-number b h delay, value-number (source_of (block_at blocks b)) (delay-reads (block_at blocks b) delay (are.each b h)))
 
-  hit-lawful : 0 < params → Rattle.c_tree.specs.Lawful.IsLawfulCond reach hit_test
+  hit-lawful : 0 < params → Rattle.c_syntax.specs.Lawful.IsLawfulCond reach hit_test
   hit-lawful h = ((h, (1, refl, lit< tt)), (0, refl, lit< tt))
 
   counter-lawful : (n : ℕ) → n < 2 ^ 63 → IsLawfulStmt reach (set_counter blocks (pos n))
   counter-lawful n h = (field-number blocks (counter_place blocks) (omega arith), (n, refl, h))
 
-  idle-lawful : Rattle.c_tree.specs.Lawful.IsLawfulCond reach (idle_test blocks)
+  idle-lawful : Rattle.c_syntax.specs.Lawful.IsLawfulCond reach (idle_test blocks)
   idle-lawful = (field-number blocks (counter_place blocks) (omega arith), (0, refl, lit< tt))
 
   -- ---- Functions

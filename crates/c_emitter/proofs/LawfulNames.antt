@@ -4,13 +4,13 @@ use Rattle.std.specs.List.{range_with_len}
 use Rattle.std.proofs.Common.{refl, sym, ◌∙◌, ap, ap₂, subst, arith, cond}
 use Rattle.std.proofs.lemmas.List.{map-append, append_assoc}
 use Rattle.std.proofs.lemmas.Bool.{ne_eqb, or_from}
-use Rattle.c_tree.specs.Tokens.{is_name}
-use Rattle.c_tree.specs.Outputs.{has_name}
-use Rattle.c_tree.specs.Tree.{FieldTree, ProcedureTree}
-use Rattle.c_tree.specs.Lawful.{AreDistinct, procedure_names}
-use Rattle.c_tree.specs.declared.CType.{CType}
-use Rattle.c_tree.specs.declared.CType.TheVariants.{U8}
-use Rattle.c_tree.specs.declared.FieldKind.TheVariants.{Number, Struct}
+use Rattle.c_syntax.specs.Names.{is_name}
+use Rattle.c_syntax.specs.Outputs.{has_name}
+use Rattle.c_syntax.specs.Tree.{FieldTree, ProcedureTree}
+use Rattle.c_syntax.specs.Lawful.{AreDistinct, procedure_names}
+use Rattle.c_syntax.specs.declared.CType.{CType}
+use Rattle.c_syntax.specs.declared.CType.TheVariants.{U8}
+use Rattle.c_syntax.specs.declared.FieldKind.TheVariants.{Number, Struct}
 use Rattle.mc_profile.specs.Systems.{system_name}
 use Rattle.c_emitter.specs.Names.{value_name, memory_name, now_name, input_name, output_name, out_name, update_name, start_name, reset_name, root_start_name, root_step_name}
 use Rattle.c_emitter.specs.Blocks.{TypedBlock, value_rows, delay_rows, output_rows, function_needs, type_of, output_type}

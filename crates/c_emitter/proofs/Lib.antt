@@ -1,8 +1,8 @@
+pub mod lemmas
 pub mod NumberCells
 pub mod Straight
 pub mod Chosen
 pub mod Sequences
-pub mod Containers
 pub mod NumberExprs
 pub mod BlockFacts
 pub mod TopTypes
@@ -19,7 +19,6 @@ pub mod StepRun
 pub mod Procedures
 pub mod StartRun
 pub mod RootStart
-pub mod FlatRows
 pub mod FlatBlocks
 pub mod FlatTicks
 pub mod FlatNeeds
@@ -41,6 +40,5 @@ pub mod LawfulBodies
 pub mod FlatLawful
 pub mod FlatCode
 pub mod RowLaws
-pub mod RowLoops
 pub mod PassLoops
 pub mod RootLoops

@@ -5,8 +5,8 @@ use Rattle.std.specs.Option.{option_map_or}
 use Rattle.std.proofs.Common.{refl, sym, ◌∙◌, ap, subst, arith, inl, inr, true≢false, eq-eqb, cond}
 use Rattle.std.proofs.lemmas.Bool.{eqb-true, or_cases, or_left, or_right, ne_eqb, false_from_ne_true}
 use Rattle.std.proofs.lemmas.Bool.Decides.{eqb_tells}
-use Rattle.mc_profile.specs.Functions.{different}
-use Rattle.c_tree.specs.declared.CType.TheVariants.{I32}
+use Rattle.mc_cluster.specs.Classes.{different}
+use Rattle.c_syntax.specs.declared.CType.TheVariants.{I32}
 use Rattle.c_emitter.specs.declared.block.Block.{Block}
 use Rattle.c_emitter.specs.declared.block.Block.TheVariants.{Input, Output, Delay, Fixed, Sink}
 use Rattle.c_emitter.specs.Blocks.{TypedBlock, no_typed_block, block_at, type_of, is_input_of, input_row, input_type, is_output_of, output_row, output_rows, output_source, output_sources, source_of, source_need, need_of, output_needs, function_needs, output_count}

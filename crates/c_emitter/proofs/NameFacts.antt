@@ -8,8 +8,8 @@ use Rattle.std.proofs.lemmas.Bool.{eq-eqb, ne_eqb}
 use Rattle.std.proofs.lemmas.Bool.Decides.{eqb_tells}
 use Rattle.std.proofs.lemmas.Fmt.{decimal_injective}
 use Rattle.std.proofs.lemmas.List.FromFn.{length-range_with_len}
-use Rattle.c_tree.specs.declared.CType.{CType}
-use Rattle.c_tree.specs.Tree.{FieldTree}
+use Rattle.c_syntax.specs.declared.CType.{CType}
+use Rattle.c_syntax.specs.Tree.{FieldTree}
 use Rattle.c_emitter.specs.FlatProgram.{typed_field}
 use Rattle.c_emitter.proofs.Ports.{filter-all}
 

@@ -6,7 +6,7 @@ use Rattle.std.proofs.Common.{refl, sym, ◌∙◌, ap, ap₂, arith, true≢fal
 use Rattle.std.proofs.lemmas.List.{reverse-append, length-reverse}
 use Rattle.std.proofs.lemmas.Bool.{and_from, and_parts, and_left, and_right, or_left, or_right, leb-true, ne_eqb}
 use Rattle.std.proofs.lemmas.Fmt.{decimal_nonempty}
-use Rattle.c_tree.specs.Tokens.{is_name, is_word_byte, is_word_start, ends_with, keywords}
+use Rattle.c_syntax.specs.Names.{is_name, is_word_byte, is_word_start, ends_with, keywords}
 use Rattle.c_emitter.proofs.Digits.{decimal-digits, list_all-append, list_all-reverse}
 
 -- a digit is a byte of a word
@@ -54,7 +54,7 @@ no-ending front n h =
     ∙ ends-in-digit (reverse (decimal n)) (reverse front) (list_all-reverse is_ascii_digit (decimal n) (decimal-digits n h)) (let some = decimal_nonempty n h in let size = length-reverse (decimal n) in omega (arith, some, size))
 
 -- a letter and a number, where the letter is none that is left out
-pub letter-name : (x n : ℕ) → n < 2 ^ 64 → Rattle.c_tree.specs.Tokens.is_lower x ≡ true → is_name (x ∷ decimal n) ≡ true
+pub letter-name : (x n : ℕ) → n < 2 ^ 64 → Rattle.c_syntax.specs.Names.is_lower x ≡ true → is_name (x ∷ decimal n) ≡ true
 letter-name x n h lower =
     let (d, ds, e, digit) = decimal-cons n h in
     let word : list_all is_word_byte (x ∷ decimal n) ≡ true = and_from _ _ (or_left (is_word_start x) (is_ascii_digit x) (or_left _ _ (or_left _ _ lower))) (all-words (decimal n) (decimal-digits n h)) in

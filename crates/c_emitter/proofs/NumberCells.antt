@@ -1,7 +1,7 @@
 -- Instances whose fields are numbers, perhaps with other fields behind them.
 use Rattle.std.specs.Prelude.{◌≡◌, ℕ, zero, suc, ◌<◌, List, [], ◌∷◌, length, slice_index_or, slice_set, ℤ, pos}
 use Rattle.std.proofs.Common.{refl, ap, arith}
-use Rattle.c_tree.specs.Cells.{number, object, Cells, no_cells, more_cells, set_cell, value_at, fields_at}
+use Rattle.c_machine.specs.Cells.{number, object, Cells, no_cells, more_cells, set_cell, value_at, fields_at}
 
 -- these numbers, and then other fields
 abbrev pub cells_then : List ℤ → Cells → Cells

@@ -2,13 +2,13 @@
 use Rattle.std.specs.Prelude.{◌≡◌, ◌≢◌, ℕ, ◌-◌, ◌^◌, true, if◌then◌else◌, List, ℤ, pos, negsuc}
 use Rattle.std.proofs.Common.{refl, ap, arith}
 use Rattle.std.proofs.lemmas.Bool.{and_from, le-leb}
-use Rattle.c_tree.specs.declared.CType.{CType}
-use Rattle.c_tree.specs.declared.CType.TheVariants.{I64}
-use Rattle.c_tree.specs.declared.Why.TheVariants.{Overflow}
-use Rattle.c_tree.specs.Values.{gives, is_in_type, sticks, stuck_at}
+use Rattle.c_syntax.specs.declared.CType.{CType}
+use Rattle.c_syntax.specs.declared.CType.TheVariants.{I64}
+use Rattle.c_syntax.specs.declared.Why.TheVariants.{Overflow}
+use Rattle.c_machine.specs.Values.{gives, is_in_type, sticks, stuck_at}
 use Rattle.c_emitter.specs.Bodies.{number_expr}
 use Rattle.c_emitter.proofs.Straight.{Gives}
-use Rattle.c_emitter.proofs.Containers.{negative-small}
+use Rattle.c_emitter.proofs.lemmas.Containers.{negative-small}
 
 -- a number of a type, as an expression
 negative-fits : (t : CType) (n : ℕ) → t ≢ I64 → is_in_type t (negsuc n) ≡ true → is_in_type I64 (negsuc n) ≡ true

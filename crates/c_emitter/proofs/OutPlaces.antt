@@ -6,8 +6,8 @@ use Rattle.std.proofs.lemmas.List.{map-append, map-id, length-append}
 use Rattle.std.proofs.lemmas.List.FromFn.{length-range_with_len}
 use Rattle.std.proofs.lemmas.Bool.{ne_eqb, or_left, or_right}
 use Rattle.std.proofs.lemmas.Bool.Decides.{eqb_tells}
-use Rattle.c_tree.specs.Tree.{ProcedureTree}
-use Rattle.c_tree.specs.Machine.{LoggedCall}
+use Rattle.c_syntax.specs.Tree.{ProcedureTree}
+use Rattle.c_machine.specs.Machine.{LoggedCall}
 use Rattle.c_emitter.specs.Names.{out_name, update_name}
 use Rattle.c_emitter.specs.Places.{has_procedure, procedure_place, out_count, out_places}
 use Rattle.c_emitter.specs.Blocks.{TypedBlock, function_needs}

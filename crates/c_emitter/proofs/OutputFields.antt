@@ -6,12 +6,12 @@ use Rattle.std.proofs.lemmas.List.{append-nil, append_assoc, get_or_at, length_p
 use Rattle.std.proofs.lemmas.List.FromFn.{length-range_with_len}
 use Rattle.std.proofs.lemmas.Bool.{ne_eqb, and_from, or_left, or_right}
 use Rattle.std.proofs.lemmas.Bool.Decides.{eqb_tells}
-use Rattle.c_tree.specs.declared.CType.{CType}
-use Rattle.c_tree.specs.Tree.{FieldTree}
-use Rattle.c_tree.specs.declared.FieldKind.TheVariants.{Struct}
-use Rattle.c_tree.specs.Cells.{Cells, value_at}
-use Rattle.c_tree.specs.Rows.{number_names, output_fields, field_position}
-use Rattle.c_tree.specs.Outputs.{has_name, numbers_from, output_count, output_name as name_of}
+use Rattle.c_syntax.specs.declared.CType.{CType}
+use Rattle.c_syntax.specs.Tree.{FieldTree}
+use Rattle.c_syntax.specs.declared.FieldKind.TheVariants.{Struct}
+use Rattle.c_machine.specs.Cells.{Cells, value_at}
+use Rattle.c_syntax.specs.RootFields.{number_names, output_fields, field_position}
+use Rattle.c_syntax.specs.Outputs.{has_name, numbers_from, output_count, output_name as name_of}
 use Rattle.mc_profile.specs.Systems.{system_name}
 use Rattle.c_emitter.specs.Names.{now_name, output_name}
 use Rattle.c_emitter.specs.Blocks.{TypedBlock, output_rows, output_type}

@@ -2,8 +2,8 @@
 use Rattle.std.specs.Prelude.{◌≡◌, ℕ, ◌+◌, true, false, List, [], ◌∷◌, ◌++◌, map}
 use Rattle.std.proofs.Common.{sym, ◌∙◌, ap, ap₂, arith}
 use Rattle.std.proofs.lemmas.List.{map-append, append_assoc}
-use Rattle.c_tree.specs.declared.Stmt.{Stmt}
-use Rattle.c_tree.specs.Plain.{stmt_tree}
+use Rattle.c_syntax.specs.declared.Stmt.{Stmt}
+use Rattle.c_syntax.specs.Plain.{stmt_tree}
 use Rattle.c_emitter.specs.declared.pass.Pass.{Pass}
 use Rattle.c_emitter.specs.Blocks.{TypedBlock, chosen}
 use Rattle.c_emitter.specs.Passes.{is_in_pass, pass_stmt}

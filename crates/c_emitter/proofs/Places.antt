@@ -4,10 +4,10 @@ use Rattle.std.specs.List.{range_with_len}
 use Rattle.std.proofs.Common.{refl, ◌∙◌, ap, arith, append_assoc}
 use Rattle.std.proofs.lemmas.List.{length-map}
 use Rattle.std.proofs.lemmas.List.FromFn.{length-range_with_len}
-use Rattle.c_tree.specs.declared.CType.TheVariants.{U8}
-use Rattle.c_tree.specs.declared.FieldKind.TheVariants.{Number, Struct}
-use Rattle.c_tree.specs.Tree.{FieldTree}
-use Rattle.c_tree.specs.Rows.{field_position}
+use Rattle.c_syntax.specs.declared.CType.TheVariants.{U8}
+use Rattle.c_syntax.specs.declared.FieldKind.TheVariants.{Number, Struct}
+use Rattle.c_syntax.specs.Tree.{FieldTree}
+use Rattle.c_syntax.specs.RootFields.{field_position}
 use Rattle.mc_diagram.specs.declared.Row.{Row}
 use Rattle.mc_diagram.specs.Rows.{outward, enclosing}
 use Rattle.mc_profile.specs.Systems.{system_name}

@@ -8,14 +8,14 @@ use Rattle.std.proofs.lemmas.Nat.{pow_apart, pow_pos}
 use Rattle.std.proofs.lemmas.Nat.Bits.{and_pow, bit_at-pow_same}
 use Rattle.std.proofs.lemmas.List.FromFn.{get_or-map-range_with_len}
 use Rattle.mc_profile.specs.Ports.{has_bit}
-use Rattle.c_tree.specs.declared.CType.{CType}
-use Rattle.c_tree.specs.declared.CType.TheVariants.{I32}
-use Rattle.c_tree.specs.declared.Leaf.{Leaf}
-use Rattle.c_tree.specs.declared.Leaf.TheVariants.{Param, Own}
-use Rattle.c_tree.specs.declared.Why.TheVariants.{Range}
-use Rattle.c_tree.specs.Tree.{ExprTree, read, exprs_of_list, ParamTree}
-use Rattle.c_tree.specs.Values.{Function, Answer, is_in_type, gives, sticks, and_then, within, stuck_at, int_at}
-use Rattle.c_tree.specs.Machine.{arguments}
+use Rattle.c_syntax.specs.declared.CType.{CType}
+use Rattle.c_syntax.specs.declared.CType.TheVariants.{I32}
+use Rattle.c_syntax.specs.declared.Leaf.{Leaf}
+use Rattle.c_syntax.specs.declared.Leaf.TheVariants.{Param, Own}
+use Rattle.c_syntax.specs.declared.Why.TheVariants.{Range}
+use Rattle.c_syntax.specs.Tree.{ExprTree, read, exprs_of_list, ParamTree}
+use Rattle.c_machine.specs.Values.{Function, Answer, is_in_type, gives, sticks, and_then, within, stuck_at, int_at}
+use Rattle.c_machine.specs.Machine.{arguments}
 use Rattle.c_emitter.specs.FlatProgram.{input_param}
 use Rattle.c_emitter.proofs.NumberCells.{item}
 use Rattle.c_emitter.proofs.Chosen.{all-chosen}

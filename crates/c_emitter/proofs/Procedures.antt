@@ -3,11 +3,11 @@ use Rattle.std.specs.Prelude.{◌≡◌, ℕ, zero, suc, ◌+◌, ◌<◌, ◌�
 use Rattle.std.specs.List.{enumerate_from, position_from, AllByRecursion}
 use Rattle.std.proofs.Common.{refl, sym, ◌∙◌, ap, subst, arith, cond, append_assoc}
 use Rattle.std.proofs.lemmas.List.{length-append, length-map}
-use Rattle.c_tree.specs.Tree.{StructTree, ProcedureTree}
-use Rattle.c_tree.specs.Values.{Function}
-use Rattle.c_tree.specs.Machine.{Routine, routine_at, routine_of, routines_of, program_routines}
-use Rattle.c_tree.specs.Rows.{procedure_named}
-use Rattle.c_tree.proofs.Runs.{routines_of-at}
+use Rattle.c_syntax.specs.Tree.{StructTree, ProcedureTree}
+use Rattle.c_machine.specs.Values.{Function}
+use Rattle.c_machine.specs.Machine.{Routine, routine_at, routine_of, routines_of, program_routines}
+use Rattle.c_syntax.specs.RootFields.{procedure_named}
+use Rattle.c_machine.proofs.lemmas.Runs.{routines_of-at}
 use Rattle.c_emitter.specs.Names.{out_name}
 use Rattle.c_emitter.specs.Blocks.{TypedBlock, function_needs}
 use Rattle.c_emitter.specs.Bodies.{update_place}

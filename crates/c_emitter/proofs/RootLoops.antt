@@ -4,16 +4,16 @@ use Rattle.std.specs.List.{enumerate_from}
 use Rattle.std.proofs.Common.{sym, ◌∙◌, ap, ap₂, arith}
 use Rattle.std.proofs.lemmas.List.{map-append, append_assoc, take_more, length-take-le}
 use Rattle.mc_diagram.specs.Diagram.{Diagram}
-use Rattle.c_tree.specs.declared.Expr.{Expr}
-use Rattle.c_tree.specs.declared.Leaf.TheVariants.{Own, Param}
-use Rattle.c_tree.specs.Tree.{read}
-use Rattle.c_tree.specs.Plain.{expr_tree}
+use Rattle.c_syntax.specs.declared.Expr.{Expr}
+use Rattle.c_syntax.specs.declared.Leaf.TheVariants.{Own, Param}
+use Rattle.c_syntax.specs.Tree.{read}
+use Rattle.c_syntax.specs.Plain.{expr_tree}
 use Rattle.c_emitter.specs.Flat.{IsFlatAtEveryTick}
 use Rattle.c_emitter.specs.Blocks.{blocks_of, input_count, output_rows, function_needs, chosen}
 use Rattle.c_emitter.specs.Bodies.{takes}
 use Rattle.c_emitter.proofs.Chosen.{chosen-passed, chosen-skipped}
 use Rattle.c_emitter.proofs.Costs.{outputs-few, functions-few}
-use Rattle.c_emitter.proofs.RowLoops.{are-blocks-of}
+use Rattle.c_emitter.proofs.lemmas.RowLoops.{are-blocks-of}
 
 -- at most 32 outputs and functions
 pub outputs-at-most : (d : Diagram) → IsFlatAtEveryTick d → (xs : List ℕ) → xs ≡ output_rows (blocks_of d) → length xs ≤ 32

@@ -5,14 +5,13 @@ use Rattle.std.proofs.Common.{refl, sym, ◌∙◌, ap, subst, arith, inl, inr, 
 use Rattle.std.proofs.lemmas.List.{map-append, set_at, length-append}
 use Rattle.std.proofs.lemmas.Bool.{or_cases, or_parts}
 use Rattle.std.proofs.lemmas.List.FromFn.{length-range_with_len}
-use Rattle.c_tree.specs.declared.Leaf.TheVariants.{Own, Child}
-use Rattle.c_tree.specs.declared.Why.TheVariants.{Range}
-use Rattle.c_tree.specs.declared.BinOp.TheVariants.{Add, Rem}
-use Rattle.c_tree.specs.Tree.{read, literal, binary, StmtTree, assign, stmts_of_list, ProcedureTree}
-use Rattle.c_tree.specs.Cells.{Cells, number, set_cell, value_at}
-use Rattle.c_tree.specs.Values.{eval, reads, is_in_type, stuck_at}
-use Rattle.c_tree.specs.Machine.{LoggedCall, stuck, behind, then_run, on_answer, store, Scope, Routine, routine_at, routine_of, run_stmt, run_stmts}
-use Rattle.c_tree.specs.Tree.{type_at, field_types}
+use Rattle.c_syntax.specs.declared.Leaf.TheVariants.{Own, Child}
+use Rattle.c_syntax.specs.declared.Why.TheVariants.{Range}
+use Rattle.c_syntax.specs.declared.BinOp.TheVariants.{Add, Rem}
+use Rattle.c_syntax.specs.Tree.{read, literal, binary, StmtTree, assign, stmts_of_list, ProcedureTree, type_at, field_types}
+use Rattle.c_machine.specs.Cells.{Cells, number, set_cell, value_at}
+use Rattle.c_machine.specs.Values.{eval, reads, is_in_type, stuck_at}
+use Rattle.c_machine.specs.Machine.{LoggedCall, stuck, behind, then_run, on_answer, store, Scope, Routine, routine_at, routine_of, run_stmt, run_stmts}
 use Rattle.c_emitter.specs.declared.block.Block.TheVariants.{Input}
 use Rattle.c_emitter.specs.Names.{output_name}
 use Rattle.c_emitter.specs.Blocks.{TypedBlock, block_at, source_need, value_place, output_rows, output_type}
@@ -46,7 +45,7 @@ module _ (blocks : List TypedBlock) (are : AreBlocks blocks) (x v m n : List ℤ
   abbrev pub in_tick : List ℤ
   in_tick = top_state blocks v m (pos 1)
 
-  takes-input : (need b port : ℕ) → b < length blocks → block_at blocks b ≡ Input port → source_need (Input port) ≡ need → Rattle.c_tree.specs.Values.int_at (pos 0 ∷ map (λ k. item x (k - 1)) (taken_ports blocks (Some need))) 1 ≡ item x (port - 1)
+  takes-input : (need b port : ℕ) → b < length blocks → block_at blocks b ≡ Input port → source_need (Input port) ≡ need → Rattle.c_machine.specs.Values.int_at (pos 0 ∷ map (λ k. item x (k - 1)) (taken_ports blocks (Some need))) 1 ≡ item x (port - 1)
   takes-input need b port h same e =
       let made = subst (IsWellMade blocks) same (are.each b h) in
       single-input blocks x port need made.0 made.1 e

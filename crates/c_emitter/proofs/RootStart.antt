@@ -4,17 +4,16 @@ use Rattle.std.specs.List.{range_with_len}
 use Rattle.std.proofs.Common.{refl, sym, ◌∙◌, ap, arith, append_assoc}
 use Rattle.std.proofs.lemmas.List.{length-map, length-append, append-nil}
 use Rattle.std.proofs.lemmas.List.FromFn.{length-range_with_len}
-use Rattle.c_tree.specs.declared.CType.{CType}
-use Rattle.c_tree.specs.declared.CType.TheVariants.{U8}
-use Rattle.c_tree.specs.declared.FieldKind.TheVariants.{Number}
-use Rattle.c_tree.specs.declared.Target.TheVariants.{Child as InChild}
-use Rattle.c_tree.specs.Tree.{no_exprs, stmts_of_list, FieldTree}
-use Rattle.c_tree.specs.Cells.{Cells, no_cells, more_cells, number, zero_cells}
-use Rattle.c_tree.specs.Values.{reads}
-use Rattle.c_tree.specs.Machine.{behind, then_run, on_answer, on_target, in_child, arguments, store_under, Scope, Routine, routine_at, routine_of, program_routines, run_stmts}
-use Rattle.c_tree.specs.Tree.{field_types}
-use Rattle.c_tree.specs.Rows.{zero_root, start_run}
-use Rattle.c_tree.proofs.Runs.{behind-nothing}
+use Rattle.c_syntax.specs.declared.CType.{CType}
+use Rattle.c_syntax.specs.declared.CType.TheVariants.{U8}
+use Rattle.c_syntax.specs.declared.FieldKind.TheVariants.{Number}
+use Rattle.c_syntax.specs.declared.Target.TheVariants.{Child as InChild}
+use Rattle.c_syntax.specs.Tree.{no_exprs, stmts_of_list, FieldTree, field_types}
+use Rattle.c_machine.specs.Cells.{Cells, no_cells, more_cells, number, zero_cells}
+use Rattle.c_machine.specs.Values.{reads}
+use Rattle.c_machine.specs.Machine.{behind, then_run, on_answer, on_target, in_child, arguments, store_under, Scope, Routine, routine_at, routine_of, program_routines, run_stmts}
+use Rattle.c_machine.specs.Rows.{zero_root, start_run}
+use Rattle.c_machine.proofs.lemmas.Runs.{behind-nothing}
 use Rattle.c_emitter.specs.Names.{value_name, memory_name, output_name}
 use Rattle.c_emitter.specs.Blocks.{TypedBlock, value_rows, delay_rows, output_rows, counter_place, type_of, output_type}
 use Rattle.c_emitter.specs.Bodies.{top_place, update_place, root_start_body}

@@ -8,10 +8,10 @@ use Rattle.mc_fixed.specs.Types.{boolean}
 use Rattle.mc_fixed.specs.Conversion.{quantize}
 use Rattle.mc_base.specs.declared.Decimal.{Decimal}
 use Rattle.mc_blocks.specs.declared.Kind.{Kind}
-use Rattle.mc_blocks.specs.declared.Kind.TheVariants.{Inport, Outport, SubSystem, Constant, Ground, Terminator, Gain as Amplify, Sum as Add, Product as Multiply, UnitDelay, ZeroOrderHold, Switch as Choose, Relational as Relate, Logic as Decide, Convert as Bring, RateTransition, EnablePort, TriggerPort}
+use Rattle.mc_blocks.specs.declared.Kind.TheVariants.{Inport, Outport, SubSystem, Constant, Ground, Terminator, Gain as Amplify, Sum as Add, Product as Multiply, UnitDelay, Delay as Remember, ZeroOrderHold, Switch as Choose, Relational as Relate, Logic as Decide, Convert as Bring, RateTransition, EnablePort, TriggerPort}
 use Rattle.c_emitter.specs.declared.block.Block.TheVariants.{Fixed, Sink}
 use Rattle.mc_blocks.specs.declared.Op.{Op}
-use Rattle.mc_blocks.specs.declared.Op.TheVariants.{Copy, Value, Delay, Gain, Sum, Product, Switch, Relational, Logic, Convert, Nothing}
+use Rattle.mc_blocks.specs.declared.Op.TheVariants.{Copy, Value, Delay, Line, Gain, Sum, Product, Switch, Relational, Logic, Convert, Nothing}
 use Rattle.mc_diagram.specs.declared.Row.{Row}
 use Rattle.mc_diagram.specs.Rows.{row_at, row_numbers, no_row, system_control}
 use Rattle.mc_diagram.specs.Diagram.{Diagram, op_at, op_in, type_at}
@@ -20,7 +20,7 @@ use Rattle.c_emitter.specs.FlatDiagrams.{flat_diagram}
 use Rattle.c_emitter.specs.Names.{container}
 use Rattle.c_emitter.specs.Flat.{IsFlat}
 use Rattle.c_emitter.specs.Blocks.{block_by, blocks_of, block_at, type_of, start_value, value_of}
-use Rattle.c_emitter.proofs.FlatRows.{diagram, RowView, input_row, output_row, delay_row, fixed_row, sink_row, view, block-is, type-is}
+use Rattle.c_emitter.proofs.lemmas.FlatRows.{diagram, RowView, input_row, output_row, delay_row, fixed_row, sink_row, view, block-is, type-is}
 use Rattle.c_emitter.proofs.FlatBlocks.{start-is}
 
 -- there is an operation for each row
@@ -44,6 +44,7 @@ sink-by (Amplify gain how) a b c d e wires start value = refl
 sink-by (Add count minus how) a b c d e wires start value = refl
 sink-by (Multiply count how) a b c d e wires start value = refl
 sink-by (UnitDelay initial) a b c d e wires start value = absurd (e initial refl)
+sink-by (Remember length initial) a b c d e wires start value = refl
 sink-by ZeroOrderHold a b c d e wires start value = refl
 sink-by (Choose criterion threshold how) a b c d e wires start value = refl
 sink-by (Relate compare) a b c d e wires start value = refl
@@ -58,6 +59,7 @@ pub no-value : (o : Op) → ((z : ℤ) → o ≡ Value z → ⊥) → pos 0 ≡ 
 no-value (Value z) other = absurd (other z refl)
 no-value Copy other = refl
 no-value (Delay z) other = refl
+no-value (Line length z) other = refl
 no-value (Gain m frac to how) other = refl
 no-value (Sum count minus fracs to how) other = refl
 no-value (Product count frac to how) other = refl

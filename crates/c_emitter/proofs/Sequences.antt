@@ -3,11 +3,11 @@ use Rattle.std.specs.Prelude.{◌≡◌, ℕ, ◌+◌, ◌<◌, ◌^◌, ◌⊎�
 use Rattle.std.specs.List.{list_any}
 use Rattle.std.proofs.Common.{refl, sym, ◌∙◌, ap, arith, inl, inr, true≢false}
 use Rattle.std.proofs.lemmas.List.{map-append}
-use Rattle.c_tree.specs.Tree.{CondTree, StmtTree, branch, StmtTrees, no_stmts, more_stmts, stmts_append, stmts_of_list}
-use Rattle.c_tree.specs.Cells.{Cells}
-use Rattle.c_tree.specs.Values.{gives, eval_cond, reads}
-use Rattle.c_tree.specs.Machine.{LoggedCall, StoredField, Outcome, behind, then_run, on_answer, Scope, run_stmt, run_stmts}
-use Rattle.c_tree.proofs.Runs.{run_stmts-append}
+use Rattle.c_syntax.specs.Tree.{CondTree, StmtTree, branch, StmtTrees, no_stmts, more_stmts, stmts_append, stmts_of_list}
+use Rattle.c_machine.specs.Cells.{Cells}
+use Rattle.c_machine.specs.Values.{gives, eval_cond, reads}
+use Rattle.c_machine.specs.Machine.{LoggedCall, StoredField, Outcome, behind, then_run, on_answer, Scope, run_stmt, run_stmts}
+use Rattle.c_machine.proofs.lemmas.Runs.{run_stmts-append}
 use Rattle.c_emitter.proofs.NumberCells.{number_cells, item}
 use Rattle.c_emitter.proofs.Straight.{finish, own_store, Known, Stores, begin_step-goes}
 

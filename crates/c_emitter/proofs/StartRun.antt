@@ -1,13 +1,12 @@
 -- What the start of the root does.
-use Rattle.std.specs.Prelude.{◌≡◌, ℕ, ◌+◌, ◌-◌, ◌^◌, ◌<◌, ◌≤◌, ◌⊎◌, List, [], ◌∷◌, ◌++◌, map, length, ℤ, pos}
+use Rattle.std.specs.Prelude.{◌≡◌, ℕ, ◌+◌, ◌^◌, ◌<◌, ◌≤◌, ◌⊎◌, List, [], ◌∷◌, ◌++◌, map, length, ℤ, pos}
 use Rattle.std.specs.List.{range_with_len}
 use Rattle.std.proofs.Common.{sym, ◌∙◌, ap, subst, arith, inl, inr}
 use Rattle.std.proofs.lemmas.List.FromFn.{length-map-range_with_len, get_or-map-range_with_len}
-use Rattle.c_tree.specs.declared.CType.TheVariants.{U8}
-use Rattle.c_tree.specs.Tree.{literal, StmtTree, stmts_of_list}
-use Rattle.c_tree.specs.Values.{gives, is_in_type}
-use Rattle.c_tree.specs.Machine.{Scope, run_stmts}
-use Rattle.c_tree.specs.Tree.{type_at}
+use Rattle.c_syntax.specs.declared.CType.TheVariants.{U8}
+use Rattle.c_syntax.specs.Tree.{literal, StmtTree, stmts_of_list, type_at}
+use Rattle.c_machine.specs.Values.{gives, is_in_type}
+use Rattle.c_machine.specs.Machine.{Scope, run_stmts}
 use Rattle.c_emitter.specs.Blocks.{TypedBlock, block_at, type_of, start_value, value_rows, value_place, counter_place, memory_place}
 use Rattle.c_emitter.specs.Bodies.{number_expr, start_row, start_memory, set_counter, is_delay_row, is_valued_row, reset_body, start_body}
 use Rattle.c_emitter.proofs.NumberCells.{number_cells, item}

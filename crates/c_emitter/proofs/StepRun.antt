@@ -4,11 +4,10 @@ use Rattle.std.specs.List.{range_with_len, enumerate_from, AllByRecursion}
 use Rattle.std.proofs.Common.{refl, sym, ◌∙◌, ap, ap₂, subst, arith, inl, inr, true≢false}
 use Rattle.std.proofs.lemmas.List.{append-nil}
 use Rattle.std.proofs.lemmas.Bool.{and_parts, and_from, not_from_false, eq-eqb, cases_Bool, false_from_ne_true, or_left}
-use Rattle.c_tree.specs.Tree.{stmts_of_list}
-use Rattle.c_tree.specs.Cells.{Cells}
-use Rattle.c_tree.specs.Values.{is_in_type, int_at}
-use Rattle.c_tree.specs.Machine.{LoggedCall, StoredField, Scope, Routine, routine_at, routine_of, run_stmts}
-use Rattle.c_tree.specs.Tree.{field_types}
+use Rattle.c_syntax.specs.Tree.{stmts_of_list, field_types}
+use Rattle.c_machine.specs.Cells.{Cells}
+use Rattle.c_machine.specs.Values.{is_in_type, int_at}
+use Rattle.c_machine.specs.Machine.{LoggedCall, StoredField, Scope, Routine, routine_at, routine_of, run_stmts}
 use Rattle.c_emitter.specs.declared.block.Block.{Block}
 use Rattle.c_emitter.specs.declared.block.Block.TheVariants.{Input, Output, Delay, Fixed, Sink}
 use Rattle.c_emitter.specs.Blocks.{TypedBlock, block_at, type_of, output_type, is_output, is_source_block, is_valued, value_place, counter_place, source_need, need_of, source_of, feeds_output, is_taken_in, is_given_in, is_held_input, is_unheld, output_rows, function_needs}

@@ -4,13 +4,12 @@ use Rattle.std.specs.List.{AllByRecursion, list_any}
 use Rattle.std.proofs.Common.{refl, sym, ◌∙◌, ap, ap₂, subst, arith, inl, inr, lt-ltb, get_or-set_same, get_or-set_other, true≢false}
 use Rattle.std.proofs.lemmas.List.{length-set}
 use Rattle.std.proofs.lemmas.Bool.Decides.{eqb_tells}
-use Rattle.c_tree.specs.declared.Leaf.TheVariants.{Own}
-use Rattle.c_tree.specs.Tree.{ExprTree, read, assign, stmts_of_list}
-use Rattle.c_tree.specs.Cells.{Cells, number, set_cell}
-use Rattle.c_tree.specs.Values.{Function, gives, eval, reads, is_in_type, stuck_at}
-use Rattle.c_tree.specs.declared.Why.TheVariants.{Range, Steps}
-use Rattle.c_tree.specs.Machine.{LoggedCall, StoredField, Outcome, done, stuck, behind, then_run, begin_step, on_answer, store, Scope, run_stmt, run_stmts}
-use Rattle.c_tree.specs.Tree.{type_at}
+use Rattle.c_syntax.specs.declared.Leaf.TheVariants.{Own}
+use Rattle.c_syntax.specs.Tree.{ExprTree, read, assign, stmts_of_list, type_at}
+use Rattle.c_machine.specs.Cells.{Cells, number, set_cell}
+use Rattle.c_machine.specs.Values.{Function, gives, eval, reads, is_in_type, stuck_at}
+use Rattle.c_syntax.specs.declared.Why.TheVariants.{Range, Steps}
+use Rattle.c_machine.specs.Machine.{LoggedCall, StoredField, Outcome, done, stuck, behind, then_run, begin_step, on_answer, store, Scope, run_stmt, run_stmts}
 use Rattle.c_emitter.proofs.NumberCells.{number_cells, item, value_at-number_cells, set_cell-number_cells}
 
 -- how straight code ends: with these fields, steps, calls and stores

@@ -3,15 +3,14 @@ use Rattle.std.specs.Prelude.{◌≡◌, ℕ, zero, suc, ◌+◌, ◌-◌, ◌^�
 use Rattle.std.specs.List.{cons_option, range_with_len, list_any}
 use Rattle.std.proofs.Common.{refl, sym, ◌∙◌, ap, subst, arith, inl, inr, true≢false, eq-eqb}
 use Rattle.std.proofs.lemmas.Bool.{cases_lt, eqb-true, and_parts, and_from, or_left, or_right}
-use Rattle.c_tree.specs.declared.CType.TheVariants.{U8}
-use Rattle.c_tree.specs.declared.Leaf.TheVariants.{Own}
-use Rattle.c_tree.specs.Tree.{read, literal, StmtTree, branch, stmts_of_list, no_stmts}
+use Rattle.c_syntax.specs.declared.CType.TheVariants.{U8}
+use Rattle.c_syntax.specs.declared.Leaf.TheVariants.{Own}
+use Rattle.c_syntax.specs.Tree.{read, literal, StmtTree, branch, stmts_of_list, no_stmts, type_at}
 use Rattle.std.specs.Ordering.{int_eq}
 use Rattle.std.proofs.lemmas.List.{ext_get_or}
-use Rattle.c_tree.specs.Cells.{value_at}
-use Rattle.c_tree.specs.Values.{gives, eval_cond, reads, int_at, is_in_type}
-use Rattle.c_tree.specs.Machine.{Scope, run_stmt, run_stmts}
-use Rattle.c_tree.specs.Tree.{type_at}
+use Rattle.c_machine.specs.Cells.{value_at}
+use Rattle.c_machine.specs.Values.{gives, eval_cond, reads, int_at, is_in_type}
+use Rattle.c_machine.specs.Machine.{Scope, run_stmt, run_stmts}
 use Rattle.c_emitter.specs.declared.block.Block.{Block}
 use Rattle.c_emitter.specs.declared.block.Block.TheVariants.{Input, Output, Delay, Fixed, Sink}
 use Rattle.c_emitter.specs.Blocks.{TypedBlock, block_at, type_of, is_output, is_source_block, is_valued, is_delay_block, port_of_input, source_of, value_rows, value_place, memory_place, counter_place, source_need, output_source, output_sources, is_taken_in, is_given_in, is_held_input, is_unheld}

@@ -2,11 +2,10 @@
 use Rattle.std.specs.Prelude.{◌≡◌, ℕ, zero, suc, ◌+◌, ◌<◌, true, List, [], ◌∷◌, ◌++◌, map, length, slice_index_or}
 use Rattle.std.specs.List.{range_with_len}
 use Rattle.std.proofs.Common.{refl, sym, ◌∙◌, ap, arith, append_assoc}
-use Rattle.c_tree.specs.declared.CType.{CType}
-use Rattle.c_tree.specs.declared.CType.TheVariants.{U8}
-use Rattle.c_tree.specs.declared.FieldKind.TheVariants.{Number}
-use Rattle.c_tree.specs.Tree.{FieldTree}
-use Rattle.c_tree.specs.Tree.{type_at, field_types}
+use Rattle.c_syntax.specs.declared.CType.{CType}
+use Rattle.c_syntax.specs.declared.CType.TheVariants.{U8}
+use Rattle.c_syntax.specs.declared.FieldKind.TheVariants.{Number}
+use Rattle.c_syntax.specs.Tree.{FieldTree, type_at, field_types}
 use Rattle.c_emitter.specs.Names.{value_name, memory_name}
 use Rattle.c_emitter.specs.Blocks.{TypedBlock, block_at, type_of, is_delay_block, is_valued, rows_below, value_rows, delay_rows, value_place, memory_place, counter_place}
 use Rattle.c_emitter.specs.FlatProgram.{top_fields, typed_field, counter_name}

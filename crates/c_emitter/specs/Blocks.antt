@@ -10,9 +10,9 @@ use Rattle.mc_diagram.specs.Rows.{row_at, by_row}
 use Rattle.mc_diagram.specs.Diagram.{Diagram, type_at, op_at}
 use Rattle.mc_diagram.specs.Run.{start_of}
 use Rattle.mc_profile.specs.Systems.{first_wire}
-use Rattle.mc_profile.specs.Functions.{different}
-use Rattle.c_tree.specs.declared.CType.{CType}
-use Rattle.c_tree.specs.declared.CType.TheVariants.{I32}
+use Rattle.mc_cluster.specs.Classes.{different}
+use Rattle.c_syntax.specs.declared.CType.{CType}
+use Rattle.c_syntax.specs.declared.CType.TheVariants.{I32}
 use Rattle.c_emitter.specs.Names.{container}
 use Rattle.c_emitter.specs.declared.block.Block.{Block}
 use Rattle.c_emitter.specs.declared.block.Block.TheVariants.{Input, Output, Delay, Fixed, Sink}

@@ -3,10 +3,10 @@ use Rattle.std.specs.Prelude.{ℕ, suc, ◌+◌, ◌-◌, Bool, true, List, [], 
 use Rattle.std.specs.List.{range_with_len, enumerate_from}
 use Rattle.mc_base.specs.declared.Compare.TheVariants.{Eq}
 use Rattle.mc_profile.specs.Ports.{has_bit}
-use Rattle.c_tree.specs.declared.BinOp.TheVariants.{Add, Rem}
-use Rattle.c_tree.specs.declared.Leaf.TheVariants.{Param, Own, Child}
-use Rattle.c_tree.specs.declared.Target.TheVariants.{Child as InChild}
-use Rattle.c_tree.specs.Tree.{ExprTree, literal, neg, read, binary, CondTree, compare, StmtTree, assign, branch, call, no_stmts, stmts_of_list, exprs_of_list}
+use Rattle.c_syntax.specs.declared.BinOp.TheVariants.{Add, Rem}
+use Rattle.c_syntax.specs.declared.Leaf.TheVariants.{Param, Own, Child}
+use Rattle.c_syntax.specs.declared.Target.TheVariants.{Child as InChild}
+use Rattle.c_syntax.specs.Tree.{ExprTree, literal, neg, read, binary, CondTree, compare, StmtTree, assign, branch, call, no_stmts, stmts_of_list, exprs_of_list}
 use Rattle.c_emitter.specs.declared.block.Block.{Block}
 use Rattle.c_emitter.specs.declared.block.Block.TheVariants.{Input, Output, Delay, Fixed, Sink}
 use Rattle.c_emitter.specs.Blocks.{TypedBlock, block_at, is_delay_block, is_valued, port_of_input, source_of, start_value, chosen, input_count, value_place, memory_place, counter_place, output_rows, function_needs, is_taken_in, is_given_in, is_held_input, is_unheld}

@@ -5,9 +5,9 @@ use Rattle.mc_blocks.specs.Meaning.{has_value}
 use Rattle.mc_diagram.specs.declared.Row.{Row}
 use Rattle.mc_diagram.specs.Rows.{row_at, rows_of}
 use Rattle.mc_diagram.specs.Diagram.{Diagram}
-use Rattle.c_tree.specs.Tree.{ProgramTree}
-use Rattle.c_tree.specs.Machine.{LoggedCall, StoredField}
-use Rattle.c_tree.specs.Rows.{TickRow}
+use Rattle.c_syntax.specs.Tree.{ProgramTree}
+use Rattle.c_machine.specs.Machine.{LoggedCall, StoredField}
+use Rattle.c_machine.specs.Rows.{TickRow}
 use Rattle.c_emitter.specs.Names.{value_name, update_name}
 use Rattle.c_emitter.specs.Places.{place_in, path_to, same_path, procedure_place, out_places}
 

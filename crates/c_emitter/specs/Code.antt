@@ -1,21 +1,23 @@
 -- When a program is code for a diagram of one system.
-use Rattle.std.specs.Prelude.{◌≡◌, ℕ, ◌≤◌, List, [], ◌∷◌, map, filter, length, Contains, IsPermutation, None, ℤ}
-use Rattle.std.specs.List.{AllByRecursion}
+use Rattle.std.specs.Prelude.{◌≡◌, ℕ, ◌≤◌, List, [], ◌∷◌, map, filter, sum, Contains, IsPermutation, None, ℤ}
+use Rattle.std.specs.List.{AllByRecursion, AllZip}
 use Rattle.mc_diagram.specs.Rows.{row_at, rows_of}
 use Rattle.mc_blocks.specs.Meaning.{has_value}
 use Rattle.mc_diagram.specs.Diagram.{Diagram, op_at}
 use Rattle.mc_diagram.specs.Needs.{AreTrueNeeds}
 use Rattle.mc_diagram.specs.Run.{outs, is_delay, start_of}
 use Rattle.mc_diagram.specs.Laws.{HasOneRun}
-use Rattle.mc_profile.specs.Functions.{different, functions_for}
-use Rattle.mc_profile.specs.Systems.{system_name}
-use Rattle.c_tree.specs.Tree.{StructTree, ProgramTree}
-use Rattle.c_tree.specs.Cells.{Cells, value_at as number_at}
-use Rattle.c_tree.specs.Machine.{Outcome, done, stuck}
-use Rattle.c_tree.specs.Rows.{c_rows, start_run}
-use Rattle.c_tree.specs.Lawful.{IsLawful}
+use Rattle.mc_cluster.specs.Classes.{class_count}
+use Rattle.mc_profile.specs.Functions.{functions_for}
+use Rattle.mc_profile.specs.Systems.{systems, system_name}
+use Rattle.mc_profile.specs.Traces.{IsTrace}
+use Rattle.c_syntax.specs.Tree.{StructTree, ProgramTree}
+use Rattle.c_machine.specs.Cells.{Cells, value_at as number_at}
+use Rattle.c_machine.specs.Machine.{Outcome, done, stuck}
+use Rattle.c_machine.specs.Rows.{c_rows, start_run}
+use Rattle.c_syntax.specs.Lawful.{IsLawful}
 use Rattle.c_emitter.specs.Names.{value_name, memory_name, root_name}
-use Rattle.c_emitter.specs.Systems.{step_bound, IsTrace}
+use Rattle.c_emitter.specs.Systems.{step_bound}
 use Rattle.c_emitter.specs.Headers.{AreFields, system_fields, named_fields, root_fields, public_headers, system_headers, root_headers}
 use Rattle.c_emitter.specs.Places.{place_in, path_to, cells_at}
 use Rattle.c_emitter.specs.Calls.{HasTopCalls}
@@ -38,7 +40,7 @@ pub record StaysInBound (p : ProgramTree) (d : Diagram) (xs : List (List ℤ)) :
 abbrev pub top_number : ProgramTree → Diagram → Cells → List ℕ → ℤ
 top_number p d cells name = number_at (cells_at (path_to p d.rows None) cells) (place_in p None name)
 
--- the fields of `top` hold the starts of its rows
+-- the fields of `top` hold the starts of its rows, whose memories are one number each
 pub record AtStart (p : ProgramTree) (d : Diagram) (cells : Cells) : Type 0 where
   pub values : AllByRecursion (λ b. top_number p d cells (value_name b) ≡ start_of d b) (filter (λ b. has_value (row_at d.rows b).kind) (rows_of d.rows None))
   pub memories : AllByRecursion (λ b. top_number p d cells (memory_name b) ≡ start_of d b) (filter (λ b. is_delay (op_at d b)) (rows_of d.rows None))
@@ -85,8 +87,10 @@ pub record IsCodeFor (p : ProgramTree) (d : Diagram) : Type 0 where
   -- in each tick each function of `top` is called once, and then its update
   pub calls : (xs : List (List ℤ)) → IsTrace d None xs → AllByRecursion (HasTopCalls p d) (c_rows p xs).ticks
 
--- so many output functions the root's system has
+-- so many output functions the systems have together: for each system one for each different set of its inputs that an
+-- output of it needs
 pub record IsFunctionCount (d : Diagram) (functions : ℕ) : Type 0 where
-  pub needs : List ℕ
-  pub are_needs : AreTrueNeeds d None needs
-  pub count : functions ≡ length (different needs)
+  -- the needs of the outputs of each system
+  pub needs : List (List ℕ)
+  pub are_needs : AllZip (AreTrueNeeds d) (systems d.rows) needs
+  pub count : functions ≡ sum (map class_count needs)

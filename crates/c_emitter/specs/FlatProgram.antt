@@ -1,10 +1,10 @@
 -- The program for a diagram of one system.
 use Rattle.std.specs.Prelude.{ℕ, false, List, [], ◌∷◌, ◌++◌, map, length, Option, Some, None, codes}
 use Rattle.std.specs.List.{range_with_len, enumerate_from}
-use Rattle.c_tree.specs.declared.CType.{CType}
-use Rattle.c_tree.specs.declared.CType.TheVariants.{U8, I32}
-use Rattle.c_tree.specs.declared.FieldKind.TheVariants.{Number, Struct}
-use Rattle.c_tree.specs.Tree.{FieldTree, StructTree, StmtTree, stmts_of_list, ParamTree, ProcedureTree, ProgramTree}
+use Rattle.c_syntax.specs.declared.CType.{CType}
+use Rattle.c_syntax.specs.declared.CType.TheVariants.{U8, I32}
+use Rattle.c_syntax.specs.declared.FieldKind.TheVariants.{Number, Struct}
+use Rattle.c_syntax.specs.Tree.{FieldTree, StructTree, StmtTree, stmts_of_list, ParamTree, ProcedureTree, ProgramTree}
 use Rattle.mc_profile.specs.Systems.{system_name}
 use Rattle.c_emitter.specs.Names.{value_name, memory_name, now_name, input_name, out_name, update_name, start_name, reset_name, root_name, root_start_name, root_step_name, output_name}
 use Rattle.c_emitter.specs.Headers.{now_param}

@@ -1,6 +1,6 @@
 -- The statements that one pass over the rows makes.
 use Rattle.std.specs.Prelude.{ℕ, Bool, List, length}
-use Rattle.c_tree.specs.Tree.{StmtTree}
+use Rattle.c_syntax.specs.Tree.{StmtTree}
 use Rattle.c_emitter.specs.declared.pass.Pass.{Pass}
 use Rattle.c_emitter.specs.declared.pass.Pass.TheVariants.{Taken, Given, Held, Unheld, Memories, StartValues, StartMemories}
 use Rattle.c_emitter.specs.Blocks.{TypedBlock, chosen, is_taken_in, is_given_in, is_held_input, is_unheld}

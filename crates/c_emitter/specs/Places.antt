@@ -4,9 +4,9 @@ use Rattle.std.specs.List.{list_any, position_from, prefix_len, range_with_len}
 use Rattle.mc_diagram.specs.declared.Row.{Row}
 use Rattle.mc_diagram.specs.Rows.{row_at, enclosing}
 use Rattle.mc_profile.specs.Systems.{system_name}
-use Rattle.c_tree.specs.Tree.{ProgramTree, struct_fields}
-use Rattle.c_tree.specs.Cells.{Cells, fields_at}
-use Rattle.c_tree.specs.Rows.{struct_named, field_position, root_fields}
+use Rattle.c_syntax.specs.Tree.{ProgramTree, struct_fields}
+use Rattle.c_machine.specs.Cells.{Cells, fields_at}
+use Rattle.c_syntax.specs.RootFields.{struct_named, field_position, root_fields}
 use Rattle.c_emitter.specs.Names.{child_name, out_name}
 
 -- the position of a field of this name in a system's struct

@@ -1,6 +1,6 @@
 ghost use Rattle.std.specs.Prelude.{◌≡◌, ℕ, ◌+◌, ◌-◌, ◌<◌, ◌≤◌, List, [], ◌∷◌, ◌++◌, map, length, pos, Option, IfOk, OnOk};
-ghost use Rattle.c_tree.specs.Tree.{branch, no_stmts, stmts_of_list};
-ghost use Rattle.c_tree.specs.Plain.{cond_tree, stmt_tree};
+ghost use Rattle.c_syntax.specs.Tree.{branch, no_stmts, stmts_of_list};
+ghost use Rattle.c_syntax.specs.Plain.{cond_tree, stmt_tree};
 ghost use Rattle.c_emitter.specs.Flat.{IsFlatAtEveryTick};
 ghost use Rattle.c_emitter.specs.Blocks.{blocks_of, counter_place, value_places, output_sources};
 ghost use Rattle.c_emitter.specs.Bodies.{hit_test, idle_test, set_counter, out_body, update_body, start_body, reset_body};
@@ -9,7 +9,7 @@ use crate::block::Sort;
 use crate::flat::FlatDiagram;
 use crate::pass::{Pass, push_pass, set};
 use crate::rows::count;
-use c_tree::{BinOp, Cond, Expr, Leaf, Stmt};
+use c_syntax::{BinOp, Cond, Expr, Leaf, Stmt};
 use mc_base::{Compare, Memory};
 use std::alloc::Global;
 

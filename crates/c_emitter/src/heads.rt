@@ -1,7 +1,7 @@
 ghost use Rattle.std.specs.Prelude.{◌≡◌, ℕ, ◌+◌, ◌-◌, ◌<◌, ◌≤◌, List, [], ◌∷◌, ◌++◌, map, length, slice_index_or, Option, IfOk, OnOk, decimal, false};
 ghost use Rattle.std.specs.List.{range_with_len};
-ghost use Rattle.c_tree.specs.Tree.{ParamTree};
-ghost use Rattle.c_tree.specs.PlainField.{field_tree, field_trees};
+ghost use Rattle.c_syntax.specs.Tree.{ParamTree};
+ghost use Rattle.c_syntax.specs.PlainField.{field_tree, field_trees};
 ghost use Rattle.c_emitter.specs.Flat.{IsFlatAtEveryTick};
 ghost use Rattle.c_emitter.specs.Names.{value_name, memory_name, output_name};
 ghost use Rattle.c_emitter.specs.Blocks.{blocks_of, type_of, value_rows, delay_rows, output_rows, output_type};
@@ -14,7 +14,7 @@ use crate::flat::FlatDiagram;
 use crate::root::takes;
 use crate::rows::{block_at, count};
 use crate::types::{input_type, row_type};
-use c_tree::{CType, Field, FieldKind};
+use c_syntax::{CType, Field, FieldKind};
 use mc_base::{Memory, Text};
 use std::alloc::Global;
 

@@ -16,6 +16,3 @@ mod types;
 pub use flat::FlatDiagram;
 pub use kinds::is_emitted;
 pub use program::{emit, function_count};
-
-#[cfg(test)]
-mod tests;

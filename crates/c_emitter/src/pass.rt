@@ -1,6 +1,6 @@
 ghost use Rattle.std.specs.Prelude.{◌≡◌, ℕ, ◌+◌, ◌^◌, ◌<◌, ◌≤ℤ◌, neg_ℤ, pos, List, ◌++◌, map, length, IfOk, OnOk};
-ghost use Rattle.c_tree.specs.Tree.{read, assign, StmtTree};
-ghost use Rattle.c_tree.specs.Plain.{expr_tree, stmt_tree};
+ghost use Rattle.c_syntax.specs.Tree.{read, assign, StmtTree};
+ghost use Rattle.c_syntax.specs.Plain.{expr_tree, stmt_tree};
 ghost use Rattle.c_emitter.specs.Flat.{IsFlatAtEveryTick};
 ghost use Rattle.c_emitter.specs.Blocks.{blocks_of, fixed_value, memory_place, value_places, output_sources};
 ghost use Rattle.c_emitter.specs.Bodies.{number_expr, value_expr};
@@ -9,7 +9,7 @@ ghost use Rattle.c_emitter.specs.Passes.{is_in_pass, pass_stmt, pass_stmts};
 use crate::block::{Block, Sort};
 use crate::flat::FlatDiagram;
 use crate::rows::{block_at, count, need_of, source_need};
-use c_tree::{Expr, Leaf, Stmt};
+use c_syntax::{Expr, Leaf, Stmt};
 use mc_base::Memory;
 use std::alloc::Global;
 

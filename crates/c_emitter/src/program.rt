@@ -1,7 +1,7 @@
 ghost use Rattle.std.specs.Prelude.{◌≡◌, ℕ, ◌+◌, ◌<◌, ◌≤◌, false, List, [], ◌∷◌, ◌++◌, map, length, Option, Some, None, IfOk, OnOk};
-ghost use Rattle.c_tree.specs.Tree.{ParamTree};
-ghost use Rattle.c_tree.specs.PlainField.{field_trees};
-ghost use Rattle.c_tree.specs.Plain.{stmt_tree, procedure_tree, program_tree};
+ghost use Rattle.c_syntax.specs.Tree.{ParamTree};
+ghost use Rattle.c_syntax.specs.PlainField.{field_trees};
+ghost use Rattle.c_syntax.specs.Plain.{stmt_tree, procedure_tree, program_tree};
 ghost use Rattle.c_emitter.specs.Flat.{IsFlat, IsFlatAtEveryTick};
 ghost use Rattle.c_emitter.specs.Code.{IsCodeFor, IsFunctionCount};
 ghost use Rattle.c_emitter.specs.Headers.{now_param};
@@ -14,7 +14,7 @@ use crate::flat::FlatDiagram;
 use crate::heads::{named, numbered, push_inputs, root_fields, top_fields};
 use crate::root::{start_body as root_start_body, step_body};
 use crate::rows::{function_needs, output_rows, output_sources, value_places};
-use c_tree::{CType, Procedure, Program, Stmt, StructDef};
+use c_syntax::{CType, Procedure, Program, Stmt, StructDef};
 use mc_base::{Memory, Text};
 use std::alloc::Global;
 
@@ -238,8 +238,8 @@ pub fn emit(alloc: Global, d: &FlatDiagram) -> Result<Program, Memory>
     program(alloc, d)
 }
 
-/// How many output functions the code of a diagram has: one for each set of inputs that an output's value at a tick is
-/// made from.
+/// How many output functions the systems of a diagram have together: one for each set of inputs of a system that an
+/// output's value at a tick is made from.
 pub fn function_count(d: &FlatDiagram) -> u32
     requires { IsFlat d.now }
     ensures { IsFunctionCount d.now result }

@@ -1,5 +1,5 @@
 ghost use Rattle.std.specs.Prelude.{◌≡◌, ℕ, ◌+◌, ◌-◌, ◌<◌, ◌≤◌, List, [], ◌∷◌, ◌++◌, map, length, Option, Some, None, IfOk, OnOk};
-ghost use Rattle.c_tree.specs.Plain.{expr_tree, stmt_tree};
+ghost use Rattle.c_syntax.specs.Plain.{expr_tree, stmt_tree};
 ghost use Rattle.c_emitter.specs.Flat.{IsFlatAtEveryTick};
 ghost use Rattle.c_emitter.specs.Blocks.{blocks_of, input_count, value_places, output_rows, function_needs};
 ghost use Rattle.c_emitter.specs.Bodies.{takes, taken_ports, top_place, call_top, function_calls, output_copies, next_now, step_body, root_start_body};
@@ -8,7 +8,7 @@ use crate::block::Sort;
 use crate::flat::FlatDiagram;
 use crate::pass::set;
 use crate::rows::count;
-use c_tree::{BinOp, Expr, Leaf, Stmt, Target};
+use c_syntax::{BinOp, Expr, Leaf, Stmt, Target};
 use mc_base::Memory;
 use std::alloc::Global;
 

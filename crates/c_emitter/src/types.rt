@@ -5,7 +5,7 @@ ghost use Rattle.c_emitter.specs.Blocks.{blocks_of, type_of, input_row, input_ty
 
 use crate::flat::FlatDiagram;
 use crate::rows::block_at;
-use c_tree::CType;
+use c_syntax::CType;
 use mc_fixed::FixType;
 
 /// The narrowest C type that has all numbers of a type.

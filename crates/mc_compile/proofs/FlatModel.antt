@@ -8,28 +8,30 @@ use Rattle.mc_fixed.specs.declared.TypeText.{TypeText}
 use Rattle.mc_fixed.specs.declared.TypeText.TheVariants.{Inherit, Logical, Back, Fixed}
 use Rattle.mc_fixed.specs.Types.{boolean}
 use Rattle.mc_blocks.specs.declared.Kind.{Kind}
-use Rattle.mc_blocks.specs.declared.Kind.TheVariants.{Inport, Outport, SubSystem, Constant, Ground, Terminator, Gain, Sum, Product, UnitDelay, ZeroOrderHold, Switch, Relational, Logic, Convert, RateTransition, EnablePort, TriggerPort}
+use Rattle.mc_blocks.specs.declared.Op.{Op}
+use Rattle.mc_blocks.specs.declared.Kind.TheVariants.{Inport, Outport, SubSystem, Constant, Ground, Terminator, Gain, Sum, Product, UnitDelay, Delay, ZeroOrderHold, Switch, Relational, Logic, Convert, RateTransition, EnablePort, TriggerPort}
 use Rattle.mc_blocks.specs.Meaning.{has_value, op_of}
 use Rattle.mc_diagram.specs.declared.table.Row.{Row}
 use Rattle.mc_diagram.specs.RowTable.{RowTable}
 use Rattle.mc_diagram.specs.Rows.{row_at, no_row, by_row, is_subsystem, is_inport, is_outport}
-use Rattle.mc_diagram.specs.SampleTimes.{every_tick, AreTimes}
+use Rattle.mc_diagram.specs.RowTimes.{RowTimes}
+use Rattle.mc_diagram.specs.TimeLaws.{TimesAreOne}
 use Rattle.mc_diagram.specs.Types.{SameAs, NoRule, rule_of, inherited_rule, type_by, type_at, is_boolean_by_kind}
 use Rattle.mc_diagram.specs.TypeRefusals.{followed_type, known_type, written_type, are_unlike}
 use Rattle.mc_diagram.specs.WellFormed.{IsOwner, IsWireIn, IsWellFormed, IsTypeTextOf, IsRow, has_output, wires_wanted, reading_system}
-use Rattle.mc_diagram.specs.Diagram.{Diagram, op_in}
-use Rattle.mc_diagram.proofs.ByRow.{by_row-equal}
-use Rattle.mc_diagram.proofs.TypeFollowed.{type_followed}
-use Rattle.mc_diagram.proofs.Timeless.{at_every_tick}
-use Rattle.mc_types.proofs.FollowedLemmas.{followed-step}
+use Rattle.mc_diagram.specs.Diagram.{IsResolved, op_in}
+use Rattle.mc_diagram.specs.ResolvedTable.{ResolvedTable, diagram_of_table}
+use Rattle.mc_diagram.proofs.lemmas.ByRow.{by_row-equal}
+use Rattle.mc_diagram.proofs.lemmas.TypeFollowed.{type_followed}
+use Rattle.mc_diagram.proofs.lemmas.Timeless.{at_every_tick}
+use Rattle.mc_types.proofs.lemmas.FollowedLemmas.{followed-step}
 use Rattle.mc_table.specs.TableLaws.{IsTimeless, AcceptedTableIsWellFormed, AcceptedTableIsTimeless}
 use Rattle.c_emitter.specs.Flat.{is_emitted, is_source, HasOneSource, HasFlatKind, IsFlatRow, IsFlat, IsFlatAtEveryTick}
 use Rattle.c_emitter.specs.FlatDiagrams.{flat_diagram}
-use Rattle.mc_compile.specs.Verdict.{IsDiagramOf, IsModelOf, first_without_code}
+use Rattle.mc_compile.specs.Verdict.{IsModelOf, first_without_code}
 use Rattle.mc_compile.proofs.ListLaws.{none-found_at, all-places, place-of}
 use Rattle.mc_compile.proofs.TimelessTable.{is-timeless}
 use Rattle.mc_compile.proofs.TypedTable.{same-type, none-unlike, timeless-resolved}
-use Rattle.mc_compile.proofs.OneDiagram.{same-run, same-delays}
 
 -- ---- Kinds that have code
 
@@ -52,6 +54,7 @@ view (Gain gain how) e = absurd (let wrong : ⊥ = cc e in wrong)
 view (Sum count minus how) e = absurd (let wrong : ⊥ = cc e in wrong)
 view (Product count how) e = absurd (let wrong : ⊥ = cc e in wrong)
 view (UnitDelay initial) e = a_delay initial
+view (Delay length initial) e = absurd (let wrong : ⊥ = cc e in wrong)
 view ZeroOrderHold e = absurd (let wrong : ⊥ = cc e in wrong)
 view (Switch criterion threshold how) e = absurd (let wrong : ⊥ = cc e in wrong)
 view (Relational compare) e = absurd (let wrong : ⊥ = cc e in wrong)
@@ -165,11 +168,11 @@ module _ (table : RowTable) (formed : IsWellFormed table) (coded : first_without
 
   -- ---- Its types
 
-  module _ (d : Diagram) (is : IsDiagramOf table d) where
-    typed : (b : ℕ) → b < length rows → is_boolean_by_kind (row_at rows b).kind ≡ false → followed_type rows b ≡ Some (type_at d.types b)
+  module _ (types : List FixType) (given_ops : List Op) (times : RowTimes) (is : IsResolved table types given_ops times) where
+    typed : (b : ℕ) → b < length rows → is_boolean_by_kind (row_at rows b).kind ≡ false → followed_type rows b ≡ Some (type_at types b)
     typed b below e =
         ap (λ (t : Bool). if t then Some boolean else followed_type rows b) (sym e)
-        ∙ (type_followed rows b (type_at d.types b)).0 (is.resolved.are_types b below)
+        ∙ (type_followed rows b (type_at types b)).0 (is.are_types b below)
 
     -- what a row reads that reads one row
     read : (wires : List ℕ) (c : ℕ) → wires ≡ c ∷ [] → HasOneSource rows wires → (c < length rows) × (is_source (row_at rows c).kind ≡ true)
@@ -179,7 +182,7 @@ module _ (table : RowTable) (formed : IsWellFormed table) (coded : first_without
 
     module _ (b c : ℕ) (below : b < length rows) (wires : (row_at rows b).inputs ≡ c ∷ []) (one : HasOneSource rows (row_at rows b).inputs) where
       abbrev Alike : Type 0
-      Alike = (type_at d.types c ≡ type_at d.types b) ⊎ ((row_at rows c).kind ≡ Ground)
+      Alike = (type_at types c ≡ type_at types b) ⊎ ((row_at rows c).kind ≡ Ground)
 
       -- where its type is by rules, and it is like its input
       alike-read : is_boolean_by_kind (row_at rows b).kind ≡ false → inherited_rule (row_at rows b).kind (row_at rows b).inputs ≡ SameAs c →
@@ -192,23 +195,23 @@ module _ (table : RowTable) (formed : IsWellFormed table) (coded : first_without
                 let text = (row_at rows b).type_text in
                 let given = typed c inside.0 by_rules in
                 let followed = ap (λ r. type_by (rule_of text r) (followed_type rows)) (sym rule) ∙ sym (followed-step rows b) ∙ typed b below own in
-                inl (alike-by rows text c (type_at d.types b) (type_at d.types c) followed given (ap (are_unlike (written_type rows b)) (sym given) ∙ like))
+                inl (alike-by rows text c (type_at types b) (type_at types c) followed given (ap (are_unlike (written_type rows b)) (sym given) ∙ like))
           ]
 
     alike : (b c : ℕ) → b < length rows → c < length rows → IsTrue (has_value (row_at rows b).kind) → (row_at rows b).inputs ≡ c ∷ [] →
-        (type_at d.types c ≡ type_at d.types b) ⊎ ((row_at rows c).kind ≡ Ground)
+        (type_at types c ≡ type_at types b) ⊎ ((row_at rows c).kind ≡ Ground)
     alike b c below inside value wires = by (row_at rows b).kind refl (has-code b below) value (flat-row b below).kind
       where
         row : Row
         row = row_at rows b
 
         by : (kind : Kind) → row.kind ≡ kind → HasCode kind → has_value kind ≡ true → HasFlatKind rows kind row.inputs →
-            (type_at d.types c ≡ type_at d.types b) ⊎ ((row_at rows c).kind ≡ Ground)
+            (type_at types c ≡ type_at types b) ⊎ ((row_at rows c).kind ≡ Ground)
         by _ q (an_inport port) value none = absurd (let wrong : ⊥ = cc (none, wires) in wrong)
         by _ q (an_outport port reset initial) value one =
             alike-read b c below wires one (ap is_boolean_by_kind q) (ap₂ inherited_rule q wires)
             (sym (λ i. (is_inport (q i) || is_outport (q i)) && are_unlike (written_type rows b) (option_and_then (followed_type rows) (slice_get (wires i) 0)))
-            ∙ none-unlike rows is.resolved.types_accepted b below)
+            ∙ none-unlike rows is.types_accepted b below)
         by _ q (a_constant value) has none = absurd (let wrong : ⊥ = cc (none, wires) in wrong)
         by _ q a_ground value none = absurd (let wrong : ⊥ = cc (none, wires) in wrong)
         by _ q a_terminator value one = absurd (let wrong : ⊥ = cc value in wrong)
@@ -219,44 +222,38 @@ module _ (table : RowTable) (formed : IsWellFormed table) (coded : first_without
 
     -- ---- Its times
 
-    module _ (none : IsTimeless table) where
-      timeless-times : AreTimes table (at_every_tick table (is-timeless table none))
-      timeless-times =
-          (timeless-resolved table none is.resolved.types_accepted).are_times
+    module _ (one : TimesAreOne) (none : IsTimeless table) where
+      at_ticks : times ≡ at_every_tick table (is-timeless table none)
+      at_ticks = one table times (at_every_tick table (is-timeless table none)) is.are_times (timeless-resolved table none is.types_accepted).are_times
 
-      ops : d.ops ≡ by_row rows (op_in rows d.types [])
+      ops : given_ops ≡ by_row rows (op_in rows types [])
       ops =
-          is.resolved.are_ops
-          ∙ ap (λ (delays : List Bool). by_row rows (op_in rows d.types delays)) (same-delays table is.times (at_every_tick table (is-timeless table none)) is.resolved.are_times timeless-times)
-          ∙ by_row-equal rows (op_in rows d.types (replicate (length rows) false)) (op_in rows d.types [])
-          (λ b. ap (op_of (row_at rows b).kind (map (type_at d.types) (row_at rows b).inputs) (type_at d.types b)) (false-at (length rows) b))
+          is.are_ops
+          ∙ ap (λ (t : RowTimes). by_row rows (op_in rows types t.delays)) at_ticks
+          ∙ by_row-equal rows (op_in rows types (replicate (length rows) false)) (op_in rows types [])
+          (λ b. ap (op_of (row_at rows b).kind (map (type_at types) (row_at rows b).inputs) (type_at types b)) (false-at (length rows) b))
 
-      run : d.run ≡ replicate (length rows) every_tick
-      run = is.run ∙ same-run table is.times (at_every_tick table (is-timeless table none)) is.resolved.are_times timeless-times
-
-      of-table : IsFlat (record { rows = rows; types = d.types; ops = d.ops; run = d.run })
-      of-table = record {
+      pub is-flat : IsFlat (record { rows = rows; types = types; ops = given_ops; run = times.run })
+      is-flat = record {
         each = all-places (IsFlatRow rows) rows no_row flat-row;
         inports = formed.inports None;
         outports = formed.outports None;
         at_most = formed.nested.at_most;
-        one_type_each = is.resolved.one_type_each;
+        one_type_each = is.one_type_each;
         alike = alike;
         ops = ops;
       }
 
-      pub is-flat : IsFlat d
-      is-flat = subst (λ (own : List Row). IsFlat (record { rows = own; types = d.types; ops = d.ops; run = d.run })) (sym is.rows) of-table
-
-      pub at-every-tick : d ≡ flat_diagram d.rows d.types d.ops
-      at-every-tick =
-          let here : d.run ≡ replicate (length d.rows) every_tick = run ∙ ap (λ (own : List Row). replicate (length own) every_tick) (sym is.rows) in
-          λ i. record { rows = d.rows; types = d.types; ops = d.ops; run = here i }
+      pub at-every-tick : record { rows = rows; types = types; ops = given_ops; run = times.run } ≡ flat_diagram rows types given_ops
+      at-every-tick = λ i. record { rows = rows; types = types; ops = given_ops; run = (at_ticks i).run }
 
 -- the model of a text whose rows all have code is flat
-pub flat-model : AcceptedTableIsWellFormed → AcceptedTableIsTimeless → (bytes : List ℕ) (d : Diagram) → IsModelOf bytes d → first_without_code d.rows ≡ None → IsFlatAtEveryTick d
-flat-model well_formed timeless bytes d (table, (file, is_file, accepted, of), is) coded =
-    let formed = well_formed file table accepted of in
-    let none = timeless file table accepted of in
-    let all = ap first_without_code (sym is.rows) ∙ coded in
-    record { flat = is-flat table formed all d is none; every_tick = at-every-tick table formed all d is none }
+pub flat-model : AcceptedTableIsWellFormed → AcceptedTableIsTimeless → TimesAreOne → (bytes : List ℕ) (r : ResolvedTable) → IsModelOf bytes r →
+    first_without_code r.table.rows ≡ None → IsFlatAtEveryTick (diagram_of_table r)
+flat-model well_formed timeless one bytes r ((file, is_file, accepted, of), is) coded =
+    let formed = well_formed file r.table accepted of in
+    let none = timeless file r.table accepted of in
+    record {
+      flat = is-flat r.table formed coded r.types r.ops r.times is one none;
+      every_tick = at-every-tick r.table formed coded r.types r.ops r.times is one none;
+    }

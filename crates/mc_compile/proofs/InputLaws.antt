@@ -10,8 +10,8 @@ use Rattle.mc_fixed.specs.declared.FixType.{FixType}
 use Rattle.mc_diagram.specs.declared.table.Row.{Row}
 use Rattle.mc_diagram.specs.Rows.{row_at, no_row, row_numbers, rows_of, inports_of, is_inport, port_of}
 use Rattle.mc_diagram.specs.Types.{type_at}
-use Rattle.mc_table.proofs.AcceptedLists.{filter-range-len}
-use Rattle.c_emitter.proofs.RowLoops.{filter_map-more}
+use Rattle.mc_table.proofs.lemmas.AcceptedLists.{filter-range-len}
+use Rattle.c_emitter.proofs.lemmas.RowLoops.{filter_map-more}
 use Rattle.mc_compile.specs.Inputs.{inport_with}
 
 -- one port more

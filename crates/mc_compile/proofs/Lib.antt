@@ -2,11 +2,12 @@ pub mod ReadCode
 pub mod ListLaws
 pub mod TimelessTable
 pub mod TypedTable
-pub mod OneDiagram
+pub mod OneResolution
 pub mod FlatModel
 pub mod OneVerdict
 pub mod FaultLaws
 pub mod RowPasses
+pub mod DelaySums
 pub mod FlatSystems
 pub mod InputLaws
 pub mod LoopRows

@@ -8,10 +8,10 @@ use Rattle.mc_diagram.specs.Rows.{outward}
 use Rattle.mc_diagram.specs.Diagram.{Diagram, op_at}
 use Rattle.mc_diagram.specs.Needs.{control_wires, needs_of}
 use Rattle.mc_diagram.specs.Walk.{IsLeastLoop}
-use Rattle.mc_diagram.proofs.Inside.{Contains-nil}
-use Rattle.mc_diagram.proofs.Tick.{row_at-past}
+use Rattle.mc_diagram.proofs.lemmas.Inside.{Contains-nil}
+use Rattle.mc_diagram.proofs.lemmas.Tick.{row_at-past}
 use Rattle.mc_depend.specs.Needed.{IsOnLoop}
-use Rattle.mc_depend.proofs.LoopRows.{loop-rows}
+use Rattle.mc_depend.proofs.lemmas.LoopRows.{loop-rows}
 use Rattle.mc_compile.proofs.ListLaws.{place-of}
 
 -- a row past the end of the table has no wires

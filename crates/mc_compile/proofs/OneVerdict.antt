@@ -1,32 +1,50 @@
--- Each file has one verdict, by the laws of its table and of loops.
+-- Each file has one verdict, by the laws of its table, of its times and of loops.
 use Rattle.std.specs.Prelude.{◌≡◌, refl, ℕ, List, [], ◌∷◌, Option, Some, None, option_map}
-use Rattle.std.proofs.Common.{sym, ◌∙◌, ap, subst, inl, inr}
+use Rattle.std.proofs.Common.{sym, ◌∙◌, ap, ap₂, subst, inl, inr}
 use Rattle.mc_base.specs.Refusals.{PlainRefusal, Unsupported, Loop}
 use Rattle.mc_diagram.specs.declared.table.Row.{Row}
 use Rattle.mc_diagram.specs.RowTable.{RowTable}
-use Rattle.mc_diagram.specs.Diagram.{Diagram}
+use Rattle.mc_diagram.specs.ResolvedTable.{ResolvedTable, diagram_of_table, IsResolvedTable}
 use Rattle.mc_diagram.specs.TypeRefusals.{type_refusal}
+use Rattle.mc_diagram.specs.TimeRefusals.{HasTimeRefusal}
+use Rattle.mc_diagram.specs.DelayRefusals.{delay_refusal}
+use Rattle.mc_diagram.specs.TimeLaws.{TimesAreOne, TimeRefusalIsOne}
 use Rattle.mc_diagram.specs.Needs.{needs_of, HasNoLoop, IsLeastLoop}
 use Rattle.mc_table.specs.FileVerdicts.{FileVerdict, IsModelWith, HasFileVerdict, HasOneFileVerdict}
 use Rattle.mc_table.specs.FileVerdicts as file
 use Rattle.mc_table.specs.TableLaws.{IsTimeless, AcceptedTableIsTimeless}
 use Rattle.mc_depend.specs.LoopLaws.{LoopIsToldOrNone, ToldLoopIsOne}
-use Rattle.mc_compile.specs.Verdict.{IsDiagramOf, places_of, first_without_code, Verdict, Refused, Accepted, HasVerdict, HasOneVerdict}
-use Rattle.mc_compile.proofs.TypedTable.{timeless-diagram}
-use Rattle.mc_compile.proofs.OneDiagram.{diagram-is-one}
+use Rattle.mc_compile.specs.Verdict.{places_of, first_without_code, code_refusal, Verdict, Refused, Accepted, HasVerdict, HasOneVerdict}
+use Rattle.mc_compile.proofs.TypedTable.{timeless-resolution}
+use Rattle.mc_compile.proofs.OneResolution.{IsOf, resolution-is-one}
+use Rattle.mc_compile.proofs.RowPasses.{none-mapped}
 
--- what is said of the first row without code
-abbrev without-code : Option Row → Option PlainRefusal
-without-code found = option_map (λ (row : Row). Unsupported row.place.line) found
+-- the laws on which this rests
+pub record Laws : Type 0 where
+  pub times : TimesAreOne
+  pub refusal : TimeRefusalIsOne
+  pub told : LoopIsToldOrNone
+  pub one_loop : ToldLoopIsOne
 
 -- ---- A table
+
+-- what is said behind the loops, by the refusal of the delays and by that of a row without code
+abbrev settled : Option PlainRefusal → Option PlainRefusal → ResolvedTable → Verdict
+settled (Some refusal) lacking r = Refused refusal
+settled None (Some refusal) r = Refused refusal
+settled None None r = Accepted r
+
+-- the same of a table that is resolved
+abbrev behind_loops : ResolvedTable → Verdict
+behind_loops r = settled (delay_refusal r.table.rows) (code_refusal r.table.rows) r
 
 -- what the verdicts on a table are
 data OfTable (table : RowTable) : Verdict → Type 0 where
   ill_typed : (refusal : PlainRefusal) → type_refusal table.rows ≡ Some refusal → OfTable table (Refused refusal)
-  looping : (d : Diagram) (loop : List ℕ) → IsDiagramOf table d → IsLeastLoop (needs_of d) loop → OfTable table (Refused (Loop (places_of d.rows loop)))
-  lacking : (d : Diagram) (refusal : PlainRefusal) → IsDiagramOf table d → HasNoLoop (needs_of d) → without-code (first_without_code d.rows) ≡ Some refusal → OfTable table (Refused refusal)
-  right : (d : Diagram) → IsDiagramOf table d → HasNoLoop (needs_of d) → first_without_code d.rows ≡ None → OfTable table (Accepted d)
+  ill_timed : (refusal : PlainRefusal) → type_refusal table.rows ≡ None → HasTimeRefusal table (Some refusal) → OfTable table (Refused refusal)
+  looping : (r : ResolvedTable) (loop : List ℕ) → IsOf table r → IsLeastLoop (needs_of (diagram_of_table r)) loop →
+      OfTable table (Refused (Loop (places_of r.table.rows loop)))
+  loop_free : (r : ResolvedTable) → IsOf table r → HasNoLoop (needs_of (diagram_of_table r)) → OfTable table (behind_loops r)
 
 -- there is one and no other
 abbrev OneOfTable : RowTable → Type 0
@@ -43,67 +61,56 @@ looped : (needs : ℕ → List ℕ) (loop : List ℕ) → HasNoLoop needs → Is
 looped needs [] none told = told
 looped needs (a ∷ path) none told = none (a ∷ path) told.is_loop
 
-module _ (table : RowTable) where
+module _ (laws : Laws) (table : RowTable) where
+  -- a table that is resolved is refused neither for its types nor for its times
+  well-typed : (r : ResolvedTable) → IsOf table r → type_refusal table.rows ≡ None
+  well-typed r is = ap (λ (t : RowTable). type_refusal t.rows) (sym is.of_table) ∙ is.resolved.types_accepted
+
+  well-timed : (r : ResolvedTable) (refusal : PlainRefusal) → IsOf table r → HasTimeRefusal table (Some refusal) → ⊥
+  well-timed r refusal is h =
+      some-none refusal (laws.refusal table (Some refusal) None h (subst (λ t. HasTimeRefusal t None) is.of_table is.resolved.times_accepted))
+
   only-ill_typed : (refusal : PlainRefusal) → type_refusal table.rows ≡ Some refusal → (other : Verdict) → OfTable table other → other ≡ Refused refusal
   only-ill_typed refusal e _ (ill_typed also f) = ap Refused (some-equal also refusal (sym f ∙ e))
-  only-ill_typed refusal e _ (looping d loop is told) = absurd (some-none refusal (sym e ∙ is.resolved.types_accepted))
-  only-ill_typed refusal e _ (lacking d also is none f) = absurd (some-none refusal (sym e ∙ is.resolved.types_accepted))
-  only-ill_typed refusal e _ (right d is none f) = absurd (some-none refusal (sym e ∙ is.resolved.types_accepted))
+  only-ill_typed refusal e _ (ill_timed also right h) = absurd (some-none refusal (sym e ∙ right))
+  only-ill_typed refusal e _ (looping r loop is told) = absurd (some-none refusal (sym e ∙ well-typed r is))
+  only-ill_typed refusal e _ (loop_free r is none) = absurd (some-none refusal (sym e ∙ well-typed r is))
 
-  module _ (d : Diagram) (is : IsDiagramOf table d) where
-    same : (other : Diagram) → IsDiagramOf table other → d ≡ other
-    same other also = diagram-is-one table d other is also
+  module _ (r : ResolvedTable) (is : IsOf table r) where
+    same : (other : ResolvedTable) → IsOf table other → r ≡ other
+    same other also = resolution-is-one laws.times table r other is also
 
-    only-looping : ToldLoopIsOne → (loop : List ℕ) → IsLeastLoop (needs_of d) loop → (other : Verdict) → OfTable table other → other ≡ Refused (Loop (places_of d.rows loop))
-    only-looping law loop told _ (ill_typed also f) = absurd (some-none also (sym f ∙ is.resolved.types_accepted))
-    only-looping law loop told _ (looping other more also found) =
-        let here : IsLeastLoop (needs_of d) more = subst (λ (x : Diagram). IsLeastLoop (needs_of x) more) (sym (same other also)) found in
-        let one = law (needs_of d) more loop here told in
-        λ i. Refused (Loop (places_of (sym (same other also) i).rows (one i)))
-    only-looping law loop told _ (lacking other refusal also none f) =
-        absurd (looped (needs_of d) loop (subst (λ (x : Diagram). HasNoLoop (needs_of x)) (sym (same other also)) none) told)
-    only-looping law loop told _ (right other also none f) =
-        absurd (looped (needs_of d) loop (subst (λ (x : Diagram). HasNoLoop (needs_of x)) (sym (same other also)) none) told)
+    only-looping : (loop : List ℕ) → IsLeastLoop (needs_of (diagram_of_table r)) loop → (other : Verdict) → OfTable table other →
+        other ≡ Refused (Loop (places_of r.table.rows loop))
+    only-looping loop told _ (ill_typed also f) = absurd (some-none also (sym f ∙ well-typed r is))
+    only-looping loop told _ (ill_timed also right h) = absurd (well-timed r also is h)
+    only-looping loop told _ (looping other more also found) =
+        let here : IsLeastLoop (needs_of (diagram_of_table r)) more =
+        subst (λ (x : ResolvedTable). IsLeastLoop (needs_of (diagram_of_table x)) more) (sym (same other also)) found in
+        let one = laws.one_loop (needs_of (diagram_of_table r)) more loop here told in
+        λ i. Refused (Loop (places_of (sym (same other also) i).table.rows (one i)))
+    only-looping loop told _ (loop_free other also none) =
+        absurd (looped (needs_of (diagram_of_table r)) loop (subst (λ (x : ResolvedTable). HasNoLoop (needs_of (diagram_of_table x))) (sym (same other also)) none) told)
 
-    module _ (none : HasNoLoop (needs_of d)) where
-      no-told : (other : Diagram) (loop : List ℕ) → IsDiagramOf table other → IsLeastLoop (needs_of other) loop → ⊥
-      no-told other loop also found = looped (needs_of d) loop none (subst (λ (x : Diagram). IsLeastLoop (needs_of x) loop) (sym (same other also)) found)
+    only-loop_free : HasNoLoop (needs_of (diagram_of_table r)) → (other : Verdict) → OfTable table other → other ≡ behind_loops r
+    only-loop_free none _ (ill_typed also f) = absurd (some-none also (sym f ∙ well-typed r is))
+    only-loop_free none _ (ill_timed also right h) = absurd (well-timed r also is h)
+    only-loop_free none _ (looping other loop also found) =
+        absurd (looped (needs_of (diagram_of_table r)) loop none (subst (λ (x : ResolvedTable). IsLeastLoop (needs_of (diagram_of_table x)) loop) (sym (same other also)) found))
+    only-loop_free none _ (loop_free other also no_loop) = ap behind_loops (sym (same other also))
 
-      same-first : (other : Diagram) → IsDiagramOf table other → first_without_code other.rows ≡ first_without_code d.rows
-      same-first other also = ap (λ (x : Diagram). first_without_code x.rows) (sym (same other also))
-
-      only-lacking : (refusal : PlainRefusal) → without-code (first_without_code d.rows) ≡ Some refusal → (other : Verdict) → OfTable table other → other ≡ Refused refusal
-      only-lacking refusal e _ (ill_typed also f) = absurd (some-none also (sym f ∙ is.resolved.types_accepted))
-      only-lacking refusal e _ (looping other loop also found) = absurd (no-told other loop also found)
-      only-lacking refusal e _ (lacking other more also no_loop f) =
-          ap Refused (some-equal more refusal (sym f ∙ ap without-code (same-first other also) ∙ e))
-      only-lacking refusal e _ (right other also no_loop f) = absurd (some-none refusal (sym e ∙ ap without-code (sym (same-first other also) ∙ f)))
-
-      only-right : first_without_code d.rows ≡ None → (other : Verdict) → OfTable table other → other ≡ Accepted d
-      only-right e _ (ill_typed also f) = absurd (some-none also (sym f ∙ is.resolved.types_accepted))
-      only-right e _ (looping other loop also found) = absurd (no-told other loop also found)
-      only-right e _ (lacking other more also no_loop f) = absurd (some-none more (sym f ∙ ap without-code (same-first other also ∙ e)))
-      only-right e _ (right other also no_loop f) = ap Accepted (sym (same other also))
-
-      of-rows : OneOfTable table
-      of-rows = by (first_without_code d.rows) refl
-        where
-          by : (found : Option Row) → first_without_code d.rows ≡ found → OneOfTable table
-          by (Some row) e = (Refused (Unsupported row.place.line), lacking d _ is none (ap without-code e), only-lacking (Unsupported row.place.line) (ap without-code e))
-          by None e = (Accepted d, right d is none e, only-right e)
-
-    of-diagram : LoopIsToldOrNone → ToldLoopIsOne → OneOfTable table
-    of-diagram loops one = elim (loops d) [
-      | inl none ↦ of-rows none
-      | inr (loop, told) ↦ (Refused (Loop (places_of d.rows loop)), looping d loop is told, only-looping one loop told)
+    of-resolution : OneOfTable table
+    of-resolution = elim (laws.told (diagram_of_table r)) [
+      | inl none ↦ (behind_loops r, loop_free r is none, only-loop_free none)
+      | inr (loop, told) ↦ (Refused (Loop (places_of r.table.rows loop)), looping r loop is told, only-looping loop told)
     ]
 
-  of-table : IsTimeless table → LoopIsToldOrNone → ToldLoopIsOne → OneOfTable table
-  of-table timeless loops one = by (type_refusal table.rows) refl
+  of-table : IsTimeless table → OneOfTable table
+  of-table timeless = by (type_refusal table.rows) refl
     where
       by : (found : Option PlainRefusal) → type_refusal table.rows ≡ found → OneOfTable table
       by (Some refusal) e = (Refused refusal, ill_typed refusal e, only-ill_typed refusal e)
-      by None e = let some = timeless-diagram table timeless e in of-diagram some.0 some.1 loops one
+      by None e = let some = timeless-resolution table timeless e in of-resolution some.0 some.1
 
 -- ---- A file
 
@@ -112,19 +119,41 @@ data View (bytes : List ℕ) : Verdict → Type 0 where
   of_file : (refusal : PlainRefusal) → HasFileVerdict bytes (file.Refused refusal) → View bytes (Refused refusal)
   of_model : (table : RowTable) (verdict : Verdict) → IsModelWith bytes table → OfTable table verdict → View bytes verdict
 
+own : (r : ResolvedTable) → IsResolvedTable r → IsOf r.table r
+own r resolved = record { of_table = refl; resolved = resolved }
+
 view : (bytes : List ℕ) (verdict : Verdict) → HasVerdict bytes verdict → View bytes verdict
 view bytes (Refused refusal) (inl h) = of_file refusal h
 view bytes (Refused refusal) (inr (inl (table, with, e))) = of_model table (Refused refusal) with (ill_typed refusal e)
-view bytes (Refused refusal) (inr (inr (inl (d, (table, with, is), (loop, told, e))))) =
-    of_model table (Refused refusal) with (subst (λ r. OfTable table (Refused r)) (sym e) (looping d loop is told))
-view bytes (Refused refusal) (inr (inr (inr (d, (table, with, is), none, e)))) = of_model table (Refused refusal) with (lacking d refusal is none e)
-view bytes (Accepted d) accepted = of_model accepted.model.0 (Accepted d) accepted.model.1 (right d accepted.model.2 accepted.no_loop accepted.with_code)
+view bytes (Refused refusal) (inr (inr (inl (table, with, right, h)))) = of_model table (Refused refusal) with (ill_timed refusal right h)
+view bytes (Refused refusal) (inr (inr (inr (inl (r, (with, is), (loop, told, e)))))) =
+    of_model r.table (Refused refusal) with (subst (λ (x : PlainRefusal). OfTable r.table (Refused x)) (sym e) (looping r loop (own r is) told))
+view bytes (Refused refusal) (inr (inr (inr (inr (inl (r, ((with, is), none), e)))))) =
+    of_model r.table (Refused refusal) with
+    (subst (OfTable r.table) (ap (λ (long : Option PlainRefusal). settled long (code_refusal r.table.rows) r) e) (loop_free r (own r is) none))
+view bytes (Refused refusal) (inr (inr (inr (inr (inr (r, ((with, is), none), short, e)))))) =
+    of_model r.table (Refused refusal) with
+    (subst (OfTable r.table) (ap₂ (λ (long lacking : Option PlainRefusal). settled long lacking r) short e) (loop_free r (own r is) none))
+view bytes (Accepted r) accepted =
+    let coded : code_refusal r.table.rows ≡ None = ap (option_map (λ (row : Row). Unsupported row.place.line)) accepted.with_code in
+    of_model r.table (Accepted r) accepted.model.0
+    (subst (OfTable r.table) (ap₂ (λ (long lacking : Option PlainRefusal). settled long lacking r) accepted.short_delays coded)
+    (loop_free r (own r accepted.model.1) accepted.no_loop))
 
 has : (bytes : List ℕ) (table : RowTable) (verdict : Verdict) → IsModelWith bytes table → OfTable table verdict → HasVerdict bytes verdict
 has bytes table _ with (ill_typed refusal e) = inr (inl (table, with, e))
-has bytes table _ with (looping d loop is told) = inr (inr (inl (d, (table, with, is), (loop, told, refl))))
-has bytes table _ with (lacking d refusal is none e) = inr (inr (inr (d, (table, with, is), none, e)))
-has bytes table _ with (right d is none e) = record { model = (table, with, is); no_loop = none; with_code = e }
+has bytes table _ with (ill_timed refusal right h) = inr (inr (inl (table, with, right, h)))
+has bytes table _ with (looping r loop is told) =
+    inr (inr (inr (inl (r, (subst (IsModelWith bytes) (sym is.of_table) with, is.resolved), (loop, told, refl)))))
+has bytes table _ with (loop_free r is none) = by (delay_refusal r.table.rows) (code_refusal r.table.rows) refl refl
+  where
+    model : IsModelWith bytes r.table
+    model = subst (IsModelWith bytes) (sym is.of_table) with
+
+    by : (long lacking : Option PlainRefusal) → delay_refusal r.table.rows ≡ long → code_refusal r.table.rows ≡ lacking → HasVerdict bytes (settled long lacking r)
+    by (Some refusal) lacking e f = inr (inr (inr (inr (inl (r, ((model, is.resolved), none), e)))))
+    by None (Some refusal) e f = inr (inr (inr (inr (inr (r, ((model, is.resolved), none), e, f)))))
+    by None None e f = record { model = (model, is.resolved); no_loop = none; short_delays = e; with_code = none-mapped (first_without_code r.table.rows) (sym f) }
 
 -- of two verdicts on a file's text and tree
 refused-equal : (a b : PlainRefusal) → file.Refused a ≡ file.Refused b → a ≡ b
@@ -147,11 +176,11 @@ only-model bytes table verdict only one _ (of_file more h) = absurd (not-both mo
 only-model bytes table verdict only one _ (of_model also other with of) =
     one other (subst (λ t. OfTable t other) (table-equal also table (only (file.Accepted also) with)) of)
 
-pub one_verdict : ((bytes : List ℕ) → HasOneFileVerdict bytes) → AcceptedTableIsTimeless → LoopIsToldOrNone → ToldLoopIsOne → (bytes : List ℕ) → HasOneVerdict bytes
-one_verdict files timeless loops one bytes = by (files bytes)
+pub one_verdict : ((bytes : List ℕ) → HasOneFileVerdict bytes) → AcceptedTableIsTimeless → Laws → (bytes : List ℕ) → HasOneVerdict bytes
+one_verdict files timeless laws bytes = by (files bytes)
   where
     by : HasOneFileVerdict bytes → HasOneVerdict bytes
     by (file.Refused refusal, h, only) = (Refused refusal, inl h, λ other is. only-file bytes refusal only other (view bytes other is))
     by (file.Accepted table, with, only) =
-        let of = of-table table (timeless with.0 table with.2 with.3) loops one in
+        let of = of-table laws table (timeless with.0 table with.2 with.3) in
         (of.0, has bytes table of.0 with of.1, λ other is. only-model bytes table of.0 only of.2 other (view bytes other is))

@@ -7,14 +7,15 @@ use Rattle.mc_blocks.specs.Meaning.{has_value}
 use Rattle.mc_diagram.specs.Run.{start_of, is_delay}
 use Rattle.mc_diagram.specs.Rows.{row_at, rows_of}
 use Rattle.mc_diagram.specs.Diagram.{Diagram, op_at}
-use Rattle.c_tree.specs.declared.Stuck.{Stuck}
-use Rattle.c_tree.specs.Tree.{StructTree, ProcedureTree, ProgramTree}
-use Rattle.c_tree.specs.Cells.{Cells}
-use Rattle.c_tree.specs.Machine.{After, Outcome, done, stuck}
-use Rattle.c_tree.specs.Rows.{TickRow, Rows, c_rows, start_run}
-use Rattle.c_tree.specs.Lawful.{IsLawful, IsTextOf, without_lines, stmts_without_lines}
-use Rattle.c_tree.specs.LinesAside.{stuck_aside, outcome_aside, RunAlike, LinesMeanNothing}
-use Rattle.c_tree.specs.Agreement.{ReadingsAgree}
+use Rattle.c_syntax.specs.declared.Stuck.{Stuck}
+use Rattle.c_syntax.specs.Tree.{StructTree, ProcedureTree, ProgramTree}
+use Rattle.c_machine.specs.Cells.{Cells}
+use Rattle.c_machine.specs.Machine.{After, Outcome, done, stuck}
+use Rattle.c_machine.specs.Rows.{TickRow, Rows, c_rows, start_run}
+use Rattle.c_syntax.specs.Lawful.{IsLawful, without_lines, stmts_without_lines}
+use Rattle.c_rules.specs.Reading.{IsTextOf}
+use Rattle.c_machine.specs.LinesAside.{stuck_aside, outcome_aside, RunAlike, LinesMeanNothing}
+use Rattle.c_reading.specs.Agreement.{ReadingsAgree}
 use Rattle.mc_profile.specs.Systems.{system_name}
 use Rattle.mc_profile.specs.Functions.{functions_for}
 use Rattle.c_emitter.specs.Names.{out_name, update_name, value_name, memory_name, root_name}

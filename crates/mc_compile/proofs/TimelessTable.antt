@@ -9,7 +9,7 @@ use Rattle.mc_base.specs.declared.TimeText.TheVariants.{Inherit, Constant, Each}
 use Rattle.mc_base.specs.Numbers.{lcm}
 use Rattle.mc_base.specs.Refusals.{TimeInside, LongCycle}
 use Rattle.mc_blocks.specs.declared.Kind.{Kind}
-use Rattle.mc_blocks.specs.declared.Kind.TheVariants.{Inport, Outport, SubSystem, Constant as ConstantBlock, Ground, Terminator, Gain, Sum, Product, UnitDelay, ZeroOrderHold, Switch, Relational, Logic, Convert, RateTransition, EnablePort, TriggerPort}
+use Rattle.mc_blocks.specs.declared.Kind.TheVariants.{Inport, Outport, SubSystem, Constant as ConstantBlock, Ground, Terminator, Gain, Sum, Product, UnitDelay, Delay, ZeroOrderHold, Switch, Relational, Logic, Convert, RateTransition, EnablePort, TriggerPort}
 use Rattle.mc_diagram.specs.declared.table.Row.{Row}
 use Rattle.mc_diagram.specs.declared.times.Time.{Time}
 use Rattle.mc_diagram.specs.RowTable.{RowTable}
@@ -19,9 +19,9 @@ use Rattle.mc_diagram.specs.SampleTimes.{every_tick, written_by, written_time, f
 use Rattle.mc_diagram.specs.TypeRefusals.{line_at, type_of_row, type_refusal, types_of_rows}
 use Rattle.mc_diagram.specs.TimeRefusals.{is_each, times_inside, AtLine, by_line, first_over, denominators_in, long_denominator, long_period, long_cycle, written_time_refusal, rate_faults, rate_refusal}
 use Rattle.mc_diagram.specs.Diagram.{IsResolved}
-use Rattle.mc_diagram.proofs.Tick.{row_at-past}
-use Rattle.mc_diagram.proofs.Tests.{all_below}
-use Rattle.mc_diagram.proofs.Timeless.{timeless, at_every_tick, timeless_ops, resolved-from}
+use Rattle.mc_diagram.proofs.lemmas.Tick.{row_at-past}
+use Rattle.mc_diagram.proofs.lemmas.Tests.{all_below}
+use Rattle.mc_diagram.proofs.lemmas.Timeless.{timeless, at_every_tick, timeless_ops, resolved-from}
 use Rattle.mc_compile.proofs.ListLaws.{none-kept, none-given, none-given_at}
 
 -- all numbers below n pass a test
@@ -55,6 +55,7 @@ no-rate_faults table line inside (Gain gain how) text e = refl
 no-rate_faults table line inside (Sum count minus how) text e = refl
 no-rate_faults table line inside (Product count how) text e = refl
 no-rate_faults table line inside (UnitDelay initial) text e = refl
+no-rate_faults table line inside (Delay length initial) text e = refl
 no-rate_faults table line inside ZeroOrderHold text e = refl
 no-rate_faults table line inside (Switch criterion threshold how) text e = refl
 no-rate_faults table line inside (Relational compare) text e = refl

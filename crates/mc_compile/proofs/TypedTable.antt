@@ -9,19 +9,19 @@ use Rattle.mc_diagram.specs.declared.table.Row.{Row}
 use Rattle.mc_diagram.specs.RowTable.{RowTable}
 use Rattle.mc_diagram.specs.Rows.{row_numbers}
 use Rattle.mc_diagram.specs.FirstRefusal.{least_line}
-use Rattle.mc_diagram.specs.Diagram.{Diagram, IsResolved}
-use Rattle.mc_diagram.specs.TypeRefusals.{line_at, type_of_row, type_faults, is_unlike, same_type, bad_types, type_refusal}
-use Rattle.mc_diagram.proofs.Tests.{all_below, and-left, and-right, eq-from}
-use Rattle.mc_diagram.proofs.TypeFollowed.{type_followed}
-use Rattle.mc_diagram.proofs.FirstRefusals.{least-each}
-use Rattle.mc_diagram.proofs.Timeless.{at_every_tick, timeless_ops}
-use Rattle.mc_types.proofs.Accepted.{each-typed}
-use Rattle.mc_types.proofs.PassLemmas.{none-found}
-use Rattle.mc_types.proofs.SameType.{type-equal}
+use Rattle.mc_diagram.specs.Diagram.{IsResolved}
+use Rattle.mc_diagram.specs.ResolvedTable.{ResolvedTable}
+use Rattle.mc_diagram.specs.TypeRefusals.{line_at, type_of_row, type_faults, is_unlike, same_type, bad_types, type_refusal, types_of_rows}
+use Rattle.mc_diagram.proofs.lemmas.Tests.{all_below, and-left, and-right, eq-from}
+use Rattle.mc_diagram.proofs.lemmas.TypeFollowed.{type_followed}
+use Rattle.mc_diagram.proofs.lemmas.FirstRefusals.{least-each}
+use Rattle.mc_diagram.proofs.lemmas.Timeless.{at_every_tick, timeless_ops}
+use Rattle.mc_types.proofs.lemmas.Accepted.{each-typed}
+use Rattle.mc_types.proofs.lemmas.PassLemmas.{none-found}
+use Rattle.mc_types.proofs.lemmas.SameType.{type-equal}
 use Rattle.mc_table.specs.TableLaws.{IsTimeless}
-use Rattle.mc_table.proofs.AcceptedModel.{none_later}
-use Rattle.mc_diagram.specs.TypeRefusals.{types_of_rows}
-use Rattle.mc_compile.specs.Verdict.{IsDiagramOf}
+use Rattle.mc_table.proofs.lemmas.AcceptedModel.{none_later}
+use Rattle.mc_compile.proofs.OneResolution.{IsOf}
 use Rattle.mc_compile.proofs.TimelessTable.{all_below-from, is-timeless, resolved-at-every-tick}
 
 same_beq : (a b : Bool) → beq a b ≡ true → a ≡ b
@@ -66,10 +66,10 @@ pub timeless-resolved : (table : RowTable) (none : IsTimeless table) → type_re
     IsResolved table (types_of_rows table.rows) (timeless_ops table (is-timeless table none)) (at_every_tick table (is-timeless table none))
 timeless-resolved table none right = resolved-at-every-tick table none right (all-typed table.rows right)
 
--- and there is a diagram
-pub timeless-diagram : (table : RowTable) → IsTimeless table → type_refusal table.rows ≡ None → (d : Diagram) × IsDiagramOf table d
-timeless-diagram table none right =
+-- and that is its resolution
+pub timeless-resolution : (table : RowTable) → IsTimeless table → type_refusal table.rows ≡ None → (r : ResolvedTable) × IsOf table r
+timeless-resolution table none right =
     let quiet = is-timeless table none in (
-      record { rows = table.rows; types = types_of_rows table.rows; ops = timeless_ops table quiet; run = (at_every_tick table quiet).run },
-      record { times = at_every_tick table quiet; rows = refl; run = refl; resolved = timeless-resolved table none right },
+      record { table = table; types = types_of_rows table.rows; ops = timeless_ops table quiet; times = at_every_tick table quiet },
+      record { of_table = refl; resolved = timeless-resolved table none right },
     )

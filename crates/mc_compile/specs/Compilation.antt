@@ -2,11 +2,12 @@
 use Rattle.std.specs.Prelude.{◌≡◌, ℕ, List, map, length, None}
 use Rattle.mc_fixed.specs.declared.types.FixType.{FixType}
 use Rattle.mc_diagram.specs.Diagram.{Diagram}
+use Rattle.mc_diagram.specs.ResolvedTable.{ResolvedTable, diagram_of_table}
 use Rattle.mc_profile.specs.Ports.{input_ports}
 use Rattle.mc_profile.specs.Systems.{systems}
-use Rattle.c_tree.specs.Tree.{ProgramTree}
-use Rattle.c_tree.specs.Reading.{CText}
-use Rattle.c_emitter.specs.Systems.{input_type_of}
+use Rattle.mc_profile.specs.Traces.{input_type_of}
+use Rattle.c_syntax.specs.Tree.{ProgramTree}
+use Rattle.c_rules.specs.Reading.{CText}
 use Rattle.c_emitter.specs.Code.{IsCodeFor, IsFunctionCount}
 use Rattle.mc_compile.specs.Verdict.{Accepted, HasVerdict}
 
@@ -37,8 +38,8 @@ pub record IsCompilationOf (d : Diagram) (c : Compilation) : Type 0 where
   pub inputs : c.inputs ≡ root_types d
   pub code : IsRightCode c.code d
 
--- the file is accepted, and compiled with its diagram
+-- the file is accepted, and compiled with the diagram of its resolved table
 pub record IsCompiledFrom (bytes : List ℕ) (c : Compilation) : Type 0 where
-  pub diagram : Diagram
-  pub verdict : HasVerdict bytes (Accepted diagram)
-  pub compiled : IsCompilationOf diagram c
+  pub resolved : ResolvedTable
+  pub verdict : HasVerdict bytes (Accepted resolved)
+  pub compiled : IsCompilationOf (diagram_of_table resolved) c

@@ -3,3 +3,4 @@ pub mod Compilation
 pub mod Faults
 pub mod Times
 pub mod Inputs
+pub mod DelaySums

@@ -4,6 +4,7 @@
 mod code;
 mod compiled;
 mod compiler;
+mod delays;
 mod inputs;
 mod kinds;
 mod laws;

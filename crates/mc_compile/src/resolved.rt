@@ -1,5 +1,5 @@
 ghost use Rattle.std.specs.Prelude.{IfErr, IfOk};
-ghost use Rattle.mc_diagram.specs.ResolvedTree.{diagram_of};
+ghost use Rattle.mc_diagram.specs.ResolvedTable.{table_of_tree};
 ghost use Rattle.mc_table.specs.FileVerdicts.{IsModelWith};
 ghost use Rattle.mc_compile.specs.Faults.{IsFaultOf};
 ghost use Rattle.mc_compile.specs.Verdict.{IsModelOf};
@@ -28,9 +28,9 @@ fn read_tree(alloc: Global, bytes: &[u8]) -> Result<Tree, CompileFault>
     Ok(build(alloc, &file)?)
 }
 
-/// The diagram of a model's text. `Refused` comes exactly where the text, the tree or a type is refused.
+/// The resolved tree of a model's text. `Refused` comes exactly where the text, the tree or a type is refused.
 pub(crate) fn resolve_model(alloc: Global, bytes: &[u8]) -> Result<Resolved, CompileFault>
-    ensures model { IfOk result (λ r. IsModelOf bytes.now (diagram_of r)) }
+    ensures model { IfOk result (λ r. IsModelOf bytes.now (table_of_tree r)) }
     ensures fault { IfErr result (IsFaultOf bytes.now) }
 {
     accepted_table_is_timeless();

@@ -93,6 +93,54 @@ fn loops_are_refused_before_rows_without_code(rt: HostRuntime) -> Result<(), Fai
     Ok(())
 }
 
+/// Names for the delays of a chain, behind its input `a`.
+const CHAIN: &[u8] = b"abcdefghijklmnopq";
+
+/// The System of a model with a chain of delays of 65,535 samples from an input to an output, on 5 lines, 5 for each delay
+/// and 4 for the output.
+fn chain(rt: HostRuntime) -> Result<Vec<u8>, Fail> {
+    let mut items = Vec::new(rt.alloc());
+    items.extend_from_slice(b"Block { / BlockType Inport / Name a / OutDataTypeStr int32 / } / ")?;
+    for name in &CHAIN[1..] {
+        items.extend_from_slice(b"Block { / BlockType Delay / DelayLength 65535 / Name ")?;
+        items.push(*name)?;
+        items.extend_from_slice(b" / } / ")?;
+    }
+    items.extend_from_slice(b"Block { / BlockType Outport / Name z / }")?;
+    for (at, name) in CHAIN.iter().enumerate() {
+        items.extend_from_slice(b" / Line { / SrcBlock ")?;
+        items.push(*name)?;
+        items.extend_from_slice(b" / SrcPort 1 / DstBlock ")?;
+        items.push(CHAIN.get(at + 1).copied().unwrap_or(b'z'))?;
+        items.extend_from_slice(b" / DstPort 1 / }")?;
+    }
+    Ok(items)
+}
+
+#[test]
+fn delays_that_remember_too_much_are_refused(rt: HostRuntime) -> Result<(), Fail> {
+    // sixteen delays, of which the last begins on line 3 + 5 + 15 * 5
+    let items = chain(rt)?;
+    assert_eq!(rt;
+        answer(rt, items.as_slice())?.as_slice(),
+        b"refused F24 LongDelays line 83 total 1048560\n".as_slice()
+    );
+    Ok(())
+}
+
+#[test]
+fn a_delay_of_several_samples_has_no_code_yet(rt: HostRuntime) -> Result<(), Fail> {
+    assert_eq!(rt;
+        answer(
+            rt,
+            b"Block { / BlockType Inport / Name a / OutDataTypeStr int32 / } / Block { / BlockType Delay / Name d / } / Block { / BlockType Outport / Name b / } / Line { / SrcBlock a / SrcPort 1 / DstBlock d / DstPort 1 / } / Line { / SrcBlock d / SrcPort 1 / DstBlock b / DstPort 1 / }",
+        )?
+        .as_slice(),
+        b"refused F7 Unsupported line 8\n".as_slice()
+    );
+    Ok(())
+}
+
 #[test]
 fn what_a_model_has(rt: HostRuntime) -> Result<(), Fail> {
     // the second input goes to the first output, and the first one through a delay to the second output

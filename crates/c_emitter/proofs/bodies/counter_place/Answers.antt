@@ -1,6 +1,6 @@
 use Rattle.std.proofs.Common.{arith, length}
 use Rattle.c_emitter.specs.Blocks.{blocks_of, is_valued, is_delay_block}
-use Rattle.c_emitter.proofs.RowLoops.{blocks-are-rows, count-small}
+use Rattle.c_emitter.proofs.lemmas.RowLoops.{blocks-are-rows, count-small}
 use Rattle.c_emitter.proofs.bodies.counter_place.Goals as goal
 
 pub overflow_add-result : goal.overflow_add-result

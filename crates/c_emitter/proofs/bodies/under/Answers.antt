@@ -1,7 +1,7 @@
 use Rattle.std.proofs.Common.{◌∙◌, ap, map}
-use Rattle.c_tree.specs.Tree.{branch, stmts_of_list}
-use Rattle.c_tree.specs.Plain.{cond_tree, stmt_tree}
-use Rattle.c_tree.proofs.PlainLaws.{stmt_tree-If}
+use Rattle.c_syntax.specs.Tree.{branch, stmts_of_list}
+use Rattle.c_syntax.specs.Plain.{cond_tree, stmt_tree}
+use Rattle.c_syntax.proofs.lemmas.PlainLaws.{stmt_tree-If}
 use Rattle.c_emitter.proofs.bodies.under.Goals as goal
 
 pub returns : goal.returns

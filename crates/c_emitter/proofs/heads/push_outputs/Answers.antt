@@ -1,10 +1,10 @@
 use Rattle.std.proofs.Common.{◌≡◌, ◌∙◌, ◌+◌, ◌-◌, ap, ap₂, arith, slice_index_or}
-use Rattle.c_tree.specs.PlainField.{field_tree}
+use Rattle.c_syntax.specs.PlainField.{field_tree}
 use Rattle.c_emitter.specs.Names.{output_name}
 use Rattle.c_emitter.specs.Blocks.{blocks_of, type_of, output_rows, output_type}
 use Rattle.c_emitter.specs.FlatProgram.{typed_field}
 use Rattle.c_emitter.proofs.HeadLoops.{one-more}
-use Rattle.c_emitter.proofs.RowLoops.{output-rows-bound}
+use Rattle.c_emitter.proofs.lemmas.RowLoops.{output-rows-bound}
 use Rattle.c_emitter.proofs.heads.push_outputs.Goals as goal
 
 pub row_type-requires-clause-within : goal.row_type-requires-clause-within

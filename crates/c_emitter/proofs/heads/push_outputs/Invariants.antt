@@ -1,6 +1,6 @@
 use Rattle.std.proofs.Common.{◌≡◌, ◌++◌, map}
 use Rattle.std.specs.List.{range_with_len}
-use Rattle.c_tree.specs.PlainField.{field_trees}
+use Rattle.c_syntax.specs.PlainField.{field_trees}
 use Rattle.c_emitter.specs.Names.{output_name}
 use Rattle.c_emitter.specs.Blocks.{blocks_of, output_type}
 use Rattle.c_emitter.specs.FlatProgram.{typed_field}

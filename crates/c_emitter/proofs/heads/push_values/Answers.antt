@@ -1,5 +1,5 @@
 use Rattle.std.proofs.Common.{◌≡◌, ◌∙◌, ◌+◌, ◌++◌, sym, ap, ap₂, arith, length}
-use Rattle.c_tree.specs.PlainField.{field_tree, field_trees}
+use Rattle.c_syntax.specs.PlainField.{field_tree, field_trees}
 use Rattle.c_emitter.specs.Names.{value_name}
 use Rattle.c_emitter.specs.declared.block.Sort.TheVariants.{Values}
 use Rattle.c_emitter.specs.Sorts.{is_of}
@@ -7,7 +7,7 @@ use Rattle.c_emitter.specs.Blocks.{blocks_of, type_of, chosen}
 use Rattle.c_emitter.specs.Bodies.{is_valued_row}
 use Rattle.c_emitter.specs.FlatProgram.{typed_field}
 use Rattle.c_emitter.proofs.HeadLoops.{one-more-chosen, one-more-skipped}
-use Rattle.c_emitter.proofs.RowLoops.{rows-of-view, blocks-are-rows}
+use Rattle.c_emitter.proofs.lemmas.RowLoops.{rows-of-view, blocks-are-rows}
 use Rattle.c_emitter.proofs.heads.push_values.Goals as goal
 use Rattle.c_emitter.proofs.heads.push_values.Goals.{then-is_of+in_ok-numbered+in_ok-push, else-is_of}
 

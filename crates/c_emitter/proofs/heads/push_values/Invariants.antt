@@ -1,5 +1,5 @@
 use Rattle.std.proofs.Common.{◌≡◌, ◌++◌}
-use Rattle.c_tree.specs.PlainField.{field_trees}
+use Rattle.c_syntax.specs.PlainField.{field_trees}
 use Rattle.c_emitter.specs.Names.{value_name}
 use Rattle.c_emitter.specs.Blocks.{blocks_of, type_of, chosen}
 use Rattle.c_emitter.specs.Bodies.{is_valued_row}

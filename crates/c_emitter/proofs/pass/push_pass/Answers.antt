@@ -1,9 +1,9 @@
 use Rattle.std.proofs.Common.{◌≡◌, ◌∙◌, ◌++◌, sym, ap, arith, length, map}
-use Rattle.c_tree.specs.Plain.{stmt_tree}
+use Rattle.c_syntax.specs.Plain.{stmt_tree}
 use Rattle.c_emitter.specs.Blocks.{blocks_of, chosen}
 use Rattle.c_emitter.specs.Passes.{is_in_pass, pass_stmt}
 use Rattle.c_emitter.proofs.PassLoops.{pass-passed, pass-skipped}
-use Rattle.c_emitter.proofs.RowLoops.{rows-of-view, blocks-are-rows}
+use Rattle.c_emitter.proofs.lemmas.RowLoops.{rows-of-view, blocks-are-rows}
 use Rattle.c_emitter.proofs.pass.push_pass.Goals as goal
 use Rattle.c_emitter.proofs.pass.push_pass.Goals.{then-is_in+in_ok-statement+in_ok-push, else-is_in}
 

@@ -1,5 +1,5 @@
 use Rattle.std.proofs.Common.{◌≡◌, ◌++◌, map}
-use Rattle.c_tree.specs.Plain.{stmt_tree}
+use Rattle.c_syntax.specs.Plain.{stmt_tree}
 use Rattle.c_emitter.specs.Blocks.{blocks_of, chosen, memory_place}
 use Rattle.c_emitter.specs.Passes.{is_in_pass, pass_stmt}
 use Rattle.c_emitter.proofs.pass.push_pass.Given as goal

@@ -1,12 +1,12 @@
 use Rattle.std.proofs.Common.{rules, ◌≡◌, ◌∙◌, ◌<◌, sym, ap, ap₂, subst, inl, inr, length, slice_index_or, w64, FitsSigned}
 use Rattle.std.proofs.Math.Facts.{to_z-of_z}
-use Rattle.c_tree.specs.declared.Leaf.TheVariants.{Own}
-use Rattle.c_tree.specs.Tree.{assign, read}
-use Rattle.c_tree.specs.Plain.{stmt_tree}
+use Rattle.c_syntax.specs.declared.Leaf.TheVariants.{Own}
+use Rattle.c_syntax.specs.Tree.{assign, read}
+use Rattle.c_syntax.specs.Plain.{stmt_tree}
 use Rattle.c_emitter.specs.Blocks.{blocks_of, port_of_input, source_of, start_value, value_place}
 use Rattle.c_emitter.specs.Bodies.{number_expr, store_value}
 use Rattle.c_emitter.specs.Passes.{pass_stmt}
-use Rattle.c_emitter.proofs.RowLoops.{start-low, value-low, source-bound, place-at, place-within, store-is}
+use Rattle.c_emitter.proofs.lemmas.RowLoops.{start-low, value-low, source-bound, place-at, place-within, store-is}
 use Rattle.c_emitter.proofs.pass.statement.Goals as goal
 
 pub bounds-places-row : goal.bounds-places-row

@@ -1,6 +1,6 @@
 use Rattle.std.proofs.Common.{◌≡◌, sym, subst}
 use Rattle.std.proofs.lemmas.Result.{IfOk-weaker}
-use Rattle.c_tree.specs.Plain.{program_tree}
+use Rattle.c_syntax.specs.Plain.{program_tree}
 use Rattle.c_emitter.specs.Flat.{IsFlat}
 use Rattle.c_emitter.specs.Code.{IsCodeFor}
 use Rattle.c_emitter.specs.Blocks.{blocks_of}

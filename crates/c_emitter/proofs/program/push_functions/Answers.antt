@@ -1,6 +1,6 @@
 use Rattle.std.proofs.Common.{◌≡◌, ◌∙◌, ◌+◌, ℕ, ap, ap₂, arith, slice_index_or, map}
 use Rattle.std.specs.Prelude.{None}
-use Rattle.c_tree.specs.Plain.{procedure_tree, stmt_tree}
+use Rattle.c_syntax.specs.Plain.{procedure_tree, stmt_tree}
 use Rattle.c_emitter.specs.Names.{out_name}
 use Rattle.c_emitter.specs.Blocks.{blocks_of}
 use Rattle.c_emitter.specs.Heads.{param_trees}

@@ -1,7 +1,7 @@
 use Rattle.std.proofs.Common.{◌≡◌, ◌++◌, ℕ, map}
 use Rattle.std.specs.Prelude.{take}
 use Rattle.std.specs.List.{enumerate_from}
-use Rattle.c_tree.specs.Plain.{procedure_tree}
+use Rattle.c_syntax.specs.Plain.{procedure_tree}
 use Rattle.c_emitter.specs.Blocks.{blocks_of}
 use Rattle.c_emitter.specs.FlatProgram.{out_procedure}
 use Rattle.c_emitter.proofs.program.push_functions.Given as goal

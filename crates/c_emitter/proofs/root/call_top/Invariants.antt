@@ -1,7 +1,7 @@
 use Rattle.std.proofs.Common.{◌≡◌, ◌∷◌, ◌-◌, map}
-use Rattle.c_tree.specs.declared.Leaf.TheVariants.{Own, Param}
-use Rattle.c_tree.specs.Tree.{read}
-use Rattle.c_tree.specs.Plain.{expr_tree}
+use Rattle.c_syntax.specs.declared.Leaf.TheVariants.{Own, Param}
+use Rattle.c_syntax.specs.Tree.{read}
+use Rattle.c_syntax.specs.Plain.{expr_tree}
 use Rattle.c_emitter.specs.Blocks.{chosen}
 use Rattle.c_emitter.specs.Bodies.{takes}
 use Rattle.c_emitter.proofs.root.call_top.Given as goal

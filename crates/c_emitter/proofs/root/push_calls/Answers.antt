@@ -1,6 +1,6 @@
 use Rattle.std.proofs.Common.{◌≡◌, ◌∙◌, ◌+◌, ℕ, ap, arith, slice_index_or}
 use Rattle.std.specs.Prelude.{Some}
-use Rattle.c_tree.specs.Plain.{stmt_tree}
+use Rattle.c_syntax.specs.Plain.{stmt_tree}
 use Rattle.c_emitter.specs.Blocks.{blocks_of}
 use Rattle.c_emitter.specs.Bodies.{call_top}
 use Rattle.c_emitter.proofs.RootLoops.{functions-at-most, numbered-step}

@@ -1,7 +1,7 @@
 use Rattle.std.proofs.Common.{◌≡◌, ◌++◌, ℕ, map, take}
 use Rattle.std.specs.Prelude.{Some}
 use Rattle.std.specs.List.{enumerate_from}
-use Rattle.c_tree.specs.Plain.{stmt_tree}
+use Rattle.c_syntax.specs.Plain.{stmt_tree}
 use Rattle.c_emitter.specs.Blocks.{blocks_of}
 use Rattle.c_emitter.specs.Bodies.{call_top}
 use Rattle.c_emitter.proofs.root.push_calls.Given as goal

@@ -1,10 +1,10 @@
 use Rattle.std.proofs.Common.{◌≡◌, ◌∙◌, ◌+◌, ℕ, ap, ap₂, arith, slice_index_or}
-use Rattle.c_tree.specs.declared.Leaf.TheVariants.{Child}
-use Rattle.c_tree.specs.Tree.{assign, read}
-use Rattle.c_tree.specs.Plain.{stmt_tree}
+use Rattle.c_syntax.specs.declared.Leaf.TheVariants.{Child}
+use Rattle.c_syntax.specs.Tree.{assign, read}
+use Rattle.c_syntax.specs.Plain.{stmt_tree}
 use Rattle.c_emitter.specs.Blocks.{blocks_of, value_place}
 use Rattle.c_emitter.specs.Bodies.{top_place}
-use Rattle.c_emitter.proofs.RowLoops.{output-rows-bound, place-at, place-within}
+use Rattle.c_emitter.proofs.lemmas.RowLoops.{output-rows-bound, place-at, place-within}
 use Rattle.c_emitter.proofs.RootLoops.{numbered-step}
 use Rattle.c_emitter.proofs.root.push_copies.Goals as goal
 

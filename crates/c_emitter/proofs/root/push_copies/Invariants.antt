@@ -1,8 +1,8 @@
 use Rattle.std.proofs.Common.{◌≡◌, ◌++◌, ℕ, map, take}
 use Rattle.std.specs.List.{enumerate_from}
-use Rattle.c_tree.specs.declared.Leaf.TheVariants.{Child}
-use Rattle.c_tree.specs.Tree.{assign, read}
-use Rattle.c_tree.specs.Plain.{stmt_tree}
+use Rattle.c_syntax.specs.declared.Leaf.TheVariants.{Child}
+use Rattle.c_syntax.specs.Tree.{assign, read}
+use Rattle.c_syntax.specs.Plain.{stmt_tree}
 use Rattle.c_emitter.specs.Blocks.{blocks_of, value_place}
 use Rattle.c_emitter.specs.Bodies.{top_place}
 use Rattle.c_emitter.proofs.root.push_copies.Given as goal

@@ -1,7 +1,7 @@
 use Rattle.std.proofs.Common.{◌≡◌, ◌∙◌, ◌+◌, sym, ap, arith, length}
 use Rattle.c_emitter.specs.Blocks.{blocks_of, rows_below}
 use Rattle.c_emitter.specs.Sorts.{is_of}
-use Rattle.c_emitter.proofs.RowLoops.{rows-of-view, count-small, count-more, count-same, blocks-are-rows}
+use Rattle.c_emitter.proofs.lemmas.RowLoops.{rows-of-view, count-small, count-more, count-same, blocks-are-rows}
 use Rattle.c_emitter.proofs.rows.count.Goals as goal
 use Rattle.c_emitter.proofs.rows.count.Goals.{then-is_of, else-is_of}
 

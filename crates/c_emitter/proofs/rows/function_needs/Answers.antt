@@ -3,7 +3,7 @@ use Rattle.std.specs.List.{list_any}
 use Rattle.std.proofs.lemmas.List.{length-map, length-take-le}
 use Rattle.c_emitter.specs.Blocks.{blocks_of, need_of, output_rows}
 use Rattle.c_emitter.proofs.Costs.{length-different, outputs-few}
-use Rattle.c_emitter.proofs.RowLoops.{are-blocks-of, output-rows-bound, needs-step}
+use Rattle.c_emitter.proofs.lemmas.RowLoops.{are-blocks-of, output-rows-bound, needs-step}
 use Rattle.c_emitter.proofs.rows.function_needs.Goals as goal
 use Rattle.c_emitter.proofs.rows.function_needs.Goals.{then-not-contains, else-not-contains}
 

@@ -1,6 +1,6 @@
 use Rattle.std.proofs.Common.{◌∙◌, ◌<◌, sym, ap, subst, length}
 use Rattle.c_emitter.specs.Blocks.{source_of}
-use Rattle.c_emitter.proofs.RowLoops.{source-bound}
+use Rattle.c_emitter.proofs.lemmas.RowLoops.{source-bound}
 use Rattle.c_emitter.proofs.rows.need_of.Goals as goal
 
 pub source_need-requires-clause-within : goal.source_need-requires-clause-within

@@ -1,6 +1,6 @@
 use Rattle.std.proofs.Common.{◌∙◌, sym, ap, arith, ◌<◌, length}
 use Rattle.c_emitter.specs.Blocks.{blocks_of, is_output_of}
-use Rattle.c_emitter.proofs.RowLoops.{rows-of-view, blocks-are-rows, this-output-row, no-output-row}
+use Rattle.c_emitter.proofs.lemmas.RowLoops.{rows-of-view, blocks-are-rows, this-output-row, no-output-row}
 use Rattle.c_emitter.proofs.rows.output_row.Goals as goal
 
 pub returns-then-is_output_of : goal.returns-then-is_output_of

@@ -5,7 +5,7 @@ use Rattle.std.specs.List.{range_with_len}
 use Rattle.std.proofs.lemmas.List.FromFn.{length-range_with_len}
 use Rattle.c_emitter.specs.Blocks.{blocks_of, output_row}
 use Rattle.c_emitter.proofs.Costs.{length-filter_map-le}
-use Rattle.c_emitter.proofs.RowLoops.{are-blocks-of, rows-step, none-from}
+use Rattle.c_emitter.proofs.lemmas.RowLoops.{are-blocks-of, rows-step, none-from}
 use Rattle.c_emitter.proofs.rows.output_rows.Goals as goal
 use Rattle.c_emitter.proofs.rows.output_rows.Goals.{in-Some, in_default}
 

@@ -3,7 +3,7 @@ use Rattle.std.specs.Option.{option_to_list}
 use Rattle.std.specs.Prelude.{filter_map}
 use Rattle.std.proofs.lemmas.List.{take_all}
 use Rattle.c_emitter.specs.Blocks.{TypedBlock, blocks_of, is_output, output_source}
-use Rattle.c_emitter.proofs.RowLoops.{rows-of-view, blocks-are-rows, are-blocks-of, sources-few, sources-step, no-source-step}
+use Rattle.c_emitter.proofs.lemmas.RowLoops.{rows-of-view, blocks-are-rows, are-blocks-of, sources-few, sources-step, no-source-step}
 use Rattle.c_emitter.proofs.rows.output_sources.Goals as goal
 use Rattle.c_emitter.proofs.rows.output_sources.Goals.{in-Output, in_default}
 

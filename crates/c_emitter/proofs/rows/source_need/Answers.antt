@@ -1,7 +1,7 @@
 use Rattle.std.proofs.Common.{◌∙◌, ◌-◌, sym, ap, arith}
 use Rattle.std.proofs.lemmas.Nat.{one_shl}
 use Rattle.c_emitter.specs.Blocks.{source_need}
-use Rattle.c_emitter.proofs.RowLoops.{port-bounds}
+use Rattle.c_emitter.proofs.lemmas.RowLoops.{port-bounds}
 use Rattle.c_emitter.proofs.rows.source_need.Goals as goal
 
 pub overflow_sub-result : goal.overflow_sub-result

@@ -2,7 +2,7 @@ use Rattle.std.proofs.Common.{◌≡◌, ◌∙◌, ◌+◌, ◌++◌, ◌∷◌
 use Rattle.std.specs.List.{range_with_len}
 use Rattle.std.proofs.lemmas.List.FromFn.{map-range_with_len_more}
 use Rattle.c_emitter.specs.Blocks.{blocks_of, is_valued, value_place}
-use Rattle.c_emitter.proofs.RowLoops.{rows-of-view, blocks-are-rows, count-small, count-more, count-same}
+use Rattle.c_emitter.proofs.lemmas.RowLoops.{rows-of-view, blocks-are-rows, count-small, count-more, count-same}
 use Rattle.c_emitter.proofs.rows.value_places.Goals as goal
 use Rattle.c_emitter.proofs.rows.value_places.Goals.{then-is_of, else-is_of}
 

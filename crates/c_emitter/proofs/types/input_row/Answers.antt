@@ -1,6 +1,6 @@
 use Rattle.std.proofs.Common.{◌∙◌, sym, ap, arith, ◌<◌, length}
 use Rattle.c_emitter.specs.Blocks.{blocks_of, is_input_of}
-use Rattle.c_emitter.proofs.RowLoops.{rows-of-view, blocks-are-rows, this-input-row, no-input-row}
+use Rattle.c_emitter.proofs.lemmas.RowLoops.{rows-of-view, blocks-are-rows, this-input-row, no-input-row}
 use Rattle.c_emitter.proofs.types.input_row.Goals as goal
 
 pub returns-then-is_input_of : goal.returns-then-is_input_of

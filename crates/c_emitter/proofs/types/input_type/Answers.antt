@@ -1,5 +1,5 @@
 use Rattle.std.proofs.Common.{◌∙◌, sym}
-use Rattle.c_emitter.proofs.RowLoops.{input-row-bound}
+use Rattle.c_emitter.proofs.lemmas.RowLoops.{input-row-bound}
 use Rattle.c_emitter.proofs.types.input_type.Goals as goal
 
 pub row_type-requires-clause-within : goal.row_type-requires-clause-within

@@ -1,5 +1,5 @@
 use Rattle.std.proofs.Common.{◌≡◌, sym, ◌∙◌, ap, subst, List, length, map, None}
-use Rattle.c_tree.specs.Plain.{program_tree}
+use Rattle.c_syntax.specs.Plain.{program_tree}
 use Rattle.mc_fixed.specs.Types.{boolean}
 use Rattle.mc_diagram.specs.declared.table.Row.{Row}
 use Rattle.mc_diagram.specs.RowTable.{RowTable}

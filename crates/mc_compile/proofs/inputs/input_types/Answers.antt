@@ -7,7 +7,7 @@ use Rattle.std.proofs.lemmas.List.{get_or_default, append-nil}
 use Rattle.mc_diagram.specs.declared.table.Row.{Row}
 use Rattle.mc_diagram.specs.Rows.{is_inport}
 use Rattle.mc_diagram.specs.Types.{type_at}
-use Rattle.c_emitter.proofs.RowLoops.{none-from}
+use Rattle.c_emitter.proofs.lemmas.RowLoops.{none-from}
 use Rattle.mc_compile.specs.Inputs.{inport_with}
 use Rattle.mc_compile.proofs.InputLaws.{inputs-more, inports-are}
 use Rattle.mc_compile.proofs.inputs.input_types.Goals as goal

@@ -7,7 +7,7 @@ use Rattle.std.proofs.lemmas.List.FromFn.{length-range_with_len}
 use Rattle.mc_fixed.specs.declared.FixType.{FixType}
 use Rattle.mc_fixed.specs.Rounding.{nearest}
 use Rattle.mc_fixed.specs.Conversion.{quantize}
-use Rattle.mc_fixed.proofs.ConversionLaws.{clamped_in}
+use Rattle.mc_fixed.proofs.lemmas.ConversionLaws.{clamped_in}
 use Rattle.mc_blocks.specs.declared.Kind.{Kind}
 use Rattle.mc_blocks.specs.declared.Kind.TheVariants.{Inport, Outport, UnitDelay, Constant, Ground, Terminator}
 use Rattle.mc_blocks.specs.declared.Op.{Op}
@@ -17,15 +17,15 @@ use Rattle.mc_diagram.specs.declared.Row.{Row}
 use Rattle.mc_diagram.specs.Rows.{row_at, no_row, system_control, is_inport, is_outport, is_subsystem}
 use Rattle.mc_diagram.specs.Diagram.{Diagram, type_at, op_at, op_in}
 use Rattle.mc_diagram.specs.Run.{start_of, start_by}
-use Rattle.mc_diagram.proofs.ByRow.{by_row-at}
+use Rattle.mc_diagram.proofs.lemmas.ByRow.{by_row-at}
 use Rattle.mc_profile.specs.Systems.{first_wire}
 use Rattle.c_emitter.specs.declared.block.Block.TheVariants.{Input, Output, Delay, Fixed, Sink}
 use Rattle.c_emitter.specs.FlatDiagrams.{flat_diagram}
 use Rattle.c_emitter.specs.Flat.{is_source, HasFlatKind, IsFlatRow, IsFlat}
 use Rattle.c_emitter.specs.Names.{container}
 use Rattle.c_emitter.specs.Blocks.{TypedBlock, no_typed_block, block_by, typed_row, blocks_of, block_at, type_of, value_of}
-use Rattle.c_tree.specs.Values.{is_in_type}
-use Rattle.c_emitter.proofs.Containers.{container-has, zero-fits}
+use Rattle.c_machine.specs.Values.{is_in_type}
+use Rattle.c_emitter.proofs.lemmas.Containers.{container-has, zero-fits}
 use Rattle.c_emitter.proofs.BlockFacts.{TakesFrom}
 
 -- what holds of all holds at a place

@@ -13,19 +13,19 @@ use Rattle.mc_blocks.specs.declared.Op.{Op}
 use Rattle.mc_diagram.specs.declared.Row.{Row}
 use Rattle.mc_diagram.specs.Diagram.{Diagram}
 use Rattle.c_emitter.specs.FlatDiagrams.{flat_diagram}
-use Rattle.mc_profile.specs.Functions.{different}
+use Rattle.mc_cluster.specs.Classes.{different}
 use Rattle.c_emitter.specs.declared.block.Block.{Block}
 use Rattle.c_emitter.specs.declared.block.Block.TheVariants.{Input, Output, Delay, Fixed, Sink}
 use Rattle.c_emitter.specs.Flat.{IsFlat, IsFlatAtEveryTick}
 use Rattle.c_emitter.specs.Blocks.{TypedBlock, no_typed_block, type_of, start_value, is_input_of, input_row, blocks_of, block_at, source_of, output_rows, is_output, is_output_of, output_row, output_source, output_count, rows_below, fixed_value, value_place, memory_place, value_places}
 use Rattle.c_emitter.specs.Bodies.{value_expr, source_place, store_value}
-use Rattle.c_tree.specs.Tree.{assign}
+use Rattle.c_syntax.specs.Tree.{assign}
 use Rattle.std.proofs.lemmas.List.FromFn.{get_or-map-range_with_len, length-map-range_with_len}
-use Rattle.c_emitter.proofs.Containers.{not-low}
+use Rattle.c_emitter.proofs.lemmas.Containers.{not-low}
 use Rattle.c_emitter.proofs.BlockFacts.{HasValue, IsWellMade, AreBlocks}
 use Rattle.c_emitter.proofs.Chosen.{range-snoc, below-passed, below-skipped, length-chosen}
 use Rattle.c_emitter.proofs.Members.{position-first}
-use Rattle.c_emitter.proofs.FlatRows.{holds-at, blocks-length}
+use Rattle.c_emitter.proofs.lemmas.FlatRows.{holds-at, blocks-length}
 use Rattle.c_emitter.proofs.FlatOutputs.{position-within, outputs-are-rows}
 use Rattle.c_emitter.proofs.FlatBlocks.{are-blocks}
 

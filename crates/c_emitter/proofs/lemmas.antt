@@ -1,0 +1,4 @@
+-- Lemmas that proofs of the crates above use.
+pub mod Containers
+pub mod FlatRows
+pub mod RowLoops

@@ -1,0 +1,43 @@
+-- A table is resolved in one way.
+use Rattle.std.specs.Prelude.{◌≡◌, ◌<◌, Bool, List}
+use Rattle.std.proofs.Common.{sym, ◌∙◌, ap, ap₂, subst}
+use Rattle.mc_fixed.specs.declared.FixType.{FixType}
+use Rattle.mc_fixed.specs.Types.{boolean}
+use Rattle.mc_blocks.specs.declared.Op.{Op}
+use Rattle.mc_diagram.specs.RowTable.{RowTable}
+use Rattle.mc_diagram.specs.RowTimes.{RowTimes}
+use Rattle.mc_diagram.specs.Rows.{by_row}
+use Rattle.mc_diagram.specs.Diagram.{op_in, IsResolved}
+use Rattle.mc_diagram.specs.ResolvedTable.{ResolvedTable, IsResolvedTable}
+use Rattle.mc_diagram.specs.TimeLaws.{TimesAreOne}
+use Rattle.mc_diagram.proofs.lemmas.OneType.{HasType-one}
+use Rattle.mc_compile.proofs.ListLaws.{same_at}
+
+-- a table is resolved so
+pub record IsOf (table : RowTable) (r : ResolvedTable) : Type 0 where
+  pub of_table : r.table ≡ table
+  pub resolved : IsResolvedTable r
+
+module _ (one : TimesAreOne) (table : RowTable) (types others : List FixType) (ops more : List Op) (times later : RowTimes)
+    (is : IsResolved table types ops times) (also : IsResolved table others more later) where
+  same-types : types ≡ others
+  same-types =
+      same_at types others boolean (is.one_type_each ∙ sym also.one_type_each)
+      (λ b below. let inside = subst (λ n. b < n) is.one_type_each below in HasType-one table.rows b _ _ (is.are_types b inside) (also.are_types b inside))
+
+  same-times : times ≡ later
+  same-times = one table times later is.are_times also.are_times
+
+  same-ops : ops ≡ more
+  same-ops =
+      is.are_ops ∙ ap₂ (λ (types : List FixType) (delays : List Bool). by_row table.rows (op_in table.rows types delays)) same-types (ap (λ (t : RowTimes). t.delays) same-times)
+      ∙ sym also.are_ops
+
+pub resolution-is-one : TimesAreOne → (table : RowTable) (r other : ResolvedTable) → IsOf table r → IsOf table other → r ≡ other
+resolution-is-one one table r other is also =
+    let tables : r.table ≡ other.table = is.of_table ∙ sym also.of_table in
+    let here : IsResolved other.table r.types r.ops r.times = subst (λ t. IsResolved t r.types r.ops r.times) tables is.resolved in
+    let types = same-types one other.table r.types other.types r.ops other.ops r.times other.times here also.resolved in
+    let ops = same-ops one other.table r.types other.types r.ops other.ops r.times other.times here also.resolved in
+    let times = same-times one other.table r.types other.types r.ops other.ops r.times other.times here also.resolved in
+    λ i. record { table = tables i; types = types i; ops = ops i; times = times i }
