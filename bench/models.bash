@@ -35,6 +35,38 @@ mixed_rows() {
   }'
 }
 
+# A loop of so many Gains, each of which needs the one before: refused as a loop.
+gain_loop() {
+  awk -v n="$1" 'BEGIN {
+    printf "Model {\nSystem {\n"
+    for (k = 0; k < n; k++) printf "Block {\nBlockType Gain\nName \"g%d\"\nOutDataTypeStr \"int32\"\n}\n", k
+    for (k = 0; k < n; k++) printf "Line {\nSrcBlock \"g%d\"\nSrcPort 1\nDstBlock \"g%d\"\nDstPort 1\n}\n", k, (k + 1) % n
+    printf "}\n}\n"
+  }'
+}
+
+# So many SubSystem blocks beside each other: refused as long as subsystems are.
+empty_subsystems() {
+  awk -v n="$1" 'BEGIN {
+    printf "Model {\nSystem {\n"
+    for (k = 0; k < n; k++) printf "Block {\nBlockType SubSystem\nName \"s%d\"\nSystem {\n}\n}\n", k
+    printf "}\n}\n"
+  }'
+}
+
+# So many blocks, of which each fifth is a SubSystem that holds two Inports and two Outports.
+many_ports() {
+  awk -v n="$1" 'BEGIN {
+    printf "Model {\nSystem {\n"
+    for (k = 0; k < n / 5; k++) {
+      printf "Block {\nBlockType SubSystem\nName \"s%d\"\nSystem {\n", k
+      for (j = 1; j <= 2; j++) printf "Block {\nBlockType Inport\nName \"x%d\"\nPort \"%d\"\n}\nBlock {\nBlockType Outport\nName \"y%d\"\nPort \"%d\"\n}\n", j, j, j, j
+      printf "}\n}\n"
+    }
+    printf "}\n}\n"
+  }'
+}
+
 # The one-wire model $1, with so many bytes in its Model: ordinary lines, or one long one.
 padded_model() {
   printf 'Model {\n'
