@@ -1,5 +1,6 @@
 -- Lemmas that proofs of the crates above use.
 pub mod DigitLaws
+pub mod Different
 pub mod LeastMultiple
 pub mod Lowest
 pub mod NumberBounds

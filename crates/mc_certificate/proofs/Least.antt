@@ -1,5 +1,5 @@
 -- The representatives of a sound certificate have different needs, so there are as many different needs at least.
-use Rattle.std.proofs.Common.{◌≡◌, ℕ, ◌<◌, ◌≤◌, ◌||◌, Bool, true, false, cond, eqb, List, [], ◌∷◌, length, get_or, map, refl, sym, ap, ap₂, subst, ◌∙◌, arith}
+use Rattle.std.proofs.Common.{◌≡◌, ℕ, ◌<◌, ◌≤◌, ◌||◌, Bool, true, false, eqb, List, [], ◌∷◌, length, get_or, map, refl, sym, ap, ap₂, subst, ◌∙◌, arith}
 use Rattle.std.specs.Cmp.{nat_eq_equiv}
 use Rattle.std.specs.List.{Contains, IsDistinct, list_any}
 use Rattle.std.proofs.lemmas.Bool.{eqb-true}
@@ -7,7 +7,8 @@ use Rattle.std.proofs.lemmas.List.{get_or-map, get_or_default, length-map}
 use Rattle.std.proofs.lemmas.Map.Keys.{IsDistinct-from_apart}
 use Rattle.std.proofs.lemmas.Map.Made.{length-le_from_is_member}
 use Rattle.std.proofs.lemmas.Map.Views.{list_any-from_Contains, Contains-from_any}
-use Rattle.mc_base.specs.Interface.{NeedsAreLeast, distinct}
+use Rattle.mc_base.specs.Interface.{NeedsAreLeast, different}
+use Rattle.mc_base.proofs.lemmas.Different.{has-different}
 use Rattle.mc_certificate.specs.PlainCertificate.{PlainCertificate}
 use Rattle.mc_certificate.specs.declared.certificate.Difference.{Difference}
 use Rattle.mc_certificate.specs.Sound.{IsSound, CertifiedAreLeast, need_at, positions}
@@ -20,17 +21,8 @@ turned : (q : ℕ) (ns : List ℕ) → list_any (λ y. eqb y q) ns ≡ list_any 
 turned q [] = refl
 turned q (n ∷ ns) = ap₂ (λ (s t : Bool). s || t) (nat_eq_equiv.symm n q) (turned q ns)
 
-distinct-has : (q : ℕ) (ns : List ℕ) → list_any (eqb q) ns ≡ true → list_any (eqb q) (distinct ns) ≡ true
-distinct-has q [] there = there
-distinct-has q (n ∷ ns) there = by (list_any (λ y. eqb y n) ns) (eqb q n) refl refl there (distinct-has q ns)
-  where
-    by : (later same : Bool) → list_any (λ y. eqb y n) ns ≡ later → eqb q n ≡ same → (same || list_any (eqb q) ns) ≡ true →
-        (list_any (eqb q) ns ≡ true → list_any (eqb q) (distinct ns) ≡ true) →
-        list_any (eqb q) (cond later (distinct ns) (n ∷ distinct ns)) ≡ true
-    by true true e f h rest = rest (sym (turned q ns) ∙ ap (λ m. list_any (λ y. eqb y m) ns) (eqb-true q n f) ∙ e)
-    by true false e f h rest = rest h
-    by false true e f h rest = ap (λ s. s || list_any (eqb q) (distinct ns)) f
-    by false false e f h rest = ap (λ s. s || list_any (eqb q) (distinct ns)) f ∙ rest h
+different-has : (q : ℕ) (ns : List ℕ) → list_any (eqb q) ns ≡ true → list_any (eqb q) (different ns) ≡ true
+different-has q ns there = sym (turned q (different ns)) ∙ has-different ns q ∙ turned q ns ∙ there
 
 -- ---- Needs of the representatives
 
@@ -65,7 +57,7 @@ module _ (needs : List ℕ) (c : PlainCertificate) (sound : IsSound needs c) whe
       by {a} {b} true e differ = absurd (differ (eqb-true a b e))
       by false e differ = e
 
-  member : (q : ℕ) → list_any (eqb q) chosen ≡ true → list_any (eqb q) (distinct needs) ≡ true
+  member : (q : ℕ) → list_any (eqb q) chosen ≡ true → list_any (eqb q) (different needs) ≡ true
   member q there =
       let (k, low, is) = Contains-from_any eqb-true q chosen there in
       let e : length chosen ≡ length c.representatives = length-map c.representatives (λ o. get_or needs o 0) in
@@ -73,11 +65,11 @@ module _ (needs : List ℕ) (c : PlainCertificate) (sound : IsSound needs c) whe
       let o : ℕ = get_or c.representatives k 0 in
       let output : o < length needs = sound.outputs k 0 within in
       let here : get_or needs o q ≡ q = get_or_default needs o q 0 output ∙ sym (chosen-at k q within) ∙ is in
-      distinct-has q needs (list_any-from_Contains nat_eq_equiv q needs (o, output, here))
+      different-has q needs (list_any-from_Contains nat_eq_equiv q needs (o, output, here))
 
-  pub least : length c.representatives ≤ length (distinct needs)
+  pub least : length c.representatives ≤ length (different needs)
   least = let e : length chosen ≡ length c.representatives = length-map c.representatives (λ o. get_or needs o 0) in
-      let h = length-le_from_is_member nat_eq_equiv chosen (distinct needs) distinct-chosen member in
+      let h = length-le_from_is_member nat_eq_equiv chosen (different needs) distinct-chosen member in
       omega arith
 
 pub certified_are_least : NeedsAreLeast → CertifiedAreLeast

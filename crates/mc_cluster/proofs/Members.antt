@@ -1,5 +1,5 @@
 -- The different members of a list and their places, for one member more.
-use Rattle.std.proofs.Common.{◌≡◌, ℕ, suc, ◌+◌, ◌-◌, ◌<◌, ◌≤◌, ◌||◌, ◌&&◌, Bool, true, false, cond, not, eqb, List, [], ◌∷◌, ◌++◌, map, length, get_or, filter, Some, None, is_some, refl, sym, ap, ap₂, ◌∙◌, arith, inl, inr, length-append, append-nil, take, set}
+use Rattle.std.proofs.Common.{◌≡◌, ℕ, suc, ◌+◌, ◌-◌, ◌<◌, ◌≤◌, ◌||◌, Bool, true, false, cond, not, eqb, List, [], ◌∷◌, ◌++◌, map, length, get_or, filter, Some, None, is_some, refl, sym, ap, ap₂, ◌∙◌, arith, inl, inr, length-append, append-nil, take, set}
 use Rattle.std.specs.Prelude.{unwrap_or}
 use Rattle.std.specs.List.{list_any, position_from}
 use Rattle.std.proofs.lemmas.Bool.{eqb-true, eq-eqb, false≢true}
@@ -7,8 +7,9 @@ use Rattle.std.proofs.lemmas.Bool.Decides.{eqb_tells}
 use Rattle.std.proofs.lemmas.List.{map-append, get_or-map, get_or-take, take_more, take_more_set}
 use Rattle.std.proofs.lemmas.List.Elements.{filter-append}
 use Rattle.std.proofs.lemmas.List.Filters.{length-filter_both}
-use Rattle.std.proofs.lemmas.Map.Views.{any-filter_same}
-use Rattle.mc_cluster.specs.Classes.{different, place_of, classes_of, class_count}
+use Rattle.mc_base.specs.Interface.{different}
+use Rattle.mc_base.proofs.lemmas.Different.{has, has-different}
+use Rattle.mc_cluster.specs.Classes.{place_of, classes_of, class_count}
 
 -- ---- First places
 
@@ -63,10 +64,6 @@ module _ (t : ℕ → Bool) where
 
 -- ---- Members
 
--- whether x is a member
-abbrev pub has : List ℕ → ℕ → Bool
-has xs x = list_any (λ y. eqb y x) xs
-
 eqb-sym : (x y : ℕ) → eqb x y ≡ eqb y x
 eqb-sym x y = elim (eqb_tells x y) [
   | inl (t, e) ↦ t ∙ sym (eq-eqb y x (sym e))
@@ -87,18 +84,6 @@ has-tail xs x y there = by (eqb x y)
     by false = there
 
 -- ---- Different members
-
--- they are the same members
-pub has-different : (xs : List ℕ) (m : ℕ) → has (different xs) m ≡ has xs m
-has-different [] m = refl
-has-different (x ∷ xs) m =
-    ap (λ r. eqb x m || r) (any-filter_same (λ y. eqb y m) (λ y. not (eqb y x)) (not (eqb m x)) (λ k same. ap (λ y. not (eqb y x)) (eqb-true k m same)) (different xs))
-    ∙ by (eqb x m) (eqb m x) (eqb-sym x m) ∙ ap (λ r. eqb x m || r) (has-different xs m)
-  where
-    by : (r q : Bool) → r ≡ q → (r || (not q && has (different xs) m)) ≡ (r || has (different xs) m)
-    by true q e = refl
-    by false true e = absurd (false≢true e)
-    by false false e = refl
 
 -- one more
 pub different-more : (xs : List ℕ) (m : ℕ) → different (xs ++ m ∷ []) ≡ cond (has xs m) (different xs) (different xs ++ m ∷ [])

@@ -5,9 +5,10 @@ use Rattle.std.proofs.lemmas.Bool.{cases_eq, eqb-true, eq-eqb, ne_eqb}
 use Rattle.std.proofs.lemmas.Bool.Decides.{nat_tests}
 use Rattle.std.proofs.lemmas.List.{take_more, get_or-take, length-take-le}
 use Rattle.std.proofs.lemmas.List.Folds.{list_any-append}
-use Rattle.mc_cluster.specs.Classes.{different}
+use Rattle.mc_base.specs.Interface.{different}
 use Rattle.mc_cluster.specs.Grouping.{AreDifferent}
-use Rattle.mc_cluster.proofs.Members.{has, is_some-position, position-new, position-other, found-at, different-more}
+use Rattle.mc_base.proofs.lemmas.Different.{has}
+use Rattle.mc_cluster.proofs.Members.{is_some-position, position-new, position-other, found-at, different-more}
 
 same_tests : (x y : ℕ) → is_eq (nat_cmp x y) ≡ eqb x y
 same_tests x y = grind (arith, nat_tests)

@@ -8,9 +8,11 @@ use Rattle.std.proofs.lemmas.Bool.Decides.{nat_tests}
 use Rattle.std.proofs.lemmas.Cmp.{nat_cmp_total}
 use Rattle.std.proofs.lemmas.List.Sorted.{ranks_by, IsStrictWeakOrder-flip, sorted_far}
 use Rattle.std.proofs.lemmas.Map.Views.{any-filter_same}
-use Rattle.mc_cluster.specs.Classes.{different, place_of}
+use Rattle.mc_base.specs.Interface.{different}
+use Rattle.mc_cluster.specs.Classes.{place_of}
 use Rattle.mc_cluster.specs.Grouping.{AreInOrder, AreDifferent}
-use Rattle.mc_cluster.proofs.Members.{has, has-head, has-tail, has-different, is_some-position}
+use Rattle.mc_base.proofs.lemmas.Different.{has, has-different}
+use Rattle.mc_cluster.proofs.Members.{has-head, has-tail, is_some-position}
 
 -- ---- Lists along which a number rises
 

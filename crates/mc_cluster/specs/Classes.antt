@@ -1,11 +1,7 @@
 -- Classes of outputs: those with equal needs, numbered from 0 by the least output of each.
-use Rattle.std.specs.Prelude.{◌≡◌, ℕ, not, ◌==◌, if◌then◌else◌, List, [], ◌∷◌, ◌++◌, map, filter, length, unwrap_or}
+use Rattle.std.specs.Prelude.{◌≡◌, ℕ, ◌==◌, if◌then◌else◌, List, [], ◌∷◌, ◌++◌, map, length, unwrap_or}
 use Rattle.std.specs.List.{list_any, position_from}
-
--- the different members of a list, each at its first place
-abbrev pub different : List ℕ → List ℕ
-different [] = []
-different (x ∷ xs) = x ∷ filter (λ y. not (y == x)) (different xs)
+use Rattle.mc_base.specs.Interface.{different}
 
 -- the first place of a member of a list, which it has
 abbrev pub place_of : List ℕ → ℕ → ℕ

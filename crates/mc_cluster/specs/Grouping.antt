@@ -1,6 +1,7 @@
 -- Groups: the nodes that the same functions hold, by falling number of functions, and then by least node.
 use Rattle.std.specs.Prelude.{◌≡◌, ◌≢◌, ℕ, ◌<◌, ◌⊎◌, List, length, slice_index, map, count_ones, IsPermutation}
-use Rattle.mc_cluster.specs.Classes.{different, place_of}
+use Rattle.mc_base.specs.Interface.{different}
+use Rattle.mc_cluster.specs.Classes.{place_of}
 use Rattle.mc_cluster.specs.NodeGroups.{NodeGroups}
 
 -- a group with the one set comes before that with the other, where these are the sets of all nodes

@@ -2,7 +2,8 @@ ghost use Rattle.std.specs.Prelude.{◌≡◌, ◌≤◌, ◌==◌, ◌^◌, ℕ
 ghost use Rattle.std.specs.BTreeMap.{get};
 ghost use Rattle.std.specs.List.{position_from};
 ghost use Rattle.std.specs.Ordering.{nat_cmp};
-ghost use Rattle.mc_cluster.specs.Classes.{different, place_of};
+ghost use Rattle.mc_base.specs.Interface.{different};
+ghost use Rattle.mc_cluster.specs.Classes.{place_of};
 ghost use Rattle.mc_cluster.specs.Grouping.{AreDifferent, AreGroups, AreInOrder};
 
 use mc_base::Memory;

@@ -9,7 +9,7 @@ use Rattle.std.proofs.lemmas.Cmp.{nat_eq_equiv}
 use Rattle.std.proofs.lemmas.Map.Views.{Contains-from_any, list_any-from_Contains, exact_unsigned_eq}
 use Rattle.mc_diagram.specs.Walk.{Walk}
 use Rattle.mc_depend.specs.Least.{IsLeastOf}
-use Rattle.mc_depend.proofs.ShortWalks.{first-below}
+use Rattle.mc_diagram.proofs.lemmas.ShortWalks.{first-below}
 use Rattle.mc_depend.proofs.LeastSearches.{Decided, least-found}
 use Rattle.mc_depend.proofs.LeastPathSteps.{first-less}
 

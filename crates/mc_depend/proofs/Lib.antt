@@ -9,7 +9,6 @@ pub mod BlockSteps
 pub mod GraphSteps
 pub mod InputSteps
 pub mod OutportSteps
-pub mod ShortWalks
 pub mod LeastSearches
 pub mod FirstWays
 pub mod ToldLoops

@@ -16,7 +16,7 @@ use Rattle.mc_depend.specs.Least.{IsLeastOf}
 use Rattle.mc_depend.specs.LoopLaws.{LoopIsToldOrNone}
 use Rattle.mc_depend.proofs.Comparing.{le-or-above}
 use Rattle.mc_depend.proofs.lemmas.LoopRows.{loop-rows, all-above, none-on_loop}
-use Rattle.mc_depend.proofs.ShortWalks.{first-below, short-walk}
+use Rattle.mc_diagram.proofs.lemmas.ShortWalks.{first-below, short-walk}
 use Rattle.mc_depend.proofs.LeastSearches.{Decided, least-found}
 use Rattle.mc_depend.proofs.FirstWays.{Way, IsFirstWay, way-decided, first-way}
 

@@ -18,7 +18,7 @@ use Rattle.mc_diagram.specs.Walk.{Walk}
 use Rattle.mc_diagram.proofs.lemmas.ByRow.{by_row-at, length-by_row}
 use Rattle.mc_diagram.proofs.OneTime.{Writes-one}
 use Rattle.mc_diagram.proofs.Progressions.{IsFound, found-none, found-one, found-either, found-same, found-among, inferred-from}
-use Rattle.mc_diagram.proofs.ShortWalks.{short-walk}
+use Rattle.mc_diagram.proofs.lemmas.ShortWalks.{short-walk}
 
 -- where a search goes on from a row that writes this, with these inputs
 abbrev goes_by : TimeText → List ℕ → List ℕ

@@ -2,6 +2,7 @@
 pub mod ByRow
 pub mod Agreement
 pub mod Walks
+pub mod ShortWalks
 pub mod Inside
 pub mod Tick
 pub mod OneRun
@@ -13,6 +14,11 @@ pub mod Tests
 pub mod WellFormedTests
 pub mod Timeless
 pub mod Equations
+pub mod Ports
+pub mod Traces
+pub mod TickLaws
+pub mod FullMemories
+pub mod SystemRuns
 pub mod OneType
 pub mod TypeFollowed
 pub mod Accepted

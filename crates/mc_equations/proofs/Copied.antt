@@ -27,7 +27,7 @@ use Rattle.mc_diagram.specs.ResolvedTree.{ResolvedTree, IsResolvedTree, diagram_
 use Rattle.mc_diagram.specs.Run.{value_at}
 use Rattle.mc_diagram.proofs.lemmas.OneType.{meets-one}
 use Rattle.mc_diagram.proofs.lemmas.TypeFollowed.{type_followed}
-use Rattle.mc_equations.specs.Fitting.{FitsRow, AreFit}
+use Rattle.mc_equations.specs.Fitting.{FitsRow, EachFits}
 
 -- 0 lies in every type
 pub zero-in : (type : FixType) → InType type (pos 0)
@@ -204,13 +204,13 @@ module _ (r : ResolvedTree) (is : IsResolvedTree r) where
         by false e (inr written) = same-in (type b) (type c) number (same e written) fits.in_type
 
   -- a row that passes on its input has one, in its own type
-  pub passed : (b : ℕ) → b < length table.rows → PassesOn table.rows b → (v : List ℤ) → AreFit (diagram_of r) v →
+  pub passed : (b : ℕ) → b < length table.rows → PassesOn table.rows b → (v : List ℤ) → EachFits (diagram_of r) v →
       (0 < length (map (value_at v) (row_at table.rows b).inputs)) × InType (type b) (input (map (value_at v) (row_at table.rows b).inputs) 0)
   passed b inside on v fit = by (row_at table.rows b).inputs refl on.wires
     where
       by : (ws : List ℕ) → (row_at table.rows b).inputs ≡ ws → length ws ≡ 1 → (0 < length (map (value_at v) ws)) × InType (type b) (input (map (value_at v) ws) 0)
       by [] e one = absurd (omega arith)
-      by (c ∷ []) e one = (omega arith, copied b c inside on e (value_at v c) (fit.each c))
+      by (c ∷ []) e one = (omega arith, copied b c inside on e (value_at v c) (fit c))
       by (c ∷ k ∷ ws) e one = absurd (omega arith)
 
   -- a row of this kind passes on its input

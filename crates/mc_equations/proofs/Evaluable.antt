@@ -1,6 +1,6 @@
 -- Each row can be computed from values and a memory that fit, and what it computes fits.
-use Rattle.std.specs.Prelude.{◌≡◌, ℕ, ◌-◌, ◌<◌, Bool, true, false, ◌&&◌, if◌then◌else◌, List, [], ◌∷◌, map, length, slice_index_or, Option, Some, None, ℤ}
-use Rattle.std.specs.List.{AllZip}
+use Rattle.std.specs.Prelude.{◌≡◌, ℕ, zero, suc, ◌-◌, ◌<◌, Bool, true, false, ◌&&◌, if◌then◌else◌, List, [], ◌∷◌, map, length, slice_index_or, Option, Some, None, ℤ}
+use Rattle.std.specs.List.{AllZip, list_any}
 use Rattle.std.proofs.Common.{refl, sym, ◌∙◌, ap, subst, arith, inl, inr, true≢false}
 use Rattle.mc_base.specs.declared.Decimal.{Decimal}
 use Rattle.mc_base.specs.declared.TimeText.{TimeText}
@@ -14,7 +14,8 @@ use Rattle.mc_blocks.specs.Value.{rhs, input}
 use Rattle.mc_blocks.specs.Meaning.{op_of}
 use Rattle.mc_blocks.specs.Evaluation.{PassesInType, ReadsInTypes, IsEvaluable}
 use Rattle.mc_blocks.proofs.lemmas.InType.{values_stay_in_type}
-use Rattle.mc_diagram.specs.Rows.{row_at, is_inport, same_system, port_of}
+use Rattle.mc_diagram.specs.declared.table.Row.{Row}
+use Rattle.mc_diagram.specs.Rows.{row_at, is_inport, is_inside, is_system, same_system, outward, enclosing, port_of}
 use Rattle.mc_diagram.specs.ResolvedTree.{ResolvedTree, IsResolvedTree, diagram_of}
 use Rattle.mc_diagram.specs.WellFormed.{wires_wanted}
 use Rattle.mc_diagram.specs.Diagram.{Diagram, type_at, op_at, op_in}
@@ -22,14 +23,25 @@ use Rattle.mc_diagram.specs.Run.{value_at, is_delay, input_values}
 use Rattle.mc_diagram.proofs.lemmas.ByRow.{by_row-at}
 use Rattle.mc_diagram.proofs.lemmas.Resolving.{has_types, within_limits}
 use Rattle.mc_diagram.proofs.lemmas.Accepted.{rows_are_narrow}
+use Rattle.mc_diagram.proofs.lemmas.RestsOnNeeds.{same_system-equal}
 use Rattle.mc_equations.specs.Traces.{HasInputs}
-use Rattle.mc_equations.specs.Fitting.{FitsRow, AreFit}
+use Rattle.mc_equations.specs.Fitting.{FitsRow, EachFits}
 use Rattle.mc_equations.proofs.Copied.{PassesOn, passed, passes-on}
 
 -- numbers that wires read lie in the wires' types
-wires-in : (d : Diagram) (v : List ℤ) → AreFit d v → (ws : List ℕ) → AllZip InType (map (type_at d.types) ws) (map (value_at v) ws)
+pub wires-in : (d : Diagram) (v : List ℤ) → EachFits d v → (ws : List ℕ) → AllZip InType (map (type_at d.types) ws) (map (value_at v) ws)
 wires-in d v fit [] = tt
-wires-in d v fit (c ∷ ws) = ((fit.each c).in_type, wires-in d v fit ws)
+wires-in d v fit (c ∷ ws) = ((fit c).in_type, wires-in d v fit ws)
+
+-- a row of the root is not inside another system
+none-outward : (rows : List Row) (n : ℕ) → outward rows None n None ≡ []
+none-outward rows zero = refl
+none-outward rows (suc n) = refl
+
+not-inside : (rows : List Row) (b : ℕ) → (row_at rows b).owner ≡ None → (s : Option ℕ) → same_system None s ≡ false → is_inside rows s b ≡ true → ⊥
+not-inside rows b own None apart stands = true≢false apart
+not-inside rows b own (Some k) apart stands =
+    true≢false (sym stands ∙ ap (λ o. list_any (is_system (Some k)) (enclosing rows None o)) own ∙ ap (list_any (is_system (Some k))) (none-outward rows (length rows)))
 
 -- over a row of a resolved tree
 module _ (r : ResolvedTree) (is : IsResolvedTree r) (b : ℕ) (inside : b < length r.tree.table.rows) where
@@ -48,16 +60,16 @@ module _ (r : ResolvedTree) (is : IsResolvedTree r) (b : ℕ) (inside : b < leng
   pub op-is : op_at (diagram_of r) b ≡ op_of own_kind own_types own_type own_delays
   op-is = ap (λ (ops : List Op). slice_index_or ops b Nothing) is.resolved.are_ops ∙ by_row-at r.tree.table.rows (op_in r.tree.table.rows r.types r.times.delays) b Nothing inside
 
-  module _ (x v : List ℤ) (has : HasInputs (diagram_of r) x) (fit : AreFit (diagram_of r) v) where
+  module _ (s : Option ℕ) (stands : is_inside r.tree.table.rows s b ≡ true) (x v : List ℤ) (has : HasInputs (diagram_of r) s x) (fit : EachFits (diagram_of r) v) where
     abbrev own_inputs : List ℤ
-    own_inputs = input_values (diagram_of r) None x v [] b
+    own_inputs = input_values (diagram_of r) s x v [] b
 
     abbrev wire_inputs : List ℤ
     wire_inputs = map (value_at v) (row_at r.tree.table.rows b).inputs
 
-    -- all but an Inport of the root read their wires
+    -- all but an Inport of the system read their wires
     from-wires : is_inport own_kind ≡ false → own_inputs ≡ wire_inputs
-    from-wires e i = if (e i && same_system (row_at r.tree.table.rows b).owner None) then value_at x (port_of own_kind - 1) ∷ [] else wire_inputs
+    from-wires e i = if (e i && same_system (row_at r.tree.table.rows b).owner s) then value_at x (port_of own_kind - 1) ∷ [] else wire_inputs
 
     -- a row that reads one number, in its own type
     abbrev FirstIn : List ℤ → Type 0
@@ -66,18 +78,23 @@ module _ (r : ResolvedTree) (is : IsResolvedTree r) (b : ℕ) (inside : b < leng
     from-wire : is_inport own_kind ≡ false → PassesOn r.tree.table.rows b → FirstIn own_inputs
     from-wire e on = subst FirstIn (sym (from-wires e)) (passed r is b inside on v fit)
 
-    inport-in : (port : ℕ) → own_kind ≡ Inport port → FirstIn own_inputs
-    inport-in port e = by (row_at r.tree.table.rows b).owner refl
+    pub inport-in : (port : ℕ) → own_kind ≡ Inport port → FirstIn own_inputs
+    inport-in port e = by (same_system (row_at r.tree.table.rows b).owner s) refl
       where
-        by : (o : Option ℕ) → (row_at r.tree.table.rows b).owner ≡ o → FirstIn own_inputs
-        by None own =
+        from-owner : (o : Option ℕ) → (row_at r.tree.table.rows b).owner ≡ o → same_system o s ≡ false → FirstIn wire_inputs
+        from-owner None own apart = absurd (not-inside r.tree.table.rows b own s apart stands)
+        from-owner (Some f) own apart = passed r is b inside (passes-on r is b (Inport port) inside e refl refl (λ text. inr refl) (ap (wires_wanted (Inport port)) own)) v fit
+
+        by : (here : Bool) → same_system (row_at r.tree.table.rows b).owner s ≡ here → FirstIn own_inputs
+        by true here =
             let given : own_inputs ≡ value_at x (port - 1) ∷ [] =
-            λ i. if (is_inport (e i) && same_system (own i) None) then value_at x (port_of (e i) - 1) ∷ [] else wire_inputs in
+            λ i. if (is_inport (e i) && here i) then value_at x (port_of (e i) - 1) ∷ [] else wire_inputs in
+            let own = same_system-equal (row_at r.tree.table.rows b).owner s here in
             subst FirstIn (sym given) (omega arith, (has port b (record { in_table = inside; is_inport = e; is_own = own })).1)
-        by (Some f) own =
+        by false here =
             let given : own_inputs ≡ wire_inputs =
-            λ i. if (is_inport (e i) && same_system (own i) None) then value_at x (port_of own_kind - 1) ∷ [] else wire_inputs in
-            subst FirstIn (sym given) (passed r is b inside (passes-on r is b (Inport port) inside e refl refl (λ text. inr refl) (ap (wires_wanted (Inport port)) own)) v fit)
+            λ i. if (is_inport (e i) && here i) then value_at x (port_of own_kind - 1) ∷ [] else wire_inputs in
+            subst FirstIn (sym given) (from-owner (row_at r.tree.table.rows b).owner refl here)
 
     own-in : (kind : Kind) → own_kind ≡ kind → is_inport kind ≡ false → PassesOn r.tree.table.rows b → FirstIn own_inputs
     own-in kind e out on = from-wire (ap is_inport e ∙ out) on

@@ -1,5 +1,5 @@
 -- Values, memories and triggers fit before the first tick, and after each tick where they did before it.
-use Rattle.std.specs.Prelude.{◌≡◌, ℕ, zero, suc, ◌<◌, Bool, true, false, not, ◌&&◌, if◌then◌else◌, List, [], ◌∷◌, ◌++◌, map, replicate, length, slice_index_or, None, ℤ, pos}
+use Rattle.std.specs.Prelude.{◌≡◌, ℕ, zero, suc, ◌<◌, Bool, true, false, not, ◌&&◌, if◌then◌else◌, List, [], ◌∷◌, ◌++◌, map, replicate, length, slice_index_or, Option, None, ℤ, pos}
 use Rattle.std.specs.List.{AllByRecursion}
 use Rattle.std.proofs.Common.{refl, sym, ◌∙◌, ap, subst, arith}
 use Rattle.std.proofs.lemmas.List.{get_or_past}
@@ -17,19 +17,20 @@ use Rattle.mc_blocks.specs.declared.Op.{Op}
 use Rattle.mc_blocks.specs.declared.Op.TheVariants as op
 use Rattle.mc_blocks.specs.Meaning.{op_of, has_value, delay_length}
 use Rattle.mc_blocks.proofs.lemmas.InType.{values_stay_in_type}
-use Rattle.mc_diagram.specs.Rows.{row_at, by_row, system_control, around}
+use Rattle.mc_diagram.specs.Rows.{row_at, by_row, system_control, around, is_inside}
 use Rattle.mc_diagram.specs.ResolvedTree.{ResolvedTree, IsResolvedTree, diagram_of}
 use Rattle.mc_diagram.specs.Diagram.{Diagram, type_at, op_at}
 use Rattle.mc_diagram.specs.Run.{memory_at, first_of, moved_on, is_delay, start_by, start_of, initial_memory, any_off, runs, is_reset_outport, is_disabled, row_value, row_memory, has_memory, values_by, memories_by, triggers_by}
 use Rattle.mc_diagram.proofs.lemmas.ByRow.{by_row-at, length-by_row}
+use Rattle.mc_diagram.proofs.lemmas.Tests.{and-left, and-right}
 use Rattle.mc_equations.specs.Traces.{HasInputs}
-use Rattle.mc_equations.specs.Fitting.{FitsRow, AreFit, AreInTypes, IsFit}
+use Rattle.mc_equations.specs.Fitting.{FitsRow, EachFits, AreFit, AreInTypes, IsFit}
 use Rattle.mc_equations.proofs.Copied.{zero-in}
 use Rattle.mc_equations.proofs.Evaluable.{op-is, computed-fits, taken-fits}
 
 -- ---- Lists by row
 
-zero-fits : (d : Diagram) (b : ℕ) → FitsRow d b (pos 0)
+pub zero-fits : (d : Diagram) (b : ℕ) → FitsRow d b (pos 0)
 zero-fits d b = record { in_type = zero-in (type_at d.types b); ground = λ e. refl }
 
 -- what holds of what stands past the end and of what each row is given holds along the list
@@ -48,6 +49,23 @@ are-in d f each = record {
   one_each = length-by_row d.rows f;
   each = along d f [] (λ b. AllByRecursion (InType (type_at d.types b))) (λ b. tt) each;
 }
+
+-- what holds of nothing, and of what stands where a test passes
+guarded : {X : Type 0} (P : X → Type 0) (test : Bool) (y nothing : X) → P nothing → (test ≡ true → P y) → P (if test then y else nothing)
+guarded P true y nothing none some = some refl
+guarded P false y nothing none some = none
+
+-- a value for each row of a system
+inside-fit : (d : Diagram) (s : Option ℕ) (f : ℕ → ℤ) → ((b : ℕ) → b < length d.rows → is_inside d.rows s b ≡ true → FitsRow d b (f b)) → AreFit d (values_by d s f)
+inside-fit d s f each = are-fit d (λ b. if is_inside d.rows s b then f b else pos 0)
+    (λ b inside. guarded (FitsRow d b) (is_inside d.rows s b) (f b) (pos 0) (zero-fits d b) (each b inside))
+
+-- a memory for each delay of a system
+inside-in : (d : Diagram) (s : Option ℕ) (f : ℕ → List ℤ) →
+    ((b : ℕ) → b < length d.rows → is_inside d.rows s b ≡ true → is_delay (op_at d b) ≡ true → AllByRecursion (InType (type_at d.types b)) (f b)) → AreInTypes d (memories_by d s f)
+inside-in d s f each = are-in d (λ b. if has_memory d s b then f b else [])
+    (λ b inside. guarded (AllByRecursion (InType (type_at d.types b))) (has_memory d s b) (f b) [] tt
+    (λ has. each b inside (and-left (is_inside d.rows s b) (is_delay (op_at d b)) has) (and-right (is_inside d.rows s b) (is_delay (op_at d b)) has)))
 
 -- ---- What a row remembers
 
@@ -135,38 +153,35 @@ module _ (r : ResolvedTree) (is : IsResolvedTree r) where
   first-in : (b : ℕ) → b < length r.tree.table.rows → AllByRecursion (InType (type_at r.types b)) (initial_memory (diagram_of r) b)
   first-in b inside = all-repeated (InType (type_at r.types b)) (delay_length (op_at (diagram_of r) b)) (start_of (diagram_of r) b) (start-fits b inside).in_type
 
-  -- before the first tick
-  pub first-fit : IsFit (diagram_of r) (values_by (diagram_of r) None (start_of (diagram_of r))) (memories_by (diagram_of r) None (initial_memory (diagram_of r))) (triggers_by (diagram_of r) None (λ e. NotYet))
-  first-fit = record {
-    values = are-fit (diagram_of r) (start_of (diagram_of r)) start-fits;
-    memories = are-in (diagram_of r) (λ b. if has_memory (diagram_of r) None b then initial_memory (diagram_of r) b else [])
-        (λ b inside. either (AllByRecursion (InType (type_at r.types b))) (has_memory (diagram_of r) None b) _ _ (first-in b inside) tt);
-    triggers = length-by_row r.tree.table.rows _;
-  }
+  module _ (s : Option ℕ) where
+    -- before the first tick
+    pub first-fit : IsFit (diagram_of r) (values_by (diagram_of r) s (start_of (diagram_of r))) (memories_by (diagram_of r) s (initial_memory (diagram_of r))) (triggers_by (diagram_of r) s (λ e. NotYet))
+    first-fit = record {
+      values = inside-fit (diagram_of r) s (start_of (diagram_of r)) (λ b inside stands. start-fits b inside);
+      memories = inside-in (diagram_of r) s (initial_memory (diagram_of r)) (λ b inside stands delay. first-in b inside);
+      triggers = length-by_row r.tree.table.rows _;
+    }
 
-  module _ (t : ℕ) (x before : List ℤ) (m : List (List ℤ)) (v : List ℤ) (g : List TrigMem) (has : HasInputs (diagram_of r) x) (fit : IsFit (diagram_of r) before m g) (now : AreFit (diagram_of r) v) where
-    value-fits : (b : ℕ) → b < length r.tree.table.rows → FitsRow (diagram_of r) b (row_value (diagram_of r) None t x before m g v b)
-    value-fits b inside =
-        let P = FitsRow (diagram_of r) b in
-        either P (not (has_value (row_at r.tree.table.rows b).kind)) _ _ (zero-fits (diagram_of r) b)
-        (either P (is_reset_outport (row_at r.tree.table.rows b).kind && is_disabled (diagram_of r) None x v g (around r.tree.table.rows None b)) _ _ (start-fits b inside)
-        (either P (runs (diagram_of r) None x v g t b) _ _ (computed-fits r is b inside x v has now (first_of (memory_at m b)) (oldest-in (type_at r.types b) (memory_at m b) (fit.memories.each b))) (fit.values.each b)))
+    module _ (t : ℕ) (x before : List ℤ) (m : List (List ℤ)) (v : List ℤ) (g : List TrigMem) (has : HasInputs (diagram_of r) s x) (fit : IsFit (diagram_of r) before m g) (now : EachFits (diagram_of r) v) where
+      value-fits : (b : ℕ) → b < length r.tree.table.rows → is_inside r.tree.table.rows s b ≡ true → FitsRow (diagram_of r) b (row_value (diagram_of r) s t x before m g v b)
+      value-fits b inside stands =
+          let P = FitsRow (diagram_of r) b in
+          either P (not (has_value (row_at r.tree.table.rows b).kind)) _ _ (zero-fits (diagram_of r) b)
+          (either P (is_reset_outport (row_at r.tree.table.rows b).kind && is_disabled (diagram_of r) s x v g (around r.tree.table.rows s b)) _ _ (start-fits b inside)
+          (either P (runs (diagram_of r) s x v g t b) _ _ (computed-fits r is b inside s stands x v has now (first_of (memory_at m b)) (oldest-in (type_at r.types b) (memory_at m b) (fit.memories.each b))) (fit.values.each b)))
 
-    -- the values that are made from these
-    pub values-fit : AreFit (diagram_of r) (values_by (diagram_of r) None (row_value (diagram_of r) None t x before m g v))
-    values-fit = are-fit (diagram_of r) (row_value (diagram_of r) None t x before m g v) value-fits
+      -- the values that are made from these
+      pub values-fit : AreFit (diagram_of r) (values_by (diagram_of r) s (row_value (diagram_of r) s t x before m g v))
+      values-fit = inside-fit (diagram_of r) s (row_value (diagram_of r) s t x before m g v) value-fits
 
-    memory-in : (b : ℕ) → b < length r.tree.table.rows → AllByRecursion (InType (type_at r.types b)) (if has_memory (diagram_of r) None b then row_memory (diagram_of r) None t x m g v b else [])
-    memory-in b inside = by (is_delay (op_at (diagram_of r) b)) refl
-      where
-        by : (delay : Bool) → is_delay (op_at (diagram_of r) b) ≡ delay → AllByRecursion (InType (type_at r.types b)) (if delay then row_memory (diagram_of r) None t x m g v b else [])
-        by true e =
-            let P = AllByRecursion (InType (type_at r.types b)) in
-            either P (any_off (diagram_of r) None x v g (around r.tree.table.rows None b)) _ _ (first-in b inside)
-            (either P (runs (diagram_of r) None x v g t b) _ _
-            (all-moved (InType (type_at r.types b)) (memory_at m b) _ (fit.memories.each b) (taken-fits r is b inside x v has now e)) (fit.memories.each b))
-        by false e = tt
+      memory-in : (b : ℕ) → b < length r.tree.table.rows → is_inside r.tree.table.rows s b ≡ true → is_delay (op_at (diagram_of r) b) ≡ true →
+          AllByRecursion (InType (type_at r.types b)) (row_memory (diagram_of r) s t x m g v b)
+      memory-in b inside stands delay =
+          let P = AllByRecursion (InType (type_at r.types b)) in
+          either P (any_off (diagram_of r) s x v g (around r.tree.table.rows s b)) _ _ (first-in b inside)
+          (either P (runs (diagram_of r) s x v g t b) _ _
+          (all-moved (InType (type_at r.types b)) (memory_at m b) _ (fit.memories.each b) (taken-fits r is b inside s stands x v has now delay)) (fit.memories.each b))
 
-    -- and the memories after the tick
-    pub memories-fit : AreInTypes (diagram_of r) (memories_by (diagram_of r) None (row_memory (diagram_of r) None t x m g v))
-    memories-fit = are-in (diagram_of r) (λ b. if has_memory (diagram_of r) None b then row_memory (diagram_of r) None t x m g v b else []) memory-in
+      -- and the memories after the tick
+      pub memories-fit : AreInTypes (diagram_of r) (memories_by (diagram_of r) s (row_memory (diagram_of r) s t x m g v))
+      memories-fit = inside-in (diagram_of r) s (row_memory (diagram_of r) s t x m g v) memory-in

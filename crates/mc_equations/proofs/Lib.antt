@@ -1,6 +1,7 @@
 pub mod Resolved
 pub mod RowLists
 pub mod RowInputs
+pub mod TraceRows
 pub mod Controls
 pub mod Systems
 pub mod Copied
@@ -8,3 +9,4 @@ pub mod Evaluable
 pub mod Kept
 pub mod Rounds
 pub mod Runs
+pub mod TypedRuns

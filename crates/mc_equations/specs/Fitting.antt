@@ -13,10 +13,14 @@ pub record FitsRow (d : Diagram) (b : ℕ) (number : ℤ) : Type 0 where
   pub in_type : InType (type_at d.types b) number
   pub ground : (row_at d.rows b).kind ≡ Ground → number ≡ pos 0
 
+-- each row can have its number
+abbrev pub EachFits : Diagram → List ℤ → Type 0
+EachFits d v = (b : ℕ) → FitsRow d b (value_at v b)
+
 -- a value for each row, which it can have
 pub record AreFit (d : Diagram) (v : List ℤ) : Type 0 where
   pub one_each : length v ≡ length d.rows
-  pub each : (b : ℕ) → FitsRow d b (value_at v b)
+  pub each : EachFits d v
 
 -- a memory for each row, all of whose numbers lie in the row's type
 pub record AreInTypes (d : Diagram) (m : List (List ℤ)) : Type 0 where

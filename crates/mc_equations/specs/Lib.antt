@@ -1,3 +1,4 @@
 pub mod Traces
 pub mod Fitting
 pub mod Values
+pub mod TypedRuns

@@ -2,6 +2,7 @@
 #![tactic(auto)]
 
 mod activity;
+mod laws;
 mod reading;
 mod row;
 mod run;
@@ -9,5 +10,6 @@ mod samples;
 mod tick;
 mod trace;
 
+pub use laws::ticks_are_typed;
 pub use run::plain_run;
 pub use trace::is_trace_for;

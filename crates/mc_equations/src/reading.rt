@@ -79,7 +79,7 @@ pub(crate) fn input_values(
     values: &[i64],
     b: usize,
 ) -> Result<Vec<i64>, Memory>
-    requires inputs { HasInputs (diagram_of r.now) inputs.now }
+    requires inputs { HasInputs (diagram_of r.now) None inputs.now }
     requires values { length values.now ≡ length r.now.tree.table.rows }
     requires row { b < length r.now.tree.table.rows }
     ensures { IfOk result (λ v. v.items ≡ run.input_values (diagram_of r.now) None inputs.now values.now [] b) }

@@ -110,7 +110,7 @@ pub(crate) fn row_value(
     values: &[i64],
     b: usize,
 ) -> Result<i64, Memory>
-    requires inputs { HasInputs (diagram_of r.now) inputs.now }
+    requires inputs { HasInputs (diagram_of r.now) None inputs.now }
     requires before { IsFit (diagram_of r.now) before.now.values.items before.now.memories.items before.now.triggers.items }
     requires values { AreFit (diagram_of r.now) values.now }
     requires row { b < length r.now.tree.table.rows }
@@ -139,7 +139,7 @@ fn computed(
     memory: i64,
     b: usize,
 ) -> Result<i64, Memory>
-    requires inputs { HasInputs (diagram_of r.now) inputs.now }
+    requires inputs { HasInputs (diagram_of r.now) None inputs.now }
     requires values { AreFit (diagram_of r.now) values.now }
     requires memory { InType (type_at r.now.types b) memory }
     requires row { b < length r.now.tree.table.rows }
@@ -159,7 +159,7 @@ pub(crate) fn row_memory(
     values: &[i64],
     b: usize,
 ) -> Result<Samples, Memory>
-    requires inputs { HasInputs (diagram_of r.now) inputs.now }
+    requires inputs { HasInputs (diagram_of r.now) None inputs.now }
     requires before { IsFit (diagram_of r.now) before.now.values.items before.now.memories.items before.now.triggers.items }
     requires values { AreFit (diagram_of r.now) values.now }
     requires row { b < length r.now.tree.table.rows }
@@ -189,7 +189,7 @@ fn first_input(
     values: &[i64],
     b: usize,
 ) -> Result<i64, Memory>
-    requires inputs { HasInputs (diagram_of r.now) inputs.now }
+    requires inputs { HasInputs (diagram_of r.now) None inputs.now }
     requires values { length values.now ≡ length r.now.tree.table.rows }
     requires row { b < length r.now.tree.table.rows }
     ensures { IfOk result (λ v. v ≡ input (run.input_values (diagram_of r.now) None inputs.now values.now [] b) 0) }

@@ -1,10 +1,10 @@
 ghost use Rattle.std.specs.Prelude.{◌≡◌, IfOk, None, map};
 ghost use Rattle.mc_guards.specs.declared.TrigMem.TheVariants.{NotYet};
-ghost use Rattle.mc_diagram.specs.ResolvedTree.{diagram_of};
+ghost use Rattle.mc_diagram.specs.ResolvedTree.{IsResolvedTree, diagram_of};
 ghost use Rattle.mc_diagram.specs.Needs.{needs_of, HasNoLoop};
 ghost use Rattle.mc_diagram.specs.Run as run;
+ghost use Rattle.mc_diagram.specs.Traces.{IsTrace};
 ghost use Rattle.mc_equations.specs.Fitting.{IsFit};
-ghost use Rattle.mc_equations.specs.Traces.{IsTraceFor};
 ghost use Rattle.mc_equations.specs.Values.{AreValuesOf};
 
 use crate::reading::row_count;
@@ -15,14 +15,14 @@ use mc_diagram::Resolved;
 use mc_guards::TrigMem;
 use std::alloc::Global;
 
-/// The values of a diagram's run over a trace, by tick and row. The diagram has no loop, and each row of the trace has a
+/// The values of a diagram's run over a trace, by tick and row. The diagram has no loop, and each row of the trace has just one
 /// number for each Inport of the root, by its port and in its type.
 ///
 /// The plain way, for others to be compared with: at each tick all rows are gone over until no value changes. The only fault
 /// is want of memory.
 pub fn plain_run(alloc: Global, r: &Resolved, inputs: &[Vec<i64>]) -> Result<Vec<Vec<i64>>, Memory>
     requires no_loop { HasNoLoop (needs_of (diagram_of r.now)) }
-    requires inputs { IsTraceFor (diagram_of r.now) (map (λ x. x.items) inputs.now) }
+    requires inputs { IsTrace (diagram_of r.now) None (map (λ x. x.items) inputs.now) }
     ensures { IfOk result (λ vs. AreValuesOf (diagram_of r.now) (map (λ x. x.items) inputs.now) (map (λ v. v.items) vs.items)) }
 {
     let mut state = first_state(alloc, r)?;
@@ -39,6 +39,7 @@ fn first_state(alloc: Global, r: &Resolved) -> Result<State, Memory>
     ensures values { IfOk result (λ first. first.values.items ≡ run.values_by (diagram_of r.now) None (run.start_of (diagram_of r.now))) }
     ensures memories { IfOk result (λ first. first.memories.items ≡ run.memories_by (diagram_of r.now) None (run.initial_memory (diagram_of r.now))) }
     ensures triggers { IfOk result (λ first. first.triggers.items ≡ run.triggers_by (diagram_of r.now) None (λ e. NotYet)) }
+    ensures resolved { IfOk result (λ first. IsResolvedTree r.now) }
     ensures fit { IfOk result (λ first. IsFit (diagram_of r.now) first.values.items first.memories.items first.triggers.items) }
 {
     let mut values = Vec::new(alloc);

@@ -23,7 +23,7 @@ pub(crate) fn next_state(
     before: &State,
 ) -> Result<State, Memory>
     requires no_loop { HasNoLoop (needs_of (diagram_of r.now)) }
-    requires inputs { HasInputs (diagram_of r.now) inputs.now }
+    requires inputs { HasInputs (diagram_of r.now) None inputs.now }
     requires before { IsFit (diagram_of r.now) before.now.values.items before.now.memories.items before.now.triggers.items }
     ensures tick { IfOk result (λ after. run.IsTick (diagram_of r.now) None tick inputs.now
         before.now.values.items before.now.memories.items before.now.triggers.items after.values.items after.memories.items after.triggers.items) }
@@ -49,7 +49,7 @@ fn solution(
     before: &State,
 ) -> Result<Vec<i64>, Memory>
     requires no_loop { HasNoLoop (needs_of (diagram_of r.now)) }
-    requires inputs { HasInputs (diagram_of r.now) inputs.now }
+    requires inputs { HasInputs (diagram_of r.now) None inputs.now }
     requires before { IsFit (diagram_of r.now) before.now.values.items before.now.memories.items before.now.triggers.items }
     ensures solves { IfOk result (λ v. v.items ≡ run.values_by (diagram_of r.now) None
         (run.row_value (diagram_of r.now) None tick inputs.now before.now.values.items before.now.memories.items before.now.triggers.items v.items)) }
@@ -75,7 +75,7 @@ fn round(
     before: &State,
     values: &[i64],
 ) -> Result<Vec<i64>, Memory>
-    requires inputs { HasInputs (diagram_of r.now) inputs.now }
+    requires inputs { HasInputs (diagram_of r.now) None inputs.now }
     requires before { IsFit (diagram_of r.now) before.now.values.items before.now.memories.items before.now.triggers.items }
     requires values { AreFit (diagram_of r.now) values.now }
     ensures values { IfOk result (λ v. v.items ≡ run.values_by (diagram_of r.now) None
@@ -98,7 +98,7 @@ fn memories_after(
     before: &State,
     values: &[i64],
 ) -> Result<Vec<Samples>, Memory>
-    requires inputs { HasInputs (diagram_of r.now) inputs.now }
+    requires inputs { HasInputs (diagram_of r.now) None inputs.now }
     requires before { IsFit (diagram_of r.now) before.now.values.items before.now.memories.items before.now.triggers.items }
     requires values { AreFit (diagram_of r.now) values.now }
     ensures memories { IfOk result (λ m. m.items ≡ run.memories_by (diagram_of r.now) None

@@ -1,31 +1,75 @@
-ghost use Rattle.std.specs.Prelude.{◌≡◌, ◌<◌, ◌↔◌, ◌-◌, None, ℕ, length, map, true};
+ghost use Rattle.std.specs.Prelude.{◌≡◌, ◌<◌, ◌↔◌, ◌-◌, ◌&&◌, None, ℕ, count_by, length, map, true};
 ghost use Rattle.mc_fixed.specs.Conversion.{InType};
-ghost use Rattle.mc_diagram.specs.ResolvedTree.{diagram_of};
+ghost use Rattle.mc_diagram.specs.declared.table.Row.{Row as PlainRow};
+ghost use Rattle.mc_diagram.specs.ResolvedTree.{IsResolvedTree, diagram_of};
+ghost use Rattle.mc_diagram.specs.Rows.{inports_of, is_inport, same_system};
 ghost use Rattle.mc_diagram.specs.Diagram.{type_at};
 ghost use Rattle.mc_diagram.specs.Needs.{IsInputRow};
 ghost use Rattle.mc_diagram.specs.Run.{value_at};
-ghost use Rattle.mc_equations.specs.Traces.{HasInputs, IsTraceFor};
+ghost use Rattle.mc_diagram.specs.Traces.{IsTrace, IsTraceRow};
+ghost use Rattle.mc_equations.specs.Traces.{HasInputs};
 
 use crate::reading::{row, row_count, type_of};
 use mc_blocks::Kind;
-use mc_diagram::Resolved;
+use mc_diagram::{Resolved, Row};
 use mc_fixed::{FixType, greatest, least};
 
-/// Whether each row of a trace has a number for each Inport of the root, by its port and in its type.
+/// Whether these are a trace of the root: each row has just one number for each of its Inports, by its port and in its type.
 pub fn is_trace_for(r: &Resolved, inputs: &[Vec<i64>]) -> bool
-    ensures { (result ≡ true) ↔ IsTraceFor (diagram_of r.now) (map (λ x. x.items) inputs.now) }
+    ensures { (result ≡ true) ↔ IsTrace (diagram_of r.now) None (map (λ x. x.items) inputs.now) }
 {
     for row in inputs {
-        if !has_inputs(r, row.as_slice()) {
+        if !is_trace_row(r, row.as_slice()) {
             return false;
         }
     }
     true
 }
 
+// Whether this is a row of a trace of the root.
+fn is_trace_row(r: &Resolved, inputs: &[i64]) -> bool
+    ensures { (result ≡ true) ↔ IsTraceRow (diagram_of r.now) None inputs.now }
+{
+    if inputs.len() != input_count(r) {
+        return false;
+    }
+    has_inputs(r, inputs)
+}
+
+// How many Inports the root has.
+fn input_count(r: &Resolved) -> usize
+    ensures count { result ≡ length (inports_of r.now.tree.table.rows None) }
+    ensures resolved { IsResolvedTree r.now }
+{
+    root_inports(r.tree.table().rows.as_slice())
+}
+
+// How many of the rows are Inports of the root.
+fn root_inports(rows: &[Row]) -> usize
+    ensures { result ≡ count_by (λ (row : PlainRow). same_system row.owner None && is_inport row.kind) rows.now }
+{
+    let mut count = 0;
+    for row in rows {
+        if is_root_inport(row) {
+            count += 1;
+        }
+    }
+    count
+}
+
+// Whether a row is an Inport of the root.
+fn is_root_inport(row: &Row) -> bool
+    ensures { result ≡ (same_system row.now.owner None && is_inport row.now.kind) }
+{
+    match (row.owner, row.kind) {
+        (None, Kind::Inport { .. }) => true,
+        _ => false,
+    }
+}
+
 // Whether a row of a trace has the inputs of the diagram.
 fn has_inputs(r: &Resolved, inputs: &[i64]) -> bool
-    ensures { (result ≡ true) ↔ HasInputs (diagram_of r.now) inputs.now }
+    ensures { (result ≡ true) ↔ HasInputs (diagram_of r.now) None inputs.now }
 {
     for b in 0..row_count(r) {
         if !has_input_of(r, inputs, b) {

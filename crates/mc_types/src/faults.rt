@@ -1,4 +1,4 @@
-ghost use Rattle.std.specs.Prelude.{◌≡◌, ◌<◌, ◌&&◌, IfOk, List, length, map, nat_lt, false, option_and_then};
+ghost use Rattle.std.specs.Prelude.{◌≡◌, ◌<◌, ◌&&◌, IfOk, List, length, map, nat_lt, false, option_and_then, slice_get};
 ghost use Rattle.std.specs.Option.{option_map_or};
 ghost use Rattle.mc_base.specs.Refusals as plain;
 ghost use Rattle.mc_fixed.specs.declared.FixType.{FixType};
@@ -42,7 +42,7 @@ pub(crate) fn type_of_row(rows: &[Row], met: &[Option<FixType>], b: usize) -> Op
 fn input_met(rows: &[Row], met: &[Option<FixType>], b: usize) -> Option<FixType>
     requires met { met.now ≡ by_row rows.now (followed_type rows.now) }
     requires row { b < length rows.now }
-    ensures { result ≡ option_and_then (followed_type rows.now) (refusal.first_wire rows.now b) }
+    ensures { result ≡ option_and_then (followed_type rows.now) (slice_get (row_at rows.now b).inputs 0) }
 {
     match first_wire(row_at(rows, b)) {
         Some(input) => met_at(met, input as usize),

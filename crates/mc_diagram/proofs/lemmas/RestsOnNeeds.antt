@@ -33,7 +33,7 @@ same_system-equal None (Some k) e = absurd (true≢false (sym e))
 same_system-equal (Some k) None e = absurd (true≢false (sym e))
 same_system-equal (Some k) (Some j) e = ap Some (sym (true-eqb j k (sym e)))
 
-is_inport-equal : (kind : Kind) → is_inport kind ≡ true → kind ≡ Inport (port_of kind)
+pub is_inport-equal : (kind : Kind) → is_inport kind ≡ true → kind ≡ Inport (port_of kind)
 is_inport-equal (Inport port) e = refl
 is_inport-equal _ e = absurd (true≢false (sym e))
 

@@ -126,6 +126,14 @@ module _ (d : Diagram) (s : Option ℕ) (t : ℕ) (x before : List ℤ) (m : Lis
   abbrev pub solution : List ℤ
   solution = rounds (suc (suc (length d.rows)))
 
+  -- what holds of nothing, and of each round where it does of the one before, holds of the solution
+  rounds-keep : (P : List ℤ → Type 0) → P [] → ((v : List ℤ) → P v → P (next_round v)) → (n : ℕ) → P (rounds n)
+  rounds-keep P none more zero = none
+  rounds-keep P none more (suc n) = more (rounds n) (rounds-keep P none more n)
+
+  pub solution-keeps : (P : List ℤ → Type 0) → P [] → ((v : List ℤ) → P v → P (next_round v)) → P solution
+  solution-keeps P none more = rounds-keep P none more (suc (suc (length d.rows)))
+
   module _ (none : HasNoLoop (needs_of d)) where
     pub short : (b : ℕ) → Within (needs_inside d s) (suc (length d.rows)) b
     short b = within (needs_inside d s) (length d.rows) (needs-bounded d s) (HasNoLoop-inside d s none) b

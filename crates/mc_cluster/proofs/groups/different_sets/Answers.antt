@@ -1,7 +1,7 @@
 use Rattle.std.proofs.Common.{◌≡◌, ℕ, ◌+◌, Bool, true, false, not, cond, ◌∷◌, [], ◌++◌, get_or, take, nat_cmp, is_eq, sym, ap, ◌∙◌}
 use Rattle.std.specs.BTreeSet.{contains}
-use Rattle.mc_cluster.specs.Classes.{different}
-use Rattle.mc_cluster.proofs.Members.{has}
+use Rattle.mc_base.specs.Interface.{different}
+use Rattle.mc_base.proofs.lemmas.Different.{has}
 use Rattle.mc_cluster.proofs.SetSteps.{has-more, different-next}
 use Rattle.mc_cluster.proofs.groups.different_sets.Goals as goal
 use Rattle.mc_cluster.proofs.groups.different_sets.Goals.{then-branch+in_ok-push, else-branch}

@@ -1,8 +1,8 @@
 use Rattle.std.proofs.Common.{◌≡◌, ℕ, take}
 use Rattle.std.specs.BTreeSet.{contains}
 use Rattle.std.specs.Ordering.{nat_cmp}
-use Rattle.mc_cluster.specs.Classes.{different}
-use Rattle.mc_cluster.proofs.Members.{has}
+use Rattle.mc_base.specs.Interface.{different}
+use Rattle.mc_base.proofs.lemmas.Different.{has}
 use Rattle.mc_cluster.proofs.groups.different_sets.Given as goal
 
 abbrev pub invariant-loop-set : goal.invariant-loop-set

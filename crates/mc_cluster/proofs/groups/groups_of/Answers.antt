@@ -1,6 +1,6 @@
 use Rattle.std.proofs.Common.{arith}
 use Rattle.std.proofs.lemmas.List.Sorted.{length_permutation}
-use Rattle.mc_cluster.specs.Classes.{different}
+use Rattle.mc_base.specs.Interface.{different}
 use Rattle.mc_cluster.proofs.Members.{length-different}
 use Rattle.mc_cluster.proofs.groups.groups_of.Goals as goal
 

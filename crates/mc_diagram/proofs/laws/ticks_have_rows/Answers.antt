@@ -1,4 +1,4 @@
-use Rattle.mc_diagram.proofs.TickLaws as proof
+use Rattle.mc_diagram.proofs.lemmas.TickLaws as proof
 use Rattle.mc_diagram.proofs.laws.ticks_have_rows.Goals as goal
 
 pub returns : goal.returns

@@ -1,4 +1,4 @@
-use Rattle.std.proofs.Common.{◌∙◌, sym, subst, List, [], None, ℤ, FitsSigned, to_z, of_z, w64, rules}
+use Rattle.std.proofs.Common.{◌∙◌, refl, sym, subst, List, [], None, ℤ, FitsSigned, to_z, of_z, w64, rules}
 use Rattle.std.proofs.lemmas.Int.{to_z-of_z}
 use Rattle.mc_blocks.specs.declared.Op.{Op}
 use Rattle.mc_blocks.specs.Evaluation.{IsEvaluable}
@@ -17,4 +17,4 @@ rhs-requires c =
     subst (λ (op : Op). IsEvaluable op c.as_slice.result.now (to_z w64 (of_z w64 c.args.memory))) (sym c.op.ensures.op)
     (subst (λ (vs : List ℤ). IsEvaluable (op_at d c.args.b) vs (to_z w64 (of_z w64 c.args.memory))) (sym read)
     (subst (λ (memory : ℤ). IsEvaluable (op_at d c.args.b) own memory) (sym (to_z-of_z w64 c.args.memory memory_fits))
-    (computable c.args.r.now c.op.ensures.resolved c.args.b c.requires.row c.args.inputs.now c.args.values.now c.requires.inputs c.requires.values c.args.memory c.requires.memory)))
+    (computable c.args.r.now c.op.ensures.resolved c.args.b c.requires.row None refl c.args.inputs.now c.args.values.now c.requires.inputs c.requires.values.each c.args.memory c.requires.memory)))

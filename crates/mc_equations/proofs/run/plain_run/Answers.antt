@@ -1,9 +1,10 @@
-use Rattle.std.proofs.Common.{◌∙◌, ◌<◌, ◌≤◌, List, ℤ, Vec, Global, map, length, sym, ap, subst, arith, add-one}
+use Rattle.std.proofs.Common.{◌∙◌, ◌<◌, ◌≤◌, None, [], slice_index_or, List, ℤ, Vec, Global, map, length, sym, ap, subst, arith, add-one}
 use Rattle.std.proofs.lemmas.List.{length-map}
 use Rattle.mc_diagram.specs.ResolvedTree.{diagram_of}
 use Rattle.mc_diagram.specs.Laws.{Run}
 use Rattle.mc_equations.specs.Traces.{HasInputs}
 use Rattle.mc_equations.proofs.Runs.{run_of, run_of-is, run_of-only, first-memories, first-triggers, values-each, run-values, run-memories, run-triggers, row-of, values-more, values-all}
+use Rattle.mc_equations.proofs.TraceRows.{trace-at, row-inputs}
 use Rattle.mc_equations.proofs.run.plain_run.Goals as goal
 
 -- the items of a vector of numbers
@@ -30,7 +31,8 @@ next_state-requires-clause-inputs c =
     let t = c.loop-tick.tick in
     let below : t < length c.args.inputs.now = c.loop-tick-test.true in
     let in_trace : t < length xs = omega (arith, length-map c.args.inputs.now items) in
-    subst (HasInputs d) (row-of items c.args.inputs.now t c.index-inputs-tick.result c.as_slice.result.now c.index-inputs-tick.is c.as_slice.ensures.value below) (c.requires.inputs t in_trace)
+    subst (HasInputs d None) (row-of items c.args.inputs.now t c.index-inputs-tick.result c.as_slice.result.now c.index-inputs-tick.is c.as_slice.ensures.value below)
+    (row-inputs c.args.r.now c.in_ok-state.ensures.resolved (slice_index_or xs t []) (trace-at d None xs c.requires.inputs t in_trace))
 
 pub loop-tick-preserved : goal.loop-tick-preserved
 loop-tick-preserved c =

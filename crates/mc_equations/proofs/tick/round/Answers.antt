@@ -21,4 +21,4 @@ returns-clause-fit c =
     let all : c.loop-b.b ≡ length c.args.r.now.tree.table.rows = omega (arith, c.row_count-b-end.ensures.count, low, high) in
     let made = c.loop-b.invariant ∙ ap (λ n. map (row_value (diagram_of c.args.r.now) None c.args.tick c.args.inputs.now c.args.before.now.values.items c.args.before.now.memories.items c.args.before.now.triggers.items c.args.values.now) (range_with_len 0 n)) all in
     subst (AreFit (diagram_of c.args.r.now)) (sym made)
-    (values-fit c.args.r.now c.row_count-b-end.ensures.resolved c.args.tick c.args.inputs.now c.args.before.now.values.items c.args.before.now.memories.items c.args.values.now c.args.before.now.triggers.items c.requires.inputs c.requires.before c.requires.values)
+    (values-fit c.args.r.now c.row_count-b-end.ensures.resolved None c.args.tick c.args.inputs.now c.args.before.now.values.items c.args.before.now.memories.items c.args.values.now c.args.before.now.triggers.items c.requires.inputs c.requires.before c.requires.values.each)

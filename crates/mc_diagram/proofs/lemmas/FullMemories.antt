@@ -21,7 +21,7 @@ use Rattle.mc_blocks.specs.Value.{input}
 use Rattle.mc_diagram.proofs.lemmas.ByRow.{by_row-at}
 use Rattle.mc_diagram.proofs.lemmas.Resolving.{all-at}
 use Rattle.mc_diagram.proofs.lemmas.Tests.{and-right}
-use Rattle.mc_diagram.proofs.TickLaws.{runs_have_ticks, ticks_have_rows}
+use Rattle.mc_diagram.proofs.lemmas.TickLaws.{runs_have_ticks, ticks_have_rows}
 use Rattle.mc_diagram.proofs.lemmas.Timeless.{length-copies}
 
 -- ---- Lengths
@@ -37,7 +37,7 @@ one-of n true b x y z p q r = p
 one-of n false true x y z p q r = q
 one-of n false false x y z p q r = r
 
-first-memories : (d : Diagram) (s : Option ℕ) (xs vs : List (List ℤ)) (ms : List (List (List ℤ))) (gs : List (List TrigMem)) →
+pub first-memories : (d : Diagram) (s : Option ℕ) (xs vs : List (List ℤ)) (ms : List (List (List ℤ))) (gs : List (List TrigMem)) →
     IsRun d s xs vs ms gs → slice_index_or ms 0 [] ≡ memories_by d s (initial_memory d)
 first-memories d s xs vs [] gs r = absurd r
 first-memories d s xs vs (m ∷ ms) [] r = absurd r

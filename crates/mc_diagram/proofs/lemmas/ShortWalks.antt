@@ -41,7 +41,7 @@ module _ (needs : ℕ → List ℕ) (z : ℕ) where
 
   -- only rows below n need others
   module _ (n : ℕ) (bounded : (b c : ℕ) → Contains (needs b) c → b < n) where
-    first-below : (a : ℕ) (path : List ℕ) → Walk needs a path z → a < n
+    pub first-below : (a : ℕ) (path : List ℕ) → Walk needs a path z → a < n
     first-below a [] w = bounded a z w
     first-below a (b ∷ path) w = bounded a b w.0
 
