@@ -38,7 +38,7 @@ module _ (rows : List Row) where
   on s n g r = if r then [] else outward rows s n (row_at rows g).owner
 
   -- from s itself there is nothing inside s
-  nothing-inside : (s : Option ℕ) (n : ℕ) → inner s (outward rows s n s) ≡ []
+  pub nothing-inside : (s : Option ℕ) (n : ℕ) → inner s (outward rows s n s) ≡ []
   nothing-inside s zero = refl
   nothing-inside None (suc n) = refl
   nothing-inside (Some f) (suc n) =

@@ -1,9 +1,31 @@
-mod OwnHeaders
+pub mod OwnHeaders
 mod OneProfile
 pub mod LeastProfile
 pub mod NestedLists
 pub mod Found
+pub mod NodeLists
+pub mod EdgeSteps
+pub mod EntrySteps
+pub mod PlaceSteps
+pub mod NodesAre
 pub mod Masks
 pub mod ChildNeeds
 pub mod ChildWalks
 pub mod ChildRows
+pub mod Members
+pub mod Numbered
+pub mod MaskBits
+pub mod FunctionRows
+pub mod PortRows
+pub mod ChildPorts
+pub mod OwnNodes
+pub mod NodeSteps
+pub mod RowSteps
+pub mod NodeWalks
+pub mod LawfulSteps
+pub mod LawfulProofs
+pub mod NodeReach
+pub mod InputMasks
+pub mod NodeMasks
+pub mod ProfileNeeds
+pub mod TreeSteps

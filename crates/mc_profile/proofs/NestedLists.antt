@@ -11,7 +11,6 @@ use Rattle.mc_diagram.specs.declared.subsystem.Subsystem.TheFolds.{fold_out-Subs
 use Rattle.mc_diagram.specs.Nested.{System, Systems, system, no_more, next, system_from, systems_from, system_of, row_of, heads, HasPlace, Agrees, AllAgree}
 use Rattle.mc_diagram.specs.WellFormed.{IsWired, IsWireIn, reading_system}
 use Rattle.mc_diagram.specs.Rows.{row_at, rows_of, subsystems_of, is_subsystem, same_system, system_control}
-use Rattle.mc_profile.specs.SystemHeader.{SystemHeader}
 use Rattle.mc_profile.specs.Systems.{listed, children_of, own_of, control_of_system, IsInTable}
 
 listed-from : (xs : List System) → listed (systems_from xs) ≡ xs
@@ -68,33 +67,34 @@ rows-inside rows o = All-filter (λ b. same_system (row_at rows b).owner o) (λ 
 pub subsystems-inside : (rows : List Row) (o : Option ℕ) → All (λ b. b < length rows) (subsystems_of rows o)
 subsystems-inside rows o = All-filter (λ b. is_subsystem (row_at rows b).kind) (λ b. b < length rows) (rows_of rows o) (rows-inside rows o)
 
--- ---- Headers of the children
+-- ---- What belongs to the children
 
 got-at : {A : Type 0} (xs : List A) (i : ℕ) (x d : A) → slice_get xs i ≡ Some x → get_or xs i d ≡ x
 got-at [] i x d e = absurd (let wrong : ⊥ = cc e in wrong)
 got-at (y ∷ xs) zero x d e = cc e
 got-at (y ∷ xs) (suc i) x d e = got-at xs i x d e
 
-module _ (rows : List Row) (s : System) (agrees : Agrees rows s) (headers : List SystemHeader) (same : map (λ (h : SystemHeader). h.row) headers ≡ map Some (subsystems_of rows (row_of s))) where
-  both : map row_of (children_of s) ≡ map (λ (h : SystemHeader). h.row) headers
+-- values for the children, each with the row of its own
+module _ {A : Type 0} (row : A → Option ℕ) (rows : List Row) (s : System) (agrees : Agrees rows s) (values : List A) (same : map row values ≡ map Some (subsystems_of rows (row_of s))) where
+  both : map row_of (children_of s) ≡ map row values
   both = agreed-heads rows s agrees ∙ sym same
 
-  pub as_many : length (children_of s) ≡ length headers
-  as_many = sym (length-map (children_of s) row_of) ∙ ap length both ∙ length-map headers (λ (h : SystemHeader). h.row)
+  pub as_many : length (children_of s) ≡ length values
+  as_many = sym (length-map (children_of s) row_of) ∙ ap length both ∙ length-map values row
 
-  pub header-of : (i : ℕ) (c : System) (h : SystemHeader) → i < length headers → h ≡ get_or headers i h → slice_get (children_of s) i ≡ Some c → h.row ≡ row_of c
-  header-of i c h below read e =
-      ap (λ (g : SystemHeader). g.row) read ∙ sym (get_or-map (λ (g : SystemHeader). g.row) headers i h None below) ∙ ap (λ (xs : List (Option ℕ)). get_or xs i None) (sym both)
+  pub row-of : (i : ℕ) (c : System) (x : A) → i < length values → x ≡ get_or values i x → slice_get (children_of s) i ≡ Some c → row x ≡ row_of c
+  row-of i c x below read e =
+      ap row read ∙ sym (get_or-map row values i x None below) ∙ ap (λ (xs : List (Option ℕ)). get_or xs i None) (sym both)
       ∙ get_or-map row_of (children_of s) i c None (let m = as_many in omega arith) ∙ ap row_of (got-at (children_of s) i c c e)
 
-  pub header-inside : (i : ℕ) (h : SystemHeader) → i < length headers → h ≡ get_or headers i h → IsInTable rows h.row
-  header-inside i h below read = subst (IsInTable rows) (sym here) (subsystems-inside rows (row_of s) i 0 few)
+  pub row-inside : (i : ℕ) (x : A) → i < length values → x ≡ get_or values i x → IsInTable rows (row x)
+  row-inside i x below read = subst (IsInTable rows) (sym here) (subsystems-inside rows (row_of s) i 0 few)
     where
       few : i < length (subsystems_of rows (row_of s))
-      few = let m : length headers ≡ length (subsystems_of rows (row_of s)) = sym (length-map headers (λ (g : SystemHeader). g.row)) ∙ ap length same ∙ length-map (subsystems_of rows (row_of s)) Some in omega arith
+      few = let m : length values ≡ length (subsystems_of rows (row_of s)) = sym (length-map values row) ∙ ap length same ∙ length-map (subsystems_of rows (row_of s)) Some in omega arith
 
-      here : h.row ≡ Some (get_or (subsystems_of rows (row_of s)) i 0)
-      here = ap (λ (g : SystemHeader). g.row) read ∙ sym (get_or-map (λ (g : SystemHeader). g.row) headers i h None below) ∙ ap (λ (xs : List (Option ℕ)). get_or xs i None) same ∙ get_or-map Some (subsystems_of rows (row_of s)) i 0 None few
+      here : row x ≡ Some (get_or (subsystems_of rows (row_of s)) i 0)
+      here = ap row read ∙ sym (get_or-map row values i x None below) ∙ ap (λ (xs : List (Option ℕ)). get_or xs i None) same ∙ get_or-map Some (subsystems_of rows (row_of s)) i 0 None few
 
 -- ---- Wires are rows of the table
 

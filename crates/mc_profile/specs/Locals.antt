@@ -5,13 +5,13 @@ use Rattle.mc_blocks.specs.declared.Kind.{Kind}
 use Rattle.mc_diagram.specs.declared.table.Row.{Row}
 use Rattle.mc_diagram.specs.Rows.{row_at, rows_of, inports_of, system_control, is_inport, is_outport, port_of}
 use Rattle.mc_diagram.specs.Diagram.{Diagram, type_at, op_at, time_at}
+use Rattle.mc_diagram.specs.Inputs.{first_wire, control_wires_of}
 use Rattle.mc_profile.specs.declared.local.ChildUse.{ChildUse}
 use Rattle.mc_profile.specs.declared.local.LocalRow.{LocalRow}
 use Rattle.mc_profile.specs.SystemProfile.{SystemProfile}
 use Rattle.mc_profile.specs.SystemHeader.{SystemHeader}
 use Rattle.mc_profile.specs.LocalSystem.{LocalSystem}
 use Rattle.mc_profile.specs.Headers.{row_number}
-use Rattle.mc_profile.specs.Systems.{first_wire, control_wires_of}
 
 -- row b with all that its code is made from, where `delays` says which rows delay between rates
 abbrev pub local_row : Diagram → List Bool → ℕ → LocalRow

@@ -12,12 +12,22 @@ use Rattle.mc_profile.specs.SystemProfile.{SystemProfile}
 use Rattle.mc_profile.specs.Functions.{IsProfileOf}
 use Rattle.mc_profile.specs.Headers.{header_of}
 use Rattle.mc_profile.specs.Locals.{local_of, own_header}
+use Rattle.mc_profile.specs.LawfulLocals.{IsLocal}
 use Rattle.mc_profile.specs.LocalNodes.{NodeReaches, HasNoNodeLoop}
 
 -- these are the headers of the children of s in order, each with the profile of its system
 pub record AreHeaders (d : Diagram) (s : Option ℕ) (headers : List SystemHeader) : Type 0 where
   pub rows : map (λ h. h.row) headers ≡ map Some (subsystems_of d.rows s)
   pub each : (h : SystemHeader) → Contains headers h → (h ≡ header_of d h.row h.profile) × IsProfileOf d h.row h.profile
+
+-- these are the profiles of the children of s in order
+pub record AreProfiles (d : Diagram) (s : Option ℕ) (profiles : List SystemProfile) : Type 0 where
+  pub rows : map (λ p. p.row) profiles ≡ map Some (subsystems_of d.rows s)
+  pub each : (p : SystemProfile) → Contains profiles p → IsProfileOf d p.row p
+
+-- the headers of systems with these profiles
+abbrev pub headers_with : Diagram → List SystemProfile → List SystemHeader
+headers_with d profiles = map (λ p. header_of d p.row p) profiles
 
 -- this is a system of a resolved model, by its own rows, with the headers of its children
 pub record IsLocalOf (r : ResolvedTree) (s : Option ℕ) (local : LocalSystem) : Type 0 where
@@ -35,6 +45,10 @@ NodesReachAsRows = (r : ResolvedTree) (s : Option ℕ) (local : LocalSystem) (o 
 abbrev pub NodesHaveNoLoop : Type 0
 NodesHaveNoLoop = (r : ResolvedTree) (s : Option ℕ) (local : LocalSystem) → IsResolvedTree r → IsLocalOf r s local →
     HasNoLoop (needs_of (diagram_of r)) → HasNoNodeLoop local
+
+-- what a resolved model has as its local systems is lawful
+abbrev pub LocalsAreLawful : Type 0
+LocalsAreLawful = (r : ResolvedTree) (s : Option ℕ) (local : LocalSystem) → IsResolvedTree r → IsLocalOf r s local → IsLocal local
 
 -- a system has one profile, and one list of headers of its children
 abbrev pub ProfilesAreOne : Type 0

@@ -2,8 +2,9 @@ ghost use Rattle.std.specs.Prelude.{◌≡◌, ◌<◌, Some, All, IfOk, length,
 ghost use Rattle.mc_diagram.specs.Nested.{Agrees, row_of, system_of};
 ghost use Rattle.mc_diagram.specs.ResolvedTree.{diagram_of};
 ghost use Rattle.mc_diagram.specs.Rows.{subsystems_of};
+ghost use Rattle.mc_diagram.specs.Inputs.{control_wires_of};
 ghost use Rattle.mc_profile.specs.Locals.{child_use as child_use_of};
-ghost use Rattle.mc_profile.specs.Systems.{control_wires_of, IsInTable};
+ghost use Rattle.mc_profile.specs.Systems.{IsInTable};
 
 use crate::copies::copy_header;
 use crate::local_rows::{copy_wires, entering_wires};

@@ -18,7 +18,8 @@ pub(crate) fn copy_header(alloc: Global, header: &Header) -> Result<Header, Memo
     })
 }
 
-fn copy_profile(alloc: Global, profile: &Profile) -> Result<Profile, Memory>
+/// A profile of its own with the same content.
+pub(crate) fn copy_profile(alloc: Global, profile: &Profile) -> Result<Profile, Memory>
     ensures { IfOk result (λ copy. copy ≡ profile.now) }
 {
     Ok(Profile {

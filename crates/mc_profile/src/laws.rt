@@ -1,4 +1,4 @@
-ghost use Rattle.mc_profile.specs.NodeFacts.{HeaderIsOfOwnRows, HeadersAreOne, ProfilesAreLeast, ProfilesAreOne};
+ghost use Rattle.mc_profile.specs.NodeFacts.{HeaderIsOfOwnRows, HeadersAreOne, LocalsAreLawful, NodesHaveNoLoop, NodesReachAsRows, ProfilesAreLeast, ProfilesAreOne};
 
 use mc_base::needs_are_least;
 
@@ -23,3 +23,19 @@ pub fn profiles_are_least()
 {
     needs_are_least();
 }
+
+/// A row of a system reaches an output of it, through all that is inside its children, exactly where its node does, by
+/// what the headers of the children say.
+pub fn nodes_reach_as_rows()
+    ensures { NodesReachAsRows }
+{}
+
+/// Where no rows of a model form a loop, no nodes of a system of it do.
+pub fn nodes_have_no_loop()
+    ensures { NodesHaveNoLoop }
+{}
+
+/// What a resolved model has as its systems by their own rows is lawful.
+pub fn locals_are_lawful()
+    ensures { LocalsAreLawful }
+{}

@@ -2,8 +2,8 @@ ghost use Rattle.std.specs.Prelude.{◌≡◌, ◌<◌, [], All, IfOk, if◌then
 ghost use Rattle.mc_diagram.specs.Diagram.{type_at as type_of_row};
 ghost use Rattle.mc_diagram.specs.ResolvedTree.{diagram_of};
 ghost use Rattle.mc_diagram.specs.Rows.{is_inport as is_inport_kind, row_at as row_of_table};
+ghost use Rattle.mc_diagram.specs.Inputs.{first_wire as first_of_wires};
 ghost use Rattle.mc_profile.specs.Locals.{local_row as local_row_of};
-ghost use Rattle.mc_profile.specs.Systems.{first_wire as first_of_wires};
 
 use crate::LocalRow;
 use crate::ports::is_inport;

@@ -1,5 +1,6 @@
-ghost use Rattle.std.specs.Prelude.{◌≡◌, ◌<◌, ◌==◌, All, IfOk, IfSome, filter, find, length};
-ghost use Rattle.mc_diagram.specs.Rows.{is_inport as is_inport_kind, port_of as port_of_kind, row_at as row_of_table};
+ghost use Rattle.std.specs.Prelude.{◌≡◌, ◌<◌, ◌==◌, All, IfOk, IfSome, filter, filter_map, find, length};
+ghost use Rattle.std.specs.List.{range_with_len};
+ghost use Rattle.mc_diagram.specs.Rows.{is_inport as is_inport_kind, is_outport as is_outport_kind, port_of as port_of_kind, row_at as row_of_table};
 ghost use Rattle.mc_profile.specs.Locals.{ported};
 
 use crate::reading::row_at;
@@ -15,16 +16,20 @@ pub(crate) fn inports(alloc: Global, r: &Resolved, own: &[u32]) -> Result<Vec<u3
     ensures rows { IfOk result (λ v. All (λ b. b < length r.now.tree.table.rows) v.items) }
 {
     let inports = own_inports(alloc, r, own)?;
-    let mut found = Vec::new(alloc);
-    for k in 0..inports.len() {
-        if let Some(b) = row_with_port(r, &inports, k + 1) {
-            found.push(b)?;
-        }
-    }
-    Ok(found)
+    by_port(alloc, r, &inports)
 }
 
-// The same in the order of the file.
+/// The Outports among the rows of a system, by port.
+pub(crate) fn outports(alloc: Global, r: &Resolved, own: &[u32]) -> Result<Vec<u32>, Memory>
+    requires { All (λ b. b < length r.now.tree.table.rows) own.now }
+    ensures outports { IfOk result (λ v. v.items ≡ ported r.now.tree.table.rows is_outport_kind own.now) }
+    ensures rows { IfOk result (λ v. All (λ b. b < length r.now.tree.table.rows) v.items) }
+{
+    let outports = own_outports(alloc, r, own)?;
+    by_port(alloc, r, &outports)
+}
+
+// The Inports in the order of the file.
 fn own_inports(alloc: Global, r: &Resolved, own: &[u32]) -> Result<Vec<u32>, Memory>
     requires { All (λ b. b < length r.now.tree.table.rows) own.now }
     ensures inports { IfOk result (λ v. v.items ≡ filter (λ b. is_inport_kind (row_of_table r.now.tree.table.rows b).kind) own.now) }
@@ -37,6 +42,36 @@ fn own_inports(alloc: Global, r: &Resolved, own: &[u32]) -> Result<Vec<u32>, Mem
         }
     }
     Ok(inports)
+}
+
+// The Outports in the order of the file.
+fn own_outports(alloc: Global, r: &Resolved, own: &[u32]) -> Result<Vec<u32>, Memory>
+    requires { All (λ b. b < length r.now.tree.table.rows) own.now }
+    ensures outports { IfOk result (λ v. v.items ≡ filter (λ b. is_outport_kind (row_of_table r.now.tree.table.rows b).kind) own.now) }
+    ensures rows { IfOk result (λ v. All (λ b. b < length r.now.tree.table.rows) v.items) }
+{
+    let mut outports = Vec::new(alloc);
+    for b in own {
+        if is_outport(&row_at(r, *b).kind) {
+            outports.push(*b)?;
+        }
+    }
+    Ok(outports)
+}
+
+// These rows by their ports.
+fn by_port(alloc: Global, r: &Resolved, rows: &[u32]) -> Result<Vec<u32>, Memory>
+    requires { All (λ b. b < length r.now.tree.table.rows) rows.now }
+    ensures found { IfOk result (λ v. v.items ≡ filter_map (λ k. find (λ b. port_of_kind (row_of_table r.now.tree.table.rows b).kind == k) rows.now) (range_with_len 1 (length rows.now))) }
+    ensures rows { IfOk result (λ v. All (λ b. b < length r.now.tree.table.rows) v.items) }
+{
+    let mut found = Vec::new(alloc);
+    for k in 0..rows.len() {
+        if let Some(b) = row_with_port(r, rows, k + 1) {
+            found.push(b)?;
+        }
+    }
+    Ok(found)
 }
 
 // The first of some rows with the port.
@@ -60,8 +95,15 @@ pub(crate) fn is_inport(kind: &Kind) -> bool
     matches!(kind, Kind::Inport { .. })
 }
 
-// The port of an Inport or Outport; a row of another kind has 0.
-fn port_of(kind: &Kind) -> u32
+/// Whether a row is an Outport.
+pub(crate) fn is_outport(kind: &Kind) -> bool
+    ensures { result ≡ is_outport_kind kind.now }
+{
+    matches!(kind, Kind::Outport { .. })
+}
+
+/// The port of an Inport or Outport; a row of another kind has 0.
+pub(crate) fn port_of(kind: &Kind) -> u32
     ensures { result ≡ port_of_kind kind.now }
 {
     match kind {

@@ -1,11 +1,18 @@
 ghost use Rattle.std.specs.Prelude.{◌≡◌, ◌<◌, All, false, length, slice_index_or};
 ghost use Rattle.mc_diagram.specs.Diagram.{op_at as op_of_row, time_at as time_of_row, type_at as type_of_row};
-ghost use Rattle.mc_diagram.specs.ResolvedTree.{diagram_of};
+ghost use Rattle.mc_diagram.specs.ResolvedTree.{diagram_of, IsResolvedTree};
 ghost use Rattle.mc_diagram.specs.Rows.{row_at as row_of_table};
 
 use mc_blocks::Op;
 use mc_diagram::{Resolved, Row, Time};
 use mc_fixed::FixType;
+
+/// What a resolved tree holds is what its table gives.
+pub(crate) fn is_resolved(r: &Resolved)
+    ensures { IsResolvedTree r.now }
+{
+    let _tree = &r.tree;
+}
 
 /// Row `b`.
 pub(crate) fn row_at(r: &Resolved, b: u32) -> &Row

@@ -1,5 +1,5 @@
 use Rattle.std.proofs.Common.{◌≡◌, map, take}
-use Rattle.mc_cluster.specs.Classes.{different}
+use Rattle.mc_base.specs.Interface.{different}
 use Rattle.mc_profile.specs.Functions.{function_for}
 use Rattle.mc_profile.proofs.functions.functions_of.Given as goal
 

@@ -1,0 +1,27 @@
+-- What holds of the local system of every system of a resolved model.
+use Rattle.std.specs.Prelude.{◌≡◌, ℕ, ◌^◌, ◌<◌, ◌≤◌, map, length, All, Contains}
+use Rattle.mc_blocks.specs.declared.Kind.TheVariants.{Inport}
+use Rattle.mc_cluster.specs.Grouping.{AreDifferent}
+use Rattle.mc_profile.specs.declared.local.ChildUse.{ChildUse}
+use Rattle.mc_profile.specs.declared.local.LocalRow.{LocalRow}
+use Rattle.mc_profile.specs.LocalSystem.{LocalSystem}
+use Rattle.mc_profile.specs.Ports.{control_ports}
+use Rattle.mc_profile.specs.Headers.{row_number, header_functions}
+use Rattle.mc_profile.specs.NodeWires.{wires_of_nodes, AreGivenOnce}
+
+-- a child has a wire for each of its inputs and controls, and at most 32 inputs, outputs and functions
+pub record IsChild (u : ChildUse) : Type 0 where
+  pub inputs : length u.header.inputs ≤ 32
+  pub outputs : length u.header.outputs ≤ 32
+  pub functions : length (header_functions u.header) ≤ 32
+  pub wires : length u.wires ≡ length u.header.inputs
+  pub controls : length u.controls ≡ length (control_ports u.header.control)
+
+-- no two own rows and no two children have one number, each wire is given by one node, and nodes and ports are numbers that fit
+pub record IsLocal (local : LocalSystem) : Type 0 where
+  pub rows_differ : AreDifferent (map (λ r. r.row) local.rows)
+  pub children_differ : AreDifferent (map (λ u. row_number u.header.row) local.children)
+  pub are_children : All IsChild local.children
+  pub few : length (wires_of_nodes local) < 2 ^ 32
+  pub once : AreGivenOnce (wires_of_nodes local)
+  pub ports : (r : LocalRow) (k : ℕ) → Contains local.rows r → r.kind ≡ Inport k → (0 < k) × (k ≤ 32)

@@ -1,0 +1,85 @@
+ghost use Rattle.std.specs.Prelude.{◌≡◌, IfOk};
+ghost use Rattle.mc_diagram.specs.Needs.{HasNoLoop, needs_of};
+ghost use Rattle.mc_diagram.specs.Nested.{Agrees, row_of, system_of};
+ghost use Rattle.mc_diagram.specs.ResolvedTree.{diagram_of};
+ghost use Rattle.mc_graph.specs.Reaching.{HasNoCycle};
+ghost use Rattle.mc_profile.specs.Functions.{IsProfileOf};
+ghost use Rattle.mc_profile.specs.LawfulLocals.{IsLocal};
+ghost use Rattle.mc_profile.specs.LocalNodes.{AreNodesOf};
+ghost use Rattle.mc_profile.specs.Locals.{local_of as local_of_system};
+ghost use Rattle.mc_profile.specs.NodeFacts.{AreProfiles, headers_with, IsLocalOf};
+ghost use Rattle.mc_profile.specs.Systems.{IsInTable};
+
+use crate::functions::functions_of;
+use crate::headers::headers;
+use crate::needs::output_needs;
+use crate::node_list::nodes_of;
+use crate::reading::is_resolved;
+use crate::system::row;
+use crate::{Local, Nodes, Profile, local_of};
+use mc_base::Memory;
+use mc_diagram::{Resolved, Subsystem};
+use std::alloc::Global;
+
+/// The profile of the system `s` of a resolved tree, whose children have these profiles, in order: one output function
+/// for each different set of inputs that an output needs, by the least output of each.
+///
+/// In time linear in the rows of the system and in the profiles of its children, but for the masks.
+pub fn profile_of(
+    alloc: Global,
+    r: &Resolved,
+    s: &Subsystem,
+    children: &[Profile],
+) -> Result<Profile, Memory>
+    requires system { Agrees r.now.tree.table.rows (system_of s.now) }
+    requires inside { IsInTable r.now.tree.table.rows (row_of (system_of s.now)) }
+    requires children { AreProfiles (diagram_of r.now) (row_of (system_of s.now)) children.now }
+    ensures { IfOk result (λ p. IsProfileOf (diagram_of r.now) (row_of (system_of s.now)) p) }
+{
+    is_resolved(r);
+    let local = local_with(alloc, r, s, children)?;
+    let nodes = nodes_of(alloc, &local)?;
+    let needs = output_needs(alloc, &local, &nodes)?;
+    Ok(Profile {
+        row: row(s),
+        functions: functions_of(alloc, &needs)?,
+    })
+}
+
+/// The nodes of the system `s` of a resolved tree, whose children have these profiles, in order, with what each needs.
+/// Where no rows of the tree form a loop, no nodes form a cycle.
+pub fn system_nodes(
+    alloc: Global,
+    r: &Resolved,
+    s: &Subsystem,
+    children: &[Profile],
+) -> Result<Nodes, Memory>
+    requires system { Agrees r.now.tree.table.rows (system_of s.now) }
+    requires inside { IsInTable r.now.tree.table.rows (row_of (system_of s.now)) }
+    requires children { AreProfiles (diagram_of r.now) (row_of (system_of s.now)) children.now }
+    ensures nodes { IfOk result (λ nodes. AreNodesOf (local_of_system (diagram_of r.now) r.now.times.delays (row_of (system_of s.now)) (headers_with (diagram_of r.now) children.now)) nodes) }
+    ensures no_cycle { HasNoLoop (needs_of (diagram_of r.now)) → IfOk result (λ nodes. HasNoCycle nodes.graph) }
+{
+    is_resolved(r);
+    let local = local_with(alloc, r, s, children)?;
+    nodes_of(alloc, &local)
+}
+
+// The system by its own rows, whose children have these profiles.
+fn local_with(
+    alloc: Global,
+    r: &Resolved,
+    s: &Subsystem,
+    children: &[Profile],
+) -> Result<Local, Memory>
+    requires system { Agrees r.now.tree.table.rows (system_of s.now) }
+    requires inside { IsInTable r.now.tree.table.rows (row_of (system_of s.now)) }
+    requires children { AreProfiles (diagram_of r.now) (row_of (system_of s.now)) children.now }
+    ensures is { IfOk result (λ local. local ≡ local_of_system (diagram_of r.now) r.now.times.delays (row_of (system_of s.now)) (headers_with (diagram_of r.now) children.now)) }
+    ensures local { IfOk result (λ local. IsLocalOf r.now (row_of (system_of s.now)) local) }
+    ensures lawful { IfOk result IsLocal }
+{
+    is_resolved(r);
+    let headers = headers(alloc, r, s, children)?;
+    local_of(alloc, r, s, &headers)
+}
