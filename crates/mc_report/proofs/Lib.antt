@@ -1,2 +1,12 @@
 pub mod Words
 pub mod Systems
+pub mod Cuts
+pub mod LineWords
+pub mod SystemLines
+pub mod OutLines
+pub mod SameNeeds
+pub mod SameCertificates
+pub mod OneReport
+pub mod OwnMasks
+pub mod PortRows
+pub mod OnDiagram

@@ -6,9 +6,11 @@ use Rattle.mc_base.specs.declared.Port.TheVariants.{Number, Enable, Trigger}
 use Rattle.mc_certificate.specs.Sound.{IsCertificateFor}
 use Rattle.mc_diagram.specs.Diagram.{Diagram}
 use Rattle.mc_diagram.specs.Needs.{AreTrueNeeds}
-use Rattle.mc_diagram.specs.Rows.{inports_of, outports_of, system_control}
+use Rattle.mc_diagram.specs.Inputs.{control_ports}
+use Rattle.mc_diagram.specs.Rows.{inports_of, is_inport, is_outport, outports_of, system_control}
+use Rattle.mc_diagram.specs.WellFormed.{HasPorts}
 use Rattle.mc_profile.specs.Functions.{functions_for}
-use Rattle.mc_profile.specs.Ports.{control_ports, ports_in, ports_mask}
+use Rattle.mc_profile.specs.Ports.{ports_in, ports_mask}
 use Rattle.mc_profile.specs.Systems.{systems}
 use Rattle.mc_report.specs.PlainReport.{PlainReport}
 use Rattle.mc_report.specs.Texts.{ports_of, report_text}
@@ -62,3 +64,9 @@ pub record IsReportText (d : Diagram) (text : List ℕ) : Type 0 where
   pub reports : List PlainReport
   pub each : AllZip (IsReportOn d) (systems d.rows) reports
   pub is : text ≡ report_text reports
+
+-- Where the Inports of a system have its ports and so do its Outports, the report on it is right for what its outputs
+-- need.
+abbrev pub ReportsOnAreRight : Type 0
+ReportsOnAreRight =
+    (d : Diagram) (s : Option ℕ) (r : PlainReport) → HasPorts d.rows is_inport s → HasPorts d.rows is_outport s → IsReportOn d s r → IsReport r

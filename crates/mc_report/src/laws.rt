@@ -1,0 +1,13 @@
+ghost use Rattle.mc_report.specs.Reading.{ReportsAreOne};
+ghost use Rattle.mc_report.specs.Reports.{ReportsOnAreRight};
+
+/// A text is that of at most one list of reports.
+#[tactic(auto, using(crate::proofs::OneReport::reports_are_one))]
+pub fn reports_are_one()
+    ensures { ReportsAreOne }
+{}
+
+/// Where the Inports and the Outports of a system have its ports, the report on it is right for what its outputs need.
+pub fn reports_on_are_right()
+    ensures { ReportsOnAreRight }
+{}
