@@ -19,9 +19,8 @@ use Rattle.mc_blocks.specs.declared.How.{How}
 use Rattle.mc_blocks.specs.Value.{conversion, aligned_number}
 use Rattle.mc_blocks.specs.Laws.{ConversionFits}
 use Rattle.c_syntax.specs.declared.BinOp.TheVariants.{Mul}
-use Rattle.c_syntax.specs.declared.Leaf.{Leaf}
 use Rattle.c_syntax.specs.Tree.{ExprTree, binary, pure, exprs_of_list, PureTree}
-use Rattle.c_machine.specs.Values.{Answer, gives, and_then, Function, function_at, functions_of, eval, step_limit}
+use Rattle.c_machine.specs.Values.{Answer, gives, and_then, Function, Reads, function_at, functions_of, eval, step_limit}
 use Rattle.c_prelude.specs.Rules.{IsPrelude, WholeNumbersStay, rounding_position, cast_call}
 use Rattle.c_blocks.specs.RowCode.{aligned, cast, converted, power, written}
 use Rattle.c_blocks.specs.Computed.{conversion_returns}
@@ -98,7 +97,7 @@ times_one v k e = ap (λ n. v *ℤ pos (2 ^ n)) e ∙ (let one : v *ℤ pos 1 �
 same_units : (v : ℤ) (f F : ℕ) → (f == F) ≡ true → v ≡ aligned_number v f F
 same_units v f F e = sym (times_one v (F - f) (grind (arith, nat_tests)))
 
-module _ (functions : List Function) (reads : Leaf → ℤ) (line : ℕ) where
+module _ (functions : List Function) (reads : Reads) (line : ℕ) where
   abbrev Is : ExprTree → ℤ → Type 0
   Is e x = Gives functions reads line e x
 
@@ -127,7 +126,7 @@ whole_units stay r v f t h =
     let none : f - t.frac ≡ 0 = omega (arith, h) in
     sym (ap (λ k. rounded r (v *ℤ pos (2 ^ (t.frac - f))) (2 ^ k)) none ∙ stay r (v *ℤ pos (2 ^ (t.frac - f))))
 
-module _ (ps : List PureTree) (prelude : IsPrelude ps) (stay : WholeNumbersStay) (reads : Leaf → ℤ) (line : ℕ) where
+module _ (ps : List PureTree) (prelude : IsPrelude ps) (stay : WholeNumbersStay) (reads : Reads) (line : ℕ) where
   abbrev functions : List Function
   functions = functions_of [] ps
 

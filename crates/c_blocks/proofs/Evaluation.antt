@@ -9,10 +9,9 @@ use Rattle.c_blocks.specs.RowCode.{written}
 use Rattle.c_syntax.specs.declared.BinOp.{BinOp}
 use Rattle.c_syntax.specs.declared.BinOp.TheVariants.{Add, Mul, Rem}
 use Rattle.c_syntax.specs.declared.CType.TheVariants.{I64}
-use Rattle.c_syntax.specs.declared.Leaf.{Leaf}
 use Rattle.c_syntax.specs.declared.Why.TheVariants.{Overflow, ZeroDivisor}
 use Rattle.c_syntax.specs.Tree.{ExprTree, literal, neg, binary, pick, pure, exprs_of_list, CondTree, compare, both, either, negated}
-use Rattle.c_machine.specs.Values.{Answer, gives, sticks, stuck_at, and_then, within, is_in_type, operate, compares, Function, function_at, eval, eval_cond, eval_all}
+use Rattle.c_machine.specs.Values.{Answer, gives, sticks, stuck_at, and_then, within, is_in_type, operate, compares, Function, Reads, function_at, eval, eval_cond, eval_all}
 
 pub both_true : (a b : Bool) → a ≡ true → b ≡ true → (a && b) ≡ true
 both_true true b e f = f
@@ -35,7 +34,7 @@ rem_gives x d line steps h fits =
 pub negated_small : (v : ℤ) → unsigned_abs v < 2 ^ 63 → unsigned_abs (neg_ℤ (neg_ℤ v)) < 2 ^ 63
 negated_small v h = omega (arith, ints, h)
 
-module _ (functions : List Function) (reads : Leaf → ℤ) (line : ℕ) where
+module _ (functions : List Function) (reads : Reads) (line : ℕ) where
   -- the expression gives this number, in no step
   abbrev pub Gives : ExprTree → ℤ → Type 0
   Gives e x = (steps : ℕ) → eval functions reads line e steps ≡ gives x steps

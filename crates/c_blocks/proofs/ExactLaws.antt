@@ -9,7 +9,7 @@ use Rattle.mc_blocks.specs.Laws.{sum_magnitude, product_magnitude}
 use Rattle.c_syntax.specs.declared.BinOp.TheVariants.{Add, Mul}
 use Rattle.c_syntax.specs.declared.Leaf.{Leaf}
 use Rattle.c_syntax.specs.Tree.{ExprTree, literal, read, binary}
-use Rattle.c_machine.specs.Values.{Function}
+use Rattle.c_machine.specs.Values.{Function, Reads}
 use Rattle.c_blocks.specs.RowCode.{nought, aligned, signed, term_codes, sum_code, product_code}
 use Rattle.c_blocks.proofs.BalancedLaws.{balanced_related, balanced_total, total}
 use Rattle.c_blocks.proofs.Evaluation.{Gives, gives_add, gives_mul, gives_neg}
@@ -42,30 +42,30 @@ add_none : (p : Part) → add_parts p no_part ≡ p
 add_none p = part_is _ _ _ _ (let e : p.value +ℤ pos 0 ≡ p.value = omega (arith, ints) in e) (let e : p.most + 0 ≡ p.most = omega arith in e)
 
 -- the terms that leaves give
-module _ (reads : Leaf → ℤ) (minus F : ℕ) where
+module _ (reads : Reads) (minus F : ℕ) where
   abbrev term_parts : ℕ → List ℕ → List Leaf → List Part
   term_parts i [] leaves = []
   term_parts i (f ∷ fs) [] = []
   term_parts i (f ∷ fs) (l ∷ leaves) =
-      record { value = signed_term (bit_at minus i == 1) (aligned_number (reads l) f F); most = unsigned_abs (aligned_number (reads l) f F) } ∷ term_parts (suc i) fs leaves
+      record { value = signed_term (bit_at minus i == 1) (aligned_number (reads.leaf l) f F); most = unsigned_abs (aligned_number (reads.leaf l) f F) } ∷ term_parts (suc i) fs leaves
 
-  term_parts_value : (i : ℕ) (fs : List ℕ) (leaves : List Leaf) → (total add_parts no_part (term_parts i fs leaves)).value ≡ exact_sum minus F i fs (map reads leaves)
+  term_parts_value : (i : ℕ) (fs : List ℕ) (leaves : List Leaf) → (total add_parts no_part (term_parts i fs leaves)).value ≡ exact_sum minus F i fs (map reads.leaf leaves)
   term_parts_value i [] [] = refl
   term_parts_value i [] (l ∷ leaves) = refl
   term_parts_value i (f ∷ fs) [] = refl
-  term_parts_value i (f ∷ fs) (l ∷ leaves) = ap (λ n. signed_term (bit_at minus i == 1) (aligned_number (reads l) f F) +ℤ n) (term_parts_value (suc i) fs leaves)
+  term_parts_value i (f ∷ fs) (l ∷ leaves) = ap (λ n. signed_term (bit_at minus i == 1) (aligned_number (reads.leaf l) f F) +ℤ n) (term_parts_value (suc i) fs leaves)
 
-  term_parts_most : (i : ℕ) (fs : List ℕ) (leaves : List Leaf) → (total add_parts no_part (term_parts i fs leaves)).most ≡ sum_magnitude F fs (map reads leaves)
+  term_parts_most : (i : ℕ) (fs : List ℕ) (leaves : List Leaf) → (total add_parts no_part (term_parts i fs leaves)).most ≡ sum_magnitude F fs (map reads.leaf leaves)
   term_parts_most i [] leaves = refl
   term_parts_most i (f ∷ fs) [] = refl
-  term_parts_most i (f ∷ fs) (l ∷ leaves) = ap (λ n. unsigned_abs (aligned_number (reads l) f F) + n) (term_parts_most (suc i) fs leaves)
+  term_parts_most i (f ∷ fs) (l ∷ leaves) = ap (λ n. unsigned_abs (aligned_number (reads.leaf l) f F) + n) (term_parts_most (suc i) fs leaves)
 
   term_parts_length : (i : ℕ) (fs : List ℕ) (leaves : List Leaf) → length (term_parts i fs leaves) ≤ length fs
   term_parts_length i [] leaves = omega arith
   term_parts_length i (f ∷ fs) [] = omega arith
   term_parts_length i (f ∷ fs) (l ∷ leaves) = let rest = term_parts_length (suc i) fs leaves in omega arith
 
-module _ (functions : List Function) (reads : Leaf → ℤ) (line : ℕ) where
+module _ (functions : List Function) (reads : Reads) (line : ℕ) where
   abbrev Is : ExprTree → ℤ → Type 0
   Is e x = Gives functions reads line e x
 
@@ -88,11 +88,11 @@ module _ (functions : List Function) (reads : Leaf → ℤ) (line : ℕ) where
   terms_related minus F i [] leaves = tt
   terms_related minus F i (f ∷ fs) [] = tt
   terms_related minus F i (f ∷ fs) (l ∷ leaves) =
-      ((λ small. signed_gives (bit_at minus i == 1) (aligned (read l) f F) (aligned_number (reads l) f F) (aligned_gives functions reads line (read l) (reads l) f F (λ steps. refl) small) small), terms_related minus F (suc i) fs leaves)
+      ((λ small. signed_gives (bit_at minus i == 1) (aligned (read l) f F) (aligned_number (reads.leaf l) f F) (aligned_gives functions reads line (read l) (reads.leaf l) f F (λ steps. refl) small) small), terms_related minus F (suc i) fs leaves)
 
   -- the exact sum, which is no larger than its terms together
-  pub sum_gives : (minus F : ℕ) (fs : List ℕ) (leaves : List Leaf) → length fs ≤ 16 → sum_magnitude F fs (map reads leaves) ≤ 2 ^ 62 →
-      Is (sum_code minus F fs leaves) (exact_sum minus F 0 fs (map reads leaves)) × (unsigned_abs (exact_sum minus F 0 fs (map reads leaves)) ≤ sum_magnitude F fs (map reads leaves))
+  pub sum_gives : (minus F : ℕ) (fs : List ℕ) (leaves : List Leaf) → length fs ≤ 16 → sum_magnitude F fs (map reads.leaf leaves) ≤ 2 ^ 62 →
+      Is (sum_code minus F fs leaves) (exact_sum minus F 0 fs (map reads.leaf leaves)) × (unsigned_abs (exact_sum minus F 0 fs (map reads.leaf leaves)) ≤ sum_magnitude F fs (map reads.leaf leaves))
   sum_gives minus F fs leaves few small =
       let parts = term_parts reads minus F 0 fs leaves in
       let tree = balanced_related (binary Add) add_parts IsTerm terms_add nought no_part (λ bound. ((λ steps. refl), omega arith)) (term_codes minus F 0 fs leaves) parts (terms_related minus F 0 fs leaves) in
@@ -100,7 +100,7 @@ module _ (functions : List Function) (reads : Leaf → ℤ) (line : ℕ) where
       let is_term = subst (IsTerm (sum_code minus F fs leaves)) whole tree in
       let same = term_parts_most reads minus F 0 fs leaves in
       let bounded = is_term (omega (arith, small, same)) in
-      subst (λ v. Is (sum_code minus F fs leaves) v × (unsigned_abs v ≤ sum_magnitude F fs (map reads leaves))) (term_parts_value reads minus F 0 fs leaves) (bounded.0, omega (arith, bounded.1, same))
+      subst (λ v. Is (sum_code minus F fs leaves) v × (unsigned_abs v ≤ sum_magnitude F fs (map reads.leaf leaves))) (term_parts_value reads minus F 0 fs leaves) (bounded.0, omega (arith, bounded.1, same))
 
 -- ---- Products
 
@@ -116,29 +116,29 @@ mul_parts_assoc p q r = part_is _ _ _ _ (product_assoc p.value q.value r.value) 
 mul_one : (p : Part) → mul_parts p one_part ≡ p
 mul_one p = part_is _ _ _ _ (let e : p.value *ℤ pos 1 ≡ p.value = omega (arith, ints) in e) (let e : p.most * 1 ≡ p.most = omega arith in e)
 
-module _ (reads : Leaf → ℤ) where
+module _ (reads : Reads) where
   abbrev factor_parts : List Leaf → List Part
   factor_parts [] = []
-  factor_parts (l ∷ leaves) = record { value = reads l; most = max 1 (unsigned_abs (reads l)) } ∷ factor_parts leaves
+  factor_parts (l ∷ leaves) = record { value = reads.leaf l; most = max 1 (unsigned_abs (reads.leaf l)) } ∷ factor_parts leaves
 
-  product_from : (leaves : List Leaf) (x : ℤ) → x *ℤ (total mul_parts one_part (factor_parts leaves)).value ≡ fold ◌*ℤ◌ x (map reads leaves)
+  product_from : (leaves : List Leaf) (x : ℤ) → x *ℤ (total mul_parts one_part (factor_parts leaves)).value ≡ fold ◌*ℤ◌ x (map reads.leaf leaves)
   product_from [] x = omega (arith, ints)
   product_from (l ∷ leaves) x =
       let rest = (total mul_parts one_part (factor_parts leaves)).value in
-      sym (product_assoc x (reads l) rest) ∙ product_from leaves (x *ℤ reads l)
+      sym (product_assoc x (reads.leaf l) rest) ∙ product_from leaves (x *ℤ reads.leaf l)
 
-  factor_parts_value : (leaves : List Leaf) → (total mul_parts one_part (factor_parts leaves)).value ≡ exact_product (map reads leaves)
+  factor_parts_value : (leaves : List Leaf) → (total mul_parts one_part (factor_parts leaves)).value ≡ exact_product (map reads.leaf leaves)
   factor_parts_value leaves = (let e : (total mul_parts one_part (factor_parts leaves)).value ≡ pos 1 *ℤ (total mul_parts one_part (factor_parts leaves)).value = omega (arith, ints) in e) ∙ product_from leaves (pos 1)
 
-  factor_parts_most : (leaves : List Leaf) → (total mul_parts one_part (factor_parts leaves)).most ≡ product_magnitude (map reads leaves)
+  factor_parts_most : (leaves : List Leaf) → (total mul_parts one_part (factor_parts leaves)).most ≡ product_magnitude (map reads.leaf leaves)
   factor_parts_most [] = refl
-  factor_parts_most (l ∷ leaves) = ap (λ n. max 1 (unsigned_abs (reads l)) * n) (factor_parts_most leaves)
+  factor_parts_most (l ∷ leaves) = ap (λ n. max 1 (unsigned_abs (reads.leaf l)) * n) (factor_parts_most leaves)
 
   factor_parts_length : (leaves : List Leaf) → length (factor_parts leaves) ≡ length leaves
   factor_parts_length [] = refl
   factor_parts_length (l ∷ leaves) = ap suc (factor_parts_length leaves)
 
-module _ (functions : List Function) (reads : Leaf → ℤ) (line : ℕ) where
+module _ (functions : List Function) (reads : Reads) (line : ℕ) where
   abbrev Has : ExprTree → ℤ → Type 0
   Has e x = Gives functions reads line e x
 
@@ -159,11 +159,11 @@ module _ (functions : List Function) (reads : Leaf → ℤ) (line : ℕ) where
 
   factors_related : (leaves : List Leaf) → AllZip IsFactor (map read leaves) (factor_parts reads leaves)
   factors_related [] = tt
-  factors_related (l ∷ leaves) = ((le-max_left 1 (unsigned_abs (reads l)), λ small. ((λ steps. refl), le-max_right 1 (unsigned_abs (reads l)))), factors_related leaves)
+  factors_related (l ∷ leaves) = ((le-max_left 1 (unsigned_abs (reads.leaf l)), λ small. ((λ steps. refl), le-max_right 1 (unsigned_abs (reads.leaf l)))), factors_related leaves)
 
   -- the exact product, which is no larger than its factors together
-  pub product_gives : (leaves : List Leaf) → length leaves ≤ 16 → product_magnitude (map reads leaves) ≤ 2 ^ 62 →
-      Has (product_code leaves) (exact_product (map reads leaves)) × (unsigned_abs (exact_product (map reads leaves)) ≤ product_magnitude (map reads leaves))
+  pub product_gives : (leaves : List Leaf) → length leaves ≤ 16 → product_magnitude (map reads.leaf leaves) ≤ 2 ^ 62 →
+      Has (product_code leaves) (exact_product (map reads.leaf leaves)) × (unsigned_abs (exact_product (map reads.leaf leaves)) ≤ product_magnitude (map reads.leaf leaves))
   product_gives leaves few small =
       let parts = factor_parts reads leaves in
       let tree = balanced_related (binary Mul) mul_parts IsFactor factors_multiply (literal (pos 1)) one_part (omega arith, λ bound. ((λ steps. refl), omega arith)) (map read leaves) parts (factors_related leaves) in
@@ -171,4 +171,4 @@ module _ (functions : List Function) (reads : Leaf → ℤ) (line : ℕ) where
       let is_factor = subst (IsFactor (product_code leaves)) whole tree in
       let same = factor_parts_most reads leaves in
       let bounded = is_factor.1 (omega (arith, small, same)) in
-      subst (λ v. Has (product_code leaves) v × (unsigned_abs v ≤ product_magnitude (map reads leaves))) (factor_parts_value reads leaves) (bounded.0, omega (arith, bounded.1, same))
+      subst (λ v. Has (product_code leaves) v × (unsigned_abs v ≤ product_magnitude (map reads.leaf leaves))) (factor_parts_value reads leaves) (bounded.0, omega (arith, bounded.1, same))

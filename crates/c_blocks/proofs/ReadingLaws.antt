@@ -17,7 +17,8 @@ use Rattle.mc_blocks.specs.declared.Op.TheVariants.{Copy, Value, Delay, Line, Ga
 use Rattle.mc_blocks.specs.Value.{greatest_in}
 use Rattle.c_syntax.specs.declared.BinOp.TheVariants.{Add, Mul}
 use Rattle.c_syntax.specs.declared.Leaf.{Leaf}
-use Rattle.c_syntax.specs.Tree.{ExprTree, ExprTrees, CondTree, literal, neg, read, binary, pick, pure, no_exprs, more_exprs, compare, both, either, negated, exprs_of_list}
+use Rattle.c_syntax.specs.declared.Leaf.TheVariants.{Own}
+use Rattle.c_syntax.specs.Tree.{ExprTree, ExprTrees, CondTree, literal, neg, read, binary, pick, pure, item, no_exprs, more_exprs, compare, both, either, negated, exprs_of_list}
 use Rattle.c_prelude.specs.Rules.{rounding_position}
 use Rattle.c_blocks.specs.RowCode.{written, nought, power, aligned, rounded_code, cast, converted, signed, term_codes, sum_code, product_code, differ, always, never, all_hold, some_holds, odd_hold, truths, logic_code, passes_code, input_code, rhs_code}
 use Rattle.c_blocks.specs.Reading.{ReadsOnly, AllReadOnly, TestsOnly}
@@ -160,6 +161,7 @@ module _ (P Q : Leaf → Type 0) (more : (l : Leaf) → P l → Q l) where
     reads_more (binary op a b) h = (reads_more a h.0, reads_more b h.1)
     reads_more (pick test a b) h = (tests_more test h.0, reads_more a h.1, reads_more b h.2)
     reads_more (pure k es) h = all_more es h
+    reads_more (item f index) h = (more (Own f) h.0, reads_more index h.1)
 
     all_more : (es : ExprTrees) → AllReadOnly P es → AllReadOnly Q es
     all_more no_exprs h = tt

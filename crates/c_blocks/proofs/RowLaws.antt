@@ -22,7 +22,7 @@ use Rattle.mc_blocks.specs.Laws.{ConversionFits, NarrowRowsFit, ValuesStayInType
 use Rattle.c_syntax.specs.declared.BinOp.TheVariants.{Mul}
 use Rattle.c_syntax.specs.declared.Leaf.{Leaf}
 use Rattle.c_syntax.specs.Tree.{ExprTree, CondTree, PureTree, binary, pick, compare}
-use Rattle.c_machine.specs.Values.{gives, and_then, Function, functions_of, eval, step_limit}
+use Rattle.c_machine.specs.Values.{gives, and_then, Function, Reads, functions_of, eval, step_limit}
 use Rattle.c_prelude.specs.Rules.{IsPrelude, WholeNumbersStay}
 use Rattle.c_blocks.specs.RowCode.{rhs_code, input_code, converted, written, truth, truths, logic_code, aligned, sum_code, product_code, passes_code, nought}
 use Rattle.c_blocks.specs.Computed.{returns, conversion_returns}
@@ -41,7 +41,7 @@ length_types [] (v ∷ vs) a = absurd a
 length_types (t ∷ ts) [] a = absurd a
 length_types (t ∷ ts) (v ∷ vs) a = ap suc (length_types ts vs a.1)
 
-length_read : (reads : Leaf → ℤ) (leaves : List Leaf) → length (map reads leaves) ≡ length leaves
+length_read : (reads : Reads) (leaves : List Leaf) → length (map reads.leaf leaves) ≡ length leaves
 length_read reads [] = refl
 length_read reads (l ∷ leaves) = ap suc (length_read reads leaves)
 
@@ -50,10 +50,10 @@ whole_list xs n e = subst (λ k. take k xs ≡ xs) e (take-length xs)
 
 -- ---- Rows
 
-no_step : (functions : List Function) (reads : Leaf → ℤ) (line : ℕ) (e : ExprTree) (x : ℤ) → Gives functions reads line e x → (steps : ℕ) → eval functions reads line e steps ≡ gives x (steps + 0)
+no_step : (functions : List Function) (reads : Reads) (line : ℕ) (e : ExprTree) (x : ℤ) → Gives functions reads line e x → (steps : ℕ) → eval functions reads line e steps ≡ gives x (steps + 0)
 no_step functions reads line e x h steps = h steps ∙ ap (gives x) (let same : steps ≡ steps + 0 = omega arith in same)
 
-module _ (ps : List PureTree) (prelude : IsPrelude ps) (stay : WholeNumbersStay) (reads : Leaf → ℤ) (line : ℕ) where
+module _ (ps : List PureTree) (prelude : IsPrelude ps) (stay : WholeNumbersStay) (reads : Reads) (line : ℕ) where
   abbrev functions : List Function
   functions = functions_of [] ps
 
@@ -67,7 +67,7 @@ module _ (ps : List PureTree) (prelude : IsPrelude ps) (stay : WholeNumbersStay)
   comes_at_once : (e : ExprTree) (x : ℤ) → Is e x → Comes e x 0
   comes_at_once e x h steps room = no_step functions reads line e x h steps
 
-  input_gives : (leaves : List Leaf) (i : ℕ) → Is (input_code leaves i) (input (map reads leaves) i)
+  input_gives : (leaves : List Leaf) (i : ℕ) → Is (input_code leaves i) (input (map reads.leaf leaves) i)
   input_gives [] i = λ steps. refl
   input_gives (l ∷ leaves) zero = λ steps. refl
   input_gives (l ∷ leaves) (suc i) = input_gives leaves i
@@ -79,28 +79,28 @@ module _ (ps : List PureTree) (prelude : IsPrelude ps) (stay : WholeNumbersStay)
   lesser_fits lesser magnitude F to le h = (omega (arith, mul-le-mul_right (2 ^ (to.frac - F)) le, h.0), h.1)
 
   gain_comes : (leaves : List Leaf) (m : ℤ) (f : ℕ) (to : FixType) (how : How) → unsigned_abs m < 2 ^ 63 →
-      ConversionFits (unsigned_abs (input (map reads leaves) 0) * unsigned_abs m) f to →
-      Comes (converted (binary Mul (input_code leaves 0) (written m)) f to how) (conversion (input (map reads leaves) 0 *ℤ m) f to how) (conversion_returns f to)
+      ConversionFits (unsigned_abs (input (map reads.leaf leaves) 0) * unsigned_abs m) f to →
+      Comes (converted (binary Mul (input_code leaves 0) (written m)) f to how) (conversion (input (map reads.leaf leaves) 0 *ℤ m) f to how) (conversion_returns f to)
   gain_comes leaves m f to how small fits =
-      let v = input (map reads leaves) 0 in
+      let v = input (map reads.leaf leaves) 0 in
       let same = unsigned_abs-mul v m in
       let bound : unsigned_abs (v *ℤ m) < 2 ^ 63 = omega (arith, same, small_number (unsigned_abs v * unsigned_abs m) f to fits) in
       converted_comes (binary Mul (input_code leaves 0) (written m)) (v *ℤ m) f to how
       (gives_mul functions reads line (input_code leaves 0) (written m) v m (input_gives leaves 0) (gives_written functions reads line m small) bound)
       (lesser_fits (unsigned_abs (v *ℤ m)) (unsigned_abs v * unsigned_abs m) f to (omega (arith, same)) fits)
 
-  sum_comes : (minus F : ℕ) (fs : List ℕ) (leaves : List Leaf) (to : FixType) (how : How) → length fs ≤ 16 → ConversionFits (sum_magnitude F fs (map reads leaves)) F to →
-      Comes (converted (sum_code minus F fs leaves) F to how) (conversion (exact_sum minus F 0 fs (map reads leaves)) F to how) (conversion_returns F to)
+  sum_comes : (minus F : ℕ) (fs : List ℕ) (leaves : List Leaf) (to : FixType) (how : How) → length fs ≤ 16 → ConversionFits (sum_magnitude F fs (map reads.leaf leaves)) F to →
+      Comes (converted (sum_code minus F fs leaves) F to how) (conversion (exact_sum minus F 0 fs (map reads.leaf leaves)) F to how) (conversion_returns F to)
   sum_comes minus F fs leaves to how few fits =
-      let vs = map reads leaves in
+      let vs = map reads.leaf leaves in
       let exact = sum_gives functions reads line minus F fs leaves few (small_number (sum_magnitude F fs vs) F to fits) in
       converted_comes (sum_code minus F fs leaves) (exact_sum minus F 0 fs vs) F to how exact.0
       (lesser_fits (unsigned_abs (exact_sum minus F 0 fs vs)) (sum_magnitude F fs vs) F to exact.1 fits)
 
-  product_comes : (leaves : List Leaf) (f : ℕ) (to : FixType) (how : How) → length leaves ≤ 16 → ConversionFits (product_magnitude (map reads leaves)) f to →
-      Comes (converted (product_code leaves) f to how) (conversion (exact_product (map reads leaves)) f to how) (conversion_returns f to)
+  product_comes : (leaves : List Leaf) (f : ℕ) (to : FixType) (how : How) → length leaves ≤ 16 → ConversionFits (product_magnitude (map reads.leaf leaves)) f to →
+      Comes (converted (product_code leaves) f to how) (conversion (exact_product (map reads.leaf leaves)) f to how) (conversion_returns f to)
   product_comes leaves f to how few fits =
-      let vs = map reads leaves in
+      let vs = map reads.leaf leaves in
       let exact = product_gives functions reads line leaves few (small_number (product_magnitude vs) f to fits) in
       converted_comes (product_code leaves) (exact_product vs) f to how exact.0
       (lesser_fits (unsigned_abs (exact_product vs)) (product_magnitude vs) f to exact.1 fits)
@@ -128,7 +128,7 @@ module _ (ps : List PureTree) (prelude : IsPrelude ps) (stay : WholeNumbersStay)
 
   module _ (stays : ValuesStayInType) (narrow_fit : NarrowRowsFit) (leaves : List Leaf) (memory : ExprTree) (m : ℤ) (known : Is memory m) where
     abbrev vs : List ℤ
-    vs = map reads leaves
+    vs = map reads.leaf leaves
 
     count_is : (ts : List FixType) (count : ℕ) → length ts ≡ count → AllZip InType ts vs → length leaves ≡ count
     count_is ts count has reads_in = sym (length_read reads leaves) ∙ length_types ts vs reads_in ∙ has
@@ -194,7 +194,7 @@ module _ (ps : List PureTree) (prelude : IsPrelude ps) (stay : WholeNumbersStay)
 pub rows_are_computed : ValuesStayInType → NarrowRowsFit → WholeNumbersStay → RowsAreComputed
 rows_are_computed stays narrow_fit stay o leaves memory m ps reads line steps prelude h room known =
     let comes = by_kind ps prelude stay reads line stays narrow_fit leaves memory m known h.kind h.types h.out h.delays h.within_limits h.has_types h.narrow h.reads steps room in
-    subst (λ o. eval (functions_of [] ps) reads line (rhs_code o leaves memory) steps ≡ gives (rhs o (map reads leaves) m) (steps + returns o (map reads leaves))) (sym h.is_op) comes
+    subst (λ o. eval (functions_of [] ps) reads line (rhs_code o leaves memory) steps ≡ gives (rhs o (map reads.leaf leaves) m) (steps + returns o (map reads.leaf leaves))) (sym h.is_op) comes
 
 conversion_few : (f : ℕ) (to : FixType) → conversion_returns f to ≤ 2
 conversion_few f to = by (nat_le f to.frac)

@@ -16,7 +16,7 @@ use Rattle.mc_guards.specs.Activity.{is_high, edge, active, off, next_memory}
 use Rattle.c_syntax.specs.declared.BinOp.TheVariants.{Rem}
 use Rattle.c_syntax.specs.declared.Leaf.{Leaf}
 use Rattle.c_syntax.specs.Tree.{CondTree, literal, read, binary, compare, negated}
-use Rattle.c_machine.specs.Values.{gives, Function}
+use Rattle.c_machine.specs.Values.{gives, Function, Reads}
 use Rattle.c_blocks.specs.declared.leaves.ControlLeaves.{ControlLeaves}
 use Rattle.c_blocks.specs.TestCode.{is_high_code, was, rises, falls, event_test, active_by, disabled_by, off_by, hit_test, level_code}
 use Rattle.c_syntax.specs.Limits.{cond_depth}
@@ -25,18 +25,18 @@ use Rattle.mc_diagram.specs.declared.Time.{Time}
 use Rattle.c_blocks.specs.TestLaws.{memory_number, disabled, TestIs, ActivityIsTested, HitsAreTested, BothAreTested, control_leaves, IsPlainTest, AllTestsArePlain}
 use Rattle.c_blocks.proofs.Evaluation.{Gives, Holds, gives_pick, gives_rem, holds_compare, holds_both, holds_either, holds_negated}
 
-module _ (leaves : ControlLeaves) (memory : TrigMem) (functions : List Function) (reads : Leaf → ℤ) (line : ℕ) (remembers : reads leaves.remembers ≡ memory_number memory) where
+module _ (leaves : ControlLeaves) (memory : TrigMem) (functions : List Function) (reads : Reads) (line : ℕ) (remembers : reads.leaf leaves.remembers ≡ memory_number memory) where
   abbrev Has : CondTree → Bool → Type 0
   Has t b = Holds functions reads line t b
 
   abbrev trigger : ℤ
-  trigger = reads leaves.trigger
+  trigger = reads.leaf leaves.trigger
 
-  high_holds : (l : Leaf) → Has (is_high_code l) (is_high (reads l))
+  high_holds : (l : Leaf) → Has (is_high_code l) (is_high (reads.leaf l))
   high_holds l = λ steps. refl
 
-  low_enable : Has (negated (is_high_code leaves.enable)) (not (is_high (reads leaves.enable)))
-  low_enable = holds_negated functions reads line (is_high_code leaves.enable) (is_high (reads leaves.enable)) (high_holds leaves.enable)
+  low_enable : Has (negated (is_high_code leaves.enable)) (not (is_high (reads.leaf leaves.enable)))
+  low_enable = holds_negated functions reads line (is_high_code leaves.enable) (is_high (reads.leaf leaves.enable)) (high_holds leaves.enable)
 
   was_holds : (level : ℕ) → Has (was leaves level) (int_eq (memory_number memory) (pos level))
   was_holds level = subst (λ v. Has (was leaves level) (int_eq v (pos level))) remembers (λ steps. refl)
@@ -73,27 +73,27 @@ either_is NotYet v = refl
 either_is Low v = or_false (is_high v)
 either_is High v = refl
 
-module _ (leaves : ControlLeaves) (memory : TrigMem) (functions : List Function) (reads : Leaf → ℤ) (line : ℕ) (remembers : reads leaves.remembers ≡ memory_number memory) where
-  event_holds : (e : Edge) → Holds functions reads line (event_test e leaves) (edge e memory (reads leaves.trigger))
-  event_holds Rising = subst (Holds functions reads line (event_test Rising leaves)) (rise_is memory (reads leaves.trigger)) (rises_hold leaves memory functions reads line remembers)
-  event_holds Falling = subst (Holds functions reads line (event_test Falling leaves)) (fall_is memory (reads leaves.trigger)) (falls_hold leaves memory functions reads line remembers)
-  event_holds Either = subst (Holds functions reads line (event_test Either leaves)) (either_is memory (reads leaves.trigger)) (either_holds leaves memory functions reads line remembers)
+module _ (leaves : ControlLeaves) (memory : TrigMem) (functions : List Function) (reads : Reads) (line : ℕ) (remembers : reads.leaf leaves.remembers ≡ memory_number memory) where
+  event_holds : (e : Edge) → Holds functions reads line (event_test e leaves) (edge e memory (reads.leaf leaves.trigger))
+  event_holds Rising = subst (Holds functions reads line (event_test Rising leaves)) (rise_is memory (reads.leaf leaves.trigger)) (rises_hold leaves memory functions reads line remembers)
+  event_holds Falling = subst (Holds functions reads line (event_test Falling leaves)) (fall_is memory (reads.leaf leaves.trigger)) (falls_hold leaves memory functions reads line remembers)
+  event_holds Either = subst (Holds functions reads line (event_test Either leaves)) (either_is memory (reads.leaf leaves.trigger)) (either_holds leaves memory functions reads line remembers)
 
-  active_is : (control : Control) → TestIs functions reads line true (active_by control leaves) (active true control memory (reads leaves.enable) (reads leaves.trigger))
+  active_is : (control : Control) → TestIs functions reads line true (active_by control leaves) (active true control memory (reads.leaf leaves.enable) (reads.leaf leaves.trigger))
   active_is Plain = refl
   active_is (Enabled reset) = high_holds leaves memory functions reads line remembers leaves.enable
   active_is (Triggered e) = event_holds e
   active_is (Both reset e) =
-      holds_both functions reads line (is_high_code leaves.enable) (event_test e leaves) (is_high (reads leaves.enable)) (edge e memory (reads leaves.trigger))
+      holds_both functions reads line (is_high_code leaves.enable) (event_test e leaves) (is_high (reads.leaf leaves.enable)) (edge e memory (reads.leaf leaves.trigger))
       (high_holds leaves memory functions reads line remembers leaves.enable) (event_holds e)
 
-  disabled_is : (control : Control) → TestIs functions reads line false (disabled_by control leaves) (disabled control (reads leaves.enable))
+  disabled_is : (control : Control) → TestIs functions reads line false (disabled_by control leaves) (disabled control (reads.leaf leaves.enable))
   disabled_is Plain = refl
   disabled_is (Enabled reset) = low_enable leaves memory functions reads line remembers
   disabled_is (Triggered e) = refl
   disabled_is (Both reset e) = low_enable leaves memory functions reads line remembers
 
-  off_is : (control : Control) → TestIs functions reads line false (off_by control leaves) (off true control (reads leaves.enable))
+  off_is : (control : Control) → TestIs functions reads line false (off_by control leaves) (off true control (reads.leaf leaves.enable))
   off_is Plain = refl
   off_is (Enabled true) = low_enable leaves memory functions reads line remembers
   off_is (Enabled false) = refl
@@ -101,9 +101,9 @@ module _ (leaves : ControlLeaves) (memory : TrigMem) (functions : List Function)
   off_is (Both true e) = low_enable leaves memory functions reads line remembers
   off_is (Both false e) = refl
 
-  level_is : Gives functions reads line (level_code leaves.trigger) (memory_number (next_memory true memory (reads leaves.trigger)))
-  level_is = subst (Gives functions reads line (level_code leaves.trigger)) (by (is_high (reads leaves.trigger)))
-      (gives_pick functions reads line (is_high_code leaves.trigger) (literal (pos 2)) (literal (pos 1)) (is_high (reads leaves.trigger)) (pos 2) (pos 1)
+  level_is : Gives functions reads line (level_code leaves.trigger) (memory_number (next_memory true memory (reads.leaf leaves.trigger)))
+  level_is = subst (Gives functions reads line (level_code leaves.trigger)) (by (is_high (reads.leaf leaves.trigger)))
+      (gives_pick functions reads line (is_high_code leaves.trigger) (literal (pos 2)) (literal (pos 1)) (is_high (reads.leaf leaves.trigger)) (pos 2) (pos 1)
       (high_holds leaves memory functions reads line remembers leaves.trigger) (λ steps. refl) (λ steps. refl))
     where
       by : (b : Bool) → cond b (pos 2) (pos 1) ≡ memory_number (if b then High else Low)

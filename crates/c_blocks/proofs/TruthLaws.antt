@@ -12,7 +12,7 @@ use Rattle.mc_blocks.specs.Value.{is_true, xor, odd_trues, logic_of, number_of_b
 use Rattle.c_syntax.specs.declared.Leaf.{Leaf}
 use Rattle.c_syntax.specs.Tree.{ExprTree, CondTree, literal, read, both, either}
 use Rattle.c_machine.specs.Values as c
-use Rattle.c_machine.specs.Values.{Function}
+use Rattle.c_machine.specs.Values.{Function, Reads}
 use Rattle.c_blocks.specs.RowCode.{nought, truth, truths, is_true_code, differ, always, never, all_hold, some_holds, odd_hold, logic_code, passes_code, written}
 use Rattle.c_blocks.proofs.BalancedLaws.{balanced_related, balanced_total, total}
 use Rattle.c_blocks.proofs.Evaluation.{Gives, Holds, gives_pick, gives_written, holds_compare, holds_both, holds_either, holds_negated}
@@ -81,7 +81,7 @@ bit_is false = refl
 
 -- ---- Tests
 
-module _ (functions : List Function) (reads : Leaf → ℤ) (line : ℕ) where
+module _ (functions : List Function) (reads : Reads) (line : ℕ) where
   abbrev Has : CondTree → Bool → Type 0
   Has t b = Holds functions reads line t b
 
@@ -98,9 +98,9 @@ module _ (functions : List Function) (reads : Leaf → ℤ) (line : ℕ) where
       (gives_pick functions reads line s (literal (pos 1)) nought p (pos 1) (pos 0) f (λ steps. refl) (λ steps. refl))
       (gives_pick functions reads line t (literal (pos 1)) nought q (pos 1) (pos 0) g (λ steps. refl) (λ steps. refl)))
 
-  truths_hold : (leaves : List Leaf) → AllZip Has (truths leaves) (map is_true (map reads leaves))
+  truths_hold : (leaves : List Leaf) → AllZip Has (truths leaves) (map is_true (map reads.leaf leaves))
   truths_hold [] = tt
-  truths_hold (l ∷ leaves) = (is_true_holds (read l) (reads l) (λ steps. refl), truths_hold leaves)
+  truths_hold (l ∷ leaves) = (is_true_holds (read l) (reads.leaf l) (λ steps. refl), truths_hold leaves)
 
   module _ (tests : List CondTree) (bs : List Bool) (few : length bs ≤ 16) (related : AllZip Has tests bs) where
     all_holds : Has (all_hold tests) (list_all (λ b. b) bs)
@@ -124,13 +124,13 @@ module _ (functions : List Function) (reads : Leaf → ℤ) (line : ℕ) where
     logic_by Nxor = holds_negated functions reads line (odd_hold tests) (odd_trues bs) odd_holds
     logic_by Not = holds_negated functions reads line (some_holds tests) (list_any (λ b. b) bs) some_hold
 
-  length_truths : (leaves : List Leaf) → length (map is_true (map reads leaves)) ≡ length leaves
+  length_truths : (leaves : List Leaf) → length (map is_true (map reads.leaf leaves)) ≡ length leaves
   length_truths [] = refl
   length_truths (l ∷ leaves) = ap suc (length_truths leaves)
 
-  pub logic_holds : (op : Logic) (leaves : List Leaf) → length leaves ≤ 16 → Has (logic_code op (truths leaves)) (logic_of op (map is_true (map reads leaves)))
+  pub logic_holds : (op : Logic) (leaves : List Leaf) → length leaves ≤ 16 → Has (logic_code op (truths leaves)) (logic_of op (map is_true (map reads.leaf leaves)))
   logic_holds op leaves few =
-      logic_by (truths leaves) (map is_true (map reads leaves)) (subst (λ n. n ≤ 16) (sym (length_truths leaves)) few) (truths_hold leaves) op
+      logic_by (truths leaves) (map is_true (map reads.leaf leaves)) (subst (λ n. n ≤ 16) (sym (length_truths leaves)) few) (truths_hold leaves) op
 
   pub passes_holds : (criterion : Criterion) (e : ExprTree) (v threshold : ℤ) → Gives functions reads line e v → unsigned_abs threshold < 2 ^ 63 →
       Has (passes_code criterion e threshold) (passes criterion v threshold)

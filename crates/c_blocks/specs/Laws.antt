@@ -5,7 +5,7 @@ use Rattle.mc_blocks.specs.Value.{rhs}
 use Rattle.mc_blocks.specs.Evaluation.{IsEvaluable}
 use Rattle.c_syntax.specs.declared.Leaf.{Leaf}
 use Rattle.c_syntax.specs.Tree.{ExprTree, PureTree}
-use Rattle.c_machine.specs.Values.{gives, eval, Function, functions_of, step_limit}
+use Rattle.c_machine.specs.Values.{gives, eval, Function, Reads, functions_of, step_limit}
 use Rattle.c_syntax.specs.Limits.{expr_depth}
 use Rattle.c_prelude.specs.Rules.{IsPrelude}
 use Rattle.c_blocks.specs.RowCode.{rhs_code, written}
@@ -16,11 +16,11 @@ use Rattle.c_blocks.specs.Reading.{ReadsOnly}
 -- computes of that, and isn't stuck: inputs in their types, and a row that 64 bits can compute
 abbrev pub RowsAreComputed : Type 0
 RowsAreComputed =
-    (op : Op) (leaves : List Leaf) (memory : ExprTree) (m : ℤ) (ps : List PureTree) (reads : Leaf → ℤ) (line steps : ℕ) →
-    IsPrelude ps → IsEvaluable op (map reads leaves) m → steps + 2 ≤ step_limit →
+    (op : Op) (leaves : List Leaf) (memory : ExprTree) (m : ℤ) (ps : List PureTree) (reads : Reads) (line steps : ℕ) →
+    IsPrelude ps → IsEvaluable op (map reads.leaf leaves) m → steps + 2 ≤ step_limit →
     ((n : ℕ) → eval (functions_of [] ps) reads line memory n ≡ gives m n) →
     eval (functions_of [] ps) reads line (rhs_code op leaves memory) steps
-    ≡ gives (rhs op (map reads leaves) m) (steps + returns op (map reads leaves))
+    ≡ gives (rhs op (map reads.leaf leaves) m) (steps + returns op (map reads.leaf leaves))
 
 -- it takes two `return`s at most
 abbrev pub ReturnsAreFew : Type 0
@@ -39,4 +39,4 @@ RowsAreShallow = (op : Op) (leaves : List Leaf) (memory : ExprTree) → expr_dep
 -- a written number is that number
 abbrev pub NumbersAreWritten : Type 0
 NumbersAreWritten =
-    (v : ℤ) (functions : List Function) (reads : Leaf → ℤ) (line steps : ℕ) → unsigned_abs v < 2 ^ 63 → eval functions reads line (written v) steps ≡ gives v steps
+    (v : ℤ) (functions : List Function) (reads : Reads) (line steps : ℕ) → unsigned_abs v < 2 ^ 63 → eval functions reads line (written v) steps ≡ gives v steps

@@ -9,7 +9,7 @@ use Rattle.mc_diagram.specs.declared.Time.{Time}
 use Rattle.mc_diagram.specs.SampleTimes.{hit}
 use Rattle.c_syntax.specs.declared.Leaf.{Leaf}
 use Rattle.c_syntax.specs.Tree.{CondTree}
-use Rattle.c_machine.specs.Values.{gives, eval, eval_cond, Function}
+use Rattle.c_machine.specs.Values.{gives, eval, eval_cond, Function, Reads}
 use Rattle.c_syntax.specs.Limits.{cond_depth}
 use Rattle.c_blocks.specs.Reading.{TestsOnly}
 use Rattle.c_blocks.specs.declared.leaves.ControlLeaves.{ControlLeaves}
@@ -29,32 +29,32 @@ disabled (Triggered edge) enable = false
 disabled (Both reset edge) enable = not (is_high enable)
 
 -- a test comes to this truth value in no step, and isn't stuck; no test stands for `none`
-abbrev pub TestIs : List Function → (Leaf → ℤ) → ℕ → (none : Bool) → Option CondTree → Bool → Type 0
+abbrev pub TestIs : List Function → Reads → ℕ → (none : Bool) → Option CondTree → Bool → Type 0
 TestIs functions reads line none None b = b ≡ none
 TestIs functions reads line none (Some test) b = (steps : ℕ) → eval_cond functions reads line test steps ≡ gives b steps
 
 -- whatever its leaves read, the tests of a system inside an active one are its activity, and its trigger remembers its level
-pub record IsTested (control : Control) (leaves : ControlLeaves) (memory : TrigMem) (functions : List Function) (reads : Leaf → ℤ) (line : ℕ) : Type 0 where
-  pub active : TestIs functions reads line true (active_by control leaves) (active true control memory (reads leaves.enable) (reads leaves.trigger))
-  pub disabled : TestIs functions reads line false (disabled_by control leaves) (disabled control (reads leaves.enable))
-  pub off : TestIs functions reads line false (off_by control leaves) (off true control (reads leaves.enable))
-  pub level : (steps : ℕ) → eval functions reads line (level_code leaves.trigger) steps ≡ gives (memory_number (next_memory true memory (reads leaves.trigger))) steps
+pub record IsTested (control : Control) (leaves : ControlLeaves) (memory : TrigMem) (functions : List Function) (reads : Reads) (line : ℕ) : Type 0 where
+  pub active : TestIs functions reads line true (active_by control leaves) (active true control memory (reads.leaf leaves.enable) (reads.leaf leaves.trigger))
+  pub disabled : TestIs functions reads line false (disabled_by control leaves) (disabled control (reads.leaf leaves.enable))
+  pub off : TestIs functions reads line false (off_by control leaves) (off true control (reads.leaf leaves.enable))
+  pub level : (steps : ℕ) → eval functions reads line (level_code leaves.trigger) steps ≡ gives (memory_number (next_memory true memory (reads.leaf leaves.trigger))) steps
 
 abbrev pub ActivityIsTested : Type 0
 ActivityIsTested =
-    (control : Control) (leaves : ControlLeaves) (memory : TrigMem) (functions : List Function) (reads : Leaf → ℤ) (line : ℕ) →
-    reads leaves.remembers ≡ memory_number memory → IsTested control leaves memory functions reads line
+    (control : Control) (leaves : ControlLeaves) (memory : TrigMem) (functions : List Function) (reads : Reads) (line : ℕ) →
+    reads.leaf leaves.remembers ≡ memory_number memory → IsTested control leaves memory functions reads line
 
 -- the test of a sample time is whether it hits the tick
 abbrev pub HitsAreTested : Type 0
 HitsAreTested =
-    (time : Time) (now : Leaf) (t : ℕ) (functions : List Function) (reads : Leaf → ℤ) (line : ℕ) →
-    reads now ≡ pos t → t < 2 ^ 63 → TestIs functions reads line true (hit_test time now) (hit time t)
+    (time : Time) (now : Leaf) (t : ℕ) (functions : List Function) (reads : Reads) (line : ℕ) →
+    reads.leaf now ≡ pos t → t < 2 ^ 63 → TestIs functions reads line true (hit_test time now) (hit time t)
 
 -- two tests in one hold where both do
 abbrev pub BothAreTested : Type 0
 BothAreTested =
-    (first second : Option CondTree) (p q : Bool) (functions : List Function) (reads : Leaf → ℤ) (line : ℕ) →
+    (first second : Option CondTree) (p q : Bool) (functions : List Function) (reads : Reads) (line : ℕ) →
     TestIs functions reads line true first p → TestIs functions reads line true second q → TestIs functions reads line true (both_tests first second) (p && q)
 
 -- ---- Leaves and depth

@@ -5,7 +5,7 @@ use Rattle.std.proofs.Common.{arith, cond}
 use Rattle.std.proofs.lemmas.List.{length-map}
 use Rattle.std.proofs.lemmas.List.FromFn.{length-range_with_len}
 use Rattle.std.proofs.Math.Nat.{mul-le-mul_right}
-use Rattle.mc_cluster.specs.Classes.{different}
+use Rattle.mc_base.specs.Interface.{different}
 use Rattle.c_emitter.specs.Blocks.{TypedBlock, output_row, output_rows, output_count, output_needs, function_needs, is_taken_in, is_given_in, is_unheld}
 use Rattle.c_emitter.specs.Bodies.{is_delay_row}
 use Rattle.c_emitter.proofs.Chosen.{length-chosen}

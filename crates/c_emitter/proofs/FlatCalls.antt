@@ -7,7 +7,7 @@ use Rattle.std.proofs.lemmas.List.Elements.{filter-append}
 use Rattle.std.proofs.lemmas.List.Sums.{length-filter}
 use Rattle.std.proofs.lemmas.Bool.{eq-eqb, ne_eqb, and_parts}
 use Rattle.std.proofs.lemmas.Bool.Decides.{eqb_tells}
-use Rattle.mc_cluster.specs.Classes.{different}
+use Rattle.mc_base.specs.Interface.{different}
 use Rattle.c_machine.specs.Machine.{StoredField}
 use Rattle.c_emitter.specs.Places.{same_path}
 use Rattle.c_emitter.specs.declared.block.Block.{Block}

@@ -14,9 +14,10 @@ use Rattle.mc_diagram.specs.declared.Row.{Row}
 use Rattle.mc_diagram.specs.Rows.{row_at, is_subsystem}
 use Rattle.mc_diagram.specs.Diagram.{type_at, op_at}
 use Rattle.mc_diagram.specs.Run.{is_delay}
+use Rattle.mc_diagram.specs.Inputs.{input_ports}
 use Rattle.mc_profile.specs.declared.Function.{Function}
 use Rattle.mc_profile.specs.Functions.{function_for, functions_for}
-use Rattle.mc_profile.specs.Ports.{has_bit, bit_of, input_ports, ports_in}
+use Rattle.mc_profile.specs.Ports.{has_bit, bit_of, ports_in}
 use Rattle.mc_profile.specs.Systems.{system_name}
 use Rattle.c_syntax.specs.declared.CType.{CType}
 use Rattle.c_syntax.specs.declared.CType.TheVariants.{U8, I32}

@@ -10,7 +10,7 @@ use Rattle.mc_profile.specs.Systems.{system_name}
 use Rattle.c_syntax.specs.declared.CType.{CType}
 use Rattle.c_syntax.specs.declared.CType.TheVariants.{U8, I32, I64}
 use Rattle.c_syntax.specs.declared.FieldKind.TheVariants.{Number, Struct}
-use Rattle.c_syntax.specs.Tree.{StmtTree, StmtTrees, no_stmts, more_stmts, assign, branch, call, stmts_of_list, exprs_of_list, read, FieldTree, StructTree, ParamTree, ProcedureTree}
+use Rattle.c_syntax.specs.Tree.{StmtTree, StmtTrees, no_stmts, more_stmts, assign, assign_at, branch, call, stmts_of_list, exprs_of_list, read, FieldTree, StructTree, ParamTree, ProcedureTree}
 use Rattle.c_syntax.specs.Outputs.{has_name, numbers_from, output_names, looks_like_output, may_be_named}
 use Rattle.c_syntax.specs.RootFields.{is_number, number_names}
 use Rattle.c_syntax.specs.Chains.{stmt_chain, stmts_chain}
@@ -177,6 +177,7 @@ at-most (x ∷ xs) (suc k) c all = at-most xs k c all.1
 mutual
   chain-at-most : (chains : List ℕ) (x : StmtTree) (c : ℕ) → AllByRecursion (λ n. n ≤ c) chains → stmt_chain chains x ≤ c
   chain-at-most chains (assign line f e) c all = omega arith
+  chain-at-most chains (assign_at line f index e) c all = omega arith
   chain-at-most chains (branch line test xs ys) c all = let a = chains-at-most chains xs c all in let b = chains-at-most chains ys c all in omega (arith, a, b)
   chain-at-most chains (call line k target es) c all = at-most chains k c all
 

@@ -13,7 +13,7 @@ use Rattle.mc_diagram.specs.Rows.{row_at, outports_of}
 use Rattle.mc_diagram.specs.Diagram.{op_at}
 use Rattle.mc_diagram.specs.Run.{is_delay, start_of}
 use Rattle.mc_profile.specs.Systems.{systems, systems_inside}
-use Rattle.mc_profile.specs.Traces.{IsTrace}
+use Rattle.mc_diagram.specs.Traces.{IsTrace}
 use Rattle.c_machine.specs.Cells.{Cells, value_at}
 use Rattle.c_machine.specs.Machine.{LoggedCall}
 use Rattle.c_machine.specs.Rows.{TickRow, c_rows, start_run}

@@ -13,7 +13,7 @@ use Rattle.mc_diagram.specs.Diagram.{Diagram}
 use Rattle.mc_diagram.specs.Laws.{HasOneRun}
 use Rattle.mc_diagram.proofs.lemmas.OneRun.{one_run}
 use Rattle.mc_diagram.specs.Run.{IsRun, RunFrom, outs}
-use Rattle.mc_profile.specs.Traces.{IsTrace, input_type_of}
+use Rattle.mc_diagram.specs.Traces.{IsTrace, input_type_of}
 use Rattle.c_machine.specs.Values.{is_in_type}
 use Rattle.c_machine.specs.Cells.{Cells, value_at}
 use Rattle.c_machine.specs.Machine.{program_routines, routine_at, Routine, Scope, run_stmts}

@@ -10,9 +10,8 @@ use Rattle.mc_fixed.specs.declared.FixType.{FixType}
 use Rattle.mc_blocks.specs.declared.Op.{Op}
 use Rattle.mc_diagram.specs.declared.Row.{Row}
 use Rattle.mc_diagram.specs.Rows.{row_at, port_of, inports_of}
-use Rattle.mc_profile.specs.Ports.{input_ports}
-use Rattle.mc_profile.specs.Systems.{input_row}
-use Rattle.mc_profile.specs.Traces.{input_type_of}
+use Rattle.mc_diagram.specs.Inputs.{input_ports, input_row}
+use Rattle.mc_diagram.specs.Traces.{input_type_of}
 use Rattle.c_emitter.specs.declared.block.Block.{Block}
 use Rattle.c_emitter.specs.declared.block.Block.TheVariants.{Input, Output, Delay, Fixed, Sink}
 use Rattle.mc_diagram.specs.Diagram.{type_at}

@@ -10,11 +10,10 @@ use Rattle.std.proofs.lemmas.List.FromFn.{get_or-map-range_with_len}
 use Rattle.mc_profile.specs.Ports.{has_bit}
 use Rattle.c_syntax.specs.declared.CType.{CType}
 use Rattle.c_syntax.specs.declared.CType.TheVariants.{I32}
-use Rattle.c_syntax.specs.declared.Leaf.{Leaf}
 use Rattle.c_syntax.specs.declared.Leaf.TheVariants.{Param, Own}
 use Rattle.c_syntax.specs.declared.Why.TheVariants.{Range}
 use Rattle.c_syntax.specs.Tree.{ExprTree, read, exprs_of_list, ParamTree}
-use Rattle.c_machine.specs.Values.{Function, Answer, is_in_type, gives, sticks, and_then, within, stuck_at, int_at}
+use Rattle.c_machine.specs.Values.{Function, Reads, Answer, is_in_type, gives, sticks, and_then, within, stuck_at, int_at}
 use Rattle.c_machine.specs.Machine.{arguments}
 use Rattle.c_emitter.specs.FlatProgram.{input_param}
 use Rattle.c_emitter.proofs.NumberCells.{item}
@@ -77,7 +76,7 @@ port_reads ports = map (λ k. read (Param (k - 1))) ports
 abbrev pub port_types : List TypedBlock → List ℕ → List CType
 port_types blocks ports = map (λ (q : ParamTree). q.type) (map (input_param blocks) ports)
 
-module _ (blocks : List TypedBlock) (functions : List Function) (leaf : Leaf → ℤ) (x : List ℤ) (inputs : AreInputs blocks x) (same : (k : ℕ) → leaf (Param k) ≡ item x k) where
+module _ (blocks : List TypedBlock) (functions : List Function) (leaf : Reads) (x : List ℤ) (inputs : AreInputs blocks x) (same : (k : ℕ) → leaf.leaf (Param k) ≡ item x k) where
   input-of-type : (k : ℕ) → 0 < k → is_in_type (input_type blocks k) (item x (k - 1)) ≡ true
   input-of-type k low = let number : 1 + (k - 1) ≡ k = omega (arith, low) in subst (λ i. is_in_type (input_type blocks i) (item x (k - 1)) ≡ true) number (inputs (k - 1))
 
@@ -92,7 +91,7 @@ module _ (blocks : List TypedBlock) (functions : List Function) (leaf : Leaf →
       ∙ ap (λ a. and_then a (λ vs end. gives (item x (k - 1) ∷ vs) end)) (port-arguments line ports steps low.1)
 
   -- the tick 0 before them
-  pub call-arguments : (ports : List ℕ) (steps : ℕ) → AllByRecursion (λ k. 0 < k) ports → leaf (Own 0) ≡ pos 0 →
+  pub call-arguments : (ports : List ℕ) (steps : ℕ) → AllByRecursion (λ k. 0 < k) ports → leaf.leaf (Own 0) ≡ pos 0 →
       arguments functions leaf 0 (I32 ∷ port_types blocks ports) (exprs_of_list (read (Own 0) ∷ port_reads ports)) steps ≡ gives (pos 0 ∷ map (λ k. item x (k - 1)) ports) steps
   call-arguments ports steps low now =
       ap (λ z. and_then (within I32 Range 0 z steps) (λ v count. and_then (arguments functions leaf 0 (port_types blocks ports) (exprs_of_list (port_reads ports)) count) (λ vs end. gives (v ∷ vs) end))) now

@@ -9,8 +9,8 @@ use Rattle.mc_blocks.specs.declared.Op.TheVariants.{Value}
 use Rattle.mc_diagram.specs.Rows.{row_at, by_row}
 use Rattle.mc_diagram.specs.Diagram.{Diagram, type_at, op_at}
 use Rattle.mc_diagram.specs.Run.{start_of}
-use Rattle.mc_profile.specs.Systems.{first_wire}
-use Rattle.mc_cluster.specs.Classes.{different}
+use Rattle.mc_diagram.specs.Inputs.{first_wire}
+use Rattle.mc_base.specs.Interface.{different}
 use Rattle.c_syntax.specs.declared.CType.{CType}
 use Rattle.c_syntax.specs.declared.CType.TheVariants.{I32}
 use Rattle.c_emitter.specs.Names.{container}

@@ -1,7 +1,7 @@
 ghost use Rattle.std.specs.Prelude.{◌≡◌, ℕ, ◌+◌, ◌<◌, ◌≤◌, List, length, slice_index, IfOk};
 ghost use Rattle.mc_diagram.specs.Diagram.{op_at};
 ghost use Rattle.mc_diagram.specs.Run.{start_of};
-ghost use Rattle.mc_profile.specs.Systems.{first_wire};
+ghost use Rattle.mc_diagram.specs.Inputs.{first_wire};
 ghost use Rattle.c_emitter.specs.Flat.{IsFlatAtEveryTick};
 ghost use Rattle.c_emitter.specs.Blocks.{blocks_of, value_of, block_at, rows_below, value_places, source_need, need_of, output_row, output_rows, output_sources, function_needs};
 ghost use Rattle.c_emitter.specs.Sorts.{is_of};

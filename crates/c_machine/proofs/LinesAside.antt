@@ -1,6 +1,6 @@
 -- What a program does doesn't depend on the lines of its statements, but for the line where it is stuck.
-use Rattle.std.proofs.Common.{◌≡◌, refl, sym, ◌∙◌, ap, ℕ, zero, suc, ◌+◌, List, [], ◌∷◌, ◌++◌, length, map, Bool, true, false, if◌then◌else◌, nat_lt}
-use Rattle.std.specs.Prelude.{ℤ, pos, Some, unwrap_or, codes, bytes_eq, neg_ℤ, ◌+ℤ◌, ◌-ℤ◌, ◌*ℤ◌, int_div, int_rem, not}
+use Rattle.std.proofs.Common.{◌≡◌, refl, sym, ◌∙◌, ap, ℕ, zero, suc, ◌+◌, List, [], ◌∷◌, ◌++◌, length, map, Bool, true, false, ◌&&◌, if◌then◌else◌, nat_lt}
+use Rattle.std.specs.Prelude.{ℤ, pos, Some, unwrap_or, codes, bytes_eq, neg_ℤ, int_le, int_lt, unsigned_abs, ◌+ℤ◌, ◌-ℤ◌, ◌*ℤ◌, int_div, int_rem, not}
 use Rattle.std.specs.Ordering.{int_eq}
 use Rattle.std.specs.List.{position_from}
 use Rattle.std.proofs.Math.Path.{fun_ext}
@@ -8,15 +8,14 @@ use Rattle.c_syntax.specs.declared.code.BinOp.{BinOp}
 use Rattle.c_syntax.specs.declared.code.BinOp.TheVariants.{Add, Sub, Mul, Div, Rem}
 use Rattle.c_syntax.specs.declared.code.CType.{CType}
 use Rattle.c_syntax.specs.declared.code.CType.TheVariants.{I64}
-use Rattle.c_syntax.specs.declared.code.Leaf.{Leaf}
 use Rattle.c_syntax.specs.declared.code.Target.{Target}
 use Rattle.c_syntax.specs.declared.code.Target.TheVariants.{Own, Child}
 use Rattle.c_syntax.specs.declared.fault.Why.{Why}
-use Rattle.c_syntax.specs.declared.fault.Why.TheVariants.{Overflow, ZeroDivisor, Range, Steps}
-use Rattle.c_syntax.specs.Tree.{ExprTree, literal, neg, read, binary, pick, pure, ExprTrees, no_exprs, more_exprs, CondTree, compare, both, either, negated, StmtTree, assign, branch, call, StmtTrees, no_stmts, more_stmts, StructTree, struct_fields, field_types, type_at, PureTree, ProcedureTree, ProgramTree}
-use Rattle.c_machine.specs.Cells.{Cells, no_cells, number, set_cell, fields_at}
-use Rattle.c_machine.specs.Values.{Answer, gives, sticks, and_then, within, is_in_type, stuck_at, step_limit, take_step, operate, Function, function_at, function_of, functions_of, reads, eval, eval_all, eval_cond, compares}
-use Rattle.c_machine.specs.Machine.{LoggedCall, StoredField, After, Outcome, done, stuck, behind, then_run, on_answer, begin_step, in_child, at_path, on_target, Routine, routine_at, routine_of, routines_of, program_routines, call_entry, call_from_outside, Scope, arguments, store, run_stmt, run_stmts}
+use Rattle.c_syntax.specs.declared.fault.Why.TheVariants.{Overflow, ZeroDivisor, Range, Steps, Index}
+use Rattle.c_syntax.specs.Tree.{ExprTree, literal, neg, read, binary, pick, pure, item, ExprTrees, no_exprs, more_exprs, CondTree, compare, both, either, negated, StmtTree, assign, assign_at, branch, call, StmtTrees, no_stmts, more_stmts, StructTree, struct_fields, field_types, type_at, PureTree, ProcedureTree, ProgramTree}
+use Rattle.c_machine.specs.Cells.{Cells, no_cells, number, items, set_cell, set_item, fields_at, items_at}
+use Rattle.c_machine.specs.Values.{Answer, gives, sticks, and_then, within, is_in_type, stuck_at, step_limit, take_step, operate, Function, function_at, function_of, functions_of, Reads, reads, index_in, int_at, eval, eval_all, eval_cond, compares}
+use Rattle.c_machine.specs.Machine.{LoggedCall, StoredField, After, Outcome, done, stuck, behind, then_run, on_answer, begin_step, in_child, at_path, on_target, Routine, routine_at, routine_of, routines_of, program_routines, call_entry, call_from_outside, Scope, arguments, store, store_at, run_stmt, run_stmts}
 use Rattle.c_machine.specs.Rows.{Rows, tick_row, with_tick, rows_after, rows_from, rows_of_start, c_rows, zero_root, start_run, step_run}
 use Rattle.c_syntax.specs.RootFields.{procedure_named}
 use Rattle.c_machine.specs.LinesAside.{outcome_aside, rows_aside, LinesMeanNothing}
@@ -69,9 +68,16 @@ operate-aside Rem line x y n = by_test (int_eq y (pos 0))
     by_test true = refl
     by_test false = and_then-aside (within I64 Overflow 0 (int_div x y) n) (within I64 Overflow line (int_div x y) n) (λ quotient count. gives (int_rem x y) count) (λ quotient count. gives (int_rem x y) count) (within-aside I64 Overflow line (int_div x y) n) (λ r m. refl)
 
+index_in-aside : (line : ℕ) (array : List ℤ) (i : ℤ) (n : ℕ) → index_in 0 array i n ≡ aside (index_in line array i n)
+index_in-aside line array i n = by_test (int_le (pos 0) i && int_lt i (pos (length array)))
+  where
+    by_test : (b : Bool) → (if b then gives (unsigned_abs i) n else sticks (stuck_at 0 Index)) ≡ aside (if b then gives (unsigned_abs i) n else sticks (stuck_at line Index))
+    by_test true = refl
+    by_test false = refl
+
 -- ---- Expressions
 
-module _ (functions : List Function) (leaf : Leaf → ℤ) (line : ℕ) where
+module _ (functions : List Function) (leaf : Reads) (line : ℕ) where
   -- a choice of two next steps
   choice-aside : {A : Type 0} (f g f' g' : ℕ → Answer A) → ((n : ℕ) → f n ≡ aside (f' n)) → ((n : ℕ) → g n ≡ aside (g' n)) → (b : Bool) (n : ℕ) → (if b then f else g) n ≡ aside ((if b then f' else g') n)
   choice-aside f g f' g' same_f same_g true n = same_f n
@@ -89,6 +95,8 @@ module _ (functions : List Function) (leaf : Leaf → ℤ) (line : ℕ) where
         and_then-aside (eval_cond (aside_functions functions) leaf 0 test n) (eval_cond functions leaf line test n) (λ holds. if holds then eval (aside_functions functions) leaf 0 a else eval (aside_functions functions) leaf 0 b) (λ holds. if holds then eval functions leaf line a else eval functions leaf line b) (eval_cond-aside test n) (choice-aside (eval (aside_functions functions) leaf 0 a) (eval (aside_functions functions) leaf 0 b) (eval functions leaf line a) (eval functions leaf line b) (eval-aside a) (eval-aside b))
     eval-aside (pure k es) n =
         and_then-aside (eval_all (aside_functions functions) leaf 0 es n) (eval_all functions leaf line es n) (function_at (aside_functions functions) k) (function_at functions k) (eval_all-aside es n) (λ values count. ap (λ f. f values count) (function_at-aside functions k))
+    eval-aside (item f index) n =
+        and_then-aside (and_then (eval (aside_functions functions) leaf 0 index n) (index_in 0 (leaf.array f))) (and_then (eval functions leaf line index n) (index_in line (leaf.array f))) (λ i count. gives (int_at (leaf.array f) i) count) (λ i count. gives (int_at (leaf.array f) i) count) (and_then-aside (eval (aside_functions functions) leaf 0 index n) (eval functions leaf line index n) (index_in 0 (leaf.array f)) (index_in line (leaf.array f)) (eval-aside index n) (index_in-aside line (leaf.array f))) (λ i count. refl)
 
     pub eval_all-aside : (es : ExprTrees) (n : ℕ) → eval_all (aside_functions functions) leaf 0 es n ≡ aside (eval_all functions leaf line es n)
     eval_all-aside no_exprs n = refl
@@ -189,9 +197,16 @@ store-aside line t f v cells n = by_test (is_in_type t v) (record { cells = set_
     by_test true after = refl
     by_test false after = refl
 
+store_at-aside : (line : ℕ) (t : CType) (f i : ℕ) (v : ℤ) (cells : Cells) (n : ℕ) → store_at 0 t f i v cells n ≡ outcome_aside (store_at line t f i v cells n)
+store_at-aside line t f i v cells n = by_test (is_in_type t v) (record { cells = set_cell cells f (items (set_item (items_at cells f) i v)); steps = n; log = []; stores = record { path = []; field = f } ∷ [] })
+  where
+    by_test : (b : Bool) (after : After) → (if b then done after else stuck (stuck_at 0 Range) cells) ≡ outcome_aside (if b then done after else stuck (stuck_at line Range) cells)
+    by_test true after = refl
+    by_test false after = refl
+
 -- ---- Statements
 
-arguments-aside : (functions : List Function) (leaf : Leaf → ℤ) (line : ℕ) (types : List CType) (es : ExprTrees) (n : ℕ) → arguments (aside_functions functions) leaf 0 types es n ≡ aside (arguments functions leaf line types es n)
+arguments-aside : (functions : List Function) (leaf : Reads) (line : ℕ) (types : List CType) (es : ExprTrees) (n : ℕ) → arguments (aside_functions functions) leaf 0 types es n ≡ aside (arguments functions leaf line types es n)
 arguments-aside functions leaf line types no_exprs n = refl
 arguments-aside functions leaf line [] (more_exprs e es) n = refl
 arguments-aside functions leaf line (t ∷ types) (more_exprs e es) n =
@@ -211,6 +226,17 @@ module _ (s : Scope) where
     pub run_stmt-aside : (x : StmtTree) (cells : Cells) (n : ℕ) → run_stmt (aside_scope s) (stmt_without_lines x) cells n ≡ outcome_aside (run_stmt s x cells n)
     run_stmt-aside (assign line f e) cells n =
         begin_step-aside line cells n (λ count. on_answer (eval (aside_functions s.functions) (reads s.values cells) 0 e count) cells (λ v end. store 0 (type_at s.types f) f v cells end)) (λ count. on_answer (eval s.functions (reads s.values cells) line e count) cells (λ v end. store line (type_at s.types f) f v cells end)) (λ count. on_answer-aside (eval (aside_functions s.functions) (reads s.values cells) 0 e count) (eval s.functions (reads s.values cells) line e count) cells (λ v end. store 0 (type_at s.types f) f v cells end) (λ v end. store line (type_at s.types f) f v cells end) (eval-aside s.functions (reads s.values cells) line e count) (λ v end. store-aside line (type_at s.types f) f v cells end))
+    run_stmt-aside (assign_at line f index e) cells n =
+        begin_step-aside line cells n (λ count. stored (aside_functions s.functions) 0 count) (λ count. stored s.functions line count) (λ count. on_answer-aside (placed (aside_functions s.functions) 0 count) (placed s.functions line count) cells (λ i mid. valued (aside_functions s.functions) 0 i mid) (λ i mid. valued s.functions line i mid) (and_then-aside (eval (aside_functions s.functions) (reads s.values cells) 0 index count) (eval s.functions (reads s.values cells) line index count) (index_in 0 (items_at cells f)) (index_in line (items_at cells f)) (eval-aside s.functions (reads s.values cells) line index count) (index_in-aside line (items_at cells f))) (λ i mid. on_answer-aside (eval (aside_functions s.functions) (reads s.values cells) 0 e mid) (eval s.functions (reads s.values cells) line e mid) cells (λ v end. store_at 0 (type_at s.types f) f i v cells end) (λ v end. store_at line (type_at s.types f) f i v cells end) (eval-aside s.functions (reads s.values cells) line e mid) (λ v end. store_at-aside line (type_at s.types f) f i v cells end)))
+      where
+        placed : List Function → ℕ → ℕ → Answer ℕ
+        placed functions l count = and_then (eval functions (reads s.values cells) l index count) (index_in l (items_at cells f))
+
+        valued : List Function → ℕ → ℕ → ℕ → Outcome
+        valued functions l i mid = on_answer (eval functions (reads s.values cells) l e mid) cells (λ v end. store_at l (type_at s.types f) f i v cells end)
+
+        stored : List Function → ℕ → ℕ → Outcome
+        stored functions l count = on_answer (placed functions l count) cells (λ i mid. valued functions l i mid)
     run_stmt-aside (branch line test on_true on_false) cells n =
         begin_step-aside line cells n (λ count. on_answer (eval_cond (aside_functions s.functions) (reads s.values cells) 0 test count) cells (λ holds. (if holds then run_stmts (aside_scope s) (stmts_without_lines on_true) else run_stmts (aside_scope s) (stmts_without_lines on_false)) cells)) (λ count. on_answer (eval_cond s.functions (reads s.values cells) line test count) cells (λ holds. (if holds then run_stmts s on_true else run_stmts s on_false) cells)) (λ count. on_answer-aside (eval_cond (aside_functions s.functions) (reads s.values cells) 0 test count) (eval_cond s.functions (reads s.values cells) line test count) cells (λ holds. (if holds then run_stmts (aside_scope s) (stmts_without_lines on_true) else run_stmts (aside_scope s) (stmts_without_lines on_false)) cells) (λ holds. (if holds then run_stmts s on_true else run_stmts s on_false) cells) (eval_cond-aside s.functions (reads s.values cells) line test count) (λ holds m. branch-aside (run_stmts (aside_scope s) (stmts_without_lines on_true)) (run_stmts (aside_scope s) (stmts_without_lines on_false)) (run_stmts s on_true) (run_stmts s on_false) (run_stmts-aside on_true) (run_stmts-aside on_false) holds cells m))
     run_stmt-aside (call line k target es) cells n =

@@ -6,3 +6,4 @@ pub mod LinesAside
 pub mod RowsExamples
 pub mod RoundsExamples
 pub mod StuckExamples
+pub mod ArrayExamples

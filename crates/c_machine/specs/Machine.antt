@@ -8,18 +8,17 @@ use Rattle.c_syntax.specs.declared.code.Target.TheVariants.{Own, Child}
 use Rattle.c_syntax.specs.declared.fault.Cost.{Cost}
 use Rattle.c_syntax.specs.declared.fault.Stuck.{Stuck}
 use Rattle.c_syntax.specs.declared.fault.Why.TheVariants.{Range, Steps}
-use Rattle.c_syntax.specs.Tree.{ExprTrees, no_exprs, more_exprs, StmtTree, assign, branch, call, StmtTrees, no_stmts, more_stmts, StructTree, struct_fields, field_types, type_at, ProcedureTree, ProgramTree}
+use Rattle.c_syntax.specs.Tree.{ExprTrees, no_exprs, more_exprs, StmtTree, assign, assign_at, branch, call, StmtTrees, no_stmts, more_stmts, StructTree, struct_fields, field_types, type_at, ProcedureTree, ProgramTree}
 use Rattle.c_syntax.specs.Names.{ends_with}
-use Rattle.c_machine.specs.Cells.{Cells, object, number, set_cell, fields_at}
-use Rattle.c_machine.specs.Values.{Answer, gives, sticks, and_then, within, is_in_type, stuck_at, step_limit, Function, functions_of, eval, eval_cond, reads}
-use Rattle.c_syntax.specs.declared.code.Leaf.{Leaf}
+use Rattle.c_machine.specs.Cells.{Cells, object, number, items, set_cell, set_item, fields_at, items_at}
+use Rattle.c_machine.specs.Values.{Answer, gives, sticks, and_then, within, is_in_type, stuck_at, step_limit, Function, functions_of, eval, eval_cond, Reads, reads, index_in}
 
 -- a call of an interface procedure: the path of the instance by positions of fields, and the procedure's position
 pub record LoggedCall : Type 0 where
   pub path : List ℕ
   pub procedure : ℕ
 
--- a store: the path of the instance, and the field's position
+-- a store: the path of the instance, and the field's position; a store in an item of an array counts as one in the field
 pub record StoredField : Type 0 where
   pub path : List ℕ
   pub field : ℕ
@@ -106,7 +105,7 @@ pub record Scope : Type 0 where
   pub values : List ℤ
 
 -- the arguments of a call of a procedure, each of them in its parameter's type, from the left
-abbrev pub arguments : List Function → (Leaf → ℤ) → ℕ → List CType → ExprTrees → ℕ → Answer (List ℤ)
+abbrev pub arguments : List Function → Reads → ℕ → List CType → ExprTrees → ℕ → Answer (List ℤ)
 arguments functions leaf line types no_exprs steps = gives [] steps
 arguments functions leaf line [] (more_exprs e es) steps = gives [] steps
 arguments functions leaf line (t ∷ types) (more_exprs e es) steps =
@@ -117,11 +116,18 @@ abbrev pub store : ℕ → CType → ℕ → ℤ → Cells → ℕ → Outcome
 store line type f v cells steps =
     if is_in_type type v then done (record { cells = set_cell cells f (number v); steps = steps; log = []; stores = record { path = []; field = f } ∷ [] }) else stuck (stuck_at line Range) cells
 
+-- stores a number in an item of the array at a field, if it is in the type of the items
+abbrev pub store_at : ℕ → CType → ℕ → ℕ → ℤ → Cells → ℕ → Outcome
+store_at line type f i v cells steps =
+    if is_in_type type v then done (record { cells = set_cell cells f (items (set_item (items_at cells f) i v)); steps = steps; log = []; stores = record { path = []; field = f } ∷ [] }) else stuck (stuck_at line Range) cells
+
 abbrev mutual
   -- what a statement does to the fields of an instance, from this count of steps
   pub run_stmt : Scope → StmtTree → Cells → ℕ → Outcome
   run_stmt s (assign line f e) cells steps =
       begin_step line cells steps (λ count. on_answer (eval s.functions (reads s.values cells) line e count) cells (λ v end. store line (type_at s.types f) f v cells end))
+  run_stmt s (assign_at line f index e) cells steps =
+      begin_step line cells steps (λ count. on_answer (and_then (eval s.functions (reads s.values cells) line index count) (index_in line (items_at cells f))) cells (λ i mid. on_answer (eval s.functions (reads s.values cells) line e mid) cells (λ v end. store_at line (type_at s.types f) f i v cells end)))
   run_stmt s (branch line test on_true on_false) cells steps =
       begin_step line cells steps (λ count. on_answer (eval_cond s.functions (reads s.values cells) line test count) cells (λ holds. (if holds then run_stmts s on_true else run_stmts s on_false) cells))
   run_stmt s (call line k target es) cells steps =

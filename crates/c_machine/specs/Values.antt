@@ -1,5 +1,5 @@
 -- What expressions give.
-use Rattle.std.specs.Prelude.{ℕ, ◌+◌, ◌-◌, ◌^◌, ℤ, pos, ◌+ℤ◌, ◌-ℤ◌, ◌*ℤ◌, neg_ℤ, int_le, int_lt, int_div, int_rem, Bool, true, false, not, ◌&&◌, nat_lt, if◌then◌else◌, List, [], ◌∷◌, ◌++◌, slice_index_or}
+use Rattle.std.specs.Prelude.{ℕ, ◌+◌, ◌-◌, ◌^◌, ℤ, pos, ◌+ℤ◌, ◌-ℤ◌, ◌*ℤ◌, neg_ℤ, int_le, int_lt, int_div, int_rem, unsigned_abs, Bool, true, false, not, ◌&&◌, nat_lt, if◌then◌else◌, List, [], ◌∷◌, ◌++◌, length, slice_index_or}
 use Rattle.std.specs.Ordering.{int_eq}
 use Rattle.mc_base.specs.declared.base.Compare.{Compare}
 use Rattle.mc_base.specs.declared.base.Compare.TheVariants.{Eq, Ne, Lt, Le, Ge, Gt}
@@ -11,9 +11,9 @@ use Rattle.c_syntax.specs.declared.code.Leaf.{Leaf}
 use Rattle.c_syntax.specs.declared.code.Leaf.TheVariants.{Param, Own, Child}
 use Rattle.c_syntax.specs.declared.fault.Stuck.{Stuck}
 use Rattle.c_syntax.specs.declared.fault.Why.{Why}
-use Rattle.c_syntax.specs.declared.fault.Why.TheVariants.{Overflow, ZeroDivisor, Steps}
-use Rattle.c_syntax.specs.Tree.{ExprTree, literal, neg, read, binary, pick, pure, ExprTrees, no_exprs, more_exprs, CondTree, compare, both, either, negated, PureTree}
-use Rattle.c_machine.specs.Cells.{Cells, no_cells, value_at, fields_at}
+use Rattle.c_syntax.specs.declared.fault.Why.TheVariants.{Overflow, ZeroDivisor, Steps, Index}
+use Rattle.c_syntax.specs.Tree.{ExprTree, literal, neg, read, binary, pick, pure, item, ExprTrees, no_exprs, more_exprs, CondTree, compare, both, either, negated, PureTree}
+use Rattle.c_machine.specs.Cells.{Cells, no_cells, value_at, fields_at, items_at}
 
 -- the least and the greatest number of a type
 abbrev pub least_of : CType → ℤ
@@ -96,34 +96,50 @@ function_at functions k = slice_index_or functions k (λ values steps. gives (po
 abbrev pub int_at : List ℤ → ℕ → ℤ
 int_at values k = slice_index_or values k (pos 0)
 
+-- what leaves read, and what the own arrays hold
+pub record Reads : Type 0 where
+  pub leaf : Leaf → ℤ
+  pub array : ℕ → List ℤ
+
 -- what a leaf reads, where these are the arguments and the own fields
-abbrev pub reads : List ℤ → Cells → Leaf → ℤ
-reads values cells (Param k) = int_at values k
-reads values cells (Own f) = value_at cells f
-reads values cells (Child f g) = value_at (fields_at cells f) g
+abbrev pub leaf_reads : List ℤ → Cells → Leaf → ℤ
+leaf_reads values cells (Param k) = int_at values k
+leaf_reads values cells (Own f) = value_at cells f
+leaf_reads values cells (Child f g) = value_at (fields_at cells f) g
+
+-- what is read, where these are the arguments and the own fields
+abbrev pub reads : List ℤ → Cells → Reads
+reads values cells = record { leaf = leaf_reads values cells; array = items_at cells }
+
+-- the place that an index stands for in an array, which is stuck where there is none
+abbrev pub index_in : ℕ → List ℤ → ℤ → ℕ → Answer ℕ
+index_in line array i steps =
+    if int_le (pos 0) i && int_lt i (pos (length array)) then gives (unsigned_abs i) steps else sticks (stuck_at line Index)
 
 abbrev mutual
-  -- the value of an expression at a line, where `leaf` says what each leaf reads; the left side comes first
-  pub eval : List Function → (Leaf → ℤ) → ℕ → ExprTree → ℕ → Answer ℤ
+  -- the value of an expression at a line, where `leaf` says what is read; the left side comes first
+  pub eval : List Function → Reads → ℕ → ExprTree → ℕ → Answer ℤ
   eval functions leaf line (literal value) steps = gives value steps
   eval functions leaf line (neg e) steps =
       and_then (eval functions leaf line e steps) (λ v count. within I64 Overflow line (neg_ℤ v) count)
-  eval functions leaf line (read l) steps = gives (leaf l) steps
+  eval functions leaf line (read l) steps = gives (leaf.leaf l) steps
   eval functions leaf line (binary op a b) steps =
       and_then (eval functions leaf line a steps) (λ x count. and_then (eval functions leaf line b count) (λ y end. operate op line x y end))
   eval functions leaf line (pick test a b) steps =
       and_then (eval_cond functions leaf line test steps) (λ holds. if holds then eval functions leaf line a else eval functions leaf line b)
   eval functions leaf line (pure k es) steps =
       and_then (eval_all functions leaf line es steps) (function_at functions k)
+  eval functions leaf line (item f index) steps =
+      and_then (and_then (eval functions leaf line index steps) (index_in line (leaf.array f))) (λ i count. gives (int_at (leaf.array f) i) count)
 
   -- the values of expressions, from the left
-  pub eval_all : List Function → (Leaf → ℤ) → ℕ → ExprTrees → ℕ → Answer (List ℤ)
+  pub eval_all : List Function → Reads → ℕ → ExprTrees → ℕ → Answer (List ℤ)
   eval_all functions leaf line no_exprs steps = gives [] steps
   eval_all functions leaf line (more_exprs e es) steps =
       and_then (eval functions leaf line e steps) (λ v count. and_then (eval_all functions leaf line es count) (λ vs end. gives (v ∷ vs) end))
 
   -- whether a condition holds; `&&` and `||` look at their right side only where C does
-  pub eval_cond : List Function → (Leaf → ℤ) → ℕ → CondTree → ℕ → Answer Bool
+  pub eval_cond : List Function → Reads → ℕ → CondTree → ℕ → Answer Bool
   eval_cond functions leaf line (compare how a b) steps =
       and_then (eval functions leaf line a steps) (λ x count. and_then (eval functions leaf line b count) (λ y end. gives (compares how x y) end))
   eval_cond functions leaf line (both a b) steps =

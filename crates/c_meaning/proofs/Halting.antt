@@ -5,6 +5,6 @@ use Rattle.c_syntax.specs.declared.fault.Why.{Why}
 use Rattle.c_machine.specs.Values.{stuck_at}
 use Rattle.c_meaning.specs.Halts.{stuck_of, why_of}
 
-pub stuck_is : (line code : ℕ) (why : Why) → code < 4 → why_of code ≡ why → stuck_of (line * 4 + code) ≡ stuck_at line why
+pub stuck_is : (line code : ℕ) (why : Why) → code < 8 → why_of code ≡ why → stuck_of (line * 8 + code) ≡ stuck_at line why
 stuck_is line code why small same =
     λ i. record { line = digits_div line small i; why = (ap why_of (digits_mod line small) ∙ same) i }

@@ -64,14 +64,17 @@ zero_cells-agree a b n (f ∷ fs) same lawful = λ i. more_cells (here f.kind la
   where
     here : (k : FieldKind) → IsLawfulKind n k → zero_cell a k ≡ zero_cell b k
     here (kind.Number type) h = refl
+    here (kind.Array type count) h = refl
     here (kind.Struct k) h = ap object (same k h)
 
 slot-agree : (a b : List StructLayout) (n at : ℕ) (k : FieldKind) → ((j : ℕ) → j < n → layout_at a j ≡ layout_at b j) → IsLawfulKind n k → slot_of a at k ≡ slot_of b at k
 slot-agree a b n at (kind.Number type) same h = refl
+slot-agree a b n at (kind.Array type count) same h = refl
 slot-agree a b n at (kind.Struct k) same h = λ i. Instance at (same k h i).size k
 
 size-agree : (a b : List StructLayout) (n : ℕ) (k : FieldKind) → ((j : ℕ) → j < n → layout_at a j ≡ layout_at b j) → IsLawfulKind n k → kind_size a k ≡ kind_size b k
 size-agree a b n (kind.Number type) same h = refl
+size-agree a b n (kind.Array type count) same h = refl
 size-agree a b n (kind.Struct k) same h = λ i. (same k h i).size
 
 slots-agree : (a b : List StructLayout) (n at : ℕ) (fields : List FieldTree) → ((k : ℕ) → k < n → layout_at a k ≡ layout_at b k) → AllByRecursion (λ f. IsLawfulKind n f.kind) fields → slots_from a at fields ≡ slots_from b at fields

@@ -6,14 +6,14 @@ use Rattle.c_syntax.specs.declared.code.Target.{Target}
 use Rattle.c_syntax.specs.declared.code.Target.TheVariants as target
 use Rattle.c_syntax.specs.declared.program.FieldKind.{FieldKind}
 use Rattle.c_syntax.specs.declared.program.FieldKind.TheVariants as kind
-use Rattle.c_syntax.specs.Tree.{ExprTree, literal, neg, read, binary, pick, pure, ExprTrees, no_exprs, more_exprs, CondTree, compare, both, either, negated, StmtTree, assign, branch, call, StmtTrees, no_stmts, more_stmts, FieldTree, struct_fields, PureTree, ProcedureTree, ProgramTree}
+use Rattle.c_syntax.specs.Tree.{ExprTree, literal, neg, read, binary, pick, pure, item, ExprTrees, no_exprs, more_exprs, CondTree, compare, both, either, negated, StmtTree, assign, assign_at, branch, call, StmtTrees, no_stmts, more_stmts, FieldTree, struct_fields, PureTree, ProcedureTree, ProgramTree}
 use Rattle.c_syntax.specs.RootFields.{is_number_kind}
 use Rattle.c_syntax.specs.Limits.{PureFits, ProcedureFits}
-use Rattle.c_syntax.specs.Lawful.{Reach, IsNumberAt, IsLawfulExpr, AreLawfulExprs, IsLawfulCond, IsLawfulTarget, IsLawfulStmt, AreLawfulStmts, ArePures, AreProcedures, IsLawful}
+use Rattle.c_syntax.specs.Lawful.{Reach, IsNumberAt, IsArrayAt, IsLawfulExpr, AreLawfulExprs, IsLawfulCond, IsLawfulTarget, IsLawfulStmt, AreLawfulStmts, ArePures, AreProcedures, IsLawful}
 use Rattle.c_meaning.specs.Reads.{IsNarrowExpr, AreNarrowExprs, IsNarrowCond, AreNarrow}
 use Rattle.c_meaning.specs.Slots.{StructLayout}
 use Rattle.c_meaning.specs.Layouts.{layouts_of}
-use Rattle.c_meaning.specs.Sound.{IsNumberField, IsCallOf, IsSoundStmt, AreSoundStmts, zeros_of, IsReady}
+use Rattle.c_meaning.specs.Sound.{IsNumberField, IsArrayField, IsCallOf, IsSoundStmt, AreSoundStmts, zeros_of, IsReady}
 use Rattle.c_machine.specs.Machine.{is_interface}
 use Rattle.c_meaning.proofs.LaidOut.{laid_out}
 
@@ -34,6 +34,7 @@ mutual
   narrow_expr r fits (binary op a b) h = (narrow_expr r fits a h.0, narrow_expr r fits b h.1)
   narrow_expr r fits (pick test a b) h = (narrow_cond r fits test h.0, narrow_expr r fits a h.1, narrow_expr r fits b h.2)
   narrow_expr r fits (pure k es) h = ((let f : PureFits h.0 = all_at PureFits r.pures k h.0 fits h.1 in omega (arith, f.params, h.2)), narrow_exprs r fits es h.3)
+  narrow_expr r fits (item f index) h = narrow_expr r fits index h.1
 
   narrow_exprs : (r : Reach) → AllByRecursion PureFits r.pures → (es : ExprTrees) → AreLawfulExprs r es → AreNarrowExprs es
   narrow_exprs r fits no_exprs h = tt
@@ -52,10 +53,14 @@ narrow_pures earlier (p ∷ ps) before fits lawful =
 
 number_kind : (k : FieldKind) → is_number_kind k ≡ true → (type : CType) × (k ≡ kind.Number type)
 number_kind (kind.Number type) h = (type, refl)
+number_kind (kind.Array type count) h = absurd (cc)
 number_kind (kind.Struct j) h = absurd (cc)
 
 number_field : (p : ProgramTree) (of f : ℕ) → IsNumberAt (struct_fields p.structs of) f → IsNumberField p of f
 number_field p of f h = let k = number_kind h.0.kind h.2 in record { field = h.0; type = k.0; there = h.1; kind_is = k.1 }
+
+array_field : (p : ProgramTree) (of f : ℕ) → IsArrayAt (struct_fields p.structs of) f → IsArrayField p of f
+array_field p of f h = record { field = h.0; type = h.1; count = h.2; there = h.3; kind_is = h.4 }
 
 call_of : (p : ProgramTree) (r : Reach) (k : ℕ) (q : ProcedureTree) (t : Target) → r.fields ≡ struct_fields p.structs r.of → slice_get p.procedures k ≡ Some q → IsLawfulTarget r t q.of → IsCallOf p r.of k t
 call_of p r k q target.Own same there h = record { procedure = q; there = there; of_is = sym h }
@@ -65,6 +70,7 @@ call_of p r k q (target.Child f) same there h =
 mutual
   sound_stmt : (p : ProgramTree) (r : Reach) (level : ℕ) → r.fields ≡ struct_fields p.structs r.of → AllByRecursion PureFits r.pures → ((k : ℕ) (q : ProcedureTree) → slice_get r.procedures k ≡ Some q → (slice_get p.procedures k ≡ Some q) × (k < level) × (length q.params ≤ 64)) → (s : StmtTree) → IsLawfulStmt r s → IsSoundStmt p level r.of s
   sound_stmt p r level same fits earlier (assign line f e) h = (number_field p r.of f (subst (λ (xs : List FieldTree). IsNumberAt xs f) same h.0), narrow_expr r fits e h.1)
+  sound_stmt p r level same fits earlier (assign_at line f index e) h = (array_field p r.of f (subst (λ (xs : List FieldTree). IsArrayAt xs f) same h.0), narrow_expr r fits index h.1, narrow_expr r fits e h.2)
   sound_stmt p r level same fits earlier (branch line test on_true on_false) h = (narrow_cond r fits test h.0, sound_stmts p r level same fits earlier on_true h.1, sound_stmts p r level same fits earlier on_false h.2)
   sound_stmt p r level same fits earlier (call line k t es) h =
       let e = earlier k h.0 h.1 in

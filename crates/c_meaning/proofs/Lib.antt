@@ -1,5 +1,6 @@
 pub mod Narrow
 pub mod Measures
+pub mod Items
 pub mod Places
 pub mod ZeroCells
 pub mod RootLaws

@@ -2,9 +2,8 @@
 use Rattle.std.proofs.Common.{◌≡◌, ℕ, zero, suc, ◌<◌, List, [], ◌∷◌, length, arith, take, drop, map, refl, ap, sym, ◌∙◌, get_or, subst, ℤ, Vec}
 use Rattle.std.specs.declared.alloc.Global.{Global}
 use Rattle.c_syntax.specs.declared.code.Cond.TheViews as views
-use Rattle.c_syntax.specs.declared.code.Leaf.{Leaf}
 use Rattle.c_syntax.proofs.lemmas.PlainLaws.{expr_tree-Pure}
-use Rattle.c_machine.specs.Values.{Answer, Function, eval}
+use Rattle.c_machine.specs.Values.{Answer, Function, Reads, eval}
 use Rattle.c_syntax.specs.declared.code.Expr.{Expr}
 use Rattle.c_syntax.specs.declared.program.Pure.{Pure}
 use Rattle.c_syntax.specs.Tree.{pure, exprs_of_list}
@@ -36,6 +35,6 @@ pub pure_narrow : (e : Expr) (k : ℕ) (values : Vec Expr Global) (items : List 
 pure_narrow e k values items is same narrow =
     subst IsNarrowExpr (ap expr_tree is ∙ expr_tree-Pure k values ∙ ap (λ xs. pure k (exprs_of_list (map expr_tree xs))) (sym same)) narrow
 
-pub pure_gives : (fs : List Function) (leaf : Leaf → ℤ) (line steps : ℕ) (e : Expr) (k : ℕ) (values : Vec Expr Global) (items : List Expr) (answer : Answer ℤ) → e ≡ views.Pure k values → items ≡ values.items → answer ≡ eval fs leaf line (pure k (exprs_of_list (map expr_tree items))) steps → answer ≡ eval fs leaf line (expr_tree e) steps
+pub pure_gives : (fs : List Function) (leaf : Reads) (line steps : ℕ) (e : Expr) (k : ℕ) (values : Vec Expr Global) (items : List Expr) (answer : Answer ℤ) → e ≡ views.Pure k values → items ≡ values.items → answer ≡ eval fs leaf line (pure k (exprs_of_list (map expr_tree items))) steps → answer ≡ eval fs leaf line (expr_tree e) steps
 pure_gives fs leaf line steps e k values items answer is same given =
     given ∙ sym (ap (λ t. eval fs leaf line t steps) (ap expr_tree is ∙ expr_tree-Pure k values ∙ ap (λ xs. pure k (exprs_of_list (map expr_tree xs))) (sym same)))

@@ -53,9 +53,13 @@ pub trees_length : (fs : List Field) → length (field_trees fs) ≡ length fs
 trees_length [] = refl
 trees_length (f ∷ fs) = omega (arith, trees_length fs)
 
--- the count before a field that holds an instance, and before one that holds a number
+-- the count before a field that holds an instance, and before one that holds none
 pub number_uncounted : (counts : List ℕ) (fs : List Field) (k : ℕ) (f : Field) (type : CType) → k < length fs → f ≡ get_or fs k f → f.kind ≡ kind.Number type → None ≡ struct_count counts (field_trees fs) k
 number_uncounted counts fs k f type h there is =
+    sym (ap (λ o. Rattle.std.specs.Prelude.option_and_then (λ x. kind_before (fields_count counts (take k (field_trees fs))) x.kind) o) (tree_there fs k f h there) ∙ ap (kind_before (fields_count counts (take k (field_trees fs)))) is)
+
+pub array_uncounted : (counts : List ℕ) (fs : List Field) (k : ℕ) (f : Field) (type : CType) (count : ℕ) → k < length fs → f ≡ get_or fs k f → f.kind ≡ kind.Array type count → None ≡ struct_count counts (field_trees fs) k
+array_uncounted counts fs k f type count h there is =
     sym (ap (λ o. Rattle.std.specs.Prelude.option_and_then (λ x. kind_before (fields_count counts (take k (field_trees fs))) x.kind) o) (tree_there fs k f h there) ∙ ap (kind_before (fields_count counts (take k (field_trees fs)))) is)
 
 pub struct_counted : (counts : List ℕ) (fs part : List Field) (k of : ℕ) (f : Field) (r : Option ℕ) → k < length fs → f ≡ get_or fs k f → f.kind ≡ kind.Struct of → part ≡ take k fs → IfSome r (λ n. n ≡ fields_count counts (field_trees part)) → IfNone r (2 ^ 32 ≤ fields_count counts (field_trees part)) → fields_count counts (field_trees fs) < 2 ^ 32 → r ≡ struct_count counts (field_trees fs) k
@@ -89,6 +93,7 @@ map_length f (x ∷ xs) = omega (arith, map_length f xs)
 module _ (counts : List ℕ) (all : List (List StructInstance)) (counted : (k : ℕ) → slice_index_or counts k 0 ≡ length (slice_index_or all k [])) where
   kind_counted : (f : ℕ) (k : FieldKind) → kind_count counts k ≡ length (kind_instances all f k)
   kind_counted f (kind.Number type) = refl
+  kind_counted f (kind.Array type count) = refl
   kind_counted f (kind.Struct k) = counted k ∙ sym (map_length f (slice_index_or all k []))
 
   pub fields_counted : (f : ℕ) (fields : List FieldTree) → fields_count counts fields ≡ length (field_instances all f fields)
@@ -128,6 +133,7 @@ fields-agree a b n f (x ∷ xs) same lawful = λ i. here x.kind lawful.0 i ++ fi
   where
     here : (k : FieldKind) → IsLawfulKind n k → kind_instances a f k ≡ kind_instances b f k
     here (kind.Number type) h = refl
+    here (kind.Array type count) h = refl
     here (kind.Struct k) h = ap (map (instance_under f)) (same k h)
 
 first-at : (earlier : List (List StructInstance)) (ss : List StructTree) (j : ℕ) (s : StructTree) → AreStructs (length earlier) ss → slice_get ss j ≡ Some s → slice_index_or (struct_instances earlier ss) (length earlier + j) [] ≡ whole_instance (length earlier + j) ∷ field_instances (struct_instances earlier ss) 0 s.fields

@@ -7,10 +7,10 @@ use Rattle.c_syntax.specs.declared.code.Target.{Target}
 use Rattle.c_syntax.specs.declared.fault.Stuck.{Stuck}
 use Rattle.c_syntax.specs.declared.fault.Why.TheVariants.{Range, Steps}
 use Rattle.c_syntax.specs.Plain.{stmt_tree}
-use Rattle.c_syntax.specs.Tree.{ExprTree, ExprTrees, CondTree, assign, branch, call, StmtTrees, stmts_of_list, StructTree, type_at, ProcedureTree, ProgramTree}
-use Rattle.c_machine.specs.Cells.{number, object, no_cells, Cells, set_cell, fields_at}
-use Rattle.c_machine.specs.Values.{gives, sticks, stuck_at, step_limit, take_step, is_in_type, Function, functions_of, eval, eval_cond, reads}
-use Rattle.c_machine.specs.Machine.{LoggedCall, StoredField, Outcome, done, stuck, behind, then_run, on_answer, begin_step, in_child, call_under, on_target, Routine, routine_at, Scope, arguments, store, run_stmt, run_stmts, is_interface, call_entry, routine_of, routines_of}
+use Rattle.c_syntax.specs.Tree.{ExprTree, ExprTrees, CondTree, assign, assign_at, branch, call, StmtTrees, stmts_of_list, StructTree, type_at, ProcedureTree, ProgramTree}
+use Rattle.c_machine.specs.Cells.{number, items, object, no_cells, Cells, set_cell, set_item, fields_at, items_at}
+use Rattle.c_machine.specs.Values.{gives, sticks, and_then, index_in, stuck_at, step_limit, take_step, is_in_type, Function, functions_of, eval, eval_cond, reads}
+use Rattle.c_machine.specs.Machine.{LoggedCall, StoredField, Outcome, done, stuck, behind, then_run, on_answer, begin_step, in_child, call_under, on_target, Routine, routine_at, Scope, arguments, store, store_at, run_stmt, run_stmts, is_interface, call_entry, routine_of, routines_of}
 use Rattle.c_machine.proofs.lemmas.Runs.{routines_of-at}
 use Rattle.c_syntax.specs.declared.fault.Cost.{Cost}
 use Rattle.c_meaning.specs.States.{filled}
@@ -46,6 +46,33 @@ assign_gives s line f steps calls n m e v cells r step given last =
 pub assign_sticks : (s : Scope) (line f steps calls n : ℕ) (e : ExprTree) (cells : Cells) (at : Stuck) → gives (tt {0}) n ≡ take_step line steps (gives (tt {0})) → sticks at ≡ eval s.functions (reads s.values cells) line e n → halted at cells ≡ seen calls (run_stmt s (assign line f e) cells steps)
 assign_sticks s line f steps calls n e cells at step given =
     sym (ap (seen calls) (begin_goes line steps n cells (λ count. on_answer (eval s.functions (reads s.values cells) line e count) cells (λ w end. store line (type_at s.types f) f w cells end)) step ∙ ap (λ a. on_answer a cells (λ w end. store line (type_at s.types f) f w cells end)) (sym given)))
+
+pub store_at_gives : (line f i steps calls : ℕ) (type known : CType) (v : ℤ) (cells now : Cells) → type ≡ known → true ≡ is_in_type known v → set_cell cells f (items (set_item (items_at cells f) i v)) ≡ now → ran now steps calls ≡ seen calls (store_at line type f i v cells steps)
+store_at_gives line f i steps calls type known v cells now same fits left =
+    subst (λ (b : Bool). ran now steps calls ≡ seen calls (if b then done (record { cells = set_cell cells f (items (set_item (items_at cells f) i v)); steps = steps; log = []; stores = record { path = []; field = f } ∷ [] }) else stuck (stuck_at line Range) cells)) (fits ∙ ap (λ t. is_in_type t v) (sym same)) (λ j. ran (sym left j) steps (sym (add-zero calls) j))
+
+pub store_at_stops : (line f i steps calls : ℕ) (type known : CType) (v : ℤ) (cells : Cells) → type ≡ known → false ≡ is_in_type known v → halted (stuck_at line Range) cells ≡ seen calls (store_at line type f i v cells steps)
+store_at_stops line f i steps calls type known v cells same fits =
+    subst (λ (b : Bool). halted (stuck_at line Range) cells ≡ seen calls (if b then done (record { cells = set_cell cells f (items (set_item (items_at cells f) i v)); steps = steps; log = []; stores = record { path = []; field = f } ∷ [] }) else stuck (stuck_at line Range) cells)) (fits ∙ ap (λ t. is_in_type t v) (sym same)) refl
+
+-- a store in an item: its index is looked at, and then its value
+module _ (s : Scope) (line f steps calls n : ℕ) (index e : ExprTree) (cells : Cells) (step : gives (tt {0}) n ≡ take_step line steps (gives (tt {0}))) where
+  abbrev stored : ℕ → ℕ → Outcome
+  stored i mid = on_answer (eval s.functions (reads s.values cells) line e mid) cells (λ v end. store_at line (type_at s.types f) f i v cells end)
+
+  goes : run_stmt s (assign_at line f index e) cells steps ≡ on_answer (and_then (eval s.functions (reads s.values cells) line index n) (index_in line (items_at cells f))) cells stored
+  goes = begin_goes line steps n cells (λ count. on_answer (and_then (eval s.functions (reads s.values cells) line index count) (index_in line (items_at cells f))) cells stored) step
+
+  pub assign_at_gives : (m k i : ℕ) (v : ℤ) (r : Seen) → gives i m ≡ and_then (eval s.functions (reads s.values cells) line index n) (index_in line (items_at cells f)) → gives v k ≡ eval s.functions (reads s.values cells) line e m → r ≡ seen calls (store_at line (type_at s.types f) f i v cells k) → r ≡ seen calls (run_stmt s (assign_at line f index e) cells steps)
+  assign_at_gives m k i v r placed given last =
+      last ∙ sym (ap (seen calls) (goes ∙ ap (λ a. on_answer a cells stored) (sym placed) ∙ ap (λ a. on_answer a cells (λ w end. store_at line (type_at s.types f) f i w cells end)) (sym given)))
+
+  pub assign_at_unplaced : (at : Stuck) → sticks at ≡ and_then (eval s.functions (reads s.values cells) line index n) (index_in line (items_at cells f)) → halted at cells ≡ seen calls (run_stmt s (assign_at line f index e) cells steps)
+  assign_at_unplaced at placed = sym (ap (seen calls) (goes ∙ ap (λ a. on_answer a cells stored) (sym placed)))
+
+  pub assign_at_sticks : (m i : ℕ) (at : Stuck) → gives i m ≡ and_then (eval s.functions (reads s.values cells) line index n) (index_in line (items_at cells f)) → sticks at ≡ eval s.functions (reads s.values cells) line e m → halted at cells ≡ seen calls (run_stmt s (assign_at line f index e) cells steps)
+  assign_at_sticks m i at placed given =
+      sym (ap (seen calls) (goes ∙ ap (λ a. on_answer a cells stored) (sym placed) ∙ ap (λ a. on_answer a cells (λ w end. store_at line (type_at s.types f) f i w cells end)) (sym given)))
 
 pub branch_gives : (s : Scope) (line steps calls n m : ℕ) (test : CondTree) (on_true on_false : StmtTrees) (holds : Bool) (cells : Cells) (r : Seen) → gives (tt {0}) n ≡ take_step line steps (gives (tt {0})) → gives holds m ≡ eval_cond s.functions (reads s.values cells) line test n → r ≡ seen calls ((if holds then run_stmts s on_true else run_stmts s on_false) cells m) → r ≡ seen calls (run_stmt s (branch line test on_true on_false) cells steps)
 branch_gives s line steps calls n m test on_true on_false holds cells r step given last =

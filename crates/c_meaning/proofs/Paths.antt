@@ -59,6 +59,7 @@ field_of_slot layouts at (y ∷ ys) zero from size inner there = (y, refl, here 
   where
     here : (k : FieldKind) → Some (slot_of layouts at k) ≡ Some (Instance from size inner) → k ≡ kind.Struct inner
     here (kind.Number type) e = absurd (cc)
+    here (kind.Array type count) e = absurd (cc)
     here (kind.Struct j) e = let same : j ≡ inner = cc in ap kind.Struct same
 field_of_slot layouts at (y ∷ ys) (suc f) from size inner there = field_of_slot layouts (at + kind_size layouts y.kind) ys f from size inner there
 

@@ -1,19 +1,21 @@
 -- The numbers of an instance, and where its fields stand in them.
-use Rattle.std.proofs.Common.{◌≡◌, refl, sym, ◌∙◌, ap, ℕ, zero, suc, ◌+◌, ◌-◌, ◌<◌, ◌≤◌, ℤ, pos, Bool, List, [], ◌∷◌, ◌++◌, length, arith, take, drop, slice_get, slice_index_or, Option, Some, None, append_assoc, length-append, subst, zero-add, add-zero}
+use Rattle.std.proofs.Common.{◌≡◌, refl, sym, ◌∙◌, ap, ℕ, zero, suc, ◌+◌, ◌-◌, ◌<◌, ◌≤◌, ℤ, pos, Bool, List, [], ◌∷◌, ◌++◌, length, arith, take, drop, replicate, slice_get, slice_index_or, Option, Some, None, append_assoc, length-append, subst, zero-add, add-zero}
 use Rattle.std.proofs.Math.ListN.{set}
+use Rattle.std.proofs.lemmas.List.{length-replicate}
 use native.Mathlib.Numerals.{unary_clauses}
 use Rattle.c_syntax.specs.declared.code.CType.{CType}
 use Rattle.c_syntax.specs.declared.program.FieldKind.{FieldKind}
 use Rattle.c_syntax.specs.declared.program.FieldKind.TheVariants as kind
 use Rattle.c_syntax.specs.Tree.{ProgramTree, FieldTree, StructTree, struct_fields, field_types, type_at, kind_type}
-use Rattle.c_machine.specs.Cells.{Cell, number, object, Cells, no_cells, more_cells, cell_value, cell_fields, set_cell, value_at, fields_at, zero_cell, zero_cells}
+use Rattle.c_machine.specs.Cells.{Cell, number, items, object, Cells, no_cells, more_cells, cell_value, cell_fields, cell_items, set_cell, set_item, value_at, fields_at, items_at, zero_cell, zero_cells}
 use Rattle.c_machine.specs.Values.{int_at}
-use Rattle.c_meaning.specs.States.{numbers_in, numbers_of, with_first, filled_cell, filled}
+use Rattle.c_meaning.specs.States.{numbers_in, numbers_of, with_first, filled_items, filled_cell, filled}
 use Rattle.c_meaning.specs.declared.slots.Slot.{Slot}
-use Rattle.c_meaning.specs.declared.slots.Slot.TheVariants.{Number, Instance}
-use Rattle.c_meaning.specs.Slots.{StructLayout, layout_at, number_in, number_under}
-use Rattle.c_meaning.specs.Sound.{IsReady, IsNumberField, IsInstanceField, zeros_of}
+use Rattle.c_meaning.specs.declared.slots.Slot.TheVariants.{Number, Array, Instance}
+use Rattle.c_meaning.specs.Slots.{StructLayout, layout_at, number_in, number_under, items_in}
+use Rattle.c_meaning.specs.Sound.{IsReady, IsNumberField, IsArrayField, IsInstanceField, zeros_of}
 use Rattle.c_meaning.specs.Layouts.{kind_size, slot_of, slots_from, end_of, AreLaidOut}
+use Rattle.c_meaning.proofs.Items.{items_take, items_part, items_whole, set_length, set_inside}
 
 -- ---- lists
 pub drop_more : (at n : ℕ) (s : List ℤ) → drop n (drop at s) ≡ drop (at + n) s
@@ -86,6 +88,7 @@ mutual
   pub filled_cell-take : (c : Cell) (vs : List ℤ) → filled_cell c (take (length (numbers_in c)) vs) ≡ filled_cell c vs
   filled_cell-take (number old) [] = refl
   filled_cell-take (number old) (v ∷ vs) = refl
+  filled_cell-take (items olds) vs = ap items (items_take olds vs)
   filled_cell-take (object fields) vs = ap object (filled-take fields vs)
 
   pub filled-take : (cs : Cells) (vs : List ℤ) → filled cs (take (length (numbers_of cs)) vs) ≡ filled cs vs
@@ -100,6 +103,7 @@ mutual
 module _ (layouts : List StructLayout) (zeros : List Cells) (sized : (k : ℕ) → (layout_at layouts k).size ≡ length (numbers_of (slice_index_or zeros k no_cells))) where
   size_is : (k : FieldKind) → kind_size layouts k ≡ length (numbers_in (zero_cell zeros k))
   size_is (kind.Number type) = refl
+  size_is (kind.Array type count) = sym (length-replicate count (pos 0))
   size_is (kind.Struct k) = sized k
 
   pub read_own : (at : ℕ) (s : List ℤ) (fields : List FieldTree) (f : ℕ) → value_at (filled (zero_cells zeros fields) (drop at s)) f ≡ number_in s (slice_get (slots_from layouts at fields) f)
@@ -108,6 +112,7 @@ module _ (layouts : List StructLayout) (zeros : List Cells) (sized : (k : ℕ) �
     where
       here : (k : FieldKind) → cell_value (filled_cell (zero_cell zeros k) (take (length (numbers_in (zero_cell zeros k))) (drop at s))) ≡ number_in s (Some (slot_of layouts at k))
       here (kind.Number type) = first_is s at
+      here (kind.Array type count) = refl
       here (kind.Struct k) = refl
   read_own at s (x ∷ fields) (suc f) =
       ap (λ b. value_at (filled (zero_cells zeros fields) b) f) (ap (λ n. drop n (drop at s)) (sym (size_is x.kind)) ∙ drop_more at (kind_size layouts x.kind) s) ∙ read_own (at + kind_size layouts x.kind) s fields f
@@ -116,6 +121,7 @@ module _ (layouts : List StructLayout) (zeros : List Cells) (sized : (k : ℕ) �
   abbrev pub child_cells : List ℤ → Option Slot → Cells
   child_cells s None = no_cells
   child_cells s (Some (Number at type)) = no_cells
+  child_cells s (Some (Array at count type)) = no_cells
   child_cells s (Some (Instance at size of)) = filled (slice_index_or zeros of no_cells) (take (layout_at layouts of).size (drop at s))
 
   read_child : (at : ℕ) (s : List ℤ) (fields : List FieldTree) (f : ℕ) → fields_at (filled (zero_cells zeros fields) (drop at s)) f ≡ child_cells s (slice_get (slots_from layouts at fields) f)
@@ -128,9 +134,26 @@ module _ (layouts : List StructLayout) (zeros : List Cells) (sized : (k : ℕ) �
           at_number : (vs : List ℤ) → cell_fields (with_first (number (pos 0)) vs) ≡ no_cells
           at_number [] = refl
           at_number (v ∷ vs) = refl
+      here (kind.Array type count) = refl
       here (kind.Struct k) = ap (λ n. filled (slice_index_or zeros k no_cells) (take n (drop at s))) (sym (sized k))
   read_child at s (x ∷ fields) (suc f) =
       ap (λ b. fields_at (filled (zero_cells zeros fields) b) f) (ap (λ n. drop n (drop at s)) (sym (size_is x.kind)) ∙ drop_more at (kind_size layouts x.kind) s) ∙ read_child (at + kind_size layouts x.kind) s fields f
+
+  -- the items of the array at a place
+  read_array : (at : ℕ) (s : List ℤ) (fields : List FieldTree) (f : ℕ) → items_at (filled (zero_cells zeros fields) (drop at s)) f ≡ items_in s (slice_get (slots_from layouts at fields) f)
+  read_array at s [] f = refl
+  read_array at s (x ∷ fields) zero = here x.kind
+    where
+      here : (k : FieldKind) → cell_items (filled_cell (zero_cell zeros k) (take (length (numbers_in (zero_cell zeros k))) (drop at s))) ≡ items_in s (Some (slot_of layouts at k))
+      here (kind.Number type) = at_number (take 1 (drop at s))
+        where
+          at_number : (vs : List ℤ) → cell_items (with_first (number (pos 0)) vs) ≡ []
+          at_number [] = refl
+          at_number (v ∷ vs) = refl
+      here (kind.Array type count) = items_take (replicate count (pos 0)) (drop at s)
+      here (kind.Struct k) = refl
+  read_array at s (x ∷ fields) (suc f) =
+      ap (λ b. items_at (filled (zero_cells zeros fields) b) f) (ap (λ n. drop n (drop at s)) (sym (size_is x.kind)) ∙ drop_more at (kind_size layouts x.kind) s) ∙ read_array (at + kind_size layouts x.kind) s fields f
 
   -- where a field begins
   abbrev pub offset : List FieldTree → ℕ → ℕ
@@ -206,7 +229,13 @@ module _ (structs : List StructTree) (layouts : List StructLayout) (zeros : List
       at_slot : (slot : Option Slot) → value_at (child_cells layouts zeros laid.sized s slot) g ≡ number_under layouts s slot g
       at_slot None = refl
       at_slot (Some (Number at type)) = refl
+      at_slot (Some (Array at count type)) = refl
       at_slot (Some (Instance at size k)) = ap (λ z. value_at z g) (whole k (drop at s)) ∙ own_is k (drop at s) g
+
+  -- what an array holds
+  pub array_is : (of : ℕ) (s : List ℤ) (f : ℕ) → items_at (filled (slice_index_or zeros of no_cells) s) f ≡ items_in s (slice_get (layout_at layouts of).slots f)
+  array_is of s f =
+      ap (λ z. items_at (filled z s) f) (laid.zero_is of) ∙ read_array layouts zeros laid.sized 0 s (struct_fields structs of) f ∙ ap (λ t. items_in s (slice_get t f)) (sym (laid.slots_are of))
 
   -- the fields of the instance in a field
   pub child_is : (of : ℕ) (s : List ℤ) (f from size inner : ℕ) → slice_get (layout_at layouts of).slots f ≡ Some (Instance from size inner) → fields_at (filled (slice_index_or zeros of no_cells) s) f ≡ filled (slice_index_or zeros inner no_cells) (drop from s)
@@ -256,6 +285,41 @@ module _ (structs : List StructTree) (layouts : List StructLayout) (zeros : List
         stored = λ v. (λ i. set_cell (filled (slice_index_or zeros of no_cells) s) f (filled_cell (zero_cell zeros (sym is i)) (v ∷ []))) ∙ put v ∙ (λ i. filled (slice_index_or zeros of no_cells) (take (at_is i) s ++ (v ∷ [] ++ drop (at_is i + one i) s))) ∙ ap (filled (slice_index_or zeros of no_cells)) (set_is s at v within);
       }
 
+  -- an array, and what a store in an item does
+  pub record StoresItem (of f : ℕ) (s : List ℤ) (at count : ℕ) (type : CType) : Type 0 where
+    pub within : at + count ≤ length s
+    pub typed : type_at (field_types (struct_fields structs of)) f ≡ type
+    pub counted : length (items_at (filled (slice_index_or zeros of no_cells) s) f) ≡ count
+    pub stored : (i : ℕ) (v : ℤ) → i < count → set_cell (filled (slice_index_or zeros of no_cells) s) f (items (set_item (items_at (filled (slice_index_or zeros of no_cells) s) f) i v)) ≡ filled (slice_index_or zeros of no_cells) (set s (at + i) v)
+
+  pub item_at : (of f : ℕ) (x : FieldTree) (k : CType) (many : ℕ) (s : List ℤ) (at count : ℕ) (type : CType) → slice_get (struct_fields structs of) f ≡ Some x → x.kind ≡ kind.Array k many → length s ≡ (layout_at layouts of).size → slice_get (layout_at layouts of).slots f ≡ Some (Array at count type) → StoresItem of f s at count type
+  item_at of f x k many s at count type there is room found =
+      let o : ℕ = offset layouts zeros laid.sized (struct_fields structs of) f in
+      let z : Cells = slice_index_or zeros of no_cells in
+      let both : Some (slot_of layouts (0 + o) (kind.Array k many)) ≡ Some (Array at count type) = (λ i. Some (slot_of layouts (0 + o) (sym is i))) ∙ sym (slot_there of f x there) ∙ found in
+      let same : 0 + o ≡ at = cc in
+      let count_is : many ≡ count = cc in
+      let alike : k ≡ type = cc in
+      let size_here : kind_size layouts x.kind ≡ count = (λ i. kind_size layouts (is i)) ∙ count_is in
+      let e = ends of in
+      let far = inside layouts zeros laid.sized 0 (struct_fields structs of) f x there in
+      let at_is : o ≡ at = sym (zero-add o) ∙ same in
+      let within : at + count ≤ length s = omega arith in
+      let zs : List ℤ = replicate count (pos 0) in
+      let zs_long : length zs ≡ count = length-replicate count (pos 0) in
+      let left : length (drop at s) + at ≡ length s = length_dropped at s (omega arith) in
+      let zero_is : zero_cell zeros x.kind ≡ items zs = (λ i. zero_cell zeros (is i)) ∙ (λ i. items (replicate (count_is i) (pos 0))) in
+      let held : items_at (filled z s) f ≡ take count (drop at s) = array_is of s f ∙ ap (items_in s) found ∙ items_part zs (drop at s) (omega arith) ∙ ap (λ n. take n (drop at s)) zs_long in
+      record {
+        within = within;
+        typed = types_at (struct_fields structs of) f x there ∙ (λ i. kind_type (is i)) ∙ alike;
+        counted = ap length held ∙ length_taken count (drop at s) (omega arith);
+        stored = λ i v h.
+            let t : List ℤ = set_item (take count (drop at s)) i v in
+            let long : length t ≡ count = set_length (take count (drop at s)) i v ∙ length_taken count (drop at s) (omega arith) in
+            (λ j. set_cell (filled z s) f (items (set_item (held j) i v))) ∙ (λ j. set_cell (filled z s) f (items (sym (items_whole zs t (long ∙ sym zs_long)) j))) ∙ (λ j. set_cell (filled z s) f (filled_cell (sym zero_is j) t)) ∙ put_there of f x s t there (long ∙ sym size_here) room ∙ (λ j. filled z (take (at_is j) s ++ (t ++ drop (at_is j + size_here j) s))) ∙ ap (filled z) (set_inside at count i s v within h);
+      }
+
   -- a field that holds an instance, and what a run in it does
   pub record HoldsAt (of f k : ℕ) (s : List ℤ) (at size struct : ℕ) : Type 0 where
     pub struct_is : struct ≡ k
@@ -287,12 +351,19 @@ module _ (structs : List StructTree) (layouts : List StructLayout) (zeros : List
 pub number_there : (p : ProgramTree) (layouts : List StructLayout) (logged : List Bool) (of f : ℕ) → IsReady p layouts logged → IsNumberField p of f → (at : ℕ) × (type : CType) × (slice_get (layout_at layouts of).slots f ≡ Some (Number at type))
 number_there p layouts logged of f ready h = (_, h.type, slot_there p.structs layouts (zeros_of p) ready.laid of f h.field h.there ∙ (λ i. Some (slot_of layouts (0 + offset layouts (zeros_of p) ready.laid.sized (struct_fields p.structs of) f) (h.kind_is i))))
 
+pub array_there : (p : ProgramTree) (layouts : List StructLayout) (logged : List Bool) (of f : ℕ) → IsReady p layouts logged → IsArrayField p of f → (at count : ℕ) × (type : CType) × (slice_get (layout_at layouts of).slots f ≡ Some (Array at count type))
+array_there p layouts logged of f ready h = (_, h.count, h.type, slot_there p.structs layouts (zeros_of p) ready.laid of f h.field h.there ∙ (λ i. Some (slot_of layouts (0 + offset layouts (zeros_of p) ready.laid.sized (struct_fields p.structs of) f) (h.kind_is i))))
+
 pub instance_there : (p : ProgramTree) (layouts : List StructLayout) (logged : List Bool) (of f : ℕ) → IsReady p layouts logged → IsInstanceField p of f → (at size k : ℕ) × (slice_get (layout_at layouts of).slots f ≡ Some (Instance at size k))
 instance_there p layouts logged of f ready h = (_, _, _, slot_there p.structs layouts (zeros_of p) ready.laid of f h.field h.there ∙ (λ i. Some (slot_of layouts (0 + offset layouts (zeros_of p) ready.laid.sized (struct_fields p.structs of) f) (h.kind_is i))))
 
 -- what a store does
 pub stores : (p : ProgramTree) (layouts : List StructLayout) (logged : List Bool) (of f : ℕ) (s : List ℤ) (at : ℕ) (type : CType) (ready : IsReady p layouts logged) → IsNumberField p of f → length s ≡ (layout_at layouts of).size → slice_get (layout_at layouts of).slots f ≡ Some (Number at type) → StoresAt p.structs layouts (zeros_of p) ready.laid of f s at type
 stores p layouts logged of f s at type ready h room found = store_at p.structs layouts (zeros_of p) ready.laid of f h.field h.type s at type h.there h.kind_is room found
+
+-- what a store in an item does
+pub stores_item : (p : ProgramTree) (layouts : List StructLayout) (logged : List Bool) (of f : ℕ) (s : List ℤ) (at count : ℕ) (type : CType) (ready : IsReady p layouts logged) → IsArrayField p of f → length s ≡ (layout_at layouts of).size → slice_get (layout_at layouts of).slots f ≡ Some (Array at count type) → StoresItem p.structs layouts (zeros_of p) ready.laid of f s at count type
+stores_item p layouts logged of f s at count type ready h room found = item_at p.structs layouts (zeros_of p) ready.laid of f h.field h.type h.count s at count type h.there h.kind_is room found
 
 -- what a call in a field does
 pub holds : (p : ProgramTree) (layouts : List StructLayout) (logged : List Bool) (of f : ℕ) (s : List ℤ) (at size struct : ℕ) (ready : IsReady p layouts logged) (h : IsInstanceField p of f) → length s ≡ (layout_at layouts of).size → slice_get (layout_at layouts of).slots f ≡ Some (Instance at size struct) → HoldsAt p.structs layouts (zeros_of p) ready.laid of f h.struct s at size struct

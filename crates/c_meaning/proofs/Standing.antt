@@ -62,6 +62,9 @@ field_slot p layouts laid struct f s = by_field (slice_get (struct_fields p.stru
     by_kind x (kind.Number type) is there =
         let slot = slot_there p.structs layouts (zeros_of p) laid struct f x there ∙ (λ j. Some (slot_of layouts (0 + offset layouts (zeros_of p) laid.sized (struct_fields p.structs struct) f) (is j))) in
         ap Some (own_is p.structs layouts (zeros_of p) laid struct s f ∙ ap (number_in s) slot) ∙ sym (ap (slot_number s) slot)
+    by_kind x (kind.Array type count) is there =
+        let slot = slot_there p.structs layouts (zeros_of p) laid struct f x there ∙ (λ j. Some (slot_of layouts (0 + offset layouts (zeros_of p) laid.sized (struct_fields p.structs struct) f) (is j))) in
+        sym (ap (slot_number s) slot)
     by_kind x (kind.Struct k) is there =
         let slot = slot_there p.structs layouts (zeros_of p) laid struct f x there ∙ (λ j. Some (slot_of layouts (0 + offset layouts (zeros_of p) laid.sized (struct_fields p.structs struct) f) (is j))) in
         sym (ap (slot_number s) slot)
@@ -144,6 +147,7 @@ module _ (p : ProgramTree) (layouts : List StructLayout) (counts : List ℕ) (nu
     where
       by_kind : (k : FieldKind) → h.field.kind ≡ k → left < kind_count counts k → (from size inner : ℕ) × (slice_get (layout_at layouts of).slots position ≡ Some (Instance from size inner))
       by_kind (kind.Number type) is inside = absurd (omega arith)
+      by_kind (kind.Array type count) is inside = absurd (omega arith)
       by_kind (kind.Struct k) is inside = (_, _, _, slot_there p.structs layouts (zeros_of p) laid of position h.field h.there ∙ (λ j. Some (slot_of layouts (0 + offset layouts (zeros_of p) laid.sized (struct_fields p.structs of) position) (is j))))
 
   pub step_is : (laid : AreLaidOut p.structs layouts (zeros_of p)) (of position left number from size inner : ℕ) → IsHeld counts (struct_fields p.structs of) position left number → Some (Instance from size inner) ≡ slice_get (layout_at layouts of).slots position → IsStep p layouts counts of inner from left number
@@ -225,6 +229,7 @@ module _ (p : ProgramTree) (layouts : List StructLayout) (counts : List ℕ) (nu
 
       by_kind : (k : FieldKind) → None ≡ kind_before (fields_count counts (take position (struct_fields p.structs struct))) k → None ≡ field_child i position k
       by_kind (kind.Number type) e = refl
+      by_kind (kind.Array type count) e = refl
       by_kind (kind.Struct k) e = absurd (cc)
 
       by_field : (o : Option FieldTree) → None ≡ option_and_then (λ x. kind_before (fields_count counts (take position (struct_fields p.structs struct))) x.kind) o → None ≡ option_and_then (λ x. field_child i position x.kind) o
@@ -249,6 +254,7 @@ module _ (p : ProgramTree) (layouts : List StructLayout) (counts : List ℕ) (nu
 
       by_kind : (x : FieldTree) (k : FieldKind) → x.kind ≡ k → slice_get (struct_fields p.structs struct) position ≡ Some x → Some before ≡ kind_before (fields_count counts (take position (struct_fields p.structs struct))) k → IsChildAt root instance (instance + 1 + before) name
       by_kind x (kind.Number type) is there e = absurd (cc)
+      by_kind x (kind.Array type count) is there e = absurd (cc)
       by_kind x (kind.Struct k) is there e =
           let same : before ≡ fields_count counts (take position (struct_fields p.structs struct)) = cc in
           let n : instance + suc (fields_count counts (take position (struct_fields p.structs struct))) ≡ instance + 1 + before = omega arith in

@@ -2,7 +2,7 @@
 use Rattle.std.specs.Prelude.{ℕ, ◌+◌, ℤ, List, [], ◌∷◌, ◌++◌, length, map, Option, Some, None, option_and_then, slice_get, slice_index_or, bytes_eq}
 use Rattle.std.specs.List.{position_from}
 use Rattle.c_syntax.specs.declared.program.FieldKind.{FieldKind}
-use Rattle.c_syntax.specs.declared.program.FieldKind.TheVariants.{Number, Struct}
+use Rattle.c_syntax.specs.declared.program.FieldKind.TheVariants.{Number, Array, Struct}
 use Rattle.c_syntax.specs.Tree.{FieldTree, StructTree, struct_fields, ProgramTree}
 use Rattle.c_machine.specs.Cells.{Cells, value_at, fields_at}
 use Rattle.c_syntax.specs.RootFields.{root_struct}
@@ -23,6 +23,7 @@ instance_under f i = record { path = f ∷ i.path; struct = i.struct }
 -- the instances in a field; `earlier` has those of each struct that it may name
 abbrev pub kind_instances : List (List StructInstance) → ℕ → FieldKind → List StructInstance
 kind_instances earlier f (Number type) = []
+kind_instances earlier f (Array type count) = []
 kind_instances earlier f (Struct k) = map (instance_under f) (slice_index_or earlier k [])
 
 -- the instances in the fields from a position on
@@ -56,6 +57,7 @@ field_named fields name = position_from (λ f. bytes_eq f.name name) 0 fields
 -- the instance in a field of an instance, where the field is a struct
 abbrev pub field_child : StructInstance → ℕ → FieldKind → Option StructInstance
 field_child i f (Number type) = None
+field_child i f (Array type count) = None
 field_child i f (Struct k) = Some (record { path = i.path ++ f ∷ []; struct = k })
 
 -- the instance in the struct field with a name, of an instance
@@ -66,6 +68,7 @@ child_named p name i =
 -- the number in a field of these, where the field is one
 abbrev pub field_number : Cells → ℕ → FieldKind → Option ℤ
 field_number cells f (Number type) = Some (value_at cells f)
+field_number cells f (Array type count) = None
 field_number cells f (Struct k) = None
 
 -- the number in the number field with a name, of an instance below these fields of the root

@@ -1,12 +1,12 @@
--- The layouts of two structs, the second of which holds the first between two numbers.
+-- The layouts of two structs, the second of which holds the first between two numbers, and of one with an array.
 use Rattle.std.specs.Prelude.{◌≡◌, refl, ℤ, pos, List, [], ◌∷◌, Some, codes}
 use Rattle.c_syntax.specs.declared.code.CType.TheVariants.{I8, I32}
 use Rattle.c_syntax.specs.declared.program.FieldKind.TheVariants as kind
 use Rattle.c_syntax.specs.Tree.{StructTree}
-use Rattle.c_machine.specs.Cells.{Cells, number, object, no_cells, more_cells}
-use Rattle.c_meaning.specs.declared.slots.Slot.TheVariants.{Number, Instance}
+use Rattle.c_machine.specs.Cells.{Cells, number, items, object, no_cells, more_cells}
+use Rattle.c_meaning.specs.declared.slots.Slot.TheVariants.{Number, Array, Instance}
 use Rattle.c_meaning.specs.Layouts.{layouts_of}
-use Rattle.c_meaning.specs.Slots.{StructLayout, number_in, number_under}
+use Rattle.c_meaning.specs.Slots.{StructLayout, number_in, number_under, items_in}
 use Rattle.c_meaning.specs.States.{filled, numbers_of}
 
 abbrev pub pair : StructTree
@@ -40,3 +40,25 @@ filled-four = refl
 
 pub numbers-again : numbers_of (filled zeros four) ≡ four
 numbers-again = refl
+
+-- `struct ring { int32_t x; int8_t a[3]; int32_t y1; };`: an item has a place of its own
+abbrev pub ring : StructTree
+ring = record { name = codes "ring"; fields = record { name = codes "x"; kind = kind.Number I32 } ∷ record { name = codes "a"; kind = kind.Array I8 3 } ∷ record { name = codes "y1"; kind = kind.Number I32 } ∷ [] }
+
+pub ring-is : layouts_of [] (ring ∷ []) ≡ record { size = 5; slots = Number 0 I32 ∷ Array 1 3 I8 ∷ Number 4 I32 ∷ [] } ∷ []
+ring-is = refl
+
+abbrev pub five : List ℤ
+five = pos 10 ∷ pos 20 ∷ pos 30 ∷ pos 40 ∷ pos 50 ∷ []
+
+pub a-reads : items_in five (Some (Array 1 3 I8)) ≡ pos 20 ∷ pos 30 ∷ pos 40 ∷ []
+a-reads = refl
+
+abbrev pub ring_zeros : Cells
+ring_zeros = more_cells (number (pos 0)) (more_cells (items (pos 0 ∷ pos 0 ∷ pos 0 ∷ [])) (more_cells (number (pos 0)) no_cells))
+
+pub filled-five : filled ring_zeros five ≡ more_cells (number (pos 10)) (more_cells (items (pos 20 ∷ pos 30 ∷ pos 40 ∷ [])) (more_cells (number (pos 50)) no_cells))
+filled-five = refl
+
+pub numbers-of-five : numbers_of (filled ring_zeros five) ≡ five
+numbers-of-five = refl

@@ -6,17 +6,19 @@ use Rattle.c_syntax.specs.declared.program.FieldKind.{FieldKind}
 use Rattle.c_syntax.specs.declared.program.FieldKind.TheVariants as kind
 use Rattle.c_syntax.specs.Tree.{FieldTree, StructTree, struct_fields}
 use Rattle.c_meaning.specs.declared.slots.Slot.{Slot}
-use Rattle.c_meaning.specs.declared.slots.Slot.TheVariants.{Number, Instance}
+use Rattle.c_meaning.specs.declared.slots.Slot.TheVariants.{Number, Array, Instance}
 use Rattle.c_meaning.specs.Slots.{StructLayout, layout_at}
 
 -- how many numbers a field has
 abbrev pub kind_size : List StructLayout → FieldKind → ℕ
 kind_size earlier (kind.Number type) = 1
+kind_size earlier (kind.Array type count) = count
 kind_size earlier (kind.Struct k) = (layout_at earlier k).size
 
 -- a field that begins there
 abbrev pub slot_of : List StructLayout → ℕ → FieldKind → Slot
 slot_of earlier at (kind.Number type) = Number at type
+slot_of earlier at (kind.Array type count) = Array at count type
 slot_of earlier at (kind.Struct k) = Instance at (layout_at earlier k).size k
 
 -- fields, one behind the other

@@ -7,7 +7,7 @@ use Rattle.c_syntax.specs.Plain.{program_tree}
 use Rattle.c_meaning.specs.declared.instances.Numbering.{Numbering}
 use Rattle.c_machine.specs.Values.{int_at}
 use Rattle.c_meaning.specs.declared.slots.Slot.{Slot}
-use Rattle.c_meaning.specs.declared.slots.Slot.TheVariants.{Number, Instance}
+use Rattle.c_meaning.specs.declared.slots.Slot.TheVariants.{Number, Array, Instance}
 use Rattle.c_meaning.specs.Slots.{StructLayout, layout_at}
 use Rattle.c_meaning.specs.Layouts.{AreLaidOut}
 use Rattle.c_meaning.specs.Sound.{zeros_of, IsProcedureOf}
@@ -16,6 +16,7 @@ use Rattle.c_meaning.specs.Instances.{StructInstance, whole_instance, field_inst
 -- how many instances stand in a field
 abbrev pub kind_count : List ℕ → FieldKind → ℕ
 kind_count counts (kind.Number type) = 0
+kind_count counts (kind.Array type count) = 0
 kind_count counts (kind.Struct k) = slice_index_or counts k 0
 
 -- how many stand in fields
@@ -97,6 +98,7 @@ pub record IsOnWay (p : ProgramTree) (layouts : List StructLayout) (root instanc
 -- how many instances stand before the one that a field at a position holds, where it holds one
 abbrev pub kind_before : ℕ → FieldKind → Option ℕ
 kind_before before (kind.Number type) = None
+kind_before before (kind.Array type count) = None
 kind_before before (kind.Struct k) = Some before
 
 -- the same of the field at a position
@@ -108,6 +110,7 @@ struct_count counts fields position =
 abbrev pub slot_number : List ℤ → Option Slot → Option ℤ
 slot_number numbers None = None
 slot_number numbers (Some (Number at type)) = Some (int_at numbers at)
+slot_number numbers (Some (Array at count type)) = None
 slot_number numbers (Some (Instance at size of)) = None
 
 -- there is an instance with this number, and the procedure is one of its struct

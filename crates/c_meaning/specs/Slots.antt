@@ -1,8 +1,9 @@
 -- Where the numbers of an instance stand, in the order of its fields.
-use Rattle.std.specs.Prelude.{ℕ, ℤ, pos, List, [], drop, Option, Some, None, slice_get, slice_index_or}
+use Rattle.std.specs.Prelude.{ℕ, ℤ, pos, List, [], drop, replicate, Option, Some, None, slice_get, slice_index_or}
 use Rattle.c_machine.specs.Values.{int_at}
 use Rattle.c_meaning.specs.declared.slots.Slot.{Slot}
-use Rattle.c_meaning.specs.declared.slots.Slot.TheVariants.{Number, Instance}
+use Rattle.c_meaning.specs.declared.slots.Slot.TheVariants.{Number, Array, Instance}
+use Rattle.c_meaning.specs.States.{filled_items}
 
 -- a struct: how many numbers an instance has, and where each field stands in it
 pub record StructLayout : Type 0 where
@@ -21,10 +22,19 @@ layout_at layouts k = slice_index_or layouts k no_layout
 abbrev pub number_in : List ℤ → Option Slot → ℤ
 number_in numbers None = pos 0
 number_in numbers (Some (Number at type)) = int_at numbers at
+number_in numbers (Some (Array at count type)) = pos 0
 number_in numbers (Some (Instance at size of)) = pos 0
 
 -- the number that a field of a field holds
 abbrev pub number_under : List StructLayout → List ℤ → Option Slot → ℕ → ℤ
 number_under layouts numbers None g = pos 0
 number_under layouts numbers (Some (Number at type)) g = pos 0
+number_under layouts numbers (Some (Array at count type)) g = pos 0
 number_under layouts numbers (Some (Instance at size of)) g = number_in (drop at numbers) (slice_get (layout_at layouts of).slots g)
+
+-- the items of the array that a field is, and none where it is no array
+abbrev pub items_in : List ℤ → Option Slot → List ℤ
+items_in numbers None = []
+items_in numbers (Some (Number at type)) = []
+items_in numbers (Some (Array at count type)) = filled_items (replicate count (pos 0)) (drop at numbers)
+items_in numbers (Some (Instance at size of)) = []

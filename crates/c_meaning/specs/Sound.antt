@@ -3,8 +3,8 @@ use Rattle.std.specs.Prelude.{◌≡◌, ℕ, ℤ, ◌<◌, ◌≤◌, Bool, Lis
 use Rattle.c_syntax.specs.declared.code.CType.{CType}
 use Rattle.c_syntax.specs.declared.code.Target.{Target}
 use Rattle.c_syntax.specs.declared.code.Target.TheVariants.{Own, Child}
-use Rattle.c_syntax.specs.declared.program.FieldKind.TheVariants.{Number, Struct}
-use Rattle.c_syntax.specs.Tree.{StmtTree, assign, branch, call, StmtTrees, no_stmts, more_stmts, FieldTree, struct_fields, field_types, ProcedureTree, ProgramTree}
+use Rattle.c_syntax.specs.declared.program.FieldKind.TheVariants.{Number, Array, Struct}
+use Rattle.c_syntax.specs.Tree.{StmtTree, assign, assign_at, branch, call, StmtTrees, no_stmts, more_stmts, FieldTree, struct_fields, field_types, ProcedureTree, ProgramTree}
 use Rattle.c_machine.specs.Cells.{Cells, no_cells, zero_instances}
 use Rattle.c_syntax.specs.Lawful.{exprs_length}
 use Rattle.c_machine.specs.Machine.{Scope, routines_of, is_interface}
@@ -19,6 +19,14 @@ pub record IsNumberField (p : ProgramTree) (of f : ℕ) : Type 0 where
   pub type : CType
   pub there : slice_get (struct_fields p.structs of) f ≡ Some field
   pub kind_is : field.kind ≡ Number type
+
+-- a field of a struct is an array
+pub record IsArrayField (p : ProgramTree) (of f : ℕ) : Type 0 where
+  pub field : FieldTree
+  pub type : CType
+  pub count : ℕ
+  pub there : slice_get (struct_fields p.structs of) f ≡ Some field
+  pub kind_is : field.kind ≡ Array type count
 
 -- a field of a struct is an instance
 pub record IsInstanceField (p : ProgramTree) (of f : ℕ) : Type 0 where
@@ -46,9 +54,10 @@ pub record HasArguments (p : ProgramTree) (k count : ℕ) : Type 0 where
   pub room : count ≤ 64
 
 abbrev mutual
-  -- a statement of a procedure at a position, of a struct: stores go to numbers, calls to earlier procedures of their targets
+  -- a statement of a procedure at a position, of a struct: stores go to numbers and items of arrays, calls to earlier procedures of their targets
   pub IsSoundStmt : ProgramTree → ℕ → ℕ → StmtTree → Type 0
   IsSoundStmt p level of (assign line f e) = IsNumberField p of f × IsNarrowExpr e
+  IsSoundStmt p level of (assign_at line f index e) = IsArrayField p of f × IsNarrowExpr index × IsNarrowExpr e
   IsSoundStmt p level of (branch line test on_true on_false) = IsNarrowCond test × AreSoundStmts p level of on_true × AreSoundStmts p level of on_false
   IsSoundStmt p level of (call line k target es) =
       IsCallOf p of k target × HasArguments p k (exprs_length es) × (k < level) × AreNarrowExprs es

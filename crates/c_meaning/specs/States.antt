@@ -1,6 +1,6 @@
 -- A machine: its program, and the numbers of all its fields, in the order in which they stand.
 use Rattle.std.specs.Prelude.{List, [], ◌∷◌, ◌++◌, ℤ, take, drop, length}
-use Rattle.c_machine.specs.Cells.{Cell, number, object, Cells, no_cells, more_cells}
+use Rattle.c_machine.specs.Cells.{Cell, number, items, object, Cells, no_cells, more_cells}
 use Rattle.c_syntax.specs.Plain.{program_tree}
 use Rattle.c_machine.specs.Rows.{zero_root}
 use Rattle.c_syntax.specs.Tree.{ProgramTree}
@@ -10,6 +10,7 @@ abbrev mutual
   -- the numbers of a field, and of the fields inside it
   pub numbers_in : Cell → List ℤ
   numbers_in (number value) = value ∷ []
+  numbers_in (items values) = values
   numbers_in (object fields) = numbers_of fields
 
   -- the numbers of fields, in order
@@ -22,10 +23,17 @@ abbrev pub with_first : Cell → List ℤ → Cell
 with_first field [] = field
 with_first field (value ∷ values) = number value
 
+-- an array with these numbers in place of its own, in order, as far as they go
+abbrev pub filled_items : List ℤ → List ℤ → List ℤ
+filled_items [] values = []
+filled_items (old ∷ olds) [] = old ∷ olds
+filled_items (old ∷ olds) (value ∷ values) = value ∷ filled_items olds values
+
 abbrev mutual
   -- a field with these numbers in place of its own, in order
   pub filled_cell : Cell → List ℤ → Cell
   filled_cell (number old) values = with_first (number old) values
+  filled_cell (items olds) values = items (filled_items olds values)
   filled_cell (object fields) values = object (filled fields values)
 
   -- fields with these numbers in place of their own, in order

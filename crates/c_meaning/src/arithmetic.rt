@@ -1,7 +1,8 @@
 // Numbers of int64_t, where each result is a number of the type or the machine is stuck.
-ghost use Rattle.std.specs.Prelude.{◌≡◌, ◌+◌, IfOk, ◌≤ℤ◌, ◌↔◌, ℕ, pos, neg_ℤ, IsTrue, true};
+ghost use Rattle.std.specs.Prelude.{◌≡◌, ◌+◌, ◌<◌, IfOk, ◌≤ℤ◌, ◌↔◌, ℕ, pos, neg_ℤ, IsTrue, true};
 ghost use Rattle.c_machine.specs.Values.{stuck_at, within, operate, compares, is_in_type, take_step, gives, least_of, greatest_of};
 ghost use Rattle.c_meaning.specs.Answers.{answered, IsLater};
+ghost use Rattle.c_meaning.specs.Reads.{place_in};
 
 use crate::halts::Halt;
 use c_syntax::{BinOp, CType, Why};
@@ -140,6 +141,19 @@ pub(crate) fn is_in_type(of: CType, value: i64) -> bool
     let above = least_of(of) <= value;
     let below = value <= greatest_of(of);
     above & below
+}
+
+/// The place that an index stands for in an array of so many items.
+#[inline(always)]
+pub(crate) fn place_in(line: u32, count: u32, index: i64) -> Result<usize, Halt>
+    ensures place { (steps : ℕ) → answered result steps ≡ place_in line count index steps }
+    ensures inside { IfOk result (λ i. i < count) }
+{
+    if 0 <= index && index < i64::from(count) {
+        Ok(index as usize)
+    } else {
+        Err(Halt::at(line, Why::Index))
+    }
 }
 
 /// Takes one more step, unless that is one too many.

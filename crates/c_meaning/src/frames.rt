@@ -1,18 +1,18 @@
 // What the body of a procedure sees, and its expressions.
-ghost use Rattle.std.specs.Prelude.{◌≡◌, ◌≤◌, [], length, map};
-ghost use Rattle.c_machine.specs.Cells.{no_cells};
+ghost use Rattle.std.specs.Prelude.{◌≡◌, ◌≤◌, ◌<◌, ℤ, List, [], length, map, IfOk};
+ghost use Rattle.c_machine.specs.Cells.{no_cells, items_at};
 ghost use Rattle.c_syntax.specs.Plain.{expr_tree, cond_tree, pure_tree, program_tree};
 ghost use Rattle.c_syntax.specs.Tree.{exprs_of_list};
 ghost use Rattle.c_machine.specs.Machine.{arguments};
-ghost use Rattle.c_machine.specs.Values.{eval, eval_cond, functions_of, reads, and_then, within};
+ghost use Rattle.c_machine.specs.Values.{eval, eval_cond, functions_of, reads, leaf_reads, and_then, within, index_in};
 ghost use Rattle.c_meaning.specs.Answers.{answered, judged, put_answer, IsLater};
 ghost use Rattle.c_meaning.specs.Reads.{view_reads, view_functions, IsNarrowExpr, AreNarrowExprs, IsNarrowCond, AreNarrow};
 ghost use Rattle.c_meaning.specs.States.{filled};
 ghost use Rattle.c_meaning.specs.Sound.{IsReady, zero_at};
 
-use crate::arithmetic::is_in_type;
+use crate::arithmetic::{is_in_type, place_in};
 use crate::halts::{Halt, Verdict};
-use crate::slots::{Layout, slots_at};
+use crate::slots::{Layout, own_array, slots_at};
 use crate::values::{View, eval_any, eval_cond, read};
 use c_syntax::{CType, Cond, Expr, Leaf, Program, Why};
 use mc_base::Text;
@@ -49,7 +49,7 @@ fn view_of<'a>(frame: &Frame<'a>, numbers: &'a [i64], line: u32) -> View<'a>
 #[inline(always)]
 fn leaf_of(frame: &Frame, numbers: &[i64], leaf: Leaf) -> i64
     requires { IsReady (program_tree frame.now.program.now) frame.now.layouts.now frame.now.logged.now }
-    ensures { result ≡ reads frame.now.values.now (filled (zero_at (program_tree frame.now.program.now) frame.now.of) numbers.now) leaf }
+    ensures { result ≡ leaf_reads frame.now.values.now (filled (zero_at (program_tree frame.now.program.now) frame.now.of) numbers.now) leaf }
 {
     let view = view_of(frame, numbers, 0);
     read(&view, leaf)
@@ -95,6 +95,34 @@ fn value_of_any(
 {
     let view = view_of(frame, numbers, line);
     eval_any(&view, e, steps)
+}
+
+// How many items the own array at a position has; none where the field is no array.
+fn items_count(frame: &Frame, field: u32) -> u32
+    requires { IsReady (program_tree frame.now.program.now) frame.now.layouts.now frame.now.logged.now }
+    ensures { (numbers : List ℤ) → length (items_at (filled (zero_at (program_tree frame.now.program.now) frame.now.of) numbers) field) ≡ result }
+{
+    own_array(slots_at(frame.layouts, frame.of), field).1
+}
+
+/// The place in an own array that an index of the body stands for.
+#[tactic(auto, using(crate::proofs::Items::index_gives, crate::proofs::Items::index_sticks, crate::proofs::Evaluations::and_then_sticks))]
+pub(crate) fn place_of(
+    frame: &Frame,
+    numbers: &[i64],
+    line: u32,
+    field: u32,
+    index: &Expr,
+    steps: &mut u64,
+) -> Result<usize, Halt>
+    requires ready { IsReady (program_tree frame.now.program.now) frame.now.layouts.now frame.now.logged.now }
+    requires narrow { IsNarrowExpr (expr_tree index.now) }
+    ensures value { answered result steps.new ≡ and_then (eval (functions_of [] (program_tree frame.now.program.now).pures) (reads frame.now.values.now (filled (zero_at (program_tree frame.now.program.now) frame.now.of) numbers.now)) line (expr_tree index.now) steps.old) (index_in line (items_at (filled (zero_at (program_tree frame.now.program.now) frame.now.of) numbers.now) field)) }
+    ensures inside { IfOk result (λ i. i < length (items_at (filled (zero_at (program_tree frame.now.program.now) frame.now.of) numbers.now) field)) }
+    ensures later { IsLater steps.old steps.new }
+{
+    let value = value_of(frame, numbers, line, index, steps)?;
+    place_in(line, items_count(frame, field), value)
 }
 
 /// Whether a condition of the body holds.

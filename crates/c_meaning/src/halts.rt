@@ -21,7 +21,7 @@ impl Model for Halt {
 
     ghost view = { λ h. stuck_of h.code };
 
-    ghost invariant = { λ h. h.code < 2 ^ 34 };
+    ghost invariant = { λ h. h.code < 2 ^ 35 };
 }
 
 impl Halt {
@@ -32,7 +32,7 @@ impl Halt {
         ensures { result ≡ stuck_at line why }
     {
         Halt {
-            code: u64::from(line) * 4 + code_of(why),
+            code: u64::from(line) * 8 + code_of(why),
         }
     }
 
@@ -41,8 +41,8 @@ impl Halt {
         ensures { result ≡ self.now }
     {
         Stuck {
-            line: (self.code / 4) as u32,
-            why: why_of(self.code % 4),
+            line: (self.code / 8) as u32,
+            why: why_of(self.code % 8),
         }
     }
 }
@@ -70,13 +70,14 @@ pub(crate) fn verdict_of(holds: bool) -> Verdict
 #[inline(always)]
 fn code_of(why: Why) -> u64
     ensures same { why_of result ≡ why }
-    ensures small { result < 4 }
+    ensures small { result < 8 }
 {
     match why {
         Why::Overflow => 0,
         Why::ZeroDivisor => 1,
         Why::Range => 2,
         Why::Steps => 3,
+        Why::Index => 4,
     }
 }
 
@@ -87,6 +88,7 @@ fn why_of(code: u64) -> Why
         0 => Why::Overflow,
         1 => Why::ZeroDivisor,
         2 => Why::Range,
-        _ => Why::Steps,
+        3 => Why::Steps,
+        _ => Why::Index,
     }
 }

@@ -25,7 +25,7 @@ fn kind_count(counts: &[u32], kind: FieldKind) -> u32
     ensures { result ≡ kind_count counts.now kind }
 {
     match kind {
-        FieldKind::Number(_) => 0,
+        FieldKind::Number(_) | FieldKind::Array(_, _) => 0,
         FieldKind::Struct(k) => count_at(counts, k),
     }
 }
@@ -110,6 +110,7 @@ fn step_into(numbering: &Numbering, of: u32, number: u32) -> Option<(Place, u32)
     match slot_in(slots_at(numbering.layouts, of), position) {
         Some(Slot::Instance { at, of, .. }) => Some((Place { of, at }, left)),
         Some(Slot::Number { .. }) => unreachable!(),
+        Some(Slot::Array { .. }) => unreachable!(),
         None => unreachable!(),
     }
 }
@@ -148,6 +149,7 @@ fn count_before(counts: &[u32], fields: &[Field], position: usize) -> Option<u32
     let kind = fields[position].kind;
     match kind {
         FieldKind::Number(_) => None,
+        FieldKind::Array(_, _) => None,
         FieldKind::Struct(_) => fields_count(counts, &fields[..position]),
     }
 }

@@ -12,6 +12,7 @@ fn kind_size(earlier: &[Layout], kind: FieldKind) -> usize
 {
     match kind {
         FieldKind::Number(_) => 1,
+        FieldKind::Array(_, count) => count as usize,
         FieldKind::Struct(k) => match earlier.get(k as usize) {
             Some(layout) => layout.size(),
             None => 0,
@@ -24,6 +25,7 @@ fn slot_of(earlier: &[Layout], at: usize, kind: FieldKind) -> Slot
 {
     match kind {
         FieldKind::Number(of) => Slot::Number { at, of },
+        FieldKind::Array(of, count) => Slot::Array { at, count, of },
         FieldKind::Struct(of) => Slot::Instance {
             at,
             size: kind_size(earlier, kind),

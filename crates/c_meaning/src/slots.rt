@@ -1,14 +1,18 @@
 // Where the numbers of an instance stand.
-ghost use Rattle.std.specs.Prelude.{◌≡◌, drop, slice_get};
-ghost use Rattle.c_meaning.specs.Slots.{layout_at, number_in, number_under};
+ghost use Rattle.std.specs.Prelude.{◌≡◌, ℤ, List, drop, pos, replicate, slice_get};
+ghost use Rattle.c_machine.specs.Values.{int_at};
+ghost use Rattle.c_meaning.specs.Slots.{layout_at, number_in, number_under, items_in};
+ghost use Rattle.c_meaning.specs.States.{filled_items};
 
 use c_syntax::CType;
 use std::marker::Model;
 
-/// The place of a field in the numbers of its instance: a number of a type, or so many numbers of an instance of a struct.
+/// The place of a field in the numbers of its instance: a number of a type, so many items of one, or so many numbers of an
+/// instance of a struct.
 #[derive(Clone, Copy, Drop)]
 pub(crate) enum Slot {
     Number { at: usize, of: CType },
+    Array { at: usize, count: u32, of: CType },
     Instance { at: usize, size: usize, of: u32 },
 }
 
@@ -111,4 +115,24 @@ pub(crate) fn number_under(
         }
         _ => 0,
     }
+}
+
+/// Where the array at a position begins, and how many items it has; none where the field is no array.
+#[inline(always)]
+pub(crate) fn own_array(slots: &[Slot], field: u32) -> (usize, u32)
+    ensures { (numbers : List ℤ) → items_in numbers (slice_get slots.now field)
+        ≡ filled_items (replicate result.1 (pos 0)) (drop result.0 numbers) }
+{
+    match slots.get(field as usize) {
+        Some(Slot::Array { at, count, .. }) => (*at, *count),
+        _ => (0, 0),
+    }
+}
+
+/// The number so many places behind another.
+#[inline(always)]
+pub(crate) fn number_behind(numbers: &[i64], at: usize, place: usize) -> i64
+    ensures { result ≡ int_at (drop at numbers.now) place }
+{
+    numbers_from(numbers, at).get(place).copied().unwrap_or(0)
 }

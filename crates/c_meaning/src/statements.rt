@@ -2,15 +2,16 @@
 ghost use Rattle.std.specs.Prelude.{◌≡◌, ◌≤◌, ◌<◌, ◌+◌, List, length, map, slice_get, slice_index_or, Some, false, if◌then◌else◌};
 ghost use Rattle.c_syntax.specs.declared.fault.Cost.{Cost};
 ghost use Rattle.c_syntax.specs.Plain.{expr_tree, cond_tree, stmt_tree, program_tree};
-ghost use Rattle.c_syntax.specs.Tree.{assign, branch, call, exprs_of_list, stmts_of_list, FieldTree, struct_fields, type_at, ProcedureTree};
-ghost use Rattle.c_machine.specs.Machine.{run_stmt, run_stmts, store, on_target, routine_at};
+ghost use Rattle.c_syntax.specs.Tree.{assign, assign_at, branch, call, exprs_of_list, stmts_of_list, FieldTree, struct_fields, type_at, ProcedureTree};
+ghost use Rattle.c_machine.specs.Machine.{run_stmt, run_stmts, store, store_at, on_target, routine_at};
+ghost use Rattle.c_machine.specs.Cells.{items_at};
 ghost use Rattle.c_meaning.specs.Slots.{layout_at};
 ghost use Rattle.c_meaning.specs.States.{filled};
-ghost use Rattle.c_meaning.specs.Sound.{IsReady, IsSoundStmt, AreSoundStmts, IsNumberField, IsInstanceField, IsCallOf, IsProcedureOf, scope_at, zero_at};
+ghost use Rattle.c_meaning.specs.Sound.{IsReady, IsSoundStmt, AreSoundStmts, IsNumberField, IsArrayField, IsInstanceField, IsCallOf, IsProcedureOf, scope_at, zero_at};
 ghost use Rattle.c_meaning.specs.Seen.{seen, ended, IsCounted, IsStepped};
 
 use crate::arithmetic::{is_in_type, take_step};
-use crate::frames::{Frame, holds, put_arguments, value_of};
+use crate::frames::{Frame, holds, place_of, put_arguments, value_of};
 use crate::halts::{Halt, Verdict};
 use crate::slots::{Slot, slots_at};
 use crate::values::{FEW, first_of, first_of_few};
@@ -36,6 +37,22 @@ fn number_slot(frame: &Frame, field: u32) -> (usize, CType)
     match slot_at(frame, field) {
         Some(Slot::Number { at, of }) => (at, of),
         Some(Slot::Instance { .. }) => unreachable!(),
+        Some(Slot::Array { .. }) => unreachable!(),
+        None => unreachable!(),
+    }
+}
+
+// The place of an array field, how many items it has, and their type.
+#[tactic(auto, using(crate::proofs::Places::array_there))]
+fn array_slot(frame: &Frame, field: u32) -> (usize, u32, CType)
+    requires ready { IsReady (program_tree frame.now.program.now) frame.now.layouts.now frame.now.logged.now }
+    requires array { IsArrayField (program_tree frame.now.program.now) frame.now.of field }
+    ensures { slice_get (layout_at frame.now.layouts.now frame.now.of).slots field ≡ Some (Slot.Array result.0 result.1 result.2) }
+{
+    match slot_at(frame, field) {
+        Some(Slot::Array { at, count, of }) => (at, count, of),
+        Some(Slot::Number { .. }) => unreachable!(),
+        Some(Slot::Instance { .. }) => unreachable!(),
         None => unreachable!(),
     }
 }
@@ -50,6 +67,7 @@ fn instance_slot(frame: &Frame, field: u32) -> (usize, usize, u32)
     match slot_at(frame, field) {
         Some(Slot::Instance { at, size, of }) => (at, size, of),
         Some(Slot::Number { .. }) => unreachable!(),
+        Some(Slot::Array { .. }) => unreachable!(),
         None => unreachable!(),
     }
 }
@@ -96,6 +114,58 @@ fn set_field(
     }
 }
 
+// Stores a number in an item of an array, if it is in the type of the items.
+fn store_at(
+    frame: &Frame,
+    line: u32,
+    field: u32,
+    place: usize,
+    value: i64,
+    numbers: &mut [i64],
+) -> Result<(), Halt>
+    requires ready { IsReady (program_tree frame.now.program.now) frame.now.layouts.now frame.now.logged.now }
+    requires room { length numbers.old ≡ (layout_at frame.now.layouts.now frame.now.of).size }
+    requires array { IsArrayField (program_tree frame.now.program.now) frame.now.of field }
+    requires inside { place < length (items_at (filled (zero_at (program_tree frame.now.program.now) frame.now.of) numbers.old) field) }
+    ensures { (cost : Cost) → ended (zero_at (program_tree frame.now.program.now) frame.now.of) result numbers.new cost
+        ≡ seen cost.calls (store_at line (type_at (scope_at (program_tree frame.now.program.now) frame.now.level frame.now.of frame.now.values.now).types field) field place value (filled (zero_at (program_tree frame.now.program.now) frame.now.of) numbers.old) cost.steps) }
+{
+    let (at, _, of) = array_slot(frame, field);
+    if is_in_type(of, value) {
+        numbers[at + place] = value;
+        Ok(())
+    } else {
+        Err(Halt::at(line, Why::Range))
+    }
+}
+
+// The index is looked at before the value.
+#[inline(never)]
+fn set_item(
+    frame: &Frame,
+    line: u32,
+    field: u32,
+    index: &Expr,
+    e: &Expr,
+    numbers: &mut [i64],
+    cost: &mut Cost,
+) -> Result<(), Halt>
+    requires ready { IsReady (program_tree frame.now.program.now) frame.now.layouts.now frame.now.logged.now }
+    requires sound { IsSoundStmt (program_tree frame.now.program.now) frame.now.level frame.now.of (assign_at line field (expr_tree index.now) (expr_tree e.now)) }
+    requires room { length numbers.old ≡ (layout_at frame.now.layouts.now frame.now.of).size }
+    requires counted { IsCounted cost.old }
+    ensures ran { ended (zero_at (program_tree frame.now.program.now) frame.now.of) result numbers.new cost.new
+        ≡ seen cost.old.calls (run_stmt (scope_at (program_tree frame.now.program.now) frame.now.level frame.now.of frame.now.values.now) (assign_at line field (expr_tree index.now) (expr_tree e.now)) (filled (zero_at (program_tree frame.now.program.now) frame.now.of) numbers.old) cost.old.steps) }
+    ensures counted { IsCounted cost.new }
+{
+    take_step(line, &mut cost.steps)?;
+    let place = place_of(frame, numbers, line, field, index, &mut cost.steps)?;
+    match value_of(frame, numbers, line, e, &mut cost.steps) {
+        Ok(value) => store_at(frame, line, field, place, value, numbers),
+        Err(at) => Err(at),
+    }
+}
+
 /// Runs statements, one after another.
 #[cycle(statement)]
 pub(crate) fn run_all(
@@ -131,6 +201,12 @@ fn run(frame: &Frame, stmt: &Stmt, numbers: &mut [i64], cost: &mut Cost) -> Resu
 {
     match stmt {
         Stmt::Set { line, field, value } => set_field(frame, *line, *field, value, numbers, cost),
+        Stmt::SetAt {
+            line,
+            field,
+            index,
+            value,
+        } => set_item(frame, *line, *field, index, value, numbers, cost),
         Stmt::If {
             line,
             test,

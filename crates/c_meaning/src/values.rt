@@ -1,15 +1,15 @@
 // What expressions and conditions give.
-ghost use Rattle.std.specs.Prelude.{◌≡◌, ◌≤◌, List, [], length, map, slice_get};
+ghost use Rattle.std.specs.Prelude.{◌≡◌, ◌≤◌, ℕ, List, [], length, map, slice_get};
 ghost use Rattle.c_syntax.specs.Tree.{pure, exprs_of_list};
 ghost use Rattle.c_syntax.specs.Plain.{expr_tree, cond_tree, pure_tree};
-ghost use Rattle.c_machine.specs.Values.{eval, eval_all, eval_cond, function_at, function_of, functions_of, reads};
+ghost use Rattle.c_machine.specs.Values.{eval, eval_all, eval_cond, function_at, function_of, functions_of, reads, and_then, gives, index_in, int_at};
 ghost use Rattle.c_machine.specs.Cells.{no_cells};
 ghost use Rattle.c_meaning.specs.Answers.{answered, judged, put_answer, IsLater};
-ghost use Rattle.c_meaning.specs.Reads.{view_reads, view_functions, IsNarrowExpr, AreNarrowExprs, IsNarrowCond, AreNarrow};
+ghost use Rattle.c_meaning.specs.Reads.{view_leaf, view_array, view_reads, view_functions, IsNarrowExpr, AreNarrowExprs, IsNarrowCond, AreNarrow};
 
-use crate::arithmetic::{compares, negate, operate, take_step};
+use crate::arithmetic::{compares, negate, operate, place_in, take_step};
 use crate::halts::{Halt, Verdict, verdict_of};
-use crate::slots::{Layout, Slot, number_under, own_number};
+use crate::slots::{Layout, Slot, number_behind, number_under, own_array, own_number};
 use c_syntax::{Cond, Expr, Leaf, Pure};
 
 /// What an expression sees: the pure functions before it, its arguments, the numbers and places of its instance, and its line.
@@ -66,13 +66,24 @@ fn plain_view<'a>(pures: &'a [Pure], values: &'a [i64], line: u32) -> View<'a>
 /// What a leaf reads.
 #[inline(always)]
 pub(crate) fn read(view: &View, leaf: Leaf) -> i64
-    ensures { result ≡ view_reads view.now leaf }
+    ensures { result ≡ view_leaf view.now leaf }
 {
     match leaf {
         Leaf::Param(k) => view.values.get(k as usize).copied().unwrap_or(0),
         Leaf::Own(f) => own_number(view.slots, view.numbers, f),
         Leaf::Child(f, g) => number_under(view.layouts, view.slots, view.numbers, f, g),
     }
+}
+
+// The item at an index of an own array.
+#[tactic(auto, using(crate::proofs::Items::item_gives, crate::proofs::Items::item_sticks))]
+fn item_at(view: &View, field: u32, index: i64) -> Result<i64, Halt>
+    ensures { (steps : ℕ) → answered result steps
+        ≡ and_then (index_in view.now.line (view_array view.now field) index steps) (λ i count. gives (int_at (view_array view.now field) i) count) }
+{
+    let (at, count) = own_array(view.slots, field);
+    let place = place_in(view.line, count, index)?;
+    Ok(number_behind(view.numbers, at, place))
 }
 
 /// The value of an expression. Literals and leaves, which most operands are, take no call.
@@ -126,6 +137,13 @@ pub(crate) fn eval_any(view: &View, e: &Expr, steps: &mut u64) -> Result<i64, Ha
             }
         }
         Expr::Pure(k, values) => call_pure(view, *k, values, steps),
+        Expr::At(field, index) => {
+            let index = match eval(view, index, steps) {
+                Ok(index) => index,
+                Err(at) => return Err(at),
+            };
+            item_at(view, *field, index)
+        }
     }
 }
 

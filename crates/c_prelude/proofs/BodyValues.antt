@@ -12,10 +12,9 @@ use Rattle.mc_fixed.specs.declared.Round.TheVariants.{Ceiling, Convergent, Floor
 use Rattle.mc_fixed.specs.declared.Round.TheVariants as round
 use Rattle.mc_fixed.specs.Rounding.{floor_div, rounded}
 use Rattle.c_syntax.specs.declared.BinOp.TheVariants.{Add, Sub, Div, Rem}
-use Rattle.c_syntax.specs.declared.Leaf.{Leaf}
 use Rattle.c_syntax.specs.Tree.{ExprTree, literal, binary, pick, CondTree, compare, both, either}
 use Rattle.c_machine.specs.Cells.{no_cells}
-use Rattle.c_machine.specs.Values.{gives, Function, reads}
+use Rattle.c_machine.specs.Values.{gives, Function, Reads, reads}
 use Rattle.c_prelude.specs.Bodies.{argument, quotient, rest, half, minus_half, one_above, one_below, floor_body, ceiling_body, zero_body, nearer, nearest_body, away_body, is_odd, even_body, clamp_body, offset_rest, wrap_body}
 use Rattle.c_prelude.proofs.Division as division
 use Rattle.c_prelude.proofs.Division.{by_rest, by_rest_is, quotient-le}
@@ -36,7 +35,7 @@ halved_is h = omega arith
 -- ---- Rounding
 
 module _ (functions : List Function) (line : ℕ) (v : ℤ) (d h : ℕ) (even : d ≡ h + h) (some : 1 ≤ h) (small_v : unsigned_abs v ≤ 2 ^ 62) (small_d : d ≤ 2 ^ 62) where
-  abbrev leaf : Leaf → ℤ
+  abbrev leaf : Reads
   leaf = reads (v ∷ pos d ∷ []) no_cells
 
   abbrev q : ℤ
@@ -127,7 +126,7 @@ module _ (functions : List Function) (line : ℕ) (v : ℤ) (d h : ℕ) (even : 
 -- ---- Ranges
 
 module _ (functions : List Function) (line : ℕ) (v lo third : ℤ) where
-  abbrev three : Leaf → ℤ
+  abbrev three : Reads
   three = reads (v ∷ lo ∷ third ∷ []) no_cells
 
   pub clamp_gives : Gives functions three line clamp_body (cond (int_lt v lo) lo (cond (int_lt third v) third v))
@@ -172,7 +171,7 @@ quotient-abs (pos a) n h = part_of a n h
 quotient-abs (negsuc a) n h = omega (arith, ints, division.abs-neg (suc a / n), part_of (suc a) n h)
 
 module _ (functions : List Function) (line : ℕ) (v lo : ℤ) (n : ℕ) (some : 1 ≤ n) (small_n : n ≤ 2 ^ 32) (low : neg_ℤ (pos (2 ^ 31)) ≤ℤ lo) (high : lo ≤ℤ pos 0) (small_v : unsigned_abs v ≤ 2 ^ 62) where
-  abbrev wrapping : Leaf → ℤ
+  abbrev wrapping : Reads
   wrapping = reads (v ∷ lo ∷ pos n ∷ []) no_cells
 
   abbrev m : ℤ

@@ -10,7 +10,7 @@ use Rattle.c_syntax.specs.declared.CType.TheVariants.{I64}
 use Rattle.c_syntax.specs.declared.Leaf.{Leaf}
 use Rattle.c_syntax.specs.declared.Why.TheVariants.{Overflow, ZeroDivisor}
 use Rattle.c_syntax.specs.Tree.{ExprTree, literal, neg, read, binary, pick, CondTree, compare, both, either}
-use Rattle.c_machine.specs.Values.{gives, sticks, stuck_at, and_then, Function, eval, eval_cond, operate, within, is_in_type, compares}
+use Rattle.c_machine.specs.Values.{gives, sticks, stuck_at, and_then, Function, Reads, eval, eval_cond, operate, within, is_in_type, compares}
 
 both_true : (a b : Bool) → a ≡ true → b ≡ true → (a && b) ≡ true
 both_true true b e f = f
@@ -42,7 +42,7 @@ rem-gives x d line steps h fits =
     ap (λ b. if b then sticks (stuck_at line ZeroDivisor) else and_then (within I64 Overflow line (int_div x (pos d)) steps) (λ quotient count. gives (int_rem x (pos d)) count)) (not_zero d h)
     ∙ ap (λ a. and_then a (λ quotient count. gives (int_rem x (pos d)) count)) (within_64 (int_div x (pos d)) line steps fits)
 
-module _ (functions : List Function) (leaf : Leaf → ℤ) (line : ℕ) where
+module _ (functions : List Function) (leaf : Reads) (line : ℕ) where
   -- the expression gives this number, in no step
   abbrev pub Gives : ExprTree → ℤ → Type 0
   Gives e x = (steps : ℕ) → eval functions leaf line e steps ≡ gives x steps
@@ -54,7 +54,7 @@ module _ (functions : List Function) (leaf : Leaf → ℤ) (line : ℕ) where
   pub gives-literal : (x : ℤ) → Gives (literal x) x
   gives-literal x steps = refl
 
-  pub gives-read : (l : Leaf) → Gives (read l) (leaf l)
+  pub gives-read : (l : Leaf) → Gives (read l) (leaf.leaf l)
   gives-read l steps = refl
 
   pub gives-binary : (op : BinOp) (a b : ExprTree) (x y z : ℤ) → Gives a x → Gives b y → ((steps : ℕ) → operate op line x y steps ≡ gives z steps) → Gives (binary op a b) z

@@ -1,14 +1,15 @@
 -- The static rules and limits as facts on a program, for those who make one and not a text.
 use Rattle.std.specs.Prelude.{◌≡◌, ◌≢◌, ℕ, ◌+◌, ◌^◌, ◌<◌, ◌≤◌, pos, true, false, List, [], ◌∷◌, ◌++◌, length, map, ⊤, Some, slice_get, codes, bytes_eq}
 use Rattle.std.specs.List.{AllByRecursion}
+use Rattle.c_syntax.specs.declared.code.CType.{CType}
 use Rattle.c_syntax.specs.declared.code.CType.TheVariants.{I64}
 use Rattle.c_syntax.specs.declared.code.Leaf.{Leaf}
 use Rattle.c_syntax.specs.declared.code.Leaf.TheVariants.{Param, Own, Child}
 use Rattle.c_syntax.specs.declared.code.Target.{Target}
 use Rattle.c_syntax.specs.declared.code.Target.TheVariants.{Own as OwnTarget, Child as ChildTarget}
 use Rattle.c_syntax.specs.declared.program.FieldKind.{FieldKind}
-use Rattle.c_syntax.specs.declared.program.FieldKind.TheVariants.{Number, Struct}
-use Rattle.c_syntax.specs.Tree.{ExprTree, literal, neg, read, binary, pick, pure, ExprTrees, no_exprs, more_exprs, CondTree, compare, both, either, negated, StmtTree, assign, branch, call, StmtTrees, no_stmts, more_stmts, FieldTree, StructTree, struct_fields, PureTree, ParamTree, ProcedureTree, ProgramTree}
+use Rattle.c_syntax.specs.declared.program.FieldKind.TheVariants.{Number, Array, Struct}
+use Rattle.c_syntax.specs.Tree.{ExprTree, literal, neg, read, binary, pick, pure, item, ExprTrees, no_exprs, more_exprs, CondTree, compare, both, either, negated, StmtTree, assign, assign_at, branch, call, StmtTrees, no_stmts, more_stmts, FieldTree, StructTree, struct_fields, PureTree, ParamTree, ProcedureTree, ProgramTree}
 use Rattle.c_syntax.specs.Names.{is_name}
 use Rattle.c_syntax.specs.Outputs.{has_name, may_be_named}
 use Rattle.c_syntax.specs.RootFields.{is_number, number_names}
@@ -28,6 +29,10 @@ AreApart (name ∷ names) others = (has_name others name ≡ false) × AreApart 
 -- the field at a position is a number
 abbrev pub IsNumberAt : List FieldTree → ℕ → Type 0
 IsNumberAt fields k = (f : FieldTree) × (slice_get fields k ≡ Some f) × (is_number f ≡ true)
+
+-- the field at a position is an array
+abbrev pub IsArrayAt : List FieldTree → ℕ → Type 0
+IsArrayAt fields k = (f : FieldTree) × (type : CType) × (count : ℕ) × (slice_get fields k ≡ Some f) × (f.kind ≡ Array type count)
 
 -- the field at a position is an instance of the struct at another
 abbrev pub IsStructAt : List FieldTree → ℕ → ℕ → Type 0
@@ -63,6 +68,7 @@ abbrev mutual
   IsLawfulExpr reach (pick test a b) = IsLawfulCond reach test × IsLawfulExpr reach a × IsLawfulExpr reach b
   IsLawfulExpr reach (pure k es) =
       (p : PureTree) × (slice_get reach.pures k ≡ Some p) × (length p.params ≡ exprs_length es) × AreLawfulExprs reach es
+  IsLawfulExpr reach (item f index) = IsArrayAt reach.fields f × IsLawfulExpr reach index
 
   -- all of these expressions are lawful
   pub AreLawfulExprs : Reach → ExprTrees → Type 0
@@ -82,9 +88,10 @@ IsLawfulTarget reach OwnTarget of = reach.of ≡ of
 IsLawfulTarget reach (ChildTarget f) of = IsStructAt reach.fields f of
 
 abbrev mutual
-  -- a statement: a store goes to a number field, a call to an earlier procedure of its target, with an argument for each parameter
+  -- a statement: a store goes to a number field or an item of an array, a call to an earlier procedure of its target, with an argument for each parameter
   pub IsLawfulStmt : Reach → StmtTree → Type 0
   IsLawfulStmt reach (assign line f e) = IsNumberAt reach.fields f × IsLawfulExpr reach e
+  IsLawfulStmt reach (assign_at line f index e) = IsArrayAt reach.fields f × IsLawfulExpr reach index × IsLawfulExpr reach e
   IsLawfulStmt reach (branch line test on_true on_false) =
       IsLawfulCond reach test × AreLawfulStmts reach on_true × AreLawfulStmts reach on_false
   IsLawfulStmt reach (call line k target es) =
@@ -119,9 +126,10 @@ abbrev pub ArePures : List PureTree → List PureTree → Type 0
 ArePures earlier [] = ⊤
 ArePures earlier (p ∷ ps) = IsLawfulPure earlier p × ArePures (earlier ++ p ∷ []) ps
 
--- a field's struct is one of the first `count`
+-- a field's struct is one of the first `count`, and an array has 1 to 65,535 items
 abbrev pub IsLawfulKind : ℕ → FieldKind → Type 0
 IsLawfulKind count (Number type) = ⊤
+IsLawfulKind count (Array type many) = (0 < many) × (many < 2 ^ 16)
 IsLawfulKind count (Struct k) = k < count
 
 -- a struct behind `count` others; a field of the root's struct is an output or looks like none
@@ -188,6 +196,7 @@ abbrev mutual
   -- a statement with all lines 0
   pub stmt_without_lines : StmtTree → StmtTree
   stmt_without_lines (assign line f e) = assign 0 f e
+  stmt_without_lines (assign_at line f index e) = assign_at 0 f index e
   stmt_without_lines (branch line test on_true on_false) = branch 0 test (stmts_without_lines on_true) (stmts_without_lines on_false)
   stmt_without_lines (call line k target es) = call 0 k target es
 

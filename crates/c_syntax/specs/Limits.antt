@@ -1,7 +1,7 @@
 -- The limits on depths and numbers of a program.
 use Rattle.std.specs.Prelude.{ℕ, ◌+◌, ◌≤◌, max, length}
 use Rattle.std.specs.List.{AllByRecursion}
-use Rattle.c_syntax.specs.Tree.{ExprTree, ExprTrees, CondTree, StmtTree, StmtTrees, PureTree, ProcedureTree, ProgramTree, literal, neg, read, binary, pick, pure, no_exprs, more_exprs, compare, both, either, negated, assign, branch, call, no_stmts, more_stmts}
+use Rattle.c_syntax.specs.Tree.{ExprTree, ExprTrees, CondTree, StmtTree, StmtTrees, PureTree, ProcedureTree, ProgramTree, literal, neg, read, binary, pick, pure, item, no_exprs, more_exprs, compare, both, either, negated, assign, assign_at, branch, call, no_stmts, more_stmts}
 
 -- the limits on depths and numbers
 abbrev pub expr_limit : ℕ
@@ -28,6 +28,7 @@ abbrev mutual
   expr_depth (binary op a b) = max (expr_depth a) (expr_depth b) + 1
   expr_depth (pick test a b) = max (cond_depth test) (max (expr_depth a) (expr_depth b)) + 1
   expr_depth (pure function values) = exprs_depth values + 1
+  expr_depth (item field index) = expr_depth index + 1
 
   pub exprs_depth : ExprTrees → ℕ
   exprs_depth no_exprs = 0
@@ -43,6 +44,7 @@ abbrev mutual
   -- how deep statements nest; an outermost one is 1 deep
   pub stmt_depth : StmtTree → ℕ
   stmt_depth (assign line field value) = 1
+  stmt_depth (assign_at line field index value) = 1
   stmt_depth (branch line test on_true on_false) = max (stmts_depth on_true) (stmts_depth on_false) + 1
   stmt_depth (call line procedure target values) = 1
 
@@ -54,6 +56,7 @@ abbrev mutual
   -- the greatest depth of the expressions and conditions in statements
   pub stmt_exprs_depth : StmtTree → ℕ
   stmt_exprs_depth (assign line field value) = expr_depth value
+  stmt_exprs_depth (assign_at line field index value) = max (expr_depth index) (expr_depth value)
   stmt_exprs_depth (branch line test on_true on_false) = max (cond_depth test) (max (stmts_exprs_depth on_true) (stmts_exprs_depth on_false))
   stmt_exprs_depth (call line procedure target values) = exprs_depth values
 

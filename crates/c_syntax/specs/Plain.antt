@@ -1,13 +1,13 @@
 -- The plain trees of the values of the source.
 use Rattle.std.specs.Prelude.{ℕ, List, map}
 use Rattle.c_syntax.specs.declared.code.CType.{CType}
-use Rattle.c_syntax.specs.declared.code.Expr.{Expr, Literal, Neg', Read, Binary', Pick', Pure', Row_of-Expr, end_of-Expr, more_of-Expr}
+use Rattle.c_syntax.specs.declared.code.Expr.{Expr, Literal, Neg', Read, Binary', Pick', Pure', At', Row_of-Expr, end_of-Expr, more_of-Expr}
 use Rattle.c_syntax.specs.declared.code.Cond.{Cond, Compare, Both', Either', Not'}
-use Rattle.c_syntax.specs.declared.code.Stmt.{Stmt, Set, If', Call, Row_of-Stmt, end_of-Stmt, more_of-Stmt}
+use Rattle.c_syntax.specs.declared.code.Stmt.{Stmt, Set, SetAt, If', Call, Row_of-Stmt, end_of-Stmt, more_of-Stmt}
 use Rattle.c_syntax.specs.declared.program.Pure.{Pure}
 use Rattle.c_syntax.specs.declared.program.Procedure.{Procedure}
 use Rattle.c_syntax.specs.declared.program.Program.{Program}
-use Rattle.c_syntax.specs.Tree.{ExprTree, literal, neg, read, binary, pick, pure, ExprTrees, no_exprs, more_exprs, CondTree, compare, both, either, negated, StmtTree, assign, branch, call, StmtTrees, no_stmts, more_stmts, stmts_of_list, exprs_of_list, PureTree, ParamTree, ProcedureTree, ProgramTree}
+use Rattle.c_syntax.specs.Tree.{ExprTree, literal, neg, read, binary, pick, pure, item, ExprTrees, no_exprs, more_exprs, CondTree, compare, both, either, negated, StmtTree, assign, assign_at, branch, call, StmtTrees, no_stmts, more_stmts, stmts_of_list, exprs_of_list, PureTree, ParamTree, ProcedureTree, ProgramTree}
 
 abbrev mutual
   -- the plain tree of an expression
@@ -18,6 +18,7 @@ abbrev mutual
   expr_tree (Binary' op p left q right) = binary op (expr_tree left) (expr_tree right)
   expr_tree (Pick' p test q on_true r on_false) = pick (cond_tree test) (expr_tree on_true) (expr_tree on_false)
   expr_tree (Pure' function shape values) = pure function (exprs_tree values)
+  expr_tree (At' field p index) = item field (expr_tree index)
 
   -- the plain trees of a row of expressions
   pub exprs_tree : {m : _} → Row_of-Expr m → ExprTrees
@@ -35,6 +36,7 @@ abbrev mutual
   -- the plain tree of a statement
   pub stmt_tree : Stmt → StmtTree
   stmt_tree (Set line field value) = assign line field (expr_tree value)
+  stmt_tree (SetAt line field index value) = assign_at line field (expr_tree index) (expr_tree value)
   stmt_tree (If' line test p on_true q on_false) = branch line (cond_tree test) (stmts_tree on_true) (stmts_tree on_false)
   stmt_tree (Call line procedure target values) = call line procedure target (exprs_of_list (map expr_tree values.items))
 

@@ -2,13 +2,14 @@
 use Rattle.std.specs.Prelude.{ℕ, Bool, true, false, List, map, Option, unwrap_or, filter, codes, bytes_eq}
 use Rattle.std.specs.List.{position_from}
 use Rattle.c_syntax.specs.declared.program.FieldKind.{FieldKind}
-use Rattle.c_syntax.specs.declared.program.FieldKind.TheVariants.{Number, Struct}
+use Rattle.c_syntax.specs.declared.program.FieldKind.TheVariants.{Number, Array, Struct}
 use Rattle.c_syntax.specs.Tree.{struct_fields, FieldTree, ProgramTree}
 use Rattle.c_syntax.specs.Outputs.{output_names}
 
 -- a kind is a number
 abbrev pub is_number_kind : FieldKind → Bool
 is_number_kind (Number type) = true
+is_number_kind (Array type count) = false
 is_number_kind (Struct k) = false
 
 -- the positions of the struct and of the procedure with a name

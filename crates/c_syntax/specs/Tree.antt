@@ -7,7 +7,7 @@ use Rattle.c_syntax.specs.declared.code.CType.TheVariants.{I64}
 use Rattle.c_syntax.specs.declared.code.Leaf.{Leaf}
 use Rattle.c_syntax.specs.declared.code.Target.{Target}
 use Rattle.c_syntax.specs.declared.program.FieldKind.{FieldKind}
-use Rattle.c_syntax.specs.declared.program.FieldKind.TheVariants.{Number, Struct}
+use Rattle.c_syntax.specs.declared.program.FieldKind.TheVariants.{Number, Array, Struct}
 
 -- expressions, lists of them, and conditions
 mutual
@@ -19,6 +19,7 @@ mutual
     binary : (op : BinOp) (left right : ExprTree) → ExprTree
     pick : (test : CondTree) (on_true on_false : ExprTree) → ExprTree
     pure : (function : ℕ) (values : ExprTrees) → ExprTree
+    item : (field : ℕ) (index : ExprTree) → ExprTree
 
   -- a row of expressions
   pub data ExprTrees : Type 0 where
@@ -37,6 +38,7 @@ mutual
   -- a statement
   pub data StmtTree : Type 0 where
     assign : (line field : ℕ) (value : ExprTree) → StmtTree
+    assign_at : (line field : ℕ) (index value : ExprTree) → StmtTree
     branch : (line : ℕ) (test : CondTree) (on_true on_false : StmtTrees) → StmtTree
     call : (line procedure : ℕ) (target : Target) (values : ExprTrees) → StmtTree
 
@@ -63,9 +65,10 @@ no_struct = record { name = []; fields = [] }
 abbrev pub struct_fields : List StructTree → ℕ → List FieldTree
 struct_fields structs k = (slice_index_or structs k no_struct).fields
 
--- the types of the fields; a struct has none of its own, and no lawful program stores in one
+-- the types of the fields, of an array that of its items; a struct has none of its own, and no lawful program stores in one
 abbrev pub kind_type : FieldKind → CType
 kind_type (Number type) = type
+kind_type (Array type count) = type
 kind_type (Struct k) = I64
 
 -- the type of each field

@@ -1,6 +1,6 @@
 -- A tick takes at most 2 ^ 32 steps, and makes at most one call more than steps.
 use Rattle.std.proofs.Common.{◌≡◌, refl, ap, subst, ℕ, zero, suc, ◌+◌, ◌^◌, ◌≤◌, ◌<◌, Bool, true, false, not, List, [], ◌∷◌, ◌++◌, length, arith}
-use Rattle.std.specs.Prelude.{◌+ℤ◌, ◌-ℤ◌, ◌*ℤ◌, ℤ, pos, neg_ℤ, int_div, int_rem, nat_lt, if◌then◌else◌}
+use Rattle.std.specs.Prelude.{◌+ℤ◌, ◌-ℤ◌, ◌*ℤ◌, ℤ, pos, neg_ℤ, int_div, int_rem, int_le, int_lt, unsigned_abs, ◌&&◌, nat_lt, if◌then◌else◌}
 use Rattle.std.specs.Ordering.{int_eq}
 use Rattle.std.proofs.lemmas.Bool.{ltb-true}
 use Rattle.std.proofs.lemmas.List.{length-append, length-map}
@@ -8,15 +8,14 @@ use Rattle.c_syntax.specs.declared.code.BinOp.{BinOp}
 use Rattle.c_syntax.specs.declared.code.BinOp.TheVariants.{Add, Sub, Mul, Div, Rem}
 use Rattle.c_syntax.specs.declared.code.CType.{CType}
 use Rattle.c_syntax.specs.declared.code.CType.TheVariants.{I64}
-use Rattle.c_syntax.specs.declared.code.Leaf.{Leaf}
 use Rattle.c_syntax.specs.declared.code.Target.{Target}
 use Rattle.c_syntax.specs.declared.code.Target.TheVariants.{Own, Child}
 use Rattle.c_syntax.specs.declared.fault.Why.{Why}
-use Rattle.c_syntax.specs.declared.fault.Why.TheVariants.{Overflow, ZeroDivisor, Range, Steps}
-use Rattle.c_syntax.specs.Tree.{ExprTree, literal, neg, read, binary, pick, pure, ExprTrees, no_exprs, more_exprs, CondTree, compare, both, either, negated, PureTree, StmtTree, assign, branch, call, StmtTrees, no_stmts, more_stmts, StructTree, ProcedureTree, ProgramTree, struct_fields, field_types, type_at}
-use Rattle.c_machine.specs.Cells.{Cells, no_cells, fields_at}
-use Rattle.c_machine.specs.Values.{Answer, gives, sticks, and_then, within, is_in_type, stuck_at, step_limit, operate, compares, Function, function_at, function_of, functions_of, reads, eval, eval_all, eval_cond}
-use Rattle.c_machine.specs.Machine.{After, Outcome, done, stuck, behind, then_run, begin_step, on_answer, in_child, on_target, arguments, store, LoggedCall, StoredField, call_under, Scope, run_stmt, run_stmts, Routine, routine_at, routine_of, routines_of, program_routines, call_entry, is_interface}
+use Rattle.c_syntax.specs.declared.fault.Why.TheVariants.{Overflow, ZeroDivisor, Range, Steps, Index}
+use Rattle.c_syntax.specs.Tree.{ExprTree, literal, neg, read, binary, pick, pure, item, ExprTrees, no_exprs, more_exprs, CondTree, compare, both, either, negated, PureTree, StmtTree, assign, assign_at, branch, call, StmtTrees, no_stmts, more_stmts, StructTree, ProcedureTree, ProgramTree, struct_fields, field_types, type_at}
+use Rattle.c_machine.specs.Cells.{Cells, no_cells, fields_at, items_at}
+use Rattle.c_machine.specs.Values.{Answer, gives, sticks, and_then, within, is_in_type, stuck_at, step_limit, operate, compares, Function, function_at, function_of, functions_of, Reads, reads, index_in, int_at, eval, eval_all, eval_cond}
+use Rattle.c_machine.specs.Machine.{After, Outcome, done, stuck, behind, then_run, begin_step, on_answer, in_child, on_target, arguments, store, store_at, LoggedCall, StoredField, call_under, Scope, run_stmt, run_stmts, Routine, routine_at, routine_of, routines_of, program_routines, call_entry, is_interface}
 use Rattle.c_machine.specs.Rows.{step_run}
 
 -- ---- Expressions
@@ -79,7 +78,14 @@ choice-grows : {A : Type 0} (f g : ℕ → Answer A) → ((m : ℕ) → m ≤ st
 choice-grows f g f_grows g_grows true m most = f_grows m most
 choice-grows f g f_grows g_grows false m most = g_grows m most
 
-module _ (functions : List Function) (leaf : Leaf → ℤ) (line : ℕ) (all : AllGrow functions) where
+index_in-grows : (line : ℕ) (array : List ℤ) (i : ℤ) (n : ℕ) → n ≤ step_limit → Grows n (index_in line array i n)
+index_in-grows line array i n most = by_test (int_le (pos 0) i && int_lt i (pos (length array)))
+  where
+    by_test : (b : Bool) → Grows n (if b then gives (unsigned_abs i) n else sticks (stuck_at line Index))
+    by_test true = stays n most
+    by_test false = tt
+
+module _ (functions : List Function) (leaf : Reads) (line : ℕ) (all : AllGrow functions) where
   mutual
     eval-grows : (e : ExprTree) (n : ℕ) → n ≤ step_limit → Grows n (eval functions leaf line e n)
     eval-grows (literal value) n most = stays n most
@@ -92,6 +98,8 @@ module _ (functions : List Function) (leaf : Leaf → ℤ) (line : ℕ) (all : A
         and_then-grows n (eval_cond functions leaf line test n) (λ holds. if holds then eval functions leaf line a else eval functions leaf line b) (eval_cond-grows test n most) (choice-grows (eval functions leaf line a) (eval functions leaf line b) (eval-grows a) (eval-grows b))
     eval-grows (pure k es) n most =
         and_then-grows n (eval_all functions leaf line es n) (function_at functions k) (eval_all-grows es n most) (function_at-grows functions all k)
+    eval-grows (item f index) n most =
+        and_then-grows n (and_then (eval functions leaf line index n) (index_in line (leaf.array f))) (λ i count. gives (int_at (leaf.array f) i) count) (and_then-grows n (eval functions leaf line index n) (index_in line (leaf.array f)) (eval-grows index n most) (index_in-grows line (leaf.array f))) (λ i m. stays m)
 
     eval_all-grows : (es : ExprTrees) (n : ℕ) → n ≤ step_limit → Grows n (eval_all functions leaf line es n)
     eval_all-grows no_exprs n most = stays n most
@@ -122,7 +130,7 @@ functions_of-grow earlier [] all = all
 functions_of-grow earlier (p ∷ ps) all =
     functions_of-grow (earlier ++ function_of earlier p ∷ []) ps (one_more_grows earlier (function_of earlier p) all (function_of-grows earlier p all))
 
-arguments-grows : (functions : List Function) (leaf : Leaf → ℤ) (line : ℕ) (types : List CType) (es : ExprTrees) (n : ℕ) → AllGrow functions → n ≤ step_limit → Grows n (arguments functions leaf line types es n)
+arguments-grows : (functions : List Function) (leaf : Reads) (line : ℕ) (types : List CType) (es : ExprTrees) (n : ℕ) → AllGrow functions → n ≤ step_limit → Grows n (arguments functions leaf line types es n)
 arguments-grows functions leaf line types no_exprs n all most = stays n most
 arguments-grows functions leaf line [] (more_exprs e es) n all most = stays n most
 arguments-grows functions leaf line (t ∷ types) (more_exprs e es) n all most =
@@ -182,6 +190,13 @@ store-takes line t f v cells n most = by_test (is_in_type t v) _ refl refl
     by_test true a steps log = record { calls = omega (arith, steps, ap length log); more = omega (arith, steps); most = omega (arith, steps, most) }
     by_test false a steps log = tt
 
+store_at-takes : (line : ℕ) (t : CType) (f i : ℕ) (v : ℤ) (cells : Cells) (n : ℕ) → n ≤ step_limit → Takes n 1 (store_at line t f i v cells n)
+store_at-takes line t f i v cells n most = by_test (is_in_type t v) _ refl refl
+  where
+    by_test : (b : Bool) (a : After) → a.steps ≡ n → a.log ≡ [] → Takes n 1 (if b then done a else stuck (stuck_at line Range) cells)
+    by_test true a steps log = record { calls = omega (arith, steps, ap length log); more = omega (arith, steps); most = omega (arith, steps, most) }
+    by_test false a steps log = tt
+
 abbrev RunTakes : (Cells → ℕ → Outcome) → Type 0
 RunTakes run = (cells : Cells) (n : ℕ) → n ≤ step_limit → Takes n 1 (run cells n)
 
@@ -214,6 +229,14 @@ module _ (s : Scope) (functions : AllGrow s.functions) (routines : AllTake s.rou
     run_stmt-takes : (x : StmtTree) (cells : Cells) (n : ℕ) → n ≤ step_limit → Takes n 0 (run_stmt s x cells n)
     run_stmt-takes (assign line f e) cells n most =
         begin_step-takes line cells n (λ count. on_answer (eval s.functions (reads s.values cells) line e count) cells (λ v end. store line (type_at s.types f) f v cells end)) (λ le. on_answer-takes (n + 1) (eval s.functions (reads s.values cells) line e (n + 1)) cells (λ v end. store line (type_at s.types f) f v cells end) (eval-grows s.functions (reads s.values cells) line functions e (n + 1) le) (λ v end. store-takes line (type_at s.types f) f v cells end))
+    run_stmt-takes (assign_at line f index e) cells n most =
+        begin_step-takes line cells n (λ count. on_answer (placed count) cells stored) (λ le. on_answer-takes (n + 1) (placed (n + 1)) cells stored (and_then-grows (n + 1) (eval s.functions (reads s.values cells) line index (n + 1)) (index_in line (items_at cells f)) (eval-grows s.functions (reads s.values cells) line functions index (n + 1) le) (index_in-grows line (items_at cells f))) (λ i m most_m. on_answer-takes m (eval s.functions (reads s.values cells) line e m) cells (λ v end. store_at line (type_at s.types f) f i v cells end) (eval-grows s.functions (reads s.values cells) line functions e m most_m) (λ v end. store_at-takes line (type_at s.types f) f i v cells end)))
+      where
+        placed : ℕ → Answer ℕ
+        placed count = and_then (eval s.functions (reads s.values cells) line index count) (index_in line (items_at cells f))
+
+        stored : ℕ → ℕ → Outcome
+        stored i mid = on_answer (eval s.functions (reads s.values cells) line e mid) cells (λ v end. store_at line (type_at s.types f) f i v cells end)
     run_stmt-takes (branch line test on_true on_false) cells n most =
         begin_step-takes line cells n (λ count. on_answer (eval_cond s.functions (reads s.values cells) line test count) cells (λ holds. (if holds then run_stmts s on_true else run_stmts s on_false) cells)) (λ le. on_answer-takes (n + 1) (eval_cond s.functions (reads s.values cells) line test (n + 1)) cells (λ holds. (if holds then run_stmts s on_true else run_stmts s on_false) cells) (eval_cond-grows s.functions (reads s.values cells) line functions test (n + 1) le) (λ holds m. branch-takes (run_stmts s on_true) (run_stmts s on_false) (run_stmts-takes on_true) (run_stmts-takes on_false) holds cells m))
     run_stmt-takes (call line k target es) cells n most =

@@ -18,7 +18,7 @@ use Rattle.mc_diagram.specs.Rows.{row_at, no_row, system_control, is_inport, is_
 use Rattle.mc_diagram.specs.Diagram.{Diagram, type_at, op_at, op_in}
 use Rattle.mc_diagram.specs.Run.{start_of, start_by}
 use Rattle.mc_diagram.proofs.lemmas.ByRow.{by_row-at}
-use Rattle.mc_profile.specs.Systems.{first_wire}
+use Rattle.mc_diagram.specs.Inputs.{first_wire}
 use Rattle.c_emitter.specs.declared.block.Block.TheVariants.{Input, Output, Delay, Fixed, Sink}
 use Rattle.c_emitter.specs.FlatDiagrams.{flat_diagram}
 use Rattle.c_emitter.specs.Flat.{is_source, HasFlatKind, IsFlatRow, IsFlat}

@@ -3,7 +3,7 @@ use Rattle.std.proofs.Common.{◌≡◌, refl, sym, ◌∙◌, ap, ℕ, zero, su
 use Rattle.std.proofs.Math.Path.{fun_ext}
 use Rattle.std.proofs.lemmas.List.{append_assoc, get_or_append_left, length-append}
 use Rattle.std.proofs.Math.Seq.{get_or-append_seam}
-use Rattle.c_syntax.specs.Tree.{StmtTree, assign, branch, call, StmtTrees, no_stmts, more_stmts, stmts_append, StructTree, ProcedureTree}
+use Rattle.c_syntax.specs.Tree.{StmtTree, assign, assign_at, branch, call, StmtTrees, no_stmts, more_stmts, stmts_append, StructTree, ProcedureTree}
 use Rattle.c_machine.specs.Cells.{Cell, Cells, no_cells, more_cells, cell_at, set_cell}
 use Rattle.c_machine.specs.Values.{Function, eval_cond, reads}
 use Rattle.c_machine.specs.Machine.{Outcome, done, stuck, behind, then_run, begin_step, on_answer, arguments, on_target, Scope, run_stmt, run_stmts, LoggedCall, StoredField, Routine, no_routine, routine_at, routine_of, routines_of}
@@ -76,6 +76,7 @@ abbrev mutual
   -- each call is of a procedure at a position below n
   pub CallsBelow : ℕ → StmtTree → Type 0
   CallsBelow n (assign line f e) = Unit {0}
+  CallsBelow n (assign_at line f index e) = Unit {0}
   CallsBelow n (branch line test on_true on_false) = AllCallsBelow n on_true × AllCallsBelow n on_false
   CallsBelow n (call line k target es) = k < n
 
@@ -91,6 +92,7 @@ with_routines s rs = record { functions = s.functions; routines = rs; types = s.
 mutual
   pub run_stmt-agree : (s : Scope) (rs qs : List Routine) (n : ℕ) → ((k : ℕ) → k < n → routine_at rs k ≡ routine_at qs k) → (x : StmtTree) → CallsBelow n x → run_stmt (with_routines s rs) x ≡ run_stmt (with_routines s qs) x
   run_stmt-agree s rs qs n agree (assign line f e) below = refl
+  run_stmt-agree s rs qs n agree (assign_at line f index e) below = refl
   run_stmt-agree s rs qs n agree (branch line test on_true on_false) below =
       λ i cells steps. begin_step line cells steps (λ count. on_answer (eval_cond s.functions (reads s.values cells) line test count) cells (λ holds. (if holds then run_stmts-agree s rs qs n agree on_true below.0 i else run_stmts-agree s rs qs n agree on_false below.1 i) cells))
   run_stmt-agree s rs qs n agree (call line k target es) below =

@@ -8,7 +8,7 @@ use super::*;
 use crate::instances::place_of;
 use c_checked::Checked;
 use c_syntax::{Program, Why};
-use programs::{nested, stuck_at_start};
+use programs::{nested, rings, stuck_at_start};
 use std::test::Fail;
 
 mod programs;
@@ -22,6 +22,13 @@ fn machine_of(alloc: Global, program: Program) -> Result<Machine, NewFault>
 
 fn nested_machine(alloc: Global) -> Result<Machine, NewFault> {
     match nested(alloc) {
+        Ok(program) => machine_of(alloc, program),
+        Err(_) => Err(NewFault::Memory),
+    }
+}
+
+fn ring_machine(alloc: Global) -> Result<Machine, NewFault> {
+    match rings(alloc) {
         Ok(program) => machine_of(alloc, program),
         Err(_) => Err(NewFault::Memory),
     }
@@ -158,5 +165,37 @@ fn calls_that_are_stuck(rt: HostRuntime) -> Result<(), Fail> {
     assert_eq!(rt; call_of(&mut machine, 1, 1), stuck(7, Why::Range));
     assert_eq!(rt; machine.field(3, b"v"), Some(100));
     assert_eq!(rt; machine.field(3, b"w"), Some(2));
+    Ok(())
+}
+
+// w is 0, then 60 + 0, which is no index of a.
+#[test]
+fn items_of_arrays(rt: HostRuntime) -> Result<(), Fail> {
+    let mut machine = ring_machine(rt.alloc())?;
+    let mut outputs = [0];
+    assert_eq!(rt; tick_of(&mut machine, &mut outputs), took(5, 1));
+    assert_eq!(rt; outputs[0], 60);
+    assert_eq!(rt; machine.field(1, b"w"), Some(60));
+    assert_eq!(rt; machine.field(1, b"a"), None);
+    assert_eq!(rt; machine.child(1, b"a"), None);
+    assert_eq!(rt; tick_of(&mut machine, &mut outputs), stuck(5, Why::Index));
+    assert_eq!(rt; machine.field(1, b"w"), Some(60));
+    Ok(())
+}
+
+// With w 1 the index is one of a's, and the value is stuck; with w -59 the index is stuck first.
+#[test]
+fn indices_before_values(rt: HostRuntime) -> Result<(), Fail> {
+    let mut machine = ring_machine(rt.alloc())?;
+    assert_eq!(rt; call_of(&mut machine, 1, 1), stuck(12, Why::ZeroDivisor));
+    assert_eq!(rt; machine.field(1, b"w"), Some(1));
+    assert_eq!(rt; call_of(&mut machine, 0, 1), took(3, 1));
+    assert_eq!(rt; machine.field(1, b"w"), Some(1));
+    assert_eq!(rt; call_of(&mut machine, 0, 1), took(3, 1));
+    assert_eq!(rt; call_of(&mut machine, 0, 1), stuck(5, Why::Range));
+    let mut other = ring_machine(rt.alloc())?;
+    assert_eq!(rt; call_of(&mut other, 0, 1), took(3, 1));
+    assert_eq!(rt; call_of(&mut other, 1, 1), stuck(12, Why::Index));
+    assert_eq!(rt; other.field(1, b"w"), Some(-59));
     Ok(())
 }

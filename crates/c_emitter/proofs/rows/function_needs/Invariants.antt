@@ -1,5 +1,5 @@
 use Rattle.std.proofs.Common.{◌≡◌, take, map}
-use Rattle.mc_cluster.specs.Classes.{different}
+use Rattle.mc_base.specs.Interface.{different}
 use Rattle.c_emitter.specs.Blocks.{blocks_of, need_of, output_rows}
 use Rattle.c_emitter.proofs.rows.function_needs.Given as goal
 

@@ -11,3 +11,8 @@ pub unreachable-requires-in-None : goal.unreachable-requires-in-None
 unreachable-requires-in-None c =
     let e = instance_there (program_tree c.args.frame.now.program.now) _ _ c.args.frame.now.of c.args.field c.requires.ready c.requires.instance in
     cc (e.3)
+
+pub unreachable-requires-in-Some-Array : goal.unreachable-requires-in-Some-Array
+unreachable-requires-in-Some-Array c =
+    let e = instance_there (program_tree c.args.frame.now.program.now) _ _ c.args.frame.now.of c.args.field c.requires.ready c.requires.instance in
+    cc (e.3, c.in-Some-Array.ensures)

@@ -10,7 +10,7 @@ use Rattle.c_meaning.proofs.Measures.{bodies, bodies_at, depth_of, depth_in, dep
 use Rattle.c_syntax.specs.Limits.{cond_depth}
 use Rattle.std.proofs.lemmas.Grind.{common_steps}
 use Rattle.c_meaning.proofs.Narrow.{exprs_here, pures_take, pures_at, exprs_length-list, pure_narrow, pure_gives}
-use Rattle.c_meaning.proofs.Evaluations.{neg_gives, binary_gives, binary_sticks, pick_gives, compare_gives, compare_sticks, both_goes_on, either_goes_on, negated_gives, eval_all_more, narrow_more, function_gives, function_there, function_past}
+use Rattle.c_meaning.proofs.Evaluations.{neg_gives, item_read, binary_gives, binary_sticks, pick_gives, compare_gives, compare_sticks, both_goes_on, either_goes_on, negated_gives, eval_all_more, narrow_more, function_gives, function_there, function_past}
 use Rattle.c_meaning.proofs.values.+expression.Goals as goal
 
 pub call_many-first_of-requires : goal.call_many-first_of-requires
@@ -81,6 +81,11 @@ eval_any-returns-in-Ok-eval-clause-value t c =
     let f : SFits w64 c.in-Ok.x = search rules in
     let g : SFits w64 c.in-Ok-eval.y = search rules in
     binary_gives _ _ _ _ _ _ _ _ _ _ _ _ _ _ _ (ap expr_tree c.in-Binary.is) c.deref-in-Binary.ensures c.deref-in-Binary-2.ensures c.in-Ok.ensures.value c.in-Ok-eval.ensures.value (simp to_z-of_z at (c.operate.ensures c.eval-in-Binary-2.new.steps))
+
+pub eval_any-returns-in-Ok-eval-2-clause-value : goal.eval_any-returns-in-Ok-eval-2-clause-value
+eval_any-returns-in-Ok-eval-2-clause-value t c =
+    let f : SFits w64 c.in-Ok-eval-2.index = search rules in
+    item_read _ _ _ _ c.in-At.field _ _ _ _ c.eval-in-At.new.steps _ (ap expr_tree c.in-At.is) c.deref-in-At.ensures c.in-Ok-eval-2.ensures.value (simp to_z-of_z at (c.item_at.ensures c.eval-in-At.new.steps))
 
 -- src/values.rt:49:1
 pub eval_any-returns-in-Pure-clause-value : goal.eval_any-returns-in-Pure-clause-value

@@ -1,6 +1,7 @@
 // The programs that the tests run; the lines are those of their texts.
 ghost use Rattle.std.specs.Prelude.{◌≡◌, [], ◌∷◌, map, IfOk, pos};
 ghost use Rattle.c_syntax.specs.declared.program.FieldKind.TheVariants as kind;
+ghost use Rattle.c_syntax.specs.declared.code.CType.TheVariants as ctype;
 ghost use Rattle.c_syntax.specs.declared.code.Leaf.TheVariants as leaf;
 ghost use Rattle.c_syntax.specs.Plain.{expr_tree, cond_tree, stmt_tree, procedure_tree, program_tree};
 ghost use Rattle.c_syntax.specs.Tree as tree;
@@ -33,6 +34,12 @@ fn instance(alloc: Global, name: &[u8], of: u32) -> Result<Field, Memory>
     field(alloc, name, FieldKind::Struct(of))
 }
 
+fn array(alloc: Global, name: &[u8], count: u32) -> Result<Field, Memory>
+    ensures { IfOk result (λ f. f ≡ record { name = name.now; kind = kind.Array ctype.I8 count }) }
+{
+    field(alloc, name, FieldKind::Array(CType::I8, count))
+}
+
 // A procedure without parameters.
 fn plain(alloc: Global, name: &[u8], of: u32, body: Vec<Stmt>) -> Result<Procedure, Memory>
     ensures { IfOk result (λ p. procedure_tree p ≡ examples.plain name.now of (map stmt_tree body.items)) }
@@ -50,6 +57,30 @@ fn set(line: u32, field: u32, value: Expr) -> Stmt
     ensures { stmt_tree result ≡ tree.assign line field (expr_tree value) }
 {
     Stmt::Set { line, field, value }
+}
+
+fn set_at(line: u32, field: u32, index: Expr, value: Expr) -> Stmt
+    ensures { stmt_tree result ≡ tree.assign_at line field (expr_tree index) (expr_tree value) }
+{
+    Stmt::SetAt {
+        line,
+        field,
+        index,
+        value,
+    }
+}
+
+fn item(alloc: Global, field: u32, index: Expr) -> Result<Expr, Memory>
+    ensures { IfOk result (λ e. expr_tree e ≡ tree.item field (expr_tree index)) }
+{
+    Ok(Expr::At(field, Box::new(alloc, index)?))
+}
+
+fn operation(alloc: Global, op: BinOp, left: Expr, right: Expr) -> Result<Expr, Memory>
+    ensures { IfOk result (λ e. expr_tree e ≡ tree.binary op (expr_tree left) (expr_tree right)) }
+{
+    let left = Box::new(alloc, left)?;
+    Ok(Expr::Binary(op, left, Box::new(alloc, right)?))
 }
 
 // A field of the instance and one more number.
@@ -169,5 +200,83 @@ pub(super) fn stuck_at_start(alloc: Global) -> Result<Program, Memory>
         pure: Vec::new(alloc),
         structs: vec![in alloc; root]?,
         procedures: vec![in alloc; start, step]?,
+    })
+}
+
+fn ring_update(alloc: Global) -> Result<Procedure, Memory>
+    ensures { IfOk result (λ p. procedure_tree p ≡ examples.ring_update) }
+{
+    let here = item(alloc, 0, Expr::Read(Leaf::Own(1)))?;
+    let more = operation(alloc, BinOp::Add, here, Expr::Literal(60))?;
+    let first = item(alloc, 0, Expr::Literal(0))?;
+    let other = item(alloc, 2, Expr::Literal(0))?;
+    let sum = operation(alloc, BinOp::Add, first, other)?;
+    let body = vec![in alloc;
+        set_at(5, 0, Expr::Read(Leaf::Own(1)), more),
+        set_at(6, 2, Expr::Literal(0), Expr::Read(Leaf::Own(1))),
+        set(7, 1, sum),
+    ]?;
+    plain(alloc, b"ring_update", 0, body)
+}
+
+fn ring_out1(alloc: Global) -> Result<Procedure, Memory>
+    ensures { IfOk result (λ p. procedure_tree p ≡ examples.ring_out1) }
+{
+    let minus = Expr::Neg(Box::new(alloc, Expr::Read(Leaf::Own(1)))?);
+    let turned = operation(alloc, BinOp::Add, Expr::Literal(1), minus)?;
+    let none = operation(alloc, BinOp::Div, Expr::Literal(1), Expr::Literal(0))?;
+    let body = vec![in alloc;
+        set(11, 1, turned),
+        set_at(12, 0, Expr::Read(Leaf::Own(1)), none),
+    ]?;
+    plain(alloc, b"ring_out1", 0, body)
+}
+
+fn ring_step(alloc: Global) -> Result<Procedure, Memory>
+    ensures { IfOk result (λ p. procedure_tree p ≡ examples.ring_step) }
+{
+    let call = Stmt::Call {
+        line: 18,
+        procedure: 0,
+        target: Target::Child(1),
+        values: Vec::new(alloc),
+    };
+    let body = vec![in alloc; call, set(19, 0, Expr::Read(Leaf::Child(1, 1)))]?;
+    plain(alloc, b"root_step", 1, body)
+}
+
+fn ring(alloc: Global) -> Result<StructDef, Memory>
+    ensures { IfOk result (λ d. d ≡ examples.ring) }
+{
+    let a = array(alloc, b"a", 3)?;
+    let w = number(alloc, b"w", CType::I32)?;
+    let b = array(alloc, b"b", 2)?;
+    Ok(StructDef {
+        name: Text::copy_of(alloc, b"ring")?,
+        fields: vec![in alloc; a, w, b]?,
+    })
+}
+
+fn ring_root(alloc: Global) -> Result<StructDef, Memory>
+    ensures { IfOk result (λ d. d ≡ examples.ring_root) }
+{
+    let y1 = number(alloc, b"y1", CType::I32)?;
+    let r = instance(alloc, b"r", 0)?;
+    Ok(StructDef {
+        name: Text::copy_of(alloc, b"root")?,
+        fields: vec![in alloc; y1, r]?,
+    })
+}
+
+// The root holds an instance with two arrays and a number between them.
+pub(super) fn rings(alloc: Global) -> Result<Program, Memory>
+    ensures { IfOk result (λ p. program_tree p ≡ examples.ring_program) }
+{
+    let start = plain(alloc, b"root_start", 1, Vec::new(alloc))?;
+    let step = ring_step(alloc)?;
+    Ok(Program {
+        pure: Vec::new(alloc),
+        structs: vec![in alloc; ring(alloc)?, ring_root(alloc)?]?,
+        procedures: vec![in alloc; ring_update(alloc)?, ring_out1(alloc)?, start, step]?,
     })
 }
