@@ -5,17 +5,17 @@ use Rattle.std.proofs.lemmas.Slice.Eq.{bytes_eq-Decides}
 use Rattle.c_syntax.specs.declared.code.CType.{CType}
 use Rattle.c_syntax.specs.declared.fault.CFault.{CFault}
 use Rattle.c_grammar.specs.Tokens.{Token}
-use Rattle.c_syntax.specs.Kinds.{number_kind}
+use Rattle.c_syntax.specs.Kinds.{WrittenKind}
 use Rattle.c_grammar.specs.Written.{WrittenParam, WrittenPureParam, WrittenField, WrittenProcedure}
-use Rattle.c_grammar.specs.Grammar.{◌⨾◌, word, at_line, type_text, pure_param_spelling, more_pure_params_spelling, param_spelling, more_params_spelling, kind_spelling, field_spelling, all_spelling, pure_spelling, struct_spelling, private_spelling, procedure_spelling}
-use Rattle.c_grammar.specs.Prefix.{Need, text_need, name_need, expr_need, stmts_need, pure_param_need, pure_params_need, param_need, params_need, field_need, fields_need, pures_need, structs_need, procedures_need, Reply, refuses, too_deep, leaves, with_needs, within_limit, only_if, first_reply, field_reply, procedures_reply, struct_needs, procedure_needs, pure_needs, is_type, on_reply, token_fault}
+use Rattle.c_grammar.specs.Grammar.{◌⨾◌, word, at_line, type_text, pure_param_spelling, more_pure_params_spelling, param_spelling, more_params_spelling, kind_spelling, length_spelling, field_spelling, all_spelling, pure_spelling, struct_spelling, private_spelling, procedure_spelling}
+use Rattle.c_grammar.specs.Prefix.{Need, text_need, name_need, expr_need, stmts_need, pure_param_need, pure_params_need, param_need, params_need, length_need, length_needs, field_need, fields_need, pures_need, structs_need, procedures_need, Reply, refuses, too_deep, leaves, with_needs, within_limit, only_if, first_reply, field_reply, procedures_reply, struct_needs, procedure_needs, pure_needs, is_type, step_needs, on_reply, may_end, token_fault}
 use Rattle.c_syntax.specs.Limits.{expr_limit, stmt_limit, param_limit}
 use Rattle.c_grammar.specs.Results.{◌>>=◌, ◌>>◌}
-use Rattle.c_grammar.specs.Parsing.{Limits, next, or_syntax, or_syntax_unless, or_deep_unless, type_of_text, parse_name, parse_stmt, parse_pure_param, pure_params_step, pure_params_step_by, parse_param, params_step, params_step_by, parse_pure, parse_kind, parse_field, fields_step, fields_step_by, parse_struct, parse_procedure_behind, parse_procedure, definition_of}
+use Rattle.c_grammar.specs.Parsing.{Limits, next, or_syntax, or_syntax_unless, or_deep_unless, type_of_text, first_text, parse_word, parse_name, parse_stmt, parse_pure_param, pure_params_step, pure_params_step_by, parse_param, params_step, params_step_by, parse_pure, parse_length, parse_field_from, parse_field, fields_step, fields_step_by, parse_struct, parse_procedure_behind, parse_procedure, definition_of}
 use Rattle.c_grammar.specs.declared.openers.Definition.TheVariants.{Static as static_definition, Struct as struct_definition, Void as void_definition, Nothing as no_definition}
 use Rattle.c_grammar.proofs.lemmas.Shrinking.{◌▸◌, word-takes, field-takes, param-shrinks, pure_param-shrinks}
 use Rattle.c_grammar.proofs.Answering.{Answers, Reads, chain, turned}
-use Rattle.c_grammar.proofs.Words.{Found, type-found, word-reads, name-reads}
+use Rattle.c_grammar.proofs.Words.{Found, type-found, word-reads, name-reads, literal-reads}
 use Rattle.c_grammar.proofs.Lists.{Stepped, many-reads, comma-reads}
 use Rattle.c_grammar.proofs.Exprs.{expr-reads}
 use Rattle.c_grammar.proofs.Statements.{stmt-reads, block-reads}
@@ -90,25 +90,70 @@ module _ (last : ℕ) (limits : Limits) (exprs : limits.exprs ≡ expr_limit) (s
       (λ close k. record { is = record { none = rw close refl; goes = k } })
       refl
 
-  kind-reads : (now : Option CFault) (more : List Need) (t : Token) (tokens : List Token) → now ≡ on_reply (with_needs (field_reply t.text) more) t.line (λ left. token_fault left last tokens) → Answers now (Reads last now kind_spelling (name_need ∷ text_need (codes ";") ∷ more) (t ∷ tokens)) (parse_kind last limits t tokens (bytes_eq t.text (codes "struct")))
-  kind-reads now more t tokens h = by (bytes_eq t.text (codes "struct")) refl h
-    where
-      typed : (o : Option CType) (b : Bool) → Found type_text t.text o b → now ≡ on_reply (with_needs (first_reply ((b, leaves (name_need ∷ text_need (codes ";") ∷ [])) ∷ (false, leaves (name_need ∷ name_need ∷ text_need (codes ";") ∷ [])) ∷ [])) more) t.line (λ left. token_fault left last tokens) → Answers now (Reads last now kind_spelling (name_need ∷ text_need (codes ";") ∷ more) (t ∷ tokens)) (or_syntax t o >>= λ type. Ok (number_kind type, tokens))
-      typed (Some type) b f k = record { is = record { spelled = rw ((bytes_eq-Decides t.text (type_text type)).1 f.0) refl; goes = rw f.1 at k } }
-      typed None b f k = record { is = rw f at k }
+  -- the length of an array, or nothing for a number, behind the name of a field of this type
+  record ReadsLength (type : CType) (now : Option CFault) (more : List Need) (tokens : List Token)
+      (x : WrittenKind × List Token) : Type 0 where
+    typed : (start : List Token) → kind_spelling x.0 start ≡ word (type_text type) start
+    spelled : length_spelling x.0 tokens ≡ Some x.1
+    goes : now ≡ token_fault more last x.1
 
-      by : (b : Bool) → bytes_eq t.text (codes "struct") ≡ b → now ≡ on_reply (with_needs (first_reply ((is_type t.text, leaves (name_need ∷ text_need (codes ";") ∷ [])) ∷ (b, leaves (name_need ∷ name_need ∷ text_need (codes ";") ∷ [])) ∷ [])) more) t.line (λ left. token_fault left last tokens) → Answers now (Reads last now kind_spelling (name_need ∷ text_need (codes ";") ∷ more) (t ∷ tokens)) (parse_kind last limits t tokens b)
-      by true e k =
-          let no_type : is_type t.text ≡ false = ap is_type ((bytes_eq-Decides t.text (codes "struct")).0 e) in
-          chain _ _ (name-reads last now (name_need ∷ text_need (codes ";") ∷ more) tokens (rw no_type at k)) (λ x rx. record { is = record { spelled = rw (e, rx.spelled) refl; goes = rx.goes } })
-      by false e k = typed (type_of_text t.text) (is_type t.text) (type-found t.text) k
+  length-reads : (type : CType) (now : Option CFault) (more : List Need) (tokens : List Token) → may_end more ≡ false
+      → now ≡ token_fault (length_need ∷ more) last tokens
+      → Answers now (ReadsLength type now more tokens) (parse_length last limits type tokens (bytes_eq (first_text tokens) (codes "[")))
+  length-reads type now more [] goes_on h = record { is = record { typed = λ start. refl; spelled = refl; goes = rw goes_on h } }
+  length-reads type now more (t ∷ tokens) goes_on h = by (bytes_eq t.text (codes "[")) refl h
+    where
+      by : (b : Bool)
+          → bytes_eq t.text (codes "[") ≡ b → now ≡ on_reply (if b then leaves (length_needs ++ more) else step_needs more t.text) t.line
+          (λ left. token_fault left last tokens) → Answers now (ReadsLength type now more (t ∷ tokens))
+          (parse_length last limits type (t ∷ tokens) b)
+      by true opened k =
+          chain _ _ (literal-reads last now (text_need (codes "]") ∷ more) tokens k) (λ count rc.
+          chain _ _ (word-reads last (codes "]") now more count.1 rc.goes) (λ close rl.
+          record { is = record { typed = λ start. refl; spelled = rw (opened, rc.spelled, rl.spelled) refl; goes = rl.goes } }))
+      by false opened k = record { is = record { typed = λ start. refl; spelled = refl; goes = k } }
 
   field-reads : (now : Option CFault) (more : List Need) (t : Token) (tokens : List Token) → now ≡ on_reply (with_needs (field_reply t.text) more) t.line (λ left. token_fault left last tokens) → Answers now (Reads last now field_spelling more (t ∷ tokens)) (parse_field last limits (t ∷ tokens))
-  field-reads now more t tokens h =
-      chain _ _ (kind-reads now more t tokens h) (λ kind rk.
-      chain _ _ (name-reads last now (text_need (codes ";") ∷ more) kind.1 rk.goes) (λ name rn.
-      chain _ _ (word-reads last (codes ";") now more name.1 rn.goes) (λ end re.
-      record { is = record { spelled = rw (eq-eqb t.line t.line refl, rk.spelled, rn.spelled, re.spelled) refl; goes = re.goes } })))
+  field-reads now more t tokens h = by (bytes_eq t.text (codes "struct")) refl h
+    where
+      typed : (o : Option CType) (b : Bool) → Found type_text t.text o b
+          → now ≡ on_reply (with_needs (first_reply ((b, leaves (name_need ∷ length_need ∷ text_need (codes ";") ∷ []))
+          ∷ (false, leaves (name_need ∷ name_need ∷ text_need (codes ";") ∷ [])) ∷ [])) more) t.line
+          (λ left. token_fault left last tokens)
+          → Answers now (Reads last now field_spelling more (t ∷ tokens))
+          (or_syntax t o >>= λ type. parse_name last tokens >>= λ name. parse_length last limits type name.1
+          (bytes_eq (first_text name.1) (codes "[")) >>= λ kind. parse_word last (codes ";") kind.1 >>= λ end. Ok
+          (record { line = t.line; kind = kind.0; name = name.0 }, end.1))
+      typed (Some type) b f k =
+          chain _ _ (name-reads last now (length_need ∷ text_need (codes ";") ∷ more) tokens (rw f.1 at k)) (λ name rn.
+          chain _ _ (length-reads type now (text_need (codes ";") ∷ more) name.1 refl rn.goes) (λ kind rk.
+          chain _ _ (word-reads last (codes ";") now more kind.1 rk.goes) (λ end re.
+          record {
+            is = record {
+              spelled = rw (
+                eq-eqb t.line t.line refl,
+                rk.typed (t ∷ tokens),
+                (bytes_eq-Decides t.text (type_text type)).1 f.0,
+                rn.spelled,
+                rk.spelled,
+                re.spelled,
+              ) refl;
+              goes = re.goes;
+            };
+          })))
+      typed None b f k = record { is = rw f at k }
+
+      by : (b : Bool) → bytes_eq t.text (codes "struct") ≡ b
+          → now ≡ on_reply (with_needs (first_reply ((is_type t.text, leaves (name_need ∷ length_need ∷ text_need (codes ";") ∷ []))
+          ∷ (b, leaves (name_need ∷ name_need ∷ text_need (codes ";") ∷ [])) ∷ [])) more) t.line (λ left. token_fault left last tokens)
+          → Answers now (Reads last now field_spelling more (t ∷ tokens)) (parse_field_from last limits t tokens b)
+      by true e k =
+          let no_type : is_type t.text ≡ false = ap is_type ((bytes_eq-Decides t.text (codes "struct")).0 e) in
+          chain _ _ (name-reads last now (name_need ∷ text_need (codes ";") ∷ more) tokens (rw no_type at k)) (λ of ro.
+          chain _ _ (name-reads last now (text_need (codes ";") ∷ more) of.1 ro.goes) (λ name rn.
+          chain _ _ (word-reads last (codes ";") now more name.1 rn.goes) (λ end re.
+          record { is = record { spelled = rw (eq-eqb t.line t.line refl, e, ro.spelled, rn.spelled, re.spelled) refl; goes = re.goes } })))
+      by false e k = typed (type_of_text t.text) (is_type t.text) (type-found t.text) k
 
   first_field-reads : (now : Option CFault) (more : List Need) (tokens : List Token) → now ≡ token_fault (field_need ∷ more) last tokens → Answers now (Reads last now field_spelling more tokens) (parse_field last limits tokens)
   first_field-reads now more [] h = record { is = h }

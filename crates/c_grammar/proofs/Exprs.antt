@@ -7,21 +7,22 @@ use Rattle.c_syntax.specs.declared.code.BinOp.{BinOp}
 use Rattle.c_syntax.specs.declared.fault.CFault.{CFault}
 use Rattle.c_grammar.specs.Tokens.{Token}
 use Rattle.c_syntax.specs.Names.{is_name}
-use Rattle.c_grammar.specs.Written.{WrittenExpr, WrittenCond}
-use Rattle.c_grammar.specs.Grammar.{◌⨾◌, word, op_text, compare_text, expr_spelling, more_exprs_spelling, cond_spelling}
-use Rattle.c_grammar.specs.Prefix.{Need, Role, as_kind, as_first, Kind, expression, condition, allows, follow, text_need, literal_need, leaf_need, operand_need, inside_need, joint_need, values_need, expr_need, cond_need, leaves, with_needs, within_limit, first_reply, operand_reply, on_reply, may_end, is_op, is_comparison, token_fault}
+use Rattle.c_grammar.specs.Written.{param, WrittenExpr, read, WrittenCond}
+use Rattle.c_grammar.specs.Grammar.{◌⨾◌, word, name_word, in_parens, in_brackets, op_text, compare_text, expr_spelling, more_exprs_spelling, cond_spelling}
+use Rattle.c_grammar.specs.Prefix.{Need, Role, as_kind, as_first, Kind, expression, condition, allows, follow, text_need, name_need, literal_need, leaf_need, tail_need, index_needs, operand_need, inside_need, joint_need, values_need, expr_need, cond_need, leaves, with_needs, within_limit, first_reply, operand_reply, step_needs, on_reply, may_end, is_op, is_comparison, token_fault}
 use Rattle.c_syntax.specs.Limits.{expr_limit}
-use Rattle.c_grammar.specs.Results.{◌>>=◌}
-use Rattle.c_grammar.specs.Parsing.{Parsed, parse_word, Operand, value, test, opener_of, inside_of, next, value_joint, test_joint, first_joint, op_of_text, compare_of_text, first_text, exprs_from, value_only, test_only, deeper_value, deeper_test, parse_number, values_step, values_step_by, parse_values, join_value, join_test, join, parse_inside, parse_opened, opened_too_deep, parse_operand, parse_expr, parse_cond}
+use Rattle.c_grammar.specs.Results.{◌>>=◌, ◌>>◌}
+use Rattle.c_grammar.specs.Parsing.{Parsed, or_syntax_unless, parse_word, Operand, value, test, opener_of, inside_of, tail_of, next, value_joint, test_joint, first_joint, op_of_text, compare_of_text, first_text, exprs_from, value_only, test_only, deeper_value, deeper_test, parse_index, parse_tail, parse_leaf_from, parse_leaf, parse_number, values_step, values_step_by, parse_values, join_value, join_test, join, parse_inside, parse_opened, opened_too_deep, parse_operand, parse_expr, parse_cond}
 use Rattle.c_grammar.specs.declared.openers.Inside.TheVariants.{Minus as minus_inside, Not as not_inside, Cast as cast_inside, First as first_inside}
 use Rattle.c_grammar.specs.declared.openers.Opener.TheVariants.{Number as number_opener, Call as call_opener, Paren as paren_opener, Nothing as no_opener}
+use Rattle.c_grammar.specs.declared.openers.Tail.TheVariants.{Dot as dot_tail, Bracket as bracket_tail, Nothing as no_tail}
 use Rattle.c_grammar.specs.declared.openers.TestJoint.TheVariants.{And as and_joint, Or as or_joint, Pick as pick_joint, Nothing as no_test_joint}
 use Rattle.c_grammar.specs.declared.openers.Want.{Want}
 use Rattle.c_grammar.specs.declared.openers.Want.TheVariants.{Value as want_value, Test as want_test, Any as want_any}
 use Rattle.c_grammar.proofs.lemmas.PrefixLaws.{one_less}
 use Rattle.c_grammar.proofs.lemmas.Shrinking.{◌▸◌, word-takes, expr-shrinks}
 use Rattle.c_grammar.proofs.Answering.{Answers, Reads, chain}
-use Rattle.c_grammar.proofs.Words.{same-text, Found, op-found, compare-found, word-reads, literal-reads, leaf-reads}
+use Rattle.c_grammar.proofs.Words.{same-text, Found, op-found, compare-found, word-reads, name-reads, literal-reads, field_name-reads}
 use Rattle.c_grammar.proofs.Lists.{Stepped, many-reads, comma-reads}
 
 -- what is wanted in a role
@@ -112,6 +113,77 @@ module _ (last d : ℕ) (operand : Want → List Token → Parsed Operand) (deep
       by : (x : Operand × List Token) → ReadsOperand last (as_kind condition) (d + 1) now more tokens x → Answers now (Reads last now cond_spelling more tokens) (test_only last x)
       by (value e, rest) r = cc r.allowed
       by (test c, rest) r = record { is = record { spelled = r.spelled; goes = r.goes } }
+
+  pub index-reads : (now : Option CFault) (more : List Need) (t : Token) (tokens : List Token)
+      → bytes_eq t.text (codes "[") ≡ true → now ≡ token_fault (index_needs (d + 1) ++ more) last tokens
+      → Answers now (Reads last now (λ e. in_brackets (expr_spelling e)) more (t ∷ tokens)) (parse_index last operand (t ∷ tokens))
+  index-reads now more t tokens opened h =
+      chain _ _ (deeper_value-reads now (text_need (codes "]") ∷ more) tokens refl h) (λ e re.
+      chain _ _ (word-reads last (codes "]") now more e.1 re.goes) (λ close rc.
+      record { is = record { spelled = rw (opened, re.spelled, rc.spelled) refl; goes = rc.goes } }))
+
+  -- a leaf is spelled behind its cast
+  record ReadsLeaf (now : Option CFault) (more : List Need) (tokens : List Token) (x : WrittenExpr × List Token) : Type 0 where
+    spelled : (start : List Token) → in_parens (word (codes "int64_t")) start ≡ Some tokens → expr_spelling x.0 start ≡ Some x.1
+    goes : now ≡ token_fault more last x.1
+
+  tail-reads : (now : Option CFault) (more : List Need) (t : Token) (behind middle : List Token) (field : List ℕ) (tokens : List Token)
+      → bytes_eq t.text (codes "s") ≡ true → word (codes "->") behind ≡ Some middle → name_word field middle ≡ Some tokens
+      → may_end more ≡ false → now ≡ token_fault (tail_need (d + 1) ∷ more) last tokens
+      → Answers now (ReadsLeaf now more (t ∷ behind)) (parse_tail last operand t.line field tokens (tail_of (first_text tokens)))
+  tail-reads now more t behind middle field [] begins arrow name goes_on h =
+      record { is = record { spelled = λ start cast. rw (cast, eq-eqb t.line t.line refl, begins, arrow, name) refl; goes = rw goes_on h } }
+  tail-reads now more t behind middle field (u ∷ tokens) begins arrow name goes_on h = by (bytes_eq u.text (codes "."))
+      (bytes_eq u.text (codes "[")) refl refl h
+    where
+      by : (a b : Bool) → bytes_eq u.text (codes ".") ≡ a
+          → bytes_eq u.text (codes "[") ≡ b → now ≡ on_reply (if a then leaves (name_need ∷ more) else
+          (if b then leaves (index_needs (d + 1) ++ more) else step_needs more u.text)) u.line (λ left. token_fault left last tokens)
+          → Answers now (ReadsLeaf now more (t ∷ behind))
+          (parse_tail last operand t.line field (u ∷ tokens) (if a then dot_tail else (if b then bracket_tail else no_tail)))
+      by true b dot opened k =
+          chain _ _ (name-reads last now more tokens k) (λ x rx.
+          record {
+            is = record {
+              spelled = λ start cast. rw (cast, eq-eqb t.line t.line refl, begins, arrow, name, dot, rx.spelled) refl;
+              goes = rx.goes;
+            };
+          })
+      by false true dot opened k =
+          chain _ _ (index-reads now more u tokens opened k) (λ x rx.
+          record {
+            is = record {
+              spelled = λ start cast. rw (cast, eq-eqb t.line t.line refl, begins, arrow, name) rx.spelled;
+              goes = rx.goes;
+            };
+          })
+      by false false dot opened k =
+          record { is = record { spelled = λ start cast. rw (cast, eq-eqb t.line t.line refl, begins, arrow, name) refl; goes = k } }
+
+  leaf-reads : (now : Option CFault) (more : List Need) (tokens : List Token) → may_end more ≡ false
+      → now ≡ token_fault (leaf_need (d + 1) ∷ more) last tokens → Answers now (ReadsLeaf now more tokens) (parse_leaf last operand tokens)
+  leaf-reads now more [] goes_on h = record { is = h }
+  leaf-reads now more (t ∷ tokens) goes_on h = by (bytes_eq t.text (codes "s")) refl h
+    where
+      named : (b : Bool) → is_name t.text ≡ b
+          → now ≡ on_reply (with_needs (first_reply ((b, leaves []) ∷ [])) more) t.line (λ left. token_fault left last tokens)
+          → Answers now (ReadsLeaf now more (t ∷ tokens)) (or_syntax_unless t b >> Ok (read t.line (param t.text), tokens))
+      named true e k = record {
+        is = record {
+          spelled = λ start cast. rw (cast, eq-eqb t.line t.line refl, e, same-text t.text) refl;
+          goes = k;
+        };
+      }
+      named false e k = record { is = k }
+
+      by : (b : Bool) → bytes_eq t.text (codes "s") ≡ b
+          → now ≡ on_reply (with_needs (first_reply ((b, leaves (text_need (codes "->") ∷ name_need ∷ tail_need (d + 1) ∷ []))
+          ∷ (is_name t.text, leaves []) ∷ [])) more) t.line (λ left. token_fault left last tokens)
+          → Answers now (ReadsLeaf now more (t ∷ tokens)) (parse_leaf_from last operand t tokens b)
+      by true e k =
+          chain _ _ (field_name-reads last now (tail_need (d + 1) ∷ more) tokens k) (λ field f.
+          tail-reads now more t tokens f.middle field.0 field.1 e f.arrow f.name goes_on f.goes)
+      by false e k = named (is_name t.text) refl k
 
   number-reads : (role : Role) (now : Option CFault) (more : List Need) (start tokens : List Token) → allows role expression ≡ true → word (codes "INT64_C") start ≡ Some tokens → now ≡ token_fault (text_need (codes "(") ∷ literal_need ∷ text_need (codes ")") ∷ (follow expression role d ++ more)) last tokens → Answers now (ReadsOperand last role d now more start) (parse_number last operand tokens)
   number-reads role now more start tokens a begins h =
@@ -206,7 +278,15 @@ module _ (last d : ℕ) (operand : Want → List Token → Parsed Operand) (deep
   inside-reads role now more start (t ∷ tokens) begins g h =
       subst (λ i. Answers now (ReadsOperand last role d now more start) (parse_inside last operand (want_of role) (t ∷ tokens) i)) (sym (inside-is role t.text)) (by (allows role expression && bytes_eq t.text (codes "-")) (allows role condition && bytes_eq t.text (codes "!")) (allows role expression && bytes_eq t.text (codes "int64_t")) refl refl refl h)
     where
-      by : (a b c : Bool) → (allows role expression && bytes_eq t.text (codes "-")) ≡ a → (allows role condition && bytes_eq t.text (codes "!")) ≡ b → (allows role expression && bytes_eq t.text (codes "int64_t")) ≡ c → now ≡ on_reply (with_needs (first_reply ((a, leaves (expr_need (d + 1) ∷ text_need (codes ")") ∷ follow expression role d)) ∷ (b, leaves (cond_need (d + 1) ∷ text_need (codes ")") ∷ follow condition role d)) ∷ (c, leaves (text_need (codes ")") ∷ leaf_need ∷ follow expression role d)) ∷ (true, operand_reply (as_first role) (d + 1) t.text) ∷ [])) more) t.line (λ left. token_fault left last tokens) → Answers now (ReadsOperand last role d now more start) (parse_inside last operand (want_of role) (t ∷ tokens) (if a then minus_inside else (if b then not_inside else (if c then cast_inside else first_inside))))
+      by : (a b c : Bool) → (allows role expression && bytes_eq t.text (codes "-")) ≡ a
+          → (allows role condition && bytes_eq t.text (codes "!")) ≡ b → (allows role expression && bytes_eq t.text (codes "int64_t")) ≡ c
+          → now ≡ on_reply (with_needs (first_reply ((a, leaves (expr_need (d + 1) ∷ text_need (codes ")") ∷ follow expression role d))
+          ∷ (b, leaves (cond_need (d + 1) ∷ text_need (codes ")") ∷ follow condition role d))
+          ∷ (c, leaves (text_need (codes ")") ∷ leaf_need (d + 1) ∷ follow expression role d))
+          ∷ (true, operand_reply (as_first role) (d + 1) t.text) ∷ [])) more) t.line (λ left. token_fault left last tokens)
+          → Answers now (ReadsOperand last role d now more start)
+          (parse_inside last operand (want_of role) (t ∷ tokens)
+          (if a then minus_inside else (if b then not_inside else (if c then cast_inside else first_inside))))
       by true b c a_is b_is c_is k =
           let s : _ = both-hold (allows role expression) (bytes_eq t.text (codes "-")) a_is in
           chain _ _ (deeper_value-reads now (text_need (codes ")") ∷ (follow expression role d ++ more)) tokens refl k) (λ x rx.
@@ -219,8 +299,8 @@ module _ (last d : ℕ) (operand : Want → List Token → Parsed Operand) (deep
           record { is = record { allowed = s.0; spelled = rw (begins, s.1, rx.spelled, ry.spelled) refl; goes = ry.goes } }))
       by false false true a_is b_is c_is k =
           let s : _ = both-hold (allows role expression) (bytes_eq t.text (codes "int64_t")) c_is in
-          chain _ _ (word-reads last (codes ")") now (leaf_need ∷ (follow expression role d ++ more)) tokens k) (λ x rx.
-          chain _ _ (leaf-reads last now (follow expression role d ++ more) x.1 (follow-goes_on expression role d more g) rx.goes) (λ y ry.
+          chain _ _ (word-reads last (codes ")") now (leaf_need (d + 1) ∷ (follow expression role d ++ more)) tokens k) (λ x rx.
+          chain _ _ (leaf-reads now (follow expression role d ++ more) x.1 (follow-goes_on expression role d more g) rx.goes) (λ y ry.
           record { is = record { allowed = s.0; spelled = ry.spelled start (rw (begins, s.1, rx.spelled) refl); goes = ry.goes } }))
       by false false false a_is b_is c_is k = first-reads role now more start (t ∷ tokens) begins g k
 
@@ -269,6 +349,13 @@ expr-reads last exprs e now more tokens g h = chain _ _ (operand-reads last expr
     by : (x : Operand × List Token) → ReadsOperand last (as_kind expression) 1 now more tokens x → Answers now (Reads last now expr_spelling more tokens) (value_only last x)
     by (value y, rest) r = record { is = record { spelled = r.spelled; goes = r.goes } }
     by (test c, rest) r = cc r.allowed
+
+-- an index that opens at the outermost depth
+pub outer_index-reads : (last exprs : ℕ) → exprs ≡ expr_limit → (now : Option CFault) (more : List Need) (t : Token) (tokens : List Token)
+    → bytes_eq t.text (codes "[") ≡ true → now ≡ token_fault (index_needs 1 ++ more) last tokens
+    → Answers now (Reads last now (λ e. in_brackets (expr_spelling e)) more (t ∷ tokens))
+    (parse_index last (parse_operand last exprs) (t ∷ tokens))
+outer_index-reads last exprs e = index-reads last 0 (parse_operand last exprs) (operand-reads last exprs 1 (omega (arith, e)))
 
 pub cond-reads : (last exprs : ℕ) → exprs ≡ expr_limit → (now : Option CFault) (more : List Need) (tokens : List Token) → may_end more ≡ false → now ≡ token_fault (cond_need 1 ∷ more) last tokens → Answers now (Reads last now cond_spelling more tokens) (parse_cond last exprs tokens)
 cond-reads last exprs e now more tokens g h = chain _ _ (operand-reads last exprs 1 (omega (arith, e)) (as_kind condition) now more tokens g h) by

@@ -8,14 +8,13 @@ use Rattle.c_syntax.specs.declared.code.CType.TheVariants.{I8, U8, I16, U16, I32
 use Rattle.c_syntax.specs.declared.fault.CFault.{CFault}
 use Rattle.c_grammar.specs.Tokens.{Token}
 use Rattle.c_syntax.specs.Names.{is_name}
-use Rattle.c_grammar.specs.Written.{param, WrittenExpr}
-use Rattle.c_grammar.specs.Grammar.{word, name_word, literal_word, in_parens, type_text, op_text, compare_text, cast_spelling, leaf_spelling, expr_spelling}
-use Rattle.c_grammar.specs.Prefix.{Need, text_need, name_need, literal_need, type_need, leaf_need, dot_need, leaves, with_needs, only_if, first_reply, step_needs, on_reply, may_end, is_type, is_op, is_comparison, is_literal, digits_value, token_fault}
+use Rattle.c_grammar.specs.Grammar.{word, name_word, literal_word, type_text, op_text, compare_text, cast_spelling}
+use Rattle.c_grammar.specs.Prefix.{Need, text_need, name_need, literal_need, type_need, leaves, with_needs, only_if, on_reply, is_type, is_op, is_comparison, is_literal, digits_value, token_fault}
 use Rattle.c_grammar.specs.Results.{◌>>=◌, ◌>>◌}
-use Rattle.c_grammar.specs.Parsing.{or_syntax, or_syntax_unless, first_text, type_of_text, op_of_text, compare_of_text, parse_word, parse_name, parse_type, parse_literal, parse_cast, parse_field_name, parse_inner, parse_leaf_from, parse_leaf}
+use Rattle.c_grammar.specs.Parsing.{or_syntax, or_syntax_unless, type_of_text, op_of_text, compare_of_text, parse_word, parse_name, parse_type, parse_literal, parse_cast, parse_field_name}
 use Rattle.c_grammar.proofs.lemmas.Texts.{is_literal-text}
 use Rattle.c_grammar.proofs.lemmas.LiteralLaws.{numeral}
-use Rattle.std.proofs.lemmas.Bool.{leb-true, eq-eqb}
+use Rattle.std.proofs.lemmas.Bool.{leb-true}
 use Rattle.c_grammar.proofs.Answering.{Answers, Reads, chain, turned}
 
 pub same-text : (text : List ℕ) → bytes_eq text text ≡ true
@@ -119,32 +118,3 @@ module _ (last : ℕ) where
       chain _ _ (word-reads (codes "->") now (name_need ∷ more) tokens h) (λ a ra.
       turned _ (name-reads now more a.1 ra.goes) (λ b rb.
       record { middle = a.1; arrow = ra.spelled; name = rb.spelled; goes = rb.goes }))
-
-  inner-reads : (field : List ℕ) (start after middle : List Token) (now : Option CFault) (more : List Need) (tokens : List Token) → word (codes "s") start ≡ Some after → word (codes "->") after ≡ Some middle → name_word field middle ≡ Some tokens → may_end more ≡ false → now ≡ token_fault (dot_need ∷ more) last tokens → Answers now (Reads last now leaf_spelling more start) (parse_inner last field tokens (bytes_eq (first_text tokens) (codes ".")))
-  inner-reads field start after middle now more [] s a n goes_on h =
-      record { is = record { spelled = rw (s, a, n) refl; goes = rw goes_on h } }
-  inner-reads field start after middle now more (t ∷ tokens) s a n goes_on h = by (bytes_eq t.text (codes ".")) refl h
-    where
-      by : (b : Bool) → bytes_eq t.text (codes ".") ≡ b → now ≡ on_reply (if b then leaves (name_need ∷ more) else step_needs more t.text) t.line (λ left. token_fault left last tokens) → Answers now (Reads last now leaf_spelling more start) (parse_inner last field (t ∷ tokens) b)
-      by true e k = chain _ _ (name-reads now more tokens k) (λ x rx. record { is = record { spelled = rw (s, a, n, e, rx.spelled) refl; goes = rx.goes } })
-      by false e k = record { is = record { spelled = rw (s, a, n) refl; goes = k } }
-
-  -- a leaf is spelled behind its cast
-  pub record ReadsLeaf (now : Option CFault) (more : List Need) (tokens : List Token) (x : WrittenExpr × List Token) : Type 0 where
-    pub spelled : (start : List Token) → in_parens (word (codes "int64_t")) start ≡ Some tokens → expr_spelling x.0 start ≡ Some x.1
-    pub goes : now ≡ token_fault more last x.1
-
-  pub leaf-reads : (now : Option CFault) (more : List Need) (tokens : List Token) → may_end more ≡ false → now ≡ token_fault (leaf_need ∷ more) last tokens → Answers now (ReadsLeaf now more tokens) (parse_leaf last tokens)
-  leaf-reads now more [] goes_on h = record { is = h }
-  leaf-reads now more (t ∷ tokens) goes_on h =
-      chain _ _ (by (bytes_eq t.text (codes "s")) refl h) (λ leaf r. record { is = record { spelled = λ start e. rw (e, eq-eqb t.line t.line refl) r.spelled; goes = r.goes } })
-    where
-      named : (b : Bool) → is_name t.text ≡ b → now ≡ on_reply (with_needs (first_reply ((b, leaves []) ∷ [])) more) t.line (λ left. token_fault left last tokens) → Answers now (Reads last now leaf_spelling more (t ∷ tokens)) (or_syntax_unless t b >> Ok (param t.text, tokens))
-      named true e k = record { is = record { spelled = rw (e, same-text t.text) refl; goes = k } }
-      named false e k = record { is = k }
-
-      by : (b : Bool) → bytes_eq t.text (codes "s") ≡ b → now ≡ on_reply (with_needs (first_reply ((b, leaves (text_need (codes "->") ∷ name_need ∷ dot_need ∷ [])) ∷ (is_name t.text, leaves []) ∷ [])) more) t.line (λ left. token_fault left last tokens) → Answers now (Reads last now leaf_spelling more (t ∷ tokens)) (parse_leaf_from last t tokens b)
-      by true e k =
-          chain _ _ (field_name-reads now (dot_need ∷ more) tokens k) (λ field f.
-          inner-reads field.0 (t ∷ tokens) tokens f.middle now more field.1 (rw e refl) f.arrow f.name goes_on f.goes)
-      by false e k = named (is_name t.text) refl k

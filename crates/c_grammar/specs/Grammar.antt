@@ -8,8 +8,8 @@ use Rattle.c_syntax.specs.declared.code.CType.{CType}
 use Rattle.c_syntax.specs.declared.code.CType.TheVariants.{I8, U8, I16, U16, I32, U32, I64}
 use Rattle.c_grammar.specs.Tokens.{Token}
 use Rattle.c_syntax.specs.Names.{is_name}
-use Rattle.c_syntax.specs.Kinds.{WrittenKind, number_kind, struct_kind}
-use Rattle.c_grammar.specs.Written.{WrittenLeaf, param, own, child, WrittenExpr, literal, neg, read, binary, pick, pure, WrittenExprs, no_exprs, more_exprs, WrittenCond, compare, both, either, negated, WrittenTarget, own_target, field_target, WrittenArguments, no_arguments, more_arguments, WrittenStmt, assign, branch, branch_else, call, WrittenStmts, no_stmts, more_stmts, WrittenParam, WrittenPureParam, WrittenPure, WrittenField, WrittenStruct, WrittenProcedure, WrittenProgram}
+use Rattle.c_syntax.specs.Kinds.{WrittenKind, number_kind, array_kind, struct_kind}
+use Rattle.c_grammar.specs.Written.{WrittenLeaf, param, own, child, WrittenExpr, literal, neg, read, binary, pick, pure, item, WrittenExprs, no_exprs, more_exprs, WrittenCond, compare, both, either, negated, WrittenTarget, own_target, field_target, WrittenArguments, no_arguments, more_arguments, WrittenStmt, assign, assign_at, branch, branch_else, call, WrittenStmts, no_stmts, more_stmts, WrittenParam, WrittenPureParam, WrittenPure, WrittenField, WrittenStruct, WrittenProcedure, WrittenProgram}
 
 infixr 30 ◌⨾◌
 -- spells at the front of a list of tokens, and gives what is left; none where the front is otherwise
@@ -81,10 +81,18 @@ in_parens inner = word (codes "(") ⨾ inner ⨾ word (codes ")")
 abbrev pub in_braces : Spelling → Spelling
 in_braces inner = word (codes "{") ⨾ inner ⨾ word (codes "}")
 
+-- a spelling between `[` and `]`
+abbrev pub in_brackets : Spelling → Spelling
+in_brackets inner = word (codes "[") ⨾ inner ⨾ word (codes "]")
+
+-- a field of the instance
+abbrev pub own_spelling : List ℕ → Spelling
+own_spelling field = word (codes "s") ⨾ word (codes "->") ⨾ name_word field
+
 -- a parameter, a field of the instance, or a field of a field
 abbrev pub leaf_spelling : WrittenLeaf → Spelling
 leaf_spelling (param name) = name_word name
-leaf_spelling (own field) = word (codes "s") ⨾ word (codes "->") ⨾ name_word field
+leaf_spelling (own field) = own_spelling field
 leaf_spelling (child field inner) = word (codes "s") ⨾ word (codes "->") ⨾ name_word field ⨾ word (codes ".") ⨾ name_word inner
 
 abbrev mutual
@@ -95,6 +103,8 @@ abbrev mutual
   expr_spelling (binary op a b) = in_parens (expr_spelling a ⨾ word (op_text op) ⨾ expr_spelling b)
   expr_spelling (pick test a b) = in_parens (cond_spelling test ⨾ word (codes "?") ⨾ expr_spelling a ⨾ word (codes ":") ⨾ expr_spelling b)
   expr_spelling (pure line function values) = at_line line (name_word function) ⨾ in_parens (exprs_spelling values)
+  expr_spelling (item line field index) = in_parens (word (codes "int64_t")) ⨾ at_line line (own_spelling field)
+      ⨾ in_brackets (expr_spelling index)
 
   -- expressions with `,` between each two, and at least one
   pub exprs_spelling : WrittenExprs → Spelling
@@ -129,6 +139,9 @@ abbrev mutual
   pub stmt_spelling : WrittenStmt → Spelling
   stmt_spelling (assign line field cast value) =
       at_line line (word (codes "s")) ⨾ word (codes "->") ⨾ name_word field ⨾ word (codes "=") ⨾ cast_spelling cast ⨾ expr_spelling value ⨾ word (codes ";")
+  stmt_spelling (assign_at line field index cast value) =
+      at_line line (own_spelling field) ⨾ in_brackets (expr_spelling index) ⨾ word (codes "=") ⨾ cast_spelling cast ⨾ expr_spelling value
+      ⨾ word (codes ";")
   stmt_spelling (branch line test on_true) =
       at_line line (word (codes "if")) ⨾ cond_spelling test ⨾ in_braces (stmts_spelling on_true)
   stmt_spelling (branch_else line test on_true on_false) =
@@ -171,11 +184,18 @@ pure_spelling p =
 -- what a field's declaration begins with
 abbrev pub kind_spelling : WrittenKind → Spelling
 kind_spelling (number_kind type) = word (type_text type)
+kind_spelling (array_kind type count) = word (type_text type)
 kind_spelling (struct_kind name) = word (codes "struct") ⨾ name_word name
+
+-- what stands behind the field's name: the length of an array
+abbrev pub length_spelling : WrittenKind → Spelling
+length_spelling (number_kind type) = nothing
+length_spelling (array_kind type count) = in_brackets (literal_word count)
+length_spelling (struct_kind name) = nothing
 
 -- a field
 abbrev pub field_spelling : WrittenField → Spelling
-field_spelling f = at_line f.line (kind_spelling f.kind) ⨾ name_word f.name ⨾ word (codes ";")
+field_spelling f = at_line f.line (kind_spelling f.kind) ⨾ name_word f.name ⨾ length_spelling f.kind ⨾ word (codes ";")
 
 -- the things of a list, one after another
 abbrev pub all_spelling : {A : Type 0} → (A → Spelling) → List A → Spelling

@@ -10,3 +10,4 @@ pub mod WrittenTrees
 pub mod TextLines
 pub mod OpeningExamples
 pub mod LimitExamples
+pub mod ArrayExamples

@@ -3,8 +3,9 @@ use Rattle.std.specs.Prelude.{◌≡◌, false, [], ◌∷◌, codes, refl}
 use Rattle.mc_base.specs.declared.base.Compare.TheVariants.{Lt}
 use Rattle.c_syntax.specs.declared.code.BinOp.TheVariants.{Add}
 use Rattle.c_syntax.specs.declared.code.CType.TheVariants.{I32}
-use Rattle.c_grammar.specs.Written.{param, own, WrittenExpr, literal, neg, read, binary, pick, pure, no_exprs, more_exprs, compare, field_target, no_arguments, more_arguments, WrittenStmt, assign, branch, call, no_stmts, more_stmts, WrittenPure, WrittenProcedure}
-use Rattle.c_grammar.specs.Openings.{none, operand, statement, pure_function, parameter, expr_openings, stmt_openings, pure_openings, procedures_openings}
+use Rattle.c_grammar.specs.Written.{param, own, WrittenExpr, literal, neg, read, binary, pick, pure, item, no_exprs, more_exprs, compare, field_target, no_arguments, more_arguments, WrittenStmt, assign, assign_at, branch, call, no_stmts, more_stmts, WrittenPure, WrittenStruct, WrittenProcedure}
+use Rattle.c_syntax.specs.Kinds.{array_kind}
+use Rattle.c_grammar.specs.Openings.{none, operand, statement, pure_function, parameter, expr_openings, stmt_openings, pure_openings, structs_openings, procedures_openings}
 
 -- `(-(INT64_C(1) + f(INT64_C(2))))`
 abbrev pub nested : WrittenExpr
@@ -54,3 +55,22 @@ one_param = record { line = 1; private = false; name = codes "p"; of = codes "c"
 pub one_param-opens : procedures_openings (one_param ∷ []) ≡
     none ∷ none ∷ none ∷ none ∷ none ∷ none ∷ none ∷ none ∷ parameter 1 ∷ none ∷ none ∷ none ∷ none ∷ []
 one_param-opens = refl
+
+-- `s->a[(-INT64_C(1))] = (int32_t)(int64_t)s->a[INT64_C(2)];`: the index of a store is outermost, that of an item one deeper
+abbrev pub two_items : WrittenStmt
+two_items = assign_at 1 (codes "a") (neg (literal 1)) I32 (item 1 (codes "a") (literal 2))
+
+pub two_items-open : stmt_openings 1 two_items ≡
+    statement 1 ∷ none ∷ none ∷ none
+    ∷ operand 1 ∷ none ∷ operand 2 ∷ none ∷ none ∷ none ∷ none
+    ∷ none ∷ none ∷ none ∷ none ∷ none
+    ∷ operand 1 ∷ none ∷ none ∷ none ∷ none ∷ none ∷ none ∷ operand 2 ∷ none ∷ none ∷ none ∷ none
+    ∷ none ∷ []
+two_items-open = refl
+
+-- `struct c { int32_t a[3]; };`
+abbrev pub one_array : WrittenStruct
+one_array = record { line = 1; name = codes "c"; fields = record { line = 1; kind = array_kind I32 3; name = codes "a" } ∷ [] }
+
+pub one_array-opens : structs_openings (one_array ∷ []) ≡ none ∷ none ∷ none ∷ none ∷ none ∷ none ∷ none ∷ none ∷ none ∷ none ∷ none ∷ []
+one_array-opens = refl

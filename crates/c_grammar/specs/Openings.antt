@@ -1,7 +1,7 @@
 -- What each token of a written program opens: something that has a limit, and how deep it is or the how manieth.
 use Rattle.std.specs.Prelude.{ℕ, ◌+◌, Bool, true, false, nat_le, List, [], ◌∷◌, ◌++◌}
-use Rattle.c_syntax.specs.Kinds.{WrittenKind, number_kind, struct_kind}
-use Rattle.c_grammar.specs.Written.{WrittenLeaf, param, own, child, WrittenExpr, literal, neg, read, binary, pick, pure, WrittenExprs, no_exprs, more_exprs, WrittenCond, compare, both, either, negated, WrittenTarget, own_target, field_target, WrittenArguments, no_arguments, more_arguments, WrittenStmt, assign, branch, branch_else, call, WrittenStmts, no_stmts, more_stmts, WrittenParam, WrittenPureParam, WrittenPure, WrittenField, WrittenStruct, WrittenProcedure, WrittenProgram}
+use Rattle.c_syntax.specs.Kinds.{WrittenKind, number_kind, array_kind, struct_kind}
+use Rattle.c_grammar.specs.Written.{WrittenLeaf, param, own, child, WrittenExpr, literal, neg, read, binary, pick, pure, item, WrittenExprs, no_exprs, more_exprs, WrittenCond, compare, both, either, negated, WrittenTarget, own_target, field_target, WrittenArguments, no_arguments, more_arguments, WrittenStmt, assign, assign_at, branch, branch_else, call, WrittenStmts, no_stmts, more_stmts, WrittenParam, WrittenPureParam, WrittenPure, WrittenField, WrittenStruct, WrittenProcedure, WrittenProgram}
 use Rattle.c_syntax.specs.Limits.{expr_limit, stmt_limit, pure_limit, param_limit}
 
 -- what a token opens
@@ -39,6 +39,8 @@ abbrev mutual
   expr_openings depth (pick test a b) =
       operand depth ∷ (cond_openings (depth + 1) test ++ none ∷ (expr_openings (depth + 1) a ++ none ∷ (expr_openings (depth + 1) b ++ none ∷ [])))
   expr_openings depth (pure line function values) = operand depth ∷ none ∷ (exprs_openings (depth + 1) values ++ none ∷ [])
+  expr_openings depth (item line field index) =
+      operand depth ∷ none ∷ none ∷ none ∷ none ∷ none ∷ none ∷ (expr_openings (depth + 1) index ++ none ∷ [])
 
   pub exprs_openings : ℕ → WrittenExprs → List Opening
   exprs_openings depth no_exprs = []
@@ -69,6 +71,9 @@ abbrev mutual
   pub stmt_openings : ℕ → WrittenStmt → List Opening
   stmt_openings depth (assign line field cast value) =
       statement depth ∷ none ∷ none ∷ none ∷ none ∷ none ∷ none ∷ (expr_openings 1 value ++ none ∷ [])
+  stmt_openings depth (assign_at line field index cast value) =
+      statement depth ∷ none ∷ none ∷ none ∷ (expr_openings 1 index ++ none ∷ none ∷ none ∷ none ∷ none
+      ∷ (expr_openings 1 value ++ none ∷ []))
   stmt_openings depth (branch line test on_true) =
       statement depth ∷ (cond_openings 1 test ++ none ∷ (stmts_openings (depth + 1) on_true ++ none ∷ []))
   stmt_openings depth (branch_else line test on_true on_false) =
@@ -102,14 +107,22 @@ abbrev pub pures_openings : ℕ → List WrittenPure → List Opening
 pures_openings number [] = []
 pures_openings number (p ∷ ps) = pure_openings number p ++ pures_openings (number + 1) ps
 
--- a type or `struct` and a name, a name, `;`
+-- a type, or `struct` and a name
 abbrev pub kind_openings : WrittenKind → List Opening
 kind_openings (number_kind type) = none ∷ []
+kind_openings (array_kind type count) = none ∷ []
 kind_openings (struct_kind name) = none ∷ none ∷ []
 
+-- for an array `[`, a literal and `]`
+abbrev pub length_openings : WrittenKind → List Opening
+length_openings (number_kind type) = []
+length_openings (array_kind type count) = none ∷ none ∷ none ∷ []
+length_openings (struct_kind name) = []
+
+-- each with its kind, a name, its length, and `;`
 abbrev pub fields_openings : List WrittenField → List Opening
 fields_openings [] = []
-fields_openings (f ∷ fs) = kind_openings f.kind ++ none ∷ none ∷ fields_openings fs
+fields_openings (f ∷ fs) = kind_openings f.kind ++ none ∷ (length_openings f.kind ++ none ∷ fields_openings fs)
 
 -- `struct name {`, fields, `} ;`
 abbrev pub structs_openings : List WrittenStruct → List Opening

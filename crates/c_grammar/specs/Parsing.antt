@@ -10,8 +10,8 @@ use Rattle.c_syntax.specs.declared.fault.CFault.{CFault}
 use Rattle.c_syntax.specs.declared.fault.CKind.TheVariants.{Syntax, Deep}
 use Rattle.c_grammar.specs.Tokens.{Token}
 use Rattle.c_syntax.specs.Names.{is_name}
-use Rattle.c_syntax.specs.Kinds.{WrittenKind, number_kind, struct_kind}
-use Rattle.c_grammar.specs.Written.{WrittenLeaf, param, own, child, WrittenExpr, literal, neg, read, binary, pick, pure, WrittenExprs, no_exprs, more_exprs, WrittenCond, compare, both, either, negated, WrittenTarget, own_target, field_target, WrittenArguments, no_arguments, more_arguments, WrittenStmt, assign, branch, branch_else, call, WrittenStmts, no_stmts, more_stmts, WrittenParam, WrittenPureParam, WrittenPure, WrittenField, WrittenStruct, WrittenProcedure, WrittenProgram}
+use Rattle.c_syntax.specs.Kinds.{WrittenKind, number_kind, array_kind, struct_kind}
+use Rattle.c_grammar.specs.Written.{param, own, child, WrittenExpr, literal, neg, read, binary, pick, pure, item, WrittenExprs, no_exprs, more_exprs, WrittenCond, compare, both, either, negated, WrittenTarget, own_target, field_target, WrittenArguments, no_arguments, more_arguments, WrittenStmt, assign, assign_at, branch, branch_else, call, WrittenStmts, no_stmts, more_stmts, WrittenParam, WrittenPureParam, WrittenPure, WrittenField, WrittenStruct, WrittenProcedure, WrittenProgram}
 use Rattle.c_syntax.specs.Limits.{expr_limit, stmt_limit, pure_limit, param_limit}
 use Rattle.c_grammar.specs.Prefix.{is_literal, digits_value, fault_at}
 use Rattle.c_grammar.specs.Results.{◌>>=◌, ◌>>◌}
@@ -21,6 +21,8 @@ use Rattle.c_grammar.specs.declared.openers.Opener.{Opener}
 use Rattle.c_grammar.specs.declared.openers.Opener.TheVariants.{Number as number_opener, Call as call_opener, Paren as paren_opener, Nothing as no_opener}
 use Rattle.c_grammar.specs.declared.openers.Inside.{Inside}
 use Rattle.c_grammar.specs.declared.openers.Inside.TheVariants.{Minus as minus_inside, Not as not_inside, Cast as cast_inside, First as first_inside}
+use Rattle.c_grammar.specs.declared.openers.Tail.{Tail}
+use Rattle.c_grammar.specs.declared.openers.Tail.TheVariants.{Dot as dot_tail, Bracket as bracket_tail, Nothing as no_tail}
 use Rattle.c_grammar.specs.declared.openers.ValueJoint.{ValueJoint}
 use Rattle.c_grammar.specs.declared.openers.ValueJoint.TheVariants.{Operator as op_joint, Comparison as compare_joint, Nothing as no_value_joint}
 use Rattle.c_grammar.specs.declared.openers.TestJoint.{TestJoint}
@@ -91,6 +93,10 @@ abbrev pub inside_of : Want → List ℕ → Inside
 inside_of want text =
     if wants_value want && bytes_eq text (codes "-") then minus_inside else (if wants_test want && bytes_eq text (codes "!") then not_inside else (if wants_value want && bytes_eq text (codes "int64_t") then cast_inside else first_inside))
 
+-- what a token begins behind the name of an own field
+abbrev pub tail_of : List ℕ → Tail
+tail_of text = if bytes_eq text (codes ".") then dot_tail else (if bytes_eq text (codes "[") then bracket_tail else no_tail)
+
 -- an operator or a comparison behind an expression
 abbrev pub first_joint : Option BinOp → Option Compare → ValueJoint
 first_joint (Some op) how = op_joint op
@@ -149,7 +155,7 @@ abbrev pub stmts_from : List WrittenStmt → WrittenStmts
 stmts_from [] = no_stmts
 stmts_from (s ∷ ss) = more_stmts s (stmts_from ss)
 
--- an argument with its cast
+-- a value with its cast
 abbrev pub Argument : Type 0
 Argument = CType × WrittenExpr
 
@@ -235,30 +241,6 @@ module _ (last : ℕ) where
     arrow ← parse_word (codes "->") tokens
     parse_name arrow.1
 
-  -- a field of the own struct, or of a field's struct where a `.` follows
-  abbrev pub parse_inner : List ℕ → List Token → Bool → Parsed WrittenLeaf
-  parse_inner field tokens true = do
-    dot ← next tokens
-    inner ← parse_name dot.1
-    Ok (child field inner.0, inner.1)
-  parse_inner field tokens false = Ok (own field, tokens)
-
-  -- a leaf that begins with a token
-  abbrev pub parse_leaf_from : Token → List Token → (is_own : Bool) → Parsed WrittenLeaf
-  parse_leaf_from t tokens true = do
-    field ← parse_field_name tokens
-    parse_inner field.0 field.1 (bytes_eq (first_text field.1) (codes "."))
-  parse_leaf_from t tokens false = do
-    or_syntax_unless t (is_name t.text)
-    Ok (param t.text, tokens)
-
-  -- a leaf with its line
-  abbrev pub parse_leaf : List Token → Parsed WrittenExpr
-  parse_leaf tokens = do
-    t ← next tokens
-    leaf ← parse_leaf_from t.0 t.1 (bytes_eq t.0.text (codes "s"))
-    Ok (read t.0.line leaf.0, leaf.1)
-
   -- an operand that is an expression, and one that is a condition; where one is wanted there is no other
   abbrev pub value_only : Operand × List Token → Parsed WrittenExpr
   value_only (value e, tokens) = Ok (e, tokens)
@@ -278,6 +260,40 @@ module _ (last : ℕ) where
     -- a condition one level deeper
     abbrev pub deeper_test : List Token → Parsed WrittenCond
     deeper_test tokens = operand want_test tokens >>= test_only
+
+    -- an index between `[` and `]`
+    abbrev pub parse_index : List Token → Parsed WrittenExpr
+    parse_index tokens = do
+      opened ← next tokens
+      e ← deeper_value opened.1
+      close ← parse_word (codes "]") e.1
+      Ok (e.0, close.1)
+
+    -- a field of the own struct, a field of that field, or an item of it; the line is that of the `s`
+    abbrev pub parse_tail : (line : ℕ) → List ℕ → List Token → Tail → Parsed WrittenExpr
+    parse_tail line field tokens dot_tail = do
+      dot ← next tokens
+      inner ← parse_name dot.1
+      Ok (read line (child field inner.0), inner.1)
+    parse_tail line field tokens bracket_tail = do
+      index ← parse_index tokens
+      Ok (item line field index.0, index.1)
+    parse_tail line field tokens no_tail = Ok (read line (own field), tokens)
+
+    -- a leaf that begins with a token
+    abbrev pub parse_leaf_from : Token → List Token → (is_own : Bool) → Parsed WrittenExpr
+    parse_leaf_from t tokens true = do
+      field ← parse_field_name tokens
+      parse_tail t.line field.0 field.1 (tail_of (first_text field.1))
+    parse_leaf_from t tokens false = do
+      or_syntax_unless t (is_name t.text)
+      Ok (read t.line (param t.text), tokens)
+
+    -- a leaf with its line
+    abbrev pub parse_leaf : List Token → Parsed WrittenExpr
+    parse_leaf tokens = do
+      t ← next tokens
+      parse_leaf_from t.0 t.1 (bytes_eq t.0.text (codes "s"))
 
     -- a number behind `INT64_C`
     abbrev pub parse_number : List Token → Parsed Operand
@@ -405,15 +421,30 @@ module _ (last : ℕ) where
     abbrev pub arguments_step : ℕ → List Token → Result (Step Argument) CFault
     arguments_step count tokens = next tokens >>= (λ t. arguments_step_by t.0 t.1 (comma_of t.0.text))
 
+    -- what is stored, from the `=` to the `;`
+    abbrev pub parse_stored : List Token → Parsed Argument
+    parse_stored tokens = do
+      equals ← parse_word (codes "=") tokens
+      type ← parse_cast equals.1
+      e ← parse_expr limits.exprs type.1
+      end ← parse_word (codes ";") e.1
+      Ok ((type.0, e.0), end.1)
+
+    -- a store in a field, or in an item of it
+    abbrev pub parse_store_in : Token → List ℕ → List Token → (has_index : Bool) → Parsed WrittenStmt
+    parse_store_in t field tokens true = do
+      index ← parse_index (parse_operand limits.exprs) tokens
+      stored ← parse_stored index.1
+      Ok (assign_at t.line field index.0 stored.0.0 stored.0.1, stored.1)
+    parse_store_in t field tokens false = do
+      stored ← parse_stored tokens
+      Ok (assign t.line field stored.0.0 stored.0.1, stored.1)
+
     -- a store behind its `s`
     abbrev pub parse_store : Token → List Token → Parsed WrittenStmt
     parse_store t tokens = do
       field ← parse_field_name tokens
-      equals ← parse_word (codes "=") field.1
-      type ← parse_cast equals.1
-      e ← parse_expr limits.exprs type.1
-      end ← parse_word (codes ";") e.1
-      Ok (assign t.line field.0 type.0 e.0, end.1)
+      parse_store_in t field.0 field.1 (bytes_eq (first_text field.1) (codes "["))
 
     -- a call behind the procedure's name
     abbrev pub parse_call : Token → List Token → Parsed WrittenStmt
@@ -530,19 +561,34 @@ module _ (last : ℕ) where
       close ← parse_word (codes "}") end.1
       Ok (record { line = t.line; name = name.0; params = first.0 ∷ later.0; return_line = r.0.line; body = body.0 }, close.1)
 
-    -- a field's kind, and the field
-    abbrev pub parse_kind : Token → List Token → (is_struct : Bool) → Parsed WrittenKind
-    parse_kind t tokens true = parse_name tokens >>= (λ name. Ok (struct_kind name.0, name.1))
-    parse_kind t tokens false = or_syntax t (type_of_text t.text) >>= (λ type. Ok (number_kind type, tokens))
+    -- behind the name of a field of a type: an array where a length follows, else a number
+    abbrev pub parse_length : CType → List Token → (has_length : Bool) → Parsed WrittenKind
+    parse_length type tokens true = do
+      opened ← next tokens
+      count ← parse_literal opened.1
+      close ← parse_word (codes "]") count.1
+      Ok (array_kind type count.0, close.1)
+    parse_length type tokens false = Ok (number_kind type, tokens)
+
+    -- a field that begins with a token
+    abbrev pub parse_field_from : Token → List Token → (is_struct : Bool) → Parsed WrittenField
+    parse_field_from t tokens true = do
+      of ← parse_name tokens
+      name ← parse_name of.1
+      end ← parse_word (codes ";") name.1
+      Ok (record { line = t.line; kind = struct_kind of.0; name = name.0 }, end.1)
+    parse_field_from t tokens false = do
+      type ← or_syntax t (type_of_text t.text)
+      name ← parse_name tokens
+      kind ← parse_length type name.1 (bytes_eq (first_text name.1) (codes "["))
+      end ← parse_word (codes ";") kind.1
+      Ok (record { line = t.line; kind = kind.0; name = name.0 }, end.1)
 
     -- a field
     abbrev pub parse_field : List Token → Parsed WrittenField
     parse_field tokens = do
       t ← next tokens
-      kind ← parse_kind t.0 t.1 (bytes_eq t.0.text (codes "struct"))
-      name ← parse_name kind.1
-      end ← parse_word (codes ";") name.1
-      Ok (record { line = t.0.line; kind = kind.0; name = name.0 }, end.1)
+      parse_field_from t.0 t.1 (bytes_eq t.0.text (codes "struct"))
 
     -- a further field, or the `}`
     abbrev pub fields_step_by : List Token → (is_closed : Bool) → Result (Step WrittenField) CFault

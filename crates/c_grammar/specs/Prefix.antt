@@ -73,8 +73,13 @@ pub data Need : Type 0 where
   joint_need : Kind → Role → (depth : ℕ) → Need
   -- further arguments, or the `)`
   values_need : (depth : ℕ) → Need
-  leaf_need : Need
-  dot_need : Need
+  -- a leaf, in which an index opens at a depth
+  leaf_need : (depth : ℕ) → Need
+  -- what may follow the name of an own field in a leaf: a `.` and a name, or an index at a depth
+  tail_need : (depth : ℕ) → Need
+  -- what may follow the name of the field in a store, and of a number field where it is declared
+  index_need : Need
+  length_need : Need
   target_need : Need
   arguments_need : Need
   -- further statements at a depth, or the `}`
@@ -153,7 +158,11 @@ inside_reply role depth text =
     first_reply
     ((allows role expression && bytes_eq text (codes "-"), leaves (expr_need (depth + 1) ∷ text_need (codes ")") ∷ follow expression role depth))
     ∷ (allows role condition && bytes_eq text (codes "!"), leaves (cond_need (depth + 1) ∷ text_need (codes ")") ∷ follow condition role depth))
-    ∷ (allows role expression && bytes_eq text (codes "int64_t"), leaves (text_need (codes ")") ∷ leaf_need ∷ follow expression role depth))
+    ∷ (
+      allows role expression && bytes_eq text (codes "int64_t"),
+      leaves
+          (text_need (codes ")") ∷ leaf_need (depth + 1) ∷ follow expression role depth),
+    )
     ∷ (true, operand_reply (as_first role) (depth + 1) text)
     ∷ [])
 
@@ -170,11 +179,23 @@ joint_reply condition role depth text =
     ∷ (allows role expression && bytes_eq text (codes "?"), leaves (expr_need depth ∷ text_need (codes ":") ∷ expr_need depth ∷ text_need (codes ")") ∷ follow expression role (depth - 1)))
     ∷ [])
 
+-- an index that opens at a depth, behind its `[`
+abbrev pub index_needs : ℕ → List Need
+index_needs depth = expr_need depth ∷ text_need (codes "]") ∷ []
+
+-- the length of an array, behind its `[`
+abbrev pub length_needs : List Need
+length_needs = literal_need ∷ text_need (codes "]") ∷ []
+
 -- a token that opens a statement
 abbrev pub stmt_reply : ℕ → List ℕ → Reply
 stmt_reply depth text =
     within_limit depth stmt_limit (first_reply
-    ((bytes_eq text (codes "s"), leaves (text_need (codes "->") ∷ name_need ∷ text_need (codes "=") ∷ text_need (codes "(") ∷ type_need ∷ text_need (codes ")") ∷ expr_need 1 ∷ text_need (codes ";") ∷ []))
+    ((
+      bytes_eq text (codes "s"),
+      leaves (text_need (codes "->") ∷ name_need ∷ index_need ∷ text_need (codes "=") ∷ text_need (codes "(")
+          ∷ type_need ∷ text_need (codes ")") ∷ expr_need 1 ∷ text_need (codes ";") ∷ []),
+    )
     ∷ (bytes_eq text (codes "if"), leaves (cond_need 1 ∷ text_need (codes "{") ∷ stmts_need (depth + 1) ∷ else_need depth ∷ []))
     ∷ (is_name text, leaves (text_need (codes "(") ∷ target_need ∷ arguments_need ∷ text_need (codes ";") ∷ []))
     ∷ []))
@@ -183,7 +204,7 @@ stmt_reply depth text =
 abbrev pub field_reply : List ℕ → Reply
 field_reply text =
     first_reply
-    ((is_type text, leaves (name_need ∷ text_need (codes ";") ∷ []))
+    ((is_type text, leaves (name_need ∷ length_need ∷ text_need (codes ";") ∷ []))
     ∷ (bytes_eq text (codes "struct"), leaves (name_need ∷ name_need ∷ text_need (codes ";") ∷ []))
     ∷ [])
 
@@ -221,9 +242,13 @@ reply_of (operand_need role depth) text = operand_reply role depth text
 reply_of (inside_need role depth) text = inside_reply role depth text
 reply_of (joint_need kind role depth) text = joint_reply kind role depth text
 reply_of (values_need depth) text = comma_reply (expr_need depth ∷ values_need depth ∷ []) text
-reply_of leaf_need text =
-    first_reply ((bytes_eq text (codes "s"), leaves (text_need (codes "->") ∷ name_need ∷ dot_need ∷ [])) ∷ (is_name text, leaves []) ∷ [])
-reply_of dot_need text = only_if (bytes_eq text (codes ".")) (leaves (name_need ∷ []))
+reply_of (leaf_need depth) text =
+    first_reply ((bytes_eq text (codes "s"), leaves (text_need (codes "->") ∷ name_need ∷ tail_need depth ∷ [])) ∷ (is_name text, leaves [])
+    ∷ [])
+reply_of (tail_need depth) text =
+    first_reply ((bytes_eq text (codes "."), leaves (name_need ∷ [])) ∷ (bytes_eq text (codes "["), leaves (index_needs depth)) ∷ [])
+reply_of index_need text = only_if (bytes_eq text (codes "[")) (leaves (index_needs 1))
+reply_of length_need text = only_if (bytes_eq text (codes "[")) (leaves length_needs)
 reply_of target_need text =
     first_reply ((bytes_eq text (codes "s"), leaves []) ∷ (bytes_eq text (codes "&"), leaves (text_need (codes "s") ∷ text_need (codes "->") ∷ name_need ∷ [])) ∷ [])
 reply_of arguments_need text =
@@ -243,10 +268,14 @@ reply_of (pures_need count) text =
 reply_of structs_need text = if bytes_eq text (codes "struct") then leaves struct_needs else procedures_reply text
 reply_of procedures_need text = procedures_reply text
 
--- what a list of needs says to a token; a `.` with a name, and an `else` with its block, may be left out
+-- what a list of needs says to a token; a `.` with a name, an index, a length, and an `else` with its block may be left out
 abbrev pub step_needs : List Need → List ℕ → Reply
 step_needs [] text = refuses
-step_needs (dot_need ∷ needs) text = if bytes_eq text (codes ".") then leaves (name_need ∷ needs) else step_needs needs text
+step_needs (tail_need depth ∷ needs) text =
+    if bytes_eq text (codes ".") then leaves (name_need ∷ needs) else
+    (if bytes_eq text (codes "[") then leaves (index_needs depth ++ needs) else step_needs needs text)
+step_needs (index_need ∷ needs) text = if bytes_eq text (codes "[") then leaves (index_needs 1 ++ needs) else step_needs needs text
+step_needs (length_need ∷ needs) text = if bytes_eq text (codes "[") then leaves (length_needs ++ needs) else step_needs needs text
 step_needs (else_need depth ∷ needs) text = if bytes_eq text (codes "else") then leaves (text_need (codes "{") ∷ stmts_need (depth + 1) ∷ needs) else step_needs needs text
 step_needs (need ∷ needs) text = with_needs (reply_of need text) needs
 

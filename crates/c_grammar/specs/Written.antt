@@ -20,6 +20,8 @@ mutual
     binary : (op : BinOp) (left right : WrittenExpr) → WrittenExpr
     pick : (test : WrittenCond) (on_true on_false : WrittenExpr) → WrittenExpr
     pure : (line : ℕ) (function : List ℕ) (values : WrittenExprs) → WrittenExpr
+    -- an item of the array that an own field is
+    item : (line : ℕ) (field : List ℕ) (index : WrittenExpr) → WrittenExpr
 
   -- a row of expressions
   pub data WrittenExprs : Type 0 where
@@ -47,6 +49,7 @@ mutual
   -- a statement
   pub data WrittenStmt : Type 0 where
     assign : (line : ℕ) (field : List ℕ) (cast : CType) (value : WrittenExpr) → WrittenStmt
+    assign_at : (line : ℕ) (field : List ℕ) (index : WrittenExpr) (cast : CType) (value : WrittenExpr) → WrittenStmt
     branch : (line : ℕ) (test : WrittenCond) (on_true : WrittenStmts) → WrittenStmt
     branch_else : (line : ℕ) (test : WrittenCond) (on_true on_false : WrittenStmts) → WrittenStmt
     call : (line : ℕ) (procedure : List ℕ) (target : WrittenTarget) (values : WrittenArguments) → WrittenStmt

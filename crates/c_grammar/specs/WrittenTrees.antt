@@ -1,17 +1,17 @@
 -- The written trees of the values of the source.
 use Rattle.std.specs.Prelude.{ℕ, Bool, true, false, map}
-use Rattle.c_syntax.specs.Kinds.{WrittenKind, number_kind, struct_kind}
-use Rattle.c_grammar.specs.Written.{WrittenLeaf, param, own, child, WrittenExpr, literal, neg, read, binary, pick, pure, WrittenExprs, no_exprs, more_exprs, WrittenCond, compare, both, either, negated, WrittenTarget, own_target, field_target, WrittenStmt, assign, branch, branch_else, call, WrittenStmts, no_stmts, more_stmts, WrittenParam, WrittenPureParam, WrittenPure, WrittenField, WrittenStruct, WrittenProcedure, WrittenProgram}
+use Rattle.c_syntax.specs.Kinds.{WrittenKind, number_kind, array_kind, struct_kind}
+use Rattle.c_grammar.specs.Written.{WrittenLeaf, param, own, child, WrittenExpr, literal, neg, read, binary, pick, pure, item, WrittenExprs, no_exprs, more_exprs, WrittenCond, compare, both, either, negated, WrittenTarget, own_target, field_target, WrittenStmt, assign, assign_at, branch, branch_else, call, WrittenStmts, no_stmts, more_stmts, WrittenParam, WrittenPureParam, WrittenPure, WrittenField, WrittenStruct, WrittenProcedure, WrittenProgram}
 use Rattle.c_grammar.specs.Parsing.{arguments_from, stmts_from}
 use Rattle.c_syntax.specs.declared.code.CType.{CType}
 use Rattle.c_grammar.specs.declared.written.WrittenLeaf.{WrittenLeaf as Leaf}
 use Rattle.c_grammar.specs.declared.written.WrittenLeaf.TheVariants.{Param, Own, Child}
-use Rattle.c_grammar.specs.declared.written.WrittenExpr.{WrittenExpr as Expr, Literal, Neg', Read, Binary', Pick', Pure', Row_of-WrittenExpr, end_of-WrittenExpr, more_of-WrittenExpr}
+use Rattle.c_grammar.specs.declared.written.WrittenExpr.{WrittenExpr as Expr, Literal, Neg', Read, Binary', Pick', Pure', Item', Row_of-WrittenExpr, end_of-WrittenExpr, more_of-WrittenExpr}
 use Rattle.c_grammar.specs.declared.written.WrittenCond.{WrittenCond as Cond, Compare, Both', Either', Not'}
 use Rattle.c_grammar.specs.declared.written.WrittenTarget.{WrittenTarget as Target}
 use Rattle.c_grammar.specs.declared.written.WrittenTarget.TheVariants as target
 use Rattle.c_grammar.specs.declared.written.Argument.{Argument}
-use Rattle.c_grammar.specs.declared.written.WrittenStmt.{WrittenStmt as Stmt, Set, If', Call, Row_of-WrittenStmt, end_of-WrittenStmt, more_of-WrittenStmt}
+use Rattle.c_grammar.specs.declared.written.WrittenStmt.{WrittenStmt as Stmt, Set, SetAt, If', Call, Row_of-WrittenStmt, end_of-WrittenStmt, more_of-WrittenStmt}
 use Rattle.c_grammar.specs.declared.written.WrittenParam.{WrittenParam as Param'}
 use Rattle.c_grammar.specs.declared.written.WrittenPureParam.{WrittenPureParam as PureParam}
 use Rattle.c_grammar.specs.declared.written.WrittenPure.{WrittenPure as PureFunction}
@@ -37,6 +37,7 @@ abbrev mutual
   expr_of (Binary' op p left q right) = binary op (expr_of left) (expr_of right)
   expr_of (Pick' p test q on_true r on_false) = pick (cond_of test) (expr_of on_true) (expr_of on_false)
   expr_of (Pure' line function shape values) = pure line function.now (exprs_of values)
+  expr_of (Item' line field p index) = item line field.now (expr_of index)
 
   pub exprs_of : {m : _} → Row_of-WrittenExpr m → WrittenExprs
   exprs_of end_of-WrittenExpr = no_exprs
@@ -67,6 +68,7 @@ abbrev mutual
   -- a statement
   pub stmt_of : Stmt → WrittenStmt
   stmt_of (Set line field cast value) = assign line field.now cast (expr_of value)
+  stmt_of (SetAt line field index cast value) = assign_at line field.now (expr_of index) cast (expr_of value)
   stmt_of (If' line test p on_true has_else q on_false) = choice_of line (cond_of test) (stmts_of on_true) has_else (stmts_of on_false)
   stmt_of (Call line procedure target values) = call line procedure.now (target_of target) (arguments_from (map argument_of values.items))
 
@@ -90,6 +92,7 @@ pure_of p = record { line = p.line; name = p.name.now; params = map pure_param_o
 -- the kind of a field
 abbrev pub kind_of : Kind → WrittenKind
 kind_of (kind.Number type) = number_kind type
+kind_of (kind.Array type count) = array_kind type count.value
 kind_of (kind.Struct name) = struct_kind name.now
 
 -- a field

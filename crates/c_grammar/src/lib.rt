@@ -9,7 +9,7 @@ mod written;
 pub use fault::ReadCFault;
 pub use laws::parsing_agrees;
 pub use openers::{
-    Comma, Definition, Inside, Opener, StmtOpener, TargetOpener, TestJoint, ValueJoint, Want,
+    Comma, Definition, Inside, Opener, StmtOpener, Tail, TargetOpener, TestJoint, ValueJoint, Want,
 };
 pub use written::{
     Argument, Number, WrittenCond, WrittenExpr, WrittenField, WrittenKind, WrittenLeaf,

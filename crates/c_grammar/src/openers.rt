@@ -64,6 +64,17 @@ pub enum Inside {
     First,
 }
 
+/// What a token behind the name of an own field begins.
+#[derive(Clone, Copy, Drop)]
+pub enum Tail {
+    /// A field of that field, behind a `.`.
+    Dot,
+    /// The index of an item of that array, behind a `[`.
+    Bracket,
+    /// Nothing: the field itself is meant.
+    Nothing,
+}
+
 /// What a token behind an expression joins it to.
 #[derive(Clone, Copy, Drop)]
 pub enum ValueJoint {

@@ -7,6 +7,7 @@ use mc_base::Compare;
 /// A literal: at most 63 bits.
 #[derive(Clone, Copy, Drop)]
 pub struct Number {
+    /// What it stands for.
     pub value: u64,
     pub ghost small: { value < 2 ^ 63 },
 }
@@ -14,8 +15,11 @@ pub struct Number {
 /// What an expression reads: a parameter, a field, or a field of a field, by name.
 #[derive(Clone, Copy, Drop)]
 pub enum WrittenLeaf<'a> {
+    /// A parameter.
     Param(&'a [u8]),
+    /// A field of the own struct.
     Own(&'a [u8]),
+    /// In the struct that the first own field holds, its field of the second name.
     Child(&'a [u8], &'a [u8]),
 }
 
@@ -23,18 +27,30 @@ pub enum WrittenLeaf<'a> {
 #[derive(Drop)]
 #[cycle(written)]
 pub enum WrittenExpr<'a> {
+    /// A number from 0 on.
     Literal(Number),
+    /// The negative of a number.
     Neg(Box<WrittenExpr<'a>>),
+    /// What a leaf stands for, with the line of the leaf.
     Read {
         line: u32,
         leaf: WrittenLeaf<'a>,
     },
+    /// An operator on the left number and the right one.
     Binary(BinOp, Box<WrittenExpr<'a>>, Box<WrittenExpr<'a>>),
+    /// The first number where the condition holds, else the second.
     Pick(Box<WrittenCond<'a>>, Box<WrittenExpr<'a>>, Box<WrittenExpr<'a>>),
+    /// A call of a pure function, with the line of its name.
     Pure {
         line: u32,
         function: &'a [u8],
         values: Vec<WrittenExpr<'a>>,
+    },
+    /// The item at an index of the array that an own field is, with the line of its `s`.
+    Item {
+        line: u32,
+        field: &'a [u8],
+        index: Box<WrittenExpr<'a>>,
     },
 }
 
@@ -42,36 +58,54 @@ pub enum WrittenExpr<'a> {
 #[derive(Drop)]
 #[cycle(written)]
 pub enum WrittenCond<'a> {
+    /// Two numbers compare so.
     Compare(Compare, WrittenExpr<'a>, WrittenExpr<'a>),
+    /// Both hold.
     Both(Box<WrittenCond<'a>>, Box<WrittenCond<'a>>),
+    /// One of them holds.
     Either(Box<WrittenCond<'a>>, Box<WrittenCond<'a>>),
+    /// It doesn't hold.
     Not(Box<WrittenCond<'a>>),
 }
 
 /// Whose procedure is called.
 #[derive(Clone, Copy, Drop)]
 pub enum WrittenTarget<'a> {
+    /// One of the own struct, on `s`.
     Own,
+    /// One of the struct that an own field holds.
     Field(&'a [u8]),
 }
 
-/// An argument of a call of a procedure, with its cast.
+/// A value with its cast: an argument of a call of a procedure, or what is stored.
 #[derive(Drop)]
 pub struct Argument<'a> {
+    /// The type in the cast.
     pub cast: CType,
+    /// What is cast.
     pub value: WrittenExpr<'a>,
 }
 
-/// A statement.
+/// A statement, with the line of its first token.
 #[derive(Drop)]
 #[cycle(written_statement)]
 pub enum WrittenStmt<'a> {
+    /// A store in an own field.
     Set {
         line: u32,
         field: &'a [u8],
         cast: CType,
         value: WrittenExpr<'a>,
     },
+    /// A store in the item at an index of the array that an own field is.
+    SetAt {
+        line: u32,
+        field: &'a [u8],
+        index: WrittenExpr<'a>,
+        cast: CType,
+        value: WrittenExpr<'a>,
+    },
+    /// A choice between statements; without an `else` there are none on the other side.
     If {
         line: u32,
         test: WrittenCond<'a>,
@@ -79,6 +113,7 @@ pub enum WrittenStmt<'a> {
         has_else: bool,
         no: Vec<WrittenStmt<'a>>,
     },
+    /// A call of a procedure, by its name.
     Call {
         line: u32,
         procedure: &'a [u8],
@@ -112,10 +147,14 @@ pub struct WrittenPure<'a> {
     pub body: WrittenExpr<'a>,
 }
 
-/// What a field is declared as: a number of a type, or a struct by its name.
+/// What a field is declared as: a number of a type, so many of them, or a struct by its name.
 #[derive(Clone, Copy, Drop)]
 pub enum WrittenKind<'a> {
+    /// A number of a type.
     Number(CType),
+    /// An array of numbers of a type, with its length as it stands.
+    Array(CType, Number),
+    /// A struct, by its name.
     Struct(&'a [u8]),
 }
 

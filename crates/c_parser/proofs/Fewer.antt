@@ -3,15 +3,17 @@ use Rattle.std.proofs.Common.{◌≡◌, refl, ap, ℕ, zero, suc, ◌+◌, ◌<
 use Rattle.c_syntax.specs.declared.fault.CFault.{CFault}
 use Rattle.c_grammar.specs.Tokens.{Token}
 use Rattle.c_syntax.specs.Names.{is_name}
-use Rattle.c_grammar.specs.Written.{own, child, WrittenExpr, WrittenCond}
+use Rattle.c_grammar.specs.Written.{WrittenExpr, WrittenCond}
 use Rattle.c_grammar.specs.Results.{◌>>=◌, ◌>>◌}
-use Rattle.c_grammar.specs.Parsing.{Parsed, Operand, value, test, Step, one_more, the_end, after_step, many, or_syntax, or_syntax_unless, next, parse_word, parse_name, parse_type, parse_literal, parse_cast, parse_field_name, parse_inner, parse_leaf_from, parse_leaf, value_only, test_only, deeper_value, deeper_test, parse_number, values_step_by, values_step, parse_values, join_value, join_test, join, parse_inside, parse_opened, opened_too_deep, parse_operand, parse_expr, parse_cond, first_text, value_joint, test_joint, comma_of, opener_of, inside_of, type_of_text}
+use Rattle.c_grammar.specs.Parsing.{Parsed, Operand, value, test, Step, one_more, the_end, after_step, many, or_syntax, or_syntax_unless, next, parse_word, parse_name, parse_type, parse_literal, parse_cast, parse_field_name, parse_index, parse_tail, parse_leaf_from, parse_leaf, value_only, test_only, deeper_value, deeper_test, parse_number, values_step_by, values_step, parse_values, join_value, join_test, join, parse_inside, parse_opened, opened_too_deep, parse_operand, parse_expr, parse_cond, first_text, value_joint, test_joint, comma_of, opener_of, inside_of, tail_of, type_of_text}
 use Rattle.c_grammar.specs.declared.openers.Comma.{Comma}
 use Rattle.c_grammar.specs.declared.openers.Comma.TheVariants.{Another as another, Closed as closed, Nothing as no_comma}
 use Rattle.c_grammar.specs.declared.openers.Inside.{Inside}
 use Rattle.c_grammar.specs.declared.openers.Inside.TheVariants.{Minus as minus_inside, Not as not_inside, Cast as cast_inside, First as first_inside}
 use Rattle.c_grammar.specs.declared.openers.Opener.{Opener}
 use Rattle.c_grammar.specs.declared.openers.Opener.TheVariants.{Number as number_opener, Call as call_opener, Paren as paren_opener, Nothing as no_opener}
+use Rattle.c_grammar.specs.declared.openers.Tail.{Tail}
+use Rattle.c_grammar.specs.declared.openers.Tail.TheVariants.{Dot as dot_tail, Bracket as bracket_tail, Nothing as no_tail}
 use Rattle.c_grammar.specs.declared.openers.TestJoint.{TestJoint}
 use Rattle.c_grammar.specs.declared.openers.TestJoint.TheVariants.{And as and_joint, Or as or_joint, Pick as pick_joint, Nothing as no_test_joint}
 use Rattle.c_grammar.specs.declared.openers.ValueJoint.{ValueJoint}
@@ -132,25 +134,6 @@ module _ (last : ℕ) where
       below-then (length tokens) (length tokens) (parse_word last (codes "->") tokens) _ (word-below (codes "->") tokens) (λ arrow h.
       below-more (length arrow.1) (length tokens) (parse_name last arrow.1) (omega arith) (name-below arrow.1))
 
-  pub inner-below : (field : List ℕ) (tokens : List Token) (dot : Bool) → Below (suc (length tokens)) (parse_inner last field tokens dot)
-  inner-below field tokens true =
-      below-then (length tokens) (suc (length tokens)) (next last tokens) _ (next-below tokens) (λ dot h.
-      below-then (length dot.1) (suc (length tokens)) (parse_name last dot.1) _ (name-below dot.1) (λ inner k.
-      below-ok (suc (length tokens)) (child field inner.0) inner.1 (omega arith)))
-  inner-below field tokens false = below-ok (suc (length tokens)) (own field) tokens (omega arith)
-
-  pub leaf_from-below : (t : Token) (tokens : List Token) (is_own : Bool) → Below (suc (length tokens)) (parse_leaf_from last t tokens is_own)
-  leaf_from-below t tokens true =
-      below-then (length tokens) (suc (length tokens)) (parse_field_name last tokens) _ (field_name-below tokens) (λ field h.
-      below-more (suc (length field.1)) (suc (length tokens)) (parse_inner last field.0 field.1 (bytes_eq (first_text field.1) (codes "."))) (omega arith) (inner-below field.0 field.1 (bytes_eq (first_text field.1) (codes "."))))
-  leaf_from-below t tokens false = below-unless (suc (length tokens)) _ _ (below-ok (suc (length tokens)) _ tokens (omega arith))
-
-  pub leaf-below : (tokens : List Token) → Below (length tokens) (parse_leaf last tokens)
-  leaf-below tokens =
-      below-then (length tokens) (length tokens) (next last tokens) _ (next-below tokens) (λ t h.
-      below-then (suc (length t.1)) (length tokens) (parse_leaf_from last t.0 t.1 (bytes_eq t.0.text (codes "s"))) _ (leaf_from-below t.0 t.1 (bytes_eq t.0.text (codes "s"))) (λ leaf k.
-      below-ok (length tokens) _ leaf.1 (omega arith)))
-
   value_only-below : (n : ℕ) (read : Operand × List Token) → length read.1 < n → Below n (value_only last read)
   value_only-below n (value e, tokens) h = below-ok n e tokens h
   value_only-below n (test c, tokens) h = below-err n _
@@ -165,6 +148,39 @@ module _ (last : ℕ) where
 
     test-below : (tokens : List Token) → Below (length tokens) (deeper_test last operand tokens)
     test-below tokens = below-then (length tokens) (length tokens) (operand want_test tokens) _ (each want_test tokens) (λ read h. test_only-below (length tokens) read h)
+
+    index-below : (tokens : List Token) → Below (length tokens) (parse_index last operand tokens)
+    index-below tokens =
+        below-then (length tokens) (length tokens) (next last tokens) _ (next-below tokens) (λ opened h.
+        below-then (length opened.1) (length tokens) (deeper_value last operand opened.1) _ (value-below opened.1) (λ e k.
+        below-then (length e.1) (length tokens) (parse_word last (codes "]") e.1) _ (word-below (codes "]") e.1) (λ close j.
+        below-ok (length tokens) _ close.1 (omega arith))))
+
+    tail-below : (line : ℕ) (field : List ℕ) (tokens : List Token) (tail : Tail)
+        → Below (suc (length tokens)) (parse_tail last operand line field tokens tail)
+    tail-below line field tokens dot_tail =
+        below-then (length tokens) (suc (length tokens)) (next last tokens) _ (next-below tokens) (λ dot h.
+        below-then (length dot.1) (suc (length tokens)) (parse_name last dot.1) _ (name-below dot.1) (λ inner k.
+        below-ok (suc (length tokens)) _ inner.1 (omega arith)))
+    tail-below line field tokens bracket_tail =
+        below-then (length tokens) (suc (length tokens)) (parse_index last operand tokens) _ (index-below tokens) (λ index h.
+        below-ok (suc (length tokens)) _ index.1 (omega arith))
+    tail-below line field tokens no_tail = below-ok (suc (length tokens)) _ tokens (omega arith)
+
+    leaf_from-below : (t : Token) (tokens : List Token) (is_own : Bool)
+        → Below (suc (length tokens)) (parse_leaf_from last operand t tokens is_own)
+    leaf_from-below t tokens true =
+        below-then (length tokens) (suc (length tokens)) (parse_field_name last tokens) _ (field_name-below tokens) (λ field h.
+        below-more (suc (length field.1)) (suc (length tokens))
+        (parse_tail last operand t.line field.0 field.1 (tail_of (first_text field.1))) (omega arith)
+        (tail-below t.line field.0 field.1 (tail_of (first_text field.1))))
+    leaf_from-below t tokens false = below-unless (suc (length tokens)) _ _ (below-ok (suc (length tokens)) _ tokens (omega arith))
+
+    leaf-below : (tokens : List Token) → Below (length tokens) (parse_leaf last operand tokens)
+    leaf-below tokens =
+        below-then (length tokens) (length tokens) (next last tokens) _ (next-below tokens) (λ t h.
+        below-more (suc (length t.1)) (length tokens) (parse_leaf_from last operand t.0 t.1 (bytes_eq t.0.text (codes "s"))) (omega arith)
+        (leaf_from-below t.0 t.1 (bytes_eq t.0.text (codes "s"))))
 
     number-below : (tokens : List Token) → Below (length tokens) (parse_number last operand tokens)
     number-below tokens =
@@ -223,7 +239,7 @@ module _ (last : ℕ) where
     inside-below want tokens cast_inside =
         below-then (length tokens) (length tokens) (next last tokens) _ (next-below tokens) (λ type h.
         below-then (length type.1) (length tokens) (parse_word last (codes ")") type.1) _ (word-below (codes ")") type.1) (λ close k.
-        below-then (length close.1) (length tokens) (parse_leaf last close.1) _ (leaf-below close.1) (λ leaf j.
+        below-then (length close.1) (length tokens) (parse_leaf last operand close.1) _ (leaf-below close.1) (λ leaf j.
         below-ok (length tokens) _ leaf.1 (omega arith))))
     inside-below want tokens first_inside =
         below-then (length tokens) (length tokens) (operand want_any tokens) _ (each want_any tokens) (λ a h.
@@ -252,6 +268,9 @@ module _ (last : ℕ) where
 
   pub expr-below : (levels : ℕ) (tokens : List Token) → Below (length tokens) (parse_expr last levels tokens)
   expr-below levels tokens = value-below (parse_operand last levels) (operand-below levels) tokens
+
+  pub outer_index-below : (levels : ℕ) (tokens : List Token) → Below (length tokens) (parse_index last (parse_operand last levels) tokens)
+  outer_index-below levels tokens = index-below (parse_operand last levels) (operand-below levels) tokens
 
   pub cond-below : (levels : ℕ) (tokens : List Token) → Below (length tokens) (parse_cond last levels tokens)
   cond-below levels tokens = test-below (parse_operand last levels) (operand-below levels) tokens

@@ -1,10 +1,11 @@
 -- Behind statements and definitions there are fewer tokens.
 use Rattle.std.proofs.Common.{◌≡◌, refl, ℕ, zero, suc, ◌+◌, ◌<◌, List, [], ◌∷◌, length, Bool, true, false, codes, bytes_eq, nat_le, Result, Ok, Err, arith}
+use Rattle.c_syntax.specs.declared.code.CType.{CType}
 use Rattle.c_syntax.specs.declared.fault.CFault.{CFault}
 use Rattle.c_grammar.specs.Tokens.{Token}
 use Rattle.c_grammar.specs.Written.{WrittenCond, WrittenStmt, WrittenStmts, own_target, WrittenPureParam, WrittenParam, WrittenPure, WrittenField, WrittenStruct, WrittenProcedure}
 use Rattle.c_grammar.specs.Results.{◌>>=◌, ◌>>◌}
-use Rattle.c_grammar.specs.Parsing.{Parsed, Limits, Argument, Step, one_more, many, or_syntax, or_syntax_unless, or_deep_unless, next, parse_word, parse_name, parse_cast, parse_field_name, parse_expr, parse_cond, first_text, comma_of, type_of_text, parse_target_from, parse_target, target_opener_of, stmt_opener_of, definition_of, arguments_step_by, arguments_step, parse_store, parse_call, stmts_step_by, stmts_step, parse_block, parse_second, parse_if, parse_stmt_opened, stmt_too_deep, parse_stmt, parse_pure_param, pure_params_step_by, pure_params_step, parse_param, params_step_by, params_step, parse_pure, parse_kind, parse_field, fields_step_by, fields_step, parse_struct, parse_procedure_behind, parse_procedure, pures_step_by, pures_step, structs_step_by, structs_step, procedures_step}
+use Rattle.c_grammar.specs.Parsing.{Parsed, Limits, Argument, Step, one_more, many, or_syntax, or_syntax_unless, or_deep_unless, next, parse_word, parse_name, parse_literal, parse_cast, parse_field_name, parse_index, parse_operand, parse_expr, parse_cond, first_text, comma_of, type_of_text, parse_target_from, parse_target, target_opener_of, stmt_opener_of, definition_of, arguments_step_by, arguments_step, parse_stored, parse_store_in, parse_store, parse_call, stmts_step_by, stmts_step, parse_block, parse_second, parse_if, parse_stmt_opened, stmt_too_deep, parse_stmt, parse_pure_param, pure_params_step_by, pure_params_step, parse_param, params_step_by, params_step, parse_pure, parse_length, parse_field_from, parse_field, fields_step_by, fields_step, parse_struct, parse_procedure_behind, parse_procedure, pures_step_by, pures_step, structs_step_by, structs_step, procedures_step}
 use Rattle.c_grammar.specs.declared.openers.Comma.{Comma}
 use Rattle.c_grammar.specs.declared.openers.Comma.TheVariants.{Another as another, Closed as closed, Nothing as no_comma}
 use Rattle.c_grammar.specs.declared.openers.Definition.{Definition}
@@ -13,7 +14,7 @@ use Rattle.c_grammar.specs.declared.openers.StmtOpener.{StmtOpener}
 use Rattle.c_grammar.specs.declared.openers.StmtOpener.TheVariants.{Store as store_opener, If as if_opener, Call as invoke_opener, Nothing as no_stmt}
 use Rattle.c_grammar.specs.declared.openers.TargetOpener.{TargetOpener}
 use Rattle.c_grammar.specs.declared.openers.TargetOpener.TheVariants.{Own as own_opener, Field as field_opener, Nothing as no_target}
-use Rattle.c_parser.proofs.Fewer.{Below, StepBelow, below-ok, below-err, below-then, below-after, below-unless, below-more, step-more, step-err, step-end, step-then, step-wider, many-below, next-below, word-below, name-below, cast-below, field_name-below, expr-below, cond-below}
+use Rattle.c_parser.proofs.Fewer.{Below, StepBelow, below-ok, below-err, below-then, below-after, below-unless, below-more, step-more, step-err, step-end, step-then, step-wider, many-below, next-below, word-below, name-below, literal-below, cast-below, field_name-below, expr-below, outer_index-below, cond-below}
 
 step-unless : {X Y : Type 0} (n : ℕ) (r : Result X CFault) (s : Result (Step Y) CFault) → StepBelow n s → StepBelow n (r >> s)
 step-unless n (Ok x) s later = later
@@ -53,14 +54,31 @@ module _ (last : ℕ) where
     pub arguments_step-falls : (count : ℕ) (tokens : List Token) (x : Argument) (rest : List Token) → arguments_step last limits count tokens ≡ Ok (one_more x rest) → length rest < length tokens
     arguments_step-falls count tokens x rest e = (arguments_step-below count tokens).more x rest e
 
-    store-below : (t : Token) (tokens : List Token) → Below (length tokens) (parse_store last limits t tokens)
-    store-below t tokens =
-        below-then (length tokens) (length tokens) (parse_field_name last tokens) _ (field_name-below last tokens) (λ field h.
-        below-then (length field.1) (length tokens) (parse_word last (codes "=") field.1) _ (word-below last (codes "=") field.1) (λ equals k.
+    stored-below : (tokens : List Token) → Below (length tokens) (parse_stored last limits tokens)
+    stored-below tokens =
+        below-then (length tokens) (length tokens) (parse_word last (codes "=") tokens) _ (word-below last (codes "=") tokens) (λ equals k.
         below-then (length equals.1) (length tokens) (parse_cast last equals.1) _ (cast-below last equals.1) (λ type j.
         below-then (length type.1) (length tokens) (parse_expr last limits.exprs type.1) _ (expr-below last limits.exprs type.1) (λ e i.
         below-then (length e.1) (length tokens) (parse_word last (codes ";") e.1) _ (word-below last (codes ";") e.1) (λ end g.
-        below-ok (length tokens) _ end.1 (omega arith))))))
+        below-ok (length tokens) _ end.1 (omega arith)))))
+
+    store_in-below : (t : Token) (field : List ℕ) (tokens : List Token) (has_index : Bool)
+        → Below (length tokens) (parse_store_in last limits t field tokens has_index)
+    store_in-below t field tokens true =
+        below-then (length tokens) (length tokens) (parse_index last (parse_operand last limits.exprs) tokens) _
+        (outer_index-below last limits.exprs tokens) (λ index h.
+        below-then (length index.1) (length tokens) (parse_stored last limits index.1) _ (stored-below index.1) (λ stored k.
+        below-ok (length tokens) _ stored.1 (omega arith)))
+    store_in-below t field tokens false =
+        below-then (length tokens) (length tokens) (parse_stored last limits tokens) _ (stored-below tokens) (λ stored h.
+        below-ok (length tokens) _ stored.1 h)
+
+    store-below : (t : Token) (tokens : List Token) → Below (length tokens) (parse_store last limits t tokens)
+    store-below t tokens =
+        below-then (length tokens) (length tokens) (parse_field_name last tokens) _ (field_name-below last tokens) (λ field h.
+        below-more (length field.1) (length tokens) (parse_store_in last limits t field.0 field.1
+        (bytes_eq (first_text field.1) (codes "["))) (omega arith)
+        (store_in-below t field.0 field.1 (bytes_eq (first_text field.1) (codes "["))))
 
     call-below : (t : Token) (tokens : List Token) → Below (length tokens) (parse_call last limits t tokens)
     call-below t tokens =
@@ -174,19 +192,36 @@ module _ (last : ℕ) where
         below-then (length end.1) (length tokens) (parse_word last (codes "}") end.1) _ (word-below last (codes "}") end.1) (λ close h0.
         below-ok (length tokens) _ close.1 (omega arith))))))))))))
 
-    kind-below : (t : Token) (tokens : List Token) (is_struct : Bool) → Below (suc (length tokens)) (parse_kind last limits t tokens is_struct)
-    kind-below t tokens true =
-        below-then (length tokens) (suc (length tokens)) (parse_name last tokens) _ (name-below last tokens) (λ name h.
-        below-ok (suc (length tokens)) _ name.1 (omega arith))
-    kind-below t tokens false = below-after (suc (length tokens)) (or_syntax t (type_of_text t.text)) _ (λ type. below-ok (suc (length tokens)) _ tokens (omega arith))
+    length-below : (type : CType) (tokens : List Token) (has_length : Bool)
+        → Below (suc (length tokens)) (parse_length last limits type tokens has_length)
+    length-below type tokens true =
+        below-then (length tokens) (suc (length tokens)) (next last tokens) _ (next-below last tokens) (λ opened h.
+        below-then (length opened.1) (suc (length tokens)) (parse_literal last opened.1) _ (literal-below last opened.1) (λ count k.
+        below-then (length count.1) (suc (length tokens)) (parse_word last (codes "]") count.1) _ (word-below last (codes "]") count.1)
+        (λ close j.
+        below-ok (suc (length tokens)) _ close.1 (omega arith))))
+    length-below type tokens false = below-ok (suc (length tokens)) _ tokens (omega arith)
+
+    field_from-below : (t : Token) (tokens : List Token) (is_struct : Bool)
+        → Below (length tokens) (parse_field_from last limits t tokens is_struct)
+    field_from-below t tokens true =
+        below-then (length tokens) (length tokens) (parse_name last tokens) _ (name-below last tokens) (λ of h.
+        below-then (length of.1) (length tokens) (parse_name last of.1) _ (name-below last of.1) (λ name k.
+        below-then (length name.1) (length tokens) (parse_word last (codes ";") name.1) _ (word-below last (codes ";") name.1) (λ end j.
+        below-ok (length tokens) _ end.1 (omega arith))))
+    field_from-below t tokens false =
+        below-after (length tokens) (or_syntax t (type_of_text t.text)) _ (λ type.
+        below-then (length tokens) (length tokens) (parse_name last tokens) _ (name-below last tokens) (λ name h.
+        below-then (suc (length name.1)) (length tokens) (parse_length last limits type name.1 (bytes_eq (first_text name.1) (codes "["))) _
+        (length-below type name.1 (bytes_eq (first_text name.1) (codes "["))) (λ kind k.
+        below-then (length kind.1) (length tokens) (parse_word last (codes ";") kind.1) _ (word-below last (codes ";") kind.1) (λ end j.
+        below-ok (length tokens) _ end.1 (omega arith)))))
 
     field-below : (tokens : List Token) → Below (length tokens) (parse_field last limits tokens)
     field-below tokens =
         below-then (length tokens) (length tokens) (next last tokens) _ (next-below last tokens) (λ t h.
-        below-then (suc (length t.1)) (length tokens) (parse_kind last limits t.0 t.1 (bytes_eq t.0.text (codes "struct"))) _ (kind-below t.0 t.1 (bytes_eq t.0.text (codes "struct"))) (λ kind k.
-        below-then (length kind.1) (length tokens) (parse_name last kind.1) _ (name-below last kind.1) (λ name j.
-        below-then (length name.1) (length tokens) (parse_word last (codes ";") name.1) _ (word-below last (codes ";") name.1) (λ end i.
-        below-ok (length tokens) _ end.1 (omega arith)))))
+        below-more (length t.1) (length tokens) (parse_field_from last limits t.0 t.1 (bytes_eq t.0.text (codes "struct"))) (omega arith)
+        (field_from-below t.0 t.1 (bytes_eq t.0.text (codes "struct"))))
 
     fields_step_by-below : (tokens : List Token) (is_closed : Bool) → StepBelow (length tokens) (fields_step_by last limits tokens is_closed)
     fields_step_by-below tokens true = step-then (length tokens) (length tokens) (next last tokens) _ (next-below last tokens) (λ close h. step-end (length tokens) close.1 (omega arith))

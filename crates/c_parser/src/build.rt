@@ -1,55 +1,77 @@
-// Expressions, conditions and choices of their parts.
+// Expressions, conditions and statements of their parts.
 ghost use Rattle.std.specs.Prelude.{◌≡◌, IfOk, map};
 ghost use Rattle.c_grammar.specs.Written as written;
 ghost use Rattle.c_grammar.specs.Parsing.{exprs_from, stmts_from};
-ghost use Rattle.c_grammar.specs.WrittenTrees.{expr_of, cond_of, stmt_of, choice_of};
+ghost use Rattle.c_grammar.specs.WrittenTrees.{leaf_of, expr_of, cond_of, stmt_of, choice_of};
+ghost use Rattle.c_parser.specs.Operands.{boxed_expr, boxed_cond};
 
-use c_grammar::{WrittenCond, WrittenExpr, WrittenStmt};
+use c_grammar::{Argument, Number, WrittenCond, WrittenExpr, WrittenLeaf, WrittenStmt};
 use c_syntax::BinOp;
-use mc_base::Memory;
+use mc_base::{Compare, Memory};
 use std::alloc::Global;
+
+pub(crate) fn literal<'a>(alloc: Global, number: Number) -> Result<Box<WrittenExpr<'a>>, Memory>
+    ensures { IfOk result (λ e. boxed_expr e ≡ written.literal number.value) }
+{
+    Ok(Box::new(alloc, WrittenExpr::Literal(number))?)
+}
+
+pub(crate) fn read<'a>(
+    alloc: Global,
+    line: u32,
+    leaf: WrittenLeaf<'a>,
+) -> Result<Box<WrittenExpr<'a>>, Memory>
+    ensures { IfOk result (λ e. boxed_expr e ≡ written.read line (leaf_of leaf.entry)) }
+{
+    Ok(Box::new(alloc, WrittenExpr::Read { line, leaf })?)
+}
+
+pub(crate) fn item<'a>(
+    alloc: Global,
+    line: u32,
+    field: &'a [u8],
+    index: Box<WrittenExpr<'a>>,
+) -> Result<Box<WrittenExpr<'a>>, Memory>
+    ensures { IfOk result (λ e. boxed_expr e
+        ≡ written.item line field.now (boxed_expr index.entry)) }
+{
+    Ok(Box::new(alloc, WrittenExpr::Item { line, field, index })?)
+}
 
 pub(crate) fn negative<'a>(
     alloc: Global,
-    operand: WrittenExpr<'a>,
-) -> Result<WrittenExpr<'a>, Memory>
-    ensures { IfOk result (λ e. expr_of e ≡ written.neg (expr_of operand.entry)) }
+    operand: Box<WrittenExpr<'a>>,
+) -> Result<Box<WrittenExpr<'a>>, Memory>
+    ensures { IfOk result (λ e. boxed_expr e ≡ written.neg (boxed_expr operand.entry)) }
 {
-    Ok(WrittenExpr::Neg(Box::new(alloc, operand)?))
+    Ok(Box::new(alloc, WrittenExpr::Neg(operand))?)
 }
 
 pub(crate) fn binary<'a>(
     alloc: Global,
     op: BinOp,
-    left: WrittenExpr<'a>,
-    right: WrittenExpr<'a>,
-) -> Result<WrittenExpr<'a>, Memory>
-    ensures { IfOk result (λ e. expr_of e ≡ written.binary op (expr_of left.entry) (expr_of right.entry)) }
+    left: Box<WrittenExpr<'a>>,
+    right: Box<WrittenExpr<'a>>,
+) -> Result<Box<WrittenExpr<'a>>, Memory>
+    ensures { IfOk result (λ e. boxed_expr e
+        ≡ written.binary op (boxed_expr left.entry) (boxed_expr right.entry)) }
 {
-    let left = Box::new(alloc, left)?;
-    let right = Box::new(alloc, right)?;
-    Ok(WrittenExpr::Binary(op, left, right))
+    Ok(Box::new(alloc, WrittenExpr::Binary(op, left, right))?)
 }
 
 pub(crate) fn pick<'a>(
     alloc: Global,
-    test: WrittenCond<'a>,
-    on_true: WrittenExpr<'a>,
-    on_false: WrittenExpr<'a>,
-) -> Result<WrittenExpr<'a>, Memory>
-    ensures { IfOk result (λ e. expr_of e ≡ written.pick (cond_of test.entry) (expr_of on_true.entry) (expr_of on_false.entry)) }
+    test: Box<WrittenCond<'a>>,
+    on_true: Box<WrittenExpr<'a>>,
+    on_false: Box<WrittenExpr<'a>>,
+) -> Result<Box<WrittenExpr<'a>>, Memory>
+    ensures { IfOk result (λ e. boxed_expr e
+        ≡ written.pick (boxed_cond test.entry) (boxed_expr on_true.entry) (boxed_expr on_false.entry)) }
 {
-    let test = Box::new(alloc, test)?;
-    let on_true = Box::new(alloc, on_true)?;
-    let on_false = Box::new(alloc, on_false)?;
-    Ok(WrittenExpr::Pick(test, on_true, on_false))
+    Ok(Box::new(alloc, WrittenExpr::Pick(test, on_true, on_false))?)
 }
 
-pub(crate) fn call_of_pure<'a>(
-    line: u32,
-    function: &'a [u8],
-    values: Vec<WrittenExpr<'a>>,
-) -> WrittenExpr<'a>
+fn call_of_pure<'a>(line: u32, function: &'a [u8], values: Vec<WrittenExpr<'a>>) -> WrittenExpr<'a>
     ensures { expr_of result ≡ written.pure line function.now (exprs_from (map expr_of values.entry.items)) }
 {
     WrittenExpr::Pure {
@@ -59,52 +81,109 @@ pub(crate) fn call_of_pure<'a>(
     }
 }
 
+pub(crate) fn pure<'a>(
+    alloc: Global,
+    line: u32,
+    function: &'a [u8],
+    values: Vec<WrittenExpr<'a>>,
+) -> Result<Box<WrittenExpr<'a>>, Memory>
+    ensures { IfOk result (λ e. boxed_expr e
+        ≡ written.pure line function.now (exprs_from (map expr_of values.entry.items))) }
+{
+    Ok(Box::new(alloc, call_of_pure(line, function, values))?)
+}
+
+pub(crate) fn compare<'a>(
+    alloc: Global,
+    how: Compare,
+    left: Box<WrittenExpr<'a>>,
+    right: Box<WrittenExpr<'a>>,
+) -> Result<Box<WrittenCond<'a>>, Memory>
+    ensures { IfOk result (λ c. boxed_cond c
+        ≡ written.compare how (boxed_expr left.entry) (boxed_expr right.entry)) }
+{
+    let compare = WrittenCond::Compare(how, Box::into_inner(left), Box::into_inner(right));
+    Ok(Box::new(alloc, compare)?)
+}
+
 pub(crate) fn both<'a>(
     alloc: Global,
-    left: WrittenCond<'a>,
-    right: WrittenCond<'a>,
-) -> Result<WrittenCond<'a>, Memory>
-    ensures { IfOk result (λ c. cond_of c ≡ written.both (cond_of left.entry) (cond_of right.entry)) }
+    left: Box<WrittenCond<'a>>,
+    right: Box<WrittenCond<'a>>,
+) -> Result<Box<WrittenCond<'a>>, Memory>
+    ensures { IfOk result (λ c. boxed_cond c
+        ≡ written.both (boxed_cond left.entry) (boxed_cond right.entry)) }
 {
-    let left = Box::new(alloc, left)?;
-    let right = Box::new(alloc, right)?;
-    Ok(WrittenCond::Both(left, right))
+    Ok(Box::new(alloc, WrittenCond::Both(left, right))?)
 }
 
 pub(crate) fn either<'a>(
     alloc: Global,
-    left: WrittenCond<'a>,
-    right: WrittenCond<'a>,
-) -> Result<WrittenCond<'a>, Memory>
-    ensures { IfOk result (λ c. cond_of c ≡ written.either (cond_of left.entry) (cond_of right.entry)) }
+    left: Box<WrittenCond<'a>>,
+    right: Box<WrittenCond<'a>>,
+) -> Result<Box<WrittenCond<'a>>, Memory>
+    ensures { IfOk result (λ c. boxed_cond c
+        ≡ written.either (boxed_cond left.entry) (boxed_cond right.entry)) }
 {
-    let left = Box::new(alloc, left)?;
-    let right = Box::new(alloc, right)?;
-    Ok(WrittenCond::Either(left, right))
+    Ok(Box::new(alloc, WrittenCond::Either(left, right))?)
 }
 
 pub(crate) fn negated<'a>(
     alloc: Global,
-    operand: WrittenCond<'a>,
-) -> Result<WrittenCond<'a>, Memory>
-    ensures { IfOk result (λ c. cond_of c ≡ written.negated (cond_of operand.entry)) }
+    operand: Box<WrittenCond<'a>>,
+) -> Result<Box<WrittenCond<'a>>, Memory>
+    ensures { IfOk result (λ c. boxed_cond c ≡ written.negated (boxed_cond operand.entry)) }
 {
-    Ok(WrittenCond::Not(Box::new(alloc, operand)?))
+    Ok(Box::new(alloc, WrittenCond::Not(operand))?)
+}
+
+pub(crate) fn store<'a>(line: u32, field: &'a [u8], stored: Argument<'a>) -> WrittenStmt<'a>
+    ensures { stmt_of result
+        ≡ written.assign line field.now stored.entry.cast (expr_of stored.entry.value) }
+{
+    let Argument { cast, value } = stored;
+    WrittenStmt::Set {
+        line,
+        field,
+        cast,
+        value,
+    }
+}
+
+pub(crate) fn store_at<'a>(
+    line: u32,
+    field: &'a [u8],
+    index: Box<WrittenExpr<'a>>,
+    stored: Argument<'a>,
+) -> WrittenStmt<'a>
+    ensures { stmt_of result
+        ≡ written.assign_at line field.now (boxed_expr index.entry) stored.entry.cast
+        (expr_of stored.entry.value) }
+{
+    let Argument { cast, value } = stored;
+    WrittenStmt::SetAt {
+        line,
+        field,
+        index: Box::into_inner(index),
+        cast,
+        value,
+    }
 }
 
 pub(crate) fn choice<'a>(
     line: u32,
-    test: WrittenCond<'a>,
+    test: Box<WrittenCond<'a>>,
     yes: Vec<WrittenStmt<'a>>,
     has_else: bool,
     no: Vec<WrittenStmt<'a>>,
 ) -> WrittenStmt<'a>
     ensures { stmt_of result
-        ≡ choice_of line (cond_of test.entry) (stmts_from (map stmt_of yes.entry.items)) has_else (stmts_from (map stmt_of no.entry.items)) }
+        ≡ choice_of line (boxed_cond test.entry) (stmts_from (map stmt_of yes.entry.items)) has_else
+        (stmts_from (map stmt_of no.entry.items)) }
 {
     WrittenStmt::If {
         line,
-        test,
+        test: Box::into_inner(test),
         yes,
         has_else,
         no,

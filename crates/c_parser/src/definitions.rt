@@ -24,7 +24,7 @@ impl Reader {
         let (value, rest) = self.value(self.limits.exprs, &rest)?;
         let rest = self.word(&rest, b";")?;
         let rest = self.word(&rest, b"}")?;
-        Ok(((token.line, value), rest))
+        Ok(((token.line, Box::into_inner(value)), rest))
     }
 
     fn pure_of_parts<'a>(self, token: &Token<'a>, tokens: &Tokens<'a>) -> Parse<'a, WrittenPure<'a>>

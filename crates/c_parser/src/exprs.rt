@@ -2,8 +2,8 @@
 ghost use Rattle.std.specs.Prelude.{◌≡◌, map, codes, length, suc};
 ghost use Rattle.c_grammar.specs.Parsing as parsing;
 ghost use Rattle.c_parser.specs.Gives.{Gives, GivesMore, behind};
-ghost use Rattle.c_parser.specs.Operands.{operand_of};
-ghost use Rattle.c_grammar.specs.WrittenTrees.{expr_of, cond_of};
+ghost use Rattle.c_parser.specs.Operands.{operand_of, boxed_expr, boxed_cond};
+ghost use Rattle.c_grammar.specs.WrittenTrees.{expr_of};
 ghost use Rattle.c_grammar.specs.declared.openers.Want.TheVariants as wants;
 ghost use Rattle.c_grammar.specs.declared.openers.Inside.TheVariants as insides;
 ghost use Rattle.c_grammar.specs.declared.openers.TestJoint.TheVariants as joints;
@@ -39,8 +39,8 @@ impl Reader {
 
     /// An expression, where so many more levels may be opened.
     #[cycle(expressions)]
-    pub fn value<'a>(self, levels: u32, tokens: &Tokens<'a>) -> Parse<'a, WrittenExpr<'a>>
-        ensures { Gives expr_of result (parsing.parse_expr self.last levels tokens.now) }
+    pub fn value<'a>(self, levels: u32, tokens: &Tokens<'a>) -> Parse<'a, Box<WrittenExpr<'a>>>
+        ensures { Gives boxed_expr result (parsing.parse_expr self.last levels tokens.now) }
     {
         let (operand, rest) = self.operand(levels, Want::Value, tokens)?;
         match operand {
@@ -51,8 +51,8 @@ impl Reader {
 
     /// A condition, where so many more levels may be opened.
     #[cycle(expressions)]
-    pub fn test<'a>(self, levels: u32, tokens: &Tokens<'a>) -> Parse<'a, WrittenCond<'a>>
-        ensures { Gives cond_of result (parsing.parse_cond self.last levels tokens.now) }
+    pub fn test<'a>(self, levels: u32, tokens: &Tokens<'a>) -> Parse<'a, Box<WrittenCond<'a>>>
+        ensures { Gives boxed_cond result (parsing.parse_cond self.last levels tokens.now) }
     {
         let (operand, rest) = self.operand(levels, Want::Test, tokens)?;
         match operand {
@@ -67,7 +67,7 @@ impl Reader {
         let rest = self.word(tokens, b"(")?;
         let (number, rest) = self.literal(&rest)?;
         let rest = self.word(&rest, b")")?;
-        Ok((Operand::Value(WrittenExpr::Literal(number)), rest))
+        Ok((Operand::Value(build::literal(self.alloc, number)?), rest))
     }
 
     #[cycle(expressions)]
@@ -78,7 +78,7 @@ impl Reader {
         match comma_of(token.text) {
             Comma::Another => {
                 let (value, rest) = self.value(levels, &rest)?;
-                Ok((Some(value), rest))
+                Ok((Some(Box::into_inner(value)), rest))
             }
             Comma::Closed => Ok((None, rest)),
             Comma::Nothing => Err(syntax_on(token.line).into()),
@@ -120,12 +120,10 @@ impl Reader {
         let rest = self.word(tokens, b"(")?;
         let (first, rest) = self.value(levels, &rest)?;
         let mut values = Vec::new(self.alloc);
-        values.push(first)?;
+        values.push(Box::into_inner(first))?;
         let (values, rest) = self.later_values(levels, values, rest)?;
-        Ok((
-            Operand::Value(build::call_of_pure(token.line, token.text, values)),
-            rest,
-        ))
+        let call = build::pure(self.alloc, token.line, token.text, values)?;
+        Ok((Operand::Value(call), rest))
     }
 
     #[cycle(expressions)]
@@ -148,12 +146,13 @@ impl Reader {
         Ok((Operand::Test(build::negated(self.alloc, operand)?), rest))
     }
 
-    fn cast_leaf<'a>(self, tokens: &Tokens<'a>) -> Parse<'a, Operand<'a>>
-        ensures { Gives operand_of result (parsing.parse_inside self.last (parsing.parse_operand self.last 0) wants.Any tokens.now insides.Cast) }
+    #[cycle(expressions)]
+    fn cast_leaf<'a>(self, levels: u32, tokens: &Tokens<'a>) -> Parse<'a, Operand<'a>>
+        ensures { Gives operand_of result (parsing.parse_inside self.last (parsing.parse_operand self.last levels) wants.Any tokens.now insides.Cast) }
     {
         let (_, rest) = self.next(tokens)?;
         let rest = self.word(&rest, b")")?;
-        let (leaf, rest) = self.leaf(&rest)?;
+        let (leaf, rest) = self.leaf(levels, &rest)?;
         Ok((Operand::Value(leaf), rest))
     }
 
@@ -161,24 +160,23 @@ impl Reader {
     fn join_value<'a>(
         self,
         levels: u32,
-        left: WrittenExpr<'a>,
+        left: Box<WrittenExpr<'a>>,
         token: &Token<'a>,
         tokens: &Tokens<'a>,
         joint: ValueJoint,
     ) -> Parse<'a, Operand<'a>>
-        ensures { Gives operand_of result (parsing.join_value self.last (parsing.parse_operand self.last levels) (expr_of left.entry) token.now tokens.now joint) }
+        ensures { Gives operand_of result (parsing.join_value self.last (parsing.parse_operand self.last levels) (boxed_expr left.entry) token.now tokens.now joint) }
     {
         match joint {
             ValueJoint::Operator(op) => {
                 let (right, rest) = self.value(levels, tokens)?;
-                Ok((
-                    Operand::Value(build::binary(self.alloc, op, left, right)?),
-                    rest,
-                ))
+                let value = build::binary(self.alloc, op, left, right)?;
+                Ok((Operand::Value(value), rest))
             }
             ValueJoint::Comparison(how) => {
                 let (right, rest) = self.value(levels, tokens)?;
-                Ok((Operand::Test(WrittenCond::Compare(how, left, right)), rest))
+                let test = build::compare(self.alloc, how, left, right)?;
+                Ok((Operand::Test(test), rest))
             }
             ValueJoint::Nothing => Err(syntax_on(token.line).into()),
         }
@@ -188,11 +186,11 @@ impl Reader {
     fn pick<'a>(
         self,
         levels: u32,
-        test: WrittenCond<'a>,
+        test: Box<WrittenCond<'a>>,
         token: &Token<'a>,
         tokens: &Tokens<'a>,
     ) -> Parse<'a, Operand<'a>>
-        ensures { Gives operand_of result (parsing.join_test self.last (parsing.parse_operand self.last levels) (cond_of test.entry) token.now tokens.now joints.Pick) }
+        ensures { Gives operand_of result (parsing.join_test self.last (parsing.parse_operand self.last levels) (boxed_cond test.entry) token.now tokens.now joints.Pick) }
     {
         let (on_true, rest) = self.value(levels, tokens)?;
         let rest = self.word(&rest, b":")?;
@@ -207,12 +205,12 @@ impl Reader {
     fn join_test<'a>(
         self,
         levels: u32,
-        left: WrittenCond<'a>,
+        left: Box<WrittenCond<'a>>,
         token: &Token<'a>,
         tokens: &Tokens<'a>,
         joint: TestJoint,
     ) -> Parse<'a, Operand<'a>>
-        ensures { Gives operand_of result (parsing.join_test self.last (parsing.parse_operand self.last levels) (cond_of left.entry) token.now tokens.now joint) }
+        ensures { Gives operand_of result (parsing.join_test self.last (parsing.parse_operand self.last levels) (boxed_cond left.entry) token.now tokens.now joint) }
     {
         match joint {
             TestJoint::And => {
@@ -281,7 +279,7 @@ impl Reader {
         match inside {
             Inside::Minus => self.minus(levels, tokens),
             Inside::Not => self.negation(levels, tokens),
-            Inside::Cast => self.cast_leaf(tokens),
+            Inside::Cast => self.cast_leaf(levels, tokens),
             Inside::First => self.joined(levels, want, tokens),
         }
     }

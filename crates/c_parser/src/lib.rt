@@ -7,6 +7,7 @@ mod calls;
 mod definitions;
 mod exprs;
 mod file;
+mod leaves;
 mod lines;
 mod openers;
 mod operands;
@@ -20,3 +21,6 @@ mod words;
 
 pub use lines::last_line;
 pub use parser::parse_c;
+
+#[cfg(test)]
+mod tests;

@@ -4,7 +4,7 @@ ghost use Rattle.c_grammar.specs.Parsing as parsing;
 
 use crate::words::{compare_of_text, is, is_name, op_of_text};
 use c_grammar::{
-    Comma, Definition, Inside, Opener, StmtOpener, TargetOpener, TestJoint, ValueJoint, Want,
+    Comma, Definition, Inside, Opener, StmtOpener, Tail, TargetOpener, TestJoint, ValueJoint, Want,
 };
 use c_syntax::BinOp;
 use mc_base::Compare;
@@ -36,6 +36,19 @@ pub(crate) fn inside_of(want: Want, text: &[u8]) -> Inside
         Inside::Cast
     } else {
         Inside::First
+    }
+}
+
+/// What a token behind the name of an own field begins.
+pub(crate) fn tail_of(text: &[u8]) -> Tail
+    ensures { result ≡ parsing.tail_of text.now }
+{
+    if is(text, b".") {
+        Tail::Dot
+    } else if is(text, b"[") {
+        Tail::Bracket
+    } else {
+        Tail::Nothing
     }
 }
 

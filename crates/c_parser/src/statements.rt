@@ -3,7 +3,8 @@ ghost use Rattle.std.specs.Prelude.{◌≡◌, map, codes, bytes_eq, length, suc
 ghost use Rattle.c_grammar.specs.Parsing as parsing;
 ghost use Rattle.c_parser.specs.Gives.{Gives, GivesMore, behind};
 ghost use Rattle.c_parser.specs.Limited.{limits_of};
-ghost use Rattle.c_grammar.specs.WrittenTrees.{stmt_of, cond_of};
+ghost use Rattle.c_parser.specs.Operands.{boxed_cond};
+ghost use Rattle.c_grammar.specs.WrittenTrees.{stmt_of};
 
 use crate::build;
 use crate::openers::stmt_opener_of;
@@ -112,13 +113,13 @@ impl Reader {
         self,
         levels: u32,
         token: &Token<'a>,
-        test: WrittenCond<'a>,
+        test: Box<WrittenCond<'a>>,
         yes: Vec<WrittenStmt<'a>>,
         tokens: Tokens<'a>,
     ) -> Parse<'a, WrittenStmt<'a>>
         ensures { Gives stmt_of result
             (parsing.parse_second self.last (limits_of self.limits) (parsing.parse_stmt self.last (limits_of self.limits) levels)
-            token.now (cond_of test.entry) (parsing.stmts_from (map stmt_of yes.entry.items)) tokens.entry
+            token.now (boxed_cond test.entry) (parsing.stmts_from (map stmt_of yes.entry.items)) tokens.entry
             (bytes_eq (parsing.first_text tokens.entry) (codes "else"))) }
     {
         if !is(tokens.first_text(), b"else") {

@@ -1,5 +1,5 @@
 // Structs and their fields.
-ghost use Rattle.std.specs.Prelude.{◌≡◌, map, codes, bytes_eq, length, suc};
+ghost use Rattle.std.specs.Prelude.{◌≡◌, map, codes, bytes_eq, length, suc, true, false};
 ghost use Rattle.c_grammar.specs.Parsing as parsing;
 ghost use Rattle.c_parser.specs.Gives.{Gives, GivesMore, read_as, behind};
 ghost use Rattle.c_parser.specs.FileParts as parts;
@@ -11,28 +11,50 @@ use crate::reader::{Read, Reader, syntax_on};
 use crate::tokens::{Token, Tokens};
 use crate::words::{is, type_of_text};
 use c_grammar::{WrittenField, WrittenKind, WrittenStruct};
+use c_syntax::CType;
 
 impl Reader {
-    fn kind<'a>(self, token: &Token<'a>, tokens: Tokens<'a>) -> Read<'a, WrittenKind<'a>>
+    // Behind the name of a field of a type: an array where a length follows, else a number.
+    fn length<'a>(self, ty: CType, tokens: Tokens<'a>) -> Read<'a, WrittenKind<'a>>
         ensures { read_as kind_of result
-            ≡ parsing.parse_kind self.last (limits_of self.limits) token.now tokens.entry (bytes_eq token.now.text (codes "struct")) }
+            ≡ parsing.parse_length self.last (limits_of self.limits) ty tokens.entry
+            (bytes_eq (parsing.first_text tokens.entry) (codes "[")) }
     {
-        if is(token.text, b"struct") {
-            let (name, rest) = self.name(&tokens)?;
-            return Ok((WrittenKind::Struct(name), rest));
+        if !is(tokens.first_text(), b"[") {
+            return Ok((WrittenKind::Number(ty), tokens));
         }
-        match type_of_text(token.text) {
-            Some(ty) => Ok((WrittenKind::Number(ty), tokens)),
-            None => Err(syntax_on(token.line)),
-        }
+        let (_, rest) = self.next(&tokens)?;
+        let (count, rest) = self.literal(&rest)?;
+        let rest = self.word(&rest, b"]")?;
+        Ok((WrittenKind::Array(ty, count), rest))
     }
 
-    fn field<'a>(self, tokens: &Tokens<'a>) -> Parse<'a, WrittenField<'a>>
-        ensures { Gives field_of result (parsing.parse_field self.last (limits_of self.limits) tokens.now) }
+    // A field that is a struct, behind `struct`.
+    fn struct_field<'a>(self, token: &Token<'a>, tokens: &Tokens<'a>) -> Read<'a, WrittenField<'a>>
+        ensures { read_as field_of result
+            ≡ parsing.parse_field_from self.last (limits_of self.limits) token.now tokens.now true }
     {
-        let (token, rest) = self.next(tokens)?;
-        let (kind, rest) = self.kind(&token, rest)?;
+        let (of, rest) = self.name(tokens)?;
         let (name, rest) = self.name(&rest)?;
+        let rest = self.word(&rest, b";")?;
+        let field = WrittenField {
+            line: token.line,
+            kind: WrittenKind::Struct(of),
+            name,
+        };
+        Ok((field, rest))
+    }
+
+    // A field that is a number or an array, behind its type.
+    fn number_field<'a>(self, token: &Token<'a>, tokens: &Tokens<'a>) -> Read<'a, WrittenField<'a>>
+        ensures { read_as field_of result
+            ≡ parsing.parse_field_from self.last (limits_of self.limits) token.now tokens.now false }
+    {
+        let Some(ty) = type_of_text(token.text) else {
+            return Err(syntax_on(token.line));
+        };
+        let (name, rest) = self.name(tokens)?;
+        let (kind, rest) = self.length(ty, rest)?;
         let rest = self.word(&rest, b";")?;
         let field = WrittenField {
             line: token.line,
@@ -40,6 +62,18 @@ impl Reader {
             name,
         };
         Ok((field, rest))
+    }
+
+    fn field<'a>(self, tokens: &Tokens<'a>) -> Read<'a, WrittenField<'a>>
+        ensures { read_as field_of result
+            ≡ parsing.parse_field self.last (limits_of self.limits) tokens.now }
+    {
+        let (token, rest) = self.next(tokens)?;
+        if is(token.text, b"struct") {
+            self.struct_field(&token, &rest)
+        } else {
+            self.number_field(&token, &rest)
+        }
     }
 
     fn fields_step<'a>(self, tokens: &Tokens<'a>) -> Parse<'a, Option<WrittenField<'a>>>

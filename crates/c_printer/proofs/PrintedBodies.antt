@@ -7,15 +7,15 @@ use Rattle.c_syntax.specs.declared.code.Leaf.{Leaf}
 use Rattle.c_syntax.specs.declared.code.Leaf.TheVariants.{Param, Own, Child}
 use Rattle.c_syntax.specs.declared.code.Target.{Target}
 use Rattle.c_syntax.specs.declared.code.Target.TheVariants.{Own as OwnTarget, Child as ChildTarget}
-use Rattle.c_syntax.specs.Tree.{ExprTree, literal, neg, read, binary, pick, pure, ExprTrees, no_exprs, more_exprs, CondTree, compare, both, either, negated, StmtTree, assign, branch, call, StmtTrees, no_stmts, more_stmts, field_types, type_at, PureTree, ProcedureTree}
+use Rattle.c_syntax.specs.Tree.{ExprTree, literal, neg, read, binary, pick, pure, item, ExprTrees, no_exprs, more_exprs, CondTree, compare, both, either, negated, StmtTree, assign, assign_at, branch, call, StmtTrees, no_stmts, more_stmts, field_types, type_at, PureTree, ProcedureTree}
 use Rattle.c_grammar.specs.Tokens.{token}
 use Rattle.c_syntax.specs.Names.{is_lower, is_word_byte, is_name, name_at}
 use Rattle.c_grammar.specs.Written.{WrittenLeaf}
-use Rattle.c_grammar.specs.Grammar.{word, at_line, op_text, compare_text, type_text, leaf_spelling, expr_spelling, exprs_spelling, more_exprs_spelling, cond_spelling, target_spelling, arguments_spelling, stmt_spelling, stmts_spelling}
-use Rattle.c_syntax.specs.Lawful.{Reach, IsLawfulLeaf, IsLawfulExpr, AreLawfulExprs, IsLawfulCond, IsLawfulTarget, IsLawfulStmt, AreLawfulStmts, IsNumberAt, IsStructAt, exprs_length}
+use Rattle.c_grammar.specs.Grammar.{word, at_line, op_text, compare_text, type_text, own_spelling, leaf_spelling, expr_spelling, exprs_spelling, more_exprs_spelling, cond_spelling, target_spelling, arguments_spelling, stmt_spelling, stmts_spelling}
+use Rattle.c_syntax.specs.Lawful.{Reach, IsLawfulLeaf, IsLawfulExpr, AreLawfulExprs, IsLawfulCond, IsLawfulTarget, IsLawfulStmt, AreLawfulStmts, IsNumberAt, IsArrayAt, IsStructAt, exprs_length}
 use Rattle.c_printer.specs.Printing.{Vocabulary, pure_name, procedure_name, procedure_types, field_name, inner_fields, leaf_bytes, expr_bytes, exprs_bytes, later_exprs_bytes, cond_bytes, target_bytes, arguments_bytes, margin_bytes, deeper, ended, stmt_bytes, else_bytes, stmts_bytes}
 use Rattle.c_printer.proofs.Lexing.{IsTokenBefore, NameParts, name-parts, name-token, differs}
-use Rattle.c_printer.proofs.TextReading.{Reads, ◌▸◌, along, ending, reads-nothing, spaced, lined, line_ended, margined, margin_passed, reads-word, reads-line, reads-name, reads-literal, comma, question, colon, dot, semicolon, sign, parens, braces, op-token, compare-token, cast, own_start}
+use Rattle.c_printer.proofs.TextReading.{Reads, ◌▸◌, along, ending, reads-nothing, spaced, lined, line_ended, margined, margin_passed, reads-word, reads-line, reads-name, reads-literal, comma, question, colon, dot, semicolon, sign, parens, brackets, braces, op-token, compare-token, cast, own_start}
 use Rattle.c_printer.proofs.PrintedTrees.{written_leaf, written_expr, written_exprs, written_cond, written_target, written_arguments, stmt_lines, stmts_lines, written_stmt, written_stmts}
 
 -- each name in a leaf is one
@@ -28,6 +28,7 @@ HasNames (WrittenLeaf.child field inner) = (is_name field ≡ true) × (is_name 
 pub record Speaks (v : Vocabulary) (reach : Reach) : Type 0 where
   pub leaf : (leaf : Leaf) → IsLawfulLeaf reach leaf → HasNames (written_leaf v leaf)
   pub number : (f : ℕ) → IsNumberAt reach.fields f → is_name (field_name v.fields f) ≡ true
+  pub array : (f : ℕ) → IsArrayAt reach.fields f → is_name (field_name v.fields f) ≡ true
   pub instance : (f of : ℕ) → IsStructAt reach.fields f of → is_name (field_name v.fields f) ≡ true
   pub pure : (k : ℕ) (p : PureTree) → slice_get reach.pures k ≡ Some p → (is_name (pure_name v.program k) ≡ true) × (0 < length p.params)
   pub procedure : (k : ℕ) (p : ProcedureTree) → slice_get reach.procedures k ≡ Some p → (is_name (procedure_name v.program k) ≡ true) × (length (procedure_types v.program k) ≡ length p.params)
@@ -57,6 +58,11 @@ leaf_line-read v l (Own f) rest names ends = reads-line (codes "s") (45 ∷ 62 �
 leaf_line-read v l (Child f g) rest names ends =
     let behind : List ℕ = ((field_name v.fields f ++ codes ".") ++ field_name (inner_fields v f) g) ++ rest in
     reads-line (codes "s") (45 ∷ 62 ∷ behind) (s-token (62 ∷ behind)) (leaf-read v l (Child f g) rest names ends)
+
+-- an own field, where its line is asked for
+own_line-read : (l : ℕ) (name rest : List ℕ) → is_name name ≡ true → Ends rest → Reads (at_line (reported_number l) (own_spelling name)) l (115 ∷ 45 ∷ 62 ∷ (name ++ rest)) l rest
+own_line-read l name rest named ends =
+    reads-line (codes "s") (45 ∷ 62 ∷ (name ++ rest)) (s-token (62 ∷ (name ++ rest))) (own_start (reads-name name rest named ends))
 
 -- a minus sign before what is no `>`
 minus-token : (c : ℕ) (cs : List ℕ) → (c == 62) ≡ false → IsTokenBefore (codes "-") (c ∷ cs)
@@ -98,6 +104,12 @@ cond-head v (negated a) z = (_, refl)
 stored : (m f t e z : List ℕ) → ((((((m ++ codes "s->") ++ f) ++ codes " = (") ++ t) ++ codes ")") ++ e) ++ ended (codes ";") ++ z ≡ m ++ 115 ∷ 45 ∷ 62 ∷ (f ++ 32 ∷ 61 ∷ 32 ∷ 40 ∷ (t ++ 41 ∷ (e ++ 59 ∷ 10 ∷ z)))
 stored m f t e z = simp append_assoc
 
+stored_at : (m f i t e z : List ℕ) → ((((((((m ++ codes "s->") ++ f) ++ codes "[") ++ i) ++ codes "] = (") ++ t) ++ codes ")") ++ e) ++ ended (codes ";") ++ z ≡ m ++ 115 ∷ 45 ∷ 62 ∷ (f ++ 91 ∷ (i ++ 93 ∷ 32 ∷ 61 ∷ 32 ∷ 40 ∷ (t ++ 41 ∷ (e ++ 59 ∷ 10 ∷ z))))
+stored_at m f i t e z = simp append_assoc
+
+itemed : (n i z : List ℕ) → (((codes "(int64_t)s->" ++ n) ++ codes "[") ++ i) ++ codes "]" ++ z ≡ codes "(int64_t)s->" ++ (n ++ 91 ∷ (i ++ 93 ∷ z))
+itemed n i z = simp append_assoc
+
 tested : (m c y n z : List ℕ) → (((((m ++ codes "if ") ++ c) ++ ended (codes " {")) ++ y) ++ n ++ m) ++ ended (codes "}") ++ z ≡ m ++ 105 ∷ 102 ∷ 32 ∷ (c ++ 32 ∷ 123 ∷ 10 ∷ (y ++ (n ++ (m ++ 125 ∷ 10 ∷ z))))
 tested m c y n z = simp append_assoc
 
@@ -135,6 +147,7 @@ module _ (v : Vocabulary) (reach : Reach) (speaks : Speaks v reach) where
   expr-head (read leaf) h z = (40, _, refl, refl)
   expr-head (binary op a b) h z = (40, _, refl, refl)
   expr-head (pick test a b) h z = (40, _, refl, refl)
+  expr-head (item f index) h z = (40, _, refl, refl)
   expr-head (pure k es) h z =
       let p : NameParts (pure_name v.program k) = name-parts (pure_name v.program k) (speaks.pure k h.0 h.1).0 in
       (p.first, ((p.later ++ codes "(") ++ exprs_bytes v es) ++ codes ")" ++ z, ap (λ n. ((n ++ codes "(") ++ exprs_bytes v es) ++ codes ")" ++ z) p.list, differs is_lower p.first 62 p.lower refl)
@@ -159,6 +172,10 @@ module _ (v : Vocabulary) (reach : Reach) (speaks : Speaks v reach) where
         let named : is_name name ≡ true = (speaks.pure k h.0 h.1).0 in
         let behind : List ℕ = 40 ∷ (exprs_bytes v es ++ 41 ∷ rest) in
         along (called name (exprs_bytes v es) rest) (reads-line name behind (name-token name behind named refl) (reads-name name behind named refl) ▸ parens (exprs-read l es rest (subst (λ n. 0 < n) h.2 (speaks.pure k h.0 h.1).1) h.3))
+    expr-read l (item f index) rest h ends =
+        let name : List ℕ = field_name v.fields f in
+        let behind : List ℕ = 91 ∷ (expr_bytes v index ++ 93 ∷ rest) in
+        along (itemed name (expr_bytes v index) rest) (parens (reads-word (codes "int64_t") (41 ∷ 115 ∷ 45 ∷ 62 ∷ (name ++ behind)) (record { first = 105; later = codes "nt64_t"; list = refl; piece = refl; one_line = λ line. refl })) ▸ own_line-read l name behind (speaks.array f h.0) refl ▸ brackets (expr-read l index (93 ∷ rest) h.1 refl))
 
     exprs-read : (l : ℕ) (es : ExprTrees) (z : List ℕ) → 0 < exprs_length es → AreLawfulExprs reach es → Reads (exprs_spelling (written_exprs v (reported_number l) es)) l (exprs_bytes v es ++ 41 ∷ z) l (41 ∷ z)
     exprs-read l no_exprs z some h = absurd (omega (arith, some))
@@ -200,6 +217,12 @@ module _ (v : Vocabulary) (reach : Reach) (speaks : Speaks v reach) where
         let type : CType = type_at (field_types v.fields) f in
         let behind : List ℕ = name ++ 32 ∷ 61 ∷ 32 ∷ 40 ∷ (type_text type ++ 41 ∷ (expr_bytes v e ++ 59 ∷ 10 ∷ rest)) in
         along (stored (margin_bytes margin) name (type_text type) (expr_bytes v e) rest) (margined margin (line_ended (reads-line (codes "s") (45 ∷ 62 ∷ behind) (s-token (62 ∷ behind)) (reads-word (codes "s") (45 ∷ 62 ∷ behind) (s-token (62 ∷ behind))) ▸ reads-word (codes "->") behind (record { first = 45; later = 62 ∷ []; list = refl; piece = refl; one_line = λ line. refl }) ▸ reads-name name (32 ∷ 61 ∷ 32 ∷ 40 ∷ (type_text type ++ 41 ∷ (expr_bytes v e ++ 59 ∷ 10 ∷ rest))) (speaks.number f h.0) refl ▸ spaced (reads-word (codes "=") (32 ∷ 40 ∷ (type_text type ++ 41 ∷ (expr_bytes v e ++ 59 ∷ 10 ∷ rest))) (record { first = 61; later = []; list = refl; piece = refl; one_line = λ line. refl })) ▸ spaced (cast type) ▸ expr-read l e (59 ∷ 10 ∷ rest) h.1 refl ▸ sign semicolon)))
+    stmt-read l margin (assign_at own f index e) rest h =
+        let name : List ℕ = field_name v.fields f in
+        let type : CType = type_at (field_types v.fields) f in
+        let value : List ℕ = 32 ∷ 40 ∷ (type_text type ++ 41 ∷ (expr_bytes v e ++ 59 ∷ 10 ∷ rest)) in
+        let behind : List ℕ = 91 ∷ (expr_bytes v index ++ 93 ∷ 32 ∷ 61 ∷ value) in
+        along (stored_at (margin_bytes margin) name (expr_bytes v index) (type_text type) (expr_bytes v e) rest) (margined margin (line_ended (own_line-read l name behind (speaks.array f h.0) refl ▸ brackets (expr-read l index (93 ∷ 32 ∷ 61 ∷ value) h.1 refl) ▸ spaced (reads-word (codes "=") value (record { first = 61; later = []; list = refl; piece = refl; one_line = λ line. refl })) ▸ spaced (cast type) ▸ expr-read l e (59 ∷ 10 ∷ rest) h.2 refl ▸ sign semicolon)))
     stmt-read l margin (branch own test on_true no_stmts) rest h =
         let close : List ℕ = margin_bytes margin ++ 125 ∷ 10 ∷ rest in
         let block : List ℕ = stmts_bytes v (deeper margin) on_true ++ close in

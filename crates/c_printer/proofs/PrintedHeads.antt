@@ -1,18 +1,18 @@
 -- The texts of definitions spell what they are printed from.
-use Rattle.std.proofs.Common.{◌≡◌, refl, ℕ, ◌+◌, ◌<◌, List, [], ◌∷◌, ◌++◌, length, map, Bool, true, false, codes, arith}
+use Rattle.std.proofs.Common.{◌≡◌, refl, ap, ℕ, ◌+◌, ◌<◌, List, [], ◌∷◌, ◌++◌, length, map, Bool, true, false, codes, decimal, arith}
 use Rattle.std.specs.List.{flat_map}
 use Rattle.std.proofs.lemmas.List.{append_assoc}
 use Rattle.mc_base.specs.Numbers.{reported_number}
 use Rattle.c_syntax.specs.declared.code.CType.TheVariants.{I64}
 use Rattle.c_syntax.specs.declared.program.FieldKind.{FieldKind}
-use Rattle.c_syntax.specs.declared.program.FieldKind.TheVariants.{Number, Struct}
+use Rattle.c_syntax.specs.declared.program.FieldKind.TheVariants.{Number, Array, Struct}
 use Rattle.c_syntax.specs.Tree.{FieldTree, StructTree, struct_fields, PureTree, ParamTree, ProcedureTree, ProgramTree}
 use Rattle.c_syntax.specs.Names.{is_name}
-use Rattle.c_grammar.specs.Grammar.{at_line, type_text, more_params_spelling, pure_param_spelling, more_pure_params_spelling, pure_params_spelling, pure_spelling, kind_spelling, field_spelling, all_spelling, some_spelling, struct_spelling, private_spelling, procedure_spelling}
+use Rattle.c_grammar.specs.Grammar.{at_line, type_text, more_params_spelling, pure_param_spelling, more_pure_params_spelling, pure_params_spelling, pure_spelling, kind_spelling, length_spelling, field_spelling, all_spelling, some_spelling, struct_spelling, private_spelling, procedure_spelling}
 use Rattle.c_syntax.specs.Lawful.{Reach, IsLawfulExpr, AreLawfulStmts, AreDistinct, IsLawfulKind}
-use Rattle.c_printer.specs.Printing.{Vocabulary, struct_name, later_pure_params_bytes, pure_params_bytes, pure_bytes, kind_bytes, field_bytes, struct_bytes, private_bytes, param_bytes, procedure_bytes, expr_bytes, stmts_bytes, ended}
+use Rattle.c_printer.specs.Printing.{Vocabulary, struct_name, later_pure_params_bytes, pure_params_bytes, pure_bytes, kind_bytes, length_bytes, field_bytes, struct_bytes, private_bytes, param_bytes, procedure_bytes, expr_bytes, stmts_bytes, ended}
 use Rattle.c_printer.proofs.Lexing.{IsTokenBefore}
-use Rattle.c_printer.proofs.TextReading.{Reads, ◌▸◌, along, ending, reads-nothing, spaced, lined, line_ended, reads-word, reads-line, reads-name, comma, semicolon, star, sign, parens, braces, type-token_space}
+use Rattle.c_printer.proofs.TextReading.{Reads, ◌▸◌, along, ending, reads-nothing, spaced, lined, line_ended, reads-word, reads-line, reads-name, reads-literal, comma, semicolon, star, sign, parens, brackets, braces, type-token_space}
 use Rattle.c_printer.proofs.PrintedTrees.{written_pure, written_kind, written_fields, written_struct, struct_lines, written_param, written_procedure, procedure_lines, pure_lines}
 use Rattle.c_printer.proofs.PrintedBodies.{Speaks, Ends, s-ends, expr-read, stmts-read}
 
@@ -20,8 +20,8 @@ use Rattle.c_printer.proofs.PrintedBodies.{Speaks, Ends, s-ends, expr-read, stmt
 five : (a b c d e z : List ℕ) → ((((a ++ b) ++ c) ++ d) ++ e) ++ z ≡ a ++ (b ++ (c ++ (d ++ (e ++ z))))
 five a b c d e z = simp append_assoc
 
-six : (a b c d e f z : List ℕ) → (((((a ++ b) ++ c) ++ d) ++ e) ++ f) ++ z ≡ a ++ (b ++ (c ++ (d ++ (e ++ (f ++ z)))))
-six a b c d e f z = simp append_assoc
+seven : (a b c d e f g z : List ℕ) → ((((((a ++ b) ++ c) ++ d) ++ e) ++ f) ++ g) ++ z ≡ a ++ (b ++ (c ++ (d ++ (e ++ (f ++ (g ++ z))))))
+seven a b c d e f g z = simp append_assoc
 
 nine : (a b c d e f g h i z : List ℕ) → ((((((((a ++ b) ++ c) ++ d) ++ e) ++ f) ++ g) ++ h) ++ i) ++ z ≡ a ++ (b ++ (c ++ (d ++ (e ++ (f ++ (g ++ (h ++ (i ++ z))))))))
 nine a b c d e f g h i z = simp append_assoc
@@ -75,12 +75,25 @@ pure-read p reach q speaks named distinct some body l rest =
 -- what a field is declared as, with its line
 kind-read : (p : ProgramTree) (l : ℕ) (kind : FieldKind) (rest : List ℕ) → ((k : ℕ) → k < length p.structs → is_name (struct_name p k) ≡ true) → IsLawfulKind (length p.structs) kind → Reads (at_line (reported_number l) (kind_spelling (written_kind p kind))) l (kind_bytes p kind ++ 32 ∷ rest) l (32 ∷ rest)
 kind-read p l (Number type) rest named h = reads-line (type_text type) (32 ∷ rest) (type-token_space type rest) (reads-word (type_text type) (32 ∷ rest) (type-token_space type rest))
+kind-read p l (Array type count) rest named h = reads-line (type_text type) (32 ∷ rest) (type-token_space type rest) (reads-word (type_text type) (32 ∷ rest) (type-token_space type rest))
 kind-read p l (Struct k) rest named h =
     let behind : List ℕ = struct_name p k ++ 32 ∷ rest in
     reads-line (codes "struct") (32 ∷ behind) (struct-token behind) (reads-word (codes "struct") (32 ∷ behind) (struct-token behind) ▸ spaced (reads-name (struct_name p k) (32 ∷ rest) (named k h) refl))
 
-field_shape : (k n f z : List ℕ) → (((((codes "    " ++ k) ++ codes " ") ++ n) ++ ended (codes ";")) ++ f) ++ z ≡ 32 ∷ 32 ∷ 32 ∷ 32 ∷ (k ++ 32 ∷ (n ++ 59 ∷ 10 ∷ (f ++ z)))
-field_shape k n f z = six (codes "    ") k (codes " ") n (ended (codes ";")) f z
+-- the length of an array behind the name of a field, and what stands behind a name
+length-read : (p : ProgramTree) (l count : ℕ) (kind : FieldKind) (rest : List ℕ) → IsLawfulKind count kind → Reads (length_spelling (written_kind p kind)) l (length_bytes kind ++ 59 ∷ rest) l (59 ∷ rest)
+length-read p l count (Number type) rest h = reads-nothing
+length-read p l count (Array type many) rest h =
+    along (ap (λ x. 91 ∷ x) (append_assoc (decimal many) (codes "]") (59 ∷ rest))) (brackets (reads-literal many (93 ∷ 59 ∷ rest) (omega (arith, h.1)) refl))
+length-read p l count (Struct k) rest h = reads-nothing
+
+length-ends : (kind : FieldKind) (rest : List ℕ) → Ends (length_bytes kind ++ 59 ∷ rest)
+length-ends (Number type) rest = refl
+length-ends (Array type many) rest = refl
+length-ends (Struct k) rest = refl
+
+field_shape : (k n m f z : List ℕ) → ((((((codes "    " ++ k) ++ codes " ") ++ n) ++ m) ++ ended (codes ";")) ++ f) ++ z ≡ 32 ∷ 32 ∷ 32 ∷ 32 ∷ (k ++ 32 ∷ (n ++ (m ++ 59 ∷ 10 ∷ (f ++ z))))
+field_shape k n m f z = seven (codes "    ") k (codes " ") n m (ended (codes ";")) f z
 
 -- each field's kind, where the structs that it may name are the program's
 abbrev pub AreKinds : ℕ → List FieldTree → Type 0
@@ -91,7 +104,7 @@ fields-read : (p : ProgramTree) (l : ℕ) (fs : List FieldTree) (rest : List ℕ
 fields-read p l [] rest named distinct kinds = ending (omega arith) reads-nothing
 fields-read p l (f ∷ fs) rest named distinct kinds =
     let later : List ℕ = flat_map (field_bytes p) fs ++ rest in
-    along (field_shape (kind_bytes p f.kind) f.name (flat_map (field_bytes p) fs) rest) (ending (omega arith) (spaced (spaced (spaced (spaced (line_ended (kind-read p l f.kind (f.name ++ 59 ∷ 10 ∷ later) named kinds.0 ▸ spaced (reads-name f.name (59 ∷ 10 ∷ later) distinct.0 refl) ▸ sign semicolon))))) ▸ fields-read p (l + 1) fs rest named distinct.2 kinds.1))
+    along (field_shape (kind_bytes p f.kind) f.name (length_bytes f.kind) (flat_map (field_bytes p) fs) rest) (ending (omega arith) (spaced (spaced (spaced (spaced (line_ended (kind-read p l f.kind (f.name ++ (length_bytes f.kind ++ 59 ∷ 10 ∷ later)) named kinds.0 ▸ spaced (reads-name f.name (length_bytes f.kind ++ 59 ∷ 10 ∷ later) distinct.0 (length-ends f.kind (10 ∷ later))) ▸ length-read p l (length p.structs) f.kind (10 ∷ later) kinds.0 ▸ sign semicolon))))) ▸ fields-read p (l + 1) fs rest named distinct.2 kinds.1))
 
 some_fields-read : (p : ProgramTree) (l : ℕ) (fs : List FieldTree) (rest : List ℕ) → 0 < length fs → ((k : ℕ) → k < length p.structs → is_name (struct_name p k) ≡ true) → AreDistinct (map (λ f. f.name) fs) → AreKinds (length p.structs) fs → Reads (some_spelling field_spelling (written_fields p l fs)) l (flat_map (field_bytes p) fs ++ rest) (l + length fs) rest
 some_fields-read p l [] rest some named distinct kinds = absurd (omega (arith, some))

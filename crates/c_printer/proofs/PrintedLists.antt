@@ -8,9 +8,9 @@ use Rattle.c_syntax.specs.declared.code.Expr.{Expr}
 use Rattle.c_syntax.specs.declared.code.Cond.{Cond}
 use Rattle.c_syntax.specs.declared.code.Stmt.{Stmt}
 use Rattle.c_grammar.specs.Grammar.{type_text}
-use Rattle.c_syntax.specs.Tree.{StmtTrees, branch, FieldTree, struct_fields, PureTree, ProcedureTree, ProgramTree, ExprTrees, no_exprs, more_exprs, exprs_of_list, stmts_of_list}
+use Rattle.c_syntax.specs.Tree.{ExprTree, StmtTrees, item, assign_at, branch, FieldTree, field_types, type_at, struct_fields, PureTree, ProcedureTree, ProgramTree, ExprTrees, no_exprs, more_exprs, exprs_of_list, stmts_of_list}
 use Rattle.c_syntax.specs.Plain.{expr_tree, cond_tree, stmt_tree}
-use Rattle.c_printer.specs.Printing.{Vocabulary, expr_bytes, cond_bytes, later_exprs_bytes, arguments_bytes, stmt_bytes, stmts_bytes, else_bytes, pure_head_bytes, pure_bytes, procedure_head_bytes, procedure_bytes, margin_bytes, deeper, ended}
+use Rattle.c_printer.specs.Printing.{Vocabulary, field_name, expr_bytes, cond_bytes, later_exprs_bytes, arguments_bytes, stmt_bytes, stmts_bytes, else_bytes, pure_head_bytes, pure_bytes, procedure_head_bytes, procedure_bytes, margin_bytes, deeper, ended}
 
 pub later_exprs_bytes-flat : (v : Vocabulary) (es : List Expr) → later_exprs_bytes v (exprs_of_list (map expr_tree es)) ≡ flat_map (λ e. codes ", " ++ expr_bytes v (expr_tree e)) es
 later_exprs_bytes-flat v [] = refl
@@ -19,6 +19,23 @@ later_exprs_bytes-flat v (e ∷ es) = ap (λ x. (codes ", " ++ expr_bytes v (exp
 pub stmts_bytes-flat : (v : Vocabulary) (margin : ℕ) (ss : List Stmt) → stmts_bytes v margin (stmts_of_list (map stmt_tree ss)) ≡ flat_map (λ s. stmt_bytes v margin (stmt_tree s)) ss
 stmts_bytes-flat v margin [] = refl
 stmts_bytes-flat v margin (s ∷ ss) = ap (λ x. stmt_bytes v margin (stmt_tree s) ++ x) (stmts_bytes-flat v margin ss)
+
+-- an item of an array
+pub item_bytes-put : (v : Vocabulary) (f : ℕ) (e index read : Expr) (out with_start name with_name with_open with_index : List ℕ) → expr_tree e ≡ item f (expr_tree index) → read ≡ index → name ≡ field_name v.fields f → with_start ≡ out ++ codes "(int64_t)s->" → with_name ≡ with_start ++ name → with_open ≡ with_name ++ codes "[" → with_index ≡ with_open ++ expr_bytes v (expr_tree read) → with_index ++ codes "]" ≡ out ++ expr_bytes v (expr_tree e)
+item_bytes-put v f e index read out with_start name with_name with_open with_index is same named a b c d =
+    rw (is, d, c, b, a, named, same) (regrouped out (codes "(int64_t)s->") (field_name v.fields f) (codes "[") (expr_bytes v (expr_tree index)) (codes "]"))
+  where
+    regrouped : (o s n b i c : List ℕ) → ((((o ++ s) ++ n) ++ b) ++ i) ++ c ≡ o ++ ((((s ++ n) ++ b) ++ i) ++ c)
+    regrouped o s n b i c = simp append_assoc
+
+-- a store in an item of an array
+pub set_at_bytes-put : (v : Vocabulary) (margin f : ℕ) (index value : ExprTree) (out with_margin with_start name with_name with_open with_index with_close : List ℕ) → name ≡ field_name v.fields f → with_margin ≡ out ++ margin_bytes margin → with_start ≡ with_margin ++ codes "s->" → with_name ≡ with_start ++ name → with_open ≡ with_name ++ codes "[" → with_index ≡ with_open ++ expr_bytes v index → with_close ≡ with_index ++ codes "] = (" →
+    with_close ++ (type_text (type_at (field_types v.fields) f) ++ codes ")" ++ expr_bytes v value ++ ended (codes ";")) ≡ out ++ stmt_bytes v margin (assign_at 0 f index value)
+set_at_bytes-put v margin f index value out with_margin with_start name with_name with_open with_index with_close named a b c d e g =
+    rw (g, e, d, c, b, a, named) (regrouped out (margin_bytes margin) (codes "s->") (field_name v.fields f) (codes "[") (expr_bytes v index) (codes "] = (") (type_text (type_at (field_types v.fields) f)) (codes ")") (expr_bytes v value) (ended (codes ";")))
+  where
+    regrouped : (o m s n b i c t p e z : List ℕ) → ((((((o ++ m) ++ s) ++ n) ++ b) ++ i) ++ c) ++ (((t ++ p) ++ e) ++ z) ≡ o ++ (((((((((m ++ s) ++ n) ++ b) ++ i) ++ c) ++ t) ++ p) ++ e) ++ z)
+    regrouped o m s n b i c t p e z = simp append_assoc
 
 -- a second block that is not empty
 pub else_bytes-put : (v : Vocabulary) (margin : ℕ) (ss : List Stmt) (out with_margin with_else : List ℕ) (inner : ℕ) → length ss ≢ 0 → with_margin ≡ out ++ margin_bytes margin → with_else ≡ with_margin ++ ended (codes "} else {") → inner ≡ deeper margin → with_else ++ stmts_bytes v inner (stmts_of_list (map stmt_tree ss)) ≡ out ++ else_bytes v margin (stmts_of_list (map stmt_tree ss))

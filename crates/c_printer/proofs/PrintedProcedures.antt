@@ -7,7 +7,7 @@ use Rattle.std.proofs.lemmas.Slice.Eq.{bytes_eq-Decides}
 use Rattle.mc_base.specs.Numbers.{reported_number}
 use Rattle.c_syntax.specs.declared.code.CType.{CType}
 use Rattle.c_syntax.specs.declared.code.CType.TheVariants.{I8, U8, I16, U16, I32, U32, I64}
-use Rattle.c_syntax.specs.Tree.{StmtTree, assign, branch, call, StmtTrees, no_stmts, more_stmts, StructTree, PureTree, ParamTree, ProcedureTree, ProgramTree}
+use Rattle.c_syntax.specs.Tree.{StmtTree, assign, assign_at, branch, call, StmtTrees, no_stmts, more_stmts, StructTree, PureTree, ParamTree, ProcedureTree, ProgramTree}
 use Rattle.c_grammar.specs.Written.{WrittenParam}
 use Rattle.c_syntax.specs.Outputs.{has_name}
 use Rattle.c_rules.specs.Resolve.{Known, function_names, check_params, is_lawful_root, same_type, resolve_procedure, resolve_procedures}
@@ -28,6 +28,7 @@ use Rattle.c_printer.proofs.PrintedProgram.{pures-some, moved, pures-distinct, p
 mutual
   pub stmt_chain-read : (chains : List ℕ) (l : ℕ) (s : StmtTree) → stmt_chain chains (read_stmt l s) ≡ stmt_chain chains s
   stmt_chain-read chains l (assign line f e) = refl
+  stmt_chain-read chains l (assign_at line f index e) = refl
   stmt_chain-read chains l (branch line test on_true on_false) =
       ap (λ n. max n (stmts_chain chains (read_stmts (l + 1 + stmts_lines on_true + 1) on_false))) (stmts_chain-read chains (l + 1) on_true) ∙ ap (max (stmts_chain chains on_true)) (stmts_chain-read chains (l + 1 + stmts_lines on_true + 1) on_false)
   stmt_chain-read chains l (call line k target es) = refl
@@ -40,6 +41,7 @@ mutual
 mutual
   stmt_without_lines-read : (l : ℕ) (s : StmtTree) → stmt_without_lines (read_stmt l s) ≡ stmt_without_lines s
   stmt_without_lines-read l (assign line f e) = refl
+  stmt_without_lines-read l (assign_at line f index e) = refl
   stmt_without_lines-read l (branch line test on_true on_false) =
       ap (λ ss. branch 0 test ss (stmts_without_lines (read_stmts (l + 1 + stmts_lines on_true + 1) on_false))) (stmts_without_lines-read (l + 1) on_true) ∙ ap (branch 0 test (stmts_without_lines on_true)) (stmts_without_lines-read (l + 1 + stmts_lines on_true + 1) on_false)
   stmt_without_lines-read l (call line k target es) = refl

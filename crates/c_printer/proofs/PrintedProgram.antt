@@ -3,7 +3,7 @@ use Rattle.std.proofs.Common.{◌≡◌, refl, sym, ◌∙◌, ap, subst, ℕ, z
 use Rattle.std.specs.List.{flat_map, AllByRecursion}
 use Rattle.std.proofs.lemmas.List.{append_assoc, append-nil, map-append, length-append, length-map}
 use Rattle.c_syntax.specs.declared.program.FieldKind.{FieldKind}
-use Rattle.c_syntax.specs.declared.program.FieldKind.TheVariants.{Number, Struct}
+use Rattle.c_syntax.specs.declared.program.FieldKind.TheVariants.{Number, Array, Struct}
 use Rattle.c_syntax.specs.Tree.{FieldTree, StructTree, struct_fields, PureTree, ProcedureTree, ProgramTree}
 use Rattle.c_syntax.specs.Names.{is_name}
 use Rattle.c_grammar.specs.Tokens.{has_header, tokens_of}
@@ -54,6 +54,7 @@ more-kinds count total (f ∷ fs) within h = (by f.kind h.0, more-kinds count to
   where
     by : (kind : FieldKind) → IsLawfulKind count kind → IsLawfulKind total kind
     by (Number type) k = tt
+    by (Array type many) k = k
     by (Struct n) k = omega (arith, k, within)
 
 structs-read : (p : ProgramTree) → AreDistinct (map (λ d. d.name) p.structs) → (earlier later : List StructTree) → p.structs ≡ earlier ++ later → AreStructs (length earlier) later → (l : ℕ) (rest : List ℕ) → Reads (all_spelling struct_spelling (written_structs p l later)) l (flat_map (struct_bytes p) later ++ rest) (l + structs_lines later) rest

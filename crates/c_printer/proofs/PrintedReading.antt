@@ -1,14 +1,14 @@
 -- The text of a lawful program is read as it, lines aside.
-use Rattle.std.proofs.Common.{◌≡◌, refl, sym, ◌∙◌, ap, subst, ℕ, suc, ◌+◌, ◌<◌, List, [], ◌∷◌, ◌++◌, length, map, filter, filter_map, Bool, true, false, not, ◌||◌, Some, None, Ok, slice_get, codes, bytes_eq, if◌then◌else◌, arith}
+use Rattle.std.proofs.Common.{◌≡◌, refl, sym, ◌∙◌, ap, subst, ℕ, suc, ◌+◌, ◌<◌, List, [], ◌∷◌, ◌++◌, length, map, filter, filter_map, Bool, true, false, not, ◌||◌, Some, None, Ok, slice_get, codes, bytes_eq, nat_le, nat_lt, if◌then◌else◌, le-leb, arith}
 use Rattle.std.specs.List.{position_from, cons_option, AllByRecursion}
 use Rattle.std.proofs.lemmas.List.{append_assoc, append-nil, map-append, length-append, length-map, get_or_append_left}
 use Rattle.mc_base.specs.Numbers.{reported_number}
 use Rattle.c_syntax.specs.declared.program.FieldKind.{FieldKind}
-use Rattle.c_syntax.specs.declared.program.FieldKind.TheVariants.{Number, Struct}
-use Rattle.c_syntax.specs.Tree.{StmtTree, assign, branch, call, StmtTrees, no_stmts, more_stmts, FieldTree, StructTree, PureTree, ProcedureTree, ProgramTree}
+use Rattle.c_syntax.specs.declared.program.FieldKind.TheVariants.{Number, Array, Struct}
+use Rattle.c_syntax.specs.Tree.{StmtTree, assign, assign_at, branch, call, StmtTrees, no_stmts, more_stmts, FieldTree, StructTree, PureTree, ProcedureTree, ProgramTree}
 use Rattle.c_syntax.specs.Outputs.{has_name, may_be_named}
 use Rattle.c_syntax.specs.RootFields.{is_number_kind, is_number, number_names}
-use Rattle.c_rules.specs.Resolve.{Known, function_names, check_params, resolve_pure, resolve_kind, is_number_written, number_name, resolve_fields, resolve_struct, resolve_pures, resolve_structs, has_root, resolve_program}
+use Rattle.c_rules.specs.Resolve.{Known, function_names, check_params, resolve_pure, array_limit, resolve_kind, is_number_written, number_name, resolve_fields, resolve_struct, resolve_pures, resolve_structs, has_root, resolve_program}
 use Rattle.c_grammar.specs.Results.{◌>>=◌}
 use Rattle.c_syntax.specs.Lawful.{AreDistinct, AreApart, ArePures, IsLawfulPure, AreStructs, IsLawfulStruct, IsLawfulKind, IsLawful, chains_of, pure_names, procedure_names, pure_without_lines, procedure_without_lines, without_lines}
 use Rattle.c_rules.specs.Reading.{IsTextOf, CText}
@@ -61,6 +61,10 @@ after_structs pures structs = record { pures = pures; structs = structs; procedu
 
 kind-resolved : (p : ProgramTree) (pures : List PureTree) (earlier later : List StructTree) → p.structs ≡ earlier ++ later → AreDistinct (map (λ d. d.name) earlier) → (kind : FieldKind) → IsLawfulKind (length earlier) kind → resolve_kind (after_structs pures earlier) (written_kind p kind) ≡ Ok kind
 kind-resolved p pures earlier later whole distinct (Number type) h = refl
+kind-resolved p pures earlier later whole distinct (Array type count) h =
+    let some : nat_lt 0 count ≡ true = le-leb 1 count (omega (arith, h.0)) in
+    let few : nat_le count array_limit ≡ true = le-leb count array_limit (omega (arith, h.1)) in
+    rw (some, few) refl
 kind-resolved p pures earlier later whole distinct (Struct k) h =
     let long : k < length (map (λ d. d.name) earlier) = subst (λ n. k < n) (sym (length-map earlier (λ d. d.name))) h in
     let name : struct_name p k ≡ name_at (map (λ d. d.name) earlier) k = ap (λ ds. name_at (map (λ d. d.name) ds) k) whole ∙ ap (λ ns. name_at ns k) (map-append (λ d. d.name) earlier later) ∙ get_or_append_left (map (λ d. d.name) earlier) (map (λ d. d.name) later) [] k long in
@@ -69,6 +73,7 @@ kind-resolved p pures earlier later whole distinct (Struct k) h =
 
 number-written : (p : ProgramTree) (kind : FieldKind) → is_number_written (written_kind p kind) ≡ is_number_kind kind
 number-written p (Number type) = refl
+number-written p (Array type count) = refl
 number-written p (Struct k) = refl
 
 -- the names of the number fields are those of the written ones
@@ -106,6 +111,7 @@ mutual
   -- lines are nothing to depths
   stmt_depth-read : (l : ℕ) (s : StmtTree) → stmt_depth (read_stmt l s) ≡ stmt_depth s
   stmt_depth-read l (assign line f e) = refl
+  stmt_depth-read l (assign_at line f index e) = refl
   stmt_depth-read l (branch line test on_true on_false) = rw (stmts_depth-read (l + 1) on_true, stmts_depth-read (l + 1 + stmts_lines on_true + 1) on_false) refl
   stmt_depth-read l (call line k target es) = refl
 
@@ -116,6 +122,7 @@ mutual
 mutual
   stmt_exprs_depth-read : (l : ℕ) (s : StmtTree) → stmt_exprs_depth (read_stmt l s) ≡ stmt_exprs_depth s
   stmt_exprs_depth-read l (assign line f e) = refl
+  stmt_exprs_depth-read l (assign_at line f index e) = refl
   stmt_exprs_depth-read l (branch line test on_true on_false) = rw (stmts_exprs_depth-read (l + 1) on_true, stmts_exprs_depth-read (l + 1 + stmts_lines on_true + 1) on_false) refl
   stmt_exprs_depth-read l (call line k target es) = refl
 

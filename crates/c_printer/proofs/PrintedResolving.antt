@@ -4,11 +4,11 @@ use Rattle.mc_base.specs.Numbers.{reported_number}
 use Rattle.c_syntax.specs.declared.code.CType.{CType}
 use Rattle.c_syntax.specs.declared.code.Leaf.{Leaf}
 use Rattle.c_syntax.specs.declared.code.Target.{Target}
-use Rattle.c_syntax.specs.Tree.{ExprTree, literal, neg, read, binary, pick, pure, ExprTrees, no_exprs, more_exprs, CondTree, compare, both, either, negated, StmtTree, assign, branch, call, StmtTrees, no_stmts, more_stmts, field_types, type_at, PureTree, ProcedureTree}
+use Rattle.c_syntax.specs.Tree.{ExprTree, literal, neg, read, binary, pick, pure, item, ExprTrees, no_exprs, more_exprs, CondTree, compare, both, either, negated, StmtTree, assign, assign_at, branch, call, StmtTrees, no_stmts, more_stmts, field_types, type_at, PureTree, ProcedureTree}
 use Rattle.c_grammar.specs.Results.{◌>>=◌}
-use Rattle.c_rules.specs.Resolve.{Names, resolve_leaf, resolve_pure_call, exprs_count, resolve_expr, resolve_exprs, resolve_cond, argument_casts, resolve_arguments, resolve_store, resolve_call, resolve_stmt, resolve_stmts}
+use Rattle.c_rules.specs.Resolve.{Names, resolve_leaf, resolve_array, resolve_pure_call, exprs_count, resolve_expr, resolve_exprs, resolve_cond, argument_casts, resolve_arguments, resolve_store, resolve_item_store, resolve_call, resolve_stmt, resolve_stmts}
 use Rattle.c_syntax.specs.Chains.{chain_limit, stmt_chain, stmts_chain}
-use Rattle.c_syntax.specs.Lawful.{Reach, IsLawfulLeaf, IsLawfulExpr, AreLawfulExprs, IsLawfulCond, IsLawfulTarget, IsLawfulStmt, AreLawfulStmts, IsNumberAt, exprs_length}
+use Rattle.c_syntax.specs.Lawful.{Reach, IsLawfulLeaf, IsLawfulExpr, AreLawfulExprs, IsLawfulCond, IsLawfulTarget, IsLawfulStmt, AreLawfulStmts, IsNumberAt, IsArrayAt, exprs_length}
 use Rattle.c_printer.specs.Printing.{Vocabulary, pure_name, procedure_name, procedure_types, field_name}
 use Rattle.c_printer.proofs.PrintedTrees.{written_leaf, written_expr, written_exprs, written_cond, written_target, written_arguments, stmt_lines, stmts_lines, written_stmt, written_stmts, read_stmt, read_stmts}
 use Rattle.c_printer.proofs.PrintedBodies.{Speaks}
@@ -18,6 +18,8 @@ pub record Resolves (v : Vocabulary) (reach : Reach) (names : Names) : Type 0 wh
   pub leaf : (leaf : Leaf) → IsLawfulLeaf reach leaf → resolve_leaf names (written_leaf v leaf) ≡ Ok leaf
   pub pure : (k : ℕ) (p : PureTree) → slice_get reach.pures k ≡ Some p → resolve_pure_call names.known (pure_name v.program k) (length p.params) ≡ Ok k
   pub store : (f : ℕ) → IsNumberAt reach.fields f → resolve_store names (field_name v.fields f) (type_at (field_types v.fields) f) ≡ Ok f
+  pub array : (f : ℕ) → IsArrayAt reach.fields f → resolve_array names (field_name v.fields f) ≡ Ok f
+  pub item_store : (f : ℕ) → IsArrayAt reach.fields f → resolve_item_store names (field_name v.fields f) (type_at (field_types v.fields) f) ≡ Ok f
   pub call : (k : ℕ) (p : ProcedureTree) (target : Target) → slice_get reach.procedures k ≡ Some p → IsLawfulTarget reach target p.of → slice_index names.known.chains k + 1 ≤ chain_limit → resolve_call names (procedure_name v.program k) (written_target v target) (procedure_types v.program k) ≡ Ok (k, target)
 
 -- goes on with what there is
@@ -42,6 +44,7 @@ module _ (v : Vocabulary) (reach : Reach) (names : Names) (speaks : Speaks v rea
     expr-resolved line (read leaf) h = rw (resolves.leaf leaf h) refl
     expr-resolved line (binary op a b) h = rw (expr-resolved line a h.0, expr-resolved line b h.1) refl
     expr-resolved line (pick test a b) h = rw (cond-resolved line test h.0, expr-resolved line a h.1, expr-resolved line b h.2) refl
+    expr-resolved line (item f index) h = rw (resolves.array f h.0, expr-resolved line index h.1) refl
     expr-resolved line (pure k es) h = rw (counted v line es, sym h.2, resolves.pure k h.0 h.1, exprs-resolved line es h.3) refl
 
     pub exprs-resolved : (line : ℕ) (es : ExprTrees) → AreLawfulExprs reach es → resolve_exprs names (written_exprs v line es) ≡ Ok es
@@ -63,6 +66,8 @@ module _ (v : Vocabulary) (reach : Reach) (names : Names) (speaks : Speaks v rea
   mutual
     pub stmt-resolved : (line : ℕ) (s : StmtTree) → IsLawfulStmt reach s → stmt_chain names.known.chains s + 1 ≤ chain_limit → resolve_stmt names (written_stmt v line s) ≡ Ok (read_stmt line s)
     stmt-resolved line (assign own f e) h short = rw (resolves.store f h.0, expr-resolved (reported_number line) e h.1) refl
+    stmt-resolved line (assign_at own f index e) h short =
+        rw (resolves.item_store f h.0, expr-resolved (reported_number line) index h.1, expr-resolved (reported_number line) e h.2) refl
     stmt-resolved line (branch own test on_true no_stmts) h short =
         rw (cond-resolved (reported_number line) test h.0, stmts-resolved (line + 1) on_true h.1 (omega (arith, short))) refl
     stmt-resolved line (branch own test on_true (more_stmts s ss)) h short =

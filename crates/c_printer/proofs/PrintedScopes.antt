@@ -12,12 +12,12 @@ use Rattle.c_syntax.specs.declared.code.Leaf.TheVariants.{Param, Own, Child}
 use Rattle.c_syntax.specs.declared.code.Target.{Target}
 use Rattle.c_syntax.specs.declared.code.Target.TheVariants.{Own as OwnTarget, Child as ChildTarget}
 use Rattle.c_syntax.specs.declared.program.FieldKind.{FieldKind}
-use Rattle.c_syntax.specs.declared.program.FieldKind.TheVariants.{Number, Struct}
+use Rattle.c_syntax.specs.declared.program.FieldKind.TheVariants.{Number, Array, Struct}
 use Rattle.c_syntax.specs.Tree.{FieldTree, StructTree, struct_fields, field_types, type_at, kind_type, PureTree, ProcedureTree, ProgramTree}
 use Rattle.c_syntax.specs.Names.{is_name, name_at}
-use Rattle.c_rules.specs.Resolve.{Known, Names, resolve_leaf, resolve_pure_call, resolve_store, resolve_target, resolve_call, field_named, or_unnamed, same_type, same_types}
+use Rattle.c_rules.specs.Resolve.{Known, Names, resolve_leaf, resolve_array, resolve_pure_call, resolve_store, resolve_item_store, resolve_target, resolve_call, field_named, or_unnamed, same_type, same_types}
 use Rattle.c_syntax.specs.Chains.{chain_limit}
-use Rattle.c_syntax.specs.Lawful.{Reach, AreDistinct, IsNumberAt, IsStructAt, IsLawfulLeaf, IsLawfulTarget, AreStructs, pure_names, procedure_names, pure_without_lines, procedure_without_lines}
+use Rattle.c_syntax.specs.Lawful.{Reach, AreDistinct, IsNumberAt, IsArrayAt, IsStructAt, IsLawfulLeaf, IsLawfulTarget, AreStructs, pure_names, procedure_names, pure_without_lines, procedure_without_lines}
 use Rattle.c_syntax.specs.RootFields.{is_number, is_number_kind}
 use Rattle.c_printer.specs.Printing.{Vocabulary, pure_name, procedure_name, procedure_types, field_name, kind_fields, inner_fields}
 use Rattle.c_syntax.proofs.lemmas.NamePlaces.{map-at, AreDistinct-name, position_from-named, position_from-name, map-at_front}
@@ -53,6 +53,7 @@ pub pure-speaks : (p : ProgramTree) (params : List (List ℕ)) (earlier later : 
 pure-speaks p params earlier later whole distinct some unlike = record {
   leaf = leaf;
   number = λ f h. absurd (none f h.0 h.1);
+  array = λ f h. absurd (none f h.0 h.3);
   instance = λ f of h. absurd (none f h.0 h.1);
   pure = λ k q there. (AreDistinct-name (pure_names p.pures) k distinct (subst (λ qs. k < length (pure_names qs)) (sym whole) (longer k q there)), some k q there);
   procedure = λ k q there. absurd (no_procedure k q there);
@@ -77,6 +78,7 @@ pub procedure-speaks : (p : ProgramTree) (of : ℕ) (params : List (List ℕ)) (
 procedure-speaks p of params earlier later whole pures procedures structs some unlike = record {
   leaf = leaf;
   number = λ f h. field-name (struct_fields p.structs of) f h.0 (fields-distinct 0 p.structs of structs) h.1;
+  array = λ f h. field-name (struct_fields p.structs of) f h.0 (fields-distinct 0 p.structs of structs) h.3;
   instance = λ f k h. field-name (struct_fields p.structs of) f h.0 (fields-distinct 0 p.structs of structs) h.1;
   pure = λ k q there. (AreDistinct-name (pure_names p.pures) k pures (length-names (λ x. x.name) p.pures k q there), some k q there);
   procedure = λ k q there. (AreDistinct-name (procedure_names p.procedures) k procedures (subst (λ qs. k < length (procedure_names qs)) (sym whole) (longer k q there)), types k q there);
@@ -116,6 +118,7 @@ number-kind f h = by f.kind refl h
   where
     by : (kind : FieldKind) → f.kind ≡ kind → is_number_kind kind ≡ true → (type : CType) × (f.kind ≡ Number type)
     by (Number type) e k = (type, e)
+    by (Array type count) e k = cc
     by (Struct n) e k = cc
 
 same_type-same : (t : CType) → same_type t t ≡ true
@@ -148,6 +151,8 @@ pure-resolves p known params earlier later whole distinct alike unlike = record 
   leaf = leaf;
   pure = pure-found p known earlier later whole distinct alike;
   store = λ f h. absurd (none f h.0 h.1);
+  array = λ f h. absurd (none f h.0 h.3);
+  item_store = λ f h. absurd (none f h.0 h.3);
   call = λ k q target there on short. absurd (no_procedure k q there);
 }
   where
@@ -178,6 +183,12 @@ child-passes names name inner f g k kind inner_kind t h e i d = rw (h, e, i, d) 
 
 store-passes : (names : Names) (name : List ℕ) (f : ℕ) (kind : FieldKind) (t : CType) → field_named names.fields name ≡ Ok (f, kind) → kind ≡ Number t → resolve_store names name t ≡ Ok f
 store-passes names name f kind t h e = rw (h, e, same_type-same t) refl
+
+array-passes : (names : Names) (name : List ℕ) (f count : ℕ) (kind : FieldKind) (t : CType) → field_named names.fields name ≡ Ok (f, kind) → kind ≡ Array t count → resolve_array names name ≡ Ok f
+array-passes names name f count kind t h e = rw (h, e) refl
+
+item_store-passes : (names : Names) (name : List ℕ) (f count : ℕ) (kind : FieldKind) (t : CType) → field_named names.fields name ≡ Ok (f, kind) → kind ≡ Array t count → resolve_item_store names name t ≡ Ok f
+item_store-passes names name f count kind t h e = rw (h, e, same_type-same t) refl
 
 call-passes : (names : Names) (name : List ℕ) (target : WrittenTarget) (casts : List CType) (k : ℕ) (r : ProcedureTree) (place : Target) (kind : FieldKind) (of : ℕ) → position_from (λ x. bytes_eq x.name name) 0 names.known.procedures ≡ Some k → slice_get names.known.procedures k ≡ Some r → resolve_target names target ≡ Ok (place, kind) → kind ≡ Struct of → of ≡ r.of → map (λ x. x.type) r.params ≡ casts → slice_index names.known.chains k + 1 ≤ chain_limit → resolve_call names name target casts ≡ Ok (k, place)
 call-passes names name target casts k r place kind of there found on struct same types short =
@@ -218,6 +229,14 @@ module _ (p : ProgramTree) (known : Known) (of : ℕ) (params : List (List ℕ))
       let type : type_at (field_types (struct_fields p.structs of)) f ≡ number.0 = map-at (λ x. kind_type x.kind) (struct_fields p.structs of) f h.0 I64 h.1 ∙ ap kind_type number.1 in
       ap (resolve_store body_names (field_name (struct_fields p.structs of) f)) type ∙ store-passes body_names (field_name (struct_fields p.structs of) f) f h.0.kind number.0 (own-found f h.0 h.1) number.1
 
+  array-resolves : (f : ℕ) → IsArrayAt (struct_fields p.structs of) f → resolve_array body_names (field_name (struct_fields p.structs of) f) ≡ Ok f
+  array-resolves f h = array-passes body_names (field_name (struct_fields p.structs of) f) f h.2 h.0.kind h.1 (own-found f h.0 h.3) h.4
+
+  item_store-resolves : (f : ℕ) → IsArrayAt (struct_fields p.structs of) f → resolve_item_store body_names (field_name (struct_fields p.structs of) f) (type_at (field_types (struct_fields p.structs of)) f) ≡ Ok f
+  item_store-resolves f h =
+      let type : type_at (field_types (struct_fields p.structs of)) f ≡ h.1 = map-at (λ x. kind_type x.kind) (struct_fields p.structs of) f h.0 I64 h.3 ∙ ap kind_type h.4 in
+      ap (resolve_item_store body_names (field_name (struct_fields p.structs of) f)) type ∙ item_store-passes body_names (field_name (struct_fields p.structs of) f) f h.2 h.0.kind h.1 (own-found f h.0 h.3) h.4
+
   call-resolves : (k : ℕ) (q : ProcedureTree) (target : Target) → slice_get earlier k ≡ Some q → IsLawfulTarget body_reach target q.of → slice_index known.chains k + 1 ≤ chain_limit → resolve_call body_names (procedure_name p k) (written_target body_vocabulary target) (procedure_types p k) ≡ Ok (k, target)
   call-resolves k q target there on short =
       let found : _ = found-alike procedure_without_lines known.procedures earlier k q same_procedures there in
@@ -238,5 +257,7 @@ module _ (p : ProgramTree) (known : Known) (of : ℕ) (params : List (List ℕ))
     leaf = leaf-resolves;
     pure = pure-found p known p.pures [] (sym (append-nil p.pures)) pures same_pures;
     store = store-resolves;
+    array = array-resolves;
+    item_store = item_store-resolves;
     call = call-resolves;
   }

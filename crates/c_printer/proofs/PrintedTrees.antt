@@ -7,9 +7,9 @@ use Rattle.c_syntax.specs.declared.code.Leaf.TheVariants.{Param, Own, Child}
 use Rattle.c_syntax.specs.declared.code.Target.{Target}
 use Rattle.c_syntax.specs.declared.code.Target.TheVariants.{Own as OwnTarget, Child as ChildTarget}
 use Rattle.c_syntax.specs.declared.program.FieldKind.{FieldKind}
-use Rattle.c_syntax.specs.declared.program.FieldKind.TheVariants.{Number, Struct}
-use Rattle.c_syntax.specs.Tree.{ExprTree, literal, neg, read, binary, pick, pure, ExprTrees, no_exprs, more_exprs, CondTree, compare, both, either, negated, StmtTree, assign, branch, call, StmtTrees, no_stmts, more_stmts, FieldTree, StructTree, struct_fields, field_types, type_at, PureTree, ParamTree, ProcedureTree, ProgramTree}
-use Rattle.c_syntax.specs.Kinds.{WrittenKind, number_kind, struct_kind}
+use Rattle.c_syntax.specs.declared.program.FieldKind.TheVariants.{Number, Array, Struct}
+use Rattle.c_syntax.specs.Tree.{ExprTree, literal, neg, read, binary, pick, pure, item, ExprTrees, no_exprs, more_exprs, CondTree, compare, both, either, negated, StmtTree, assign, assign_at, branch, call, StmtTrees, no_stmts, more_stmts, FieldTree, StructTree, struct_fields, field_types, type_at, PureTree, ParamTree, ProcedureTree, ProgramTree}
+use Rattle.c_syntax.specs.Kinds.{WrittenKind, number_kind, array_kind, struct_kind}
 use Rattle.c_grammar.specs.Written.{WrittenLeaf, WrittenExpr, WrittenExprs, WrittenCond, WrittenTarget, WrittenArguments, WrittenStmt, WrittenStmts, WrittenParam, WrittenPureParam, WrittenPure, WrittenField, WrittenStruct, WrittenProcedure, WrittenProgram}
 use Rattle.c_printer.specs.Printing.{Vocabulary, pure_name, struct_name, procedure_name, procedure_types, field_name, inner_fields}
 use Rattle.c_syntax.specs.Names.{name_at}
@@ -28,6 +28,7 @@ abbrev mutual
   written_expr v line (binary op a b) = WrittenExpr.binary op (written_expr v line a) (written_expr v line b)
   written_expr v line (pick test a b) = WrittenExpr.pick (written_cond v line test) (written_expr v line a) (written_expr v line b)
   written_expr v line (pure k es) = WrittenExpr.pure line (pure_name v.program k) (written_exprs v line es)
+  written_expr v line (item f index) = WrittenExpr.item line (field_name v.fields f) (written_expr v line index)
 
   pub written_exprs : Vocabulary → ℕ → ExprTrees → WrittenExprs
   written_exprs v line no_exprs = WrittenExprs.no_exprs
@@ -52,6 +53,7 @@ abbrev mutual
   -- how many lines a statement takes
   pub stmt_lines : StmtTree → ℕ
   stmt_lines (assign line f e) = 1
+  stmt_lines (assign_at line f index e) = 1
   stmt_lines (branch line test on_true on_false) = stmts_lines on_true + else_lines on_false + 2
   stmt_lines (call line k target es) = 1
 
@@ -68,6 +70,8 @@ abbrev mutual
   pub written_stmt : Vocabulary → ℕ → StmtTree → WrittenStmt
   written_stmt v line (assign own f e) =
       WrittenStmt.assign (reported_number line) (field_name v.fields f) (type_at (field_types v.fields) f) (written_expr v (reported_number line) e)
+  written_stmt v line (assign_at own f index e) =
+      WrittenStmt.assign_at (reported_number line) (field_name v.fields f) (written_expr v (reported_number line) index) (type_at (field_types v.fields) f) (written_expr v (reported_number line) e)
   written_stmt v line (branch own test on_true on_false) =
       written_branch v line (written_cond v (reported_number line) test) (written_stmts v (line + 1) on_true) (line + 1 + stmts_lines on_true + 1) on_false
   written_stmt v line (call own k target es) =
@@ -87,6 +91,7 @@ abbrev mutual
   -- a statement that begins on a line, as it is read
   pub read_stmt : ℕ → StmtTree → StmtTree
   read_stmt line (assign own f e) = assign (reported_number line) f e
+  read_stmt line (assign_at own f index e) = assign_at (reported_number line) f index e
   read_stmt line (branch own test on_true on_false) =
       branch (reported_number line) test (read_stmts (line + 1) on_true) (read_stmts (line + 1 + stmts_lines on_true + 1) on_false)
   read_stmt line (call own k target es) = call (reported_number line) k target es
@@ -116,6 +121,7 @@ pure_lines = 4
 
 abbrev pub written_kind : ProgramTree → FieldKind → WrittenKind
 written_kind p (Number type) = number_kind type
+written_kind p (Array type count) = array_kind type count
 written_kind p (Struct k) = struct_kind (struct_name p k)
 
 abbrev pub written_fields : ProgramTree → ℕ → List FieldTree → List WrittenField

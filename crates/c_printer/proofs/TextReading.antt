@@ -12,7 +12,7 @@ use Rattle.c_syntax.specs.declared.code.CType.{CType}
 use Rattle.c_syntax.specs.declared.code.CType.TheVariants.{I8, U8, I16, U16, I32, U32, I64}
 use Rattle.c_grammar.specs.Tokens.{Token, tokens_from}
 use Rattle.c_syntax.specs.Names.{is_word_byte, is_name}
-use Rattle.c_grammar.specs.Grammar.{Spelling, ◌⨾◌, nothing, never, word, at_line, name_word, literal_word, in_parens, in_braces, type_text, op_text, compare_text, cast_spelling}
+use Rattle.c_grammar.specs.Grammar.{Spelling, ◌⨾◌, nothing, never, word, at_line, name_word, literal_word, in_parens, in_brackets, in_braces, type_text, op_text, compare_text, cast_spelling}
 use Rattle.c_printer.proofs.Lexing.{IsTokenBefore, tokens_from-token, name-token, decimal-token}
 
 -- from this text at this line the spelling leaves that one at that line
@@ -93,6 +93,8 @@ reads-literal {l} n rest small none = record {
 pub data LoneSign : ℕ → Type 0 where
   open_paren : LoneSign 40
   close_paren : LoneSign 41
+  open_bracket : LoneSign 91
+  close_bracket : LoneSign 93
   open_brace : LoneSign 123
   close_brace : LoneSign 125
   semicolon : LoneSign 59
@@ -107,6 +109,10 @@ sign-token open_paren [] = record { first = 40; later = []; list = refl; piece =
 sign-token open_paren (c ∷ cs) = record { first = 40; later = []; list = refl; piece = refl; one_line = λ line. refl }
 sign-token close_paren [] = record { first = 41; later = []; list = refl; piece = refl; one_line = λ line. refl }
 sign-token close_paren (c ∷ cs) = record { first = 41; later = []; list = refl; piece = refl; one_line = λ line. refl }
+sign-token open_bracket [] = record { first = 91; later = []; list = refl; piece = refl; one_line = λ line. refl }
+sign-token open_bracket (c ∷ cs) = record { first = 91; later = []; list = refl; piece = refl; one_line = λ line. refl }
+sign-token close_bracket [] = record { first = 93; later = []; list = refl; piece = refl; one_line = λ line. refl }
+sign-token close_bracket (c ∷ cs) = record { first = 93; later = []; list = refl; piece = refl; one_line = λ line. refl }
 sign-token open_brace [] = record { first = 123; later = []; list = refl; piece = refl; one_line = λ line. refl }
 sign-token open_brace (c ∷ cs) = record { first = 123; later = []; list = refl; piece = refl; one_line = λ line. refl }
 sign-token close_brace [] = record { first = 125; later = []; list = refl; piece = refl; one_line = λ line. refl }
@@ -127,9 +133,12 @@ sign-token star (c ∷ cs) = record { first = 42; later = []; list = refl; piece
 pub sign : {b l : ℕ} {rest : List ℕ} → LoneSign b → Reads (word (b ∷ [])) l (b ∷ rest) l rest
 sign {b} {l} {rest} s = reads-word (b ∷ []) rest (sign-token s rest)
 
--- a spelling in parentheses, and in braces
+-- a spelling in parentheses, in brackets, and in braces
 pub parens : {a : Spelling} {l m : ℕ} {x z : List ℕ} → Reads a l x m (41 ∷ z) → Reads (in_parens a) l (40 ∷ x) m z
 parens reads = sign open_paren ▸ reads ▸ sign close_paren
+
+pub brackets : {a : Spelling} {l m : ℕ} {x z : List ℕ} → Reads a l x m (93 ∷ z) → Reads (in_brackets a) l (91 ∷ x) m z
+brackets reads = sign open_bracket ▸ reads ▸ sign close_bracket
 
 pub braces : {a : Spelling} {l m : ℕ} {x z : List ℕ} → Reads a l x m (125 ∷ z) → Reads (in_braces a) l (123 ∷ x) m z
 braces reads = sign open_brace ▸ reads ▸ sign close_brace

@@ -7,8 +7,8 @@ use Rattle.c_syntax.specs.declared.code.Leaf.TheVariants.{Param, Own, Child}
 use Rattle.c_syntax.specs.declared.code.Target.{Target}
 use Rattle.c_syntax.specs.declared.code.Target.TheVariants.{Own as OwnTarget, Child as ChildTarget}
 use Rattle.c_syntax.specs.declared.program.FieldKind.{FieldKind}
-use Rattle.c_syntax.specs.declared.program.FieldKind.TheVariants.{Number, Struct}
-use Rattle.c_syntax.specs.Tree.{ExprTree, literal, neg, read, binary, pick, pure, ExprTrees, no_exprs, more_exprs, CondTree, compare, both, either, negated, StmtTree, assign, branch, call, StmtTrees, no_stmts, more_stmts, FieldTree, StructTree, struct_fields, field_types, type_at, PureTree, ParamTree, ProcedureTree, ProgramTree}
+use Rattle.c_syntax.specs.declared.program.FieldKind.TheVariants.{Number, Array, Struct}
+use Rattle.c_syntax.specs.Tree.{ExprTree, literal, neg, read, binary, pick, pure, item, ExprTrees, no_exprs, more_exprs, CondTree, compare, both, either, negated, StmtTree, assign, assign_at, branch, call, StmtTrees, no_stmts, more_stmts, FieldTree, StructTree, struct_fields, field_types, type_at, PureTree, ParamTree, ProcedureTree, ProgramTree}
 use Rattle.c_grammar.specs.Tokens.{header_line}
 use Rattle.c_grammar.specs.Grammar.{op_text, compare_text, type_text}
 use Rattle.c_syntax.specs.Names.{name_at}
@@ -42,6 +42,7 @@ field_name fields k = name_at (map (λ f. f.name) fields) k
 -- the fields of a field that is a struct; a lawful program reads inside no other
 abbrev pub kind_fields : List StructTree → FieldKind → List FieldTree
 kind_fields structs (Number type) = []
+kind_fields structs (Array type count) = []
 kind_fields structs (Struct k) = struct_fields structs k
 
 -- the fields of the struct that the field at a position is of
@@ -66,6 +67,7 @@ abbrev mutual
   expr_bytes v (binary op a b) = codes "(" ++ expr_bytes v a ++ codes " " ++ op_text op ++ codes " " ++ expr_bytes v b ++ codes ")"
   expr_bytes v (pick test a b) = codes "(" ++ cond_bytes v test ++ codes " ? " ++ expr_bytes v a ++ codes " : " ++ expr_bytes v b ++ codes ")"
   expr_bytes v (pure k es) = pure_name v.program k ++ codes "(" ++ exprs_bytes v es ++ codes ")"
+  expr_bytes v (item f index) = codes "(int64_t)s->" ++ field_name v.fields f ++ codes "[" ++ expr_bytes v index ++ codes "]"
 
   -- expressions with `, ` between each two
   pub exprs_bytes : Vocabulary → ExprTrees → List ℕ
@@ -110,6 +112,8 @@ abbrev mutual
   pub stmt_bytes : Vocabulary → ℕ → StmtTree → List ℕ
   stmt_bytes v margin (assign line f e) =
       margin_bytes margin ++ codes "s->" ++ field_name v.fields f ++ codes " = (" ++ type_text (type_at (field_types v.fields) f) ++ codes ")" ++ expr_bytes v e ++ ended (codes ";")
+  stmt_bytes v margin (assign_at line f index e) =
+      margin_bytes margin ++ codes "s->" ++ field_name v.fields f ++ codes "[" ++ expr_bytes v index ++ codes "] = (" ++ type_text (type_at (field_types v.fields) f) ++ codes ")" ++ expr_bytes v e ++ ended (codes ";")
   stmt_bytes v margin (branch line test on_true on_false) =
       margin_bytes margin ++ codes "if " ++ cond_bytes v test ++ ended (codes " {") ++ stmts_bytes v (deeper margin) on_true ++ else_bytes v margin on_false ++ margin_bytes margin ++ ended (codes "}")
   stmt_bytes v margin (call line k target es) =
@@ -146,11 +150,18 @@ pure_bytes p q =
 -- what a field is declared as
 abbrev pub kind_bytes : ProgramTree → FieldKind → List ℕ
 kind_bytes p (Number type) = type_text type
+kind_bytes p (Array type count) = type_text type
 kind_bytes p (Struct k) = codes "struct " ++ struct_name p k
+
+-- what stands behind the name of a field: the length of an array
+abbrev pub length_bytes : FieldKind → List ℕ
+length_bytes (Number type) = []
+length_bytes (Array type count) = codes "[" ++ decimal count ++ codes "]"
+length_bytes (Struct k) = []
 
 -- a line that declares a field
 abbrev pub field_bytes : ProgramTree → FieldTree → List ℕ
-field_bytes p f = codes "    " ++ kind_bytes p f.kind ++ codes " " ++ f.name ++ ended (codes ";")
+field_bytes p f = codes "    " ++ kind_bytes p f.kind ++ codes " " ++ f.name ++ length_bytes f.kind ++ ended (codes ";")
 
 -- a struct, behind a blank line
 abbrev pub struct_bytes : ProgramTree → StructTree → List ℕ

@@ -32,7 +32,7 @@ fn text_of(alloc: Global, program: &Program) -> Result<Vec<u8>, AllocError>
     let mut out = Vec::new(alloc);
     put(&mut out, b"#include <stdint.h>\n")?;
     put_pures(alloc, &mut out, program)?;
-    put_structs(&mut out, program)?;
+    put_structs(alloc, &mut out, program)?;
     put_procedures(alloc, &mut out, program)?;
     Ok(out)
 }
@@ -47,12 +47,12 @@ fn put_pures(alloc: Global, out: &mut Vec<u8>, program: &Program) -> Result<(), 
     Ok(())
 }
 
-fn put_structs(out: &mut Vec<u8>, program: &Program) -> Result<(), AllocError>
+fn put_structs(alloc: Global, out: &mut Vec<u8>, program: &Program) -> Result<(), AllocError>
     ensures { OnOk result (out.new.items
         ≡ out.old.items ++ flat_map (struct_bytes (program_tree program.now)) program.now.structs.items) }
 {
     for def in &program.structs {
-        heads::put_struct(out, program, def)?;
+        heads::put_struct(alloc, out, program, def)?;
     }
     Ok(())
 }

@@ -5,3 +5,6 @@ mod reader;
 
 pub use c_grammar::ReadCFault;
 pub use reader::read_c;
+
+#[cfg(test)]
+mod tests;

@@ -4,10 +4,11 @@ use Rattle.std.proofs.lemmas.Slice.Eq.{bytes_eq-Decides}
 use Rattle.c_syntax.specs.declared.code.CType.{CType}
 use Rattle.c_grammar.specs.Tokens.{Token}
 use Rattle.c_syntax.specs.Names.{is_name}
-use Rattle.c_grammar.specs.Grammar.{Spelling, ◌⨾◌, word, at_line, name_word, literal_word, never, in_parens, in_braces, type_text, op_text, compare_text, leaf_spelling, expr_spelling, more_exprs_spelling, cond_spelling, target_spelling, arguments_spelling, stmts_spelling, param_spelling, more_params_spelling, pure_param_spelling, more_pure_params_spelling, field_spelling, all_spelling, struct_spelling, some_spelling, procedure_spelling, program_spelling}
+use Rattle.c_grammar.specs.Grammar.{Spelling, ◌⨾◌, word, at_line, name_word, literal_word, never, in_parens, in_brackets, in_braces, type_text, op_text, compare_text, own_spelling, leaf_spelling, expr_spelling, more_exprs_spelling, cond_spelling, target_spelling, arguments_spelling, stmts_spelling, param_spelling, more_params_spelling, pure_param_spelling, more_pure_params_spelling, field_spelling, all_spelling, struct_spelling, some_spelling, procedure_spelling, program_spelling}
 use Rattle.c_grammar.specs.Written.{WrittenLeaf, WrittenExpr, WrittenExprs, WrittenCond, WrittenTarget, WrittenArguments, WrittenStmts, WrittenParam, WrittenPureParam, WrittenField, WrittenStruct, WrittenProcedure, WrittenProgram}
-use Rattle.c_grammar.specs.Prefix.{Need, Reply, refuses, too_deep, leaves, with_needs, only_if, within_limit, first_reply, operand_reply, inside_reply, joint_reply, expr_need, cond_need, Role, Kind, as_kind, as_first, expression, condition, allows, follow, is_op, is_comparison, is_connective, text_need, name_need, literal_need, type_need, operand_need, inside_need, joint_need, values_need, leaf_need, dot_need, target_need, arguments_need, stmts_need, else_need, pure_param_need, pure_params_need, param_need, params_need, field_need, fields_need, pures_need, structs_need, procedures_need}
+use Rattle.c_grammar.specs.Prefix.{Need, Reply, refuses, too_deep, leaves, with_needs, only_if, within_limit, first_reply, operand_reply, inside_reply, joint_reply, expr_need, cond_need, Role, Kind, as_kind, as_first, expression, condition, allows, follow, is_op, is_comparison, is_connective, text_need, name_need, literal_need, type_need, operand_need, inside_need, joint_need, values_need, leaf_need, tail_need, index_need, length_need, target_need, arguments_need, stmts_need, else_need, pure_param_need, pure_params_need, param_need, params_need, field_need, fields_need, pures_need, structs_need, procedures_need}
 use Rattle.c_syntax.specs.Limits.{expr_limit}
+use Rattle.c_grammar.proofs.lemmas.PrefixLaws.{seq-parts}
 use Rattle.c_grammar.proofs.lemmas.Texts.{is_op-text, is_comparison-text, connective_text, is_connective-text}
 
 -- an operand in a role stands in front; a first operand is what completes a `(` with the role around it
@@ -26,8 +27,12 @@ Fills (operand_need role depth) tokens rest = Operand role tokens rest
 Fills (inside_need role depth) tokens rest = Operand (as_first role) tokens rest
 Fills (joint_need kind role depth) tokens rest = (first : List Token) → Operand (as_kind kind) first tokens → Operand (as_first role) first rest
 Fills (values_need depth) tokens rest = (es : WrittenExprs) × (mid : List Token) × (more_exprs_spelling es tokens ≡ Some mid) × (word (codes ")") mid ≡ Some rest)
-Fills leaf_need tokens rest = (leaf : WrittenLeaf) × (leaf_spelling leaf tokens ≡ Some rest)
-Fills dot_need tokens rest = (tokens ≡ rest) ⊎ ((name : List ℕ) × ((word (codes ".") ⨾ name_word name) tokens ≡ Some rest))
+Fills (leaf_need depth) tokens rest =
+    ((leaf : WrittenLeaf) × (leaf_spelling leaf tokens ≡ Some rest)) ⊎ ((field : List ℕ) × (index : WrittenExpr) × ((own_spelling field ⨾ in_brackets (expr_spelling index)) tokens ≡ Some rest))
+Fills (tail_need depth) tokens rest =
+    (tokens ≡ rest) ⊎ ((name : List ℕ) × ((word (codes ".") ⨾ name_word name) tokens ≡ Some rest)) ⊎ ((index : WrittenExpr) × (in_brackets (expr_spelling index) tokens ≡ Some rest))
+Fills index_need tokens rest = (tokens ≡ rest) ⊎ ((index : WrittenExpr) × (in_brackets (expr_spelling index) tokens ≡ Some rest))
+Fills length_need tokens rest = (tokens ≡ rest) ⊎ ((count : ℕ) × (in_brackets (literal_word count) tokens ≡ Some rest))
 Fills target_need tokens rest = (target : WrittenTarget) × (target_spelling target tokens ≡ Some rest)
 Fills arguments_need tokens rest = (values : WrittenArguments) × (mid : List Token) × (arguments_spelling values tokens ≡ Some mid) × (word (codes ")") mid ≡ Some rest)
 Fills (stmts_need depth) tokens rest = (ss : WrittenStmts) × (mid : List Token) × (stmts_spelling ss tokens ≡ Some mid) × (word (codes "}") mid ≡ Some rest)
@@ -110,6 +115,9 @@ seq-put a b tokens mid rest h k = ap (option_and_then b) h ∙ k
 pub parens-put : (a : Spelling) (tokens inner behind rest : List Token) → word (codes "(") tokens ≡ Some inner → a inner ≡ Some behind → word (codes ")") behind ≡ Some rest → in_parens a tokens ≡ Some rest
 parens-put a tokens inner behind rest h k l = seq-put (word (codes "(")) (a ⨾ word (codes ")")) tokens inner rest h (seq-put a (word (codes ")")) inner behind rest k l)
 
+pub brackets-put : (a : Spelling) (tokens inner behind rest : List Token) → word (codes "[") tokens ≡ Some inner → a inner ≡ Some behind → word (codes "]") behind ≡ Some rest → in_brackets a tokens ≡ Some rest
+brackets-put a tokens inner behind rest h k l = seq-put (word (codes "[")) (a ⨾ word (codes "]")) tokens inner rest h (seq-put a (word (codes "]")) inner behind rest k l)
+
 pub braces-put : (a : Spelling) (tokens inner behind rest : List Token) → word (codes "{") tokens ≡ Some inner → a inner ≡ Some behind → word (codes "}") behind ≡ Some rest → in_braces a tokens ≡ Some rest
 braces-put a tokens inner behind rest h k l = seq-put (word (codes "{")) (a ⨾ word (codes "}")) tokens inner rest h (seq-put a (word (codes "}")) inner behind rest k l)
 
@@ -166,10 +174,15 @@ leaf-none (WrittenLeaf.param name) = by (is_name name)
 leaf-none (WrittenLeaf.own field) = refl
 leaf-none (WrittenLeaf.child field inner) = refl
 
+-- the cast before a leaf
+cast-put : (p t : Token) (tokens rest : List Token) → p.text ≡ codes "(" → bytes_eq t.text (codes "int64_t") ≡ true → word (codes ")") tokens ≡ Some rest → in_parens (word (codes "int64_t")) (p ∷ t ∷ tokens) ≡ Some rest
+cast-put p t tokens rest is seen close =
+    parens-put (word (codes "int64_t")) (p ∷ t ∷ tokens) (t ∷ tokens) tokens rest (word-put (codes "(") p (t ∷ tokens) is) (word-put (codes "int64_t") t tokens (same_text t.text (codes "int64_t") seen)) close
+
 pub inside-back : (role : Role) (depth : ℕ) (t : Token) (tokens rest : List Token) → Given (inside_reply role depth t.text) tokens rest → Operand (as_first role) (t ∷ tokens) rest
-inside-back role depth t tokens rest g = by (chosen ((allows role expression && bytes_eq t.text (codes "-"), leaves (expr_need (depth + 1) ∷ text_need (codes ")") ∷ follow expression role depth)) ∷ (allows role condition && bytes_eq t.text (codes "!"), leaves (cond_need (depth + 1) ∷ text_need (codes ")") ∷ follow condition role depth)) ∷ (allows role expression && bytes_eq t.text (codes "int64_t"), leaves (text_need (codes ")") ∷ leaf_need ∷ follow expression role depth)) ∷ (true, operand_reply (as_first role) (depth + 1) t.text) ∷ []) tokens rest g)
+inside-back role depth t tokens rest g = by (chosen ((allows role expression && bytes_eq t.text (codes "-"), leaves (expr_need (depth + 1) ∷ text_need (codes ")") ∷ follow expression role depth)) ∷ (allows role condition && bytes_eq t.text (codes "!"), leaves (cond_need (depth + 1) ∷ text_need (codes ")") ∷ follow condition role depth)) ∷ (allows role expression && bytes_eq t.text (codes "int64_t"), leaves (text_need (codes ")") ∷ leaf_need (depth + 1) ∷ follow expression role depth)) ∷ (true, operand_reply (as_first role) (depth + 1) t.text) ∷ []) tokens rest g)
   where
-    by : Chosen ((allows role expression && bytes_eq t.text (codes "-"), leaves (expr_need (depth + 1) ∷ text_need (codes ")") ∷ follow expression role depth)) ∷ (allows role condition && bytes_eq t.text (codes "!"), leaves (cond_need (depth + 1) ∷ text_need (codes ")") ∷ follow condition role depth)) ∷ (allows role expression && bytes_eq t.text (codes "int64_t"), leaves (text_need (codes ")") ∷ leaf_need ∷ follow expression role depth)) ∷ (true, operand_reply (as_first role) (depth + 1) t.text) ∷ []) tokens rest → Operand (as_first role) (t ∷ tokens) rest
+    by : Chosen ((allows role expression && bytes_eq t.text (codes "-"), leaves (expr_need (depth + 1) ∷ text_need (codes ")") ∷ follow expression role depth)) ∷ (allows role condition && bytes_eq t.text (codes "!"), leaves (cond_need (depth + 1) ∷ text_need (codes ")") ∷ follow condition role depth)) ∷ (allows role expression && bytes_eq t.text (codes "int64_t"), leaves (text_need (codes ")") ∷ leaf_need (depth + 1) ∷ follow expression role depth)) ∷ (true, operand_reply (as_first role) (depth + 1) t.text) ∷ []) tokens rest → Operand (as_first role) (t ∷ tokens) rest
     by (inl h) p is =
         let k : _ = both_true (allows role expression) (bytes_eq t.text (codes "-")) h.0 in
         let f : FillsAll (expr_need (depth + 1) ∷ text_need (codes ")") ∷ follow expression role depth) tokens rest = h.1 in
@@ -180,12 +193,17 @@ inside-back role depth t tokens rest g = by (chosen ((allows role expression && 
         let f : FillsAll (cond_need (depth + 1) ∷ text_need (codes ")") ∷ follow condition role depth) tokens rest = h.1 in
         let c : WrittenCond = f.1.0 in
         closing condition role depth k.0 (p ∷ t ∷ tokens) f.2.0 rest (WrittenCond.negated c, parens-put (word (codes "!") ⨾ cond_spelling c) (p ∷ t ∷ tokens) (t ∷ tokens) f.0 f.2.0 (word-put (codes "(") p (t ∷ tokens) is) (seq-put (word (codes "!")) (cond_spelling c) (t ∷ tokens) tokens f.0 (word-put (codes "!") t tokens (same_text t.text (codes "!") k.1)) f.1.1) f.2.1) f.2.2
-    by (inr (inr (inl h))) p is =
-        let k : _ = both_true (allows role expression) (bytes_eq t.text (codes "int64_t")) h.0 in
-        let f : FillsAll (text_need (codes ")") ∷ leaf_need ∷ follow expression role depth) tokens rest = h.1 in
-        let leaf : WrittenLeaf = f.2.1.0 in
-        let place : _ = line-some (leaf_spelling leaf) (leaf-none leaf) f.0 f.2.0 f.2.1.1 in
-        closing expression role depth k.0 (p ∷ t ∷ tokens) f.2.0 rest (WrittenExpr.read place.0 leaf, seq-put (in_parens (word (codes "int64_t"))) (at_line place.0 (leaf_spelling leaf)) (p ∷ t ∷ tokens) f.0 f.2.0 (parens-put (word (codes "int64_t")) (p ∷ t ∷ tokens) (t ∷ tokens) tokens f.0 (word-put (codes "(") p (t ∷ tokens) is) (word-put (codes "int64_t") t tokens (same_text t.text (codes "int64_t") k.1)) f.1) place.1) f.2.2
+    by (inr (inr (inl (seen, (m, close, (k, inl (leaf, spelled), more)))))) p is =
+        let a : _ = both_true (allows role expression) (bytes_eq t.text (codes "int64_t")) seen in
+        let cast : in_parens (word (codes "int64_t")) (p ∷ t ∷ tokens) ≡ Some m = cast-put p t tokens m is a.1 close in
+        let place : _ = line-some (leaf_spelling leaf) (leaf-none leaf) m k spelled in
+        closing expression role depth a.0 (p ∷ t ∷ tokens) k rest (WrittenExpr.read place.0 leaf, seq-put (in_parens (word (codes "int64_t"))) (at_line place.0 (leaf_spelling leaf)) (p ∷ t ∷ tokens) m k cast place.1) more
+    by (inr (inr (inl (seen, (m, close, (k, inr (field, index, spelled), more)))))) p is =
+        let a : _ = both_true (allows role expression) (bytes_eq t.text (codes "int64_t")) seen in
+        let cast : in_parens (word (codes "int64_t")) (p ∷ t ∷ tokens) ≡ Some m = cast-put p t tokens m is a.1 close in
+        let parts : _ = seq-parts (own_spelling field) (in_brackets (expr_spelling index)) m k spelled in
+        let place : _ = line-some (own_spelling field) refl m parts.0 parts.1 in
+        closing expression role depth a.0 (p ∷ t ∷ tokens) k rest (WrittenExpr.item place.0 field index, seq-put (in_parens (word (codes "int64_t"))) (at_line place.0 (own_spelling field) ⨾ in_brackets (expr_spelling index)) (p ∷ t ∷ tokens) m k cast (seq-put (at_line place.0 (own_spelling field)) (in_brackets (expr_spelling index)) m parts.0 k place.1 parts.2)) more
     by (inr (inr (inr (inl h)))) p is =
         operand-back (as_first role) (depth + 1) t tokens rest (chosen (operand_entries (as_first role) (depth + 1) t.text) tokens rest (limit-given (depth + 1) expr_limit (first_reply (operand_entries (as_first role) (depth + 1) t.text)) tokens rest h.1)) p is
     by (inr (inr (inr (inr h)))) p is = absurd h

@@ -5,7 +5,7 @@ use Rattle.c_syntax.specs.Tree.{ExprTree, ExprTrees, CondTree}
 use Rattle.c_grammar.specs.Written.{WrittenLeaf, WrittenExpr, WrittenExprs, WrittenCond}
 use Rattle.c_syntax.specs.Limits.{expr_limit, expr_depth, exprs_depth, cond_depth}
 use Rattle.c_grammar.specs.Results.{◌>>=◌}
-use Rattle.c_rules.specs.Resolve.{on_line, Names, resolve_leaf, resolve_pure_call, exprs_count, resolve_expr, resolve_exprs, resolve_cond}
+use Rattle.c_rules.specs.Resolve.{on_line, Names, resolve_leaf, resolve_array, resolve_pure_call, exprs_count, resolve_expr, resolve_exprs, resolve_cond}
 use Rattle.c_grammar.specs.Openings.{Opening, none, operand, is_within, leaf_openings, expr_openings, exprs_openings, more_exprs_openings, cond_openings}
 use Rattle.c_rules.proofs.lemmas.Resolved.{ok-same, bind-parts}
 
@@ -92,6 +92,12 @@ mutual
       let c : _ = bind-parts (resolve_exprs names values) (λ vs. Ok (ExprTree.pure b.0 vs)) x b.2 in
       let o : _ = one-within d (exprs_openings (d + 1) values) in
       subst (λ y. Within (expr_openings d (WrittenExpr.pure line function values)) ↔ (expr_depth y + d ≤ expr_limit + 1)) (ok-same (ExprTree.pure b.0 c.0) x c.2) (λ h. let t : _ = o.0 h in omega (arith, (exprs-limits names values c.0 (d + 1) (omega (arith, t.0)) c.1).0 t.1), λ h. o.1 (omega (arith, h), (exprs-limits names values c.0 (d + 1) (omega (arith, h)) c.1).1 (omega (arith, h))))
+  expr-limits names (WrittenExpr.item line field index) x d e =
+      let b : _ = bind-parts (on_line line (resolve_array names field)) (λ k. resolve_expr names index >>= λ y. Ok (ExprTree.item k y)) x e in
+      let c : _ = bind-parts (resolve_expr names index) (λ y. Ok (ExprTree.item b.0 y)) x b.2 in
+      let i : _ = expr-limits names index c.0 (d + 1) c.1 in
+      let o : _ = one-within d (expr_openings (d + 1) index) in
+      subst (λ y. Within (expr_openings d (WrittenExpr.item line field index)) ↔ (expr_depth y + d ≤ expr_limit + 1)) (ok-same (ExprTree.item b.0 c.0) x c.2) (λ h. omega (arith, i.0 (o.0 h).1), λ h. o.1 (omega (arith, h), i.1 (omega (arith, h))))
 
   exprs-limits : (names : Names) (ws : WrittenExprs) (xs : ExprTrees) (d : ℕ) → d ≤ expr_limit + 1 → resolve_exprs names ws ≡ Ok xs → Within (exprs_openings d ws) ↔ (exprs_depth xs + d ≤ expr_limit + 1)
   exprs-limits names WrittenExprs.no_exprs xs d l e =

@@ -1,11 +1,11 @@
 -- Walks along expressions and conditions.
 use Rattle.std.proofs.Common.{◌≡◌, refl, sym, ap, ℕ, ◌+◌, ◌-◌, ◌^◌, List, [], ◌∷◌, ◌++◌, Some, Bool, true, false, if◌then◌else◌, nat_lt, codes, decimal, subst, append_assoc}
 use Rattle.c_grammar.specs.Tokens.{Token}
-use Rattle.c_grammar.specs.Grammar.{◌⨾◌, word, at_line, name_word, literal_word, in_parens, never, op_text, compare_text, leaf_spelling, expr_spelling, exprs_spelling, more_exprs_spelling, cond_spelling}
-use Rattle.c_grammar.specs.Written.{WrittenLeaf, param, own, child, WrittenExpr, literal, neg, read, binary, pick, pure, WrittenExprs, no_exprs, more_exprs, WrittenCond, compare, both, either, negated}
-use Rattle.c_grammar.specs.Prefix.{Need, Role, Kind, leaves, step_needs, as_kind, as_first, expression, condition, allows, follow, operand_need, inside_need, joint_need, text_need, literal_need, leaf_need, values_need, name_need, dot_need, expr_need, cond_need}
+use Rattle.c_grammar.specs.Grammar.{◌⨾◌, word, at_line, name_word, literal_word, in_parens, in_brackets, never, op_text, compare_text, own_spelling, leaf_spelling, expr_spelling, exprs_spelling, more_exprs_spelling, cond_spelling}
+use Rattle.c_grammar.specs.Written.{WrittenLeaf, param, own, child, WrittenExpr, literal, neg, read, binary, pick, pure, item, WrittenExprs, no_exprs, more_exprs, WrittenCond, compare, both, either, negated}
+use Rattle.c_grammar.specs.Prefix.{Need, Role, Kind, as_kind, as_first, expression, condition, allows, follow, operand_need, inside_need, joint_need, text_need, literal_need, leaf_need, tail_need, values_need, name_need, expr_need, cond_need}
 use Rattle.c_grammar.specs.Openings.{none, operand, leaf_openings, expr_openings, more_exprs_openings, cond_openings}
-use Rattle.c_grammar.proofs.lemmas.PrefixLaws.{some_same, seq-parts, at_line-inner, name_word-inner, not_word, operand-number, operand-paren, operand-name, Opens, inside-opener, expr-opens, cond-opens, joint-op, joint-compare, joint-connective, joint-question, inside-minus, inside-not, inside-cast, Parens, parens-parts, Firm, word-firm, op-firm, compare-firm, one_less, values-firm}
+use Rattle.c_grammar.proofs.lemmas.PrefixLaws.{some_same, seq-parts, at_line-inner, name_word-inner, not_word, operand-number, operand-paren, operand-name, Opens, inside-opener, expr-opens, cond-opens, joint-op, joint-compare, joint-connective, joint-question, inside-minus, inside-not, inside-cast, Parens, parens-parts, Brackets, brackets-parts, Firm, tail-skipped, word-firm, op-firm, compare-firm, one_less, values-firm}
 use Rattle.c_grammar.proofs.lemmas.LiteralLaws.{literals-agree}
 use Rattle.c_reading.proofs.Walks.{AgreeOn, Walk, ◌▸◌, opening-walk, word-walk, agree-walk, same-walk, reopened}
 
@@ -14,11 +14,11 @@ inside-opens : (role : Role) (d : ℕ) (more : List Need) (tokens : List Token) 
 inside-opens role d more tokens o =
     agree-walk tokens (inside_need role d ∷ more) (operand_need (as_first role) (d + 1) ∷ more) (subst (λ ts. AgreeOn ts (inside_need role d ∷ more) (operand_need (as_first role) (d + 1) ∷ more)) (sym o.list) (inside-opener role d more o.token.text o.opener))
 
--- a `.` that is left out
-dot-left_out : (more : List Need) (tokens : List Token) → Firm tokens → Walk [] tokens (dot_need ∷ more) tokens more
+-- what may follow an own field, and is left out
+tail-left_out : (d : ℕ) (more : List Need) (tokens : List Token) → Firm tokens → Walk [] tokens (tail_need d ∷ more) tokens more
 unfolding Firm
-dot-left_out more tokens firm =
-    agree-walk tokens (dot_need ∷ more) more (subst (λ ts. AgreeOn ts (dot_need ∷ more) more) (sym firm.2) (ap (λ b. if b then leaves (name_need ∷ more) else step_needs more firm.0.text) firm.3))
+tail-left_out d more tokens firm =
+    agree-walk tokens (tail_need d ∷ more) more (subst (λ ts. AgreeOn ts (tail_need d ∷ more) more) (sym firm.2) (tail-skipped d more firm.0.text firm.3))
 
 less-walk : (kind : Kind) (role : Role) (d : ℕ) (more : List Need) (rest : List Token) → Walk [] rest (follow kind role (d + 1 - 1) ++ more) rest (follow kind role d ++ more)
 less-walk kind role d more rest =
@@ -29,22 +29,26 @@ name-walk name tokens rest h more =
     let n : _ = name_word-inner name tokens rest h in
     word-walk name tokens rest n.1 (name_need ∷ more) more (rw n.0 refl)
 
-leaf-walk : (leaf : WrittenLeaf) (tokens rest : List Token) → leaf_spelling leaf tokens ≡ Some rest → Firm rest → (more : List Need) → Walk (leaf_openings leaf) tokens (leaf_need ∷ more) rest more
-leaf-walk (param name) tokens rest h firm more =
-    let n : _ = name_word-inner name tokens rest h in
-    word-walk name tokens rest n.1 (leaf_need ∷ more) more (rw (n.0, not_word name (codes "s") n.0 refl) refl)
-leaf-walk (own field) tokens rest h firm more =
+-- an own field, and what may follow it
+own-walk : (field : List ℕ) (tokens rest : List Token) → own_spelling field tokens ≡ Some rest → (d : ℕ) (more : List Need) → Walk (none ∷ none ∷ none ∷ []) tokens (leaf_need d ∷ more) rest (tail_need d ∷ more)
+own-walk field tokens rest h d more =
     let p : _ = seq-parts (word (codes "s")) (word (codes "->") ⨾ name_word field) tokens rest h in
     let q : _ = seq-parts (word (codes "->")) (name_word field) p.0 rest p.2 in
-    word-walk (codes "s") tokens p.0 p.1 (leaf_need ∷ more) (text_need (codes "->") ∷ name_need ∷ dot_need ∷ more) refl ▸ word-walk (codes "->") p.0 q.0 q.1 (text_need (codes "->") ∷ name_need ∷ dot_need ∷ more) (name_need ∷ dot_need ∷ more) refl ▸ name-walk field q.0 rest q.2 (dot_need ∷ more) ▸ dot-left_out more rest firm
-leaf-walk (child field inner) tokens rest h firm more =
+    word-walk (codes "s") tokens p.0 p.1 (leaf_need d ∷ more) (text_need (codes "->") ∷ name_need ∷ tail_need d ∷ more) refl ▸ word-walk (codes "->") p.0 q.0 q.1 (text_need (codes "->") ∷ name_need ∷ tail_need d ∷ more) (name_need ∷ tail_need d ∷ more) refl ▸ name-walk field q.0 rest q.2 (tail_need d ∷ more)
+
+leaf-walk : (leaf : WrittenLeaf) (tokens rest : List Token) → leaf_spelling leaf tokens ≡ Some rest → Firm rest → (d : ℕ) (more : List Need) → Walk (leaf_openings leaf) tokens (leaf_need d ∷ more) rest more
+leaf-walk (param name) tokens rest h firm d more =
+    let n : _ = name_word-inner name tokens rest h in
+    word-walk name tokens rest n.1 (leaf_need d ∷ more) more (rw (n.0, not_word name (codes "s") n.0 refl) refl)
+leaf-walk (own field) tokens rest h firm d more = own-walk field tokens rest h d more ▸ tail-left_out d more rest firm
+leaf-walk (child field inner) tokens rest h firm d more =
     let p : _ = seq-parts (word (codes "s")) (word (codes "->") ⨾ name_word field ⨾ word (codes ".") ⨾ name_word inner) tokens rest h in
     let q : _ = seq-parts (word (codes "->")) (name_word field ⨾ word (codes ".") ⨾ name_word inner) p.0 rest p.2 in
     let r : _ = seq-parts (name_word field) (word (codes ".") ⨾ name_word inner) q.0 rest q.2 in
     let t : _ = seq-parts (word (codes ".")) (name_word inner) r.0 rest r.2 in
-    word-walk (codes "s") tokens p.0 p.1 (leaf_need ∷ more) (text_need (codes "->") ∷ name_need ∷ dot_need ∷ more) refl ▸ word-walk (codes "->") p.0 q.0 q.1 (text_need (codes "->") ∷ name_need ∷ dot_need ∷ more) (name_need ∷ dot_need ∷ more) refl ▸ name-walk field q.0 r.0 r.1 (dot_need ∷ more) ▸ word-walk (codes ".") r.0 t.0 t.1 (dot_need ∷ more) (name_need ∷ more) refl ▸ name-walk inner t.0 rest t.2 more
+    word-walk (codes "s") tokens p.0 p.1 (leaf_need d ∷ more) (text_need (codes "->") ∷ name_need ∷ tail_need d ∷ more) refl ▸ word-walk (codes "->") p.0 q.0 q.1 (text_need (codes "->") ∷ name_need ∷ tail_need d ∷ more) (name_need ∷ tail_need d ∷ more) refl ▸ name-walk field q.0 r.0 r.1 (tail_need d ∷ more) ▸ word-walk (codes ".") r.0 t.0 t.1 (tail_need d ∷ more) (name_need ∷ more) refl ▸ name-walk inner t.0 rest t.2 more
 
-literal-walk : (v : ℕ) (tokens rest : List Token) → literal_word v tokens ≡ Some rest → (more : List Need) → Walk (none ∷ []) tokens (literal_need ∷ more) rest more
+pub literal-walk : (v : ℕ) (tokens rest : List Token) → literal_word v tokens ≡ Some rest → (more : List Need) → Walk (none ∷ []) tokens (literal_need ∷ more) rest more
 literal-walk v tokens rest h more = by (nat_lt v (2 ^ 63)) refl h
   where
     by : (b : Bool) → nat_lt v (2 ^ 63) ≡ b → (if b then word (decimal v) else never) tokens ≡ Some rest → Walk (none ∷ []) tokens (literal_need ∷ more) rest more
@@ -65,7 +69,7 @@ mutual
   expr-walk (read line leaf) role d more tokens rest a h firm =
       let p : _ = seq-parts (in_parens (word (codes "int64_t"))) (at_line line (leaf_spelling leaf)) tokens rest h in
       let q : Parens (word (codes "int64_t")) tokens p.0 = parens-parts (word (codes "int64_t")) tokens p.0 p.1 in
-      opening-walk (operand d) (codes "(") tokens q.inner q.start (operand_need role d ∷ more) (inside_need role d ∷ more) (operand-paren role d more) ▸ word-walk (codes "int64_t") q.inner q.behind q.body (inside_need role d ∷ more) (text_need (codes ")") ∷ leaf_need ∷ (follow expression role d ++ more)) (inside-cast role d more a) ▸ word-walk (codes ")") q.behind p.0 q.close (text_need (codes ")") ∷ leaf_need ∷ (follow expression role d ++ more)) (leaf_need ∷ (follow expression role d ++ more)) refl ▸ leaf-walk leaf p.0 rest (at_line-inner line (leaf_spelling leaf) p.0 rest p.2) firm (follow expression role d ++ more)
+      opening-walk (operand d) (codes "(") tokens q.inner q.start (operand_need role d ∷ more) (inside_need role d ∷ more) (operand-paren role d more) ▸ word-walk (codes "int64_t") q.inner q.behind q.body (inside_need role d ∷ more) (text_need (codes ")") ∷ leaf_need (d + 1) ∷ (follow expression role d ++ more)) (inside-cast role d more a) ▸ word-walk (codes ")") q.behind p.0 q.close (text_need (codes ")") ∷ leaf_need (d + 1) ∷ (follow expression role d ++ more)) (leaf_need (d + 1) ∷ (follow expression role d ++ more)) refl ▸ leaf-walk leaf p.0 rest (at_line-inner line (leaf_spelling leaf) p.0 rest p.2) firm (d + 1) (follow expression role d ++ more)
   expr-walk (binary op x y) role d more tokens rest a h firm =
       let q : Parens (expr_spelling x ⨾ word (op_text op) ⨾ expr_spelling y) tokens rest = parens-parts (expr_spelling x ⨾ word (op_text op) ⨾ expr_spelling y) tokens rest h in
       let p : _ = seq-parts (expr_spelling x) (word (op_text op) ⨾ expr_spelling y) q.inner q.behind q.body in
@@ -90,6 +94,13 @@ mutual
       let r : _ = seq-parts (expr_spelling e) (more_exprs_spelling es) q.inner q.behind q.body in
       let left : List Need = values_need (d + 1) ∷ (follow expression role d ++ more) in
       reopened (ap (λ os. operand d ∷ none ∷ os) (sym (append_assoc (expr_openings (d + 1) e) (more_exprs_openings (d + 1) es) (none ∷ [])))) (opening-walk (operand d) function tokens p.0 n.1 (operand_need role d ∷ more) (text_need (codes "(") ∷ expr_need (d + 1) ∷ left) (operand-name role d more function n.0 a) ▸ word-walk (codes "(") p.0 q.inner q.start (text_need (codes "(") ∷ expr_need (d + 1) ∷ left) (expr_need (d + 1) ∷ left) refl ▸ expr-walk e (as_kind expression) (d + 1) left q.inner r.0 refl r.1 (values-firm es r.0 q.behind rest r.2 q.close) ▸ values-walk es (d + 1) (follow expression role d ++ more) r.0 q.behind rest r.2 q.close)
+  expr-walk (item line field index) role d more tokens rest a h firm =
+      let p : _ = seq-parts (in_parens (word (codes "int64_t"))) (at_line line (own_spelling field) ⨾ in_brackets (expr_spelling index)) tokens rest h in
+      let q : Parens (word (codes "int64_t")) tokens p.0 = parens-parts (word (codes "int64_t")) tokens p.0 p.1 in
+      let r : _ = seq-parts (at_line line (own_spelling field)) (in_brackets (expr_spelling index)) p.0 rest p.2 in
+      let b : Brackets (expr_spelling index) r.0 rest = brackets-parts (expr_spelling index) r.0 rest r.2 in
+      let after : List Need = follow expression role d ++ more in
+      opening-walk (operand d) (codes "(") tokens q.inner q.start (operand_need role d ∷ more) (inside_need role d ∷ more) (operand-paren role d more) ▸ word-walk (codes "int64_t") q.inner q.behind q.body (inside_need role d ∷ more) (text_need (codes ")") ∷ leaf_need (d + 1) ∷ after) (inside-cast role d more a) ▸ word-walk (codes ")") q.behind p.0 q.close (text_need (codes ")") ∷ leaf_need (d + 1) ∷ after) (leaf_need (d + 1) ∷ after) refl ▸ own-walk field p.0 r.0 (at_line-inner line (own_spelling field) p.0 r.0 r.1) (d + 1) after ▸ word-walk (codes "[") r.0 b.inner b.start (tail_need (d + 1) ∷ after) (expr_need (d + 1) ∷ text_need (codes "]") ∷ after) refl ▸ expr-walk index (as_kind expression) (d + 1) (text_need (codes "]") ∷ after) b.inner b.behind refl b.body (word-firm (codes "]") b.behind rest refl b.close) ▸ word-walk (codes "]") b.behind rest b.close (text_need (codes "]") ∷ after) after refl
 
   pub values-walk : (es : WrittenExprs) (d : ℕ) (more : List Need) (tokens mid rest : List Token) → more_exprs_spelling es tokens ≡ Some mid → word (codes ")") mid ≡ Some rest → Walk (more_exprs_openings d es ++ none ∷ []) tokens (values_need d ∷ more) rest more
   values-walk no_exprs d more tokens mid rest h k =

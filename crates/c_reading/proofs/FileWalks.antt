@@ -3,15 +3,15 @@ use Rattle.std.proofs.Common.{◌≡◌, refl, sym, ◌∙◌, ap, ℕ, ◌+◌,
 use Rattle.c_syntax.specs.declared.code.CType.{CType}
 use Rattle.c_syntax.specs.declared.code.CType.TheVariants.{I8, U8, I16, U16, I32, U32, I64}
 use Rattle.c_grammar.specs.Tokens.{Token}
-use Rattle.c_syntax.specs.Kinds.{WrittenKind, number_kind, struct_kind}
-use Rattle.c_grammar.specs.Written.{WrittenTarget, own_target, field_target, WrittenArguments, no_arguments, more_arguments, WrittenStmt, assign, branch, branch_else, call, WrittenStmts, no_stmts, more_stmts, WrittenParam, WrittenPureParam, WrittenPure, WrittenField, WrittenStruct, WrittenProcedure, WrittenProgram}
-use Rattle.c_grammar.specs.Grammar.{Spelling, ◌⨾◌, word, at_line, name_word, in_parens, in_braces, type_text, cast_spelling, expr_spelling, cond_spelling, target_spelling, arguments_spelling, stmt_spelling, stmts_spelling, param_spelling, more_params_spelling, pure_param_spelling, more_pure_params_spelling, pure_params_spelling, pure_spelling, kind_spelling, field_spelling, all_spelling, some_spelling, struct_spelling, private_spelling, procedure_spelling, Spells}
-use Rattle.c_grammar.specs.Prefix.{Need, too_deep, leaves, step_needs, with_needs, as_kind, expression, condition, text_need, name_need, type_need, target_need, arguments_need, stmts_need, else_need, param_need, params_need, pure_param_need, pure_params_need, field_need, fields_need, pures_need, structs_need, procedures_need, expr_need, cond_need, struct_needs, procedure_needs, pure_needs, file_needs}
+use Rattle.c_syntax.specs.Kinds.{WrittenKind, number_kind, array_kind, struct_kind}
+use Rattle.c_grammar.specs.Written.{WrittenTarget, own_target, field_target, WrittenArguments, no_arguments, more_arguments, WrittenStmt, assign, assign_at, branch, branch_else, call, WrittenStmts, no_stmts, more_stmts, WrittenParam, WrittenPureParam, WrittenPure, WrittenField, WrittenStruct, WrittenProcedure, WrittenProgram}
+use Rattle.c_grammar.specs.Grammar.{Spelling, ◌⨾◌, word, at_line, name_word, in_parens, in_brackets, in_braces, literal_word, type_text, own_spelling, cast_spelling, expr_spelling, cond_spelling, target_spelling, arguments_spelling, stmt_spelling, stmts_spelling, param_spelling, more_params_spelling, pure_param_spelling, more_pure_params_spelling, pure_params_spelling, pure_spelling, kind_spelling, length_spelling, field_spelling, all_spelling, some_spelling, struct_spelling, private_spelling, procedure_spelling, Spells}
+use Rattle.c_grammar.specs.Prefix.{Need, too_deep, leaves, step_needs, with_needs, as_kind, expression, condition, text_need, name_need, literal_need, type_need, index_need, length_need, target_need, arguments_need, stmts_need, else_need, param_need, params_need, pure_param_need, pure_params_need, field_need, fields_need, pures_need, structs_need, procedures_need, expr_need, cond_need, struct_needs, procedure_needs, pure_needs, file_needs}
 use Rattle.c_syntax.specs.Limits.{stmt_limit, param_limit, pure_limit}
-use Rattle.c_grammar.specs.Openings.{Opening, none, statement, parameter, pure_function, expr_openings, target_openings, arguments_openings, stmt_openings, stmts_openings, more_params_openings, more_pure_params_openings, pure_params_openings, pure_openings, pures_openings, kind_openings, fields_openings, structs_openings, private_openings, procedures_openings, openings}
-use Rattle.c_grammar.proofs.lemmas.PrefixLaws.{Front, word-front, some_same, seq-parts, at_line-inner, name_word-inner, not_word, limited, Parens, parens-parts, Firm, word-firm}
+use Rattle.c_grammar.specs.Openings.{Opening, none, statement, parameter, pure_function, expr_openings, target_openings, arguments_openings, stmt_openings, stmts_openings, more_params_openings, more_pure_params_openings, pure_params_openings, pure_openings, pures_openings, kind_openings, length_openings, fields_openings, structs_openings, private_openings, procedures_openings, openings}
+use Rattle.c_grammar.proofs.lemmas.PrefixLaws.{Front, word-front, some_same, seq-parts, at_line-inner, name_word-inner, not_word, limited, Parens, parens-parts, Brackets, brackets-parts, Firm, word-firm}
 use Rattle.c_reading.proofs.Walks.{AgreeOn, Walk, ◌▸◌, opening-walk, word-walk, agree-walk, same-walk, reopened}
-use Rattle.c_reading.proofs.ExprWalks.{name-walk, expr-walk, cond-walk}
+use Rattle.c_reading.proofs.ExprWalks.{name-walk, literal-walk, expr-walk, cond-walk}
 
 -- the parts of a spelling in braces
 pub record Braces (a : Spelling) (tokens rest : List Token) : Type 0 where
@@ -81,6 +81,10 @@ stmt-no_else : (s : WrittenStmt) (tokens rest : List Token) → stmt_spelling s 
 stmt-no_else (assign line field cast value) tokens rest h =
     let p : _ = seq-parts (at_line line (word (codes "s"))) (word (codes "->") ⨾ name_word field ⨾ word (codes "=") ⨾ cast_spelling cast ⨾ expr_spelling value ⨾ word (codes ";")) tokens rest h in
     word-no_else (codes "s") tokens p.0 refl (at_line-inner line (word (codes "s")) tokens p.0 p.1)
+stmt-no_else (assign_at line field index cast value) tokens rest h =
+    let p : _ = seq-parts (at_line line (own_spelling field)) (in_brackets (expr_spelling index) ⨾ word (codes "=") ⨾ cast_spelling cast ⨾ expr_spelling value ⨾ word (codes ";")) tokens rest h in
+    let q : _ = seq-parts (word (codes "s")) (word (codes "->") ⨾ name_word field) tokens p.0 (at_line-inner line (own_spelling field) tokens p.0 p.1) in
+    word-no_else (codes "s") tokens q.0 refl q.1
 stmt-no_else (branch line test xs) tokens rest h =
     let p : _ = seq-parts (at_line line (word (codes "if"))) (cond_spelling test ⨾ in_braces (stmts_spelling xs)) tokens rest h in
     word-no_else (codes "if") tokens p.0 refl (at_line-inner line (word (codes "if")) tokens p.0 p.1)
@@ -102,6 +106,10 @@ twice_limited : (b : Bool) (needs after more : List Need) → with_needs (with_n
 twice_limited true needs after more = refl
 twice_limited false needs after more = refl
 
+-- the `s` of a store
+store-opens : (d : ℕ) (more : List Need) → step_needs (stmts_need d ∷ more) (codes "s") ≡ (if nat_le d stmt_limit then leaves (text_need (codes "->") ∷ name_need ∷ index_need ∷ text_need (codes "=") ∷ text_need (codes "(") ∷ type_need ∷ text_need (codes ")") ∷ expr_need 1 ∷ text_need (codes ";") ∷ stmts_need d ∷ more) else too_deep)
+store-opens d more = twice_limited (nat_le d stmt_limit) (text_need (codes "->") ∷ name_need ∷ index_need ∷ text_need (codes "=") ∷ text_need (codes "(") ∷ type_need ∷ text_need (codes ")") ∷ expr_need 1 ∷ text_need (codes ";") ∷ []) (stmts_need d ∷ []) more
+
 arguments-walk : (values : WrittenArguments) (more : List Need) (tokens mid rest : List Token) → arguments_spelling values tokens ≡ Some mid → word (codes ")") mid ≡ Some rest → {later : List Opening} {end : List Token} {left : List Need} → Walk later rest more end left → Walk (arguments_openings values ++ none ∷ later) tokens (arguments_need ∷ more) end left
 arguments-walk no_arguments more tokens mid rest h k walk =
     same-walk tokens mid (some_same tokens mid h) (arguments_need ∷ more) ▸ word-walk (codes ")") mid rest k (arguments_need ∷ more) more refl ▸ walk
@@ -122,7 +130,20 @@ mutual
       let v : _ = seq-parts (expr_spelling value) (word (codes ";")) u.0 rest u.2 in
       let e5 : List Need = text_need (codes ";") ∷ stmts_need d ∷ more in
       let e4 : List Need = text_need (codes "(") ∷ type_need ∷ text_need (codes ")") ∷ expr_need 1 ∷ e5 in
-      opening-walk (statement d) (codes "s") tokens p.0 (at_line-inner line (word (codes "s")) tokens p.0 p.1) (stmts_need d ∷ more) (text_need (codes "->") ∷ name_need ∷ text_need (codes "=") ∷ e4) (twice_limited (nat_le d stmt_limit) (text_need (codes "->") ∷ name_need ∷ text_need (codes "=") ∷ text_need (codes "(") ∷ type_need ∷ text_need (codes ")") ∷ expr_need 1 ∷ text_need (codes ";") ∷ []) (stmts_need d ∷ []) more) ▸ text-walk (codes "->") refl p.0 q.0 q.1 (name_need ∷ text_need (codes "=") ∷ e4) ▸ name-walk field q.0 r.0 r.1 (text_need (codes "=") ∷ e4) ▸ text-walk (codes "=") refl r.0 t.0 t.1 e4 ▸ cast-walk cast t.0 u.0 u.1 (expr_need 1 ∷ e5) ▸ expr-walk value (as_kind expression) 1 e5 u.0 v.0 refl v.1 (word-firm (codes ";") v.0 rest refl v.2) ▸ text-walk (codes ";") refl v.0 rest v.2 (stmts_need d ∷ more)
+      opening-walk (statement d) (codes "s") tokens p.0 (at_line-inner line (word (codes "s")) tokens p.0 p.1) (stmts_need d ∷ more) (text_need (codes "->") ∷ name_need ∷ index_need ∷ text_need (codes "=") ∷ e4) (store-opens d more) ▸ text-walk (codes "->") refl p.0 q.0 q.1 (name_need ∷ index_need ∷ text_need (codes "=") ∷ e4) ▸ name-walk field q.0 r.0 r.1 (index_need ∷ text_need (codes "=") ∷ e4) ▸ word-walk (codes "=") r.0 t.0 t.1 (index_need ∷ text_need (codes "=") ∷ e4) e4 refl ▸ cast-walk cast t.0 u.0 u.1 (expr_need 1 ∷ e5) ▸ expr-walk value (as_kind expression) 1 e5 u.0 v.0 refl v.1 (word-firm (codes ";") v.0 rest refl v.2) ▸ text-walk (codes ";") refl v.0 rest v.2 (stmts_need d ∷ more)
+  stmt-walk (assign_at line field index cast value) d more tokens rest h other =
+      let p : _ = seq-parts (at_line line (own_spelling field)) (in_brackets (expr_spelling index) ⨾ word (codes "=") ⨾ cast_spelling cast ⨾ expr_spelling value ⨾ word (codes ";")) tokens rest h in
+      let o : _ = seq-parts (word (codes "s")) (word (codes "->") ⨾ name_word field) tokens p.0 (at_line-inner line (own_spelling field) tokens p.0 p.1) in
+      let q : _ = seq-parts (word (codes "->")) (name_word field) o.0 p.0 o.2 in
+      let r : _ = seq-parts (in_brackets (expr_spelling index)) (word (codes "=") ⨾ cast_spelling cast ⨾ expr_spelling value ⨾ word (codes ";")) p.0 rest p.2 in
+      let b : Brackets (expr_spelling index) p.0 r.0 = brackets-parts (expr_spelling index) p.0 r.0 r.1 in
+      let t : _ = seq-parts (word (codes "=")) (cast_spelling cast ⨾ expr_spelling value ⨾ word (codes ";")) r.0 rest r.2 in
+      let u : _ = seq-parts (cast_spelling cast) (expr_spelling value ⨾ word (codes ";")) t.0 rest t.2 in
+      let v : _ = seq-parts (expr_spelling value) (word (codes ";")) u.0 rest u.2 in
+      let e5 : List Need = text_need (codes ";") ∷ stmts_need d ∷ more in
+      let e4 : List Need = text_need (codes "(") ∷ type_need ∷ text_need (codes ")") ∷ expr_need 1 ∷ e5 in
+      let e3 : List Need = text_need (codes "]") ∷ text_need (codes "=") ∷ e4 in
+      opening-walk (statement d) (codes "s") tokens o.0 o.1 (stmts_need d ∷ more) (text_need (codes "->") ∷ name_need ∷ index_need ∷ text_need (codes "=") ∷ e4) (store-opens d more) ▸ text-walk (codes "->") refl o.0 q.0 q.1 (name_need ∷ index_need ∷ text_need (codes "=") ∷ e4) ▸ name-walk field q.0 p.0 q.2 (index_need ∷ text_need (codes "=") ∷ e4) ▸ word-walk (codes "[") p.0 b.inner b.start (index_need ∷ text_need (codes "=") ∷ e4) (expr_need 1 ∷ e3) refl ▸ expr-walk index (as_kind expression) 1 e3 b.inner b.behind refl b.body (word-firm (codes "]") b.behind r.0 refl b.close) ▸ text-walk (codes "]") refl b.behind r.0 b.close (text_need (codes "=") ∷ e4) ▸ text-walk (codes "=") refl r.0 t.0 t.1 e4 ▸ cast-walk cast t.0 u.0 u.1 (expr_need 1 ∷ e5) ▸ expr-walk value (as_kind expression) 1 e5 u.0 v.0 refl v.1 (word-firm (codes ";") v.0 rest refl v.2) ▸ text-walk (codes ";") refl v.0 rest v.2 (stmts_need d ∷ more)
   stmt-walk (branch line test xs) d more tokens rest h other =
       let p : _ = seq-parts (at_line line (word (codes "if"))) (cond_spelling test ⨾ in_braces (stmts_spelling xs)) tokens rest h in
       let q : _ = seq-parts (cond_spelling test) (in_braces (stmts_spelling xs)) p.0 rest p.2 in
@@ -189,16 +210,33 @@ pure_params-walk (x ∷ ps) count more tokens mid rest h k walk =
     let q : _ = seq-parts (pure_param_spelling x) (more_pure_params_spelling ps) p.0 mid p.2 in
     word-walk (codes ",") tokens p.0 p.1 (pure_params_need count ∷ more) (pure_param_need (count + 1) ∷ pure_params_need (count + 1) ∷ more) refl ▸ pure_param-walk x (count + 1) (pure_params_need (count + 1) ∷ more) p.0 q.0 q.1 ▸ pure_params-walk ps (count + 1) more q.0 mid rest q.2 k walk
 
+-- what is needed behind the kind of a field
+abbrev behind_kind : WrittenKind → List Need → List Need
+behind_kind (number_kind type) e = name_need ∷ length_need ∷ text_need (codes ";") ∷ e
+behind_kind (array_kind type count) e = name_need ∷ length_need ∷ text_need (codes ";") ∷ e
+behind_kind (struct_kind name) e = name_need ∷ text_need (codes ";") ∷ e
+
+-- from the name of a field on
+field_name-walk : (kind : WrittenKind) (name : List ℕ) (tokens mid behind rest : List Token) → name_word name tokens ≡ Some mid → length_spelling kind mid ≡ Some behind → word (codes ";") behind ≡ Some rest → (e : List Need) → Walk (none ∷ (length_openings kind ++ none ∷ [])) tokens (behind_kind kind e) rest e
+field_name-walk (number_kind type) name tokens mid behind rest h k l e =
+    name-walk name tokens mid h (length_need ∷ text_need (codes ";") ∷ e) ▸ same-walk mid behind (some_same mid behind k) (length_need ∷ text_need (codes ";") ∷ e) ▸ word-walk (codes ";") behind rest l (length_need ∷ text_need (codes ";") ∷ e) e refl
+field_name-walk (array_kind type count) name tokens mid behind rest h k l e =
+    let b : Brackets (literal_word count) mid behind = brackets-parts (literal_word count) mid behind k in
+    name-walk name tokens mid h (length_need ∷ text_need (codes ";") ∷ e) ▸ word-walk (codes "[") mid b.inner b.start (length_need ∷ text_need (codes ";") ∷ e) (literal_need ∷ text_need (codes "]") ∷ text_need (codes ";") ∷ e) refl ▸ literal-walk count b.inner b.behind b.body (text_need (codes "]") ∷ text_need (codes ";") ∷ e) ▸ text-walk (codes "]") refl b.behind behind b.close (text_need (codes ";") ∷ e) ▸ text-walk (codes ";") refl behind rest l e
+field_name-walk (struct_kind of) name tokens mid behind rest h k l e =
+    name-walk name tokens mid h (text_need (codes ";") ∷ e) ▸ same-walk mid behind (some_same mid behind k) (text_need (codes ";") ∷ e) ▸ text-walk (codes ";") refl behind rest l e
+
 -- one field where a field is needed, or where further fields or the `}` are
-field-walk : (f : WrittenField) (tokens rest : List Token) → field_spelling f tokens ≡ Some rest → (more : List Need) → Walk (kind_openings f.kind ++ none ∷ none ∷ []) tokens (field_need ∷ more) rest more × Walk (kind_openings f.kind ++ none ∷ none ∷ []) tokens (fields_need ∷ more) rest (fields_need ∷ more)
+field-walk : (f : WrittenField) (tokens rest : List Token) → field_spelling f tokens ≡ Some rest → (more : List Need) → Walk (kind_openings f.kind ++ none ∷ (length_openings f.kind ++ none ∷ [])) tokens (field_need ∷ more) rest more × Walk (kind_openings f.kind ++ none ∷ (length_openings f.kind ++ none ∷ [])) tokens (fields_need ∷ more) rest (fields_need ∷ more)
 field-walk f tokens rest h more =
-    let p : _ = seq-parts (at_line f.line (kind_spelling f.kind)) (name_word f.name ⨾ word (codes ";")) tokens rest h in
-    let q : _ = seq-parts (name_word f.name) (word (codes ";")) p.0 rest p.2 in
+    let p : _ = seq-parts (at_line f.line (kind_spelling f.kind)) (name_word f.name ⨾ length_spelling f.kind ⨾ word (codes ";")) tokens rest h in
+    let q : _ = seq-parts (name_word f.name) (length_spelling f.kind ⨾ word (codes ";")) p.0 rest p.2 in
+    let r : _ = seq-parts (length_spelling f.kind) (word (codes ";")) q.0 rest q.2 in
     let i : _ = at_line-inner f.line (kind_spelling f.kind) tokens p.0 p.1 in
-    let tail : (e : List Need) → Walk (none ∷ none ∷ []) p.0 (name_need ∷ text_need (codes ";") ∷ e) rest e = λ e. name-walk f.name p.0 q.0 q.1 (text_need (codes ";") ∷ e) ▸ text-walk (codes ";") refl q.0 rest q.2 e in
+    let tail : (e : List Need) → Walk (none ∷ (length_openings f.kind ++ none ∷ [])) p.0 (behind_kind f.kind e) rest e = λ e. field_name-walk f.kind f.name p.0 q.0 r.0 rest q.1 r.1 r.2 e in
     ((by f.kind tokens p.0 i).0 ▸ tail more, (by f.kind tokens p.0 i).1 ▸ tail (fields_need ∷ more))
   where
-    type_by : (t : CType) → (step_needs (field_need ∷ more) (type_text t) ≡ leaves (name_need ∷ text_need (codes ";") ∷ more)) × (step_needs (fields_need ∷ more) (type_text t) ≡ leaves (name_need ∷ text_need (codes ";") ∷ fields_need ∷ more))
+    type_by : (t : CType) → (step_needs (field_need ∷ more) (type_text t) ≡ leaves (name_need ∷ length_need ∷ text_need (codes ";") ∷ more)) × (step_needs (fields_need ∷ more) (type_text t) ≡ leaves (name_need ∷ length_need ∷ text_need (codes ";") ∷ fields_need ∷ more))
     type_by I8 = (refl, refl)
     type_by U8 = (refl, refl)
     type_by I16 = (refl, refl)
@@ -207,17 +245,24 @@ field-walk f tokens rest h more =
     type_by U32 = (refl, refl)
     type_by I64 = (refl, refl)
 
-    by : (kind : WrittenKind) (ts mid : List Token) → kind_spelling kind ts ≡ Some mid → Walk (kind_openings kind) ts (field_need ∷ more) mid (name_need ∷ text_need (codes ";") ∷ more) × Walk (kind_openings kind) ts (fields_need ∷ more) mid (name_need ∷ text_need (codes ";") ∷ fields_need ∷ more)
-    by (number_kind type) ts mid k =
-        (word-walk (type_text type) ts mid k (field_need ∷ more) (name_need ∷ text_need (codes ";") ∷ more) (type_by type).0, word-walk (type_text type) ts mid k (fields_need ∷ more) (name_need ∷ text_need (codes ";") ∷ fields_need ∷ more) (type_by type).1)
+    typed : (type : CType) (ts mid : List Token) → word (type_text type) ts ≡ Some mid → Walk (none ∷ []) ts (field_need ∷ more) mid (name_need ∷ length_need ∷ text_need (codes ";") ∷ more) × Walk (none ∷ []) ts (fields_need ∷ more) mid (name_need ∷ length_need ∷ text_need (codes ";") ∷ fields_need ∷ more)
+    typed type ts mid k =
+        (word-walk (type_text type) ts mid k (field_need ∷ more) (name_need ∷ length_need ∷ text_need (codes ";") ∷ more) (type_by type).0, word-walk (type_text type) ts mid k (fields_need ∷ more) (name_need ∷ length_need ∷ text_need (codes ";") ∷ fields_need ∷ more) (type_by type).1)
+
+    by : (kind : WrittenKind) (ts mid : List Token) → kind_spelling kind ts ≡ Some mid → Walk (kind_openings kind) ts (field_need ∷ more) mid (behind_kind kind more) × Walk (kind_openings kind) ts (fields_need ∷ more) mid (behind_kind kind (fields_need ∷ more))
+    by (number_kind type) ts mid k = typed type ts mid k
+    by (array_kind type count) ts mid k = typed type ts mid k
     by (struct_kind name) ts mid k =
         let p : _ = seq-parts (word (codes "struct")) (name_word name) ts mid k in
         (word-walk (codes "struct") ts p.0 p.1 (field_need ∷ more) (name_need ∷ name_need ∷ text_need (codes ";") ∷ more) refl ▸ name-walk name p.0 mid p.2 (name_need ∷ text_need (codes ";") ∷ more), word-walk (codes "struct") ts p.0 p.1 (fields_need ∷ more) (name_need ∷ name_need ∷ text_need (codes ";") ∷ fields_need ∷ more) refl ▸ name-walk name p.0 mid p.2 (name_need ∷ text_need (codes ";") ∷ fields_need ∷ more))
 
 -- brackets of what a field and others open
-field_and-rest : (f : WrittenField) (fs : List WrittenField) (later : List Opening) {tokens : List Token} {needs : List Need} {end : List Token} {left : List Need} → Walk ((kind_openings f.kind ++ none ∷ none ∷ []) ++ (fields_openings fs ++ none ∷ later)) tokens needs end left → Walk (fields_openings (f ∷ fs) ++ none ∷ later) tokens needs end left
+bracketed : (kind name later : List Opening) → (kind ++ none ∷ (name ++ none ∷ [])) ++ later ≡ kind ++ none ∷ (name ++ none ∷ later)
+bracketed kind name later = append_assoc kind (none ∷ (name ++ none ∷ [])) later ∙ ap (λ os. kind ++ none ∷ os) (append_assoc name (none ∷ []) later)
+
+field_and-rest : (f : WrittenField) (fs : List WrittenField) (later : List Opening) {tokens : List Token} {needs : List Need} {end : List Token} {left : List Need} → Walk ((kind_openings f.kind ++ none ∷ (length_openings f.kind ++ none ∷ [])) ++ (fields_openings fs ++ none ∷ later)) tokens needs end left → Walk (fields_openings (f ∷ fs) ++ none ∷ later) tokens needs end left
 field_and-rest f fs later walk =
-    reopened (append_assoc (kind_openings f.kind) (none ∷ none ∷ []) (fields_openings fs ++ none ∷ later) ∙ sym (append_assoc (kind_openings f.kind) (none ∷ none ∷ fields_openings fs) (none ∷ later))) walk
+    reopened (bracketed (kind_openings f.kind) (length_openings f.kind) (fields_openings fs ++ none ∷ later) ∙ sym (append_assoc (kind_openings f.kind) (none ∷ (length_openings f.kind ++ none ∷ fields_openings fs)) (none ∷ later) ∙ ap (λ os. kind_openings f.kind ++ none ∷ os) (append_assoc (length_openings f.kind) (none ∷ fields_openings fs) (none ∷ later)))) walk
 
 fields-walk : (fs : List WrittenField) (tokens mid rest : List Token) → all_spelling field_spelling fs tokens ≡ Some mid → word (codes "}") mid ≡ Some rest → (more : List Need) → {later : List Opening} {end : List Token} {left : List Need} → Walk later rest more end left → Walk (fields_openings fs ++ none ∷ later) tokens (fields_need ∷ more) end left
 fields-walk [] tokens mid rest h k more walk =

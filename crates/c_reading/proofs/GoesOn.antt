@@ -4,12 +4,12 @@ use Rattle.std.specs.Prelude.{⊤}
 use Rattle.c_syntax.specs.declared.code.CType.TheVariants.{I64}
 use Rattle.c_grammar.specs.Tokens.{Token}
 use Rattle.c_syntax.specs.Names.{is_name}
-use Rattle.c_grammar.specs.Grammar.{word, name_word, in_braces, stmt_spelling, stmts_spelling, CanGoOn, Spells}
+use Rattle.c_grammar.specs.Grammar.{word, name_word, literal_word, in_brackets, in_braces, expr_spelling, stmt_spelling, stmts_spelling, CanGoOn, Spells}
 use Rattle.c_grammar.specs.Written.{WrittenStmts, WrittenProgram}
-use Rattle.c_grammar.specs.Prefix.{Need, Reply, Role, Kind, as_kind, as_first, expression, condition, allows, follow, refuses, too_deep, leaves, with_needs, only_if, within_limit, first_reply, is_type, is_literal, is_op, is_comparison, is_connective, expr_need, cond_need, operand_reply, inside_reply, joint_reply, stmt_reply, field_reply, procedures_reply, comma_reply, struct_needs, procedure_needs, pure_needs, reply_of, step_needs, file_needs, may_end, text_need, name_need, literal_need, type_need, operand_need, inside_need, joint_need, values_need, leaf_need, dot_need, target_need, arguments_need, stmts_need, else_need, pure_param_need, pure_params_need, param_need, params_need, field_need, fields_need, pures_need, structs_need, procedures_need}
+use Rattle.c_grammar.specs.Prefix.{Need, Reply, Role, Kind, as_kind, as_first, expression, condition, allows, follow, refuses, too_deep, leaves, with_needs, only_if, within_limit, first_reply, is_type, is_literal, is_op, is_comparison, is_connective, expr_need, cond_need, operand_reply, inside_reply, joint_reply, stmt_reply, field_reply, procedures_reply, comma_reply, struct_needs, procedure_needs, pure_needs, reply_of, step_needs, file_needs, may_end, text_need, name_need, literal_need, type_need, operand_need, inside_need, joint_need, values_need, leaf_need, tail_need, index_need, length_need, index_needs, length_needs, target_need, arguments_need, stmts_need, else_need, pure_param_need, pure_params_need, param_need, params_need, field_need, fields_need, pures_need, structs_need, procedures_need}
 use Rattle.c_syntax.specs.Limits.{stmt_limit, param_limit, pure_limit, expr_limit}
 use Rattle.c_reading.specs.Agreement.{Leads}
-use Rattle.c_reading.proofs.Completions.{Operand, Fills, FillsAll, Given, operand_entries, chosen, with-given, same_text, word-put, seq-put, braces-put, operand-back}
+use Rattle.c_reading.proofs.Completions.{Operand, Fills, FillsAll, Given, operand_entries, chosen, with-given, same_text, word-put, seq-put, brackets-put, braces-put, operand-back}
 use Rattle.c_reading.proofs.StepBack.{back, stmt_entries, stmt-back, pures-back, pure_param-back, param-back}
 
 -- something can be given in front of any tokens
@@ -93,8 +93,11 @@ procedures-fillable = record { fill = λ rest. (rest, ([], refl)) }
 structs-fillable : Fillable structs_need
 structs-fillable = by_step structs_need (codes "void") procedure_needs refl (name-fillable ◃ text-fillable (codes "(") ◃ text-fillable (codes "struct") ◃ name-fillable ◃ text-fillable (codes "*") ◃ text-fillable (codes "s") ◃ params-fillable 0 ◃ text-fillable (codes "{") ◃ stmts-fillable 1 ◃ procedures-fillable ◃ nil)
 
+length-fillable : Fillable length_need
+length-fillable = record { fill = λ rest. (rest, inl refl) }
+
 field-fillable : Fillable field_need
-field-fillable = by_step field_need (codes "int8_t") (name_need ∷ text_need (codes ";") ∷ []) refl (name-fillable ◃ text-fillable (codes ";") ◃ nil)
+field-fillable = by_step field_need (codes "int8_t") (name_need ∷ length_need ∷ text_need (codes ";") ∷ []) refl (name-fillable ◃ length-fillable ◃ text-fillable (codes ";") ◃ nil)
 
 fields-fillable : Fillable fields_need
 fields-fillable = by_step fields_need (codes "}") [] refl nil
@@ -108,8 +111,10 @@ fillable (operand_need role depth) = operand-fillable role depth
 fillable (inside_need role depth) = record { fill = (operand-fillable (as_first role) depth).fill }
 fillable (joint_need kind role depth) = joint-fillable kind role depth
 fillable (values_need depth) = by_step (values_need depth) (codes ")") [] refl nil
-fillable leaf_need = by_step leaf_need (codes "a") [] refl nil
-fillable dot_need = record { fill = λ rest. (rest, inl refl) }
+fillable (leaf_need depth) = by_step (leaf_need depth) (codes "a") [] refl nil
+fillable (tail_need depth) = record { fill = λ rest. (rest, inl refl) }
+fillable index_need = record { fill = λ rest. (rest, inl refl) }
+fillable length_need = length-fillable
 fillable target_need = by_step target_need (codes "s") [] refl nil
 fillable arguments_need = by_step arguments_need (codes ")") [] refl nil
 fillable (stmts_need depth) = stmts-fillable depth
@@ -135,10 +140,21 @@ fillable-all (need ∷ needs) rest =
 -- the same step back, in a list of needs
 pub step-back : (needs : List Need) (t : Token) (tokens rest : List Token) → Given (step_needs needs t.text) tokens rest → FillsAll needs (t ∷ tokens) rest
 step-back [] t tokens rest g = absurd g
-step-back (dot_need ∷ needs) t tokens rest g = by (bytes_eq t.text (codes ".")) refl (λ k. step-back needs t tokens rest k) g
+step-back (tail_need depth ∷ needs) t tokens rest g = by (bytes_eq t.text (codes ".")) (bytes_eq t.text (codes "[")) refl refl (λ k. step-back needs t tokens rest k) g
   where
-    by : (b : Bool) → bytes_eq t.text (codes ".") ≡ b → (Given (step_needs needs t.text) tokens rest → FillsAll needs (t ∷ tokens) rest) → Given (if b then leaves (name_need ∷ needs) else step_needs needs t.text) tokens rest → FillsAll (dot_need ∷ needs) (t ∷ tokens) rest
-    by true is later (m, n, f) = (m, inr (n.0, seq-put (word (codes ".")) (name_word n.0) (t ∷ tokens) tokens m (word-put (codes ".") t tokens (same_text t.text (codes ".") is)) n.1), f)
+    by : (a b : Bool) → bytes_eq t.text (codes ".") ≡ a → bytes_eq t.text (codes "[") ≡ b → (Given (step_needs needs t.text) tokens rest → FillsAll needs (t ∷ tokens) rest) → Given (if a then leaves (name_need ∷ needs) else (if b then leaves (index_needs depth ++ needs) else step_needs needs t.text)) tokens rest → FillsAll (tail_need depth ∷ needs) (t ∷ tokens) rest
+    by true b is other later (m, n, f) = (m, inr (inl (n.0, seq-put (word (codes ".")) (name_word n.0) (t ∷ tokens) tokens m (word-put (codes ".") t tokens (same_text t.text (codes ".") is)) n.1)), f)
+    by false true is other later (m, e, (k, close, f)) = (k, inr (inr (e.0, brackets-put (expr_spelling e.0) (t ∷ tokens) tokens m k (word-put (codes "[") t tokens (same_text t.text (codes "[") other)) e.1 close)), f)
+    by false false is other later k = (t ∷ tokens, inl refl, later k)
+step-back (index_need ∷ needs) t tokens rest g = by (bytes_eq t.text (codes "[")) refl (λ k. step-back needs t tokens rest k) g
+  where
+    by : (b : Bool) → bytes_eq t.text (codes "[") ≡ b → (Given (step_needs needs t.text) tokens rest → FillsAll needs (t ∷ tokens) rest) → Given (if b then leaves (index_needs 1 ++ needs) else step_needs needs t.text) tokens rest → FillsAll (index_need ∷ needs) (t ∷ tokens) rest
+    by true is later (m, e, (k, close, f)) = (k, inr (e.0, brackets-put (expr_spelling e.0) (t ∷ tokens) tokens m k (word-put (codes "[") t tokens (same_text t.text (codes "[") is)) e.1 close), f)
+    by false is later k = (t ∷ tokens, inl refl, later k)
+step-back (length_need ∷ needs) t tokens rest g = by (bytes_eq t.text (codes "[")) refl (λ k. step-back needs t tokens rest k) g
+  where
+    by : (b : Bool) → bytes_eq t.text (codes "[") ≡ b → (Given (step_needs needs t.text) tokens rest → FillsAll needs (t ∷ tokens) rest) → Given (if b then leaves (length_needs ++ needs) else step_needs needs t.text) tokens rest → FillsAll (length_need ∷ needs) (t ∷ tokens) rest
+    by true is later (m, count, (k, close, f)) = (k, inr (count.0, brackets-put (literal_word count.0) (t ∷ tokens) tokens m k (word-put (codes "[") t tokens (same_text t.text (codes "[") is)) count.1 close), f)
     by false is later k = (t ∷ tokens, inl refl, later k)
 step-back (else_need depth ∷ needs) t tokens rest g = by (bytes_eq t.text (codes "else")) refl (λ k. step-back needs t tokens rest k) g
   where
@@ -196,7 +212,7 @@ last-deep (entry ∷ entries) last l e = by entry.0 (λ k. last-deep entries las
 
 inside-deep : (role : Role) (depth : ℕ) (t : Token) (rest : List Token) → inside_reply role depth t.text ≡ too_deep → (tokens : List Token) × Operand (as_first role) (t ∷ tokens) rest
 inside-deep role depth t rest e =
-    operand-deep (as_first role) (depth + 1) t rest (last-deep ((allows role expression && bytes_eq t.text (codes "-"), leaves (expr_need (depth + 1) ∷ text_need (codes ")") ∷ follow expression role depth)) ∷ (allows role condition && bytes_eq t.text (codes "!"), leaves (cond_need (depth + 1) ∷ text_need (codes ")") ∷ follow condition role depth)) ∷ (allows role expression && bytes_eq t.text (codes "int64_t"), leaves (text_need (codes ")") ∷ leaf_need ∷ follow expression role depth)) ∷ []) (operand_reply (as_first role) (depth + 1) t.text) (tt, (tt, (tt, tt))) e)
+    operand-deep (as_first role) (depth + 1) t rest (last-deep ((allows role expression && bytes_eq t.text (codes "-"), leaves (expr_need (depth + 1) ∷ text_need (codes ")") ∷ follow expression role depth)) ∷ (allows role condition && bytes_eq t.text (codes "!"), leaves (cond_need (depth + 1) ∷ text_need (codes ")") ∷ follow condition role depth)) ∷ (allows role expression && bytes_eq t.text (codes "int64_t"), leaves (text_need (codes ")") ∷ leaf_need (depth + 1) ∷ follow expression role depth)) ∷ []) (operand_reply (as_first role) (depth + 1) t.text) (tt, (tt, (tt, tt))) e)
 
 joint-shallow : (kind : Kind) (role : Role) (depth : ℕ) (text : List ℕ) → joint_reply kind role depth text ≡ too_deep → ⊥
 joint-shallow expression role depth text e = first-shallow ((allows role expression && is_op text, leaves (expr_need depth ∷ text_need (codes ")") ∷ follow expression role (depth - 1))) ∷ (allows role condition && is_comparison text, leaves (expr_need depth ∷ text_need (codes ")") ∷ follow condition role (depth - 1))) ∷ []) (tt, (tt, tt)) e
@@ -210,7 +226,7 @@ comma-shallow : (needs : List Need) (text : List ℕ) → comma_reply needs text
 comma-shallow needs text e = first-shallow ((bytes_eq text (codes ","), leaves needs) ∷ (bytes_eq text (codes ")"), leaves []) ∷ []) (tt, (tt, tt)) e
 
 field-shallow : (text : List ℕ) → field_reply text ≡ too_deep → ⊥
-field-shallow text e = first-shallow ((is_type text, leaves (name_need ∷ text_need (codes ";") ∷ [])) ∷ (bytes_eq text (codes "struct"), leaves (name_need ∷ name_need ∷ text_need (codes ";") ∷ [])) ∷ []) (tt, (tt, tt)) e
+field-shallow text e = first-shallow ((is_type text, leaves (name_need ∷ length_need ∷ text_need (codes ";") ∷ [])) ∷ (bytes_eq text (codes "struct"), leaves (name_need ∷ name_need ∷ text_need (codes ";") ∷ [])) ∷ []) (tt, (tt, tt)) e
 
 procedures-shallow : (text : List ℕ) → procedures_reply text ≡ too_deep → ⊥
 procedures-shallow text e = first-shallow ((bytes_eq text (codes "static"), leaves (text_need (codes "void") ∷ procedure_needs)) ∷ (bytes_eq text (codes "void"), leaves procedure_needs) ∷ []) (tt, (tt, tt)) e
@@ -264,8 +280,10 @@ deep (operand_need role depth) t rest e = operand-deep role depth t rest e
 deep (inside_need role depth) t rest e = inside-deep role depth t rest e
 deep (joint_need kind role depth) t rest e = absurd (joint-shallow kind role depth t.text e)
 deep (values_need depth) t rest e = absurd (comma-shallow (expr_need depth ∷ values_need depth ∷ []) t.text e)
-deep leaf_need t rest e = absurd (first-shallow ((bytes_eq t.text (codes "s"), leaves (text_need (codes "->") ∷ name_need ∷ dot_need ∷ [])) ∷ (is_name t.text, leaves []) ∷ []) (tt, (tt, tt)) e)
-deep dot_need t rest e = absurd (only-shallow (bytes_eq t.text (codes ".")) (name_need ∷ []) e)
+deep (leaf_need depth) t rest e = absurd (first-shallow ((bytes_eq t.text (codes "s"), leaves (text_need (codes "->") ∷ name_need ∷ tail_need depth ∷ [])) ∷ (is_name t.text, leaves []) ∷ []) (tt, (tt, tt)) e)
+deep (tail_need depth) t rest e = absurd (first-shallow ((bytes_eq t.text (codes "."), leaves (name_need ∷ [])) ∷ (bytes_eq t.text (codes "["), leaves (index_needs depth)) ∷ []) (tt, (tt, tt)) e)
+deep index_need t rest e = absurd (only-shallow (bytes_eq t.text (codes "[")) (index_needs 1) e)
+deep length_need t rest e = absurd (only-shallow (bytes_eq t.text (codes "[")) length_needs e)
 deep target_need t rest e = absurd (first-shallow ((bytes_eq t.text (codes "s"), leaves []) ∷ (bytes_eq t.text (codes "&"), leaves (text_need (codes "s") ∷ text_need (codes "->") ∷ name_need ∷ [])) ∷ []) (tt, (tt, tt)) e)
 deep arguments_need t rest e = absurd (comma-shallow (text_need (codes "(") ∷ type_need ∷ text_need (codes ")") ∷ expr_need 1 ∷ arguments_need ∷ []) t.text e)
 deep (stmts_need depth) t rest e = stmts-deep depth t rest e
@@ -286,9 +304,20 @@ deep procedures_need t rest e = absurd (procedures-shallow t.text e)
 
 pub step-deep : (needs : List Need) (t : Token) (rest : List Token) → step_needs needs t.text ≡ too_deep → (tokens : List Token) × FillsAll needs (t ∷ tokens) rest
 step-deep [] t rest e = cc
-step-deep (dot_need ∷ needs) t rest e = by (bytes_eq t.text (codes ".")) (λ k. step-deep needs t rest k) e
+step-deep (tail_need depth ∷ needs) t rest e = by (bytes_eq t.text (codes ".")) (bytes_eq t.text (codes "[")) (λ k. step-deep needs t rest k) e
   where
-    by : (b : Bool) → (step_needs needs t.text ≡ too_deep → (tokens : List Token) × FillsAll needs (t ∷ tokens) rest) → (if b then leaves (name_need ∷ needs) else step_needs needs t.text) ≡ too_deep → (tokens : List Token) × FillsAll (dot_need ∷ needs) (t ∷ tokens) rest
+    by : (a b : Bool) → (step_needs needs t.text ≡ too_deep → (tokens : List Token) × FillsAll needs (t ∷ tokens) rest) → (if a then leaves (name_need ∷ needs) else (if b then leaves (index_needs depth ++ needs) else step_needs needs t.text)) ≡ too_deep → (tokens : List Token) × FillsAll (tail_need depth ∷ needs) (t ∷ tokens) rest
+    by true b later k = cc
+    by false true later k = cc
+    by false false later k = let f : _ = later k in (f.0, (t ∷ f.0, inl refl, f.1))
+step-deep (index_need ∷ needs) t rest e = by (bytes_eq t.text (codes "[")) (λ k. step-deep needs t rest k) e
+  where
+    by : (b : Bool) → (step_needs needs t.text ≡ too_deep → (tokens : List Token) × FillsAll needs (t ∷ tokens) rest) → (if b then leaves (index_needs 1 ++ needs) else step_needs needs t.text) ≡ too_deep → (tokens : List Token) × FillsAll (index_need ∷ needs) (t ∷ tokens) rest
+    by true later k = cc
+    by false later k = let f : _ = later k in (f.0, (t ∷ f.0, inl refl, f.1))
+step-deep (length_need ∷ needs) t rest e = by (bytes_eq t.text (codes "[")) (λ k. step-deep needs t rest k) e
+  where
+    by : (b : Bool) → (step_needs needs t.text ≡ too_deep → (tokens : List Token) × FillsAll needs (t ∷ tokens) rest) → (if b then leaves (length_needs ++ needs) else step_needs needs t.text) ≡ too_deep → (tokens : List Token) × FillsAll (length_need ∷ needs) (t ∷ tokens) rest
     by true later k = cc
     by false later k = let f : _ = later k in (f.0, (t ∷ f.0, inl refl, f.1))
 step-deep (else_need depth ∷ needs) t rest e = by (bytes_eq t.text (codes "else")) (λ k. step-deep needs t rest k) e
@@ -334,8 +363,10 @@ ending (operand_need role depth ∷ needs) e = cc
 ending (inside_need role depth ∷ needs) e = cc
 ending (joint_need kind role depth ∷ needs) e = cc
 ending (values_need depth ∷ needs) e = cc
-ending (leaf_need ∷ needs) e = cc
-ending (dot_need ∷ needs) e = cc
+ending (leaf_need depth ∷ needs) e = cc
+ending (tail_need depth ∷ needs) e = cc
+ending (index_need ∷ needs) e = cc
+ending (length_need ∷ needs) e = cc
 ending (target_need ∷ needs) e = cc
 ending (arguments_need ∷ needs) e = cc
 ending (stmts_need depth ∷ needs) e = cc

@@ -12,10 +12,10 @@ use Rattle.c_syntax.specs.declared.program.FieldKind.TheVariants.{Struct}
 use Rattle.c_syntax.specs.Tree.{ExprTree, ExprTrees, CondTree, StmtTree, StmtTrees, PureTree, ProcedureTree}
 use Rattle.c_grammar.specs.Written.{WrittenExpr, WrittenExprs, WrittenCond, WrittenTarget, own_target, field_target, WrittenArguments, WrittenStmt, WrittenStmts}
 use Rattle.c_grammar.specs.Results.{◌>>=◌, ◌>>◌}
-use Rattle.c_rules.specs.Resolve.{unless_fault, on_line, or_unnamed, field_named, as_number, as_struct, same_type, same_types, Names, Known, resolve_leaf, resolve_pure_call, exprs_count, resolve_expr, resolve_exprs, resolve_cond, argument_casts, resolve_arguments, resolve_store, resolve_target, resolve_call, resolve_stmt, resolve_stmts}
+use Rattle.c_rules.specs.Resolve.{unless_fault, on_line, or_unnamed, field_named, as_number, as_struct, same_type, same_types, Names, Known, resolve_leaf, resolve_array, resolve_pure_call, exprs_count, resolve_expr, resolve_exprs, resolve_cond, argument_casts, resolve_arguments, resolve_store, resolve_item_store, resolve_target, resolve_call, resolve_stmt, resolve_stmts}
 use Rattle.c_syntax.specs.Chains.{chain_limit, stmt_chain, stmts_chain}
 use Rattle.c_syntax.specs.Lawful.{IsNumberAt, IsLawfulExpr, AreLawfulExprs, IsLawfulCond, exprs_length, IsLawfulTarget, IsLawfulStmt, AreLawfulStmts}
-use Rattle.c_rules.proofs.lemmas.Resolved.{ok-same, bind-parts, then-parts, on_line-ok, unless-ok, named-ok, field-there, struct-kind, number-kind, kind-same, some_same, reach_of, leaf-lawful}
+use Rattle.c_rules.proofs.lemmas.Resolved.{ok-same, bind-parts, then-parts, on_line-ok, unless-ok, named-ok, field-there, struct-kind, number-kind, kind-same, some_same, reach_of, leaf-lawful, array-lawful, item_store-lawful}
 
 abbrev mutual
   -- its literals have at most 63 bits
@@ -26,6 +26,7 @@ abbrev mutual
   SmallExpr (WrittenExpr.binary op a b) = SmallExpr a × SmallExpr b
   SmallExpr (WrittenExpr.pick test a b) = SmallCond test × SmallExpr a × SmallExpr b
   SmallExpr (WrittenExpr.pure line function values) = SmallExprs values
+  SmallExpr (WrittenExpr.item line field index) = SmallExpr index
 
   pub SmallExprs : WrittenExprs → Type 0
   SmallExprs WrittenExprs.no_exprs = ⊤
@@ -44,6 +45,7 @@ SmallArguments (WrittenArguments.more_arguments cast e rest) = SmallExpr e × Sm
 abbrev mutual
   pub SmallStmt : WrittenStmt → Type 0
   SmallStmt (WrittenStmt.assign line field cast value) = SmallExpr value
+  SmallStmt (WrittenStmt.assign_at line field index cast value) = SmallExpr index × SmallExpr value
   SmallStmt (WrittenStmt.branch line test on_true) = SmallCond test × SmallStmts on_true
   SmallStmt (WrittenStmt.branch_else line test on_true on_false) = SmallCond test × SmallStmts on_true × SmallStmts on_false
   SmallStmt (WrittenStmt.call line procedure target values) = SmallArguments values
@@ -91,6 +93,10 @@ mutual
       let c : _ = bind-parts (resolve_exprs names values) (λ vs. Ok (ExprTree.pure b.0 vs)) x b.2 in
       let p : _ = pure_call-there names.known function (exprs_count values) b.0 (on_line-ok line (resolve_pure_call names.known function (exprs_count values)) b.0 b.1) in
       subst (λ y. IsLawfulExpr (reach_of names of) y) (ok-same (ExprTree.pure b.0 c.0) x c.2) (p.0, p.1, p.2 ∙ sym (exprs-length names values c.0 c.1), exprs-lawful names of values c.0 s c.1)
+  expr-lawful names of (WrittenExpr.item line field index) x s e =
+      let b : _ = bind-parts (on_line line (resolve_array names field)) (λ k. resolve_expr names index >>= λ y. Ok (ExprTree.item k y)) x e in
+      let c : _ = bind-parts (resolve_expr names index) (λ y. Ok (ExprTree.item b.0 y)) x b.2 in
+      subst (λ y. IsLawfulExpr (reach_of names of) y) (ok-same (ExprTree.item b.0 c.0) x c.2) (array-lawful names field b.0 (on_line-ok line (resolve_array names field) b.0 b.1), expr-lawful names of index c.0 s c.1)
 
   pub exprs-lawful : (names : Names) (of : ℕ) (ws : WrittenExprs) (xs : ExprTrees) → SmallExprs ws → resolve_exprs names ws ≡ Ok xs → AreLawfulExprs (reach_of names of) xs
   exprs-lawful names of WrittenExprs.no_exprs xs s e = subst (λ y. AreLawfulExprs (reach_of names of) y) (ok-same ExprTrees.no_exprs xs e) tt
@@ -191,6 +197,11 @@ mutual
       let b : _ = bind-parts (on_line line (resolve_store names field cast)) (λ k. resolve_expr names value >>= λ y. Ok (StmtTree.assign line k y)) x e in
       let c : _ = bind-parts (resolve_expr names value) (λ y. Ok (StmtTree.assign line b.0 y)) x b.2 in
       subst (λ y. IsLawfulStmt (reach_of names of) y × (stmt_chain names.known.chains y + 1 ≤ chain_limit)) (ok-same (StmtTree.assign line b.0 c.0) x c.2) ((store-there names field cast b.0 (on_line-ok line (resolve_store names field cast) b.0 b.1), expr-lawful names of value c.0 s c.1), omega arith)
+  stmt-lawful names of (WrittenStmt.assign_at line field index cast value) x own s e =
+      let b : _ = bind-parts (on_line line (resolve_item_store names field cast)) (λ k. resolve_expr names index >>= λ i. resolve_expr names value >>= λ y. Ok (StmtTree.assign_at line k i y)) x e in
+      let a : _ = bind-parts (resolve_expr names index) (λ i. resolve_expr names value >>= λ y. Ok (StmtTree.assign_at line b.0 i y)) x b.2 in
+      let c : _ = bind-parts (resolve_expr names value) (λ y. Ok (StmtTree.assign_at line b.0 a.0 y)) x a.2 in
+      subst (λ y. IsLawfulStmt (reach_of names of) y × (stmt_chain names.known.chains y + 1 ≤ chain_limit)) (ok-same (StmtTree.assign_at line b.0 a.0 c.0) x c.2) ((item_store-lawful names field cast b.0 (on_line-ok line (resolve_item_store names field cast) b.0 b.1), expr-lawful names of index a.0 s.0 a.1, expr-lawful names of value c.0 s.1 c.1), omega arith)
   stmt-lawful names of (WrittenStmt.branch line test on_true) x own s e =
       let a : _ = bind-parts (resolve_cond names test) (λ c. resolve_stmts names on_true >>= λ xs. Ok (StmtTree.branch line c xs StmtTrees.no_stmts)) x e in
       let b : _ = bind-parts (resolve_stmts names on_true) (λ xs. Ok (StmtTree.branch line a.0 xs StmtTrees.no_stmts)) x a.2 in

@@ -1,18 +1,18 @@
 -- Definitions that are resolved are lawful.
-use Rattle.std.proofs.Common.{◌≡◌, refl, sym, ◌∙◌, ap, ap₂, ℕ, suc, ◌+◌, ◌<◌, List, [], ◌∷◌, ◌++◌, length, map, filter, filter_map, Some, None, Ok, Bool, true, false, not, ◌&&◌, ◌||◌, cond, if◌then◌else◌, codes, bytes_eq, subst, arith, append_assoc, append-nil}
+use Rattle.std.proofs.Common.{◌≡◌, refl, sym, ◌∙◌, ap, ap₂, ℕ, suc, ◌+◌, ◌<◌, List, [], ◌∷◌, ◌++◌, length, map, filter, filter_map, Some, None, Ok, Bool, true, false, not, ◌&&◌, ◌||◌, cond, if◌then◌else◌, codes, bytes_eq, nat_le, nat_lt, subst, arith, leb-true, append_assoc, append-nil}
 use Rattle.std.specs.List.{AllByRecursion, position_from, cons_option}
 use Rattle.std.proofs.lemmas.List.{length-map}
 use Rattle.std.proofs.lemmas.Option.{slice_get_within}
 use Rattle.c_syntax.specs.declared.fault.CKind.TheVariants.{Name, TypeRule}
 use Rattle.c_syntax.specs.declared.program.FieldKind.{FieldKind}
-use Rattle.c_syntax.specs.declared.program.FieldKind.TheVariants.{Number, Struct}
+use Rattle.c_syntax.specs.declared.program.FieldKind.TheVariants.{Number, Array, Struct}
 use Rattle.c_syntax.specs.Names.{is_name}
 use Rattle.c_syntax.specs.Outputs.{has_name, may_be_named}
 use Rattle.c_syntax.specs.Tree.{FieldTree, StructTree, PureTree}
-use Rattle.c_syntax.specs.Kinds.{WrittenKind, number_kind, struct_kind}
+use Rattle.c_syntax.specs.Kinds.{WrittenKind, number_kind, array_kind, struct_kind}
 use Rattle.c_grammar.specs.Written.{WrittenPure, WrittenField, WrittenStruct}
 use Rattle.c_grammar.specs.Results.{◌>>=◌, ◌>>◌}
-use Rattle.c_rules.specs.Resolve.{unless_fault, on_line, or_unnamed, Known, function_names, Names, check_params, resolve_expr, resolve_pure, resolve_kind, is_number_written, number_name, resolve_field, resolve_fields, resolve_struct, resolve_pures, resolve_structs}
+use Rattle.c_rules.specs.Resolve.{unless_fault, on_line, or_unnamed, Known, function_names, Names, check_params, resolve_expr, resolve_pure, array_limit, is_length, resolve_kind, is_number_written, number_name, resolve_field, resolve_fields, resolve_struct, resolve_pures, resolve_structs}
 use Rattle.c_syntax.specs.RootFields.{is_number, is_number_kind, number_names}
 use Rattle.c_syntax.specs.Lawful.{AreDistinct, AreApart, pure_names, IsLawfulPure, ArePures, IsLawfulKind, IsLawfulStruct, AreStructs}
 use Rattle.c_syntax.proofs.lemmas.NamePlaces.{bytes_eq-sym, or-left, or-right}
@@ -112,6 +112,10 @@ with_structs pures structs = record { pures = pures; structs = structs; procedur
 kind-done : (known : Known) (w : WrittenKind) (kind : FieldKind) → resolve_kind known w ≡ Ok kind → IsLawfulKind (length known.structs) kind × (is_number_kind kind ≡ is_number_written w)
 kind-done known (number_kind type) kind e =
     subst (λ k. IsLawfulKind (length known.structs) k × (is_number_kind k ≡ true)) (ok-same (Number type) kind e) (tt, refl)
+kind-done known (array_kind type count) kind e =
+    let b : _ = then-parts (unless_fault (is_length count) TypeRule) (Ok (Array type count)) kind e in
+    let t : _ = both-true (nat_lt 0 count) (nat_le count array_limit) (unless-ok (is_length count) TypeRule b.0 b.1) in
+    subst (λ k. IsLawfulKind (length known.structs) k × (is_number_kind k ≡ false)) (ok-same (Array type count) kind b.2) ((omega (arith, leb-true 1 count t.0), omega (arith, leb-true count array_limit t.1)), refl)
 kind-done known (struct_kind name) kind e =
     let b : _ = bind-parts (or_unnamed (position_from (λ d. bytes_eq d.name name) 0 known.structs)) (λ k. Ok (Struct k)) kind e in
     let p : _ = position-there (λ d. bytes_eq d.name name) known.structs b.0 (named-ok (position_from (λ d. bytes_eq d.name name) 0 known.structs) b.0 b.1) in

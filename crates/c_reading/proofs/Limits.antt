@@ -9,9 +9,9 @@ use Rattle.c_syntax.specs.Kinds.{WrittenKind}
 use Rattle.c_grammar.specs.Written.{WrittenTarget, WrittenArguments, WrittenStmt, WrittenStmts, WrittenParam, WrittenPureParam, WrittenPure, WrittenField, WrittenStruct, WrittenProcedure, WrittenProgram}
 use Rattle.c_syntax.specs.Limits.{expr_limit, stmt_limit, pure_limit, param_limit, exprs_depth, stmt_depth, stmts_depth, stmt_exprs_depth, stmts_exprs_depth, PureFits, ProcedureFits, IsWithinLimits}
 use Rattle.c_grammar.specs.Results.{◌>>=◌, ◌>>◌}
-use Rattle.c_rules.specs.Resolve.{unless_fault, on_line, Names, Known, function_names, resolve_expr, resolve_cond, argument_casts, resolve_arguments, resolve_store, resolve_call, resolve_stmt, resolve_stmts, check_params, resolve_pure, resolve_struct, resolve_head, resolve_procedure, resolve_pures, resolve_structs, resolve_procedures, resolve_program}
+use Rattle.c_rules.specs.Resolve.{unless_fault, on_line, Names, Known, function_names, resolve_expr, resolve_cond, argument_casts, resolve_arguments, resolve_store, resolve_item_store, resolve_call, resolve_stmt, resolve_stmts, check_params, resolve_pure, resolve_struct, resolve_head, resolve_procedure, resolve_pures, resolve_structs, resolve_procedures, resolve_program}
 use Rattle.c_syntax.specs.Chains.{stmts_chain}
-use Rattle.c_grammar.specs.Openings.{Opening, none, statement, pure_function, expr_openings, cond_openings, target_openings, arguments_openings, stmt_openings, stmts_openings, more_params_openings, more_pure_params_openings, pure_params_openings, pure_openings, pures_openings, kind_openings, fields_openings, structs_openings, private_openings, procedures_openings, openings}
+use Rattle.c_grammar.specs.Openings.{Opening, none, statement, pure_function, expr_openings, cond_openings, target_openings, arguments_openings, stmt_openings, stmts_openings, more_params_openings, more_pure_params_openings, pure_params_openings, pure_openings, pures_openings, kind_openings, length_openings, fields_openings, structs_openings, private_openings, procedures_openings, openings}
 use Rattle.c_reading.specs.Agreement.{LimitsAgree}
 use Rattle.c_rules.proofs.lemmas.Resolved.{ok-same, bind-parts, then-parts}
 use Rattle.c_reading.proofs.LawfulReadings.{param_of, ProgramDone, program-done}
@@ -37,6 +37,11 @@ assign-within : (d : ℕ) (xs : List Opening) → Within (statement d ∷ none �
 assign-within d xs =
     (λ h. let f : _ = first-split d stmt_limit (none ∷ none ∷ none ∷ none ∷ none ∷ none ∷ (xs ++ none ∷ [])) h in (f.0, (within-split xs (none ∷ []) f.1).0), λ k. first-join d stmt_limit (none ∷ none ∷ none ∷ none ∷ none ∷ none ∷ (xs ++ none ∷ [])) k.0 (within-join xs (none ∷ []) k.1 refl))
 
+assign_at-within : (d : ℕ) (xs ys : List Opening) → Within (statement d ∷ none ∷ none ∷ none ∷ (xs ++ none ∷ none ∷ none ∷ none ∷ none ∷ (ys ++ none ∷ []))) ↔ ((d ≤ stmt_limit) × Within xs × Within ys)
+assign_at-within d xs ys =
+    let behind : List Opening = none ∷ none ∷ none ∷ none ∷ none ∷ (ys ++ none ∷ []) in
+    (λ h. let f : _ = first-split d stmt_limit (none ∷ none ∷ none ∷ (xs ++ behind)) h in let x : _ = within-split xs behind f.1 in (f.0, x.0, (within-split ys (none ∷ []) x.1).0), λ k. first-join d stmt_limit (none ∷ none ∷ none ∷ (xs ++ behind)) k.0 (within-join xs behind k.1 (within-join ys (none ∷ []) k.2 refl)))
+
 branch-within : (d : ℕ) (xs ys : List Opening) → Within (statement d ∷ (xs ++ none ∷ (ys ++ none ∷ []))) ↔ ((d ≤ stmt_limit) × Within xs × Within ys)
 branch-within d xs ys =
     (λ h. let f : _ = first-split d stmt_limit (xs ++ none ∷ (ys ++ none ∷ [])) h in let x : _ = within-split xs (none ∷ (ys ++ none ∷ [])) f.1 in (f.0, x.0, (within-split ys (none ∷ []) x.1).0), λ k. first-join d stmt_limit (xs ++ none ∷ (ys ++ none ∷ [])) k.0 (within-join xs (none ∷ (ys ++ none ∷ [])) k.1 (within-join ys (none ∷ []) k.2 refl)))
@@ -57,6 +62,14 @@ mutual
       let i : _ = expr-limits names value c.0 1 c.1 in
       let o : _ = assign-within d (expr_openings 1 value) in
       subst (λ y. Within (stmt_openings d (WrittenStmt.assign line field cast value)) ↔ ((stmt_depth y + d ≤ stmt_limit + 1) × (stmt_exprs_depth y ≤ expr_limit))) (ok-same (StmtTree.assign line b.0 c.0) x c.2) (λ h. let t : _ = o.0 h in (omega (arith, t.0), omega (arith, i.0 t.1)), λ h. o.1 (omega (arith, h.0), i.1 (omega (arith, h.1))))
+  stmt-limits names (WrittenStmt.assign_at line field index cast value) x d e =
+      let b : _ = bind-parts (on_line line (resolve_item_store names field cast)) (λ k. resolve_expr names index >>= λ i. resolve_expr names value >>= λ y. Ok (StmtTree.assign_at line k i y)) x e in
+      let a : _ = bind-parts (resolve_expr names index) (λ i. resolve_expr names value >>= λ y. Ok (StmtTree.assign_at line b.0 i y)) x b.2 in
+      let c : _ = bind-parts (resolve_expr names value) (λ y. Ok (StmtTree.assign_at line b.0 a.0 y)) x a.2 in
+      let i : _ = expr-limits names index a.0 1 a.1 in
+      let j : _ = expr-limits names value c.0 1 c.1 in
+      let o : _ = assign_at-within d (expr_openings 1 index) (expr_openings 1 value) in
+      subst (λ y. Within (stmt_openings d (WrittenStmt.assign_at line field index cast value)) ↔ ((stmt_depth y + d ≤ stmt_limit + 1) × (stmt_exprs_depth y ≤ expr_limit))) (ok-same (StmtTree.assign_at line b.0 a.0 c.0) x c.2) (λ h. let t : _ = o.0 h in (omega (arith, t.0), omega (arith, i.0 t.1, j.0 t.2)), λ h. o.1 (omega (arith, h.0), i.1 (omega (arith, h.1)), j.1 (omega (arith, h.1))))
   stmt-limits names (WrittenStmt.branch line test on_true) x d e =
       let a : _ = bind-parts (resolve_cond names test) (λ c. resolve_stmts names on_true >>= λ xs. Ok (StmtTree.branch line c xs StmtTrees.no_stmts)) x e in
       let b : _ = bind-parts (resolve_stmts names on_true) (λ xs. Ok (StmtTree.branch line a.0 xs StmtTrees.no_stmts)) x a.2 in
@@ -161,11 +174,17 @@ structs-kept known (d ∷ ds) after e =
 
 kind-within : (kind : WrittenKind) → Within (kind_openings kind)
 kind-within (WrittenKind.number_kind type) = refl
+kind-within (WrittenKind.array_kind type count) = refl
 kind-within (WrittenKind.struct_kind name) = refl
+
+length-within : (kind : WrittenKind) → Within (length_openings kind)
+length-within (WrittenKind.number_kind type) = refl
+length-within (WrittenKind.array_kind type count) = refl
+length-within (WrittenKind.struct_kind name) = refl
 
 fields-within : (fs : List WrittenField) → Within (fields_openings fs)
 fields-within [] = refl
-fields-within (f ∷ fs) = within-join (kind_openings f.kind) (none ∷ none ∷ fields_openings fs) (kind-within f.kind) (fields-within fs)
+fields-within (f ∷ fs) = within-join (kind_openings f.kind) (none ∷ (length_openings f.kind ++ none ∷ fields_openings fs)) (kind-within f.kind) (within-join (length_openings f.kind) (none ∷ fields_openings fs) (length-within f.kind) (fields-within fs))
 
 structs-within : (ds : List WrittenStruct) → Within (structs_openings ds)
 structs-within [] = refl

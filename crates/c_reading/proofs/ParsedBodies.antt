@@ -6,8 +6,8 @@ use Rattle.c_syntax.specs.declared.code.BinOp.{BinOp}
 use Rattle.c_syntax.specs.declared.code.BinOp.TheVariants.{Add, Sub, Mul, Div, Rem}
 use Rattle.c_grammar.specs.Tokens.{Token}
 use Rattle.c_syntax.specs.Names.{is_name}
-use Rattle.c_grammar.specs.Written.{WrittenExpr, literal, neg, read, binary, pick, pure, WrittenExprs, no_exprs, more_exprs, WrittenCond, compare, both, either, negated}
-use Rattle.c_grammar.specs.Grammar.{Spelling, ◌⨾◌, word, at_line, name_word, literal_word, in_parens, op_text, compare_text, leaf_spelling, expr_spelling, exprs_spelling, more_exprs_spelling, cond_spelling}
+use Rattle.c_grammar.specs.Written.{WrittenExpr, literal, neg, read, binary, pick, pure, item, WrittenExprs, no_exprs, more_exprs, WrittenCond, compare, both, either, negated}
+use Rattle.c_grammar.specs.Grammar.{Spelling, ◌⨾◌, word, at_line, name_word, literal_word, in_parens, in_brackets, op_text, compare_text, own_spelling, leaf_spelling, expr_spelling, exprs_spelling, more_exprs_spelling, cond_spelling}
 use Rattle.c_grammar.specs.Parsing.{wants_value, wants_test, value, test, opener_of, inside_of, value_joint, test_joint, comma_of, first_text, many, exprs_from, values_step, parse_values, parse_operand}
 use Rattle.c_grammar.specs.declared.openers.Comma.TheVariants.{Another as another, Closed as closed}
 use Rattle.c_grammar.specs.declared.openers.Inside.TheVariants.{Minus as minus_inside, Not as not_inside, Cast as cast_inside, First as first_inside}
@@ -16,9 +16,9 @@ use Rattle.c_grammar.specs.declared.openers.TestJoint.TheVariants.{And as and_jo
 use Rattle.c_grammar.specs.declared.openers.ValueJoint.TheVariants.{Operator as op_joint, Comparison as compare_joint}
 use Rattle.c_grammar.specs.declared.openers.Want.{Want}
 use Rattle.c_grammar.specs.declared.openers.Want.TheVariants.{Value as want_value, Test as want_test, Any as want_any}
-use Rattle.c_grammar.proofs.lemmas.PrefixLaws.{Front, word-front, seq-parts, at_line-inner, name_word-inner, not_word, Parens, parens-parts, Firm, word-firm, values-firm, op-firm, compare-firm, some_same}
+use Rattle.c_grammar.proofs.lemmas.PrefixLaws.{Front, word-front, seq-parts, at_line-inner, name_word-inner, not_word, Parens, parens-parts, Brackets, brackets-parts, Firm, word-firm, values-firm, op-firm, compare-firm, some_same}
 use Rattle.c_grammar.proofs.lemmas.Shrinking.{expr-shrinks}
-use Rattle.c_reading.proofs.ParsedWords.{word-parsed, literal-parsed, leaf-parsed, LineFront, line-front, word-rest}
+use Rattle.c_reading.proofs.ParsedWords.{word-parsed, literal-parsed, leaf-parsed, item-parsed, LineFront, line-front, word-rest}
 
 -- how many levels an expression or a condition opens
 abbrev mutual
@@ -29,6 +29,7 @@ abbrev mutual
   expr_levels (binary op a b) = max (expr_levels a) (expr_levels b) + 1
   expr_levels (pick c a b) = max (cond_levels c) (max (expr_levels a) (expr_levels b)) + 1
   expr_levels (pure line name es) = exprs_levels es + 1
+  expr_levels (item line field index) = expr_levels index + 1
 
   pub exprs_levels : WrittenExprs → ℕ
   exprs_levels no_exprs = 0
@@ -120,6 +121,9 @@ expr-text (pure line name es) tokens rest h =
     let p : _ = seq-parts (at_line line (name_word name)) (in_parens (exprs_spelling es)) tokens rest h in
     let n : _ = name_word-inner name tokens p.0 (at_line-inner line (name_word name) tokens p.0 p.1) in
     by_name (ap is_name (word-text name tokens p.0 n.1) ∙ n.0)
+expr-text (item line field index) tokens rest h =
+    let p : _ = seq-parts (in_parens (word (codes "int64_t"))) (at_line line (own_spelling field) ⨾ in_brackets (expr_spelling index)) tokens rest h in
+    parens-text (word (codes "int64_t")) tokens p.0 p.1
 
 cond-text : (c : WrittenCond) (tokens rest : List Token) → cond_spelling c tokens ≡ Some rest → Opening (first_text tokens)
 cond-text (compare how a b) tokens rest h = parens-text (expr_spelling a ⨾ word (compare_text how) ⨾ expr_spelling b) tokens rest h
@@ -212,6 +216,7 @@ module _ (last : ℕ) where
     operand-expr (binary op a b) zero want tokens rest w h firm fits = absurd (omega (arith, fits))
     operand-expr (pick c a b) zero want tokens rest w h firm fits = absurd (omega (arith, fits))
     operand-expr (pure line name es) zero want tokens rest w h firm fits = absurd (omega (arith, fits))
+    operand-expr (item line field index) zero want tokens rest w h firm fits = absurd (omega (arith, fits))
     operand-expr (literal n) (suc levels) want tokens rest w h firm fits =
         let p : _ = seq-parts (word (codes "INT64_C")) (in_parens (literal_word n)) tokens rest h in
         let f : Front (codes "INT64_C") tokens p.0 = word-front (codes "INT64_C") tokens p.0 p.1 in
@@ -228,7 +233,7 @@ module _ (last : ℕ) where
         let q : Parens (word (codes "int64_t")) tokens p.0 = parens-parts (word (codes "int64_t")) tokens p.0 p.1 in
         let f : Front (codes "(") tokens q.inner = word-front (codes "(") tokens q.inner q.start in
         let g : Front (codes "int64_t") q.inner q.behind = word-front (codes "int64_t") q.inner q.behind q.body in
-        ap (parse_operand last (suc levels) want) f.list ∙ rw (ap (opener_of want) f.same ∙ opens-paren want, g.list, ap (inside_of want) g.same ∙ cast-begins want w, word-parsed last (codes ")") q.behind p.0 q.close, leaf-parsed last line leaf p.0 rest p.2 firm) refl
+        ap (parse_operand last (suc levels) want) f.list ∙ rw (ap (opener_of want) f.same ∙ opens-paren want, g.list, ap (inside_of want) g.same ∙ cast-begins want w, word-parsed last (codes ")") q.behind p.0 q.close, leaf-parsed last (parse_operand last levels) line leaf p.0 rest p.2 firm) refl
     operand-expr (binary op a b) (suc levels) want tokens rest w h firm fits =
         let q : Parens (expr_spelling a ⨾ word (op_text op) ⨾ expr_spelling b) tokens rest = parens-parts (expr_spelling a ⨾ word (op_text op) ⨾ expr_spelling b) tokens rest h in
         let f : Front (codes "(") tokens q.inner = word-front (codes "(") tokens q.inner q.start in
@@ -252,6 +257,14 @@ module _ (last : ℕ) where
         let o : _ = word-rest name f.token f.later p.0 n.1 in
         let named : is_name f.token.text ≡ true = ap is_name o.0 ∙ n.0 in
         ap (parse_operand last (suc levels) want) f.list ∙ rw (opens-call want f.token.text named w, o.1) (values-parsed es levels f.token line name p.0 rest f.is o.0 p.2 (omega (arith, fits)))
+    operand-expr (item line field index) (suc levels) want tokens rest w h firm fits =
+        let p : _ = seq-parts (in_parens (word (codes "int64_t"))) (at_line line (own_spelling field) ⨾ in_brackets (expr_spelling index)) tokens rest h in
+        let q : Parens (word (codes "int64_t")) tokens p.0 = parens-parts (word (codes "int64_t")) tokens p.0 p.1 in
+        let f : Front (codes "(") tokens q.inner = word-front (codes "(") tokens q.inner q.start in
+        let g : Front (codes "int64_t") q.inner q.behind = word-front (codes "int64_t") q.inner q.behind q.body in
+        let r : _ = seq-parts (at_line line (own_spelling field)) (in_brackets (expr_spelling index)) p.0 rest p.2 in
+        let b : Brackets (expr_spelling index) r.0 rest = brackets-parts (expr_spelling index) r.0 rest r.2 in
+        ap (parse_operand last (suc levels) want) f.list ∙ rw (ap (opener_of want) f.same ∙ opens-paren want, g.list, ap (inside_of want) g.same ∙ cast-begins want w, word-parsed last (codes ")") q.behind p.0 q.close, item-parsed last (parse_operand last levels) line field index p.0 r.0 b.inner b.behind rest r.1 b.start (rw (operand-expr index levels want_value b.inner b.behind refl b.body (word-firm (codes "]") b.behind rest refl b.close) (omega (arith, fits))) refl) b.close) refl
 
     values-parsed : (es : WrittenExprs) (levels : ℕ) (t : Token) (line : ℕ) (name : List ℕ) (tokens rest : List Token) → t.line ≡ line → t.text ≡ name → in_parens (exprs_spelling es) tokens ≡ Some rest → exprs_levels es ≤ levels → parse_values last (parse_operand last levels) t tokens ≡ Ok (value (pure line name es), rest)
     values-parsed no_exprs levels t line name tokens rest on same h fits =

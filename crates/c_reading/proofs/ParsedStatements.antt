@@ -2,16 +2,16 @@
 use Rattle.std.proofs.Common.{◌≡◌, refl, ◌∙◌, ap, ℕ, zero, suc, ◌+◌, ◌<◌, ◌≤◌, max, List, [], ◌∷◌, length, true, false, Some, Ok, codes, bytes_eq, arith}
 use Rattle.std.proofs.lemmas.Slice.Eq.{bytes_eq-Decides}
 use Rattle.c_grammar.specs.Tokens.{Token}
-use Rattle.c_grammar.specs.Written.{WrittenExpr, WrittenCond, WrittenTarget, own_target, field_target, WrittenArguments, no_arguments, more_arguments, WrittenStmt, assign, branch, branch_else, call, WrittenStmts, no_stmts, more_stmts}
-use Rattle.c_grammar.specs.Grammar.{Spelling, ◌⨾◌, word, at_line, name_word, in_parens, in_braces, cast_spelling, expr_spelling, cond_spelling, target_spelling, arguments_spelling, stmt_spelling, stmts_spelling}
-use Rattle.c_grammar.specs.Parsing.{Limits, stmt_opener_of, first_text, many, stmts_from, Argument, arguments_from, parse_expr, parse_cond, parse_target, target_opener_of, arguments_step, stmts_step, parse_block, parse_stmt}
+use Rattle.c_grammar.specs.Written.{WrittenExpr, WrittenCond, WrittenTarget, own_target, field_target, WrittenArguments, no_arguments, more_arguments, WrittenStmt, assign, assign_at, branch, branch_else, call, WrittenStmts, no_stmts, more_stmts}
+use Rattle.c_grammar.specs.Grammar.{Spelling, ◌⨾◌, word, at_line, name_word, in_parens, in_brackets, in_braces, own_spelling, cast_spelling, expr_spelling, cond_spelling, target_spelling, arguments_spelling, stmt_spelling, stmts_spelling}
+use Rattle.c_grammar.specs.Parsing.{Limits, stmt_opener_of, first_text, many, stmts_from, Argument, arguments_from, parse_operand, parse_expr, parse_cond, parse_target, target_opener_of, arguments_step, stmts_step, parse_block, parse_stmt}
 use Rattle.c_grammar.specs.declared.openers.StmtOpener.TheVariants.{Call as invoke_opener}
 use Rattle.c_grammar.specs.declared.openers.TargetOpener.TheVariants.{Own as own_opener}
 use Rattle.c_grammar.specs.declared.openers.Want.TheVariants.{Value as want_value, Test as want_test}
-use Rattle.c_grammar.proofs.lemmas.PrefixLaws.{Front, word-front, seq-parts, at_line-inner, name_word-inner, not_word, Parens, parens-parts, Firm, word-firm, some_same}
+use Rattle.c_grammar.proofs.lemmas.PrefixLaws.{Front, word-front, seq-parts, at_line-inner, name_word-inner, not_word, Parens, parens-parts, Brackets, brackets-parts, Firm, word-firm, some_same}
 use Rattle.c_reading.proofs.FileWalks.{Braces, braces-parts, NoElse, arguments-firm, stmts-no_else}
-use Rattle.c_grammar.proofs.lemmas.Shrinking.{Shrinks, ◌▹◌, word-shrinks, name-shrinks, parens-shrink, braces-shrink, cast-shrinks, expr-shrinks, cond-shrinks, target-shrinks, arguments-shrink, stmts-shrink}
-use Rattle.c_reading.proofs.ParsedWords.{word-parsed, name-parsed, cast-parsed, field_name-parsed, LineFront, line-front, word-rest}
+use Rattle.c_grammar.proofs.lemmas.Shrinking.{Shrinks, ◌▹◌, word-shrinks, name-shrinks, parens-shrink, brackets-shrink, braces-shrink, own-shrinks, cast-shrinks, expr-shrinks, cond-shrinks, target-shrinks, arguments-shrink, stmts-shrink}
+use Rattle.c_reading.proofs.ParsedWords.{word-parsed, name-parsed, cast-parsed, field_name-parsed, index-parsed, LineFront, line-front, word-rest}
 use Rattle.c_reading.proofs.ParsedBodies.{expr_levels, cond_levels, word-text, word-shorter, comma-another, comma-closed, operand-expr, operand-cond}
 
 -- how many levels the expressions of arguments open, and those of statements; and how many levels statements open
@@ -22,6 +22,7 @@ arguments_levels (more_arguments cast e rest) = max (expr_levels e) (arguments_l
 abbrev mutual
   pub stmt_exprs_levels : WrittenStmt → ℕ
   stmt_exprs_levels (assign line field cast e) = expr_levels e
+  stmt_exprs_levels (assign_at line field index cast e) = max (expr_levels index) (expr_levels e)
   stmt_exprs_levels (branch line c on_true) = max (cond_levels c) (stmts_exprs_levels on_true)
   stmt_exprs_levels (branch_else line c on_true on_false) = max (cond_levels c) (max (stmts_exprs_levels on_true) (stmts_exprs_levels on_false))
   stmt_exprs_levels (call line procedure target values) = arguments_levels values
@@ -33,6 +34,7 @@ abbrev mutual
 abbrev mutual
   pub stmt_levels : WrittenStmt → ℕ
   stmt_levels (assign line field cast e) = 1
+  stmt_levels (assign_at line field index cast e) = 1
   stmt_levels (branch line c on_true) = stmts_levels on_true + 1
   stmt_levels (branch_else line c on_true on_false) = max (stmts_levels on_true) (stmts_levels on_false) + 1
   stmt_levels (call line procedure target values) = 1
@@ -80,6 +82,15 @@ begins-shorter line text a tokens rest shrinks h =
 stmt-shorter : (s : WrittenStmt) (tokens rest : List Token) → stmt_spelling s tokens ≡ Some rest → length rest < length tokens
 stmt-shorter (assign line field cast e) tokens rest h =
     begins-shorter line (codes "s") (word (codes "->") ⨾ name_word field ⨾ word (codes "=") ⨾ cast_spelling cast ⨾ expr_spelling e ⨾ word (codes ";")) tokens rest (word-shrinks (codes "->") ▹ name-shrinks field ▹ word-shrinks (codes "=") ▹ cast-shrinks cast ▹ expr-shrinks e ▹ word-shrinks (codes ";")) h
+stmt-shorter (assign_at line field index cast e) tokens rest h =
+    let p : _ = seq-parts (at_line line (own_spelling field)) (in_brackets (expr_spelling index) ⨾ word (codes "=") ⨾ cast_spelling cast ⨾ expr_spelling e ⨾ word (codes ";")) tokens rest h in
+    let q : _ = seq-parts (word (codes "s")) (word (codes "->") ⨾ name_word field) tokens p.0 (at_line-inner line (own_spelling field) tokens p.0 p.1) in
+    let name : Shrinks (word (codes "->") ⨾ name_word field) = word-shrinks (codes "->") ▹ name-shrinks field in
+    let later : Shrinks (in_brackets (expr_spelling index) ⨾ word (codes "=") ⨾ cast_spelling cast ⨾ expr_spelling e ⨾ word (codes ";")) = brackets-shrink (expr-shrinks index) ▹ word-shrinks (codes "=") ▹ cast-shrinks cast ▹ expr-shrinks e ▹ word-shrinks (codes ";") in
+    let one : length q.0 < length tokens = word-shorter (codes "s") tokens q.0 q.1 in
+    let two : length p.0 ≤ length q.0 = name.by q.0 p.0 q.2 in
+    let three : length rest ≤ length p.0 = later.by p.0 rest p.2 in
+    omega arith
 stmt-shorter (branch line c on_true) tokens rest h =
     begins-shorter line (codes "if") (cond_spelling c ⨾ in_braces (stmts_spelling on_true)) tokens rest (cond-shrinks c ▹ braces-shrink (stmts-shrink on_true)) h
 stmt-shorter (branch_else line c on_true on_false) tokens rest h =
@@ -105,6 +116,10 @@ stmt-text : (s : WrittenStmt) (tokens rest : List Token) → stmt_spelling s tok
 stmt-text (assign line field cast e) tokens rest h =
     let p : _ = seq-parts (at_line line (word (codes "s"))) (word (codes "->") ⨾ name_word field ⨾ word (codes "=") ⨾ cast_spelling cast ⨾ expr_spelling e ⨾ word (codes ";")) tokens rest h in
     ap (λ x. bytes_eq x (codes "}")) (word-text (codes "s") tokens p.0 (at_line-inner line (word (codes "s")) tokens p.0 p.1))
+stmt-text (assign_at line field index cast e) tokens rest h =
+    let p : _ = seq-parts (at_line line (own_spelling field)) (in_brackets (expr_spelling index) ⨾ word (codes "=") ⨾ cast_spelling cast ⨾ expr_spelling e ⨾ word (codes ";")) tokens rest h in
+    let q : _ = seq-parts (word (codes "s")) (word (codes "->") ⨾ name_word field) tokens p.0 (at_line-inner line (own_spelling field) tokens p.0 p.1) in
+    ap (λ x. bytes_eq x (codes "}")) (word-text (codes "s") tokens q.0 q.1)
 stmt-text (branch line c on_true) tokens rest h =
     let p : _ = seq-parts (at_line line (word (codes "if"))) (cond_spelling c ⨾ in_braces (stmts_spelling on_true)) tokens rest h in
     ap (λ x. bytes_eq x (codes "}")) (word-text (codes "if") tokens p.0 (at_line-inner line (word (codes "if")) tokens p.0 p.1))
@@ -162,6 +177,7 @@ module _ (last : ℕ) (limits : Limits) where
   mutual
     pub stmt-parsed : (s : WrittenStmt) (levels : ℕ) (tokens rest : List Token) → stmt_spelling s tokens ≡ Some rest → NoElse rest → stmt_levels s ≤ levels → stmt_exprs_levels s ≤ limits.exprs → parse_stmt last limits levels tokens ≡ Ok (s, rest)
     stmt-parsed (assign line field cast e) zero tokens rest h none fits shallow = absurd (omega (arith, fits))
+    stmt-parsed (assign_at line field index cast e) zero tokens rest h none fits shallow = absurd (omega (arith, fits))
     stmt-parsed (branch line c on_true) zero tokens rest h none fits shallow = absurd (omega (arith, fits))
     stmt-parsed (branch_else line c on_true on_false) zero tokens rest h none fits shallow = absurd (omega (arith, fits))
     stmt-parsed (call line procedure target values) zero tokens rest h none fits shallow = absurd (omega (arith, fits))
@@ -174,7 +190,18 @@ module _ (last : ℕ) (limits : Limits) where
         let t : _ = seq-parts (word (codes "=")) (cast_spelling cast ⨾ expr_spelling e ⨾ word (codes ";")) r.0 rest r.2 in
         let u : _ = seq-parts (cast_spelling cast) (expr_spelling e ⨾ word (codes ";")) t.0 rest t.2 in
         let x : _ = seq-parts (expr_spelling e) (word (codes ";")) u.0 rest u.2 in
-        ap (parse_stmt last limits (suc levels)) f.list ∙ rw (ap stmt_opener_of o.0, o.1, word-parsed last (codes "->") p.0 q.0 q.1, name-parsed last field q.0 r.0 r.1, word-parsed last (codes "=") r.0 t.0 t.1, cast-parsed last cast t.0 u.0 u.1, expr-parsed e u.0 x.0 x.1 (word-firm (codes ";") x.0 rest refl x.2) shallow, word-parsed last (codes ";") x.0 rest x.2, f.is) refl
+        ap (parse_stmt last limits (suc levels)) f.list ∙ rw (ap stmt_opener_of o.0, o.1, word-parsed last (codes "->") p.0 q.0 q.1, name-parsed last field q.0 r.0 r.1, ap (λ y. bytes_eq y (codes "[")) (word-text (codes "=") r.0 t.0 t.1), word-parsed last (codes "=") r.0 t.0 t.1, cast-parsed last cast t.0 u.0 u.1, expr-parsed e u.0 x.0 x.1 (word-firm (codes ";") x.0 rest refl x.2) shallow, word-parsed last (codes ";") x.0 rest x.2, f.is) refl
+    stmt-parsed (assign_at line field index cast e) (suc levels) tokens rest h none fits shallow =
+        let p : _ = seq-parts (at_line line (own_spelling field)) (in_brackets (expr_spelling index) ⨾ word (codes "=") ⨾ cast_spelling cast ⨾ expr_spelling e ⨾ word (codes ";")) tokens rest h in
+        let f : LineFront line (own_spelling field) tokens p.0 = line-front line (own_spelling field) tokens p.0 p.1 in
+        let o : _ = seq-parts (word (codes "s")) (word (codes "->") ⨾ name_word field) (f.token ∷ f.later) p.0 f.inner in
+        let w : _ = word-rest (codes "s") f.token f.later o.0 o.1 in
+        let r : _ = seq-parts (in_brackets (expr_spelling index)) (word (codes "=") ⨾ cast_spelling cast ⨾ expr_spelling e ⨾ word (codes ";")) p.0 rest p.2 in
+        let b : Brackets (expr_spelling index) p.0 r.0 = brackets-parts (expr_spelling index) p.0 r.0 r.1 in
+        let t : _ = seq-parts (word (codes "=")) (cast_spelling cast ⨾ expr_spelling e ⨾ word (codes ";")) r.0 rest r.2 in
+        let u : _ = seq-parts (cast_spelling cast) (expr_spelling e ⨾ word (codes ";")) t.0 rest t.2 in
+        let x : _ = seq-parts (expr_spelling e) (word (codes ";")) u.0 rest u.2 in
+        ap (parse_stmt last limits (suc levels)) f.list ∙ rw (ap stmt_opener_of w.0, w.1, field_name-parsed last field o.0 p.0 o.2, ap (λ y. bytes_eq y (codes "[")) (word-text (codes "[") p.0 b.inner b.start), index-parsed last (parse_operand last limits.exprs) index p.0 b.inner b.behind r.0 b.start (rw (operand-expr last index limits.exprs want_value b.inner b.behind refl b.body (word-firm (codes "]") b.behind r.0 refl b.close) (omega (arith, shallow))) refl) b.close, word-parsed last (codes "=") r.0 t.0 t.1, cast-parsed last cast t.0 u.0 u.1, expr-parsed e u.0 x.0 x.1 (word-firm (codes ";") x.0 rest refl x.2) (omega (arith, shallow)), word-parsed last (codes ";") x.0 rest x.2, f.is) refl
     stmt-parsed (branch line c on_true) (suc levels) tokens rest h none fits shallow =
         let p : _ = seq-parts (at_line line (word (codes "if"))) (cond_spelling c ⨾ in_braces (stmts_spelling on_true)) tokens rest h in
         let f : LineFront line (word (codes "if")) tokens p.0 = line-front line (word (codes "if")) tokens p.0 p.1 in

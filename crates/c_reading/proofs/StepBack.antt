@@ -1,32 +1,49 @@
 -- One step back: what a token leaves needed, given, is with the token what was needed.
 use Rattle.std.proofs.Common.{◌≡◌, refl, ◌∙◌, ap, ℕ, ◌+◌, ◌⊎◌, inl, inr, List, [], ◌∷◌, Some, Bool, true, false, if◌then◌else◌, codes, bytes_eq, subst}
+use Rattle.c_syntax.specs.declared.code.CType.{CType}
 use Rattle.c_grammar.specs.Tokens.{Token}
 use Rattle.c_syntax.specs.Names.{is_name}
-use Rattle.c_grammar.specs.Grammar.{◌⨾◌, more_exprs_spelling, word, at_line, name_word, in_parens, in_braces, type_text, leaf_spelling, expr_spelling, cond_spelling, target_spelling, cast_spelling, arguments_spelling, stmt_spelling, stmts_spelling, param_spelling, more_params_spelling, pure_param_spelling, more_pure_params_spelling, pure_params_spelling, pure_spelling, kind_spelling, field_spelling, all_spelling, some_spelling, struct_spelling, private_spelling, procedure_spelling}
+use Rattle.c_grammar.specs.Grammar.{Spelling, ◌⨾◌, more_exprs_spelling, word, at_line, name_word, in_parens, in_brackets, in_braces, literal_word, type_text, own_spelling, leaf_spelling, expr_spelling, cond_spelling, target_spelling, cast_spelling, arguments_spelling, stmt_spelling, stmts_spelling, param_spelling, more_params_spelling, pure_param_spelling, more_pure_params_spelling, pure_params_spelling, pure_spelling, kind_spelling, length_spelling, field_spelling, all_spelling, some_spelling, struct_spelling, private_spelling, procedure_spelling}
 use Rattle.c_syntax.specs.Kinds.{WrittenKind}
-use Rattle.c_grammar.specs.Written.{WrittenLeaf, WrittenExprs, WrittenTarget, WrittenArguments, WrittenStmt, WrittenStmts, WrittenParam, WrittenPureParam, WrittenPure, WrittenField, WrittenStruct, WrittenProcedure, WrittenProgram}
-use Rattle.c_grammar.specs.Prefix.{Need, Reply, leaves, with_needs, only_if, within_limit, first_reply, is_type, is_literal, expr_need, cond_need, stmt_reply, field_reply, procedures_reply, comma_reply, struct_needs, procedure_needs, pure_needs, reply_of, text_need, name_need, literal_need, type_need, operand_need, inside_need, joint_need, values_need, leaf_need, dot_need, target_need, arguments_need, stmts_need, else_need, pure_param_need, pure_params_need, param_need, params_need, field_need, fields_need, pures_need, structs_need, procedures_need}
+use Rattle.c_grammar.specs.Written.{WrittenLeaf, WrittenExpr, WrittenExprs, WrittenTarget, WrittenArguments, WrittenStmt, WrittenStmts, WrittenParam, WrittenPureParam, WrittenPure, WrittenField, WrittenStruct, WrittenProcedure, WrittenProgram}
+use Rattle.c_grammar.specs.Prefix.{Need, Reply, leaves, with_needs, only_if, within_limit, first_reply, is_type, is_literal, expr_need, cond_need, stmt_reply, field_reply, procedures_reply, comma_reply, struct_needs, procedure_needs, pure_needs, reply_of, text_need, name_need, literal_need, type_need, operand_need, inside_need, joint_need, values_need, leaf_need, tail_need, index_need, length_need, index_needs, length_needs, target_need, arguments_need, stmts_need, else_need, pure_param_need, pure_params_need, param_need, params_need, field_need, fields_need, pures_need, structs_need, procedures_need}
 use Rattle.c_syntax.specs.Limits.{stmt_limit, param_limit, pure_limit, expr_limit}
 use Rattle.c_grammar.proofs.lemmas.Texts.{is_type-text, is_literal-text}
 use Rattle.c_grammar.proofs.lemmas.PrefixLaws.{seq-parts}
-use Rattle.c_reading.proofs.Completions.{Fills, FillsAll, Given, Chosen, operand_entries, chosen, only-given, limit-given, with-given, same_text, word-put, name-put, seq-put, parens-put, braces-put, line-put, line-some, literal-put, operand-back, inside-back, joint-back}
+use Rattle.c_reading.proofs.Completions.{Fills, FillsAll, Given, Chosen, operand_entries, chosen, only-given, limit-given, with-given, same_text, word-put, name-put, seq-put, parens-put, brackets-put, braces-put, line-put, line-some, literal-put, operand-back, inside-back, joint-back}
 
 abbrev pub stmt_entries : ℕ → List ℕ → List (Bool × Reply)
 stmt_entries depth text =
-    (bytes_eq text (codes "s"), leaves (text_need (codes "->") ∷ name_need ∷ text_need (codes "=") ∷ text_need (codes "(") ∷ type_need ∷ text_need (codes ")") ∷ expr_need 1 ∷ text_need (codes ";") ∷ []))
+    (bytes_eq text (codes "s"), leaves (text_need (codes "->") ∷ name_need ∷ index_need ∷ text_need (codes "=") ∷ text_need (codes "(") ∷ type_need ∷ text_need (codes ")") ∷ expr_need 1 ∷ text_need (codes ";") ∷ []))
     ∷ (bytes_eq text (codes "if"), leaves (cond_need 1 ∷ text_need (codes "{") ∷ stmts_need (depth + 1) ∷ else_need depth ∷ []))
     ∷ (is_name text, leaves (text_need (codes "(") ∷ target_need ∷ arguments_need ∷ text_need (codes ";") ∷ []))
     ∷ []
 
+own-put : (field : List ℕ) (tokens behind mid rest : List Token) → word (codes "s") tokens ≡ Some behind → word (codes "->") behind ≡ Some mid → name_word field mid ≡ Some rest → own_spelling field tokens ≡ Some rest
+own-put field tokens behind mid rest self arrow name =
+    seq-put (word (codes "s")) (word (codes "->") ⨾ name_word field) tokens behind rest self (seq-put (word (codes "->")) (name_word field) behind mid rest arrow name)
+
+-- what is stored, behind the field or the item
+stored-back : (tokens rest : List Token) → FillsAll (text_need (codes "=") ∷ text_need (codes "(") ∷ type_need ∷ text_need (codes ")") ∷ expr_need 1 ∷ text_need (codes ";") ∷ []) tokens rest → (cast : CType) × (value : WrittenExpr) × ((word (codes "=") ⨾ cast_spelling cast ⨾ expr_spelling value ⨾ word (codes ";")) tokens ≡ Some rest)
+stored-back tokens rest (a, equals, (b, paren, (c, type, (d, close, (e, value, (f, semi, same)))))) =
+    let cast : cast_spelling type.0 a ≡ Some d = parens-put (word (type_text type.0)) a b c d paren type.1 close in
+    (type.0, value.0, seq-put (word (codes "=")) (cast_spelling type.0 ⨾ expr_spelling value.0 ⨾ word (codes ";")) tokens a rest equals (seq-put (cast_spelling type.0) (expr_spelling value.0 ⨾ word (codes ";")) a d rest cast (seq-put (expr_spelling value.0) (word (codes ";")) d e rest value.1 (semi ∙ ap Some same))))
+
 pub stmt-back : (depth : ℕ) (t : Token) (tokens rest : List Token) → Chosen (stmt_entries depth t.text) tokens rest → (s : WrittenStmt) × (stmt_spelling s (t ∷ tokens) ≡ Some rest)
-stmt-back depth t tokens rest (inl h) =
-    let f : FillsAll (text_need (codes "->") ∷ name_need ∷ text_need (codes "=") ∷ text_need (codes "(") ∷ type_need ∷ text_need (codes ")") ∷ expr_need 1 ∷ text_need (codes ";") ∷ []) tokens rest = h.1 in
-    let n : _ = f.2.1.0 in
-    let c : _ = f.2.2.2.2.1.0 in
-    let e : _ = f.2.2.2.2.2.2.1.0 in
-    let semi : word (codes ";") f.2.2.2.2.2.2.0 ≡ Some rest = subst (λ r. word (codes ";") f.2.2.2.2.2.2.0 ≡ Some r) f.2.2.2.2.2.2.2.2 f.2.2.2.2.2.2.2.1 in
-    let cast : cast_spelling c f.2.2.0 ≡ Some f.2.2.2.2.2.0 = parens-put (word (type_text c)) f.2.2.0 f.2.2.2.0 f.2.2.2.2.0 f.2.2.2.2.2.0 f.2.2.2.1 f.2.2.2.2.1.1 f.2.2.2.2.2.1 in
-    (WrittenStmt.assign t.line n c e, seq-put (at_line t.line (word (codes "s"))) (word (codes "->") ⨾ name_word n ⨾ word (codes "=") ⨾ cast_spelling c ⨾ expr_spelling e ⨾ word (codes ";")) (t ∷ tokens) tokens rest (line-put (word (codes "s")) t tokens tokens (word-put (codes "s") t tokens (same_text t.text (codes "s") h.0))) (seq-put (word (codes "->")) (name_word n ⨾ word (codes "=") ⨾ cast_spelling c ⨾ expr_spelling e ⨾ word (codes ";")) tokens f.0 rest f.1 (seq-put (name_word n) (word (codes "=") ⨾ cast_spelling c ⨾ expr_spelling e ⨾ word (codes ";")) f.0 f.2.0 rest f.2.1.1 (seq-put (word (codes "=")) (cast_spelling c ⨾ expr_spelling e ⨾ word (codes ";")) f.2.0 f.2.2.0 rest f.2.2.1 (seq-put (cast_spelling c) (expr_spelling e ⨾ word (codes ";")) f.2.2.0 f.2.2.2.2.2.0 rest cast (seq-put (expr_spelling e) (word (codes ";")) f.2.2.2.2.2.0 f.2.2.2.2.2.2.0 rest f.2.2.2.2.2.2.1.1 semi))))))
+stmt-back depth t tokens rest (inl h) = by h.1
+  where
+    self : word (codes "s") (t ∷ tokens) ≡ Some tokens
+    self = word-put (codes "s") t tokens (same_text t.text (codes "s") h.0)
+
+    by : FillsAll (text_need (codes "->") ∷ name_need ∷ index_need ∷ text_need (codes "=") ∷ text_need (codes "(") ∷ type_need ∷ text_need (codes ")") ∷ expr_need 1 ∷ text_need (codes ";") ∷ []) tokens rest → (s : WrittenStmt) × (stmt_spelling s (t ∷ tokens) ≡ Some rest)
+    by (m, arrow, (k, n, (l, inl out, f))) =
+        let v : _ = stored-back l rest f in
+        let stored : Spelling = word (codes "=") ⨾ cast_spelling v.0 ⨾ expr_spelling v.1 ⨾ word (codes ";") in
+        (WrittenStmt.assign t.line n.0 v.0 v.1, seq-put (at_line t.line (word (codes "s"))) (word (codes "->") ⨾ name_word n.0 ⨾ stored) (t ∷ tokens) tokens rest (line-put (word (codes "s")) t tokens tokens self) (seq-put (word (codes "->")) (name_word n.0 ⨾ stored) tokens m rest arrow (seq-put (name_word n.0) stored m k rest n.1 (ap stored out ∙ v.2))))
+    by (m, arrow, (k, n, (l, inr (index, spelled), f))) =
+        let v : _ = stored-back l rest f in
+        let stored : Spelling = word (codes "=") ⨾ cast_spelling v.0 ⨾ expr_spelling v.1 ⨾ word (codes ";") in
+        (WrittenStmt.assign_at t.line n.0 index v.0 v.1, seq-put (at_line t.line (own_spelling n.0)) (in_brackets (expr_spelling index) ⨾ stored) (t ∷ tokens) k rest (line-put (own_spelling n.0) t tokens k (own-put n.0 (t ∷ tokens) tokens m k self arrow n.1)) (seq-put (in_brackets (expr_spelling index)) stored k l rest spelled v.2))
 stmt-back depth t tokens rest (inr (inl h)) = by h.1
   where
     open_if : at_line t.line (word (codes "if")) (t ∷ tokens) ≡ Some tokens
@@ -45,18 +62,21 @@ stmt-back depth t tokens rest (inr (inr (inl h))) =
 stmt-back depth t tokens rest (inr (inr (inr h))) = absurd h
 
 field-back : (t : Token) (tokens rest : List Token) → Given (field_reply t.text) tokens rest → (f : WrittenField) × (field_spelling f (t ∷ tokens) ≡ Some rest)
-field-back t tokens rest g = by (chosen ((is_type t.text, leaves (name_need ∷ text_need (codes ";") ∷ [])) ∷ (bytes_eq t.text (codes "struct"), leaves (name_need ∷ name_need ∷ text_need (codes ";") ∷ [])) ∷ []) tokens rest g)
+field-back t tokens rest g = by (chosen ((is_type t.text, leaves (name_need ∷ length_need ∷ text_need (codes ";") ∷ [])) ∷ (bytes_eq t.text (codes "struct"), leaves (name_need ∷ name_need ∷ text_need (codes ";") ∷ [])) ∷ []) tokens rest g)
   where
-    put : (kind : WrittenKind) (name : List ℕ) (mid behind end : List Token) → kind_spelling kind (t ∷ tokens) ≡ Some mid → name_word name mid ≡ Some behind → word (codes ";") behind ≡ Some end → end ≡ rest → (f : WrittenField) × (field_spelling f (t ∷ tokens) ≡ Some rest)
-    put kind name mid behind end h k l e =
-        (record { line = t.line; kind = kind; name = name }, seq-put (at_line t.line (kind_spelling kind)) (name_word name ⨾ word (codes ";")) (t ∷ tokens) mid rest (line-put (kind_spelling kind) t tokens mid h) (seq-put (name_word name) (word (codes ";")) mid behind rest k (subst (λ r. word (codes ";") behind ≡ Some r) e l)))
+    put : (kind : WrittenKind) (name : List ℕ) (mid behind after end : List Token) → kind_spelling kind (t ∷ tokens) ≡ Some mid → name_word name mid ≡ Some behind → length_spelling kind behind ≡ Some after → word (codes ";") after ≡ Some end → end ≡ rest → (f : WrittenField) × (field_spelling f (t ∷ tokens) ≡ Some rest)
+    put kind name mid behind after end h k l m e =
+        (record { line = t.line; kind = kind; name = name }, seq-put (at_line t.line (kind_spelling kind)) (name_word name ⨾ length_spelling kind ⨾ word (codes ";")) (t ∷ tokens) mid rest (line-put (kind_spelling kind) t tokens mid h) (seq-put (name_word name) (length_spelling kind ⨾ word (codes ";")) mid behind rest k (seq-put (length_spelling kind) (word (codes ";")) behind after rest l (m ∙ ap Some e))))
 
-    by : Chosen ((is_type t.text, leaves (name_need ∷ text_need (codes ";") ∷ [])) ∷ (bytes_eq t.text (codes "struct"), leaves (name_need ∷ name_need ∷ text_need (codes ";") ∷ [])) ∷ []) tokens rest → (f : WrittenField) × (field_spelling f (t ∷ tokens) ≡ Some rest)
-    by (inl (test, (m, n, (k, semi, e)))) =
+    by : Chosen ((is_type t.text, leaves (name_need ∷ length_need ∷ text_need (codes ";") ∷ [])) ∷ (bytes_eq t.text (codes "struct"), leaves (name_need ∷ name_need ∷ text_need (codes ";") ∷ [])) ∷ []) tokens rest → (f : WrittenField) × (field_spelling f (t ∷ tokens) ≡ Some rest)
+    by (inl (test, (m, n, (l, inl out, (k, semi, e))))) =
         let type : _ = is_type-text t.text test in
-        put (WrittenKind.number_kind type.0) n.0 tokens m k (word-put (type_text type.0) t tokens type.1) n.1 semi e
+        put (WrittenKind.number_kind type.0) n.0 tokens m l k (word-put (type_text type.0) t tokens type.1) n.1 (ap Some out) semi e
+    by (inl (test, (m, n, (l, inr (count, spelled), (k, semi, e))))) =
+        let type : _ = is_type-text t.text test in
+        put (WrittenKind.array_kind type.0 count) n.0 tokens m l k (word-put (type_text type.0) t tokens type.1) n.1 spelled semi e
     by (inr (inl (test, (m, of, (k, n, (l, semi, e)))))) =
-        put (WrittenKind.struct_kind of.0) n.0 m k l (seq-put (word (codes "struct")) (name_word of.0) (t ∷ tokens) tokens m (word-put (codes "struct") t tokens (same_text t.text (codes "struct") test)) of.1) n.1 semi e
+        put (WrittenKind.struct_kind of.0) n.0 m k k l (seq-put (word (codes "struct")) (name_word of.0) (t ∷ tokens) tokens m (word-put (codes "struct") t tokens (same_text t.text (codes "struct") test)) of.1) n.1 refl semi e
     by (inr (inr h)) = absurd h
 
 struct-back : (t : Token) (tokens rest : List Token) → t.text ≡ codes "struct" → FillsAll struct_needs tokens rest → (d : WrittenStruct) × (behind : List Token) × (struct_spelling d (t ∷ tokens) ≡ Some behind) × Fills structs_need behind rest
@@ -94,15 +114,39 @@ comma-back needs t tokens rest g = by (chosen ((bytes_eq t.text (codes ","), lea
     by (inr (inl (test, same))) = inr (word-put (codes ")") t tokens (same_text t.text (codes ")") test) ∙ ap Some same)
     by (inr (inr h)) = absurd h
 
-leaf-back : (t : Token) (tokens rest : List Token) → Given (reply_of leaf_need t.text) tokens rest → (leaf : WrittenLeaf) × (leaf_spelling leaf (t ∷ tokens) ≡ Some rest)
-leaf-back t tokens rest g = by (chosen ((bytes_eq t.text (codes "s"), leaves (text_need (codes "->") ∷ name_need ∷ dot_need ∷ [])) ∷ (is_name t.text, leaves []) ∷ []) tokens rest g)
+-- an index behind its `[`
+index-back : (depth : ℕ) (t : Token) (tokens rest : List Token) → bytes_eq t.text (codes "[") ≡ true → FillsAll (index_needs depth) tokens rest → (index : WrittenExpr) × (in_brackets (expr_spelling index) (t ∷ tokens) ≡ Some rest)
+index-back depth t tokens rest is (m, e, (k, close, same)) =
+    (e.0, brackets-put (expr_spelling e.0) (t ∷ tokens) tokens m rest (word-put (codes "[") t tokens (same_text t.text (codes "[") is)) e.1 (close ∙ ap Some same))
+
+-- the length of an array behind its `[`
+length-back : (t : Token) (tokens rest : List Token) → bytes_eq t.text (codes "[") ≡ true → FillsAll length_needs tokens rest → (count : ℕ) × (in_brackets (literal_word count) (t ∷ tokens) ≡ Some rest)
+length-back t tokens rest is (m, count, (k, close, same)) =
+    (count.0, brackets-put (literal_word count.0) (t ∷ tokens) tokens m rest (word-put (codes "[") t tokens (same_text t.text (codes "[") is)) count.1 (close ∙ ap Some same))
+
+leaf-back : (depth : ℕ) (t : Token) (tokens rest : List Token) → Given (reply_of (leaf_need depth) t.text) tokens rest → Fills (leaf_need depth) (t ∷ tokens) rest
+leaf-back depth t tokens rest g = by (chosen ((bytes_eq t.text (codes "s"), leaves (text_need (codes "->") ∷ name_need ∷ tail_need depth ∷ [])) ∷ (is_name t.text, leaves []) ∷ []) tokens rest g)
   where
-    by : Chosen ((bytes_eq t.text (codes "s"), leaves (text_need (codes "->") ∷ name_need ∷ dot_need ∷ [])) ∷ (is_name t.text, leaves []) ∷ []) tokens rest → (leaf : WrittenLeaf) × (leaf_spelling leaf (t ∷ tokens) ≡ Some rest)
+    self : bytes_eq t.text (codes "s") ≡ true → word (codes "s") (t ∷ tokens) ≡ Some tokens
+    self test = word-put (codes "s") t tokens (same_text t.text (codes "s") test)
+
+    by : Chosen ((bytes_eq t.text (codes "s"), leaves (text_need (codes "->") ∷ name_need ∷ tail_need depth ∷ [])) ∷ (is_name t.text, leaves []) ∷ []) tokens rest → Fills (leaf_need depth) (t ∷ tokens) rest
     by (inl (test, (m, arrow, (k, n, (l, inl out, same))))) =
-        (WrittenLeaf.own n.0, seq-put (word (codes "s")) (word (codes "->") ⨾ name_word n.0) (t ∷ tokens) tokens rest (word-put (codes "s") t tokens (same_text t.text (codes "s") test)) (seq-put (word (codes "->")) (name_word n.0) tokens m rest arrow (n.1 ∙ ap Some (out ∙ same))))
-    by (inl (test, (m, arrow, (k, n, (l, inr inner, same))))) =
-        (WrittenLeaf.child n.0 inner.0, seq-put (word (codes "s")) (word (codes "->") ⨾ name_word n.0 ⨾ word (codes ".") ⨾ name_word inner.0) (t ∷ tokens) tokens rest (word-put (codes "s") t tokens (same_text t.text (codes "s") test)) (seq-put (word (codes "->")) (name_word n.0 ⨾ word (codes ".") ⨾ name_word inner.0) tokens m rest arrow (seq-put (name_word n.0) (word (codes ".") ⨾ name_word inner.0) m k rest n.1 (inner.1 ∙ ap Some same))))
-    by (inr (inl (test, same))) = (WrittenLeaf.param t.text, name-put t tokens test ∙ ap Some same)
+        inl (WrittenLeaf.own n.0, own-put n.0 (t ∷ tokens) tokens m rest (self test) arrow (n.1 ∙ ap Some (out ∙ same)))
+    by (inl (test, (m, arrow, (k, n, (l, inr (inl inner), same))))) =
+        inl (WrittenLeaf.child n.0 inner.0, seq-put (word (codes "s")) (word (codes "->") ⨾ name_word n.0 ⨾ word (codes ".") ⨾ name_word inner.0) (t ∷ tokens) tokens rest (self test) (seq-put (word (codes "->")) (name_word n.0 ⨾ word (codes ".") ⨾ name_word inner.0) tokens m rest arrow (seq-put (name_word n.0) (word (codes ".") ⨾ name_word inner.0) m k rest n.1 (inner.1 ∙ ap Some same))))
+    by (inl (test, (m, arrow, (k, n, (l, inr (inr index), same))))) =
+        inr (n.0, index.0, seq-put (own_spelling n.0) (in_brackets (expr_spelling index.0)) (t ∷ tokens) k rest (own-put n.0 (t ∷ tokens) tokens m k (self test) arrow n.1) (index.1 ∙ ap Some same))
+    by (inr (inl (test, same))) = inl (WrittenLeaf.param t.text, name-put t tokens test ∙ ap Some same)
+    by (inr (inr h)) = absurd h
+
+tail-back : (depth : ℕ) (t : Token) (tokens rest : List Token) → Given (reply_of (tail_need depth) t.text) tokens rest → Fills (tail_need depth) (t ∷ tokens) rest
+tail-back depth t tokens rest g = by (chosen ((bytes_eq t.text (codes "."), leaves (name_need ∷ [])) ∷ (bytes_eq t.text (codes "["), leaves (index_needs depth)) ∷ []) tokens rest g)
+  where
+    by : Chosen ((bytes_eq t.text (codes "."), leaves (name_need ∷ [])) ∷ (bytes_eq t.text (codes "["), leaves (index_needs depth)) ∷ []) tokens rest → Fills (tail_need depth) (t ∷ tokens) rest
+    by (inl (test, (m, n, same))) =
+        inr (inl (n.0, seq-put (word (codes ".")) (name_word n.0) (t ∷ tokens) tokens rest (word-put (codes ".") t tokens (same_text t.text (codes ".") test)) (n.1 ∙ ap Some same)))
+    by (inr (inl (test, f))) = inr (inr (index-back depth t tokens rest test f))
     by (inr (inr h)) = absurd h
 
 target-back : (t : Token) (tokens rest : List Token) → Given (reply_of target_need t.text) tokens rest → (target : WrittenTarget) × (target_spelling target (t ∷ tokens) ≡ Some rest)
@@ -204,11 +248,14 @@ back (values_need depth) t tokens rest g = by (comma-back (expr_need depth ∷ v
     by (inl (comma, (m, e, (k, es, same)))) =
         (WrittenExprs.more_exprs e.0 es.0, es.1, seq-put (word (codes ",")) (expr_spelling e.0 ⨾ more_exprs_spelling es.0) (t ∷ tokens) tokens es.1 comma (seq-put (expr_spelling e.0) (more_exprs_spelling es.0) tokens m es.1 e.1 es.2), subst (λ r. word (codes ")") es.1 ≡ Some r) same es.3)
     by (inr close) = (WrittenExprs.no_exprs, t ∷ tokens, refl, close)
-back leaf_need t tokens rest g = leaf-back t tokens rest g
-back dot_need t tokens rest g =
-    let k : _ = only-given (bytes_eq t.text (codes ".")) (leaves (name_need ∷ [])) tokens rest g in
-    let n : _ = k.1.1 in
-    inr (n.0, seq-put (word (codes ".")) (name_word n.0) (t ∷ tokens) tokens rest (word-put (codes ".") t tokens (same_text t.text (codes ".") k.0)) (n.1 ∙ ap Some k.1.2))
+back (leaf_need depth) t tokens rest g = leaf-back depth t tokens rest g
+back (tail_need depth) t tokens rest g = tail-back depth t tokens rest g
+back index_need t tokens rest g =
+    let k : _ = only-given (bytes_eq t.text (codes "[")) (leaves (index_needs 1)) tokens rest g in
+    inr (index-back 1 t tokens rest k.0 k.1)
+back length_need t tokens rest g =
+    let k : _ = only-given (bytes_eq t.text (codes "[")) (leaves length_needs) tokens rest g in
+    inr (length-back t tokens rest k.0 k.1)
 back target_need t tokens rest g = target-back t tokens rest g
 back arguments_need t tokens rest g = by (comma-back (text_need (codes "(") ∷ type_need ∷ text_need (codes ")") ∷ expr_need 1 ∷ arguments_need ∷ []) t tokens rest g)
   where

@@ -4,11 +4,11 @@ use Rattle.std.specs.List.{AllByRecursion}
 use Rattle.c_grammar.specs.Tokens.{Token}
 use Rattle.c_syntax.specs.Names.{is_name}
 use Rattle.c_grammar.specs.Written.{WrittenExpr, WrittenExprs, WrittenCond, WrittenArguments, WrittenStmt, WrittenStmts, WrittenParam, WrittenPureParam, WrittenPure, WrittenField, WrittenStruct, WrittenProcedure, WrittenProgram}
-use Rattle.c_grammar.specs.Grammar.{Spelling, ◌⨾◌, never, word, at_line, name_word, literal_word, in_parens, in_braces, type_text, op_text, compare_text, expr_spelling, more_exprs_spelling, cond_spelling, target_spelling, cast_spelling, arguments_spelling, stmt_spelling, stmts_spelling, param_spelling, more_params_spelling, pure_param_spelling, more_pure_params_spelling, pure_params_spelling, pure_spelling, kind_spelling, field_spelling, all_spelling, some_spelling, struct_spelling, private_spelling, procedure_spelling, Spells}
+use Rattle.c_grammar.specs.Grammar.{Spelling, ◌⨾◌, never, word, at_line, name_word, literal_word, in_parens, in_brackets, in_braces, type_text, op_text, compare_text, own_spelling, expr_spelling, more_exprs_spelling, cond_spelling, target_spelling, cast_spelling, arguments_spelling, stmt_spelling, stmts_spelling, param_spelling, more_params_spelling, pure_param_spelling, more_pure_params_spelling, pure_params_spelling, pure_spelling, kind_spelling, length_spelling, field_spelling, all_spelling, some_spelling, struct_spelling, private_spelling, procedure_spelling, Spells}
 use Rattle.c_grammar.proofs.lemmas.PrefixLaws.{seq-parts, name_word-inner}
 use Rattle.c_reading.proofs.LawfulBodies.{SmallExpr, SmallExprs, SmallCond, SmallArguments, SmallStmt, SmallStmts}
 
--- what is between `(` and `)`, or between `{` and `}`
+-- what is between `(` and `)`, `[` and `]`, or `{` and `}`
 inner : (open_text close_text : List ℕ) (a : Spelling) (tokens rest : List Token) → (word open_text ⨾ a ⨾ word close_text) tokens ≡ Some rest → (start : List Token) × (end : List Token) × (a start ≡ Some end)
 inner open_text close_text a tokens rest h =
     let p : _ = seq-parts (word open_text) (a ⨾ word close_text) tokens rest h in
@@ -51,6 +51,11 @@ mutual
       let q : _ = inner (codes "(") (codes ")") (expr_spelling e ⨾ more_exprs_spelling es) p.0 rest p.2 in
       let r : _ = seq-parts (expr_spelling e) (more_exprs_spelling es) q.0 q.1 q.2 in
       (expr-small e q.0 r.0 r.1, more_exprs-small es r.0 q.1 r.2)
+  expr-small (WrittenExpr.item line field index) tokens rest h =
+      let p : _ = seq-parts (in_parens (word (codes "int64_t"))) (at_line line (own_spelling field) ⨾ in_brackets (expr_spelling index)) tokens rest h in
+      let r : _ = seq-parts (at_line line (own_spelling field)) (in_brackets (expr_spelling index)) p.0 rest p.2 in
+      let q : _ = inner (codes "[") (codes "]") (expr_spelling index) r.0 rest r.2 in
+      expr-small index q.0 q.1 q.2
 
   pub more_exprs-small : (es : WrittenExprs) (tokens rest : List Token) → more_exprs_spelling es tokens ≡ Some rest → SmallExprs es
   more_exprs-small WrittenExprs.no_exprs tokens rest h = tt
@@ -98,6 +103,14 @@ mutual
       let u : _ = seq-parts (cast_spelling cast) (expr_spelling value ⨾ word (codes ";")) t.0 rest t.2 in
       let v : _ = seq-parts (expr_spelling value) (word (codes ";")) u.0 rest u.2 in
       expr-small value u.0 v.0 v.1
+  stmt-small (WrittenStmt.assign_at line field index cast value) tokens rest h =
+      let p : _ = seq-parts (at_line line (own_spelling field)) (in_brackets (expr_spelling index) ⨾ word (codes "=") ⨾ cast_spelling cast ⨾ expr_spelling value ⨾ word (codes ";")) tokens rest h in
+      let q : _ = seq-parts (in_brackets (expr_spelling index)) (word (codes "=") ⨾ cast_spelling cast ⨾ expr_spelling value ⨾ word (codes ";")) p.0 rest p.2 in
+      let i : _ = inner (codes "[") (codes "]") (expr_spelling index) p.0 q.0 q.1 in
+      let t : _ = seq-parts (word (codes "=")) (cast_spelling cast ⨾ expr_spelling value ⨾ word (codes ";")) q.0 rest q.2 in
+      let u : _ = seq-parts (cast_spelling cast) (expr_spelling value ⨾ word (codes ";")) t.0 rest t.2 in
+      let v : _ = seq-parts (expr_spelling value) (word (codes ";")) u.0 rest u.2 in
+      (expr-small index i.0 i.1 i.2, expr-small value u.0 v.0 v.1)
   stmt-small (WrittenStmt.branch line test xs) tokens rest h =
       let p : _ = seq-parts (at_line line (word (codes "if"))) (cond_spelling test ⨾ in_braces (stmts_spelling xs)) tokens rest h in
       let q : _ = seq-parts (cond_spelling test) (in_braces (stmts_spelling xs)) p.0 rest p.2 in
@@ -187,8 +200,8 @@ pure-well w tokens rest h =
 
 field-name : (f : WrittenField) (tokens rest : List Token) → field_spelling f tokens ≡ Some rest → is_name f.name ≡ true
 field-name f tokens rest h =
-    let p : _ = seq-parts (at_line f.line (kind_spelling f.kind)) (name_word f.name ⨾ word (codes ";")) tokens rest h in
-    let q : _ = seq-parts (name_word f.name) (word (codes ";")) p.0 rest p.2 in
+    let p : _ = seq-parts (at_line f.line (kind_spelling f.kind)) (name_word f.name ⨾ length_spelling f.kind ⨾ word (codes ";")) tokens rest h in
+    let q : _ = seq-parts (name_word f.name) (length_spelling f.kind ⨾ word (codes ";")) p.0 rest p.2 in
     (name_word-inner f.name p.0 q.0 q.1).0
 
 fields-names : (fs : List WrittenField) (tokens rest : List Token) → all_spelling field_spelling fs tokens ≡ Some rest → AllByRecursion (λ f. is_name f.name ≡ true) fs

@@ -4,3 +4,4 @@ pub mod ReadingExamples
 pub mod FaultExamples
 pub mod RoundsExamples
 pub mod ReadTextExamples
+pub mod ArrayFaults

@@ -1,14 +1,7 @@
 -- Fields, one after another.
 use Rattle.std.proofs.Common.{◌≡◌, refl, sym, ◌∙◌, ap, ℕ, ◌+◌, ◌<◌, List, [], ◌∷◌, ◌++◌, length, map, take, get_or, filter_map, Option, Some, None}
 use Rattle.std.specs.List.{cons_option}
-use Rattle.c_syntax.specs.declared.code.CType.TheVariants.{I8}
-use Rattle.c_grammar.specs.declared.written.WrittenField.{WrittenField}
-use Rattle.c_grammar.specs.declared.written.WrittenKind.TheVariants.{Number}
 use Rattle.c_resolver.proofs.ParamLaws.{up_to_or}
-
--- what stands past the end of fields
-abbrev pub no_field : WrittenField
-no_field = record { line = 0; kind = Number I8; name = record { ref_ptr = (0, 0); now = [] } }
 
 filter_map-push : {X Y : Type 0} (h : X → Option Y) (xs : List X) (x : X) → filter_map h (xs ++ x ∷ []) ≡ filter_map h xs ++ cons_option (h x) []
 filter_map-push h [] x = refl
@@ -18,5 +11,6 @@ filter_map-push {Y = Y} h (y ∷ ys) x = ap (cons_option (h y)) (filter_map-push
     by None = refl
     by (Some z) = refl
 
-pub filter_map-up_to : {A X Y : Type 0} (h : X → Option Y) (f : A → X) (xs : List A) (i : ℕ) (d : A) → i < length xs → filter_map h (map f (take i xs)) ++ cons_option (h (f (get_or xs i d))) [] ≡ filter_map h (map f (take (i + 1) xs))
-filter_map-up_to h f xs i d within = sym (filter_map-push h (map f (take i xs)) (f (get_or xs i d))) ∙ ap (filter_map h) (up_to_or f xs i d within)
+pub filter_map-up_to : {A X Y : Type 0} (h : X → Option Y) (f : A → X) (xs : List A) (i : ℕ) (x : A) → i < length xs → x ≡ get_or xs i x → filter_map h (map f (take i xs)) ++ cons_option (h (f x)) [] ≡ filter_map h (map f (take (i + 1) xs))
+filter_map-up_to h f xs i x within here =
+    sym (filter_map-push h (map f (take i xs)) (f x)) ∙ ap (filter_map h) ((λ j. map f (take i xs) ++ f (here j) ∷ []) ∙ up_to_or f xs i x within)

@@ -1,6 +1,9 @@
 -- Definitions at the places of their names.
-use Rattle.std.proofs.Common.{◌≡◌, refl, sym, ◌∙◌, ap, ℕ, ◌+◌, ◌<◌, suc, Bool, cond, ◌||◌, List, [], ◌∷◌, ◌++◌, length, map, Some, bytes_eq, arith}
+use Rattle.std.proofs.Common.{◌≡◌, refl, sym, ◌∙◌, ap, ℕ, ◌+◌, ◌<◌, suc, Bool, cond, ◌||◌, List, [], ◌∷◌, ◌++◌, length, map, slice_get, MatchOption, Option, Some, None, bytes_eq, arith}
 use Rattle.std.specs.List.{position_from}
+use Rattle.std.specs.Option.{option_map}
+use Rattle.std.proofs.lemmas.Option.{slice_get-map}
+use denote.Ref.{Bor}
 use Rattle.c_syntax.specs.Outputs.{has_name}
 use Rattle.c_syntax.proofs.lemmas.NamePlaces.{bytes_eq-sym}
 use Rattle.c_syntax.proofs.lemmas.NameFacts.{has_name-append}
@@ -39,3 +42,20 @@ map-map g f (x ∷ xs) = ap (λ ys. g (f x) ∷ ys) (map-map g f xs)
 -- a name among two lists of names
 pub either_named : (xs ys all : List (List ℕ)) (n : List ℕ) (a b : Bool) → a ≡ has_name xs n → b ≡ has_name ys n → all ≡ xs ++ ys → (a || b) ≡ has_name all n
 either_named xs ys all n a b ea eb e = (λ i. ea i || eb i) ∙ sym (has_name-append xs ys n) ∙ ap (λ l. has_name l n) (sym e)
+
+-- the place in a list of what is seen of its items
+pub position-view : {A B : Type 0} (view : A → B) (test : B → Bool) (i : ℕ) (items : List A) → position_from test i (map view items) ≡ position_from (λ x. test (view x)) i items
+position-view view test i [] = refl
+position-view view test i (x ∷ xs) = ap (cond (test (view x)) (Some i)) (position-view view test (i + 1) xs)
+
+-- what was found under a name, seen so
+pub found-view : {A B : Type 0} (view : A → B) (of : B → List ℕ) (items : List A) (key : List ℕ) (result : Option (ℕ × Bor A)) →
+    MatchOption result (position_from (λ x. bytes_eq (of (view x)) key) 0 items ≡ None) (λ found. (position_from (λ x. bytes_eq (of (view x)) key) 0 items ≡ Some found.0) × (slice_get items found.0 ≡ Some found.1.now)) →
+    MatchOption result (position_from (λ b. bytes_eq (of b) key) 0 (map view items) ≡ None) (λ found. (position_from (λ b. bytes_eq (of b) key) 0 (map view items) ≡ Some found.0) × (slice_get (map view items) found.0 ≡ Some (view found.1.now)))
+found-view view of items key None none = position-view view (λ b. bytes_eq (of b) key) 0 items ∙ none
+found-view view of items key (Some found) there =
+    (position-view view (λ b. bytes_eq (of b) key) 0 items ∙ there.0, slice_get-map view items found.0 ∙ ap (option_map view) there.1)
+
+-- the place of what has a name is within
+pub position-within : {A : Type 0} (of : A → List ℕ) (items : List A) (key : List ℕ) (k : ℕ) → position_from (λ x. bytes_eq (of x) key) 0 items ≡ Some k → k < length items
+position-within of items key k there = omega (arith, within (λ x. bytes_eq (of x) key) 0 items k there)

@@ -9,9 +9,9 @@ use Rattle.c_resolver.specs.declared.known.Scope.{Scope}
 -- the definitions before a place
 abbrev pub known_of : Defined → Known
 known_of d = record {
-  pures = map pure_tree d.pures.items;
-  structs = d.structs.items;
-  procedures = map procedure_tree d.procedures.items;
+  pures = map pure_tree d.pures.items.items;
+  structs = d.structs.items.items;
+  procedures = map procedure_tree d.procedures.items.items;
   chains = d.chains.items;
 }
 
@@ -22,4 +22,4 @@ own_fields structs (Some k) = struct_fields structs k
 
 -- the names in reach of a body
 abbrev pub names_of : Scope → Names
-names_of s = record { known = known_of s.known.now; of = s.of; fields = own_fields s.known.now.structs.items s.of; params = s.params.now }
+names_of s = record { known = known_of s.known.now; of = s.of; fields = own_fields s.known.now.structs.items.items s.of; params = s.params.now }

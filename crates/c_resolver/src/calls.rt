@@ -11,7 +11,7 @@ ghost use Rattle.c_resolver.specs.Scopes.{names_of};
 
 use crate::exprs::resolve_expr;
 use crate::faults::{on_line, unless_fault};
-use crate::fields::{as_number, as_struct};
+use crate::fields::{as_array, as_number, as_struct};
 use crate::known::Scope;
 use c_grammar::{Argument, ReadCFault, WrittenTarget};
 use c_syntax::{CKind, CType, Expr, FieldKind, Stmt, Target};
@@ -35,6 +35,16 @@ pub(crate) fn resolve_store(scope: &Scope, name: &[u8], cast: CType) -> Result<u
     let (field, kind) = scope.field(name)?;
     let ty = as_number(kind)?;
     unless_fault(same_type(ty, cast), CKind::TypeRule)?;
+    Ok(field)
+}
+
+/// The position of the array that a store behind an index, by this cast, goes to.
+pub(crate) fn resolve_item_store(scope: &Scope, name: &[u8], cast: CType) -> Result<u32, CKind>
+    ensures { result ≡ rules.resolve_item_store (names_of scope.now) name.now cast }
+{
+    let (field, kind) = scope.field(name)?;
+    let item = as_array(kind)?;
+    unless_fault(same_type(item, cast), CKind::TypeRule)?;
     Ok(field)
 }
 

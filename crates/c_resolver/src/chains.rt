@@ -13,7 +13,7 @@ fn stmt_chain(chains: &[u32], s: &Stmt) -> u32
     ensures { result ≡ rules.stmt_chain chains.now (stmt_tree s.now) }
 {
     match s {
-        Stmt::Set { .. } => 0,
+        Stmt::Set { .. } | Stmt::SetAt { .. } => 0,
         Stmt::If { yes, no, .. } => stmts_chain(chains, yes).max(stmts_chain(chains, no)),
         Stmt::Call { procedure, .. } => chain_at(chains, *procedure),
     }

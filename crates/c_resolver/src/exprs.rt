@@ -11,7 +11,7 @@ ghost use Rattle.c_resolver.specs.Gives.{Gives};
 ghost use Rattle.c_resolver.specs.Scopes.{known_of, names_of};
 
 use crate::faults::on_line;
-use crate::fields::resolve_leaf;
+use crate::fields::{resolve_array, resolve_leaf};
 use crate::known::{Known, Scope};
 use c_grammar::{ReadCFault, WrittenCond, WrittenExpr};
 use c_syntax::{CKind, Cond, Expr};
@@ -82,6 +82,11 @@ pub(crate) fn resolve_expr(
             function,
             values,
         } => resolve_call_of_pure(alloc, scope, *line, function, values.as_slice()),
+        WrittenExpr::Item { line, field, index } => {
+            let field = on_line(*line, resolve_array(scope, field))?;
+            let index = Box::new(alloc, resolve_expr(alloc, scope, index)?)?;
+            Ok(Expr::At(field, index))
+        }
     }
 }
 

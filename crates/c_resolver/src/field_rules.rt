@@ -1,5 +1,5 @@
 // What a field of a struct stands for.
-ghost use Rattle.std.specs.Prelude.{◌≡◌, map, not, ◌||◌, IfOk};
+ghost use Rattle.std.specs.Prelude.{◌≡◌, map, not, ◌||◌, Some, None, if◌then◌else◌, IfOk};
 ghost use Rattle.c_syntax.specs.Outputs as named;
 ghost use Rattle.c_rules.specs.Resolve as rules;
 ghost use Rattle.c_grammar.specs.WrittenTrees.{kind_of, field_of};
@@ -15,6 +15,9 @@ use c_grammar::{WrittenField, WrittenKind};
 use c_syntax::{CKind, FieldKind};
 use mc_base::{Memory, Text};
 use std::alloc::Global;
+
+/// The most items of an array.
+const ARRAY_LIMIT: u64 = 65_535;
 
 /// The number fields of these names, with their outputs.
 pub(crate) fn numbers_of<'n, 'a>(
@@ -35,7 +38,7 @@ fn is_number(kind: WrittenKind) -> bool
 {
     match kind {
         WrittenKind::Number(_) => true,
-        WrittenKind::Struct(_) => false,
+        WrittenKind::Array(_, _) | WrittenKind::Struct(_) => false,
     }
 }
 
@@ -59,12 +62,27 @@ fn may_stand(is_root: bool, numbers: &Numbers, field: &WrittenField) -> bool
     may_be_named(numbers, is_number(field.kind), field.name)
 }
 
+/// The length of an array: it has at least one item, and no more than the limit.
+fn array_length(count: u64) -> Option<u32>
+    ensures { result ≡ (if rules.is_length count then Some count else None) }
+{
+    if count == 0 || count > ARRAY_LIMIT {
+        None
+    } else {
+        Some(count as u32)
+    }
+}
+
 /// What the kind of a field stands for.
 fn resolve_kind(known: &Known, kind: WrittenKind) -> Result<FieldKind, CKind>
     ensures { result ≡ rules.resolve_kind (known_of known.now) (kind_of kind.entry) }
 {
     match kind {
         WrittenKind::Number(ty) => Ok(FieldKind::Number(ty)),
+        WrittenKind::Array(ty, count) => match array_length(count.value) {
+            Some(length) => Ok(FieldKind::Array(ty, length)),
+            None => Err(CKind::TypeRule),
+        },
         WrittenKind::Struct(name) => match known.struct_position(name) {
             Some(k) => Ok(FieldKind::Struct(k)),
             None => Err(CKind::Name),

@@ -25,9 +25,9 @@ fn field_named(names: &NameTable, fields: &[Field], name: &[u8]) -> Result<(u32,
 impl<'a> Known<'a> {
     /// The position and the kind of a field of the struct at a position.
     pub(crate) fn field(&self, of: u32, name: &[u8]) -> Result<(u32, FieldKind), CKind>
-        ensures { result ≡ rules.field_named (struct_fields self.now.structs.items of) name.now }
+        ensures { result ≡ rules.field_named (struct_fields self.now.structs.items.items of) name.now }
     {
-        let Some(def) = self.structs.get(of as usize) else {
+        let Some(def) = self.structs.items.get(of as usize) else {
             return Err(CKind::Name);
         };
         match self.field_names.get(of as usize) {
@@ -55,7 +55,17 @@ pub(crate) fn as_number(kind: FieldKind) -> Result<CType, CKind>
 {
     match kind {
         FieldKind::Number(ty) => Ok(ty),
-        FieldKind::Struct(_) => Err(CKind::TypeRule),
+        FieldKind::Array(_, _) | FieldKind::Struct(_) => Err(CKind::TypeRule),
+    }
+}
+
+/// The type of the items of an array.
+pub(crate) fn as_array(kind: FieldKind) -> Result<CType, CKind>
+    ensures { result ≡ rules.as_array kind }
+{
+    match kind {
+        FieldKind::Array(ty, _) => Ok(ty),
+        FieldKind::Number(_) | FieldKind::Struct(_) => Err(CKind::TypeRule),
     }
 }
 
@@ -64,7 +74,7 @@ pub(crate) fn as_struct(kind: FieldKind) -> Result<u32, CKind>
     ensures { result ≡ rules.as_struct kind }
 {
     match kind {
-        FieldKind::Number(_) => Err(CKind::TypeRule),
+        FieldKind::Number(_) | FieldKind::Array(_, _) => Err(CKind::TypeRule),
         FieldKind::Struct(of) => Ok(of),
     }
 }
@@ -91,4 +101,13 @@ pub(crate) fn resolve_leaf(scope: &Scope, leaf: WrittenLeaf) -> Result<Leaf, CKi
             Ok(Leaf::Child(field, inner_field))
         }
     }
+}
+
+/// The position of the own array that an index stands behind.
+pub(crate) fn resolve_array(scope: &Scope, name: &[u8]) -> Result<u32, CKind>
+    ensures { result ≡ rules.resolve_array (names_of scope.now) name.now }
+{
+    let (field, kind) = scope.field(name)?;
+    as_array(kind)?;
+    Ok(field)
 }

@@ -75,7 +75,7 @@ fn push_number<'a>(names: &mut Vec<&'a [u8]>, field: &'a Field) -> Result<(), Al
             names.push(field.name.bytes())?;
             Ok(())
         }
-        FieldKind::Struct(_) => Ok(()),
+        FieldKind::Array(_, _) | FieldKind::Struct(_) => Ok(()),
     }
 }
 

@@ -20,6 +20,7 @@ mod pures;
 mod roots;
 mod stmts;
 mod structs;
+mod table;
 
 pub use interface::check_root;
 pub use programs::resolve_program;

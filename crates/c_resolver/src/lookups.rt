@@ -14,7 +14,7 @@ impl<'a> Known<'a> {
     pub(crate) fn has_function(&self, name: &[u8]) -> bool
         ensures { result ≡ has_name (rules.function_names (known_of self.now)) name.now }
     {
-        self.pure_names.contains(name) || self.procedure_names.contains(name)
+        self.pures.contains(name) || self.procedures.contains(name)
     }
 
     /// The pure function of this name, with its position.
@@ -22,10 +22,7 @@ impl<'a> Known<'a> {
         ensures { let pures = (known_of self.now).pures in let place = position_from (λ p. bytes_eq p.name name.now) 0 pures in
             MatchOption result (place ≡ None) (λ found. (place ≡ Some found.0) × (slice_get pures found.0 ≡ Some (pure_tree found.1.now))) }
     {
-        match self.pure_names.position(name) {
-            Some(k) => Some((k, &self.pures[k as usize])),
-            None => None,
-        }
+        self.pures.find(name)
     }
 
     /// The procedure of this name, with its position.
@@ -33,30 +30,27 @@ impl<'a> Known<'a> {
         ensures { let procedures = (known_of self.now).procedures in let place = position_from (λ p. bytes_eq p.name name.now) 0 procedures in
             MatchOption result (place ≡ None) (λ found. (place ≡ Some found.0) × (slice_get procedures found.0 ≡ Some (procedure_tree found.1.now))) }
     {
-        match self.procedure_names.position(name) {
-            Some(k) => Some((k, &self.procedures[k as usize])),
-            None => None,
-        }
+        self.procedures.find(name)
     }
 
     /// Whether a struct has this name.
     pub(crate) fn has_struct(&self, name: &[u8]) -> bool
         ensures { result ≡ has_name (map (λ d. d.name) (known_of self.now).structs) name.now }
     {
-        self.struct_names.contains(name)
+        self.structs.contains(name)
     }
 
     /// Whether a procedure has this name.
     pub(crate) fn has_procedure(&self, name: &[u8]) -> bool
         ensures { result ≡ has_name (map (λ p. p.name) (known_of self.now).procedures) name.now }
     {
-        self.procedure_names.contains(name)
+        self.procedures.contains(name)
     }
 
     /// The position of the struct of this name.
     pub(crate) fn struct_position(&self, name: &[u8]) -> Option<u32>
         ensures { result ≡ position_from (λ d. bytes_eq d.name name.now) 0 (known_of self.now).structs }
     {
-        self.struct_names.position(name)
+        self.structs.position(name)
     }
 }

@@ -64,7 +64,7 @@ fn push_number<'a>(names: &mut Vec<&'a [u8]>, field: &WrittenField<'a>) -> Resul
             names.push(field.name)?;
             Ok(())
         }
-        WrittenKind::Struct(_) => Ok(()),
+        WrittenKind::Array(_, _) | WrittenKind::Struct(_) => Ok(()),
     }
 }
 

@@ -100,12 +100,9 @@ impl<'a> Known<'a> {
     {
         let Known {
             pures,
-            pure_names,
             structs,
-            struct_names,
             field_names,
-            mut procedures,
-            mut procedure_names,
+            procedures,
             mut chains,
         } = self;
         let longest = stmts_chain(chains.as_slice(), procedure.body.as_slice());
@@ -113,16 +110,12 @@ impl<'a> Known<'a> {
             return Err(Memory);
         };
         chains.push(length)?;
-        procedures.push(procedure)?;
-        procedure_names.push(name)?;
+        let procedures = procedures.with(name, procedure)?;
         Ok(Known {
             pures,
-            pure_names,
             structs,
-            struct_names,
             field_names,
             procedures,
-            procedure_names,
             chains,
         })
     }

@@ -8,10 +8,10 @@ ghost use Rattle.c_resolver.specs.Scopes.{known_of};
 
 use crate::faults::{on_line, unless_fault};
 use crate::known::Known;
-use crate::name_table::NameTable;
 use crate::procedures::resolve_procedures;
 use crate::pures::resolve_pures;
 use crate::structs::resolve_structs;
+use crate::table::Table;
 use c_grammar::{ReadCFault, WrittenProgram};
 use c_syntax::{CKind, Program};
 use std::alloc::Global;
@@ -21,13 +21,10 @@ fn nothing_known<'a>(alloc: Global) -> Known<'a>
     ensures { known_of result ≡ record { pures = []; structs = []; procedures = []; chains = [] } }
 {
     Known {
-        pures: Vec::new(alloc),
-        pure_names: NameTable::new(alloc),
-        structs: Vec::new(alloc),
-        struct_names: NameTable::new(alloc),
+        pures: Table::new(alloc),
+        structs: Table::new(alloc),
         field_names: Vec::new(alloc),
-        procedures: Vec::new(alloc),
-        procedure_names: NameTable::new(alloc),
+        procedures: Table::new(alloc),
         chains: Vec::new(alloc),
     }
 }
@@ -53,9 +50,9 @@ fn program_of(known: Known) -> Program
         ..
     } = known;
     Program {
-        pure: pures,
-        structs,
-        procedures,
+        pure: pures.into_items(),
+        structs: structs.into_items(),
+        procedures: procedures.into_items(),
     }
 }
 

@@ -53,25 +53,18 @@ impl<'a> Known<'a> {
         ensures { IfOk result (λ known. known_of known ≡ record (known_of self.entry) { pures = (known_of self.entry).pures ++ pure_tree pure ∷ [] }) }
     {
         let Known {
-            mut pures,
-            mut pure_names,
+            pures,
             structs,
-            struct_names,
             field_names,
             procedures,
-            procedure_names,
             chains,
         } = self;
-        pures.push(pure)?;
-        pure_names.push(name)?;
+        let pures = pures.with(name, pure)?;
         Ok(Known {
             pures,
-            pure_names,
             structs,
-            struct_names,
             field_names,
             procedures,
-            procedure_names,
             chains,
         })
     }

@@ -3,19 +3,20 @@ ghost use Rattle.std.specs.Prelude.{◌≡◌, map};
 ghost use Rattle.c_syntax.specs.Tree as tree;
 ghost use Rattle.c_syntax.specs.Tree.{stmts_of_list};
 ghost use Rattle.c_syntax.specs.Plain.{cond_tree, stmt_tree};
+ghost use Rattle.c_grammar.specs.Written.{assign_at};
 ghost use Rattle.c_grammar.specs.Parsing.{stmts_from};
 ghost use Rattle.c_rules.specs.Resolve as rules;
-ghost use Rattle.c_grammar.specs.WrittenTrees.{stmt_of};
+ghost use Rattle.c_grammar.specs.WrittenTrees.{expr_of, stmt_of};
 ghost use Rattle.c_resolver.specs.Gives.{Gives};
 ghost use Rattle.c_resolver.specs.Scopes.{names_of};
 ghost use Rattle.c_resolver.specs.Choices.{resolve_second};
 
-use crate::calls::{resolve_call_of_procedure, resolve_store};
+use crate::calls::{resolve_call_of_procedure, resolve_item_store, resolve_store};
 use crate::exprs::{resolve_cond, resolve_expr};
 use crate::faults::on_line;
 use crate::known::Scope;
-use c_grammar::{ReadCFault, WrittenStmt};
-use c_syntax::{Cond, Stmt};
+use c_grammar::{ReadCFault, WrittenExpr, WrittenStmt};
+use c_syntax::{CType, Cond, Stmt};
 use std::alloc::Global;
 
 /// A choice.
@@ -28,6 +29,30 @@ fn choice(line: u32, test: Cond, yes: Vec<Stmt>, no: Vec<Stmt>) -> Stmt
         yes,
         no,
     }
+}
+
+/// What a store in an item of an array stands for.
+fn resolve_set_at(
+    alloc: Global,
+    scope: &Scope,
+    line: u32,
+    field: &[u8],
+    index: &WrittenExpr,
+    cast: CType,
+    value: &WrittenExpr,
+) -> Result<Stmt, ReadCFault>
+    ensures { Gives stmt_tree result (rules.resolve_stmt (names_of scope.now)
+        (assign_at line field.now (expr_of index.now) cast (expr_of value.now))) }
+{
+    let field = on_line(line, resolve_item_store(scope, field, cast))?;
+    let index = resolve_expr(alloc, scope, index)?;
+    let value = resolve_expr(alloc, scope, value)?;
+    Ok(Stmt::SetAt {
+        line,
+        field,
+        index,
+        value,
+    })
 }
 
 /// What a statement stands for.
@@ -50,6 +75,13 @@ fn resolve_stmt(alloc: Global, scope: &Scope, s: &WrittenStmt) -> Result<Stmt, R
                 value,
             })
         }
+        WrittenStmt::SetAt {
+            line,
+            field,
+            index,
+            cast,
+            value,
+        } => resolve_set_at(alloc, scope, *line, field, index, *cast, value),
         WrittenStmt::If {
             line,
             test,

@@ -52,11 +52,11 @@ fn resolve_struct<'a>(
     d: &WrittenStruct<'a>,
 ) -> Result<(StructDef, NameTable<'a>), ReadCFault>
     ensures resolved { Gives (λ r. r.0) result (rules.resolve_struct (known_of known.now) (struct_of d.now)) }
-    ensures new { OnOk result (has_name known.now.struct_names d.now.name.now ≡ false) }
+    ensures new { OnOk result (has_name (map (λ e. e.name) known.now.structs.items.items) d.now.name.now ≡ false) }
     ensures named { IfOk result (λ r. r.0.name ≡ d.now.name.now) }
     ensures fields { IfOk result (λ r. r.1 ≡ map (λ f. f.name) r.0.fields) }
 {
-    if known.struct_names.contains(d.name) {
+    if known.structs.contains(d.name) {
         return Err(ReadCFault::Refused(fault_at(d.line, CKind::Name)));
     }
     let names = number_names(alloc, d.fields.as_slice())?;
@@ -81,32 +81,25 @@ impl<'a> Known<'a> {
         def: StructDef,
         names: NameTable<'a>,
     ) -> Result<Known<'a>, Memory>
-        requires new { has_name self.struct_names name.now ≡ false }
+        requires new { has_name (map (λ d. d.name) self.structs.items.items) name.now ≡ false }
         requires named { def.name ≡ name.now }
         requires fields { names ≡ map (λ f. f.name) def.fields }
         ensures { IfOk result (λ known. known_of known ≡ record (known_of self.entry) { structs = (known_of self.entry).structs ++ def ∷ [] }) }
     {
         let Known {
             pures,
-            pure_names,
-            mut structs,
-            mut struct_names,
+            structs,
             mut field_names,
             procedures,
-            procedure_names,
             chains,
         } = self;
-        structs.push(def)?;
-        struct_names.push(name)?;
         field_names.push(names)?;
+        let structs = structs.with(name, def)?;
         Ok(Known {
             pures,
-            pure_names,
             structs,
-            struct_names,
             field_names,
             procedures,
-            procedure_names,
             chains,
         })
     }

@@ -1,5 +1,5 @@
 -- The static rules: the program that a written program stands for, or the first construct that breaks a rule.
-use Rattle.std.specs.Prelude.{ℕ, ◌+◌, pos, Bool, true, false, not, ◌&&◌, ◌||◌, ◌==◌, nat_le, if◌then◌else◌, List, [], ◌∷◌, ◌++◌, length, map, filter_map, Option, Some, None, Result, Ok, Err, slice_get, slice_index, codes, bytes_eq}
+use Rattle.std.specs.Prelude.{ℕ, ◌+◌, pos, Bool, true, false, not, ◌&&◌, ◌||◌, ◌==◌, nat_le, nat_lt, if◌then◌else◌, List, [], ◌∷◌, ◌++◌, length, map, filter_map, Option, Some, None, Result, Ok, Err, slice_get, slice_index, codes, bytes_eq}
 use Rattle.std.specs.List.{position_from, list_all}
 use Rattle.c_syntax.specs.declared.code.CType.{CType}
 use Rattle.c_syntax.specs.declared.code.CType.TheVariants.{I8, U8, I16, U16, I32, U32, I64}
@@ -11,9 +11,9 @@ use Rattle.c_syntax.specs.declared.fault.CFault.{CFault}
 use Rattle.c_syntax.specs.declared.fault.CKind.{CKind}
 use Rattle.c_syntax.specs.declared.fault.CKind.TheVariants.{Deep, Name, TypeRule}
 use Rattle.c_syntax.specs.declared.program.FieldKind.{FieldKind}
-use Rattle.c_syntax.specs.declared.program.FieldKind.TheVariants.{Number, Struct}
+use Rattle.c_syntax.specs.declared.program.FieldKind.TheVariants.{Number, Array, Struct}
 use Rattle.c_syntax.specs.Tree.{ExprTree, ExprTrees, CondTree, StmtTree, StmtTrees, FieldTree, StructTree, struct_fields, PureTree, ProcedureTree, ProgramTree}
-use Rattle.c_syntax.specs.Kinds.{WrittenKind, number_kind, struct_kind}
+use Rattle.c_syntax.specs.Kinds.{WrittenKind, number_kind, array_kind, struct_kind}
 use Rattle.c_grammar.specs.Written.{WrittenLeaf, WrittenExpr, WrittenExprs, WrittenCond, WrittenTarget, WrittenArguments, WrittenStmt, WrittenStmts, WrittenPure, WrittenField, WrittenStruct, WrittenProcedure, WrittenProgram}
 use Rattle.c_syntax.specs.Outputs.{has_name, may_be_named}
 use Rattle.c_grammar.specs.Prefix.{fault_at}
@@ -82,11 +82,19 @@ field_named fields name = or_unnamed (field_from 0 fields name)
 -- a number field
 abbrev pub as_number : FieldKind → Result CType CKind
 as_number (Number type) = Ok type
+as_number (Array type count) = Err TypeRule
 as_number (Struct k) = Err TypeRule
+
+-- a field that is an array: the type of its items
+abbrev pub as_array : FieldKind → Result CType CKind
+as_array (Number type) = Err TypeRule
+as_array (Array type count) = Ok type
+as_array (Struct k) = Err TypeRule
 
 -- a field that is a struct
 abbrev pub as_struct : FieldKind → Result ℕ CKind
 as_struct (Number type) = Err TypeRule
+as_struct (Array type count) = Err TypeRule
 as_struct (Struct k) = Ok k
 
 -- a leaf of one name is a parameter; the others are number fields of the own struct or of a field's struct
@@ -104,6 +112,13 @@ resolve_leaf names (WrittenLeaf.child name inner) = do
   inner_field ← field_named (struct_fields names.known.structs k) inner
   type ← as_number inner_field.1
   Ok (Child field.0 inner_field.0)
+
+-- an index stands behind an array of the own struct
+abbrev pub resolve_array : Names → List ℕ → Result ℕ CKind
+resolve_array names name = do
+  field ← field_named names.fields name
+  type ← as_array field.1
+  Ok field.0
 
 -- a call of a pure function that is defined before, with as many values as it has parameters
 abbrev pub resolve_pure_call : Known → List ℕ → ℕ → Result ℕ CKind
@@ -140,6 +155,10 @@ abbrev mutual
     k ← on_line line (resolve_pure_call names.known function (exprs_count values))
     vs ← resolve_exprs names values
     Ok (ExprTree.pure k vs)
+  resolve_expr names (WrittenExpr.item line field index) = do
+    k ← on_line line (resolve_array names field)
+    x ← resolve_expr names index
+    Ok (ExprTree.item k x)
 
   pub resolve_exprs : Names → WrittenExprs → Result ExprTrees CFault
   resolve_exprs names WrittenExprs.no_exprs = Ok ExprTrees.no_exprs
@@ -186,6 +205,14 @@ resolve_store names name cast = do
   unless_fault (same_type type cast) TypeRule
   Ok field.0
 
+-- a store behind an index goes to an array, by a cast to the type of its items
+abbrev pub resolve_item_store : Names → List ℕ → CType → Result ℕ CKind
+resolve_item_store names name cast = do
+  field ← field_named names.fields name
+  type ← as_array field.1
+  unless_fault (same_type type cast) TypeRule
+  Ok field.0
+
 -- the target of a call, with the kind of what stands there
 abbrev pub resolve_target : Names → WrittenTarget → Result (Target × FieldKind) CKind
 resolve_target names WrittenTarget.own_target = do
@@ -213,6 +240,11 @@ abbrev mutual
     k ← on_line line (resolve_store names field cast)
     x ← resolve_expr names value
     Ok (StmtTree.assign line k x)
+  resolve_stmt names (WrittenStmt.assign_at line field index cast value) = do
+    k ← on_line line (resolve_item_store names field cast)
+    i ← resolve_expr names index
+    x ← resolve_expr names value
+    Ok (StmtTree.assign_at line k i x)
   resolve_stmt names (WrittenStmt.branch line test on_true) = do
     c ← resolve_cond names test
     xs ← resolve_stmts names on_true
@@ -249,9 +281,20 @@ resolve_pure known p = do
   body ← resolve_expr (record { known = known; of = None; fields = []; params = map (λ q. q.name) p.params }) p.body
   Ok (record { name = p.name; params = map (λ q. q.name) p.params; body = body; line = p.return_line })
 
+-- the most items of an array
+abbrev pub array_limit : ℕ
+array_limit = 65535
+
+-- an array has at least one item, and no more than the limit
+abbrev pub is_length : ℕ → Bool
+is_length count = nat_lt 0 count && nat_le count array_limit
+
 -- what the kind of a field stands for
 abbrev pub resolve_kind : Known → WrittenKind → Result FieldKind CKind
 resolve_kind known (number_kind type) = Ok (Number type)
+resolve_kind known (array_kind type count) = do
+  unless_fault (is_length count) TypeRule
+  Ok (Array type count)
 resolve_kind known (struct_kind name) = do
   k ← or_unnamed (position_from (λ d. bytes_eq d.name name) 0 known.structs)
   Ok (Struct k)
@@ -259,6 +302,7 @@ resolve_kind known (struct_kind name) = do
 -- a field that is written as a number
 abbrev pub is_number_written : WrittenKind → Bool
 is_number_written (number_kind type) = true
+is_number_written (array_kind type count) = false
 is_number_written (struct_kind name) = false
 
 -- the name of a field that is a number

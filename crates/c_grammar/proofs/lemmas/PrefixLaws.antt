@@ -7,9 +7,11 @@ use Rattle.c_syntax.specs.declared.code.BinOp.{BinOp}
 use Rattle.c_syntax.specs.declared.code.BinOp.TheVariants.{Add, Sub, Mul, Div, Rem}
 use Rattle.c_grammar.specs.Tokens.{Token}
 use Rattle.c_syntax.specs.Names.{is_name}
-use Rattle.c_grammar.specs.Grammar.{Spelling, ◌⨾◌, word, at_line, name_word, literal_word, in_parens, never, op_text, compare_text, leaf_spelling, expr_spelling, exprs_spelling, more_exprs_spelling, cond_spelling}
-use Rattle.c_grammar.specs.Written.{WrittenExpr, literal, neg, read, binary, pick, pure, WrittenExprs, no_exprs, more_exprs, WrittenCond, compare, both, either, negated}
-use Rattle.c_grammar.specs.Prefix.{Need, too_deep, leaves, step_needs, with_needs, Role, as_kind, as_first, expression, condition, allows, follow, operand_need, inside_need, joint_need, text_need, literal_need, leaf_need, values_need, expr_need, cond_need, is_connective, is_literal}
+use Rattle.c_grammar.specs.Grammar.{Spelling, ◌⨾◌, word, at_line, name_word, literal_word, in_parens, in_brackets, never, op_text, compare_text, own_spelling, leaf_spelling, expr_spelling, exprs_spelling, more_exprs_spelling, cond_spelling}
+use Rattle.c_grammar.specs.Written.{WrittenExpr, literal, neg, read, binary, pick, pure, item, WrittenExprs, no_exprs, more_exprs, WrittenCond, compare, both, either, negated}
+use Rattle.c_grammar.specs.Prefix.{Need, too_deep, leaves, step_needs, with_needs, Role, as_kind, as_first, expression, condition, allows, follow, operand_need, inside_need, joint_need, text_need, name_need, literal_need, leaf_need, tail_need, index_needs, values_need, expr_need, cond_need, is_connective, is_literal}
+use Rattle.c_grammar.specs.Parsing.{tail_of}
+use Rattle.c_grammar.specs.declared.openers.Tail.TheVariants.{Dot as dot_tail, Bracket as bracket_tail, Nothing as no_tail}
 use Rattle.c_syntax.specs.Limits.{expr_limit}
 
 -- a token with this text, and what is behind it
@@ -141,6 +143,10 @@ expr-opens (pure line function values) tokens rest h =
     let p : _ = seq-parts (at_line line (name_word function)) (in_parens (exprs_spelling values)) tokens rest h in
     let n : _ = name_word-inner function tokens p.0 (at_line-inner line (name_word function) tokens p.0 p.1) in
     word-opens function tokens p.0 (by_name n.0) n.1
+expr-opens (item line field index) tokens rest h =
+    let p : _ = seq-parts (in_parens (word (codes "int64_t")))
+    (at_line line (own_spelling field) ⨾ in_brackets (expr_spelling index)) tokens rest h in
+    parens-opens (word (codes "int64_t")) tokens p.0 p.1
 
 pub cond-opens : (c : WrittenCond) (tokens rest : List Token) → cond_spelling c tokens ≡ Some rest → Opens tokens
 cond-opens (compare how a b) tokens rest h = parens-opens (expr_spelling a ⨾ word (compare_text how) ⨾ expr_spelling b) tokens rest h
@@ -196,7 +202,9 @@ inside-not (as_kind expression) d more h = cc
 inside-not (as_kind condition) d more h = refl
 inside-not (as_first outer) d more h = refl
 
-pub inside-cast : (role : Role) (d : ℕ) (more : List Need) → allows role expression ≡ true → step_needs (inside_need role d ∷ more) (codes "int64_t") ≡ leaves (text_need (codes ")") ∷ leaf_need ∷ (follow expression role d ++ more))
+pub inside-cast : (role : Role) (d : ℕ) (more : List Need) → allows role expression ≡ true
+    → step_needs (inside_need role d ∷ more) (codes "int64_t")
+    ≡ leaves (text_need (codes ")") ∷ leaf_need (d + 1) ∷ (follow expression role d ++ more))
 inside-cast (as_kind expression) d more h = refl
 inside-cast (as_kind condition) d more h = cc
 inside-cast (as_first outer) d more h = refl
@@ -215,24 +223,50 @@ parens-parts a tokens rest h =
     let q : _ = seq-parts a (word (codes ")")) p.0 rest p.2 in
     record { inner = p.0; behind = q.0; start = p.1; body = q.1; close = q.2 }
 
--- the tokens begin with one that is no `.`
-unfoldable pub Firm : List Token → Type 0
-Firm tokens = (t : Token) × (rest : List Token) × (tokens ≡ t ∷ rest) × (bytes_eq t.text (codes ".") ≡ false)
+-- the parts of a spelling in brackets
+pub record Brackets (a : Spelling) (tokens rest : List Token) : Type 0 where
+  pub inner : List Token
+  pub behind : List Token
+  pub start : word (codes "[") tokens ≡ Some inner
+  pub body : a inner ≡ Some behind
+  pub close : word (codes "]") behind ≡ Some rest
 
-pub word-firm : (text : List ℕ) (tokens rest : List Token) → bytes_eq text (codes ".") ≡ false → word text tokens ≡ Some rest → Firm tokens
+pub brackets-parts : (a : Spelling) (tokens rest : List Token) → in_brackets a tokens ≡ Some rest → Brackets a tokens rest
+brackets-parts a tokens rest h =
+    let p : _ = seq-parts (word (codes "[")) (a ⨾ word (codes "]")) tokens rest h in
+    let q : _ = seq-parts a (word (codes "]")) p.0 rest p.2 in
+    record { inner = p.0; behind = q.0; start = p.1; body = q.1; close = q.2 }
+
+-- the tokens begin with one that is no `.` and no `[`
+unfoldable pub Firm : List Token → Type 0
+Firm tokens = (t : Token) × (rest : List Token) × (tokens ≡ t ∷ rest) × (tail_of t.text ≡ no_tail)
+
+pub word-firm : (text : List ℕ) (tokens rest : List Token) → tail_of text ≡ no_tail → word text tokens ≡ Some rest → Firm tokens
 unfolding Firm
 word-firm text tokens rest n h =
     let f : Front text tokens rest = word-front text tokens rest h in
-    (f.token, rest, f.list, ap (λ x. bytes_eq x (codes ".")) f.same ∙ n)
+    (f.token, rest, f.list, ap tail_of f.same ∙ n)
 
-pub op-firm : (op : BinOp) → bytes_eq (op_text op) (codes ".") ≡ false
+-- a token that is neither of them leaves the tail out
+pub tail-skipped : (d : ℕ) (more : List Need) (text : List ℕ) → tail_of text ≡ no_tail
+    → step_needs (tail_need d ∷ more) text ≡ step_needs more text
+tail-skipped d more text h = by (bytes_eq text (codes ".")) (bytes_eq text (codes "[")) h
+  where
+    by : (a b : Bool) → (if a then dot_tail else (if b then bracket_tail else no_tail)) ≡ no_tail
+        → (if a then leaves (name_need ∷ more) else (if b then leaves (index_needs d ++ more) else step_needs more text))
+        ≡ step_needs more text
+    by true b k = cc
+    by false true k = cc
+    by false false k = refl
+
+pub op-firm : (op : BinOp) → tail_of (op_text op) ≡ no_tail
 op-firm Add = refl
 op-firm Sub = refl
 op-firm Mul = refl
 op-firm Div = refl
 op-firm Rem = refl
 
-pub compare-firm : (how : Compare) → bytes_eq (compare_text how) (codes ".") ≡ false
+pub compare-firm : (how : Compare) → tail_of (compare_text how) ≡ no_tail
 compare-firm Eq = refl
 compare-firm Ne = refl
 compare-firm Lt = refl

@@ -3,9 +3,9 @@ use Rattle.std.proofs.Common.{◌≡◌, subst, ℕ, ◌+◌, ◌<◌, ◌≤◌
 use Rattle.c_syntax.specs.declared.code.CType.{CType}
 use Rattle.c_grammar.specs.Tokens.{Token}
 use Rattle.c_syntax.specs.Names.{is_name}
-use Rattle.c_syntax.specs.Kinds.{WrittenKind, number_kind, struct_kind}
-use Rattle.c_grammar.specs.Written.{WrittenLeaf, param, own, child, WrittenExpr, literal, neg, read, binary, pick, pure, WrittenExprs, no_exprs, more_exprs, WrittenCond, compare, both, either, negated, WrittenTarget, own_target, field_target, WrittenArguments, no_arguments, more_arguments, WrittenStmt, assign, branch, branch_else, call, WrittenStmts, no_stmts, more_stmts, WrittenParam, WrittenPureParam, WrittenPure, WrittenField, WrittenStruct, WrittenProcedure}
-use Rattle.c_grammar.specs.Grammar.{Spelling, ◌⨾◌, nothing, never, word, at_line, name_word, literal_word, in_parens, in_braces, type_text, op_text, compare_text, leaf_spelling, cast_spelling, expr_spelling, exprs_spelling, more_exprs_spelling, cond_spelling, target_spelling, arguments_spelling, stmt_spelling, stmts_spelling, param_spelling, more_params_spelling, pure_param_spelling, more_pure_params_spelling, pure_params_spelling, pure_spelling, kind_spelling, field_spelling, all_spelling, some_spelling, struct_spelling, private_spelling, procedure_spelling}
+use Rattle.c_syntax.specs.Kinds.{WrittenKind, number_kind, array_kind, struct_kind}
+use Rattle.c_grammar.specs.Written.{WrittenLeaf, param, own, child, WrittenExpr, literal, neg, read, binary, pick, pure, item, WrittenExprs, no_exprs, more_exprs, WrittenCond, compare, both, either, negated, WrittenTarget, own_target, field_target, WrittenArguments, no_arguments, more_arguments, WrittenStmt, assign, assign_at, branch, branch_else, call, WrittenStmts, no_stmts, more_stmts, WrittenParam, WrittenPureParam, WrittenPure, WrittenField, WrittenStruct, WrittenProcedure}
+use Rattle.c_grammar.specs.Grammar.{Spelling, ◌⨾◌, nothing, never, word, at_line, name_word, literal_word, in_parens, in_brackets, in_braces, type_text, op_text, compare_text, own_spelling, leaf_spelling, cast_spelling, expr_spelling, exprs_spelling, more_exprs_spelling, cond_spelling, target_spelling, arguments_spelling, stmt_spelling, stmts_spelling, param_spelling, more_params_spelling, pure_param_spelling, more_pure_params_spelling, pure_params_spelling, pure_spelling, kind_spelling, length_spelling, field_spelling, all_spelling, some_spelling, struct_spelling, private_spelling, procedure_spelling}
 use Rattle.c_grammar.proofs.lemmas.PrefixLaws.{Front, word-front, seq-parts, at_line-inner, some_same}
 
 pub record Shrinks (a : Spelling) : Type 0 where
@@ -52,9 +52,15 @@ parens-shrink inner = word-shrinks (codes "(") ▹ inner ▹ word-shrinks (codes
 pub braces-shrink : {a : Spelling} → Shrinks a → Shrinks (in_braces a)
 braces-shrink inner = word-shrinks (codes "{") ▹ inner ▹ word-shrinks (codes "}")
 
+pub brackets-shrink : {a : Spelling} → Shrinks a → Shrinks (in_brackets a)
+brackets-shrink inner = word-shrinks (codes "[") ▹ inner ▹ word-shrinks (codes "]")
+
+pub own-shrinks : (field : List ℕ) → Shrinks (own_spelling field)
+own-shrinks field = word-shrinks (codes "s") ▹ word-shrinks (codes "->") ▹ name-shrinks field
+
 pub leaf-shrinks : (leaf : WrittenLeaf) → Shrinks (leaf_spelling leaf)
 leaf-shrinks (param name) = name-shrinks name
-leaf-shrinks (own field) = word-shrinks (codes "s") ▹ word-shrinks (codes "->") ▹ name-shrinks field
+leaf-shrinks (own field) = own-shrinks field
 leaf-shrinks (child field inner) = word-shrinks (codes "s") ▹ word-shrinks (codes "->") ▹ name-shrinks field ▹ word-shrinks (codes ".") ▹ name-shrinks inner
 
 mutual
@@ -65,6 +71,8 @@ mutual
   expr-shrinks (binary op a b) = parens-shrink (expr-shrinks a ▹ word-shrinks (op_text op) ▹ expr-shrinks b)
   expr-shrinks (pick c a b) = parens-shrink (cond-shrinks c ▹ word-shrinks (codes "?") ▹ expr-shrinks a ▹ word-shrinks (codes ":") ▹ expr-shrinks b)
   expr-shrinks (pure line name es) = line-shrinks line (name-shrinks name) ▹ parens-shrink (exprs-shrink es)
+  expr-shrinks (item line field index) = parens-shrink (word-shrinks (codes "int64_t")) ▹ line-shrinks line (own-shrinks field)
+      ▹ brackets-shrink (expr-shrinks index)
 
   pub exprs-shrink : (es : WrittenExprs) → Shrinks (exprs_spelling es)
   exprs-shrink no_exprs = never-shrinks
@@ -94,6 +102,8 @@ arguments-shrink (more_arguments cast e rest) = word-shrinks (codes ",") ▹ cas
 mutual
   pub stmt-shrinks : (s : WrittenStmt) → Shrinks (stmt_spelling s)
   stmt-shrinks (assign line field cast value) = line-shrinks line (word-shrinks (codes "s")) ▹ word-shrinks (codes "->") ▹ name-shrinks field ▹ word-shrinks (codes "=") ▹ cast-shrinks cast ▹ expr-shrinks value ▹ word-shrinks (codes ";")
+  stmt-shrinks (assign_at line field index cast value) = line-shrinks line (own-shrinks field) ▹ brackets-shrink (expr-shrinks index)
+      ▹ word-shrinks (codes "=") ▹ cast-shrinks cast ▹ expr-shrinks value ▹ word-shrinks (codes ";")
   stmt-shrinks (branch line test on_true) = line-shrinks line (word-shrinks (codes "if")) ▹ cond-shrinks test ▹ braces-shrink (stmts-shrink on_true)
   stmt-shrinks (branch_else line test on_true on_false) = line-shrinks line (word-shrinks (codes "if")) ▹ cond-shrinks test ▹ braces-shrink (stmts-shrink on_true) ▹ word-shrinks (codes "else") ▹ braces-shrink (stmts-shrink on_false)
   stmt-shrinks (call line procedure target values) = line-shrinks line (name-shrinks procedure) ▹ parens-shrink (target-shrinks target ▹ arguments-shrink values) ▹ word-shrinks (codes ";")
@@ -125,10 +135,16 @@ pure-shrinks p = line-shrinks p.line (word-shrinks (codes "static")) ▹ word-sh
 
 pub kind-shrinks : (kind : WrittenKind) → Shrinks (kind_spelling kind)
 kind-shrinks (number_kind type) = word-shrinks (type_text type)
+kind-shrinks (array_kind type count) = word-shrinks (type_text type)
 kind-shrinks (struct_kind name) = word-shrinks (codes "struct") ▹ name-shrinks name
 
+pub length-shrinks : (kind : WrittenKind) → Shrinks (length_spelling kind)
+length-shrinks (number_kind type) = nothing-shrinks
+length-shrinks (array_kind type count) = brackets-shrink (literal-shrinks count)
+length-shrinks (struct_kind name) = nothing-shrinks
+
 pub field-shrinks : (f : WrittenField) → Shrinks (field_spelling f)
-field-shrinks f = line-shrinks f.line (kind-shrinks f.kind) ▹ name-shrinks f.name ▹ word-shrinks (codes ";")
+field-shrinks f = line-shrinks f.line (kind-shrinks f.kind) ▹ name-shrinks f.name ▹ length-shrinks f.kind ▹ word-shrinks (codes ";")
 
 pub all-shrink : {A : Type 0} {spelling : A → Spelling} → ((x : A) → Shrinks (spelling x)) → (xs : List A) → Shrinks (all_spelling spelling xs)
 all-shrink each [] = nothing-shrinks
@@ -166,10 +182,11 @@ line-takes {a} line inner = record { by = λ tokens rest h. inner.by tokens rest
 
 pub kind-takes : (kind : WrittenKind) → Takes (kind_spelling kind)
 kind-takes (number_kind type) = word-takes (type_text type)
+kind-takes (array_kind type count) = word-takes (type_text type)
 kind-takes (struct_kind name) = word-takes (codes "struct") ▸ name-shrinks name
 
 pub field-takes : (f : WrittenField) → Takes (field_spelling f)
-field-takes f = line-takes f.line (kind-takes f.kind) ▸ name-shrinks f.name ▹ word-shrinks (codes ";")
+field-takes f = line-takes f.line (kind-takes f.kind) ▸ name-shrinks f.name ▹ length-shrinks f.kind ▹ word-shrinks (codes ";")
 
 pub pure-takes : (p : WrittenPure) → Takes (pure_spelling p)
 pure-takes p = line-takes p.line (word-takes (codes "static")) ▸ word-shrinks (codes "int64_t") ▹ name-shrinks p.name ▹ parens-shrink (pure_params-shrink p.params) ▹ braces-shrink (line-shrinks p.return_line (word-shrinks (codes "return")) ▹ expr-shrinks p.body ▹ word-shrinks (codes ";"))

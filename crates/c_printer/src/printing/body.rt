@@ -1,7 +1,7 @@
 // Expressions, conditions and statements.
 ghost use Rattle.std.specs.Prelude.{◌≡◌, ◌++◌, map, codes, OnOk};
 ghost use Rattle.c_grammar.specs.Grammar.{op_text, compare_text, type_text};
-ghost use Rattle.c_syntax.specs.Tree.{pure, assign, call, exprs_of_list, stmts_of_list};
+ghost use Rattle.c_syntax.specs.Tree.{pure, assign, assign_at, call, exprs_of_list, stmts_of_list, field_types, type_at};
 ghost use Rattle.c_syntax.specs.Plain.{expr_tree, cond_tree, stmt_tree};
 ghost use Rattle.c_printer.specs.Printing.{leaf_bytes, literal_bytes, expr_bytes, exprs_bytes, later_exprs_bytes, cond_bytes, margin_bytes, deeper, ended, target_bytes, arguments_bytes, stmt_bytes, stmts_bytes, else_bytes};
 ghost use Rattle.c_printer.specs.VocabularyOf.{vocabulary_of};
@@ -119,6 +119,13 @@ pub(super) fn put_expr(
             put(out, b")")
         }
         Expr::Pure(k, values) => put_pure_call(alloc, out, scope, *k, values),
+        Expr::At(field, index) => {
+            put(out, b"(int64_t)s->")?;
+            put(out, field_name(scope.fields, *field))?;
+            put(out, b"[")?;
+            put_expr(alloc, out, scope, index)?;
+            put(out, b"]")
+        }
     }
 }
 
@@ -282,6 +289,41 @@ fn put_set(
     put(out, b"s->")?;
     put(out, field_name(scope.fields, field))?;
     put(out, b" = (")?;
+    put_stored(alloc, out, scope, field, value)
+}
+
+fn put_set_at(
+    alloc: Global,
+    out: &mut Vec<u8>,
+    scope: &Scope,
+    margin: usize,
+    field: u32,
+    index: &Expr,
+    value: &Expr,
+) -> Result<(), AllocError>
+    ensures { OnOk result (out.new.items ≡ out.old.items
+        ++ stmt_bytes (vocabulary_of scope.now) margin (assign_at 0 field (expr_tree index.now) (expr_tree value.now))) }
+{
+    put_margin(out, margin)?;
+    put(out, b"s->")?;
+    put(out, field_name(scope.fields, field))?;
+    put(out, b"[")?;
+    put_expr(alloc, out, scope, index)?;
+    put(out, b"] = (")?;
+    put_stored(alloc, out, scope, field, value)
+}
+
+// What is stored, from the type in its cast on.
+fn put_stored(
+    alloc: Global,
+    out: &mut Vec<u8>,
+    scope: &Scope,
+    field: u32,
+    value: &Expr,
+) -> Result<(), AllocError>
+    ensures { let v = vocabulary_of scope.now in OnOk result (out.new.items ≡ out.old.items
+        ++ (type_text (type_at (field_types v.fields) field) ++ codes ")" ++ expr_bytes v (expr_tree value.now) ++ ended (codes ";"))) }
+{
     put(out, type_text(field_type(scope.fields, field)))?;
     put(out, b")")?;
     put_expr(alloc, out, scope, value)?;
@@ -323,6 +365,12 @@ fn put_stmt(
 {
     match s {
         Stmt::Set { field, value, .. } => put_set(alloc, out, scope, margin, *field, value),
+        Stmt::SetAt {
+            field,
+            index,
+            value,
+            ..
+        } => put_set_at(alloc, out, scope, margin, *field, index, value),
         Stmt::If { test, yes, no, .. } => {
             put_test(alloc, out, scope, margin, test)?;
             put_stmts(alloc, out, scope, deeper(margin), yes)?;

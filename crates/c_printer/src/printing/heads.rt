@@ -3,7 +3,7 @@ ghost use Rattle.std.specs.Prelude.{◌≡◌, ◌++◌, map, OnOk};
 ghost use Rattle.std.specs.List.{flat_map};
 ghost use Rattle.c_syntax.specs.Plain.{pure_tree, procedure_tree, program_tree};
 ghost use Rattle.c_syntax.specs.PlainField.{field_tree, field_trees};
-ghost use Rattle.c_printer.specs.Printing.{pure_head_bytes, pure_bytes, pure_params_bytes, kind_bytes, field_bytes, struct_bytes, private_bytes, param_bytes, procedure_head_bytes, procedure_bytes};
+ghost use Rattle.c_printer.specs.Printing.{pure_head_bytes, pure_bytes, pure_params_bytes, kind_bytes, length_bytes, field_bytes, struct_bytes, private_bytes, param_bytes, procedure_head_bytes, procedure_bytes};
 
 use crate::printing::body::{put_expr, put_stmts, type_text};
 use crate::printing::names::{Params, Scope, struct_fields, struct_name};
@@ -57,6 +57,7 @@ fn put_pure_params(out: &mut Vec<u8>, params: &[Text]) -> Result<(), AllocError>
 }
 
 pub(super) fn put_struct(
+    alloc: Global,
     out: &mut Vec<u8>,
     program: &Program,
     def: &StructDef,
@@ -66,21 +67,31 @@ pub(super) fn put_struct(
     put(out, b"\nstruct ")?;
     put(out, def.name.bytes())?;
     put(out, b" {\n")?;
-    put_fields(out, program, &def.fields)?;
+    put_fields(alloc, out, program, &def.fields)?;
     put(out, b"};\n")
 }
 
-fn put_fields(out: &mut Vec<u8>, program: &Program, fields: &[Field]) -> Result<(), AllocError>
+fn put_fields(
+    alloc: Global,
+    out: &mut Vec<u8>,
+    program: &Program,
+    fields: &[Field],
+) -> Result<(), AllocError>
     ensures { OnOk result (out.new.items
         ≡ out.old.items ++ flat_map (field_bytes (program_tree program.now)) (field_trees fields.now)) }
 {
     for field in fields {
-        put_field(out, program, field)?;
+        put_field(alloc, out, program, field)?;
     }
     Ok(())
 }
 
-fn put_field(out: &mut Vec<u8>, program: &Program, field: &Field) -> Result<(), AllocError>
+fn put_field(
+    alloc: Global,
+    out: &mut Vec<u8>,
+    program: &Program,
+    field: &Field,
+) -> Result<(), AllocError>
     ensures { OnOk result (out.new.items
         ≡ out.old.items ++ field_bytes (program_tree program.now) (field_tree field.now)) }
 {
@@ -88,14 +99,30 @@ fn put_field(out: &mut Vec<u8>, program: &Program, field: &Field) -> Result<(), 
     put_kind(out, program, field.kind)?;
     put(out, b" ")?;
     put(out, field.name.bytes())?;
+    put_length(alloc, out, field.kind)?;
     put(out, b";\n")
+}
+
+// The length of an array, behind the field's name.
+fn put_length(alloc: Global, out: &mut Vec<u8>, kind: FieldKind) -> Result<(), AllocError>
+    ensures { OnOk result (out.new.items ≡ out.old.items ++ length_bytes kind) }
+{
+    match kind {
+        FieldKind::Array(_, count) => {
+            let digits = count.to_string(alloc)?;
+            put(out, b"[")?;
+            put(out, digits.as_bytes())?;
+            put(out, b"]")
+        }
+        FieldKind::Number(_) | FieldKind::Struct(_) => Ok(()),
+    }
 }
 
 fn put_kind(out: &mut Vec<u8>, program: &Program, kind: FieldKind) -> Result<(), AllocError>
     ensures { OnOk result (out.new.items ≡ out.old.items ++ kind_bytes (program_tree program.now) kind) }
 {
     match kind {
-        FieldKind::Number(of) => put(out, type_text(of)),
+        FieldKind::Number(of) | FieldKind::Array(of, _) => put(out, type_text(of)),
         FieldKind::Struct(k) => {
             put(out, b"struct ")?;
             put(out, struct_name(program, k))

@@ -94,7 +94,7 @@ fn kind_type(kind: FieldKind) -> CType
     ensures { result ≡ kind_type kind }
 {
     match kind {
-        FieldKind::Number(of) => of,
+        FieldKind::Number(of) | FieldKind::Array(of, _) => of,
         FieldKind::Struct(_) => CType::I64,
     }
 }
@@ -103,7 +103,7 @@ fn kind_fields(program: &Program, kind: FieldKind) -> &[Field]
     ensures { field_trees result.now ≡ kind_fields (program_tree program.now).structs kind }
 {
     match kind {
-        FieldKind::Number(_) => &[],
+        FieldKind::Number(_) | FieldKind::Array(_, _) => &[],
         FieldKind::Struct(k) => struct_fields(program, k),
     }
 }

@@ -58,6 +58,7 @@ fn structs(alloc: Global) -> Result<Vec<StructDef>, Memory> {
         fields: vec![in alloc;
             field(alloc, b"c", FieldKind::Struct(0))?,
             field(alloc, b"y1", FieldKind::Number(I32))?,
+            field(alloc, b"a", FieldKind::Array(I8, 65535))?,
         ]?,
     };
     Ok(vec![in alloc; counter, root]?)
@@ -158,9 +159,25 @@ fn double_unless_one(alloc: Global) -> Result<Stmt, Memory> {
     })
 }
 
+// The item at the sum of the first item and 1 is the last.
+fn keep_the_last(alloc: Global) -> Result<Stmt, Memory> {
+    let first = Expr::At(2, Box::new(alloc, Expr::Literal(0))?);
+    let last = Box::new(alloc, Expr::Literal(65534))?;
+    Ok(Stmt::SetAt {
+        line: 0,
+        field: 2,
+        index: binary(alloc, Add, first, Expr::Literal(1))?,
+        value: Expr::At(2, last),
+    })
+}
+
 fn root_step(alloc: Global) -> Result<Procedure, Memory> {
     let params = one_param(alloc, b"u1", I32)?;
-    let body = vec![in alloc; sum_or_start(alloc)?, double_unless_one(alloc)?]?;
+    let body = vec![in alloc;
+        sum_or_start(alloc)?,
+        double_unless_one(alloc)?,
+        keep_the_last(alloc)?,
+    ]?;
     procedure(alloc, b"root_step", false, 1, params, body)
 }
 
@@ -177,6 +194,7 @@ struct counter {
 struct root {
     struct counter c;
     int32_t y1;
+    int8_t a[65535];
 };
 
 static void counter_start(struct counter *s, int8_t v) {
@@ -197,6 +215,7 @@ void root_step(struct root *s, int32_t u1) {
     if ((int64_t)s->y1 != INT64_C(1)) {
         s->y1 = (int32_t)((int64_t)s->y1 * INT64_C(2));
     }
+    s->a[((int64_t)s->a[INT64_C(0)] + INT64_C(1))] = (int8_t)(int64_t)s->a[INT64_C(65534)];
 }
 ";
 

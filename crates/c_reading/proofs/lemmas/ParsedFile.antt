@@ -6,16 +6,16 @@ use Rattle.std.proofs.lemmas.Slice.Eq.{bytes_eq-Decides}
 use Rattle.c_syntax.specs.declared.code.CType.{CType}
 use Rattle.c_syntax.specs.declared.code.CType.TheVariants.{I8, U8, I16, U16, I32, U32, I64}
 use Rattle.c_grammar.specs.Tokens.{Token}
-use Rattle.c_syntax.specs.Kinds.{WrittenKind, number_kind, struct_kind}
+use Rattle.c_syntax.specs.Kinds.{WrittenKind, number_kind, array_kind, struct_kind}
 use Rattle.c_grammar.specs.Written.{WrittenExpr, WrittenParam, WrittenPureParam, WrittenPure, WrittenField, WrittenStruct, WrittenProcedure, WrittenProgram}
-use Rattle.c_grammar.specs.Grammar.{Spelling, ◌⨾◌, word, at_line, name_word, in_parens, in_braces, type_text, expr_spelling, stmts_spelling, param_spelling, more_params_spelling, pure_param_spelling, more_pure_params_spelling, pure_params_spelling, pure_spelling, kind_spelling, field_spelling, all_spelling, some_spelling, struct_spelling, private_spelling, procedure_spelling, Spells}
-use Rattle.c_grammar.specs.Parsing.{Limits, type_of_text, definition_of, first_text, many, parse_pure_param, pure_params_step, parse_param, params_step, parse_pure, parse_kind, parse_field, fields_step, parse_struct, parse_procedure, parse_procedure_behind, pures_step, structs_step, procedures_step, parse_file}
+use Rattle.c_grammar.specs.Grammar.{Spelling, ◌⨾◌, word, at_line, name_word, in_parens, in_brackets, in_braces, literal_word, type_text, expr_spelling, stmts_spelling, param_spelling, more_params_spelling, pure_param_spelling, more_pure_params_spelling, pure_params_spelling, pure_spelling, kind_spelling, length_spelling, field_spelling, all_spelling, some_spelling, struct_spelling, private_spelling, procedure_spelling, Spells}
+use Rattle.c_grammar.specs.Parsing.{Limits, type_of_text, definition_of, first_text, many, parse_pure_param, pure_params_step, parse_param, params_step, parse_pure, parse_length, parse_field_from, parse_field, fields_step, parse_struct, parse_procedure, parse_procedure_behind, pures_step, structs_step, procedures_step, parse_file}
 use Rattle.c_grammar.specs.declared.openers.Definition.TheVariants.{Static as static_definition, Struct as struct_definition, Void as void_definition}
-use Rattle.c_grammar.proofs.lemmas.PrefixLaws.{Front, word-front, seq-parts, at_line-inner, Parens, parens-parts, word-firm, some_same}
+use Rattle.c_grammar.proofs.lemmas.PrefixLaws.{Front, word-front, seq-parts, at_line-inner, Parens, parens-parts, Brackets, brackets-parts, word-firm, some_same}
 use Rattle.c_reading.proofs.FileWalks.{Braces, braces-parts}
 use Rattle.c_rules.proofs.lemmas.Resolved.{ok-same}
 use Rattle.c_grammar.proofs.lemmas.Shrinking.{all-few, field-takes, pure-takes, struct-takes, procedure-takes, more_params-few, more_pure_params-few}
-use Rattle.c_reading.proofs.ParsedWords.{word-parsed, name-parsed, type-known, LineFront, line-front, word-rest}
+use Rattle.c_reading.proofs.ParsedWords.{word-parsed, name-parsed, literal-parsed, type-known, LineFront, line-front, word-rest}
 use Rattle.c_reading.proofs.ParsedBodies.{expr_levels, word-text, comma-another, comma-closed}
 use Rattle.c_reading.proofs.ParsedStatements.{stmts_levels, stmts_exprs_levels, expr-parsed, block-parsed}
 
@@ -56,11 +56,12 @@ type-no_brace I64 = refl
 field-text : (f : WrittenField) (tokens rest : List Token) → field_spelling f tokens ≡ Some rest → bytes_eq (first_text tokens) (codes "}") ≡ false
 field-text f tokens rest h = by f.kind (at_line-inner f.line (kind_spelling f.kind) tokens p.0 p.1)
   where
-    p : (mid : List Token) × (at_line f.line (kind_spelling f.kind) tokens ≡ Some mid) × ((name_word f.name ⨾ word (codes ";")) mid ≡ Some rest)
-    p = seq-parts (at_line f.line (kind_spelling f.kind)) (name_word f.name ⨾ word (codes ";")) tokens rest h
+    p : (mid : List Token) × (at_line f.line (kind_spelling f.kind) tokens ≡ Some mid) × ((name_word f.name ⨾ length_spelling f.kind ⨾ word (codes ";")) mid ≡ Some rest)
+    p = seq-parts (at_line f.line (kind_spelling f.kind)) (name_word f.name ⨾ length_spelling f.kind ⨾ word (codes ";")) tokens rest h
 
     by : (kind : WrittenKind) → kind_spelling kind tokens ≡ Some p.0 → bytes_eq (first_text tokens) (codes "}") ≡ false
     by (number_kind type) k = ap (λ x. bytes_eq x (codes "}")) (word-text (type_text type) tokens p.0 k) ∙ type-no_brace type
+    by (array_kind type count) k = ap (λ x. bytes_eq x (codes "}")) (word-text (type_text type) tokens p.0 k) ∙ type-no_brace type
     by (struct_kind name) k =
         let q : _ = seq-parts (word (codes "struct")) (name_word name) tokens p.0 k in
         ap (λ x. bytes_eq x (codes "}")) (word-text (codes "struct") tokens q.0 q.1)
@@ -145,21 +146,37 @@ module _ (last : ℕ) (limits : Limits) where
       let o : _ = word-rest (codes "static") f.token f.later q.0 f.inner in
       ap (many (pures_step last limits) (suc most) count) f.list ∙ rw (ap definition_of o.0, le-leb (count + 1) limits.pures (omega (arith, few)), o.1, pure-parsed x.line x.return_line x.name x.body x.params f.token q.0 p.0 f.is q.2 keeps.0.params keeps.0.body, pures-parsed xs most (count + 1) p.0 mid p.2 then keeps.1 (omega (arith, few)) (omega (arith, enough))) refl
 
-  kind-parsed : (kind : WrittenKind) (t : Token) (tokens rest : List Token) → kind_spelling kind (t ∷ tokens) ≡ Some rest → parse_kind last limits t tokens (bytes_eq t.text (codes "struct")) ≡ Ok (kind, rest)
-  kind-parsed (number_kind type) t tokens rest h =
-      let o : _ = word-rest (type_text type) t tokens rest h in
-      rw (ap (λ x. bytes_eq x (codes "struct")) o.0 ∙ type-no_struct type, ap type_of_text o.0 ∙ type-known last type, o.1) refl
-  kind-parsed (struct_kind name) t tokens rest h =
-      let p : _ = seq-parts (word (codes "struct")) (name_word name) (t ∷ tokens) rest h in
+  -- behind the name of a field: no length, or that of an array
+  no_length-parsed : (type : CType) (tokens rest : List Token) → word (codes ";") tokens ≡ Some rest → parse_length last limits type tokens (bytes_eq (first_text tokens) (codes "[")) ≡ Ok (number_kind type, tokens)
+  no_length-parsed type tokens rest semi = rw (ap (λ x. bytes_eq x (codes "[")) (word-text (codes ";") tokens rest semi)) refl
+
+  length-parsed : (type : CType) (count : ℕ) (tokens rest : List Token) → in_brackets (literal_word count) tokens ≡ Some rest → parse_length last limits type tokens (bytes_eq (first_text tokens) (codes "[")) ≡ Ok (array_kind type count, rest)
+  length-parsed type count tokens rest h =
+      let b : Brackets (literal_word count) tokens rest = brackets-parts (literal_word count) tokens rest h in
+      let f : Front (codes "[") tokens b.inner = word-front (codes "[") tokens b.inner b.start in
+      ap (λ ts. parse_length last limits type ts (bytes_eq (first_text ts) (codes "["))) f.list ∙ rw (ap (λ x. bytes_eq x (codes "[")) f.same, literal-parsed last count b.inner b.behind b.body, word-parsed last (codes "]") b.behind rest b.close) refl
+
+  field_from-parsed : (kind : WrittenKind) (name : List ℕ) (t : Token) (tokens mid after behind rest : List Token) → kind_spelling kind (t ∷ tokens) ≡ Some mid → name_word name mid ≡ Some after → length_spelling kind after ≡ Some behind → word (codes ";") behind ≡ Some rest → parse_field_from last limits t tokens (bytes_eq t.text (codes "struct")) ≡ Ok (record { line = t.line; kind = kind; name = name }, rest)
+  field_from-parsed (number_kind type) name t tokens mid after behind rest h named long semi =
+      let o : _ = word-rest (type_text type) t tokens mid h in
+      let end : word (codes ";") after ≡ Some rest = ap (word (codes ";")) (some_same after behind long) ∙ semi in
+      rw (ap (λ x. bytes_eq x (codes "struct")) o.0 ∙ type-no_struct type, ap type_of_text o.0 ∙ type-known last type, o.1, name-parsed last name mid after named, no_length-parsed type after rest end, word-parsed last (codes ";") after rest end) refl
+  field_from-parsed (array_kind type count) name t tokens mid after behind rest h named long semi =
+      let o : _ = word-rest (type_text type) t tokens mid h in
+      rw (ap (λ x. bytes_eq x (codes "struct")) o.0 ∙ type-no_struct type, ap type_of_text o.0 ∙ type-known last type, o.1, name-parsed last name mid after named, length-parsed type count after behind long, word-parsed last (codes ";") behind rest semi) refl
+  field_from-parsed (struct_kind of) name t tokens mid after behind rest h named long semi =
+      let p : _ = seq-parts (word (codes "struct")) (name_word of) (t ∷ tokens) mid h in
       let o : _ = word-rest (codes "struct") t tokens p.0 p.1 in
-      rw (ap (λ x. bytes_eq x (codes "struct")) o.0, o.1, name-parsed last name p.0 rest p.2) refl
+      let end : word (codes ";") after ≡ Some rest = ap (word (codes ";")) (some_same after behind long) ∙ semi in
+      rw (ap (λ x. bytes_eq x (codes "struct")) o.0, o.1, name-parsed last of p.0 mid p.2, name-parsed last name mid after named, word-parsed last (codes ";") after rest end) refl
 
   field-parsed : (x : WrittenField) (tokens rest : List Token) → field_spelling x tokens ≡ Some rest → parse_field last limits tokens ≡ Ok (x, rest)
   field-parsed x tokens rest h =
-      let p : _ = seq-parts (at_line x.line (kind_spelling x.kind)) (name_word x.name ⨾ word (codes ";")) tokens rest h in
+      let p : _ = seq-parts (at_line x.line (kind_spelling x.kind)) (name_word x.name ⨾ length_spelling x.kind ⨾ word (codes ";")) tokens rest h in
       let f : LineFront x.line (kind_spelling x.kind) tokens p.0 = line-front x.line (kind_spelling x.kind) tokens p.0 p.1 in
-      let q : _ = seq-parts (name_word x.name) (word (codes ";")) p.0 rest p.2 in
-      ap (parse_field last limits) f.list ∙ rw (kind-parsed x.kind f.token f.later p.0 f.inner, name-parsed last x.name p.0 q.0 q.1, word-parsed last (codes ";") q.0 rest q.2, f.is) refl
+      let q : _ = seq-parts (name_word x.name) (length_spelling x.kind ⨾ word (codes ";")) p.0 rest p.2 in
+      let r : _ = seq-parts (length_spelling x.kind) (word (codes ";")) q.0 rest q.2 in
+      ap (parse_field last limits) f.list ∙ rw (field_from-parsed x.kind x.name f.token f.later p.0 q.0 r.0 rest f.inner q.1 r.1 r.2, f.is) refl
 
   fields-parsed : (xs : List WrittenField) (most count : ℕ) (tokens mid rest : List Token) → all_spelling field_spelling xs tokens ≡ Some mid → word (codes "}") mid ≡ Some rest → length xs < most → many (fields_step last limits) most count tokens ≡ Ok (xs, rest)
   fields-parsed [] zero count tokens mid rest h close enough = absurd (omega (arith, enough))

@@ -6,14 +6,15 @@ use Rattle.c_syntax.specs.declared.code.CType.{CType}
 use Rattle.c_syntax.specs.declared.code.Leaf.{Leaf}
 use Rattle.c_syntax.specs.declared.code.Leaf.TheVariants.{Param, Own, Child}
 use Rattle.c_syntax.specs.declared.fault.CKind.{CKind}
+use Rattle.c_syntax.specs.declared.fault.CKind.TheVariants.{TypeRule}
 use Rattle.c_syntax.specs.declared.program.FieldKind.{FieldKind}
-use Rattle.c_syntax.specs.declared.program.FieldKind.TheVariants.{Number, Struct}
+use Rattle.c_syntax.specs.declared.program.FieldKind.TheVariants.{Number, Array, Struct}
 use Rattle.c_syntax.specs.Tree.{FieldTree, struct_fields}
 use Rattle.c_grammar.specs.Written.{WrittenLeaf}
 use Rattle.c_grammar.specs.Results.{◌>>=◌, ◌>>◌}
-use Rattle.c_rules.specs.Resolve.{unless_fault, on_line, or_unnamed, field_from, field_named, as_number, as_struct, Names, resolve_leaf}
+use Rattle.c_rules.specs.Resolve.{unless_fault, on_line, or_unnamed, field_from, field_named, as_number, as_array, as_struct, same_type, Names, resolve_leaf, resolve_array, resolve_item_store}
 use Rattle.c_syntax.specs.RootFields.{is_number, is_number_kind}
-use Rattle.c_syntax.specs.Lawful.{Reach, IsLawfulLeaf}
+use Rattle.c_syntax.specs.Lawful.{Reach, IsArrayAt, IsLawfulLeaf}
 
 pub ok-same : {A E : Type 0} (x y : A) → ◌≡◌ {A = Result A E} (Ok x) (Ok y) → x ≡ y
 ok-same {A} {E} x y e = ap (by x) e
@@ -101,10 +102,12 @@ number-kind f kind type e n = by kind e n
   where
     by : (k : FieldKind) → f.kind ≡ k → as_number k ≡ Ok type → is_number f ≡ true
     by (Number t) is m = ap is_number_kind is
+    by (Array t count) is m = cc
     by (Struct k) is m = cc
 
 pub struct-kind : (kind : FieldKind) (k : ℕ) → as_struct kind ≡ Ok k → kind ≡ Struct k
 struct-kind (Number t) k e = cc
+struct-kind (Array t count) k e = cc
 struct-kind (Struct j) k e = ap Struct (ok-same j k e)
 
 -- what a body's names reach
@@ -136,4 +139,31 @@ kind-same j k e = ap by e
   where
     by : FieldKind → ℕ
     by (Number type) = j
+    by (Array type count) = j
     by (Struct n) = n
+
+-- what an index stands behind is an array
+pub array-kind : (kind : FieldKind) (type : CType) → as_array kind ≡ Ok type → (count : ℕ) × (kind ≡ Array type count)
+array-kind (Number t) type e = cc
+array-kind (Array t count) type e = (count, ap (λ u. Array u count) (ok-same t type e))
+array-kind (Struct k) type e = cc
+
+array-at : (fields : List FieldTree) (name : List ℕ) (found : ℕ × FieldKind) (type : CType) → field_named fields name ≡ Ok found → as_array found.1 ≡ Ok type → IsArrayAt fields found.0
+array-at fields name found type named array =
+    let f : _ = field-there fields name found named in
+    let a : _ = array-kind found.1 type array in
+    (f.0, type, a.0, f.1, f.2 ∙ a.1)
+
+pub array-lawful : (names : Names) (name : List ℕ) (k : ℕ) → resolve_array names name ≡ Ok k → IsArrayAt names.fields k
+array-lawful names name k e =
+    let b : _ = bind-parts (field_named names.fields name) (λ field. as_array field.1 >>= λ type. Ok field.0) k e in
+    let c : _ = bind-parts (as_array b.0.1) (λ type. Ok b.0.0) k b.2 in
+    subst (IsArrayAt names.fields) (ok-same b.0.0 k c.2) (array-at names.fields name b.0 c.0 b.1 c.1)
+
+-- a store behind an index goes to an array
+pub item_store-lawful : (names : Names) (name : List ℕ) (cast : CType) (k : ℕ) → resolve_item_store names name cast ≡ Ok k → IsArrayAt names.fields k
+item_store-lawful names name cast k e =
+    let b : _ = bind-parts (field_named names.fields name) (λ field. as_array field.1 >>= λ type. unless_fault (same_type type cast) TypeRule >> Ok field.0) k e in
+    let c : _ = bind-parts (as_array b.0.1) (λ type. unless_fault (same_type type cast) TypeRule >> Ok b.0.0) k b.2 in
+    let d : _ = then-parts (unless_fault (same_type c.0 cast) TypeRule) (Ok b.0.0) k c.2 in
+    subst (IsArrayAt names.fields) (ok-same b.0.0 k d.2) (array-at names.fields name b.0 c.0 b.1 c.1)

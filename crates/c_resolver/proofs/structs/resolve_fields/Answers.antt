@@ -1,4 +1,4 @@
-use Rattle.std.proofs.Common.{◌≡◌, sym, ◌∙◌, ap, map, drop, get_or, ◌+◌, ◌++◌, ◌∷◌, [], List, ℕ, Vec, false, Ok}
+use Rattle.std.proofs.Common.{◌≡◌, sym, ◌∙◌, ap, map, drop, ◌+◌, ◌++◌, ◌∷◌, [], List, ℕ, Vec, false, Ok}
 use Rattle.std.specs.declared.alloc.Global.{Global}
 use Rattle.c_syntax.specs.declared.program.Field.{Field}
 use Rattle.c_syntax.specs.PlainField.{field_tree, field_trees}
@@ -12,8 +12,7 @@ use Rattle.c_resolver.specs.Fields.{names_in, named_kind}
 use Rattle.c_resolver.specs.Scopes.{known_of}
 use Rattle.c_resolver.proofs.Each.{map_push}
 use Rattle.c_resolver.proofs.Fails.{gives-same}
-use Rattle.c_resolver.proofs.FieldLists.{no_field}
-use Rattle.c_resolver.proofs.ParamLaws.{from_place_or}
+use Rattle.c_resolver.proofs.ParamLaws.{from_place}
 use Rattle.c_resolver.proofs.StructLaws.{named-ok, named-err, new-field, rest_fields, field-passes, field-fails}
 use Rattle.c_resolver.proofs.structs.resolve_fields.Goals as goal
 
@@ -22,19 +21,19 @@ returns-in_err-kind-clause-resolved c =
     let known = known_of c.args.known.now in
     let numbers = names_in c.args.numbers.now in
     let i = c.loop-field.field-index in
-    let f = field_of (get_or c.args.fields.now i no_field) in
+    let f = field_of c.field-item.result in
     let done = field_trees c.loop-field.resolved.items in
     let fault = c.in_err-kind.field-0.0 in
     let rest = map field_of (drop (i + 1) c.args.fields.now) in
     let on : rules.on_line f.line (rules.resolve_field known c.args.is_root numbers c.loop-field.names f) ≡ Rattle.std.proofs.Common.Err fault = ap (rules.on_line f.line) c.resolve_field.ensures ∙ named-err f.line f.name c.resolve_field.result fault (sym c.on_line.ensures ∙ c.in_err-kind.was) in
-    gives-same (λ (r : Vec Field Global × NameTable). field_trees r.0.items) c.from_residual.result (Refused fault) (rules.resolve_fields known c.args.is_root numbers [] (map field_of c.args.fields.now)) c.from_residual.ensures.1 (c.loop-field.invariant.resolved ∙ ap (rest_fields known c.args.is_root numbers done c.loop-field.names) (from_place_or field_of c.args.fields.now i no_field c.loop-field-test.true) ∙ field-fails known c.args.is_root numbers done c.loop-field.names f rest fault on)
+    gives-same (λ (r : Vec Field Global × NameTable). field_trees r.0.items) c.from_residual.result (Refused fault) (rules.resolve_fields known c.args.is_root numbers [] (map field_of c.args.fields.now)) c.from_residual.ensures.1 (c.loop-field.invariant.resolved ∙ ap (rest_fields known c.args.is_root numbers done c.loop-field.names) (from_place field_of c.args.fields.now i c.field-item.result c.loop-field-test.true c.field-item.is) ∙ field-fails known c.args.is_root numbers done c.loop-field.names f rest fault on)
 
 pub loop-field-preserved : goal.loop-field-preserved
 loop-field-preserved c =
     let known = known_of c.args.known.now in
     let numbers = names_in c.args.numbers.now in
     let i = c.loop-field.field-index in
-    let f = field_of (get_or c.args.fields.now i no_field) in
+    let f = field_of c.field-item.result in
     let items = c.loop-field.resolved.items in
     let done = field_trees items in
     let kind = c.in_ok-kind.kind in
@@ -48,5 +47,5 @@ loop-field-preserved c =
     let pushed : done ++ x ∷ [] ≡ field_trees c.push-in-loop-field.new.self.items = ap (λ (n : List ℕ). done ++ (record { name = n; kind = kind }) ∷ []) (sym c.in_ok-name.ensures) ∙ map_push field_tree items field ∙ ap field_trees (sym c.in_ok-push-2.ensures.items) in
     record {
       named = more ∙ (λ j. c.loop-field.invariant.named j ++ f.name ∷ []) ∙ map_push (λ (g : FieldTree). g.name) done x ∙ ap (map (λ (g : FieldTree). g.name)) pushed;
-      resolved = c.loop-field.invariant.resolved ∙ ap (rest_fields known c.args.is_root numbers done c.loop-field.names) (from_place_or field_of c.args.fields.now i no_field c.loop-field-test.true) ∙ field-passes known c.args.is_root numbers done c.loop-field.names f rest x (ap (rules.on_line f.line) resolved) ∙ (λ j. rest_fields known c.args.is_root numbers (pushed j) (sym more j) rest);
+      resolved = c.loop-field.invariant.resolved ∙ ap (rest_fields known c.args.is_root numbers done c.loop-field.names) (from_place field_of c.args.fields.now i c.field-item.result c.loop-field-test.true c.field-item.is) ∙ field-passes known c.args.is_root numbers done c.loop-field.names f rest x (ap (rules.on_line f.line) resolved) ∙ (λ j. rest_fields known c.args.is_root numbers (pushed j) (sym more j) rest);
     }

@@ -56,3 +56,15 @@ decreases-inside l = 8 * l.levels + 6
 
 abbrev pub decreases-opened : goal.decreases-opened
 decreases-opened l = 8 * l.levels + 7
+
+abbrev pub decreases-index : goal.decreases-index
+decreases-index l = 8 * l.levels + 2
+
+abbrev pub decreases-tail : goal.decreases-tail
+decreases-tail l = 8 * l.levels + 3
+
+abbrev pub decreases-leaf : goal.decreases-leaf
+decreases-leaf l = 8 * l.levels + 4
+
+abbrev pub decreases-cast_leaf : goal.decreases-cast_leaf
+decreases-cast_leaf l = 8 * l.levels + 5

@@ -1,0 +1,94 @@
+// Definitions in the order of a text, each found by its name.
+ghost use Rattle.std.specs.Prelude.{◌≡◌, ◌++◌, ◌∷◌, [], ℕ, List, false, map, None, Some, MatchOption, slice_get, bytes_eq, IfOk};
+ghost use Rattle.std.specs.List.{position_from};
+ghost use Rattle.c_syntax.specs.Outputs.{has_name};
+
+use crate::name_table::NameTable;
+use c_syntax::{Procedure, Pure, StructDef};
+use mc_base::Memory;
+use std::alloc::Global;
+
+/// What a text defines under a name.
+pub(crate) trait Named {
+    ghost name: { Self → List ℕ };
+}
+
+impl Named for Pure {
+    ghost name = { λ p. p.name };
+}
+
+impl Named for StructDef {
+    ghost name = { λ d. d.name };
+}
+
+impl Named for Procedure {
+    ghost name = { λ p. p.name };
+}
+
+/// Definitions of one kind in order, with the table of their names.
+#[derive(Drop)]
+pub(crate) struct Table<'a, T: Named> {
+    pub(crate) items: Vec<T>,
+    names: NameTable<'a>,
+    ghost named: { names ≡ map T.name items.items },
+}
+
+impl<'a, T: Named + Drop> Table<'a, T> {
+    /// No definitions.
+    pub(crate) fn new(alloc: Global) -> Table<'a, T>
+        ensures { result.items.items ≡ [] }
+    {
+        Table {
+            items: Vec::new(alloc),
+            names: NameTable::new(alloc),
+        }
+    }
+
+    /// Whether a definition has this name.
+    pub(crate) fn contains(&self, name: &[u8]) -> bool
+        ensures { result ≡ has_name (map T.name self.now.items.items) name.now }
+    {
+        self.names.contains(name)
+    }
+
+    /// The position of the definition of this name.
+    pub(crate) fn position(&self, name: &[u8]) -> Option<u32>
+        ensures { result ≡ position_from (λ x. bytes_eq (T.name x) name.now) 0 self.now.items.items }
+    {
+        self.names.position(name)
+    }
+
+    /// The definition of this name, with its position.
+    pub(crate) fn find(&self, name: &[u8]) -> Option<(u32, &T)>
+        ensures { let place = position_from (λ x. bytes_eq (T.name x) name.now) 0 self.now.items.items in
+            MatchOption result (place ≡ None) (λ found. (place ≡ Some found.0) × (slice_get self.now.items.items found.0 ≡ Some found.1.now)) }
+    {
+        match self.position(name) {
+            Some(k) => Some((k, &self.items[k as usize])),
+            None => None,
+        }
+    }
+
+    /// The same with one more definition, whose name is new.
+    pub(crate) fn with(self, name: &'a [u8], item: T) -> Result<Table<'a, T>, Memory>
+        requires new { has_name (map T.name self.items.items) name.now ≡ false }
+        requires named { T.name item ≡ name.now }
+        ensures { IfOk result (λ table. table.items.items ≡ self.entry.items.items ++ item ∷ []) }
+    {
+        let Table {
+            mut items,
+            mut names,
+        } = self;
+        items.push(item)?;
+        names.push(name)?;
+        Ok(Table { items, names })
+    }
+
+    /// The definitions themselves, in their order.
+    pub(crate) fn into_items(self) -> Vec<T>
+        ensures { result ≡ self.entry.items }
+    {
+        let Table { items, .. } = self;
+        items
+    }
+}
