@@ -1,0 +1,4 @@
+pub mod SignLemmas
+pub mod PeerLemmas
+pub mod SameType
+pub mod FirstFaultLemmas

@@ -1,0 +1,10 @@
+pub mod Results
+pub mod Words
+pub mod Signs
+pub mod Meanings
+pub mod Blocks
+pub mod Held
+pub mod Peers
+pub mod Faults
+pub mod Rows
+pub mod FirstFaults
