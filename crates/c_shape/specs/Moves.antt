@@ -1,0 +1,54 @@
+-- A system's code at other positions: those of procedures, and those of the outputs of children.
+use Rattle.std.specs.Prelude.{ℕ}
+use Rattle.c_syntax.specs.declared.Leaf.{Leaf}
+use Rattle.c_syntax.specs.declared.Leaf.TheVariants.{Param, Own, Child}
+use Rattle.c_syntax.specs.Tree.{ExprTree, literal, neg, read, binary, pick, pure, item, ExprTrees, no_exprs, more_exprs, CondTree, compare, both, either, negated, StmtTree, assign, assign_at, branch, call, StmtTrees, no_stmts, more_stmts, ProcedureTree}
+
+-- where procedures go, where the outputs of the child at a field go, and the struct of the procedures
+pub record Moves : Type 0 where
+  pub procedure : ℕ → ℕ
+  pub output : (field output : ℕ) → ℕ
+  pub of : ℕ
+
+module _ (m : Moves) where
+  abbrev pub moved_leaf : Leaf → Leaf
+  moved_leaf (Param k) = Param k
+  moved_leaf (Own f) = Own f
+  moved_leaf (Child f o) = Child f (m.output f o)
+
+  abbrev mutual
+    -- an expression with its leaves moved
+    pub moved_expr : ExprTree → ExprTree
+    moved_expr (literal v) = literal v
+    moved_expr (neg e) = neg (moved_expr e)
+    moved_expr (read leaf) = read (moved_leaf leaf)
+    moved_expr (binary op a b) = binary op (moved_expr a) (moved_expr b)
+    moved_expr (pick test a b) = pick (moved_cond test) (moved_expr a) (moved_expr b)
+    moved_expr (pure k es) = pure k (moved_exprs es)
+    moved_expr (item f index) = item f (moved_expr index)
+
+    pub moved_exprs : ExprTrees → ExprTrees
+    moved_exprs no_exprs = no_exprs
+    moved_exprs (more_exprs e es) = more_exprs (moved_expr e) (moved_exprs es)
+
+    pub moved_cond : CondTree → CondTree
+    moved_cond (compare how a b) = compare how (moved_expr a) (moved_expr b)
+    moved_cond (both a b) = both (moved_cond a) (moved_cond b)
+    moved_cond (either a b) = either (moved_cond a) (moved_cond b)
+    moved_cond (negated a) = negated (moved_cond a)
+
+  abbrev mutual
+    -- a statement with its calls and leaves moved
+    pub moved_stmt : StmtTree → StmtTree
+    moved_stmt (assign line f e) = assign line f (moved_expr e)
+    moved_stmt (assign_at line f index e) = assign_at line f (moved_expr index) (moved_expr e)
+    moved_stmt (branch line test on_true on_false) = branch line (moved_cond test) (moved_stmts on_true) (moved_stmts on_false)
+    moved_stmt (call line k target es) = call line (m.procedure k) target (moved_exprs es)
+
+    pub moved_stmts : StmtTrees → StmtTrees
+    moved_stmts no_stmts = no_stmts
+    moved_stmts (more_stmts s ss) = more_stmts (moved_stmt s) (moved_stmts ss)
+
+  -- a procedure at its new place
+  abbrev pub moved_procedure : ProcedureTree → ProcedureTree
+  moved_procedure q = record { name = q.name; private = q.private; of = m.of; params = q.params; body = moved_stmts q.body }
