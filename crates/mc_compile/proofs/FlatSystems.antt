@@ -13,7 +13,7 @@ use Rattle.mc_diagram.proofs.lemmas.Tick.{row_at-past}
 use Rattle.mc_diagram.proofs.lemmas.ByRow.{map_range-at}
 use Rattle.std.proofs.lemmas.List.FromFn.{length-map-range_with_len}
 use Rattle.mc_profile.specs.Systems.{systems}
-use Rattle.mc_profile.specs.Traces.{input_type_of}
+use Rattle.mc_diagram.specs.Traces.{input_type_of}
 use Rattle.c_emitter.specs.Flat.{HasFlatKind, IsFlatRow, IsFlat}
 use Rattle.mc_compile.specs.Compilation.{root_types}
 use Rattle.mc_compile.proofs.ListLaws.{place-of, none-kept, same_at}

@@ -3,9 +3,9 @@ use Rattle.std.specs.Prelude.{◌≡◌, ℕ, List, map, length, None}
 use Rattle.mc_fixed.specs.declared.types.FixType.{FixType}
 use Rattle.mc_diagram.specs.Diagram.{Diagram}
 use Rattle.mc_diagram.specs.ResolvedTable.{ResolvedTable, diagram_of_table}
-use Rattle.mc_profile.specs.Ports.{input_ports}
+use Rattle.mc_diagram.specs.Inputs.{input_ports}
 use Rattle.mc_profile.specs.Systems.{systems}
-use Rattle.mc_profile.specs.Traces.{input_type_of}
+use Rattle.mc_diagram.specs.Traces.{input_type_of}
 use Rattle.c_syntax.specs.Tree.{ProgramTree}
 use Rattle.c_rules.specs.Reading.{CText}
 use Rattle.c_emitter.specs.Code.{IsCodeFor, IsFunctionCount}

@@ -20,7 +20,7 @@ use Rattle.mc_diagram.specs.ResolvedTable.{diagram_of_table}
 use Rattle.mc_compile.specs.Compilation.{Compilation, root_types, IsCompiledFrom}
 use Rattle.mdlc.specs.declared.tool.Ending.{Ending}
 use Rattle.mdlc.specs.declared.tool.Ending.TheVariants.{Compiled, Ran, Usage, Refused, BadTrace, CodeRefused, CodeTooLong, Stuck as IsStuck, ReadFault, WriteFault, PutFault, NoMemory}
-use Rattle.mdlc.specs.Words.{Run, Exec}
+use Rattle.mc_words.specs.Words.{Run, Exec}
 use Rattle.mdlc.specs.Told.{HostTold, SinkTold, NoFault}
 use Rattle.mdlc.specs.Runs.{HasStepTypes, rows_in, rows_over, RunsTaken, RunsTo}
 use Rattle.mdlc.specs.Endings.{OnNamed, OnBytes, PutsNothing, EndsNoMemory, ReadsToEnd, TakesFile, code_limit, WritesWhole, RunsModel, LosesTrace, StartsCode, ExecutesCode, LosesTraceOf, IsUnread, IsStuckAtStart, LeavesHost, CountsPuts, Finds, Ends}
@@ -137,7 +137,7 @@ pub exec_unstarted : (e : Ending) (code trace bytes : List ℕ) (h h1 : HostTold
 exec_unstarted NoMemory code trace bytes h h1 b whole fits left none = record { finds = (left.written, refl); counts = refl }
 exec_unstarted (CodeRefused fault) code trace bytes h h1 b whole fits left none = record {
   finds = record {
-    code = there h.files h.rest code whole (λ x is. subst (λ (y : List ℕ). IsUnread fault y) is (fits, none));
+    code = record { bytes = bytes; file = there h.files h.rest code whole (λ x is. sym is); holds = (fits, none) };
     left = left;
     silent = refl;
   };
@@ -145,7 +145,7 @@ exec_unstarted (CodeRefused fault) code trace bytes h h1 b whole fits left none 
 }
 exec_unstarted (IsStuck at) code trace bytes h h1 b whole fits left none = record {
   finds = inl (record {
-    code = there h.files h.rest code whole (λ x is. subst (λ (y : List ℕ). IsStuckAtStart at y) is stuck-there);
+    code = record { bytes = bytes; file = there h.files h.rest code whole (λ x is. sym is); holds = stuck-there };
     left = left;
     silent = refl;
   });
@@ -229,9 +229,11 @@ no-faults h h1 h' a b = record { read = b.read ∙ a.read; write = b.write ∙ a
 
 -- memory ran out behind the writing of the code
 no-more : (model code : List ℕ) (c : Compilation) (h h1 h' : HostTold) → WritesCompiled c model code h h1 → h'.written ≡ h1.written → EndsNoMemory model code h h'
-no-more model code c h h1 h' w written =
-    inr (there h.files h.rest model w.model.file (λ x is. let from : IsCompiledFrom x c = subst (λ (y : List ℕ). IsCompiledFrom y c) (sym is) w.model.holds in
-    whole-front code x h h' (whole-of c code x h h' from (written ∙ w.written))))
+no-more model code c h h1 h' w written = inr (record {
+  bytes = w.model.bytes;
+  file = w.model.file;
+  holds = whole-front code w.model.bytes h h' (whole-of c code w.model.bytes h h' w.model.holds (written ∙ w.written));
+})
 
 run-finds : (e : Ending) (model code trace : List ℕ) (c : Compilation) (m : MachineState) (h h1 h' : HostTold) (b b' : SinkTold) → WritesCompiled c model code h h1 → StartsFrom c.code m → RunEnds e (tree_of m) c.inputs trace h1 h' b b' → Finds e (Some (Run model code trace)) h h' b b'
 run-finds (Ran totals) model code trace c m h h1 h' b b' w starts run =

@@ -8,7 +8,7 @@ use Rattle.mc_compile.specs.Compilation.{Compilation, IsCompiledFrom}
 use Rattle.mdlc.specs.Told.{HostTold}
 use Rattle.mdlc.specs.Endings.{OnNamed, OnBytes, WritesCodeFront, EndsCompiled}
 use Rattle.mdlc.specs.Acting.{WritesCompiled}
-use Rattle.mdlc.proofs.Files.{there, named}
+use Rattle.mdlc.proofs.Files.{there, longer_than}
 
 module _ (h : HostTold) (name bytes : List ℕ) (c : Compilation) (whole : OnNamed h name (λ x. bytes ≡ x)) (from : IsCompiledFrom bytes c) where
   -- the file was compiled
@@ -16,20 +16,18 @@ module _ (h : HostTold) (name bytes : List ℕ) (c : Compilation) (whole : OnNam
   compiled-file = record { bytes = bytes; file = there h.files h.rest name whole (λ x is. sym is); holds = from }
 
   -- and a front of its code written
-  pub front-file : (code : List ℕ) (h0 h' : HostTold) → WritesFront h0.written h'.written code c.code → OnNamed h name (λ x. WritesCodeFront code x h0 h')
-  front-file code h0 h' front = there h.files h.rest name whole front-from
-    where
-      front-from : (x : List ℕ) → bytes ≡ x → WritesCodeFront code x h0 h'
-      front-from x is = (c, subst (λ (y : List ℕ). IsCompiledFrom y c) is from, front)
+  pub front-file : (code : List ℕ) (h0 h' : HostTold) → WritesFront h0.written h'.written code c.code → OnBytes h name (λ x. WritesCodeFront code x h0 h')
+  front-file code h0 h' front = record { bytes = bytes; file = there h.files h.rest name whole (λ x is. sym is); holds = (c, from, front) }
 
 -- the file was refused
-pub refused-file : (h : HostTold) (name bytes : List ℕ) (refusal : PlainRefusal) → OnNamed h name (λ x. bytes ≡ x) → HasVerdict bytes (Refused refusal) → OnNamed h name (λ x. HasVerdict x (Refused refusal))
-refused-file h name bytes refusal whole verdict =
-    there h.files h.rest name whole (λ x is. subst (λ (y : List ℕ). HasVerdict y (Refused refusal)) is verdict)
+pub refused-file : (h : HostTold) (name bytes : List ℕ) (refusal : PlainRefusal) → OnNamed h name (λ x. bytes ≡ x) → HasVerdict bytes (Refused refusal) → OnBytes h name (λ x. HasVerdict x (Refused refusal))
+refused-file h name bytes refusal whole verdict = record { bytes = bytes; file = there h.files h.rest name whole (λ x is. sym is); holds = verdict }
 
 -- a file with too many bytes is refused for that
-pub long-file : (h : HostTold) (name : List ℕ) → OnNamed h name (λ x. 16_777_216 < length x) → OnNamed h name (λ x. HasVerdict x (Refused TooLong))
-long-file h name long = there h.files h.rest name long (λ x more. inl (inl (more, refl)))
+pub long-file : (h : HostTold) (name : List ℕ) → OnNamed h name (λ x. 16_777_216 < length x) → OnBytes h name (λ x. HasVerdict x (Refused TooLong))
+long-file h name long =
+    let known : OnBytes h name (λ x. 16_777_216 < length x) = longer_than h name 16_777_216 long in
+    record { bytes = known.bytes; file = known.file; holds = inl (inl (known.holds, refl)) }
 
 -- writing leaves what is unread
 pub still-read : (files : Option (List File)) (rest : Option (List ℕ)) (name : List ℕ) (now later : Option (List ℕ)) → OnFile files rest name (λ _. now ≡ Some []) → later ≡ now → OnFile files rest name (λ _. later ≡ Some [])
@@ -38,6 +36,6 @@ still-read files rest name now later told same = there files rest name told (λ 
 -- a call of `compile` ends so
 pub compile_ends : (c : Compilation) (model code : List ℕ) (h h' : HostTold) → WritesCompiled c model code h h' → EndsCompiled c.rows c.systems c.functions model code h h'
 compile_ends c model code h h' w = record {
-  model = there h.files h.rest model (named h model w.model) (λ bytes from. (c, from, refl, refl, refl, w.written));
+  model = record { bytes = w.model.bytes; file = w.model.file; holds = (c, w.model.holds, refl, refl, refl, w.written) };
   no_fault = w.no_fault;
 }

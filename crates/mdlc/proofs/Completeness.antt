@@ -7,7 +7,7 @@ use Rattle.mc_edge.specs.Fakes.{SureHostState}
 use Rattle.mc_edge.specs.Files.{File, lookup}
 use Rattle.c_machine.specs.Rows.{start_run}
 use Rattle.c_reading.specs.Agreement.{ReadingsAgree}
-use Rattle.mdlc.specs.Words.{Asked, Compile, Run, Exec}
+use Rattle.mc_words.specs.Words.{Asked, Compile, Run, Exec}
 use Rattle.mdlc.specs.Told.{HostTold, SinkTold}
 use Rattle.mdlc.specs.Endings.{EndsAt}
 use Rattle.mdlc.specs.Statuses.{Comes, ComesExactly, OnTold, run_status, IsDone}

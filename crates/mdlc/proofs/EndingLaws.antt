@@ -7,7 +7,7 @@ use Rattle.mc_edge.specs.Files.{add_file}
 use Rattle.mc_compile.specs.Compilation.{Compilation, IsCompiledFrom}
 use Rattle.mdlc.specs.declared.tool.Ending.{Ending}
 use Rattle.mdlc.specs.declared.tool.Ending.TheVariants.{Compiled, Ran, Usage, Refused, BadTrace, CodeRefused, CodeTooLong, Stuck as IsStuck, ReadFault, WriteFault, PutFault, NoMemory}
-use Rattle.mdlc.specs.Words.{Asked, Compile, Run, Exec}
+use Rattle.mc_words.specs.Words.{Asked, Compile, Run, Exec}
 use Rattle.mdlc.specs.Told.{HostTold, SinkTold, NoFault}
 use Rattle.mdlc.specs.Endings.{status_of, text_of, WritesCodeFront, WritesWhole, EndsRunUnread, EndsExecUnread, Finds, CountsPuts, Ends, EndsAt, IsSaidOf, PutsWhole, Puts}
 use Rattle.mdlc.specs.Statuses.{IsPlain}

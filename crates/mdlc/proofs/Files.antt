@@ -1,5 +1,6 @@
 -- What is known of files that a host may tell.
-use Rattle.std.proofs.Common.{List, ℕ, sym, subst}
+use Rattle.std.proofs.Common.{◌≡◌, ◌<◌, ◌+◌, List, ℕ, length, replicate, refl, sym, subst, arith}
+use Rattle.std.proofs.lemmas.List.{length-replicate}
 use Rattle.std.specs.Prelude.{Option, Some, None, IsSomeAnd, IfSome, OnSome}
 use Rattle.mc_edge.specs.Files.{File, OnFile, lookup}
 use Rattle.mdlc.specs.Told.{HostTold}
@@ -46,6 +47,28 @@ there (Some fs) (Some xs) name h q = at_there (lookup name fs) h q
 -- what is known of some bytes is known of the file that they are
 pub named : (h : HostTold) (name : List ℕ) {P : List ℕ → Type 0} → OnBytes h name P → OnNamed h name P
 named h name {P = P} known = there h.files h.rest name known.file (λ told is. subst P (sym is) known.holds)
+
+-- what is known of a file that may be told is known of some bytes, where it holds of any
+pub some_bytes : (h : HostTold) (name : List ℕ) {P : List ℕ → Type 0} → OnNamed h name P → (other : List ℕ) → P other → OnBytes h name P
+some_bytes h name {P = P} known other holds = by h.files h.rest refl refl known
+  where
+    at : (fs : List File) (xs : List ℕ) (found : Option (List ℕ)) → h.files ≡ Some fs → h.rest ≡ Some xs → lookup name fs ≡ found → IsSomeAnd found P →
+        OnBytes h name P
+    at fs xs None told rest same known = absurd known
+    at fs xs (Some bytes) told rest same known = record {
+      bytes = bytes;
+      file = rw (told, rest, same) refl;
+      holds = known;
+    }
+
+    by : (files : Option (List File)) (rest : Option (List ℕ)) → h.files ≡ files → h.rest ≡ rest → OnFile files rest name P → OnBytes h name P
+    by None rest none same known = record { bytes = other; file = rw none tt; holds = holds }
+    by (Some fs) None told none known = record { bytes = other; file = rw (told, none) tt; holds = holds }
+    by (Some fs) (Some xs) told rest known = at fs xs (lookup name fs) told rest refl known
+
+-- a file that is longer than n bytes, where it is told
+pub longer_than : (h : HostTold) (name : List ℕ) (n : ℕ) → OnNamed h name (λ x. n < length x) → OnBytes h name (λ x. n < length x)
+longer_than h name n long = some_bytes h name long (replicate (n + 1) 0) (let count = length-replicate {A = ℕ} (n + 1) 0 in omega (arith, count))
 
 -- what follows of the files from what is known of one of them
 pub told_one : (files : Option (List File)) (rest : Option (List ℕ)) (name : List ℕ) {P : List ℕ → Type 0} {Q : List File → Type 0} → OnFile files rest name P → ((fs : List File) → IsSomeAnd (lookup name fs) P → Q fs) → IfTold files rest Q

@@ -16,7 +16,7 @@ use Rattle.c_syntax.proofs.lemmas.NameFacts.{AreDistinct-back, has_name-there}
 use Rattle.c_checked.specs.Checked.{fix_type}
 use Rattle.mc_compile.specs.Verdict.{Verdict, HasVerdict, Accepted, Refused as IsRefused, HasOneVerdict}
 use Rattle.mc_compile.specs.Compilation.{root_types}
-use Rattle.mdlc.specs.Words.{Asked, Compile, Run, Exec}
+use Rattle.mc_words.specs.Words.{Asked, Compile, Run, Exec}
 use Rattle.mdlc.specs.Runs.{HasStepTypes, bad_line}
 use Rattle.mdlc.specs.Statuses.{ModelComes, ProgramComes, CodeComes, Comes, run_status, status_over}
 

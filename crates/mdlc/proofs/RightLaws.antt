@@ -23,7 +23,7 @@ use Rattle.mc_runner.specs.declared.outcome.Totals.{Totals}
 use Rattle.mc_runner.specs.Texts.{ticks_text}
 use Rattle.mdlc.specs.declared.tool.Ending.{Ending}
 use Rattle.mdlc.specs.declared.tool.Ending.TheVariants.{Compiled, Ran, Usage, Refused, BadTrace, CodeRefused, CodeTooLong, Stuck as IsStuck, ReadFault, WriteFault, PutFault, NoMemory}
-use Rattle.mdlc.specs.Words.{Asked, Compile, Run, Exec}
+use Rattle.mc_words.specs.Words.{Asked, Compile, Run, Exec}
 use Rattle.mdlc.specs.Told.{HostTold, SinkTold}
 use Rattle.mdlc.specs.Texts.{compiled_line, totals_line, code_refused_line, long_code_line, stuck_line}
 use Rattle.mdlc.specs.Runs.{HasStepTypes, rows_in, rows_over, bad_line, PutsTicks}
@@ -95,9 +95,9 @@ compile-memory model s code h h' b b' is = record {
 
 compile-does : OneVerdict → (e : Ending) (s : ℕ) (model code : List ℕ) (h h' : HostTold) (b before b' : SinkTold) → Finds e (Some (Compile model code)) h h' b before → IsPlain (status_of e) → s ≡ status_of e → PutsWhole (text_of e) before b' → IfFile h model (λ bytes. Compiles bytes s code h h' b b')
 compile-does one (Compiled rows systems functions) s model code h h' b before b' ends plain is whole =
-    known_file h.files h.rest model ends.0.model (λ bytes w. compiled one rows systems functions bytes s code h h' b before b' is ends.1 whole w)
+    known_file h.files h.rest model (named h model ends.0.model) (λ bytes w. compiled one rows systems functions bytes s code h h' b before b' is ends.1 whole w)
 compile-does one (Refused refusal) s model code h h' b before b' ends plain is whole =
-    known_file h.files h.rest model ends.0.model (λ bytes v. record {
+    known_file h.files h.rest model (named h model ends.0.model) (λ bytes v. record {
       accepted = λ d accepts. absurd (accepted_only one bytes d (plain_refusal refusal) accepts v);
       refused = λ other refuses. refused one (plain_refusal refusal) other bytes s h h' b before b' is v refuses ends.0.written ends.1 whole;
     })
@@ -150,7 +150,7 @@ run-does one (BadTrace line) s model code trace h h' b before b' ends plain is w
     known_file h.files h.rest model (named h model ends.model) (λ bytes m. for-diagram one bytes trace s code h h' b b' m.whole (known_file h.files h.rest trace (named h trace m.runs) (λ lines run.
     ran (diagram_of_table m.whole.resolved) lines s code h h' b before b' m.whole.compilation m.whole.right (Some line) (text_of (BadTrace line)) m.whole.written is run.bad run.free refl run.lines whole)))
 run-does one (Refused refusal) s model code trace h h' b before b' ends plain is whole =
-    known_file h.files h.rest model ends.0.model (λ bytes v. record {
+    known_file h.files h.rest model (named h model ends.0.model) (λ bytes v. record {
       accepted = λ d accepts. absurd (accepted_only one bytes d (plain_refusal refusal) accepts v);
       refused = λ other refuses. refused one (plain_refusal refusal) other bytes s h h' b before b' is v refuses ends.0.written ends.1 whole;
     })
@@ -254,7 +254,7 @@ exec-start agree at bytes trace s h h' b before b' is x written same whole = rec
 
 exec-stuck : ReadingsAgree → (at : Stuck) (s : ℕ) (code trace : List ℕ) (h h' : HostTold) (b before b' : SinkTold) → Finds (IsStuck at) (Some (Exec code trace)) h h' b before → s ≡ 9 → PutsWhole (stuck_line at) before b' → IfFile h code (λ bytes. Executes bytes trace s h h' b b')
 exec-stuck agree at s code trace h h' b before b' (inl ends) is whole =
-    known_file h.files h.rest code ends.code (λ bytes x. exec-start agree at bytes trace s h h' b before b' is x ends.left.written ends.silent whole)
+    known_file h.files h.rest code (named h code ends.code) (λ bytes x. exec-start agree at bytes trace s h h' b before b' is x ends.left.written ends.silent whole)
 exec-stuck agree at s code trace h h' b before b' (inr ends) is whole =
     known_file h.files h.rest code (named h code ends.code) (λ bytes x. executed agree bytes trace s h h' b b' x.starts ends.left.written (known_file h.files h.rest trace (named h trace x.runs) (λ lines run.
     told-run x.starts.program x.starts.types lines s b before b' (Some at) (bad_line x.starts.types lines) run.stuck refl is run.lines whole)))
@@ -268,9 +268,9 @@ exec-does agree (BadTrace line) s code trace h h' b before b' ends plain is whol
     told-run x.starts.program x.starts.types lines s b before b' None (Some line) run.free run.bad is run.lines whole)))
 exec-does agree (IsStuck at) s code trace h h' b before b' ends plain is whole = exec-stuck agree at s code trace h h' b before b' ends is whole
 exec-does agree (CodeRefused fault) s code trace h h' b before b' ends plain is whole =
-    known_file h.files h.rest code ends.code (λ bytes x. exec-unread agree fault bytes trace s h h' b before b' is x.0 x.1 ends.left.written ends.silent whole)
+    known_file h.files h.rest code (named h code ends.code) (λ bytes x. exec-unread agree fault bytes trace s h h' b before b' is x.0 x.1 ends.left.written ends.silent whole)
 exec-does agree CodeTooLong s code trace h h' b before b' ends plain is whole =
-    known_file h.files h.rest code ends.code (λ bytes long. exec-long bytes trace s h h' b before b' is long ends.left.written ends.silent whole)
+    known_file h.files h.rest code (named h code ends.code) (λ bytes long. exec-long bytes trace s h h' b before b' is long ends.left.written ends.silent whole)
 exec-does agree ReadFault s code trace h h' b before b' ends plain is whole = absurd (plain.no_read_fault refl)
 exec-does agree PutFault s code trace h h' b before b' ends plain is whole = absurd (plain.no_put_fault refl)
 exec-does agree NoMemory s code trace h h' b before b' ends plain is whole = absurd (plain.no_want_of_memory refl)

@@ -10,7 +10,7 @@ use Rattle.mc_fixed.specs.declared.types.FixType.{FixType}
 use Rattle.mc_fixed.specs.Types.{int8, int16, int32, uint8, uint16, uint32}
 use Rattle.mc_fixed.specs.Conversion.{InType}
 use Rattle.mc_diagram.specs.Diagram.{Diagram}
-use Rattle.mc_profile.specs.Ports.{input_ports}
+use Rattle.mc_diagram.specs.Inputs.{input_ports}
 use Rattle.c_syntax.specs.declared.code.CType.{CType}
 use Rattle.c_syntax.specs.declared.code.CType.TheVariants.{I8, U8, I16, U16, I32, U32, I64}
 use Rattle.c_syntax.specs.Tree.{ParamTree, ProcedureTree, ProgramTree}
@@ -19,7 +19,7 @@ use Rattle.c_syntax.specs.Lawful.{AreDistinct, procedure_names, pure_names}
 use Rattle.c_syntax.proofs.lemmas.NameFacts.{AreDistinct-back}
 use Rattle.c_checked.specs.Checked.{fix_type}
 use Rattle.c_emitter.specs.Names.{container, root_name, root_step_name}
-use Rattle.mc_profile.specs.Traces.{input_type_of}
+use Rattle.mc_diagram.specs.Traces.{input_type_of}
 use Rattle.c_emitter.specs.Headers.{Header, header, struct_at, procedures_of, public_headers, port_param, root_headers}
 use Rattle.c_emitter.specs.Code.{IsCodeFor}
 use Rattle.c_emitter.proofs.lemmas.Containers.{container-has}

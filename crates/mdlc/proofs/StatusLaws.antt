@@ -14,7 +14,7 @@ use Rattle.mc_diagram.specs.ResolvedTable.{diagram_of_table}
 use Rattle.mc_compile.specs.Compilation.{root_types}
 use Rattle.mdlc.specs.declared.tool.Ending.{Ending}
 use Rattle.mdlc.specs.declared.tool.Ending.TheVariants.{Compiled, Ran, Usage, Refused, BadTrace, CodeRefused, CodeTooLong, Stuck as IsStuck, ReadFault, WriteFault, PutFault, NoMemory}
-use Rattle.mdlc.specs.Words.{Asked, Compile, Run, Exec}
+use Rattle.mc_words.specs.Words.{Asked, Compile, Run, Exec}
 use Rattle.mdlc.specs.Told.{HostTold, SinkTold}
 use Rattle.mdlc.specs.Runs.{HasStepTypes, rows_in, rows_over, bad_line, RunsTo}
 use Rattle.mdlc.specs.Endings.{status_of, OnBytes, WritesWhole, RunsModel, StartsCode, ExecutesCode, Finds, EndsAt, IsSaidOf, Puts}
@@ -60,9 +60,9 @@ over p types lines place bad free good =
 
 compile-comes : (e : Ending) (model code : List ℕ) (h h' : HostTold) (b b' : SinkTold) → Finds e (Some (Compile model code)) h h' b b' → ComesTo (status_of e) (Compile model code) h
 compile-comes (Compiled rows systems functions) model code h h' b b' ends =
-    told_one h.files h.rest model ends.0.model (λ fs known plain. at_there (lookup model fs) known (λ bytes w. inr (w.1.resolved, w.1.verdict, refl)))
+    told_one h.files h.rest model (named h model ends.0.model) (λ fs known plain. at_there (lookup model fs) known (λ bytes w. inr (w.1.resolved, w.1.verdict, refl)))
 compile-comes (Refused refusal) model code h h' b b' ends =
-    told_one h.files h.rest model ends.0.model (λ fs known plain. at_there (lookup model fs) known (λ bytes v. inl (plain_refusal refusal, v, refl)))
+    told_one h.files h.rest model (named h model ends.0.model) (λ fs known plain. at_there (lookup model fs) known (λ bytes v. inl (plain_refusal refusal, v, refl)))
 compile-comes ReadFault model code h h' b b' ends = not-plain 5 (Compile model code) h (λ plain. plain.no_read_fault refl)
 compile-comes WriteFault model code h h' b b' ends = not-plain 6 (Compile model code) h (λ plain. plain.no_write_fault refl)
 compile-comes NoMemory model code h h' b b' ends = not-plain 10 (Compile model code) h (λ plain. plain.no_want_of_memory refl)
@@ -80,7 +80,7 @@ running-comes (Ran totals) model code trace h h' b b' ends =
 running-comes (BadTrace line) model code trace h h' b b' ends =
     run-comes (BadTrace line) model code trace h h' b b' (λ types p lines run. sym (ap (run_status None) run.bad)) ends.model
 running-comes (Refused refusal) model code trace h h' b b' ends =
-    told_one h.files h.rest model ends.0.model (λ fs known plain. at_there (lookup model fs) known (λ bytes v. inl (plain_refusal refusal, v, refl)))
+    told_one h.files h.rest model (named h model ends.0.model) (λ fs known plain. at_there (lookup model fs) known (λ bytes v. inl (plain_refusal refusal, v, refl)))
 running-comes ReadFault model code trace h h' b b' ends = not-plain 5 (Run model code trace) h (λ plain. plain.no_read_fault refl)
 running-comes WriteFault model code trace h h' b b' ends = not-plain 6 (Run model code trace) h (λ plain. plain.no_write_fault refl)
 running-comes PutFault model code trace h h' b b' ends = not-plain 7 (Run model code trace) h (λ plain. plain.no_put_fault refl)
@@ -93,7 +93,7 @@ running-comes (IsStuck at) model code trace h h' b b' ends = absurd ends
 
 stuck-comes : (at : Stuck) (code trace : List ℕ) (h h' : HostTold) (b b' : SinkTold) → Finds (IsStuck at) (Some (Exec code trace)) h h' b b' → ComesTo 9 (Exec code trace) h
 stuck-comes at code trace h h' b b' (inl ends) =
-    told_one h.files h.rest code ends.code (λ fs known plain. at_there (lookup code fs) known (λ bytes x.
+    told_one h.files h.rest code (named h code ends.code) (λ fs known plain. at_there (lookup code fs) known (λ bytes x.
     inr (inr (x.fits, (x.program, x.reading, subst (λ (o : Outcome). ProgramComes x.program o (lookup trace fs) 9) (sym x.start) refl)))))
 stuck-comes at code trace h h' b b' (inr ends) =
     exec-comes (IsStuck at) code trace h h' b b' (λ types p lines run. sym (ap (λ (x : Option Stuck). run_status x (bad_line types lines)) run.stuck)) ends.code
@@ -105,9 +105,9 @@ executing-comes (BadTrace line) code trace h h' b b' ends =
     exec-comes (BadTrace line) code trace h h' b b' (λ types p lines run. over p types lines None (Some line) run.free run.bad) ends.code
 executing-comes (IsStuck at) code trace h h' b b' ends = stuck-comes at code trace h h' b b' ends
 executing-comes (CodeRefused fault) code trace h h' b b' ends =
-    told_one h.files h.rest code ends.code (λ fs known plain. at_there (lookup code fs) known (λ bytes x. inr (inl (x.0, (fault, x.1, refl)))))
+    told_one h.files h.rest code (named h code ends.code) (λ fs known plain. at_there (lookup code fs) known (λ bytes x. inr (inl (x.0, (fault, x.1, refl)))))
 executing-comes CodeTooLong code trace h h' b b' ends =
-    told_one h.files h.rest code ends.code (λ fs known plain. at_there (lookup code fs) known (λ bytes long. inl (long, refl)))
+    told_one h.files h.rest code (named h code ends.code) (λ fs known plain. at_there (lookup code fs) known (λ bytes long. inl (long, refl)))
 executing-comes ReadFault code trace h h' b b' ends = not-plain 5 (Exec code trace) h (λ plain. plain.no_read_fault refl)
 executing-comes PutFault code trace h h' b b' ends = not-plain 7 (Exec code trace) h (λ plain. plain.no_put_fault refl)
 executing-comes NoMemory code trace h h' b b' ends = not-plain 10 (Exec code trace) h (λ plain. plain.no_want_of_memory refl)

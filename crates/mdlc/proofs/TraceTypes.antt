@@ -7,11 +7,11 @@ use Rattle.mc_base.specs.declared.Port.{Port}
 use Rattle.mc_fixed.specs.declared.types.FixType.{FixType}
 use Rattle.mc_fixed.specs.Conversion.{InType}
 use Rattle.mc_diagram.specs.Diagram.{Diagram}
-use Rattle.mc_profile.specs.Ports.{input_ports}
+use Rattle.mc_diagram.specs.Inputs.{input_ports}
 use Rattle.mc_trace.specs.declared.rows.BadWhy.{BadWhy}
 use Rattle.mc_trace.specs.declared.rows.BadWhy.TheVariants.{Many}
 use Rattle.mc_trace.specs.Rows.{Trace, with_row, row_of, rows_behind, most_lines}
-use Rattle.mc_profile.specs.Traces.{input_type_of, IsTrace}
+use Rattle.mc_diagram.specs.Traces.{input_type_of, IsTrace}
 use Rattle.mc_compile.specs.Compilation.{root_types}
 use Rattle.mc_trace.proofs.lemmas.RowWalk.{row_in_types}
 use Rattle.mdlc.specs.Runs.{rows_in}

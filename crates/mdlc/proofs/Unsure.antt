@@ -4,7 +4,7 @@ use Rattle.std.specs.Prelude.{Bool, false, Option, Some, None, IfSome, IsSomeAnd
 use Rattle.mc_edge.specs.Files.{File}
 use Rattle.mdlc.specs.declared.tool.Ending.{Ending}
 use Rattle.mdlc.specs.declared.tool.Ending.TheVariants.{Compiled, Ran, Usage, Refused, BadTrace, CodeRefused, CodeTooLong, Stuck as IsStuck, ReadFault, WriteFault, PutFault, NoMemory}
-use Rattle.mdlc.specs.Words.{Asked}
+use Rattle.mc_words.specs.Words.{Asked}
 use Rattle.mdlc.specs.Told.{HostTold, SinkTold}
 use Rattle.mdlc.specs.Endings.{status_of, IsSaidOf, Puts}
 use Rattle.mdlc.specs.Acting.{NotCompiled, NotStarted}

@@ -10,7 +10,7 @@ use Rattle.mc_compile.specs.Verdict.{HasVerdict, Accepted}
 use Rattle.mc_compile.specs.Compilation.{root_types}
 use Rattle.mdlc.specs.declared.tool.Ending.{Ending}
 use Rattle.mdlc.specs.declared.tool.Ending.TheVariants.{ReadFault}
-use Rattle.mdlc.specs.Words.{Asked, Compile, Run, Exec}
+use Rattle.mc_words.specs.Words.{Asked, Compile, Run, Exec}
 use Rattle.mdlc.specs.Told.{HostTold, SinkTold}
 use Rattle.mdlc.specs.Runs.{HasStepTypes, rows_over, bad_line}
 use Rattle.mdlc.specs.Endings.{code_limit}

@@ -17,7 +17,7 @@ use Rattle.mc_compile.specs.Verdict.{HasVerdict, Accepted, Refused as IsRefused}
 use Rattle.mc_compile.specs.Compilation.{Compilation, root_types, IsCompilationOf, IsCompiledFrom}
 use Rattle.mdlc.specs.declared.tool.Ending.{Ending}
 use Rattle.mdlc.specs.declared.tool.Ending.TheVariants.{Compiled, Ran, Usage, Refused, BadTrace, CodeRefused, CodeTooLong, Stuck as IsStuck, ReadFault, WriteFault, PutFault, NoMemory}
-use Rattle.mdlc.specs.Words.{Asked, Compile, Run, Exec}
+use Rattle.mc_words.specs.Words.{Asked, Compile, Run, Exec}
 use Rattle.mdlc.specs.Texts.{compiled_line, totals_line, usage_line, bad_line_line, code_refused_line, long_code_line, stuck_line, read_fault_line, write_fault_line, no_memory_line}
 use Rattle.mdlc.specs.Told.{HostTold, SinkTold, NoFault}
 use Rattle.mdlc.specs.Runs.{HasStepTypes, RunsTaken, RunsTo}
@@ -80,11 +80,11 @@ abbrev pub PutsNothing : (b b' : SinkTold) → Type 0
 PutsNothing b b' = b' ≡ b
 
 pub record EndsCompiled (rows systems functions : ℕ) (model_name code_name : List ℕ) (h h' : HostTold) : Type 0 where
-  pub model : OnNamed h model_name (λ bytes. WritesCode rows systems functions code_name bytes h h')
+  pub model : OnBytes h model_name (λ bytes. WritesCode rows systems functions code_name bytes h h')
   pub no_fault : NoFault h h'
 
 pub record EndsRefused (refusal : PlainRefusal) (name : List ℕ) (h h' : HostTold) : Type 0 where
-  pub model : OnNamed h name (λ bytes. HasVerdict bytes (IsRefused refusal))
+  pub model : OnBytes h name (λ bytes. HasVerdict bytes (IsRefused refusal))
   pub written : h'.written ≡ h.written
   pub no_fault : NoFault h h'
 
@@ -96,12 +96,12 @@ pub record EndsReadFault (name : List ℕ) (h h' : HostTold) : Type 0 where
 
 pub record EndsWriteFault (model_name code_name : List ℕ) (h h' : HostTold) : Type 0 where
   pub rose : Rose h.write_faults h'.write_faults
-  pub model : OnNamed h model_name (λ bytes. WritesCodeFront code_name bytes h h')
+  pub model : OnBytes h model_name (λ bytes. WritesCodeFront code_name bytes h h')
 
 -- memory may run out before anything is written, and after the code is
 abbrev pub EndsNoMemory : (model code : List ℕ) → HostTold → HostTold → Type 0
 EndsNoMemory model code h h' =
-    (h'.written ≡ h.written) ⊎ OnNamed h model (λ bytes. WritesCodeFront code bytes h h')
+    (h'.written ≡ h.written) ⊎ OnBytes h model (λ bytes. WritesCodeFront code bytes h h')
 
 -- ---- Compiling
 
@@ -228,7 +228,7 @@ pub record EndsExec (e : Ending) (code_name trace_name : List ℕ) (h h' : HostT
 
 -- the code is such, and nothing was put
 pub record EndsAtCode (name : List ℕ) (P : List ℕ → Type 0) (h h' : HostTold) (b b' : SinkTold) : Type 0 where
-  pub code : OnNamed h name P
+  pub code : OnBytes h name P
   pub left : LeavesHost h h'
   pub silent : PutsNothing b b'
 

@@ -20,7 +20,7 @@ use Rattle.mc_compile.specs.Verdict.{HasVerdict, Accepted, Refused}
 use Rattle.mc_compile.specs.Compilation.{Compilation, root_types, IsCompilationOf}
 use Rattle.mc_runner.specs.Texts.{ticks_text}
 use Rattle.mc_runner.specs.Runs.{totals_of}
-use Rattle.mdlc.specs.Words.{Asked, Compile, Run, Exec}
+use Rattle.mc_words.specs.Words.{Asked, Compile, Run, Exec}
 use Rattle.mdlc.specs.Texts.{compiled_line, totals_line, bad_line_line, code_refused_line, long_code_line, stuck_line}
 use Rattle.mdlc.specs.Told.{HostTold, SinkTold}
 use Rattle.mdlc.specs.Runs.{HasStepTypes, rows_in, rows_over, bad_line}

@@ -14,7 +14,7 @@ use Rattle.c_machine.specs.Rows.{start_run}
 use Rattle.c_rules.specs.Reading.{CText, CFaultOf}
 use Rattle.mc_compile.specs.Verdict.{HasVerdict, Accepted, Refused}
 use Rattle.mc_compile.specs.Compilation.{root_types}
-use Rattle.mdlc.specs.Words.{Asked, Compile, Run, Exec}
+use Rattle.mc_words.specs.Words.{Asked, Compile, Run, Exec}
 use Rattle.mdlc.specs.Told.{HostTold}
 use Rattle.mdlc.specs.Runs.{HasStepTypes, rows_over, bad_line}
 use Rattle.mdlc.specs.Endings.{code_limit}

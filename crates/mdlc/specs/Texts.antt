@@ -7,7 +7,7 @@ use Rattle.c_syntax.specs.declared.fault.CKind.{CKind}
 use Rattle.c_syntax.specs.declared.fault.CKind.TheVariants.{Syntax, Deep, Name, TypeRule}
 use Rattle.c_syntax.specs.declared.fault.Stuck.{Stuck}
 use Rattle.c_syntax.specs.declared.fault.Why.{Why}
-use Rattle.c_syntax.specs.declared.fault.Why.TheVariants.{Overflow, ZeroDivisor, Range, Steps}
+use Rattle.c_syntax.specs.declared.fault.Why.TheVariants.{Overflow, ZeroDivisor, Range, Steps, Index}
 use Rattle.mc_trace.specs.declared.rows.BadLine.{BadLine}
 use Rattle.mc_trace.specs.declared.rows.BadWhy.{BadWhy}
 use Rattle.mc_trace.specs.declared.rows.BadWhy.TheVariants as bad
@@ -58,6 +58,7 @@ stuck_word Overflow = codes "Overflow"
 stuck_word ZeroDivisor = codes "ZeroDivisor"
 stuck_word Range = codes "Range"
 stuck_word Steps = codes "Steps"
+stuck_word Index = codes "Index"
 
 -- where the machine is stuck
 abbrev pub stuck_line : Stuck → List ℕ

@@ -2,7 +2,6 @@
 #![tactic(auto)]
 
 mod tool;
-mod words;
 
 use mc_edge::{FileHost, OutSink};
 use std::process::ExitCode;

@@ -255,6 +255,12 @@ s->y1 = (int32_t)(INT64_C(1) / INT64_C(0));
 void root_step(struct root *s, int32_t u1) { }
 ";
 
+// What code that stores this value puts over a trace.
+fn executed_storing(alloc: Global, value: &str, trace: &str) -> Result<Put, AllocError> {
+    let code = storing(alloc, value)?;
+    executed(alloc, code.as_bytes(), trace.as_bytes())
+}
+
 #[test]
 fn code_is_executed(rt: HostRuntime) -> Result<(), Fail> {
     for (value, trace, status, text) in [
@@ -263,12 +269,6 @@ fn code_is_executed(rt: HostRuntime) -> Result<(), Fail> {
             "5\n-6",
             0,
             "5\n-6\nticks 2 steps 2 calls 0\n",
-        ),
-        (
-            "(int32_t)(INT64_C(1) / INT64_C(0))",
-            "1\n",
-            9,
-            "stuck line 5 ZeroDivisor\n",
         ),
         (
             "(int32_t)(INT64_C(6) / (int64_t)u1)",
@@ -282,35 +282,45 @@ fn code_is_executed(rt: HostRuntime) -> Result<(), Fail> {
             4,
             "3\ntrace line 2 Form 1\n",
         ),
+    ] {
+        let put = executed_storing(rt.alloc(), value, trace)?;
+        assert_eq!(rt; put.status, status, "{value}");
+        assert_eq!(rt; put.text.as_slice(), text.as_bytes(), "{value}");
+        assert_eq!(rt; put.files, 0);
+    }
+    Ok(())
+}
+
+#[test]
+fn code_that_is_stuck_in_its_first_tick(rt: HostRuntime) -> Result<(), Fail> {
+    for (value, text) in [
+        (
+            "(int32_t)(INT64_C(1) / INT64_C(0))",
+            "stuck line 5 ZeroDivisor\n",
+        ),
         (
             "(int32_t)(INT64_C(9223372036854775807) + INT64_C(1))",
-            "1\n",
-            9,
             "stuck line 5 Overflow\n",
         ),
-        (
-            "(int32_t)INT64_C(2147483648)",
-            "1\n",
-            9,
-            "stuck line 5 Range\n",
-        ),
-        (
-            "(int32_t)(int64_t)q",
-            "1\n",
-            8,
-            "code refused line 5 Name\n",
-        ),
-        (
-            "(int8_t)(int64_t)u1",
-            "1\n",
-            8,
-            "code refused line 5 Type\n",
-        ),
-        ("5", "1\n", 8, "code refused line 5 Syntax\n"),
+        ("(int32_t)INT64_C(2147483648)", "stuck line 5 Range\n"),
     ] {
-        let code = storing(rt.alloc(), value)?;
-        let put = executed(rt.alloc(), code.as_bytes(), trace.as_bytes())?;
-        assert_eq!(rt; put.status, status, "{value}");
+        let put = executed_storing(rt.alloc(), value, "1\n")?;
+        assert_eq!(rt; put.status, 9, "{value}");
+        assert_eq!(rt; put.text.as_slice(), text.as_bytes(), "{value}");
+        assert_eq!(rt; put.files, 0);
+    }
+    Ok(())
+}
+
+#[test]
+fn code_that_is_no_program(rt: HostRuntime) -> Result<(), Fail> {
+    for (value, text) in [
+        ("(int32_t)(int64_t)q", "code refused line 5 Name\n"),
+        ("(int8_t)(int64_t)u1", "code refused line 5 Type\n"),
+        ("5", "code refused line 5 Syntax\n"),
+    ] {
+        let put = executed_storing(rt.alloc(), value, "1\n")?;
+        assert_eq!(rt; put.status, 8, "{value}");
         assert_eq!(rt; put.text.as_slice(), text.as_bytes(), "{value}");
         assert_eq!(rt; put.files, 0);
     }
@@ -411,6 +421,21 @@ fn traces_in_pieces(rt: HostRuntime) -> Result<(), Fail> {
             assert_eq!(rt; put.text.as_slice(), text.as_bytes(), "{piece}");
         }
     }
+    Ok(())
+}
+
+// The trace of one wire's model, byte by byte.
+#[test]
+fn a_model_is_run_over_a_trace_in_pieces(rt: HostRuntime) -> Result<(), Fail> {
+    let files = Files {
+        model: models::ONE_WIRE,
+        code: b"",
+        trace: b"5\n-7\n2147483647",
+    };
+    let put = called_in_pieces(rt.alloc(), "run a.mdl a.c t", files, &[], &[], 1)?;
+    assert_eq!(rt; put.status, 0);
+    assert!(rt; put.text.starts_with(b"5\n-7\n2147483647\nticks 3 steps "));
+    assert!(rt; put.text.ends_with(b" calls 6\n"));
     Ok(())
 }
 

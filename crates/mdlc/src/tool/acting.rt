@@ -1,6 +1,6 @@
 ghost use Rattle.std.specs.Prelude.{◌≡◌, Some, IfSome, false};
-ghost use Rattle.mdlc.specs.Words.{word_bytes, asked_by};
-ghost use Rattle.mdlc.specs.Words.Asked.{Compile, Run, Exec};
+ghost use Rattle.mc_words.specs.Words.{word_bytes, asked_by};
+ghost use Rattle.mc_words.specs.Words.Asked.{Compile, Run, Exec};
 ghost use Rattle.mdlc.specs.Told.{told, sink_told};
 ghost use Rattle.mdlc.specs.Endings.{EndsCompile, Ends};
 ghost use Rattle.mdlc.specs.Completeness.{IfReadFault, IsUnsureOf};
@@ -9,9 +9,10 @@ use super::Ending;
 use super::compiling::compile_into;
 use super::starting::started;
 use super::tracing::run_file;
-use crate::words::{Command, command};
 use c_reading::readings_agree;
+use mc_base::Memory;
 use mc_edge::{Host, ReadAllFault, Sink, read_all};
+use mc_words::{Command, command};
 use std::alloc::Global;
 
 /// The most bytes that a C file has.
@@ -95,12 +96,13 @@ pub fn act<H: Host, S: Sink>(alloc: Global, words: &[String], host: &mut H, out:
         Ends result (asked_by (word_bytes words.now)) (at host.old) (at host.new) (sink out.old) (sink out.new) }
     ensures unsure { IfSome (asked_by (word_bytes words.now)) (λ asked. IfReadFault result (IsUnsureOf H.files H.sure host.old asked)) }
 {
-    match command(words) {
-        None => Ending::Usage,
-        Some(Command::Compile { model, code }) => compile_model(alloc, host, model, code),
-        Some(Command::Run { model, code, trace }) => {
+    match command(alloc, words) {
+        Ok(None) => Ending::Usage,
+        Ok(Some(Command::Compile { model, code })) => compile_model(alloc, host, model, code),
+        Ok(Some(Command::Run { model, code, trace })) => {
             run_model(alloc, host, out, model, code, trace)
         }
-        Some(Command::Exec { code, trace }) => exec_code(alloc, host, out, code, trace),
+        Ok(Some(Command::Exec { code, trace })) => exec_code(alloc, host, out, code, trace),
+        Err(Memory) => Ending::NoMemory,
     }
 }

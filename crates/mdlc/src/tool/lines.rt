@@ -87,6 +87,7 @@ fn stuck_word(why: Why) -> &'static str
         Why::ZeroDivisor => "ZeroDivisor",
         Why::Range => "Range",
         Why::Steps => "Steps",
+        Why::Index => "Index",
     }
 }
 

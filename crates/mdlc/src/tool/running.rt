@@ -1,7 +1,7 @@
 ghost use Rattle.std.specs.Prelude.{◌≡◌, ◌≢◌, None, IfSome};
 ghost use Rattle.mc_edge.specs.Faults.{Rose, IsCalm};
 ghost use Rattle.mc_edge.specs.Fakes.{files_of};
-ghost use Rattle.mdlc.specs.Words.{word_bytes, asked_by};
+ghost use Rattle.mc_words.specs.Words.{word_bytes, asked_by};
 ghost use Rattle.mdlc.specs.Told.{told, sink_told};
 ghost use Rattle.mdlc.specs.Endings.{EndsAt};
 ghost use Rattle.mdlc.specs.Statuses.{IsPlain, IsExactly, Comes, ComesExactly, OnTold, IsDone};

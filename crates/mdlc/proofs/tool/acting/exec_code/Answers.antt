@@ -6,7 +6,8 @@ use Rattle.mc_runner.specs.Ticks.{IsNarrower}
 use Rattle.mdlc.specs.Told.{HostTold, SinkTold, told, sink_told}
 use Rattle.mdlc.specs.Endings.{code_limit, LeavesHost}
 use Rattle.mdlc.specs.Acting.{StartsFrom, NotStarted, RunEnds}
-use Rattle.mdlc.specs.Words.{Exec}
+use Rattle.mc_words.specs.Words.{Exec}
+use Rattle.mdlc.proofs.Files.{longer_than}
 use Rattle.mdlc.proofs.CodeLaws.{CodeRead, exec_ends, exec_unstarted}
 use Rattle.mdlc.proofs.RunLaws.{narrow}
 use Rattle.mdlc.proofs.Unsure.{unsure_second}
@@ -17,6 +18,18 @@ run_file-requires-clause-types g c =
     let inputs : List FixType = c.in-Ok-started.machine.program.inputs in
     let same : c.deref-2.result.now ≡ inputs = search rules in
     subst (λ (types : List FixType). AllZip IsNarrower types inputs) (sym same) (narrow inputs)
+
+pub returns-in-Err-TooLong-clause-ends : goal.returns-in-Err-TooLong-clause-ends
+returns-in-Err-TooLong-clause-ends g c =
+    let before : HostTold = told g.H.Host.files g.H.Host.rest g.H.Host.written g.H.Host.sure g.H.Host.read_faults g.H.Host.write_faults c.args.host.now in
+    record {
+      finds = record {
+        code = longer_than before c.args.code.now code_limit (c.in-Err-TooLong.ensures.too_long (search rules));
+        left = record { written = search rules; no_fault = record { read = search rules; write = search rules } };
+        silent = refl;
+      };
+      counts = refl;
+    }
 
 pub returns-in-Err-clause-ends : goal.returns-in-Err-clause-ends
 returns-in-Err-clause-ends g c =

@@ -5,7 +5,7 @@ use Rattle.c_meaning.specs.States.{MachineState, tree_of}
 use Rattle.mc_runner.specs.Ticks.{IsNarrower}
 use Rattle.mc_compile.specs.Compilation.{Compilation}
 use Rattle.mdlc.specs.Told.{HostTold, SinkTold, told, sink_told}
-use Rattle.mdlc.specs.Words.{Run}
+use Rattle.mc_words.specs.Words.{Run}
 use Rattle.mdlc.specs.Acting.{WritesCompiled, StartsFrom, NotStarted, RunEnds}
 use Rattle.mdlc.proofs.CodeLaws.{inputs-fit, run_ends, run_unstarted}
 use Rattle.mdlc.proofs.Unsure.{unsure_second}

@@ -1,6 +1,6 @@
 use Rattle.std.proofs.Common.{ap}
 use Rattle.mc_edge.specs.Fakes.{SureHostState, files_of}
-use Rattle.mdlc.specs.Words.{word_bytes, asked_by}
+use Rattle.mc_words.specs.Words.{word_bytes, asked_by}
 use Rattle.mdlc.proofs.Completeness.{surely, surely_comes, unrisen}
 use Rattle.mdlc.proofs.tool.running.run_surely.Goals as goal
 

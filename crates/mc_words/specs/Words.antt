@@ -2,8 +2,8 @@
 use Rattle.std.specs.Prelude.{ℕ, Bool, false, not, ◌&&◌, ◌==◌, if◌then◌else◌, List, [], ◌∷◌, map, Option, Some, None, String, string_bytes, bytes_eq, codes}
 use Rattle.std.specs.List.{list_all}
 use Rattle.std.specs.declared.alloc.Global.{Global}
-use Rattle.mdlc.specs.declared.words.Command.{Command}
-use Rattle.mdlc.specs.declared.words.Command.TheVariants as command
+use Rattle.mc_words.specs.declared.commands.Command.{Command}
+use Rattle.mc_words.specs.declared.commands.Command.TheVariants as command
 
 -- the bytes of each word
 abbrev pub word_bytes : List (String Global) → List (List ℕ)

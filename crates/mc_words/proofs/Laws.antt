@@ -1,0 +1,123 @@
+-- Words that ask for something are taken by `clap`, and its matches ask for the same.
+use Rattle.std.proofs.Common.{◌≡◌, ◌∙◌, ◌&&◌, Bool, true, false, refl, sym, ap, subst, true≢false, List, [], ◌∷◌, Option, Some, None, codes}
+use Rattle.std.specs.Prelude.{is_some, if◌then◌else◌}
+use Rattle.std.specs.List.{list_all}
+use Rattle.std.specs.Str.{bytes_eq}
+use Rattle.std.proofs.lemmas.Slice.Eq.{bytes_eq-Decides}
+use Rattle.clap.specs.Values.{reading_of}
+use Rattle.clap.specs.Walk.{Held, Row, nothing_held}
+use Rattle.clap.specs.Words.{Text, subcommand_of, takes}
+use Rattle.clap.specs.declared.builder.value_parser.ValueParser.TheVariants as vp
+use Rattle.clap.specs.declared.parser.matches.ValueSource.TheVariants.{CommandLine}
+use Rattle.mc_words.specs.Words.{Asked, Compile, Run, Exec, is_word, differ, with_two, with_three, command_with, asked_by}
+use Rattle.mc_words.specs.Program.{program, asked_in}
+use Rattle.mc_words.proofs.Entered.{compile, run, exec, meets_compile, meets_run, meets_exec, meets_takes, meets_rows}
+use Rattle.mc_words.proofs.Steps.{Goes, goes_level, goes_rows}
+
+-- `clap` takes the words, and its matches ask for this
+abbrev pub Serves : List Text → Option Asked → Type 0
+Serves words o = (takes program words ≡ true) × (asked_in (subcommand_of program words) ≡ o)
+
+abbrev row : Text → Text → Row
+row name word = record { id = name; values = word ∷ []; count = None; source = Some CommandLine; reading = reading_of vp.String }
+
+-- rows of files that were read, and one that is being read
+abbrev held : List Row → Text → Text → Held
+held rows name word = record { rows = rows; pending = Some (name, word ∷ []); skip = 0 }
+
+serves_compile : (model code : Text) → is_word model ≡ true → is_word code ≡ true
+    → Serves (codes "compile" ∷ model ∷ code ∷ []) (Some (Compile model code))
+serves_compile model code m c =
+    let words = model ∷ code ∷ [] in
+    let first = held [] (codes "MODEL") model in
+    let second = held (row (codes "MODEL") model ∷ []) (codes "CODE") code in
+    let goes : Goes compile nothing_held 1 words second = (first, m, refl, refl, (second, c, refl, refl, refl)) in (
+      meets_takes (codes "compile") compile meets_compile words (goes_level compile words second goes refl),
+      ap asked_in (meets_rows (codes "compile") compile meets_compile words)
+          ∙ ap (λ rows. asked_in (Some (codes "compile", rows))) (goes_rows compile words second goes),
+    )
+
+serves_run : (model code trace : Text) → is_word model ≡ true → is_word code ≡ true → is_word trace ≡ true
+    → Serves (codes "run" ∷ model ∷ code ∷ trace ∷ []) (Some (Run model code trace))
+serves_run model code trace m c t =
+    let words = model ∷ code ∷ trace ∷ [] in
+    let first = held [] (codes "MODEL") model in
+    let second = held (row (codes "MODEL") model ∷ []) (codes "CODE") code in
+    let third = held (row (codes "MODEL") model ∷ row (codes "CODE") code ∷ []) (codes "TRACE") trace in
+    let goes : Goes run nothing_held 1 words third = (first, m, refl, refl, (second, c, refl, refl, (third, t, refl, refl, refl))) in (
+      meets_takes (codes "run") run meets_run words (goes_level run words third goes refl),
+      ap asked_in (meets_rows (codes "run") run meets_run words)
+          ∙ ap (λ rows. asked_in (Some (codes "run", rows))) (goes_rows run words third goes),
+    )
+
+serves_exec : (code trace : Text) → is_word code ≡ true → is_word trace ≡ true
+    → Serves (codes "exec" ∷ code ∷ trace ∷ []) (Some (Exec code trace))
+serves_exec code trace c t =
+    let words = code ∷ trace ∷ [] in
+    let first = held [] (codes "CODE") code in
+    let second = held (row (codes "CODE") code ∷ []) (codes "TRACE") trace in
+    let goes : Goes exec nothing_held 1 words second = (first, c, refl, refl, (second, t, refl, refl, refl)) in (
+      meets_takes (codes "exec") exec meets_exec words (goes_level exec words second goes refl),
+      ap asked_in (meets_rows (codes "exec") exec meets_exec words)
+          ∙ ap (λ rows. asked_in (Some (codes "exec", rows))) (goes_rows exec words second goes),
+    )
+
+-- ---- Every list of words
+
+-- where something is asked for, `clap` serves it
+abbrev pub Right : List Text → Option Asked → Type 0
+Right words o = is_some o ≡ true → Serves words o
+
+choose : (words : List Text) (b : Bool) (o rest : Option Asked) → (b ≡ true → Right words o) → Right words rest
+    → Right words (if b then o else rest)
+choose words true o rest here there = here refl
+choose words false o rest here there = there
+
+asks_nothing : (words : List Text) → Right words None
+asks_nothing words e = absurd (true≢false (sym e))
+
+first_of_both : (a b : Bool) → (a && b) ≡ true → a ≡ true
+first_of_both true b e = refl
+first_of_both false b e = e
+
+second_of_both : (a b : Bool) → (a && b) ≡ true → b ≡ true
+second_of_both true b e = e
+second_of_both false b e = absurd (true≢false (sym e))
+
+-- a command by its name
+named : (name command : Text) (words : List Text) (o : Option Asked) → Serves (name ∷ words) o → bytes_eq command name ≡ true
+    → Right (command ∷ words) o
+named name command words o serves e some = subst (λ c. Serves (c ∷ words) o) (sym ((bytes_eq-Decides command name).0 e)) serves
+
+two_words : (command a b : Text) → is_word a ≡ true → is_word b ≡ true → Right (command ∷ a ∷ b ∷ []) (with_two command a b)
+two_words command a b x y =
+    choose (command ∷ a ∷ b ∷ []) (bytes_eq command (codes "compile") && differ b a) _ _
+    (λ e. named (codes "compile") command (a ∷ b ∷ []) _ (serves_compile a b x y) (first_of_both _ (differ b a) e))
+    (choose (command ∷ a ∷ b ∷ []) (bytes_eq command (codes "exec")) _ _
+    (named (codes "exec") command (a ∷ b ∷ []) _ (serves_exec a b x y)) (asks_nothing (command ∷ a ∷ b ∷ [])))
+
+three_words : (command a b c : Text) → is_word a ≡ true → is_word b ≡ true → is_word c ≡ true
+    → Right (command ∷ a ∷ b ∷ c ∷ []) (with_three command a b c)
+three_words command a b c x y z =
+    choose (command ∷ a ∷ b ∷ c ∷ []) (bytes_eq command (codes "run") && differ b a && differ b c) _ _
+    (λ e. named (codes "run") command (a ∷ b ∷ c ∷ []) _ (serves_run a b c x y z)
+    (first_of_both (bytes_eq command (codes "run")) (differ b a) (first_of_both _ (differ b c) e)))
+    (asks_nothing (command ∷ a ∷ b ∷ c ∷ []))
+
+with_words : (command : Text) (words : List Text) → list_all is_word words ≡ true → Right (command ∷ words) (command_with command words)
+with_words command [] e = asks_nothing (command ∷ [])
+with_words command (a ∷ []) e = asks_nothing (command ∷ a ∷ [])
+with_words command (a ∷ b ∷ []) e =
+    let rest = second_of_both (is_word a) _ e in
+    two_words command a b (first_of_both (is_word a) _ e) (first_of_both (is_word b) _ rest)
+with_words command (a ∷ b ∷ c ∷ []) e =
+    let rest = second_of_both (is_word a) _ e in
+    let last = second_of_both (is_word b) _ rest in
+    three_words command a b c (first_of_both (is_word a) _ e) (first_of_both (is_word b) _ rest) (first_of_both (is_word c) _ last)
+with_words command (a ∷ b ∷ c ∷ d ∷ more) e = asks_nothing (command ∷ a ∷ b ∷ c ∷ d ∷ more)
+
+pub all_words : (words : List Text) → Right words (asked_by words)
+all_words [] = asks_nothing []
+all_words (command ∷ words) =
+    choose (command ∷ words) (list_all is_word (command ∷ words)) _ None
+    (λ e. with_words command words (second_of_both (is_word command) _ e)) (asks_nothing (command ∷ words))

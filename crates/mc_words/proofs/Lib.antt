@@ -1,0 +1,4 @@
+pub mod Steps
+pub mod Entered
+pub mod Laws
+pub mod Values

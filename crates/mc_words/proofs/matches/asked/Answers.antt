@@ -1,0 +1,10 @@
+use Rattle.std.proofs.Common.{◌∙◌}
+use Rattle.clap.specs.Words.{found_of}
+use Rattle.clap.specs.declared.parser.matches.ArgMatches.TheViews.{out-ArgMatches}
+use Rattle.mc_words.proofs.Values.{asked_as_met}
+use Rattle.mc_words.proofs.matches.asked.Goals as goal
+
+pub returns : goal.returns
+returns c =
+    c.asked_of.ensures
+    ∙ asked_as_met (out-ArgMatches c.args.matches.now).subcommand c.in_ok-name.name.now (found_of c.in_ok-name.files.now) c.in_ok-name.ensures.name c.in_ok-name.ensures.rows

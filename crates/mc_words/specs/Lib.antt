@@ -1,0 +1,4 @@
+pub mod Words
+pub mod WordsExamples
+pub mod Program
+pub mod ProgramExamples

@@ -1,0 +1,74 @@
+-- The program as `clap` is told of it, and what its matches ask for.
+use Rattle.std.specs.Prelude.{◌≡◌, true, false, if◌then◌else◌, List, [], ◌∷◌, map, Option, Some, None, bytes_eq, codes}
+use Rattle.clap.specs.Words.{App, Row, Rule, Shape, Text, first_of, new_app, new_rule, shape_of}
+use Rattle.clap.specs.declared.builder.command.Command.{Command}
+use Rattle.clap.specs.declared.builder.command.Command.TheViews.{out-Command as fields_of}
+use Rattle.mc_words.specs.Words.{Asked, Compile, Run, Exec}
+
+-- an argument by its place, which has to be there
+abbrev pub file : Text → Rule
+file name = record (new_rule name) { required = true }
+
+-- a command that takes these files
+abbrev pub with_files : Text → List Text → Shape
+with_files name files = record (new_app name).top { rules = map file files }
+
+abbrev pub compile : Shape
+compile = with_files (codes "compile") (codes "MODEL" ∷ codes "CODE" ∷ [])
+
+abbrev pub run : Shape
+run = with_files (codes "run") (codes "MODEL" ∷ codes "CODE" ∷ codes "TRACE" ∷ [])
+
+abbrev pub exec : Shape
+exec = with_files (codes "exec") (codes "CODE" ∷ codes "TRACE" ∷ [])
+
+-- the program without its commands
+abbrev pub bare : App
+bare = record {
+  top = record (new_app (codes "mdlc")).top {
+    no_binary_name = true;
+    disable_help_flag = true;
+    disable_help_subcommand = true;
+    disable_version_flag = true;
+    subcommand_required = true;
+  };
+  subs = [];
+}
+
+abbrev pub program : App
+program = record { top = record bare.top { is_leaf = false }; subs = compile ∷ run ∷ exec ∷ [] }
+
+-- a command of this shape, which has no argument for its subcommands
+abbrev pub IsSubcommand : Command → Shape → Type 0
+IsSubcommand c s = (shape_of c ≡ s) × ((fields_of c).has_globals ≡ false)
+
+-- ---- What matches ask for
+
+abbrev pub compile_of : Option Text → Option Text → Option Asked
+compile_of (Some model) (Some code) = Some (Compile model code)
+compile_of None _ = None
+compile_of (Some model) None = None
+
+abbrev pub run_of : Option Text → Option Text → Option Text → Option Asked
+run_of (Some model) (Some code) (Some trace) = Some (Run model code trace)
+run_of None _ _ = None
+run_of (Some model) None _ = None
+run_of (Some model) (Some code) None = None
+
+abbrev pub exec_of : Option Text → Option Text → Option Asked
+exec_of (Some code) (Some trace) = Some (Exec code trace)
+exec_of None _ = None
+exec_of (Some code) None = None
+
+-- what a command of this name asks for, with the values of its files
+abbrev pub asked_of : Text → (Text → Option Text) → Option Asked
+asked_of name value =
+    if bytes_eq name (codes "compile") then compile_of (value (codes "MODEL")) (value (codes "CODE"))
+    else if bytes_eq name (codes "run") then run_of (value (codes "MODEL")) (value (codes "CODE")) (value (codes "TRACE"))
+    else if bytes_eq name (codes "exec") then exec_of (value (codes "CODE")) (value (codes "TRACE"))
+    else None
+
+-- what the subcommand that was met asks for
+abbrev pub asked_in : Option (Text × List Row) → Option Asked
+asked_in None = None
+asked_in (Some met) = asked_of met.0 (λ id. first_of id met.1)

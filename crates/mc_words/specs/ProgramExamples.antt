@@ -1,0 +1,48 @@
+-- Words that `clap` takes, with what their matches ask for.
+use Rattle.std.specs.Prelude.{◌≡◌, refl, true, false, [], ◌∷◌, Some, codes}
+use Rattle.clap.specs.Words.{subcommand_of, takes}
+use Rattle.clap.proofs.OnLiterals.{clap_on_literals}
+use Rattle.mc_words.specs.Words.{Compile, Run, Exec}
+use Rattle.mc_words.specs.Program.{program, asked_in}
+
+takes-compile : takes program (codes "compile" ∷ codes "a" ∷ codes "b" ∷ []) ≡ true
+unfolding clap_on_literals
+takes-compile = refl
+
+asked-compile : asked_in (subcommand_of program (codes "compile" ∷ codes "a" ∷ codes "b" ∷ [])) ≡ Some (Compile (codes "a") (codes "b"))
+unfolding clap_on_literals
+asked-compile = refl
+
+asked-run : asked_in (subcommand_of program (codes "run" ∷ codes "a" ∷ codes "b" ∷ codes "a" ∷ [])) ≡ Some (Run (codes "a") (codes "b") (codes "a"))
+unfolding clap_on_literals
+asked-run = refl
+
+asked-exec : asked_in (subcommand_of program (codes "exec" ∷ codes "run" ∷ codes "help" ∷ [])) ≡ Some (Exec (codes "run") (codes "help"))
+unfolding clap_on_literals
+asked-exec = refl
+
+-- `clap` takes some words that are not lawful
+
+takes-same : takes program (codes "compile" ∷ codes "a" ∷ codes "a" ∷ []) ≡ true
+unfolding clap_on_literals
+takes-same = refl
+
+takes-empty : takes program (codes "exec" ∷ [] ∷ codes "a" ∷ []) ≡ true
+unfolding clap_on_literals
+takes-empty = refl
+
+takes-none : takes program [] ≡ false
+unfolding clap_on_literals
+takes-none = refl
+
+takes-help : takes program (codes "help" ∷ []) ≡ false
+unfolding clap_on_literals
+takes-help = refl
+
+takes-dash : takes program (codes "compile" ∷ codes "a" ∷ codes "-c" ∷ []) ≡ false
+unfolding clap_on_literals
+takes-dash = refl
+
+takes-more : takes program (codes "compile" ∷ codes "a" ∷ codes "b" ∷ codes "c" ∷ []) ≡ false
+unfolding clap_on_literals
+takes-more = refl
