@@ -1,5 +1,5 @@
 -- The tables of the tests stand for models.
-use Rattle.std.specs.Prelude.{◌≡◌, ℕ, ◌<◌, ◌≤◌, ◌*◌, Bool, true, false, List, [], ◌∷◌, Some, None, refl}
+use Rattle.std.specs.Prelude.{◌≡◌, ℕ, ◌<◌, ◌≤◌, ◌*◌, ◌^◌, Bool, true, false, List, [], ◌∷◌, Some, None, refl}
 use Rattle.std.proofs.Common.{sym, subst, arith, lit<, lit≤}
 use Rattle.mc_base.specs.declared.Control.TheVariants.{Plain, Enabled, Triggered, Both}
 use Rattle.mc_base.specs.declared.Decimal.{Decimal}
@@ -15,7 +15,7 @@ use Rattle.mc_diagram.specs.DiagramTree.{IsDiagram}
 use Rattle.mc_diagram.specs.Nested.{System, system, no_more, next, system_of, AreSystemsOf}
 use Rattle.mc_diagram.specs.WellFormed.{IsKind, IsTypeTextOf, IsTimeTextOf, IsRow, IsTime, IsWellFormed}
 use Rattle.mc_diagram.proofs.lemmas.WellFormedTests.{well_formed-from}
-use Rattle.mc_run_tests.specs.Parts.{row_of, source_of, sum_of}
+use Rattle.mc_run_tests.specs.Parts.{hold_of, row_of, source_of, sum_of}
 
 -- a table without a step
 abbrev pub table_of : List Row → RowTable
@@ -306,7 +306,8 @@ fed_back_late-diagram type zero one = diagram-from (fed_back_late type zero one)
 
 -- a lawful time, of these numbers
 pub time-from : (period offset : Frac) (num den offset_num offset_den : ℕ) → period.num ≡ num → period.den ≡ den → offset.num ≡ offset_num →
-    offset.den ≡ offset_den → 0 < num → num ≤ 255 → den ≤ 255 → offset_num ≤ 255 → offset_den ≤ 255 → offset_num * den < num * offset_den →
+    offset.den ≡ offset_den → 0 < num → num ≤ 10 ^ 9 → den ≤ 10 ^ 9 → offset_num ≤ 10 ^ 9 → offset_den ≤ 10 ^ 9 →
+    offset_num * den < num * offset_den →
     IsTime period offset
 time-from period offset num den offset_num offset_den is_num is_den is_offset_num is_offset_den some few
     few_parts few_later few_parts_later below =
@@ -350,3 +351,50 @@ transition-diagram type zero initial before behind start inside outside =
     (well_formed-from (table_of (transition type zero initial before behind start)) refl refl refl refl refl
     (lawful tt tt inside, (lawful outside refl refl, (lawful tt tt tt, tt))) tt)
     (record { is_root = refl; agrees = (refl, refl, refl, tt) })
+
+-- ---- A hold
+
+abbrev pub held : (type : FixType) (zero : Decimal) (two four start : Frac) → List Row
+held type zero two four start =
+    source_of 0 None (Inport 1) type (Each two start) ∷ hold_of 1 (0 ∷ []) (Each four start) ∷ row_of 2 None (Outport 1 false zero) (1 ∷ []) ∷ []
+
+abbrev pub held-systems : System
+held-systems = root_of (0 ∷ 1 ∷ 2 ∷ [])
+
+pub held-diagram : (type : FixType) (zero : Decimal) (two four start : Frac) → IsTime two start → IsTime four start →
+    AreDiagram (held type zero two four start) held-systems
+held-diagram type zero two four start often seldom = diagram-from (held type zero two four start) held-systems
+    (well_formed-from (table_of (held type zero two four start)) refl refl refl refl refl
+    (lawful tt tt often, (lawful tt refl seldom, (lawful tt tt tt, tt))) tt)
+    (record { is_root = refl; agrees = (refl, refl, refl, tt) })
+
+-- ---- A subsystem whose first output is its second input
+
+abbrev pub crossed : (type : FixType) (zero : Decimal) → List Row
+crossed type zero =
+    source_of 0 None (Inport 1) type NoTime ∷ row_of 1 None (SubSystem Plain) [] ∷ row_of 2 (Some 1) (Inport 1) (0 ∷ [])
+    ∷ row_of 3 (Some 1) (Inport 2) (4 ∷ []) ∷ row_of 4 (Some 1) (Outport 1 false zero) (2 ∷ [])
+    ∷ row_of 5 (Some 1) (Outport 2 false zero) (3 ∷ []) ∷ row_of 6 None (Outport 1 false zero) (5 ∷ []) ∷ []
+
+abbrev pub crossed-systems : System
+crossed-systems = root_around (0 ∷ 1 ∷ 6 ∷ []) (system (Some 1) 1 Plain (2 ∷ 3 ∷ 4 ∷ 5 ∷ []) no_more)
+
+pub crossed-diagram : (type : FixType) (zero : Decimal) → AreDiagram (crossed type zero) crossed-systems
+crossed-diagram type zero = diagram-from (crossed type zero) crossed-systems
+    (well_formed-from (table_of (crossed type zero)) refl refl refl refl refl (
+      lawful tt tt tt,
+      (
+        lawful tt refl refl,
+        (
+          lawful tt tt tt,
+          (
+            lawful tt tt tt,
+            (
+              lawful tt tt tt,
+              (lawful tt tt tt, (lawful tt tt tt, tt)),
+            ),
+          ),
+        ),
+      ),
+    ) tt)
+    (record { is_root = refl; agrees = (refl, refl, refl, (((refl, refl), refl, refl, tt), tt)) })

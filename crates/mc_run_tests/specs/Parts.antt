@@ -7,7 +7,7 @@ use Rattle.mc_fixed.specs.declared.TypeText.TheVariants.{Inherit, Fixed}
 use Rattle.mc_fixed.specs.declared.Round.TheVariants.{Floor}
 use Rattle.mc_fixed.specs.declared.Over.TheVariants.{Saturate}
 use Rattle.mc_blocks.specs.declared.Kind.{Kind}
-use Rattle.mc_blocks.specs.declared.Kind.TheVariants.{Sum}
+use Rattle.mc_blocks.specs.declared.Kind.TheVariants.{Sum, ZeroOrderHold}
 use Rattle.mc_diagram.specs.declared.table.Row.{Row}
 
 -- a row at the line of its number, which inherits its type and its sample time
@@ -29,6 +29,17 @@ source_of number owner kind type time = record {
   kind = kind;
   inputs = [];
   type_text = Fixed type;
+  time_text = time;
+}
+
+-- a hold in the root, which writes its sample time
+abbrev pub hold_of : (number : ℕ) → List ℕ → TimeText → Row
+hold_of number inputs time = record {
+  place = record { row = number; line = number };
+  owner = None;
+  kind = ZeroOrderHold;
+  inputs = inputs;
+  type_text = Inherit;
   time_text = time;
 }
 

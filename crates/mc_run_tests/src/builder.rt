@@ -1,7 +1,7 @@
 ghost use Rattle.std.specs.Prelude.{◌≡◌, ◌<◌, IfOk, pos};
 ghost use Rattle.mc_blocks.specs.declared.Kind.TheVariants.{Outport};
 ghost use Rattle.mc_diagram.specs.Nested.{next, no_more, system, system_of};
-ghost use Rattle.mc_run_tests.specs.Parts.{line_of, row_of, source_of, sum_of};
+ghost use Rattle.mc_run_tests.specs.Parts.{hold_of, line_of, row_of, source_of, sum_of};
 
 use mc_base::{Control, Decimal, Frac, Memory, Place, TimeText, Wires};
 use mc_blocks::{How, Kind};
@@ -63,7 +63,7 @@ pub fn sum(minus: u32) -> Kind
 }
 
 /// So many seconds.
-pub fn seconds(number: u8) -> Frac
+pub fn seconds(number: u32) -> Frac
     ensures num { result.num ≡ number }
     ensures den { result.den ≡ 1 }
 {
@@ -82,6 +82,17 @@ pub fn part_of_second(part: u8) -> Frac
     Frac {
         num: 1,
         den: u64::from(part),
+    }
+}
+
+/// Three millionths of a second more than one.
+pub fn little_more_than_a_second() -> Frac
+    ensures num { result.num ≡ 1_000_003 }
+    ensures den { result.den ≡ 1_000_000 }
+{
+    Frac {
+        num: 1_000_003,
+        den: 1_000_000,
     }
 }
 
@@ -123,6 +134,23 @@ pub fn source(
         kind,
         inputs: Wires::new(Vec::new(alloc)),
         type_text: TypeText::Fixed(type_of),
+        time_text,
+    }
+}
+
+/// A hold of a row in the root, with this text of its sample time.
+pub fn hold(number: u32, inputs: Vec<u32>, time_text: TimeText) -> Row
+    ensures { result ≡ hold_of number inputs.items time_text }
+{
+    Row {
+        place: Place {
+            row: number,
+            line: number,
+        },
+        owner: None,
+        kind: Kind::ZeroOrderHold,
+        inputs: Wires::new(inputs),
+        type_text: TypeText::Inherit,
         time_text,
     }
 }

@@ -4,7 +4,8 @@
 mod builder;
 
 pub use builder::{
-    boolean, int32, leaf, outport, part_of_second, row, seconds, source, sum, whole, with_child,
+    boolean, hold, int32, leaf, little_more_than_a_second, outport, part_of_second, row, seconds,
+    source, sum, whole, with_child,
 };
 
 #[cfg(test)]

@@ -1,7 +1,9 @@
 mod controls;
 mod delays;
 mod nested;
+mod profiles;
 mod rates;
+mod times;
 
 use mc_depend::find_loop;
 use mc_diagram::{Resolved, Tree, resolve_all};

@@ -41,6 +41,3 @@ pub use laws::{
     tree_rows_are_lawful,
 };
 pub use step::fixed_step;
-
-#[cfg(test)]
-mod tests;

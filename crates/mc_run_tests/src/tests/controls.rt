@@ -1,8 +1,9 @@
-use super::values_of;
+use super::{resolved, values_of};
 use crate::{boolean, int32, leaf, outport, row, source, whole, with_child};
 use mc_base::{Control, Edge, Memory, TimeText};
 use mc_blocks::Kind;
 use mc_diagram::{Table, Tree};
+use mc_profile::{Function, profiles_of};
 use std::alloc::Global;
 use std::test::Fail;
 
@@ -97,5 +98,29 @@ fn enable_and_trigger(rt: HostRuntime) -> Result<(), Fail> {
     let reset = at_a_rise_where_enabled(rt.alloc(), true, 3)?;
     let values = values_of(rt.alloc(), reset, inputs.as_slice(), 8)?;
     assert_eq!(rt; values.as_slice(), [3, 6, 3, 3, 3, 3, 2].as_slice());
+    Ok(())
+}
+
+#[test]
+fn profiles_of_both_controls(rt: HostRuntime) -> Result<(), Fail> {
+    let tree = at_a_rise_where_enabled(rt.alloc(), false, 0)?;
+    let r = resolved(rt.alloc(), tree)?;
+    let profiles = profiles_of(rt.alloc(), &r)?;
+    assert_eq!(rt; profiles.len(), 2);
+    // the root's output needs all three inputs, the subsystem's its input, the enable and the trigger
+    let outer = Function {
+        inputs: 7,
+        outputs: 1,
+    };
+    let inner = Function {
+        inputs: 12_884_901_889,
+        outputs: 1,
+    };
+    let root = profiles.as_slice().first().ok_or("there is no root")?;
+    let child = profiles.as_slice().last().ok_or("there is no child")?;
+    assert_eq!(rt; root.row, None);
+    assert_eq!(rt; root.functions.as_slice(), [outer].as_slice());
+    assert_eq!(rt; child.row, Some(3));
+    assert_eq!(rt; child.functions.as_slice(), [inner].as_slice());
     Ok(())
 }

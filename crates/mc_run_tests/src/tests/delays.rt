@@ -1,8 +1,9 @@
-use super::values_of;
+use super::{resolved, trace, values_of};
 use crate::{boolean, int32, leaf, outport, row, source, sum, whole, with_child};
 use mc_base::{Control, Memory, TimeText};
 use mc_blocks::Kind;
 use mc_diagram::{Table, Tree};
+use mc_equations::is_trace_for;
 use std::alloc::Global;
 use std::test::Fail;
 
@@ -32,6 +33,20 @@ fn one_delay(rt: HostRuntime) -> Result<(), Fail> {
     let tree = one_sample(rt.alloc())?;
     let values = values_of(rt.alloc(), tree, [[1], [2], [3]].as_slice(), 2)?;
     assert_eq!(rt; values.as_slice(), [7, 1, 2].as_slice());
+    Ok(())
+}
+
+#[test]
+fn a_row_has_just_one_number_for_each_input(rt: HostRuntime) -> Result<(), Fail> {
+    let tree = one_sample(rt.alloc())?;
+    let r = resolved(rt.alloc(), tree)?;
+    let exact = trace(rt.alloc(), [[1], [2]].as_slice())?;
+    assert_eq!(rt; is_trace_for(&r, exact.as_slice()), true);
+    let none: [[i64; 0]; 1] = [[]];
+    let too_few = trace(rt.alloc(), none.as_slice())?;
+    assert_eq!(rt; is_trace_for(&r, too_few.as_slice()), false);
+    let too_many = trace(rt.alloc(), [[1, 2]].as_slice())?;
+    assert_eq!(rt; is_trace_for(&r, too_many.as_slice()), false);
     Ok(())
 }
 

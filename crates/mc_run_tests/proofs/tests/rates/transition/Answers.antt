@@ -1,4 +1,4 @@
-use Rattle.std.proofs.Common.{rules, arith, ◌≡◌, ◌≤◌, lit≤}
+use Rattle.std.proofs.Common.{rules, arith, ◌≡◌, ◌≤◌, ◌^◌, lit≤}
 use Rattle.mc_run_tests.proofs.Tables as tables
 use Rattle.mc_run_tests.proofs.tests.rates.transition.Goals as goal
 
@@ -12,8 +12,10 @@ new-requires c =
     let start = c.seconds-start in
     let inside = c.requires.inside in
     let outside = c.requires.outside in
-    let few_inside : c.args.inside ≤ 255 = omega (arith, c.ranges.inside.fits) in
-    let few_outside : c.args.outside ≤ 255 = omega (arith, c.ranges.outside.fits) in
+    let below_inside = c.requires.few_inside in
+    let below_outside = c.requires.few_outside in
+    let few_inside : c.args.inside ≤ 10 ^ 9 = omega (arith, below_inside) in
+    let few_outside : c.args.outside ≤ 10 ^ 9 = omega (arith, below_outside) in
     let e : c.in_ok-rows.rows.items ≡ tables.transition int32 zero nine before.result behind.result start.result
     = search rules in
     tables.transition-diagram int32 zero nine before.result behind.result start.result
