@@ -117,6 +117,32 @@ nested_calls() {
   }'
 }
 
+# C of so many rings of so many items each: in a tick each gives its oldest item and takes the input.
+rings() {
+  awk -v rings="$1" -v items="$2" 'BEGIN {
+    print "#include <stdint.h>\nstruct root {\nint32_t y1;"
+    for (k = 0; k < rings; k++) printf "int32_t m%d[%d];\nint32_t p%d;\n", k, items, k
+    print "};\nvoid root_start(struct root *s) { }\nvoid root_step(struct root *s, int32_t u1) {"
+    for (k = 0; k < rings; k++) {
+      printf "s->y1 = (int32_t)(int64_t)s->m%d[(int64_t)s->p%d];\n", k, k
+      printf "s->m%d[(int64_t)s->p%d] = (int32_t)(int64_t)u1;\n", k, k
+      printf "s->p%d = (int32_t)(((int64_t)s->p%d + INT64_C(1)) %% INT64_C(%d));\n", k, k, items
+    }
+    print "}"
+  }'
+}
+
+# C of so many stores of the input in a tick.
+plain_stores() {
+  awk -v stores="$1" 'BEGIN {
+    print "#include <stdint.h>\nstruct root {\nint32_t y1;"
+    for (k = 0; k < stores; k++) printf "int32_t x%d;\n", k
+    print "};\nvoid root_start(struct root *s) { }\nvoid root_step(struct root *s, int32_t u1) {"
+    for (k = 0; k < stores; k++) printf "s->x%d = (int32_t)(int64_t)u1;\n", k
+    print "}"
+  }'
+}
+
 # A trace of one input and so many ticks.
 long_trace() { awk -v n="$1" 'BEGIN { for (k = 1; k <= n; k++) print (k * 7919) % 20011 - 10005 }'; }
 

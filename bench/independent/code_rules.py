@@ -51,11 +51,12 @@ class Rules:
         fields = {}
         for it in struct.fields:
             self.check(it.at, NAME, it.name not in fields and (it.type != "struct" or it.struct in self.structs))
+            self.check(it.at, TYPE, it.length is None or 1 <= it.length <= 65_535)
             fields.setdefault(it.name, it)
         if struct.name == "root" and "root" not in self.structs:
             outputs = outputs_of(struct.fields)
             for it in struct.fields:
-                self.check(it.at, TYPE, not re.fullmatch("y[0-9]+", it.name) or it.type != "struct" and it.name in outputs)
+                self.check(it.at, TYPE, not re.fullmatch("y[0-9]+", it.name) or is_number(it) and it.name in outputs)
         self.structs.setdefault(struct.name, fields)
 
     def proc(self, proc):
@@ -71,8 +72,9 @@ class Rules:
         for it in body:
             if isinstance(it, Store):
                 self.check(it.at, NAME, it.field in fields)
-                self.check(it.at, TYPE, it.field in fields and fields[it.field].type == it.type)
-                self.value(it.value, params, fields)
+                self.check(it.at, TYPE, it.field in fields and fields[it.field].type == it.type and is_array(fields[it.field]) == (it.index is not None))
+                for value in (it.index, it.value) if it.index else (it.value,):
+                    self.value(value, params, fields)
             elif isinstance(it, If):
                 self.value(it.test, params, fields)
                 self.body(it.then, params, fields, struct)
@@ -99,25 +101,35 @@ class Rules:
             else:
                 self.leaf(*it[1:], params, fields)
 
-    def leaf(self, at, param, name, inner, params, fields):
+    def leaf(self, at, param, name, inner, index, params, fields):
         """`fields` is None in a pure function."""
         if param is not None:
             return self.check(at, NAME, param in params)
         if fields is None or name not in fields:
             return self.check(at, NAME, False)
+        if index is not None:
+            return self.check(at, TYPE, is_array(fields[name]))
         if inner is None or fields[name].type != "struct":
-            return self.check(at, TYPE, inner is None and fields[name].type != "struct")
+            return self.check(at, TYPE, inner is None and is_number(fields[name]))
         within = self.structs.get(fields[name].struct, {})
         self.check(at, NAME, inner in within)
-        self.check(at, TYPE, inner in within and within[inner].type != "struct")
+        self.check(at, TYPE, inner in within and is_number(within[inner]))
 
     def is_whole(self):
         return "root" in self.structs and all(self.known(it, Proc) for it in ("root_start", "root_step"))
 
 
+def is_array(field):
+    return field.length is not None
+
+
+def is_number(field):
+    return field.type != "struct" and not is_array(field)
+
+
 def outputs_of(fields):
     """The names of the outputs among the fields of `struct root`, in order."""
-    numbers = {it.name for it in fields if it.type != "struct"}
+    numbers = {it.name for it in fields if is_number(it)}
     return list(takewhile(numbers.__contains__, (f"y{number}" for number in count(1))))
 
 
@@ -131,7 +143,10 @@ class Machine:
         self.root, self.steps, self.calls = self.fields("root"), 0, 0
 
     def fields(self, struct):
-        return {name: self.fields(it.struct) if it.type == "struct" else 0 for name, it in self.structs[struct].items()}
+        return {name: self.at_first(it) for name, it in self.structs[struct].items()}
+
+    def at_first(self, field):
+        return self.fields(field.struct) if field.type == "struct" else [0] * field.length if is_array(field) else 0
 
     def within(self, number, bounds, line, cause):
         if not bounds[0] <= number <= bounds[1]:
@@ -143,7 +158,9 @@ class Machine:
         if kind == "number":
             return parts[0]
         if kind == "leaf":
-            _, param, name, inner = parts
+            _, param, name, inner, index = parts
+            if index is not None:
+                return fields[name][self.place(fields[name], index, fields, params, line)]
             return params[param] if param is not None else fields[name] if inner is None else fields[name][inner]
         if kind == "minus":
             return self.within(-self.value(parts[0], fields, params, line), (LEAST, GREATEST), line, "Overflow")
@@ -152,6 +169,10 @@ class Machine:
         if kind == "call":
             return self.pure(self.functions[parts[1]], [self.value(it, fields, params, line) for it in parts[2]])
         return self.operation(parts[0], *[self.value(it, fields, params, line) for it in parts[1:]], line)
+
+    def place(self, items, index, fields, params, line):
+        """The place of an item."""
+        return self.within(self.value(index, fields, params, line), (0, len(items) - 1), line, "Index")
 
     def pure(self, pure, numbers):
         self.steps += 1
@@ -183,7 +204,8 @@ class Machine:
         for it in body:
             self.steps += 1
             if isinstance(it, Store):
-                fields[it.field] = self.fitting(it.value, it.type, fields, params, it.line)
+                target, place = (fields, it.field) if it.index is None else (fields[it.field], self.place(fields[it.field], it.index, fields, params, it.line))
+                target[place] = self.fitting(it.value, it.type, fields, params, it.line)
             elif isinstance(it, If):
                 self.body(it.then if self.test(it.test, fields, params, it.line) else it.other, fields, params)
             else:

@@ -9,7 +9,7 @@ KEYWORDS = set(
     "auto break case char const continue default do double else enum extern float for goto if inline int long register restrict return short "
     "signed sizeof static struct switch typedef union unsigned void volatile while _Bool _Complex _Imaginary".split()
 )
-TOKEN = re.compile(rb"[A-Za-z_][A-Za-z0-9_]*|[0-9]+|->|==|!=|<=|>=|&&|\|\||[(){};,*=?:\-+/%<>!&.]")
+TOKEN = re.compile(rb"[A-Za-z_][A-Za-z0-9_]*|[0-9]+|->|==|!=|<=|>=|&&|\|\||[(){}\[\];,*=?:\-+/%<>!&.]")
 FIRST_LINE = b"#include <stdint.h>"
 
 # Words in lower case are rules, those in upper case kinds of tokens, and all else stands for itself behind a quote.
@@ -22,18 +22,18 @@ pure: 'static 'int64_t NAME '( numbers ') '{ 'return expr '; '}
 numbers: 'int64_t NAME | numbers ', 'int64_t NAME
 struct: 'struct NAME '{ fields '} ';
 fields: field | fields field
-field: TYPE NAME '; | 'struct NAME NAME ';
+field: TYPE NAME '; | TYPE NAME '[ LITERAL '] '; | 'struct NAME NAME ';
 proc: void | 'static void
 void: 'void NAME '( 'struct NAME '* 's params ') block
 params: | params ', TYPE NAME
 block: '{ stmts '}
 stmts: | stmts stmt
-stmt: 's '-> NAME '= '( TYPE ') expr '; | 'if cond block | 'if cond block 'else block | NAME '( target values ') ';
+stmt: 's '-> NAME '= '( TYPE ') expr '; | 's '-> NAME '[ expr '] '= '( TYPE ') expr '; | 'if cond block | 'if cond block 'else block | NAME '( target values ') ';
 target: 's | '& 's '-> NAME
 values: | values ', '( TYPE ') expr
 expr: 'INT64_C '( LITERAL ') | '( '- expr ') | '( 'int64_t ') leaf | '( expr OPERATOR expr ') | '( cond '? expr ': expr ') | NAME '( exprs ')
 exprs: expr | exprs ', expr
-leaf: NAME | 's '-> NAME | 's '-> NAME '. NAME
+leaf: NAME | 's '-> NAME | 's '-> NAME '. NAME | 's '-> NAME '[ expr ']
 cond: '( expr RELATION expr ') | '( cond '&& cond ') | '( cond '__or__ cond ') | '( '! cond ')
 """
 GRAMMAR = {}

@@ -28,6 +28,7 @@ class Field:
     name: str
     type: str
     struct: str = None
+    length: int = None
 
 
 @dataclass
@@ -53,6 +54,7 @@ class Store:
     field: str
     type: str
     value: tuple
+    index: tuple = None
 
 
 @dataclass
@@ -134,10 +136,17 @@ class Reader:
         while not self.takes("}"):
             place, type = self.at, self.take()
             struct = self.take() if type == "struct" else None
-            fields.append(Field(place, self.take(), type, struct))
+            fields.append(Field(place, self.take(), type, struct, self.length()))
             self.take(";")
         self.take(";")
         return Struct(at, name, fields)
+
+    def length(self):
+        """The length of an array."""
+        if self.takes("["):
+            length = int(self.take())
+            self.take("]")
+            return length
 
     def proc(self):
         at = self.at
@@ -167,11 +176,18 @@ class Reader:
     def store(self):
         at, line = self.at, self.lines[self.at]
         self.take("s"), self.take("->")
-        name = self.take()
+        name, index = self.take(), self.index()
         self.take("=")
         type, value = self.cast(), self.expr()
         self.take(";")
-        return Store(at, line, name, type, value)
+        return Store(at, line, name, type, value, index)
+
+    def index(self):
+        """The index of an item."""
+        if self.takes("["):
+            index = self.expr()
+            self.take("]")
+            return index
 
     def choice(self):
         at, line = self.at, self.lines[self.at]
@@ -247,9 +263,10 @@ class Reader:
     def leaf(self):
         at = self.at
         if not self.takes("s"):
-            return "leaf", at, self.take(), None, None
+            return "leaf", at, self.take(), None, None, None
         self.take("->")
-        return "leaf", at, None, self.take(), self.take() if self.takes(".") else None
+        name, index = self.take(), self.index()
+        return "leaf", at, None, name, self.take() if index is None and self.takes(".") else None, index
 
     def cond(self):
         self.take("(")

@@ -7,7 +7,7 @@ NARROW = [it for it in TYPES if it != "int64_t"]
 NUMBERS = ["0", "1", "2", "3", "7", "10", "100", "127", "128", "255", "256", "32767", "65535"]
 LARGE = ["2147483647", "2147483648", "4294967295", "4611686018427387904", "9223372036854775807"]
 NAMES_IN_USE = ["a1", "p1", "f1", "x1", "u1", "root_step", "y1"]
-STRAY = "( ) { } ; , * = ? : && || < == s -> - ! & . 01 9223372036854775808 X int x_t @ static void if else return struct int64_t int8_t INT64_C _a # \" | 1a /* */ //".split()
+STRAY = "( ) { } [ ] ; , * = ? : && || < == s -> - ! & . 01 9223372036854775808 X int x_t @ static void if else return struct int64_t int8_t INT64_C _a # \" | 1a /* */ //".split()
 GAPS = ["", "", " ", "\n", "\t", " \r\n", "/* c */", "/*\n*/", "\n\n", "/***/", "/* / * */"]
 
 
@@ -46,12 +46,35 @@ class CodeText:
     def number(self):
         self.put("INT64_C", "(", self.chance.choice(LARGE if self.is_lucky(0.1) else NUMBERS), ")")
 
+    def index(self, length, params, fields):
+        """Mostly a number of an item."""
+        self.put("[")
+        if self.is_lucky(0.7):
+            self.put("INT64_C", "(", str(self.chance.randrange(max(1, length) + self.is_lucky(0.05))), ")")
+        else:
+            self.put("(")
+            self.expr(1, params, fields)
+            self.put("%", "INT64_C", "(", str(length), ")", ")")
+        self.put("]")
+
+    def item(self, params, fields):
+        """An item of an array, where there is one."""
+        arrays = [name for name, type in fields.items() if isinstance(type, tuple)]
+        if not arrays:
+            return self.number()
+        name = self.chance.choice(arrays)
+        self.put("(", "int64_t", ")", "s", "->", name)
+        self.index(fields[name][1], params, fields)
+
     def leaf(self, params, fields):
+        if self.is_lucky(0.2):
+            return self.item(params, fields)
         numbers = [[it] for it in params] + [["s", "->", name] for name, type in fields.items() if type in TYPES]
         inside = [(name, inner) for name, type in fields.items() if type in self.structs for inner, it in self.structs[type].items() if it in TYPES]
         numbers += [["s", "->", name, ".", inner] for name, inner in inside]
         if self.is_wrong():
-            numbers = [["zz"], ["s", "->", "zz"], ["s", "->", "x1", ".", "x1"], ["s", "->", "c1"], ["a1"]]
+            numbers = [["zz"], ["s", "->", "zz"], ["s", "->", "x1", ".", "x1"], ["s", "->", "c1"], ["a1"], ["s", "->", "b1"], ["s", "->", "c1", ".", "b1"]]
+            numbers += [["s", "->", name, "[", "INT64_C", "(", "0", ")", "]"] for name in ("x1", "c1", "y1", "zz")]
         if not numbers or self.is_lucky(0.2):
             return self.number()
         self.put("(", "int64_t", ")", *self.chance.choice(numbers))
@@ -124,14 +147,32 @@ class CodeText:
         for number in range(self.chance.randrange(not fields, 4)):
             inner = [*self.structs] if self.is_lucky(0.4) else []
             fields.append((f"c{number}", self.chance.choice(inner)) if inner else (f"x{number}", self.chance.choice([*TYPES])))
+        for number in range(self.chance.choice([0, 0, 1, 2])):
+            length = self.chance.choice([0, 65_536, 10**18]) if self.is_wrong() else self.chance.choice([1, 2, 3, 5, 65_535])
+            fields.append((f"b{number}", (self.chance.choice([*TYPES]), length)))
         if self.is_wrong(3):
-            fields.append(self.chance.choice([fields[0], ("y9", "int8_t"), ("y0", "int8_t"), ("w", "nope"), ("y", "int8_t"), ("y01", "int8_t"), ("y1", "a0")]))
+            fields.append(self.chance.choice([fields[0], ("y9", "int8_t"), ("y0", "int8_t"), ("w", "nope"), ("y", "int8_t"), ("y01", "int8_t"), ("y1", "a0"), ("y9", ("int8_t", 2)), ("y1", ("int8_t", 2))]))
         self.chance.shuffle(fields)
         self.put("struct", name, "{")
         for field, type in fields:
-            self.put(*["struct"] * (type not in TYPES), type, field, ";")
+            if isinstance(type, tuple):
+                self.put(type[0], field, "[", str(type[1]), "]", ";")
+            else:
+                self.put(*["struct"] * (type not in TYPES), type, field, ";")
         self.put("}", ";")
         self.structs.setdefault(name, dict(fields))
+
+    def store_item(self, params, fields):
+        arrays = [it for it, type in fields.items() if isinstance(type, tuple)]
+        if arrays:
+            name = self.chance.choice(arrays)
+            type, length = fields[name]
+            self.put("s", "->", "zz" if self.is_wrong() else name)
+            if not self.is_wrong():
+                self.index(length, params, fields)
+            self.put("=", "(", self.type(type), ")")
+            self.fitting(type, params, fields)
+            self.put(";")
 
     def store(self, params, fields):
         numbers = [it for it, type in fields.items() if type in TYPES]
@@ -164,7 +205,9 @@ class CodeText:
     def stmts(self, depth, count, params, fields, struct):
         for _ in range(count):
             kind = self.chance.random()
-            if kind < 0.5:
+            if kind < 0.15:
+                self.store_item(params, fields)
+            elif kind < 0.5:
                 self.store(params, fields)
             elif kind < 0.7 and depth > 0:
                 self.choice(depth, params, fields, struct)
