@@ -57,9 +57,10 @@ fn refused(line: u32, kind: CKind) -> Option<ReadCFault> {
 fn an_array_has_its_length(rt: HostRuntime) -> Result<(), Fail> {
     let text = text_with(rt.alloc(), b"uint8_t a[7];", b"")?;
     let checked = read_c(rt.alloc(), text.as_slice())?;
-    let fields = &checked.program().structs[1].fields;
-    assert_eq!(rt; fields.len(), 4);
-    assert_eq!(rt; fields[3].kind, FieldKind::Array(c_syntax::CType::U8, 7));
+    let root = checked.program().structs.as_slice().get(1).ok_or("root")?;
+    assert_eq!(rt; root.fields.len(), 4);
+    let array = root.fields.as_slice().get(3).ok_or("array")?;
+    assert_eq!(rt; array.kind, FieldKind::Array(c_syntax::CType::U8, 7));
     assert_eq!(rt; checked.outputs(), 1);
     Ok(())
 }

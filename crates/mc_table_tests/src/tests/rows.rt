@@ -60,7 +60,6 @@ fn rows_stand_where_their_blocks_do(rt: HostRuntime) -> Result<(), Fail> {
 fn rows_have_the_kinds_of_their_blocks(rt: HostRuntime) -> Result<(), Fail> {
     let tree = difference(rt.alloc())?;
     let rows = tree.table().rows.as_slice();
-    let zero = Decimal { num: 0, den: 1 };
     for (row, kind) in [
         (0, Kind::Inport { port: 1 }),
         (
@@ -77,17 +76,27 @@ fn rows_have_the_kinds_of_their_blocks(rt: HostRuntime) -> Result<(), Fail> {
                 initial: Decimal { num: 7, den: 1 },
             },
         ),
-        (
-            3,
-            Kind::Outport {
-                port: 1,
-                reset: false,
-                initial: zero,
-            },
-        ),
     ] {
         assert_eq!(rt; rows.get(row as usize).ok_or("row")?.kind, kind);
     }
+    Ok(())
+}
+
+#[test]
+fn an_outport_holds_its_value_and_begins_with_0(rt: HostRuntime) -> Result<(), Fail> {
+    let tree = difference(rt.alloc())?;
+    let outport = tree.table().rows.as_slice().get(3).ok_or("row")?;
+    let Kind::Outport {
+        port,
+        reset,
+        initial,
+    } = outport.kind
+    else {
+        return Err(Fail::from("kind"));
+    };
+    assert_eq!(rt; port, 1);
+    assert_eq!(rt; reset, false);
+    assert_eq!(rt; (initial.num, initial.den), (0, 1));
     Ok(())
 }
 
