@@ -114,6 +114,7 @@ module _ (rows : List Row) (types : List FixType) (ops : List Op) (flat : IsFlat
       ap search (sym number)
       ∙ found-at search 1 (input_count bs) (k - 1) (all-in 1 (input_count bs) (omega arith) (omega arith)) (omega (arith, low, high))
       ∙ ap (λ l. slice_get l (k - 1)) (sym inports-by)
+      ∙ (let same : suc (k - 1) ≡ k = omega (arith, low) in ap (λ j. input_row rows None (Number j)) same)
 
   abbrev IsInputRow : ℕ → Type 0
   IsInputRow b = (b < length bs) × (is_input (block_at bs b) ≡ true)

@@ -1,5 +1,5 @@
 -- The rows of a diagram of one system, each with what its code needs of it.
-use Rattle.std.specs.Prelude.{ℕ, ◌+◌, ◌-◌, ◌^◌, Bool, true, false, not, ◌&&◌, ◌==◌, List, map, filter, filter_map, length, slice_index_or, Option, Some, None, ℤ, pos}
+use Rattle.std.specs.Prelude.{ℕ, ◌+◌, ◌-◌, ◌^◌, Bool, true, false, not, ◌&&◌, ◌==◌, List, [], ◌∷◌, map, filter, filter_map, length, slice_index_or, Option, Some, None, ℤ, pos}
 use Rattle.std.specs.Option.{option_map_or}
 use Rattle.std.specs.List.{range_with_len, position_from, list_any}
 use Rattle.mc_blocks.specs.declared.Kind.{Kind}
@@ -9,7 +9,6 @@ use Rattle.mc_blocks.specs.declared.Op.TheVariants.{Value}
 use Rattle.mc_diagram.specs.Rows.{row_at, by_row}
 use Rattle.mc_diagram.specs.Diagram.{Diagram, type_at, op_at}
 use Rattle.mc_diagram.specs.Run.{start_of}
-use Rattle.mc_diagram.specs.Inputs.{first_wire}
 use Rattle.mc_base.specs.Interface.{different}
 use Rattle.c_syntax.specs.declared.CType.{CType}
 use Rattle.c_syntax.specs.declared.CType.TheVariants.{I32}
@@ -26,10 +25,19 @@ abbrev pub value_of : Op → ℤ
 value_of (Value v) = v
 value_of _ = pos 0
 
+-- an Outport and a Unit Delay by the wire that each has; without one they are in no such diagram
+abbrev pub output_by : (port : ℕ) → List ℕ → Block
+output_by port [] = no_block
+output_by port (c ∷ wires) = Output port c
+
+abbrev pub delay_by : List ℕ → (start : ℤ) → Block
+delay_by [] start = no_block
+delay_by (c ∷ wires) start = Delay c start
+
 abbrev pub block_by : Kind → List ℕ → (start value : ℤ) → Block
 block_by (Inport port) wires start value = Input port
-block_by (Outport port reset initial) wires start value = Output port (first_wire wires)
-block_by (UnitDelay initial) wires start value = Delay (first_wire wires) start
+block_by (Outport port reset initial) wires start value = output_by port wires
+block_by (UnitDelay initial) wires start value = delay_by wires start
 block_by (Constant number) wires start value = Fixed value
 block_by Ground wires start value = Fixed value
 block_by Terminator wires start value = Sink

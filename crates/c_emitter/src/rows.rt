@@ -1,9 +1,8 @@
 ghost use Rattle.std.specs.Prelude.{◌≡◌, ℕ, ◌+◌, ◌<◌, ◌≤◌, List, length, slice_index, IfOk};
 ghost use Rattle.mc_diagram.specs.Diagram.{op_at};
 ghost use Rattle.mc_diagram.specs.Run.{start_of};
-ghost use Rattle.mc_diagram.specs.Inputs.{first_wire};
 ghost use Rattle.c_emitter.specs.Flat.{IsFlatAtEveryTick};
-ghost use Rattle.c_emitter.specs.Blocks.{blocks_of, value_of, block_at, rows_below, value_places, source_need, need_of, output_row, output_rows, output_sources, function_needs};
+ghost use Rattle.c_emitter.specs.Blocks.{blocks_of, value_of, output_by, delay_by, block_at, rows_below, value_places, source_need, need_of, output_row, output_rows, output_sources, function_needs};
 ghost use Rattle.c_emitter.specs.Sorts.{is_of};
 
 use crate::block::{Block, Sort};
@@ -13,11 +12,30 @@ use mc_base::{Memory, Wires};
 use mc_blocks::{Kind, Op};
 use std::alloc::Global;
 
-// The row that a row's one wire comes from.
-fn first_wire(wires: &Wires) -> u32
-    ensures { result ≡ first_wire wires.now }
+// An Outport with its wire.
+fn output_block(port: u32, wires: &Wires) -> Block
+    ensures { result ≡ output_by port wires.now }
 {
-    wires.wires().first().copied().unwrap_or(0)
+    match wires.wires().first() {
+        None => Block::Sink,
+        Some(source) => Block::Output {
+            port,
+            source: *source,
+        },
+    }
+}
+
+// A Unit Delay with its wire.
+fn delay_block(wires: &Wires, start: i64) -> Block
+    ensures { result ≡ delay_by wires.now start }
+{
+    match wires.wires().first() {
+        None => Block::Sink,
+        Some(source) => Block::Delay {
+            source: *source,
+            start,
+        },
+    }
 }
 
 // What a row's value starts with.
@@ -55,14 +73,8 @@ pub(crate) fn block_at(d: &FlatDiagram, row: usize) -> Block
     let read = &d.rows[row];
     match read.kind {
         Kind::Inport { port } => Block::Input { port },
-        Kind::Outport { port, .. } => Block::Output {
-            port,
-            source: first_wire(&read.inputs),
-        },
-        Kind::UnitDelay { .. } => Block::Delay {
-            source: first_wire(&read.inputs),
-            start: start_at(d, row),
-        },
+        Kind::Outport { port, .. } => output_block(port, &read.inputs),
+        Kind::UnitDelay { .. } => delay_block(&read.inputs, start_at(d, row)),
         Kind::Constant(_) | Kind::Ground => Block::Fixed {
             value: value_at(d, row),
         },

@@ -15,7 +15,9 @@ use std::marker::Model;
 /// The group of each node, and for each group the functions that hold it: bit j for function j + 1.
 #[derive(Drop)]
 pub struct Groups {
+    /// The group of each node.
     pub of: Vec<u32>,
+    /// The set of functions that hold each group: bit j for function j + 1.
     pub holds: Vec<u64>,
 }
 

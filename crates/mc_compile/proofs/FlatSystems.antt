@@ -1,5 +1,5 @@
 -- A flat diagram has one system, the root, of which all its rows are.
-use Rattle.std.specs.Prelude.{◌≡◌, refl, ℕ, zero, suc, ◌-◌, ◌<◌, ◌&&◌, Bool, true, false, List, [], ◌∷◌, ◌++◌, map, filter, length, slice_get, slice_index_or, None, Some, unwrap_or}
+use Rattle.std.specs.Prelude.{◌≡◌, refl, ℕ, zero, suc, ◌<◌, ◌&&◌, Bool, true, false, List, [], ◌∷◌, ◌++◌, map, filter, length, slice_get, slice_index_or, Option, None, Some, unwrap_or}
 use Rattle.std.specs.List.{range_with_len}
 use Rattle.std.proofs.Common.{sym, ◌∙◌, ap, inl, inr, arith, cond}
 use Rattle.mc_base.specs.declared.Port.TheVariants.{Number}
@@ -9,6 +9,7 @@ use Rattle.mc_blocks.specs.declared.Kind.TheVariants.{SubSystem}
 use Rattle.mc_diagram.specs.declared.table.Row.{Row}
 use Rattle.mc_diagram.specs.Rows.{row_at, no_row, row_numbers, rows_of, inports_of, same_system, is_subsystem, is_inside}
 use Rattle.mc_diagram.specs.Diagram.{Diagram, type_at}
+use Rattle.mc_diagram.specs.Inputs.{input_row}
 use Rattle.mc_diagram.proofs.lemmas.Tick.{row_at-past}
 use Rattle.mc_diagram.proofs.lemmas.ByRow.{map_range-at}
 use Rattle.std.proofs.lemmas.List.FromFn.{length-map-range_with_len}
@@ -76,18 +77,19 @@ got (x ∷ xs) zero n below = refl
 got (x ∷ xs) (suc b) n below = got xs b n (omega (arith, below))
 
 -- a list by the places of its items, from 1 on
-by-place : {B : Type 0} (f : ℕ → B) (xs : List ℕ) (n : ℕ) (z : B) → map f xs ≡ map (λ k. f (unwrap_or (slice_get xs (k - 1)) n)) (range_with_len 1 (length xs))
-by-place f xs n z =
-    same_at (map f xs) (map (λ k. f (unwrap_or (slice_get xs (k - 1)) n)) (range_with_len 1 (length xs))) z
-    (length-map f xs ∙ sym (length-map-range_with_len (λ k. f (unwrap_or (slice_get xs (k - 1)) n)) 1 (length xs)))
+by-place : {B : Type 0} (f : ℕ → B) (xs : List ℕ) (item : ℕ → Option ℕ) (n : ℕ) (z : B) →
+    ((b : ℕ) → item (suc b) ≡ slice_get xs b) → map f xs ≡ map (λ k. f (unwrap_or (item k) n)) (range_with_len 1 (length xs))
+by-place f xs item n z same =
+    same_at (map f xs) (map (λ k. f (unwrap_or (item k) n)) (range_with_len 1 (length xs))) z
+    (length-map f xs ∙ sym (length-map-range_with_len (λ k. f (unwrap_or (item k) n)) 1 (length xs)))
     (λ b below. let inside : b < length xs = (let size = length-map f xs in omega (arith, size, below)) in
     map-at f xs b z inside ∙ ap f (got xs b n inside)
-    ∙ ap (λ i. f (unwrap_or (slice_get xs i) n)) (let e : b ≡ suc b - 1 = omega arith in e)
-    ∙ sym (map_range-at (λ k. f (unwrap_or (slice_get xs (k - 1)) n)) (length xs) 1 b z inside (suc b) (omega arith)))
+    ∙ ap (λ o. f (unwrap_or o n)) (sym (same b))
+    ∙ sym (map_range-at (λ k. f (unwrap_or (item k) n)) (length xs) 1 b z inside (suc b) (omega arith)))
 
 pub inputs-are : (d : Diagram) (some : FixType) → map (type_at d.types) (inports_of d.rows None) ≡ root_types d
 inputs-are d some =
     let ports = range_with_len 1 (length (inports_of d.rows None)) in
-    by-place (type_at d.types) (inports_of d.rows None) (length d.rows) some
+    by-place (type_at d.types) (inports_of d.rows None) (λ k. input_row d.rows None (Number k)) (length d.rows) some (λ b. refl)
     ∙ sym (map-twice (input_type_of d None) Number ports)
     ∙ ap (map (input_type_of d None)) (sym (nothing-behind (map Number ports)))

@@ -16,6 +16,7 @@ pub mod Timeless
 pub mod Equations
 pub mod Ports
 pub mod Traces
+pub mod EnteringWires
 pub mod TickLaws
 pub mod FullMemories
 pub mod SystemRuns

@@ -1,5 +1,5 @@
 -- The inputs of a system, by number and then its controls, and the rows that give them their values.
-use Rattle.std.specs.Prelude.{ℕ, ◌-◌, List, [], ◌∷◌, ◌++◌, map, length, slice_get, slice_index_or, Option, Some, None}
+use Rattle.std.specs.Prelude.{ℕ, zero, suc, List, [], ◌∷◌, ◌++◌, map, flat_map, length, slice_get, Option, Some, None}
 use Rattle.std.specs.List.{range_with_len}
 use Rattle.mc_base.specs.declared.Control.{Control}
 use Rattle.mc_base.specs.declared.Control.TheVariants.{Plain, Enabled, Triggered, Both}
@@ -26,13 +26,18 @@ abbrev pub control_wires_of : List Row → Option ℕ → List ℕ
 control_wires_of rows None = []
 control_wires_of rows (Some e) = (row_at rows e).inputs
 
--- the wire of a row that has one, such as an Inport inside a subsystem
-abbrev pub first_wire : List ℕ → ℕ
-first_wire wires = slice_index_or wires 0 0
+-- the wires of some rows, one after another
+abbrev pub wires_of_rows : List Row → List ℕ → List ℕ
+wires_of_rows rows bs = flat_map (λ b. (row_at rows b).inputs) bs
 
--- the row that is the input k of a system: its Inport of that number
+-- the wires that enter a system: those of its Inports, by port; the root's Inports have none
+abbrev pub entering_wires : List Row → Option ℕ → List ℕ
+entering_wires rows s = wires_of_rows rows (inports_of rows s)
+
+-- the row that is the input k of a system: its Inport of that number; numbers begin with 1
 abbrev pub inport_row : List Row → Option ℕ → ℕ → Option ℕ
-inport_row rows s k = slice_get (inports_of rows s) (k - 1)
+inport_row rows s zero = None
+inport_row rows s (suc k) = slice_get (inports_of rows s) k
 
 -- the row of the system that encloses it which an input of a system reads: a control's wire; the root has no control
 abbrev pub control_row : List Row → Option ℕ → Port → Option ℕ

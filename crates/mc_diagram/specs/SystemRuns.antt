@@ -10,7 +10,7 @@ use Rattle.mc_blocks.specs.Meaning.{has_value, delay_length}
 use Rattle.mc_diagram.specs.SampleTimes.{hit}
 use Rattle.mc_diagram.specs.declared.table.Row.{Row}
 use Rattle.mc_diagram.specs.Rows.{row_at, is_inport, port_of, is_triggered, system_control, same_system, inports_of, around, column}
-use Rattle.mc_diagram.specs.Inputs.{control_ports, control_wires_of, first_wire}
+use Rattle.mc_diagram.specs.Inputs.{control_ports, control_wires_of, entering_wires}
 use Rattle.mc_diagram.specs.ControlValues.{number_of, is_active_by, is_off_by, is_disabled_by, remembered_by}
 use Rattle.mc_diagram.specs.Diagram.{Diagram, op_at, time_at}
 use Rattle.mc_diagram.specs.ResolvedTree.{ResolvedTree, IsResolvedTree, diagram_of}
@@ -138,7 +138,7 @@ module _ (d : Diagram) (s : Option ℕ) (xs : List (List ℤ)) (run : Run) (n : 
   inputs_at t =
       if same_system s n
       then map (λ k. value_at (trace_at t) (column d.rows n (Number k))) (range_with_len 1 (length (inports_of d.rows n)))
-      else map (λ i. value_at (values_at t) (first_wire (row_at d.rows i).inputs)) (inports_of d.rows n)
+      else map (value_at (values_at t)) (entering_wires d.rows n)
 
   -- its controls, an enable before a trigger
   abbrev pub controls_at : ℕ → List ℤ
@@ -173,7 +173,7 @@ RunsAreOfSystems = (r : ResolvedTree) (s n : Option ℕ) (xs : List (List ℤ)) 
 pub record MeetsParent (d : Diagram) (n : Option ℕ) (m : SystemTick) (e : ℕ) (inner : SystemTick) : Type 0 where
   pub parent : inner.parent ≡ system_is_active d n m
   pub is_off_around : inner.is_off_around ≡ (m.is_off_around || system_is_off d n m)
-  pub inputs : inner.inputs ≡ map (λ i. m.value (first_wire (row_at d.rows i).inputs)) (inports_of d.rows (Some e))
+  pub inputs : inner.inputs ≡ map m.value (entering_wires d.rows (Some e))
   pub controls : inner.controls ≡ map m.value (control_wires_of d.rows (Some e))
 
 -- each child of a system within s does so at each tick

@@ -19,7 +19,7 @@ use Rattle.mc_blocks.specs.Evaluation.{IsEvaluable}
 use Rattle.mc_blocks.specs.Value.{input}
 use Rattle.mc_diagram.specs.declared.table.Row.{Row}
 use Rattle.mc_diagram.specs.Rows.{row_at, no_row, control_of, control_at, is_enabled, is_triggered, is_inport, is_inside, is_subsystem, same_system, port_of, inports_of, enable_count, column, enable_among, trigger_among, system_control}
-use Rattle.mc_diagram.specs.Inputs.{control_ports, control_wires_of, first_wire}
+use Rattle.mc_diagram.specs.Inputs.{control_ports, control_wires_of, entering_wires}
 use Rattle.mc_diagram.specs.ControlValues.{number_of}
 use Rattle.mc_diagram.specs.WellFormed.{wires_wanted}
 use Rattle.mc_diagram.specs.Diagram.{Diagram, type_at, op_at}
@@ -32,6 +32,7 @@ use Rattle.mc_diagram.specs.SystemRuns.{SystemTick, IsRowOf, own_inputs, inputs_
 use Rattle.mc_diagram.specs.Traces.{input_type_of, IsTraceRow, IsTrace}
 use Rattle.mc_diagram.proofs.lemmas.ByRow.{length-by_row}
 use Rattle.mc_diagram.proofs.lemmas.Ports.{IsPorted, ported-at}
+use Rattle.mc_diagram.proofs.lemmas.EnteringWires.{as-many}
 use Rattle.mc_diagram.proofs.lemmas.RestsOnNeeds.{is_inport-equal, same_system-equal}
 use Rattle.mc_diagram.proofs.lemmas.FullMemories.{first-memories}
 use Rattle.mc_diagram.proofs.lemmas.SystemRuns.{first-triggers, inputs-are}
@@ -221,13 +222,17 @@ module _ (r : ResolvedTree) (resolved : IsResolvedTree r) (s : Option ℕ) (xs :
             (subst (λ vs. InType (type_at r.types c) (input vs 0)) (read-is c row ∙ read) first)
 
     inputs-long : length (inputs_at d s xs run n t) ≡ length (inports_of rows n)
-    inputs-long = by (same_system s n)
+    inputs-long = by (same_system s n) refl
       where
-        by : (here : Bool) → length (if here
+        entered : (o : Option ℕ) → IsSystemWithin rows s o → same_system s o ≡ false → length (entering_wires rows o) ≡ length (inports_of rows o)
+        entered None inside other = absurd (true≢false (sym (ap (λ q. same_system q None) inside) ∙ other))
+        entered (Some e) inside other = as-many rows resolved.tree.table.wired e (resolved.tree.table.inports (Some e))
+
+        by : (here : Bool) → same_system s n ≡ here → length (if here
             then map (λ k. value_at x (column rows n (Number k))) (range_with_len 1 (length (inports_of rows n)))
-            else map (λ i. value_at v (first_wire (row_at rows i).inputs)) (inports_of rows n)) ≡ length (inports_of rows n)
-        by true = length-map-range_with_len (λ k. value_at x (column rows n (Number k))) 1 (length (inports_of rows n))
-        by false = length-map (inports_of rows n) (λ i. value_at v (first_wire (row_at rows i).inputs))
+            else map (value_at v) (entering_wires rows n)) ≡ length (inports_of rows n)
+        by true h = length-map-range_with_len (λ k. value_at x (column rows n (Number k))) 1 (length (inports_of rows n))
+        by false h = length-map (entering_wires rows n) (value_at v) ∙ entered n within h
 
     controls-in : AllZip (λ c w. InType (type_at r.types c) w) (control_wires_of rows n) (controls_at d s xs run n t)
     controls-in = by (same_system s n) refl

@@ -1,6 +1,6 @@
 -- What a call of a child's function takes: the wires that enter those of its Inports, and of its controls, that are in the
 -- function's mask.
-use Rattle.std.specs.Prelude.{◌≡◌, ◌⊎◌, ℕ, zero, suc, ◌+◌, ◌-◌, ◌<◌, Bool, true, List, map, filter, zip, length, slice_get, Contains, Option, Some, IsTrue, refl}
+use Rattle.std.specs.Prelude.{◌≡◌, ◌⊎◌, ℕ, zero, suc, ◌+◌, ◌-◌, ◌<◌, Bool, true, List, [], ◌∷◌, map, filter, zip, length, slice_get, Contains, Option, Some, IsTrue, refl}
 use Rattle.std.specs.List.{range_with_len}
 use Rattle.std.proofs.Common.{sym, ap, subst, ◌∙◌, arith, inl, inr, true≢false}
 use Rattle.std.proofs.lemmas.List.{length-map}
@@ -11,16 +11,17 @@ use Rattle.mc_base.specs.declared.Port.{Port}
 use Rattle.mc_base.specs.declared.Port.TheVariants.{Number, Enable, Trigger}
 use Rattle.mc_blocks.specs.declared.Kind.{Kind}
 use Rattle.mc_blocks.specs.declared.Kind.TheVariants.{SubSystem}
-use Rattle.mc_diagram.specs.Rows.{row_at, inports_of, is_subsystem, is_enabled, is_triggered, control_of, control_at}
+use Rattle.mc_diagram.specs.Rows.{row_at, inports_of, is_inport, is_subsystem, is_enabled, is_triggered, control_of, control_at}
 use Rattle.mc_diagram.specs.Diagram.{Diagram, type_at}
-use Rattle.mc_diagram.specs.WellFormed.{wires_wanted}
+use Rattle.mc_diagram.specs.WellFormed.{IsWired, HasPorts, wires_wanted}
 use Rattle.mc_profile.specs.declared.local.ChildUse.{ChildUse}
 use Rattle.mc_profile.specs.SystemHeader.{SystemHeader}
 use Rattle.mc_profile.specs.SystemProfile.{SystemProfile}
 use Rattle.mc_profile.specs.Headers.{header_of, ports_of_header, header_function, taken}
 use Rattle.mc_profile.specs.Locals.{child_use, entering}
 use Rattle.mc_profile.specs.Ports.{bit_of, has_bit, control_ports}
-use Rattle.mc_profile.specs.Systems.{first_wire}
+use Rattle.mc_profile.specs.Systems.{entering_wires}
+use Rattle.mc_diagram.proofs.lemmas.EnteringWires.{as-many, entering-at, at-entering}
 use Rattle.mc_profile.proofs.Members.{in-map, of-map, in-filter, of-filter, in-at, at-in, at-below, at-map, map-at, at-range, range-at, in-zip, of-zip, at-left, at-right, at-append}
 
 pub subsystem-kind : (kind : Kind) → is_subsystem kind ≡ true → kind ≡ SubSystem (control_of kind)
@@ -50,7 +51,12 @@ control-at (Both reset edge) o wires c (suc zero) count at =
     record { k = 1; port = Trigger; port_place = refl; wire_place = at; which = inr (refl, refl) }
 control-at (Both reset edge) o wires c (suc (suc k)) count at = absurd (let below = at-below wires (suc (suc k)) c at in omega arith)
 
-module _ (d : Diagram) (e : ℕ) (profile : SystemProfile) where
+-- the one of a list of one
+of-one : (x c : ℕ) → Contains (x ∷ []) c → x ≡ c
+of-one x c (zero, below, is) = is
+of-one x c (suc k, below, is) = absurd (omega arith)
+
+module _ (d : Diagram) (wired : IsWired d.rows) (e : ℕ) (ports : HasPorts d.rows is_inport (Some e)) (profile : SystemProfile) where
   abbrev header : SystemHeader
   header = header_of d (Some e) profile
 
@@ -61,7 +67,7 @@ module _ (d : Diagram) (e : ℕ) (profile : SystemProfile) where
   inports = inports_of d.rows (Some e)
 
   abbrev wires : List ℕ
-  wires = map (λ i. first_wire (row_at d.rows i).inputs) inports
+  wires = entering_wires d.rows (Some e)
 
   abbrev numbers : List Port
   numbers = map Number (range_with_len 1 (length header.inputs))
@@ -74,7 +80,7 @@ module _ (d : Diagram) (e : ℕ) (profile : SystemProfile) where
       ∙ as_many_inputs
 
   as_many_wires : length wires ≡ length inports
-  as_many_wires = length-map inports (λ i. first_wire (row_at d.rows i).inputs)
+  as_many_wires = as-many d.rows wired e ports
 
   -- ---- What stands in the mask is taken
 
@@ -89,17 +95,18 @@ module _ (d : Diagram) (e : ℕ) (profile : SystemProfile) where
       (in-filter (test j) (zip (ports_of_header header) (entering child)) (p, c)
       (in-zip (ports_of_header header) (entering child) k p c port wire) bit)
 
-  pub takes-input : (j k i : ℕ) → slice_get inports k ≡ Some i → has_bit (header_function header j).inputs k ≡ true →
-      Contains (taken header j (entering child)) (first_wire (row_at d.rows i).inputs)
-  takes-input j k i at bit =
+  pub takes-input : (j k i c : ℕ) → slice_get inports k ≡ Some i → Contains (row_at d.rows i).inputs c →
+      has_bit (header_function header j).inputs k ≡ true → Contains (taken header j (entering child)) c
+  takes-input j k i c at wire bit =
       let below : k < length inports = at-below inports k i at in
       let place : 1 + k - 1 ≡ k = omega arith in
-      takes j k (Number (1 + k)) (first_wire (row_at d.rows i).inputs)
+      let entered = entering-at d.rows wired e ports k i at in
+      let same : entered.0 ≡ c = of-one entered.0 c (subst (λ ws. Contains ws c) entered.1 wire) in
+      takes j k (Number (1 + k)) c
       (at-left numbers (control_ports header.control) k (Number (1 + k))
       (at-map Number (range_with_len 1 (length header.inputs)) k (1 + k)
       (at-range 1 (length header.inputs) k (let n = as_many_inputs in omega arith))))
-      (at-left wires (row_at d.rows e).inputs k (first_wire (row_at d.rows i).inputs)
-      (at-map (λ i. first_wire (row_at d.rows i).inputs) inports k i at))
+      (at-left wires (row_at d.rows e).inputs k c (entered.2 ∙ ap Some same))
       (ap (has_bit (header_function header j).inputs) place ∙ bit)
 
   pub takes-control : (j c : ℕ) → is_subsystem (row_at d.rows e).kind ≡ true →
@@ -132,7 +139,7 @@ module _ (d : Diagram) (e : ℕ) (profile : SystemProfile) where
     pub i : ℕ
     pub place : slice_get (inports_of d.rows (Some e)) k ≡ Some i
     pub bit : has_bit (header_function (header_of d (Some e) profile) j).inputs k ≡ true
-    pub wire : first_wire (row_at d.rows i).inputs ≡ c
+    pub wire : (row_at d.rows i).inputs ≡ c ∷ []
 
   pub of-taken : (j c : ℕ) → Contains (taken header j (entering child)) c → IsTakenAt j c ⊎ Contains (row_at d.rows e).inputs c
   of-taken j c h =
@@ -156,7 +163,7 @@ module _ (d : Diagram) (e : ℕ) (profile : SystemProfile) where
           has_bit (header_function header j).inputs (bit_of p) ≡ true → IsTakenAt j c ⊎ Contains (row_at d.rows e).inputs c
       by k p port wire bit = elim (at-append wires (row_at d.rows e).inputs k c wire) [
         | inl here ↦
-            let m = map-at (λ i. first_wire (row_at d.rows i).inputs) inports k c here in
+            let m = at-entering d.rows wired e ports k c here in
             inl (record {
               k = k;
               i = m.0;

@@ -1,5 +1,5 @@
 -- Which rows a function of a header gives, and what it takes for them.
-use Rattle.std.specs.Prelude.{◌≡◌, ◌⊎◌, ℕ, zero, suc, ◌+◌, ◌-◌, Bool, true, ◌==◌, List, [], ◌∷◌, map, filter, slice_get, slice_index_or, Contains, Option, Some, ◌^◌, refl}
+use Rattle.std.specs.Prelude.{◌≡◌, ◌⊎◌, ℕ, zero, suc, ◌+◌, Bool, true, ◌==◌, List, [], ◌∷◌, map, filter, slice_get, slice_index_or, Contains, Option, Some, ◌^◌, refl}
 use Rattle.std.specs.List.{AllZip, enumerate_from}
 use Rattle.std.proofs.Common.{sym, ap, subst, ◌∙◌, arith, inl, inr}
 use Rattle.std.proofs.lemmas.Bool.{eq-eqb, eqb-true}
@@ -12,7 +12,7 @@ use Rattle.mc_diagram.specs.Needs.{TrueNeeds, IsMaskOf}
 use Rattle.mc_profile.specs.declared.profile.Function.{Function}
 use Rattle.mc_profile.specs.Functions.{function_for, functions_for, IsProfileOf}
 use Rattle.mc_profile.specs.SystemHeader.{SystemHeader}
-use Rattle.mc_profile.specs.Headers.{header_of, numbered_function, header_function, given_by_function, given_rows}
+use Rattle.mc_profile.specs.Headers.{header_of, idle_function, numbered_function, header_function, given_by_function, given_rows}
 use Rattle.mc_profile.specs.Ports.{has_bit}
 use Rattle.mc_profile.proofs.Members.{in-map, of-map, in-filter, of-filter, in-at, at-in, at-map, in-enumerate, of-enumerate}
 use Rattle.mc_profile.proofs.MaskBits.{holds-has, has-holds, has-set, index-at, index-holds, in-different}
@@ -66,8 +66,8 @@ need-of needs outs m q h =
     let need = index-holds (λ n. n == m) needs g.0 (has-holds (map (λ n. n == m) needs) g.0 g.2) in
     (g.0, g.1, need.1 ∙ ap Some (eqb-true need.0 m need.2))
 
-pub nothing-given : (outs : List ℕ) (q : ℕ) → Contains (given_by_function (record { inputs = 0; outputs = 0 }) outs) q → ⊥
-nothing-given outs q h = let g = given (record { inputs = 0; outputs = 0 }) outs q h in has-set 0 g.0 g.2 (and_zero_l (2 ^ g.0))
+pub nothing-given : (outs : List ℕ) (q : ℕ) → Contains (given_by_function idle_function outs) q → ⊥
+nothing-given outs q h = let g = given idle_function outs q h in has-set 0 g.0 g.2 (and_zero_l (2 ^ g.0))
 
 -- ---- Functions by number
 
@@ -77,9 +77,7 @@ index (g ∷ gs) zero other f is = cc is
 index (g ∷ gs) (suc k) other f is = index gs k other f is
 
 numbered : (fs : List Function) (k : ℕ) (f : Function) → slice_get fs k ≡ Some f → numbered_function fs (suc k) ≡ f
-numbered fs k f is =
-    let same : suc k - 1 ≡ k = omega arith in
-    ap (λ i. slice_index_or fs i (record { inputs = 0; outputs = 0 })) same ∙ index fs k (record { inputs = 0; outputs = 0 }) f is
+numbered fs k f is = index fs k idle_function f is
 
 -- a function of a list that is made by f is made by it, or is another
 made-by : (f : ℕ → Function) (ns : List ℕ) (k : ℕ) (other : Function) →
@@ -120,10 +118,11 @@ module _ (d : Diagram) (s : Option ℕ) (functions : List Function) (needs : Lis
   -- what a function takes is what each Outport that it gives needs
   has-needs : (j q : ℕ) → Contains (given_by_function (numbered_function functions j) (outports_of d.rows s)) q →
       Contains (outports_of d.rows s) q × IsMaskOf (TrueNeeds d s q) (numbered_function functions j).inputs
-  has-needs j q h =
-      by (subst (λ fs. ((m : ℕ) × (function_for needs m ≡ numbered_function fs j))
-      ⊎ (record { inputs = 0; outputs = 0 } ≡ numbered_function fs j)) (sym is)
-      (made-by (function_for needs) (different needs) (j - 1) (record { inputs = 0; outputs = 0 })))
+  has-needs zero q h = absurd (nothing-given (outports_of d.rows s) q h)
+  has-needs (suc i) q h =
+      by (subst (λ fs. ((m : ℕ) × (function_for needs m ≡ numbered_function fs (suc i)))
+      ⊎ (idle_function ≡ numbered_function fs (suc i))) (sym is)
+      (made-by (function_for needs) (different needs) i idle_function))
     where
       by-need : (m : ℕ) → (k : ℕ) × (slice_get (outports_of d.rows s) k ≡ Some q) × (slice_get needs k ≡ Some m) →
           Contains (outports_of d.rows s) q × IsMaskOf (TrueNeeds d s q) m
@@ -132,9 +131,9 @@ module _ (d : Diagram) (s : Option ℕ) (functions : List Function) (needs : Lis
           let same : faced.0 ≡ q = (let e : Some faced.0 ≡ Some q = sym faced.1 ∙ out in cc e) in
           (in-at (outports_of d.rows s) k q out, subst (λ o. IsMaskOf (TrueNeeds d s o) m) same faced.2)
 
-      by : ((m : ℕ) × (function_for needs m ≡ numbered_function functions j))
-          ⊎ (record { inputs = 0; outputs = 0 } ≡ numbered_function functions j) →
-          Contains (outports_of d.rows s) q × IsMaskOf (TrueNeeds d s q) (numbered_function functions j).inputs
+      by : ((m : ℕ) × (function_for needs m ≡ numbered_function functions (suc i)))
+          ⊎ (idle_function ≡ numbered_function functions (suc i)) →
+          Contains (outports_of d.rows s) q × IsMaskOf (TrueNeeds d s q) (numbered_function functions (suc i)).inputs
       by (inl (m, same)) =
           let need = by-need m
           (need-of needs (outports_of d.rows s) m q

@@ -23,10 +23,11 @@ use Rattle.mc_profile.specs.declared.profile.Function.{Function}
 use Rattle.mc_profile.specs.LocalSystem.{LocalSystem}
 use Rattle.mc_profile.specs.SystemHeader.{SystemHeader}
 use Rattle.mc_profile.specs.Functions.{function_for}
-use Rattle.mc_profile.specs.Headers.{row_number, header_functions, given_by_function}
+use Rattle.mc_profile.specs.Headers.{header_functions, given_by_function}
 use Rattle.mc_profile.specs.Locals.{local_row, local_of, child_use}
 use Rattle.mc_profile.specs.Ports.{control_ports}
-use Rattle.mc_profile.specs.Systems.{control_wires_of}
+use Rattle.mc_profile.specs.Systems.{control_wires_of, entering_wires}
+use Rattle.mc_diagram.proofs.lemmas.EnteringWires.{as-many}
 use Rattle.mc_profile.specs.NodeFacts.{AreHeaders, LocalsAreLawful}
 use Rattle.mc_profile.specs.NodeWires.{wires_of_row, wires_of_call, wires_of_calls, wires_of_nodes, AreGivenOnce}
 use Rattle.mc_profile.specs.LawfulLocals.{IsChild, IsLocal}
@@ -43,10 +44,6 @@ ports-wanted Plain o = refl
 ports-wanted (Enabled reset) o = refl
 ports-wanted (Triggered edge) o = refl
 ports-wanted (Both reset edge) o = refl
-
-numbers-are : (es : List ℕ) → map row_number (map Some es) ≡ es
-numbers-are [] = refl
-numbers-are (e ∷ es) = ap (λ fs. e ∷ fs) (numbers-are es)
 
 module _ (d : Diagram) (delays : List Bool) (s : Option ℕ) (headers : List SystemHeader) (are : AreHeaders d s headers) (nested : IsNested d.rows) (wired : IsWired d.rows)
     (has_inports : (o : Option ℕ) → HasPorts d.rows is_inport o) (has_outports : (o : Option ℕ) → HasPorts d.rows is_outport o) where
@@ -79,15 +76,16 @@ module _ (d : Diagram) (delays : List Bool) (s : Option ℕ) (headers : List Sys
 
   -- ---- Children
 
-  child-numbers : map (λ (u : ChildUse). row_number u.header.row) own_local.children ≡ subsystems_of d.rows s
-  child-numbers = mapped headers ∙ ap (map row_number) are.rows ∙ numbers-are (subsystems_of d.rows s)
+  child-numbers : map (λ (u : ChildUse). u.header.row) own_local.children ≡ map Some (subsystems_of d.rows s)
+  child-numbers = mapped headers ∙ are.rows
     where
-      mapped : (hs : List SystemHeader) → map (λ (u : ChildUse). row_number u.header.row) (map (child_use d) hs) ≡ map row_number (map (λ (h : SystemHeader). h.row) hs)
+      mapped : (hs : List SystemHeader) →
+          map (λ (u : ChildUse). u.header.row) (map (child_use d) hs) ≡ map (λ (h : SystemHeader). h.row) hs
       mapped [] = refl
-      mapped (h ∷ hs) = ap (λ es. row_number h.row ∷ es) (mapped hs)
+      mapped (h ∷ hs) = ap (λ es. h.row ∷ es) (mapped hs)
 
-  children-apart : Apart (map (λ (u : ChildUse). row_number u.header.row) own_local.children)
-  children-apart = subst Apart (sym child-numbers) (apart-filter (λ b. is_subsystem (row_at d.rows b).kind) (rows_of d.rows s) rows-apart)
+  children-apart : Apart (subsystems_of d.rows s)
+  children-apart = apart-filter (λ b. is_subsystem (row_at d.rows b).kind) (rows_of d.rows s) rows-apart
 
   -- the header of a child, by its row
   record HasRow (h : SystemHeader) : Type 0 where
@@ -127,12 +125,17 @@ module _ (d : Diagram) (delays : List Bool) (s : Option ℕ) (headers : List Sys
       ∙ ports-wanted (control_at d.rows e) (row_at d.rows e).owner
       ∙ ap (λ c. length (control_ports c)) (sym (ap (λ (g : SystemHeader). g.control) (are.each h m).0 ∙ ap (system_control d.rows) at.row))
 
+  entered : (h : SystemHeader) → Contains headers h → length (entering_wires d.rows h.row) ≡ length (inports_of d.rows h.row)
+  entered h m =
+      let at = has-row h m in
+      subst (λ o. length (entering_wires d.rows o) ≡ length (inports_of d.rows o)) (sym at.row) (as-many d.rows wired at.e (has_inports (Some at.e)))
+
   is-child : (h : SystemHeader) → Contains headers h → IsChild (child_use d h)
   is-child h m = record {
     inputs = subst (λ n. n ≤ 32) (sym (as_many_inputs h m)) (few-ports d.rows h.row is_inport (has_inports h.row));
     outputs = subst (λ n. n ≤ 32) (sym (as_many_outputs h m)) (few-ports d.rows h.row is_outport (has_outports h.row));
     functions = few-functions h m;
-    wires = length-map (inports_of d.rows h.row) _ ∙ sym (as_many_inputs h m);
+    wires = entered h m ∙ sym (as_many_inputs h m);
     controls = control-wires h m;
   }
 
@@ -147,7 +150,9 @@ module _ (d : Diagram) (delays : List Bool) (s : Option ℕ) (headers : List Sys
       let own = short-filter (λ b. same_system (row_at d.rows b).owner s) (row_numbers d.rows) in
       let all = length-range_with_len 0 (length d.rows) in
       let subs = short-filter (λ b. is_subsystem (row_at d.rows b).kind) (rows_of d.rows s) in
-      let children : length own_local.children ≡ length (subsystems_of d.rows s) = sym (length-map own_local.children (λ (u : ChildUse). row_number u.header.row)) ∙ ap length child-numbers in
+      let children : length own_local.children ≡ length (subsystems_of d.rows s) =
+      sym (length-map own_local.children (λ (u : ChildUse). u.header.row)) ∙ ap (λ os. length os) child-numbers
+      ∙ length-map (subsystems_of d.rows s) Some in
       let calls = long-flat_map wires_of_calls own_local.children (λ u m.
       let n = of-map (child_use d) headers u m in
       subst (λ (v : ChildUse). length (wires_of_calls v) ≤ 32) n.2 (subst (λ k. k ≤ 32) (sym (length-map (header_functions n.0) (wires_of_call (child_use d n.0)))) (few-functions n.0 n.1))) in
@@ -217,8 +222,8 @@ module _ (d : Diagram) (delays : List Bool) (s : Option ℕ) (headers : List Sys
   once : AreGivenOnce (wires_of_nodes own_local)
   once =
       once-append (map wires_of_row own_local.rows) (flat_map wires_of_calls own_local.children) rows-once
-      (once-flat_map (λ (u : ChildUse). row_number u.header.row) (λ c. row_number (row_at d.rows c).owner) wires_of_calls own_local.children children-apart calls-once
-      (λ u w c h n gives. ap row_number (given-inside u w c h n gives)))
+      (once-flat_map (λ (u : ChildUse). u.header.row) (λ c. (row_at d.rows c).owner) wires_of_calls own_local.children
+      (subsystems_of d.rows s) child-numbers children-apart calls-once given-inside)
       apart
     where
       apart : (x y : NodeWires) (c : ℕ) → Contains (map wires_of_row own_local.rows) x → Contains (flat_map wires_of_calls own_local.children) y → Contains x.gives c → Contains y.gives c → ⊥
@@ -241,7 +246,9 @@ module _ (d : Diagram) (delays : List Bool) (s : Option ℕ) (headers : List Sys
   pub lawful : IsLocal own_local
   lawful = record {
     rows_differ = rows-differ;
-    children_differ = apart-differ (map (λ (u : ChildUse). row_number u.header.row) own_local.children) children-apart;
+    numbers = subsystems_of d.rows s;
+    have_numbers = child-numbers;
+    children_differ = apart-differ (subsystems_of d.rows s) children-apart;
     are_children = are-children;
     few = few-nodes;
     once = once;

@@ -10,7 +10,7 @@ use Rattle.mc_base.specs.Interface.{different}
 use Rattle.mc_cluster.specs.Grouping.{AreDifferent}
 use Rattle.mc_profile.specs.declared.node_wires.NodeWires.{NodeWires}
 use Rattle.mc_profile.specs.NodeWires.{AreGivenOnce}
-use Rattle.mc_profile.proofs.Members.{in-none, in-first, in-rest, in-map, of-filter, of-filter_map, found-in, of-range, in-at, at-append, at-below}
+use Rattle.mc_profile.proofs.Members.{in-none, in-first, in-rest, number-of, of-filter, of-filter_map, found-in, of-range, in-at, at-append, at-below}
 use Rattle.mc_profile.proofs.Numbered.{Apart, apart-filter}
 
 -- ---- Numbers that stand once
@@ -116,12 +116,20 @@ short-different [] = omega arith
 short-different (x ∷ xs) = let rest = short-different xs in let kept = short-filter (λ y. not (y == x)) (different xs) in omega (arith, rest, kept)
 
 -- a part for each member, where a wire that is given tells whose it is
-pub once-flat_map : {A : Type 0} (key : A → ℕ) (owner : ℕ → ℕ) (f : A → List NodeWires) (xs : List A) → Apart (map key xs) → ((x : A) → Contains xs x → AreGivenOnce (f x)) →
-    ((x : A) (w : NodeWires) (c : ℕ) → Contains xs x → Contains (f x) w → Contains w.gives c → owner c ≡ key x) → AreGivenOnce (flat_map f xs)
-once-flat_map key owner f [] apart each owned = λ a b c x y at to given other. absurd (none-some x at)
-once-flat_map key owner f (z ∷ xs) apart each owned =
+pub once-flat_map : {A : Type 0} (key : A → Option ℕ) (owner : ℕ → Option ℕ) (f : A → List NodeWires) (xs : List A) (ns : List ℕ) →
+    map key xs ≡ map Some ns → Apart ns → ((x : A) → Contains xs x → AreGivenOnce (f x)) →
+    ((x : A) (w : NodeWires) (c : ℕ) → Contains xs x → Contains (f x) w → Contains w.gives c → owner c ≡ key x) →
+    AreGivenOnce (flat_map f xs)
+once-flat_map key owner f [] ns are apart each owned = λ a b c x y at to given other. absurd (none-some x at)
+once-flat_map key owner f (z ∷ xs) [] are apart each owned = absurd (let wrong : ⊥ = cc are in wrong)
+once-flat_map key owner f (z ∷ xs) (n ∷ ns) are apart each owned =
+    let first : key z ≡ Some n = cc are in
+    let rest : map key xs ≡ map Some ns = cc are in
     once-append (f z) (flat_map f xs) (each z (in-first z xs))
-    (once-flat_map key owner f xs apart.1 (λ x m. each x (in-rest z x xs m)) (λ x w c m. owned x w c (in-rest z x xs m)))
-    (λ v w c m n given other.
-    let from = of-flat_map f xs w n in
-    apart.0 (key from.0) (in-map key xs from.0 from.1) (sym (owned z v c (in-first z xs) m given) ∙ owned from.0 w c (in-rest z from.0 xs from.1) from.2 other))
+    (once-flat_map key owner f xs ns rest apart.1 (λ x m. each x (in-rest z x xs m)) (λ x w c m. owned x w c (in-rest z x xs m)))
+    (λ v w c m k given other.
+    let from = of-flat_map f xs w k in
+    let own = number-of key xs ns from.0 rest from.1 in
+    let one : key z ≡ key from.0 =
+    sym (owned z v c (in-first z xs) m given) ∙ owned from.0 w c (in-rest z from.0 xs from.1) from.2 other in
+    apart.0 own.0 own.1 (same_Some n own.0 (sym first ∙ one ∙ own.2)))

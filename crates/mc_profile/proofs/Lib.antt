@@ -1,3 +1,4 @@
+pub mod lemmas
 pub mod OwnHeaders
 mod OneProfile
 pub mod LeastProfile
@@ -10,6 +11,7 @@ pub mod PlaceSteps
 pub mod NodesAre
 pub mod Masks
 pub mod ChildNeeds
+pub mod ChildNumbers
 pub mod ChildWalks
 pub mod ChildRows
 pub mod Members
@@ -29,3 +31,6 @@ pub mod InputMasks
 pub mod NodeMasks
 pub mod ProfileNeeds
 pub mod TreeSteps
+pub mod RisingLists
+pub mod SystemsAround
+pub mod AllSystems

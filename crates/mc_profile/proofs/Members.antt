@@ -33,6 +33,13 @@ of-map f (x ∷ xs) y h = elim (in-cases (f x) y (map f xs) h) [
   | inr more ↦ let m = of-map f xs y more in (m.0, in-rest x m.0 xs m.1, m.2)
 ]
 
+-- a member has one of the numbers that all have
+pub number-of : {A : Type 0} (number : A → Option ℕ) (xs : List A) (ns : List ℕ) (x : A) → map number xs ≡ map Some ns →
+    Contains xs x → (n : ℕ) × Contains ns n × (number x ≡ Some n)
+number-of number xs ns x are h =
+    let m = of-map Some ns (number x) (subst (λ os. Contains os (number x)) are (in-map number xs x h)) in
+    (m.0, m.1, sym m.2)
+
 pub in-filter : {A : Type 0} (p : A → Bool) (xs : List A) (x : A) → Contains xs x → p x ≡ true → Contains (filter p xs) x
 in-filter p [] x h passes = h
 in-filter p (y ∷ ys) x h passes = by (p y) refl (in-cases y x ys h) (λ more. in-filter p ys x more passes)

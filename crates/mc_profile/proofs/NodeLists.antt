@@ -1,5 +1,5 @@
 -- The nodes of a lawful local system by their places: what each needs and gives.
-use Rattle.std.specs.Prelude.{◌≡◌, ℕ, zero, suc, ◌+◌, ◌-◌, ◌<◌, ◌==◌, cond, List, [], ◌∷◌, ◌++◌, map, flat_map, find, length, slice_get, get_or, Contains, Option, Some, refl, option_map}
+use Rattle.std.specs.Prelude.{◌≡◌, ℕ, zero, suc, ◌+◌, ◌<◌, ◌==◌, cond, List, [], ◌∷◌, ◌++◌, map, flat_map, find, length, slice_get, get_or, Contains, Option, Some, refl, option_map}
 use Rattle.std.specs.Option.{option_map_or}
 use Rattle.std.specs.List.{range_with_len}
 use Rattle.std.proofs.Common.{sym, ap, ap₂, ◌∙◌, arith}
@@ -15,11 +15,13 @@ use Rattle.mc_profile.specs.declared.nodes.Node.{Node}
 use Rattle.mc_profile.specs.declared.nodes.Node.TheVariants.{Row, Call}
 use Rattle.mc_profile.specs.declared.profile.Function.{Function}
 use Rattle.mc_profile.specs.LocalSystem.{LocalSystem}
-use Rattle.mc_profile.specs.Headers.{row_number, header_functions, numbered_function}
+use Rattle.mc_profile.specs.Headers.{header_functions, idle_function, numbered_function}
 use Rattle.mc_profile.specs.Locals.{row_of, child_of}
-use Rattle.mc_profile.specs.LocalNodes.{call_nodes, node_list, node_needs, node_gives}
+use Rattle.mc_profile.specs.LocalNodes.{calls_of, call_nodes, node_list, node_needs, node_gives}
 use Rattle.mc_profile.specs.NodeWires.{wires_of_row, wires_of_call, wires_of_calls, wires_of_nodes}
 use Rattle.mc_profile.specs.LawfulLocals.{IsLocal}
+use Rattle.mc_profile.proofs.ChildNumbers.{found-numbered}
+use Rattle.mc_profile.proofs.Members.{number-of}
 
 -- ---- Members of a list
 
@@ -62,10 +64,6 @@ found-self key (y ∷ xs) x differ (suc k, below, is) =
 
 -- ---- Functions by number
 
--- the function that stands for a number past the end
-abbrev nothing : Function
-nothing = record { inputs = 0; outputs = 0 }
-
 pub numbered-all : (fs : List Function) → map (numbered_function fs) (range_with_len 1 (length fs)) ≡ fs
 numbered-all fs = same_lists (map (numbered_function fs) (range_with_len 1 (length fs))) fs long each
   where
@@ -77,8 +75,9 @@ numbered-all fs = same_lists (map (numbered_function fs) (range_with_len 1 (leng
         let inside : k < length fs = omega (arith, below, long) in
         let many : k < length (range_with_len 1 (length fs)) = let l = length-range_with_len 1 (length fs) in omega (arith, inside, l) in
         let number : get_or (range_with_len 1 (length fs)) k 0 ≡ 1 + k = get_or-range_with_len 1 (length fs) k 0 inside in
-        let place : get_or (range_with_len 1 (length fs)) k 0 - 1 ≡ k = omega (arith, number) in
-        get_or-map (numbered_function fs) (range_with_len 1 (length fs)) k 0 d many ∙ ap (λ i. get_or fs i nothing) place ∙ get_or_default fs k nothing d inside
+        let place : get_or (range_with_len 1 (length fs)) k 0 ≡ suc k = omega (arith, number) in
+        get_or-map (numbered_function fs) (range_with_len 1 (length fs)) k 0 d many ∙ ap (numbered_function fs) place
+        ∙ get_or_default fs k idle_function d inside
 
 map-map : {A B C : Type 0} (g : B → C) (f : A → B) (xs : List A) → map g (map f xs) ≡ map (λ x. g (f x)) xs
 map-map g f [] = refl
@@ -97,21 +96,27 @@ module _ (local : LocalSystem) (is : IsLocal local) where
   pub found-row : (r : LocalRow) → Contains local.rows r → row_of local r.row ≡ Some r
   found-row r h = found-self (λ (q : LocalRow). q.row) local.rows r is.rows_differ h
 
-  pub found-child : (u : ChildUse) → Contains local.children u → child_of local (row_number u.header.row) ≡ Some u
-  found-child u h = found-self (λ (v : ChildUse). row_number v.header.row) local.children u is.children_differ h
+  pub found-child : (u : ChildUse) (e : ℕ) → Contains local.children u → u.header.row ≡ Some e → child_of local e ≡ Some u
+  found-child u e h row =
+      found-numbered (λ (v : ChildUse). v.header.row) local.children is.numbers u e is.have_numbers is.children_differ h row
 
   row-wires : (r : LocalRow) → Contains local.rows r → wires_at local (Row r.row) ≡ wires_of_row r
   row-wires r h = ap (λ (o : Option LocalRow). made (option_map_or (λ q. (wires_of_row q).needs) o []) (option_map_or (λ q. (wires_of_row q).gives) o [])) (found-row r h)
 
-  call-wires : (u : ChildUse) (j : ℕ) → Contains local.children u → wires_at local (Call (row_number u.header.row) j) ≡ wires_of_call u (numbered_function (header_functions u.header) j)
-  call-wires u j h =
-      ap (λ (o : Option ChildUse). made (option_map_or (λ v. (wires_of_call v (numbered_function (header_functions v.header) j)).needs) o []) (option_map_or (λ v. (wires_of_call v (numbered_function (header_functions v.header) j)).gives) o [])) (found-child u h)
+  call-wires : (u : ChildUse) (e j : ℕ) → Contains local.children u → u.header.row ≡ Some e →
+      wires_at local (Call e j) ≡ wires_of_call u (numbered_function (header_functions u.header) j)
+  call-wires u e j h row =
+      ap (λ (o : Option ChildUse). made
+      (option_map_or (λ v. (wires_of_call v (numbered_function (header_functions v.header) j)).needs) o [])
+      (option_map_or (λ v. (wires_of_call v (numbered_function (header_functions v.header) j)).gives) o [])) (found-child u e h row)
 
   calls-wires : (u : ChildUse) → Contains local.children u → map (wires_at local) (call_nodes u) ≡ wires_of_calls u
   calls-wires u h =
       let fs = header_functions u.header in
-      map-map (wires_at local) (Call (row_number u.header.row)) (range_with_len 1 (length fs))
-      ∙ map-same (λ j. wires_at local (Call (row_number u.header.row) j)) (λ j. wires_of_call u (numbered_function fs j)) (range_with_len 1 (length fs)) (λ j m. call-wires u j h)
+      let n = number-of (λ (v : ChildUse). v.header.row) local.children is.numbers u is.have_numbers h in
+      ap (λ o. map (wires_at local) (calls_of o (length fs))) n.2 ∙ map-map (wires_at local) (Call n.0) (range_with_len 1 (length fs))
+      ∙ map-same (λ j. wires_at local (Call n.0 j)) (λ j. wires_of_call u (numbered_function fs j)) (range_with_len 1 (length fs))
+      (λ j m. call-wires u n.0 j h n.2)
       ∙ sym (map-map (wires_of_call u) (numbered_function fs) (range_with_len 1 (length fs))) ∙ ap (map (wires_of_call u)) (numbered-all fs)
 
   pub wires-are : map (wires_at local) (node_list local) ≡ wires_of_nodes local

@@ -1,12 +1,11 @@
 -- The masks of the nodes of a system say which inputs reach its outputs.
-use Rattle.std.specs.Prelude.{◌≡◌, ℕ, suc, ◌^◌, ◌<◌, ◌↔◌, List, [], ◌∷◌, map, filter, find, eqb, length, slice_get, get_or, All, Contains, Some, IsBitSet, unwrap_or, refl}
-use Rattle.std.specs.List.{AllZip, range_with_len, flat_map, position_from}
-use Rattle.std.proofs.Common.{arith, sym, ap, subst, ◌∙◌, inl, inr}
+use Rattle.std.specs.Prelude.{◌≡◌, ℕ, suc, ◌^◌, ◌<◌, ◌↔◌, List, [], ◌∷◌, map, slice_get, get_or, All, Contains, Some, IsBitSet, unwrap_or, refl}
+use Rattle.std.specs.List.{AllZip, flat_map, position_from}
+use Rattle.std.proofs.Common.{arith, sym, ap, ap₂, subst, ◌∙◌, inl, inr}
 use Rattle.std.proofs.lemmas.List.Elements.{All-map, All-weaker, All-contains_itself}
 use Rattle.std.proofs.lemmas.Option.{same_Some}
-use Rattle.mc_diagram.specs.Rows.{is_outport, port_of}
+use Rattle.mc_diagram.specs.Rows.{is_outport}
 use Rattle.mc_diagram.specs.Needs.{IsMaskOf}
-use Rattle.mc_graph.specs.NeedsGraph.{IsGraph}
 use Rattle.mc_graph.specs.Masks.{AreMasks}
 use Rattle.mc_graph.specs.Reaching as graph
 use Rattle.mc_profile.specs.declared.local.LocalRow.{LocalRow}
@@ -19,12 +18,21 @@ use Rattle.mc_profile.specs.Locals.{outports}
 use Rattle.mc_profile.specs.LocalNodes.{same_node, call_nodes, node_list, NodeReaches, AreNodesOf}
 use Rattle.mc_profile.specs.LawfulLocals.{IsLocal}
 use Rattle.mc_profile.specs.NodeInputs.{InputReaches, inputs_of, AreNodeInputs, AreInputBits}
-use Rattle.mc_profile.proofs.Members.{in-first, in-rest, in-at, at-in, at-below, at-map, at-left, of-filter, of-filter_map, found-in}
+use Rattle.mc_profile.proofs.Members.{in-first, in-rest, in-at, at-in, at-below, at-map, at-left}
 use Rattle.mc_profile.proofs.InputMasks.{mask-with, AreMasksAt}
 use Rattle.mc_profile.proofs.NodeReach.{walk-to-places, walk-to-nodes}
-use Rattle.mc_profile.proofs.PlaceSteps.{place, own-place}
+use Rattle.mc_profile.proofs.PlaceSteps.{place, own-place, stands-at, places-stand}
 
-module _ (local : LocalSystem) (is : IsLocal local) (nodes : SystemNodes) (are : AreNodesOf local nodes) (inside : IsGraph nodes.graph) where
+same-somes : (xs ys : List ℕ) → map Some xs ≡ map Some ys → xs ≡ ys
+same-somes [] [] e = refl
+same-somes [] (y ∷ ys) e = absurd (let wrong : ⊥ = cc e in wrong)
+same-somes (x ∷ xs) [] e = absurd (let wrong : ⊥ = cc e in wrong)
+same-somes (x ∷ xs) (y ∷ ys) e =
+    let first : x ≡ y = cc e in
+    let rest : map Some xs ≡ map Some ys = cc e in
+    ap₂ (λ z zs. z ∷ zs) first (same-somes xs ys rest)
+
+module _ (local : LocalSystem) (is : IsLocal local) (nodes : SystemNodes) (are : AreNodesOf local nodes) where
   abbrev place_of : LocalRow → ℕ
   place_of o = place local is is_outport o
 
@@ -36,25 +44,23 @@ module _ (local : LocalSystem) (is : IsLocal local) (nodes : SystemNodes) (are :
 
   -- an own Outport stands at its place
   own-outport : (o : LocalRow) → Contains (outports local) o → slice_get local.rows (place_of o) ≡ Some o
-  own-outport o h =
-      let kept : List LocalRow = filter (λ (r : LocalRow). is_outport r.kind) local.rows in
-      let f = of-filter_map (λ k. find (λ (r : LocalRow). eqb (port_of r.kind) k) kept) (range_with_len 1 (length kept)) o h in
-      let m = of-filter (λ (r : LocalRow). is_outport r.kind) local.rows o (found-in (λ (r : LocalRow). eqb (port_of r.kind) f.0) kept o f.2).0 in
-      let at = at-in local.rows o m.0 in
-      subst (λ i. slice_get local.rows i ≡ Some o) (sym (own-place-is at.0 o at.1)) at.1
+  own-outport o h = stands-at local is is_outport o h
+
+  places-of-outputs : nodes.outputs ≡ map place_of (outports local)
+  places-of-outputs = same-somes nodes.outputs (map place_of (outports local)) (are.outputs ∙ sym (places-stand local is is_outport))
 
   place-below : (o : LocalRow) → Contains (outports local) o → place_of o < nodes.graph.n
   place-below o h = let low = at-below (node_list local) (place_of o) (Row o.row) (own-node (place_of o) o (own-outport o h)) in let many = are.count in omega (arith, low, many)
 
   pub outputs-below : All (λ b. b < nodes.graph.n) nodes.outputs
   outputs-below =
-      subst (All (λ b. b < nodes.graph.n)) (sym are.outputs)
+      subst (All (λ b. b < nodes.graph.n)) (sym places-of-outputs)
       (All-map (λ b. b < nodes.graph.n) place_of (outports local) (All-weaker (Contains (outports local)) (λ o. place_of o < nodes.graph.n) place-below (outports local) (All-contains_itself (outports local))))
 
   module _ (i j : ℕ) (r o : LocalRow) (from : slice_get local.rows i ≡ Some r) (to : slice_get local.rows j ≡ Some o) where
     reach-nodes : graph.Reaches nodes.graph i j → NodeReaches local (Row r.row) (Row o.row)
     reach-nodes (inl same) = inl (ap (λ (q : LocalRow). Row q.row) (same_Some r o (sym from ∙ ap (slice_get local.rows) same ∙ to)))
-    reach-nodes (inr walk) = inr (walk-to-nodes local nodes are inside i j (Row r.row) (Row o.row) walk.0 (own-node i r from) (own-node j o to) walk.1)
+    reach-nodes (inr walk) = inr (walk-to-nodes local nodes are i j (Row r.row) (Row o.row) walk.0 (own-node i r from) (own-node j o to) walk.1)
 
     reach-places : NodeReaches local (Row r.row) (Row o.row) → graph.Reaches nodes.graph i j
     reach-places (inl same) = inl (sym (own-place-is i r from) ∙ ap (λ (x : Node). unwrap_or (position_from (same_node x) 0 (node_list local)) 0) same ∙ own-place-is j o to)
@@ -90,4 +96,4 @@ module _ (local : LocalSystem) (is : IsLocal local) (nodes : SystemNodes) (are :
     )
 
     pub inputs-are : (ms : List ℕ) → AreMasksAt masks (ports_mask (control_ports local.control)) nodes.outputs ms → AreNodeInputs local ms
-    inputs-are ms h = masks-of (outports local) ms (λ o m. m) (subst (λ os. AreMasksAt masks (ports_mask (control_ports local.control)) os ms) are.outputs h)
+    inputs-are ms h = masks-of (outports local) ms (λ o m. m) (subst (λ os. AreMasksAt masks (ports_mask (control_ports local.control)) os ms) places-of-outputs h)

@@ -1,13 +1,14 @@
 -- Walks along the graph of the nodes are walks of the nodes.
-use Rattle.std.specs.Prelude.{◌≡◌, ℕ, suc, ◌-◌, ◌<◌, List, [], ◌∷◌, eqb, true, map, flat_map, length, slice_get, slice_index_or, Contains, Option, Some, None, refl}
+use Rattle.std.specs.Prelude.{◌≡◌, ℕ, zero, suc, ◌<◌, List, [], ◌∷◌, eqb, true, map, flat_map, length, slice_get, Contains, Option, Some, None, refl}
 use Rattle.std.specs.Option.{option_map_or}
 use Rattle.std.specs.List.{range_with_len}
-use Rattle.std.proofs.Common.{sym, ap, subst, arith, inl, inr}
+use Rattle.std.proofs.Common.{sym, subst, arith, inl, inr}
 use Rattle.std.proofs.lemmas.Bool.{eqb-true, cases_lt}
 use Rattle.std.proofs.lemmas.List.{get_or_past}
 use Rattle.std.proofs.lemmas.List.Elements.{Contains-append_left, Contains-append_right, All-from_recursion, All-contains}
-use Rattle.mc_graph.specs.NeedsGraph.{IsGraph, Needs}
+use Rattle.mc_graph.specs.NeedsGraph.{Needs}
 use Rattle.mc_graph.specs.Reaching as graph
+use Rattle.mc_diagram.specs.Rows.{is_system}
 use Rattle.mc_profile.specs.declared.local.ChildUse.{ChildUse}
 use Rattle.mc_profile.specs.declared.local.LocalRow.{LocalRow}
 use Rattle.mc_profile.specs.declared.nodes.Node.{Node}
@@ -15,11 +16,12 @@ use Rattle.mc_profile.specs.declared.nodes.Node.TheVariants.{Row, Call}
 use Rattle.mc_profile.specs.declared.profile.Function.{Function}
 use Rattle.mc_profile.specs.LocalSystem.{LocalSystem}
 use Rattle.mc_profile.specs.SystemNodes.{SystemNodes}
-use Rattle.mc_profile.specs.Headers.{row_number, header_functions, given_by_function, given_rows, ports_of_header, taken_by_function}
-use Rattle.mc_profile.specs.Locals.{row_of, child_of, entering}
-use Rattle.mc_profile.specs.LocalNodes.{call_nodes, node_list, node_gives, node_needs, NodeNeeds, NodeWalk, AreNodesOf, HasNoNodeLoop}
+use Rattle.mc_profile.specs.Headers.{header_functions, idle_function, given_by_function, given_rows}
+use Rattle.mc_profile.specs.Locals.{row_of, child_of}
+use Rattle.mc_profile.specs.LocalNodes.{calls_of, call_nodes, node_list, node_gives, node_needs, NodeNeeds, NodeWalk, AreNodesOf, HasNoNodeLoop}
 use Rattle.mc_profile.proofs.Members.{in-none, in-cases, in-map, found-in, in-range, at-in, below-at}
 use Rattle.mc_profile.proofs.FunctionRows.{nothing-given}
+use Rattle.mc_profile.proofs.ChildNumbers.{system-is}
 
 in-flat : {A B : Type 0} (f : A → List B) (xs : List A) (x : A) (y : B) → Contains xs x → Contains (f x) y → Contains (flat_map f xs) y
 in-flat f [] x y h m = absurd (in-none x h)
@@ -49,40 +51,33 @@ module _ (local : LocalSystem) where
       (subst (λ k. Contains (map (λ (q : LocalRow). Row q.row) local.rows) (Row k)) same (in-map (λ (q : LocalRow). Row q.row) local.rows r found.0)))
 
   -- past the end a function gives nothing
-  inside-functions : (u : ChildUse) (j c : ℕ) → Contains (given_rows u.header j) c → j - 1 < length (header_functions u.header)
-  inside-functions u j c h = elim (cases_lt (j - 1) (length (header_functions u.header))) [
+  inside-functions : (u : ChildUse) (k c : ℕ) → Contains (given_rows u.header (suc k)) c → k < length (header_functions u.header)
+  inside-functions u k c h = elim (cases_lt k (length (header_functions u.header))) [
     | inl below ↦ below
     | inr past ↦ absurd (nothing-given (map (λ o. o.0) u.header.outputs) c
         (subst (λ (f : Function). Contains (given_by_function f (map (λ o. o.0) u.header.outputs)) c)
-        (get_or_past (header_functions u.header) (j - 1) (record { inputs = 0; outputs = 0 }) past) h))
+        (get_or_past (header_functions u.header) k idle_function past) h))
   ]
 
-  -- the calls of a child's functions by their places from 0 on
-  abbrev needs_by : ℕ → ℕ → List ℕ
-  needs_by e i = option_map_or (λ (v : ChildUse). taken_by_function (slice_index_or (header_functions v.header) i (record { inputs = 0; outputs = 0 })) (ports_of_header v.header) (entering v)) (child_of local e) []
-
-  abbrev gives_by : ℕ → ℕ → List ℕ
-  gives_by e i = option_map_or (λ (v : ChildUse). given_by_function (slice_index_or (header_functions v.header) i (record { inputs = 0; outputs = 0 })) (map (λ o. o.0) v.header.outputs)) (child_of local e) []
-
-  call-stands : (e j c : ℕ) (o : Option ChildUse) → child_of local e ≡ o → Contains (option_map_or (λ (u : ChildUse). given_rows u.header j) o []) c → Stands (Call e j)
+  call-stands : (e j c : ℕ) (o : Option ChildUse) → child_of local e ≡ o →
+      Contains (option_map_or (λ (u : ChildUse). given_rows u.header j) o []) c → Stands (Call e j)
   call-stands e j c None is h = absurd (in-none c h)
-  call-stands e j c (Some u) is h = record { place = at.0; node = Call e (suc (j - 1)); at = at.1; needs = ap (needs_by e) same; gives = ap (gives_by e) same }
+  call-stands e zero c (Some u) is h = absurd (nothing-given (map (λ o. o.0) u.header.outputs) c h)
+  call-stands e (suc k) c (Some u) is h =
+      stands-in (Call e (suc k))
+      (Contains-append_right (map (λ (q : LocalRow). Row q.row) local.rows) (flat_map call_nodes local.children) (Call e (suc k))
+      (in-flat call_nodes local.children u (Call e (suc k)) found.0 listed))
     where
-      same : suc (j - 1) - 1 ≡ j - 1
-      same = omega arith
+      found : Contains local.children u × (is_system u.header.row e ≡ true)
+      found = found-in (λ (v : ChildUse). is_system v.header.row e) local.children u is
 
-      found : Contains local.children u × (eqb (row_number u.header.row) e ≡ true)
-      found = found-in (λ (v : ChildUse). eqb (row_number v.header.row) e) local.children u is
-
-      listed : Contains (call_nodes u) (Call e (suc (j - 1)))
+      listed : Contains (call_nodes u) (Call e (suc k))
       listed =
-          subst (λ k. Contains (call_nodes u) (Call k (suc (j - 1)))) (eqb-true (row_number u.header.row) e found.1)
-          (in-map (Call (row_number u.header.row)) (range_with_len 1 (length (header_functions u.header))) (suc (j - 1))
-          (in-range 1 (length (header_functions u.header)) (suc (j - 1)) (omega arith) (let low = inside-functions u j c h in omega (arith, low))))
-
-      at : (a : ℕ) × (slice_get (node_list local) a ≡ Some (Call e (suc (j - 1))))
-      at = at-in (node_list local) (Call e (suc (j - 1)))
-          (Contains-append_right (map (λ (q : LocalRow). Row q.row) local.rows) (flat_map call_nodes local.children) (Call e (suc (j - 1))) (in-flat call_nodes local.children u (Call e (suc (j - 1))) found.0 listed))
+          subst (λ o. Contains (calls_of o (length (header_functions u.header))) (Call e (suc k)))
+          (sym (system-is u.header.row e found.1))
+          (in-map (Call e) (range_with_len 1 (length (header_functions u.header))) (suc k)
+          (in-range 1 (length (header_functions u.header)) (suc k) (omega arith)
+          (let low = inside-functions u k c h in omega (arith, low))))
 
   -- a node that gives a wire stands in the list
   pub stands : (z : Node) (c : ℕ) → Contains (node_gives local z) c → Stands z
@@ -105,29 +100,28 @@ module _ (local : LocalSystem) where
 
     -- ---- From places to nodes
 
-    module _ (inside : IsGraph nodes.graph) where
-      pub node-at : (a b : ℕ) → Needs nodes.graph b a → (x : Node) × (slice_get (node_list local) a ≡ Some x)
-      node-at a b e =
-          let low = (All-contains (λ (edge : ℕ × ℕ). (edge.0 < nodes.graph.n) × (edge.1 < nodes.graph.n)) nodes.graph.edges (a, b)
-          (All-from_recursion (λ (edge : ℕ × ℕ). (edge.0 < nodes.graph.n) × (edge.1 < nodes.graph.n)) nodes.graph.edges inside) e).0 in
-          below-at (node_list local) a (let c = are.count in omega (arith, low, c))
+    pub node-at : (a b : ℕ) → Needs nodes.graph b a → (x : Node) × (slice_get (node_list local) a ≡ Some x)
+    node-at a b e =
+        let low = (All-contains (λ (edge : ℕ × ℕ). (edge.0 < nodes.graph.n) × (edge.1 < nodes.graph.n)) nodes.graph.edges (a, b)
+        (All-from_recursion (λ (edge : ℕ × ℕ). (edge.0 < nodes.graph.n) × (edge.1 < nodes.graph.n)) nodes.graph.edges are.inside) e).0 in
+        below-at (node_list local) a (let c = are.count in omega (arith, low, c))
 
-      pub walk-to-nodes : (a b : ℕ) (x y : Node) (path : List ℕ) → slice_get (node_list local) a ≡ Some x → slice_get (node_list local) b ≡ Some y → graph.Walk nodes.graph b path a →
-          (between : List Node) × NodeWalk local y between x
-      walk-to-nodes a b x y [] from to e = ([], (are.edges a b x y from to).0 e)
-      walk-to-nodes a b x y (c ∷ path) from to (e, rest) =
-          let z = node-at c b e in
-          let more = walk-to-nodes a c x z.0 path from z.1 rest in
-          (z.0 ∷ more.0, ((are.edges c b z.0 y z.1 to).0 e, more.1))
+    pub walk-to-nodes : (a b : ℕ) (x y : Node) (path : List ℕ) → slice_get (node_list local) a ≡ Some x → slice_get (node_list local) b ≡ Some y → graph.Walk nodes.graph b path a →
+        (between : List Node) × NodeWalk local y between x
+    walk-to-nodes a b x y [] from to e = ([], (are.edges a b x y from to).0 e)
+    walk-to-nodes a b x y (c ∷ path) from to (e, rest) =
+        let z = node-at c b e in
+        let more = walk-to-nodes a c x z.0 path from z.1 rest in
+        (z.0 ∷ more.0, ((are.edges c b z.0 y z.1 to).0 e, more.1))
 
-      -- where nodes form no loop the graph has no cycle
-      pub no-cycle : HasNoNodeLoop local → graph.HasNoCycle nodes.graph
-      no-cycle none [] cycle = cycle
-      no-cycle none (a ∷ path) cycle =
-          let x = first a path a cycle in
-          let walk = walk-to-nodes a a x.0 x.0 path x.1 x.1 cycle in
-          none x.0 walk.0 walk.1
-        where
-          first : (a : ℕ) (path : List ℕ) (c : ℕ) → graph.Walk nodes.graph a path c → (x : Node) × (slice_get (node_list local) c ≡ Some x)
-          first a [] c e = node-at c a e
-          first a (b ∷ path) c (e, rest) = first b path c rest
+    -- where nodes form no loop the graph has no cycle
+    pub no-cycle : HasNoNodeLoop local → graph.HasNoCycle nodes.graph
+    no-cycle none [] cycle = cycle
+    no-cycle none (a ∷ path) cycle =
+        let x = first a path a cycle in
+        let walk = walk-to-nodes a a x.0 x.0 path x.1 x.1 cycle in
+        none x.0 walk.0 walk.1
+      where
+        first : (a : ℕ) (path : List ℕ) (c : ℕ) → graph.Walk nodes.graph a path c → (x : Node) × (slice_get (node_list local) c ≡ Some x)
+        first a [] c e = node-at c a e
+        first a (b ∷ path) c (e, rest) = first b path c rest

@@ -4,13 +4,11 @@ use Rattle.std.proofs.Common.{sym, ap, subst, ◌∙◌, arith, inl, inr, true�
 use Rattle.std.proofs.lemmas.Bool.{and_from}
 use Rattle.std.proofs.lemmas.List.Elements.{All-from_recursion}
 use Rattle.mc_base.specs.declared.Port.TheVariants.{Number}
-use Rattle.mc_blocks.specs.declared.Kind.{Kind}
-use Rattle.mc_blocks.specs.declared.Kind.TheVariants.{Inport}
 use Rattle.mc_blocks.specs.Value.{feeds_through}
 use Rattle.mc_diagram.specs.Rows.{row_at, inports_of, outports_of, is_inport, is_outport, same_system, port_of}
 use Rattle.mc_diagram.specs.Diagram.{Diagram, op_at}
 use Rattle.mc_diagram.specs.Needs.{needs_inside, Walk, Reaches, TrueNeeds, IsMaskOf}
-use Rattle.mc_diagram.specs.WellFormed.{IsNested, IsOwner, IsWired, IsWireIn, HasPorts, reading_system, wires_wanted}
+use Rattle.mc_diagram.specs.WellFormed.{IsNested, IsOwner, IsWired, IsWireIn, HasPorts, reading_system}
 use Rattle.mc_diagram.proofs.lemmas.Walks.{walk-snoc}
 use Rattle.mc_profile.specs.declared.nodes.Node.{Node}
 use Rattle.mc_profile.specs.declared.nodes.Node.TheVariants.{Row, Call}
@@ -21,7 +19,6 @@ use Rattle.mc_profile.specs.Headers.{header_of, header_function, taken, given_ro
 use Rattle.mc_profile.specs.Locals.{local_of, child_use, entering}
 use Rattle.mc_profile.specs.LocalNodes.{node_gives, node_needs}
 use Rattle.mc_profile.specs.NodeFacts.{AreHeaders}
-use Rattle.mc_profile.specs.Systems.{first_wire}
 use Rattle.mc_profile.proofs.ChildNeeds.{LeadsTo, IsBefore, IsInsideChild, needs-inward}
 use Rattle.mc_profile.proofs.ChildRows.{closed}
 use Rattle.mc_profile.proofs.ChildWalks.{walk-inward}
@@ -40,11 +37,6 @@ pub record HasLaws (d : Diagram) (s : Option ℕ) (headers : List SystemHeader) 
   pub outports : (o : Option ℕ) → HasPorts d.rows is_outport o
   pub copies : (b : ℕ) → b < length d.rows → is_inport (row_at d.rows b).kind ≡ true → feeds_through (op_at d b) ≡ true
   pub are_headers : AreHeaders d s headers
-
--- the one wire of a row
-has-only : (inputs : List ℕ) → length inputs ≡ 1 → Contains inputs (first_wire inputs)
-has-only [] one = absurd (omega arith)
-has-only (x ∷ xs) one = (0, omega arith, refl)
 
 module _ (d : Diagram) (delays : List Bool) (s : Option ℕ) (headers : List SystemHeader) (laws : HasLaws d s headers) where
   abbrev local : LocalSystem
@@ -98,33 +90,24 @@ module _ (d : Diagram) (delays : List Bool) (s : Option ℕ) (headers : List Sys
     steps-to g i c inside (inr (path, walk)) step =
         (path ++ i ∷ [], walk-snoc (needs_inside d s) g path i c (walk-inward d s e child.owned first stays g path i inside walk) step)
 
-    -- one wire enters an Inport of the child
-    pub one-wire : (i : ℕ) → i < length d.rows → (row_at d.rows i).owner ≡ Some e → is_inport (row_at d.rows i).kind ≡ true →
-        length (row_at d.rows i).inputs ≡ 1
-    one-wire i below own is = laws.wired.counts i below ∙ by (row_at d.rows i).kind (row_at d.rows i).owner is own
-      where
-        by : (kind : Kind) (o : Option ℕ) → is_inport kind ≡ true → o ≡ Some e → wires_wanted kind o ≡ 1
-        by (Inport port) o is own = ap (wires_wanted (Inport port)) own
-        by _ o is own = absurd (true≢false (sym is))
-
     -- an Inport of the child needs the wire that enters it
-    inport-needs : (i : ℕ) → i < length d.rows → (row_at d.rows i).owner ≡ Some e → is_inport (row_at d.rows i).kind ≡ true →
-        Contains (needs_inside d s i) (first_wire (row_at d.rows i).inputs)
-    inport-needs i below own is =
-        needs-inward d s e child.owned first i (own-inside i below own) (first_wire (row_at d.rows i).inputs) (inr (inl (
+    inport-needs : (i c : ℕ) → i < length d.rows → (row_at d.rows i).owner ≡ Some e → is_inport (row_at d.rows i).kind ≡ true →
+        (row_at d.rows i).inputs ≡ c ∷ [] → Contains (needs_inside d s i) c
+    inport-needs i c below own is wire =
+        needs-inward d s e child.owned first i (own-inside i below own) c (inr (inl (
           and_from (is_inport (row_at d.rows i).kind) (same_system (row_at d.rows i).owner (Some e)) is
               (ap (λ o. same_system o (Some e)) own ∙ same-self (Some e)),
           by (feeds_through (op_at d i)) (laws.copies i below is),
         )))
       where
-        by : (feeds : Bool) → feeds ≡ true → Contains (if feeds then (row_at d.rows i).inputs else []) (first_wire (row_at d.rows i).inputs)
-        by true h = has-only (row_at d.rows i).inputs (one-wire i below own is)
+        by : (feeds : Bool) → feeds ≡ true → Contains (if feeds then (row_at d.rows i).inputs else []) c
+        by true h = subst (λ ws. Contains ws c) (sym wire) (0, omega arith, refl)
         by false h = absurd (true≢false (sym h))
 
     -- what a call takes, each Outport that it gives reaches
     call-step : (j g c : ℕ) → Contains (given_rows header j) g → Contains (taken header j (entering (child_use d header))) c →
         (path : List ℕ) × Walk (needs_inside d s) g path c
-    call-step j g c gives takes = by (of-taken d e profile j c takes)
+    call-step j g c gives takes = by (of-taken d laws.wired e (laws.inports (Some e)) profile j c takes)
       where
         out : Contains (outports_of d.rows (Some e)) g × IsMaskOf (TrueNeeds d (Some e) g) (header_function header j).inputs
         out = header-needs d header refl child.has_profile j g gives
@@ -133,7 +116,7 @@ module _ (d : Diagram) (delays : List Bool) (s : Option ℕ) (headers : List Sys
         inside = let p = of-ports d.rows (Some e) is_outport g out.0 in own-inside g p.0 p.1
 
         entered : (k i : ℕ) → k < length (inports_of d.rows (Some e)) → slice_get (inports_of d.rows (Some e)) k ≡ Some i →
-            first_wire (row_at d.rows i).inputs ≡ c →
+            (row_at d.rows i).inputs ≡ c ∷ [] →
             TrueNeeds d (Some e) g (Number (suc k)) → (path : List ℕ) × Walk (needs_inside d s) g path c
         entered k i below place wire (x, row, reached) =
             let is : is_inport (row_at d.rows x).kind ≡ true = ap is_inport row.is_inport in
@@ -144,10 +127,9 @@ module _ (d : Diagram) (delays : List Bool) (s : Option ℕ) (headers : List Sys
             (port-place d.rows (Some e) is_inport (laws.inports (Some e)) x row.in_table row.is_own is) in
             let same : x ≡ i = (let both : Some x ≡ Some i = sym stands ∙ place in cc both) in
             steps-to g x c inside reached
-            (subst (Contains (needs_inside d s x)) (ap (λ y. first_wire (row_at d.rows y).inputs) same ∙ wire)
-            (inport-needs x row.in_table row.is_own is))
+            (inport-needs x c row.in_table row.is_own is (ap (λ y. (row_at d.rows y).inputs) same ∙ wire))
 
-        by : IsTakenAt d e profile j c ⊎ Contains (row_at d.rows e).inputs c → (path : List ℕ) × Walk (needs_inside d s) g path c
+        by : IsTakenAt d laws.wired e (laws.inports (Some e)) profile j c ⊎ Contains (row_at d.rows e).inputs c → (path : List ℕ) × Walk (needs_inside d s) g path c
         by (inl at) =
             let below : at.k < length (inports_of d.rows (Some e)) = at-below (inports_of d.rows (Some e)) at.k at.i at.place in
             let few : length (inports_of d.rows (Some e)) ≤ 32 = few-ports d.rows (Some e) is_inport (laws.inports (Some e)) in

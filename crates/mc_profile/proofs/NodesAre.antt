@@ -1,9 +1,9 @@
 -- The nodes of a lawful local system are those that are wanted.
-use Rattle.std.specs.Prelude.{◌≡◌, ◌↔◌, ℕ, List, length, slice_get, Contains, Some}
-use Rattle.std.proofs.Common.{sym, subst, ◌∙◌}
+use Rattle.std.specs.Prelude.{◌≡◌, ◌↔◌, ℕ, List, map, length, slice_get, Contains, Some}
+use Rattle.std.proofs.Common.{sym, ap, subst, ◌∙◌}
 use Rattle.std.proofs.lemmas.Option.{same_Some}
 use Rattle.mc_diagram.specs.Rows.{is_outport}
-use Rattle.mc_graph.specs.NeedsGraph.{NeedsGraph}
+use Rattle.mc_graph.specs.NeedsGraph.{NeedsGraph, IsGraph}
 use Rattle.mc_profile.specs.declared.node_wires.NodeWires.{NodeWires}
 use Rattle.mc_profile.specs.declared.nodes.Node.{Node}
 use Rattle.mc_profile.specs.LocalSystem.{LocalSystem}
@@ -12,7 +12,7 @@ use Rattle.mc_profile.specs.Places.{ported_places, places_by_port}
 use Rattle.mc_profile.specs.NodeWires.{wires_of_nodes, IsEdge}
 use Rattle.mc_profile.specs.LawfulLocals.{IsLocal}
 use Rattle.mc_profile.proofs.NodeLists.{wires_at, nodes-many, wires-at}
-use Rattle.mc_profile.proofs.PlaceSteps.{places-are}
+use Rattle.mc_profile.proofs.PlaceSteps.{places-are, places-stand}
 
 module _ (local : LocalSystem) (is : IsLocal local) where
   needs-from : (a b : ℕ) (x y : Node) → slice_get (node_list local) a ≡ Some x → slice_get (node_list local) b ≡ Some y → IsEdge (wires_of_nodes local) a b → NodeNeeds local y x
@@ -32,11 +32,12 @@ module _ (local : LocalSystem) (is : IsLocal local) where
     needed = needed;
   }
 
-  pub nodes-are : (g : NeedsGraph) (list : List Node) (outputs : List ℕ) → g.n ≡ length (wires_of_nodes local) → ((a b : ℕ) → Contains g.edges (a, b) ↔ IsEdge (wires_of_nodes local) a b) →
+  pub nodes-are : (g : NeedsGraph) (list : List Node) (outputs : List ℕ) → g.n ≡ length (wires_of_nodes local) → IsGraph g → ((a b : ℕ) → Contains g.edges (a, b) ↔ IsEdge (wires_of_nodes local) a b) →
       list ≡ node_list local → outputs ≡ places_by_port (ported_places is_outport local.rows) → AreNodesOf local (record { graph = g; list = list; outputs = outputs })
-  nodes-are g list outputs many edges listed placed = record {
+  nodes-are g list outputs many inside edges listed placed = record {
     list = listed;
     count = many ∙ nodes-many local is;
+    inside = inside;
     edges = λ a b x y from to. (λ h. needs-from a b x y from to ((edges a b).0 h), λ n. (edges a b).1 (edge-from a b x y from to n));
-    outputs = placed ∙ places-are local is is_outport;
+    outputs = ap (map Some) (placed ∙ places-are local is is_outport) ∙ places-stand local is is_outport;
   }

@@ -4,6 +4,7 @@ use Rattle.std.specs.Option.{option_map_or}
 use Rattle.std.proofs.Common.{sym, ap, subst, ◌∙◌, inl, inr, true≢false}
 use Rattle.std.proofs.lemmas.Bool.{eq-eqb, eqb-true, and_left}
 use Rattle.std.proofs.lemmas.List.Elements.{Contains-append_left, Contains-append_cases}
+use Rattle.std.proofs.lemmas.Option.{same_Some}
 use Rattle.mc_blocks.specs.Value.{feeds_through}
 use Rattle.mc_diagram.specs.Rows.{row_at, rows_of, subsystems_of, same_system, is_system, enclosing, around_inside, is_inport, is_inport_of, is_subsystem}
 use Rattle.mc_diagram.specs.Diagram.{Diagram, op_at}
@@ -15,11 +16,12 @@ use Rattle.mc_profile.specs.LocalSystem.{LocalSystem}
 use Rattle.mc_profile.specs.SystemHeader.{SystemHeader}
 use Rattle.mc_profile.specs.SystemProfile.{SystemProfile}
 use Rattle.mc_profile.specs.Functions.{IsProfileOf}
-use Rattle.mc_profile.specs.Headers.{header_of, row_number, taken, given_rows}
+use Rattle.mc_profile.specs.Headers.{header_of, taken, given_rows}
 use Rattle.mc_profile.specs.Locals.{local_row, local_of, row_of, child_use, child_of, entering}
 use Rattle.mc_profile.specs.LocalNodes.{node_gives, node_needs, used_inputs}
 use Rattle.mc_profile.specs.NodeFacts.{AreHeaders}
 use Rattle.mc_profile.proofs.ChildNeeds.{inner, nothing-inside}
+use Rattle.mc_profile.proofs.ChildNumbers.{system-is}
 use Rattle.mc_profile.proofs.Members.{in-none, in-first, in-cases, in-map, of-map, found-in, finds}
 use Rattle.mc_profile.proofs.PortRows.{same-self, of-rows, of-subsystems}
 
@@ -163,14 +165,14 @@ module _ (d : Diagram) (delays : List Bool) (s : Option ℕ) (headers : List Sys
   module _ (are : AreHeaders d s headers) where
     child-is : (e : ℕ) (u : ChildUse) → child_of local e ≡ Some u → (profile : SystemProfile) × IsChild e profile
     child-is e u found =
-        let f = found-in (λ (u : ChildUse). row_number u.header.row == e) (map (child_use d) headers) u found in
+        let f = found-in (λ (u : ChildUse). is_system u.header.row e) (map (child_use d) headers) u found in
         let m = of-map (child_use d) headers u f.0 in
         let h : SystemHeader = m.0 in
         let listed : Contains (map Some (subsystems_of d.rows s)) h.row =
         subst (λ rows. Contains rows h.row) are.rows (in-map (λ (g : SystemHeader). g.row) headers h m.1) in
         let n = of-map Some (subsystems_of d.rows s) h.row listed in
-        let same : n.0 ≡ e = ap row_number (n.2 ∙ ap (λ (u : ChildUse). u.header.row) m.2) ∙ eqb-true (row_number u.header.row) e f.1 in
-        let row : h.row ≡ Some e = sym n.2 ∙ ap Some same in
+        let row : h.row ≡ Some e = ap (λ (u : ChildUse). u.header.row) m.2 ∙ system-is u.header.row e f.1 in
+        let same : n.0 ≡ e = same_Some n.0 e (n.2 ∙ row) in
         let is = are.each h m.1 in
         let whole : h ≡ header_of d (Some e) h.profile = is.0 ∙ ap (λ o. header_of d o h.profile) row in
         let place = of-subsystems d.rows s e (subst (Contains (subsystems_of d.rows s)) same n.1) in (
@@ -197,6 +199,6 @@ module _ (d : Diagram) (delays : List Bool) (s : Option ℕ) (headers : List Sys
         let listed : Contains (map (λ (g : SystemHeader). g.row) headers) (Some e) =
         subst (λ rows. Contains rows (Some e)) (sym are.rows) (in-map Some (subsystems_of d.rows s) e h) in
         let m = of-map (λ (g : SystemHeader). g.row) headers (Some e) listed in
-        let f = finds (λ (u : ChildUse). row_number u.header.row == e) (map (child_use d) headers) (child_use d m.0)
-        (in-map (child_use d) headers m.0 m.1) (ap (λ o. row_number o == e) m.2 ∙ eq-eqb e e refl) in
+        let f = finds (λ (u : ChildUse). is_system u.header.row e) (map (child_use d) headers) (child_use d m.0)
+        (in-map (child_use d) headers m.0 m.1) (ap (λ o. is_system o e) m.2 ∙ eq-eqb e e refl) in
         child-is e f.0 f.1

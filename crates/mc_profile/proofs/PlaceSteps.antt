@@ -1,7 +1,7 @@
 -- The places of a system's own ports among its nodes.
 use Rattle.std.specs.Prelude.{◌≡◌, ℕ, zero, suc, ◌+◌, ◌<◌, Bool, true, false, ◌==◌, cond, List, [], ◌∷◌, ◌++◌, map, filter, filter_map, find, flat_map, length, slice_get, get_or, take, Contains, Option, Some, None, refl, option_map, unwrap_or}
 use Rattle.std.specs.List.{range_with_len, position_from, enumerate_from, cons_option}
-use Rattle.std.proofs.Common.{sym, ap, ap₂, ◌∙◌, arith}
+use Rattle.std.proofs.Common.{sym, ap, ap₂, subst, ◌∙◌, arith}
 use Rattle.std.proofs.lemmas.Bool.{eq-eqb, ne_eqb}
 use Rattle.std.proofs.lemmas.List.{map-append, length-map}
 use Rattle.std.proofs.lemmas.List.Elements.{filter-append}
@@ -17,6 +17,7 @@ use Rattle.mc_profile.specs.LocalNodes.{same_node, call_nodes, node_list}
 use Rattle.mc_profile.specs.Places.{ported_places, place_with, places_by_port}
 use Rattle.mc_profile.specs.LawfulLocals.{IsLocal}
 use Rattle.mc_profile.proofs.EntrySteps.{enumerate-more}
+use Rattle.mc_profile.proofs.Members.{at-in, in-first, in-rest, of-filter, of-filter_map, found-in}
 use Rattle.mc_profile.proofs.NodeLists.{KeysDiffer, keys-later, key-apart}
 
 abbrev passes : (Kind → Bool) → ℕ × LocalRow → Bool
@@ -134,3 +135,23 @@ module _ (local : LocalSystem) (is : IsLocal local) (test : Kind → Bool) where
       ap (λ n. filter_map (place_with (ported_places test local.rows)) (range_with_len 1 n)) many
       ∙ kept-mapped (λ k. find (λ (r : LocalRow). port_of r.kind == k) kept) place (place_with (ported_places test local.rows)) (range_with_len 1 (length kept))
       (λ k. found-place test place 0 k local.rows (λ i r at. own-place i r at ∙ (let e : i ≡ 0 + i = omega arith in e)))
+
+  -- an own port stands at its place
+  pub stands-at : (r : LocalRow) → Contains (rows_by_port local test) r → slice_get local.rows (place r) ≡ Some r
+  stands-at r h =
+      let kept : List LocalRow = filter (λ (q : LocalRow). test q.kind) local.rows in
+      let f = of-filter_map (λ k. find (λ (q : LocalRow). port_of q.kind == k) kept) (range_with_len 1 (length kept)) r h in
+      let m = of-filter (λ (q : LocalRow). test q.kind) local.rows r (found-in (λ (q : LocalRow). port_of q.kind == f.0) kept r f.2).0 in
+      let at = at-in local.rows r m.0 in
+      subst (λ i. slice_get local.rows i ≡ Some r) (sym (own-place at.0 r at.1)) at.1
+
+  pub places-stand : map Some (map place (rows_by_port local test)) ≡ map (λ r. position_from (same_node (Row r.row)) 0 (node_list local)) (rows_by_port local test)
+  places-stand = by (rows_by_port local test) (λ r h. h)
+    where
+      by : (rs : List LocalRow) → ((r : LocalRow) → Contains rs r → Contains (rows_by_port local test) r) →
+          map Some (map place rs) ≡ map (λ (r : LocalRow). position_from (same_node (Row r.row)) 0 (node_list local)) rs
+      by [] each = refl
+      by (r ∷ rs) each = ap₂ (λ o os. o ∷ os)
+          (sym (own-position local.rows (flat_map call_nodes local.children) 0 (place r) r is.rows_differ (stands-at r (each r (in-first r rs)))
+          ∙ (let e : 0 + place r ≡ place r = omega arith in ap Some e)))
+          (by rs (λ q h. each q (in-rest r q rs h)))

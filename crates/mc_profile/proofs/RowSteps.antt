@@ -21,7 +21,6 @@ use Rattle.mc_profile.specs.Headers.{header_of, header_function, taken, given_ro
 use Rattle.mc_profile.specs.Locals.{local_of, child_use, entering}
 use Rattle.mc_profile.specs.LocalNodes.{node_gives, node_needs, NodeNeeds}
 use Rattle.mc_profile.specs.Ports.{has_bit}
-use Rattle.mc_profile.specs.Systems.{first_wire}
 use Rattle.mc_profile.proofs.ChildNeeds.{LeadsTo, IsBefore, IsInsideChild, Enters, needs-outward}
 use Rattle.mc_profile.proofs.Members.{in-none, in-at}
 use Rattle.mc_profile.proofs.MaskBits.{set-has}
@@ -29,7 +28,7 @@ use Rattle.mc_profile.proofs.FunctionRows.{header-gives, header-needs}
 use Rattle.mc_profile.proofs.PortRows.{in-rows, of-rows, in-subsystems, port-place, port-range, few-ports}
 use Rattle.mc_profile.proofs.ChildPorts.{takes-input, takes-control}
 use Rattle.mc_profile.proofs.OwnNodes.{IsChild, row-needs, row-gives, call-gives, call-needs, child-found}
-use Rattle.mc_profile.proofs.NodeSteps.{HasLaws, before, read, own-inside, stays, one-wire}
+use Rattle.mc_profile.proofs.NodeSteps.{HasLaws, before, read, own-inside, stays}
 
 -- one step behind what is reached
 reaches-on : (needs : ℕ → List ℕ) (o b c : ℕ) → Reaches needs o b → Contains (needs b) c → Reaches needs o c
@@ -70,12 +69,6 @@ reads-own rows _ o h = refl
 used-input : (feeds : Bool) (inputs : List ℕ) (c : ℕ) → Contains (if feeds then inputs else []) c → Contains inputs c
 used-input true inputs c h = h
 used-input false inputs c h = absurd (in-none c h)
-
-only-wire : (inputs : List ℕ) (c : ℕ) → length inputs ≡ 1 → Contains inputs c → first_wire inputs ≡ c
-only-wire [] c one h = absurd (omega arith)
-only-wire (x ∷ []) c one (zero, below, is) = is
-only-wire (x ∷ []) c one (suc k, below, is) = absurd (omega arith)
-only-wire (x ∷ y ∷ xs) c one h = absurd (omega arith)
 
 -- a system isn't inside its own child
 outside : (rows : List TableRow) (e n : ℕ) (o : Option ℕ) → IsBefore o e → LeadsTo rows e n o → ⊥
@@ -159,18 +152,15 @@ module _ (d : Diagram) (delays : List Bool) (s : Option ℕ) (headers : List Sys
           set-has (header_function (header_of d (Some e) w.profile) j).inputs (port - 1)
           ((mask.number port low (omega arith)).1 (a, row, w.reached)) in
           let wire : Contains (row_at d.rows a).inputs c = used-input (feeds_through (op_at d a)) (row_at d.rows a).inputs c used in
-          let only : first_wire (row_at d.rows a).inputs ≡ c =
-          only-wire (row_at d.rows a).inputs c (one-wire d delays s headers laws e w.profile w.child a row.in_table row.is_own is) wire in
-          out (subst (Contains (taken (header_of d (Some e) w.profile) j (entering (child_use d (header_of d (Some e) w.profile))))) only
-          (takes-input d e w.profile j (port - 1) a
-          (port-place d.rows (Some e) is_inport (laws.inports (Some e)) a row.in_table row.is_own is) bit))
+          out (takes-input d laws.wired e (laws.inports (Some e)) w.profile j (port - 1) a c
+          (port-place d.rows (Some e) is_inport (laws.inports (Some e)) a row.in_table row.is_own is) wire bit)
           (subst (λ o. IsWireIn d.rows o c)
           (ap (λ kind. reading_system d.rows kind (row_at d.rows a).owner) row.is_inport
           ∙ ap (reading_system d.rows (Inport port)) row.is_own ∙ w.child.owned) (read d delays s headers laws a c row.in_table wire))
 
       by-control : Contains (row_at d.rows e).inputs c → Leads (Call e j) c
       by-control control =
-          out (takes-control d e w.profile j c w.child.is_subsystem (laws.wired.counts e w.child.below)
+          out (takes-control d laws.wired e (laws.inports (Some e)) w.profile j c w.child.is_subsystem (laws.wired.counts e w.child.below)
           (λ enabled. set-has (header_function (header_of d (Some e) w.profile) j).inputs 32 (mask.enable.1 enabled))
           (λ triggered. set-has (header_function (header_of d (Some e) w.profile) j).inputs 33 (mask.trigger.1 triggered)) control)
           (subst (λ o. IsWireIn d.rows o c)

@@ -3,15 +3,14 @@ use Rattle.std.specs.Prelude.{ℕ, Bool, false, ◌==◌, if◌then◌else◌, L
 use Rattle.std.specs.List.{range_with_len}
 use Rattle.mc_blocks.specs.declared.Kind.{Kind}
 use Rattle.mc_diagram.specs.declared.table.Row.{Row}
-use Rattle.mc_diagram.specs.Rows.{row_at, rows_of, inports_of, system_control, is_inport, is_outport, port_of}
+use Rattle.mc_diagram.specs.Rows.{row_at, rows_of, system_control, is_system, is_inport, is_outport, port_of}
 use Rattle.mc_diagram.specs.Diagram.{Diagram, type_at, op_at, time_at}
-use Rattle.mc_diagram.specs.Inputs.{first_wire, control_wires_of}
+use Rattle.mc_diagram.specs.Inputs.{entering_wires, control_wires_of}
 use Rattle.mc_profile.specs.declared.local.ChildUse.{ChildUse}
 use Rattle.mc_profile.specs.declared.local.LocalRow.{LocalRow}
 use Rattle.mc_profile.specs.SystemProfile.{SystemProfile}
 use Rattle.mc_profile.specs.SystemHeader.{SystemHeader}
 use Rattle.mc_profile.specs.LocalSystem.{LocalSystem}
-use Rattle.mc_profile.specs.Headers.{row_number}
 
 -- row b with all that its code is made from, where `delays` says which rows delay between rates
 abbrev pub local_row : Diagram → List Bool → ℕ → LocalRow
@@ -35,7 +34,7 @@ ported rows test own =
 abbrev pub child_use : Diagram → SystemHeader → ChildUse
 child_use d h = record {
   header = h;
-  wires = map (λ i. first_wire (row_at d.rows i).inputs) (inports_of d.rows h.row);
+  wires = entering_wires d.rows h.row;
   controls = control_wires_of d.rows h.row;
 }
 
@@ -84,7 +83,7 @@ row_of local b = find (λ r. r.row == b) local.rows
 
 -- the child of this subsystem row
 abbrev pub child_of : LocalSystem → ℕ → Option ChildUse
-child_of local e = find (λ u. row_number u.header.row == e) local.children
+child_of local e = find (λ u. is_system u.header.row e) local.children
 
 -- the wires that a child's inputs and then its controls read
 abbrev pub entering : ChildUse → List ℕ

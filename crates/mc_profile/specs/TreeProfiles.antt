@@ -1,7 +1,9 @@
 -- The profiles of a nested system and of all systems inside it.
 use Rattle.std.specs.Prelude.{◌≡◌, ℕ, List, [], ◌∷◌, ◌++◌, map, All, Option}
 use Rattle.mc_diagram.specs.Diagram.{Diagram}
-use Rattle.mc_diagram.specs.Nested.{System, Systems, system, no_more, next}
+use Rattle.mc_diagram.specs.Nested.{System, Systems, system, no_more, next, system_of}
+use Rattle.mc_diagram.specs.ResolvedTree.{ResolvedTree, IsResolvedTree}
+use Rattle.mc_profile.specs.Systems.{systems}
 use Rattle.mc_profile.specs.SystemProfile.{SystemProfile}
 use Rattle.mc_profile.specs.Functions.{IsProfileOf}
 
@@ -18,3 +20,7 @@ abbrev mutual
 pub record AreProfilesInside (d : Diagram) (s : System) (profiles : List SystemProfile) : Type 0 where
   pub rows : map (λ p. p.row) profiles ≡ rows_inside s
   pub each : All (λ p. IsProfileOf d p.row p) profiles
+
+-- the systems of a resolved tree, in this order, are all systems: the root, and then the subsystem rows by number
+abbrev pub TreeHasAllSystems : Type 0
+TreeHasAllSystems = (r : ResolvedTree) → IsResolvedTree r → rows_inside (system_of r.tree.root) ≡ systems r.tree.table.rows

@@ -1,4 +1,5 @@
 ghost use Rattle.mc_profile.specs.NodeFacts.{HeaderIsOfOwnRows, HeadersAreOne, LocalsAreLawful, NodesHaveNoLoop, NodesReachAsRows, ProfilesAreLeast, ProfilesAreOne};
+ghost use Rattle.mc_profile.specs.TreeProfiles.{TreeHasAllSystems};
 
 use mc_base::needs_are_least;
 
@@ -38,4 +39,10 @@ pub fn nodes_have_no_loop()
 /// What a resolved model has as its systems by their own rows is lawful.
 pub fn locals_are_lawful()
     ensures { LocalsAreLawful }
+{}
+
+/// The systems of a resolved tree are the root and the subsystems of its table by row: so `profiles_of` gives the profile
+/// of each of them once, in this order.
+pub fn tree_has_all_systems()
+    ensures { TreeHasAllSystems }
 {}

@@ -27,7 +27,7 @@ mod tree_profiles;
 pub use functions::functions_of;
 pub use laws::{
     header_is_of_own_rows, headers_are_one, locals_are_lawful, nodes_have_no_loop,
-    nodes_reach_as_rows, profiles_are_least, profiles_are_one,
+    nodes_reach_as_rows, profiles_are_least, profiles_are_one, tree_has_all_systems,
 };
 pub use local::{ChildUse, Header, Local, LocalRow, local_of};
 pub use node_list::nodes_of;

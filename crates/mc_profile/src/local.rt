@@ -20,11 +20,17 @@ use std::marker::Model;
 /// output has its Outport row.
 #[derive(Drop)]
 pub struct Header {
+    /// Its subsystem row; none for the root.
     pub row: Option<u32>,
+    /// How it is controlled.
     pub control: Control,
+    /// The types of its inputs.
     pub inputs: Vec<FixType>,
+    /// The types of its controls.
     pub controls: Vec<FixType>,
+    /// Its outputs, each with its Outport row and its type.
     pub outputs: Vec<(u32, FixType)>,
+    /// Its output functions.
     pub profile: Profile,
 }
 
@@ -39,30 +45,45 @@ impl Model for Header {
 /// A child with the wires that enter its ports and its controls.
 #[derive(Drop)]
 pub struct ChildUse {
+    /// The child as the system around it sees it.
     pub header: Header,
+    /// The rows that its inputs read, by port.
     pub wires: Wires,
+    /// The rows that its controls read, the enable first.
     pub controls: Wires,
 }
 
 /// A row of a system with all that its code is made from. For an Inport `inputs` is empty.
 #[derive(Drop)]
 pub struct LocalRow {
+    /// Its number in the table.
     pub row: u32,
+    /// What it is, with its parameters.
     pub kind: Kind,
+    /// The rows that its inputs read, by port.
     pub inputs: Wires,
+    /// What it computes.
     pub op: Op,
+    /// The type of its value.
     pub out: FixType,
+    /// Its sample time, in base ticks.
     pub time: Time,
+    /// Whether it is a RateTransition that delays.
     pub delays: bool,
 }
 
 /// A system by its own rows, in the order of the file, and its children, in theirs.
 #[derive(Drop)]
 pub struct Local {
+    /// Its subsystem row; none for the root.
     pub row: Option<u32>,
+    /// How it is controlled.
     pub control: Control,
+    /// The types of its controls, the enable first.
     pub controls: Vec<FixType>,
+    /// Its own rows, those of its children not among them.
     pub rows: Vec<LocalRow>,
+    /// The systems directly inside it.
     pub children: Vec<ChildUse>,
 }
 

@@ -1,8 +1,8 @@
 ghost use Rattle.std.specs.Prelude.{◌≡◌, ◌<◌, [], All, IfOk, if◌then◌else◌, length, map};
 ghost use Rattle.mc_diagram.specs.Diagram.{type_at as type_of_row};
 ghost use Rattle.mc_diagram.specs.ResolvedTree.{diagram_of};
-ghost use Rattle.mc_diagram.specs.Rows.{is_inport as is_inport_kind, row_at as row_of_table};
-ghost use Rattle.mc_diagram.specs.Inputs.{first_wire as first_of_wires};
+ghost use Rattle.mc_diagram.specs.Inputs.{wires_of_rows};
+ghost use Rattle.mc_diagram.specs.Rows.{is_inport as is_inport_kind};
 ghost use Rattle.mc_profile.specs.Locals.{local_row as local_row_of};
 
 use crate::LocalRow;
@@ -59,23 +59,16 @@ pub(crate) fn copy_wires(alloc: Global, row: &Row) -> Result<Wires, Memory>
     Ok(Wires::new(Vec::from_slice(alloc, row.inputs.wires())?))
 }
 
-/// The wire that enters each of some Inports.
+/// The wires that enter some Inports, one after another.
 pub(crate) fn entering_wires(alloc: Global, r: &Resolved, inports: &[u32]) -> Result<Wires, Memory>
     requires { All (λ b. b < length r.now.tree.table.rows) inports.now }
-    ensures { IfOk result (λ wires. wires ≡ map (λ i. first_of_wires (row_of_table r.now.tree.table.rows i).inputs) inports.now) }
+    ensures { IfOk result (λ wires. wires ≡ wires_of_rows r.now.tree.table.rows inports.now) }
 {
     let mut wires = Vec::new(alloc);
     for i in inports {
-        wires.push(first_wire(row_at(r, *i).inputs.wires()))?;
+        wires.extend_from_slice(row_at(r, *i).inputs.wires())?;
     }
     Ok(Wires::new(wires))
-}
-
-// The first of some wires, 0 where there is none.
-fn first_wire(wires: &[u32]) -> u32
-    ensures { result ≡ first_of_wires wires.now }
-{
-    wires.first().copied().unwrap_or(0)
 }
 
 /// The types of some rows.

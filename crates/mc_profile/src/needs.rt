@@ -1,7 +1,6 @@
 ghost use Rattle.std.specs.Prelude.{◌≡◌, ◌↔◌, ◌<◌, ◌^◌, ℕ, suc, All, IfOk, IsBitSet, bit_or, length, slice_index};
 ghost use Rattle.std.specs.List.{AllZip};
 ghost use Rattle.mc_blocks.specs.declared.Kind.TheVariants.{Inport as InportKind};
-ghost use Rattle.mc_graph.specs.NeedsGraph.{IsGraph};
 ghost use Rattle.mc_profile.specs.LawfulLocals.{IsLocal};
 ghost use Rattle.mc_profile.specs.LocalNodes.{AreNodesOf};
 ghost use Rattle.mc_profile.specs.NodeInputs.{AreInputBits, AreNodeInputs, IsInportAt};
@@ -18,7 +17,6 @@ use std::alloc::Global;
 pub(crate) fn output_needs(alloc: Global, local: &Local, nodes: &Nodes) -> Result<Vec<u64>, Memory>
     requires local { IsLocal local.now }
     requires nodes { AreNodesOf local.now nodes.now }
-    requires graph { IsGraph nodes.now.graph }
     ensures { IfOk result (λ v. AreNodeInputs local.now v.items) }
 {
     let graph = nodes.graph();

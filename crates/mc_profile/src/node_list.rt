@@ -1,9 +1,7 @@
-ghost use Rattle.std.specs.Prelude.{◌≡◌, ◌++◌, ◌≤◌, All, IfOk, OnOk, flat_map, length, map};
-ghost use Rattle.mc_graph.specs.NeedsGraph.{IsGraph};
+ghost use Rattle.std.specs.Prelude.{◌≡◌, ◌++◌, ◌≤◌, All, IfOk, OnOk, Some, flat_map, length, map};
 ghost use Rattle.mc_profile.specs.declared.nodes.Node.TheVariants.{Row as row_node};
-ghost use Rattle.mc_profile.specs.Headers.{row_number};
 ghost use Rattle.mc_profile.specs.LawfulLocals.{IsChild, IsLocal};
-ghost use Rattle.mc_profile.specs.LocalNodes.{AreNodesOf, call_nodes};
+ghost use Rattle.mc_profile.specs.LocalNodes.{AreNodesOf, call_nodes, calls_of};
 
 use crate::edges::node_graph;
 use crate::node_wires::node_wires;
@@ -19,8 +17,7 @@ use std::alloc::Global;
 /// In time linear in the rows of the system and in the headers of its children.
 pub fn nodes_of(alloc: Global, local: &Local) -> Result<Nodes, Memory>
     requires { IsLocal local.now }
-    ensures nodes { IfOk result (λ nodes. AreNodesOf local.now nodes) }
-    ensures graph { IfOk result (λ nodes. IsGraph nodes.graph) }
+    ensures { IfOk result (λ nodes. AreNodesOf local.now nodes) }
 {
     let rows = local.rows.as_slice();
     let children = local.children.as_slice();
@@ -55,24 +52,27 @@ fn own_nodes(alloc: Global, rows: &[LocalRow]) -> Result<Vec<Node>, Memory>
     Ok(list)
 }
 
-// Adds the calls of a child's functions.
+// Adds the calls of a child's functions; the root is no child.
 fn push_calls(child: &ChildUse, list: &mut Vec<Node>) -> Result<(), Memory>
     requires { length child.now.header.profile.functions ≤ 32 }
     ensures { OnOk result (list.new.items ≡ list.old.items ++ call_nodes child.now) }
 {
-    let row = row_or_root(child.header.row);
-    for k in 0..child.header.profile.functions.len() {
+    match child.header.row {
+        None => Ok(()),
+        Some(row) => push_calls_of(row, child.header.profile.functions.len(), list),
+    }
+}
+
+// Adds the calls of so many functions of the child with this row.
+fn push_calls_of(row: u32, functions: usize, list: &mut Vec<Node>) -> Result<(), Memory>
+    requires { functions ≤ 32 }
+    ensures { OnOk result (list.new.items ≡ list.old.items ++ calls_of (Some row) functions) }
+{
+    for k in 0..functions {
         list.push(Node::Call {
             child: row,
             function: k as u32 + 1,
         })?;
     }
     Ok(())
-}
-
-// The row of a child; the root, which is no child, counts as 0.
-fn row_or_root(row: Option<u32>) -> u32
-    ensures { result ≡ row_number row }
-{
-    row.unwrap_or(0)
 }

@@ -13,7 +13,9 @@ use std::alloc::Global;
 /// The wires that a node needs, and those that it gives.
 #[derive(Drop)]
 pub(crate) struct NodeWires {
+    /// What it needs at the same tick.
     pub needs: Wires,
+    /// The rows whose values it gives.
     pub gives: Wires,
 }
 

@@ -11,8 +11,11 @@ use std::marker::Model;
 /// Each group with its nodes in order, each function with its groups, and the nodes that no function holds.
 #[derive(Drop)]
 pub struct Schedule {
+    /// The nodes of each group; none where no function holds it.
     pub groups: Vec<NodeList>,
+    /// The groups of each function, by number.
     pub functions: Vec<NodeList>,
+    /// The nodes that no function holds.
     pub update: NodeList,
 }
 

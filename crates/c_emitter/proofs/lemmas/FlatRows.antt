@@ -18,12 +18,11 @@ use Rattle.mc_diagram.specs.Rows.{row_at, no_row, system_control, is_inport, is_
 use Rattle.mc_diagram.specs.Diagram.{Diagram, type_at, op_at, op_in}
 use Rattle.mc_diagram.specs.Run.{start_of, start_by}
 use Rattle.mc_diagram.proofs.lemmas.ByRow.{by_row-at}
-use Rattle.mc_diagram.specs.Inputs.{first_wire}
 use Rattle.c_emitter.specs.declared.block.Block.TheVariants.{Input, Output, Delay, Fixed, Sink}
 use Rattle.c_emitter.specs.FlatDiagrams.{flat_diagram}
 use Rattle.c_emitter.specs.Flat.{is_source, HasFlatKind, IsFlatRow, IsFlat}
 use Rattle.c_emitter.specs.Names.{container}
-use Rattle.c_emitter.specs.Blocks.{TypedBlock, no_typed_block, block_by, typed_row, blocks_of, block_at, type_of, value_of}
+use Rattle.c_emitter.specs.Blocks.{TypedBlock, no_typed_block, output_by, delay_by, block_by, typed_row, blocks_of, block_at, type_of, value_of}
 use Rattle.c_machine.specs.Values.{is_in_type}
 use Rattle.c_emitter.proofs.lemmas.Containers.{container-has, zero-fits}
 use Rattle.c_emitter.proofs.BlockFacts.{TakesFrom}
@@ -96,12 +95,12 @@ module _ (rows : List Row) (types : List FixType) (ops : List Op) where
             (block-is b h ∙ ap (λ k. block_by k (row_at rows b).inputs (start_of diagram b) (value_of (op_at diagram b))) e)
         by (Outport port reset initial) e one = output_row port reset initial one.0 e one.1 one.2 one.3
             (op-is b h ∙ ap (λ k. op_of k (map (type_at types) (row_at rows b).inputs) (type_at types b) false) e)
-            (block-is b h ∙ ap (λ k. block_by k (row_at rows b).inputs (start_of diagram b) (value_of (op_at diagram b))) e ∙ ap (λ ws. Output port (first_wire ws)) one.1)
+            (block-is b h ∙ ap (λ k. block_by k (row_at rows b).inputs (start_of diagram b) (value_of (op_at diagram b))) e ∙ ap (output_by port) one.1)
         by (UnitDelay initial) e one =
             let delay : op_at diagram b ≡ op.Delay (quantize initial (type_at types b)) = op-is b h ∙ ap (λ k. op_of k (map (type_at types) (row_at rows b).inputs) (type_at types b) false) e in
             delay_row initial one.0 e one.1 one.2 one.3 delay
             (block-is b h ∙ ap (λ k. block_by k (row_at rows b).inputs (start_of diagram b) (value_of (op_at diagram b))) e
-            ∙ ap₂ (λ ws z. Delay (first_wire ws) z) one.1 (ap (λ o. start_by o (row_at rows b).kind (system_control rows (row_at rows b).owner) (type_at types b)) delay))
+            ∙ ap₂ delay_by one.1 (ap (λ o. start_by o (row_at rows b).kind (system_control rows (row_at rows b).owner) (type_at types b)) delay))
         by Terminator e one = sink_row one.0 e one.1 one.2 one.3
             (op-is b h ∙ ap (λ k. op_of k (map (type_at types) (row_at rows b).inputs) (type_at types b) false) e)
             (block-is b h ∙ ap (λ k. block_by k (row_at rows b).inputs (start_of diagram b) (value_of (op_at diagram b))) e)

@@ -17,9 +17,8 @@ use Rattle.mc_blocks.specs.Meaning.{has_value, delay_length}
 use Rattle.mc_diagram.specs.SampleTimes.{hit}
 use Rattle.mc_diagram.specs.declared.table.Row.{Row}
 use Rattle.mc_diagram.specs.Rows.{row_at, no_row, control_of, control_at, is_enabled, is_triggered, is_inport, is_inside, is_system, same_system, system_control, port_of, inports_of, around, column, enable_among, trigger_among, enable_wire, trigger_wire}
-use Rattle.mc_diagram.specs.Inputs.{control_ports, first_wire}
+use Rattle.mc_diagram.specs.Inputs.{control_ports, entering_wires}
 use Rattle.mc_diagram.specs.ControlValues.{number_of, enable_in, trigger_in, is_active_by, is_off_by, is_disabled_by}
-use Rattle.mc_diagram.specs.WellFormed.{wires_wanted}
 use Rattle.mc_diagram.specs.Diagram.{Diagram, op_at, time_at}
 use Rattle.mc_diagram.specs.ResolvedTree.{ResolvedTree, IsResolvedTree, diagram_of}
 use Rattle.mc_diagram.specs.Run.{value_at, memory_at, trigger_at, first_of, moved_on, is_delay, is_reset_outport, start_of, initial_memory, wire_value, enable_value, trigger_value, active_in, any_off, is_disabled, runs, input_values, has_memory, has_trigger, triggers_by, IsRun}
@@ -29,6 +28,7 @@ use Rattle.mc_diagram.specs.SystemRuns.{SystemTick, IsRowOf, IsSystemTick, IsFir
 use Rattle.mc_diagram.proofs.lemmas.ByRow.{by_row-at}
 use Rattle.mc_diagram.proofs.lemmas.RestsOnNeeds.{same_system-equal, is_inport-equal}
 use Rattle.mc_diagram.proofs.lemmas.Traces.{inport-at}
+use Rattle.mc_diagram.proofs.lemmas.EnteringWires.{entering-at}
 use Rattle.mc_diagram.proofs.lemmas.TickLaws.{runs_have_ticks, ticks_have_rows, own_rows_stand_in, off_is_not_active}
 use Rattle.mc_diagram.proofs.lemmas.FullMemories.{memories_are_full, first-memories}
 
@@ -117,11 +117,6 @@ controlled-inside rows e h = elim (dec_lt e (length rows)) [
   | yes inside ↦ inside
   | no past ↦ absurd (true≢false (sym h ∙ ap (λ (row : Row). is_triggered (control_of row.kind)) (get_or_past rows e no_row (omega arith))))
 ]
-
-one-wire : (v : List ℤ) (wires : List ℕ) → length wires ≡ 1 → map (value_at v) wires ≡ value_at v (first_wire wires) ∷ []
-one-wire v [] one = absurd (omega (arith, one))
-one-wire v (c ∷ []) one = refl
-one-wire v (c ∷ k ∷ wires) one = absurd (omega (arith, one))
 
 number-map : (f : ℕ → ℤ) (is : List ℕ) (k b : ℕ) → slice_get is k ≡ Some b → number_of (map f is) k ≡ f b
 number-map f [] k b e = absurd (let wrong : ⊥ = cc e in wrong)
@@ -239,20 +234,19 @@ module _ (r : ResolvedTree) (resolved : IsResolvedTree r) (s : Option ℕ) (xs :
           port-is inport = inport-at d n (resolved.tree.table.inports n) (port_of kind) b
               (record { in_table = row.in_table; is_inport = is_inport-equal kind inport; is_own = row.own })
 
-          wanted : (k : Kind) → is_inport k ≡ true → (o : Option ℕ) (e : ℕ) → o ≡ Some e → wires_wanted k o ≡ 1
-          wanted k h o e q = λ i. wires_wanted (is_inport-equal k h i) (q i)
-
           by_system : Bool → List ℤ
-          by_system q = if q then map (λ k. value_at x (column rows n (Number k))) (range_with_len 1 (length (inports_of rows n))) else map (λ i. value_at v (first_wire (row_at rows i).inputs)) (inports_of rows n)
+          by_system q = if q then map (λ k. value_at x (column rows n (Number k))) (range_with_len 1 (length (inports_of rows n))) else map (value_at v) (entering_wires rows n)
 
           from-wires : is_inport kind ≡ true → same_system s n ≡ false → (o : Option ℕ) → n ≡ o → wires ≡ number_of (inputs_at d s xs run n t) (port_of kind - 1) ∷ []
           from-wires inport h None e = absurd (true≢false (sym (ap (same_system s) e ∙ ap (λ q. same_system q None) (subst (IsSystemWithin rows s) e within)) ∙ h))
           from-wires inport h (Some e) q =
-              let count : length (row_at rows b).inputs ≡ 1 = resolved.tree.table.wired.counts b row.in_table ∙ wanted kind inport (row_at rows b).owner e (row.own ∙ q) in
-              one-wire v (row_at rows b).inputs count
+              let place : slice_get (inports_of rows (Some e)) (port_of kind - 1) ≡ Some b = ap (λ o. slice_get (inports_of rows o) (port_of kind - 1)) (sym q) ∙ (port-is inport).2 in
+              let wire = entering-at rows resolved.tree.table.wired e (resolved.tree.table.inports (Some e)) (port_of kind - 1) b place in
+              ap (map (value_at v)) wire.1
               ∙ ap (λ z. z ∷ []) (sym
               (ap (λ q. number_of (by_system q) (port_of kind - 1)) h
-              ∙ number-map (λ i. value_at v (first_wire (row_at rows i).inputs)) (inports_of rows n) (port_of kind - 1) b (port-is inport).2))
+              ∙ ap (λ o. number_of (map (value_at v) (entering_wires rows o)) (port_of kind - 1)) q
+              ∙ number-map (value_at v) (entering_wires rows (Some e)) (port_of kind - 1) wire.0 wire.2))
 
           from-system : is_inport kind ≡ true → (here : Bool) → same_system s n ≡ here →
               (if (true && here) then value_at x (column rows s (Number (port_of kind))) ∷ [] else wires) ≡ number_of (inputs_at d s xs run n t) (port_of kind - 1) ∷ []
@@ -414,7 +408,7 @@ children_meet_parents r s n xs run t e resolved within is row =
       is_off_around = ap (any_off d s x v g) stands.around ∙ around_is.1;
       inputs = ap (λ q. if q
           then map (λ k. value_at x (column rows (Some e) (Number k))) (range_with_len 1 (length (inports_of rows (Some e))))
-          else map (λ i. value_at v (first_wire (row_at rows i).inputs)) (inports_of rows (Some e))) apart;
+          else map (value_at v) (entering_wires rows (Some e))) apart;
       controls = ap (λ q. if q
           then map (λ p. value_at x (column rows (Some e) p)) (control_ports (control_at rows e))
           else map (value_at v) (row_at rows e).inputs) apart;

@@ -66,11 +66,10 @@ module _ (d : Diagram) (s : Option ℕ) (ports : HasPorts d.rows is_inport s) wh
       (port - 1 < length x) × InType (type_at d.types b) (value_at x (port - 1))
   row-has x is port b input =
       let at = inport-at port b input in
-      let low = at.0 in
       let found = zip-at (λ p v. InType (input_type_of d s p) v) 1 (length (inports_of d.rows s)) _ x is (port - 1) at.1 in
-      let number : 1 + (port - 1) ≡ port = omega (arith, low) in
+      let number : suc (port - 1) ≡ 1 + (port - 1) = omega arith in
       let type : input_type_of d s (Number (1 + (port - 1))) ≡ type_at d.types b =
-      ap (λ k. input_type_of d s (Number k)) number ∙ ap (λ o. type_at d.types (unwrap_or o (length d.rows))) at.2 in
+      ap (λ k. input_type_of d s (Number k)) (sym number) ∙ ap (λ o. type_at d.types (unwrap_or o (length d.rows))) at.2 in
       (found.0, subst (λ t. InType t (value_at x (port - 1))) type found.1)
 
 -- and where it has just as many as the root has Inports it is a row of a trace
@@ -90,6 +89,6 @@ row-from d ports x long each = zip-from (λ p v. InType (input_type_of d None p)
         } in
         let type : type_at d.types b ≡ input_type_of d None (Number (1 + k)) =
         ap (λ o. type_at d.types (unwrap_or o (length d.rows))) (sym found.1)
-        ∙ (let same : k ≡ 1 + k - 1 = omega arith in ap (λ j. type_at d.types (unwrap_or (slice_get (inports_of d.rows None) j) (length d.rows))) same) in
+        ∙ (let same : suc k ≡ 1 + k = omega arith in ap (λ j. input_type_of d None (Number j)) same) in
         let place : suc k - 1 ≡ k = omega arith in
         subst (λ t. InType t (value_at x k)) type (subst (λ j. InType (type_at d.types b) (value_at x j)) place (each (suc k) b input).1)

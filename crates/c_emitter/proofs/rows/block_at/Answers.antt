@@ -1,10 +1,10 @@
-use Rattle.std.proofs.Common.{rules, ◌∙◌, sym, ap, ap₂, slice_index_or, w64, FitsSigned}
+use Rattle.std.proofs.Common.{rules, ◌∙◌, sym, ap, slice_index_or, w64, FitsSigned}
 use Rattle.std.proofs.Math.Facts.{to_z-of_z}
 use Rattle.mc_diagram.specs.declared.Row.{Row}
 use Rattle.mc_diagram.specs.Diagram.{op_at}
 use Rattle.mc_diagram.specs.Run.{start_of}
-use Rattle.c_emitter.specs.declared.block.Block.TheVariants.{Output, Delay, Fixed}
-use Rattle.c_emitter.specs.Blocks.{block_by, value_of}
+use Rattle.c_emitter.specs.declared.block.Block.TheVariants.{Fixed}
+use Rattle.c_emitter.specs.Blocks.{delay_by, block_by, value_of}
 use Rattle.c_emitter.proofs.RowLaws.{block-read, fixed-by, sink-by}
 use Rattle.c_emitter.proofs.rows.block_at.Goals as goal
 
@@ -18,14 +18,14 @@ pub returns-in-Outport : goal.returns-in-Outport
 returns-in-Outport c =
     let r : Row = slice_index_or c.d.inside.rows.now c.args.row c.index-d-row.result in
     let read = block-read c.d.inside.rows.now c.d.inside.types.now c.d.inside.ops.now c.args.d.now c.d.view_is c.requires.flat.flat c.args.row c.requires.within c.index-d-row.result in
-    ap (Output c.in-Outport.port) c.first_wire.ensures ∙ sym (read ∙ ap (λ k. block_by k r.inputs (start_of c.args.d.now c.args.row) (value_of (op_at c.args.d.now c.args.row))) c.in-Outport.is)
+    c.output_block.ensures ∙ sym (read ∙ ap (λ k. block_by k r.inputs (start_of c.args.d.now c.args.row) (value_of (op_at c.args.d.now c.args.row))) c.in-Outport.is)
 
 pub returns-in-UnitDelay : goal.returns-in-UnitDelay
 returns-in-UnitDelay c =
     let r : Row = slice_index_or c.d.inside.rows.now c.args.row c.index-d-row.result in
     let read = block-read c.d.inside.rows.now c.d.inside.types.now c.d.inside.ops.now c.args.d.now c.d.view_is c.requires.flat.flat c.args.row c.requires.within c.index-d-row.result in
     let fits : FitsSigned w64 c.start_at.result = search rules in
-    ap₂ Delay c.first_wire-in-UnitDelay.ensures (to_z-of_z fits ∙ c.start_at.ensures) ∙ sym (read ∙ ap (λ k. block_by k r.inputs (start_of c.args.d.now c.args.row) (value_of (op_at c.args.d.now c.args.row))) c.in-UnitDelay.is)
+    c.delay_block.ensures ∙ ap (delay_by r.inputs) (to_z-of_z fits ∙ c.start_at.ensures) ∙ sym (read ∙ ap (λ k. block_by k r.inputs (start_of c.args.d.now c.args.row) (value_of (op_at c.args.d.now c.args.row))) c.in-UnitDelay.is)
 
 pub returns-in-Constant : goal.returns-in-Constant
 returns-in-Constant c =

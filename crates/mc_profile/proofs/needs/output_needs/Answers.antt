@@ -18,7 +18,7 @@ pub masks_at-requires : goal.masks_at-requires
 masks_at-requires c =
     let size = ap length c.deref-2.ensures.value ∙ c.in_ok-reached.ensures.len ∙ ap (λ (g : NeedsGraph). g.n) c.graph-graph.ensures in
     subst (λ n. All (λ b. b < n) c.outputs.result.now) (sym size)
-    (subst (All (λ b. b < c.args.nodes.now.graph.n)) (sym c.outputs.ensures) (outputs-below c.args.local.now c.requires.local c.args.nodes.now c.requires.nodes c.requires.graph))
+    (subst (All (λ b. b < c.args.nodes.now.graph.n)) (sym c.outputs.ensures) (outputs-below c.args.local.now c.requires.local c.args.nodes.now c.requires.nodes))
 
 pub returns : goal.returns
 returns c =
@@ -31,7 +31,7 @@ returns c =
     let reached = subst (λ (g : NeedsGraph). AreMasks g source masks) c.graph-graph.ensures (subst (λ l. AreMasks c.graph-graph.result.now l masks) c.deref.ensures.value c.in_ok-reached.ensures) in
     let control = c.control_mask.ensures ∙ ap (λ (k : Control). ports_mask (control_ports k)) c.control.ensures in
     IfOk-weaker c.masks_at.result (λ v. AreMasksAt c.deref-2.result.now c.control_mask.result c.outputs.result.now v.items) (λ v. AreNodeInputs local v.items)
-    (λ v h. inputs-are local c.requires.local nodes c.requires.nodes c.requires.graph source masks own reached v.items
+    (λ v h. inputs-are local c.requires.local nodes c.requires.nodes source masks own reached v.items
     (subst (λ l. AreMasksAt l (ports_mask (control_ports local.control)) nodes.outputs v.items) c.deref-2.ensures.value
     (subst (λ k. AreMasksAt c.deref-2.result.now k nodes.outputs v.items) control
     (subst (λ l. AreMasksAt c.deref-2.result.now c.control_mask.result l v.items) c.outputs.ensures h))))
