@@ -1,12 +1,10 @@
 -- Arrays among the numbers of an instance.
-use Rattle.std.proofs.Common.{◌≡◌, refl, sym, ◌∙◌, ap, ℕ, zero, suc, ◌+◌, ◌<◌, ◌≤◌, ℤ, pos, Bool, true, false, List, [], ◌∷◌, ◌++◌, length, arith, take, drop, replicate, if◌then◌else◌, zero-add}
-use Rattle.std.specs.Prelude.{◌&&◌, int_le, int_lt, unsigned_abs}
+use Rattle.std.proofs.Common.{◌≡◌, refl, sym, ◌∙◌, ap, ℕ, zero, suc, ◌+◌, ◌<◌, ◌≤◌, ℤ, pos, List, [], ◌∷◌, ◌++◌, length, arith, take, drop, replicate, zero-add}
 use Rattle.std.proofs.Math.ListN.{set}
 use Rattle.std.proofs.lemmas.List.{length-replicate, take-append-drop}
 use Rattle.c_syntax.specs.declared.fault.Stuck.{Stuck}
-use Rattle.c_syntax.specs.declared.fault.Why.TheVariants.{Index}
 use Rattle.c_machine.specs.Cells.{set_item}
-use Rattle.c_machine.specs.Values.{Answer, gives, sticks, and_then, stuck_at, index_in, int_at}
+use Rattle.c_machine.specs.Values.{Answer, gives, sticks, and_then, index_in, int_at}
 use Rattle.c_meaning.specs.Reads.{place_in}
 use Rattle.c_meaning.specs.States.{filled_items}
 use Rattle.c_meaning.proofs.Evaluations.{and_then_gives, and_then_sticks}

@@ -7,13 +7,14 @@ use Rattle.c_syntax.specs.declared.code.Cond.{Cond}
 use Rattle.c_syntax.specs.declared.code.Stmt.{Stmt}
 use Rattle.c_syntax.specs.declared.code.Stmt.TheViews as stmt_views
 use Rattle.c_syntax.specs.declared.program.Procedure.{Procedure}
+use Rattle.c_syntax.specs.declared.program.Program.{Program}
 use Rattle.c_machine.specs.Machine.{is_interface}
 use Rattle.c_meaning.specs.Sound.{IsSoundStmt, AreSoundStmts}
 use Rattle.std.specs.declared.alloc.Global.{Global}
 use Rattle.c_syntax.specs.declared.code.Expr.{Expr}
 use Rattle.c_syntax.specs.declared.code.Cond.TheViews as views
 use Rattle.c_syntax.specs.declared.program.Pure.{Pure}
-use Rattle.c_syntax.specs.Plain.{expr_tree, cond_tree, stmt_tree, procedure_tree, param_trees}
+use Rattle.c_syntax.specs.Plain.{expr_tree, cond_tree, stmt_tree, procedure_tree, param_trees, program_tree}
 use Rattle.c_syntax.specs.Tree.{exprs_of_list, pure, branch, stmts_of_list, ProcedureTree, ProgramTree}
 use Rattle.c_syntax.specs.Limits.{expr_depth, exprs_depth, stmt_depth, stmts_depth}
 use Rattle.c_syntax.proofs.lemmas.PlainLaws.{expr_tree-Pure, stmt_tree-If}
@@ -86,6 +87,11 @@ pub proc_is : (ps : List Procedure) (k : ℕ) (q : ProcedureTree) (p : Procedure
 proc_is [] k q p there e = absurd (cc)
 proc_is (x ∷ ps) zero q p there e = let d : procedure_tree x ≡ q = cc in ap procedure_tree e ∙ d
 proc_is (x ∷ ps) (suc k) q p there e = proc_is ps k q p there e
+
+-- the same of a procedure that was found in a program
+pub found_is : (found program : Program) (k : ℕ) (q : ProcedureTree) (p : Procedure) → found ≡ program → slice_get (program_tree program).procedures k ≡ Some q → p ≡ get_or found.procedures.items k p → procedure_tree p ≡ q
+found_is found program k q p same there e =
+    proc_is program.procedures.items k q p there (e ∙ ap (λ (x : Program). get_or x.procedures.items k p) same)
 
 pub proc_logged : (ps : List Procedure) (k : ℕ) (q : ProcedureTree) (logged : List Bool) → slice_get (map procedure_tree ps) k ≡ Some q → logged ≡ map (λ x. is_interface x.name) (map procedure_tree ps) → slice_index_or logged k false ≡ is_interface q.name
 proc_logged ps k q logged there same = ap (λ xs. slice_index_or xs k false) same ∙ at_list ps k there

@@ -9,7 +9,7 @@ use Rattle.c_syntax.specs.declared.program.FieldKind.TheVariants as kind
 use Rattle.c_syntax.specs.Tree.{ProgramTree, FieldTree, StructTree, struct_fields, field_types, type_at, kind_type}
 use Rattle.c_machine.specs.Cells.{Cell, number, items, object, Cells, no_cells, more_cells, cell_value, cell_fields, cell_items, set_cell, set_item, value_at, fields_at, items_at, zero_cell, zero_cells}
 use Rattle.c_machine.specs.Values.{int_at}
-use Rattle.c_meaning.specs.States.{numbers_in, numbers_of, with_first, filled_items, filled_cell, filled}
+use Rattle.c_meaning.specs.States.{numbers_in, numbers_of, with_first, filled_cell, filled}
 use Rattle.c_meaning.specs.declared.slots.Slot.{Slot}
 use Rattle.c_meaning.specs.declared.slots.Slot.TheVariants.{Number, Array, Instance}
 use Rattle.c_meaning.specs.Slots.{StructLayout, layout_at, number_in, number_under, items_in}

@@ -8,6 +8,8 @@ pub mod Halts
 pub mod Reads
 pub mod Sound
 pub mod Seen
+pub mod Codes
+pub mod Frames
 pub mod Roots
 pub mod Instances
 pub mod Numbering

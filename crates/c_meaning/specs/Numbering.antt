@@ -3,14 +3,16 @@ use Rattle.std.specs.Prelude.{◌≡◌, ℕ, suc, ◌+◌, ◌<◌, ◌^◌, �
 use Rattle.c_syntax.specs.declared.program.FieldKind.{FieldKind}
 use Rattle.c_syntax.specs.declared.program.FieldKind.TheVariants as kind
 use Rattle.c_syntax.specs.Tree.{FieldTree, StructTree, struct_fields, ProgramTree}
-use Rattle.c_syntax.specs.Plain.{program_tree}
+use Rattle.c_meaning.specs.Codes.{code_tree}
 use Rattle.c_meaning.specs.declared.instances.Numbering.{Numbering}
+use Rattle.c_machine.specs.Cells.{Cells}
 use Rattle.c_machine.specs.Values.{int_at}
 use Rattle.c_meaning.specs.declared.slots.Slot.{Slot}
 use Rattle.c_meaning.specs.declared.slots.Slot.TheVariants.{Number, Array, Instance}
 use Rattle.c_meaning.specs.Slots.{StructLayout, layout_at}
 use Rattle.c_meaning.specs.Layouts.{AreLaidOut}
-use Rattle.c_meaning.specs.Sound.{zeros_of, IsProcedureOf}
+use Rattle.c_meaning.specs.Sound.{zero_at, zeros_of, IsProcedureOf}
+use Rattle.c_meaning.specs.States.{filled}
 use Rattle.c_meaning.specs.Instances.{StructInstance, whole_instance, field_instances, struct_instances}
 
 -- how many instances stand in a field
@@ -69,12 +71,20 @@ pub record IsPlace (p : ProgramTree) (layouts : List StructLayout) (root number 
 
 -- the tables are those of a program and small enough, and there is such a root
 pub record IsNumbering (n : Numbering) : Type 0 where
-  pub laid : AreLaidOut (program_tree n.program.now).structs n.layouts.now (zeros_of (program_tree n.program.now))
-  pub numbered : AreNumbered (program_tree n.program.now).structs n.counts.now (instances_of (program_tree n.program.now))
-  pub root_known : n.root < length (program_tree n.program.now).structs
-  pub sized : (layout_at n.layouts.now n.root).size < 2 ^ 64
-  pub counted : n.count ≡ length (instances_in (program_tree n.program.now) n.root)
+  pub laid : AreLaidOut (code_tree n.code).structs n.code.layouts (zeros_of (code_tree n.code))
+  pub numbered : AreNumbered (code_tree n.code).structs n.counts.now (instances_of (code_tree n.code))
+  pub root_known : n.root < length (code_tree n.code).structs
+  pub sized : (layout_at n.code.layouts n.root).size < 2 ^ 64
+  pub counted : n.count ≡ length (instances_in (code_tree n.code) n.root)
   pub few : n.count < 2 ^ 32
+
+-- the instances of its root
+abbrev pub all_instances : Numbering → List StructInstance
+all_instances n = instances_in (code_tree n.code) n.root
+
+-- its root, with these numbers
+abbrev pub root_cells : Numbering → List ℤ → Cells
+root_cells n numbers = filled (zero_at (code_tree n.code) n.root) numbers
 
 -- the instance with a number, counted from those in the first field, is the one with the number `left` in a field that holds an
 -- instance of this struct, whose numbers begin there

@@ -1,28 +1,26 @@
 // What the body of a procedure sees, and its expressions.
 ghost use Rattle.std.specs.Prelude.{◌≡◌, ◌≤◌, ◌<◌, ℤ, List, [], length, map, IfOk};
-ghost use Rattle.c_machine.specs.Cells.{no_cells, items_at};
-ghost use Rattle.c_syntax.specs.Plain.{expr_tree, cond_tree, pure_tree, program_tree};
+ghost use Rattle.c_machine.specs.Cells.{items_at};
+ghost use Rattle.c_syntax.specs.Plain.{expr_tree, cond_tree, pure_tree};
 ghost use Rattle.c_syntax.specs.Tree.{exprs_of_list};
 ghost use Rattle.c_machine.specs.Machine.{arguments};
-ghost use Rattle.c_machine.specs.Values.{eval, eval_cond, functions_of, reads, leaf_reads, and_then, within, index_in};
+ghost use Rattle.c_machine.specs.Values.{and_then, within, index_in};
 ghost use Rattle.c_meaning.specs.Answers.{answered, judged, put_answer, IsLater};
-ghost use Rattle.c_meaning.specs.Reads.{view_reads, view_functions, IsNarrowExpr, AreNarrowExprs, IsNarrowCond, AreNarrow};
-ghost use Rattle.c_meaning.specs.States.{filled};
-ghost use Rattle.c_meaning.specs.Sound.{IsReady, zero_at};
+ghost use Rattle.c_meaning.specs.Frames.{cells_in, functions_in, reads_in, test_in, value_in};
+ghost use Rattle.c_meaning.specs.Reads.{view_reads, IsNarrowExpr, AreNarrowExprs, IsNarrowCond, AreNarrow};
 
 use crate::arithmetic::{is_in_type, place_in};
+use crate::code::Code;
 use crate::halts::{Halt, Verdict};
-use crate::slots::{Layout, own_array, slots_at};
+use crate::slots::own_array;
 use crate::values::{View, eval_any, eval_cond, read};
-use c_syntax::{CType, Cond, Expr, Leaf, Program, Why};
+use c_syntax::{CType, Cond, Expr, Leaf, Why};
 use mc_base::Text;
 
-/// A body: its program with the machine's tables, the procedure's position, its struct, and its arguments.
-#[derive(Clone, Copy)]
+/// A body: its program, the procedure's position, its struct, and its arguments.
+#[derive(Drop)]
 pub(crate) struct Frame<'a> {
-    pub(crate) program: &'a Program,
-    pub(crate) layouts: &'a [Layout],
-    pub(crate) logged: &'a [bool],
+    pub(crate) code: Code<'a>,
     pub(crate) level: usize,
     pub(crate) of: u32,
     pub(crate) values: &'a [i64],
@@ -30,15 +28,15 @@ pub(crate) struct Frame<'a> {
 
 #[inline(always)]
 fn view_of<'a>(frame: &Frame<'a>, numbers: &'a [i64], line: u32) -> View<'a>
-    requires { IsReady (program_tree frame.now.program.now) frame.now.layouts.now frame.now.logged.now }
-    ensures pures { result.pures.now ≡ frame.now.program.now.pure.items }
+    ensures pures { result.pures.now ≡ frame.now.code.program.pure.items }
+    ensures narrow { AreNarrow (map pure_tree result.pures.now) }
     ensures line { result.line ≡ line }
-    ensures reads { view_reads result ≡ reads frame.now.values.now (filled (zero_at (program_tree frame.now.program.now) frame.now.of) numbers.now) }
+    ensures reads { view_reads result ≡ reads_in frame.now numbers.now }
 {
     View {
-        pures: &frame.program.pure,
-        layouts: frame.layouts,
-        slots: slots_at(frame.layouts, frame.of),
+        pures: &frame.code.program().pure,
+        layouts: frame.code.layouts(),
+        slots: frame.code.slots(frame.of),
         numbers,
         values: frame.values,
         line,
@@ -48,8 +46,7 @@ fn view_of<'a>(frame: &Frame<'a>, numbers: &'a [i64], line: u32) -> View<'a>
 // What a leaf of the body reads.
 #[inline(always)]
 fn leaf_of(frame: &Frame, numbers: &[i64], leaf: Leaf) -> i64
-    requires { IsReady (program_tree frame.now.program.now) frame.now.layouts.now frame.now.logged.now }
-    ensures { result ≡ leaf_reads frame.now.values.now (filled (zero_at (program_tree frame.now.program.now) frame.now.of) numbers.now) leaf }
+    ensures { result ≡ (reads_in frame.now numbers.now).leaf leaf }
 {
     let view = view_of(frame, numbers, 0);
     read(&view, leaf)
@@ -65,9 +62,9 @@ pub(crate) fn value_of(
     e: &Expr,
     steps: &mut u64,
 ) -> Result<i64, Halt>
-    requires ready { IsReady (program_tree frame.now.program.now) frame.now.layouts.now frame.now.logged.now }
     requires narrow { IsNarrowExpr (expr_tree e.now) }
-    ensures value { answered result steps.new ≡ eval (functions_of [] (program_tree frame.now.program.now).pures) (reads frame.now.values.now (filled (zero_at (program_tree frame.now.program.now) frame.now.of) numbers.now)) line (expr_tree e.now) steps.old }
+    ensures value { answered result steps.new
+        ≡ value_in frame.now numbers.now line (expr_tree e.now) steps.old }
     ensures later { IsLater steps.old steps.new }
 {
     if let Expr::Read(leaf) = e {
@@ -88,9 +85,9 @@ fn value_of_any(
     e: &Expr,
     steps: &mut u64,
 ) -> Result<i64, Halt>
-    requires ready { IsReady (program_tree frame.now.program.now) frame.now.layouts.now frame.now.logged.now }
     requires narrow { IsNarrowExpr (expr_tree e.now) }
-    ensures value { answered result steps.new ≡ eval (functions_of [] (program_tree frame.now.program.now).pures) (reads frame.now.values.now (filled (zero_at (program_tree frame.now.program.now) frame.now.of) numbers.now)) line (expr_tree e.now) steps.old }
+    ensures value { answered result steps.new
+        ≡ value_in frame.now numbers.now line (expr_tree e.now) steps.old }
     ensures later { IsLater steps.old steps.new }
 {
     let view = view_of(frame, numbers, line);
@@ -99,10 +96,9 @@ fn value_of_any(
 
 // How many items the own array at a position has; none where the field is no array.
 fn items_count(frame: &Frame, field: u32) -> u32
-    requires { IsReady (program_tree frame.now.program.now) frame.now.layouts.now frame.now.logged.now }
-    ensures { (numbers : List ℤ) → length (items_at (filled (zero_at (program_tree frame.now.program.now) frame.now.of) numbers) field) ≡ result }
+    ensures { (numbers : List ℤ) → length (items_at (cells_in frame.now numbers) field) ≡ result }
 {
-    own_array(slots_at(frame.layouts, frame.of), field).1
+    own_array(frame.code.slots(frame.of), field).1
 }
 
 /// The place in an own array that an index of the body stands for.
@@ -115,10 +111,11 @@ pub(crate) fn place_of(
     index: &Expr,
     steps: &mut u64,
 ) -> Result<usize, Halt>
-    requires ready { IsReady (program_tree frame.now.program.now) frame.now.layouts.now frame.now.logged.now }
     requires narrow { IsNarrowExpr (expr_tree index.now) }
-    ensures value { answered result steps.new ≡ and_then (eval (functions_of [] (program_tree frame.now.program.now).pures) (reads frame.now.values.now (filled (zero_at (program_tree frame.now.program.now) frame.now.of) numbers.now)) line (expr_tree index.now) steps.old) (index_in line (items_at (filled (zero_at (program_tree frame.now.program.now) frame.now.of) numbers.now) field)) }
-    ensures inside { IfOk result (λ i. i < length (items_at (filled (zero_at (program_tree frame.now.program.now) frame.now.of) numbers.now) field)) }
+    ensures value { answered result steps.new
+        ≡ and_then (value_in frame.now numbers.now line (expr_tree index.now) steps.old)
+        (index_in line (items_at (cells_in frame.now numbers.now) field)) }
+    ensures inside { IfOk result (λ i. i < length (items_at (cells_in frame.now numbers.now) field)) }
     ensures later { IsLater steps.old steps.new }
 {
     let value = value_of(frame, numbers, line, index, steps)?;
@@ -133,9 +130,9 @@ pub(crate) fn holds(
     test: &Cond,
     steps: &mut u64,
 ) -> Verdict
-    requires ready { IsReady (program_tree frame.now.program.now) frame.now.layouts.now frame.now.logged.now }
     requires narrow { IsNarrowCond (cond_tree test.now) }
-    ensures value { judged result steps.new ≡ eval_cond (functions_of [] (program_tree frame.now.program.now).pures) (reads frame.now.values.now (filled (zero_at (program_tree frame.now.program.now) frame.now.of) numbers.now)) line (cond_tree test.now) steps.old }
+    ensures value { judged result steps.new
+        ≡ test_in frame.now numbers.now line (cond_tree test.now) steps.old }
     ensures later { IsLater steps.old steps.new }
 {
     let view = view_of(frame, numbers, line);
@@ -152,9 +149,10 @@ fn argument(
     e: &Expr,
     steps: &mut u64,
 ) -> Result<i64, Halt>
-    requires ready { IsReady (program_tree frame.now.program.now) frame.now.layouts.now frame.now.logged.now }
     requires narrow { IsNarrowExpr (expr_tree e.now) }
-    ensures value { answered result steps.new ≡ and_then (eval (functions_of [] (program_tree frame.now.program.now).pures) (reads frame.now.values.now (filled (zero_at (program_tree frame.now.program.now) frame.now.of) numbers.now)) line (expr_tree e.now) steps.old) (within of Why.Range line) }
+    ensures value { answered result steps.new
+        ≡ and_then (value_in frame.now numbers.now line (expr_tree e.now) steps.old)
+        (within of Why.Range line) }
     ensures later { IsLater steps.old steps.new }
 {
     let value = value_of(frame, numbers, line, e, steps)?;
@@ -175,11 +173,12 @@ pub(crate) fn put_arguments(
     out: &mut [i64],
     steps: &mut u64,
 ) -> Result<(), Halt>
-    requires ready { IsReady (program_tree frame.now.program.now) frame.now.layouts.now frame.now.logged.now }
     requires narrow { AreNarrowExprs (exprs_of_list (map expr_tree values.now)) }
     requires params { length params.now ≡ length values.now }
     requires room { length out.old ≡ length values.now }
-    ensures value { put_answer result out.new steps.new ≡ arguments (functions_of [] (program_tree frame.now.program.now).pures) (reads frame.now.values.now (filled (zero_at (program_tree frame.now.program.now) frame.now.of) numbers.now)) line (map (λ q. q.1) params.now) (exprs_of_list (map expr_tree values.now)) steps.old }
+    ensures value { put_answer result out.new steps.new
+        ≡ arguments (functions_in frame.now) (reads_in frame.now numbers.now) line
+        (map (λ q. q.1) params.now) (exprs_of_list (map expr_tree values.now)) steps.old }
     ensures later { IsLater steps.old steps.new }
 {
     for i in 0..values.len() {

@@ -1,17 +1,15 @@
 // The instances of a program's structs by their numbers.
 ghost use Rattle.std.specs.Prelude.{◌≡◌, ◌+◌, ◌<◌, ◌≤◌, ◌^◌, IfOk, IfSome, IfNone, length, slice_get, slice_index_or, suc, [], option_and_then};
-ghost use Rattle.c_syntax.specs.Plain.{program_tree};
 ghost use Rattle.c_syntax.specs.PlainField.{field_trees};
 ghost use Rattle.c_syntax.specs.Tree.{struct_fields};
+ghost use Rattle.c_meaning.specs.Codes.{code_tree};
 ghost use Rattle.c_meaning.specs.Instances.{child_named, number_named};
-ghost use Rattle.c_meaning.specs.Numbering.{kind_count, fields_count, counts_of, instances_in, struct_count, slot_number, IsHeld, IsStep, IsPlace, IsNumbering};
-ghost use Rattle.c_meaning.specs.Sound.{zero_at};
-ghost use Rattle.c_meaning.specs.States.{filled};
+ghost use Rattle.c_meaning.specs.Numbering.{kind_count, fields_count, counts_of, all_instances, root_cells, struct_count, slot_number, IsHeld, IsStep, IsPlace, IsNumbering};
 
+use crate::code::Code;
 use crate::names::field_named;
-use crate::roots::fields_of;
-use crate::slots::{Layout, Slot, number_in, numbers_from, slot_in, slots_at};
-use c_syntax::{Field, FieldKind, Program, StructDef};
+use crate::slots::{Slot, number_in, numbers_from, slot_in};
+use c_syntax::{Field, FieldKind, StructDef};
 use std::alloc::{AllocError, Global};
 
 /// How many instances an instance of the struct at a position is, with those inside it.
@@ -82,10 +80,9 @@ fn field_holding(counts: &[u32], fields: &[Field], number: u32) -> Option<(usize
 }
 
 /// A program with its tables, the struct of its root, and how many instances the root is, with those inside it.
-#[derive(Clone, Copy)]
+#[derive(Drop)]
 pub(crate) struct Numbering<'a> {
-    pub(crate) program: &'a Program,
-    pub(crate) layouts: &'a [Layout],
+    pub(crate) code: Code<'a>,
     pub(crate) counts: &'a [u32],
     pub(crate) root: u32,
     pub(crate) count: u32,
@@ -102,12 +99,14 @@ pub(crate) struct Place {
 // its number in there.
 fn step_into(numbering: &Numbering, of: u32, number: u32) -> Option<(Place, u32)>
     requires { IsNumbering numbering.now }
-    ensures found { IfSome result (λ r. IsStep (program_tree numbering.now.program.now) numbering.now.layouts.now numbering.now.counts.now of r.0.of r.0.at r.1 number) }
-    ensures none { IfNone result (fields_count numbering.now.counts.now (struct_fields (program_tree numbering.now.program.now).structs of) ≤ number) }
+    ensures found { IfSome result (λ r. IsStep (code_tree numbering.now.code) numbering.now.code.layouts
+        numbering.now.counts.now of r.0.of r.0.at r.1 number) }
+    ensures none { IfNone result (fields_count numbering.now.counts.now
+        (struct_fields (code_tree numbering.now.code).structs of) ≤ number) }
 {
-    let fields = fields_of(numbering.program, of);
+    let fields = numbering.code.fields_of(of);
     let (position, left) = field_holding(numbering.counts, fields, number)?;
-    match slot_in(slots_at(numbering.layouts, of), position) {
+    match slot_in(numbering.code.slots(of), position) {
         Some(Slot::Instance { at, of, .. }) => Some((Place { of, at }, left)),
         Some(Slot::Number { .. }) => unreachable!(),
         Some(Slot::Array { .. }) => unreachable!(),
@@ -118,8 +117,9 @@ fn step_into(numbering: &Numbering, of: u32, number: u32) -> Option<(Place, u32)
 /// The place of an instance, if there is one with this number.
 pub(crate) fn place_of(numbering: &Numbering, instance: u32) -> Option<Place>
     requires { IsNumbering numbering.now }
-    ensures found { IfSome result (λ place. IsPlace (program_tree numbering.now.program.now) numbering.now.layouts.now numbering.now.root instance place.of place.at) }
-    ensures none { IfNone result (length (instances_in (program_tree numbering.now.program.now) numbering.now.root) ≤ instance) }
+    ensures found { IfSome result (λ place. IsPlace (code_tree numbering.now.code)
+        numbering.now.code.layouts numbering.now.root instance place.of place.at) }
+    ensures none { IfNone result (length (all_instances numbering.now) ≤ instance) }
 {
     if instance >= numbering.count {
         return None;
@@ -157,12 +157,13 @@ fn count_before(counts: &[u32], fields: &[Field], position: usize) -> Option<u32
 /// The number of the instance in the struct field with a name, of an instance.
 pub(crate) fn child_of(numbering: &Numbering, instance: u32, name: &[u8]) -> Option<u32>
     requires { IsNumbering numbering.now }
-    ensures child { option_and_then (λ j. slice_get (instances_in (program_tree numbering.now.program.now) numbering.now.root) j) result
-        ≡ option_and_then (child_named (program_tree numbering.now.program.now) name.now) (slice_get (instances_in (program_tree numbering.now.program.now) numbering.now.root) instance) }
-    ensures there { IfSome result (λ j. j < length (instances_in (program_tree numbering.now.program.now) numbering.now.root)) }
+    ensures child { option_and_then (λ j. slice_get (all_instances numbering.now) j) result
+        ≡ option_and_then (child_named (code_tree numbering.now.code) name.now)
+        (slice_get (all_instances numbering.now) instance) }
+    ensures there { IfSome result (λ j. j < length (all_instances numbering.now)) }
 {
     let place = place_of(numbering, instance)?;
-    let fields = fields_of(numbering.program, place.of);
+    let fields = numbering.code.fields_of(place.of);
     let position = field_named(fields, name)?;
     let before = count_before(numbering.counts, fields, position)?;
     Some(instance + 1 + before)
@@ -185,10 +186,12 @@ pub(crate) fn number_of(
     name: &[u8],
 ) -> Option<i64>
     requires { IsNumbering numbering.now }
-    ensures { result ≡ option_and_then (number_named (program_tree numbering.now.program.now) (filled (zero_at (program_tree numbering.now.program.now) numbering.now.root) numbers.now) name.now) (slice_get (instances_in (program_tree numbering.now.program.now) numbering.now.root) instance) }
+    ensures { result ≡ option_and_then
+        (number_named (code_tree numbering.now.code) (root_cells numbering.now numbers.now) name.now)
+        (slice_get (all_instances numbering.now) instance) }
 {
     let place = place_of(numbering, instance)?;
-    let position = field_named(fields_of(numbering.program, place.of), name)?;
-    let slot = slot_in(slots_at(numbering.layouts, place.of), position);
+    let position = field_named(numbering.code.fields_of(place.of), name)?;
+    let slot = slot_in(numbering.code.slots(place.of), position);
     number_at(numbers_from(numbers, place.at), slot)
 }

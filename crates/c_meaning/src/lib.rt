@@ -3,6 +3,7 @@
 
 mod arithmetic;
 mod calls;
+mod code;
 mod frames;
 mod halts;
 mod instances;

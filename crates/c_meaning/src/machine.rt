@@ -1,14 +1,14 @@
 ghost use Rattle.std.specs.Prelude.{◌≡◌, ◌<◌, length, IfOk, IfErr, IfSome, option_and_then};
-ghost use Rattle.c_syntax.specs.Plain.{program_tree};
 ghost use Rattle.c_syntax.specs.RootFields.{root_struct};
+ghost use Rattle.c_meaning.specs.Codes.{code_tree};
 ghost use Rattle.c_meaning.specs.Instances.{instances, instance_at, child_named, number_named};
 ghost use Rattle.c_meaning.specs.Machines.{IsStarted, IsStartFault, IsRow, IsTick, IsStuckTick, IsCallable, IsCall, IsStuckCall};
 ghost use Rattle.c_meaning.specs.Numbering.{IsNumbering};
 ghost use Rattle.c_meaning.specs.Roots.{HasTables};
-ghost use Rattle.c_meaning.specs.Sound.{IsReady};
 ghost use Rattle.c_meaning.specs.States.{tree_of, fields_of};
 
 use crate::calls::run_instance;
+use crate::code::Code;
 use crate::instances::{Numbering, child_of, count_at, number_of};
 use crate::roots::{Tables, put_outputs, run_root, size_at, tables_of, zeros};
 use crate::slots::slots_at;
@@ -73,15 +73,8 @@ impl Machine {
     {
         let tables = tables_of(alloc, program.program(), program.outputs())?;
         let mut numbers = zeros(alloc, size_at(&tables.layouts, tables.root))?;
-        let start = run_root(
-            program.program(),
-            &tables.layouts,
-            &tables.logged,
-            tables.root,
-            tables.start,
-            &[],
-            &mut numbers,
-        );
+        let code = Code::new(program.program(), &tables.layouts, &tables.logged);
+        let start = run_root(&code, tables.root, tables.start, &[], &mut numbers);
         match start {
             Ok(_) => Ok(Machine {
                 checked: program,
@@ -115,15 +108,8 @@ impl Machine {
         ensures stuck { IfErr result (IsStuckTick self.old self.new inputs.now) }
     {
         let tables = &self.tables;
-        let cost = run_root(
-            self.checked.program(),
-            &tables.layouts,
-            &tables.logged,
-            tables.root,
-            tables.step,
-            inputs,
-            &mut self.numbers,
-        )?;
+        let code = Code::new(self.checked.program(), &tables.layouts, &tables.logged);
+        let cost = run_root(&code, tables.root, tables.step, inputs, &mut self.numbers)?;
         let slots = slots_at(&tables.layouts, tables.root);
         put_outputs(slots, &tables.outputs, &self.numbers, outputs);
         Ok(cost)
@@ -162,16 +148,8 @@ impl Machine {
         ensures called { IfOk result (IsCall self.old self.new procedure instance values.now) }
         ensures stuck { IfErr result (IsStuckCall self.old self.new procedure instance values.now) }
     {
-        let tables = &self.tables;
-        let numbering = numbering_of(&self.checked, tables);
-        run_instance(
-            &numbering,
-            &tables.logged,
-            procedure,
-            instance,
-            values,
-            &mut self.numbers,
-        )
+        let numbering = numbering_of(&self.checked, &self.tables);
+        run_instance(&numbering, procedure, instance, values, &mut self.numbers)
     }
 }
 
@@ -179,15 +157,13 @@ impl Machine {
 fn numbering_of<'a>(checked: &'a Checked, tables: &'a Tables) -> Numbering<'a>
     requires { HasTables checked.now tables.now }
     ensures numbering { IsNumbering result }
-    ensures program { result.program.now ≡ checked.now.program }
-    ensures ready { IsReady (program_tree result.program.now) result.layouts.now tables.now.logged.items }
-    ensures layouts { result.layouts.now ≡ tables.now.layouts.items }
+    ensures program { result.code.program ≡ checked.now.program }
+    ensures layouts { result.code.layouts ≡ tables.now.layouts.items }
     ensures root { result.root ≡ tables.now.root }
-    ensures root_struct { result.root ≡ root_struct (program_tree result.program.now) }
+    ensures root_struct { result.root ≡ root_struct (code_tree result.code) }
 {
     Numbering {
-        program: checked.program(),
-        layouts: &tables.layouts,
+        code: Code::new(checked.program(), &tables.layouts, &tables.logged),
         counts: &tables.counts,
         root: tables.root,
         count: count_at(&tables.counts, tables.root),

@@ -7,12 +7,14 @@ ghost use Rattle.c_syntax.specs.PlainField.{field_trees};
 ghost use Rattle.c_syntax.specs.RootFields.{field_position, output_fields, root_fields, procedure_named};
 ghost use Rattle.c_syntax.specs.Lawful.{IsLawful};
 ghost use Rattle.c_syntax.specs.Tree.{struct_fields};
+ghost use Rattle.c_meaning.specs.Codes.{code_tree};
 ghost use Rattle.c_meaning.specs.Roots.{root_ended, AreTables, AreCounts};
 ghost use Rattle.c_meaning.specs.Seen.{seen};
 ghost use Rattle.c_meaning.specs.Slots.{layout_at, number_in};
-ghost use Rattle.c_meaning.specs.Sound.{IsReady, IsProcedureOf, zero_at};
+ghost use Rattle.c_meaning.specs.Sound.{IsProcedureOf, zero_at};
 ghost use Rattle.c_meaning.specs.States.{filled};
 
+use crate::code::Code;
 use crate::frames::Frame;
 use crate::instances::counts_of;
 use crate::layouts::layouts_of;
@@ -24,25 +26,21 @@ use std::alloc::{AllocError, Global};
 
 /// A call from outside of a procedure of a struct, on all the numbers of an instance.
 pub(crate) fn run_root(
-    program: &Program,
-    layouts: &[Layout],
-    logged: &[bool],
+    code: &Code,
     root: u32,
     procedure: usize,
     inputs: &[i64],
     numbers: &mut [i64],
 ) -> Result<Cost, Stuck>
-    requires ready { IsReady (program_tree program.now) layouts.now logged.now }
-    requires there { IsProcedureOf (program_tree program.now) procedure root }
-    requires room { length numbers.old ≡ (layout_at layouts.now root).size }
-    ensures { root_ended (zero_at (program_tree program.now) root) result numbers.new
-        ≡ seen 0 (call_from_outside (program_tree program.now) procedure [] inputs.now (filled (zero_at (program_tree program.now) root) numbers.old)) }
+    requires there { IsProcedureOf (code_tree code.now) procedure root }
+    requires room { length numbers.old ≡ (layout_at code.now.layouts root).size }
+    ensures { root_ended (zero_at (code_tree code.now) root) result numbers.new
+        ≡ seen 0 (call_from_outside (code_tree code.now) procedure [] inputs.now
+        (filled (zero_at (code_tree code.now) root) numbers.old)) }
 {
     let frame = Frame {
-        program,
-        layouts,
-        logged,
-        level: program.procedures.len(),
+        code: code.again(),
+        level: code.program().procedures.len(),
         of: root,
         values: &[],
     };

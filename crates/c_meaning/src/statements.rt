@@ -1,38 +1,39 @@
 // What statements do to the numbers of an instance.
-ghost use Rattle.std.specs.Prelude.{◌≡◌, ◌≤◌, ◌<◌, ◌+◌, List, length, map, slice_get, slice_index_or, Some, false, if◌then◌else◌};
+ghost use Rattle.std.specs.Prelude.{◌≡◌, ◌≤◌, ◌<◌, ◌+◌, List, length, map, slice_index_or, Some, false, if◌then◌else◌};
 ghost use Rattle.c_syntax.specs.declared.fault.Cost.{Cost};
-ghost use Rattle.c_syntax.specs.Plain.{expr_tree, cond_tree, stmt_tree, program_tree};
-ghost use Rattle.c_syntax.specs.Tree.{assign, assign_at, branch, call, exprs_of_list, stmts_of_list, FieldTree, struct_fields, type_at, ProcedureTree};
-ghost use Rattle.c_machine.specs.Machine.{run_stmt, run_stmts, store, store_at, on_target, routine_at};
+ghost use Rattle.c_syntax.specs.Plain.{expr_tree, cond_tree, stmt_tree};
+ghost use Rattle.c_syntax.specs.Tree.{assign, assign_at, branch, call, exprs_of_list, stmts_of_list, type_at};
+ghost use Rattle.c_machine.specs.Machine.{store, store_at, on_target, routine_at};
 ghost use Rattle.c_machine.specs.Cells.{items_at};
-ghost use Rattle.c_meaning.specs.Slots.{layout_at};
-ghost use Rattle.c_meaning.specs.States.{filled};
-ghost use Rattle.c_meaning.specs.Sound.{IsReady, IsSoundStmt, AreSoundStmts, IsNumberField, IsArrayField, IsInstanceField, IsCallOf, IsProcedureOf, scope_at, zero_at};
+ghost use Rattle.c_meaning.specs.Codes.{IsReadyCode};
+ghost use Rattle.c_meaning.specs.Frames.{AreSoundIn, IsSoundIn, cells_in, left_in, run_all_in, run_in, scope_in, size_in, slot_in, tree_in};
 ghost use Rattle.c_meaning.specs.Seen.{seen, ended, IsCounted, IsStepped};
+ghost use Rattle.c_meaning.specs.Slots.{layout_at};
+ghost use Rattle.c_meaning.specs.Sound.{IsNumberField, IsArrayField, IsInstanceField, IsCallOf, IsProcedureOf, zero_at};
+ghost use Rattle.c_meaning.specs.States.{filled};
 
 use crate::arithmetic::{is_in_type, take_step};
 use crate::frames::{Frame, holds, place_of, put_arguments, value_of};
 use crate::halts::{Halt, Verdict};
-use crate::slots::{Slot, slots_at};
+use crate::slots::Slot;
 use crate::values::{FEW, first_of, first_of_few};
 use c_syntax::{CType, Cond, Cost, Expr, Stmt, Target, Why};
 
 #[inline(always)]
 fn slot_at(frame: &Frame, field: u32) -> Option<Slot>
-    ensures { result ≡ slice_get (layout_at frame.now.layouts.now frame.now.of).slots field }
+    ensures slot { result ≡ slot_in frame.now field }
+    ensures ready { IsReadyCode frame.now.code }
 {
-    slots_at(frame.layouts, frame.of)
-        .get(field as usize)
-        .copied()
+    frame.code.slots(frame.of).get(field as usize).copied()
 }
 
 // The place of a number field, and its type.
 #[inline(always)]
 #[tactic(auto, using(crate::proofs::Places::number_there))]
 fn number_slot(frame: &Frame, field: u32) -> (usize, CType)
-    requires ready { IsReady (program_tree frame.now.program.now) frame.now.layouts.now frame.now.logged.now }
-    requires number { IsNumberField (program_tree frame.now.program.now) frame.now.of field }
-    ensures { slice_get (layout_at frame.now.layouts.now frame.now.of).slots field ≡ Some (Slot.Number result.0 result.1) }
+    requires number { IsNumberField (tree_in frame.now) frame.now.of field }
+    ensures slot { slot_in frame.now field ≡ Some (Slot.Number result.0 result.1) }
+    ensures ready { IsReadyCode frame.now.code }
 {
     match slot_at(frame, field) {
         Some(Slot::Number { at, of }) => (at, of),
@@ -45,9 +46,9 @@ fn number_slot(frame: &Frame, field: u32) -> (usize, CType)
 // The place of an array field, how many items it has, and their type.
 #[tactic(auto, using(crate::proofs::Places::array_there))]
 fn array_slot(frame: &Frame, field: u32) -> (usize, u32, CType)
-    requires ready { IsReady (program_tree frame.now.program.now) frame.now.layouts.now frame.now.logged.now }
-    requires array { IsArrayField (program_tree frame.now.program.now) frame.now.of field }
-    ensures { slice_get (layout_at frame.now.layouts.now frame.now.of).slots field ≡ Some (Slot.Array result.0 result.1 result.2) }
+    requires array { IsArrayField (tree_in frame.now) frame.now.of field }
+    ensures slot { slot_in frame.now field ≡ Some (Slot.Array result.0 result.1 result.2) }
+    ensures ready { IsReadyCode frame.now.code }
 {
     match slot_at(frame, field) {
         Some(Slot::Array { at, count, of }) => (at, count, of),
@@ -60,9 +61,9 @@ fn array_slot(frame: &Frame, field: u32) -> (usize, u32, CType)
 // The place of a field that holds an instance, its size and its struct.
 #[tactic(auto, using(crate::proofs::Places::instance_there))]
 fn instance_slot(frame: &Frame, field: u32) -> (usize, usize, u32)
-    requires ready { IsReady (program_tree frame.now.program.now) frame.now.layouts.now frame.now.logged.now }
-    requires instance { IsInstanceField (program_tree frame.now.program.now) frame.now.of field }
-    ensures { slice_get (layout_at frame.now.layouts.now frame.now.of).slots field ≡ Some (Slot.Instance result.0 result.1 result.2) }
+    requires instance { IsInstanceField (tree_in frame.now) frame.now.of field }
+    ensures slot { slot_in frame.now field ≡ Some (Slot.Instance result.0 result.1 result.2) }
+    ensures ready { IsReadyCode frame.now.code }
 {
     match slot_at(frame, field) {
         Some(Slot::Instance { at, size, of }) => (at, size, of),
@@ -75,11 +76,11 @@ fn instance_slot(frame: &Frame, field: u32) -> (usize, usize, u32)
 // Stores a number in a field, if it is in the field's type.
 #[inline(always)]
 fn store(frame: &Frame, line: u32, field: u32, value: i64, numbers: &mut [i64]) -> Result<(), Halt>
-    requires ready { IsReady (program_tree frame.now.program.now) frame.now.layouts.now frame.now.logged.now }
-    requires room { length numbers.old ≡ (layout_at frame.now.layouts.now frame.now.of).size }
-    requires number { IsNumberField (program_tree frame.now.program.now) frame.now.of field }
-    ensures { (cost : Cost) → ended (zero_at (program_tree frame.now.program.now) frame.now.of) result numbers.new cost
-        ≡ seen cost.calls (store line (type_at (scope_at (program_tree frame.now.program.now) frame.now.level frame.now.of frame.now.values.now).types field) field value (filled (zero_at (program_tree frame.now.program.now) frame.now.of) numbers.old) cost.steps) }
+    requires room { length numbers.old ≡ size_in frame.now }
+    requires number { IsNumberField (tree_in frame.now) frame.now.of field }
+    ensures { (cost : Cost) → left_in frame.now result numbers.new cost
+        ≡ seen cost.calls (store line (type_at (scope_in frame.now).types field) field value
+        (cells_in frame.now numbers.old) cost.steps) }
 {
     let (at, of) = number_slot(frame, field);
     if is_in_type(of, value) {
@@ -99,12 +100,11 @@ fn set_field(
     numbers: &mut [i64],
     cost: &mut Cost,
 ) -> Result<(), Halt>
-    requires ready { IsReady (program_tree frame.now.program.now) frame.now.layouts.now frame.now.logged.now }
-    requires sound { IsSoundStmt (program_tree frame.now.program.now) frame.now.level frame.now.of (assign line field (expr_tree e.now)) }
-    requires room { length numbers.old ≡ (layout_at frame.now.layouts.now frame.now.of).size }
+    requires sound { IsSoundIn frame.now (assign line field (expr_tree e.now)) }
+    requires room { length numbers.old ≡ size_in frame.now }
     requires counted { IsCounted cost.old }
-    ensures ran { ended (zero_at (program_tree frame.now.program.now) frame.now.of) result numbers.new cost.new
-        ≡ seen cost.old.calls (run_stmt (scope_at (program_tree frame.now.program.now) frame.now.level frame.now.of frame.now.values.now) (assign line field (expr_tree e.now)) (filled (zero_at (program_tree frame.now.program.now) frame.now.of) numbers.old) cost.old.steps) }
+    ensures ran { left_in frame.now result numbers.new cost.new
+        ≡ run_in frame.now (assign line field (expr_tree e.now)) numbers.old cost.old }
     ensures counted { IsCounted cost.new }
 {
     take_step(line, &mut cost.steps)?;
@@ -123,12 +123,12 @@ fn store_at(
     value: i64,
     numbers: &mut [i64],
 ) -> Result<(), Halt>
-    requires ready { IsReady (program_tree frame.now.program.now) frame.now.layouts.now frame.now.logged.now }
-    requires room { length numbers.old ≡ (layout_at frame.now.layouts.now frame.now.of).size }
-    requires array { IsArrayField (program_tree frame.now.program.now) frame.now.of field }
-    requires inside { place < length (items_at (filled (zero_at (program_tree frame.now.program.now) frame.now.of) numbers.old) field) }
-    ensures { (cost : Cost) → ended (zero_at (program_tree frame.now.program.now) frame.now.of) result numbers.new cost
-        ≡ seen cost.calls (store_at line (type_at (scope_at (program_tree frame.now.program.now) frame.now.level frame.now.of frame.now.values.now).types field) field place value (filled (zero_at (program_tree frame.now.program.now) frame.now.of) numbers.old) cost.steps) }
+    requires room { length numbers.old ≡ size_in frame.now }
+    requires array { IsArrayField (tree_in frame.now) frame.now.of field }
+    requires inside { place < length (items_at (cells_in frame.now numbers.old) field) }
+    ensures { (cost : Cost) → left_in frame.now result numbers.new cost
+        ≡ seen cost.calls (store_at line (type_at (scope_in frame.now).types field) field place value
+        (cells_in frame.now numbers.old) cost.steps) }
 {
     let (at, _, of) = array_slot(frame, field);
     if is_in_type(of, value) {
@@ -150,12 +150,12 @@ fn set_item(
     numbers: &mut [i64],
     cost: &mut Cost,
 ) -> Result<(), Halt>
-    requires ready { IsReady (program_tree frame.now.program.now) frame.now.layouts.now frame.now.logged.now }
-    requires sound { IsSoundStmt (program_tree frame.now.program.now) frame.now.level frame.now.of (assign_at line field (expr_tree index.now) (expr_tree e.now)) }
-    requires room { length numbers.old ≡ (layout_at frame.now.layouts.now frame.now.of).size }
+    requires sound { IsSoundIn frame.now (assign_at line field (expr_tree index.now) (expr_tree e.now)) }
+    requires room { length numbers.old ≡ size_in frame.now }
     requires counted { IsCounted cost.old }
-    ensures ran { ended (zero_at (program_tree frame.now.program.now) frame.now.of) result numbers.new cost.new
-        ≡ seen cost.old.calls (run_stmt (scope_at (program_tree frame.now.program.now) frame.now.level frame.now.of frame.now.values.now) (assign_at line field (expr_tree index.now) (expr_tree e.now)) (filled (zero_at (program_tree frame.now.program.now) frame.now.of) numbers.old) cost.old.steps) }
+    ensures ran { left_in frame.now result numbers.new cost.new
+        ≡ run_in frame.now (assign_at line field (expr_tree index.now) (expr_tree e.now))
+        numbers.old cost.old }
     ensures counted { IsCounted cost.new }
 {
     take_step(line, &mut cost.steps)?;
@@ -174,12 +174,11 @@ pub(crate) fn run_all(
     numbers: &mut [i64],
     cost: &mut Cost,
 ) -> Result<(), Halt>
-    requires ready { IsReady (program_tree frame.now.program.now) frame.now.layouts.now frame.now.logged.now }
-    requires sound { AreSoundStmts (program_tree frame.now.program.now) frame.now.level frame.now.of (stmts_of_list (map stmt_tree stmts.now)) }
-    requires room { length numbers.old ≡ (layout_at frame.now.layouts.now frame.now.of).size }
+    requires sound { AreSoundIn frame.now (stmts_of_list (map stmt_tree stmts.now)) }
+    requires room { length numbers.old ≡ size_in frame.now }
     requires counted { IsCounted cost.old }
-    ensures ran { ended (zero_at (program_tree frame.now.program.now) frame.now.of) result numbers.new cost.new
-        ≡ seen cost.old.calls (run_stmts (scope_at (program_tree frame.now.program.now) frame.now.level frame.now.of frame.now.values.now) (stmts_of_list (map stmt_tree stmts.now)) (filled (zero_at (program_tree frame.now.program.now) frame.now.of) numbers.old) cost.old.steps) }
+    ensures ran { left_in frame.now result numbers.new cost.new
+        ≡ run_all_in frame.now (stmts_of_list (map stmt_tree stmts.now)) numbers.old cost.old }
     ensures counted { IsCounted cost.new }
 {
     for i in 0..stmts.len() {
@@ -191,12 +190,11 @@ pub(crate) fn run_all(
 #[cycle(statement)]
 #[inline(always)]
 fn run(frame: &Frame, stmt: &Stmt, numbers: &mut [i64], cost: &mut Cost) -> Result<(), Halt>
-    requires ready { IsReady (program_tree frame.now.program.now) frame.now.layouts.now frame.now.logged.now }
-    requires sound { IsSoundStmt (program_tree frame.now.program.now) frame.now.level frame.now.of (stmt_tree stmt.now) }
-    requires room { length numbers.old ≡ (layout_at frame.now.layouts.now frame.now.of).size }
+    requires sound { IsSoundIn frame.now (stmt_tree stmt.now) }
+    requires room { length numbers.old ≡ size_in frame.now }
     requires counted { IsCounted cost.old }
-    ensures ran { ended (zero_at (program_tree frame.now.program.now) frame.now.of) result numbers.new cost.new
-        ≡ seen cost.old.calls (run_stmt (scope_at (program_tree frame.now.program.now) frame.now.level frame.now.of frame.now.values.now) (stmt_tree stmt.now) (filled (zero_at (program_tree frame.now.program.now) frame.now.of) numbers.old) cost.old.steps) }
+    ensures ran { left_in frame.now result numbers.new cost.new
+        ≡ run_in frame.now (stmt_tree stmt.now) numbers.old cost.old }
     ensures counted { IsCounted cost.new }
 {
     match stmt {
@@ -233,12 +231,13 @@ fn run_if(
     numbers: &mut [i64],
     cost: &mut Cost,
 ) -> Result<(), Halt>
-    requires ready { IsReady (program_tree frame.now.program.now) frame.now.layouts.now frame.now.logged.now }
-    requires sound { IsSoundStmt (program_tree frame.now.program.now) frame.now.level frame.now.of (branch line (cond_tree test.now) (stmts_of_list (map stmt_tree on_true.now)) (stmts_of_list (map stmt_tree on_false.now))) }
-    requires room { length numbers.old ≡ (layout_at frame.now.layouts.now frame.now.of).size }
+    requires sound { IsSoundIn frame.now (branch line (cond_tree test.now)
+        (stmts_of_list (map stmt_tree on_true.now)) (stmts_of_list (map stmt_tree on_false.now))) }
+    requires room { length numbers.old ≡ size_in frame.now }
     requires counted { IsCounted cost.old }
-    ensures ran { ended (zero_at (program_tree frame.now.program.now) frame.now.of) result numbers.new cost.new
-        ≡ seen cost.old.calls (run_stmt (scope_at (program_tree frame.now.program.now) frame.now.level frame.now.of frame.now.values.now) (branch line (cond_tree test.now) (stmts_of_list (map stmt_tree on_true.now)) (stmts_of_list (map stmt_tree on_false.now))) (filled (zero_at (program_tree frame.now.program.now) frame.now.of) numbers.old) cost.old.steps) }
+    ensures ran { left_in frame.now result numbers.new cost.new
+        ≡ run_in frame.now (branch line (cond_tree test.now) (stmts_of_list (map stmt_tree on_true.now))
+        (stmts_of_list (map stmt_tree on_false.now))) numbers.old cost.old }
     ensures counted { IsCounted cost.new }
 {
     take_step(line, &mut cost.steps)?;
@@ -260,12 +259,13 @@ fn run_call(
     numbers: &mut [i64],
     cost: &mut Cost,
 ) -> Result<(), Halt>
-    requires ready { IsReady (program_tree frame.now.program.now) frame.now.layouts.now frame.now.logged.now }
-    requires sound { IsSoundStmt (program_tree frame.now.program.now) frame.now.level frame.now.of (call line procedure target (exprs_of_list (map expr_tree values.now))) }
-    requires room { length numbers.old ≡ (layout_at frame.now.layouts.now frame.now.of).size }
+    requires sound { IsSoundIn frame.now
+        (call line procedure target (exprs_of_list (map expr_tree values.now))) }
+    requires room { length numbers.old ≡ size_in frame.now }
     requires counted { IsCounted cost.old }
-    ensures ran { ended (zero_at (program_tree frame.now.program.now) frame.now.of) result numbers.new cost.new
-        ≡ seen cost.old.calls (run_stmt (scope_at (program_tree frame.now.program.now) frame.now.level frame.now.of frame.now.values.now) (call line procedure target (exprs_of_list (map expr_tree values.now))) (filled (zero_at (program_tree frame.now.program.now) frame.now.of) numbers.old) cost.old.steps) }
+    ensures ran { left_in frame.now result numbers.new cost.new
+        ≡ run_in frame.now (call line procedure target (exprs_of_list (map expr_tree values.now)))
+        numbers.old cost.old }
     ensures counted { IsCounted cost.new }
 {
     if values.len() <= FEW {
@@ -290,12 +290,13 @@ fn call_many(
     numbers: &mut [i64],
     cost: &mut Cost,
 ) -> Result<(), Halt>
-    requires ready { IsReady (program_tree frame.now.program.now) frame.now.layouts.now frame.now.logged.now }
-    requires sound { IsSoundStmt (program_tree frame.now.program.now) frame.now.level frame.now.of (call line procedure target (exprs_of_list (map expr_tree values.now))) }
-    requires room { length numbers.old ≡ (layout_at frame.now.layouts.now frame.now.of).size }
+    requires sound { IsSoundIn frame.now
+        (call line procedure target (exprs_of_list (map expr_tree values.now))) }
+    requires room { length numbers.old ≡ size_in frame.now }
     requires counted { IsCounted cost.old }
-    ensures ran { ended (zero_at (program_tree frame.now.program.now) frame.now.of) result numbers.new cost.new
-        ≡ seen cost.old.calls (run_stmt (scope_at (program_tree frame.now.program.now) frame.now.level frame.now.of frame.now.values.now) (call line procedure target (exprs_of_list (map expr_tree values.now))) (filled (zero_at (program_tree frame.now.program.now) frame.now.of) numbers.old) cost.old.steps) }
+    ensures ran { left_in frame.now result numbers.new cost.new
+        ≡ run_in frame.now (call line procedure target (exprs_of_list (map expr_tree values.now)))
+        numbers.old cost.old }
     ensures counted { IsCounted cost.new }
 {
     let mut room = [0; 64];
@@ -317,17 +318,18 @@ fn call_into(
     numbers: &mut [i64],
     cost: &mut Cost,
 ) -> Result<(), Halt>
-    requires ready { IsReady (program_tree frame.now.program.now) frame.now.layouts.now frame.now.logged.now }
-    requires sound { IsSoundStmt (program_tree frame.now.program.now) frame.now.level frame.now.of (call line procedure target (exprs_of_list (map expr_tree values.now))) }
-    requires room { length numbers.old ≡ (layout_at frame.now.layouts.now frame.now.of).size }
+    requires sound { IsSoundIn frame.now
+        (call line procedure target (exprs_of_list (map expr_tree values.now))) }
+    requires room { length numbers.old ≡ size_in frame.now }
     requires counted { IsCounted cost.old }
     requires space { length arguments.old ≡ length values.now }
-    ensures ran { ended (zero_at (program_tree frame.now.program.now) frame.now.of) result numbers.new cost.new
-        ≡ seen cost.old.calls (run_stmt (scope_at (program_tree frame.now.program.now) frame.now.level frame.now.of frame.now.values.now) (call line procedure target (exprs_of_list (map expr_tree values.now))) (filled (zero_at (program_tree frame.now.program.now) frame.now.of) numbers.old) cost.old.steps) }
+    ensures ran { left_in frame.now result numbers.new cost.new
+        ≡ run_in frame.now (call line procedure target (exprs_of_list (map expr_tree values.now)))
+        numbers.old cost.old }
     ensures counted { IsCounted cost.new }
 {
     take_step(line, &mut cost.steps)?;
-    let callee = &frame.program.procedures[procedure as usize];
+    let callee = &frame.code.program().procedures[procedure as usize];
     put_arguments(
         frame,
         numbers,
@@ -349,13 +351,14 @@ fn run_at(
     numbers: &mut [i64],
     cost: &mut Cost,
 ) -> Result<(), Halt>
-    requires ready { IsReady (program_tree frame.now.program.now) frame.now.layouts.now frame.now.logged.now }
-    requires there { IsCallOf (program_tree frame.now.program.now) frame.now.of procedure target }
+    requires there { IsCallOf (tree_in frame.now) frame.now.of procedure target }
     requires earlier { procedure < frame.now.level }
-    requires room { length numbers.old ≡ (layout_at frame.now.layouts.now frame.now.of).size }
+    requires room { length numbers.old ≡ size_in frame.now }
     requires stepped { IsStepped cost.old }
-    ensures ran { ended (zero_at (program_tree frame.now.program.now) frame.now.of) result numbers.new cost.new
-        ≡ seen cost.old.calls (on_target target ((routine_at (scope_at (program_tree frame.now.program.now) frame.now.level frame.now.of frame.now.values.now).routines procedure).run arguments.now) (filled (zero_at (program_tree frame.now.program.now) frame.now.of) numbers.old) cost.old.steps) }
+    ensures ran { left_in frame.now result numbers.new cost.new
+        ≡ seen cost.old.calls (on_target target
+        ((routine_at (scope_in frame.now).routines procedure).run arguments.now)
+        (cells_in frame.now numbers.old) cost.old.steps) }
     ensures counted { IsCounted cost.new }
 {
     match target {
@@ -385,22 +388,22 @@ pub(crate) fn run_procedure(
     numbers: &mut [i64],
     cost: &mut Cost,
 ) -> Result<(), Halt>
-    requires ready { IsReady (program_tree frame.now.program.now) frame.now.layouts.now frame.now.logged.now }
-    requires there { IsProcedureOf (program_tree frame.now.program.now) procedure of }
+    requires there { IsProcedureOf (tree_in frame.now) procedure of }
     requires earlier { procedure < frame.now.level }
-    requires room { length numbers.old ≡ (layout_at frame.now.layouts.now of).size }
+    requires room { length numbers.old ≡ (layout_at frame.now.code.layouts of).size }
     requires stepped { IsStepped cost.old }
-    ensures ran { ended (zero_at (program_tree frame.now.program.now) of) result numbers.new cost.new
-        ≡ seen cost.old.calls ((routine_at (scope_at (program_tree frame.now.program.now) frame.now.level frame.now.of frame.now.values.now).routines procedure).run arguments.now (filled (zero_at (program_tree frame.now.program.now) of) numbers.old) cost.old.steps) }
+    ensures ran { ended (zero_at (tree_in frame.now) of) result numbers.new cost.new
+        ≡ seen cost.old.calls ((routine_at (scope_in frame.now).routines procedure).run arguments.now
+        (filled (zero_at (tree_in frame.now) of) numbers.old) cost.old.steps) }
     ensures counted { IsCounted cost.new }
 {
-    let callee = &frame.program.procedures[procedure];
-    log_call(frame.logged, procedure, cost);
+    let callee = &frame.code.program().procedures[procedure];
+    log_call(frame.code.logged(), procedure, cost);
     let inner = Frame {
+        code: frame.code.again(),
         level: procedure,
         of,
         values: arguments,
-        ..*frame
     };
     run_all(&inner, &callee.body, numbers, cost)
 }
@@ -410,7 +413,8 @@ fn log_call(logged: &[bool], k: usize, cost: &mut Cost)
     requires { IsStepped cost.old }
     ensures counted { IsCounted cost.new }
     ensures steps { cost.new.steps ≡ cost.old.steps }
-    ensures calls { cost.new.calls ≡ cost.old.calls + (if slice_index_or logged.now k false then 1 else 0) }
+    ensures calls { cost.new.calls
+        ≡ cost.old.calls + (if slice_index_or logged.now k false then 1 else 0) }
 {
     if logged.get(k).copied().unwrap_or(false) {
         cost.calls += 1;

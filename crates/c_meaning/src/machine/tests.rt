@@ -73,7 +73,7 @@ fn is_callable(machine: &Machine, procedure: u32, instance: u32) -> bool
 {
     let numbering = numbering_of(&machine.checked, &machine.tables);
     match place_of(&numbering, instance) {
-        Some(place) => is_plain(numbering.program, procedure, place.of),
+        Some(place) => is_plain(numbering.code.program(), procedure, place.of),
         None => false,
     }
 }

@@ -1,14 +1,6 @@
-use Rattle.std.proofs.Common.{sym, subst, map, List}
-use Rattle.c_syntax.specs.declared.program.Pure.{Pure}
-use Rattle.c_syntax.specs.Plain.{pure_tree, cond_tree}
-use Rattle.c_meaning.specs.Reads.{AreNarrow}
+use Rattle.c_syntax.specs.Plain.{cond_tree}
 use Rattle.c_meaning.proofs.BodyReads.{eval_cond_same}
 use Rattle.c_meaning.proofs.frames.holds.Goals as goal
-
-pub eval_cond-requires : goal.eval_cond-requires
-eval_cond-requires c =
-    let P : List Pure → Type 0 = λ ps. AreNarrow (map pure_tree ps) in
-    record { narrow = c.requires.narrow; pures = subst P (sym c.view_of-view.ensures.pures) c.requires.ready.narrow }
 
 pub returns-clause-value : goal.returns-clause-value
 returns-clause-value c =

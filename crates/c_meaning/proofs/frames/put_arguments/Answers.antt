@@ -9,7 +9,7 @@ use Rattle.c_meaning.proofs.frames.put_arguments.Goals as goal
 
 pub argument-requires : goal.argument-requires
 argument-requires c =
-    record { ready = c.requires.ready; narrow = exprs_here c.args.values.now c.loop-i.i c.index-values-i.result (omega arith) c.index-values-i.is c.loop-i.invariant.narrow }
+    record { narrow = exprs_here c.args.values.now c.loop-i.i c.index-values-i.result (omega arith) c.index-values-i.is c.loop-i.invariant.narrow }
 
 pub loop-i-preserved : goal.loop-i-preserved
 loop-i-preserved c =

@@ -5,14 +5,13 @@ use Rattle.c_machine.specs.Machine.{arguments}
 use Rattle.c_machine.specs.Values.{and_then, gives, functions_of, reads}
 use Rattle.c_meaning.specs.Answers.{IsLater}
 use Rattle.c_meaning.specs.Reads.{AreNarrowExprs}
-use Rattle.c_meaning.specs.States.{filled}
-use Rattle.c_meaning.specs.Sound.{zero_at}
+use Rattle.c_meaning.specs.Frames.{cells_in}
 use Rattle.c_meaning.proofs.frames.put_arguments.Given as goal
 
 abbrev pub invariant-loop-i : goal.invariant-loop-i
 invariant-loop-i l =
-    let p = program_tree l.frame.program.now in
-    let leaf = reads l.frame.values.now (filled (zero_at p l.frame.of) l.numbers) in
+    let p = program_tree l.frame.code.program in
+    let leaf = reads l.frame.values.now (cells_in l.frame l.numbers) in
     record {
       narrow : AreNarrowExprs (exprs_of_list (map expr_tree (drop l.i l.values)));
       later : IsLater l.initial.steps l.steps;

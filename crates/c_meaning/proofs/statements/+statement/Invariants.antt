@@ -3,15 +3,15 @@ use Rattle.c_syntax.specs.Plain.{stmt_tree, program_tree}
 use Rattle.c_syntax.specs.Limits.{stmt_depth, stmts_depth}
 use Rattle.c_syntax.specs.Tree.{stmts_of_list}
 use Rattle.c_machine.specs.Machine.{run_stmts}
-use Rattle.c_meaning.specs.States.{filled}
-use Rattle.c_meaning.specs.Sound.{AreSoundStmts, scope_at, zero_at}
+use Rattle.c_meaning.specs.Sound.{AreSoundStmts}
 use Rattle.c_meaning.specs.Seen.{seen, IsCounted}
+use Rattle.c_meaning.specs.Frames.{cells_in, scope_in}
 use Rattle.c_meaning.proofs.Measures.{procs_depth}
 use Rattle.c_meaning.specs.declared.frames.Frame.{Frame}
 use Rattle.c_meaning.proofs.statements.+statement.Given as goal
 
 abbrev pub before : Frame → ℕ
-before f = procs_depth (take f.level (program_tree f.program.now).procedures)
+before f = procs_depth (take f.level (program_tree f.code.program).procedures)
 
 abbrev pub decreases-run : goal.decreases-run
 decreases-run l = before l.frame.now + 4 * stmt_depth (stmt_tree l.stmt.now) + 2
@@ -39,9 +39,9 @@ decreases-run_procedure l = before l.frame.now + 1
 
 abbrev pub invariant-run_all-loop-i : goal.invariant-run_all-loop-i
 invariant-run_all-loop-i l =
-    let p = program_tree l.frame.program.now in
+    let p = program_tree l.frame.code.program in
     record {
       sound : AreSoundStmts p l.frame.level l.frame.of (stmts_of_list (map stmt_tree (drop l.i l.stmts)));
       counted : IsCounted l.cost;
-      value : seen l.initial.cost.calls (run_stmts (scope_at p l.frame.level l.frame.of l.frame.values.now) (stmts_of_list (map stmt_tree l.stmts)) (filled (zero_at p l.frame.of) l.initial.numbers) l.initial.cost.steps) ≡ seen l.cost.calls (run_stmts (scope_at p l.frame.level l.frame.of l.frame.values.now) (stmts_of_list (map stmt_tree (drop l.i l.stmts))) (filled (zero_at p l.frame.of) l.numbers) l.cost.steps);
+      value : seen l.initial.cost.calls (run_stmts (scope_in l.frame) (stmts_of_list (map stmt_tree l.stmts)) (cells_in l.frame l.initial.numbers) l.initial.cost.steps) ≡ seen l.cost.calls (run_stmts (scope_in l.frame) (stmts_of_list (map stmt_tree (drop l.i l.stmts))) (cells_in l.frame l.numbers) l.cost.steps);
     }
