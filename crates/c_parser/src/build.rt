@@ -10,10 +10,22 @@ use c_syntax::BinOp;
 use mc_base::{Compare, Memory};
 use std::alloc::Global;
 
+fn box_of_expr<'a>(alloc: Global, e: WrittenExpr<'a>) -> Result<Box<WrittenExpr<'a>>, Memory>
+    ensures { IfOk result (λ b. b.value ≡ e.entry) }
+{
+    Ok(Box::new(alloc, e)?)
+}
+
+fn box_of_cond<'a>(alloc: Global, test: WrittenCond<'a>) -> Result<Box<WrittenCond<'a>>, Memory>
+    ensures { IfOk result (λ b. b.value ≡ test.entry) }
+{
+    Ok(Box::new(alloc, test)?)
+}
+
 pub(crate) fn literal<'a>(alloc: Global, number: Number) -> Result<Box<WrittenExpr<'a>>, Memory>
     ensures { IfOk result (λ e. boxed_expr e ≡ written.literal number.value) }
 {
-    Ok(Box::new(alloc, WrittenExpr::Literal(number))?)
+    box_of_expr(alloc, WrittenExpr::Literal(number))
 }
 
 pub(crate) fn read<'a>(
@@ -23,7 +35,7 @@ pub(crate) fn read<'a>(
 ) -> Result<Box<WrittenExpr<'a>>, Memory>
     ensures { IfOk result (λ e. boxed_expr e ≡ written.read line (leaf_of leaf.entry)) }
 {
-    Ok(Box::new(alloc, WrittenExpr::Read { line, leaf })?)
+    box_of_expr(alloc, WrittenExpr::Read { line, leaf })
 }
 
 pub(crate) fn item<'a>(
@@ -35,7 +47,7 @@ pub(crate) fn item<'a>(
     ensures { IfOk result (λ e. boxed_expr e
         ≡ written.item line field.now (boxed_expr index.entry)) }
 {
-    Ok(Box::new(alloc, WrittenExpr::Item { line, field, index })?)
+    box_of_expr(alloc, WrittenExpr::Item { line, field, index })
 }
 
 pub(crate) fn negative<'a>(
@@ -44,7 +56,7 @@ pub(crate) fn negative<'a>(
 ) -> Result<Box<WrittenExpr<'a>>, Memory>
     ensures { IfOk result (λ e. boxed_expr e ≡ written.neg (boxed_expr operand.entry)) }
 {
-    Ok(Box::new(alloc, WrittenExpr::Neg(operand))?)
+    box_of_expr(alloc, WrittenExpr::Neg(operand))
 }
 
 pub(crate) fn binary<'a>(
@@ -56,7 +68,7 @@ pub(crate) fn binary<'a>(
     ensures { IfOk result (λ e. boxed_expr e
         ≡ written.binary op (boxed_expr left.entry) (boxed_expr right.entry)) }
 {
-    Ok(Box::new(alloc, WrittenExpr::Binary(op, left, right))?)
+    box_of_expr(alloc, WrittenExpr::Binary(op, left, right))
 }
 
 pub(crate) fn pick<'a>(
@@ -68,7 +80,7 @@ pub(crate) fn pick<'a>(
     ensures { IfOk result (λ e. boxed_expr e
         ≡ written.pick (boxed_cond test.entry) (boxed_expr on_true.entry) (boxed_expr on_false.entry)) }
 {
-    Ok(Box::new(alloc, WrittenExpr::Pick(test, on_true, on_false))?)
+    box_of_expr(alloc, WrittenExpr::Pick(test, on_true, on_false))
 }
 
 fn call_of_pure<'a>(line: u32, function: &'a [u8], values: Vec<WrittenExpr<'a>>) -> WrittenExpr<'a>
@@ -90,7 +102,7 @@ pub(crate) fn pure<'a>(
     ensures { IfOk result (λ e. boxed_expr e
         ≡ written.pure line function.now (exprs_from (map expr_of values.entry.items))) }
 {
-    Ok(Box::new(alloc, call_of_pure(line, function, values))?)
+    box_of_expr(alloc, call_of_pure(line, function, values))
 }
 
 pub(crate) fn compare<'a>(
@@ -103,7 +115,7 @@ pub(crate) fn compare<'a>(
         ≡ written.compare how (boxed_expr left.entry) (boxed_expr right.entry)) }
 {
     let compare = WrittenCond::Compare(how, Box::into_inner(left), Box::into_inner(right));
-    Ok(Box::new(alloc, compare)?)
+    box_of_cond(alloc, compare)
 }
 
 pub(crate) fn both<'a>(
@@ -114,7 +126,7 @@ pub(crate) fn both<'a>(
     ensures { IfOk result (λ c. boxed_cond c
         ≡ written.both (boxed_cond left.entry) (boxed_cond right.entry)) }
 {
-    Ok(Box::new(alloc, WrittenCond::Both(left, right))?)
+    box_of_cond(alloc, WrittenCond::Both(left, right))
 }
 
 pub(crate) fn either<'a>(
@@ -125,7 +137,7 @@ pub(crate) fn either<'a>(
     ensures { IfOk result (λ c. boxed_cond c
         ≡ written.either (boxed_cond left.entry) (boxed_cond right.entry)) }
 {
-    Ok(Box::new(alloc, WrittenCond::Either(left, right))?)
+    box_of_cond(alloc, WrittenCond::Either(left, right))
 }
 
 pub(crate) fn negated<'a>(
@@ -134,7 +146,7 @@ pub(crate) fn negated<'a>(
 ) -> Result<Box<WrittenCond<'a>>, Memory>
     ensures { IfOk result (λ c. boxed_cond c ≡ written.negated (boxed_cond operand.entry)) }
 {
-    Ok(Box::new(alloc, WrittenCond::Not(operand))?)
+    box_of_cond(alloc, WrittenCond::Not(operand))
 }
 
 pub(crate) fn store<'a>(line: u32, field: &'a [u8], stored: Argument<'a>) -> WrittenStmt<'a>

@@ -21,6 +21,3 @@ mod words;
 
 pub use lines::last_line;
 pub use parser::parse_c;
-
-#[cfg(test)]
-mod tests;

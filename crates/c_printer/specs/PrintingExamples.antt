@@ -1,5 +1,5 @@
 -- Lawful programs, and their texts.
-use Rattle.std.specs.Prelude.{◌≡◌, false, pos, List, [], ◌∷◌, codes, refl}
+use Rattle.std.specs.Prelude.{◌≡◌, false, pos, [], ◌∷◌, codes, refl}
 use Rattle.std.specs.Fmt.{digits}
 use Rattle.std.proofs.Common.{lit≤}
 use Rattle.c_syntax.specs.declared.code.CType.TheVariants.{I16}

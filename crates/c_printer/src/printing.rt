@@ -73,6 +73,3 @@ fn put(out: &mut Vec<u8>, text: &[u8]) -> Result<(), AllocError>
 {
     out.extend_from_slice(text)
 }
-
-#[cfg(test)]
-mod tests;

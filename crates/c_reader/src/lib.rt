@@ -5,6 +5,3 @@ mod reader;
 
 pub use c_grammar::ReadCFault;
 pub use reader::read_c;
-
-#[cfg(test)]
-mod tests;

@@ -4,7 +4,7 @@ use Rattle.std.specs.Prelude.{⊤}
 use Rattle.c_syntax.specs.declared.code.CType.TheVariants.{I64}
 use Rattle.c_grammar.specs.Tokens.{Token}
 use Rattle.c_syntax.specs.Names.{is_name}
-use Rattle.c_grammar.specs.Grammar.{word, name_word, literal_word, in_brackets, in_braces, expr_spelling, stmt_spelling, stmts_spelling, CanGoOn, Spells}
+use Rattle.c_grammar.specs.Grammar.{word, name_word, literal_word, in_braces, expr_spelling, stmt_spelling, stmts_spelling, CanGoOn, Spells}
 use Rattle.c_grammar.specs.Written.{WrittenStmts, WrittenProgram}
 use Rattle.c_grammar.specs.Prefix.{Need, Reply, Role, Kind, as_kind, as_first, expression, condition, allows, follow, refuses, too_deep, leaves, with_needs, only_if, within_limit, first_reply, is_type, is_literal, is_op, is_comparison, is_connective, expr_need, cond_need, operand_reply, inside_reply, joint_reply, stmt_reply, field_reply, procedures_reply, comma_reply, struct_needs, procedure_needs, pure_needs, reply_of, step_needs, file_needs, may_end, text_need, name_need, literal_need, type_need, operand_need, inside_need, joint_need, values_need, leaf_need, tail_need, index_need, length_need, index_needs, length_needs, target_need, arguments_need, stmts_need, else_need, pure_param_need, pure_params_need, param_need, params_need, field_need, fields_need, pures_need, structs_need, procedures_need}
 use Rattle.c_syntax.specs.Limits.{stmt_limit, param_limit, pure_limit, expr_limit}

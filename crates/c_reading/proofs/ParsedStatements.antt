@@ -10,7 +10,7 @@ use Rattle.c_grammar.specs.declared.openers.TargetOpener.TheVariants.{Own as own
 use Rattle.c_grammar.specs.declared.openers.Want.TheVariants.{Value as want_value, Test as want_test}
 use Rattle.c_grammar.proofs.lemmas.PrefixLaws.{Front, word-front, seq-parts, at_line-inner, name_word-inner, not_word, Parens, parens-parts, Brackets, brackets-parts, Firm, word-firm, some_same}
 use Rattle.c_reading.proofs.FileWalks.{Braces, braces-parts, NoElse, arguments-firm, stmts-no_else}
-use Rattle.c_grammar.proofs.lemmas.Shrinking.{Shrinks, ◌▹◌, word-shrinks, name-shrinks, parens-shrink, brackets-shrink, braces-shrink, own-shrinks, cast-shrinks, expr-shrinks, cond-shrinks, target-shrinks, arguments-shrink, stmts-shrink}
+use Rattle.c_grammar.proofs.lemmas.Shrinking.{Shrinks, ◌▹◌, word-shrinks, name-shrinks, parens-shrink, brackets-shrink, braces-shrink, cast-shrinks, expr-shrinks, cond-shrinks, target-shrinks, arguments-shrink, stmts-shrink}
 use Rattle.c_reading.proofs.ParsedWords.{word-parsed, name-parsed, cast-parsed, field_name-parsed, index-parsed, LineFront, line-front, word-rest}
 use Rattle.c_reading.proofs.ParsedBodies.{expr_levels, cond_levels, word-text, word-shorter, comma-another, comma-closed, operand-expr, operand-cond}
 

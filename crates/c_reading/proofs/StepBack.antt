@@ -3,7 +3,7 @@ use Rattle.std.proofs.Common.{◌≡◌, refl, ◌∙◌, ap, ℕ, ◌+◌, ◌�
 use Rattle.c_syntax.specs.declared.code.CType.{CType}
 use Rattle.c_grammar.specs.Tokens.{Token}
 use Rattle.c_syntax.specs.Names.{is_name}
-use Rattle.c_grammar.specs.Grammar.{Spelling, ◌⨾◌, more_exprs_spelling, word, at_line, name_word, in_parens, in_brackets, in_braces, literal_word, type_text, own_spelling, leaf_spelling, expr_spelling, cond_spelling, target_spelling, cast_spelling, arguments_spelling, stmt_spelling, stmts_spelling, param_spelling, more_params_spelling, pure_param_spelling, more_pure_params_spelling, pure_params_spelling, pure_spelling, kind_spelling, length_spelling, field_spelling, all_spelling, some_spelling, struct_spelling, private_spelling, procedure_spelling}
+use Rattle.c_grammar.specs.Grammar.{Spelling, ◌⨾◌, more_exprs_spelling, word, at_line, name_word, in_parens, in_brackets, in_braces, literal_word, type_text, own_spelling, expr_spelling, cond_spelling, target_spelling, cast_spelling, arguments_spelling, stmt_spelling, stmts_spelling, param_spelling, more_params_spelling, pure_param_spelling, more_pure_params_spelling, pure_params_spelling, pure_spelling, kind_spelling, length_spelling, field_spelling, all_spelling, some_spelling, struct_spelling, private_spelling, procedure_spelling}
 use Rattle.c_syntax.specs.Kinds.{WrittenKind}
 use Rattle.c_grammar.specs.Written.{WrittenLeaf, WrittenExpr, WrittenExprs, WrittenTarget, WrittenArguments, WrittenStmt, WrittenStmts, WrittenParam, WrittenPureParam, WrittenPure, WrittenField, WrittenStruct, WrittenProcedure, WrittenProgram}
 use Rattle.c_grammar.specs.Prefix.{Need, Reply, leaves, with_needs, only_if, within_limit, first_reply, is_type, is_literal, expr_need, cond_need, stmt_reply, field_reply, procedures_reply, comma_reply, struct_needs, procedure_needs, pure_needs, reply_of, text_need, name_need, literal_need, type_need, operand_need, inside_need, joint_need, values_need, leaf_need, tail_need, index_need, length_need, index_needs, length_needs, target_need, arguments_need, stmts_need, else_need, pure_param_need, pure_params_need, param_need, params_need, field_need, fields_need, pures_need, structs_need, procedures_need}

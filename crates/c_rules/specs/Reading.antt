@@ -2,7 +2,7 @@
 use Rattle.std.specs.Prelude.{◌≡◌, ℕ, Bool, true, false, List, Option, Some, None, Ok, Err}
 use Rattle.c_syntax.specs.declared.fault.CFault.{CFault}
 use Rattle.c_syntax.specs.declared.fault.CKind.TheVariants.{Syntax}
-use Rattle.c_syntax.specs.Tree.{ProgramTree, read}
+use Rattle.c_syntax.specs.Tree.{ProgramTree}
 use Rattle.c_grammar.specs.Written.{WrittenProgram}
 use Rattle.c_grammar.specs.Tokens.{has_header, tokens_of, last_line}
 use Rattle.c_grammar.specs.Grammar.{Spells}
