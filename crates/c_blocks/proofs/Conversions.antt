@@ -1,7 +1,9 @@
 -- What the expression of a conversion gives.
-use Rattle.std.proofs.Common.{◌≡◌, refl, sym, ap, ◌∙◌, subst, ℕ, ◌+◌, ◌-◌, ◌^◌, ◌<◌, ◌≤◌, ◌==◌, nat_le, Bool, true, false, cond, if◌then◌else◌, List, [], ◌∷◌, ℤ, pos, neg_ℤ, ◌*ℤ◌, ◌≤ℤ◌, unsigned_abs, arith, pow_pos}
+use Rattle.std.proofs.Common.{true≢false, ◌≡◌, refl, sym, ap, ◌∙◌, subst, ℕ, ◌+◌, ◌-◌, ◌^◌, ◌<◌, ◌≤◌, ◌==◌, nat_le, Bool, true, false, cond, if◌then◌else◌, List, [], ◌∷◌, ℤ, pos, neg_ℤ, ◌*ℤ◌, ◌≤ℤ◌, ◌+ℤ◌, ◌-ℤ◌, ◌*◌, ◌&&◌, ◌||◌, not, negsuc, zero, suc, int_lt, unsigned_abs, arith, pow_pos}
 use Rattle.std.specs.Prelude.{Contains}
-use Rattle.std.proofs.Math.Nat.{le-mul_of_pos_right}
+use Rattle.std.specs.Int.{int_rem_euclid}
+use Rattle.std.proofs.Math.Nat.{le-mul_of_pos_right, mul-le-mul_right, mod-eq_of_lt, pow-suc}
+use Rattle.std.proofs.lemmas.Nat.{pow-add}
 use Rattle.std.proofs.Math.Pow.{pow_mono}
 use Rattle.std.proofs.lemmas.Bool.Decides.{nat_tests}
 use Rattle.std.proofs.lemmas.Int.{ints, unsigned_abs-mul}
@@ -22,7 +24,8 @@ use Rattle.c_syntax.specs.declared.BinOp.TheVariants.{Mul}
 use Rattle.c_syntax.specs.Tree.{ExprTree, binary, pure, exprs_of_list, PureTree}
 use Rattle.c_machine.specs.Values.{Answer, gives, and_then, Function, Reads, function_at, functions_of, eval, step_limit}
 use Rattle.c_prelude.specs.Rules.{IsPrelude, WholeNumbersStay, rounding_position, cast_call}
-use Rattle.c_blocks.specs.RowCode.{aligned, cast, converted, power, written}
+use Rattle.mc_blocks.specs.Width.{magnitude_bits}
+use Rattle.c_blocks.specs.RowCode.{holds_all, aligned, cast, converted, power, written}
 use Rattle.c_blocks.specs.Computed.{conversion_returns}
 use Rattle.c_blocks.proofs.Evaluation.{Gives, gives_mul, gives_written, call_after}
 
@@ -60,6 +63,77 @@ least_small t = let ends = ends_by t.signed t.bits t.frac t.in_profile in omega 
 
 pub greatest_small : (t : FixType) → unsigned_abs (greatest_of t) < 2 ^ 63
 greatest_small t = let ends = ends_by t.signed t.bits t.frac t.in_profile in omega (arith, ints, ends.2, ends.3)
+
+-- ---- Numbers that a type holds
+
+wide : (n b k m : ℕ) → n ≤ 2 ^ b → b + k ≤ m → n * 2 ^ k ≤ 2 ^ m
+wide n b k m small room =
+    let power : 2 ^ (b + k) ≤ 2 ^ m = pow_mono room in
+    omega (arith, mul-le-mul_right (2 ^ k) small, pow-add 2 b k, power)
+
+wide_below : (n b k m : ℕ) → n < 2 ^ b → b + k ≤ m → n * 2 ^ k < 2 ^ m
+wide_below n b k m small room =
+    let one_more : suc n ≤ 2 ^ b = omega (arith, small) in
+    let whole = wide (suc n) b k m one_more room in
+    let part : n * 2 ^ k + 2 ^ k ≤ 2 ^ m = omega (arith, whole) in
+    omega (arith, part, pow_pos k)
+
+-- the ends of a type, by its magnitudes
+abbrev least_by : (signed : Bool) (bits : ℕ) → ℤ
+least_by signed bits = cond signed (neg_ℤ (pos (2 ^ (bits - 1)))) (pos 0)
+
+abbrev greatest_by : (signed : Bool) (bits : ℕ) → ℤ
+greatest_by signed bits = cond signed (pos (2 ^ (bits - 1) - 1)) (pos (2 ^ bits - 1))
+
+abbrev magnitude_by : (signed : Bool) (bits : ℕ) → ℕ
+magnitude_by signed bits = cond signed (bits - 1) bits
+
+-- a number from 0 on lies in each type that has the bits
+pos_in : (signed : Bool) (bits n : ℕ) → n < 2 ^ magnitude_by signed bits →
+    (least_by signed bits ≤ℤ pos n) × (pos n ≤ℤ greatest_by signed bits)
+pos_in true bits n h = (omega (arith, ints), omega (arith, ints, h))
+pos_in false bits n h = (omega (arith, ints), omega (arith, ints, h))
+
+-- a number of a type, shifted up, lies in a type that has a sign where that one has one, and as many bits before the point
+held_by : (from : Bool) (b : ℕ) (to : Bool) (c k : ℕ) → (not from || to) ≡ true → magnitude_by from b + k ≤ magnitude_by to c →
+    (v : ℤ) → least_by from b ≤ℤ v → v ≤ℤ greatest_by from b →
+    (least_by to c ≤ℤ (v *ℤ pos (2 ^ k))) × ((v *ℤ pos (2 ^ k)) ≤ℤ greatest_by to c)
+held_by false b to c k sign room (pos n) low high =
+    pos_in to c (n * 2 ^ k) (wide_below n b k (magnitude_by to c) (omega (arith, ints, high, pow_pos b)) room)
+held_by false b to c k sign room (negsuc n) low high = absurd (omega (arith, ints, low))
+held_by true b true c k sign room (pos n) low high =
+    pos_in true c (n * 2 ^ k) (wide_below n (b - 1) k (c - 1) (omega (arith, ints, high, pow_pos (b - 1))) room)
+held_by true b true c k sign room (negsuc n) low high =
+    let many = wide (suc n) (b - 1) k (c - 1) (omega (arith, ints, low)) room in
+    (omega (arith, ints, many), omega (arith, ints))
+held_by true b false c k sign room v low high = absurd (true≢false (sym sign))
+
+-- a number of a type is brought into it as it is
+wrap_by : (signed : Bool) (bits : ℕ) → 1 ≤ bits → (q : ℤ) → least_by signed bits ≤ℤ q → q ≤ℤ greatest_by signed bits →
+    (a : ℕ) × (a < 2 ^ bits) × (q -ℤ least_by signed bits ≡ pos a)
+wrap_by true (suc b) some q low high =
+    let one_less : suc b - 1 ≡ b = omega arith in
+    let low_b : neg_ℤ (pos (2 ^ b)) ≤ℤ q = subst (λ n. neg_ℤ (pos (2 ^ n)) ≤ℤ q) one_less low in
+    let high_b : q ≤ℤ pos (2 ^ b - 1) = subst (λ n. q ≤ℤ pos (2 ^ n - 1)) one_less high in
+    let twice : 2 ^ suc b ≡ 2 ^ b * 2 = pow-suc 2 b in (
+      unsigned_abs (q -ℤ neg_ℤ (pos (2 ^ b))),
+      omega (arith, ints, low_b, high_b, twice, pow_pos b),
+      ap (λ n. q -ℤ neg_ℤ (pos (2 ^ n))) one_less ∙ (let e : q -ℤ neg_ℤ (pos (2 ^ b))
+          ≡ pos (unsigned_abs (q -ℤ neg_ℤ (pos (2 ^ b)))) = omega (arith, ints, low_b) in e),
+    )
+wrap_by true zero some q low high = absurd (omega (arith, some))
+wrap_by false bits some q low high = (unsigned_abs q, omega (arith, ints, low, high, pow_pos bits), omega (arith, ints, low))
+
+stays_in : (over : Over) (t : FixType) (q : ℤ) → InType t q → cast_into over t q ≡ q
+stays_in Saturate t q h =
+    let not_below : int_lt q (least_of t) ≡ false = grind (arith, ints, h.0) in
+    let not_above : int_lt (greatest_of t) q ≡ false = grind (arith, ints, h.1) in
+    ap (λ b. if b then least_of t else if int_lt (greatest_of t) q then greatest_of t else q) not_below
+    ∙ ap (λ b. if b then greatest_of t else q) not_above
+stays_in Wrap t q h =
+    let rest = wrap_by t.signed t.bits (ends_by t.signed t.bits t.frac t.in_profile).4 q h.0 h.1 in
+    let whole : least_of t +ℤ pos rest.0 ≡ q = omega (arith, ints, rest.2) in
+    ap (λ z. least_of t +ℤ int_rem_euclid z (pos (2 ^ t.bits))) rest.2 ∙ ap (λ n. least_of t +ℤ pos n) (mod-eq_of_lt rest.1) ∙ whole
 
 -- ---- Each case of a conversion
 
@@ -125,6 +199,22 @@ whole_units : (stay : WholeNumbersStay) (r : Round) (v : ℤ) (f : ℕ) (t : Fix
 whole_units stay r v f t h =
     let none : f - t.frac ≡ 0 = omega (arith, h) in
     sym (ap (λ k. rounded r (v *ℤ pos (2 ^ (t.frac - f))) (2 ^ k)) none ∙ stay r (v *ℤ pos (2 ^ (t.frac - f))))
+
+parts : (a b : Bool) → (a && b) ≡ true → (a ≡ true) × (b ≡ true)
+parts true b e = (refl, e)
+parts false b e = absurd (true≢false (sym e))
+
+-- a type that holds each number of another holds this one, as it is
+pub held_is : (stay : WholeNumbersStay) (from : FixType) (v : ℤ) (f : ℕ) (to : FixType) (how : How) → InType from v →
+    holds_all to f from ≡ true → conversion v f to how ≡ aligned_number v f to.frac
+held_is stay from v f to how h holds =
+    let one = parts (nat_le f to.frac) ((not from.signed || to.signed) && nat_le (magnitude_bits from + (to.frac - f))
+    (magnitude_bits to)) holds in
+    let two = parts (not from.signed || to.signed) (nat_le (magnitude_bits from + (to.frac - f)) (magnitude_bits to)) one.1 in
+    let finer : f ≤ to.frac = grind (arith, nat_tests) in
+    let room : magnitude_bits from + (to.frac - f) ≤ magnitude_bits to = grind (arith, nat_tests) in
+    let inside = held_by from.signed from.bits to.signed to.bits (to.frac - f) two.0 room v h.0 h.1 in
+    sym (ap (cast_into how.over to) (whole_units stay how.round v f to finer)) ∙ stays_in how.over to (aligned_number v f to.frac) inside
 
 module _ (ps : List PureTree) (prelude : IsPrelude ps) (stay : WholeNumbersStay) (reads : Reads) (line : ℕ) where
   abbrev functions : List Function

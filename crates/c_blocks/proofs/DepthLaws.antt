@@ -18,11 +18,11 @@ use Rattle.c_syntax.specs.declared.Leaf.{Leaf}
 use Rattle.c_syntax.specs.Tree.{ExprTree, literal, neg, read, binary, pure, both, either, exprs_of_list}
 use Rattle.c_syntax.specs.Limits.{expr_depth, cond_depth}
 use Rattle.c_prelude.specs.Rules.{rounding_position}
-use Rattle.c_blocks.specs.RowCode.{written, nought, power, aligned, rounded_code, cast, converted, signed, term_codes, sum_code, product_code, differ, always, never, all_hold, some_holds, odd_hold, truths, logic_code, passes_code, input_code}
+use Rattle.c_blocks.specs.RowCode.{written, nought, power, aligned, rounded_code, cast, converted, signed, term_codes, sum_code, product_code, differ, always, never, all_hold, some_holds, odd_hold, truths, logic_code, passes_code, holds_input, input_code, converted_input}
 use Rattle.c_blocks.specs.Laws.{RowsAreShallow}
 use Rattle.c_blocks.proofs.BalancedLaws.{balanced_size}
 
-written_depth : (v : ℤ) → expr_depth (written v) ≤ 2
+pub written_depth : (v : ℤ) → expr_depth (written v) ≤ 2
 written_depth v = by (int_lt v (pos 0))
   where
     by : (b : Bool) → expr_depth (if b then neg (literal (neg_ℤ v)) else literal v) ≤ 2
@@ -102,33 +102,41 @@ passes_depth Ge leaves threshold = let h = input_depth leaves 1 in let k = writt
 passes_depth Gt leaves threshold = let h = input_depth leaves 1 in let k = written_depth threshold in omega (arith, h, k)
 passes_depth NotZero leaves threshold = let h = input_depth leaves 1 in omega (arith, h)
 
+converted_input_depth : (leaves : List Leaf) (types : List FixType) (i f : ℕ) (to : FixType) (how : How) →
+    expr_depth (converted_input leaves types i f to how) ≤ 3
+converted_input_depth leaves types i f to how = by (holds_input to f types i)
+  where
+    by : (b : Bool) → expr_depth (if b then aligned (input_code leaves i) f to.frac else converted (input_code leaves i) f to how) ≤ 3
+    by true = let h = aligned_depth (input_code leaves i) f to.frac 1 (input_depth leaves i) (omega arith) in omega (arith, h)
+    by false = let h = converted_depth (input_code leaves i) f to how 1 (input_depth leaves i) (omega arith) in omega (arith, h)
+
 pub rows_are_shallow : RowsAreShallow
-rows_are_shallow Copy leaves memory = let h = input_depth leaves 0 in omega (arith, h)
-rows_are_shallow (Value v) leaves memory = let h = written_depth v in omega (arith, h)
-rows_are_shallow (Delay initial) leaves memory = omega arith
-rows_are_shallow (Line samples start) leaves memory = omega arith
-rows_are_shallow (Gain m frac to how) leaves memory =
+rows_are_shallow Copy leaves types memory = let h = input_depth leaves 0 in omega (arith, h)
+rows_are_shallow (Value v) leaves types memory = let h = written_depth v in omega (arith, h)
+rows_are_shallow (Delay initial) leaves types memory = omega arith
+rows_are_shallow (Line samples start) leaves types memory = omega arith
+rows_are_shallow (Gain m frac to how) leaves types memory =
     let h = input_depth leaves 0 in let k = written_depth m in
     let whole = converted_depth (binary Mul (input_code leaves 0) (written m)) frac to how 3 (omega (arith, h, k)) (omega arith) in
     omega (arith, whole)
-rows_are_shallow (Sum count minus fracs to how) leaves memory =
+rows_are_shallow (Sum count minus fracs to how) leaves types memory =
     let fs = take count fracs in
     let whole = converted_depth (sum_code minus (greatest_in fs) fs leaves) (greatest_in fs) to how 7 (sum_depth minus (greatest_in fs) fs leaves) (omega arith) in
     omega (arith, whole)
-rows_are_shallow (Product count frac to how) leaves memory =
+rows_are_shallow (Product count frac to how) leaves types memory =
     let whole = converted_depth (product_code leaves) frac to how 5 (product_depth leaves) (omega arith) in
     omega (arith, whole)
-rows_are_shallow (Switch criterion threshold fracs to how) leaves memory =
+rows_are_shallow (Switch criterion threshold fracs to how) leaves types memory =
     let test = passes_depth criterion leaves threshold in
-    let first = converted_depth (input_code leaves 0) (get_or fracs 0 0) to how 1 (input_depth leaves 0) (omega arith) in
-    let third = converted_depth (input_code leaves 2) (get_or fracs 1 0) to how 1 (input_depth leaves 2) (omega arith) in
+    let first = converted_input_depth leaves types 0 (get_or fracs 0 0) to how in
+    let third = converted_input_depth leaves types 2 (get_or fracs 1 0) to how in
     omega (arith, test, first, third)
-rows_are_shallow (Relational how fracs) leaves memory =
+rows_are_shallow (Relational how fracs) leaves types memory =
     let left = aligned_depth (input_code leaves 0) (get_or fracs 0 0) (greatest_in fracs) 1 (input_depth leaves 0) (omega arith) in
     let right = aligned_depth (input_code leaves 1) (get_or fracs 1 0) (greatest_in fracs) 1 (input_depth leaves 1) (omega arith) in
     omega (arith, left, right)
-rows_are_shallow (Logical o count) leaves memory = let h = logic_depth o leaves in omega (arith, h)
-rows_are_shallow (Convert frac to how) leaves memory =
-    let whole = converted_depth (input_code leaves 0) frac to how 1 (input_depth leaves 0) (omega arith) in
+rows_are_shallow (Logical o count) leaves types memory = let h = logic_depth o leaves in omega (arith, h)
+rows_are_shallow (Convert frac to how) leaves types memory =
+    let whole = converted_input_depth leaves types 0 frac to how in
     omega (arith, whole)
-rows_are_shallow Nothing leaves memory = omega arith
+rows_are_shallow Nothing leaves types memory = omega arith

@@ -25,7 +25,7 @@ use Rattle.c_syntax.specs.declared.Leaf.{Leaf}
 use Rattle.c_syntax.specs.Tree.{ExprTree, CondTree, PureTree, literal, neg, read, binary, pure, both, either, exprs_of_list}
 use Rattle.c_syntax.specs.Lawful.{Reach, IsLawfulLeaf, IsLawfulExpr, IsLawfulCond}
 use Rattle.c_prelude.specs.Rules.{IsPrelude, params, rounding_position}
-use Rattle.c_blocks.specs.RowCode.{written, nought, power, aligned, rounded_code, cast, converted, signed, term_codes, sum_code, product_code, differ, always, never, all_hold, some_holds, odd_hold, truths, logic_code, passes_code, input_code, rhs_code}
+use Rattle.c_blocks.specs.RowCode.{written, nought, power, aligned, rounded_code, cast, converted, signed, term_codes, sum_code, product_code, differ, always, never, all_hold, some_holds, odd_hold, truths, logic_code, passes_code, holds_input, input_code, converted_input, rhs_code}
 use Rattle.c_blocks.specs.Resolved.{IsWritable, RowOpsAreWritable}
 use Rattle.c_blocks.specs.LawfulLaws.{RowsAreLawful}
 use Rattle.c_blocks.proofs.BalancedLaws.{balanced_all}
@@ -63,6 +63,16 @@ below v e = grind (arith, ints)
 not_below : (v : ℤ) → int_lt v (pos 0) ≡ false → v ≡ pos (unsigned_abs v)
 not_below v e = grind (arith, ints)
 
+pub number_lawful : (reach : Reach) (n : ℕ) → n < 2 ^ 63 → IsLawfulExpr reach (literal (pos n))
+number_lawful reach n h = (n, refl, h)
+
+pub written_is_lawful : (reach : Reach) (v : ℤ) → unsigned_abs v < 2 ^ 63 → IsLawfulExpr reach (written v)
+written_is_lawful reach v h = by (int_lt v (pos 0)) refl
+  where
+    by : (b : Bool) → int_lt v (pos 0) ≡ b → IsLawfulExpr reach (if b then neg (literal (neg_ℤ v)) else literal v)
+    by true e = (unsigned_abs v, below v e, h)
+    by false e = (unsigned_abs v, not_below v e, h)
+
 module _ (reach : Reach) (prelude : IsPrelude reach.pures) where
   abbrev Lawful : ExprTree → Type 0
   Lawful e = IsLawfulExpr reach e
@@ -71,14 +81,10 @@ module _ (reach : Reach) (prelude : IsPrelude reach.pures) where
   LawfulTest t = IsLawfulCond reach t
 
   small_literal : (n : ℕ) → n < 2 ^ 63 → Lawful (literal (pos n))
-  small_literal n h = (n, refl, h)
+  small_literal n h = number_lawful reach n h
 
   written_lawful : (v : ℤ) → unsigned_abs v < 2 ^ 63 → Lawful (written v)
-  written_lawful v h = by (int_lt v (pos 0)) refl
-    where
-      by : (b : Bool) → int_lt v (pos 0) ≡ b → Lawful (if b then neg (literal (neg_ℤ v)) else literal v)
-      by true e = (unsigned_abs v, below v e, h)
-      by false e = (unsigned_abs v, not_below v e, h)
+  written_lawful v h = written_is_lawful reach v h
 
   power_lawful : (k : ℕ) → k ≤ 62 → Lawful (power k)
   power_lawful k h = let few : 2 ^ k ≤ 2 ^ 62 = pow_mono h in small_literal (2 ^ k) (omega (arith, few))
@@ -173,23 +179,36 @@ module _ (reach : Reach) (prelude : IsPrelude reach.pures) where
     passes_lawful Gt threshold small = (input_lawful 1, written_lawful threshold small)
     passes_lawful NotZero threshold small = (input_lawful 1, nought_lawful)
 
-    row_lawful : (op : Op) (memory : ExprTree) → IsWritable op → Lawful memory → Lawful (rhs_code op leaves memory)
-    row_lawful Copy memory can has = input_lawful 0
-    row_lawful (Value v) memory can has = written_lawful v can
-    row_lawful (Delay initial) memory can has = has
-    row_lawful (Line samples start) memory can has = has
-    row_lawful (Gain m frac to how) memory can has = converted_lawful (binary Mul (input_code leaves 0) (written m)) frac to how can.1 (input_lawful 0, written_lawful m can.0)
-    row_lawful (Sum count minus fracs to how) memory can has =
+    converted_input_lawful : (types : List FixType) (i f : ℕ) (to : FixType) (how : How) → f ≤ 31 →
+        Lawful (converted_input leaves types i f to how)
+    converted_input_lawful types i f to how few = by (holds_input to f types i)
+      where
+        by : (b : Bool) → Lawful (if b then aligned (input_code leaves i) f to.frac else converted (input_code leaves i) f to how)
+        by true = aligned_lawful (input_code leaves i) f to.frac (let low = to.in_profile.2 in omega (arith, low)) (input_lawful i)
+        by false = converted_lawful (input_code leaves i) f to how (omega (arith, few)) (input_lawful i)
+
+    row_lawful : (op : Op) (types : List FixType) (memory : ExprTree) → IsWritable op → Lawful memory → Lawful (rhs_code op leaves types memory)
+    row_lawful Copy types memory can has = input_lawful 0
+    row_lawful (Value v) types memory can has = written_lawful v can
+    row_lawful (Delay initial) types memory can has = has
+    row_lawful (Line samples start) types memory can has = has
+    row_lawful (Gain m frac to how) types memory can has = converted_lawful (binary Mul (input_code leaves 0) (written m)) frac to how can.1 (input_lawful 0, written_lawful m can.0)
+    row_lawful (Sum count minus fracs to how) types memory can has =
         let fs = take count fracs in
         converted_lawful (sum_code minus (greatest_in fs) fs leaves) (greatest_in fs) to how (omega (arith, can.1)) (sum_lawful minus (greatest_in fs) fs can.1)
-    row_lawful (Product count frac to how) memory can has = converted_lawful (product_code leaves) frac to how can product_lawful
-    row_lawful (Switch criterion threshold fracs to how) memory can has =
-        (passes_lawful criterion threshold can.0, converted_lawful (input_code leaves 0) (get_or fracs 0 0) to how (omega (arith, can.1)) (input_lawful 0), converted_lawful (input_code leaves 2) (get_or fracs 1 0) to how (omega (arith, can.2)) (input_lawful 2))
-    row_lawful (Relational how fracs) memory can has =
+    row_lawful (Product count frac to how) types memory can has = converted_lawful (product_code leaves) frac to how can product_lawful
+    row_lawful (Switch criterion threshold fracs to how) types memory can has = (
+      passes_lawful criterion threshold can.0,
+      converted_input_lawful types 0
+          (get_or fracs 0 0) to how can.1,
+      converted_input_lawful types 2 (get_or fracs 1 0) to how can.2,
+    )
+    row_lawful (Relational how fracs) types memory can has =
         ((aligned_lawful (input_code leaves 0) (get_or fracs 0 0) (greatest_in fracs) (omega (arith, can)) (input_lawful 0), aligned_lawful (input_code leaves 1) (get_or fracs 1 0) (greatest_in fracs) (omega (arith, can)) (input_lawful 1)), one_lawful, nought_lawful)
-    row_lawful (Logical o count) memory can has = (logic_lawful o, one_lawful, nought_lawful)
-    row_lawful (Convert frac to how) memory can has = converted_lawful (input_code leaves 0) frac to how (omega (arith, can)) (input_lawful 0)
-    row_lawful Nothing memory can has = nought_lawful
+    row_lawful (Logical o count) types memory can has = (logic_lawful o, one_lawful, nought_lawful)
+    row_lawful (Convert frac to how) types memory can has = converted_input_lawful types 0 frac to how can
+    row_lawful Nothing types memory can has = nought_lawful
 
 pub rows_are_lawful : RowOpsAreWritable → RowsAreLawful
-rows_are_lawful writable reach op leaves memory prelude is_row given has = row_lawful reach prelude leaves given op memory (writable op is_row) has
+rows_are_lawful writable reach op leaves types memory prelude is_row given has = row_lawful reach prelude leaves given op types memory
+    (writable op is_row) has

@@ -1,4 +1,3 @@
-pub mod PlainCalls
 pub mod BalancedLaws
 pub mod Evaluation
 pub mod IntegerProducts
@@ -13,3 +12,7 @@ pub mod DepthLaws
 pub mod ReadingLaws
 pub mod LawfulLaws
 pub mod LawfulTests
+pub mod StatementRuns
+pub mod StatementLaws
+pub mod RingLaws
+pub mod StatementRules

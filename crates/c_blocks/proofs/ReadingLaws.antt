@@ -20,7 +20,7 @@ use Rattle.c_syntax.specs.declared.Leaf.{Leaf}
 use Rattle.c_syntax.specs.declared.Leaf.TheVariants.{Own}
 use Rattle.c_syntax.specs.Tree.{ExprTree, ExprTrees, CondTree, literal, neg, read, binary, pick, pure, item, no_exprs, more_exprs, compare, both, either, negated, exprs_of_list}
 use Rattle.c_prelude.specs.Rules.{rounding_position}
-use Rattle.c_blocks.specs.RowCode.{written, nought, power, aligned, rounded_code, cast, converted, signed, term_codes, sum_code, product_code, differ, always, never, all_hold, some_holds, odd_hold, truths, logic_code, passes_code, input_code, rhs_code}
+use Rattle.c_blocks.specs.RowCode.{written, nought, power, aligned, rounded_code, cast, converted, signed, term_codes, sum_code, product_code, differ, always, never, all_hold, some_holds, odd_hold, truths, logic_code, passes_code, holds_input, input_code, converted_input, rhs_code}
 use Rattle.c_blocks.specs.Reading.{ReadsOnly, AllReadOnly, TestsOnly}
 use Rattle.c_blocks.specs.Laws.{RowsReadTheirLeaves}
 use Rattle.c_blocks.proofs.BalancedLaws.{balanced_all}
@@ -115,23 +115,34 @@ module _ (IsGiven : Leaf → Type 0) where
     passes_read Gt threshold = (input_reads 1, written_reads threshold)
     passes_read NotZero threshold = (input_reads 1, tt)
 
-    row_reads : (op : Op) (memory : ExprTree) → Only memory → Only (rhs_code op leaves memory)
-    row_reads Copy memory known = input_reads 0
-    row_reads (Value v) memory known = written_reads v
-    row_reads (Delay initial) memory known = known
-    row_reads (Line samples start) memory known = known
-    row_reads (Gain m frac to how) memory known = converted_reads (binary Mul (input_code leaves 0) (written m)) frac to how (input_reads 0, written_reads m)
-    row_reads (Sum count minus fracs to how) memory known =
+    converted_input_reads : (types : List FixType) (i f : ℕ) (to : FixType) (how : How) → Only (converted_input leaves types i f to how)
+    converted_input_reads types i f to how = by (holds_input to f types i)
+      where
+        by : (b : Bool) → Only (if b then aligned (input_code leaves i) f to.frac else converted (input_code leaves i) f to how)
+        by true = aligned_reads (input_code leaves i) f to.frac (input_reads i)
+        by false = converted_reads (input_code leaves i) f to how (input_reads i)
+
+    row_reads : (op : Op) (types : List FixType) (memory : ExprTree) → Only memory → Only (rhs_code op leaves types memory)
+    row_reads Copy types memory known = input_reads 0
+    row_reads (Value v) types memory known = written_reads v
+    row_reads (Delay initial) types memory known = known
+    row_reads (Line samples start) types memory known = known
+    row_reads (Gain m frac to how) types memory known = converted_reads (binary Mul (input_code leaves 0) (written m)) frac to how (input_reads 0, written_reads m)
+    row_reads (Sum count minus fracs to how) types memory known =
         let fs = take count fracs in
         converted_reads (sum_code minus (greatest_in fs) fs leaves) (greatest_in fs) to how (sum_reads minus (greatest_in fs) fs)
-    row_reads (Product count frac to how) memory known = converted_reads (product_code leaves) frac to how product_reads
-    row_reads (Switch criterion threshold fracs to how) memory known =
-        (passes_read criterion threshold, converted_reads (input_code leaves 0) (get_or fracs 0 0) to how (input_reads 0), converted_reads (input_code leaves 2) (get_or fracs 1 0) to how (input_reads 2))
-    row_reads (Relational how fracs) memory known =
+    row_reads (Product count frac to how) types memory known = converted_reads (product_code leaves) frac to how product_reads
+    row_reads (Switch criterion threshold fracs to how) types memory known = (
+      passes_read criterion threshold,
+      converted_input_reads types 0 (get_or fracs 0 0) to how,
+      converted_input_reads types 2
+          (get_or fracs 1 0) to how,
+    )
+    row_reads (Relational how fracs) types memory known =
         ((aligned_reads (input_code leaves 0) (get_or fracs 0 0) (greatest_in fracs) (input_reads 0), aligned_reads (input_code leaves 1) (get_or fracs 1 0) (greatest_in fracs) (input_reads 1)), tt, tt)
-    row_reads (Logical o count) memory known = (logic_reads o, tt, tt)
-    row_reads (Convert frac to how) memory known = converted_reads (input_code leaves 0) frac to how (input_reads 0)
-    row_reads Nothing memory known = tt
+    row_reads (Logical o count) types memory known = (logic_reads o, tt, tt)
+    row_reads (Convert frac to how) types memory known = converted_input_reads types 0 frac to how
+    row_reads Nothing types memory known = tt
 
 -- ---- What is given
 
@@ -174,6 +185,6 @@ module _ (P Q : Leaf → Type 0) (more : (l : Leaf) → P l → Q l) where
     tests_more (negated a) h = tests_more a h
 
 pub rows_read_their_leaves : RowsReadTheirLeaves
-rows_read_their_leaves op leaves others memory h =
-    row_reads (Contains (leaves ++ others)) leaves (all_contained leaves others) op memory
+rows_read_their_leaves op leaves others types memory h =
+    row_reads (Contains (leaves ++ others)) leaves (all_contained leaves others) op types memory
     (reads_more (Contains others) (Contains (leaves ++ others)) (behind leaves others) memory h)

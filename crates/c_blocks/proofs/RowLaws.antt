@@ -24,11 +24,14 @@ use Rattle.c_syntax.specs.declared.Leaf.{Leaf}
 use Rattle.c_syntax.specs.Tree.{ExprTree, CondTree, PureTree, binary, pick, compare}
 use Rattle.c_machine.specs.Values.{gives, and_then, Function, Reads, functions_of, eval, step_limit}
 use Rattle.c_prelude.specs.Rules.{IsPrelude, WholeNumbersStay}
-use Rattle.c_blocks.specs.RowCode.{rhs_code, input_code, converted, written, truth, truths, logic_code, aligned, sum_code, product_code, passes_code, nought}
-use Rattle.c_blocks.specs.Computed.{returns, conversion_returns}
+use Rattle.std.specs.Prelude.{Option, Some, None, slice_get}
+use Rattle.std.specs.Option.{option_map_or}
+use Rattle.c_blocks.specs.KnownTypes.{IsOfType, AreTypesOf}
+use Rattle.c_blocks.specs.RowCode.{rhs_code, holds_all, holds_input, input_code, converted_input, converted, written, truth, truths, logic_code, aligned, sum_code, product_code, passes_code, nought}
+use Rattle.c_blocks.specs.Computed.{returns, conversion_returns, input_returns}
 use Rattle.c_blocks.specs.Laws.{RowsAreComputed, ReturnsAreFew}
 use Rattle.c_blocks.proofs.Evaluation.{Gives, Holds, gives_mul, gives_written, holds_compare}
-use Rattle.c_blocks.proofs.Conversions.{aligned_gives, converted_gives}
+use Rattle.c_blocks.proofs.Conversions.{aligned_gives, converted_gives, held_is}
 use Rattle.c_blocks.proofs.ExactLaws.{sum_gives, product_gives}
 use Rattle.c_blocks.proofs.Writable.{small_number, constant_small, gain_small_of, length_fracs, first_fracs}
 use Rattle.c_blocks.proofs.TruthLaws.{same_compare, truth_gives, logic_holds, passes_holds}
@@ -75,6 +78,34 @@ module _ (ps : List PureTree) (prelude : IsPrelude ps) (stay : WholeNumbersStay)
   converted_comes : (e : ExprTree) (v : ℤ) (f : ℕ) (to : FixType) (how : How) → Is e v → ConversionFits (unsigned_abs v) f to → Comes (converted e f to how) (conversion v f to how) (conversion_returns f to)
   converted_comes e v f to how h fits = converted_gives ps prelude stay reads line e v f to how h fits
 
+  -- an input in its type is converted without a call where the type holds each number of that one
+  converted_input_comes : (leaves : List Leaf) (types : List FixType) (i f : ℕ) (to : FixType) (how : How) →
+      IsOfType types (map reads.leaf leaves) i → ConversionFits (unsigned_abs (input (map reads.leaf leaves) i)) f to →
+      Comes (converted_input leaves types i f to how) (conversion (input (map reads.leaf leaves) i) f to how) (input_returns types i f to)
+  converted_input_comes leaves types i f to how of_type fits = by (slice_get types i) refl
+    where
+      e : ExprTree
+      e = input_code leaves i
+
+      v : ℤ
+      v = input (map reads.leaf leaves) i
+
+      known : (from : FixType) → slice_get types i ≡ Some from → (b : Bool) → holds_all to f from ≡ b →
+          Comes (if b then aligned e f to.frac else converted e f to how) (conversion v f to how) (if b then 0 else conversion_returns f to)
+      known from there true holds =
+          let small : unsigned_abs (aligned_number v f to.frac) ≤ 2 ^ 62 = omega
+          (arith, unsigned_abs-mul v (pos (2 ^ (to.frac - f))), fits.0) in
+          subst (λ x. Comes (aligned e f to.frac) x 0) (sym (held_is stay from v f to how (of_type from there) holds))
+          (comes_at_once (aligned e f to.frac) (aligned_number v f to.frac)
+          (aligned_gives functions reads line e v f to.frac (input_gives leaves i) small))
+      known from there false holds = converted_comes e v f to how (input_gives leaves i) fits
+
+      by : (o : Option FixType) → slice_get types i ≡ o →
+          Comes (if option_map_or (λ from. holds_all to f from) o false then aligned e f to.frac else converted e f to how)
+          (conversion v f to how) (if option_map_or (λ from. holds_all to f from) o false then 0 else conversion_returns f to)
+      by None there = converted_comes e v f to how (input_gives leaves i) fits
+      by (Some from) there = known from there (holds_all to f from) refl
+
   lesser_fits : (lesser magnitude F : ℕ) (to : FixType) → lesser ≤ magnitude → ConversionFits magnitude F to → ConversionFits lesser F to
   lesser_fits lesser magnitude F to le h = (omega (arith, mul-le-mul_right (2 ^ (to.frac - F)) le, h.0), h.1)
 
@@ -106,12 +137,14 @@ module _ (ps : List PureTree) (prelude : IsPrelude ps) (stay : WholeNumbersStay)
       (lesser_fits (unsigned_abs (exact_product vs)) (product_magnitude vs) f to exact.1 fits)
 
   -- one of two expressions, each of which comes to its number after calls of its own
-  pick_comes : (test : CondTree) (b : Bool) (d e : ExprTree) (x y : ℤ) (f g : ℕ) (to : FixType) → Holds functions reads line test b → Comes d x (conversion_returns f to) → Comes e y (conversion_returns g to) →
-      Comes (pick test d e) (if b then x else y) (conversion_returns (if b then f else g) to)
-  pick_comes test b d e x y f g to h p q steps room =
+  pick_comes : (test : CondTree) (b : Bool) (d e : ExprTree) (x y : ℤ) (j k : ℕ) → Holds functions reads line test b → Comes d x j →
+      Comes e y k →
+      Comes (pick test d e) (if b then x else y) (if b then j else k)
+  pick_comes test b d e x y j k h p q steps room =
       ap (λ r. and_then r (λ holds. if holds then eval functions reads line d else eval functions reads line e)) (h steps) ∙ by b
     where
-      by : (b : Bool) → (if b then eval functions reads line d else eval functions reads line e) steps ≡ gives (if b then x else y) (steps + conversion_returns (if b then f else g) to)
+      by : (b : Bool) → (if b then eval functions reads line d else eval functions reads line e) steps
+          ≡ gives (if b then x else y) (steps + (if b then j else k))
       by true = p steps room
       by false = q steps room
 
@@ -126,7 +159,8 @@ module _ (ps : List PureTree) (prelude : IsPrelude ps) (stay : WholeNumbersStay)
 
   -- ---- All kinds
 
-  module _ (stays : ValuesStayInType) (narrow_fit : NarrowRowsFit) (leaves : List Leaf) (memory : ExprTree) (m : ℤ) (known : Is memory m) where
+  module _ (stays : ValuesStayInType) (narrow_fit : NarrowRowsFit) (leaves : List Leaf) (types : List FixType) (memory : ExprTree)
+      (m : ℤ) (known : Is memory m) where
     abbrev vs : List ℤ
     vs = map reads.leaf leaves
 
@@ -134,67 +168,70 @@ module _ (ps : List PureTree) (prelude : IsPrelude ps) (stay : WholeNumbersStay)
     count_is ts count has reads_in = sym (length_read reads leaves) ∙ length_types ts vs reads_in ∙ has
 
     abbrev RowComes : Op → Type 0
-    RowComes o = Comes (rhs_code o leaves memory) (rhs o vs m) (returns o vs)
+    RowComes o = Comes (rhs_code o leaves types memory) (rhs o vs m) (returns o types vs)
 
-    by_kind : (k : Kind) (ts : List FixType) (out : FixType) (delays : Bool) → IsWithinLimits k → HasInputTypes k ts → wide_bits k ts out ≤ 62 → ReadsInTypes k ts vs → RowComes (op_of k ts out delays)
-    by_kind (kind.Inport port) ts out delays limits has narrow reads_in = comes_at_once (input_code leaves 0) (input vs 0) (input_gives leaves 0)
-    by_kind (kind.Outport port reset initial) ts out delays limits has narrow reads_in = comes_at_once (input_code leaves 0) (input vs 0) (input_gives leaves 0)
-    by_kind (kind.SubSystem control) ts out delays limits has narrow reads_in = comes_at_once nought (pos 0) (λ steps. refl)
-    by_kind (kind.Constant value) ts out delays limits has narrow reads_in = comes_at_once (written (quantize value out)) (quantize value out) (gives_written functions reads line (quantize value out) (constant_small stays narrow_fit value out))
-    by_kind kind.Ground ts out delays limits has narrow reads_in = comes_at_once nought (pos 0) (λ steps. refl)
-    by_kind kind.Terminator ts out delays limits has narrow reads_in = comes_at_once nought (pos 0) (λ steps. refl)
-    by_kind (kind.Gain gain how) ts out delays limits has narrow reads_in =
+    by_kind : (k : Kind) (ts : List FixType) (out : FixType) (delays : Bool) → IsWithinLimits k → HasInputTypes k ts → wide_bits k ts out ≤ 62 → ReadsInTypes k ts vs → AreTypesOf (op_of k ts out delays) types vs → RowComes (op_of k ts out delays)
+    by_kind (kind.Inport port) ts out delays limits has narrow reads_in of_types = comes_at_once (input_code leaves 0) (input vs 0) (input_gives leaves 0)
+    by_kind (kind.Outport port reset initial) ts out delays limits has narrow reads_in of_types = comes_at_once (input_code leaves 0) (input vs 0) (input_gives leaves 0)
+    by_kind (kind.SubSystem control) ts out delays limits has narrow reads_in of_types = comes_at_once nought (pos 0) (λ steps. refl)
+    by_kind (kind.Constant value) ts out delays limits has narrow reads_in of_types = comes_at_once (written (quantize value out)) (quantize value out) (gives_written functions reads line (quantize value out) (constant_small stays narrow_fit value out))
+    by_kind kind.Ground ts out delays limits has narrow reads_in of_types = comes_at_once nought (pos 0) (λ steps. refl)
+    by_kind kind.Terminator ts out delays limits has narrow reads_in of_types = comes_at_once nought (pos 0) (λ steps. refl)
+    by_kind (kind.Gain gain how) ts out delays limits has narrow reads_in of_types =
         gain_comes leaves (gain_of gain).0 ((input_type ts 0).frac + (gain_of gain).1) out how (gain_small_of stays narrow_fit gain how ts out has narrow) (narrow_fit (kind.Gain gain how) ts out delays vs has reads_in narrow)
-    by_kind (kind.Sum count minus how) ts out delays limits has narrow reads_in =
+    by_kind (kind.Sum count minus how) ts out delays limits has narrow reads_in of_types =
         sum_comes minus (greatest_in (take count (sum_fracs ts))) (take count (sum_fracs ts)) leaves out how
         (subst (λ fs. length fs ≤ 16) (sym (first_fracs ts count has)) (omega (arith, length_fracs ts, has, limits.1)))
         (narrow_fit (kind.Sum count minus how) ts out delays vs has reads_in narrow)
-    by_kind (kind.Product count how) ts out delays limits has narrow reads_in =
+    by_kind (kind.Product count how) ts out delays limits has narrow reads_in of_types =
         let f = sum (map (λ (t : FixType). t.frac) ts) in
         let many = count_is ts count has reads_in in
         let whole : take count vs ≡ vs = whole_list vs count (length_read reads leaves ∙ many) in
         let fits = narrow_fit (kind.Product count how) ts out delays vs has reads_in narrow in
         subst (λ us. Comes (converted (product_code leaves) f out how) (conversion (exact_product us) f out how) (conversion_returns f out)) (sym whole)
         (product_comes leaves f out how (omega (arith, many, limits.1)) (subst (λ us. ConversionFits (product_magnitude us) f out) whole fits))
-    by_kind (kind.UnitDelay initial) ts out delays limits has narrow reads_in = comes_at_once memory m known
-    by_kind (kind.Delay samples initial) ts out delays limits has narrow reads_in = comes_at_once memory m known
-    by_kind kind.ZeroOrderHold ts out delays limits has narrow reads_in = comes_at_once (input_code leaves 0) (input vs 0) (input_gives leaves 0)
-    by_kind (kind.Switch criterion threshold how) ts out delays limits has narrow reads_in =
+    by_kind (kind.UnitDelay initial) ts out delays limits has narrow reads_in of_types = comes_at_once memory m known
+    by_kind (kind.Delay samples initial) ts out delays limits has narrow reads_in of_types = comes_at_once memory m known
+    by_kind kind.ZeroOrderHold ts out delays limits has narrow reads_in of_types = comes_at_once (input_code leaves 0) (input vs 0) (input_gives leaves 0)
+    by_kind (kind.Switch criterion threshold how) ts out delays limits has narrow reads_in of_types =
         let level = quantize threshold (input_type ts 1) in
         let f = (input_type ts 0).frac in
         let g = (input_type ts 2).frac in
         let fits = narrow_fit (kind.Switch criterion threshold how) ts out delays vs has reads_in narrow in
-        pick_comes (passes_code criterion (input_code leaves 1) level) (passes criterion (input vs 1) level) (converted (input_code leaves 0) f out how) (converted (input_code leaves 2) g out how)
-        (conversion (input vs 0) f out how) (conversion (input vs 2) g out how) f g out
+        pick_comes (passes_code criterion (input_code leaves 1) level) (passes criterion (input vs 1) level)
+        (converted_input leaves types 0 f out how) (converted_input leaves types 2 g out how)
+        (conversion (input vs 0) f out how) (conversion (input vs 2) g out how) (input_returns types 0 f out) (input_returns types 2 g out)
         (passes_holds functions reads line criterion (input_code leaves 1) (input vs 1) level (input_gives leaves 1) (constant_small stays narrow_fit threshold (input_type ts 1)))
-        (converted_comes (input_code leaves 0) (input vs 0) f out how (input_gives leaves 0) fits.0)
-        (converted_comes (input_code leaves 2) (input vs 2) g out how (input_gives leaves 2) fits.1)
-    by_kind (kind.Relational how) ts out delays limits has narrow reads_in =
+        (converted_input_comes leaves types 0 f out how of_types.0 fits.0)
+        (converted_input_comes leaves types 2 g out how of_types.1 fits.1)
+    by_kind (kind.Relational how) ts out delays limits has narrow reads_in of_types =
         let f = (input_type ts 0).frac in
         let g = (input_type ts 1).frac in
         let F = greatest_in (f ∷ g ∷ []) in
         let fits = narrow_fit (kind.Relational how) ts out delays vs has reads_in narrow in
         comes_at_once (truth (compare how (aligned (input_code leaves 0) f F) (aligned (input_code leaves 1) g F))) (number_of_bool (value.compares how (aligned_number (input vs 0) f F) (aligned_number (input vs 1) g F)))
         (comparison_gives how (input_code leaves 0) (input_code leaves 1) (input vs 0) (input vs 1) f g F (input_gives leaves 0) (input_gives leaves 1) fits.0 fits.1)
-    by_kind (kind.Logic o count) ts out delays limits has narrow reads_in =
+    by_kind (kind.Logic o count) ts out delays limits has narrow reads_in of_types =
         let many = count_is ts count has reads_in in
         let whole : take count vs ≡ vs = whole_list vs count (length_read reads leaves ∙ many) in
         subst (λ us. Comes (truth (logic_code o (truths leaves))) (number_of_bool (logic_of o (map is_true us))) 0) (sym whole)
         (comes_at_once (truth (logic_code o (truths leaves))) (number_of_bool (logic_of o (map is_true vs)))
         (truth_gives functions reads line (logic_code o (truths leaves)) (logic_of o (map is_true vs)) (logic_holds functions reads line o leaves (omega (arith, many, limits.1)))))
-    by_kind (kind.Convert how) ts out delays limits has narrow reads_in =
-        converted_comes (input_code leaves 0) (input vs 0) (input_type ts 0).frac out how (input_gives leaves 0) (narrow_fit (kind.Convert how) ts out delays vs has reads_in narrow)
-    by_kind (kind.RateTransition initial time) ts out true limits has narrow reads_in = comes_at_once memory m known
-    by_kind (kind.RateTransition initial time) ts out false limits has narrow reads_in = comes_at_once (input_code leaves 0) (input vs 0) (input_gives leaves 0)
-    by_kind kind.EnablePort ts out delays limits has narrow reads_in = comes_at_once nought (pos 0) (λ steps. refl)
-    by_kind kind.TriggerPort ts out delays limits has narrow reads_in = comes_at_once nought (pos 0) (λ steps. refl)
+    by_kind (kind.Convert how) ts out delays limits has narrow reads_in of_types =
+        converted_input_comes leaves types 0 (input_type ts 0).frac out how of_types
+        (narrow_fit (kind.Convert how) ts out delays vs has reads_in narrow)
+    by_kind (kind.RateTransition initial time) ts out true limits has narrow reads_in of_types = comes_at_once memory m known
+    by_kind (kind.RateTransition initial time) ts out false limits has narrow reads_in of_types = comes_at_once (input_code leaves 0) (input vs 0) (input_gives leaves 0)
+    by_kind kind.EnablePort ts out delays limits has narrow reads_in of_types = comes_at_once nought (pos 0) (λ steps. refl)
+    by_kind kind.TriggerPort ts out delays limits has narrow reads_in of_types = comes_at_once nought (pos 0) (λ steps. refl)
 
 -- ---- The laws
 
 pub rows_are_computed : ValuesStayInType → NarrowRowsFit → WholeNumbersStay → RowsAreComputed
-rows_are_computed stays narrow_fit stay o leaves memory m ps reads line steps prelude h room known =
-    let comes = by_kind ps prelude stay reads line stays narrow_fit leaves memory m known h.kind h.types h.out h.delays h.within_limits h.has_types h.narrow h.reads steps room in
-    subst (λ o. eval (functions_of [] ps) reads line (rhs_code o leaves memory) steps ≡ gives (rhs o (map reads.leaf leaves) m) (steps + returns o (map reads.leaf leaves))) (sym h.is_op) comes
+rows_are_computed stays narrow_fit stay o leaves types memory m ps reads line steps prelude h of_types room known =
+    let comes = by_kind ps prelude stay reads line stays narrow_fit leaves types memory m known h.kind h.types h.out h.delays h.within_limits h.has_types h.narrow h.reads (subst (λ o. AreTypesOf o types (map reads.leaf leaves)) h.is_op of_types) steps room in
+    subst (λ o. eval (functions_of [] ps) reads line (rhs_code o leaves types memory) steps
+    ≡ gives (rhs o (map reads.leaf leaves) m) (steps + returns o types (map reads.leaf leaves))) (sym h.is_op) comes
 
 conversion_few : (f : ℕ) (to : FixType) → conversion_returns f to ≤ 2
 conversion_few f to = by (nat_le f to.frac)
@@ -203,16 +240,27 @@ conversion_few f to = by (nat_le f to.frac)
     by true = omega arith
     by false = omega arith
 
+input_few : (types : List FixType) (i f : ℕ) (to : FixType) → input_returns types i f to ≤ 2
+input_few types i f to = by (holds_input to f types i)
+  where
+    by : (b : Bool) → (if b then 0 else conversion_returns f to) ≤ 2
+    by true = omega arith
+    by false = conversion_few f to
+
 pub returns_are_few : ReturnsAreFew
-returns_are_few op.Copy us = omega arith
-returns_are_few (op.Value v) us = omega arith
-returns_are_few (op.Delay initial) us = omega arith
-returns_are_few (op.Line samples start) us = omega arith
-returns_are_few (op.Gain m frac to how) us = conversion_few frac to
-returns_are_few (op.Sum count minus fracs to how) us = conversion_few (greatest_in (take count fracs)) to
-returns_are_few (op.Product count frac to how) us = conversion_few frac to
-returns_are_few (op.Switch criterion threshold fracs to how) us = conversion_few (if passes criterion (input us 1) threshold then get_or fracs 0 0 else get_or fracs 1 0) to
-returns_are_few (op.Relational how fracs) us = omega arith
-returns_are_few (op.Logic o count) us = omega arith
-returns_are_few (op.Convert frac to how) us = conversion_few frac to
-returns_are_few op.Nothing us = omega arith
+returns_are_few op.Copy types us = omega arith
+returns_are_few (op.Value v) types us = omega arith
+returns_are_few (op.Delay initial) types us = omega arith
+returns_are_few (op.Line samples start) types us = omega arith
+returns_are_few (op.Gain m frac to how) types us = conversion_few frac to
+returns_are_few (op.Sum count minus fracs to how) types us = conversion_few (greatest_in (take count fracs)) to
+returns_are_few (op.Product count frac to how) types us = conversion_few frac to
+returns_are_few (op.Switch criterion threshold fracs to how) types us = by (passes criterion (input us 1) threshold)
+  where
+    by : (b : Bool) → (if b then input_returns types 0 (get_or fracs 0 0) to else input_returns types 2 (get_or fracs 1 0) to) ≤ 2
+    by true = input_few types 0 (get_or fracs 0 0) to
+    by false = input_few types 2 (get_or fracs 1 0) to
+returns_are_few (op.Relational how fracs) types us = omega arith
+returns_are_few (op.Logic o count) types us = omega arith
+returns_are_few (op.Convert frac to how) types us = input_few types 0 frac to
+returns_are_few op.Nothing types us = omega arith

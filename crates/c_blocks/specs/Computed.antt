@@ -4,23 +4,29 @@ use Rattle.mc_fixed.specs.declared.FixType.{FixType}
 use Rattle.mc_blocks.specs.declared.Op.{Op}
 use Rattle.mc_blocks.specs.declared.Op.TheVariants.{Copy, Value, Delay, Line, Gain, Sum, Product, Switch, Relational, Logic, Convert, Nothing}
 use Rattle.mc_blocks.specs.Value.{greatest_in, input, passes}
+use Rattle.c_blocks.specs.RowCode.{holds_input}
 
 -- the calls of a conversion: one that brings into the type, and before it one that rounds where the type is coarser
 abbrev pub conversion_returns : ℕ → FixType → ℕ
 conversion_returns f to = if nat_le f to.frac then 1 else 2
 
--- the calls of a row's expression over these inputs; each executes one `return`
-abbrev pub returns : Op → List ℤ → ℕ
-returns Copy vs = 0
-returns (Value v) vs = 0
-returns (Delay initial) vs = 0
-returns (Line length start) vs = 0
-returns (Gain m frac to how) vs = conversion_returns frac to
-returns (Sum count minus fracs to how) vs = conversion_returns (greatest_in (take count fracs)) to
-returns (Product count frac to how) vs = conversion_returns frac to
-returns (Switch criterion threshold fracs to how) vs =
-    conversion_returns (if passes criterion (input vs 1) threshold then get_or fracs 0 0 else get_or fracs 1 0) to
-returns (Relational compare fracs) vs = 0
-returns (Logic o count) vs = 0
-returns (Convert frac to how) vs = conversion_returns frac to
-returns Nothing vs = 0
+-- none where the type holds each number of input i + 1
+abbrev pub input_returns : List FixType → ℕ → ℕ → FixType → ℕ
+input_returns types i f to = if holds_input to f types i then 0 else conversion_returns f to
+
+-- the calls of a row's expression over inputs of these types; each executes one `return`
+abbrev pub returns : Op → List FixType → List ℤ → ℕ
+returns Copy types vs = 0
+returns (Value v) types vs = 0
+returns (Delay initial) types vs = 0
+returns (Line length start) types vs = 0
+returns (Gain m frac to how) types vs = conversion_returns frac to
+returns (Sum count minus fracs to how) types vs = conversion_returns (greatest_in (take count fracs)) to
+returns (Product count frac to how) types vs = conversion_returns frac to
+returns (Switch criterion threshold fracs to how) types vs =
+    if passes criterion (input vs 1) threshold then input_returns types 0 (get_or fracs 0 0) to
+    else input_returns types 2 (get_or fracs 1 0) to
+returns (Relational compare fracs) types vs = 0
+returns (Logic o count) types vs = 0
+returns (Convert frac to how) types vs = input_returns types 0 frac to
+returns Nothing types vs = 0

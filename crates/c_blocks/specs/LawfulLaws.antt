@@ -2,6 +2,7 @@
 use Rattle.std.specs.Prelude.{◌^◌, ◌<◌, List}
 use Rattle.std.specs.List.{AllByRecursion}
 use Rattle.mc_base.specs.declared.Control.{Control}
+use Rattle.mc_fixed.specs.declared.FixType.{FixType}
 use Rattle.mc_blocks.specs.declared.Op.{Op}
 use Rattle.mc_diagram.specs.declared.Time.{Time}
 use Rattle.c_syntax.specs.declared.Leaf.{Leaf}
@@ -18,8 +19,8 @@ use Rattle.c_blocks.specs.Resolved.{IsRowOp}
 -- row's expression is lawful
 abbrev pub RowsAreLawful : Type 0
 RowsAreLawful =
-    (reach : Reach) (op : Op) (leaves : List Leaf) (memory : ExprTree) → IsPrelude reach.pures → IsRowOp op →
-    AllByRecursion (IsLawfulLeaf reach) leaves → IsLawfulExpr reach memory → IsLawfulExpr reach (rhs_code op leaves memory)
+    (reach : Reach) (op : Op) (leaves : List Leaf) (types : List FixType) (memory : ExprTree) → IsPrelude reach.pures → IsRowOp op →
+    AllByRecursion (IsLawfulLeaf reach) leaves → IsLawfulExpr reach memory → IsLawfulExpr reach (rhs_code op leaves types memory)
 
 -- so are the tests
 pub record AreLawfulTests (reach : Reach) (control : Control) (leaves : ControlLeaves) (time : Time) (now : Leaf) : Type 0 where

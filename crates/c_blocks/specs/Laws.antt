@@ -1,5 +1,6 @@
 -- Laws of the expressions of rows.
 use Rattle.std.specs.Prelude.{◌≡◌, ℕ, ◌+◌, ◌≤◌, max, List, [], ◌++◌, map, Contains, ℤ, ◌^◌, ◌<◌, unsigned_abs}
+use Rattle.mc_fixed.specs.declared.FixType.{FixType}
 use Rattle.mc_blocks.specs.declared.Op.{Op}
 use Rattle.mc_blocks.specs.Value.{rhs}
 use Rattle.mc_blocks.specs.Evaluation.{IsEvaluable}
@@ -10,33 +11,37 @@ use Rattle.c_syntax.specs.Limits.{expr_depth}
 use Rattle.c_prelude.specs.Rules.{IsPrelude}
 use Rattle.c_blocks.specs.RowCode.{rhs_code, written}
 use Rattle.c_blocks.specs.Computed.{returns}
+use Rattle.c_blocks.specs.KnownTypes.{AreTypesOf}
 use Rattle.c_blocks.specs.Reading.{ReadsOnly}
 
 -- whatever its leaves read, and the expression for its memory gives in no step, a row's expression gives what the row
--- computes of that, and isn't stuck: inputs in their types, and a row that 64 bits can compute
+-- computes of that, and isn't stuck: inputs in their types, which may be known, and a row that 64 bits can compute
 abbrev pub RowsAreComputed : Type 0
 RowsAreComputed =
-    (op : Op) (leaves : List Leaf) (memory : ExprTree) (m : ℤ) (ps : List PureTree) (reads : Reads) (line steps : ℕ) →
-    IsPrelude ps → IsEvaluable op (map reads.leaf leaves) m → steps + 2 ≤ step_limit →
+    (op : Op) (leaves : List Leaf) (types : List FixType) (memory : ExprTree) (m : ℤ) (ps : List PureTree) (reads : Reads)
+    (line steps : ℕ) →
+    IsPrelude ps → IsEvaluable op (map reads.leaf leaves) m → AreTypesOf op types (map reads.leaf leaves) → steps + 2 ≤ step_limit →
     ((n : ℕ) → eval (functions_of [] ps) reads line memory n ≡ gives m n) →
-    eval (functions_of [] ps) reads line (rhs_code op leaves memory) steps
-    ≡ gives (rhs op (map reads.leaf leaves) m) (steps + returns op (map reads.leaf leaves))
+    eval (functions_of [] ps) reads line (rhs_code op leaves types memory) steps
+    ≡ gives (rhs op (map reads.leaf leaves) m) (steps + returns op types (map reads.leaf leaves))
 
 -- it takes two `return`s at most
 abbrev pub ReturnsAreFew : Type 0
-ReturnsAreFew = (op : Op) (vs : List ℤ) → returns op vs ≤ 2
+ReturnsAreFew = (op : Op) (types : List FixType) (vs : List ℤ) → returns op types vs ≤ 2
 
 -- it reads the leaves of its inputs and those that the expression for its memory reads, and no others
 abbrev pub RowsReadTheirLeaves : Type 0
 RowsReadTheirLeaves =
-    (op : Op) (leaves others : List Leaf) (memory : ExprTree) →
-    ReadsOnly (Contains others) memory → ReadsOnly (Contains (leaves ++ others)) (rhs_code op leaves memory)
+    (op : Op) (leaves others : List Leaf) (types : List FixType) (memory : ExprTree) →
+    ReadsOnly (Contains others) memory → ReadsOnly (Contains (leaves ++ others)) (rhs_code op leaves types memory)
 
 -- it is 40 deep at most, or as deep as the expression for its memory
 abbrev pub RowsAreShallow : Type 0
-RowsAreShallow = (op : Op) (leaves : List Leaf) (memory : ExprTree) → expr_depth (rhs_code op leaves memory) ≤ max 40 (expr_depth memory)
+RowsAreShallow = (op : Op) (leaves : List Leaf) (types : List FixType) (memory : ExprTree) →
+    expr_depth (rhs_code op leaves types memory) ≤ max 40 (expr_depth memory)
 
 -- a written number is that number
 abbrev pub NumbersAreWritten : Type 0
 NumbersAreWritten =
-    (v : ℤ) (functions : List Function) (reads : Reads) (line steps : ℕ) → unsigned_abs v < 2 ^ 63 → eval functions reads line (written v) steps ≡ gives v steps
+    (v : ℤ) (functions : List Function) (reads : Reads) (line steps : ℕ) → unsigned_abs v < 2 ^ 63 →
+    eval functions reads line (written v) steps ≡ gives v steps

@@ -2,10 +2,15 @@ pub mod Balanced
 pub mod RowCode
 pub mod Joints
 pub mod TestCode
+pub mod RingCode
+pub mod StatementCode
 pub mod Computed
 pub mod Reading
 pub mod Resolved
+pub mod KnownTypes
 pub mod Laws
 pub mod TestLaws
 pub mod LawfulLaws
+pub mod StatementLaws
+pub mod LawfulStatements
 pub mod RowCodeExamples

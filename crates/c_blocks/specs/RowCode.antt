@@ -1,5 +1,5 @@
 -- The expression for a row's value, over the leaves of its inputs and an expression for its memory: what `rhs` says, in C.
-use Rattle.std.specs.Prelude.{ℕ, suc, ◌-◌, ◌^◌, Bool, ◌==◌, nat_le, if◌then◌else◌, List, [], ◌∷◌, map, take, slice_get, get_or, ℤ, pos, neg_ℤ, int_lt}
+use Rattle.std.specs.Prelude.{ℕ, suc, ◌+◌, ◌-◌, ◌^◌, Bool, false, not, ◌&&◌, ◌||◌, ◌==◌, nat_le, if◌then◌else◌, List, [], ◌∷◌, map, take, slice_get, get_or, ℤ, pos, neg_ℤ, int_lt}
 use Rattle.std.specs.Option.{option_map_or}
 use Rattle.std.specs.Int.{bit_at}
 use Rattle.mc_base.specs.declared.Compare.TheVariants.{Eq, Ne, Ge as AtLeast, Gt as Above}
@@ -15,6 +15,7 @@ use Rattle.mc_blocks.specs.declared.Criterion.TheVariants.{Ge, Gt, NotZero}
 use Rattle.mc_blocks.specs.declared.Op.{Op}
 use Rattle.mc_blocks.specs.declared.Op.TheVariants.{Copy, Value, Delay, Line, Gain, Sum, Product, Switch, Relational, Logic as Logical, Convert, Nothing}
 use Rattle.mc_blocks.specs.Value.{greatest_in}
+use Rattle.mc_blocks.specs.Width.{magnitude_bits}
 use Rattle.c_syntax.specs.declared.BinOp.TheVariants.{Add, Mul}
 use Rattle.c_syntax.specs.declared.Leaf.{Leaf}
 use Rattle.c_syntax.specs.Tree.{ExprTree, literal, neg, read, binary, pick, pure, CondTree, compare, both, either, negated, exprs_of_list}
@@ -55,6 +56,16 @@ cast Wrap t e = pure 7 (exprs_of_list (e ∷ written (least_of t) ∷ power t.bi
 -- e with f bits after the point converted into a type
 abbrev pub converted : ExprTree → ℕ → FixType → How → ExprTree
 converted e f to how = cast how.over to (rounded_code e f to.frac how)
+
+-- a type holds each number that another one stores, of f bits after the point: it has as many bits before and behind the
+-- point, and a sign where that one has one
+abbrev pub holds_all : FixType → ℕ → FixType → Bool
+holds_all to f from =
+    nat_le f to.frac && ((not from.signed || to.signed) && nat_le (magnitude_bits from + (to.frac - f)) (magnitude_bits to))
+
+-- it holds each number of input i + 1, whose type is known
+abbrev pub holds_input : FixType → ℕ → List FixType → ℕ → Bool
+holds_input to f types i = option_map_or (λ from. holds_all to f from) (slice_get types i) false
 
 -- ---- Sums and products
 
@@ -125,22 +136,28 @@ passes_code NotZero e threshold = is_true_code e
 abbrev pub input_code : List Leaf → ℕ → ExprTree
 input_code leaves i = option_map_or read (slice_get leaves i) nought
 
--- the last expression stands for what the row remembers; only delays read it
-abbrev pub rhs_code : Op → List Leaf → ExprTree → ExprTree
-rhs_code Copy leaves memory = input_code leaves 0
-rhs_code (Value v) leaves memory = written v
-rhs_code (Delay initial) leaves memory = memory
-rhs_code (Line length start) leaves memory = memory
-rhs_code (Gain m frac to how) leaves memory = converted (binary Mul (input_code leaves 0) (written m)) frac to how
-rhs_code (Sum count minus fracs to how) leaves memory =
+-- input i + 1 with f bits after the point converted into a type: without a call where that one holds each of its numbers
+abbrev pub converted_input : List Leaf → List FixType → ℕ → ℕ → FixType → How → ExprTree
+converted_input leaves types i f to how =
+    if holds_input to f types i then aligned (input_code leaves i) f to.frac else converted (input_code leaves i) f to how
+
+-- the inputs have these types, as far as they are known; the last expression stands for what the row remembers, which only
+-- delays read
+abbrev pub rhs_code : Op → List Leaf → List FixType → ExprTree → ExprTree
+rhs_code Copy leaves types memory = input_code leaves 0
+rhs_code (Value v) leaves types memory = written v
+rhs_code (Delay initial) leaves types memory = memory
+rhs_code (Line length start) leaves types memory = memory
+rhs_code (Gain m frac to how) leaves types memory = converted (binary Mul (input_code leaves 0) (written m)) frac to how
+rhs_code (Sum count minus fracs to how) leaves types memory =
     let F = greatest_in (take count fracs) in
     converted (sum_code minus F (take count fracs) leaves) F to how
-rhs_code (Product count frac to how) leaves memory = converted (product_code leaves) frac to how
-rhs_code (Switch criterion threshold fracs to how) leaves memory =
-    pick (passes_code criterion (input_code leaves 1) threshold) (converted (input_code leaves 0) (get_or fracs 0 0) to how) (converted (input_code leaves 2) (get_or fracs 1 0) to how)
-rhs_code (Relational how fracs) leaves memory =
+rhs_code (Product count frac to how) leaves types memory = converted (product_code leaves) frac to how
+rhs_code (Switch criterion threshold fracs to how) leaves types memory =
+    pick (passes_code criterion (input_code leaves 1) threshold) (converted_input leaves types 0 (get_or fracs 0 0) to how) (converted_input leaves types 2 (get_or fracs 1 0) to how)
+rhs_code (Relational how fracs) leaves types memory =
     let F = greatest_in fracs in
     truth (compare how (aligned (input_code leaves 0) (get_or fracs 0 0) F) (aligned (input_code leaves 1) (get_or fracs 1 0) F))
-rhs_code (Logical op count) leaves memory = truth (logic_code op (truths leaves))
-rhs_code (Convert frac to how) leaves memory = converted (input_code leaves 0) frac to how
-rhs_code Nothing leaves memory = nought
+rhs_code (Logical op count) leaves types memory = truth (logic_code op (truths leaves))
+rhs_code (Convert frac to how) leaves types memory = converted_input leaves types 0 frac to how
+rhs_code Nothing leaves types memory = nought

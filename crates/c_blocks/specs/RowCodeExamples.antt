@@ -1,12 +1,12 @@
 -- Expressions of rows over a few numbers, by the eight functions; the last number of each line counts their calls.
-use Rattle.std.specs.Prelude.{◌≡◌, refl, ℕ, true, List, [], ◌∷◌, map, length, ℤ, pos, neg_ℤ}
+use Rattle.std.specs.Prelude.{◌≡◌, refl, ℕ, true, false, List, [], ◌∷◌, map, length, ℤ, pos, neg_ℤ}
 use Rattle.std.specs.List.{range_with_len}
 use Rattle.std.proofs.Common.{lit≤}
 use Rattle.mc_base.specs.declared.Compare.TheVariants.{Lt}
 use Rattle.mc_fixed.specs.declared.FixType.{FixType}
 use Rattle.mc_fixed.specs.declared.Round.TheVariants.{Floor, Nearest, Zero, Convergent}
 use Rattle.mc_fixed.specs.declared.Over.TheVariants.{Saturate, Wrap}
-use Rattle.mc_fixed.specs.Types.{uint8}
+use Rattle.mc_fixed.specs.Types.{uint8, int16}
 use Rattle.mc_blocks.specs.declared.Logic.TheVariants.{Xor, Nand}
 use Rattle.mc_blocks.specs.declared.Criterion.TheVariants.{Gt, NotZero}
 use Rattle.mc_blocks.specs.declared.Op.{Op}
@@ -23,9 +23,13 @@ abbrev memory : Cells
 memory = more_cells (number (pos 11)) no_cells
 
 -- over these inputs, as the parameters of a procedure, the expression gives a number in so many calls
+abbrev GivesFrom : List FixType → Op → List ℤ → ℤ → ℕ → Type 0
+GivesFrom types op vs v calls =
+    eval (functions_of [] function_trees) (reads vs memory) 0
+    (rhs_code op (map Param (range_with_len 0 (length vs))) types (read (Own 0))) 0 ≡ gives v calls
+
 abbrev Gives : Op → List ℤ → ℤ → ℕ → Type 0
-Gives op vs v calls =
-    eval (functions_of [] function_trees) (reads vs memory) 0 (rhs_code op (map Param (range_with_len 0 (length vs))) (read (Own 0))) 0 ≡ gives v calls
+Gives op vs v calls = GivesFrom [] op vs v calls
 
 -- 8 bits with a sign and one bit after the point
 abbrev halves8 : FixType
@@ -75,6 +79,22 @@ not_both = refl
 -- 200 halves are -56 halves modulo 256
 finer : Gives (Convert 0 halves8 (record { round = Floor; over = Wrap })) (pos 100 ∷ []) (neg_ℤ (pos 56)) 1
 finer = refl
+
+-- 16 bits with a sign and 2 bits after the point hold each uint8 and no greater number
+abbrev quarters16 : FixType
+quarters16 = record { signed = true; bits = 16; frac = 2; in_profile = (lit≤ tt, lit≤ tt, lit≤ tt) }
+
+held_whole : GivesFrom (uint8 ∷ []) (Convert 0 quarters16 (record { round = Floor; over = Wrap })) (pos 255 ∷ []) (pos 1020) 0
+held_whole = refl
+
+not_held : GivesFrom (int16 ∷ []) (Convert 0 quarters16 (record { round = Floor; over = Wrap })) (pos 8192 ∷ []) (neg_ℤ (pos 32768)) 1
+not_held = refl
+
+-- a sign needs a sign
+signed_into_unsigned : GivesFrom (halves8 ∷ []) (Convert 1 (record
+    { signed = false; bits = 32; frac = 1; in_profile = (lit≤ tt, lit≤ tt, lit≤ tt) }) (record { round = Floor; over = Saturate }))
+    (neg_ℤ (pos 1) ∷ []) (pos 0) 1
+signed_into_unsigned = refl
 
 held : Gives (Delay (pos 7)) (pos 5 ∷ []) (pos 11) 0
 held = refl

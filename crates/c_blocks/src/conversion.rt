@@ -1,5 +1,6 @@
 ghost use Rattle.std.specs.Prelude.{◌≡◌, ◌≤◌, ◌-◌, IfOk};
 ghost use Rattle.c_syntax.specs.Plain.{expr_tree};
+ghost use Rattle.mc_blocks.specs.Width.{magnitude_bits};
 ghost use Rattle.c_prelude.specs.Rules.{rounding_position};
 ghost use Rattle.c_blocks.specs.RowCode as code;
 
@@ -54,6 +55,24 @@ fn rounded(alloc: Global, e: Expr, frac: u32, unit: u32, how: How) -> Result<Exp
     values.push(e)?;
     values.push(power(frac - unit))?;
     Ok(call(rounding(how.round), values))
+}
+
+/// The bits of a type's magnitudes.
+fn magnitude_bits(t: FixType) -> u32
+    ensures { result ≡ magnitude_bits t }
+{
+    u32::from(t.bits) - u32::from(t.signed)
+}
+
+/// Whether a type holds each number that another one stores, of `frac` fraction bits: it has as many bits before and behind
+/// the point, and a sign where that one has one.
+pub(crate) fn holds_all(to: FixType, frac: u32, from: FixType) -> bool
+    ensures { result ≡ code.holds_all to frac from }
+{
+    let unit = u32::from(to.frac);
+    frac <= unit
+        && (!from.signed || to.signed)
+        && magnitude_bits(from) + (unit - frac) <= magnitude_bits(to)
 }
 
 /// A whole number brought into a type.

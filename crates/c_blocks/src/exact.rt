@@ -72,7 +72,7 @@ pub(crate) fn sum(alloc: Global, minus: u32, fracs: &[u8], inputs: &[Leaf]) -> R
 }
 
 /// What leaves read.
-fn reads(alloc: Global, leaves: &[Leaf]) -> Result<Vec<Expr>, Memory>
+pub(crate) fn reads(alloc: Global, leaves: &[Leaf]) -> Result<Vec<Expr>, Memory>
     ensures { IfOk result (λ v. map expr_tree v.items ≡ map tree.read leaves.now) }
 {
     let mut reads = Vec::new(alloc);

@@ -4,7 +4,21 @@ use c_syntax::Leaf;
 /// control doesn't have is read by no test.
 #[derive(Clone, Copy, Debug, PartialEq, Eq, Drop)]
 pub struct ControlLeaves {
+    /// The enable.
     pub enable: Leaf,
+    /// The trigger.
     pub trigger: Leaf,
+    /// What the trigger remembers.
     pub remembers: Leaf,
+}
+
+/// The own fields of a delay of several samples, by position.
+#[derive(Clone, Copy, Debug, PartialEq, Eq, Drop)]
+pub struct RingFields {
+    /// The array of its items.
+    pub items: u32,
+    /// The place of the oldest item, an `int32_t`.
+    pub place: u32,
+    /// How many samples were taken, an `int32_t`.
+    pub taken: u32,
 }

@@ -5,7 +5,7 @@ ghost use Rattle.c_syntax.specs.Tree.{compare, pick};
 ghost use Rattle.c_blocks.specs.RowCode as code;
 ghost use Rattle.c_blocks.specs.Resolved.{IsRowOp};
 
-use crate::conversion::{aligned, converted};
+use crate::conversion::{aligned, converted, holds_all};
 use crate::exact::{greatest_frac, product, sum};
 use crate::expression::{binary, choice, truth, written};
 use crate::laws::row_ops_are_writable;
@@ -58,33 +58,71 @@ fn converted_sum(
     converted(alloc, exact, u32::from(greatest_frac(fracs)), to, how)
 }
 
+/// An input of `frac` fraction bits, by its place, converted into a type: without a call where that one holds each number of
+/// the input's, if this is known.
+fn converted_input(
+    alloc: Global,
+    inputs: &[Leaf],
+    types: &[FixType],
+    place: usize,
+    frac: u8,
+    to: FixType,
+    how: How,
+) -> Result<Expr, Memory>
+    requires { frac ≤ 31 }
+    ensures { IfOk result
+        (λ e. expr_tree e ≡ code.converted_input inputs.now types.now place frac to how) }
+{
+    let input = input(inputs, place);
+    let frac = u32::from(frac);
+    let is_held = match types.get(place) {
+        Some(from) => holds_all(to, frac, *from),
+        None => false,
+    };
+    if is_held {
+        aligned(alloc, input, frac, u32::from(to.frac))
+    } else {
+        converted(alloc, input, frac, to, how)
+    }
+}
+
 /// The first input where a test holds, else the third one, each converted into a type.
 fn converted_either(
     alloc: Global,
     test: Cond,
     fracs: [u8; 2],
     inputs: &[Leaf],
+    types: &[FixType],
     to: FixType,
     how: How,
 ) -> Result<Expr, Memory>
     requires first { get_or fracs 0 0 ≤ 31 }
     requires third { get_or fracs 1 0 ≤ 31 }
     ensures { IfOk result (λ e. expr_tree e ≡ pick (cond_tree test)
-        (code.converted (code.input_code inputs.now 0) (get_or fracs 0 0) to how)
-        (code.converted (code.input_code inputs.now 2) (get_or fracs 1 0) to how)) }
+        (code.converted_input inputs.now types.now 0 (get_or fracs 0 0) to how)
+        (code.converted_input inputs.now types.now 2 (get_or fracs 1 0) to how)) }
 {
-    let first = converted(alloc, input(inputs, 0), u32::from(fracs[0]), to, how)?;
-    let third = converted(alloc, input(inputs, 2), u32::from(fracs[1]), to, how)?;
+    let first = converted_input(alloc, inputs, types, 0, fracs[0], to, how)?;
+    let third = converted_input(alloc, inputs, types, 2, fracs[1], to, how)?;
     choice(alloc, test, first, third)
 }
 
 /// The expression for the value of a row: what the row computes of its inputs and its memory, in C, with two calls of
-/// pure functions at most. `memory` is the expression for what a delay remembers; any other row drops it.
+/// pure functions at most. `types` are those of the inputs in their order, as far as they are known: an input is converted
+/// without a call where the row's type holds each number of the input's. `memory` is the expression for what a delay
+/// remembers; any other row drops it.
 ///
 /// Fails only for want of memory.
-pub fn value_code(alloc: Global, op: &Op, inputs: &[Leaf], memory: Expr) -> Result<Expr, Memory>
+pub fn value_code(
+    alloc: Global,
+    op: &Op,
+    inputs: &[Leaf],
+    types: &[FixType],
+    memory: Expr,
+) -> Result<Expr, Memory>
     requires { IsRowOp op.now }
-    ensures { IfOk result (λ e. expr_tree e ≡ code.rhs_code op.now inputs.now (expr_tree memory)) }
+    ensures { IfOk result
+        (λ e. expr_tree e ≡ code.rhs_code op.now inputs.now types.now (expr_tree memory)) }
 {
     row_ops_are_writable();
     match *op {
@@ -113,13 +151,11 @@ pub fn value_code(alloc: Global, op: &Op, inputs: &[Leaf], memory: Expr) -> Resu
             how,
         } => {
             let test = passes(alloc, criterion, input(inputs, 1), threshold)?;
-            converted_either(alloc, test, fracs, inputs, to, how)
+            converted_either(alloc, test, fracs, inputs, types, to, how)
         }
         Op::Relational { compare, fracs } => comparison(alloc, compare, &fracs, inputs),
         Op::Logic { op, .. } => truth(alloc, logic(alloc, op, inputs)?),
-        Op::Convert { frac, to, how } => {
-            converted(alloc, input(inputs, 0), u32::from(frac), to, how)
-        }
+        Op::Convert { frac, to, how } => converted_input(alloc, inputs, types, 0, frac, to, how),
         Op::Nothing => Ok(Expr::Literal(0)),
     }
 }

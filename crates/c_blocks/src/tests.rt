@@ -1,9 +1,9 @@
 use super::*;
-use c_syntax::{Cond, Expr, Leaf};
+use c_syntax::{Cond, Expr, Leaf, Stmt, Target};
 use mc_base::{Control, Decimal, Edge};
-use mc_blocks::{Kind, resolve};
+use mc_blocks::{How, Kind, resolve};
 use mc_diagram::Time;
-use mc_fixed::FixType;
+use mc_fixed::{FixType, Over, Round};
 use std::test::Fail;
 
 const INT8: FixType = FixType {
@@ -21,7 +21,13 @@ const LEAVES: ControlLeaves = ControlLeaves {
 #[test]
 fn a_hold_reads_its_input(rt: HostRuntime) -> Result<(), Fail> {
     let op = resolve(&Kind::ZeroOrderHold, &[], INT8, false);
-    let code = value_code(rt.alloc(), &op, &[Leaf::Param(1)], Expr::Read(Leaf::Own(4)))?;
+    let code = value_code(
+        rt.alloc(),
+        &op,
+        &[Leaf::Param(1)],
+        &[INT8],
+        Expr::Read(Leaf::Own(4)),
+    )?;
     assert!(rt; matches!(code, Expr::Read(Leaf::Param(1))));
     Ok(())
 }
@@ -30,7 +36,13 @@ fn a_hold_reads_its_input(rt: HostRuntime) -> Result<(), Fail> {
 fn a_delay_reads_its_memory(rt: HostRuntime) -> Result<(), Fail> {
     let initial = Decimal { num: 7, den: 1 };
     let op = resolve(&Kind::UnitDelay { initial }, &[], INT8, false);
-    let code = value_code(rt.alloc(), &op, &[Leaf::Param(1)], Expr::Read(Leaf::Own(4)))?;
+    let code = value_code(
+        rt.alloc(),
+        &op,
+        &[Leaf::Param(1)],
+        &[INT8],
+        Expr::Read(Leaf::Own(4)),
+    )?;
     assert!(rt; matches!(code, Expr::Read(Leaf::Own(4))));
     Ok(())
 }
@@ -69,5 +81,65 @@ fn every_tick_is_a_hit_of_period_1(rt: HostRuntime) -> Result<(), Fail> {
     };
     assert!(rt; hit_test(rt.alloc(), every, Leaf::Param(0))?.is_none());
     assert!(rt; hit_test(rt.alloc(), third, Leaf::Param(0))?.is_some());
+    Ok(())
+}
+
+const RING: RingFields = RingFields {
+    items: 1,
+    place: 2,
+    taken: 3,
+};
+
+#[test]
+fn a_wider_type_holds_each_number(rt: HostRuntime) -> Result<(), Fail> {
+    let how = How {
+        round: Round::Floor,
+        over: Over::Wrap,
+    };
+    let int16 = FixType {
+        signed: true,
+        bits: 16,
+        frac: 0,
+    };
+    let op = resolve(&Kind::Convert(how), &[INT8], int16, false);
+    let nothing = Expr::Literal(0);
+    let code = value_code(rt.alloc(), &op, &[Leaf::Param(1)], &[INT8], nothing)?;
+    assert!(rt; matches!(code, Expr::Read(Leaf::Param(1))));
+    Ok(())
+}
+
+#[test]
+fn a_value_is_stored_once(rt: HostRuntime) -> Result<(), Fail> {
+    let alloc = rt.alloc();
+    let always = value_statements(alloc, 4, None, Expr::Literal(1))?;
+    assert!(rt; matches!(always.first(), Some(Stmt::Set { field: 4, .. })));
+    let memory = memory_statements(alloc, 5, None, Leaf::Param(1), None, 7)?;
+    assert!(rt; matches!(memory.first(), Some(Stmt::Set { field: 5, .. })));
+    let level = trigger_statements(alloc, 6, Leaf::Param(2))?;
+    assert!(rt; matches!(level.first(), Some(Stmt::Set { field: 6, .. })));
+    assert!(rt; value_reset_statements(alloc, 4, None, 7)?.is_empty());
+    Ok(())
+}
+
+#[test]
+fn a_ring_stores_its_item_first(rt: HostRuntime) -> Result<(), Fail> {
+    let alloc = rt.alloc();
+    let oldest = oldest_code(alloc, RING, 3, 7)?;
+    assert!(rt; matches!(oldest, Expr::Pick(_, _, _)));
+    let stores = ring_statements(alloc, RING, 3, None, Leaf::Param(1), None)?;
+    assert!(rt; matches!(stores.first(), Some(Stmt::SetAt { field: 1, .. })));
+    assert_eq!(rt; stores.len(), 3);
+    Ok(())
+}
+
+#[test]
+fn a_child_is_called_on_its_field(rt: HostRuntime) -> Result<(), Fail> {
+    let alloc = rt.alloc();
+    let call = call_statements(alloc, None, 9, 8, &[Leaf::Param(0)])?;
+    let target = Target::Child(8);
+    assert!(rt;
+        matches!(call.first(), Some(Stmt::Call { procedure: 9, target: found, .. }) if *found == target)
+    );
+    assert!(rt; reset_call_statements(alloc, None, 9, 8)?.is_empty());
     Ok(())
 }

@@ -1,4 +1,4 @@
-use Rattle.c_blocks.proofs.PlainCalls.{expr_tree-Pure}
+use Rattle.c_syntax.proofs.lemmas.PlainLaws.{expr_tree-Pure}
 use Rattle.c_blocks.proofs.expression.call.Goals as goal
 
 pub returns : goal.returns

@@ -1,0 +1,5 @@
+use Rattle.c_blocks.proofs.StatementLaws.{calls_are_made}
+use Rattle.c_blocks.proofs.statement_laws.calls_are_made.Goals as goal
+
+pub returns : goal.returns
+returns c = calls_are_made

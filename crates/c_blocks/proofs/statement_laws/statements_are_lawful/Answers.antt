@@ -1,0 +1,5 @@
+use Rattle.c_blocks.proofs.StatementRules.{statements_are_lawful}
+use Rattle.c_blocks.proofs.statement_laws.statements_are_lawful.Goals as goal
+
+pub returns : goal.returns
+returns c = statements_are_lawful

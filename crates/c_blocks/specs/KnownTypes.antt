@@ -1,0 +1,26 @@
+-- The types of inputs, as far as they are known.
+use Rattle.std.specs.Prelude.{◌≡◌, ℕ, List, Some, slice_get, ℤ, ⊤}
+use Rattle.mc_fixed.specs.declared.FixType.{FixType}
+use Rattle.mc_fixed.specs.Conversion.{InType}
+use Rattle.mc_blocks.specs.declared.Op.{Op}
+use Rattle.mc_blocks.specs.declared.Op.TheVariants.{Copy, Value, Delay, Line, Gain, Sum, Product, Switch, Relational, Logic, Convert, Nothing}
+use Rattle.mc_blocks.specs.Value.{input}
+
+-- input i + 1 lies in its type, where that is known
+abbrev pub IsOfType : List FixType → List ℤ → ℕ → Type 0
+IsOfType types vs i = (t : FixType) → slice_get types i ≡ Some t → InType t (input vs i)
+
+-- each input that is converted as it is lies in its type
+abbrev pub AreTypesOf : Op → List FixType → List ℤ → Type 0
+AreTypesOf Copy types vs = ⊤
+AreTypesOf (Value v) types vs = ⊤
+AreTypesOf (Delay initial) types vs = ⊤
+AreTypesOf (Line length start) types vs = ⊤
+AreTypesOf (Gain m frac to how) types vs = ⊤
+AreTypesOf (Sum count minus fracs to how) types vs = ⊤
+AreTypesOf (Product count frac to how) types vs = ⊤
+AreTypesOf (Switch criterion threshold fracs to how) types vs = IsOfType types vs 0 × IsOfType types vs 2
+AreTypesOf (Relational compare fracs) types vs = ⊤
+AreTypesOf (Logic op count) types vs = ⊤
+AreTypesOf (Convert frac to how) types vs = IsOfType types vs 0
+AreTypesOf Nothing types vs = ⊤
