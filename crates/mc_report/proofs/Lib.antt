@@ -10,3 +10,9 @@ pub mod OneReport
 pub mod OwnMasks
 pub mod PortRows
 pub mod OnDiagram
+pub mod ReadSystems
+pub mod HeadSets
+pub mod FunctionLines
+pub mod FollowTests
+pub mod PortGuesses
+pub mod WordPlaces

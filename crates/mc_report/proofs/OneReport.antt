@@ -1,7 +1,7 @@
 -- A text is that of one list of reports.
 use Rattle.std.proofs.Common.{◌≡◌, ℕ, suc, ◌≤◌, ◌==◌, Bool, true, false, not, cond, List, [], ◌∷◌, ◌++◌, length, get_or, map, filter, refl, sym, ap, ap₂, subst, ◌∙◌, append-nil, append_assoc, arith}
-use Rattle.std.specs.Prelude.{codes, decimal, flat_map}
-use Rattle.std.specs.List.{AllByRecursion, AllZip, enumerate_from, range_with_len}
+use Rattle.std.specs.Prelude.{flat_map}
+use Rattle.std.specs.List.{AllByRecursion, AllZip, range_with_len}
 use Rattle.std.proofs.lemmas.List.{append_cancel_left, length-map}
 use Rattle.mc_base.specs.declared.Port.{Port}
 use Rattle.mc_base.specs.declared.Port.TheVariants.{Number}
@@ -11,7 +11,7 @@ use Rattle.mc_profile.specs.declared.Function.{Function}
 use Rattle.mc_profile.specs.Functions.{function_for, functions_for}
 use Rattle.mc_report.specs.PlainReport.{PlainReport}
 use Rattle.mc_report.specs.Reading.{IsSystemReport, ReportsAreOne}
-use Rattle.mc_report.specs.Texts.{differ_line, out_line, ports_of, report_text, system_line, system_text}
+use Rattle.mc_report.specs.Texts.{differ_line, last_line, out_lines, ports_of, report_text, system_line, system_text}
 use Rattle.mc_report.proofs.LineWords.{IsSmall}
 use Rattle.mc_report.proofs.OutLines.{ports-small}
 use Rattle.mc_report.proofs.SameCertificates.{same-certificate}
@@ -28,7 +28,7 @@ short p (x ∷ xs) = by (p x) (short p xs)
     by true h = omega (arith, h)
     by false h = omega (arith, h)
 
-few-different : (xs : List ℕ) → length (different xs) ≤ length xs
+pub few-different : (xs : List ℕ) → length (different xs) ≤ length xs
 few-different [] = omega arith
 few-different (x ∷ xs) =
     let kept = short (λ y. not (y == x)) (different xs) in let rest = few-different xs in omega (arith, kept, rest)
@@ -49,9 +49,6 @@ head-of-report r h = record {
 }
 
 -- ---- The text of a system by its parts
-
-abbrev pub out_lines : List Port → ℕ → ℕ → List Function → List ℕ
-out_lines ports outputs j fs = flat_map (λ (f : ℕ × Function). out_line ports outputs f.0 f.1) (enumerate_from j fs)
 
 abbrev pub differ_lines : PlainReport → List ℕ
 differ_lines r = flat_map (differ_line (ports_of r)) r.certificate.differ
@@ -123,15 +120,8 @@ same-system r s x y h k e = (same, append_cancel_left (differ_lines r) x y (outs
 
 -- ---- All systems
 
--- the last line of a text of reports
-abbrev pub last_line : ℕ → List ℕ
-last_line count = codes "systems " ++ (decimal count ++ codes "\n")
-
 pub report-parts : (rs : List PlainReport) → report_text rs ≡ flat_map system_text rs ++ last_line (length rs)
-report-parts rs = parts (flat_map system_text rs) (codes "systems ") (decimal (length rs)) (codes "\n")
-  where
-    parts : (a b c d : List ℕ) → a ++ b ++ c ++ d ≡ a ++ (b ++ (c ++ d))
-    parts a b c d = simp (append_assoc) refl
+report-parts rs = refl
 
 pub no-system : (n : ℕ) (x y : List ℕ) (r : PlainReport) → last_line n ++ x ≡ system_text r ++ y → ⊥
 unfolding system_text

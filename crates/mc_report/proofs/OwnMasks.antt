@@ -36,7 +36,7 @@ module _ (mask : ℕ) where
     | inr zero_bit ↦ zero_bit
   ]
 
-  abbrev weight : List Port → ℕ
+  abbrev pub weight : List Port → ℕ
   weight ps = ports_mask (ports_in mask ps)
 
   one-port : (p : Port) (t : Bool) → has_bit mask (bit_of p) ≡ t → bit_at mask (bit_of p) ≡ cond t 1 0 →
@@ -54,13 +54,13 @@ module _ (mask : ℕ) where
     | inr none ↦ one-port p false (set-bit mask (bit_of p) false none) none
   ]
 
-  weight-append : (ps qs : List Port) → weight (ps ++ qs) ≡ weight ps + weight qs
+  pub weight-append : (ps qs : List Port) → weight (ps ++ qs) ≡ weight ps + weight qs
   weight-append ps qs =
       ap ports_mask (filter-append (λ q. has_bit mask (bit_of q)) ps qs)
       ∙ ap sum (map-append (λ q. 2 ^ bit_of q) (ports_in mask ps) (ports_in mask qs))
       ∙ sum_by-append (λ x. x) (map (λ q. 2 ^ bit_of q) (ports_in mask ps)) (map (λ q. 2 ^ bit_of q) (ports_in mask qs))
 
-  weight-numbers : (n : ℕ) → weight (map Number (range_with_len 1 n)) ≡ mask % 2 ^ n
+  pub weight-numbers : (n : ℕ) → weight (map Number (range_with_len 1 n)) ≡ mask % 2 ^ n
   weight-numbers zero = omega arith
   weight-numbers (suc n) =
       ap (λ (ks : List ℕ). weight (map Number ks)) (range-more 1 n (suc n) (omega arith))

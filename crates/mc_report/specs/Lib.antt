@@ -3,3 +3,6 @@ pub mod Reports
 pub mod Texts
 pub mod Reading
 pub mod TextExamples
+pub mod Following
+pub mod Heads
+pub mod Guesses

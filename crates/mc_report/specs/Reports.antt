@@ -27,9 +27,13 @@ AreControls (Enable ∷ Trigger ∷ p ∷ ports) = ⊥
 AreControls (Trigger ∷ []) = ⊤
 AreControls (Trigger ∷ p ∷ ports) = ⊥
 
+-- a set of ports
+abbrev pub IsSetOf : List Port → ℕ → Type 0
+IsSetOf ports mask = ports_mask (ports_in mask ports) ≡ mask
+
 -- a set of inputs that the system of a report has
 abbrev pub AreInputs : PlainReport → ℕ → Type 0
-AreInputs r mask = ports_mask (ports_in mask (ports_of r)) ≡ mask
+AreInputs r mask = IsSetOf (ports_of r) mask
 
 -- A report that is right for some needs of its outputs: its functions are those for them, which part the outputs and
 -- stand by the least output of each, and its certificate has the least output of each function and, for each two of

@@ -1,5 +1,5 @@
 -- The text of reports.
-use Rattle.std.specs.Prelude.{ℕ, ◌+◌, ◌-◌, ◌==◌, List, [], ◌∷◌, ◌++◌, map, filter, flat_map, length, codes, decimal}
+use Rattle.std.specs.Prelude.{ℕ, ◌+◌, ◌-◌, ◌==◌, List, [], ◌∷◌, ◌++◌, map, filter, flat_map, length, Option, codes, decimal}
 use Rattle.std.specs.List.{enumerate_from, range_with_len}
 use Rattle.mc_base.specs.declared.Port.{Port}
 use Rattle.mc_base.specs.declared.Port.TheVariants.{Number}
@@ -11,8 +11,11 @@ use Rattle.mc_profile.specs.Systems.{system_name}
 use Rattle.mc_report.specs.PlainReport.{PlainReport}
 
 -- the inputs of the system of a report: by number, and then its controls
+abbrev pub ports_with : ℕ → List Port → List Port
+ports_with inputs controls = map Number (range_with_len 1 inputs) ++ controls
+
 abbrev pub ports_of : PlainReport → List Port
-ports_of r = map Number (range_with_len 1 r.inputs) ++ r.controls
+ports_of r = ports_with r.inputs r.controls
 
 -- words, each behind a space
 abbrev pub spaced : List (List ℕ) → List ℕ
@@ -41,15 +44,21 @@ counts_text inputs outputs functions =
     codes " inputs " ++ decimal inputs ++ codes " outputs " ++ decimal outputs ++ codes " functions " ++ decimal functions
 
 -- the line of a system: its name and its counts, and its controls
+abbrev pub head_line : Option ℕ → ℕ → ℕ → ℕ → List Port → List ℕ
+head_line row inputs outputs functions controls =
+    codes "system " ++ system_name row ++ counts_text inputs outputs functions ++ spaced (control_words controls) ++ codes "\n"
+
 abbrev pub system_line : PlainReport → List ℕ
-system_line r =
-    codes "system " ++ system_name r.row ++ counts_text r.inputs r.outputs (length r.profile.functions)
-    ++ spaced (control_words r.controls) ++ codes "\n"
+system_line r = head_line r.row r.inputs r.outputs (length r.profile.functions) r.controls
 
 -- `out J needs LIST outputs LIST`
 abbrev pub out_line : List Port → ℕ → ℕ → Function → List ℕ
 out_line ports outputs j f =
     codes "out " ++ decimal j ++ codes " needs" ++ ports_text ports f.inputs ++ codes " outputs" ++ outputs_text outputs f.outputs ++ codes "\n"
+
+-- the lines of functions from one with a number on
+abbrev pub out_lines : List Port → ℕ → ℕ → List Function → List ℕ
+out_lines ports outputs j functions = flat_map (λ (f : ℕ × Function). out_line ports outputs f.0 f.1) (enumerate_from j functions)
 
 -- the port at a bit of a set
 abbrev pub ports_at : ℕ → List Port → List Port
@@ -64,9 +73,13 @@ differ_line ports d =
 unfoldable pub system_text : PlainReport → List ℕ
 system_text r =
     system_line r
-    ++ flat_map (λ (f : ℕ × Function). out_line (ports_of r) r.outputs f.0 f.1) (enumerate_from 1 r.profile.functions)
+    ++ out_lines (ports_of r) r.outputs 1 r.profile.functions
     ++ flat_map (differ_line (ports_of r)) r.certificate.differ
+
+-- the line that tells how many systems there are
+abbrev pub last_line : ℕ → List ℕ
+last_line systems = codes "systems " ++ decimal systems ++ codes "\n"
 
 -- the text of reports: system by system, and then how many there are
 abbrev pub report_text : List PlainReport → List ℕ
-report_text reports = flat_map system_text reports ++ codes "systems " ++ decimal (length reports) ++ codes "\n"
+report_text reports = flat_map system_text reports ++ last_line (length reports)

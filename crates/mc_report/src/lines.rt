@@ -4,27 +4,29 @@ ghost use Rattle.mc_base.specs.Refusals.{port_word};
 ghost use Rattle.mc_profile.specs.Ports as ports;
 ghost use Rattle.mc_profile.specs.Ports.{has_bit};
 ghost use Rattle.mc_profile.specs.Systems.{system_name};
-ghost use Rattle.mc_report.specs.Texts.{control_words, counts_text, differ_line, out_line, outputs_text, ports_at, ports_text, spaced, system_line};
+ghost use Rattle.mc_report.specs.Texts.{control_words, counts_text, differ_line, head_line, out_line, outputs_text, ports_at, ports_text, spaced};
 
-use crate::report::SystemReport;
 use mc_base::{Memory, Port};
 use mc_certificate::Difference;
 use mc_profile::Function;
 use std::fmt::Write;
 
 /// Appends the line that tells how many inputs, outputs and functions a system has, and its controls.
-pub(crate) fn push_system_line(out: &mut String, report: &SystemReport) -> Result<(), Memory>
-    ensures { OnOk result (string_bytes out.new ≡ string_bytes out.old ++ system_line report.now) }
+pub(crate) fn push_head_line(
+    out: &mut String,
+    row: Option<u32>,
+    inputs: u32,
+    outputs: u32,
+    functions: usize,
+    controls: &[Port],
+) -> Result<(), Memory>
+    ensures { OnOk result (string_bytes out.new
+        ≡ string_bytes out.old ++ head_line row inputs outputs functions controls.now) }
 {
     out.push_str("system ")?;
-    push_system_name(out, report.row)?;
-    push_counts(
-        out,
-        report.inputs,
-        report.outputs,
-        report.profile.functions.len(),
-    )?;
-    push_controls(out, &report.controls)?;
+    push_system_name(out, row)?;
+    push_counts(out, inputs, outputs, functions)?;
+    push_controls(out, controls)?;
     out.push_str("\n")?;
     Ok(())
 }
@@ -175,15 +177,15 @@ fn has_port(mask: u64, port: Port) -> bool
     has(mask, bit_of(port))
 }
 
-// Whether a bit is in a set.
-fn has(mask: u64, bit: u32) -> bool
+/// Whether a bit is in a set.
+pub(crate) fn has(mask: u64, bit: u32) -> bool
     ensures { result ≡ has_bit mask bit }
 {
     bit < 64 && mask & (1 << bit) != 0
 }
 
-// The place of a port in a set: bit k - 1 for input k, bit 32 for an enable and bit 33 for a trigger.
-fn bit_of(port: Port) -> u32
+/// The place of a port in a set: bit k - 1 for input k, bit 32 for an enable and bit 33 for a trigger.
+pub(crate) fn bit_of(port: Port) -> u32
     ensures { result ≡ ports.bit_of port }
 {
     match port {

@@ -2,9 +2,9 @@ ghost use Rattle.std.specs.Prelude.{◌≡◌, ◌≤◌, ◌++◌, All, IfOk, O
 ghost use Rattle.std.specs.List.{enumerate_from};
 ghost use Rattle.std.specs.String.{string_bytes};
 ghost use Rattle.mc_report.specs.Reports.{IsReport};
-ghost use Rattle.mc_report.specs.Texts.{differ_line, out_line, ports_of, report_text, system_text};
+ghost use Rattle.mc_report.specs.Texts.{differ_line, last_line, out_line, ports_with, report_text, system_line, system_text};
 
-use crate::lines::{push_differ_line, push_out_line, push_system_line};
+use crate::lines::{push_differ_line, push_head_line, push_out_line};
 use crate::report::SystemReport;
 use mc_base::{Memory, Port};
 use mc_certificate::Difference;
@@ -23,8 +23,16 @@ pub fn print_report(alloc: Global, r: &[SystemReport]) -> Result<Vec<u8>, Memory
     for report in r {
         push_system(alloc, &mut out, report)?;
     }
-    write!(out, "systems {}\n", r.len())?;
+    push_last_line(&mut out, r.len())?;
     Ok(out.into_bytes())
+}
+
+/// Appends the line that tells how many systems there are.
+pub(crate) fn push_last_line(out: &mut String, systems: usize) -> Result<(), Memory>
+    ensures { OnOk result (string_bytes out.new ≡ string_bytes out.old ++ last_line systems) }
+{
+    write!(out, "systems {systems}\n")?;
+    Ok(())
 }
 
 // Appends the lines of a system.
@@ -34,23 +42,37 @@ fn push_system(alloc: Global, out: &mut String, report: &SystemReport) -> Result
     requires outputs { report.now.outputs ≤ 32 }
     ensures { OnOk result (string_bytes out.new ≡ string_bytes out.old ++ system_text report.now) }
 {
-    let ports = all_ports(alloc, report)?;
+    let ports = all_ports(alloc, report.inputs, &report.controls)?;
     push_system_line(out, report)?;
     push_functions(out, &ports, report.outputs, &report.profile.functions)?;
     push_differences(out, &ports, &report.certificate.differ)?;
     Ok(())
 }
 
-// The inputs of a system: by number, and then its controls.
-fn all_ports(alloc: Global, report: &SystemReport) -> Result<Vec<Port>, Memory>
-    requires { report.now.inputs ≤ 32 }
-    ensures { IfOk result (λ ports. ports.items ≡ ports_of report.now) }
+// Appends the line of a system.
+fn push_system_line(out: &mut String, report: &SystemReport) -> Result<(), Memory>
+    ensures { OnOk result (string_bytes out.new ≡ string_bytes out.old ++ system_line report.now) }
+{
+    push_head_line(
+        out,
+        report.row,
+        report.inputs,
+        report.outputs,
+        report.profile.functions.len(),
+        &report.controls,
+    )
+}
+
+/// The inputs of a system: by number, and then its controls.
+pub(crate) fn all_ports(alloc: Global, inputs: u32, controls: &[Port]) -> Result<Vec<Port>, Memory>
+    requires { inputs ≤ 32 }
+    ensures { IfOk result (λ ports. ports.items ≡ ports_with inputs controls.now) }
 {
     let mut ports = Vec::new(alloc);
-    for k in 1..report.inputs + 1 {
+    for k in 1..inputs + 1 {
         ports.push(Port::Number(k))?;
     }
-    ports.extend_from_slice(&report.controls)?;
+    ports.extend_from_slice(controls)?;
     Ok(ports)
 }
 

@@ -5,6 +5,8 @@ ghost use Rattle.mc_profile.specs.Functions.{functions_for};
 ghost use Rattle.mc_profile.specs.Ports.{ports_in, ports_mask};
 ghost use Rattle.mc_report.specs.Reports.{AreControls, IsReport};
 
+mod reading;
+
 use super::{SystemReport, print_report};
 use mc_base::{Memory, Port};
 use mc_certificate::make;

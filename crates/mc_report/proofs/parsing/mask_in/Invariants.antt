@@ -1,0 +1,10 @@
+use Rattle.std.proofs.Common.{◌≡◌, ◌<◌, ◌^◌, All, List, map, take}
+use Rattle.mc_base.specs.declared.Port.{Port}
+use Rattle.mc_base.specs.Refusals.{port_word}
+use Rattle.mc_profile.specs.Ports.{ports_mask}
+use Rattle.mc_report.specs.Guesses.{IsPlaced}
+use Rattle.mc_report.proofs.parsing.mask_in.Given as goal
+
+abbrev pub invariant-loop-word : goal.invariant-loop-word
+invariant-loop-word l =
+    (ps : List Port) → All IsPlaced ps → map (λ w. w.now) l.words ≡ map port_word ps → ports_mask ps < 2 ^ 64 → l.mask ≡ ports_mask (take l.word-index ps)

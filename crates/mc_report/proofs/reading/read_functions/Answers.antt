@@ -1,0 +1,24 @@
+use Rattle.std.proofs.Common.{◌≡◌, ◌+◌, List, [], ◌∷◌, length, ap, subst, ◌∙◌, arith, rules}
+use Rattle.std.proofs.lemmas.Grind.{common_steps}
+use Rattle.std.proofs.lemmas.List.{length-append}
+use Rattle.mc_profile.specs.declared.Function.{Function}
+use Rattle.mc_report.specs.Following.{CanComeFirst}
+use Rattle.mc_report.specs.Heads.{head_ports}
+use Rattle.mc_report.specs.Reports.{IsSetOf}
+use Rattle.mc_report.proofs.FunctionLines.{all-more, all-of-them, one-more}
+use Rattle.mc_report.proofs.reading.read_functions.Goals as goal
+
+pub loop-k-preserved : goal.loop-k-preserved
+loop-k-preserved c = record {
+  text = one-more c.args.ports.now c.args.head.outputs 1 c.loop-k.k c.loop-k.functions.items c.push.new.self.items c.in_ok-function.function
+      c.args.text.now c.loop-k.rest.now c.in_ok-function.next.now c.loop-k.invariant.len c.in_ok-push.ensures.items c.loop-k.invariant.text c.in_ok-function.ensures.text;
+  len = (let e : length c.push.new.self.items ≡ length c.loop-k.functions.items + 1 =
+      ap (λ (fs : List Function). length fs) c.in_ok-push.ensures.items ∙ length-append c.loop-k.functions.items (c.in_ok-function.function ∷ []) in
+      let before = c.loop-k.invariant.len in omega (arith, e, before));
+  sets = all-more (λ (f : Function). IsSetOf (head_ports c.args.head) f.inputs) c.loop-k.functions.items c.push.new.self.items c.in_ok-function.function
+      c.in_ok-push.ensures.items c.loop-k.invariant.sets (search rules);
+  first = subst (CanComeFirst c.args.head.outputs c.args.head.functions) c.deref.ensures.value (c.in_ok-can_come_first.ensures.can (search rules));
+}
+
+pub returns-clause-functions : goal.returns-clause-functions
+returns-clause-functions c = all-of-them _ _ _ c.loop-k.invariant.first (grind (arith, common_steps))

@@ -1,0 +1,58 @@
+use Rattle.std.proofs.Common.{◌≡◌, ℕ, List, ◌++◌, refl, sym, ap, ap₂, subst, ◌∙◌}
+use Rattle.std.specs.Prelude.{flat_map}
+use Rattle.mc_base.specs.declared.Port.{Port}
+use Rattle.mc_certificate.specs.PlainCertificate.{PlainCertificate}
+use Rattle.mc_certificate.specs.Sound.{IsCertificateFor}
+use Rattle.mc_certificate.specs.declared.Difference.{Difference}
+use Rattle.mc_profile.specs.declared.Function.{Function}
+use Rattle.mc_report.specs.Following.{needs_of}
+use Rattle.mc_report.specs.Heads.{IsHeadOf, head_ports}
+use Rattle.mc_report.specs.PlainReport.{PlainReport}
+use Rattle.mc_report.specs.Reports.{IsSetOf}
+use Rattle.mc_report.specs.Texts.{differ_line, out_lines, ports_with}
+use Rattle.mc_report.proofs.ReadSystems.{read-report, read-text}
+use Rattle.mc_report.proofs.SameNeeds.{each-one}
+use Rattle.mc_report.proofs.reading.read_system.Goals as goal
+
+abbrev report : goal.After-drop-ports-2 → PlainReport
+report c = record {
+  row = c.in_ok-head.head.row;
+  inputs = c.in_ok-head.head.inputs;
+  controls = c.in_ok-controls.controls.items;
+  outputs = c.in_ok-head.head.outputs;
+  profile = record { row = c.in_ok-head.head.row; functions = c.in_ok-functions.functions.items };
+  certificate = c.in_ok-certificate.certificate;
+}
+
+is-head : (c : goal.After-drop-ports-2) → IsHeadOf (report c) c.in_ok-head.head
+is-head c = record {
+  row = refl;
+  inputs = refl;
+  outputs = refl;
+  functions = sym c.in_ok-functions.ensures.functions.number;
+  controls = sym c.in_ok-controls.ensures;
+}
+
+ports : (c : goal.After-drop-ports-2) → c.in_ok-ports.ports.items ≡ head_ports c.in_ok-head.head
+ports c = c.in_ok-ports.ensures ∙ ap (λ (ps : List Port). ports_with c.in_ok-head.head.inputs ps) (c.deref.ensures.value ∙ c.in_ok-controls.ensures)
+
+needs : (c : goal.After-drop-ports-2) → c.deref-4.result.now ≡ needs_of c.in_ok-head.head.outputs c.in_ok-functions.functions.items
+needs c = c.deref-4.ensures.value ∙ c.in_ok-needs.ensures.needs
+    ∙ ap (λ (fs : List Function). needs_of c.in_ok-head.head.outputs fs) c.deref-3.ensures.value
+
+pub returns-clause-text : goal.returns-clause-text
+returns-clause-text c =
+    read-text (report c) c.in_ok-head.head (is-head c) c.in_ok-functions.functions.items c.in_ok-certificate.certificate.differ
+    c.args.text.now c.in_ok-head.rest.now c.in_ok-functions.rest.now c.in_ok-rest.rest.now refl refl c.in_ok-head.ensures.text
+    (c.in_ok-functions.ensures.text
+    ∙ ap (λ (ps : List Port). out_lines ps c.in_ok-head.head.outputs 1 c.in_ok-functions.functions.items ++ c.in_ok-functions.rest.now) (c.deref-2.ensures.value ∙ ports c))
+    (c.in_ok-rest.ensures
+    ∙ ap₂ (λ (ps : List Port) (ds : List Difference). flat_map (differ_line ps) ds ++ c.in_ok-rest.rest.now) (c.deref-5.ensures.value ∙ ports c)
+    (c.deref-6.ensures.value ∙ ap (λ (k : PlainCertificate). k.differ) c.certificate.view_is))
+
+pub returns-clause-report : goal.returns-clause-report
+returns-clause-report c =
+    read-report (report c) c.in_ok-head.head (is-head c) c.in_ok-functions.functions.items c.in_ok-head.ensures.head c.in_ok-head.ensures.row refl refl
+    (each-one (λ (f : Function). IsSetOf (head_ports c.in_ok-head.head) f.inputs) c.in_ok-functions.functions.items c.in_ok-functions.ensures.sets)
+    c.in_ok-functions.ensures.functions
+    (subst (λ (ns : List ℕ). IsCertificateFor ns c.in_ok-certificate.certificate) (needs c) c.in_ok-certificate.ensures)

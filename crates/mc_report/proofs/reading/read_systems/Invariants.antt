@@ -1,0 +1,11 @@
+use Rattle.std.proofs.Common.{◌≡◌, ◌++◌}
+use Rattle.std.specs.Prelude.{All, flat_map}
+use Rattle.mc_report.specs.Reading.{IsSystemReport}
+use Rattle.mc_report.specs.Texts.{system_text}
+use Rattle.mc_report.proofs.reading.read_systems.Given as goal
+
+abbrev pub invariant-loop : goal.invariant-loop
+invariant-loop l = record {
+  text : l.bytes ≡ flat_map system_text l.reports.items ++ l.rest;
+  each : All IsSystemReport l.reports.items;
+}
