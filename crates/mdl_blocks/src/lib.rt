@@ -20,6 +20,7 @@ pub use block::{Block, Body};
 pub use fault::Fault;
 pub use kind::BlockKind;
 pub use laws::the_first_parameter_is_told;
+pub use numbers::number_up_to;
 pub use peers::Peers;
 pub use read::read_block;
 pub use row::RowText;

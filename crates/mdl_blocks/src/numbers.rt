@@ -31,7 +31,7 @@ fn whole_number(text: &[u8]) -> Option<u128>
 }
 
 /// The whole number from 1 up to a greatest one that a text writes, if it writes one.
-pub(crate) fn number_up_to(most: u32, text: &[u8]) -> Option<u32>
+pub fn number_up_to(most: u32, text: &[u8]) -> Option<u32>
     ensures value { result ≡ words.number_up_to most text.now }
     ensures bound { IfSome result (λ n. n ≤ most) }
 {

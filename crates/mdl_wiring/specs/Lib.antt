@@ -1,0 +1,12 @@
+pub mod Members
+pub mod NameMaps
+pub mod Lines
+pub mod Ports
+pub mod Refusals
+pub mod Doubles
+pub mod Held
+pub mod Shapes
+pub mod Wiring
+pub mod Laws
+pub mod Order
+pub mod Examples
