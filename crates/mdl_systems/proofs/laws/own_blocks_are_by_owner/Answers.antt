@@ -1,0 +1,5 @@
+use Rattle.mdl_systems.proofs.OwnerLemmas.{own-by-owner}
+use Rattle.mdl_systems.proofs.laws.own_blocks_are_by_owner.Goals as goal
+
+pub returns : goal.returns
+returns c = own-by-owner
