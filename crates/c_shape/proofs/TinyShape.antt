@@ -24,7 +24,7 @@ child_has_shape = record {
       (
         record { private_name = tt; params = tt; calls = tt; stores = (tt, tt); indices = tt; tests = tt },
         (
-          record { private_name = tt; params = tt; calls = tt; stores = (tt, (tt, tt)); indices = tt; tests = tt },
+          record { private_name = tt; params = tt; calls = tt; stores = (tt, (tt, (tt, tt))); indices = tt; tests = tt },
           (record { private_name = tt; params = tt; calls = tt; stores = tt; indices = tt; tests = tt }, tt),
         ),
       ),

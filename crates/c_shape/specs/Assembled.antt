@@ -118,7 +118,7 @@ module _ (all : List SystemTree) where
     abbrev pub root_procedures : List ProcedureTree
     root_procedures =
         let outputs = length (outports root) in
-        record { name = root_start_name; private = false; of = length all; params = []; body = stmts_of_list (call_top [] outputs ((code_at 0).structure.name ++ text "_start") ∷ []) }
+        record { name = root_start_name; private = false; of = length all; params = []; body = stmts_of_list (call_top [] outputs ((code_at 0).structure.name ++ text "_start") ∷ assign 0 0 (literal (pos 0)) ∷ []) }
         ∷ record {
           name = root_step_name;
           private = false;

@@ -1,9 +1,8 @@
 -- The struct `root` of a program and its two procedures.
-use Rattle.std.specs.Prelude.{◌≡◌, ◌⊎◌, ℕ, ◌+◌, ◌%◌, ◌<◌, not, Bool, true, false, List, [], ◌∷◌, ◌++◌, map, filter, Contains, IsPermutation, None, ℤ, pos, neg_ℤ, ⊤}
+use Rattle.std.specs.Prelude.{◌≡◌, ℕ, ◌+◌, ◌%◌, ◌<◌, not, Bool, true, false, List, [], ◌∷◌, ◌++◌, map, filter, length, IsPermutation, None, ℤ, pos, neg_ℤ}
 use Rattle.std.specs.List.{AllByRecursion, AllZip, enumerate_from}
 use Rattle.mc_diagram.specs.Rows.{outports_of}
 use Rattle.mc_diagram.specs.Diagram.{Diagram, type_at}
-use Rattle.mc_diagram.specs.Run.{start_of}
 use Rattle.mc_profile.specs.SystemHeader.{SystemHeader}
 use Rattle.mc_profile.specs.SystemProfile.{SystemProfile}
 use Rattle.mc_profile.specs.Systems.{system_name}
@@ -12,7 +11,7 @@ use Rattle.mc_profile.specs.Headers.{header_of}
 use Rattle.c_syntax.specs.declared.CType.TheVariants.{I32}
 use Rattle.c_syntax.specs.declared.Target.TheVariants.{Own, Child}
 use Rattle.c_syntax.specs.Tree.{ExprTree, literal, neg, StmtTree, assign, assign_at, branch, call, list_of_stmts, list_of_exprs, ProcedureTree, ProgramTree}
-use Rattle.c_machine.specs.Values.{functions_of as pure_functions, gives, eval}
+use Rattle.c_machine.specs.Values.{Function, gives, eval}
 use Rattle.c_shape.specs.NamedLeaf.{NamedLeaf, param, own, child}
 use Rattle.c_syntax.specs.RootFields.{root_struct}
 use Rattle.c_shape.specs.Names.{container, now_name, value_name, root_name, root_start_name, root_step_name, output_name}
@@ -39,11 +38,12 @@ pub data IsPassed (wanted : List ℕ) : NamedLeaf → Type 0 where
   tick : wanted ≡ now_name → IsPassed wanted (own now_name)
   input : IsPassed wanted (param wanted)
 
--- an expression reads `now` alone, and takes each tick of the cycle to the next, the last to the first
+-- an expression reads `now` alone, and whatever functions there are it takes each tick of the cycle to the next, the last to
+-- the first
 pub record MovesOn (p : ProgramTree) (hyper : ℕ) (q : ProcedureTree) (value : ExprTree) : Type 0 where
   pub reads : AllByRecursion (λ leaf. leaf ≡ own now_name) (named_leaves (names_in p q.of) q.params (expr_leaves value))
-  pub next : (t : ℕ) → t < hyper →
-      (steps : ℕ) × (eval (pure_functions [] p.pures) (record { leaf = λ leaf. pos t; array = λ f. [] }) 0 value 0 ≡ gives (pos ((t + 1) % hyper)) steps)
+  pub next : (functions : List Function) (t : ℕ) → t < hyper →
+      (steps : ℕ) × (eval functions (record { leaf = λ leaf. pos t; array = λ f. [] }) 0 value 0 ≡ gives (pos ((t + 1) % hyper)) steps)
 
 module _ (p : ProgramTree) (hyper : ℕ) (q : ProcedureTree) where
   abbrev pub DoesCall : Head → StmtTree → Type 0
@@ -81,12 +81,10 @@ literal_number (literal value) = value
 literal_number (neg e) = neg_ℤ (literal_number e)
 literal_number _ = pos 0
 
--- a written number is stored in `now`, where it is 0, or in an output, where it is that of its row before the first tick
-abbrev pub IsStartStore : ProgramTree → Diagram → ProcedureTree → StmtTree → Type 0
-IsStartStore p d q (assign line f value) =
-    (((names_in p q.of).own f ≡ now_name) × (literal_number value ≡ pos 0))
-    ⊎ ((o : ℕ × ℕ) × Contains (enumerate_from 1 (outports_of d.rows None)) o × ((names_in p q.of).own f ≡ output_name o.0) × (literal_number value ≡ start_of d o.1))
-IsStartStore p d q _ = ⊤
+-- 0 is stored in `now`
+abbrev pub BeginsTick : ProgramTree → ProcedureTree → StmtTree → Type 0
+BeginsTick p q (assign line f value) = ((names_in p q.of).own f ≡ now_name) × (literal_number value ≡ pos 0)
+BeginsTick p q _ = ⊥
 
 -- a tick: each function of `top` in some order, its update, each output in some order, and the move to the next tick
 pub record IsTickOf (d : Diagram) (top : SystemHeader) (steps : List RootStep) : Type 0 where
@@ -96,8 +94,8 @@ pub record IsTickOf (d : Diagram) (top : SystemHeader) (steps : List RootStep) :
   pub each_output : IsPermutation (enumerate_from 1 (outports_of d.rows None)) outputs
   pub in_order : steps ≡ map calls functions ++ calls (update_head top) ∷ map (λ o. copies o.0 o.1) outputs ++ moves_on ∷ []
 
--- `struct root` has the tick, the outputs and `top`; `root_start` stores starts and starts `top`; `root_step` takes the inputs
--- and does the steps of a tick
+-- `struct root` has the tick, the outputs and `top`; `root_start` starts `top`, makes the tick 0, and stores nothing else;
+-- `root_step` takes the inputs and does the steps of a tick
 pub record HasRootCode (p : ProgramTree) (d : Diagram) (hyper : ℕ) : Type 0 where
   pub profile : SystemProfile
   pub is_profile : IsProfileOf d None profile
@@ -108,7 +106,8 @@ pub record HasRootCode (p : ProgramTree) (d : Diagram) (hyper : ℕ) : Type 0 wh
   pub only : IsPermutation (start ∷ step ∷ []) (procedures_of p (root_struct p))
   pub start_head : head_of start ≡ record { name = root_start_name; private = false; params = [] }
   pub step_head : head_of step ≡ record { name = root_step_name; private = false; params = input_params (header_of d None profile) }
-  pub starts_from : AllByRecursion (IsStartStore p d start) (filter is_literal_store (list_of_stmts start.body))
+  pub begins : 0 < length (filter is_literal_store (list_of_stmts start.body))
+  pub tick_alone : AllByRecursion (BeginsTick p start) (filter is_literal_store (list_of_stmts start.body))
   pub starts : AllZip (Does p hyper start) (calls (Rattle.c_shape.specs.Heads.start_head (header_of d None profile)) ∷ []) (filter (λ st. not (is_literal_store st)) (list_of_stmts start.body))
   pub steps : List RootStep
   pub are_steps : IsTickOf d (header_of d None profile) steps

@@ -30,7 +30,7 @@ inner_procedures =
     record { name = codes "s2_g0"; private = true; of = 0; params = input_param ∷ []; body = stmts_of_list (branch 0 (compare Eq (read (Own 2)) (literal (pos 0))) (stmts_of_list (assign 0 2 (literal (pos 1)) ∷ assign 0 0 (read (Param 0)) ∷ assign 0 1 (read (Own 0)) ∷ [])) no_stmts ∷ []) }
     ∷ inner_procedure (codes "s2_out1") (now_param ∷ input_param ∷ []) (call 0 0 OnSelf (exprs_of_list (read (Param 1) ∷ [])) ∷ [])
     ∷ inner_procedure (codes "s2_update") (now_param ∷ input_param ∷ []) (assign 0 2 (literal (pos 0)) ∷ [])
-    ∷ inner_procedure (codes "s2_start") [] (assign 0 0 (literal (pos 0)) ∷ assign 0 1 (literal (pos 0)) ∷ [])
+    ∷ inner_procedure (codes "s2_start") [] (assign 0 0 (literal (pos 0)) ∷ assign 0 1 (literal (pos 0)) ∷ assign 0 2 (literal (pos 0)) ∷ [])
     ∷ inner_procedure (codes "s2_reset") [] []
     ∷ []
 
@@ -78,7 +78,7 @@ outer_procedures =
     ∷ inner_procedure (codes "top_out1") (now_param ∷ input_param ∷ []) (call 0 0 OnSelf (exprs_of_list (read (Param 0) ∷ read (Param 1) ∷ [])) ∷ call 0 2 OnSelf no_exprs ∷ [])
     ∷ inner_procedure (codes "top_out2") (now_param ∷ input_param ∷ second_param ∷ []) (call 0 0 OnSelf (exprs_of_list (read (Param 0) ∷ read (Param 1) ∷ [])) ∷ call 0 1 OnSelf (exprs_of_list (read (Param 2) ∷ [])) ∷ [])
     ∷ inner_procedure (codes "top_update") (now_param ∷ input_param ∷ second_param ∷ []) (call 0 9 (OnChild 5) (exprs_of_list (read (Param 0) ∷ read (Own 0) ∷ [])) ∷ zeros (6 ∷ 7 ∷ 8 ∷ []))
-    ∷ inner_procedure (codes "top_start") [] (zeros (0 ∷ 1 ∷ 2 ∷ 3 ∷ 4 ∷ []) ++ call 0 10 (OnChild 5) no_exprs ∷ [])
+    ∷ inner_procedure (codes "top_start") [] (zeros (0 ∷ 1 ∷ 2 ∷ 3 ∷ 4 ∷ 6 ∷ 7 ∷ 8 ∷ []) ++ call 0 10 (OnChild 5) no_exprs ∷ [])
     ∷ inner_procedure (codes "top_reset") [] (call 0 11 (OnChild 5) no_exprs ∷ [])
     ∷ []
 

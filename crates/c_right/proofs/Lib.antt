@@ -1,0 +1,13 @@
+mod RowLines
+mod ScriptSteps
+mod GivenValues
+mod FittingTraces
+mod SharedNeeds
+mod RefusedPrograms
+mod SharedShape
+mod ShapeLines
+mod SharedRuns
+mod StillTick
+mod EarlyMemory
+mod SharedRenewals
+mod SharedFaces

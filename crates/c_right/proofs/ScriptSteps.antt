@@ -1,0 +1,23 @@
+-- A script with one more call is lawful where it was, and the call may follow.
+use Rattle.std.specs.Prelude.{ℕ, List, [], ◌∷◌, ◌++◌, Option}
+use Rattle.mc_diagram.specs.Diagram.{Diagram}
+use Rattle.mc_profile.specs.declared.Function.{Function}
+use Rattle.c_right.specs.Scripts.{Call, TickSoFar, nothing_yet, CanFollow, tick_after, IsLawfulFrom}
+use Rattle.c_right.specs.DriveLaws.{tick_behind, ScriptsGrow}
+
+module _ (d : Diagram) (s : Option ℕ) (functions : List Function) (c : Call) where
+  longer : (script : List Call) (tick : TickSoFar) → IsLawfulFrom d s functions tick (script ++ c ∷ []) →
+      IsLawfulFrom d s functions tick script × CanFollow d s functions (tick_behind d s functions tick script) c
+  longer [] tick h = (tt, h.0)
+  longer (b ∷ script) tick h =
+      let rest = longer script (tick_after d s functions tick b) h.1 in
+      ((h.0, rest.0), rest.1)
+
+  with_one : (script : List Call) (tick : TickSoFar) → IsLawfulFrom d s functions tick script → CanFollow d s functions (tick_behind d s functions tick script) c →
+      IsLawfulFrom d s functions tick (script ++ c ∷ [])
+  with_one [] tick h follows = (follows, tt)
+  with_one (b ∷ script) tick h follows = (h.0, with_one script (tick_after d s functions tick b) h.1 follows)
+
+pub scripts_grow : ScriptsGrow
+scripts_grow d s functions script c =
+    (λ h. longer d s functions c script nothing_yet h, λ h. with_one d s functions c script nothing_yet h.0 h.1)

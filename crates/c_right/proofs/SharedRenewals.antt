@@ -1,0 +1,106 @@
+-- The program of a root and its shared child starts and resets each system right, whatever its fields hold.
+use Rattle.std.specs.Prelude.{◌≡◌, refl, [], ◌∷◌, Some, None, pos}
+use Rattle.std.specs.Fmt.{digits}
+use Rattle.std.proofs.Common.{sym, ap, ap₂, subst, true≢false}
+use Rattle.mc_profile.specs.LocalSamples.{shared_child}
+use Rattle.c_syntax.specs.declared.CType.TheVariants.{I32, U8}
+use Rattle.c_machine.specs.Cells.{Cell, number, items, object, Cells, no_cells, more_cells, cell_value, cell_items, cell_fields, cell_at}
+use Rattle.c_machine.specs.Machine.{routine_at, program_routines}
+use Rattle.c_shape.specs.Names.{start_name, reset_name}
+use Rattle.c_shape.specs.Programs.{procedure_place}
+use Rattle.c_simulation.specs.Forms.{Form, Forms, holds_number, holds_array, holds_instance, holds_nothing, no_forms, more_forms, HasForm, HasForms, forms_of}
+use Rattle.c_simulation.specs.Instances.{OnDone}
+use Rattle.c_right.specs.Anew.{AreStarted, AreReset, HoldsInside, RenewsAll, AreRestarted, Restarts}
+use Rattle.c_right.specs.SharedSamples.{shared_program}
+
+-- ---- Fields of a form, spelled out
+
+-- the fields behind the first
+abbrev behind_first : Cells → Cells
+behind_first no_cells = no_cells
+behind_first (more_cells c cells) = cells
+
+abbrev mutual
+  spelled_cell : Form → Cell → Cell
+  spelled_cell (holds_number type) c = number (cell_value c)
+  spelled_cell (holds_array type count) c = items (cell_items c)
+  spelled_cell (holds_instance fields) c = object (spelled fields (cell_fields c))
+  spelled_cell holds_nothing c = number (pos 0)
+
+  -- the numbers of these fields, in fields of the form
+  spelled : Forms → Cells → Cells
+  spelled no_forms cells = no_cells
+  spelled (more_forms form forms) cells = more_cells (spelled_cell form (cell_at cells 0)) (spelled forms (behind_first cells))
+
+mutual
+  spelled_cell-is : (form : Form) (c : Cell) → HasForm form c → spelled_cell form c ≡ c
+  spelled_cell-is (holds_number type) (number v) h = refl
+  spelled_cell-is (holds_number type) (items vs) h = absurd h
+  spelled_cell-is (holds_number type) (object cells) h = absurd h
+  spelled_cell-is (holds_array type count) (number v) h = absurd h
+  spelled_cell-is (holds_array type count) (items vs) h = refl
+  spelled_cell-is (holds_array type count) (object cells) h = absurd h
+  spelled_cell-is (holds_instance fields) (number v) h = absurd h
+  spelled_cell-is (holds_instance fields) (items vs) h = absurd h
+  spelled_cell-is (holds_instance fields) (object cells) h = ap object (spelled-is fields cells h)
+  spelled_cell-is holds_nothing (number v) h = ap number (sym h)
+  spelled_cell-is holds_nothing (items vs) h = absurd h
+  spelled_cell-is holds_nothing (object cells) h = absurd h
+
+  -- fields of the form are these
+  spelled-is : (forms : Forms) (cells : Cells) → HasForms forms cells → spelled forms cells ≡ cells
+  spelled-is no_forms no_cells h = refl
+  spelled-is no_forms (more_cells c cells) h = absurd h
+  spelled-is (more_forms form forms) no_cells h = absurd h
+  spelled-is (more_forms form forms) (more_cells c cells) h = ap₂ more_cells (spelled_cell-is form c h.0) (spelled-is forms cells h.1)
+
+-- ---- The forms of the child, of `top` and of `root`
+
+abbrev child_forms : Forms
+child_forms = forms_of (holds_number I32 ∷ holds_number I32 ∷ holds_number U8 ∷ [])
+
+abbrev top_forms : Forms
+top_forms =
+    forms_of (holds_number I32 ∷ holds_number I32 ∷ holds_number I32 ∷ holds_number I32 ∷ holds_number I32 ∷ holds_instance child_forms ∷ holds_number U8 ∷ holds_number U8 ∷ holds_number U8 ∷ [])
+
+abbrev whole_forms : Forms
+whole_forms = forms_of (holds_number I32 ∷ holds_number I32 ∷ holds_number I32 ∷ holds_instance top_forms ∷ [])
+
+-- ---- Starts and resets
+
+child_renews : RenewsAll shared_program shared_child (Some 2)
+unfolding digits
+child_renews = record {
+  starts = λ before has. subst (λ c. OnDone ((routine_at (program_routines shared_program) (procedure_place shared_program (start_name (Some 2)))).run [] c 0) (λ a. HoldsInside shared_program shared_child (Some 2) (λ n old new. AreStarted shared_program shared_child n new) c a.cells)) (spelled-is child_forms before has)
+      (record { here = record { forgotten = record { memories = tt; places = tt; taken = tt; trigger = λ h. absurd (true≢false (sym h)) }; values = (refl, (refl, tt)); counters = (refl, tt) }; inside = tt });
+  resets = λ before has. subst (λ c. OnDone ((routine_at (program_routines shared_program) (procedure_place shared_program (reset_name (Some 2)))).run [] c 0) (λ a. HoldsInside shared_program shared_child (Some 2) (AreReset shared_program shared_child) c a.cells)) (spelled-is child_forms before has)
+      (record { here = record { forgotten = record { memories = tt; places = tt; taken = tt; trigger = λ h. absurd (true≢false (sym h)) }; values = (refl, (refl, tt)) }; inside = tt });
+}
+
+top_renews : RenewsAll shared_program shared_child None
+unfolding digits
+top_renews = record {
+  starts = λ before has. subst (λ c. OnDone ((routine_at (program_routines shared_program) (procedure_place shared_program (start_name None))).run [] c 0) (λ a. HoldsInside shared_program shared_child None (λ n old new. AreStarted shared_program shared_child n new) c a.cells)) (spelled-is top_forms before has)
+      (record {
+        here = record { forgotten = record { memories = tt; places = tt; taken = tt; trigger = λ h. absurd (true≢false (sym h)) }; values = (refl, (refl, (refl, (refl, (refl, tt))))); counters = (refl, (refl, (refl, tt))) };
+        inside = (record { forgotten = record { memories = tt; places = tt; taken = tt; trigger = λ h. absurd (true≢false (sym h)) }; values = (refl, (refl, tt)); counters = (refl, tt) }, tt);
+      });
+  resets = λ before has. subst (λ c. OnDone ((routine_at (program_routines shared_program) (procedure_place shared_program (reset_name None))).run [] c 0) (λ a. HoldsInside shared_program shared_child None (AreReset shared_program shared_child) c a.cells)) (spelled-is top_forms before has)
+      (record {
+        here = record { forgotten = record { memories = tt; places = tt; taken = tt; trigger = λ h. absurd (true≢false (sym h)) }; values = (refl, (refl, (refl, (refl, (refl, tt))))) };
+        inside = (record { forgotten = record { memories = tt; places = tt; taken = tt; trigger = λ h. absurd (true≢false (sym h)) }; values = (refl, (refl, tt)) }, tt);
+      });
+}
+
+restarts : Restarts shared_program shared_child
+unfolding digits
+restarts before has =
+    subst (λ c. OnDone ((routine_at (program_routines shared_program) 13).run [] c 0) (λ a. AreRestarted shared_program shared_child c a.cells)) (spelled-is whole_forms before has)
+    (record {
+      tick = refl;
+      top = record {
+        here = record { forgotten = record { memories = tt; places = tt; taken = tt; trigger = λ h. absurd (true≢false (sym h)) }; values = (refl, (refl, (refl, (refl, (refl, tt))))); counters = (refl, (refl, (refl, tt))) };
+        inside = (record { forgotten = record { memories = tt; places = tt; taken = tt; trigger = λ h. absurd (true≢false (sym h)) }; values = (refl, (refl, tt)); counters = (refl, tt) }, tt);
+      };
+      outputs = refl;
+    })

@@ -1,0 +1,59 @@
+-- The program of a root that delays its input by a tick, and one whose memory is stored before the input that it takes.
+use Rattle.std.specs.Prelude.{◌≡◌, refl, false, List, [], ◌∷◌, ◌++◌, map, None, pos, codes, ℤ}
+use Rattle.std.specs.Fmt.{digits}
+use Rattle.mc_blocks.specs.declared.Kind.TheVariants.{Inport, Outport, UnitDelay}
+use Rattle.mc_diagram.specs.Diagram.{Diagram}
+use Rattle.mc_diagram.specs.RunExamples.{simple, row, zero_initial}
+use Rattle.mc_profile.specs.LocalSystem.{LocalSystem}
+use Rattle.mc_profile.specs.Locals.{local_of, local_row}
+use Rattle.c_syntax.specs.declared.Leaf.TheVariants.{Param, Own}
+use Rattle.c_syntax.specs.Tree.{read, assign, StmtTree, ProgramTree}
+use Rattle.c_machine.specs.Rows.{c_rows}
+use Rattle.c_shape.specs.Heads.{now_param}
+use Rattle.c_shape.specs.SystemTree.{SystemTree}
+use Rattle.c_shape.specs.Slots.{Slot, value, memory, slot_field}
+use Rattle.c_shape.specs.Assembled.{assembled}
+use Rattle.c_shape.specs.TinySamples.{input_param, inner_procedure, zeros}
+
+-- In1 through a Unit Delay to Out1
+abbrev pub one_delay : Diagram
+one_delay = simple (row None (Inport 1) [] ∷ row None (UnitDelay zero_initial) (0 ∷ []) ∷ row None (Outport 1 false zero_initial) (1 ∷ []) ∷ [])
+
+abbrev pub delay_local : LocalSystem
+delay_local = local_of one_delay [] None []
+
+abbrev delay_slots : List Slot
+delay_slots = map value (map (local_row one_delay []) (0 ∷ 1 ∷ 2 ∷ [])) ++ memory (local_row one_delay [] 1) ∷ []
+
+-- its code by the update's statements
+abbrev delay_code : List StmtTree → SystemTree
+delay_code on_update = record {
+  structure = record { name = codes "top"; fields = map slot_field delay_slots };
+  outputs = 2 ∷ [];
+  procedures =
+      inner_procedure (codes "top_out1") (now_param ∷ []) (assign 0 1 (read (Own 3)) ∷ assign 0 2 (read (Own 1)) ∷ [])
+      ∷ inner_procedure (codes "top_update") (now_param ∷ input_param ∷ []) on_update
+      ∷ inner_procedure (codes "top_start") [] (zeros (0 ∷ 1 ∷ 2 ∷ 3 ∷ []))
+      ∷ inner_procedure (codes "top_reset") [] (zeros (3 ∷ []))
+      ∷ [];
+}
+
+-- the input first, and then the memory that takes it
+abbrev pub delay_program : ProgramTree
+delay_program = assembled (delay_code (assign 0 0 (read (Param 1)) ∷ assign 0 3 (read (Own 0)) ∷ []) ∷ []) delay_local 1 []
+
+-- the other way round
+abbrev pub early_memory : ProgramTree
+early_memory = assembled (delay_code (assign 0 3 (read (Own 0)) ∷ assign 0 0 (read (Param 1)) ∷ []) ∷ []) delay_local 1 []
+
+-- three ticks
+abbrev pub delay_trace : List (List ℤ)
+delay_trace = (pos 5 ∷ []) ∷ (pos 6 ∷ []) ∷ (pos 7 ∷ []) ∷ []
+
+outputs : map (λ row. row.outputs) (c_rows delay_program delay_trace).ticks ≡ (pos 0 ∷ []) ∷ (pos 5 ∷ []) ∷ (pos 6 ∷ []) ∷ []
+unfolding digits
+outputs = refl
+
+early_outputs : map (λ row. row.outputs) (c_rows early_memory delay_trace).ticks ≡ (pos 0 ∷ []) ∷ (pos 0 ∷ []) ∷ (pos 5 ∷ []) ∷ []
+unfolding digits
+early_outputs = refl

@@ -1,0 +1,13 @@
+pub mod Paths
+pub mod Calls
+pub mod Scripts
+pub mod Anew
+pub mod Right
+pub mod Alone
+pub mod SystemOk
+pub mod Assembly
+pub mod LineLaws
+pub mod DriveLaws
+pub mod SharedSamples
+pub mod SharedExamples
+pub mod DelaySamples

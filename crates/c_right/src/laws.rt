@@ -1,0 +1,40 @@
+ghost use Rattle.c_right.specs.DriveLaws.{LawfulScriptsFit, ScriptsGrow};
+ghost use Rattle.c_right.specs.LineLaws.{RenewalsMeanNoLines, RowsMeanNoLines, ShapeMeansNoLines, TextOfCodeIsRight};
+
+use c_machine::lines_mean_nothing;
+
+/// What a program does over traces and scripts is the same for each program that differs from it in lines alone.
+pub fn rows_mean_no_lines()
+    ensures { RowsMeanNoLines }
+{
+    lines_mean_nothing();
+}
+
+/// So is what its starts and resets make of an instance.
+pub fn renewals_mean_no_lines()
+    ensures { RenewalsMeanNoLines }
+{
+    lines_mean_nothing();
+}
+
+/// So are its interfaces and its shape.
+pub fn shape_means_no_lines()
+    ensures { ShapeMeansNoLines }
+{}
+
+/// So the text of code for a table's diagram is right for the table.
+pub fn text_of_code_is_right()
+    ensures { TextOfCodeIsRight }
+{
+    lines_mean_nothing();
+}
+
+/// A script with one more call is lawful where it was and the call may follow.
+pub fn scripts_grow()
+    ensures { ScriptsGrow }
+{}
+
+/// Some trace fits each lawful script.
+pub fn lawful_scripts_fit()
+    ensures { LawfulScriptsFit }
+{}

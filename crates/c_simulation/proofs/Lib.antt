@@ -1,0 +1,12 @@
+mod NextStands
+mod RingLaws
+mod Lists
+mod DelayLengths
+mod LocalTickLaws
+mod Cycles
+mod RefusedCodes
+mod ChildTicks
+mod TypedTicks
+mod Totals
+mod BudgetSums
+mod NeededNodes
