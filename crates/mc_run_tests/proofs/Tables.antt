@@ -1,5 +1,5 @@
 -- The tables of the tests stand for models.
-use Rattle.std.specs.Prelude.{◌≡◌, ℕ, ◌<◌, ◌≤◌, ◌*◌, ◌^◌, Bool, true, false, List, [], ◌∷◌, Some, None, refl}
+use Rattle.std.specs.Prelude.{◌≡◌, ℕ, pos, ◌*ℤ◌, IsTrue, ◌<◌, ◌≤◌, ◌*◌, ◌^◌, Bool, true, false, List, [], ◌∷◌, Some, None, refl}
 use Rattle.std.proofs.Common.{sym, subst, arith, lit<, lit≤}
 use Rattle.mc_base.specs.declared.Control.TheVariants.{Plain, Enabled, Triggered, Both}
 use Rattle.mc_base.specs.declared.Decimal.{Decimal}
@@ -7,15 +7,17 @@ use Rattle.mc_base.specs.declared.Edge.TheVariants.{Rising}
 use Rattle.mc_base.specs.declared.Frac.{Frac}
 use Rattle.mc_base.specs.declared.TimeText.TheVariants.{Inherit as NoTime, Each}
 use Rattle.mc_fixed.specs.declared.FixType.{FixType}
+use Rattle.mc_fixed.specs.Rounding.{nearest}
+use Rattle.mc_fixed.specs.Conversion.{fits_32}
 use Rattle.mc_blocks.specs.declared.Kind.TheVariants.{Inport, Outport, SubSystem, Constant, UnitDelay, Delay, RateTransition, EnablePort, TriggerPort}
 use Rattle.mc_diagram.specs.declared.table.Row.{Row}
 use Rattle.mc_diagram.specs.declared.subsystem.Subsystem.{Subsystem}
 use Rattle.mc_diagram.specs.RowTable.{RowTable}
 use Rattle.mc_diagram.specs.DiagramTree.{IsDiagram}
 use Rattle.mc_diagram.specs.Nested.{System, system, no_more, next, system_of, AreSystemsOf}
-use Rattle.mc_diagram.specs.WellFormed.{IsKind, IsTypeTextOf, IsTimeTextOf, IsRow, IsTime, IsWellFormed}
+use Rattle.mc_diagram.specs.WellFormed.{IsKind, IsTypeTextOf, IsTimeTextOf, IsRow, IsTime, IsWellFormed, IsGainNumber}
 use Rattle.mc_diagram.proofs.lemmas.WellFormedTests.{well_formed-from}
-use Rattle.mc_run_tests.specs.Parts.{hold_of, row_of, source_of, sum_of}
+use Rattle.mc_run_tests.specs.Parts.{gain_of, hold_of, output_of, row_of, source_of, sum_of, typed_of}
 
 -- a table without a step
 abbrev pub table_of : List Row → RowTable
@@ -398,3 +400,111 @@ crossed-diagram type zero = diagram-from (crossed type zero) crossed-systems
       ),
     ) tt)
     (record { is_root = refl; agrees = (refl, refl, refl, (((refl, refl), refl, refl, tt), tt)) })
+
+-- ---- A subsystem whose two outputs share a delay and the gain that feeds it
+
+-- a small whole number is a gain
+pub gain-number : (d : Decimal) (n : ℕ) → d.num ≡ pos n → d.den ≡ 1 → IsTrue (fits_32 (nearest (pos n *ℤ pos (2 ^ 0)) 1)) → IsGainNumber d
+gain-number d n is_num is_den fits = rw (is_num, is_den) fits
+
+abbrev pub shared_node : (type : FixType) (zero one two : Decimal) → List Row
+shared_node type zero one two =
+    source_of 0 None (Inport 1) type NoTime ∷ source_of 1 None (Inport 2) type NoTime ∷ row_of 2 None (SubSystem Plain) []
+    ∷ row_of 3 (Some 2) (Inport 1) (0 ∷ []) ∷ row_of 4 (Some 2) (Inport 2) (1 ∷ []) ∷ row_of 5 (Some 2) (UnitDelay one) (6 ∷ [])
+    ∷ typed_of (row_of 6 (Some 2) (gain_of two) (5 ∷ [])) type
+    ∷ row_of 7 (Some 2) (sum_of 0) (6 ∷ 3 ∷ []) ∷ row_of 8 (Some 2) (sum_of 0) (6 ∷ 4 ∷ [])
+    ∷ row_of 9 (Some 2) (output_of 1 zero) (7 ∷ []) ∷ row_of 10 (Some 2) (output_of 2 zero) (8 ∷ [])
+    ∷ row_of 11 None (output_of 1 zero) (9 ∷ []) ∷ row_of 12 None (output_of 2 zero) (10 ∷ []) ∷ []
+
+abbrev pub shared_node-systems : System
+shared_node-systems = root_around (0 ∷ 1 ∷ 2 ∷ 11 ∷ 12 ∷ []) (system (Some 2) 2 Plain (3 ∷ 4 ∷ 5 ∷ 6 ∷ 7 ∷ 8 ∷ 9 ∷ 10 ∷ []) no_more)
+
+pub shared_node-diagram : (type : FixType) (zero one two : Decimal) → IsGainNumber two →
+    AreDiagram (shared_node type zero one two) shared_node-systems
+shared_node-diagram type zero one two fits = diagram-from (shared_node type zero one two) shared_node-systems
+    (well_formed-from (table_of (shared_node type zero one two)) refl refl refl refl refl (
+      lawful tt tt tt,
+      (
+        lawful tt tt tt,
+        (
+          lawful tt refl refl,
+          (
+            lawful tt tt tt,
+            (
+              lawful tt tt tt,
+              (
+                lawful tt refl tt,
+                (
+                  lawful fits tt tt,
+                  (
+                    lawful ((lit< tt, lit≤ tt), lit< tt) tt tt,
+                    (
+                      lawful ((lit< tt, lit≤ tt), lit< tt) tt tt,
+                      (
+                        lawful tt tt tt,
+                        (
+                          lawful tt tt tt,
+                          (lawful tt tt tt, (lawful tt tt tt, tt)),
+                        ),
+                      ),
+                    ),
+                  ),
+                ),
+              ),
+            ),
+          ),
+        ),
+      ),
+    ) tt)
+    (record { is_root = refl; agrees = (refl, refl, refl, (((refl, refl), refl, refl, tt), tt)) })
+
+-- ---- A subsystem that both outputs of the root read
+
+abbrev pub shared_child : (type : FixType) (zero : Decimal) → List Row
+shared_child type zero =
+    source_of 0 None (Inport 1) type NoTime ∷ source_of 1 None (Inport 2) type NoTime ∷ row_of 2 None (SubSystem Plain) []
+    ∷ row_of 3 (Some 2) (Inport 1) (0 ∷ []) ∷ row_of 4 (Some 2) (output_of 1 zero) (3 ∷ []) ∷ row_of 5 None (sum_of 0) (4 ∷ 1 ∷ [])
+    ∷ row_of 6 None (output_of 1 zero) (4 ∷ []) ∷ row_of 7 None (output_of 2 zero) (5 ∷ []) ∷ []
+
+abbrev pub shared_child-systems : System
+shared_child-systems = root_around (0 ∷ 1 ∷ 2 ∷ 5 ∷ 6 ∷ 7 ∷ []) (system (Some 2) 2 Plain (3 ∷ 4 ∷ []) no_more)
+
+pub shared_child-diagram : (type : FixType) (zero : Decimal) → AreDiagram (shared_child type zero) shared_child-systems
+shared_child-diagram type zero = diagram-from (shared_child type zero) shared_child-systems
+    (well_formed-from (table_of (shared_child type zero)) refl refl refl refl refl (
+      lawful tt tt tt,
+      (
+        lawful tt tt tt,
+        (
+          lawful tt refl refl,
+          (
+            lawful tt tt tt,
+            (
+              lawful tt tt tt,
+              (
+                lawful ((lit< tt, lit≤ tt), lit< tt) tt tt,
+                (lawful tt tt tt, (lawful tt tt tt, tt)),
+              ),
+            ),
+          ),
+        ),
+      ),
+    ) tt)
+    (record { is_root = refl; agrees = (refl, refl, refl, (((refl, refl), refl, refl, tt), tt)) })
+
+-- ---- An input, three times it, and the input before
+
+abbrev pub three_outputs : (type : FixType) (zero three : Decimal) → List Row
+three_outputs type zero three =
+    source_of 0 None (Inport 1) type NoTime ∷ row_of 1 None (gain_of three) (0 ∷ []) ∷ row_of 2 None (UnitDelay zero) (0 ∷ [])
+    ∷ row_of 3 None (output_of 1 zero) (0 ∷ []) ∷ row_of 4 None (output_of 2 zero) (1 ∷ []) ∷ row_of 5 None (output_of 3 zero) (2 ∷ []) ∷ []
+
+abbrev pub three_outputs-systems : System
+three_outputs-systems = root_of (0 ∷ 1 ∷ 2 ∷ 3 ∷ 4 ∷ 5 ∷ [])
+
+pub three_outputs-diagram : (type : FixType) (zero three : Decimal) → IsGainNumber three →
+    AreDiagram (three_outputs type zero three) three_outputs-systems
+three_outputs-diagram type zero three fits = diagram-from (three_outputs type zero three) three_outputs-systems
+    (well_formed-from (table_of (three_outputs type zero three)) refl refl refl refl refl
+    (lawful tt tt tt, (lawful fits tt tt, (lawful tt refl tt, (lawful tt tt tt, (lawful tt tt tt, (lawful tt tt tt, tt)))))) tt)
+    (record { is_root = refl; agrees = (refl, refl, refl, tt) })

@@ -1,10 +1,10 @@
 ghost use Rattle.std.specs.Prelude.{◌≡◌, ◌<◌, IfOk, pos};
 ghost use Rattle.mc_blocks.specs.declared.Kind.TheVariants.{Outport};
 ghost use Rattle.mc_diagram.specs.Nested.{next, no_more, system, system_of};
-ghost use Rattle.mc_run_tests.specs.Parts.{hold_of, line_of, row_of, source_of, sum_of};
+ghost use Rattle.mc_run_tests.specs.Parts.{gain_of, hold_of, line_of, output_of, row_of, source_of, sum_of, typed_of};
 
 use mc_base::{Control, Decimal, Frac, Memory, Place, TimeText, Wires};
-use mc_blocks::{How, Kind};
+use mc_blocks::{GainText, How, Kind};
 use mc_diagram::{Row, Subsystem};
 use mc_fixed::{FixType, Over, Round, TypeText};
 use std::alloc::Global;
@@ -29,7 +29,8 @@ pub fn boolean() -> FixType {
 
 /// A whole number.
 pub fn whole(number: u8) -> Decimal
-    ensures { result.num ≡ pos number }
+    ensures num { result.num ≡ pos number }
+    ensures den { result.den ≡ 1 }
 {
     Decimal {
         num: i128::from(number),
@@ -45,6 +46,30 @@ pub fn outport(reset: bool, initial: Decimal) -> Kind
         port: 1,
         reset,
         initial,
+    }
+}
+
+/// An output of its system at this port, which is held and begins with this number.
+pub fn output(port: u32, initial: Decimal) -> Kind
+    ensures { result ≡ output_of port initial }
+{
+    Kind::Outport {
+        port,
+        reset: false,
+        initial,
+    }
+}
+
+/// The product of an input and this number, rounded down and saturated.
+pub fn gain(factor: Decimal) -> Kind
+    ensures { result ≡ gain_of factor }
+{
+    Kind::Gain {
+        gain: GainText::Own(factor),
+        how: How {
+            round: Round::Floor,
+            over: Over::Saturate,
+        },
     }
 }
 
@@ -114,7 +139,16 @@ pub fn row(number: u32, owner: Option<u32>, kind: Kind, inputs: Vec<u32>) -> Row
     }
 }
 
-/// The same without inputs, and with a written type and this text of its sample time.
+/// A row that writes this type besides.
+pub fn typed(row: Row, type_of: FixType) -> Row
+    ensures { result ≡ typed_of row type_of }
+{
+    let mut row = row;
+    row.type_text = TypeText::Fixed(type_of);
+    row
+}
+
+/// A row of this number without inputs, with a written type and this text of its sample time.
 pub fn source(
     alloc: Global,
     number: u32,

@@ -4,8 +4,8 @@
 mod builder;
 
 pub use builder::{
-    boolean, hold, int32, leaf, little_more_than_a_second, outport, part_of_second, row, seconds,
-    source, sum, whole, with_child,
+    boolean, gain, hold, int32, leaf, little_more_than_a_second, outport, output, part_of_second,
+    row, seconds, source, sum, typed, whole, with_child,
 };
 
 #[cfg(test)]

@@ -3,6 +3,8 @@ mod delays;
 mod nested;
 mod profiles;
 mod rates;
+mod shared;
+mod systems;
 mod times;
 
 use mc_depend::find_loop;

@@ -1,5 +1,5 @@
 use super::resolved;
-use crate::{int32, leaf, outport, row, source, whole, with_child};
+use crate::{gain, int32, leaf, outport, output, row, source, whole, with_child};
 use mc_base::{Control, Memory, TimeText};
 use mc_blocks::Kind;
 use mc_depend::find_loop;
@@ -59,5 +59,48 @@ fn crossed_ports(rt: HostRuntime) -> Result<(), Fail> {
     assert_eq!(rt; root.functions.as_slice(), [first].as_slice());
     assert_eq!(rt; child.row, Some(1));
     assert_eq!(rt; child.functions.as_slice(), [first, second].as_slice());
+    Ok(())
+}
+
+/// An input, three times it, and the input of the tick before.
+fn three_outputs(alloc: Global) -> Result<Tree, Memory> {
+    let input = Kind::Inport { port: 1 };
+    let int32 = int32();
+    let zero = whole(0);
+    let three = whole(3);
+    let delay = Kind::UnitDelay { initial: zero };
+    let rows = vec![in alloc;
+        source(alloc, 0, None, input, int32, TimeText::Inherit),
+        row(1, None, gain(three), vec![in alloc; 0]?),
+        row(2, None, delay, vec![in alloc; 0]?),
+        row(3, None, output(1, zero), vec![in alloc; 0]?),
+        row(4, None, output(2, zero), vec![in alloc; 1]?),
+        row(5, None, output(3, zero), vec![in alloc; 2]?),
+    ]?;
+    let own = vec![in alloc; 0, 1, 2, 3, 4, 5]?;
+    let root = leaf(alloc, None, Control::Plain, own);
+    let table = Table {
+        rows,
+        fixed_step: None,
+    };
+    Ok(Tree::new(table, root))
+}
+
+// The first two outputs need the input, and the third needs nothing.
+#[test]
+fn classes_of_outputs(rt: HostRuntime) -> Result<(), Fail> {
+    let r = resolved(rt.alloc(), three_outputs(rt.alloc())?)?;
+    let profiles = profiles_of(rt.alloc(), &r)?;
+    assert_eq!(rt; profiles.len(), 1);
+    let root = profiles.as_slice().first().ok_or("there is no root")?;
+    let both = Function {
+        inputs: 1,
+        outputs: 3,
+    };
+    let delayed = Function {
+        inputs: 0,
+        outputs: 4,
+    };
+    assert_eq!(rt; root.functions.as_slice(), [both, delayed].as_slice());
     Ok(())
 }
