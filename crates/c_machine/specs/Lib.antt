@@ -3,6 +3,11 @@ pub mod Values
 pub mod Machine
 pub mod Rows
 pub mod LinesAside
+pub mod CellLaws
+pub mod RunLaws
+pub mod CallLaws
+pub mod NumberingLaws
+pub mod FieldNumbers
 pub mod RowsExamples
 pub mod RoundsExamples
 pub mod StuckExamples

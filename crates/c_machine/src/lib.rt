@@ -1,6 +1,11 @@
-// The machine of C: what a call does to the fields of a struct, and the rows that a program gives over a trace.
+// The machine of C: what a call does to the fields of a struct, the rows that a program gives over a trace, and laws of both.
 #![tactic(auto)]
 
 mod laws;
 
-pub use laws::lines_mean_nothing;
+pub use laws::{
+    arguments_are_passed, child_calls_stay_inside, code_sees_what_it_calls, field_numbers_are_free,
+    fields_are_set, items_are_set, items_are_stored, lines_mean_nothing, numbers_are_stored,
+    own_calls_run_bodies, procedure_numbers_are_free, procedures_stand_in_order,
+    sequences_run_in_order, tests_choose_branches,
+};

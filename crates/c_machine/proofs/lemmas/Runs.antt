@@ -1,12 +1,13 @@
 -- Laws of runs: lists of statements one behind the other, and what stays as it was.
-use Rattle.std.proofs.Common.{◌≡◌, refl, sym, ◌∙◌, ap, ℕ, zero, suc, ◌+◌, ◌<◌, ◌≢◌, List, [], ◌∷◌, ◌++◌, length, arith, slice_get, take, Some, if◌then◌else◌, subst, unwrap_or, add-zero}
+use Rattle.std.proofs.Common.{◌≡◌, refl, sym, ◌∙◌, ap, ℕ, zero, suc, ◌+◌, ◌<◌, ◌≢◌, List, [], ◌∷◌, ◌++◌, length, arith, slice_get, take, Some, subst, unwrap_or, add-zero}
 use Rattle.std.proofs.Math.Path.{fun_ext}
 use Rattle.std.proofs.lemmas.List.{append_assoc, get_or_append_left, length-append}
 use Rattle.std.proofs.Math.Seq.{get_or-append_seam}
-use Rattle.c_syntax.specs.Tree.{StmtTree, assign, assign_at, branch, call, StmtTrees, no_stmts, more_stmts, stmts_append, StructTree, ProcedureTree}
+use Rattle.c_syntax.specs.Tree.{StmtTrees, no_stmts, more_stmts, stmts_append, StructTree, ProcedureTree}
 use Rattle.c_machine.specs.Cells.{Cell, Cells, no_cells, more_cells, cell_at, set_cell}
-use Rattle.c_machine.specs.Values.{Function, eval_cond, reads}
-use Rattle.c_machine.specs.Machine.{Outcome, done, stuck, behind, then_run, begin_step, on_answer, arguments, on_target, Scope, run_stmt, run_stmts, LoggedCall, StoredField, Routine, no_routine, routine_at, routine_of, routines_of}
+use Rattle.c_machine.specs.Values.{Function}
+use Rattle.c_machine.specs.CellLaws.{cells_count}
+use Rattle.c_machine.specs.Machine.{Outcome, done, stuck, behind, then_run, Scope, run_stmt, run_stmts, LoggedCall, StoredField, Routine, no_routine, routine_at, routine_of, routines_of}
 
 -- nothing before an outcome leaves it as it is
 pub behind-nothing : (o : Outcome) → behind [] [] o ≡ o
@@ -43,10 +44,6 @@ cell_at-set_cell-other (more_cells b cs) zero (suc j) c apart = refl
 cell_at-set_cell-other (more_cells b cs) (suc i) zero c apart = refl
 cell_at-set_cell-other (more_cells b cs) (suc i) (suc j) c apart = cell_at-set_cell-other cs i j c (λ e. apart (ap suc e))
 
-abbrev pub cells_count : Cells → ℕ
-cells_count no_cells = 0
-cells_count (more_cells c cs) = suc (cells_count cs)
-
 pub cell_at-set_cell-same : (cells : Cells) (i : ℕ) (c : Cell) → i < cells_count cells → cell_at (set_cell cells i c) i ≡ c
 cell_at-set_cell-same no_cells i c within = absurd (omega (arith, within))
 cell_at-set_cell-same (more_cells b cs) zero c within = refl
@@ -71,34 +68,3 @@ routines_of-at structs functions earlier (q ∷ ps) (suc j) p there =
     let r : Routine = routine_of structs functions earlier (length earlier) q in
     let e : length (earlier ++ r ∷ []) + j ≡ length earlier + suc j = omega (arith, length-append earlier (r ∷ [])) in
     subst (λ n. routine_at (routines_of structs functions (earlier ++ r ∷ []) ps) n ≡ routine_of structs functions (routines_of structs functions (earlier ++ r ∷ []) (take j ps)) n p) e (routines_of-at structs functions (earlier ++ r ∷ []) ps j p there)
-
-abbrev mutual
-  -- each call is of a procedure at a position below n
-  pub CallsBelow : ℕ → StmtTree → Type 0
-  CallsBelow n (assign line f e) = Unit {0}
-  CallsBelow n (assign_at line f index e) = Unit {0}
-  CallsBelow n (branch line test on_true on_false) = AllCallsBelow n on_true × AllCallsBelow n on_false
-  CallsBelow n (call line k target es) = k < n
-
-  pub AllCallsBelow : ℕ → StmtTrees → Type 0
-  AllCallsBelow n no_stmts = Unit {0}
-  AllCallsBelow n (more_stmts s ss) = CallsBelow n s × AllCallsBelow n ss
-
--- a scope with other procedures
-abbrev pub with_routines : Scope → List Routine → Scope
-with_routines s rs = record { functions = s.functions; routines = rs; types = s.types; values = s.values }
-
--- statements do the same where the procedures that they call do
-mutual
-  pub run_stmt-agree : (s : Scope) (rs qs : List Routine) (n : ℕ) → ((k : ℕ) → k < n → routine_at rs k ≡ routine_at qs k) → (x : StmtTree) → CallsBelow n x → run_stmt (with_routines s rs) x ≡ run_stmt (with_routines s qs) x
-  run_stmt-agree s rs qs n agree (assign line f e) below = refl
-  run_stmt-agree s rs qs n agree (assign_at line f index e) below = refl
-  run_stmt-agree s rs qs n agree (branch line test on_true on_false) below =
-      λ i cells steps. begin_step line cells steps (λ count. on_answer (eval_cond s.functions (reads s.values cells) line test count) cells (λ holds. (if holds then run_stmts-agree s rs qs n agree on_true below.0 i else run_stmts-agree s rs qs n agree on_false below.1 i) cells))
-  run_stmt-agree s rs qs n agree (call line k target es) below =
-      λ i cells steps. begin_step line cells steps (λ count. on_answer (arguments s.functions (reads s.values cells) line (agree k below i).params es count) cells (λ values. on_target target ((agree k below i).run values) cells))
-
-  pub run_stmts-agree : (s : Scope) (rs qs : List Routine) (n : ℕ) → ((k : ℕ) → k < n → routine_at rs k ≡ routine_at qs k) → (xs : StmtTrees) → AllCallsBelow n xs → run_stmts (with_routines s rs) xs ≡ run_stmts (with_routines s qs) xs
-  run_stmts-agree s rs qs n agree no_stmts below = refl
-  run_stmts-agree s rs qs n agree (more_stmts x xs) below =
-      λ i cells steps. then_run (run_stmt-agree s rs qs n agree x below.0 i cells steps) (run_stmts-agree s rs qs n agree xs below.1 i)

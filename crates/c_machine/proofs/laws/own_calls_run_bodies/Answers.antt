@@ -1,0 +1,5 @@
+use Rattle.c_machine.proofs.CallLaws as proof
+use Rattle.c_machine.proofs.laws.own_calls_run_bodies.Goals as goal
+
+pub returns : goal.returns
+returns c = proof.own_calls_run_bodies
