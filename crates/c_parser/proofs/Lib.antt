@@ -1,6 +1,7 @@
 pub mod TokenLines
 pub mod Pieces
 pub mod Numerals
+pub mod Keywords
 pub mod Lists
 pub mod Rows
 pub mod Fewer

@@ -1,8 +1,8 @@
 -- Tokens behind bytes that are skipped, and the lines that can be told.
-use Rattle.std.proofs.Common.{◌≡◌, refl, sym, ◌∙◌, ap, subst, ℕ, zero, suc, ◌+◌, ◌-◌, ◌≤◌, ◌<◌, Bool, true, false, ◌==◌, if◌then◌else◌, min, List, [], ◌∷◌, length, drop, take, arith}
+use Rattle.std.proofs.Common.{◌≡◌, refl, sym, ◌∙◌, subst, ℕ, zero, suc, ◌+◌, ◌-◌, ◌≤◌, ◌<◌, Bool, true, false, not, ◌==◌, ◌&&◌, if◌then◌else◌, min, List, [], ◌∷◌, length, drop, take, arith}
+use Rattle.std.specs.List.{list_all}
 use Rattle.mc_base.specs.Numbers.{reported_number}
-use Rattle.c_grammar.specs.Tokens.{Token, Piece, blank, comment, token, class_of, piece_of, piece_tokens, line_after, tokens_from}
-use Rattle.std.proofs.lemmas.Bool.{eqb-true}
+use Rattle.c_grammar.specs.Tokens.{Token, Piece, blank, comment, token, class_of, piece_of, piece_tokens, line_after, tokens_from, is_line_end}
 use Rattle.c_parser.specs.Lines.{line_behind}
 use Rattle.c_parser.specs.Pieces.{IsFirstToken}
 
@@ -47,15 +47,27 @@ tokens-behind (suc skip) line (c ∷ bytes) few =
     tokens-same skip (line_after c line) (reported_number (line_after c line)) bytes (told-once (line_after c line))
     ∙ tokens-behind skip (reported_number (line_after c line)) bytes (omega (arith, few))
 
--- other bytes are on the same line
-pub same-line : (line b : ℕ) (bs : List ℕ) → line < 4294967296 → (b ≡ 10 → ⊥) → line_behind line bs ≡ line_behind line (b ∷ bs)
-same-line line b bs fits other = by (b == 10) refl
+-- bytes that end no line
+abbrev pub OnOneLine : List ℕ → Type 0
+OnOneLine bytes = list_all (λ b. not (is_line_end b)) bytes ≡ true
+
+-- tokens behind them
+pub tokens-behind-line : (skip line : ℕ) (bytes : List ℕ) →
+    OnOneLine (take skip bytes) → skip ≤ length bytes → tokens_from skip line bytes ≡ tokens_from 0 line (drop skip bytes)
+tokens-behind-line zero line bytes one few = refl
+tokens-behind-line (suc skip) line [] one few = absurd (omega (arith, few))
+tokens-behind-line (suc skip) line (c ∷ bytes) one few = by (c == 10) one (λ k. tokens-behind-line skip line bytes k (omega (arith, few)))
   where
-    by : (c : Bool) → (b == 10) ≡ c → line_behind line bs ≡ line_behind (reported_number (if c then line + 1 else line)) bs
-    by true e = absurd (other (eqb-true b 10 e))
-    by false e = ap (λ n. line_behind n bs) (sym (told line fits))
+    by : (end : Bool) → (not end && list_all (λ b. not (is_line_end b)) (take skip bytes)) ≡ true →
+        (OnOneLine (take skip bytes) → tokens_from skip line bytes ≡ tokens_from 0 line (drop skip bytes)) →
+        tokens_from skip (if end then line + 1 else line) bytes ≡ tokens_from 0 line (drop skip bytes)
+    by true k later = cc
+    by false k later = later k
 
 -- the first token of a text, and the tokens behind it
-pub first-token : {self : List Token} (line len next first : ℕ) (bytes behind text rest : List ℕ) → tokens_from 0 line bytes ≡ self → bytes ≡ first ∷ behind → IsFirstToken len (first ∷ behind) → text ≡ take len bytes → rest ≡ drop len bytes → next ≡ line_behind line text → line < 4294967296 → {tokens : List Token} → tokens ≡ tokens_from 0 next rest → self ≡ record { text = text; line = line } ∷ tokens
-first-token {self} line len next first bytes behind text rest is list there front back lines fits {tokens} later =
-    sym is ∙ subst (λ bs. IsFirstToken len bs) (sym list) there line ∙ rw (sym front, sym back, sym lines, sym later, told line fits) refl
+pub first-token : {self : List Token} (line len first : ℕ) (bytes behind text rest : List ℕ) →
+    tokens_from 0 line bytes ≡ self → bytes ≡ first ∷ behind → IsFirstToken len (first ∷ behind) → text ≡ take len bytes →
+    rest ≡ drop len bytes → line < 4294967296 → {tokens : List Token} → tokens ≡ tokens_from 0 line rest →
+    self ≡ record { text = text; line = line } ∷ tokens
+first-token {self} line len first bytes behind text rest is list there front back fits {tokens} later =
+    sym is ∙ subst (λ bs. IsFirstToken len bs) (sym list) there line ∙ rw (sym front, sym back, sym later, told line fits) refl

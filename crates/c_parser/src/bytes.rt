@@ -6,10 +6,11 @@ ghost use Rattle.c_grammar.specs.Tokens as tokens;
 ghost use Rattle.c_syntax.specs.Names as names;
 ghost use Rattle.c_parser.specs.Pieces.{IsPiece};
 
-/// What a text begins with, by its length: what has no token, or a token.
+/// What a text begins with: a blank byte, or a comment or a token by its length.
 #[derive(Clone, Copy, Drop)]
 pub(crate) enum Piece {
-    Skip(usize),
+    Blank,
+    Comment(usize),
     Token(usize),
 }
 
@@ -85,7 +86,7 @@ fn sign_piece(first: u8, rest: &[u8]) -> Piece
     };
     if opens_comment(first, *second) {
         match comment_end(behind) {
-            Some(len) => Piece::Skip(2 + len),
+            Some(len) => Piece::Comment(2 + len),
             None => Piece::Token(2),
         }
     } else if is_double_sign(first, *second) {
@@ -100,7 +101,7 @@ pub(crate) fn first_piece(first: u8, rest: &[u8]) -> Piece
     ensures { IsPiece result (first ∷ rest.now) }
 {
     if is_white_space(first) {
-        Piece::Skip(1)
+        Piece::Blank
     } else if is_word_start(first) {
         Piece::Token(1 + word_len(rest))
     } else if first.is_ascii_digit() {

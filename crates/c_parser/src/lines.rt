@@ -1,7 +1,19 @@
 // Lines of a text.
 ghost use Rattle.std.specs.Prelude.{◌≡◌};
+ghost use Rattle.mc_base.specs.Numbers.{reported_number};
 ghost use Rattle.c_grammar.specs.Tokens as tokens;
 ghost use Rattle.c_parser.specs.Lines.{line_behind};
+
+/// The line behind a byte that stands on a line.
+pub(crate) fn line_past(line: u32, byte: u8) -> u32
+    ensures { result ≡ reported_number (tokens.line_after byte line) }
+{
+    if byte == b'\n' {
+        line.saturating_add(1)
+    } else {
+        line
+    }
+}
 
 /// The line behind some bytes that begin on a line.
 pub(crate) fn line_behind(line: u32, bytes: &[u8]) -> u32
@@ -10,9 +22,7 @@ pub(crate) fn line_behind(line: u32, bytes: &[u8]) -> u32
     let mut line = line;
     let mut rest = bytes;
     while let Some((first, others)) = rest.split_first() {
-        if *first == b'\n' {
-            line = line.saturating_add(1);
-        }
+        line = line_past(line, *first);
         rest = others;
     }
     line

@@ -5,7 +5,7 @@ ghost use Rattle.c_grammar.specs.Parsing.{first_text};
 ghost use Rattle.c_parser.specs.Lines.{line_behind};
 
 use crate::bytes::{Piece, first_piece};
-use crate::lines::line_behind;
+use crate::lines::{line_behind, line_past};
 use std::marker::Model;
 
 /// A token: its bytes, and the line of the first of them.
@@ -55,15 +55,18 @@ impl<'a> Tokens<'a> {
         let mut line = self.line;
         while let Some((first, behind)) = bytes.split_first() {
             match first_piece(*first, behind) {
-                Piece::Skip(len) => {
+                Piece::Blank => {
+                    line = line_past(line, *first);
+                    bytes = behind;
+                }
+                Piece::Comment(len) => {
                     let (skipped, rest) = bytes.split_at(len);
                     line = line_behind(line, skipped);
                     bytes = rest;
                 }
                 Piece::Token(len) => {
                     let (text, rest) = bytes.split_at(len);
-                    let rest = Tokens::new(rest, line_behind(line, text));
-                    return Some((Token { text, line }, rest));
+                    return Some((Token { text, line }, Tokens::new(rest, line)));
                 }
             }
         }

@@ -62,10 +62,21 @@ fn is_one_of(text: &[u8], words: &[&[u8]]) -> bool
     words.iter().any(|word| is(text, word))
 }
 
+// Whether a text may be a keyword: the second byte of each keyword is a lower-case letter.
+#[tactic(auto, using(crate::proofs::Keywords::short_none, crate::proofs::Keywords::second_none))]
+fn may_be_keyword(text: &[u8]) -> bool
+    ensures { result ≡ false → list_any (bytes_eq text.now) tokens.keywords ≡ false }
+{
+    match text {
+        [_, second, ..] => second.is_ascii_lowercase(),
+        _ => false,
+    }
+}
+
 fn is_keyword(text: &[u8]) -> bool
     ensures { result ≡ list_any (bytes_eq text.now) tokens.keywords }
 {
-    is_one_of(text, &KEYWORDS)
+    may_be_keyword(text) && is_one_of(text, &KEYWORDS)
 }
 
 fn starts_lower(text: &[u8]) -> bool

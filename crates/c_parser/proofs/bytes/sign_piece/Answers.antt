@@ -1,5 +1,5 @@
 use Rattle.std.proofs.Common.{sym, subst, ◌∷◌, ◌+◌, arith}
-use Rattle.c_parser.specs.declared.bytes.Piece.TheVariants.{Skip, Token}
+use Rattle.c_parser.specs.declared.bytes.Piece.TheVariants.{Comment, Token}
 use Rattle.c_parser.specs.Pieces.{IsPiece}
 use Rattle.c_parser.proofs.Pieces.{comment-fits, comment-piece, open-comment-piece, double-piece, sign-piece}
 use Rattle.c_parser.proofs.bytes.sign_piece.Goals as goal
@@ -9,7 +9,7 @@ overflow_add-result c = omega (arith, comment-fits c.in-Some-comment_end.len c.i
 
 pub returns-in-Some-comment_end : goal.returns-in-Some-comment_end
 returns-in-Some-comment_end c =
-    subst (λ rest. IsPiece (Skip (2 + c.in-Some-comment_end.len)) (c.args.first ∷ rest)) (sym c.in-Some.ensures.cases.0) (comment-piece c.args.first c.in-Some.second.now c.in-Some-comment_end.len c.in-Some.behind.now c.requires c.if-opens_comment.ensures c.in-Some-comment_end.ensures)
+    subst (λ rest. IsPiece (Comment (2 + c.in-Some-comment_end.len)) (c.args.first ∷ rest)) (sym c.in-Some.ensures.cases.0) (comment-piece c.args.first c.in-Some.second.now c.in-Some-comment_end.len c.in-Some.behind.now c.requires c.if-opens_comment.ensures c.in-Some-comment_end.ensures)
 
 pub returns-in-None : goal.returns-in-None
 returns-in-None c =
