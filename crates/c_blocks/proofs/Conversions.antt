@@ -1,9 +1,8 @@
 -- What the expression of a conversion gives.
-use Rattle.std.proofs.Common.{true≢false, ◌≡◌, refl, sym, ap, ◌∙◌, subst, ℕ, ◌+◌, ◌-◌, ◌^◌, ◌<◌, ◌≤◌, ◌==◌, nat_le, Bool, true, false, cond, if◌then◌else◌, List, [], ◌∷◌, ℤ, pos, neg_ℤ, ◌*ℤ◌, ◌≤ℤ◌, ◌+ℤ◌, ◌-ℤ◌, ◌*◌, ◌&&◌, ◌||◌, not, negsuc, zero, suc, int_lt, unsigned_abs, arith, pow_pos}
+use Rattle.std.proofs.Common.{◌≡◌, refl, sym, ap, ◌∙◌, subst, ℕ, ◌+◌, ◌-◌, ◌^◌, ◌<◌, ◌≤◌, ◌==◌, nat_le, Bool, true, false, cond, if◌then◌else◌, List, [], ◌∷◌, ℤ, pos, neg_ℤ, ◌*ℤ◌, ◌≤ℤ◌, ◌+ℤ◌, ◌-ℤ◌, ◌*◌, zero, suc, int_lt, unsigned_abs, arith, pow_pos}
 use Rattle.std.specs.Prelude.{Contains}
 use Rattle.std.specs.Int.{int_rem_euclid}
-use Rattle.std.proofs.Math.Nat.{le-mul_of_pos_right, mul-le-mul_right, mod-eq_of_lt, pow-suc}
-use Rattle.std.proofs.lemmas.Nat.{pow-add}
+use Rattle.std.proofs.Math.Nat.{le-mul_of_pos_right, mod-eq_of_lt, pow-suc}
 use Rattle.std.proofs.Math.Pow.{pow_mono}
 use Rattle.std.proofs.lemmas.Bool.Decides.{nat_tests}
 use Rattle.std.proofs.lemmas.Int.{ints, unsigned_abs-mul}
@@ -15,7 +14,7 @@ use Rattle.mc_fixed.specs.declared.Round.{Round}
 use Rattle.mc_fixed.specs.declared.Round.TheVariants.{Ceiling, Convergent, Floor, Nearest, Zero}
 use Rattle.mc_fixed.specs.declared.Round.TheVariants as round
 use Rattle.mc_fixed.specs.Profile.{InProfile}
-use Rattle.mc_fixed.specs.Rounding.{rounded}
+use Rattle.mc_fixed.specs.Rounding.{rounded, RoundingIsOne}
 use Rattle.mc_fixed.specs.Conversion.{InType, least_of, greatest_of, cast_into, over_units, under_units, all_cases}
 use Rattle.mc_blocks.specs.declared.How.{How}
 use Rattle.mc_blocks.specs.Value.{conversion, aligned_number}
@@ -24,10 +23,13 @@ use Rattle.c_syntax.specs.declared.BinOp.TheVariants.{Mul}
 use Rattle.c_syntax.specs.Tree.{ExprTree, binary, pure, exprs_of_list, PureTree}
 use Rattle.c_machine.specs.Values.{Answer, gives, and_then, Function, Reads, function_at, functions_of, eval, step_limit}
 use Rattle.c_prelude.specs.Rules.{IsPrelude, WholeNumbersStay, rounding_position, cast_call}
-use Rattle.mc_blocks.specs.Width.{magnitude_bits}
-use Rattle.c_blocks.specs.RowCode.{holds_all, aligned, cast, converted, power, written}
+use Rattle.std.specs.Prelude.{Option}
+use Rattle.c_blocks.specs.declared.ranges.Range.{Range}
+use Rattle.c_blocks.specs.Ranges.{surely_holds}
+use Rattle.c_blocks.specs.RowCode.{aligned, cast, converted, power, written}
 use Rattle.c_blocks.specs.Computed.{conversion_returns}
 use Rattle.c_blocks.proofs.Evaluation.{Gives, gives_mul, gives_written, call_after}
+use Rattle.c_blocks.proofs.RangeLaws.{InRange, held_is_in}
 
 -- ---- Numbers of types
 
@@ -66,47 +68,12 @@ greatest_small t = let ends = ends_by t.signed t.bits t.frac t.in_profile in ome
 
 -- ---- Numbers that a type holds
 
-wide : (n b k m : ℕ) → n ≤ 2 ^ b → b + k ≤ m → n * 2 ^ k ≤ 2 ^ m
-wide n b k m small room =
-    let power : 2 ^ (b + k) ≤ 2 ^ m = pow_mono room in
-    omega (arith, mul-le-mul_right (2 ^ k) small, pow-add 2 b k, power)
-
-wide_below : (n b k m : ℕ) → n < 2 ^ b → b + k ≤ m → n * 2 ^ k < 2 ^ m
-wide_below n b k m small room =
-    let one_more : suc n ≤ 2 ^ b = omega (arith, small) in
-    let whole = wide (suc n) b k m one_more room in
-    let part : n * 2 ^ k + 2 ^ k ≤ 2 ^ m = omega (arith, whole) in
-    omega (arith, part, pow_pos k)
-
--- the ends of a type, by its magnitudes
+-- the ends of a type
 abbrev least_by : (signed : Bool) (bits : ℕ) → ℤ
 least_by signed bits = cond signed (neg_ℤ (pos (2 ^ (bits - 1)))) (pos 0)
 
 abbrev greatest_by : (signed : Bool) (bits : ℕ) → ℤ
 greatest_by signed bits = cond signed (pos (2 ^ (bits - 1) - 1)) (pos (2 ^ bits - 1))
-
-abbrev magnitude_by : (signed : Bool) (bits : ℕ) → ℕ
-magnitude_by signed bits = cond signed (bits - 1) bits
-
--- a number from 0 on lies in each type that has the bits
-pos_in : (signed : Bool) (bits n : ℕ) → n < 2 ^ magnitude_by signed bits →
-    (least_by signed bits ≤ℤ pos n) × (pos n ≤ℤ greatest_by signed bits)
-pos_in true bits n h = (omega (arith, ints), omega (arith, ints, h))
-pos_in false bits n h = (omega (arith, ints), omega (arith, ints, h))
-
--- a number of a type, shifted up, lies in a type that has a sign where that one has one, and as many bits before the point
-held_by : (from : Bool) (b : ℕ) (to : Bool) (c k : ℕ) → (not from || to) ≡ true → magnitude_by from b + k ≤ magnitude_by to c →
-    (v : ℤ) → least_by from b ≤ℤ v → v ≤ℤ greatest_by from b →
-    (least_by to c ≤ℤ (v *ℤ pos (2 ^ k))) × ((v *ℤ pos (2 ^ k)) ≤ℤ greatest_by to c)
-held_by false b to c k sign room (pos n) low high =
-    pos_in to c (n * 2 ^ k) (wide_below n b k (magnitude_by to c) (omega (arith, ints, high, pow_pos b)) room)
-held_by false b to c k sign room (negsuc n) low high = absurd (omega (arith, ints, low))
-held_by true b true c k sign room (pos n) low high =
-    pos_in true c (n * 2 ^ k) (wide_below n (b - 1) k (c - 1) (omega (arith, ints, high, pow_pos (b - 1))) room)
-held_by true b true c k sign room (negsuc n) low high =
-    let many = wide (suc n) (b - 1) k (c - 1) (omega (arith, ints, low)) room in
-    (omega (arith, ints, many), omega (arith, ints))
-held_by true b false c k sign room v low high = absurd (true≢false (sym sign))
 
 -- a number of a type is brought into it as it is
 wrap_by : (signed : Bool) (bits : ℕ) → 1 ≤ bits → (q : ℤ) → least_by signed bits ≤ℤ q → q ≤ℤ greatest_by signed bits →
@@ -200,23 +167,14 @@ whole_units stay r v f t h =
     let none : f - t.frac ≡ 0 = omega (arith, h) in
     sym (ap (λ k. rounded r (v *ℤ pos (2 ^ (t.frac - f))) (2 ^ k)) none ∙ stay r (v *ℤ pos (2 ^ (t.frac - f))))
 
-parts : (a b : Bool) → (a && b) ≡ true → (a ≡ true) × (b ≡ true)
-parts true b e = (refl, e)
-parts false b e = absurd (true≢false (sym e))
+-- what a type holds is converted into it by rounding alone
+held_is : RoundingIsOne → (v : ℤ) (f : ℕ) (range : Option Range) (to : FixType) (how : How) → InRange range v →
+    surely_holds to f range ≡ true → rounded how.round (over_units v f to.frac) (under_units f to.frac) ≡ conversion v f to how
+held_is one v f range to how inside held =
+    sym (stays_in how.over to (rounded how.round (over_units v f to.frac) (under_units f to.frac))
+    (held_is_in one how.round v f to range inside held))
 
--- a type that holds each number of another holds this one, as it is
-pub held_is : (stay : WholeNumbersStay) (from : FixType) (v : ℤ) (f : ℕ) (to : FixType) (how : How) → InType from v →
-    holds_all to f from ≡ true → conversion v f to how ≡ aligned_number v f to.frac
-held_is stay from v f to how h holds =
-    let one = parts (nat_le f to.frac) ((not from.signed || to.signed) && nat_le (magnitude_bits from + (to.frac - f))
-    (magnitude_bits to)) holds in
-    let two = parts (not from.signed || to.signed) (nat_le (magnitude_bits from + (to.frac - f)) (magnitude_bits to)) one.1 in
-    let finer : f ≤ to.frac = grind (arith, nat_tests) in
-    let room : magnitude_bits from + (to.frac - f) ≤ magnitude_bits to = grind (arith, nat_tests) in
-    let inside = held_by from.signed from.bits to.signed to.bits (to.frac - f) two.0 room v h.0 h.1 in
-    sym (ap (cast_into how.over to) (whole_units stay how.round v f to finer)) ∙ stays_in how.over to (aligned_number v f to.frac) inside
-
-module _ (ps : List PureTree) (prelude : IsPrelude ps) (stay : WholeNumbersStay) (reads : Reads) (line : ℕ) where
+module _ (ps : List PureTree) (prelude : IsPrelude ps) (stay : WholeNumbersStay) (one : RoundingIsOne) (reads : Reads) (line : ℕ) where
   abbrev functions : List Function
   functions = functions_of [] ps
 
@@ -227,34 +185,69 @@ module _ (ps : List PureTree) (prelude : IsPrelude ps) (stay : WholeNumbersStay)
       let ends = ends_by t.signed t.bits t.frac t.in_profile in
       prelude.wraps q (least_of t) t.bits steps ends.4 t.in_profile.1 ends.0 ends.1 small h
 
-  -- the conversion of a number: one call, or two where the type is coarser
-  pub converted_gives : (e : ExprTree) (v : ℤ) (f : ℕ) (to : FixType) (how : How) → Gives functions reads line e v → ConversionFits (unsigned_abs v) f to →
-      (steps : ℕ) → steps + 2 ≤ step_limit → eval functions reads line (converted e f to how) steps ≡ gives (conversion v f to how) (steps + conversion_returns f to)
-  converted_gives e v f to how h fits steps room = by (nat_le f to.frac) refl
+  -- the conversion of a number of a range: a call that rounds where the type is coarser, and another that brings into the type
+  -- where it may not hold the number
+  pub converted_gives : (e : ExprTree) (v : ℤ) (f : ℕ) (range : Option Range) (to : FixType) (how : How) → Gives functions reads line e v →
+      ConversionFits (unsigned_abs v) f to → InRange range v → (steps : ℕ) → steps + 2 ≤ step_limit →
+      eval functions reads line (converted e f range to how) steps ≡ gives (conversion v f to how) (steps + conversion_returns f range to)
+  converted_gives e v f range to how h fits inside steps room = by (nat_le f to.frac) (surely_holds to f range) refl refl
     where
       small : unsigned_abs v ≤ 2 ^ 62
       small = omega (arith, le-mul_of_pos_right (unsigned_abs v) (pow_pos (to.frac - f)), fits.0)
 
+      x : ℤ
+      x = aligned_number v f to.frac
+
+      fit : unsigned_abs x ≤ 2 ^ 62
+      fit = omega (arith, unsigned_abs-mul v (pos (2 ^ (to.frac - f))), fits.0)
+
+      up : eval functions reads line (aligned e f to.frac) steps ≡ gives x steps
+      up = aligned_gives functions reads line e v f to.frac h fit steps
+
+      position : ℕ
+      position = rounding_position how.round
+
+      rounding : ExprTree
+      rounding = pure position (exprs_of_list (e ∷ power (f - to.frac) ∷ []))
+
+      down : eval functions reads line rounding steps ≡ function_at functions position (v ∷ pos (2 ^ (f - to.frac)) ∷ []) steps
+      down = call_after functions reads line position e (power (f - to.frac) ∷ []) (pos (2 ^ (f - to.frac)) ∷ [])
+          ((λ count. refl), tt) steps (gives v steps) (h steps)
+
+      held_up : f ≤ to.frac → surely_holds to f range ≡ true →
+          eval functions reads line (aligned e f to.frac) steps ≡ gives (conversion v f to how) (steps + 0)
+      held_up le held =
+          let same : steps ≡ steps + 0 = omega arith in
+          up ∙ ap (λ q. gives q steps) (whole_units stay how.round v f to le ∙ held_is one v f range to how inside held)
+          ∙ ap (gives (conversion v f to how)) same
+
+      held_down : to.frac < f → surely_holds to f range ≡ true →
+          eval functions reads line rounding steps ≡ gives (conversion v f to how) (steps + 1)
+      held_down lt held =
+          let none : to.frac - f ≡ 0 = omega (arith, lt) in
+          let whole : v ≡ over_units v f to.frac = sym (times_one v (to.frac - f) none) in
+          down ∙ prelude.rounds how.round v (f - to.frac) steps (omega (arith, lt)) fits.1 small (omega (arith, room))
+          ∙ ap (λ n. gives (rounded how.round n (under_units f to.frac)) (steps + 1)) whole
+          ∙ ap (λ q. gives q (steps + 1)) (held_is one v f range to how inside held)
+
       finer : f ≤ to.frac → eval functions reads line (cast how.over to (aligned e f to.frac)) steps ≡ gives (conversion v f to how) (steps + 1)
       finer le =
-          let x = aligned_number v f to.frac in
-          let fit : unsigned_abs x ≤ 2 ^ 62 = omega (arith, unsigned_abs-mul v (pos (2 ^ (to.frac - f))), fits.0) in
-          let whole = aligned_gives functions reads line e v f to.frac h fit steps in
-          cast_after functions reads line how.over to (aligned e f to.frac) steps (gives x steps) whole
+          cast_after functions reads line how.over to (aligned e f to.frac) steps (gives x steps) up
           ∙ cast_gives how.over to x steps fit (omega (arith, room))
           ∙ ap (λ q. gives (cast_into how.over to q) (steps + 1)) (whole_units stay how.round v f to le)
 
-      coarser : to.frac < f →
-          eval functions reads line (cast how.over to (pure (rounding_position how.round) (exprs_of_list (e ∷ power (f - to.frac) ∷ [])))) steps ≡ gives (conversion v f to how) (steps + 2)
+      coarser : to.frac < f → eval functions reads line (cast how.over to rounding) steps ≡ gives (conversion v f to how) (steps + 2)
       coarser lt =
           let case : Case = record { round = how.round; over = how.over; signed = to.signed } in
-          let position = rounding_position how.round in
-          let first = call_after functions reads line position e (power (f - to.frac) ∷ []) (pos (2 ^ (f - to.frac)) ∷ []) ((λ count. refl), tt) steps (gives v steps) (h steps) in
-          cast_after functions reads line how.over to (pure position (exprs_of_list (e ∷ power (f - to.frac) ∷ []))) steps (function_at functions position (v ∷ pos (2 ^ (f - to.frac)) ∷ []) steps) first
+          cast_after functions reads line how.over to rounding steps
+          (function_at functions position (v ∷ pos (2 ^ (f - to.frac)) ∷ []) steps) down
           ∙ prelude.converts case (every_case how.round how.over to.signed) to v f steps refl (omega (arith, lt)) fits.1 small (omega (arith, room))
 
-      by : (b : Bool) → nat_le f to.frac ≡ b →
-          eval functions reads line (cast how.over to (if b then aligned e f to.frac else pure (rounding_position how.round) (exprs_of_list (e ∷ power (f - to.frac) ∷ [])))) steps
-          ≡ gives (conversion v f to how) (steps + (if b then 1 else 2))
-      by true is = finer (grind (arith, nat_tests))
-      by false is = coarser (grind (arith, nat_tests))
+      by : (b held : Bool) → nat_le f to.frac ≡ b → surely_holds to f range ≡ held →
+          (let whole = if b then aligned e f to.frac else rounding in
+          eval functions reads line (if held then whole else cast how.over to whole) steps)
+          ≡ gives (conversion v f to how) (steps + ((if b then 0 else 1) + (if held then 0 else 1)))
+      by true true is holds = held_up (grind (arith, nat_tests)) holds
+      by true false is holds = finer (grind (arith, nat_tests))
+      by false true is holds = held_down (grind (arith, nat_tests)) holds
+      by false false is holds = coarser (grind (arith, nat_tests))

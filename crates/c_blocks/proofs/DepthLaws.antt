@@ -15,10 +15,14 @@ use Rattle.mc_blocks.specs.declared.Op.TheVariants.{Copy, Value, Delay, Line, Ga
 use Rattle.mc_blocks.specs.Value.{greatest_in}
 use Rattle.c_syntax.specs.declared.BinOp.TheVariants.{Add, Mul}
 use Rattle.c_syntax.specs.declared.Leaf.{Leaf}
-use Rattle.c_syntax.specs.Tree.{ExprTree, literal, neg, read, binary, pure, both, either, exprs_of_list}
+use Rattle.c_syntax.specs.Tree.{ExprTree, CondTree, literal, neg, read, binary, pure, both, either, exprs_of_list}
 use Rattle.c_syntax.specs.Limits.{expr_depth, cond_depth}
 use Rattle.c_prelude.specs.Rules.{rounding_position}
-use Rattle.c_blocks.specs.RowCode.{written, nought, power, aligned, rounded_code, cast, converted, signed, term_codes, sum_code, product_code, differ, always, never, all_hold, some_holds, odd_hold, truths, logic_code, passes_code, holds_input, input_code, converted_input}
+use Rattle.c_blocks.specs.RowCode.{written, nought, power, aligned, rounded_code, cast, converted, signed, term_codes, sum_code, product_code, differ, always, never, all_hold, some_holds, odd_hold, truths, logic_code, passes_code, passes_all, either_code, input_code, converted_input}
+use Rattle.std.specs.Prelude.{Option, Some, None}
+use Rattle.std.specs.Option.{option_and_then}
+use Rattle.c_blocks.specs.declared.ranges.Range.{Range}
+use Rattle.c_blocks.specs.Ranges.{just, input_range, gain_range, sum_range, product_range, surely_holds}
 use Rattle.c_blocks.specs.Laws.{RowsAreShallow}
 use Rattle.c_blocks.proofs.BalancedLaws.{balanced_size}
 
@@ -52,8 +56,17 @@ cast_depth : (over : Over) (t : FixType) (e : ExprTree) (d : ℕ) → expr_depth
 cast_depth Saturate t e d h some = let low = written_depth (least_of t) in let high = written_depth (greatest_of t) in omega (arith, h, some, low, high)
 cast_depth Wrap t e d h some = let low = written_depth (least_of t) in omega (arith, h, some, low)
 
-converted_depth : (e : ExprTree) (f : ℕ) (to : FixType) (how : How) (d : ℕ) → expr_depth e ≤ d → 1 ≤ d → expr_depth (converted e f to how) ≤ d + 1 + 1
-converted_depth e f to how d h some = cast_depth how.over to (rounded_code e f to.frac how) (d + 1) (rounded_depth e f to.frac how d h some) (omega (arith, some))
+converted_depth : (e : ExprTree) (f : ℕ) (range : Option Range) (to : FixType) (how : How) (d : ℕ) → expr_depth e ≤ d → 1 ≤ d →
+    expr_depth (converted e f range to how) ≤ d + 1 + 1
+converted_depth e f range to how d h some = by (surely_holds to f range)
+  where
+    whole : expr_depth (rounded_code e f to.frac how) ≤ d + 1
+    whole = rounded_depth e f to.frac how d h some
+
+    by : (held : Bool) →
+        expr_depth (if held then rounded_code e f to.frac how else cast how.over to (rounded_code e f to.frac how)) ≤ d + 1 + 1
+    by true = omega (arith, whole)
+    by false = cast_depth how.over to (rounded_code e f to.frac how) (d + 1) whole (omega (arith, some))
 
 signed_depth : (minus : Bool) (e : ExprTree) (d : ℕ) → expr_depth e ≤ d → expr_depth (signed minus e) ≤ d + 1
 signed_depth true e d h = omega (arith, h)
@@ -104,11 +117,14 @@ passes_depth NotZero leaves threshold = let h = input_depth leaves 1 in omega (a
 
 converted_input_depth : (leaves : List Leaf) (types : List FixType) (i f : ℕ) (to : FixType) (how : How) →
     expr_depth (converted_input leaves types i f to how) ≤ 3
-converted_input_depth leaves types i f to how = by (holds_input to f types i)
-  where
-    by : (b : Bool) → expr_depth (if b then aligned (input_code leaves i) f to.frac else converted (input_code leaves i) f to how) ≤ 3
-    by true = let h = aligned_depth (input_code leaves i) f to.frac 1 (input_depth leaves i) (omega arith) in omega (arith, h)
-    by false = let h = converted_depth (input_code leaves i) f to how 1 (input_depth leaves i) (omega arith) in omega (arith, h)
+converted_input_depth leaves types i f to how =
+    let h = converted_depth (input_code leaves i) f (input_range types i) to how 1 (input_depth leaves i) (omega arith) in omega (arith, h)
+
+either_depth : (first : Option Bool) (test : CondTree) (a b : ExprTree) (d : ℕ) → cond_depth test ≤ d → expr_depth a ≤ d →
+    expr_depth b ≤ d → expr_depth (either_code first test a b) ≤ d + 1
+either_depth None test a b d h p q = omega (arith, h, p, q)
+either_depth (Some true) test a b d h p q = omega (arith, p)
+either_depth (Some false) test a b d h p q = omega (arith, q)
 
 pub rows_are_shallow : RowsAreShallow
 rows_are_shallow Copy leaves types memory = let h = input_depth leaves 0 in omega (arith, h)
@@ -117,20 +133,26 @@ rows_are_shallow (Delay initial) leaves types memory = omega arith
 rows_are_shallow (Line samples start) leaves types memory = omega arith
 rows_are_shallow (Gain m frac to how) leaves types memory =
     let h = input_depth leaves 0 in let k = written_depth m in
-    let whole = converted_depth (binary Mul (input_code leaves 0) (written m)) frac to how 3 (omega (arith, h, k)) (omega arith) in
+    let whole = converted_depth (binary Mul (input_code leaves 0) (written m)) frac (gain_range m types) to how 3
+    (omega (arith, h, k)) (omega arith) in
     omega (arith, whole)
 rows_are_shallow (Sum count minus fracs to how) leaves types memory =
     let fs = take count fracs in
-    let whole = converted_depth (sum_code minus (greatest_in fs) fs leaves) (greatest_in fs) to how 7 (sum_depth minus (greatest_in fs) fs leaves) (omega arith) in
+    let range = sum_range minus (greatest_in fs) 0 fs types (just (pos 0)) in
+    let whole = converted_depth (sum_code minus (greatest_in fs) fs leaves) (greatest_in fs) range to how 7
+    (sum_depth minus (greatest_in fs) fs leaves) (omega arith) in
     omega (arith, whole)
 rows_are_shallow (Product count frac to how) leaves types memory =
-    let whole = converted_depth (product_code leaves) frac to how 5 (product_depth leaves) (omega arith) in
+    let whole = converted_depth (product_code leaves) frac (product_range count types) to how 5 (product_depth leaves) (omega arith) in
     omega (arith, whole)
 rows_are_shallow (Switch criterion threshold fracs to how) leaves types memory =
     let test = passes_depth criterion leaves threshold in
     let first = converted_input_depth leaves types 0 (get_or fracs 0 0) to how in
     let third = converted_input_depth leaves types 2 (get_or fracs 1 0) to how in
-    omega (arith, test, first, third)
+    let whole = either_depth (option_and_then (passes_all criterion threshold) (input_range types 1))
+    (passes_code criterion (input_code leaves 1) threshold) (converted_input leaves types 0 (get_or fracs 0 0) to how)
+    (converted_input leaves types 2 (get_or fracs 1 0) to how) 3 test first third in
+    omega (arith, whole)
 rows_are_shallow (Relational how fracs) leaves types memory =
     let left = aligned_depth (input_code leaves 0) (get_or fracs 0 0) (greatest_in fracs) 1 (input_depth leaves 0) (omega arith) in
     let right = aligned_depth (input_code leaves 1) (get_or fracs 1 0) (greatest_in fracs) 1 (input_depth leaves 1) (omega arith) in

@@ -10,7 +10,7 @@ twice v = omega (arith, ints)
 none : (n : ℕ) → n ≡ 0 → pos n ≡ neg_ℤ (pos n)
 none n e = omega (arith, ints, e)
 
-mul_neg : (x y : ℤ) → x *ℤ neg_ℤ y ≡ neg_ℤ (x *ℤ y)
+pub mul_neg : (x y : ℤ) → x *ℤ neg_ℤ y ≡ neg_ℤ (x *ℤ y)
 mul_neg (pos a) (pos zero) = none (a * 0) (omega arith)
 mul_neg (pos a) (pos (suc b)) = refl
 mul_neg (pos a) (negsuc b) = twice (pos (a * suc b))

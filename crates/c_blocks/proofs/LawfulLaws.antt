@@ -1,6 +1,7 @@
 -- The expressions of rows keep the static rules of C.
 use Rattle.std.proofs.Common.{◌≡◌, refl, sym, ap, ◌∙◌, subst, ℕ, zero, suc, ◌-◌, ◌^◌, ◌<◌, ◌≤◌, ◌==◌, nat_le, Bool, true, false, if◌then◌else◌, List, [], ◌∷◌, length, take, map, get_or, ℤ, pos, neg_ℤ, unsigned_abs, int_lt, arith}
-use Rattle.std.specs.Prelude.{Some, slice_get}
+use Rattle.std.specs.Prelude.{Option, Some, None, slice_get}
+use Rattle.std.specs.Option.{option_and_then}
 use Rattle.std.specs.Int.{bit_at}
 use Rattle.std.specs.List.{AllByRecursion}
 use Rattle.std.proofs.Math.Pow.{pow_mono}
@@ -25,7 +26,9 @@ use Rattle.c_syntax.specs.declared.Leaf.{Leaf}
 use Rattle.c_syntax.specs.Tree.{ExprTree, CondTree, PureTree, literal, neg, read, binary, pure, both, either, exprs_of_list}
 use Rattle.c_syntax.specs.Lawful.{Reach, IsLawfulLeaf, IsLawfulExpr, IsLawfulCond}
 use Rattle.c_prelude.specs.Rules.{IsPrelude, params, rounding_position}
-use Rattle.c_blocks.specs.RowCode.{written, nought, power, aligned, rounded_code, cast, converted, signed, term_codes, sum_code, product_code, differ, always, never, all_hold, some_holds, odd_hold, truths, logic_code, passes_code, holds_input, input_code, converted_input, rhs_code}
+use Rattle.c_blocks.specs.RowCode.{written, nought, power, aligned, rounded_code, cast, converted, signed, term_codes, sum_code, product_code, differ, always, never, all_hold, some_holds, odd_hold, truths, logic_code, passes_code, passes_all, either_code, input_code, converted_input, rhs_code}
+use Rattle.c_blocks.specs.declared.ranges.Range.{Range}
+use Rattle.c_blocks.specs.Ranges.{just, input_range, gain_range, sum_range, product_range, surely_holds}
 use Rattle.c_blocks.specs.Resolved.{IsWritable, RowOpsAreWritable}
 use Rattle.c_blocks.specs.LawfulLaws.{RowsAreLawful}
 use Rattle.c_blocks.proofs.BalancedLaws.{balanced_all}
@@ -117,9 +120,22 @@ module _ (reach : Reach) (prelude : IsPrelude reach.pures) where
       let there = by_params reach.pures 7 3 prelude (omega arith) refl in
       (there.0, there.1, there.2, (h, (written_lawful (least_of t) (least_small t), (power_lawful t.bits (let few = t.in_profile.1 in omega (arith, few)), tt))))
 
-  converted_lawful : (e : ExprTree) (f : ℕ) (to : FixType) (how : How) → f - to.frac ≤ 62 → Lawful e → Lawful (converted e f to how)
-  converted_lawful e f to how few h =
-      cast_lawful how.over to (rounded_code e f to.frac how) (rounded_lawful e f to.frac how (let low = to.in_profile.2 in omega (arith, low)) few h)
+  converted_lawful : (e : ExprTree) (f : ℕ) (range : Option Range) (to : FixType) (how : How) → f - to.frac ≤ 62 → Lawful e →
+      Lawful (converted e f range to how)
+  converted_lawful e f range to how few h = by (surely_holds to f range)
+    where
+      whole : Lawful (rounded_code e f to.frac how)
+      whole = rounded_lawful e f to.frac how (let low = to.in_profile.2 in omega (arith, low)) few h
+
+      by : (held : Bool) → Lawful (if held then rounded_code e f to.frac how else cast how.over to (rounded_code e f to.frac how))
+      by true = whole
+      by false = cast_lawful how.over to (rounded_code e f to.frac how) whole
+
+  either_lawful : (first : Option Bool) (test : CondTree) (a b : ExprTree) → LawfulTest test → Lawful a → Lawful b →
+      Lawful (either_code first test a b)
+  either_lawful None test a b h p q = (h, p, q)
+  either_lawful (Some true) test a b h p q = p
+  either_lawful (Some false) test a b h p q = q
 
   signed_lawful : (minus : Bool) (e : ExprTree) → Lawful e → Lawful (signed minus e)
   signed_lawful true e h = h
@@ -181,28 +197,29 @@ module _ (reach : Reach) (prelude : IsPrelude reach.pures) where
 
     converted_input_lawful : (types : List FixType) (i f : ℕ) (to : FixType) (how : How) → f ≤ 31 →
         Lawful (converted_input leaves types i f to how)
-    converted_input_lawful types i f to how few = by (holds_input to f types i)
-      where
-        by : (b : Bool) → Lawful (if b then aligned (input_code leaves i) f to.frac else converted (input_code leaves i) f to how)
-        by true = aligned_lawful (input_code leaves i) f to.frac (let low = to.in_profile.2 in omega (arith, low)) (input_lawful i)
-        by false = converted_lawful (input_code leaves i) f to how (omega (arith, few)) (input_lawful i)
+    converted_input_lawful types i f to how few =
+        converted_lawful (input_code leaves i) f (input_range types i) to how (omega (arith, few)) (input_lawful i)
 
     row_lawful : (op : Op) (types : List FixType) (memory : ExprTree) → IsWritable op → Lawful memory → Lawful (rhs_code op leaves types memory)
     row_lawful Copy types memory can has = input_lawful 0
     row_lawful (Value v) types memory can has = written_lawful v can
     row_lawful (Delay initial) types memory can has = has
     row_lawful (Line samples start) types memory can has = has
-    row_lawful (Gain m frac to how) types memory can has = converted_lawful (binary Mul (input_code leaves 0) (written m)) frac to how can.1 (input_lawful 0, written_lawful m can.0)
+    row_lawful (Gain m frac to how) types memory can has =
+        converted_lawful (binary Mul (input_code leaves 0) (written m)) frac (gain_range m types) to how can.1
+        (input_lawful 0, written_lawful m can.0)
     row_lawful (Sum count minus fracs to how) types memory can has =
         let fs = take count fracs in
-        converted_lawful (sum_code minus (greatest_in fs) fs leaves) (greatest_in fs) to how (omega (arith, can.1)) (sum_lawful minus (greatest_in fs) fs can.1)
-    row_lawful (Product count frac to how) types memory can has = converted_lawful (product_code leaves) frac to how can product_lawful
-    row_lawful (Switch criterion threshold fracs to how) types memory can has = (
-      passes_lawful criterion threshold can.0,
-      converted_input_lawful types 0
-          (get_or fracs 0 0) to how can.1,
-      converted_input_lawful types 2 (get_or fracs 1 0) to how can.2,
-    )
+        converted_lawful (sum_code minus (greatest_in fs) fs leaves) (greatest_in fs)
+        (sum_range minus (greatest_in fs) 0 fs types (just (pos 0))) to how (omega (arith, can.1))
+        (sum_lawful minus (greatest_in fs) fs can.1)
+    row_lawful (Product count frac to how) types memory can has =
+        converted_lawful (product_code leaves) frac (product_range count types) to how can product_lawful
+    row_lawful (Switch criterion threshold fracs to how) types memory can has =
+        either_lawful (option_and_then (passes_all criterion threshold) (input_range types 1))
+        (passes_code criterion (input_code leaves 1) threshold) (converted_input leaves types 0 (get_or fracs 0 0) to how)
+        (converted_input leaves types 2 (get_or fracs 1 0) to how) (passes_lawful criterion threshold can.0)
+        (converted_input_lawful types 0 (get_or fracs 0 0) to how can.1) (converted_input_lawful types 2 (get_or fracs 1 0) to how can.2)
     row_lawful (Relational how fracs) types memory can has =
         ((aligned_lawful (input_code leaves 0) (get_or fracs 0 0) (greatest_in fracs) (omega (arith, can)) (input_lawful 0), aligned_lawful (input_code leaves 1) (get_or fracs 1 0) (greatest_in fracs) (omega (arith, can)) (input_lawful 1)), one_lawful, nought_lawful)
     row_lawful (Logical o count) types memory can has = (logic_lawful o, one_lawful, nought_lawful)

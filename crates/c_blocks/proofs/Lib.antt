@@ -1,6 +1,8 @@
 pub mod BalancedLaws
 pub mod Evaluation
 pub mod IntegerProducts
+pub mod RangeLaws
+pub mod RangeSteps
 pub mod Conversions
 pub mod ExactLaws
 pub mod TruthLaws

@@ -1,6 +1,7 @@
 -- The expressions of rows read the leaves that are given.
 use Rattle.std.proofs.Common.{refl, ℕ, zero, suc, ◌-◌, ◌==◌, nat_le, Bool, true, false, if◌then◌else◌, List, [], ◌∷◌, ◌++◌, take, map, get_or, ℤ, pos, neg_ℤ, int_lt, arith}
-use Rattle.std.specs.Prelude.{Contains}
+use Rattle.std.specs.Prelude.{Contains, Option, Some, None}
+use Rattle.std.specs.Option.{option_and_then}
 use Rattle.std.specs.Int.{bit_at}
 use Rattle.std.specs.List.{AllByRecursion}
 use Rattle.mc_fixed.specs.declared.FixType.{FixType}
@@ -20,7 +21,9 @@ use Rattle.c_syntax.specs.declared.Leaf.{Leaf}
 use Rattle.c_syntax.specs.declared.Leaf.TheVariants.{Own}
 use Rattle.c_syntax.specs.Tree.{ExprTree, ExprTrees, CondTree, literal, neg, read, binary, pick, pure, item, no_exprs, more_exprs, compare, both, either, negated, exprs_of_list}
 use Rattle.c_prelude.specs.Rules.{rounding_position}
-use Rattle.c_blocks.specs.RowCode.{written, nought, power, aligned, rounded_code, cast, converted, signed, term_codes, sum_code, product_code, differ, always, never, all_hold, some_holds, odd_hold, truths, logic_code, passes_code, holds_input, input_code, converted_input, rhs_code}
+use Rattle.c_blocks.specs.RowCode.{written, nought, power, aligned, rounded_code, cast, converted, signed, term_codes, sum_code, product_code, differ, always, never, all_hold, some_holds, odd_hold, truths, logic_code, passes_code, passes_all, either_code, input_code, converted_input, rhs_code}
+use Rattle.c_blocks.specs.declared.ranges.Range.{Range}
+use Rattle.c_blocks.specs.Ranges.{just, input_range, gain_range, sum_range, product_range, surely_holds}
 use Rattle.c_blocks.specs.Reading.{ReadsOnly, AllReadOnly, TestsOnly}
 use Rattle.c_blocks.specs.Laws.{RowsReadTheirLeaves}
 use Rattle.c_blocks.proofs.BalancedLaws.{balanced_all}
@@ -54,8 +57,21 @@ module _ (IsGiven : Leaf → Type 0) where
   cast_reads Saturate t e h = (h, (written_reads (least_of t), (written_reads (greatest_of t), tt)))
   cast_reads Wrap t e h = (h, (written_reads (least_of t), (tt, tt)))
 
-  converted_reads : (e : ExprTree) (f : ℕ) (to : FixType) (how : How) → Only e → Only (converted e f to how)
-  converted_reads e f to how h = cast_reads how.over to (rounded_code e f to.frac how) (rounded_reads e f to.frac how h)
+  converted_reads : (e : ExprTree) (f : ℕ) (range : Option Range) (to : FixType) (how : How) → Only e → Only (converted e f range to how)
+  converted_reads e f range to how h = by (surely_holds to f range)
+    where
+      whole : Only (rounded_code e f to.frac how)
+      whole = rounded_reads e f to.frac how h
+
+      by : (held : Bool) → Only (if held then rounded_code e f to.frac how else cast how.over to (rounded_code e f to.frac how))
+      by true = whole
+      by false = cast_reads how.over to (rounded_code e f to.frac how) whole
+
+  either_reads : (first : Option Bool) (test : CondTree) (a b : ExprTree) → TestsOnly IsGiven test → Only a → Only b →
+      Only (either_code first test a b)
+  either_reads None test a b h p q = (h, p, q)
+  either_reads (Some true) test a b h p q = p
+  either_reads (Some false) test a b h p q = q
 
   signed_reads : (minus : Bool) (e : ExprTree) → Only e → Only (signed minus e)
   signed_reads true e h = h
@@ -116,28 +132,26 @@ module _ (IsGiven : Leaf → Type 0) where
     passes_read NotZero threshold = (input_reads 1, tt)
 
     converted_input_reads : (types : List FixType) (i f : ℕ) (to : FixType) (how : How) → Only (converted_input leaves types i f to how)
-    converted_input_reads types i f to how = by (holds_input to f types i)
-      where
-        by : (b : Bool) → Only (if b then aligned (input_code leaves i) f to.frac else converted (input_code leaves i) f to how)
-        by true = aligned_reads (input_code leaves i) f to.frac (input_reads i)
-        by false = converted_reads (input_code leaves i) f to how (input_reads i)
+    converted_input_reads types i f to how = converted_reads (input_code leaves i) f (input_range types i) to how (input_reads i)
 
     row_reads : (op : Op) (types : List FixType) (memory : ExprTree) → Only memory → Only (rhs_code op leaves types memory)
     row_reads Copy types memory known = input_reads 0
     row_reads (Value v) types memory known = written_reads v
     row_reads (Delay initial) types memory known = known
     row_reads (Line samples start) types memory known = known
-    row_reads (Gain m frac to how) types memory known = converted_reads (binary Mul (input_code leaves 0) (written m)) frac to how (input_reads 0, written_reads m)
+    row_reads (Gain m frac to how) types memory known =
+        converted_reads (binary Mul (input_code leaves 0) (written m)) frac (gain_range m types) to how (input_reads 0, written_reads m)
     row_reads (Sum count minus fracs to how) types memory known =
         let fs = take count fracs in
-        converted_reads (sum_code minus (greatest_in fs) fs leaves) (greatest_in fs) to how (sum_reads minus (greatest_in fs) fs)
-    row_reads (Product count frac to how) types memory known = converted_reads (product_code leaves) frac to how product_reads
-    row_reads (Switch criterion threshold fracs to how) types memory known = (
-      passes_read criterion threshold,
-      converted_input_reads types 0 (get_or fracs 0 0) to how,
-      converted_input_reads types 2
-          (get_or fracs 1 0) to how,
-    )
+        converted_reads (sum_code minus (greatest_in fs) fs leaves) (greatest_in fs)
+        (sum_range minus (greatest_in fs) 0 fs types (just (pos 0))) to how (sum_reads minus (greatest_in fs) fs)
+    row_reads (Product count frac to how) types memory known =
+        converted_reads (product_code leaves) frac (product_range count types) to how product_reads
+    row_reads (Switch criterion threshold fracs to how) types memory known =
+        either_reads (option_and_then (passes_all criterion threshold) (input_range types 1))
+        (passes_code criterion (input_code leaves 1) threshold) (converted_input leaves types 0 (get_or fracs 0 0) to how)
+        (converted_input leaves types 2 (get_or fracs 1 0) to how) (passes_read criterion threshold)
+        (converted_input_reads types 0 (get_or fracs 0 0) to how) (converted_input_reads types 2 (get_or fracs 1 0) to how)
     row_reads (Relational how fracs) types memory known =
         ((aligned_reads (input_code leaves 0) (get_or fracs 0 0) (greatest_in fracs) (input_reads 0), aligned_reads (input_code leaves 1) (get_or fracs 1 0) (greatest_in fracs) (input_reads 1)), tt, tt)
     row_reads (Logical o count) types memory known = (logic_reads o, tt, tt)

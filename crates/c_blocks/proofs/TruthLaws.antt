@@ -1,5 +1,9 @@
 -- Tests of truth hold where the operators do.
-use Rattle.std.proofs.Common.{◌≡◌, refl, sym, ap, ◌∙◌, subst, ℕ, suc, ◌≤◌, Bool, true, false, ◌&&◌, ◌||◌, cond, List, [], ◌∷◌, length, map, fold, ℤ, pos, unsigned_abs, ◌<◌, ◌^◌}
+use Rattle.std.proofs.Common.{◌≡◌, refl, sym, ap, ◌∙◌, subst, ℕ, suc, ◌≤◌, ◌≤ℤ◌, Bool, true, false, ◌&&◌, ◌||◌, cond, if◌then◌else◌, List, [], ◌∷◌, length, map, fold, ℤ, pos, unsigned_abs, int_le, int_lt, ◌<◌, ◌^◌, arith}
+use Rattle.std.specs.Prelude.{Option, Some, None, unwrap_or}
+use Rattle.std.specs.Option.{option_and_then}
+use Rattle.std.proofs.lemmas.Int.{ints}
+use Rattle.std.proofs.lemmas.Option.{none-some}
 use Rattle.std.specs.List.{AllZip, list_all, list_any}
 use Rattle.mc_base.specs.declared.Compare.{Compare}
 use Rattle.mc_base.specs.declared.Compare.TheVariants.{Eq, Ne, Lt, Le, Ge as AtLeast, Gt as Above}
@@ -13,7 +17,9 @@ use Rattle.c_syntax.specs.declared.Leaf.{Leaf}
 use Rattle.c_syntax.specs.Tree.{ExprTree, CondTree, literal, read, both, either}
 use Rattle.c_machine.specs.Values as c
 use Rattle.c_machine.specs.Values.{Function, Reads}
-use Rattle.c_blocks.specs.RowCode.{nought, truth, truths, is_true_code, differ, always, never, all_hold, some_holds, odd_hold, logic_code, passes_code, written}
+use Rattle.c_blocks.specs.RowCode.{nought, truth, truths, is_true_code, differ, always, never, all_hold, some_holds, odd_hold, logic_code, passes_code, passes_all, written}
+use Rattle.c_blocks.specs.declared.ranges.Range.{Range}
+use Rattle.c_blocks.proofs.RangeLaws.{InRange}
 use Rattle.c_blocks.proofs.BalancedLaws.{balanced_related, balanced_total, total}
 use Rattle.c_blocks.proofs.Evaluation.{Gives, Holds, gives_pick, gives_written, holds_compare, holds_both, holds_either, holds_negated}
 
@@ -79,6 +85,23 @@ pub bit_is : (p : Bool) → cond p (pos 1) (pos 0) ≡ number_of_bool p
 bit_is true = refl
 bit_is false = refl
 
+-- ---- Numbers of a range
+
+some_is : (b c : Bool) → Some b ≡ Some c → b ≡ c
+some_is b c e = ap (λ o. unwrap_or o b) e
+
+at_least : (threshold low v : ℤ) → int_le threshold low ≡ true → low ≤ℤ v → int_le threshold v ≡ true
+at_least threshold low v e h = grind (arith, ints)
+
+not_least : (threshold high v : ℤ) → int_lt high threshold ≡ true → v ≤ℤ high → int_le threshold v ≡ false
+not_least threshold high v e h = grind (arith, ints)
+
+above : (threshold low v : ℤ) → int_lt threshold low ≡ true → low ≤ℤ v → int_lt threshold v ≡ true
+above threshold low v e h = grind (arith, ints)
+
+not_above : (threshold high v : ℤ) → int_le high threshold ≡ true → v ≤ℤ high → int_lt threshold v ≡ false
+not_above threshold high v e h = grind (arith, ints)
+
 -- ---- Tests
 
 module _ (functions : List Function) (reads : Reads) (line : ℕ) where
@@ -137,3 +160,25 @@ module _ (functions : List Function) (reads : Reads) (line : ℕ) where
   passes_holds Ge e v threshold h small = holds_compare functions reads line AtLeast e (written threshold) v threshold h (gives_written functions reads line threshold small)
   passes_holds Gt e v threshold h small = holds_compare functions reads line Above e (written threshold) v threshold h (gives_written functions reads line threshold small)
   passes_holds NotZero e v threshold h small = is_true_holds e v h
+
+-- what a switch does for each number of a range alike it does for this one
+pub passes_alike : (criterion : Criterion) (threshold : ℤ) (range : Option Range) (v : ℤ) → InRange range v → (known : Bool) →
+    option_and_then (passes_all criterion threshold) range ≡ Some known → passes criterion v threshold ≡ known
+passes_alike criterion threshold None v inside known e = absurd (none-some known e)
+passes_alike Ge threshold (Some range) v inside known e =
+    by (int_le threshold range.least) (int_lt range.greatest threshold) refl refl e
+  where
+    by : (b c : Bool) → int_le threshold range.least ≡ b → int_lt range.greatest threshold ≡ c →
+        (if b then Some true else if c then Some false else None) ≡ Some known → int_le threshold v ≡ known
+    by true c low high e = at_least threshold range.least v low inside.0 ∙ some_is true known e
+    by false true low high e = not_least threshold range.greatest v high inside.1 ∙ some_is false known e
+    by false false low high e = absurd (none-some known e)
+passes_alike Gt threshold (Some range) v inside known e =
+    by (int_lt threshold range.least) (int_le range.greatest threshold) refl refl e
+  where
+    by : (b c : Bool) → int_lt threshold range.least ≡ b → int_le range.greatest threshold ≡ c →
+        (if b then Some true else if c then Some false else None) ≡ Some known → int_lt threshold v ≡ known
+    by true c low high e = above threshold range.least v low inside.0 ∙ some_is true known e
+    by false true low high e = not_above threshold range.greatest v high inside.1 ∙ some_is false known e
+    by false false low high e = absurd (none-some known e)
+passes_alike NotZero threshold (Some range) v inside known e = absurd (none-some known e)

@@ -10,16 +10,16 @@ use Rattle.mc_blocks.specs.Value.{input}
 abbrev pub IsOfType : List FixType → List ℤ → ℕ → Type 0
 IsOfType types vs i = (t : FixType) → slice_get types i ≡ Some t → InType t (input vs i)
 
--- each input that is converted as it is lies in its type
+-- each input by whose type the expression goes lies in it
 abbrev pub AreTypesOf : Op → List FixType → List ℤ → Type 0
 AreTypesOf Copy types vs = ⊤
 AreTypesOf (Value v) types vs = ⊤
 AreTypesOf (Delay initial) types vs = ⊤
 AreTypesOf (Line length start) types vs = ⊤
-AreTypesOf (Gain m frac to how) types vs = ⊤
-AreTypesOf (Sum count minus fracs to how) types vs = ⊤
-AreTypesOf (Product count frac to how) types vs = ⊤
-AreTypesOf (Switch criterion threshold fracs to how) types vs = IsOfType types vs 0 × IsOfType types vs 2
+AreTypesOf (Gain m frac to how) types vs = IsOfType types vs 0
+AreTypesOf (Sum count minus fracs to how) types vs = (i : ℕ) → IsOfType types vs i
+AreTypesOf (Product count frac to how) types vs = (i : ℕ) → IsOfType types vs i
+AreTypesOf (Switch criterion threshold fracs to how) types vs = (i : ℕ) → IsOfType types vs i
 AreTypesOf (Relational compare fracs) types vs = ⊤
 AreTypesOf (Logic op count) types vs = ⊤
 AreTypesOf (Convert frac to how) types vs = IsOfType types vs 0

@@ -1,4 +1,5 @@
 pub mod Balanced
+pub mod Ranges
 pub mod RowCode
 pub mod Joints
 pub mod TestCode

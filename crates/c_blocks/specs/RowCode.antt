@@ -1,6 +1,6 @@
 -- The expression for a row's value, over the leaves of its inputs and an expression for its memory: what `rhs` says, in C.
-use Rattle.std.specs.Prelude.{ℕ, suc, ◌+◌, ◌-◌, ◌^◌, Bool, false, not, ◌&&◌, ◌||◌, ◌==◌, nat_le, if◌then◌else◌, List, [], ◌∷◌, map, take, slice_get, get_or, ℤ, pos, neg_ℤ, int_lt}
-use Rattle.std.specs.Option.{option_map_or}
+use Rattle.std.specs.Prelude.{ℕ, suc, ◌-◌, ◌^◌, Bool, true, false, ◌==◌, nat_le, if◌then◌else◌, List, [], ◌∷◌, map, take, slice_get, get_or, Option, Some, None, ℤ, pos, neg_ℤ, int_lt, int_le}
+use Rattle.std.specs.Option.{option_and_then, option_map_or}
 use Rattle.std.specs.Int.{bit_at}
 use Rattle.mc_base.specs.declared.Compare.TheVariants.{Eq, Ne, Ge as AtLeast, Gt as Above}
 use Rattle.mc_fixed.specs.declared.FixType.{FixType}
@@ -15,12 +15,13 @@ use Rattle.mc_blocks.specs.declared.Criterion.TheVariants.{Ge, Gt, NotZero}
 use Rattle.mc_blocks.specs.declared.Op.{Op}
 use Rattle.mc_blocks.specs.declared.Op.TheVariants.{Copy, Value, Delay, Line, Gain, Sum, Product, Switch, Relational, Logic as Logical, Convert, Nothing}
 use Rattle.mc_blocks.specs.Value.{greatest_in}
-use Rattle.mc_blocks.specs.Width.{magnitude_bits}
 use Rattle.c_syntax.specs.declared.BinOp.TheVariants.{Add, Mul}
 use Rattle.c_syntax.specs.declared.Leaf.{Leaf}
 use Rattle.c_syntax.specs.Tree.{ExprTree, literal, neg, read, binary, pick, pure, CondTree, compare, both, either, negated, exprs_of_list}
 use Rattle.c_prelude.specs.Rules.{rounding_position}
+use Rattle.c_blocks.specs.declared.ranges.Range.{Range}
 use Rattle.c_blocks.specs.Balanced.{balanced}
+use Rattle.c_blocks.specs.Ranges.{just, input_range, gain_range, sum_range, product_range, surely_holds}
 
 -- a number as it is written
 abbrev pub written : ℤ → ExprTree
@@ -53,19 +54,10 @@ abbrev pub cast : Over → FixType → ExprTree → ExprTree
 cast Saturate t e = pure 6 (exprs_of_list (e ∷ written (least_of t) ∷ written (greatest_of t) ∷ []))
 cast Wrap t e = pure 7 (exprs_of_list (e ∷ written (least_of t) ∷ power t.bits ∷ []))
 
--- e with f bits after the point converted into a type
-abbrev pub converted : ExprTree → ℕ → FixType → How → ExprTree
-converted e f to how = cast how.over to (rounded_code e f to.frac how)
-
--- a type holds each number that another one stores, of f bits after the point: it has as many bits before and behind the
--- point, and a sign where that one has one
-abbrev pub holds_all : FixType → ℕ → FixType → Bool
-holds_all to f from =
-    nat_le f to.frac && ((not from.signed || to.signed) && nat_le (magnitude_bits from + (to.frac - f)) (magnitude_bits to))
-
--- it holds each number of input i + 1, whose type is known
-abbrev pub holds_input : FixType → ℕ → List FixType → ℕ → Bool
-holds_input to f types i = option_map_or (λ from. holds_all to f from) (slice_get types i) false
+-- e, of a range and with f bits after the point, converted into a type: without a cast where that surely holds the range
+abbrev pub converted : ExprTree → ℕ → Option Range → FixType → How → ExprTree
+converted e f range to how =
+    let whole = rounded_code e f to.frac how in if surely_holds to f range then whole else cast how.over to whole
 
 -- ---- Sums and products
 
@@ -130,16 +122,29 @@ passes_code Ge e threshold = compare AtLeast e (written threshold)
 passes_code Gt e threshold = compare Above e (written threshold)
 passes_code NotZero e threshold = is_true_code e
 
+-- whether it does for each number of a range alike
+abbrev pub passes_all : Criterion → ℤ → Range → Option Bool
+passes_all Ge threshold range =
+    if int_le threshold range.least then Some true else if int_lt range.greatest threshold then Some false else None
+passes_all Gt threshold range =
+    if int_lt threshold range.least then Some true else if int_le range.greatest threshold then Some false else None
+passes_all NotZero threshold range = None
+
+-- one of two expressions, by a test where it isn't known which
+abbrev pub either_code : Option Bool → CondTree → ExprTree → ExprTree → ExprTree
+either_code None test a b = pick test a b
+either_code (Some true) test a b = a
+either_code (Some false) test a b = b
+
 -- ---- Operations
 
 -- input i + 1; a place past the inputs, which no lawful row reads, counts as 0
 abbrev pub input_code : List Leaf → ℕ → ExprTree
 input_code leaves i = option_map_or read (slice_get leaves i) nought
 
--- input i + 1 with f bits after the point converted into a type: without a call where that one holds each of its numbers
+-- input i + 1 with f bits after the point converted into a type
 abbrev pub converted_input : List Leaf → List FixType → ℕ → ℕ → FixType → How → ExprTree
-converted_input leaves types i f to how =
-    if holds_input to f types i then aligned (input_code leaves i) f to.frac else converted (input_code leaves i) f to how
+converted_input leaves types i f to how = converted (input_code leaves i) f (input_range types i) to how
 
 -- the inputs have these types, as far as they are known; the last expression stands for what the row remembers, which only
 -- delays read
@@ -148,13 +153,17 @@ rhs_code Copy leaves types memory = input_code leaves 0
 rhs_code (Value v) leaves types memory = written v
 rhs_code (Delay initial) leaves types memory = memory
 rhs_code (Line length start) leaves types memory = memory
-rhs_code (Gain m frac to how) leaves types memory = converted (binary Mul (input_code leaves 0) (written m)) frac to how
+rhs_code (Gain m frac to how) leaves types memory =
+    converted (binary Mul (input_code leaves 0) (written m)) frac (gain_range m types) to how
 rhs_code (Sum count minus fracs to how) leaves types memory =
-    let F = greatest_in (take count fracs) in
-    converted (sum_code minus F (take count fracs) leaves) F to how
-rhs_code (Product count frac to how) leaves types memory = converted (product_code leaves) frac to how
+    let fs = take count fracs in let F = greatest_in fs in
+    converted (sum_code minus F fs leaves) F (sum_range minus F 0 fs types (just (pos 0))) to how
+rhs_code (Product count frac to how) leaves types memory =
+    converted (product_code leaves) frac (product_range count types) to how
 rhs_code (Switch criterion threshold fracs to how) leaves types memory =
-    pick (passes_code criterion (input_code leaves 1) threshold) (converted_input leaves types 0 (get_or fracs 0 0) to how) (converted_input leaves types 2 (get_or fracs 1 0) to how)
+    either_code (option_and_then (passes_all criterion threshold) (input_range types 1))
+    (passes_code criterion (input_code leaves 1) threshold)
+    (converted_input leaves types 0 (get_or fracs 0 0) to how) (converted_input leaves types 2 (get_or fracs 1 0) to how)
 rhs_code (Relational how fracs) leaves types memory =
     let F = greatest_in fracs in
     truth (compare how (aligned (input_code leaves 0) (get_or fracs 0 0) F) (aligned (input_code leaves 1) (get_or fracs 1 0) F))

@@ -5,10 +5,12 @@ use Rattle.std.proofs.Common.{lit≤}
 use Rattle.mc_base.specs.declared.Compare.TheVariants.{Lt}
 use Rattle.mc_fixed.specs.declared.FixType.{FixType}
 use Rattle.mc_fixed.specs.declared.Round.TheVariants.{Floor, Nearest, Zero, Convergent}
+use Rattle.mc_fixed.specs.declared.Over.{Over}
 use Rattle.mc_fixed.specs.declared.Over.TheVariants.{Saturate, Wrap}
-use Rattle.mc_fixed.specs.Types.{uint8, int16}
+use Rattle.mc_fixed.specs.Types.{uint8, uint16, int16, int32}
+use Rattle.mc_blocks.specs.declared.How.{How}
 use Rattle.mc_blocks.specs.declared.Logic.TheVariants.{Xor, Nand}
-use Rattle.mc_blocks.specs.declared.Criterion.TheVariants.{Gt, NotZero}
+use Rattle.mc_blocks.specs.declared.Criterion.TheVariants.{Ge, Gt, NotZero}
 use Rattle.mc_blocks.specs.declared.Op.{Op}
 use Rattle.mc_blocks.specs.declared.Op.TheVariants.{Delay, Line, Gain, Sum, Product, Switch, Relational, Logic, Convert}
 use Rattle.c_syntax.specs.declared.Leaf.TheVariants.{Param, Own}
@@ -95,6 +97,54 @@ signed_into_unsigned : GivesFrom (halves8 ∷ []) (Convert 1 (record
     { signed = false; bits = 32; frac = 1; in_profile = (lit≤ tt, lit≤ tt, lit≤ tt) }) (record { round = Floor; over = Saturate }))
     (neg_ℤ (pos 1) ∷ []) (pos 0) 1
 signed_into_unsigned = refl
+
+-- ---- Results that the type holds
+
+abbrev floor : Over → How
+floor mode = record { round = Floor; over = mode }
+
+-- -3 times an int16 is an int32
+gain_held : GivesFrom (int16 ∷ []) (Gain (neg_ℤ (pos 3)) 0 int32 (floor Wrap)) (pos 32767 ∷ []) (neg_ℤ (pos 98301)) 0
+gain_held = refl
+
+-- about a tenth of an int32 is one, and is rounded
+gain_rounded : GivesFrom (int32 ∷ []) (Gain (pos 214748365) 31 int32 (floor Wrap)) (pos 2147483647 ∷ []) (pos 214748364) 1
+gain_rounded = refl
+
+-- a difference of two uint8 is an int16, and no uint16
+sum_held : GivesFrom (uint8 ∷ uint8 ∷ []) (Sum 2 2 (0 ∷ 0 ∷ []) int16 (floor Wrap)) (pos 3 ∷ pos 255 ∷ []) (neg_ℤ (pos 252)) 0
+sum_held = refl
+
+sum_below : GivesFrom (uint8 ∷ uint8 ∷ []) (Sum 2 2 (0 ∷ 0 ∷ []) uint16 (floor Saturate)) (pos 3 ∷ pos 255 ∷ []) (pos 0) 1
+sum_below = refl
+
+-- of an input whose type isn't known nothing is
+half_known : GivesFrom (uint8 ∷ []) (Sum 2 0 (0 ∷ 0 ∷ []) int16 (floor Wrap)) (pos 3 ∷ pos 255 ∷ []) (pos 258) 1
+half_known = refl
+
+product_held : GivesFrom (uint8 ∷ uint8 ∷ []) (Product 2 0 uint16 (floor Wrap)) (pos 255 ∷ pos 255 ∷ []) (pos 65025) 0
+product_held = refl
+
+-- 2^30 is beyond an int16
+product_above : GivesFrom (int16 ∷ int16 ∷ [])
+    (Product 2 0 int16 (floor Saturate)) (neg_ℤ (pos 32768) ∷ neg_ℤ (pos 32768) ∷ []) (pos 32767) 1
+product_above = refl
+
+-- ---- Switches that ask nothing
+
+at_least_0 : rhs_code (Switch Ge (pos 0) (0 ∷ 0 ∷ []) uint8 (floor Wrap)) (Param 0 ∷ Param 1 ∷ Param 2 ∷ [])
+    (uint8 ∷ uint8 ∷ uint8 ∷ []) (read (Own 0)) ≡ read (Param 0)
+at_least_0 = refl
+
+above_255 : rhs_code (Switch Gt (pos 255) (0 ∷ 0 ∷ []) uint8 (floor Wrap)) (Param 0 ∷ Param 1 ∷ Param 2 ∷ [])
+    (uint8 ∷ uint8 ∷ uint8 ∷ []) (read (Own 0)) ≡ read (Param 2)
+above_255 = refl
+
+above_254 : GivesFrom (uint8 ∷ uint8 ∷ uint8 ∷ [])
+    (Switch Gt (pos 254) (0 ∷ 0 ∷ []) uint8 (floor Wrap)) (pos 1 ∷ pos 255 ∷ pos 3 ∷ []) (pos 1) 0
+above_254 = refl
+
+-- ---- Memories
 
 held : Gives (Delay (pos 7)) (pos 5 ∷ []) (pos 11) 0
 held = refl

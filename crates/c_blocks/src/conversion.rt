@@ -1,10 +1,10 @@
 ghost use Rattle.std.specs.Prelude.{◌≡◌, ◌≤◌, ◌-◌, IfOk};
 ghost use Rattle.c_syntax.specs.Plain.{expr_tree};
-ghost use Rattle.mc_blocks.specs.Width.{magnitude_bits};
 ghost use Rattle.c_prelude.specs.Rules.{rounding_position};
 ghost use Rattle.c_blocks.specs.RowCode as code;
 
 use crate::expression::{binary, call, power, written};
+use crate::ranges::{Range, surely_holds};
 use c_syntax::{BinOp, Expr};
 use mc_base::Memory;
 use mc_blocks::How;
@@ -57,24 +57,6 @@ fn rounded(alloc: Global, e: Expr, frac: u32, unit: u32, how: How) -> Result<Exp
     Ok(call(rounding(how.round), values))
 }
 
-/// The bits of a type's magnitudes.
-fn magnitude_bits(t: FixType) -> u32
-    ensures { result ≡ magnitude_bits t }
-{
-    u32::from(t.bits) - u32::from(t.signed)
-}
-
-/// Whether a type holds each number that another one stores, of `frac` fraction bits: it has as many bits before and behind
-/// the point, and a sign where that one has one.
-pub(crate) fn holds_all(to: FixType, frac: u32, from: FixType) -> bool
-    ensures { result ≡ code.holds_all to frac from }
-{
-    let unit = u32::from(to.frac);
-    frac <= unit
-        && (!from.signed || to.signed)
-        && magnitude_bits(from) + (unit - frac) <= magnitude_bits(to)
-}
-
 /// A whole number brought into a type.
 fn cast(alloc: Global, over: Over, to: FixType, e: Expr) -> Result<Expr, Memory>
     ensures { IfOk result (λ c. expr_tree c ≡ code.cast over to (expr_tree e)) }
@@ -90,18 +72,23 @@ fn cast(alloc: Global, over: Over, to: FixType, e: Expr) -> Result<Expr, Memory>
     Ok(call(function, values))
 }
 
-/// An expression of `frac` fraction bits converted into a type: by one call where its unit isn't finer than the type's,
-/// else by two.
+/// An expression of `frac` fraction bits, for a number of a range, converted into a type: by a call where its unit is finer than
+/// the type's, and another where the type may not hold the number.
 pub(crate) fn converted(
     alloc: Global,
     e: Expr,
     frac: u32,
+    range: Option<Range>,
     to: FixType,
     how: How,
 ) -> Result<Expr, Memory>
     requires { frac - to.frac ≤ 62 }
-    ensures { IfOk result (λ c. expr_tree c ≡ code.converted (expr_tree e) frac to how) }
+    ensures { IfOk result (λ c. expr_tree c ≡ code.converted (expr_tree e) frac range to how) }
 {
     let whole = rounded(alloc, e, frac, u32::from(to.frac), how)?;
-    cast(alloc, how.over, to, whole)
+    if surely_holds(to, frac, range) {
+        Ok(whole)
+    } else {
+        cast(alloc, how.over, to, whole)
+    }
 }

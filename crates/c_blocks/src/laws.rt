@@ -5,6 +5,7 @@ ghost use Rattle.c_blocks.specs.Resolved.{RowOpsAreWritable};
 
 use c_prelude::whole_numbers_stay;
 use mc_blocks::{narrow_rows_fit, values_stay_in_type};
+use mc_fixed::rounding_is_one;
 
 /// The constants and the shifts of a row's operation fit 64 bits.
 pub fn row_ops_are_writable()
@@ -22,6 +23,7 @@ pub fn rows_are_computed()
     values_stay_in_type();
     narrow_rows_fit();
     whole_numbers_stay();
+    rounding_is_one();
 }
 
 /// It takes two `return`s of pure functions at most.

@@ -8,6 +8,7 @@ mod exact;
 mod expression;
 mod laws;
 mod leaves;
+mod ranges;
 mod rings;
 mod rows;
 mod statement_laws;

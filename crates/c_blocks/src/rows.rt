@@ -1,15 +1,17 @@
-ghost use Rattle.std.specs.Prelude.{◌≡◌, ◌≤◌, IfOk, length, get_or};
+ghost use Rattle.std.specs.Prelude.{◌≡◌, ◌≤◌, IfOk, length, get_or, pos};
 ghost use Rattle.mc_blocks.specs.Value.{greatest_in};
 ghost use Rattle.c_syntax.specs.Plain.{expr_tree, cond_tree};
-ghost use Rattle.c_syntax.specs.Tree.{compare, pick};
+ghost use Rattle.c_syntax.specs.Tree.{compare};
 ghost use Rattle.c_blocks.specs.RowCode as code;
+ghost use Rattle.c_blocks.specs.Ranges as numbers;
 ghost use Rattle.c_blocks.specs.Resolved.{IsRowOp};
 
-use crate::conversion::{aligned, converted, holds_all};
+use crate::conversion::{aligned, converted};
 use crate::exact::{greatest_frac, product, sum};
 use crate::expression::{binary, choice, truth, written};
 use crate::laws::row_ops_are_writable;
-use crate::truth::{logic, passes};
+use crate::ranges::{gain_range, input_range, product_range, sum_range};
+use crate::truth::{logic, passes, passes_all};
 use c_syntax::{BinOp, Cond, Expr, Leaf};
 use mc_base::{Compare, Memory};
 use mc_blocks::{How, Op};
@@ -46,20 +48,23 @@ fn converted_sum(
     minus: u32,
     fracs: &[u8],
     inputs: &[Leaf],
+    types: &[FixType],
     to: FixType,
     how: How,
 ) -> Result<Expr, Memory>
     requires few { length fracs.now ≤ 16 }
     requires unit { greatest_in fracs.now ≤ 31 }
     ensures { let common = greatest_in fracs.now in IfOk result
-        (λ e. expr_tree e ≡ code.converted (code.sum_code minus common fracs.now inputs.now) common to how) }
+        (λ e. expr_tree e ≡ code.converted (code.sum_code minus common fracs.now inputs.now) common
+        (numbers.sum_range minus common 0 fracs.now types.now (numbers.just (pos 0))) to how) }
 {
+    let common = greatest_frac(fracs);
+    let range = sum_range(minus, common, fracs, types);
     let exact = sum(alloc, minus, fracs, inputs)?;
-    converted(alloc, exact, u32::from(greatest_frac(fracs)), to, how)
+    converted(alloc, exact, u32::from(common), range, to, how)
 }
 
-/// An input of `frac` fraction bits, by its place, converted into a type: without a call where that one holds each number of
-/// the input's, if this is known.
+/// An input of `frac` fraction bits, by its place, converted into a type.
 fn converted_input(
     alloc: Global,
     inputs: &[Leaf],
@@ -73,22 +78,14 @@ fn converted_input(
     ensures { IfOk result
         (λ e. expr_tree e ≡ code.converted_input inputs.now types.now place frac to how) }
 {
-    let input = input(inputs, place);
-    let frac = u32::from(frac);
-    let is_held = match types.get(place) {
-        Some(from) => holds_all(to, frac, *from),
-        None => false,
-    };
-    if is_held {
-        aligned(alloc, input, frac, u32::from(to.frac))
-    } else {
-        converted(alloc, input, frac, to, how)
-    }
+    let range = input_range(types, place);
+    converted(alloc, input(inputs, place), u32::from(frac), range, to, how)
 }
 
-/// The first input where a test holds, else the third one, each converted into a type.
+/// The first input where a test holds, else the third one, each converted into a type; `first` says which one, where it's known.
 fn converted_either(
     alloc: Global,
+    first: Option<bool>,
     test: Cond,
     fracs: [u8; 2],
     inputs: &[Leaf],
@@ -96,21 +93,25 @@ fn converted_either(
     to: FixType,
     how: How,
 ) -> Result<Expr, Memory>
-    requires first { get_or fracs 0 0 ≤ 31 }
-    requires third { get_or fracs 1 0 ≤ 31 }
-    ensures { IfOk result (λ e. expr_tree e ≡ pick (cond_tree test)
+    requires first_unit { get_or fracs 0 0 ≤ 31 }
+    requires third_unit { get_or fracs 1 0 ≤ 31 }
+    ensures { IfOk result (λ e. expr_tree e ≡ code.either_code first (cond_tree test)
         (code.converted_input inputs.now types.now 0 (get_or fracs 0 0) to how)
         (code.converted_input inputs.now types.now 2 (get_or fracs 1 0) to how)) }
 {
-    let first = converted_input(alloc, inputs, types, 0, fracs[0], to, how)?;
-    let third = converted_input(alloc, inputs, types, 2, fracs[1], to, how)?;
-    choice(alloc, test, first, third)
+    let on_true = converted_input(alloc, inputs, types, 0, fracs[0], to, how)?;
+    let on_false = converted_input(alloc, inputs, types, 2, fracs[1], to, how)?;
+    match first {
+        Some(true) => Ok(on_true),
+        Some(false) => Ok(on_false),
+        None => choice(alloc, test, on_true, on_false),
+    }
 }
 
 /// The expression for the value of a row: what the row computes of its inputs and its memory, in C, with two calls of
-/// pure functions at most. `types` are those of the inputs in their order, as far as they are known: an input is converted
-/// without a call where the row's type holds each number of the input's. `memory` is the expression for what a delay
-/// remembers; any other row drops it.
+/// pure functions at most. `types` are those of the inputs in their order, as far as they are known: where they show that the
+/// row's type holds each exact result, nothing brings this into the type, and where they show which input a switch passes,
+/// nothing is asked. `memory` is the expression for what a delay remembers; any other row drops it.
 ///
 /// Fails only for want of memory.
 pub fn value_code(
@@ -131,7 +132,7 @@ pub fn value_code(
         Op::Delay(_) | Op::Line { .. } => Ok(memory),
         Op::Gain { m, frac, to, how } => {
             let exact = binary(alloc, BinOp::Mul, input(inputs, 0), written(alloc, m)?)?;
-            converted(alloc, exact, u32::from(frac), to, how)
+            converted(alloc, exact, u32::from(frac), gain_range(m, types), to, how)
         }
         Op::Sum {
             count,
@@ -139,9 +140,25 @@ pub fn value_code(
             fracs,
             to,
             how,
-        } => converted_sum(alloc, minus, &fracs[..usize::from(count)], inputs, to, how),
-        Op::Product { frac, to, how, .. } => {
-            converted(alloc, product(alloc, inputs)?, u32::from(frac), to, how)
+        } => {
+            let fracs = &fracs[..usize::from(count)];
+            converted_sum(alloc, minus, fracs, inputs, types, to, how)
+        }
+        Op::Product {
+            count,
+            frac,
+            to,
+            how,
+        } => {
+            let range = product_range(count, types);
+            converted(
+                alloc,
+                product(alloc, inputs)?,
+                u32::from(frac),
+                range,
+                to,
+                how,
+            )
         }
         Op::Switch {
             criterion,
@@ -150,8 +167,9 @@ pub fn value_code(
             to,
             how,
         } => {
+            let first = passes_all(criterion, threshold, input_range(types, 1));
             let test = passes(alloc, criterion, input(inputs, 1), threshold)?;
-            converted_either(alloc, test, fracs, inputs, types, to, how)
+            converted_either(alloc, first, test, fracs, inputs, types, to, how)
         }
         Op::Relational { compare, fracs } => comparison(alloc, compare, &fracs, inputs),
         Op::Logic { op, .. } => truth(alloc, logic(alloc, op, inputs)?),

@@ -1,7 +1,7 @@
 use super::*;
-use c_syntax::{Cond, Expr, Leaf, Stmt, Target};
+use c_syntax::{BinOp, Cond, Expr, Leaf, Stmt, Target};
 use mc_base::{Control, Decimal, Edge};
-use mc_blocks::{How, Kind, resolve};
+use mc_blocks::{Criterion, How, Kind, resolve};
 use mc_diagram::Time;
 use mc_fixed::{FixType, Over, Round};
 use std::test::Fail;
@@ -105,6 +105,57 @@ fn a_wider_type_holds_each_number(rt: HostRuntime) -> Result<(), Fail> {
     let nothing = Expr::Literal(0);
     let code = value_code(rt.alloc(), &op, &[Leaf::Param(1)], &[INT8], nothing)?;
     assert!(rt; matches!(code, Expr::Read(Leaf::Param(1))));
+    Ok(())
+}
+
+#[test]
+fn a_sum_that_fits_is_not_brought_into_its_type(rt: HostRuntime) -> Result<(), Fail> {
+    let how = How {
+        round: Round::Floor,
+        over: Over::Wrap,
+    };
+    let int16 = FixType {
+        signed: true,
+        bits: 16,
+        frac: 0,
+    };
+    let kind = Kind::Sum {
+        count: 2,
+        minus: 2,
+        how,
+    };
+    let types = [INT8, INT8];
+    let leaves = [Leaf::Param(1), Leaf::Param(2)];
+    let op = resolve(&kind, &types, int16, false);
+    let known = value_code(rt.alloc(), &op, &leaves, &types, Expr::Literal(0))?;
+    assert!(rt; matches!(known, Expr::Binary(BinOp::Add, _, _)));
+    let unknown = value_code(rt.alloc(), &op, &leaves, &[], Expr::Literal(0))?;
+    assert!(rt; matches!(unknown, Expr::Pure(7, _)));
+    Ok(())
+}
+
+#[test]
+fn a_switch_at_an_end_of_a_type_asks_nothing(rt: HostRuntime) -> Result<(), Fail> {
+    let uint8 = FixType {
+        signed: false,
+        bits: 8,
+        frac: 0,
+    };
+    let kind = Kind::Switch {
+        criterion: Criterion::Ge,
+        threshold: Decimal { num: 0, den: 1 },
+        how: How {
+            round: Round::Floor,
+            over: Over::Wrap,
+        },
+    };
+    let types = [uint8, uint8, uint8];
+    let leaves = [Leaf::Param(1), Leaf::Param(2), Leaf::Param(3)];
+    let op = resolve(&kind, &types, uint8, false);
+    let known = value_code(rt.alloc(), &op, &leaves, &types, Expr::Literal(0))?;
+    assert!(rt; matches!(known, Expr::Read(Leaf::Param(1))));
+    let unknown = value_code(rt.alloc(), &op, &leaves, &[], Expr::Literal(0))?;
+    assert!(rt; matches!(unknown, Expr::Pick(_, _, _)));
     Ok(())
 }
 

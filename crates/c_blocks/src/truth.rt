@@ -1,9 +1,11 @@
 ghost use Rattle.std.specs.Prelude.{◌≡◌, ◌<◌, ◌^◌, IfOk, map, unsigned_abs};
+ghost use Rattle.std.specs.Option.{option_and_then};
 ghost use Rattle.c_syntax.specs.Plain.{expr_tree, cond_tree};
 ghost use Rattle.c_blocks.specs.RowCode as code;
 
 use crate::balanced::{Joint, balanced_cond};
 use crate::expression::{is_true, negated, written};
+use crate::ranges::Range;
 use c_syntax::{Cond, Expr, Leaf};
 use mc_base::{Compare, Memory};
 use mc_blocks::{Criterion, Logic};
@@ -79,5 +81,19 @@ pub(crate) fn passes(
         Criterion::Ge => Ok(Cond::Compare(Compare::Ge, e, written(alloc, threshold)?)),
         Criterion::Gt => Ok(Cond::Compare(Compare::Gt, e, written(alloc, threshold)?)),
         Criterion::NotZero => Ok(is_true(e)),
+    }
+}
+
+/// Whether a switch passes its first input for each number of a range alike, by a threshold.
+pub(crate) fn passes_all(criterion: Criterion, threshold: i64, range: Option<Range>) -> Option<bool>
+    ensures { result ≡ option_and_then (code.passes_all criterion threshold) range }
+{
+    let range = range?;
+    match criterion {
+        Criterion::Ge if threshold <= range.least => Some(true),
+        Criterion::Ge if range.greatest < threshold => Some(false),
+        Criterion::Gt if threshold < range.least => Some(true),
+        Criterion::Gt if range.greatest <= threshold => Some(false),
+        _ => None,
     }
 }
