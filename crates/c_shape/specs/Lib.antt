@@ -20,3 +20,4 @@ pub mod Faces
 pub mod TinySamples
 pub mod ShapeExamples
 pub mod ProgramExamples
+pub mod RefusedShapes

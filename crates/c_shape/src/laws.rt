@@ -1,0 +1,10 @@
+ghost use Rattle.c_shape.specs.MoveLaws.{MovedCodeAgrees};
+
+use c_machine::procedure_numbers_are_free;
+
+/// Code that is moved does the same where the procedures and outputs that it names are the same.
+pub fn moved_code_agrees()
+    ensures { MovedCodeAgrees }
+{
+    procedure_numbers_are_free();
+}
