@@ -10,3 +10,11 @@ mod TypedTicks
 mod Totals
 mod BudgetSums
 mod NeededNodes
+mod EarlierGroups
+mod HeldOutports
+mod SoundSystems
+mod Containers
+mod SlotMembers
+mod StandingShapes
+mod ExecutedFields
+mod ExecutedCode

@@ -71,7 +71,7 @@ module _ (d : Diagram) (delays : List Bool) (n : Option ℕ) (headers : List Sys
       else m.ring b)) (inputs-are b)
 
 -- a delay of several samples is a delay
-line-is_delay : (op : Op) → is_line op ≡ true → is_delay op ≡ true
+pub line-is_delay : (op : Op) → is_line op ≡ true → is_delay op ≡ true
 line-is_delay Copy h = absurd (true≢false (sym h))
 line-is_delay (Value v) h = absurd (true≢false (sym h))
 line-is_delay (Delay initial) h = refl

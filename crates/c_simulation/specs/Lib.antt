@@ -14,7 +14,9 @@ pub mod RelationExamples
 pub mod ResetExamples
 pub mod RefusedCodes
 pub mod NodeCode
+pub mod SoundLocals
 pub mod StandingLaws
+pub mod ExecutedNodes
 pub mod CodePieces
 pub mod RunTicks
 pub mod RunTickLaws

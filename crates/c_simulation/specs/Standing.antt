@@ -11,7 +11,7 @@ use Rattle.mc_profile.specs.LocalSystem.{LocalSystem}
 use Rattle.mc_profile.specs.SystemHeader.{SystemHeader}
 use Rattle.mc_profile.specs.Headers.{header_functions}
 use Rattle.mc_profile.specs.Locals.{outports}
-use Rattle.mc_profile.specs.LocalNodes.{node_list, Holds}
+use Rattle.mc_profile.specs.LocalNodes.{same_node, node_list, Holds}
 use Rattle.c_machine.specs.Cells.{Cell, number, items, object, Cells, no_cells, more_cells}
 use Rattle.c_shape.specs.Slots.{Slot, value, memory, ring_items, ring_place, ring_taken, trigger, counter, instance, filler}
 use Rattle.c_simulation.specs.LocalTicks.{LocalTick, is_active, is_off}
@@ -38,6 +38,10 @@ pub record AreHeld (local : LocalSystem) (h : SystemHeader) (held : ℕ → Node
 -- the nodes that called functions hold
 abbrev pub executed_by : SystemHeader → (ℕ → Node → Bool) → (ℕ → Bool) → Node → Bool
 executed_by h held called x = list_any (λ j. called j && held j x) (range_with_len 1 (length (header_functions h)))
+
+-- one node more
+abbrev pub with_node : (Node → Bool) → Node → Node → Bool
+with_node executed x y = same_node y x || executed y
 
 -- whether the call of a function of the child of this row was executed; the root is no child
 abbrev pub is_call_executed : (row : Option ℕ) → (Node → Bool) → ℕ → Bool

@@ -1,12 +1,21 @@
--- Laws of the fields in a tick: those of the next tick are what this one leaves, those of the first what a start leaves; and what
--- a node needs is held where it is.
-use Rattle.std.specs.Prelude.{◌≡◌, ℕ, ◌<◌, ◌≤◌, Bool, false, List, [], ◌∷◌, length, Contains, IsTrue, ℤ, pos, ⊤}
+-- Laws of the fields in a tick: those of the next tick are what this one leaves, those of the first what a start leaves; what a
+-- node needs is held where it is, in an earlier group or in its own; and an own output is held by one function.
+use Rattle.std.specs.Prelude.{◌≡◌, ◌↔◌, ℕ, ◌<◌, ◌≤◌, Bool, false, List, [], ◌∷◌, length, slice_get, slice_index, Contains, IsTrue, Some, ℤ, pos, ⊤}
+use Rattle.mc_graph.specs.NeedsGraph.{NeedsGraph, Needs}
+use Rattle.mc_cluster.specs.Clusters.{AreClusters}
+use Rattle.mc_cluster.specs.Grouping.{AreGroups}
+use Rattle.mc_cluster.specs.NodeGroups.{NodeGroups}
 use Rattle.mc_guards.specs.declared.TrigMem.TheVariants.{NotYet}
 use Rattle.mc_diagram.specs.Run.{start_by, first_of}
+use Rattle.mc_profile.specs.declared.LocalRow.{LocalRow}
 use Rattle.mc_profile.specs.declared.Node.{Node}
+use Rattle.mc_profile.specs.declared.Node.TheVariants.{Row}
 use Rattle.mc_profile.specs.LocalSystem.{LocalSystem}
 use Rattle.mc_profile.specs.SystemHeader.{SystemHeader}
-use Rattle.mc_profile.specs.Headers.{header_functions}
+use Rattle.mc_profile.specs.SystemProfile.{SystemProfile}
+use Rattle.mc_profile.specs.Ports.{has_bit}
+use Rattle.mc_profile.specs.Headers.{header_functions, header_function}
+use Rattle.mc_profile.specs.Locals.{outports, own_header}
 use Rattle.mc_profile.specs.LocalNodes.{node_list, NodeNeeds}
 use Rattle.c_machine.specs.Cells.{Cell, number, items, Cells, no_cells, more_cells, cell_fields}
 use Rattle.c_shape.specs.Slots.{Slot, value, memory, ring_items, ring_place, ring_taken, trigger, counter, instance, filler}
@@ -14,6 +23,7 @@ use Rattle.c_simulation.specs.LocalTicks.{LocalTick}
 use Rattle.c_simulation.specs.Instances.{InstanceTick, instance_at, none_called}
 use Rattle.c_simulation.specs.Standing.{AreHeld, standing_cells, after_cells}
 use Rattle.c_simulation.specs.Renewals.{Renewal, renewal_at, IsStarted, AllSlots}
+use Rattle.c_simulation.specs.SoundLocals.{IsSoundLocal}
 
 -- The next tick's fields are what this tick leaves, and the first tick's are what the start leaves, where counters and
 -- children agree.
@@ -55,3 +65,15 @@ abbrev pub NeededIsHeld : Type 0
 NeededIsHeld = (local : LocalSystem) (h : SystemHeader) (held : ℕ → Node → Bool) (j : ℕ) (x y : Node) → AreHeld local h held →
     0 < j → j ≤ length (header_functions h) → Contains (node_list local) x → Contains (node_list local) y →
     NodeNeeds local y x → IsTrue (held j y) → IsTrue (held j x)
+
+-- an own output is held by the function that gives it, and by no other
+abbrev pub OutportIsHeldAlone : Type 0
+OutportIsHeldAlone = (local : LocalSystem) (profile : SystemProfile) (held : ℕ → Node → Bool) (j k : ℕ) (o : LocalRow) → IsSoundLocal local →
+    AreHeld local (own_header local profile) held → 0 < j → j ≤ length profile.functions → slice_get (outports local) k ≡ Some o →
+    IsTrue (held j (Row o.row)) ↔ IsTrue (has_bit (header_function (own_header local profile) j).outputs k)
+
+-- the group of a needed node stands before, or is the same
+abbrev pub NeededGroupIsEarlier : Type 0
+NeededGroupIsEarlier = (g : NeedsGraph) (outputs class clusters : List ℕ) (groups : NodeGroups) (a b : ℕ) →
+    AreClusters g outputs class clusters → AreGroups clusters groups → a < g.n → b < g.n → Needs g b a →
+    slice_index groups.of a ≤ slice_index groups.of b

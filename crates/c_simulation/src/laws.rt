@@ -1,10 +1,12 @@
 ghost use Rattle.c_simulation.specs.BudgetLaws.{BudgetsSumToBound};
+ghost use Rattle.c_simulation.specs.ExecutedNodes.{CallIsExecuted, CallIsOneChild, RowIsExecuted, RowIsNoField, RowIsOneField, StandingHasSlots};
 ghost use Rattle.c_simulation.specs.Rings.{BegunIsRing, EmptiedIsRing, MovedIsRing};
 ghost use Rattle.c_simulation.specs.RunTickLaws.{ChildrenMeetTheirTicks, CycleIsOfLocals, TicksAreLocal, TicksAreTyped, TicksFollow};
-ghost use Rattle.c_simulation.specs.StandingLaws.{FirstStands, NeededIsHeld, NextStands};
+ghost use Rattle.c_simulation.specs.SoundLocals.{LocalsAreSound};
+ghost use Rattle.c_simulation.specs.StandingLaws.{FirstStands, NeededGroupIsEarlier, NeededIsHeld, NextStands, OutportIsHeldAlone};
 
 use mc_diagram::{periods_divide_cycle, resolved_cycles_are_short, resolved_cycles_have_ticks};
-use mc_profile::header_is_of_own_rows;
+use mc_profile::{header_is_of_own_rows, locals_are_lawful};
 
 /// A ring that was begun holds the start.
 pub fn begun_is_ring()
@@ -75,4 +77,51 @@ pub fn budgets_sum_to_bound()
 /// What a node needs is held by each function that holds the node.
 pub fn needed_is_held()
     ensures { NeededIsHeld }
+{}
+
+/// The group of a needed node stands before that of the node, or is the same.
+pub fn needed_group_is_earlier()
+    ensures { NeededGroupIsEarlier }
+{}
+
+/// An own output is held by the function that gives it, and by no other.
+pub fn outport_is_held_alone()
+    ensures { OutportIsHeldAlone }
+{}
+
+/// Each system of a resolved model is sound by its own rows.
+pub fn locals_are_sound()
+    ensures { LocalsAreSound }
+{
+    locals_are_lawful();
+}
+
+/// The fields of an instance in a typed tick have the struct's shape.
+pub fn standing_has_slots()
+    ensures { StandingHasSlots }
+{}
+
+/// One row more that was executed is one field more.
+pub fn row_is_one_field()
+    ensures { RowIsOneField }
+{}
+
+/// A row without a value that was executed changes no field.
+pub fn row_is_no_field()
+    ensures { RowIsNoField }
+{}
+
+/// One call more that was executed is one child further, where the system is active.
+pub fn call_is_one_child()
+    ensures { CallIsOneChild }
+{}
+
+/// The code of a row leads from one set of executed nodes to the next, where what the row needs was executed.
+pub fn row_is_executed()
+    ensures { RowIsExecuted }
+{}
+
+/// The code of a call leads from one set of executed nodes to the next, where what the call needs was executed.
+pub fn call_is_executed()
+    ensures { CallIsExecuted }
 {}

@@ -4,7 +4,9 @@
 mod laws;
 
 pub use laws::{
-    begun_is_ring, budgets_sum_to_bound, children_meet_their_ticks, cycle_is_of_locals,
-    emptied_is_ring, first_stands, moved_is_ring, needed_is_held, next_stands, ticks_are_local,
+    begun_is_ring, budgets_sum_to_bound, call_is_executed, call_is_one_child,
+    children_meet_their_ticks, cycle_is_of_locals, emptied_is_ring, first_stands, locals_are_sound,
+    moved_is_ring, needed_group_is_earlier, needed_is_held, next_stands, outport_is_held_alone,
+    row_is_executed, row_is_no_field, row_is_one_field, standing_has_slots, ticks_are_local,
     ticks_are_typed, ticks_follow,
 };

@@ -1,0 +1,5 @@
+use Rattle.c_simulation.proofs.ExecutedFields as proof
+use Rattle.c_simulation.proofs.laws.call_is_one_child.Goals as goal
+
+pub returns : goal.returns
+returns c = proof.call_is_one_child

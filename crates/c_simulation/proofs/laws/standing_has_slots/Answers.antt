@@ -1,0 +1,5 @@
+use Rattle.c_simulation.proofs.StandingShapes as proof
+use Rattle.c_simulation.proofs.laws.standing_has_slots.Goals as goal
+
+pub returns : goal.returns
+returns c = proof.standing_has_slots
