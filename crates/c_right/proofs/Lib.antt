@@ -11,3 +11,10 @@ mod StillTick
 mod EarlyMemory
 mod SharedRenewals
 mod SharedFaces
+mod EmptyReset
+mod WholeRuns
+mod WholeFaces
+mod WholeShape
+mod WholeRenewals
+mod WholeScripts
+mod WholeCode

@@ -1,5 +1,5 @@
 -- Programs that differ in one thing from that of a root and its shared child are not right: each is refused by one part.
-use Rattle.std.specs.Prelude.{◌≡◌, ◌⊎◌, ◌↔◌, refl, ℕ, suc, ◌+◌, ◌<◌, ◌==◌, false, List, [], ◌∷◌, map, length, replicate, slice_index, slice_index_or, IsBitSet, Option, Some, None, pos, nat_abs, ℤ}
+use Rattle.std.specs.Prelude.{◌≡◌, ◌⊎◌, ◌↔◌, refl, ℕ, suc, ◌+◌, ◌<◌, ◌≤◌, ◌==◌, false, List, [], ◌∷◌, map, length, replicate, slice_index, slice_index_or, IsBitSet, Option, Some, None, pos, nat_abs, ℤ}
 use Rattle.std.specs.Fmt.{digits}
 use Rattle.std.proofs.Common.{sym, ap, subst, arith, ◌∙◌, inl, inr, lit<, lit≤, rules, true≢false}
 use Rattle.std.proofs.lemmas.Bool.{eq-eqb}
@@ -23,9 +23,9 @@ use Rattle.c_simulation.specs.Forms.{Forms, HasForms, holds_number, holds_instan
 use Rattle.c_syntax.specs.declared.CType.TheVariants.{I32, U8}
 use Rattle.c_right.specs.Scripts.{Call, out_with, IsLawfulScript, Fits}
 use Rattle.c_right.specs.Calls.{IsWholeTick}
-use Rattle.c_right.specs.Right.{HasCalls, AnswersAnyOrder}
-use Rattle.c_right.specs.Anew.{forms_at, RenewsAll}
-use Rattle.c_right.specs.SharedSamples.{trace, repeats_shared, called_first_alone, takes_unused, one_step, idle_functions, flat_step, leaves_values, leaves_counter, stores_values}
+use Rattle.c_right.specs.Right.{StaysInBound, HasCalls, AnswersAnyOrder}
+use Rattle.c_right.specs.Anew.{forms_at, RenewsAll, Restarts}
+use Rattle.c_right.specs.SharedSamples.{trace, repeats_shared, called_first_alone, takes_unused, one_step, idle_functions, flat_step, divides_by_zero, over_bound, leaves_values, leaves_counter, leaves_child, stores_values, leaves_tick}
 use Rattle.c_right.proofs.SharedNeeds.{not_second, outer_input, outer_needs}
 
 -- ---- The run
@@ -58,10 +58,27 @@ repeated : HasCalls repeats_shared shared_child (c_rows repeats_shared trace).ti
 unfolding digits
 repeated h = apart 3 2 refl (long repeats_shared (Some 2) (1 ∷ 1 ∷ 2 ∷ []) h.0.inside.each.0)
 
+-- and stores the node's value twice
+stored_twice : HasCalls repeats_shared shared_child (c_rows repeats_shared trace).ticks trace shared_run.values shared_run.triggers → ⊥
+unfolding digits
+stored_twice h = let once : 2 ≤ 1 = h.0.top_stored_once.0 in omega arith
+
 -- a flat step calls nothing
 flat : HasCalls flat_step shared_child (c_rows flat_step trace).ticks trace shared_run.values shared_run.triggers → ⊥
 unfolding digits
 flat h = apart 0 2 refl (long flat_step (Some 2) [] h.0.inside.each.0)
+
+-- ---- Steps
+
+-- a division by 0 is stuck in the first tick
+divided : StaysInBound divides_by_zero shared_child trace → ⊥
+unfolding digits
+divided h = cc h.not_stuck
+
+-- a tick takes 325 steps, where 324 are allowed
+too_long : StaysInBound over_bound shared_child trace → ⊥
+unfolding digits
+too_long h = let within : 325 ≤ 324 = h.steps.0 in omega arith
 
 -- ---- Interfaces
 
@@ -177,6 +194,20 @@ left_counter : RenewsAll leaves_counter shared_child None → ⊥
 unfolding digits
 left_counter h = values-apart 1 0 refl (h.starts midst (has_forms leaves_counter refl)).here.counters.0
 
+left_child : RenewsAll leaves_child shared_child None → ⊥
+unfolding digits
+left_child h = values-apart 9 0 refl (h.starts midst (has_forms leaves_child refl)).inside.0.values.0
+
 stored_values : RenewsAll stores_values shared_child None → ⊥
 unfolding digits
 stored_values h = values-apart 0 9 refl (h.resets midst (has_forms stores_values refl)).here.values.0
+
+-- ---- The whole program started again
+
+-- fields of `root` in the midst of a tick
+abbrev whole_midst : Cells
+whole_midst = more_cells (number (pos 1)) (more_cells (number (pos 9)) (more_cells (number (pos 9)) (more_cells (object midst) no_cells)))
+
+left_tick : Restarts leaves_tick shared_child → ⊥
+unfolding digits
+left_tick h = values-apart 1 0 refl (h whole_midst (refl, (refl, (refl, (has_forms leaves_tick refl, tt))))).tick

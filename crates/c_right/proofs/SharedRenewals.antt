@@ -1,11 +1,12 @@
 -- The program of a root and its shared child starts and resets each system right, whatever its fields hold.
-use Rattle.std.specs.Prelude.{◌≡◌, refl, [], ◌∷◌, Some, None, pos}
+use Rattle.std.specs.Prelude.{◌≡◌, refl, ℕ, [], ◌∷◌, Some, None, pos}
 use Rattle.std.specs.Fmt.{digits}
 use Rattle.std.proofs.Common.{sym, ap, ap₂, subst, true≢false}
 use Rattle.mc_profile.specs.LocalSamples.{shared_child}
 use Rattle.c_syntax.specs.declared.CType.TheVariants.{I32, U8}
 use Rattle.c_machine.specs.Cells.{Cell, number, items, object, Cells, no_cells, more_cells, cell_value, cell_items, cell_fields, cell_at}
-use Rattle.c_machine.specs.Machine.{routine_at, program_routines}
+use Rattle.c_syntax.specs.Tree.{ProgramTree}
+use Rattle.c_machine.specs.Machine.{After, routine_at, program_routines}
 use Rattle.c_shape.specs.Names.{start_name, reset_name}
 use Rattle.c_shape.specs.Programs.{procedure_place}
 use Rattle.c_simulation.specs.Forms.{Form, Forms, holds_number, holds_array, holds_instance, holds_nothing, no_forms, more_forms, HasForm, HasForms, forms_of}
@@ -21,19 +22,19 @@ behind_first no_cells = no_cells
 behind_first (more_cells c cells) = cells
 
 abbrev mutual
-  spelled_cell : Form → Cell → Cell
+  pub spelled_cell : Form → Cell → Cell
   spelled_cell (holds_number type) c = number (cell_value c)
   spelled_cell (holds_array type count) c = items (cell_items c)
   spelled_cell (holds_instance fields) c = object (spelled fields (cell_fields c))
   spelled_cell holds_nothing c = number (pos 0)
 
   -- the numbers of these fields, in fields of the form
-  spelled : Forms → Cells → Cells
+  pub spelled : Forms → Cells → Cells
   spelled no_forms cells = no_cells
   spelled (more_forms form forms) cells = more_cells (spelled_cell form (cell_at cells 0)) (spelled forms (behind_first cells))
 
 mutual
-  spelled_cell-is : (form : Form) (c : Cell) → HasForm form c → spelled_cell form c ≡ c
+  pub spelled_cell-is : (form : Form) (c : Cell) → HasForm form c → spelled_cell form c ≡ c
   spelled_cell-is (holds_number type) (number v) h = refl
   spelled_cell-is (holds_number type) (items vs) h = absurd h
   spelled_cell-is (holds_number type) (object cells) h = absurd h
@@ -48,11 +49,18 @@ mutual
   spelled_cell-is holds_nothing (object cells) h = absurd h
 
   -- fields of the form are these
-  spelled-is : (forms : Forms) (cells : Cells) → HasForms forms cells → spelled forms cells ≡ cells
+  pub spelled-is : (forms : Forms) (cells : Cells) → HasForms forms cells → spelled forms cells ≡ cells
   spelled-is no_forms no_cells h = refl
   spelled-is no_forms (more_cells c cells) h = absurd h
   spelled-is (more_forms form forms) no_cells h = absurd h
   spelled-is (more_forms form forms) (more_cells c cells) h = ap₂ more_cells (spelled_cell-is form c h.0) (spelled-is forms cells h.1)
+
+-- so what a procedure makes of any fields of the form is what it makes of fields that are spelled out
+pub from-spelled : (p : ProgramTree) (procedure : ℕ) (forms : Forms) (P : Cells → After → Type 0) →
+    ((c : Cells) → OnDone ((routine_at (program_routines p) procedure).run [] (spelled forms c) 0) (P (spelled forms c))) →
+    (before : Cells) → HasForms forms before → OnDone ((routine_at (program_routines p) procedure).run [] before 0) (P before)
+from-spelled p procedure forms P of_spelled before has =
+    subst (λ c. OnDone ((routine_at (program_routines p) procedure).run [] c 0) (P c)) (spelled-is forms before has) (of_spelled before)
 
 -- ---- The forms of the child, of `top` and of `root`
 

@@ -1,16 +1,16 @@
--- A step of `root` that doesn't move the tick on is refused.
-use Rattle.std.specs.Prelude.{◌≡◌, ◌⊎◌, refl, ℕ, ◌==◌, false, List, [], ◌∷◌, ◌++◌, length, slice_index_or, pos}
+-- A step of `root` that doesn't move the tick on is refused, and a start of it that doesn't make it 0.
+use Rattle.std.specs.Prelude.{◌≡◌, ◌⊎◌, refl, ℕ, ◌<◌, ◌==◌, false, List, [], ◌∷◌, ◌++◌, filter, length, slice_index_or, pos}
 use Rattle.std.specs.List.{AllZip}
 use Rattle.std.specs.Fmt.{digits}
-use Rattle.std.proofs.Common.{sym, ap, subst, ◌∙◌, inl, inr, true≢false}
+use Rattle.std.proofs.Common.{sym, ap, subst, ◌∙◌, inl, inr, arith, true≢false}
 use Rattle.std.proofs.lemmas.Bool.{eq-eqb}
 use Rattle.mc_profile.specs.LocalSamples.{shared_child}
 use Rattle.c_syntax.specs.Tree.{literal, StmtTree, assign, list_of_stmts, ProcedureTree}
 use Rattle.c_syntax.specs.RootFields.{root_struct}
 use Rattle.c_shape.specs.Heads.{Head}
 use Rattle.c_shape.specs.Programs.{procedure_at, procedures_of}
-use Rattle.c_shape.specs.RootCode.{RootStep, moves_on, Does, HasRootCode}
-use Rattle.c_right.specs.SharedSamples.{still_tick}
+use Rattle.c_shape.specs.RootCode.{RootStep, moves_on, Does, is_literal_store, HasRootCode}
+use Rattle.c_right.specs.SharedSamples.{still_tick, leaves_tick}
 use Rattle.c_right.proofs.ShapeLines.{two-orders}
 
 -- what stands beside the end of a list is the end of the other
@@ -55,3 +55,19 @@ still h = by (two-orders h.start h.step (procedures_of still_tick (root_struct s
         let moves = moves-last (Does still_tick 1 (procedure_at still_tick 14)) _ (assign 0 0 (literal (pos 0))) (list_of_stmts (procedure_at still_tick 14).body)
         (subst (λ steps. AllZip (Does still_tick 1 (procedure_at still_tick 14)) steps (list_of_stmts (procedure_at still_tick 14).body)) h.are_steps.in_order does) in
         apart 2 3 refl (ap (λ (name : List ℕ). length name) moves.0)
+
+-- the start of the other has one statement, a call
+left : HasRootCode leaves_tick shared_child 1 → ⊥
+unfolding digits
+left h = by (two-orders h.start h.step (procedures_of leaves_tick (root_struct leaves_tick)) h.only)
+  where
+    none : (n : ℕ) → n ≡ 0 → 0 < n → ⊥
+    none n e below = omega (arith, e, below)
+
+    by : (procedures_of leaves_tick (root_struct leaves_tick) ≡ h.start ∷ h.step ∷ []) ⊎ (procedures_of leaves_tick (root_struct leaves_tick) ≡ h.step ∷ h.start ∷ []) → ⊥
+    by (inr e) =
+        let step : procedure_at leaves_tick 13 ≡ h.step = ap (λ (xs : List ProcedureTree). slice_index_or xs 0 (procedure_at leaves_tick 13)) e in
+        apart 10 9 refl (ap (λ (x : ProcedureTree). length x.name) step ∙ ap (λ (x : Head). length x.name) h.step_head)
+    by (inl e) =
+        let start : procedure_at leaves_tick 13 ≡ h.start = ap (λ (xs : List ProcedureTree). slice_index_or xs 0 (procedure_at leaves_tick 13)) e in
+        none (length (filter is_literal_store (list_of_stmts h.start.body))) (sym (ap (λ (x : ProcedureTree). length (filter is_literal_store (list_of_stmts x.body))) start)) h.begins

@@ -1,4 +1,5 @@
--- The program of a root that delays its input by a tick, and one whose memory is stored before the input that it takes.
+-- The program of a root that delays its input by a tick, one whose memory is stored before the input that it takes, and one
+-- whose reset does nothing.
 use Rattle.std.specs.Prelude.{◌≡◌, refl, false, List, [], ◌∷◌, ◌++◌, map, None, pos, codes, ℤ}
 use Rattle.std.specs.Fmt.{digits}
 use Rattle.mc_blocks.specs.declared.Kind.TheVariants.{Inport, Outport, UnitDelay}
@@ -25,26 +26,36 @@ delay_local = local_of one_delay [] None []
 abbrev delay_slots : List Slot
 delay_slots = map value (map (local_row one_delay []) (0 ∷ 1 ∷ 2 ∷ [])) ++ memory (local_row one_delay [] 1) ∷ []
 
--- its code by the update's statements
-abbrev delay_code : List StmtTree → SystemTree
-delay_code on_update = record {
+-- its code by the statements of the update and of the reset
+abbrev delay_code : (on_update on_reset : List StmtTree) → SystemTree
+delay_code on_update on_reset = record {
   structure = record { name = codes "top"; fields = map slot_field delay_slots };
   outputs = 2 ∷ [];
   procedures =
       inner_procedure (codes "top_out1") (now_param ∷ []) (assign 0 1 (read (Own 3)) ∷ assign 0 2 (read (Own 1)) ∷ [])
       ∷ inner_procedure (codes "top_update") (now_param ∷ input_param ∷ []) on_update
       ∷ inner_procedure (codes "top_start") [] (zeros (0 ∷ 1 ∷ 2 ∷ 3 ∷ []))
-      ∷ inner_procedure (codes "top_reset") [] (zeros (3 ∷ []))
+      ∷ inner_procedure (codes "top_reset") [] on_reset
       ∷ [];
 }
 
+abbrev program_of : SystemTree → ProgramTree
+program_of code = assembled (code ∷ []) delay_local 1 []
+
 -- the input first, and then the memory that takes it
+abbrev in_turn : List StmtTree
+in_turn = assign 0 0 (read (Param 1)) ∷ assign 0 3 (read (Own 0)) ∷ []
+
 abbrev pub delay_program : ProgramTree
-delay_program = assembled (delay_code (assign 0 0 (read (Param 1)) ∷ assign 0 3 (read (Own 0)) ∷ []) ∷ []) delay_local 1 []
+delay_program = program_of (delay_code in_turn (zeros (3 ∷ [])))
 
 -- the other way round
 abbrev pub early_memory : ProgramTree
-early_memory = assembled (delay_code (assign 0 3 (read (Own 0)) ∷ assign 0 0 (read (Param 1)) ∷ []) ∷ []) delay_local 1 []
+early_memory = program_of (delay_code (assign 0 3 (read (Own 0)) ∷ assign 0 0 (read (Param 1)) ∷ []) (zeros (3 ∷ [])))
+
+-- the reset does nothing
+abbrev pub empty_reset : ProgramTree
+empty_reset = program_of (delay_code in_turn [])
 
 -- three ticks
 abbrev pub delay_trace : List (List ℤ)

@@ -11,3 +11,4 @@ pub mod DriveLaws
 pub mod SharedSamples
 pub mod SharedExamples
 pub mod DelaySamples
+pub mod WholeSamples

@@ -90,19 +90,24 @@ AnswersAnyOrder p d hyper s =
 
 -- ---- The whole
 
--- a program is code for a diagram whose hits repeat after `hyper` ticks, of whose rows `delays` says which delay between rates
-pub record IsCodeFor (p : ProgramTree) (d : Diagram) (delays : List Bool) (hyper : ℕ) : Type 0 where
+-- what a program gives over traces
+pub record RunsRight (p : ProgramTree) (d : Diagram) : Type 0 where
   -- driven by any trace it gives the outputs of the one run
   pub outputs : (xs : List (List ℤ)) → IsTrace d None xs → GivesOutputs p d xs
   -- it is never stuck, and each tick stays within the bound on steps
   pub bounded : (xs : List (List ℤ)) → IsTrace d None xs → StaysInBound p d xs
+  -- in each tick each function of an active system is called once, and then its update
+  pub calls : (xs : List (List ℤ)) (run : Run) → IsTrace d None xs → IsRunOver d None xs run →
+      HasCalls p d (c_rows p xs).ticks xs run.values run.triggers
+
+-- a program is code for a diagram whose hits repeat after `hyper` ticks, of whose rows `delays` says which delay between rates
+pub record IsCodeFor (p : ProgramTree) (d : Diagram) (delays : List Bool) (hyper : ℕ) : Type 0 where
+  -- driven by any trace it is right
+  pub runs : RunsRight p d
   -- each system's functions take exactly what its outputs need, and no interface that does so has fewer
   pub least : AllByRecursion (HasLeastInterface p d) (systems d.rows)
   -- each system stands in a struct and procedures of its own
   pub shape : HasShape p d delays hyper
-  -- in each tick each function of an active system is called once, and then its update
-  pub calls : (xs : List (List ℤ)) (run : Run) → IsTrace d None xs → IsRunOver d None xs run →
-      HasCalls p d (c_rows p xs).ticks xs run.values run.triggers
   -- each system answers its calls in any lawful order
   pub any_order : AllByRecursion (AnswersAnyOrder p d hyper) (systems d.rows)
   -- and each can be started anew and reset, whatever its fields hold

@@ -1,11 +1,11 @@
 -- The program of a root whose two functions share a child, and programs that differ from it in one thing.
-use Rattle.std.specs.Prelude.{ℕ, zero, suc, true, false, List, [], ◌∷◌, ◌++◌, pos, codes, ℤ}
+use Rattle.std.specs.Prelude.{ℕ, zero, suc, true, false, List, [], ◌∷◌, ◌++◌, replicate, pos, codes, ℤ}
 use Rattle.mc_profile.specs.LocalSamples.{outer_local}
-use Rattle.c_syntax.specs.declared.BinOp.TheVariants.{Add}
+use Rattle.c_syntax.specs.declared.BinOp.TheVariants.{Add, Rem}
 use Rattle.c_syntax.specs.declared.Leaf.TheVariants.{Param, Own, Child}
 use Rattle.c_syntax.specs.declared.Target.TheVariants.{Own as OnSelf, Child as OnChild}
 use Rattle.c_syntax.specs.Tree.{literal, read, binary, assign, call, exprs_of_list, no_exprs, stmts_of_list, StmtTree, ProcedureTree, ProgramTree}
-use Rattle.c_shape.specs.Names.{root_step_name}
+use Rattle.c_shape.specs.Names.{root_start_name, root_step_name}
 use Rattle.c_shape.specs.Heads.{now_param}
 use Rattle.c_shape.specs.SystemTree.{SystemTree}
 use Rattle.c_shape.specs.Assembled.{assembled}
@@ -96,6 +96,14 @@ idle_functions = program_of idle_code
 abbrev pub flat_step : ProgramTree
 flat_step = with_step (assign 0 1 (read (Param 0)) ∷ assign 0 2 (binary Add (read (Param 0)) (read (Param 1))) ∷ assign 0 0 (literal (pos 0)) ∷ [])
 
+-- it divides by 0
+abbrev pub divides_by_zero : ProgramTree
+divides_by_zero = with_step (assign 0 1 (binary Rem (read (Param 0)) (literal (pos 0))) ∷ [])
+
+-- it makes the first output 325 times, of which each is a step
+abbrev pub over_bound : ProgramTree
+over_bound = with_step (replicate 325 (assign 0 1 (read (Param 0))))
+
 -- the tick stays
 abbrev pub still_tick : ProgramTree
 still_tick =
@@ -110,8 +118,20 @@ leaves_values = with_procedure 6 (inner_procedure (codes "top_start") [] (zeros 
 abbrev pub leaves_counter : ProgramTree
 leaves_counter = with_procedure 6 (inner_procedure (codes "top_start") [] (zeros (0 ∷ 1 ∷ 2 ∷ 3 ∷ 4 ∷ []) ++ call 0 10 (OnChild 5) no_exprs ∷ []))
 
+-- the child isn't started
+abbrev pub leaves_child : ProgramTree
+leaves_child = with_procedure 6 (inner_procedure (codes "top_start") [] (zeros (0 ∷ 1 ∷ 2 ∷ 3 ∷ 4 ∷ 6 ∷ 7 ∷ 8 ∷ [])))
+
 abbrev pub stores_values : ProgramTree
 stores_values = with_procedure 7 (inner_procedure (codes "top_reset") [] (zeros (0 ∷ 1 ∷ 2 ∷ 3 ∷ 4 ∷ []) ++ call 0 11 (OnChild 5) no_exprs ∷ []))
+
+-- `root_start` starts `top`, and leaves the tick
+abbrev pub leaves_tick : ProgramTree
+leaves_tick = record {
+  pures = shared_program.pures;
+  structs = shared_program.structs;
+  procedures = replaced shared_program.procedures 13 (record { name = root_start_name; private = false; of = 2; params = []; body = stmts_of_list (call 0 11 (OnChild 3) no_exprs ∷ []) });
+}
 
 -- ---- The model's run over a trace
 

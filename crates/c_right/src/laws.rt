@@ -1,7 +1,13 @@
+ghost use Rattle.std.specs.Prelude.{[]};
+ghost use Rattle.c_right.specs.Right.{IsCodeFor};
+ghost use Rattle.c_right.specs.WholeSamples.{later_five, whole_program};
 ghost use Rattle.c_right.specs.DriveLaws.{LawfulScriptsFit, ScriptsGrow};
 ghost use Rattle.c_right.specs.LineLaws.{RenewalsMeanNoLines, RowsMeanNoLines, ShapeMeansNoLines, TextOfCodeIsRight};
 
 use c_machine::lines_mean_nothing;
+use mc_base::needs_are_least;
+use mc_diagram::one_run;
+use mc_profile::profiles_are_one;
 
 /// What a program does over traces and scripts is the same for each program that differs from it in lines alone.
 pub fn rows_mean_no_lines()
@@ -38,3 +44,12 @@ pub fn scripts_grow()
 pub fn lawful_scripts_fit()
     ensures { LawfulScriptsFit }
 {}
+
+/// Some code is right: that of a model with a subsystem that remembers a number.
+pub fn some_code_is_right()
+    ensures { IsCodeFor whole_program later_five [] 1 }
+{
+    one_run();
+    needs_are_least();
+    profiles_are_one();
+}

@@ -5,5 +5,5 @@ mod laws;
 
 pub use laws::{
     lawful_scripts_fit, renewals_mean_no_lines, rows_mean_no_lines, scripts_grow,
-    shape_means_no_lines, text_of_code_is_right,
+    shape_means_no_lines, some_code_is_right, text_of_code_is_right,
 };

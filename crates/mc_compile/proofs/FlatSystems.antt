@@ -13,7 +13,7 @@ use Rattle.mc_diagram.specs.Inputs.{input_row}
 use Rattle.mc_diagram.proofs.lemmas.Tick.{row_at-past}
 use Rattle.mc_diagram.proofs.lemmas.ByRow.{map_range-at}
 use Rattle.std.proofs.lemmas.List.FromFn.{length-map-range_with_len}
-use Rattle.mc_profile.specs.Systems.{systems}
+use Rattle.mc_profile.specs.Systems.{systems, systems_inside}
 use Rattle.mc_diagram.specs.Traces.{input_type_of}
 use Rattle.c_emitter.specs.Flat.{HasFlatKind, IsFlatRow, IsFlat}
 use Rattle.mc_compile.specs.Compilation.{root_types}
@@ -46,11 +46,13 @@ module _ (d : Diagram) (flat : IsFlat d) where
     | inr past ↦ ap (λ (row : Row). is_subsystem row.kind) past
   ]
 
+  pub none-inside : systems_inside d.rows None ≡ []
+  none-inside =
+      none-kept (λ e. is_subsystem (row_at d.rows e).kind && is_inside d.rows None e) (row_numbers d.rows)
+      (λ e. ap (λ (t : Bool). t && is_inside d.rows None e) (none-subsystem e))
+
   pub one-system : length (systems d.rows) ≡ 1
-  one-system =
-      ap (λ (inside : List ℕ). length (None ∷ map Some inside))
-      (none-kept (λ e. is_subsystem (row_at d.rows e).kind && is_inside d.rows None e) (row_numbers d.rows)
-      (λ e. ap (λ (t : Bool). t && is_inside d.rows None e) (none-subsystem e)))
+  one-system = ap (λ (inside : List ℕ). length (None ∷ map Some inside)) none-inside
 
 -- ---- Its inputs
 

@@ -9,6 +9,7 @@ pub mod FaultLaws
 pub mod RowPasses
 pub mod DelaySums
 pub mod FlatSystems
+pub mod FlatRuns
 pub mod InputLaws
 pub mod LoopRows
 pub mod EveryTick

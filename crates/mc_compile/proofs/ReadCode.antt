@@ -16,7 +16,7 @@ use Rattle.c_syntax.specs.Lawful.{IsLawful, without_lines, stmts_without_lines}
 use Rattle.c_rules.specs.Reading.{IsTextOf}
 use Rattle.c_machine.specs.LinesAside.{stuck_aside, outcome_aside, RunAlike, LinesMeanNothing}
 use Rattle.c_reading.specs.Agreement.{ReadingsAgree}
-use Rattle.mc_profile.specs.Systems.{system_name}
+use Rattle.mc_profile.specs.Systems.{systems_inside, system_name}
 use Rattle.mc_profile.specs.Functions.{functions_for}
 use Rattle.c_emitter.specs.Names.{out_name, update_name, value_name, memory_name, root_name}
 use Rattle.c_emitter.specs.Systems.{step_bound}
@@ -25,6 +25,7 @@ use Rattle.c_emitter.specs.Places.{path_to, has_procedure, procedure_place, out_
 use Rattle.c_emitter.specs.Calls.{StoresOnce, HasTopCalls}
 use Rattle.c_emitter.specs.Code.{GivesOutputs, StaysInBound, top_number, AtStart, Starts, HasHeaders, IsCodeFor}
 use Rattle.mc_compile.specs.Compilation.{IsRightCode}
+use Rattle.mc_compile.proofs.FlatRuns.{flat-runs}
 
 -- ---- What a program's text can't change
 
@@ -185,10 +186,12 @@ module _ (r p : ProgramTree) (same : without_lines r ≡ without_lines p) where
     }
 
 -- the text of a program that is code for a diagram is right code
-pub reading_is_code : LinesMeanNothing → ReadingsAgree → (bytes : List ℕ) (p : ProgramTree) (d : Diagram) → IsTextOf bytes p → IsCodeFor p d → IsRightCode bytes d
-reading_is_code lines agree bytes p d text code = record {
-  program = text.reading;
-  reading = text.read;
-  only = text.one;
-  code = code-same text.reading p text.same (lines text.reading p text.same) d (agree.lawful bytes text.reading text.read) code;
-}
+pub reading_is_code : LinesMeanNothing → ReadingsAgree → (bytes : List ℕ) (p : ProgramTree) (d : Diagram) → systems_inside d.rows None ≡ [] → IsTextOf bytes p → IsCodeFor p d → IsRightCode bytes d
+reading_is_code lines agree bytes p d none text code =
+    let flat = code-same text.reading p text.same (lines text.reading p text.same) d (agree.lawful bytes text.reading text.read) code in record {
+      program = text.reading;
+      reading = text.read;
+      only = text.one;
+      runs = flat-runs text.reading d none flat;
+      flat = flat;
+    }

@@ -8,15 +8,18 @@ use Rattle.mc_profile.specs.Systems.{systems}
 use Rattle.mc_diagram.specs.Traces.{input_type_of}
 use Rattle.c_syntax.specs.Tree.{ProgramTree}
 use Rattle.c_rules.specs.Reading.{CText}
-use Rattle.c_emitter.specs.Code.{IsCodeFor, IsFunctionCount}
+use Rattle.c_right.specs.Right.{RunsRight, IsFunctionCount}
+use Rattle.c_emitter.specs.Code.{IsCodeFor as IsFlatCodeFor}
 use Rattle.mc_compile.specs.Verdict.{Accepted, HasVerdict}
 
--- the bytes are the text of one program and no other, and that is code for the diagram
+-- The bytes are the text of one program and no other, and over any trace that is right for the diagram. Of right code for a
+-- table these are the parts that whatever is compiled today has; `flat` is what it has besides, as a diagram of one system.
 pub record IsRightCode (bytes : List ℕ) (d : Diagram) : Type 0 where
   pub program : ProgramTree
   pub reading : CText bytes program
   pub only : (other : ProgramTree) → CText bytes other → other ≡ program
-  pub code : IsCodeFor program d
+  pub runs : RunsRight program d
+  pub flat : IsFlatCodeFor program d
 
 -- the types of the root's inputs, by port
 abbrev pub root_types : Diagram → List FixType

@@ -174,7 +174,7 @@ pub inputs-fit : (c : Compilation) (m : MachineState) (bytes : List ℕ) → IsC
 inputs-fit c m bytes from starts =
     let p : ProgramTree = from.compiled.code.program in
     subst (λ (types : List FixType). AllZip IsNarrower types m.program.inputs) (sym from.compiled.inputs)
-    (step-types (diagram_of_table from.resolved) p m.program.inputs from.compiled.code.code
+    (step-types (diagram_of_table from.resolved) p m.program.inputs from.compiled.code.flat
     (subst (λ (q : ProgramTree). HasStepTypes q m.program.inputs) (program-is c m bytes from starts) starts.inputs))
 
 -- what is known of the machine's program holds of the program that the code is
@@ -221,7 +221,7 @@ never-stuck at c m bytes lines from starts sticks =
     let p : ProgramTree = from.compiled.code.program in
     let types : List FixType = root_types (diagram_of_table from.resolved) in
     let moved : (rows_over p types lines).stuck_place ≡ Some at = as-compiled c m bytes (λ q inputs. (rows_over q inputs lines).stuck_place ≡ Some at) from starts sticks in
-    let free : (rows_over p types lines).stuck_place ≡ None = (from.compiled.code.code.bounded (rows_in types lines) (rows-trace (diagram_of_table from.resolved) lines)).not_stuck in
+    let free : (rows_over p types lines).stuck_place ≡ None = (from.compiled.code.runs.bounded (rows_in types lines) (rows-trace (diagram_of_table from.resolved) lines)).not_stuck in
     cc (sym free ∙ moved)
 
 no-faults : (h h1 h' : HostTold) → NoFault h h1 → NoFault h1 h' → NoFault h h'
@@ -267,7 +267,7 @@ starts-right : (c : Compilation) (bytes : List ℕ) (from : IsCompiledFrom bytes
 starts-right c bytes from p at cells text start =
     let q : ProgramTree = from.compiled.code.program in
     let same : start_run q ≡ stuck at cells = ap start_run (sym (from.compiled.code.only p text)) ∙ start in
-    subst (λ (o : Outcome). Starts q (diagram_of_table from.resolved) o) same from.compiled.code.code.started
+    subst (λ (o : Outcome). Starts q (diagram_of_table from.resolved) o) same from.compiled.code.flat.started
 
 -- that right code is not run comes of memory alone
 pub run_unstarted : ReadingsAgree → (e : Ending) (model code trace : List ℕ) (c : Compilation) (h h1 : HostTold) (b : SinkTold) → WritesCompiled c model code h h1 → NotStarted c.code e → Ends e (Some (Run model code trace)) h h1 b b

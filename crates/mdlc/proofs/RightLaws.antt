@@ -122,7 +122,7 @@ ran d lines s code h h' b before b' c right bad last written is first free text 
     compilation = c;
     right = right;
     written = written;
-    outputs = right.code.code.outputs (rows_in (root_types d) lines) (rows-trace d lines);
+    outputs = right.code.runs.outputs (rows_in (root_types d) lines) (rows-trace d lines);
     lines = put-run b before b' (rows_over right.code.program (root_types d) lines).ticks last ticks whole
         ∙ ap (λ (x : List ℕ). append_known b.bytes (ticks_text (rows_over right.code.program (root_types d) lines).ticks ++ x)) text
         ∙ ap (append_known b.bytes) (text-by right.code.program (root_types d) lines None bad free first);

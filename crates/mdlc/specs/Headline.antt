@@ -15,7 +15,7 @@ use Rattle.c_machine.specs.Cells.{Cells}
 use Rattle.c_machine.specs.Machine.{After, done, stuck}
 use Rattle.c_machine.specs.Rows.{TickRow, start_run}
 use Rattle.c_rules.specs.Reading.{CText, CFaultOf}
-use Rattle.c_emitter.specs.Code.{GivesOutputs}
+use Rattle.c_right.specs.Right.{GivesOutputs}
 use Rattle.mc_compile.specs.Verdict.{HasVerdict, Accepted, Refused}
 use Rattle.mc_compile.specs.Compilation.{Compilation, root_types, IsCompilationOf}
 use Rattle.mc_runner.specs.Texts.{ticks_text}

@@ -1,0 +1,26 @@
+-- The sample of whole right code has all its parts.
+use Rattle.std.specs.Prelude.{refl, [], ◌∷◌}
+use Rattle.mc_base.specs.Interface.{NeedsAreLeast}
+use Rattle.mc_diagram.specs.Laws.{LoopFreeHasOneRun}
+use Rattle.mc_profile.specs.NodeFacts.{ProfilesAreOne}
+use Rattle.c_right.specs.Right.{IsCodeFor, IsFunctionCount}
+use Rattle.c_right.specs.WholeSamples.{later_five, whole_program}
+use Rattle.c_right.proofs.WholeRuns.{whole-runs}
+use Rattle.c_right.proofs.WholeFaces.{child_needs, top_needs, child_least, top_least}
+use Rattle.c_right.proofs.WholeShape.{whole_shape}
+use Rattle.c_right.proofs.WholeScripts.{child_answers, top_answers}
+use Rattle.c_right.proofs.WholeRenewals.{child_renews, top_renews, whole_restarts}
+
+pub whole_code : LoopFreeHasOneRun → NeedsAreLeast → ProfilesAreOne → IsCodeFor whole_program later_five [] 1
+whole_code runs needs profiles = record {
+  runs = whole-runs runs;
+  least = (top_least needs, (child_least needs, tt));
+  shape = whole_shape;
+  any_order = (top_answers runs profiles, (child_answers runs profiles, tt));
+  renewed = (top_renews, (child_renews, tt));
+  restarted = whole_restarts;
+}
+
+-- the root and the child have one function each
+two_functions : IsFunctionCount later_five 2
+two_functions = record { needs = (0 ∷ []) ∷ (0 ∷ []) ∷ []; are_needs = (top_needs, (child_needs, tt)); count = refl }
