@@ -1,0 +1,11 @@
+pub mod Fields
+pub mod Sources
+pub mod Places
+pub mod Groups
+pub mod Heads
+pub mod NodeCode
+pub mod Renewing
+pub mod EmittedCode
+pub mod Emittable
+pub mod SharedExamples
+pub mod EmittedExamples
