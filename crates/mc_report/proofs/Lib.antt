@@ -16,3 +16,14 @@ pub mod FunctionLines
 pub mod FollowTests
 pub mod PortGuesses
 pub mod WordPlaces
+pub mod Splits
+pub mod Differents
+pub mod HiddenNeeds
+pub mod Fills
+pub mod AllSets
+pub mod Fronts
+pub mod ToldLines
+pub mod OwnHeads
+pub mod WholeLines
+pub mod SystemStops
+pub mod Stopping

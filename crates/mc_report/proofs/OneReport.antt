@@ -70,23 +70,24 @@ all-small r h = joined (map Number (range_with_len 1 r.inputs)) r.controls (port
 
 -- ---- One system
 
-pub same-system : (r s : PlainReport) (x y : List ℕ) → IsSystemReport r → IsSystemReport s → system_text r ++ x ≡ system_text s ++ y →
+-- what the lines of a system and of its functions tell is the whole system
+pub same-start : (r s : PlainReport) (x y : List ℕ) → IsSystemReport r → IsSystemReport s →
+    system_line r ++ (out_lines (ports_of r) r.outputs 1 r.profile.functions ++ x) ≡ system_line s ++ (out_lines (ports_of s) s.outputs 1 s.profile.functions ++ y) →
     (r ≡ s) × (x ≡ y)
-same-system r s x y h k e = (same, append_cancel_left (differ_lines r) x y (outs.1 ∙ ap (λ (d : List ℕ). d ++ y) (sym differs)))
+same-start r s x y h k e = (same, outs.1)
   where
-    lines : AreAlike r s × (out_lines (ports_of r) r.outputs 1 r.profile.functions ++ (differ_lines r ++ x)
-        ≡ out_lines (ports_of s) s.outputs 1 s.profile.functions ++ (differ_lines s ++ y))
-    lines = same-systems r s (out_lines (ports_of r) r.outputs 1 r.profile.functions ++ (differ_lines r ++ x))
-        (out_lines (ports_of s) s.outputs 1 s.profile.functions ++ (differ_lines s ++ y)) (head-of-report r h) (head-of-report s k) (sym (system-parts r x) ∙ e ∙ system-parts s y)
+    lines : AreAlike r s × (out_lines (ports_of r) r.outputs 1 r.profile.functions ++ x ≡ out_lines (ports_of s) s.outputs 1 s.profile.functions ++ y)
+    lines = same-systems r s (out_lines (ports_of r) r.outputs 1 r.profile.functions ++ x)
+        (out_lines (ports_of s) s.outputs 1 s.profile.functions ++ y) (head-of-report r h) (head-of-report s k) e
 
     ports : ports_of r ≡ ports_of s
     ports = λ i. map Number (range_with_len 1 (lines.0.inputs i)) ++ lines.0.controls i
 
-    outs : AllZip (AreOne (ports_of r) r.outputs) r.profile.functions s.profile.functions × (differ_lines r ++ x ≡ differ_lines s ++ y)
+    outs : AllZip (AreOne (ports_of r) r.outputs) r.profile.functions s.profile.functions × (x ≡ y)
     outs = same-outs (ports_of r) r.outputs (all-small r (head-of-report r h)) h.report.outputs r.profile.functions s.profile.functions 1
-        (differ_lines r ++ x) (differ_lines s ++ y) lines.0.functions
+        x y lines.0.functions
         (let few = (head-of-report r h).functions in omega (arith, few))
-        (lines.1 ∙ ap₂ (λ (ps : List Port) (n : ℕ). out_lines ps n 1 s.profile.functions ++ (differ_lines s ++ y)) (sym ports) (sym lines.0.outputs))
+        (lines.1 ∙ ap₂ (λ (ps : List Port) (n : ℕ). out_lines ps n 1 s.profile.functions ++ y) (sym ports) (sym lines.0.outputs))
 
     needs : h.report.needs ≡ k.report.needs
     needs = same-needs (ports_of r) r.outputs h.report.needs k.report.needs h.report.one_each (k.report.one_each ∙ sym lines.0.outputs)
@@ -105,9 +106,6 @@ same-system r s x y h k e = (same, append_cancel_left (differ_lines r) x y (outs
     profile_row : r.profile.row ≡ s.profile.row
     profile_row = h.report.row ∙ lines.0.row ∙ sym k.report.row
 
-    differs : differ_lines r ≡ differ_lines s
-    differs = λ i. flat_map (differ_line (ports i)) (certificates i).differ
-
     same : r ≡ s
     same = λ i. record {
       row = lines.0.row i;
@@ -117,6 +115,12 @@ same-system r s x y h k e = (same, append_cancel_left (differ_lines r) x y (outs
       profile = record { row = profile_row i; functions = functions i };
       certificate = certificates i;
     }
+
+pub same-system : (r s : PlainReport) (x y : List ℕ) → IsSystemReport r → IsSystemReport s → system_text r ++ x ≡ system_text s ++ y →
+    (r ≡ s) × (x ≡ y)
+same-system r s x y h k e =
+    let start = same-start r s (differ_lines r ++ x) (differ_lines s ++ y) h k (sym (system-parts r x) ∙ e ∙ system-parts s y) in
+    (start.0, append_cancel_left (differ_lines r) x y (start.1 ∙ ap (λ (t : PlainReport). differ_lines t ++ y) (sym start.0)))
 
 -- ---- All systems
 

@@ -25,7 +25,7 @@ use Rattle.mc_report.proofs.SameNeeds.{at-each}
 
 module _ (P : ℕ → Type 0) where
   -- needs that are known are those of a function
-  known : (fs : List Function) (k : ℕ) → AllByRecursion (λ (f : Function). P f.inputs) fs → (need_of fs k ≡ not_known) ⊎ P (need_of fs k)
+  pub known : (fs : List Function) (k : ℕ) → AllByRecursion (λ (f : Function). P f.inputs) fs → (need_of fs k ≡ not_known) ⊎ P (need_of fs k)
   known [] k a = inl refl
   known (f ∷ fs) k a = by (has_bit f.outputs k) (known fs k a.1)
     where
@@ -37,7 +37,7 @@ module _ (P : ℕ → Type 0) where
   abbrev one-if : ℕ → ℕ
   one-if n = cond (n == not_known) 1 0
 
-  all-known : (fs : List Function) (ks : List ℕ) → AllByRecursion (λ (f : Function). P f.inputs) fs →
+  pub all-known : (fs : List Function) (ks : List ℕ) → AllByRecursion (λ (f : Function). P f.inputs) fs →
       count_by (λ n. n == not_known) (map (need_of fs) ks) ≡ 0 → AllByRecursion P (map (need_of fs) ks)
   all-known fs [] a none = tt
   all-known fs (k ∷ ks) a none = elim (known fs k a) [

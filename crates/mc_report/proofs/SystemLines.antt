@@ -11,13 +11,13 @@ use Rattle.mc_profile.specs.Systems.{system_name}
 use Rattle.mc_report.specs.PlainReport.{PlainReport}
 use Rattle.mc_report.specs.Reading.{HasRow}
 use Rattle.mc_report.specs.Reports.{AreControls}
-use Rattle.mc_report.specs.Texts.{control_words, counts_text, spaced, system_line}
+use Rattle.mc_report.specs.Texts.{control_words, counts_text, head_line, spaced, system_line}
 use Rattle.mc_report.proofs.Cuts.{IsWord, AreWords, cut-words, same-head, same-tail}
 use Rattle.mc_report.proofs.LineWords.{IsSmall, other-port, port_injective, same-first, same-members, same-others, word, word-decimal}
 
 -- ---- The line of a system
 
-abbrev counted_words : List ℕ → List ℕ → List ℕ → List ℕ → List (List ℕ) → List (List ℕ)
+abbrev pub counted_words : List ℕ → List ℕ → List ℕ → List ℕ → List (List ℕ) → List (List ℕ)
 counted_words name i o f more = name ∷ codes "inputs" ∷ i ∷ codes "outputs" ∷ o ∷ codes "functions" ∷ f ∷ more
 
 abbrev pub system_words : PlainReport → List (List ℕ)
@@ -52,13 +52,15 @@ right-shape name i o f more x =
     (append_assoc o (spaced (codes "functions" ∷ f ∷ more)) (10 ∷ x) ∙ ap (λ (t : List ℕ). o ++ (codes " functions " ++ t))
     (append_assoc f (spaced more) (10 ∷ x)))))
 
-pub system-line-words : (r : PlainReport) (x : List ℕ) → system_line r ++ x ≡ codes "system" ++ spaced (system_words r) ++ 10 ∷ x
+pub head-line-words : (row : Option ℕ) (i o f : ℕ) (controls : List Port) (x : List ℕ) → head_line row i o f controls ++ x
+    ≡ codes "system" ++ spaced (counted_words (system_name row) (decimal i) (decimal o) (decimal f) (control_words controls)) ++ 10 ∷ x
 unfolding counts_text
-system-line-words r x =
-    left-shape (system_name r.row) (decimal r.inputs) (decimal r.outputs) (decimal (length r.profile.functions)) (spaced (control_words
-    r.controls)) x
-    ∙ sym (right-shape (system_name r.row) (decimal r.inputs) (decimal r.outputs) (decimal (length r.profile.functions)) (control_words
-    r.controls) x)
+head-line-words row i o f controls x =
+    left-shape (system_name row) (decimal i) (decimal o) (decimal f) (spaced (control_words controls)) x
+    ∙ sym (right-shape (system_name row) (decimal i) (decimal o) (decimal f) (control_words controls) x)
+
+pub system-line-words : (r : PlainReport) (x : List ℕ) → system_line r ++ x ≡ codes "system" ++ spaced (system_words r) ++ 10 ∷ x
+system-line-words r x = head-line-words r.row r.inputs r.outputs (length r.profile.functions) r.controls x
 
 word-name : (row : Option ℕ) → HasRow row → IsWord (system_name row)
 word-name None h = word (codes "top") refl
@@ -86,26 +88,24 @@ pub record IsHead (r : PlainReport) : Type 0 where
 low : (n : ℕ) → n ≤ 32 → n < 2 ^ 64
 low n h = omega (arith, h)
 
-pub words-system : (r : PlainReport) → IsHead r → AreWords (system_words r)
-words-system r h = (
-  word-name r.row h.row,
+pub words-head : (row : Option ℕ) (i o f : ℕ) (controls : List Port) → HasRow row → i ≤ 32 → o ≤ 32 → f ≤ 32 → AreControls controls →
+    AreWords (counted_words (system_name row) (decimal i) (decimal o) (decimal f) (control_words controls))
+words-head row i o f controls has a b c are = (
+  word-name row has,
   (
     word (codes "inputs") refl,
     (
-      word-decimal r.inputs (low r.inputs h.inputs),
+      word-decimal i (low i a),
       (
         word (codes "outputs") refl,
-        (
-          word-decimal r.outputs (low r.outputs h.outputs),
-          (
-            word (codes "functions") refl,
-            (word-decimal (length r.profile.functions) (low (length r.profile.functions) h.functions), words-controls r.controls h.controls),
-          ),
-        ),
+        (word-decimal o (low o b), (word (codes "functions") refl, (word-decimal f (low f c), words-controls controls are))),
       ),
     ),
   ),
 )
+
+pub words-system : (r : PlainReport) → IsHead r → AreWords (system_words r)
+words-system r h = words-head r.row r.inputs r.outputs (length r.profile.functions) r.controls h.row h.inputs h.outputs h.functions h.controls
 
 same-row : (a b : Option ℕ) → HasRow a → HasRow b → system_name a ≡ system_name b → a ≡ b
 same-row None None h k e = refl

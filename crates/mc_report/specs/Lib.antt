@@ -6,3 +6,4 @@ pub mod TextExamples
 pub mod Following
 pub mod Heads
 pub mod Guesses
+pub mod Stops

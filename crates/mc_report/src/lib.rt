@@ -14,7 +14,7 @@ mod report;
 mod stop;
 
 pub use fault::ReportFault;
-pub use laws::{reports_are_one, reports_on_are_right};
+pub use laws::{reports_are_one, reports_on_are_right, stops_are_faults};
 pub use printing::print_report;
 pub use reading::read_report;
 pub use report::SystemReport;

@@ -1,4 +1,4 @@
-use Rattle.std.proofs.Common.{◌≡◌, drop, ap, ◌∙◌, arith}
+use Rattle.std.proofs.Common.{drop, ap, ◌∙◌, arith}
 use Rattle.mc_report.specs.Guesses.{head_words}
 use Rattle.mc_report.proofs.PortGuesses.{rest_words, word_at, words_from}
 use Rattle.mc_report.proofs.parsing.head_in.Goals as goal

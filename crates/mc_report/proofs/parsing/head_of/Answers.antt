@@ -1,4 +1,4 @@
-use Rattle.std.proofs.Common.{◌≡◌, Some, ap, ◌∙◌, rules}
+use Rattle.std.proofs.Common.{◌≡◌, Some, ◌∙◌, rules}
 use Rattle.mc_report.proofs.PortGuesses.{enabled_told, one_given, triggered_told}
 use Rattle.mc_report.proofs.parsing.head_of.Goals as goal
 

@@ -1,4 +1,4 @@
-use Rattle.std.proofs.Common.{◌≡◌, rules}
+use Rattle.std.proofs.Common.{rules}
 use Rattle.mc_report.proofs.PortGuesses.{mask_more}
 use Rattle.mc_report.proofs.parsing.mask_in.Goals as goal
 

@@ -1,4 +1,3 @@
-use Rattle.std.proofs.Common.{◌≡◌}
 use Rattle.mc_report.proofs.PortGuesses.{number_is_text}
 use Rattle.mc_report.proofs.parsing.number_in.Goals as goal
 

@@ -1,4 +1,4 @@
-use Rattle.std.proofs.Common.{◌≡◌, ◌∙◌}
+use Rattle.std.proofs.Common.{◌∙◌}
 use Rattle.mc_report.proofs.SameNeeds.{each-one}
 use Rattle.mc_report.proofs.WordPlaces.{place_told}
 use Rattle.mc_report.proofs.parsing.place_of.Goals as goal

@@ -1,4 +1,4 @@
-use Rattle.std.proofs.Common.{◌≡◌, Some, sym, ap, ◌∙◌}
+use Rattle.std.proofs.Common.{Some, sym, ap, ◌∙◌}
 use Rattle.mc_report.proofs.PortGuesses.{enable_told, number_told, trigger_told}
 use Rattle.mc_report.proofs.parsing.port_in.Goals as goal
 

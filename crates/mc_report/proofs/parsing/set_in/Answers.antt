@@ -1,4 +1,4 @@
-use Rattle.std.proofs.Common.{◌≡◌, sym, ◌∙◌}
+use Rattle.std.proofs.Common.{sym, ◌∙◌}
 use Rattle.mc_report.proofs.PortGuesses.{none_told, some_told}
 use Rattle.mc_report.proofs.parsing.set_in.Goals as goal
 
