@@ -4,3 +4,9 @@ pub mod OwnerLemmas
 pub mod SectionLemmas
 pub mod PassLemmas
 pub mod ReadLemmas
+pub mod NumberLemmas
+pub mod DefaultLemmas
+pub mod StackLemmas
+pub mod PlaceLemmas
+pub mod TreeLemmas
+pub mod FoundLemmas

@@ -5,3 +5,6 @@ pub mod Owners
 pub mod Models
 pub mod Refusals
 pub mod Reading
+pub mod Nesting
+pub mod ByDefaults
+pub mod Subsystems

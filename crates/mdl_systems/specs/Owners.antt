@@ -5,9 +5,13 @@ use Rattle.mc_diagram.specs.Rows.{same_system}
 use Rattle.mdl_systems.specs.Outlines.{Outline, outlines_of}
 use Rattle.mdl_systems.specs.Systems.{SystemTree, SystemTrees, system, no_more, next, tree_of_model}
 
--- the numbers of the blocks of this owner, in order
+-- the blocks of this owner, in order
+abbrev pub of_owner : Option ℕ → List Outline → List Outline
+of_owner row blocks = filter (λ (b : Outline). same_system b.owner row) blocks
+
+-- their numbers
 abbrev pub owned_by : Option ℕ → List Outline → List ℕ
-owned_by row blocks = map (λ (b : Outline). b.number) (filter (λ (b : Outline). same_system b.owner row) blocks)
+owned_by row blocks = map (λ (b : Outline). b.number) (of_owner row blocks)
 
 -- in a system and in all inside it the own blocks are those of these blocks whose owner is its row
 abbrev mutual

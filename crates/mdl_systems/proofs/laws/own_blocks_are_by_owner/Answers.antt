@@ -1,4 +1,4 @@
-use Rattle.mdl_systems.proofs.OwnerLemmas.{own-by-owner}
+use Rattle.mdl_systems.proofs.TreeLemmas.{own-by-owner}
 use Rattle.mdl_systems.proofs.laws.own_blocks_are_by_owner.Goals as goal
 
 pub returns : goal.returns
