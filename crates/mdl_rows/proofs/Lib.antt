@@ -1,0 +1,10 @@
+pub mod FirstLemmas
+pub mod PassLemmas
+pub mod BlockLemmas
+pub mod GroupLemmas
+pub mod RowLemmas
+pub mod InteriorLemmas
+pub mod ModelLemmas
+pub mod WiredLemmas
+pub mod RowWireLemmas
+pub mod TextLemmas

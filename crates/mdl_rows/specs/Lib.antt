@@ -1,0 +1,10 @@
+pub mod Models
+pub mod Interiors
+pub mod Wires
+pub mod RowTexts
+pub mod Refusals
+pub mod Tables
+pub mod Held
+pub mod Grouping
+pub mod HeldModels
+pub mod Wired
