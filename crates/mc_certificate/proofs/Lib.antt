@@ -1,3 +1,4 @@
+pub mod lemmas
 pub mod Pairs
 pub mod Bits
 pub mod Chosen

@@ -1,3 +1,4 @@
+pub mod lemmas
 pub mod Members
 pub mod Sets
 pub mod SetSteps

@@ -4,7 +4,7 @@ use Rattle.std.proofs.Common.{sym, ap, subst, ◌∙◌, arith, inl, inr, true�
 use Rattle.std.proofs.lemmas.Bool.{eq-eqb, eqb-true, ne_eqb}
 use Rattle.mc_cluster.specs.Grouping.{AreDifferent}
 use Rattle.mc_diagram.specs.Rows.{is_system}
-use Rattle.mc_profile.proofs.Members.{in-none, in-cases, at-in, number-of}
+use Rattle.mc_profile.proofs.lemmas.Members.{in-none, in-cases, at-in, number-of}
 use Rattle.mc_profile.proofs.LawfulSteps.{differ-at}
 
 -- a system that is that of row e

@@ -22,7 +22,7 @@ use Rattle.mc_profile.specs.Locals.{child_use, entering}
 use Rattle.mc_profile.specs.Ports.{bit_of, has_bit, control_ports}
 use Rattle.mc_profile.specs.Systems.{entering_wires}
 use Rattle.mc_diagram.proofs.lemmas.EnteringWires.{as-many, entering-at, at-entering}
-use Rattle.mc_profile.proofs.Members.{in-map, of-map, in-filter, of-filter, in-at, at-in, at-below, at-map, map-at, at-range, range-at, in-zip, of-zip, at-left, at-right, at-append}
+use Rattle.mc_profile.proofs.lemmas.Members.{in-map, of-map, in-filter, of-filter, in-at, at-in, at-below, at-map, map-at, at-range, range-at, in-zip, of-zip, at-left, at-right, at-append}
 
 pub subsystem-kind : (kind : Kind) → is_subsystem kind ≡ true → kind ≡ SubSystem (control_of kind)
 subsystem-kind (SubSystem control) h = refl

@@ -14,8 +14,8 @@ use Rattle.mc_profile.specs.Functions.{function_for, functions_for, IsProfileOf}
 use Rattle.mc_profile.specs.SystemHeader.{SystemHeader}
 use Rattle.mc_profile.specs.Headers.{header_of, idle_function, numbered_function, header_function, given_by_function, given_rows}
 use Rattle.mc_profile.specs.Ports.{has_bit}
-use Rattle.mc_profile.proofs.Members.{in-map, of-map, in-filter, of-filter, in-at, at-in, at-map, in-enumerate, of-enumerate}
-use Rattle.mc_profile.proofs.MaskBits.{holds-has, has-holds, has-set, index-at, index-holds, in-different}
+use Rattle.mc_profile.proofs.lemmas.Members.{in-map, of-map, in-filter, of-filter, in-at, at-in, at-map, in-enumerate, of-enumerate}
+use Rattle.mc_profile.proofs.lemmas.MaskBits.{holds-has, has-holds, has-set, index-at, index-holds, in-different}
 
 -- ---- Two lists side by side
 

@@ -31,7 +31,7 @@ use Rattle.mc_diagram.proofs.lemmas.EnteringWires.{as-many}
 use Rattle.mc_profile.specs.NodeFacts.{AreHeaders, LocalsAreLawful}
 use Rattle.mc_profile.specs.NodeWires.{wires_of_row, wires_of_call, wires_of_calls, wires_of_nodes, AreGivenOnce}
 use Rattle.mc_profile.specs.LawfulLocals.{IsChild, IsLocal}
-use Rattle.mc_profile.proofs.Members.{in-none, in-cases, in-map, of-map, in-at, at-map, map-at}
+use Rattle.mc_profile.proofs.lemmas.Members.{in-none, in-cases, in-map, of-map, in-at, at-map, map-at}
 use Rattle.mc_profile.proofs.Numbered.{Apart, apart-range, apart-filter}
 use Rattle.mc_profile.proofs.PortRows.{of-rows, of-subsystems, of-ports, few-ports}
 use Rattle.mc_profile.proofs.ChildPorts.{subsystem-kind}

@@ -10,7 +10,7 @@ use Rattle.mc_base.specs.Interface.{different}
 use Rattle.mc_cluster.specs.Grouping.{AreDifferent}
 use Rattle.mc_profile.specs.declared.node_wires.NodeWires.{NodeWires}
 use Rattle.mc_profile.specs.NodeWires.{AreGivenOnce}
-use Rattle.mc_profile.proofs.Members.{in-none, in-first, in-rest, number-of, of-filter, of-filter_map, found-in, of-range, in-at, at-append, at-below}
+use Rattle.mc_profile.proofs.lemmas.Members.{in-none, in-first, in-rest, number-of, of-filter, of-filter_map, found-in, of-range, in-at, at-append, at-below}
 use Rattle.mc_profile.proofs.Numbered.{Apart, apart-filter}
 
 -- ---- Numbers that stand once

@@ -14,9 +14,7 @@ pub mod ChildNeeds
 pub mod ChildNumbers
 pub mod ChildWalks
 pub mod ChildRows
-pub mod Members
 pub mod Numbered
-pub mod MaskBits
 pub mod FunctionRows
 pub mod PortRows
 pub mod ChildPorts

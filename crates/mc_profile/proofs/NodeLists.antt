@@ -21,7 +21,7 @@ use Rattle.mc_profile.specs.LocalNodes.{calls_of, call_nodes, node_list, node_ne
 use Rattle.mc_profile.specs.NodeWires.{wires_of_row, wires_of_call, wires_of_calls, wires_of_nodes}
 use Rattle.mc_profile.specs.LawfulLocals.{IsLocal}
 use Rattle.mc_profile.proofs.ChildNumbers.{found-numbered}
-use Rattle.mc_profile.proofs.Members.{number-of}
+use Rattle.mc_profile.proofs.lemmas.Members.{number-of}
 
 -- ---- Members of a list
 

@@ -19,7 +19,7 @@ use Rattle.mc_profile.specs.SystemNodes.{SystemNodes}
 use Rattle.mc_profile.specs.Headers.{header_functions, idle_function, given_by_function, given_rows}
 use Rattle.mc_profile.specs.Locals.{row_of, child_of}
 use Rattle.mc_profile.specs.LocalNodes.{calls_of, call_nodes, node_list, node_gives, node_needs, NodeNeeds, NodeWalk, AreNodesOf, HasNoNodeLoop}
-use Rattle.mc_profile.proofs.Members.{in-none, in-cases, in-map, found-in, in-range, at-in, below-at}
+use Rattle.mc_profile.proofs.lemmas.Members.{in-none, in-cases, in-map, found-in, in-range, at-in, below-at}
 use Rattle.mc_profile.proofs.FunctionRows.{nothing-given}
 use Rattle.mc_profile.proofs.ChildNumbers.{system-is}
 

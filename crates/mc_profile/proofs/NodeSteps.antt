@@ -22,8 +22,8 @@ use Rattle.mc_profile.specs.NodeFacts.{AreHeaders}
 use Rattle.mc_profile.proofs.ChildNeeds.{LeadsTo, IsBefore, IsInsideChild, needs-inward}
 use Rattle.mc_profile.proofs.ChildRows.{closed}
 use Rattle.mc_profile.proofs.ChildWalks.{walk-inward}
-use Rattle.mc_profile.proofs.Members.{at-below}
-use Rattle.mc_profile.proofs.MaskBits.{has-set}
+use Rattle.mc_profile.proofs.lemmas.Members.{at-below}
+use Rattle.mc_profile.proofs.lemmas.MaskBits.{has-set}
 use Rattle.mc_profile.proofs.FunctionRows.{header-needs}
 use Rattle.mc_profile.proofs.PortRows.{same-self, of-ports, port-place, few-ports}
 use Rattle.mc_profile.proofs.ChildPorts.{IsTakenAt, of-taken}

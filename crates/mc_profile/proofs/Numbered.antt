@@ -5,7 +5,7 @@ use Rattle.std.proofs.Common.{sym, ap, subst, ◌∙◌, arith, inl, inr, true�
 use Rattle.std.proofs.lemmas.Bool.{eqb-true, eq-eqb, ne_eqb, or_cases}
 use Rattle.std.proofs.lemmas.List.{length-map}
 use Rattle.std.proofs.lemmas.Map.Steps.{length-le_from_distinct_below}
-use Rattle.mc_profile.proofs.Members.{in-first, in-rest, in-cases, of-map, of-filter, of-filter_map, found-in, finds, of-range}
+use Rattle.mc_profile.proofs.lemmas.Members.{in-first, in-rest, in-cases, of-map, of-filter, of-filter_map, found-in, finds, of-range}
 
 -- no number stands twice
 abbrev pub Apart : List ℕ → Type 0

@@ -17,7 +17,7 @@ use Rattle.mc_profile.specs.LocalNodes.{same_node, call_nodes, node_list}
 use Rattle.mc_profile.specs.Places.{ported_places, place_with, places_by_port}
 use Rattle.mc_profile.specs.LawfulLocals.{IsLocal}
 use Rattle.mc_profile.proofs.EntrySteps.{enumerate-more}
-use Rattle.mc_profile.proofs.Members.{at-in, in-first, in-rest, of-filter, of-filter_map, found-in}
+use Rattle.mc_profile.proofs.lemmas.Members.{at-in, in-first, in-rest, of-filter, of-filter_map, found-in}
 use Rattle.mc_profile.proofs.NodeLists.{KeysDiffer, keys-later, key-apart}
 
 abbrev passes : (Kind → Bool) → ℕ × LocalRow → Bool

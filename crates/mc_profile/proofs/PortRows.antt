@@ -9,7 +9,7 @@ use Rattle.mc_diagram.specs.declared.table.Row.{Row}
 use Rattle.mc_diagram.specs.Rows.{row_at, row_numbers, same_system, rows_of, subsystems_of, by_port, port_of, is_subsystem}
 use Rattle.mc_diagram.specs.WellFormed.{HasPorts}
 use Rattle.mc_diagram.proofs.lemmas.RestsOnNeeds.{same_system-equal}
-use Rattle.mc_profile.proofs.Members.{in-filter, of-filter, in-range, of-range}
+use Rattle.mc_profile.proofs.lemmas.Members.{in-filter, of-filter, in-range, of-range}
 use Rattle.mc_profile.proofs.Numbered.{Apart, apart-range, apart-filter, at-port, length-numbered, of-numbered}
 
 pub same-self : (s : Option ℕ) → same_system s s ≡ true

@@ -22,8 +22,8 @@ use Rattle.mc_profile.specs.Locals.{local_of, child_use, entering}
 use Rattle.mc_profile.specs.LocalNodes.{node_gives, node_needs, NodeNeeds}
 use Rattle.mc_profile.specs.Ports.{has_bit}
 use Rattle.mc_profile.proofs.ChildNeeds.{LeadsTo, IsBefore, IsInsideChild, Enters, needs-outward}
-use Rattle.mc_profile.proofs.Members.{in-none, in-at}
-use Rattle.mc_profile.proofs.MaskBits.{set-has}
+use Rattle.mc_profile.proofs.lemmas.Members.{in-none, in-at}
+use Rattle.mc_profile.proofs.lemmas.MaskBits.{set-has}
 use Rattle.mc_profile.proofs.FunctionRows.{header-gives, header-needs}
 use Rattle.mc_profile.proofs.PortRows.{in-rows, of-rows, in-subsystems, port-place, port-range, few-ports}
 use Rattle.mc_profile.proofs.ChildPorts.{takes-input, takes-control}

@@ -5,7 +5,7 @@ use Rattle.mc_diagram.specs.declared.table.Row.{Row}
 use Rattle.mc_diagram.specs.Rows.{row_at, outward, enclosing}
 use Rattle.mc_diagram.specs.WellFormed.{IsNested, IsOwner, FollowsIn}
 use Rattle.mc_diagram.proofs.lemmas.Enclosing.{enclosing-step}
-use Rattle.mc_profile.proofs.Members.{in-none, in-first, in-rest, in-cases}
+use Rattle.mc_profile.proofs.lemmas.Members.{in-none, in-first, in-rest, in-cases}
 
 module _ (rows : List Row) (nested : IsNested rows) where
   abbrev pub owner : ℕ → Option ℕ

@@ -14,7 +14,7 @@ use Rattle.mc_profile.specs.Functions.{IsProfileOf}
 use Rattle.mc_profile.specs.NodeFacts.{AreProfiles}
 use Rattle.mc_profile.specs.Systems.{listed, children_of, IsInTable}
 use Rattle.mc_profile.specs.TreeProfiles.{rows_inside, rows_of_all, AreProfilesInside}
-use Rattle.mc_profile.proofs.Members.{in-at, at-below}
+use Rattle.mc_profile.proofs.lemmas.Members.{in-at, at-below}
 use Rattle.mc_profile.proofs.NestedLists.{agreed-heads, row-inside}
 
 all-listed : (cs : Systems) → flat_map rows_inside (listed cs) ≡ rows_of_all cs

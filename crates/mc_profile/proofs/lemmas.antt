@@ -1,2 +1,5 @@
 -- Lemmas that proofs of the crates above use.
 pub mod SystemsInside
+pub mod Members
+pub mod MaskBits
+pub mod OwnRows

@@ -8,7 +8,7 @@ use Rattle.mc_base.specs.Interface.{different}
 use Rattle.mc_base.specs.declared.Port.{Port}
 use Rattle.mc_base.specs.declared.Port.TheVariants.{Number, Enable, Trigger}
 use Rattle.mc_certificate.specs.Sound.{differences_from, first_outputs}
-use Rattle.mc_certificate.proofs.Made.{made}
+use Rattle.mc_certificate.proofs.lemmas.MadeCertificates.{made}
 use Rattle.mc_profile.specs.declared.Function.{Function}
 use Rattle.mc_profile.specs.Functions.{function_for, functions_for, mask_of}
 use Rattle.mc_report.specs.declared.head.Head.{Head}

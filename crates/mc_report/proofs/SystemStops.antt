@@ -8,8 +8,7 @@ use Rattle.mc_base.specs.declared.Port.{Port}
 use Rattle.mc_base.specs.declared.Port.TheVariants.{Number}
 use Rattle.mc_base.specs.Interface.{different}
 use Rattle.mc_certificate.specs.declared.Difference.{Difference}
-use Rattle.mc_certificate.proofs.Chosen.{few}
-use Rattle.mc_certificate.proofs.Pairs.{places-below}
+use Rattle.mc_certificate.proofs.lemmas.MadeCertificates.{few, places-below}
 use Rattle.mc_profile.specs.declared.Function.{Function}
 use Rattle.mc_profile.specs.Functions.{function_for}
 use Rattle.mc_profile.specs.Ports.{ports_mask}

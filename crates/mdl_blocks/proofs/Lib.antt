@@ -1,4 +1,4 @@
-pub mod SignLemmas
+pub mod lemmas
 pub mod PeerLemmas
 pub mod SameType
 pub mod FirstFaultLemmas

@@ -30,7 +30,7 @@ use Rattle.mdl_blocks.specs.Meanings.{TypeSaid, known_type, float_type, type_by,
 use Rattle.mdl_blocks.specs.Words.{number_in, whole_number, number_up_to, factor_in, initial_output_in}
 use Rattle.mdl_blocks.specs.Signs.{up_to_16, signs_of, are_signs, written_signs, pluses, signs_in, mask_of, sum_signs, are_stars, star_count, product_count, logic_count}
 use Rattle.mdl_blocks.specs.Blocks.{Texts, required}
-use Rattle.mdl_blocks.proofs.SignLemmas.{minus_mask-bound}
+use Rattle.mdl_blocks.proofs.lemmas.Signs.{minus_mask-bound}
 use Rattle.mdl_table.proofs.NumberValues.{IsDecimal, zero_is, number-decimal}
 use Rattle.mdl_table.proofs.TypeValues as type_value
 use Rattle.mdl_table.proofs.TimeValues as time_value

@@ -5,7 +5,7 @@ use Rattle.mc_diagram.specs.ResolvedTree.{diagram_of}
 use Rattle.mc_profile.specs.NodeFacts.{AreProfiles}
 use Rattle.mc_profile.specs.Systems.{children_of}
 use Rattle.mc_profile.specs.TreeProfiles.{AreProfilesInside}
-use Rattle.mc_profile.proofs.Members.{in-at}
+use Rattle.mc_profile.proofs.lemmas.Members.{in-at}
 use Rattle.mc_profile.proofs.NestedLists.{children-are, got-mapped}
 use Rattle.mc_profile.proofs.TreeSteps.{AreFirst, has-first, first-more, all-children, whole}
 use Rattle.mc_profile.proofs.tree_profiles.+profiles_inside.Goals as goal

@@ -1,6 +1,6 @@
 use Rattle.mc_diagram.specs.Nested.{system_of}
 use Rattle.mc_profile.specs.Systems.{children_of}
-use Rattle.mc_profile.proofs.Members.{at-in}
+use Rattle.mc_profile.proofs.lemmas.Members.{at-in}
 use Rattle.mc_profile.proofs.NestedLists.{agreed-child}
 use Rattle.mc_profile.proofs.TreeSteps.{child-inside}
 use Rattle.mc_profile.proofs.tree_profiles.is_child.Goals as goal

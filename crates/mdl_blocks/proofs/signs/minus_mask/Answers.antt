@@ -1,4 +1,4 @@
-use Rattle.mdl_blocks.proofs.SignLemmas.{minus_mask-fits}
+use Rattle.mdl_blocks.proofs.lemmas.Signs.{minus_mask-fits}
 use Rattle.mdl_blocks.proofs.signs.minus_mask.Goals as goal
 
 pub with_sign-mask-requires : goal.with_sign-mask-requires

@@ -1,4 +1,4 @@
-use Rattle.mdl_blocks.proofs.SignLemmas.{mask_of-pluses}
+use Rattle.mdl_blocks.proofs.lemmas.Signs.{mask_of-pluses}
 use Rattle.mdl_blocks.proofs.signs.pluses.Goals as goal
 
 pub returns : goal.returns

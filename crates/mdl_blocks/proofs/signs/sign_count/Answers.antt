@@ -1,5 +1,5 @@
 use Rattle.std.proofs.Common.{◌∙◌}
-use Rattle.mdl_blocks.proofs.SignLemmas.{count-signs}
+use Rattle.mdl_blocks.proofs.lemmas.Signs.{count-signs}
 use Rattle.mdl_blocks.proofs.signs.sign_count.Goals as goal
 
 pub returns : goal.returns

@@ -9,7 +9,7 @@ use Rattle.mc_graph.proofs.lemmas.Bits.{one-from_set, set-from_one}
 use Rattle.mc_base.specs.Interface.{different}
 use Rattle.mc_profile.specs.Functions.{mask_of}
 use Rattle.mc_profile.specs.Ports.{has_bit}
-use Rattle.mc_profile.proofs.Members.{in-first, in-rest, in-cases, in-filter}
+use Rattle.mc_profile.proofs.lemmas.Members.{in-first, in-rest, in-cases, in-filter}
 
 pub set-has : (n k : ℕ) → IsBitSet n k → has_bit n k ≡ true
 set-has n k set = ap not (ne_eqb (bit_and n (2 ^ k)) 0 set)
