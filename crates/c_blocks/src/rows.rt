@@ -1,4 +1,5 @@
-ghost use Rattle.std.specs.Prelude.{◌≡◌, ◌≤◌, IfOk, length, get_or, pos};
+ghost use Rattle.std.specs.Prelude.{◌≡◌, ◌<◌, ◌≤◌, ◌-◌, ◌^◌, IfOk, length, get_or, pos, unsigned_abs};
+ghost use Rattle.std.specs.Option.{option_and_then};
 ghost use Rattle.mc_blocks.specs.Value.{greatest_in};
 ghost use Rattle.c_syntax.specs.Plain.{expr_tree, cond_tree};
 ghost use Rattle.c_syntax.specs.Tree.{compare};
@@ -14,7 +15,7 @@ use crate::ranges::{gain_range, input_range, product_range, sum_range};
 use crate::truth::{logic, passes, passes_all};
 use c_syntax::{BinOp, Cond, Expr, Leaf};
 use mc_base::{Compare, Memory};
-use mc_blocks::{How, Op};
+use mc_blocks::{Criterion, How, Op};
 use mc_fixed::FixType;
 use std::alloc::Global;
 
@@ -108,6 +109,50 @@ fn converted_either(
     }
 }
 
+/// The product of all inputs, of `frac` fraction bits together, converted into a type.
+fn converted_product(
+    alloc: Global,
+    count: u8,
+    frac: u16,
+    inputs: &[Leaf],
+    types: &[FixType],
+    to: FixType,
+    how: How,
+) -> Result<Expr, Memory>
+    requires { frac - to.frac ≤ 62 }
+    ensures { IfOk result (λ e. expr_tree e ≡ code.converted (code.product_code inputs.now) frac
+        (numbers.product_range count types.now) to how) }
+{
+    let range = product_range(count, types);
+    let exact = product(alloc, inputs)?;
+    converted(alloc, exact, u32::from(frac), range, to, how)
+}
+
+/// The first input where the second one passes a criterion, else the third one, each converted into a type.
+fn switched(
+    alloc: Global,
+    criterion: Criterion,
+    threshold: i64,
+    fracs: [u8; 2],
+    inputs: &[Leaf],
+    types: &[FixType],
+    to: FixType,
+    how: How,
+) -> Result<Expr, Memory>
+    requires threshold_fits { unsigned_abs threshold < 2 ^ 63 }
+    requires first_unit { get_or fracs 0 0 ≤ 31 }
+    requires third_unit { get_or fracs 1 0 ≤ 31 }
+    ensures { IfOk result (λ e. expr_tree e ≡ code.either_code
+        (option_and_then (code.passes_all criterion threshold) (numbers.input_range types.now 1))
+        (code.passes_code criterion (code.input_code inputs.now 1) threshold)
+        (code.converted_input inputs.now types.now 0 (get_or fracs 0 0) to how)
+        (code.converted_input inputs.now types.now 2 (get_or fracs 1 0) to how)) }
+{
+    let first = passes_all(criterion, threshold, input_range(types, 1));
+    let test = passes(alloc, criterion, input(inputs, 1), threshold)?;
+    converted_either(alloc, first, test, fracs, inputs, types, to, how)
+}
+
 /// The expression for the value of a row: what the row computes of its inputs and its memory, in C, with two calls of
 /// pure functions at most. `types` are those of the inputs in their order, as far as they are known: where they show that the
 /// row's type holds each exact result, nothing brings this into the type, and where they show which input a switch passes,
@@ -149,28 +194,14 @@ pub fn value_code(
             frac,
             to,
             how,
-        } => {
-            let range = product_range(count, types);
-            converted(
-                alloc,
-                product(alloc, inputs)?,
-                u32::from(frac),
-                range,
-                to,
-                how,
-            )
-        }
+        } => converted_product(alloc, count, frac, inputs, types, to, how),
         Op::Switch {
             criterion,
             threshold,
             fracs,
             to,
             how,
-        } => {
-            let first = passes_all(criterion, threshold, input_range(types, 1));
-            let test = passes(alloc, criterion, input(inputs, 1), threshold)?;
-            converted_either(alloc, first, test, fracs, inputs, types, to, how)
-        }
+        } => switched(alloc, criterion, threshold, fracs, inputs, types, to, how),
         Op::Relational { compare, fracs } => comparison(alloc, compare, &fracs, inputs),
         Op::Logic { op, .. } => truth(alloc, logic(alloc, op, inputs)?),
         Op::Convert { frac, to, how } => converted_input(alloc, inputs, types, 0, frac, to, how),

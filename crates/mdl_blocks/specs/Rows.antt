@@ -6,12 +6,14 @@ use Rattle.mc_base.specs.declared.TimeText.{TimeText}
 use Rattle.mc_fixed.specs.declared.TypeText.{TypeText}
 use Rattle.mc_fixed.specs.declared.TypeText.TheVariants.{Inherit, Logical, Back, Fixed}
 use Rattle.mc_fixed.specs.Types.{boolean}
+use Rattle.mc_blocks.specs.declared.How.{How}
 use Rattle.mc_blocks.specs.declared.GainText.{GainText}
 use Rattle.mc_blocks.specs.declared.GainText.TheVariants.{Own, Typed}
 use Rattle.mc_blocks.specs.declared.Kind.{Kind}
 use Rattle.mc_blocks.specs.declared.Kind.TheVariants as row
 use Rattle.mdl_blocks.specs.declared.fault.Fault.{Fault}
 use Rattle.mdl_blocks.specs.declared.fault.Fault.TheVariants.{Continuous, FloatType}
+use Rattle.mdl_blocks.specs.declared.signs.SignMask.{SignMask}
 use Rattle.mdl_blocks.specs.declared.written.WrittenType.{WrittenType}
 use Rattle.mdl_blocks.specs.declared.written.WrittenType.TheVariants as a_type
 use Rattle.mdl_blocks.specs.declared.written.WrittenTime.{WrittenTime}
@@ -52,6 +54,22 @@ is_inherited a_type.Float = false
 abbrev pub constant_kind : WrittenConstant → WrittenType → Result Kind Fault
 constant_kind c type = if is_inherited type && not c.is_truth then Err FloatType else Ok (row.Constant c.value)
 
+-- the kind of a gain by its factor, the type of that, and how its result is brought into its own type
+abbrev pub gain_kind : Decimal → WrittenType → How → Result Kind Fault
+gain_kind factor factor_type how = do
+  known ← known_type factor_type
+  Ok (row.Gain (gain_with factor known) how)
+
+-- the kind of a sum with these signs
+abbrev pub sum_kind : SignMask → How → Kind
+sum_kind signs how = row.Sum signs.count signs.minus how
+
+-- the kind of a rate transition by the time of its output
+abbrev pub rate_transition_kind : Decimal → WrittenTime → Result Kind Fault
+rate_transition_kind initial out = do
+  time ← known_time out
+  Ok (row.RateTransition initial time)
+
 -- the kind of a block's row, with this control where it is a subsystem
 abbrev pub row_kind : BlockKind → WrittenType → Control → Result Kind Fault
 row_kind (held.Inport port) type control = Ok (row.Inport port)
@@ -60,10 +78,8 @@ row_kind (held.SubSystem system) type control = Ok (row.SubSystem control)
 row_kind (held.Constant value) type control = constant_kind value type
 row_kind held.Ground type control = Ok row.Ground
 row_kind held.Terminator type control = Ok row.Terminator
-row_kind (held.Gain factor factor_type how) type control = do
-  known ← known_type factor_type
-  Ok (row.Gain (gain_with factor known) how)
-row_kind (held.Sum signs how) type control = Ok (row.Sum signs.count signs.minus how)
+row_kind (held.Gain factor factor_type how) type control = gain_kind factor factor_type how
+row_kind (held.Sum signs how) type control = Ok (sum_kind signs how)
 row_kind (held.Product count how) type control = Ok (row.Product count how)
 row_kind (held.UnitDelay initial) type control = Ok (row.UnitDelay initial)
 row_kind (held.Delay length initial) type control = Ok (row.Delay length initial)
@@ -72,9 +88,7 @@ row_kind (held.Switch criterion threshold how) type control = Ok (row.Switch cri
 row_kind (held.Relational comparison) type control = Ok (row.Relational comparison)
 row_kind (held.Logic op count) type control = Ok (row.Logic op count)
 row_kind (held.Convert how) type control = Ok (row.Convert how)
-row_kind (held.RateTransition initial out) type control = do
-  time ← known_time out
-  Ok (row.RateTransition initial time)
+row_kind (held.RateTransition initial out) type control = rate_transition_kind initial out
 row_kind (held.EnablePort reset) type control = Ok row.EnablePort
 row_kind (held.TriggerPort edge) type control = Ok row.TriggerPort
 

@@ -5,9 +5,10 @@ ghost use Rattle.mdl_blocks.specs.Rows as rows;
 use crate::block::Body;
 use crate::fault::Fault;
 use crate::kind::BlockKind;
+use crate::signs::SignMask;
 use crate::written::{WrittenConstant, WrittenTime, WrittenType};
 use mc_base::{Control, Decimal, TimeText};
-use mc_blocks::{GainText, Kind};
+use mc_blocks::{GainText, How, Kind};
 use mc_fixed::{FixType, TypeText};
 
 /// What the row of a block says.
@@ -31,6 +32,27 @@ impl WrittenTime {
             WrittenTime::Zero => Err(Fault::Continuous),
         }
     }
+
+    /// The kind of a rate transition whose output has this time.
+    fn rate_transition(self, initial: Decimal) -> Result<Kind, Fault>
+        ensures { result ≡ rows.rate_transition_kind initial self }
+    {
+        let out = self.known()?;
+        Ok(Kind::RateTransition { initial, out })
+    }
+}
+
+impl SignMask {
+    /// The kind of a sum with these signs.
+    fn sum(self, how: How) -> Kind
+        ensures { result ≡ rows.sum_kind self how }
+    {
+        Kind::Sum {
+            count: self.count,
+            minus: self.minus,
+            how,
+        }
+    }
 }
 
 impl WrittenType {
@@ -42,6 +64,14 @@ impl WrittenType {
             WrittenType::Known(text) => Ok(text),
             WrittenType::Float => Err(Fault::FloatType),
         }
+    }
+
+    /// The kind of a gain whose factor has this type.
+    fn gain(self, factor: Decimal, how: How) -> Result<Kind, Fault>
+        ensures { result ≡ rows.gain_kind factor self how }
+    {
+        let gain = gain_with(factor, self.known()?);
+        Ok(Kind::Gain { gain, how })
     }
 
     /// Whether it is that of the block's rule.
@@ -110,15 +140,8 @@ impl BlockKind<'_> {
                 factor,
                 factor_type,
                 how,
-            } => Kind::Gain {
-                gain: gain_with(factor, factor_type.known()?),
-                how,
-            },
-            BlockKind::Sum { signs, how } => Kind::Sum {
-                count: signs.count,
-                minus: signs.minus,
-                how,
-            },
+            } => factor_type.gain(factor, how)?,
+            BlockKind::Sum { signs, how } => signs.sum(how),
             BlockKind::Product { count, how } => Kind::Product { count, how },
             BlockKind::UnitDelay { initial } => Kind::UnitDelay { initial },
             BlockKind::Delay { length, initial } => Kind::Delay { length, initial },
@@ -135,10 +158,7 @@ impl BlockKind<'_> {
             BlockKind::Relational(comparison) => Kind::Relational(comparison),
             BlockKind::Logic { op, count } => Kind::Logic { op, count },
             BlockKind::Convert(how) => Kind::Convert(how),
-            BlockKind::RateTransition { initial, out } => Kind::RateTransition {
-                initial,
-                out: out.known()?,
-            },
+            BlockKind::RateTransition { initial, out } => out.rate_transition(initial)?,
             BlockKind::EnablePort { .. } => Kind::EnablePort,
             BlockKind::TriggerPort(_) => Kind::TriggerPort,
         })

@@ -15,8 +15,8 @@ converted_sum-requires-clause-unit c =
     let writable = subst IsWritable c.in-Sum.is (c.row_ops_are_writable.ensures c.args.op.now c.requires) in
     subst (λ n. greatest_in (take n c.in-Sum.fracs) ≤ 31) (sym c.from-in-Sum.ensures) writable.1
 
-pub passes-requires : goal.passes-requires
-passes-requires c =
+pub switched-requires-clause-threshold_fits : goal.switched-requires-clause-threshold_fits
+switched-requires-clause-threshold_fits c =
     let fits : FitsSigned w64 c.in-Switch.threshold = search rules in
     let writable = subst IsWritable c.in-Switch.is (c.row_ops_are_writable.ensures c.args.op.now c.requires) in
     simp to_z-of_z writable.0
