@@ -7,7 +7,7 @@ use Rattle.c_syntax.specs.declared.CType.TheVariants.{I32}
 use Rattle.c_syntax.specs.declared.Leaf.{Leaf}
 use Rattle.c_syntax.specs.declared.BinOp.TheVariants.{Add}
 use Rattle.c_syntax.specs.Tree.{ExprTree, literal, read, binary, item, assign, assign_at, no_stmts, more_stmts}
-use Rattle.c_machine.specs.Cells.{Cell, Cells, cell_value, number, items, set_cell, set_item, value_at, items_at}
+use Rattle.c_machine.specs.Cells.{Cell, Cells, cell_value, number, items, set_cell, set_item, number_at, items_at}
 use Rattle.c_machine.specs.Values.{gives, and_then, Function, int_at, is_in_type, leaf_reads, reads, step_limit, index_in}
 use Rattle.c_machine.specs.Machine.{Scope, run_stmts}
 use Rattle.c_machine.proofs.lemmas.Runs.{cell_at-set_cell-other}
@@ -32,17 +32,17 @@ module _ (functions : List Function) (values : List ℤ) (cells : Cells) (ring :
   abbrev Is : ExprTree → ℤ → Type 0
   Is e x = Gives functions (reads values cells) line e x
 
-  place_gives : value_at cells ring.place ≡ pos place → Is (place_read ring) (pos place)
+  place_gives : number_at cells ring.place ≡ pos place → Is (place_read ring) (pos place)
   place_gives at steps = ap (λ v. gives v steps) at
 
-  taken_gives : value_at cells ring.taken ≡ pos taken → Is (taken_read ring) (pos taken)
+  taken_gives : number_at cells ring.taken ≡ pos taken → Is (taken_read ring) (pos taken)
   taken_gives count steps = ap (λ v. gives v steps) count
 
-  filling_holds : value_at cells ring.taken ≡ pos taken → Holds functions (reads values cells) line (is_filling_code ring n)
+  filling_holds : number_at cells ring.taken ≡ pos taken → Holds functions (reads values cells) line (is_filling_code ring n)
       (nat_lt taken n)
   filling_holds count steps = ap (λ v. gives (int_lt v (pos n)) steps) count ∙ ap (λ b. gives b steps) (same_less taken n)
 
-  next_taken_gives : value_at cells ring.taken ≡ pos taken → taken < 2 ^ 16 →
+  next_taken_gives : number_at cells ring.taken ≡ pos taken → taken < 2 ^ 16 →
       Is (next_taken_code ring n) (pos (if nat_lt taken n then taken + 1 else taken))
   next_taken_gives count few =
       let small : unsigned_abs (pos (taken + 1)) < 2 ^ 63 = omega (arith, few) in
@@ -56,7 +56,7 @@ module _ (functions : List Function) (values : List ℤ) (cells : Cells) (ring :
       by true = refl
       by false = refl
 
-  next_place_gives : value_at cells ring.place ≡ pos place → place < 2 ^ 16 → 1 ≤ n → Is (next_place_code ring n) (pos ((place + 1) % n))
+  next_place_gives : number_at cells ring.place ≡ pos place → place < 2 ^ 16 → 1 ≤ n → Is (next_place_code ring n) (pos ((place + 1) % n))
   next_place_gives at few some =
       let next : Is (binary Add (place_read ring) (literal (pos 1))) (pos (place + 1)) =
       gives_add functions (reads values cells) line (place_read ring) (literal (pos 1)) (pos place) (pos 1) (place_gives at)
@@ -92,7 +92,7 @@ module _ (scope : Scope) (cells : Cells) (ring : RingFields) (fields : AreRingFi
   takes_taken : (k : ℕ) → k ≤ 2 ^ 16 → Takes scope ring.taken (pos k)
   takes_taken k few = ap (λ t. is_in_type t (pos k)) fields.taken_type ∙ in_int32 k few
 
-  kept : (i j : ℕ) (c : Cell) (in_cells : Cells) → i ≢ j → value_at (set_cell in_cells i c) j ≡ value_at in_cells j
+  kept : (i j : ℕ) (c : Cell) (in_cells : Cells) → i ≢ j → number_at (set_cell in_cells i c) j ≡ number_at in_cells j
   kept i j c in_cells apart = ap cell_value (cell_at-set_cell-other in_cells i j c apart)
 
   emptied_runs : (steps : ℕ) → steps + 2 ≤ step_limit → run_stmts scope (emptied ring) cells steps
@@ -138,8 +138,8 @@ module _ (scope : Scope) (cells : Cells) (ring : RingFields) (fields : AreRingFi
     taken_in_runs steps takes room =
         let short = holds.short in let most = holds.at_most in let below = holds.in_ring in
         let last = taken_in_cells ring n place taken v cells in
-        let count : value_at with_item ring.taken ≡ pos taken = kept ring.items ring.taken _ cells fields.items_and_taken ∙ holds.count in
-        let at : value_at with_count ring.place ≡ pos place = kept ring.taken ring.place _ with_item fields.taken_and_place
+        let count : number_at with_item ring.taken ≡ pos taken = kept ring.items ring.taken _ cells fields.items_and_taken ∙ holds.count in
+        let at : number_at with_count ring.place ≡ pos place = kept ring.taken ring.place _ with_item fields.taken_and_place
         ∙ kept ring.items ring.place _ cells fields.items_and_place ∙ holds.at_place in
         let two : steps + 1 + 1 ≡ steps + 2 = omega arith in
         let three : steps + 2 + 1 ≡ steps + 3 = omega arith in

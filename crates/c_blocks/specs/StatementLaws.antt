@@ -10,7 +10,7 @@ use Rattle.mc_blocks.specs.Evaluation.{IsEvaluable}
 use Rattle.c_syntax.specs.declared.CType.TheVariants.{I8, I32}
 use Rattle.c_syntax.specs.declared.Leaf.{Leaf}
 use Rattle.c_syntax.specs.Tree.{ExprTree, CondTree, PureTree, type_at}
-use Rattle.c_machine.specs.Cells.{Cells, number, items, set_cell, set_item, value_at, fields_at, items_at}
+use Rattle.c_machine.specs.Cells.{Cells, number, items, set_cell, set_item, number_at, fields_at, items_at}
 use Rattle.c_machine.specs.Values.{gives, eval, Function, functions_of, int_at, is_in_type, leaf_reads, reads, step_limit}
 use Rattle.c_machine.specs.Machine.{StoredField, Outcome, done, in_child, routine_at, Scope, run_stmts}
 use Rattle.c_blocks.specs.declared.leaves.RingFields.{RingFields}
@@ -49,8 +49,8 @@ Takes scope field v = is_in_type (type_at scope.types field) v ≡ true
 -- a ring of n samples: the oldest of its items lies at this place, and so many were taken
 pub record HoldsRing (cells : Cells) (ring : RingFields) (n place taken : ℕ) : Type 0 where
   pub long : length (items_at cells ring.items) ≡ n
-  pub at_place : value_at cells ring.place ≡ pos place
-  pub count : value_at cells ring.taken ≡ pos taken
+  pub at_place : number_at cells ring.place ≡ pos place
+  pub count : number_at cells ring.taken ≡ pos taken
   pub in_ring : place < n
   pub at_most : taken ≤ n
   pub short : n < 2 ^ 16

@@ -10,7 +10,7 @@ use Rattle.c_machine.specs.Values.{Function, reads}
 use Rattle.c_machine.specs.Machine.{LoggedCall, StoredField, behind, on_answer, on_target, in_child, arguments, store_under, Scope, Routine, routine_at, routine_of, run_stmt, run_stmts, is_interface}
 use Rattle.c_emitter.specs.Blocks.{TypedBlock}
 use Rattle.c_emitter.specs.Bodies.{taken_ports, top_place, call_top}
-use Rattle.c_emitter.proofs.NumberCells.{number_cells, cells_with, item, value_at-cells_with, fields_at-cells_with, set_object-cells_with}
+use Rattle.c_emitter.proofs.NumberCells.{number_cells, cells_with, item, number_at-cells_with, fields_at-cells_with, set_object-cells_with}
 use Rattle.c_emitter.proofs.Straight.{finish, own_store, begin_step-goes}
 use Rattle.c_emitter.proofs.Ports.{port_reads, port_types, call-arguments, ports-positive}
 use Rattle.c_emitter.proofs.BlockTicks.{AreInputs}
@@ -46,7 +46,7 @@ call-ends blocks s structs functions earlier p i need x zs tops after steps n fs
     ∙ ap (λ (q : Routine). on_answer (arguments s.functions (reads s.values cells) 0 q.params es (steps + 1)) cells (λ values. on_target (InChild T) (q.run values) cells)) routine
     ∙ ap (λ ts. on_answer (arguments s.functions (reads s.values cells) 0 ts es (steps + 1)) cells (λ values. on_target (InChild T) (r.run values) cells)) params
     ∙ ap (λ a. on_answer a cells (λ values. on_target (InChild T) (r.run values) cells))
-    (call-arguments blocks s.functions (reads s.values cells) x inputs (λ k. ap (λ l. item l k) values) (taken_ports blocks need) (steps + 1) (ports-positive blocks need) (value_at-cells_with zs (number_cells tops) 0 ∙ now))
+    (call-arguments blocks s.functions (reads s.values cells) x inputs (λ k. ap (λ l. item l k) values) (taken_ports blocks need) (steps + 1) (ports-positive blocks need) (number_at-cells_with zs (number_cells tops) 0 ∙ now))
     ∙ ap (λ inner. in_child T cells (r.run passed inner (steps + 1))) (fields_at-cells_with zs (number_cells tops) T place)
     ∙ ap (λ b. in_child T cells (behind (if b then record { path = []; procedure = i } ∷ [] else []) [] (run_stmts (called_scope structs functions earlier p blocks x need) p.body (number_cells tops) (steps + 1)))) interface
     ∙ ap (λ o. in_child T cells (behind (record { path = []; procedure = i } ∷ []) [] o)) run

@@ -14,7 +14,7 @@ use Rattle.mc_diagram.specs.Diagram.{op_at}
 use Rattle.mc_diagram.specs.Run.{is_delay, start_of}
 use Rattle.mc_profile.specs.Systems.{systems, systems_inside}
 use Rattle.mc_diagram.specs.Traces.{IsTrace}
-use Rattle.c_machine.specs.Cells.{Cells, value_at}
+use Rattle.c_machine.specs.Cells.{Cells, number_at}
 use Rattle.c_machine.specs.Machine.{LoggedCall}
 use Rattle.c_machine.specs.Rows.{TickRow, c_rows, start_run}
 use Rattle.c_emitter.specs.Systems.{step_bound}
@@ -26,7 +26,7 @@ use Rattle.c_emitter.specs.Code.{StaysInBound, AtStart, Starts, top_number}
 use Rattle.c_emitter.specs.Blocks.{TypedBlock, block_at, is_delay_block, is_valued, value_place, memory_place, function_needs, output_rows}
 use Rattle.c_emitter.specs.Bodies.{top_place, update_place}
 use Rattle.c_emitter.specs.FlatProgram.{flat_program}
-use Rattle.c_emitter.proofs.NumberCells.{number_cells, value_at-number_cells, fields_at-cells_with}
+use Rattle.c_emitter.proofs.NumberCells.{number_cells, number_at-number_cells, fields_at-cells_with}
 use Rattle.c_emitter.proofs.Chosen.{all-chosen}
 use Rattle.c_emitter.proofs.BlockFacts.{top_state, value-in_state, memory-in_state}
 use Rattle.c_emitter.proofs.Costs.{step_cost, step-cost-le, outputs-few, functions-few}
@@ -102,8 +102,8 @@ module _ (rows : List Row) (types : List FixType) (ops : List Op) (flat : IsFlat
   top-value b h has =
       let within : b < length bs = (let same = same-length rows types ops flat in omega (arith, same)) in
       let valued : is_valued (block_at bs b) ≡ true = sym (valued-is rows types ops flat b (view rows types ops flat b h)) ∙ has in
-      ap₂ value_at top-cells (value-is-at bs few-rows b within valued)
-      ∙ value_at-number_cells (top_state bs starts starts (pos 0)) (value_place bs b)
+      ap₂ number_at top-cells (value-is-at bs few-rows b within valued)
+      ∙ number_at-number_cells (top_state bs starts starts (pos 0)) (value_place bs b)
       ∙ value-in_state bs starts starts (pos 0) b within valued ∙ start-value-at bs b within
       ∙ sym (start-is rows types ops flat b h (view rows types ops flat b h))
 
@@ -111,8 +111,8 @@ module _ (rows : List Row) (types : List FixType) (ops : List Op) (flat : IsFlat
   top-memory b h delay =
       let within : b < length bs = (let same = same-length rows types ops flat in omega (arith, same)) in
       let is_delay_too : is_delay_block (block_at bs b) ≡ true = sym (delay-is rows types ops flat b (view rows types ops flat b h)) ∙ delay in
-      ap₂ value_at top-cells (memory-is-at bs few-rows b within is_delay_too)
-      ∙ value_at-number_cells (top_state bs starts starts (pos 0)) (memory_place bs b)
+      ap₂ number_at top-cells (memory-is-at bs few-rows b within is_delay_too)
+      ∙ number_at-number_cells (top_state bs starts starts (pos 0)) (memory_place bs b)
       ∙ memory-in_state bs starts starts (pos 0) b within is_delay_too ∙ start-value-at bs b within
       ∙ sym (start-is rows types ops flat b h (view rows types ops flat b h))
 

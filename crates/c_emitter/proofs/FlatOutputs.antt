@@ -15,7 +15,7 @@ use Rattle.mc_diagram.proofs.lemmas.OneRun.{one_run}
 use Rattle.mc_diagram.specs.Run.{IsRun, RunFrom, outs}
 use Rattle.mc_diagram.specs.Traces.{IsTrace, input_type_of}
 use Rattle.c_machine.specs.Values.{is_in_type}
-use Rattle.c_machine.specs.Cells.{Cells, value_at}
+use Rattle.c_machine.specs.Cells.{Cells, number_at}
 use Rattle.c_machine.specs.Machine.{program_routines, routine_at, Routine, Scope, run_stmts}
 use Rattle.c_syntax.specs.Tree.{field_types, stmts_of_list}
 use Rattle.c_machine.specs.Rows.{TickRow, Rows, tick_row, rows_after, rows_from, rows_of_start, with_tick, c_rows, step_run}
@@ -80,7 +80,7 @@ module _ (blocks : List TypedBlock) (are : AreBlocks blocks) (below : OutputsAre
       tick_row (flat_program blocks) (record { cells = root_state blocks outputs v n; steps = step_cost blocks; log = step_log blocks; stores = step_stores blocks }) ≡ record { outputs = outputs; steps = step_cost blocks; log = step_log blocks; stores = step_stores blocks }
   tick-row v n outputs size =
       ap (λ os. record { outputs = os; steps = step_cost blocks; log = step_log blocks; stores = step_stores blocks })
-      (ap (map (value_at (root_state blocks outputs v n))) (output-places blocks few-outputs ∙ ap (range_with_len 1) (sym size)) ∙ read-outputs (pos 0) outputs (number_cells (top_state blocks v n (pos 0))))
+      (ap (map (number_at (root_state blocks outputs v n))) (output-places blocks few-outputs ∙ ap (range_with_len 1) (sym size)) ∙ read-outputs (pos 0) outputs (number_cells (top_state blocks v n (pos 0))))
 
 -- ---- Over a trace
 

@@ -1,7 +1,7 @@
 -- Instances whose fields are numbers, perhaps with other fields behind them.
 use Rattle.std.specs.Prelude.{◌≡◌, ℕ, zero, suc, ◌<◌, List, [], ◌∷◌, length, slice_index_or, slice_set, ℤ, pos}
 use Rattle.std.proofs.Common.{refl, ap, arith}
-use Rattle.c_machine.specs.Cells.{number, object, Cells, no_cells, more_cells, set_cell, value_at, fields_at}
+use Rattle.c_machine.specs.Cells.{number, object, Cells, no_cells, more_cells, set_cell, number_at, fields_at}
 
 -- these numbers, and then other fields
 abbrev pub cells_then : List ℤ → Cells → Cells
@@ -15,10 +15,10 @@ number_cells zs = cells_then zs no_cells
 abbrev pub item : List ℤ → ℕ → ℤ
 item zs i = slice_index_or zs i (pos 0)
 
-pub value_at-number_cells : (zs : List ℤ) (i : ℕ) → value_at (number_cells zs) i ≡ item zs i
-value_at-number_cells [] i = refl
-value_at-number_cells (z ∷ zs) zero = refl
-value_at-number_cells (z ∷ zs) (suc i) = value_at-number_cells zs i
+pub number_at-number_cells : (zs : List ℤ) (i : ℕ) → number_at (number_cells zs) i ≡ item zs i
+number_at-number_cells [] i = refl
+number_at-number_cells (z ∷ zs) zero = refl
+number_at-number_cells (z ∷ zs) (suc i) = number_at-number_cells zs i
 
 pub set_cell-number_cells : (zs : List ℤ) (i : ℕ) (v : ℤ) → set_cell (number_cells zs) i (number v) ≡ number_cells (slice_set zs i v)
 set_cell-number_cells [] i v = refl
@@ -29,11 +29,11 @@ set_cell-number_cells (z ∷ zs) (suc i) v = ap (more_cells (number z)) (set_cel
 abbrev pub cells_with : List ℤ → Cells → Cells
 cells_with zs inner = cells_then zs (more_cells (object inner) no_cells)
 
-pub value_at-cells_with : (zs : List ℤ) (inner : Cells) (i : ℕ) → value_at (cells_with zs inner) i ≡ item zs i
-value_at-cells_with [] inner zero = refl
-value_at-cells_with [] inner (suc i) = refl
-value_at-cells_with (z ∷ zs) inner zero = refl
-value_at-cells_with (z ∷ zs) inner (suc i) = value_at-cells_with zs inner i
+pub number_at-cells_with : (zs : List ℤ) (inner : Cells) (i : ℕ) → number_at (cells_with zs inner) i ≡ item zs i
+number_at-cells_with [] inner zero = refl
+number_at-cells_with [] inner (suc i) = refl
+number_at-cells_with (z ∷ zs) inner zero = refl
+number_at-cells_with (z ∷ zs) inner (suc i) = number_at-cells_with zs inner i
 
 pub fields_at-cells_with : (zs : List ℤ) (inner : Cells) (n : ℕ) → n ≡ length zs → fields_at (cells_with zs inner) n ≡ inner
 fields_at-cells_with [] inner zero e = refl

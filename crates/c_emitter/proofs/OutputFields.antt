@@ -9,14 +9,14 @@ use Rattle.std.proofs.lemmas.Bool.Decides.{eqb_tells}
 use Rattle.c_syntax.specs.declared.CType.{CType}
 use Rattle.c_syntax.specs.Tree.{FieldTree}
 use Rattle.c_syntax.specs.declared.FieldKind.TheVariants.{Struct}
-use Rattle.c_machine.specs.Cells.{Cells, value_at}
+use Rattle.c_machine.specs.Cells.{Cells, number_at}
 use Rattle.c_syntax.specs.RootFields.{number_names, output_fields, field_position}
 use Rattle.c_syntax.specs.Outputs.{has_name, numbers_from, output_count, output_name as name_of}
 use Rattle.mc_profile.specs.Systems.{system_name}
 use Rattle.c_emitter.specs.Names.{now_name, output_name}
 use Rattle.c_emitter.specs.Blocks.{TypedBlock, output_rows, output_type}
 use Rattle.c_emitter.specs.FlatProgram.{typed_field, root_fields_of}
-use Rattle.c_emitter.proofs.NumberCells.{cells_with, value_at-cells_with}
+use Rattle.c_emitter.proofs.NumberCells.{cells_with, number_at-cells_with}
 use Rattle.c_emitter.proofs.Chosen.{range-snoc}
 use Rattle.c_emitter.proofs.Digits.{prefix_len-all}
 use Rattle.c_emitter.proofs.NameFacts.{AreNumbered, numbered-names, range-place}
@@ -89,11 +89,11 @@ module _ (blocks : List TypedBlock) (few : length (output_rows blocks) ≤ 32) w
       ∙ map-same-range (λ k. field_position (root_fields_of blocks) (name_of k)) 1 count output-place
 
 -- what stands there
-pub read-outputs : (z : ℤ) (zs : List ℤ) (inner : Cells) → map (value_at (cells_with (z ∷ zs) inner)) (range_with_len 1 (length zs)) ≡ zs
+pub read-outputs : (z : ℤ) (zs : List ℤ) (inner : Cells) → map (number_at (cells_with (z ∷ zs) inner)) (range_with_len 1 (length zs)) ≡ zs
 read-outputs z zs inner = by (z ∷ []) zs
   where
-    by : (front rest : List ℤ) → map (value_at (cells_with (front ++ rest) inner)) (range_with_len (length front) (length rest)) ≡ rest
+    by : (front rest : List ℤ) → map (number_at (cells_with (front ++ rest) inner)) (range_with_len (length front) (length rest)) ≡ rest
     by front [] = refl
     by front (y ∷ ys) =
-        ap₂ ◌∷◌ (value_at-cells_with (front ++ y ∷ ys) inner (length front) ∙ get_or_at front y ys (pos 0) (length front) refl)
-        (ap₂ (λ l n. map (value_at (cells_with l inner)) (range_with_len n (length ys))) (sym (append_assoc front (y ∷ []) ys)) (sym (length_push front y)) ∙ by (front ++ y ∷ []) ys)
+        ap₂ ◌∷◌ (number_at-cells_with (front ++ y ∷ ys) inner (length front) ∙ get_or_at front y ys (pos 0) (length front) refl)
+        (ap₂ (λ l n. map (number_at (cells_with l inner)) (range_with_len n (length ys))) (sym (append_assoc front (y ∷ []) ys)) (sym (length_push front y)) ∙ by (front ++ y ∷ []) ys)

@@ -9,7 +9,7 @@ use Rattle.c_syntax.specs.declared.Leaf.TheVariants.{Own, Child}
 use Rattle.c_syntax.specs.declared.Why.TheVariants.{Range}
 use Rattle.c_syntax.specs.declared.BinOp.TheVariants.{Add, Rem}
 use Rattle.c_syntax.specs.Tree.{read, literal, binary, StmtTree, assign, stmts_of_list, ProcedureTree, type_at, field_types}
-use Rattle.c_machine.specs.Cells.{Cells, number, set_cell, value_at}
+use Rattle.c_machine.specs.Cells.{Cells, number, set_cell, number_at}
 use Rattle.c_machine.specs.Values.{eval, reads, is_in_type, stuck_at}
 use Rattle.c_machine.specs.Machine.{LoggedCall, stuck, behind, then_run, on_answer, store, Scope, Routine, routine_at, routine_of, run_stmt, run_stmts}
 use Rattle.c_emitter.specs.declared.block.Block.TheVariants.{Input}
@@ -17,7 +17,7 @@ use Rattle.c_emitter.specs.Names.{output_name}
 use Rattle.c_emitter.specs.Blocks.{TypedBlock, block_at, source_need, value_place, output_rows, output_type}
 use Rattle.c_emitter.specs.Bodies.{taken_ports, top_place, call_top, next_now}
 use Rattle.c_emitter.specs.FlatProgram.{root_fields_of, flat_structs, out_procedure}
-use Rattle.c_emitter.proofs.NumberCells.{number_cells, cells_with, item, value_at-number_cells, fields_at-cells_with, set_number-cells_with}
+use Rattle.c_emitter.proofs.NumberCells.{number_cells, cells_with, item, number_at-number_cells, fields_at-cells_with, set_number-cells_with}
 use Rattle.c_emitter.proofs.Straight.{finish, own_store, Known, begin_step-goes}
 use Rattle.c_emitter.proofs.Sequences.{list_any-append}
 use Rattle.c_emitter.proofs.BlockFacts.{IsWellMade, AreBlocks, top_state}
@@ -115,7 +115,7 @@ copy-one blocks s k o zs tops steps h types place low below fits =
     let cells : Cells = cells_with zs (number_cells tops) in
     let z : ℤ = item tops o in
     begin_step-goes 0 cells steps (λ count. on_answer (eval s.functions (reads s.values cells) 0 (read (Child (top_place blocks) o)) count) cells (λ v end. store 0 (type_at s.types k) k v cells end)) h
-    ∙ ap (λ w. store 0 (type_at s.types k) k w cells (steps + 1)) (ap (λ c. value_at c o) (fields_at-cells_with zs (number_cells tops) (top_place blocks) place) ∙ value_at-number_cells tops o)
+    ∙ ap (λ w. store 0 (type_at s.types k) k w cells (steps + 1)) (ap (λ c. number_at c o) (fields_at-cells_with zs (number_cells tops) (top_place blocks) place) ∙ number_at-number_cells tops o)
     ∙ ap (λ t. store 0 (type_at t k) k z cells (steps + 1)) types
     ∙ ap (λ t. store 0 t k z cells (steps + 1)) (root-type blocks k low below)
     ∙ ap (λ b. if b then finish (set_cell cells k (number z)) (steps + 1) [] (own_store k ∷ []) else stuck (stuck_at 0 Range) cells) fits

@@ -10,7 +10,7 @@ use Rattle.c_machine.specs.Cells.{Cells, number, set_cell}
 use Rattle.c_machine.specs.Values.{Function, gives, eval, reads, is_in_type, stuck_at}
 use Rattle.c_syntax.specs.declared.Why.TheVariants.{Range, Steps}
 use Rattle.c_machine.specs.Machine.{LoggedCall, StoredField, Outcome, done, stuck, behind, then_run, begin_step, on_answer, store, Scope, run_stmt, run_stmts}
-use Rattle.c_emitter.proofs.NumberCells.{number_cells, item, value_at-number_cells, set_cell-number_cells}
+use Rattle.c_emitter.proofs.NumberCells.{number_cells, item, number_at-number_cells, set_cell-number_cells}
 
 -- how straight code ends: with these fields, steps, calls and stores
 abbrev pub finish : Cells → ℕ → List LoggedCall → List StoredField → Outcome
@@ -29,7 +29,7 @@ Gives values wanted known e z =
     (functions : List Function) (zs : List ℤ) (line steps : ℕ) → Known wanted known zs → eval functions (reads values (number_cells zs)) line e steps ≡ gives z steps
 
 pub gives-own : (values wanted : List ℤ) (known : ℕ → Type 0) (f : ℕ) (z : ℤ) → known f → item wanted f ≡ z → Gives values wanted known (read (Own f)) z
-gives-own values wanted known f z k e functions zs line steps holds = ap (λ v. gives v steps) (value_at-number_cells zs f ∙ holds f k ∙ e)
+gives-own values wanted known f z k e functions zs line steps holds = ap (λ v. gives v steps) (number_at-number_cells zs f ∙ holds f k ∙ e)
 
 -- a store of what is wanted
 pub record IsRightStore (s : Scope) (wanted : List ℤ) (known : ℕ → Type 0) (f : ℕ) (e : ExprTree) : Type 0 where

@@ -8,14 +8,14 @@ use Rattle.c_syntax.specs.declared.Leaf.TheVariants.{Own}
 use Rattle.c_syntax.specs.Tree.{read, literal, StmtTree, branch, stmts_of_list, no_stmts, type_at}
 use Rattle.std.specs.Ordering.{int_eq}
 use Rattle.std.proofs.lemmas.List.{ext_get_or}
-use Rattle.c_machine.specs.Cells.{value_at}
+use Rattle.c_machine.specs.Cells.{number_at}
 use Rattle.c_machine.specs.Values.{gives, eval_cond, reads, int_at, is_in_type}
 use Rattle.c_machine.specs.Machine.{Scope, run_stmt, run_stmts}
 use Rattle.c_emitter.specs.declared.block.Block.{Block}
 use Rattle.c_emitter.specs.declared.block.Block.TheVariants.{Input, Output, Delay, Fixed, Sink}
 use Rattle.c_emitter.specs.Blocks.{TypedBlock, block_at, type_of, is_output, is_source_block, is_valued, is_delay_block, port_of_input, source_of, value_rows, value_place, memory_place, counter_place, source_need, output_source, output_sources, is_taken_in, is_given_in, is_held_input, is_unheld}
 use Rattle.c_emitter.specs.Bodies.{value_expr, source_place, store_by_port, taken_stores, given_stores, held_stores, unheld_stores, memory_stores, hit_test, idle_test, set_counter, out_body, update_body, is_delay_row, number_expr}
-use Rattle.c_emitter.proofs.NumberCells.{number_cells, item, value_at-number_cells}
+use Rattle.c_emitter.proofs.NumberCells.{number_cells, item, number_at-number_cells}
 use Rattle.c_emitter.proofs.Straight.{finish, own_store, Known, Gives, gives-own, IsRightStore, Stores, stores-rows}
 use Rattle.c_emitter.proofs.NumberExprs.{gives-number}
 use Rattle.c_emitter.proofs.Sequences.{stores-then, stores-under, stores-as, run-append, ends-then, branch-taken, branch-skipped}
@@ -262,10 +262,10 @@ module _ (blocks : List TypedBlock) (are : AreBlocks blocks) (x v m n : List ℤ
       run_stmt s (branch 0 (idle_test blocks) (stmts_of_list (held_stores blocks)) no_stmts) (number_cells zs) steps ≡ finish (number_cells zs) (steps + 1) [] []
   idle-ends zs steps h (inl called) =
       branch-skipped s (idle_test blocks) (stmts_of_list (held_stores blocks)) (number_cells zs) steps h
-      (ap (λ z. gives (int_eq z (pos 0)) (steps + 1)) (value_at-number_cells zs (counter_place blocks) ∙ called))
-  idle-ends zs steps h (inr none) = by (int_eq (value_at (number_cells zs) (counter_place blocks)) (pos 0)) refl
+      (ap (λ z. gives (int_eq z (pos 0)) (steps + 1)) (number_at-number_cells zs (counter_place blocks) ∙ called))
+  idle-ends zs steps h (inr none) = by (int_eq (number_at (number_cells zs) (counter_place blocks)) (pos 0)) refl
     where
-      by : (t : Bool) → int_eq (value_at (number_cells zs) (counter_place blocks)) (pos 0) ≡ t →
+      by : (t : Bool) → int_eq (number_at (number_cells zs) (counter_place blocks)) (pos 0) ≡ t →
           run_stmt s (branch 0 (idle_test blocks) (stmts_of_list (held_stores blocks)) no_stmts) (number_cells zs) steps ≡ finish (number_cells zs) (steps + 1) [] []
       by true e =
           branch-taken s (idle_test blocks) (stmts_of_list (held_stores blocks)) (number_cells zs) steps h (ap (λ t. gives t (steps + 1)) e)

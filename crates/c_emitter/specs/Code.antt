@@ -12,7 +12,7 @@ use Rattle.mc_profile.specs.Functions.{functions_for}
 use Rattle.mc_profile.specs.Systems.{systems, system_name}
 use Rattle.mc_diagram.specs.Traces.{IsTrace}
 use Rattle.c_syntax.specs.Tree.{StructTree, ProgramTree}
-use Rattle.c_machine.specs.Cells.{Cells, value_at as number_at}
+use Rattle.c_machine.specs.Cells.{Cells, number_at}
 use Rattle.c_machine.specs.Machine.{Outcome, done, stuck}
 use Rattle.c_machine.specs.Rows.{c_rows, start_run}
 use Rattle.c_syntax.specs.Lawful.{IsLawful}

@@ -11,7 +11,7 @@ use Rattle.c_syntax.specs.declared.code.Target.{Target}
 use Rattle.c_syntax.specs.declared.code.Target.TheVariants.{Own as OwnTarget, Child as ChildTarget}
 use Rattle.c_syntax.specs.declared.fault.Why.TheVariants.{Overflow, Range, Steps}
 use Rattle.c_syntax.specs.Tree.{ExprTree, literal, neg, read, binary, pick, pure, item, ExprTrees, no_exprs, more_exprs, CondTree, compare, both, either, negated, StmtTree, assign, assign_at, branch, call, StmtTrees, no_stmts, more_stmts, type_at}
-use Rattle.c_machine.specs.Cells.{Cell, number, items, object, cell_value, cell_fields, cell_items, Cells, no_cells, more_cells, cell_at, set_cell, value_at, fields_at, items_at, set_item}
+use Rattle.c_machine.specs.Cells.{Cell, number, items, object, cell_value, cell_fields, cell_items, Cells, no_cells, more_cells, cell_at, set_cell, number_at, fields_at, items_at, set_item}
 use Rattle.c_machine.specs.Values.{Answer, gives, sticks, and_then, within, operate, compares, Function, function_at, int_at, leaf_reads, reads, index_in, is_in_type, stuck_at, step_limit, eval, eval_all, eval_cond}
 use Rattle.c_machine.specs.Machine.{LoggedCall, StoredField, Outcome, done, stuck, behind, then_run, on_answer, begin_step, call_under, store_under, in_child, on_target, Routine, routine_at, Scope, arguments, store, store_at, run_stmt, run_stmts}
 use Rattle.c_machine.specs.CellLaws.{cells_count, IsFieldSet}
@@ -32,7 +32,7 @@ module _ (place : ℕ → ℕ) where
     leaf_placed : (l : Leaf) → leaf_reads values others (placed_leaf place l) ≡ leaf_reads values cells l
     leaf_placed (Param k) = refl
     leaf_placed (Own f) = ap cell_value (are.stands f)
-    leaf_placed (Child f g) = ap (λ c. value_at (cell_fields c) g) (are.stands f)
+    leaf_placed (Child f g) = ap (λ c. number_at (cell_fields c) g) (are.stands f)
 
     array_placed : (f : ℕ) → items_at others (place f) ≡ items_at cells f
     array_placed f = ap cell_items (are.stands f)

@@ -48,8 +48,8 @@ set_cell (more_cells b cs) zero c = more_cells c cs
 set_cell (more_cells b cs) (suc i) c = more_cells b (set_cell cs i c)
 
 -- the number of the field at a position
-abbrev pub value_at : Cells → ℕ → ℤ
-value_at cells i = cell_value (cell_at cells i)
+abbrev pub number_at : Cells → ℕ → ℤ
+number_at cells i = cell_value (cell_at cells i)
 
 -- the fields of the instance at a position
 abbrev pub fields_at : Cells → ℕ → Cells

@@ -155,10 +155,15 @@ is_interface name = if ends_with name (codes "_update") then true else ends_with
 abbrev pub call_entry : ℕ → List ℕ → List LoggedCall
 call_entry k name = if is_interface name then record { path = []; procedure = k } ∷ [] else []
 
--- the procedure at position k of a program with these structs, functions and earlier procedures
+-- the procedure at position k of a program, which sees these functions, these types of its own fields and these earlier
+-- procedures
+abbrev pub routine_with : List Function → List CType → List Routine → ℕ → ProcedureTree → Routine
+routine_with functions types earlier k p =
+    record { params = map (λ q. q.type) p.params; run = λ values cells steps. behind (call_entry k p.name) [] (run_stmts (record { functions = functions; routines = earlier; types = types; values = values }) p.body cells steps) }
+
+-- the same in a program with these structs
 abbrev pub routine_of : List StructTree → List Function → List Routine → ℕ → ProcedureTree → Routine
-routine_of structs functions earlier k p =
-    record { params = map (λ q. q.type) p.params; run = λ values cells steps. behind (call_entry k p.name) [] (run_stmts (record { functions = functions; routines = earlier; types = field_types (struct_fields structs p.of); values = values }) p.body cells steps) }
+routine_of structs functions earlier k p = routine_with functions (field_types (struct_fields structs p.of)) earlier k p
 
 -- the procedures of a list; each calls only earlier ones
 abbrev pub routines_of : List StructTree → List Function → List Routine → List ProcedureTree → List Routine

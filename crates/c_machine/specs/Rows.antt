@@ -2,7 +2,7 @@
 use Rattle.std.specs.Prelude.{ℕ, ℤ, List, [], ◌∷◌, length, map, Option, Some, None, unwrap_or, slice_index_or, codes}
 use Rattle.c_syntax.specs.declared.fault.Stuck.{Stuck}
 use Rattle.c_syntax.specs.Tree.{ProgramTree}
-use Rattle.c_machine.specs.Cells.{Cells, no_cells, value_at, zero_instances}
+use Rattle.c_machine.specs.Cells.{Cells, no_cells, number_at, zero_instances}
 use Rattle.c_machine.specs.Machine.{LoggedCall, StoredField, After, Outcome, done, stuck, call_from_outside}
 use Rattle.c_syntax.specs.RootFields.{procedure_named, output_fields, root_struct, root_fields}
 
@@ -26,12 +26,12 @@ pub record TickRow : Type 0 where
   pub stores : List StoredField
 
 -- how many interface calls a tick has
-abbrev pub calls_of : TickRow → ℕ
-calls_of row = length row.log
+abbrev pub interface_calls : TickRow → ℕ
+interface_calls row = length row.log
 
 -- the row of a tick from what the execution of its step leaves
 abbrev pub tick_row : ProgramTree → After → TickRow
-tick_row p a = record { outputs = map (value_at a.cells) (output_fields (root_fields p)); steps = a.steps; log = a.log; stores = a.stores }
+tick_row p a = record { outputs = map (number_at a.cells) (output_fields (root_fields p)); steps = a.steps; log = a.log; stores = a.stores }
 
 -- what a run gives: the ticks, the fields that it leaves, and the place where it is stuck, if it is
 pub record Rows : Type 0 where

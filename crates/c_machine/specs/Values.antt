@@ -13,7 +13,7 @@ use Rattle.c_syntax.specs.declared.fault.Stuck.{Stuck}
 use Rattle.c_syntax.specs.declared.fault.Why.{Why}
 use Rattle.c_syntax.specs.declared.fault.Why.TheVariants.{Overflow, ZeroDivisor, Steps, Index}
 use Rattle.c_syntax.specs.Tree.{ExprTree, literal, neg, read, binary, pick, pure, item, ExprTrees, no_exprs, more_exprs, CondTree, compare, both, either, negated, PureTree}
-use Rattle.c_machine.specs.Cells.{Cells, no_cells, value_at, fields_at, items_at}
+use Rattle.c_machine.specs.Cells.{Cells, no_cells, number_at, fields_at, items_at}
 
 -- the least and the greatest number of a type
 abbrev pub least_of : CType → ℤ
@@ -104,8 +104,8 @@ pub record Reads : Type 0 where
 -- what a leaf reads, where these are the arguments and the own fields
 abbrev pub leaf_reads : List ℤ → Cells → Leaf → ℤ
 leaf_reads values cells (Param k) = int_at values k
-leaf_reads values cells (Own f) = value_at cells f
-leaf_reads values cells (Child f g) = value_at (fields_at cells f) g
+leaf_reads values cells (Own f) = number_at cells f
+leaf_reads values cells (Child f g) = number_at (fields_at cells f) g
 
 -- what is read, where these are the arguments and the own fields
 abbrev pub reads : List ℤ → Cells → Reads

@@ -7,7 +7,7 @@ use Rattle.c_syntax.specs.declared.code.CType.{CType}
 use Rattle.c_syntax.specs.declared.program.FieldKind.{FieldKind}
 use Rattle.c_syntax.specs.declared.program.FieldKind.TheVariants as kind
 use Rattle.c_syntax.specs.Tree.{ProgramTree, FieldTree, StructTree, struct_fields, field_types, type_at, kind_type}
-use Rattle.c_machine.specs.Cells.{Cell, number, items, object, Cells, no_cells, more_cells, cell_value, cell_fields, cell_items, set_cell, set_item, value_at, fields_at, items_at, zero_cell, zero_cells}
+use Rattle.c_machine.specs.Cells.{Cell, number, items, object, Cells, no_cells, more_cells, cell_value, cell_fields, cell_items, set_cell, set_item, number_at, fields_at, items_at, zero_cell, zero_cells}
 use Rattle.c_machine.specs.Values.{int_at}
 use Rattle.c_meaning.specs.States.{numbers_in, numbers_of, with_first, filled_cell, filled}
 use Rattle.c_meaning.specs.declared.slots.Slot.{Slot}
@@ -106,7 +106,7 @@ module _ (layouts : List StructLayout) (zeros : List Cells) (sized : (k : ℕ) �
   size_is (kind.Array type count) = sym (length-replicate count (pos 0))
   size_is (kind.Struct k) = sized k
 
-  pub read_own : (at : ℕ) (s : List ℤ) (fields : List FieldTree) (f : ℕ) → value_at (filled (zero_cells zeros fields) (drop at s)) f ≡ number_in s (slice_get (slots_from layouts at fields) f)
+  pub read_own : (at : ℕ) (s : List ℤ) (fields : List FieldTree) (f : ℕ) → number_at (filled (zero_cells zeros fields) (drop at s)) f ≡ number_in s (slice_get (slots_from layouts at fields) f)
   read_own at s [] f = refl
   read_own at s (x ∷ fields) zero = here x.kind
     where
@@ -115,7 +115,7 @@ module _ (layouts : List StructLayout) (zeros : List Cells) (sized : (k : ℕ) �
       here (kind.Array type count) = refl
       here (kind.Struct k) = refl
   read_own at s (x ∷ fields) (suc f) =
-      ap (λ b. value_at (filled (zero_cells zeros fields) b) f) (ap (λ n. drop n (drop at s)) (sym (size_is x.kind)) ∙ drop_more at (kind_size layouts x.kind) s) ∙ read_own (at + kind_size layouts x.kind) s fields f
+      ap (λ b. number_at (filled (zero_cells zeros fields) b) f) (ap (λ n. drop n (drop at s)) (sym (size_is x.kind)) ∙ drop_more at (kind_size layouts x.kind) s) ∙ read_own (at + kind_size layouts x.kind) s fields f
 
   -- the fields of the instance at a place
   abbrev pub child_cells : List ℤ → Option Slot → Cells
@@ -215,22 +215,22 @@ module _ (layouts : List StructLayout) (zeros : List Cells) (sized : (k : ℕ) �
 -- ---- the structs of a program
 module _ (structs : List StructTree) (layouts : List StructLayout) (zeros : List Cells) (laid : AreLaidOut structs layouts zeros) where
   -- what a leaf reads
-  pub own_is : (of : ℕ) (s : List ℤ) (f : ℕ) → value_at (filled (slice_index_or zeros of no_cells) s) f ≡ number_in s (slice_get (layout_at layouts of).slots f)
+  pub own_is : (of : ℕ) (s : List ℤ) (f : ℕ) → number_at (filled (slice_index_or zeros of no_cells) s) f ≡ number_in s (slice_get (layout_at layouts of).slots f)
   own_is of s f =
-      ap (λ z. value_at (filled z s) f) (laid.zero_is of) ∙ read_own layouts zeros laid.sized 0 s (struct_fields structs of) f ∙ ap (λ t. number_in s (slice_get t f)) (sym (laid.slots_are of))
+      ap (λ z. number_at (filled z s) f) (laid.zero_is of) ∙ read_own layouts zeros laid.sized 0 s (struct_fields structs of) f ∙ ap (λ t. number_in s (slice_get t f)) (sym (laid.slots_are of))
 
   whole : (k : ℕ) (b : List ℤ) → filled (slice_index_or zeros k no_cells) (take (layout_at layouts k).size b) ≡ filled (slice_index_or zeros k no_cells) b
   whole k b = ap (λ n. filled (slice_index_or zeros k no_cells) (take n b)) (laid.sized k) ∙ filled-take (slice_index_or zeros k no_cells) b
 
-  pub under_is : (of : ℕ) (s : List ℤ) (f g : ℕ) → value_at (fields_at (filled (slice_index_or zeros of no_cells) s) f) g ≡ number_under layouts s (slice_get (layout_at layouts of).slots f) g
+  pub under_is : (of : ℕ) (s : List ℤ) (f g : ℕ) → number_at (fields_at (filled (slice_index_or zeros of no_cells) s) f) g ≡ number_under layouts s (slice_get (layout_at layouts of).slots f) g
   under_is of s f g =
-      ap (λ z. value_at (fields_at (filled z s) f) g) (laid.zero_is of) ∙ ap (λ z. value_at z g) (read_child layouts zeros laid.sized 0 s (struct_fields structs of) f ∙ ap (λ t. child_cells layouts zeros laid.sized s (slice_get t f)) (sym (laid.slots_are of))) ∙ at_slot (slice_get (layout_at layouts of).slots f)
+      ap (λ z. number_at (fields_at (filled z s) f) g) (laid.zero_is of) ∙ ap (λ z. number_at z g) (read_child layouts zeros laid.sized 0 s (struct_fields structs of) f ∙ ap (λ t. child_cells layouts zeros laid.sized s (slice_get t f)) (sym (laid.slots_are of))) ∙ at_slot (slice_get (layout_at layouts of).slots f)
     where
-      at_slot : (slot : Option Slot) → value_at (child_cells layouts zeros laid.sized s slot) g ≡ number_under layouts s slot g
+      at_slot : (slot : Option Slot) → number_at (child_cells layouts zeros laid.sized s slot) g ≡ number_under layouts s slot g
       at_slot None = refl
       at_slot (Some (Number at type)) = refl
       at_slot (Some (Array at count type)) = refl
-      at_slot (Some (Instance at size k)) = ap (λ z. value_at z g) (whole k (drop at s)) ∙ own_is k (drop at s) g
+      at_slot (Some (Instance at size k)) = ap (λ z. number_at z g) (whole k (drop at s)) ∙ own_is k (drop at s) g
 
   -- what an array holds
   pub array_is : (of : ℕ) (s : List ℤ) (f : ℕ) → items_at (filled (slice_index_or zeros of no_cells) s) f ≡ items_in s (slice_get (layout_at layouts of).slots f)

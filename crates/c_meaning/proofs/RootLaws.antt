@@ -16,7 +16,7 @@ use Rattle.c_syntax.specs.PlainField.{field_tree, field_trees}
 use Rattle.c_machine.specs.Rows.{step_run, start_run, zero_root}
 use Rattle.c_syntax.specs.RootFields.{root_struct, root_fields, procedure_named, field_position, output_fields, number_names}
 use Rattle.c_syntax.specs.Lawful.{AreDistinct, IsLawful, pure_names, procedure_names}
-use Rattle.c_machine.specs.Cells.{Cells, value_at}
+use Rattle.c_machine.specs.Cells.{Cells, number_at}
 use Rattle.c_machine.specs.Machine.{Outcome, done, stuck, After, is_interface, call_from_outside}
 use Rattle.c_syntax.proofs.lemmas.NameFacts.{has_name-there, AreDistinct-back}
 use Rattle.c_meaning.specs.Seen.{ran, halted, seen}
@@ -175,12 +175,12 @@ ticked program t row n now outs cost tables run outs_are =
     let p : ProgramTree = program_tree program.program in
     let eq : call_from_outside p t.step [] row (filled (zero_at p t.root) n) ≡ step_run p row (filled (zero_root p) n) = λ i. call_from_outside p (tables.step_is i) [] row (filled (zero_at p (tables.root_is i)) n) in
     let d = ran_done (filled (zero_at p t.root) now) cost.steps cost.calls (call_from_outside p t.step [] row (filled (zero_at p t.root) n)) run in
-    let same : (f : ℕ) → number_in now (slice_get (layout_at t.layouts.items t.root).slots f) ≡ value_at d.0.cells f = λ f. sym (own_is p.structs t.layouts.items (zeros_of p) tables.ready.laid t.root now f) ∙ ap (λ c. value_at c f) d.2 in
+    let same : (f : ℕ) → number_in now (slice_get (layout_at t.layouts.items t.root).slots f) ≡ number_at d.0.cells f = λ f. sym (own_is p.structs t.layouts.items (zeros_of p) tables.ready.laid t.root now f) ∙ ap (λ c. number_at c f) d.2 in
     record {
       left = d.0;
       run = sym eq ∙ d.1;
       cells = (λ i. filled (zero_at p (sym tables.root_is i)) now) ∙ d.2;
-      outputs_are = outs_are ∙ map-ext (λ f. number_in now (slice_get (layout_at t.layouts.items t.root).slots f)) (value_at d.0.cells) t.outputs.items same ∙ ap (map (value_at d.0.cells)) tables.outputs_are;
+      outputs_are = outs_are ∙ map-ext (λ f. number_in now (slice_get (layout_at t.layouts.items t.root).slots f)) (number_at d.0.cells) t.outputs.items same ∙ ap (map (number_at d.0.cells)) tables.outputs_are;
       cost_is = λ i. record { steps = d.3 i; calls = d.4 i };
     }
 

@@ -4,7 +4,7 @@ use Rattle.std.specs.List.{position_from}
 use Rattle.c_syntax.specs.declared.program.FieldKind.{FieldKind}
 use Rattle.c_syntax.specs.declared.program.FieldKind.TheVariants.{Number, Array, Struct}
 use Rattle.c_syntax.specs.Tree.{FieldTree, StructTree, struct_fields, ProgramTree}
-use Rattle.c_machine.specs.Cells.{Cells, value_at, fields_at}
+use Rattle.c_machine.specs.Cells.{Cells, number_at, fields_at}
 use Rattle.c_syntax.specs.RootFields.{root_struct}
 
 -- an instance: the positions of the fields that lead to it, and its struct
@@ -67,7 +67,7 @@ child_named p name i =
 
 -- the number in a field of these, where the field is one
 abbrev pub field_number : Cells → ℕ → FieldKind → Option ℤ
-field_number cells f (Number type) = Some (value_at cells f)
+field_number cells f (Number type) = Some (number_at cells f)
 field_number cells f (Array type count) = None
 field_number cells f (Struct k) = None
 

@@ -18,3 +18,4 @@ mod WholeShape
 mod WholeRenewals
 mod WholeScripts
 mod WholeCode
+mod RefusedAlone

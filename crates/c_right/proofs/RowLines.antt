@@ -17,7 +17,7 @@ use Rattle.c_syntax.specs.declared.Stuck.{Stuck}
 use Rattle.c_syntax.specs.Tree.{FieldTree, StructTree, struct_fields, ProcedureTree, ProgramTree}
 use Rattle.c_syntax.specs.RootFields.{field_position, output_fields, root_struct, root_fields}
 use Rattle.c_syntax.specs.Lawful.{procedure_without_lines, without_lines}
-use Rattle.c_machine.specs.Cells.{Cells, value_at as number_at, fields_at}
+use Rattle.c_machine.specs.Cells.{Cells, number_at, fields_at}
 use Rattle.c_machine.specs.Machine.{LoggedCall, StoredField, After, Outcome, done, stuck, call_from_outside}
 use Rattle.c_machine.specs.Rows.{TickRow, Rows, c_rows, start_run}
 use Rattle.c_machine.specs.LinesAside.{LinesMeanNothing, RunAlike, outcome_aside, stuck_aside}
@@ -31,7 +31,7 @@ use Rattle.c_right.specs.Paths.{path_to, path_inside, place_in, cells_at}
 use Rattle.c_right.specs.Scripts.{Call, out_with, update_with}
 use Rattle.c_right.specs.Calls.{IsWholeTick, HasCallsOf, StoresOnce, CallsInside, CallsInTick}
 use Rattle.c_right.specs.Right.{GivesOutputs, StaysInBound, HasCalls, call_in_tick, field_of, DrivenFrom, AnswersAnyOrder}
-use Rattle.c_right.specs.Anew.{valued_rows, number_in, AreForgotten, AreStarted, AreReset, HoldsInside, Leaves, RenewsAll, AreRestarted, Restarts}
+use Rattle.c_right.specs.Anew.{valued_rows, number_in, AreForgotten, AreStarted, AreReset, HoldsInside, FromAnyFields, RenewsAll, AreRestarted, Restarts}
 use Rattle.c_right.specs.LineLaws.{RowsMeanNoLines, RenewalsMeanNoLines}
 
 -- ---- Outcomes
@@ -199,7 +199,7 @@ module _ (p q : ProgramTree) (same : without_lines p ≡ without_lines q) (alike
 
   -- ---- Starts and resets
 
-  leaves-alike : (structure k : ℕ) (P Q : Cells → After → Type 0) → ((before : Cells) (a : After) → P before a → Q before a) → Leaves p structure k P → Leaves q structure k Q
+  leaves-alike : (structure k : ℕ) (P Q : Cells → After → Type 0) → ((before : Cells) (a : After) → P before a → Q before a) → FromAnyFields p structure k P → FromAnyFields q structure k Q
   leaves-alike structure k P Q next h before has =
       done-alike (call_from_outside p k [] [] before) (call_from_outside q k [] [] before) (Q before) (alike.calls k [] [] before)
       (done-then (call_from_outside p k [] [] before) (P before) (Q before) (next before)
@@ -246,10 +246,10 @@ module _ (p q : ProgramTree) (same : without_lines p ≡ without_lines q) (alike
   structs = same-structs p q same alike
 
   moved-alike : (k l : ℕ) (name : List ℕ) (P Q : Cells → After → Type 0) → k ≡ l → ((before : Cells) (a : After) → P before a → Q before a) →
-      Leaves p k (procedure_place p name) P → Leaves q l (procedure_place q name) Q
+      FromAnyFields p k (procedure_place p name) P → FromAnyFields q l (procedure_place q name) Q
   moved-alike k l name P Q at next h =
-      subst (λ i. Leaves q i (procedure_place q name) Q) at
-      (subst (λ i. Leaves q k i Q) (same-place p q same alike name) (leaves-alike p q same alike k (procedure_place p name) P Q next h))
+      subst (λ i. FromAnyFields q i (procedure_place q name) Q) at
+      (subst (λ i. FromAnyFields q k i Q) (same-place p q same alike name) (leaves-alike p q same alike k (procedure_place p name) P Q next h))
 
   pub renewed-alike : (d : Diagram) (s : Option ℕ) → RenewsAll p d s → RenewsAll q d s
   renewed-alike d s h = record {

@@ -1,9 +1,10 @@
--- A script with one more call is lawful where it was, and the call may follow.
+-- A script with one more call is lawful where it was, and the call may follow; and over a trace that fits it there is one run.
 use Rattle.std.specs.Prelude.{ℕ, List, [], ◌∷◌, ◌++◌, Option}
 use Rattle.mc_diagram.specs.Diagram.{Diagram}
+use Rattle.mc_diagram.specs.Laws.{LoopFreeHasOneRun}
 use Rattle.mc_profile.specs.declared.Function.{Function}
 use Rattle.c_right.specs.Scripts.{Call, TickSoFar, nothing_yet, CanFollow, tick_after, IsLawfulFrom}
-use Rattle.c_right.specs.DriveLaws.{tick_behind, ScriptsGrow}
+use Rattle.c_right.specs.DriveLaws.{tick_behind, ScriptsGrow, LawfulScriptsFit, LawfulScriptsRun}
 
 module _ (d : Diagram) (s : Option ℕ) (functions : List Function) (c : Call) where
   longer : (script : List Call) (tick : TickSoFar) → IsLawfulFrom d s functions tick (script ++ c ∷ []) →
@@ -21,3 +22,8 @@ module _ (d : Diagram) (s : Option ℕ) (functions : List Function) (c : Call) w
 pub scripts_grow : ScriptsGrow
 scripts_grow d s functions script c =
     (λ h. longer d s functions c script nothing_yet h, λ h. with_one d s functions c script nothing_yet h.0 h.1)
+
+pub lawful_scripts_run : LawfulScriptsFit → LoopFreeHasOneRun → LawfulScriptsRun
+lawful_scripts_run fit runs d s functions script no_loop lawful =
+    let found = fit d s functions script lawful in
+    (found.0, found.1, found.2, runs d s found.0 no_loop)

@@ -17,7 +17,7 @@ use Rattle.mc_diagram.specs.Needs.{needs_of, HasNoLoop, Walk}
 use Rattle.mc_diagram.specs.Run.{value_at, memory_at, first_of, moved_on, start_of, initial_memory, active_in, any_off, is_disabled, input_values, is_reset_outport, row_value, row_memory, values_by, memories_by, triggers_by, IsTick, RunFrom, outs}
 use Rattle.mc_diagram.specs.Laws.{Run, IsRunOver, LoopFreeHasOneRun}
 use Rattle.mc_diagram.specs.Traces.{IsTrace, IsTraceRow}
-use Rattle.c_machine.specs.Cells.{Cells, number, object, no_cells, more_cells, value_at as number_at}
+use Rattle.c_machine.specs.Cells.{Cells, number, object, no_cells, more_cells, number_at}
 use Rattle.c_syntax.specs.RootFields.{output_fields, root_fields}
 use Rattle.c_machine.specs.Machine.{StoredField, Outcome, done}
 use Rattle.c_machine.specs.Rows.{TickRow, Rows, with_tick, c_rows, rows_from, rows_after, rows_of_start, start_run, step_run}

@@ -1,6 +1,6 @@
 -- A system's code as a program of its own, in which each child is nothing but its outputs and the heads of its procedures:
 -- so the rules and limits of C are said of it by itself.
-use Rattle.std.specs.Prelude.{ℕ, ◌+◌, ◌-◌, ◌≤◌, nat_lt, if◌then◌else◌, List, [], ◌∷◌, ◌++◌, map, flat_map, drop, length, replicate}
+use Rattle.std.specs.Prelude.{ℕ, ◌+◌, ◌≤◌, List, [], ◌∷◌, ◌++◌, map, flat_map, drop, length, replicate}
 use Rattle.std.specs.List.{AllByRecursion, enumerate_from}
 use Rattle.mc_profile.specs.declared.ChildUse.{ChildUse}
 use Rattle.mc_profile.specs.LocalSystem.{LocalSystem}
@@ -14,7 +14,7 @@ use Rattle.c_prelude.specs.Rules.{IsPrelude}
 use Rattle.c_shape.specs.Names.{container, value_name, filler_name}
 use Rattle.c_shape.specs.Heads.{Head, public_heads}
 use Rattle.c_shape.specs.SystemTree.{SystemTree}
-use Rattle.c_shape.specs.Moves.{Moves, moved_procedure}
+use Rattle.c_shape.specs.Relocation.{Relocation, behind_children, moved_procedure}
 
 -- a struct without outputs has the one field that nothing uses
 abbrev pub or_filler_field : List FieldTree → List FieldTree
@@ -32,13 +32,9 @@ bare_procedure k h = record { name = h.name; private = h.private; of = k; params
 abbrev pub bare_procedures : LocalSystem → List ProcedureTree
 bare_procedures local = flat_map (λ e. map (bare_procedure e.0) (public_heads e.1.header)) (enumerate_from 0 local.children)
 
--- the children's procedures stand before the system's own, and outputs stay
-abbrev pub behind_bare : LocalSystem → SystemTree → Moves
-behind_bare local code = record {
-  procedure = λ k. if nat_lt k (length code.procedures) then length (bare_procedures local) + k else k - length code.procedures;
-  output = λ f o. o;
-  of = length local.children;
-}
+-- the system's own procedures stand behind those of bare children, whose outputs stay
+abbrev pub behind_bare : LocalSystem → SystemTree → Relocation
+behind_bare local code = behind_children (length code.procedures) (length (bare_procedures local)) (λ f o. o) (length local.children)
 
 -- the system's code among bare children
 abbrev pub alone : LocalSystem → SystemTree → List PureTree → ProgramTree

@@ -9,7 +9,7 @@ use Rattle.mc_diagram.specs.Run.{start_of}
 use Rattle.mc_profile.specs.Systems.{systems_inside, system_name}
 use Rattle.c_syntax.specs.Tree.{ProgramTree, struct_fields}
 use Rattle.c_syntax.specs.RootFields.{procedure_named, field_position, output_fields, root_struct, root_fields}
-use Rattle.c_machine.specs.Cells.{Cells, value_at as number_at, fields_at}
+use Rattle.c_machine.specs.Cells.{Cells, number_at, fields_at}
 use Rattle.c_machine.specs.Machine.{After, routine_at, program_routines}
 use Rattle.c_shape.specs.Delays.{is_single, is_line}
 use Rattle.c_shape.specs.Names.{value_name, memory_name, place_name, taken_name, trigger_name, is_counter_name, now_name, start_name, reset_name, root_start_name}
@@ -63,14 +63,14 @@ pub record HoldsInside (p : ProgramTree) (d : Diagram) (s : Option ℕ) (P : Opt
   pub inside : AllByRecursion (λ e. P (Some e) (cells_at (path_inside p d.rows s e) before) (cells_at (path_inside p d.rows s e) after)) (systems_inside d.rows s)
 
 -- whatever fields its struct has, the procedure without arguments of this name isn't stuck, and leaves that
-abbrev pub Leaves : ProgramTree → (structure : ℕ) (procedure : ℕ) → (Cells → After → Type 0) → Type 0
-Leaves p structure procedure P =
+abbrev pub FromAnyFields : ProgramTree → (structure : ℕ) (procedure : ℕ) → (Cells → After → Type 0) → Type 0
+FromAnyFields p structure procedure P =
     (before : Cells) → HasForms (forms_at p structure) before → OnDone ((routine_at (program_routines p) procedure).run [] before 0) (P before)
 
 -- a system is started, and reset, from any fields
 pub record RenewsAll (p : ProgramTree) (d : Diagram) (s : Option ℕ) : Type 0 where
-  pub starts : Leaves p (struct_place p s) (procedure_place p (start_name s)) (λ before a. HoldsInside p d s (λ n old new. AreStarted p d n new) before a.cells)
-  pub resets : Leaves p (struct_place p s) (procedure_place p (reset_name s)) (λ before a. HoldsInside p d s (AreReset p d) before a.cells)
+  pub starts : FromAnyFields p (struct_place p s) (procedure_place p (start_name s)) (λ before a. HoldsInside p d s (λ n old new. AreStarted p d n new) before a.cells)
+  pub resets : FromAnyFields p (struct_place p s) (procedure_place p (reset_name s)) (λ before a. HoldsInside p d s (AreReset p d) before a.cells)
 
 -- the fields of `root` behind `root_start`: the tick is 0, `top` is started, and outputs are as they were
 pub record AreRestarted (p : ProgramTree) (d : Diagram) (before after : Cells) : Type 0 where
@@ -80,4 +80,4 @@ pub record AreRestarted (p : ProgramTree) (d : Diagram) (before after : Cells) :
 
 -- the whole program is started from any fields
 abbrev pub Restarts : ProgramTree → Diagram → Type 0
-Restarts p d = Leaves p (root_struct p) (unwrap_or (procedure_named p root_start_name) 0) (λ before a. AreRestarted p d before a.cells)
+Restarts p d = FromAnyFields p (root_struct p) (unwrap_or (procedure_named p root_start_name) 0) (λ before a. AreRestarted p d before a.cells)

@@ -1,7 +1,8 @@
--- What a driver of one system rests on: scripts grow by one call, some trace fits each of them, and the fields behind a
--- script are those of the relation.
+-- What a driver of one system rests on: scripts grow by one call, and some trace fits each of them, over which there is one run.
 use Rattle.std.specs.Prelude.{◌↔◌, ℕ, List, [], ◌∷◌, ◌++◌, Option, ℤ}
 use Rattle.mc_diagram.specs.Diagram.{Diagram}
+use Rattle.mc_diagram.specs.Needs.{needs_of, HasNoLoop}
+use Rattle.mc_diagram.specs.Laws.{HasOneRun}
 use Rattle.mc_profile.specs.declared.Function.{Function}
 use Rattle.mc_diagram.specs.Traces.{IsTrace}
 use Rattle.c_right.specs.Scripts.{Call, TickSoFar, nothing_yet, CanFollow, tick_after, IsLawfulScript, Fits}
@@ -22,3 +23,9 @@ abbrev pub LawfulScriptsFit : Type 0
 LawfulScriptsFit =
     (d : Diagram) (s : Option ℕ) (functions : List Function) (script : List Call) → IsLawfulScript d s functions script →
     (xs : List (List ℤ)) × IsTrace d s xs × Fits d s functions xs script
+
+-- and where the diagram has no loop, the system has one run over it
+abbrev pub LawfulScriptsRun : Type 0
+LawfulScriptsRun =
+    (d : Diagram) (s : Option ℕ) (functions : List Function) (script : List Call) → HasNoLoop (needs_of d) →
+    IsLawfulScript d s functions script → (xs : List (List ℤ)) × IsTrace d s xs × Fits d s functions xs script × HasOneRun d s xs

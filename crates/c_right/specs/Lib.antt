@@ -12,3 +12,4 @@ pub mod SharedSamples
 pub mod SharedExamples
 pub mod DelaySamples
 pub mod WholeSamples
+pub mod RefusedAlone

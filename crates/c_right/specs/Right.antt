@@ -14,7 +14,7 @@ use Rattle.mc_profile.specs.declared.Function.{Function}
 use Rattle.mc_profile.specs.Functions.{functions_for}
 use Rattle.mc_profile.specs.Headers.{numbered_function, given_by_function}
 use Rattle.c_syntax.specs.Tree.{ProgramTree}
-use Rattle.c_machine.specs.Cells.{Cells, value_at as number_at}
+use Rattle.c_machine.specs.Cells.{Cells, number_at}
 use Rattle.c_machine.specs.Machine.{LoggedCall, StoredField, Outcome, call_from_outside}
 use Rattle.c_machine.specs.Rows.{TickRow, c_rows, start_run}
 use Rattle.c_rules.specs.Reading.{CText}

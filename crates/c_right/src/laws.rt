@@ -1,7 +1,7 @@
 ghost use Rattle.std.specs.Prelude.{[]};
 ghost use Rattle.c_right.specs.Right.{IsCodeFor};
 ghost use Rattle.c_right.specs.WholeSamples.{later_five, whole_program};
-ghost use Rattle.c_right.specs.DriveLaws.{LawfulScriptsFit, ScriptsGrow};
+ghost use Rattle.c_right.specs.DriveLaws.{LawfulScriptsFit, LawfulScriptsRun, ScriptsGrow};
 ghost use Rattle.c_right.specs.LineLaws.{RenewalsMeanNoLines, RowsMeanNoLines, ShapeMeansNoLines, TextOfCodeIsRight};
 
 use c_machine::lines_mean_nothing;
@@ -44,6 +44,14 @@ pub fn scripts_grow()
 pub fn lawful_scripts_fit()
     ensures { LawfulScriptsFit }
 {}
+
+/// Where the diagram has no loop, there is one run over such a trace.
+pub fn lawful_scripts_run()
+    ensures { LawfulScriptsRun }
+{
+    lawful_scripts_fit();
+    one_run();
+}
 
 /// Some code is right: that of a model with a subsystem that remembers a number.
 pub fn some_code_is_right()

@@ -9,10 +9,10 @@ use Rattle.c_syntax.specs.Tree.{ExprTree, literal, neg, read, binary, pick, pure
 use Rattle.c_machine.specs.NumberingLaws.{IsRenumbered, AreRenumbered, ProcedureNumbersAreFree}
 use Rattle.c_machine.specs.Machine.{routine_at}
 use Rattle.c_shape.specs.Reads.{CallSite, expr_leaves, exprs_leaves, cond_leaves, stmt_leaves, stmts_leaves, stmt_calls, calls_in}
-use Rattle.c_shape.specs.Moves.{Moves, moved_leaf, moved_expr, moved_exprs, moved_cond, moved_stmt, moved_stmts}
-use Rattle.c_shape.specs.MoveLaws.{MovedCodeAgrees}
+use Rattle.c_shape.specs.Relocation.{Relocation, moved_number, moved_leaf, moved_expr, moved_exprs, moved_cond, moved_stmt, moved_stmts}
+use Rattle.c_shape.specs.RelocationLaws.{MovedCodeAgrees}
 
-module _ (m n : Moves) where
+module _ (m n : Relocation) where
   -- ---- Expressions
 
   -- these leaves go to the same outputs in both places
@@ -69,7 +69,7 @@ module _ (m n : Moves) where
   module _ (R : ℕ → ℕ → Type 0) where
     -- these calls go to procedures that are related
     abbrev Related : List CallSite → Type 0
-    Related calls = (k : ℕ) → Contains (map (λ (c : CallSite). c.procedure) calls) k → R (m.procedure k) (n.procedure k)
+    Related calls = (k : ℕ) → Contains (map (λ (c : CallSite). c.procedure) calls) k → R (moved_number m k) (moved_number n k)
 
     calls_before : (xs ys : List CallSite) → Related (xs ++ ys) → Related xs
     calls_before xs ys all k has = all k (subst (λ ks. Contains ks k) (sym (map-append (λ (c : CallSite). c.procedure) xs ys))
@@ -97,7 +97,7 @@ module _ (m n : Moves) where
                 (calls_behind (calls_in on_true) (calls_in on_false) related),
           )
       stmt_renumbered (call line k target es) same related =
-          (n.procedure k, ap (call line (n.procedure k) target) (exprs_agree es same), related k (0, omega arith, refl))
+          (moved_number n k, ap (call line (moved_number n k) target) (exprs_agree es same), related k (0, omega arith, refl))
 
       stmts_renumbered : (ss : StmtTrees) → Outputs (stmts_leaves ss) → Related (calls_in ss) →
           AreRenumbered R (moved_stmts m ss) (moved_stmts n ss)

@@ -1,6 +1,6 @@
 -- The program that systems' codes come to: structs and procedures stand from the last code to the first, and those of
 -- `root` last.
-use Rattle.std.specs.Prelude.{ℕ, ◌+◌, ◌-◌, ◌==◌, Bool, false, nat_lt, if◌then◌else◌, List, [], ◌∷◌, ◌++◌, map, filter_map, find, flat_map, drop, reverse, length, sum_by, slice_index, slice_index_or, None, option_map, unwrap_or, pos, codes as text, decimal, bytes_eq}
+use Rattle.std.specs.Prelude.{ℕ, ◌+◌, ◌-◌, ◌==◌, Bool, false, if◌then◌else◌, List, [], ◌∷◌, ◌++◌, map, filter_map, find, flat_map, drop, reverse, length, sum_by, slice_index, slice_index_or, None, option_map, unwrap_or, pos, codes as text, decimal, bytes_eq}
 use Rattle.std.specs.List.{position_from, prefix_len, range_with_len, list_any, enumerate_from}
 use Rattle.mc_profile.specs.LocalSystem.{LocalSystem}
 use Rattle.mc_profile.specs.Systems.{system_name}
@@ -15,7 +15,7 @@ use Rattle.c_syntax.specs.declared.FieldKind.TheVariants.{Number, Array, Struct}
 use Rattle.c_syntax.specs.Tree.{ExprTree, literal, read, binary, StmtTree, assign, call, exprs_of_list, stmts_of_list, FieldTree, StructTree, no_struct, ParamTree, PureTree, ProcedureTree, ProgramTree}
 use Rattle.c_shape.specs.Names.{container, now_name, input_name, root_name, root_start_name, root_step_name, output_name}
 use Rattle.c_shape.specs.SystemTree.{SystemTree}
-use Rattle.c_shape.specs.Moves.{Moves, moved_procedure}
+use Rattle.c_shape.specs.Relocation.{Relocation, moved_procedure}
 
 -- the names of a code's public procedures, in the order in which the code around it counts them
 abbrev pub has_procedure : SystemTree → List ℕ → Bool
@@ -69,11 +69,11 @@ module _ (all : List SystemTree) where
   public_positions i = map (procedure_position i) (public_names (code_at i))
 
   -- where what code i names goes
-  abbrev pub moves_of : ℕ → Moves
-  moves_of i = record {
-    procedure = λ k.
-        if nat_lt k (length (code_at i).procedures) then first_procedure i + k
-        else slice_index (flat_map (λ name. public_positions (code_named name)) (child_names (code_at i))) (k - length (code_at i).procedures);
+  abbrev pub relocation_of : ℕ → Relocation
+  relocation_of i = record {
+    own = length (code_at i).procedures;
+    first = first_procedure i;
+    offered = λ k. slice_index (flat_map (λ name. public_positions (code_named name)) (child_names (code_at i))) k;
     output = λ f o. slice_index (code_at (code_named (slice_index_or (map (λ (g : FieldTree). g.name) (code_at i).structure.fields) f []))).outputs o;
     of = struct_position i;
   }
@@ -136,5 +136,5 @@ module _ (all : List SystemTree) where
     assembled pures = record {
       pures = pures;
       structs = map (λ i. moved_struct (code_at i)) from_last ++ root_structure ∷ [];
-      procedures = flat_map (λ i. map (moved_procedure (moves_of i)) (code_at i).procedures) from_last ++ root_procedures;
+      procedures = flat_map (λ i. map (moved_procedure (relocation_of i)) (code_at i).procedures) from_last ++ root_procedures;
     }

@@ -1,5 +1,6 @@
 pub mod Names
 pub mod Delays
+pub mod RowStarts
 pub mod Heads
 pub mod SystemTree
 pub mod CodeNames
@@ -8,9 +9,9 @@ pub mod Rules
 pub mod Once
 pub mod Stored
 pub mod Slots
-pub mod Moves
+pub mod Relocation
 pub mod NamedLeaf
-pub mod MoveLaws
+pub mod RelocationLaws
 pub mod LocalShape
 pub mod Programs
 pub mod ProgramShape

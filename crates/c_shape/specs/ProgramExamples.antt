@@ -3,7 +3,7 @@ use Rattle.std.specs.Prelude.{◌≡◌, refl, [], ◌∷◌, map, pos}
 use Rattle.std.specs.Fmt.{digits}
 use Rattle.mc_profile.specs.LocalSamples.{outer_local}
 use Rattle.c_syntax.specs.Tree.{ProgramTree}
-use Rattle.c_machine.specs.Rows.{c_rows, calls_of}
+use Rattle.c_machine.specs.Rows.{c_rows, interface_calls}
 use Rattle.c_shape.specs.Assembled.{assembled, public_positions, first_procedure}
 use Rattle.c_shape.specs.TinySamples.{child_code, outer_code}
 
@@ -24,6 +24,6 @@ unfolding digits
 rows = refl
 
 -- the child's function is called once in each tick though both functions of the root hold its call
-calls : map (λ row. calls_of row) (c_rows shared_program ((pos 1 ∷ pos 10 ∷ []) ∷ (pos 2 ∷ pos 20 ∷ []) ∷ [])).ticks ≡ 5 ∷ 5 ∷ []
+calls : map (λ row. interface_calls row) (c_rows shared_program ((pos 1 ∷ pos 10 ∷ []) ∷ (pos 2 ∷ pos 20 ∷ []) ∷ [])).ticks ≡ 5 ∷ 5 ∷ []
 unfolding digits
 calls = refl

@@ -1,4 +1,4 @@
-ghost use Rattle.c_shape.specs.MoveLaws.{MovedCodeAgrees};
+ghost use Rattle.c_shape.specs.RelocationLaws.{MovedCodeAgrees};
 
 use c_machine::procedure_numbers_are_free;
 

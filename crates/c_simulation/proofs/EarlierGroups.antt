@@ -19,9 +19,9 @@ use Rattle.mc_cluster.specs.Classes.{place_of}
 use Rattle.mc_cluster.specs.Clusters.{ReachesClass}
 use Rattle.mc_cluster.specs.Grouping.{ComesBefore, AreGroups}
 use Rattle.mc_cluster.specs.NodeGroups.{NodeGroups}
-use Rattle.mc_cluster.proofs.Members.{is_some-position, found-at, has-head, has-tail}
-use Rattle.mc_profile.proofs.Members.{in-none, in-cases, in-at}
-use Rattle.mc_profile.proofs.MaskBits.{in-different}
+use Rattle.mc_cluster.proofs.lemmas.FirstPlaces.{is_some-position, found-at, has-head, has-tail}
+use Rattle.mc_profile.proofs.lemmas.Members.{in-none, in-cases, in-at}
+use Rattle.mc_profile.proofs.lemmas.MaskBits.{in-different}
 use Rattle.c_simulation.specs.StandingLaws.{NeededGroupIsEarlier}
 
 -- ---- A number that has all bits of another has more, or is the same

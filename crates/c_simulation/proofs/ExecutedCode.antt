@@ -18,10 +18,10 @@ use Rattle.mc_profile.specs.Ports.{has_bit}
 use Rattle.mc_profile.specs.Headers.{header_functions, header_function, given_rows}
 use Rattle.mc_profile.specs.Locals.{child_of}
 use Rattle.mc_profile.specs.LocalNodes.{node_gives, node_needs, calls_of, call_nodes, node_list}
-use Rattle.mc_profile.proofs.Members.{in-none, in-first, in-rest, in-cases, in-map, number-of, found-in, finds, in-range, in-at, at-in, at-below, at-map, map-at}
-use Rattle.mc_profile.proofs.LawfulSteps.{differ-at}
+use Rattle.mc_profile.proofs.lemmas.Members.{in-none, in-first, in-rest, in-cases, in-map, number-of, found-in, finds, in-range, in-at, at-in, at-below, at-map, map-at}
+use Rattle.mc_profile.proofs.lemmas.OwnRows.{differ-at}
 use Rattle.c_syntax.specs.Tree.{ParamTree}
-use Rattle.c_machine.specs.Cells.{Cell, object, Cells, set_cell, cell_value, cell_items, cell_fields, cell_at, value_at, fields_at}
+use Rattle.c_machine.specs.Cells.{Cell, object, Cells, set_cell, cell_value, cell_items, cell_fields, cell_at, number_at, fields_at}
 use Rattle.c_machine.specs.Machine.{Scope, call_under}
 use Rattle.c_shape.specs.Slots.{Slot, value, memory, ring_items, ring_place, ring_taken, trigger, instance}
 use Rattle.c_simulation.specs.LocalTicks.{LocalTick, is_active}
@@ -138,7 +138,7 @@ module _ (local : LocalSystem) (slots : List Slot) (offers : List Offer) (childr
 
   module _ (params : List ParamTree) (scope : List ℤ → Scope) (y : Node) (next : IsNextNode local executed y) where
     own-wire : (c f : ℕ) (q : LocalRow) → Contains (node_needs local y) c → slice_get slots f ≡ Some (value q) → q.row ≡ c →
-        value_at cells f ≡ m.tick.value c
+        number_at cells f ≡ m.tick.value c
     own-wire c f q needs at is =
         ap cell_value (stands slots f (value q) at)
         ∙ ap (λ t. if t then m.tick.value q.row else m.tick.before q.row) (next.needs (Row q.row) listed (c, needs, giving))
@@ -162,9 +162,9 @@ module _ (local : LocalSystem) (slots : List Slot) (offers : List Offer) (childr
     inner-wire : (c f k o : ℕ) (u : ChildUse) (type : FixType) → Contains (node_needs local y) c → IsTrue (is_active local m) →
         slice_get slots f ≡ Some (instance k u) →
         slice_get u.header.outputs o ≡ Some (c, type) →
-        value_at (fields_at cells f) (slice_index (offer_at offers k).places o) ≡ m.tick.value c
+        number_at (fields_at cells f) (slice_index (offer_at offers k).places o) ≡ m.tick.value c
     inner-wire c f k o u type needs active at output =
-        ap (λ (x : Cell). value_at (cell_fields x) (slice_index (offer_at offers k).places o)) (stands slots f (instance k u) at)
+        ap (λ (x : Cell). number_at (cell_fields x) (slice_index (offer_at offers k).places o)) (stands slots f (instance k u) at)
         ∙ serves.outputs called o below ∙ ap (λ t. number_of (if t then outer_outputs else outer_before) o) was-given
         ∙ number-at (λ (x : ℕ × FixType). m.tick.value x.0) u.header.outputs o (c, type) output
       where

@@ -21,9 +21,8 @@ use Rattle.mc_profile.specs.Ports.{bit_of, has_bit}
 use Rattle.mc_profile.specs.Headers.{header_function, ports_of_header, taken, given_by_function}
 use Rattle.mc_profile.specs.Locals.{row_of, child_of, outports, entering, own_header}
 use Rattle.mc_profile.specs.LocalNodes.{used_inputs, node_gives, node_needs, call_nodes, node_list, NodeNeeds, NodeWalk, Holds}
-use Rattle.mc_profile.proofs.Members.{in-none, in-cases, in-map, of-map, in-filter, of-filter, of-filter_map, found-in, of-range, in-at, at-in, at-map, map-at, of-zip, in-enumerate}
-use Rattle.mc_profile.proofs.LawfulSteps.{differ-at}
-use Rattle.mc_profile.proofs.FunctionRows.{given}
+use Rattle.mc_profile.proofs.lemmas.Members.{in-none, in-cases, in-map, of-map, in-filter, of-filter, of-filter_map, found-in, of-range, in-at, at-in, at-map, map-at, of-zip, in-enumerate}
+use Rattle.mc_profile.proofs.lemmas.OwnRows.{differ-at, given}
 use Rattle.c_simulation.specs.SoundLocals.{IsSoundLocal}
 use Rattle.c_simulation.specs.StandingLaws.{OutportIsHeldAlone}
 

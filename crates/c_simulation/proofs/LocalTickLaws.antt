@@ -20,7 +20,8 @@ use Rattle.mc_profile.specs.SystemHeader.{SystemHeader}
 use Rattle.mc_profile.specs.Locals.{local_row, local_of}
 use Rattle.c_shape.specs.Delays.{is_line}
 use Rattle.c_simulation.specs.Rings.{Ring, IsRing, begun_ring, emptied_ring, moved_ring}
-use Rattle.c_simulation.specs.LocalTicks.{LocalTick, IsLocalTick, row_inputs, row_runs, start_value, value_of, memory_of, ring_of}
+use Rattle.c_shape.specs.RowStarts.{row_start}
+use Rattle.c_simulation.specs.LocalTicks.{LocalTick, IsLocalTick, row_inputs, row_runs, value_of, memory_of, ring_of}
 use Rattle.c_simulation.specs.RunTicks.{next_ring, ring_at, tick_at}
 use Rattle.c_simulation.specs.RunTickLaws.{AreItems, TicksAreLocal}
 use Rattle.c_simulation.proofs.Lists.{each-row, each-kept}
@@ -42,7 +43,7 @@ module _ (d : Diagram) (delays : List Bool) (n : Option ℕ) (headers : List Sys
   pub inputs-are : (b : ℕ) → own_inputs d n m.tick b ≡ row_inputs local m (row b)
   inputs-are b = sym (inport-aside m.tick.value (is_inport (row_at d.rows b).kind) (number_of m.tick.inputs (port_of (row_at d.rows b).kind - 1) ∷ []) (row_at d.rows b).inputs)
 
-  pub start-is : (b : ℕ) → IsRowOf d.rows n b → start_of d b ≡ start_value local m (row b)
+  pub start-is : (b : ℕ) → IsRowOf d.rows n b → start_of d b ≡ row_start local (row b)
   start-is b own = ap (λ o. start_by (op_at d b) (row_at d.rows b).kind (system_control d.rows o) (type_at d.types b)) own.own
 
   value-is : (b : ℕ) → IsRowOf d.rows n b → own_value d n m.tick b ≡ value_of local m (row b)
@@ -139,8 +140,8 @@ ticks_are_local r s n local xs run items t resolved within is_local is filled be
           (λ b own delay. tick.memories b own delay ∙ memory-is d delays n headers m b own));
       lengths = each-kept (λ q. length (m.tick.memory q.row) ≡ delay_length q.op) (λ q. is_delay q.op) (local_of d delays n headers).rows
           (each-row (λ q. is_delay q.op ≡ true → length (m.tick.memory q.row) ≡ delay_length q.op) (local_row d delays) d.rows n tick.lengths);
-      ring_holds = each-kept (λ q. IsRing (delay_length q.op) (start_value (local_of d delays n headers) m q) (m.ring q.row) (m.tick.memory q.row)) (λ q. is_line q.op) (local_of d delays n headers).rows
-          (each-row (λ q. is_line q.op ≡ true → IsRing (delay_length q.op) (start_value (local_of d delays n headers) m q) (m.ring q.row) (m.tick.memory q.row)) (local_row d delays) d.rows n
+      ring_holds = each-kept (λ q. IsRing (delay_length q.op) (row_start (local_of d delays n headers) q) (m.ring q.row) (m.tick.memory q.row)) (λ q. is_line q.op) (local_of d delays n headers).rows
+          (each-row (λ q. is_line q.op ≡ true → IsRing (delay_length q.op) (row_start (local_of d delays n headers) q) (m.ring q.row) (m.tick.memory q.row)) (local_row d delays) d.rows n
           (λ b own line. subst (λ start. IsRing (delay_length (op_at d b)) start (m.ring b) (m.tick.memory b)) (start-is d delays n headers m b own)
           (holds r s n xs run items resolved within is filled b t own (line-is_delay (op_at d b) line) below)));
       rings = each-kept (λ q. m.ring_after q.row ≡ ring_of (local_of d delays n headers) m q) (λ q. is_line q.op) (local_of d delays n headers).rows

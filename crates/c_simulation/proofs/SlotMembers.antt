@@ -11,8 +11,8 @@ use Rattle.mc_diagram.specs.Rows.{is_triggered, is_system}
 use Rattle.mc_profile.specs.declared.ChildUse.{ChildUse}
 use Rattle.mc_profile.specs.declared.LocalRow.{LocalRow}
 use Rattle.mc_profile.specs.LocalSystem.{LocalSystem}
-use Rattle.mc_profile.proofs.Members.{in-none, in-first, in-rest, in-cases, of-map, of-filter, of-enumerate, at-in, at-map, map-at}
-use Rattle.mc_profile.proofs.LawfulSteps.{differ-at, of-flat_map}
+use Rattle.mc_profile.proofs.lemmas.Members.{in-none, in-first, in-rest, in-cases, of-map, of-filter, of-enumerate, at-in, at-map, map-at}
+use Rattle.mc_profile.proofs.lemmas.OwnRows.{differ-at, of-flat_map}
 use Rattle.c_shape.specs.Delays.{is_single, is_line}
 use Rattle.c_shape.specs.Slots.{Slot, value, memory, ring_items, ring_place, ring_taken, trigger, counter, instance, filler, ring_slots, own_slots, or_filler, CounterField, AreSlots}
 use Rattle.c_simulation.specs.SoundLocals.{IsSoundLocal}

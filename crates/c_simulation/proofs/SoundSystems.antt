@@ -30,12 +30,9 @@ use Rattle.mc_profile.specs.Headers.{idle_function, header_function, header_func
 use Rattle.mc_profile.specs.Locals.{local_row, child_use, local_of, row_of, outports, entering}
 use Rattle.mc_profile.specs.NodeFacts.{AreHeaders, LocalsAreLawful}
 use Rattle.mc_profile.specs.Ports.{has_bit}
-use Rattle.mc_profile.proofs.Members.{in-none, in-map, of-map, found-in, in-at, at-in, at-below, below-at, at-map}
-use Rattle.mc_profile.proofs.MaskBits.{holds-has, index-at, in-different}
-use Rattle.mc_profile.proofs.FunctionRows.{beside, outs-are}
-use Rattle.mc_profile.proofs.LawfulSteps.{of-flat_map}
-use Rattle.mc_profile.proofs.OwnHeaders.{by_port_mapped}
-use Rattle.mc_profile.proofs.PortRows.{of-rows, of-ports}
+use Rattle.mc_profile.proofs.lemmas.Members.{in-none, in-map, of-map, found-in, in-at, at-in, at-below, below-at, at-map}
+use Rattle.mc_profile.proofs.lemmas.MaskBits.{holds-has, index-at, in-different}
+use Rattle.mc_profile.proofs.lemmas.OwnRows.{beside, outs-are, of-flat_map, by_port_mapped, of-rows, of-ports}
 use Rattle.c_simulation.specs.SoundLocals.{IsSoundLocal, LocalsAreSound}
 use Rattle.c_simulation.proofs.ChildTicks.{IsChildHeader, child-header}
 use Rattle.c_simulation.proofs.DelayLengths.{delays-are-some}

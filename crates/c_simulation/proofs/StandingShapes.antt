@@ -11,11 +11,12 @@ use Rattle.mc_profile.specs.declared.LocalRow.{LocalRow}
 use Rattle.mc_profile.specs.declared.Node.{Node}
 use Rattle.mc_profile.specs.declared.Node.TheVariants.{Row}
 use Rattle.mc_profile.specs.LocalSystem.{LocalSystem}
-use Rattle.mc_profile.proofs.Members.{in-none, in-first, in-rest, in-cases, in-filter}
+use Rattle.mc_profile.proofs.lemmas.Members.{in-none, in-first, in-rest, in-cases, in-filter}
 use Rattle.c_shape.specs.Delays.{is_single, is_line}
 use Rattle.c_shape.specs.Slots.{Slot, value, memory, ring_items, ring_place, ring_taken, trigger, counter, instance, filler}
 use Rattle.c_simulation.specs.Rings.{IsRing}
-use Rattle.c_simulation.specs.LocalTicks.{LocalTick, IsLocalTick, IsTypedTick, start_value}
+use Rattle.c_shape.specs.RowStarts.{row_start}
+use Rattle.c_simulation.specs.LocalTicks.{LocalTick, IsLocalTick, IsTypedTick}
 use Rattle.c_simulation.specs.Instances.{InstanceTick}
 use Rattle.c_simulation.specs.Standing.{standing_cell, standing_cells}
 use Rattle.c_simulation.specs.NodeStatements.{HasSlot, HasSlots}
@@ -56,9 +57,9 @@ module _ (local : LocalSystem) (m : LocalTick) (children : List InstanceTick) (e
     (sound : IsSoundLocal local)
     (tick : IsLocalTick local m) (typed : IsTypedTick local m) (counting : IsCounting counted) where
   ring : (r : LocalRow) → Contains local.rows r → is_line r.op ≡ true →
-      IsRing (delay_length r.op) (start_value local m r) (m.ring r.row) (m.tick.memory r.row)
+      IsRing (delay_length r.op) (row_start local r) (m.ring r.row) (m.tick.memory r.row)
   ring r own line =
-      kept (λ (r : LocalRow). IsRing (delay_length r.op) (start_value local m r) (m.ring r.row) (m.tick.memory r.row))
+      kept (λ (r : LocalRow). IsRing (delay_length r.op) (row_start local r) (m.ring r.row) (m.tick.memory r.row))
       (λ (r : LocalRow). is_line r.op) local.rows r
       tick.ring_holds own line
 

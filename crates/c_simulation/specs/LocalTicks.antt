@@ -10,7 +10,7 @@ use Rattle.mc_blocks.specs.Value.{rhs, input}
 use Rattle.mc_blocks.specs.Evaluation.{IsEvaluable}
 use Rattle.mc_diagram.specs.SampleTimes.{hit}
 use Rattle.mc_diagram.specs.Rows.{is_inport, port_of, is_triggered}
-use Rattle.mc_diagram.specs.Run.{is_delay, is_reset_outport, start_by, first_of, moved_on}
+use Rattle.mc_diagram.specs.Run.{is_delay, is_reset_outport, first_of, moved_on}
 use Rattle.mc_profile.specs.declared.ChildUse.{ChildUse}
 use Rattle.mc_profile.specs.declared.LocalRow.{LocalRow}
 use Rattle.mc_profile.specs.LocalSystem.{LocalSystem}
@@ -18,6 +18,7 @@ use Rattle.mc_profile.specs.Locals.{inports}
 use Rattle.mc_diagram.specs.SystemRuns.{SystemTick}
 use Rattle.mc_diagram.specs.ControlValues.{number_of, is_active_by, is_off_by, is_disabled_by, remembered_by}
 use Rattle.c_shape.specs.Delays.{is_line}
+use Rattle.c_shape.specs.RowStarts.{row_start}
 use Rattle.c_simulation.specs.Rings.{Ring, IsRing, emptied_ring, moved_ring}
 
 -- A tick of a system, and the rings in which its delays of several samples have their memories, before the tick and after it.
@@ -46,22 +47,18 @@ module _ (local : LocalSystem) (m : LocalTick) where
   abbrev pub row_inputs : LocalRow → List ℤ
   row_inputs r = if is_inport r.kind then number_of m.tick.inputs (port_of r.kind - 1) ∷ [] else map m.tick.value r.inputs
 
-  -- what a row is before the first tick
-  abbrev pub start_value : LocalRow → ℤ
-  start_value r = start_by r.op r.kind local.control r.out
-
   -- the value of a row in the tick
   abbrev pub value_of : LocalRow → ℤ
   value_of r =
       if not (has_value r.kind) then pos 0
-      else (if is_reset_outport r.kind && is_disabled then start_value r
+      else (if is_reset_outport r.kind && is_disabled then row_start local r
       else (if row_runs r then rhs r.op (row_inputs r) (first_of (m.tick.memory r.row))
       else m.tick.before r.row))
 
   -- the memory of a row after the tick
   abbrev pub memory_of : LocalRow → List ℤ
   memory_of r =
-      if m.tick.is_off_around || is_off then replicate (delay_length r.op) (start_value r)
+      if m.tick.is_off_around || is_off then replicate (delay_length r.op) (row_start local r)
       else (if row_runs r then moved_on (m.tick.memory r.row) (input (row_inputs r) 0)
       else m.tick.memory r.row)
 
@@ -81,7 +78,7 @@ module _ (local : LocalSystem) (m : LocalTick) where
     pub values : AllByRecursion (λ r. m.tick.value r.row ≡ value_of r) local.rows
     pub memories : AllByRecursion (λ r. m.tick.memory_after r.row ≡ memory_of r) (filter (λ r. is_delay r.op) local.rows)
     pub lengths : AllByRecursion (λ r. length (m.tick.memory r.row) ≡ delay_length r.op) (filter (λ r. is_delay r.op) local.rows)
-    pub ring_holds : AllByRecursion (λ r. IsRing (delay_length r.op) (start_value r) (m.ring r.row) (m.tick.memory r.row)) (filter (λ r. is_line r.op) local.rows)
+    pub ring_holds : AllByRecursion (λ r. IsRing (delay_length r.op) (row_start local r) (m.ring r.row) (m.tick.memory r.row)) (filter (λ r. is_line r.op) local.rows)
     pub rings : AllByRecursion (λ r. m.ring_after r.row ≡ ring_of r) (filter (λ r. is_line r.op) local.rows)
     pub trigger : IsTrue (is_triggered local.control) → m.tick.trigger_after ≡ trigger_of
     pub at_rest : IsTrue m.tick.is_off_around → IsFalse m.tick.parent

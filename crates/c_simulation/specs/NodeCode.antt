@@ -10,12 +10,12 @@ use Rattle.c_machine.specs.Values.{functions_of as pure_functions}
 use Rattle.c_machine.specs.Machine.{Routine, Scope}
 use Rattle.c_prelude.specs.Rules.{IsPrelude}
 use Rattle.c_shape.specs.Slots.{Slot, slot_field}
-use Rattle.c_shape.specs.Moves.{moved_stmts}
+use Rattle.c_shape.specs.Relocation.{moved_stmts}
 use Rattle.c_simulation.specs.LocalTicks.{LocalTick, IsLocalTick, IsTypedTick}
 use Rattle.c_simulation.specs.Instances.{InstanceTick, Offer}
 use Rattle.c_simulation.specs.Serving.{IsOfferOf}
 use Rattle.c_simulation.specs.NodeStatements.{GivesValue, GivesMemory, GivesRing, GivesTrigger, GivesCall, GivesUpdate, GivesReset}
-use Rattle.c_simulation.specs.Relation.{children_routines, behind_children, ChildrenServe, IsCycleOf}
+use Rattle.c_simulation.specs.Relation.{children_routines, behind_offers, ChildrenServe, IsCycleOf}
 
 -- the most steps of each code: tests of activity and of the sample time, a store, and two calls of pure functions
 abbrev pub value_steps : ℕ
@@ -46,7 +46,7 @@ module _ (local : LocalSystem) (slots : List Slot) (count : ℕ) (params : List 
       (children : List InstanceTick) → ChildrenServe local m cycle local.children offers children → (own : List Routine) →
       P offers children cycle m
       (λ values. record { functions = pure_functions [] pures; routines = children_routines offers ++ own; types = field_types (map slot_field slots); values = values })
-      (moved_stmts (behind_children slots offers count))
+      (moved_stmts (behind_offers slots offers count))
 
   -- the code of a row's value, of its memory, and of what the trigger remembers
   abbrev pub IsValueCode : LocalRow → StmtTrees → Type 0

@@ -18,7 +18,7 @@ use Rattle.mc_diagram.specs.ControlValues.{number_of}
 use Rattle.c_syntax.specs.declared.CType.{CType}
 use Rattle.c_syntax.specs.declared.CType.TheVariants.{I32}
 use Rattle.c_syntax.specs.Tree.{StmtTrees, ParamTree}
-use Rattle.c_machine.specs.Cells.{Cell, number, items, object, Cells, no_cells, more_cells, set_cell, value_at, items_at, fields_at}
+use Rattle.c_machine.specs.Cells.{Cell, number, items, object, Cells, no_cells, more_cells, set_cell, number_at, items_at, fields_at}
 use Rattle.c_machine.specs.Values.{is_in_type, step_limit}
 use Rattle.c_machine.specs.Machine.{LoggedCall, Scope, run_stmts, call_under}
 use Rattle.c_shape.specs.Names.{container, now_name, port_name}
@@ -109,9 +109,9 @@ module _ (local : LocalSystem) (slots : List Slot) (offers : List Offer) (childr
 
   -- the place of wire c holds the tick's value
   pub record HoldsWire (cells : Cells) (c : ℕ) : Type 0 where
-    pub own : (f : ℕ) (r : LocalRow) → slice_get slots f ≡ Some (value r) → r.row ≡ c → value_at cells f ≡ m.tick.value c
+    pub own : (f : ℕ) (r : LocalRow) → slice_get slots f ≡ Some (value r) → r.row ≡ c → number_at cells f ≡ m.tick.value c
     pub inner : (f k o : ℕ) (u : ChildUse) (type : FixType) → slice_get slots f ≡ Some (instance k u) → slice_get u.header.outputs o ≡ Some (c, type) →
-        value_at (fields_at cells f) (slice_index (offer_at offers k).places o) ≡ m.tick.value c
+        number_at (fields_at cells f) (slice_index (offer_at offers k).places o) ≡ m.tick.value c
 
   -- What stands before the code is executed: the fields have their shape, the trigger's memory is that of the tick, each
   -- argument is the tick's, and so is each of these wires, where the system is active; else none of them is read.
@@ -119,15 +119,15 @@ module _ (local : LocalSystem) (slots : List Slot) (offers : List Offer) (childr
     pub callable : IsTrue m.tick.parent
     pub shape : HasSlots slots cells
     pub arguments : AllZip IsArgument params values
-    pub remembers : (f : ℕ) → slice_get slots f ≡ Some trigger → value_at cells f ≡ trigger_number m.tick.trigger
+    pub remembers : (f : ℕ) → slice_get slots f ≡ Some trigger → number_at cells f ≡ trigger_number m.tick.trigger
     pub needed : IsTrue (is_active local m) → AllByRecursion (HoldsWire cells) wires
 
   -- the fields of row r's memory hold it: one number, or a ring
   pub record HoldsMemory (cells : Cells) (r : LocalRow) : Type 0 where
-    pub single : (g : ℕ) → slice_get slots g ≡ Some (memory r) → value_at cells g ≡ first_of (m.tick.memory r.row)
+    pub single : (g : ℕ) → slice_get slots g ≡ Some (memory r) → number_at cells g ≡ first_of (m.tick.memory r.row)
     pub array : (g : ℕ) → slice_get slots g ≡ Some (ring_items r) → items_at cells g ≡ (m.ring r.row).items
-    pub place : (g : ℕ) → slice_get slots g ≡ Some (ring_place r) → value_at cells g ≡ pos (m.ring r.row).place
-    pub taken : (g : ℕ) → slice_get slots g ≡ Some (ring_taken r) → value_at cells g ≡ pos (m.ring r.row).taken
+    pub place : (g : ℕ) → slice_get slots g ≡ Some (ring_place r) → number_at cells g ≡ pos (m.ring r.row).place
+    pub taken : (g : ℕ) → slice_get slots g ≡ Some (ring_taken r) → number_at cells g ≡ pos (m.ring r.row).taken
 
   -- executed on these fields in at most so many steps, the code leaves this
   abbrev pub Gives : StmtTrees → List ℤ → (before after : Cells) → ℕ → List LoggedCall → (List ℕ → ℕ → ℕ) → Type 0
@@ -138,7 +138,7 @@ module _ (local : LocalSystem) (slots : List Slot) (offers : List Offer) (childr
   abbrev pub GivesValue : StmtTrees → ℕ → LocalRow → Type 0
   GivesValue code most r =
       (values : List ℤ) (cells : Cells) (f : ℕ) → slice_get slots f ≡ Some (value r) → IsReady values cells (node_needs local (Row r.row)) →
-      value_at cells f ≡ m.tick.before r.row →
+      number_at cells f ≡ m.tick.before r.row →
       HoldsMemory cells r →
       Gives code values cells (set_cell cells f (number (m.tick.value r.row))) most [] (stored_once f)
 

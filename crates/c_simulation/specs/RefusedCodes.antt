@@ -6,7 +6,7 @@ use Rattle.mc_profile.specs.Headers.{given_rows}
 use Rattle.mc_profile.specs.Locals.{own_header}
 use Rattle.c_syntax.specs.declared.Leaf.TheVariants.{Param, Own}
 use Rattle.c_syntax.specs.Tree.{read, assign}
-use Rattle.c_machine.specs.Cells.{number, Cells, no_cells, more_cells, value_at}
+use Rattle.c_machine.specs.Cells.{number, Cells, no_cells, more_cells, number_at}
 use Rattle.c_shape.specs.SystemTree.{SystemTree}
 use Rattle.c_shape.specs.LocalShape.{outputs_stored}
 use Rattle.c_shape.specs.TinySamples.{zeros}
@@ -55,24 +55,24 @@ unfolding digits
 cleared = (refl, (refl, (refl, (refl, (inl refl, tt)))))
 
 -- what an act leaves in a field, in the tick in which the enable is high
-abbrev Leaves : SystemTree → (ℕ → Bool) → Act → ℕ → ℤ → Type 0
-Leaves code called act f v =
-    OnDone ((offered_for (own_offer local profile [] slots [] code (λ k. k)) act).routine.run (act_values (own_header local profile) 1 (outer_tick_of local high_tick) act) (standing high_tick called) 0) (λ a. value_at a.cells f ≡ v)
+abbrev LeavesNumber : SystemTree → (ℕ → Bool) → Act → ℕ → ℤ → Type 0
+LeavesNumber code called act f v =
+    OnDone ((offered_for (own_offer local profile [] slots [] code (λ k. k)) act).routine.run (act_values (own_header local profile) 1 (outer_tick_of local high_tick) act) (standing high_tick called) 0) (λ a. number_at a.cells f ≡ v)
 
 -- the memory takes the 9 of the tick before, where it should take the 7 of this one
-early_takes_old : Leaves early_memory (with_called none_called 1) update 3 (pos 9)
+early_takes_old : LeavesNumber early_memory (with_called none_called 1) update 3 (pos 9)
 unfolding digits
 early_takes_old = refl
 
-memory_after : value_at (after_cells local high_tick [] slots) 3 ≡ pos 7
+memory_after : number_at (after_cells local high_tick [] slots) 3 ≡ pos 7
 memory_after = refl
 
 -- behind the function the output is the 8 of the tick before, where it should be 5; and the function stores no output
-idle_gives_old : Leaves idle_function none_called (out 1) 2 (pos 8)
+idle_gives_old : LeavesNumber idle_function none_called (out 1) 2 (pos 8)
 unfolding digits
 idle_gives_old = refl
 
-output_given : value_at (standing high_tick (with_called none_called 1)) 2 ≡ pos 5
+output_given : number_at (standing high_tick (with_called none_called 1)) 2 ≡ pos 5
 output_given = refl
 
 idle_stores_none : outputs_stored local slots idle_function 1 ≡ []

@@ -1,6 +1,6 @@
 -- The relation between a system's code and the runs of its own rows: what a system's code does in each tick, provided that
 -- the children's procedures do the same by their headers.
-use Rattle.std.specs.Prelude.{◌≡◌, ℕ, ◌+◌, ◌-◌, ◌%◌, ◌^◌, ◌<◌, ◌≤◌, Bool, nat_lt, if◌then◌else◌, List, [], ◌∷◌, ◌++◌, map, flat_map, length, slice_get, slice_index, ℤ, pos, ⊤}
+use Rattle.std.specs.Prelude.{◌≡◌, ℕ, ◌+◌, ◌%◌, ◌^◌, ◌<◌, ◌≤◌, Bool, List, [], ◌∷◌, ◌++◌, map, flat_map, length, slice_get, slice_index, ℤ, pos, ⊤}
 use Rattle.std.specs.Option.{option_map_or}
 use Rattle.std.specs.List.{AllByRecursion, AllZip, range_with_len}
 use Rattle.mc_profile.specs.declared.ChildUse.{ChildUse}
@@ -12,13 +12,13 @@ use Rattle.mc_profile.specs.Locals.{own_header}
 use Rattle.c_syntax.specs.declared.CType.{CType}
 use Rattle.c_syntax.specs.Tree.{PureTree, ProcedureTree, field_types}
 use Rattle.c_machine.specs.Values.{Function, functions_of as pure_functions}
-use Rattle.c_machine.specs.Machine.{Routine, routine_at, behind, call_entry, run_stmts}
+use Rattle.c_machine.specs.Machine.{Routine, routine_at, routine_with}
 use Rattle.c_prelude.specs.Rules.{IsPrelude}
 use Rattle.c_shape.specs.Names.{out_name, update_name, start_name, reset_name}
 use Rattle.c_shape.specs.SystemTree.{SystemTree}
 use Rattle.c_shape.specs.LocalShape.{own_position}
 use Rattle.c_shape.specs.Slots.{Slot, value, memory, ring_items, ring_place, ring_taken, trigger, counter, instance, filler}
-use Rattle.c_shape.specs.Moves.{Moves, moved_procedure}
+use Rattle.c_shape.specs.Relocation.{Relocation, behind_children, moved_procedure}
 use Rattle.c_simulation.specs.LocalTicks.{LocalTick, IsLocalTick, IsTypedTick}
 use Rattle.c_simulation.specs.Instances.{Act, none_called, InstanceTick, Offered, Offer, offer_at}
 use Rattle.c_simulation.specs.Serving.{MayCome, IsOfferOf, Serves}
@@ -48,31 +48,22 @@ place_in_child offers o trigger = 0
 place_in_child offers o (counter name type) = 0
 place_in_child offers o filler = 0
 
--- the children's procedures stand before the system's own, which are so many
-abbrev pub behind_children : List Slot → List Offer → ℕ → Moves
-behind_children slots offers count = record {
-  procedure = λ k.
-      if nat_lt k count then length (children_routines offers) + k
-      else k - count;
-  output = λ f o. option_map_or (place_in_child offers o) (slice_get slots f) 0;
-  of = 0;
-}
+-- the system's own procedures, which are so many, stand behind what these offer
+abbrev pub behind_offers : List Slot → List Offer → ℕ → Relocation
+behind_offers slots offers count =
+    behind_children count (length (children_routines offers)) (λ f o. option_map_or (place_in_child offers o) (slice_get slots f) 0) 0
 
--- a procedure of a struct whose fields have these types, behind these earlier ones, with its number in the program
-abbrev pub numbered_routine : List Function → List CType → List Routine → ℕ → ProcedureTree → Routine
-numbered_routine functions types earlier number q =
-    record { params = map (λ p. p.type) q.params; run = λ values cells steps. behind (call_entry number q.name) [] (run_stmts (record { functions = functions; routines = earlier; types = types; values = values }) q.body cells steps) }
-
--- each procedure of a list with its number in the program, where the first is the k-th of its system
+-- each procedure of a list, where the first is the k-th of its system, with its number in the program; the struct's fields have
+-- these types
 abbrev pub numbered_routines : List Function → List CType → (ℕ → ℕ) → ℕ → List Routine → List ProcedureTree → List Routine
 numbered_routines functions types numbers k earlier [] = earlier
 numbered_routines functions types numbers k earlier (q ∷ qs) =
-    numbered_routines functions types numbers (k + 1) (earlier ++ numbered_routine functions types earlier (numbers k) q ∷ []) qs
+    numbered_routines functions types numbers (k + 1) (earlier ++ routine_with functions types earlier (numbers k) q ∷ []) qs
 
 -- the procedures of the children, and then the system's own
 abbrev pub system_routines : List PureTree → List Slot → List Offer → SystemTree → (ℕ → ℕ) → List Routine
 system_routines pures slots offers code numbers =
-    numbered_routines (pure_functions [] pures) (field_types code.structure.fields) numbers 0 (children_routines offers) (map (moved_procedure (behind_children slots offers (length code.procedures))) code.procedures)
+    numbered_routines (pure_functions [] pures) (field_types code.structure.fields) numbers 0 (children_routines offers) (map (moved_procedure (behind_offers slots offers (length code.procedures))) code.procedures)
 
 -- what the system offers by the names of its procedures
 abbrev pub own_offer : LocalSystem → SystemProfile → List PureTree → List Slot → List Offer → SystemTree → (ℕ → ℕ) → Offer

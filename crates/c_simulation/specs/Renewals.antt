@@ -1,10 +1,9 @@
 -- The start and the reset of an instance, from any fields of its struct's form: what each makes of them.
-use Rattle.std.specs.Prelude.{◌≡◌, ◌⊎◌, ℕ, ◌+◌, ◌≤◌, List, [], ◌∷◌, map, sum_by, slice_index_or, ℤ, pos, ⊤}
-use Rattle.mc_diagram.specs.Run.{start_by}
+use Rattle.std.specs.Prelude.{◌≡◌, ◌⊎◌, ℕ, ◌+◌, ◌≤◌, List, [], ◌∷◌, map, sum_by, slice_index_or, pos, ⊤}
 use Rattle.mc_profile.specs.LocalSystem.{LocalSystem}
-use Rattle.mc_profile.specs.declared.LocalRow.{LocalRow}
 use Rattle.c_machine.specs.Cells.{Cell, number, object, Cells, no_cells, more_cells, cell_fields}
 use Rattle.c_machine.specs.Values.{step_limit}
+use Rattle.c_shape.specs.RowStarts.{row_start}
 use Rattle.c_shape.specs.Slots.{Slot, value, memory, ring_items, ring_place, ring_taken, trigger, counter, instance, filler}
 use Rattle.c_simulation.specs.Forms.{Forms, no_forms, HasForms, slot_forms}
 use Rattle.c_simulation.specs.Instances.{Offered, OnDone}
@@ -32,15 +31,11 @@ pub record Renews (q : Offered) (n : Renewal) : Type 0 where
 -- ---- What becomes of each field, where these are the starts, or the resets, of the children
 
 module _ (local : LocalSystem) (children : List Renewal) where
-  -- what a row is before the first tick
-  abbrev pub row_start : LocalRow → ℤ
-  row_start r = start_by r.op r.kind local.control r.out
-
   -- The start: values and memories become those before the first tick, a ring counts as empty, whatever stays in its array,
   -- the trigger is not yet, no function counts as called, and each child is started.
   abbrev pub IsStarted : Slot → (before after : Cell) → Type 0
-  IsStarted (value r) before after = after ≡ number (row_start r)
-  IsStarted (memory r) before after = after ≡ number (row_start r)
+  IsStarted (value r) before after = after ≡ number (row_start local r)
+  IsStarted (memory r) before after = after ≡ number (row_start local r)
   IsStarted (ring_items r) before after = after ≡ before
   IsStarted (ring_place r) before after = after ≡ number (pos 0)
   IsStarted (ring_taken r) before after = after ≡ number (pos 0)
@@ -53,7 +48,7 @@ module _ (local : LocalSystem) (children : List Renewal) where
   -- reset, and no value changes. A counter may become 0.
   abbrev pub IsReset : Slot → (before after : Cell) → Type 0
   IsReset (value r) before after = after ≡ before
-  IsReset (memory r) before after = after ≡ number (row_start r)
+  IsReset (memory r) before after = after ≡ number (row_start local r)
   IsReset (ring_items r) before after = after ≡ before
   IsReset (ring_place r) before after = after ≡ number (pos 0)
   IsReset (ring_taken r) before after = after ≡ number (pos 0)

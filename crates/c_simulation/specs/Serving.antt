@@ -6,7 +6,7 @@ use Rattle.mc_profile.specs.SystemHeader.{SystemHeader}
 use Rattle.mc_profile.specs.Ports.{has_bit}
 use Rattle.mc_profile.specs.Headers.{header_functions, header_function, taken}
 use Rattle.mc_diagram.specs.ControlValues.{number_of}
-use Rattle.c_machine.specs.Cells.{value_at}
+use Rattle.c_machine.specs.Cells.{number_at}
 use Rattle.c_shape.specs.Heads.{Head, out_heads, update_head, start_head, reset_head}
 use Rattle.c_simulation.specs.Instances.{Act, out, update, reset, none_called, OuterTick, InstanceTick, fields_after, Offered, Offer, offered_for, calls_at, Performs}
 
@@ -51,8 +51,8 @@ pub record IsOfferOf (h : SystemHeader) (o : Offer) : Type 0 where
 -- says; and without an act nothing changes.
 pub record Serves (h : SystemHeader) (o : Offer) (cycle : ℕ) (outer : OuterTick) (i : InstanceTick) : Type 0 where
   pub outputs : (called : ℕ → Bool) (k : ℕ) → k < length h.outputs →
-      value_at (i.standing called) (slice_index o.places k) ≡ number_of (if is_given h called k then outer.outputs else outer.before) k
-  pub stay : (k : ℕ) → k < length h.outputs → value_at i.after (slice_index o.places k) ≡ number_of outer.outputs k
+      number_at (i.standing called) (slice_index o.places k) ≡ number_of (if is_given h called k then outer.outputs else outer.before) k
+  pub stay : (k : ℕ) → k < length h.outputs → number_at i.after (slice_index o.places k) ≡ number_of outer.outputs k
   pub acts : (called : ℕ → Bool) (act : Act) → MayCome h outer called act →
       Performs (offered_for o act).routine (act_values h cycle outer act) (i.standing called) (fields_after i called act) (i.most called act) (i.log called act) (i.stored called act)
   pub logged : (called : ℕ → Bool) (act : Act) → MayCome h outer called act → calls_at [] (i.log called act) ≡ own_entry o act

@@ -6,7 +6,7 @@ use Rattle.mc_cluster.specs.Clusters.{AreClusters}
 use Rattle.mc_cluster.specs.Grouping.{AreGroups}
 use Rattle.mc_cluster.specs.NodeGroups.{NodeGroups}
 use Rattle.mc_guards.specs.declared.TrigMem.TheVariants.{NotYet}
-use Rattle.mc_diagram.specs.Run.{start_by, first_of}
+use Rattle.mc_diagram.specs.Run.{first_of}
 use Rattle.mc_profile.specs.declared.LocalRow.{LocalRow}
 use Rattle.mc_profile.specs.declared.Node.{Node}
 use Rattle.mc_profile.specs.declared.Node.TheVariants.{Row}
@@ -18,6 +18,7 @@ use Rattle.mc_profile.specs.Headers.{header_functions, header_function}
 use Rattle.mc_profile.specs.Locals.{outports, own_header}
 use Rattle.mc_profile.specs.LocalNodes.{node_list, NodeNeeds}
 use Rattle.c_machine.specs.Cells.{Cell, number, items, Cells, no_cells, more_cells, cell_fields}
+use Rattle.c_shape.specs.RowStarts.{row_start}
 use Rattle.c_shape.specs.Slots.{Slot, value, memory, ring_items, ring_place, ring_taken, trigger, counter, instance, filler}
 use Rattle.c_simulation.specs.LocalTicks.{LocalTick}
 use Rattle.c_simulation.specs.Instances.{InstanceTick, instance_at, none_called}
@@ -40,8 +41,8 @@ NextStands = (local : LocalSystem) (slots : List Slot) (m next : LocalTick) (chi
 
 -- the tick begins with what a start makes of these fields
 abbrev pub BeginsFrom : LocalSystem → LocalTick → List Renewal → List InstanceTick → Slot → Cell → Type 0
-BeginsFrom local m renewals children (value r) before = m.tick.before r.row ≡ start_by r.op r.kind local.control r.out
-BeginsFrom local m renewals children (memory r) before = first_of (m.tick.memory r.row) ≡ start_by r.op r.kind local.control r.out
+BeginsFrom local m renewals children (value r) before = m.tick.before r.row ≡ row_start local r
+BeginsFrom local m renewals children (memory r) before = first_of (m.tick.memory r.row) ≡ row_start local r
 BeginsFrom local m renewals children (ring_items r) before = before ≡ items (m.ring r.row).items
 BeginsFrom local m renewals children (ring_place r) before = (m.ring r.row).place ≡ 0
 BeginsFrom local m renewals children (ring_taken r) before = (m.ring r.row).taken ≡ 0

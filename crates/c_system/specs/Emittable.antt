@@ -7,18 +7,18 @@ use Rattle.mc_profile.specs.LawfulLocals.{IsChild}
 use Rattle.mc_profile.specs.Locals.{inports}
 use Rattle.mc_schedule.specs.SystemSchedule.{SystemSchedule}
 use Rattle.c_blocks.specs.Resolved.{IsRowOp}
+use Rattle.c_shape.specs.RowStarts.{row_start}
 use Rattle.c_system.specs.Fields.{child_field, shared_groups}
 use Rattle.c_system.specs.Groups.{own_count}
 use Rattle.c_system.specs.Places.{child_base}
-use Rattle.c_system.specs.NodeCode.{row_start}
 
 -- a row's operation is one that C can compute, and C can write its start
-pub record IsReady (local : LocalSystem) (r : LocalRow) : Type 0 where
+pub record IsWritableRow (local : LocalSystem) (r : LocalRow) : Type 0 where
   pub op : IsRowOp r.op
   pub start : unsigned_abs (row_start local r) < 2 ^ 63
 
 pub record IsEmittable (local : LocalSystem) (schedule : SystemSchedule) : Type 0 where
-  pub rows : All (IsReady local) local.rows
+  pub rows : All (IsWritableRow local) local.rows
   pub children : All IsChild local.children
   pub inputs : length (inports local) ≤ 32
   pub groups : length schedule.groups < 2 ^ 32

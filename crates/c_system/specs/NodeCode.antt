@@ -1,9 +1,9 @@
 -- The code of a row, a memory, a trigger and a child, in a procedure of a system.
-use Rattle.std.specs.Prelude.{ℕ, ◌+◌, ◌-◌, if◌then◌else◌, List, [], ◌∷◌, map, length, slice_get, get_or, Option, ℤ}
+use Rattle.std.specs.Prelude.{ℕ, ◌+◌, ◌-◌, if◌then◌else◌, List, [], ◌∷◌, map, length, slice_get, get_or, Option}
 use Rattle.std.specs.Option.{option_map_or}
 use Rattle.mc_blocks.specs.Meaning.{has_value, delay_length}
 use Rattle.mc_diagram.specs.Rows.{is_inport, port_of}
-use Rattle.mc_diagram.specs.Run.{is_reset_outport, start_by}
+use Rattle.mc_diagram.specs.Run.{is_reset_outport}
 use Rattle.mc_profile.specs.declared.local.ChildUse.{ChildUse}
 use Rattle.mc_profile.specs.declared.local.LocalRow.{LocalRow}
 use Rattle.mc_profile.specs.LocalSystem.{LocalSystem}
@@ -20,6 +20,7 @@ use Rattle.c_blocks.specs.TestCode as test
 use Rattle.c_blocks.specs.StatementCode.{value_statements, value_reset_statements, memory_statements, ring_statements, trigger_statements, call_statements, reset_call_statements}
 use Rattle.c_shape.specs.Names.{input_name, control_name, trigger_param}
 use Rattle.c_shape.specs.Delays.{is_line}
+use Rattle.c_shape.specs.RowStarts.{row_start}
 use Rattle.c_system.specs.declared.node.Place.{Place}
 use Rattle.c_system.specs.declared.node.Place.TheVariants.{Row, Call}
 use Rattle.c_system.specs.Fields.{value_field, memory_field, ring_field, trigger_field, child_field}
@@ -29,10 +30,6 @@ use Rattle.c_system.specs.Sources.{wire_leaf, wire_types}
 -- the three fields of a ring
 abbrev pub ring_fields : LocalSystem → ℕ → RingFields
 ring_fields local b = let f = ring_field local b in record { items = f; place = f + 1; taken = f + 2 }
-
--- what a row is before the first tick
-abbrev pub row_start : LocalSystem → LocalRow → ℤ
-row_start local r = start_by r.op r.kind local.control r.out
 
 -- what a delay remembers from its oldest sample; of no meaning at another row
 abbrev pub memory_read : LocalSystem → LocalRow → ExprTree

@@ -10,9 +10,10 @@ use Rattle.mc_schedule.specs.SystemSchedule.{SystemSchedule}
 use Rattle.c_syntax.specs.declared.code.Target.TheVariants.{Child}
 use Rattle.c_syntax.specs.Tree.{StmtTree, assign, call, no_exprs}
 use Rattle.c_blocks.specs.RowCode.{written, nought}
+use Rattle.c_shape.specs.RowStarts.{row_start}
 use Rattle.c_system.specs.Fields.{value_rows, single_rows, line_rows, value_field, memory_field, trigger_field, child_field, shared_groups}
 use Rattle.c_system.specs.Places.{child_base}
-use Rattle.c_system.specs.NodeCode.{row_start, ring_fields}
+use Rattle.c_system.specs.NodeCode.{ring_fields}
 
 abbrev pub zero_store : ℕ → StmtTree
 zero_store f = assign 0 f nought

@@ -14,7 +14,7 @@ use Rattle.c_syntax.specs.Plain.{program_tree}
 use Rattle.c_syntax.specs.Tree.{ProgramTree}
 use Rattle.c_machine.specs.Cells.{Cells}
 use Rattle.c_machine.specs.Machine.{After, Outcome, done, stuck}
-use Rattle.c_machine.specs.Rows.{TickRow, Rows, rows_from, rows_after, with_tick, tick_row, step_run, calls_of}
+use Rattle.c_machine.specs.Rows.{TickRow, Rows, rows_from, rows_after, with_tick, tick_row, step_run, interface_calls}
 use Rattle.c_checked.specs.Checked.{CheckedProgram}
 use Rattle.c_meaning.specs.States.{tree_of, fields_of}
 use Rattle.mc_runner.specs.declared.outcome.Totals.{Totals}
@@ -124,13 +124,13 @@ same_totals t u ticks steps calls = λ i. record { ticks = ticks i; steps = step
 pub added-none : (t : Totals) → t ≡ added t (totals_of [])
 added-none t = same_totals t (added t (totals_of [])) (omega arith) (omega arith) (omega arith)
 
-added-one : (t : Totals) (tick : TickRow) (cost : Cost) → cost.steps ≡ tick.steps → cost.calls ≡ calls_of tick → counted t cost ≡ added t (totals_of (tick ∷ []))
+added-one : (t : Totals) (tick : TickRow) (cost : Cost) → cost.steps ≡ tick.steps → cost.calls ≡ interface_calls tick → counted t cost ≡ added t (totals_of (tick ∷ []))
 added-one t tick cost steps calls = same_totals (counted t cost) (added t (totals_of (tick ∷ []))) refl (omega (arith, steps)) (omega (arith, calls))
 
 added-twice : (t : Totals) (ticks more : List TickRow) → added (added t (totals_of ticks)) (totals_of more) ≡ added t (totals_of (ticks ++ more))
 added-twice t ticks more =
     same_totals (added (added t (totals_of ticks)) (totals_of more)) (added t (totals_of (ticks ++ more)))
-    (omega (arith, length-append ticks more)) (omega (arith, sum_by-append (λ (x : TickRow). x.steps) ticks more)) (omega (arith, sum_by-append calls_of ticks more))
+    (omega (arith, length-append ticks more)) (omega (arith, sum_by-append (λ (x : TickRow). x.steps) ticks more)) (omega (arith, sum_by-append interface_calls ticks more))
 
 text-append : (ticks more : List TickRow) → ticks_text (ticks ++ more) ≡ ticks_text ticks ++ ticks_text more
 text-append ticks more = flat_map-append (λ (t : TickRow). outputs_line t.outputs) ticks more

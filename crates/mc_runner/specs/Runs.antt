@@ -5,7 +5,7 @@ use Rattle.std.specs.Io.KnownBytes.{append_known, prepend_known}
 use Rattle.mc_edge.specs.Files.{PutsFront}
 use Rattle.mc_fixed.specs.declared.types.FixType.{FixType}
 use Rattle.c_syntax.specs.declared.fault.Stuck.{Stuck}
-use Rattle.c_machine.specs.Rows.{TickRow, Rows, rows_from, calls_of}
+use Rattle.c_machine.specs.Rows.{TickRow, Rows, rows_from, interface_calls}
 use Rattle.c_meaning.specs.States.{tree_of, fields_of}
 use Rattle.mc_trace.specs.declared.rows.BadLine.{BadLine}
 use Rattle.mc_trace.specs.Rows.{Trace, rows_of, whole_rows_of}
@@ -21,7 +21,7 @@ no_totals = record { ticks = 0; steps = 0; calls = 0 }
 
 -- what these ticks took together
 abbrev pub totals_of : List TickRow → Totals
-totals_of ticks = record { ticks = length ticks; steps = sum_by (λ tick. tick.steps) ticks; calls = sum_by calls_of ticks }
+totals_of ticks = record { ticks = length ticks; steps = sum_by (λ tick. tick.steps) ticks; calls = sum_by interface_calls ticks }
 
 -- totals, and what these took behind them
 abbrev pub added : Totals → Totals → Totals

@@ -1,16 +1,27 @@
 -- A system's code at other positions: those of procedures, and those of the outputs of children.
-use Rattle.std.specs.Prelude.{ℕ}
+use Rattle.std.specs.Prelude.{ℕ, ◌+◌, ◌-◌, nat_lt, if◌then◌else◌}
 use Rattle.c_syntax.specs.declared.Leaf.{Leaf}
 use Rattle.c_syntax.specs.declared.Leaf.TheVariants.{Param, Own, Child}
 use Rattle.c_syntax.specs.Tree.{ExprTree, literal, neg, read, binary, pick, pure, item, ExprTrees, no_exprs, more_exprs, CondTree, compare, both, either, negated, StmtTree, assign, assign_at, branch, call, StmtTrees, no_stmts, more_stmts, ProcedureTree}
 
--- where procedures go, where the outputs of the child at a field go, and the struct of the procedures
-pub record Moves : Type 0 where
-  pub procedure : ℕ → ℕ
+-- Where code goes: its own procedures, which are so many, stand from `first` on; the k-th that its children offer goes to
+-- `offered k`, and the outputs of the child at a field to others; and its struct goes to `of`.
+pub record Relocation : Type 0 where
+  pub own : ℕ
+  pub first : ℕ
+  pub offered : ℕ → ℕ
   pub output : (field output : ℕ) → ℕ
   pub of : ℕ
 
-module _ (m : Moves) where
+-- own procedures, which are so many, behind all that the children offer, which are so many and stand in their order
+abbrev pub behind_children : (own children : ℕ) (output : ℕ → ℕ → ℕ) (of : ℕ) → Relocation
+behind_children own children output of = record { own = own; first = children; offered = λ k. k; output = output; of = of }
+
+module _ (m : Relocation) where
+  -- where a procedure goes that the code names by this number
+  abbrev pub moved_number : ℕ → ℕ
+  moved_number k = if nat_lt k m.own then m.first + k else m.offered (k - m.own)
+
   abbrev pub moved_leaf : Leaf → Leaf
   moved_leaf (Param k) = Param k
   moved_leaf (Own f) = Own f
@@ -43,7 +54,7 @@ module _ (m : Moves) where
     moved_stmt (assign line f e) = assign line f (moved_expr e)
     moved_stmt (assign_at line f index e) = assign_at line f (moved_expr index) (moved_expr e)
     moved_stmt (branch line test on_true on_false) = branch line (moved_cond test) (moved_stmts on_true) (moved_stmts on_false)
-    moved_stmt (call line k target es) = call line (m.procedure k) target (moved_exprs es)
+    moved_stmt (call line k target es) = call line (moved_number k) target (moved_exprs es)
 
     pub moved_stmts : StmtTrees → StmtTrees
     moved_stmts no_stmts = no_stmts
