@@ -1,43 +1,50 @@
+mod blocks;
+mod controls;
 mod depths;
-mod refusals;
+mod lines;
+mod names;
+mod order;
+mod periods;
 mod rows;
 mod steps;
+mod systems;
 
-use crate::{model_of, push_lines, with_subsystem};
 use mc_base::refusal_text;
 use mc_diagram::{BuildFault, Tree};
 use mdl_reader::read_mdl;
 use mdl_table::build;
-use std::alloc::{AllocError, Global};
+use mdl_texts::model_of;
+use std::alloc::Global;
 use std::test::Fail;
 
-/// A text whose lines are written with ` / ` between them.
-fn lines(alloc: Global, written: &str) -> Result<String, AllocError> {
-    let mut text = String::new(alloc);
-    push_lines(&mut text, written)?;
-    Ok(text)
-}
-
-/// What building a file answers: `accepted`, or the text of its refusal.
+/// What building a file answers: `accepted`, or the text of its refusal without its end.
 fn answer_of_file(alloc: Global, text: &str) -> Result<Vec<u8>, Fail> {
     let file = read_mdl(alloc, text.as_bytes())?;
     match build(alloc, &file) {
-        Ok(_) => Ok(b"accepted\n".to_vec(alloc)?),
-        Err(BuildFault::Refused(refusal)) => Ok(refusal_text(alloc, &refusal)?),
+        Ok(_) => Ok(b"accepted".to_vec(alloc)?),
+        Err(BuildFault::Refused(refusal)) => {
+            let mut text = refusal_text(alloc, &refusal)?;
+            text.pop();
+            Ok(text)
+        }
         Err(BuildFault::Memory) => Err(Fail::from("memory")),
     }
 }
 
-/// The same of a model with a subsystem `s` of these parts, behind some parts of the root and before others.
-fn answer(alloc: Global, before: &str, inside: &str, behind: &str) -> Result<Vec<u8>, Fail> {
-    let items = with_subsystem(alloc, before, inside, behind)?;
-    answer_of_file(alloc, &model_of(alloc, &items)?)
+/// What building a model of these parts answers.
+fn in_root(alloc: Global, parts: &str) -> Result<Vec<u8>, Fail> {
+    answer_of_file(alloc, &model_of(alloc, parts)?)
 }
 
-/// The tree of a model that is accepted, with a subsystem `s` of these parts.
-fn tree_of(alloc: Global, before: &str, inside: &str, behind: &str) -> Result<Tree, Fail> {
-    let items = with_subsystem(alloc, before, inside, behind)?;
-    let text = model_of(alloc, &items)?;
+/// The same with the parts in a subsystem, which begins four lines before them.
+fn in_subsystem(alloc: Global, parts: &str) -> Result<Vec<u8>, Fail> {
+    let subsystem = format!(in alloc; "SubSystem inner {{; {parts}; }}")?;
+    in_root(alloc, &subsystem)
+}
+
+/// The tree of a model of these parts, which is accepted.
+fn tree_of(alloc: Global, parts: &str) -> Result<Tree, Fail> {
+    let text = model_of(alloc, parts)?;
     let file = read_mdl(alloc, text.as_bytes())?;
     match build(alloc, &file) {
         Ok(tree) => Ok(tree),

@@ -2,9 +2,9 @@ mod faults;
 mod order;
 mod sources;
 
-use crate::texts::system_of;
 use mc_base::refusal_text;
 use mdl_reader::read_mdl;
+use mdl_texts::system_of;
 use mdl_wiring::{Member, Shape, Wiring, WiringFault, wire};
 use std::alloc::Global;
 use std::test::Fail;

@@ -1,8 +1,8 @@
 use super::answer;
-use crate::model_of;
 use mdl_params::Defaults;
 use mdl_reader::read_mdl;
 use mdl_systems::{find_model, read_model};
+use mdl_texts::model_of;
 use std::test::Fail;
 
 /// A subsystem with an Inport, behind it a Ground.

@@ -1,4 +1,5 @@
 use super::answer;
+use mdl_texts::model_of;
 use std::test::Fail;
 
 // A file without a model, one whose model has no System, libraries, and a second model: in this order.
@@ -13,6 +14,19 @@ fn models_of_files(rt: HostRuntime) -> Result<(), Fail> {
             "\nModel {\n}\nLibrary {\n}\n",
             "refused F3 NoModel line 2\n",
         ),
+        (
+            "Model {\n}\nModel {\nSystem {\n}\n}\n",
+            "refused F3 NoModel line 1\n",
+        ),
+        // What stands in another section is no model and no library.
+        (
+            "Data {\nModel {\nSystem {\n}\n}\n}\n",
+            "refused F3 NoModel line 0\n",
+        ),
+        (
+            "Model {\nSystem {\n}\nModel {\n}\nLibrary {\n}\n}\n",
+            "read\n",
+        ),
         ("\nLibrary {\n}\n", "refused F4 TwoModels line 2 Library\n"),
         (
             "Model {\nSystem {\n}\n}\nModel {\n}\nLibrary {\n}\nLibrary {\n}\n",
@@ -26,5 +40,22 @@ fn models_of_files(rt: HostRuntime) -> Result<(), Fail> {
         let told = answer(rt.alloc(), text)?;
         assert_eq!(rt; told.as_slice(), expected.as_bytes());
     }
+    Ok(())
+}
+
+// A library comes before subsystems that are too deep: behind 33 of them it opens at line 203.
+#[test]
+fn libraries_come_before_depths(rt: HostRuntime) -> Result<(), Fail> {
+    let alloc = rt.alloc();
+    let opened = "SubSystem s {; ".repeat(alloc, 33)?;
+    let closed = "}; ".repeat(alloc, 33)?;
+    let parts = format!(in alloc; "{opened}{closed}")?;
+    let model = model_of(alloc, &parts)?;
+    let file = format!(in alloc; "{model}Library {{\n}}\n")?;
+    let told = answer(alloc, &file)?;
+    assert_eq!(rt;
+        told.as_slice(),
+        b"refused F4 TwoModels line 203 Library\n".as_slice()
+    );
     Ok(())
 }

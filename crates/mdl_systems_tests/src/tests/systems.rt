@@ -1,7 +1,7 @@
-use crate::model_of;
 use mdl_params::Defaults;
 use mdl_reader::read_mdl;
 use mdl_systems::{find_model, read_model};
+use mdl_texts::model_of;
 use std::test::Fail;
 
 /// A Ground, a subsystem of an Inport and a subsystem of a Ground, and behind it an empty subsystem.

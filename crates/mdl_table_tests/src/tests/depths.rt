@@ -1,18 +1,14 @@
 use super::answer_of_file;
-use crate::model_of;
+use mdl_texts::model_of;
 use std::alloc::{AllocError, Global};
 use std::test::Fail;
 
-/// So many subsystems, each inside the one before and four lines below it.
-fn nested(alloc: Global, count: u32) -> Result<String, AllocError> {
-    let mut items = String::new(alloc);
-    for _ in 0..count {
-        items.push_str("Block {\nBlockType SubSystem\nName s\nSystem {\n")?;
-    }
-    for _ in 0..count {
-        items.push_str("}\n}\n")?;
-    }
-    Ok(items)
+/// A model of so many subsystems, each inside the one before and four lines below it.
+fn nested(alloc: Global, count: usize) -> Result<String, AllocError> {
+    let opened = "SubSystem s {; ".repeat(alloc, count)?;
+    let closed = "}; ".repeat(alloc, count)?;
+    let parts = format!(in alloc; "{opened}{closed}")?;
+    model_of(alloc, &parts)
 }
 
 // The deepest that may be, one that may not, and the first of two such.
@@ -20,11 +16,11 @@ fn nested(alloc: Global, count: u32) -> Result<String, AllocError> {
 fn deep_subsystems(rt: HostRuntime) -> Result<(), Fail> {
     let alloc = rt.alloc();
     for (depth, expected) in [
-        (32, "accepted\n"),
-        (33, "refused F5 TooDeep line 131\n"),
-        (34, "refused F5 TooDeep line 131\n"),
+        (32, "accepted"),
+        (33, "refused F5 TooDeep line 131"),
+        (34, "refused F5 TooDeep line 131"),
     ] {
-        let told = answer_of_file(alloc, &model_of(alloc, &nested(alloc, depth)?)?)?;
+        let told = answer_of_file(alloc, &nested(alloc, depth)?)?;
         assert_eq!(rt; told.as_slice(), expected.as_bytes());
     }
     Ok(())

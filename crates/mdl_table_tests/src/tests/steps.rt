@@ -1,13 +1,14 @@
-use super::lines;
 use mc_base::Frac;
 use mdl_reader::read_mdl;
 use mdl_table::fixed_step;
+use mdl_texts::push_lines;
 use std::alloc::Global;
 use std::test::Fail;
 
-/// The step that a file writes.
+/// The step that a file writes, whose lines are parted by ` / `.
 fn step_in(alloc: Global, file: &str) -> Result<Option<Frac>, Fail> {
-    let text = lines(alloc, file)?;
+    let mut text = String::new(alloc);
+    push_lines(&mut text, file)?;
     Ok(fixed_step(&read_mdl(alloc, text.as_bytes())?))
 }
 

@@ -134,7 +134,7 @@ fn control_ports(rt: HostRuntime) -> Result<(), Fail> {
             "refused F14 TwoControls line 20\n",
         ),
     ] {
-        let told = answer(rt.alloc(), &members, "# no lines", is_root)?;
+        let told = answer(rt.alloc(), &members, "", is_root)?;
         assert_eq!(rt; told.as_slice(), expected.as_bytes());
     }
     Ok(())

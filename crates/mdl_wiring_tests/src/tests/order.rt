@@ -1,6 +1,6 @@
-use crate::texts::system_of;
 use mc_base::{Refusal, refusal_text};
 use mdl_reader::read_mdl;
+use mdl_texts::system_of;
 use mdl_wiring::{first_refusal, newer_line};
 use std::test::Fail;
 

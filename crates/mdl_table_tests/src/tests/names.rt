@@ -1,0 +1,75 @@
+use super::{in_root, in_subsystem};
+use std::test::Fail;
+
+// A name or a port that stands twice, told at the later of the first two such.
+#[test]
+fn names_and_ports_that_stand_twice(rt: HostRuntime) -> Result<(), Fail> {
+    for (parts, root, inside) in [
+        (
+            "Ground a; SubSystem b {; Ground a; Ground b; }",
+            "accepted",
+            "accepted",
+        ),
+        (
+            "Terminator a; Ground a",
+            "refused F9 DoubleName line 7",
+            "refused F9 DoubleName line 11",
+        ),
+        (
+            "Ground a; Ground b; Ground b; Ground a",
+            "refused F9 DoubleName line 11",
+            "refused F9 DoubleName line 15",
+        ),
+        (
+            "SubSystem a {; Ground b; Ground b; }; Ground a",
+            "refused F9 DoubleName line 11",
+            "refused F9 DoubleName line 15",
+        ),
+        (
+            "Inport a; Outport b; Outport c; Inport d Port=1",
+            "refused F9 DoubleName line 11",
+            "refused F9 DoubleName line 15",
+        ),
+    ] {
+        let told = in_root(rt.alloc(), parts)?;
+        assert_eq!(rt; told.as_slice(), root.as_bytes(), "{parts}");
+        let told = in_subsystem(rt.alloc(), parts)?;
+        assert_eq!(rt; told.as_slice(), inside.as_bytes(), "{parts}");
+    }
+    Ok(())
+}
+
+// Blocks that lines name and the System hasn't, also where no end is written; told at the line or the branch.
+#[test]
+fn blocks_that_lines_miss(rt: HostRuntime) -> Result<(), Fail> {
+    for (lines, root, inside) in [
+        ("a 1 > b 1", "accepted", "accepted"),
+        (
+            "z 1 > b 1",
+            "refused F10 NoBlock line 11",
+            "refused F10 NoBlock line 15",
+        ),
+        (
+            "a 1 > b 1; Line { / SrcBlock z / SrcPort 1 / }",
+            "refused F10 NoBlock line 17",
+            "refused F10 NoBlock line 21",
+        ),
+        (
+            "Line { / SrcBlock a / SrcPort 1 / Branch { / DstBlock z / DstPort 1 / } / }; z 1 > b 1",
+            "refused F10 NoBlock line 14",
+            "refused F10 NoBlock line 18",
+        ),
+        (
+            "SubSystem s {; Ground c; }; c 1 > b 1",
+            "refused F10 NoBlock line 21",
+            "refused F10 NoBlock line 25",
+        ),
+    ] {
+        let parts = format!(in rt.alloc(); "Ground a; Terminator b; {lines}")?;
+        let told = in_root(rt.alloc(), &parts)?;
+        assert_eq!(rt; told.as_slice(), root.as_bytes(), "{lines}");
+        let told = in_subsystem(rt.alloc(), &parts)?;
+        assert_eq!(rt; told.as_slice(), inside.as_bytes(), "{lines}");
+    }
+    Ok(())
+}
