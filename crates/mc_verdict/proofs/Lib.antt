@@ -1,0 +1,7 @@
+pub mod lemmas
+pub mod OneFileVerdict
+pub mod OneResolution
+pub mod OneVerdict
+pub mod FaultLaws
+pub mod LoopRows
+pub mod DelaySums

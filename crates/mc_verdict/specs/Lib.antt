@@ -1,0 +1,4 @@
+pub mod Files
+pub mod Verdict
+pub mod Faults
+pub mod DelaySums
