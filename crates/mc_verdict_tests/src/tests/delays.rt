@@ -1,0 +1,97 @@
+use super::{in_root, in_subsystem};
+use std::alloc::{AllocError, Global};
+use std::test::Fail;
+
+/// A source at line 3, from line 8 on so many delays of it of 65,535 samples, and one of other length: eleven lines each.
+fn delays(alloc: Global, count: u32, last: u32) -> Result<String, AllocError> {
+    let mut parts = String::new(alloc);
+    parts.push_str("Constant c OutDataTypeStr=int8; ")?;
+    for at in 0..count {
+        let delay = format!(in alloc; "Delay d{at} DelayLength=65535; c 1 > d{at} 1; ")?;
+        parts.push_str(&delay)?;
+    }
+    let delay = format!(in alloc; "Delay e DelayLength={last}; c 1 > e 1")?;
+    parts.push_str(&delay)?;
+    Ok(parts)
+}
+
+// A million samples are the most that may be; the first delay with which there are more is told.
+#[test]
+fn long_delays(rt: HostRuntime) -> Result<(), Fail> {
+    for (count, last, root, inside) in [
+        (15, 16_975, "accepted", "accepted"),
+        (
+            15,
+            16_976,
+            "refused F24 LongDelays line 173 total 1000001",
+            "refused F24 LongDelays line 177 total 1000001",
+        ),
+        (
+            16,
+            1,
+            "refused F24 LongDelays line 173 total 1048560",
+            "refused F24 LongDelays line 177 total 1048560",
+        ),
+    ] {
+        let parts = delays(rt.alloc(), count, last)?;
+        let told = in_root(rt.alloc(), &parts)?;
+        assert_eq!(rt; told.as_slice(), root.as_bytes(), "{count} {last}");
+        let told = in_subsystem(rt.alloc(), &parts)?;
+        assert_eq!(rt; told.as_slice(), inside.as_bytes(), "{count} {last}");
+    }
+    Ok(())
+}
+
+// Those of all systems count together: nine in the root, and from line 116 on those of a subsystem.
+#[test]
+fn delays_of_two_systems(rt: HostRuntime) -> Result<(), Fail> {
+    let around = delays(rt.alloc(), 8, 1)?;
+    for (count, last, expected) in [
+        (7, 16_974, "accepted"),
+        (7, 16_975, "refused F24 LongDelays line 193 total 1000001"),
+        (8, 1, "refused F24 LongDelays line 193 total 1048561"),
+    ] {
+        let within = delays(rt.alloc(), count, last)?;
+        let parts = format!(in rt.alloc(); "{around}; SubSystem s {{; {within}; }}")?;
+        let told = in_root(rt.alloc(), &parts)?;
+        assert_eq!(rt; told.as_slice(), expected.as_bytes(), "{count} {last}");
+    }
+    Ok(())
+}
+
+// Sixteen delays, each of the one before; they take five lines each, from line 8 on.
+#[test]
+fn a_chain_of_delays(rt: HostRuntime) -> Result<(), Fail> {
+    let alloc = rt.alloc();
+    let mut parts = String::new(alloc);
+    parts.push_str("Inport a OutDataTypeStr=int32; Delay d0 DelayLength=65535")?;
+    for at in 1..16 {
+        let delay = format!(in alloc; "; Delay d{at} DelayLength=65535")?;
+        parts.push_str(&delay)?;
+    }
+    parts.push_str("; Outport o; a 1 > d0 1; d15 1 > o 1")?;
+    let mut before = 0;
+    for at in 1..16 {
+        let line = format!(in alloc; "; d{before} 1 > d{at} 1")?;
+        parts.push_str(&line)?;
+        before = at;
+    }
+    let told = in_root(alloc, &parts)?;
+    assert_eq!(rt;
+        told.as_slice(),
+        b"refused F24 LongDelays line 83 total 1048560".as_slice()
+    );
+    Ok(())
+}
+
+// A loop comes first: behind sixteen delays it is at line 184.
+#[test]
+fn loops_come_before_delays(rt: HostRuntime) -> Result<(), Fail> {
+    let delays = delays(rt.alloc(), 15, 65_535)?;
+    let parts = format!(in rt.alloc(); "{delays}; Gain k OutDataTypeStr=int8; k 1 > k 1")?;
+    let told = in_root(rt.alloc(), &parts)?;
+    assert_eq!(rt; told.as_slice(), b"refused F23 Loop 184".as_slice());
+    let told = in_subsystem(rt.alloc(), &parts)?;
+    assert_eq!(rt; told.as_slice(), b"refused F23 Loop 188".as_slice());
+    Ok(())
+}
