@@ -3,9 +3,11 @@
 Written from the rules and not from the compiler, so that the two can be compared. Plain and slow."""
 
 import re
+from functools import reduce
+from math import gcd, lcm
 
 import model_text
-from model_values import BACK, BLANKS, BOOLEAN, FLOAT, INHERITED, nearest, number, quantize, time_of, type_of, whole
+from model_values import BACK, BLANKS, BOOLEAN, CONSTANT, FLOAT, INHERITED, nearest, number, quantize, step_of, time_of, type_of, whole
 
 SAME = b"Inherit: Same as input"
 FIRST = b"Inherit: Same as first input"
@@ -28,6 +30,7 @@ PARAMETERS = {
     b"Logic": (("Operator", b"AND"), ("Inputs", b"2"), ("OutDataTypeStr", b"boolean"), TIME),
     b"DataTypeConversion": (("OutDataTypeStr", b"Inherit: Inherit via back propagation"), ("ConvertRealWorld", b"Real World Value (RWV)"), *HOW),
 }
+MOST_DENOMINATOR, MOST_PERIOD, MOST_CYCLE = 10**9, 10**6, 2**30
 WITH_CODE = (b"Inport", b"Outport", b"UnitDelay", b"Constant", b"Ground", b"Terminator")
 TRUTHS = (b"RelationalOperator", b"Logic")
 INPUTS = {b"Outport": 1, b"Terminator": 1, b"UnitDelay": 1, b"Gain": 1, b"Switch": 3, b"RelationalOperator": 2, b"DataTypeConversion": 1}
@@ -41,6 +44,10 @@ OPERATORS = {
     b"RelationalOperator": (b"==", b"~=", b"<", b"<=", b">", b">="),
     b"Logic": (b"AND", b"OR", b"NAND", b"NOR", b"XOR", b"NXOR", b"NOT"),
 }
+
+
+class Beyond(Exception):
+    """The model has something of which this reading says nothing: a subsystem."""
 
 
 class Row:
@@ -62,6 +69,15 @@ class Row:
     def text(self, name):
         found = self.written(name)
         return dict(PARAMETERS[self.kind])[name] if found is None else found
+
+    def time_text(self):
+        """'inherited', 'constant', or the period and the offset that it writes."""
+        if self.is_kind(b"Ground"):
+            return CONSTANT
+        return time_of(self.text("SampleTime")) if self.has("SampleTime") else INHERITED
+
+    def has_period(self):
+        return isinstance(self.time_text(), tuple)
 
     def is_kind(self, *kinds):
         return self.kind in kinds
@@ -97,7 +113,7 @@ def is_of_form(row, name, counts):
         return type is not None and not (row.is_kind(*TRUTHS) and isinstance(type, tuple) and type[2])
     if name == "SampleTime":
         time = time_of(text)
-        return time is not None and (time != "constant" or row.is_kind(b"Constant"))
+        return time is not None and (time != CONSTANT or row.is_kind(b"Constant"))
     if name == "Gain":
         gain = number(text)
         return gain is not None and -(2**31) <= nearest(gain) < 2**31
@@ -136,6 +152,7 @@ class Model:
         if len(models) > 1:
             raise model_text.Refused(f"F4 TwoModels line {models[1].line} Second")
         self.system = models[0].all(b"System")[0]
+        self.step = step_of(first_step(models[0], self.system))
         self.lines = self.system.all(b"Line")
         defaults = {}
         for section in [block for it in models[0].all(b"BlockParameterDefaults")[:1] for block in it.all(b"Block")]:
@@ -151,7 +168,9 @@ class Model:
 
     def unsupported(self):
         for row in self.rows:
-            if row.kind not in PARAMETERS or row.has("SampleTime") and time_of(row.text("SampleTime")) == "period":
+            if row.is_kind(b"SubSystem") and row.own.all(b"System"):
+                raise Beyond
+            if row.kind not in PARAMETERS:
                 yield row.line, "F7 Unsupported line {}"
         for section in [it for line in self.lines for it in with_branches(line)]:
             if section.param(b"Src") is not None or section.param(b"Dst") is not None:
@@ -251,6 +270,40 @@ class Model:
             if bits > 62:
                 yield row.line, f"F19 TooWide line {{}} bits {bits}"
 
+    def fractions(self):
+        """The rows with the periods that they write, and the offsets above 0."""
+        return [(row, it) for row in self.rows if row.has_period() for it in row.time_text() if it]
+
+    def long_denominators(self):
+        so_far = self.step.denominator if self.step else 1
+        for row, fraction in self.fractions():
+            so_far = lcm(so_far, fraction.denominator)
+            if so_far > MOST_DENOMINATOR:
+                yield row.line, f"F21 LongCycle line {{}} Denominator {so_far}"
+                return
+
+    def settle_ticks(self):
+        """The time that each row writes, in base ticks."""
+        fractions = [it for _, it in self.fractions()] + ([self.step] if self.step else [])
+        common = lcm(*(it.denominator for it in fractions))
+        base = gcd(*(int(it * common) for it in fractions))
+        for row in self.rows:
+            row.ticks = tuple(int(it * common) // base for it in row.time_text()) if row.has_period() else None
+
+    def long_periods(self):
+        self.settle_ticks()
+        for row in self.rows:
+            if row.ticks and row.ticks[0] > MOST_PERIOD:
+                yield row.line, f"F21 LongCycle line {{}} Period {row.ticks[0]}"
+
+    def long_cycles(self):
+        so_far = 1
+        for row in self.rows:
+            so_far = lcm(so_far, row.ticks[0]) if row.ticks else so_far
+            if so_far > MOST_CYCLE:
+                yield row.line, f"F21 LongCycle line {{}} Hyper {so_far}"
+                return
+
     def loops(self):
         path = first_loop(self.rows)
         if path:
@@ -258,12 +311,13 @@ class Model:
 
     def rows_without_code(self):
         for row in self.rows:
-            if not row.is_kind(*WITH_CODE):
+            if not row.is_kind(*WITH_CODE) or period_of(row) != 1:
                 yield row.line, "F7 Unsupported line {}"
 
     def judge(self):
         passes = (self.crowds, self.unsupported, self.parameters, self.double_names, self.missing_blocks, self.missing_ports, self.double_sources)
-        passes += (self.missing_lines, self.continuous, self.floats, self.types, self.wide_rows, self.loops, self.rows_without_code)
+        passes += (self.missing_lines, self.continuous, self.floats, self.types, self.wide_rows, self.long_denominators, self.long_periods)
+        passes += (self.long_cycles, self.loops, self.rows_without_code)
         for refusals in passes:
             found = list(refusals())
             if found:
@@ -286,6 +340,42 @@ class Model:
             values |= zip(self.ports(b"Inport"), numbers)
             yield " ".join(str(values[row.sources[1]]) for row in self.ports(b"Outport"))
             values |= {row: values[row.sources[1]] for row in self.rows if row.is_kind(b"UnitDelay")}
+
+
+def first_step(section, passed):
+    """The first FixedStep at any depth, but not in the System that is passed over; or None."""
+    for item in section.items:
+        found = None
+        if isinstance(item, tuple):
+            found = bytes(item[1]) if item[0] == b"FixedStep" else None
+        elif item is not passed:
+            found = first_step(item, passed)
+        if found is not None:
+            return found
+    return None
+
+
+def period_of(row):
+    """The period at which a row runs, in base ticks."""
+    if row.time_text() == CONSTANT:
+        return 1
+    times = [row.ticks] if row.ticks else sorted(times_before(row))
+    return reduce(gcd, [number for period, offset in times for number in (period, offset - times[0][1])], 0) or 1
+
+
+def times_before(row):
+    """The times that are found from a row backward through rows that inherit."""
+    found, seen, todo = set(), set(), [row]
+    while todo:
+        at = todo.pop()
+        if at in seen:
+            continue
+        seen.add(at)
+        if at.ticks:
+            found.add(at.ticks)
+        elif at.time_text() == INHERITED:
+            todo += at.sources.values()
+    return found
 
 
 def own_type(row):
@@ -381,7 +471,7 @@ def way(needs, far, order, row):
 
 
 def verdict(data):
-    """The text of the file's refusal, or its model."""
+    """The text of the file's refusal, or its model; None where this reading doesn't reach."""
     try:
         if len(data) > 16777216:
             raise model_text.Refused("F1 TooLong")
@@ -390,3 +480,5 @@ def verdict(data):
         return model
     except model_text.Refused as refused:
         return str(refused)
+    except Beyond:
+        return None

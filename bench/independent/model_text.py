@@ -16,6 +16,8 @@ class Section:
     def __init__(self, name, line):
         self.name, self.line = name, line
         self.sections, self.params = [], []
+        # Both, in the order of the text: sections, and parameters as a name and a value.
+        self.items = []
 
     def all(self, name):
         return [it for it in self.sections if it.name == name]
@@ -84,6 +86,7 @@ class Reader:
                 self.fault(line, "DeepSections")
             section = Section(name, line)
             self.open[-1].sections.append(section)
+            self.open[-1].items.append(section)
             self.open.append(section)
             return
         if rest and value == rest:
@@ -93,6 +96,7 @@ class Reader:
         elif value.startswith(b"["):
             value = self.bracketed(line, value)
         self.open[-1].params.append((name, value))
+        self.open[-1].items.append((name, value))
 
     def line(self, line, text):
         if text.startswith(b'"'):

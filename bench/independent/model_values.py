@@ -14,7 +14,7 @@ MOST_DIGITS, MOST_EXPONENT, MOST_PART = 18, 18, 10**9
 # A type is its sign, its bits and how many of them stand after the point.
 BOOLEAN = (0, 1, 0)
 TYPES = {f"{'u' * (1 - sign)}int{bits}": (sign, bits, 0) for sign in (0, 1) for bits in (8, 16, 32)} | {"boolean": BOOLEAN}
-FLOAT, INHERITED, BACK = "float", "inherited", "back"
+FLOAT, INHERITED, BACK, CONSTANT = "float", "inherited", "back", "constant"
 
 
 def text_of(value):
@@ -79,20 +79,29 @@ def type_of(value):
 
 
 def time_of(value):
-    """'inherited', 'constant', 'zero' or 'period'."""
+    """'inherited', 'constant', 'zero', or a period and an offset."""
     text = text_of(value)
     if text in ("-1", "[-1 0]", "[-1, 0]"):
         return INHERITED
     if text in ("inf", "Inf", "[inf 0]"):
-        return "constant"
+        return CONSTANT
     pair = PAIR.fullmatch(text)
     period, offset = map(bare_number, pair.groups()) if pair else (number(value), Fraction(0))
     if period is None or offset is None:
         return None
     if period == 0:
         return "zero"
-    is_small = all(max(it.numerator, it.denominator) <= MOST_PART for it in (period, offset))
-    return "period" if is_small and 0 <= offset < period else None
+    return (period, offset) if is_small(period) and is_small(offset) and 0 <= offset < period else None
+
+
+def is_small(fraction):
+    return max(fraction.numerator, fraction.denominator) <= MOST_PART
+
+
+def step_of(value):
+    """The positive fraction that a FixedStep is, or None."""
+    step = None if value is None else number(value)
+    return step if step is not None and step > 0 and is_small(step) else None
 
 
 def nearest(number):

@@ -12,10 +12,11 @@ ODD_TYPES = ["double", "single", "half", "Inherit: auto", "Inherit: Logical (see
 NUMBERS = ["0", "1", "-1", "2.5", "[3]", "1/3", "-7/2", "1e3", "1.5e-3", "true", "false", "+4", ".5", "5.", "1e9", "-1e18", "127", "128", "-129", "0.0625", "123456789012345678", "0e99", "[-2.25]", "4294967295", "[1/2]", "-.5", "000000000000000000001"]
 ODD_NUMBERS = ["", "[]", "1e19", "1e-19", "1234567890123456789", "[ 5]", "[[5]]", "1/0", "1e", "e1", ".", "--1", "1 2", "x", "0x10", "1,000", "1.0e-18", "0.1e-18", "1/-2", "[true]", "inf", "1/3.0", "0/5", "00", "1e0000000000000000000018", "0e1234567890123456789", "123456789.1234567890", "10e18", "-", "1/", "/1", " 5 ", "2147483647.49", "2147483647.5", "-2147483648.5", "-2147483648.51"]
 TIMES = ["-1", "[-1 0]", "[-1, 0]"]
+PERIODS = ["0.1", "0.2", "1/10", "[0.4 0.1]", "[0.4, 0.2]", "3", "7/3", "[2 1/3]", "1e-3", "999983", "999979", "1/99991", "1/99989", "1e6", "1e9"]
 ODD_TIMES = ["inf", "[inf 0]", "0", "0.1", "[0.5 0.25]", "[0.5 0.5]", "[0 -1]", "[0 x]", "-2", "[-1]", "[-1,0]", "-1.0", "[1,0]", "[1  0]", "[1 , 0]", "1e10", "1/1000000001", "1000000001", "[5]", "Inf", "[Inf 0]", "", "[0]", " -1 ", "[0.1 0", "0/3", "-0", "[0,0]", "1000000000", "[3 -1]"]
 SIMPLE = ["Inport", "Outport", "Constant", "Ground", "Terminator", "UnitDelay"]
 KINDS = [*SIMPLE, "Gain", "Sum", "Product", "Switch", "RelationalOperator", "Logic", "DataTypeConversion"]
-UNKNOWN = ["SubSystem", "Scope", "ZeroOrderHold", "RateTransition", "EnablePort", "inport", "Mux", ""]
+UNKNOWN = ["SubSystem", "Scope", "inport", "Mux", ""]
 
 # Parameters by type of block: lawful texts, others, and how often one is written.
 INHERITED_TYPE = ("OutDataTypeStr", TYPES, ODD_TYPES, 0.3)
@@ -54,6 +55,8 @@ class ModelText:
         self.chance, self.lines = chance, []
         self.wrong = chance.choice([0, 0, 0.005, 0.02, 0.1])
         self.kinds = SIMPLE if self.is_lucky(0.6) else KINDS
+        # Most models have no period or one alone, so that many are accepted.
+        self.times = TIMES + chance.sample(PERIODS, chance.choice([0, 0, 0, 0, 1, 1, 2, 3]))
 
     def is_lucky(self, often):
         return self.chance.random() < often
@@ -86,6 +89,7 @@ class ModelText:
     def parameters(self, kind):
         for name, lawful, others, often in PARAMETERS.get(kind, []):
             if self.is_lucky(often):
+                lawful = self.times if name == "SampleTime" else lawful
                 yield name, self.chance.choice(others if self.is_wrong() else lawful)
 
     def block(self, kind, name, port):
@@ -309,6 +313,8 @@ def compare_one(chance, program):
     data = damaged(chance, data) if chance.random() < 0.3 else data
     program.write("model", data)
     wanted = model_rules.verdict(data)
+    if wanted is None:
+        return "beyond", None
     if isinstance(wanted, str):
         return wanted.split()[0], program.differs(["compile", *program.files("")[:2]], 3, f"refused {wanted}\n")
     text = f"compiled rows {len(wanted.rows)} systems 1 functions {wanted.functions()}\n"

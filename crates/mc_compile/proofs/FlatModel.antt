@@ -1,5 +1,5 @@
--- The diagram of a table whose rows all have code, and of which none writes a period, is a flat one.
-use Rattle.std.specs.Prelude.{◌≡◌, refl, ℕ, zero, suc, ◌<◌, ◌⊎◌, ◌&&◌, ◌||◌, IsTrue, Bool, true, false, not, if◌then◌else◌, List, [], ◌∷◌, map, length, replicate, slice_get, slice_index_or, Option, None, Some, option_and_then}
+-- The diagram of a table whose rows all have code is a flat one, at every tick.
+use Rattle.std.specs.Prelude.{◌≡◌, refl, ℕ, ◌<◌, ◌⊎◌, ◌==◌, ◌&&◌, ◌||◌, IsTrue, Bool, true, false, not, if◌then◌else◌, List, [], ◌∷◌, map, length, slice_get, slice_index_or, Option, None, Some, option_and_then}
 use Rattle.std.specs.List.{AllByRecursion}
 use Rattle.std.proofs.Common.{sym, ◌∙◌, ap, ap₂, subst, inl, inr, arith}
 use Rattle.mc_base.specs.declared.Decimal.{Decimal}
@@ -15,7 +15,8 @@ use Rattle.mc_diagram.specs.declared.table.Row.{Row}
 use Rattle.mc_diagram.specs.RowTable.{RowTable}
 use Rattle.mc_diagram.specs.Rows.{row_at, no_row, by_row, is_subsystem, is_inport, is_outport}
 use Rattle.mc_diagram.specs.RowTimes.{RowTimes}
-use Rattle.mc_diagram.specs.TimeLaws.{TimesAreOne}
+use Rattle.mc_diagram.specs.SampleTimes.{every_tick}
+use Rattle.mc_diagram.specs.declared.times.Time.{Time}
 use Rattle.mc_diagram.specs.Types.{SameAs, NoRule, rule_of, inherited_rule, type_by, type_at, is_boolean_by_kind}
 use Rattle.mc_diagram.specs.TypeRefusals.{followed_type, known_type, written_type, are_unlike}
 use Rattle.mc_diagram.specs.WellFormed.{IsOwner, IsWireIn, IsWellFormed, IsTypeTextOf, IsRow, has_output, wires_wanted, reading_system}
@@ -23,15 +24,18 @@ use Rattle.mc_diagram.specs.Diagram.{IsResolved, op_in}
 use Rattle.mc_diagram.specs.ResolvedTable.{ResolvedTable, diagram_of_table}
 use Rattle.mc_diagram.proofs.lemmas.ByRow.{by_row-equal}
 use Rattle.mc_diagram.proofs.lemmas.TypeFollowed.{type_followed}
-use Rattle.mc_diagram.proofs.lemmas.Timeless.{at_every_tick}
+use Rattle.mc_diagram.proofs.lemmas.Tests.{and-left, and-right, eq-from}
+use Rattle.mc_diagram.proofs.lemmas.Tick.{row_at-past}
 use Rattle.mc_types.proofs.lemmas.FollowedLemmas.{followed-step}
-use Rattle.mc_table.specs.TableLaws.{IsTimeless, AcceptedTableIsWellFormed, AcceptedTableIsTimeless}
+use Rattle.mc_verdict.specs.Files.{AcceptedTablesAreWellFormed}
+use Rattle.mc_verdict.specs.Verdict.{IsModelOf}
+use Rattle.mc_verdict.proofs.lemmas.PlaceLists.{all-places, place-of}
 use Rattle.c_emitter.specs.Flat.{is_emitted, is_source, HasOneSource, HasFlatKind, IsFlatRow, IsFlat, IsFlatAtEveryTick}
 use Rattle.c_emitter.specs.FlatDiagrams.{flat_diagram}
-use Rattle.mc_compile.specs.Verdict.{IsModelOf, first_without_code}
-use Rattle.mc_compile.proofs.ListLaws.{none-found_at, all-places, place-of}
-use Rattle.mc_compile.proofs.TimelessTable.{is-timeless}
-use Rattle.mc_compile.proofs.TypedTable.{same-type, none-unlike, timeless-resolved}
+use Rattle.mc_compile.specs.Verdict.{has_code, first_without_code}
+use Rattle.mc_compile.proofs.ListLaws.{none-passes}
+use Rattle.mc_compile.proofs.TypedTable.{same-type, none-unlike}
+use Rattle.mc_compile.proofs.EveryTick.{all-every_tick}
 
 -- ---- Kinds that have code
 
@@ -113,20 +117,38 @@ alike-by rows Logical c own read e f like = sym (same-type boolean read (not-fal
 alike-by rows Back c own read e f like = absurd (let wrong : ⊥ = cc e in wrong)
 alike-by rows (Fixed type) c own read e f like = sym (same-type type read (not-false _ like)) ∙ cc e
 
-false-at : (n b : ℕ) → slice_index_or (replicate n false) b false ≡ slice_index_or [] b false
-false-at zero b = refl
-false-at (suc n) zero = refl
-false-at (suc n) (suc b) = false-at n b
+-- what a row with code computes doesn't rest on whether it is a delay between rates
+one-op : (kind : Kind) (types : List FixType) (own : FixType) (delays more : Bool) → HasCode kind → op_of kind types own delays ≡ op_of kind types own more
+one-op _ types own delays more (an_inport port) = refl
+one-op _ types own delays more (an_outport port reset initial) = refl
+one-op _ types own delays more (a_constant value) = refl
+one-op _ types own delays more a_ground = refl
+one-op _ types own delays more a_terminator = refl
+one-op _ types own delays more (a_delay initial) = refl
 
 -- ---- The table
 
-module _ (table : RowTable) (formed : IsWellFormed table) (coded : first_without_code table.rows ≡ None) where
+module _ (table : RowTable) (formed : IsWellFormed table) (run : List Time) (coded : first_without_code table.rows run ≡ None) where
   abbrev rows : List Row
   rows = table.rows
 
+  code-at : (b : ℕ) → b < length rows → has_code rows run b ≡ true
+  code-at b below = not-false _ (none-passes (λ b. not (has_code rows run b)) (length rows) 0 b coded (omega arith) (omega (arith, below)))
+
   has-code : (b : ℕ) → b < length rows → HasCode (row_at rows b).kind
   has-code b below =
-      view (row_at rows b).kind (not-false _ (none-found_at (λ (row : Row). not (is_emitted row.kind)) rows no_row b coded below))
+      view (row_at rows b).kind (and-left (is_emitted (row_at rows b).kind) ((slice_index_or run b every_tick).period == 1) (code-at b below))
+
+  each-tick : (b : ℕ) → b < length rows → (slice_index_or run b every_tick).period ≡ 1
+  each-tick b below =
+      eq-from (slice_index_or run b every_tick).period 1
+      (and-right (is_emitted (row_at rows b).kind) ((slice_index_or run b every_tick).period == 1) (code-at b below))
+
+  coded-or-past : (b : ℕ) → HasCode (row_at rows b).kind
+  coded-or-past b = elim (row_at-past rows b) [
+    | inl below ↦ has-code b below
+    | inr past ↦ subst (λ (row : Row). HasCode row.kind) (sym past) a_terminator
+  ]
 
   pub of-root : (b : ℕ) → b < length rows → (row_at rows b).owner ≡ None
   of-root b below = by (row_at rows b).owner (formed.nested.owned b below)
@@ -220,40 +242,37 @@ module _ (table : RowTable) (formed : IsWellFormed table) (coded : first_without
             alike-read b c below wires one (ap is_boolean_by_kind q) (ap₂ inherited_rule q wires)
             (ap (λ (t : TypeText). are_unlike (known_type (rule_of t NoRule)) (followed_type rows c)) text)
 
-    -- ---- Its times
+    ops : given_ops ≡ by_row rows (op_in rows types [])
+    ops =
+        is.are_ops
+        ∙ by_row-equal rows (op_in rows types times.delays) (op_in rows types [])
+        (λ b. one-op (row_at rows b).kind (map (type_at types) (row_at rows b).inputs) (type_at types b) _ _ (coded-or-past b))
 
-    module _ (one : TimesAreOne) (none : IsTimeless table) where
-      at_ticks : times ≡ at_every_tick table (is-timeless table none)
-      at_ticks = one table times (at_every_tick table (is-timeless table none)) is.are_times (timeless-resolved table none is.types_accepted).are_times
+    pub is-flat : IsFlat (record { rows = rows; types = types; ops = given_ops; run = times.run })
+    is-flat = record {
+      each = all-places (IsFlatRow rows) rows no_row flat-row;
+      inports = formed.inports None;
+      outports = formed.outports None;
+      at_most = formed.nested.at_most;
+      one_type_each = is.one_type_each;
+      alike = alike;
+      ops = ops;
+    }
 
-      ops : given_ops ≡ by_row rows (op_in rows types [])
-      ops =
-          is.are_ops
-          ∙ ap (λ (t : RowTimes). by_row rows (op_in rows types t.delays)) at_ticks
-          ∙ by_row-equal rows (op_in rows types (replicate (length rows) false)) (op_in rows types [])
-          (λ b. ap (op_of (row_at rows b).kind (map (type_at types) (row_at rows b).inputs) (type_at types b)) (false-at (length rows) b))
+  -- ---- Its times
 
-      pub is-flat : IsFlat (record { rows = rows; types = types; ops = given_ops; run = times.run })
-      is-flat = record {
-        each = all-places (IsFlatRow rows) rows no_row flat-row;
-        inports = formed.inports None;
-        outports = formed.outports None;
-        at_most = formed.nested.at_most;
-        one_type_each = is.one_type_each;
-        alike = alike;
-        ops = ops;
-      }
-
-      pub at-every-tick : record { rows = rows; types = types; ops = given_ops; run = times.run } ≡ flat_diagram rows types given_ops
-      at-every-tick = λ i. record { rows = rows; types = types; ops = given_ops; run = (at_ticks i).run }
+  pub at-every-tick : length run ≡ length rows → (types : List FixType) (ops : List Op) →
+      record { rows = rows; types = types; ops = ops; run = run } ≡ flat_diagram rows types ops
+  at-every-tick many types ops =
+      let same = all-every_tick run (length rows) many each-tick in
+      λ i. record { rows = rows; types = types; ops = ops; run = same i }
 
 -- the model of a text whose rows all have code is flat
-pub flat-model : AcceptedTableIsWellFormed → AcceptedTableIsTimeless → TimesAreOne → (bytes : List ℕ) (r : ResolvedTable) → IsModelOf bytes r →
-    first_without_code r.table.rows ≡ None → IsFlatAtEveryTick (diagram_of_table r)
-flat-model well_formed timeless one bytes r ((file, is_file, accepted, of), is) coded =
-    let formed = well_formed file r.table accepted of in
-    let none = timeless file r.table accepted of in
+pub flat-model : AcceptedTablesAreWellFormed → (bytes : List ℕ) (r : ResolvedTable) → IsModelOf bytes r → first_without_code r.table.rows r.times.run ≡ None →
+    IsFlatAtEveryTick (diagram_of_table r)
+flat-model well_formed bytes r (with, is) coded =
+    let formed = well_formed bytes r.table with in
     record {
-      flat = is-flat r.table formed coded r.types r.ops r.times is one none;
-      every_tick = at-every-tick r.table formed coded r.types r.ops r.times is one none;
+      flat = is-flat r.table formed r.times.run coded r.types r.ops r.times is;
+      every_tick = at-every-tick r.table formed r.times.run coded is.are_times.run_length r.types r.ops;
     }

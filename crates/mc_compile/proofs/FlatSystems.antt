@@ -17,7 +17,8 @@ use Rattle.mc_profile.specs.Systems.{systems, systems_inside}
 use Rattle.mc_diagram.specs.Traces.{input_type_of}
 use Rattle.c_emitter.specs.Flat.{HasFlatKind, IsFlatRow, IsFlat}
 use Rattle.mc_compile.specs.Compilation.{root_types}
-use Rattle.mc_compile.proofs.ListLaws.{place-of, none-kept, same_at}
+use Rattle.mc_verdict.proofs.lemmas.PlaceLists.{place-of, same_at}
+use Rattle.mc_compile.proofs.ListLaws.{none-kept}
 
 no-subsystem : (rows : List Row) (kind : Kind) (wires : List ℕ) → HasFlatKind rows kind wires → is_subsystem kind ≡ false
 no-subsystem rows (SubSystem control) wires h = absurd h

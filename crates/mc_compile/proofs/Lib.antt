@@ -1,15 +1,11 @@
 pub mod ReadCode
 pub mod ListLaws
-pub mod TimelessTable
 pub mod TypedTable
-pub mod OneResolution
+pub mod EveryTick
 pub mod FlatModel
-pub mod OneVerdict
 pub mod FaultLaws
+pub mod OneVerdict
 pub mod RowPasses
-pub mod DelaySums
 pub mod FlatSystems
 pub mod FlatRuns
 pub mod InputLaws
-pub mod LoopRows
-pub mod EveryTick

@@ -1,23 +1,11 @@
--- Passes over the rows of a table, step by step.
-use Rattle.std.specs.Prelude.{◌≡◌, refl, ℕ, zero, suc, ◌+◌, ◌<◌, ◌≤◌, Bool, true, false, not, List, ◌∷◌, find, drop, length, slice_index_or, Option, Some, None, option_map}
+-- Passes over the numbers of rows, which stop at the first that passes.
+use Rattle.std.specs.Prelude.{◌≡◌, refl, ℕ, zero, suc, ◌+◌, ◌<◌, ◌≤◌, Bool, true, false, List, find, Option, Some, None, option_map}
 use Rattle.std.specs.List.{range_with_len}
 use Rattle.std.proofs.Common.{sym, ◌∙◌, ap, cond, arith, true≢false, inl, inr, ◌⊎◌}
-use Rattle.std.proofs.lemmas.List.{at_drop_more}
 use native.Mathlib.Decide.{ℕ_discrete}
 use Rattle.mc_base.specs.Refusals.{Unsupported}
 use Rattle.mc_diagram.specs.declared.table.Row.{Row}
-use Rattle.c_emitter.specs.Flat.{is_emitted}
-use Rattle.mc_compile.specs.Verdict.{first_without_code}
-
--- one row more has code, or is the first without it
-pub first-more : (rows : List Row) (i : ℕ) (row : Row) → i < length rows → row ≡ slice_index_or rows i row →
-    first_without_code (drop i rows) ≡ cond (is_emitted row.kind) (first_without_code (drop (i + 1) rows)) (Some row)
-first-more rows i row below is =
-    at_drop_more first_without_code rows i row below ∙ ap (λ (r : Row). first_without_code (r ∷ drop (i + 1) rows)) (sym is) ∙ by (is_emitted row.kind)
-  where
-    by : (t : Bool) → cond (not t) (Some row) (first_without_code (drop (i + 1) rows)) ≡ cond t (first_without_code (drop (i + 1) rows)) (Some row)
-    by true = refl
-    by false = refl
+use Rattle.mc_diagram.specs.TypeRefusals.{line_at}
 
 le-cases : (a b : ℕ) → a ≤ b → (a < b) ⊎ (a ≡ b)
 le-cases a b low = elim (ℕ_discrete a b) [ yes same ↦ inr same | no differ ↦ inl (omega (arith, low, differ)) ]
@@ -47,6 +35,6 @@ none-in-range test (suc n) a none =
     ∙ none-in-range test n (a + 1) (λ k above under. none k (omega (arith, above)) (omega (arith, under)))
 
 -- nothing is told, so there is no such row
-pub none-mapped : (found : Option Row) → None ≡ option_map (λ (row : Row). Unsupported row.place.line) found → found ≡ None
-none-mapped None e = refl
-none-mapped (Some row) e = absurd (let wrong : ⊥ = cc e in wrong)
+pub none-mapped : (rows : List Row) (found : Option ℕ) → None ≡ option_map (λ b. Unsupported (line_at rows b)) found → found ≡ None
+none-mapped rows None e = refl
+none-mapped rows (Some b) e = absurd (let wrong : ⊥ = cc e in wrong)

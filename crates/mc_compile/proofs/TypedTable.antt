@@ -1,4 +1,4 @@
--- A table without a refusal for its types: each row has a type, and an Outport that of its input.
+-- A table without a refusal for its types: an Outport has that of its input.
 use Rattle.std.specs.Prelude.{◌≡◌, refl, ℕ, ◌<◌, ◌&&◌, Bool, true, false, List, [], ◌∷◌, length, None, is_some, if◌then◌else◌}
 use Rattle.std.specs.Bool.{beq}
 use Rattle.std.proofs.Common.{sym, ◌∙◌, ap, arith, ◌==◌}
@@ -6,23 +6,16 @@ use Rattle.mc_base.specs.declared.TypeWhy.TheVariants.{Missing, Unlike}
 use Rattle.mc_base.specs.Refusals.{NoType}
 use Rattle.mc_fixed.specs.declared.FixType.{FixType}
 use Rattle.mc_diagram.specs.declared.table.Row.{Row}
-use Rattle.mc_diagram.specs.RowTable.{RowTable}
 use Rattle.mc_diagram.specs.Rows.{row_numbers}
 use Rattle.mc_diagram.specs.FirstRefusal.{least_line}
-use Rattle.mc_diagram.specs.Diagram.{IsResolved}
-use Rattle.mc_diagram.specs.ResolvedTable.{ResolvedTable}
-use Rattle.mc_diagram.specs.TypeRefusals.{line_at, type_of_row, type_faults, is_unlike, same_type, bad_types, type_refusal, types_of_rows}
-use Rattle.mc_diagram.proofs.lemmas.Tests.{all_below, and-left, and-right, eq-from}
+use Rattle.mc_diagram.specs.TypeRefusals.{line_at, type_of_row, type_faults, is_unlike, same_type, bad_types, type_refusal}
+use Rattle.mc_diagram.proofs.lemmas.Tests.{and-left, and-right, eq-from}
 use Rattle.mc_diagram.proofs.lemmas.TypeFollowed.{type_followed}
 use Rattle.mc_diagram.proofs.lemmas.FirstRefusals.{least-each}
-use Rattle.mc_diagram.proofs.lemmas.Timeless.{at_every_tick, timeless_ops}
+use Rattle.mc_diagram.proofs.lemmas.Accepted.{none_later}
 use Rattle.mc_types.proofs.lemmas.Accepted.{each-typed}
 use Rattle.mc_types.proofs.lemmas.PassLemmas.{none-found}
 use Rattle.mc_types.proofs.lemmas.SameType.{type-equal}
-use Rattle.mc_table.specs.TableLaws.{IsTimeless}
-use Rattle.mc_table.proofs.lemmas.AcceptedModel.{none_later}
-use Rattle.mc_compile.proofs.OneResolution.{IsOf}
-use Rattle.mc_compile.proofs.TimelessTable.{all_below-from, is-timeless, resolved-at-every-tick}
 
 same_beq : (a b : Bool) → beq a b ≡ true → a ≡ b
 same_beq true true e = refl
@@ -46,9 +39,6 @@ module _ (rows : List Row) (right : type_refusal rows ≡ None) where
   row-typed : (b : ℕ) → b < length rows → is_some (type_of_row rows b) ≡ true
   row-typed b below = ap is_some ((type_followed rows b _).0 (each-typed rows no-bad b below))
 
-  pub all-typed : all_below (λ b. is_some (type_of_row rows b)) (length rows) ≡ true
-  all-typed = all_below-from (λ b. is_some (type_of_row rows b)) (length rows) row-typed
-
   -- none is unlike its input
   pub none-unlike : (b : ℕ) → b < length rows → is_unlike rows b ≡ false
   none-unlike b below =
@@ -60,16 +50,3 @@ module _ (rows : List Row) (right : type_refusal rows ≡ None) where
       by true true e none = absurd (let wrong : ⊥ = cc none in wrong)
       by true false e none = refl
       by false unlike e none = absurd (let wrong : ⊥ = cc e in wrong)
-
--- where no row writes a period the table is resolved at every tick
-pub timeless-resolved : (table : RowTable) (none : IsTimeless table) → type_refusal table.rows ≡ None →
-    IsResolved table (types_of_rows table.rows) (timeless_ops table (is-timeless table none)) (at_every_tick table (is-timeless table none))
-timeless-resolved table none right = resolved-at-every-tick table none right (all-typed table.rows right)
-
--- and that is its resolution
-pub timeless-resolution : (table : RowTable) → IsTimeless table → type_refusal table.rows ≡ None → (r : ResolvedTable) × IsOf table r
-timeless-resolution table none right =
-    let quiet = is-timeless table none in (
-      record { table = table; types = types_of_rows table.rows; ops = timeless_ops table quiet; times = at_every_tick table quiet },
-      record { of_table = refl; resolved = timeless-resolved table none right },
-    )

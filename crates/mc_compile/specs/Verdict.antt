@@ -1,87 +1,41 @@
--- The verdict on a file: its first refusal, or the resolved table of its model.
-use Rattle.std.specs.Prelude.{◌≡◌, ℕ, ◌⊎◌, not, List, map, find, Option, None, Some, option_map}
-use Rattle.mc_base.specs.declared.Place.{Place}
-use Rattle.mc_base.specs.Refusals.{PlainRefusal, Unsupported, Loop}
+-- The verdict on a file, as long as not all rows have code: that on its model, and behind it the refusal of its first row
+-- without code. Once each row has code it is the verdict on the model, and this goes.
+use Rattle.std.specs.Prelude.{◌≡◌, ℕ, Bool, ◌&&◌, ◌==◌, not, ◌⊎◌, List, find, slice_index_or, Option, None, Some, option_map}
+use Rattle.mc_base.specs.Refusals.{PlainRefusal, Unsupported}
 use Rattle.mc_diagram.specs.declared.table.Row.{Row}
-use Rattle.mc_diagram.specs.RowTable.{RowTable}
-use Rattle.mc_diagram.specs.Rows.{row_at}
-use Rattle.mc_diagram.specs.Diagram.{Diagram}
-use Rattle.mc_diagram.specs.ResolvedTable.{ResolvedTable, diagram_of_table, IsResolvedTable}
-use Rattle.mc_diagram.specs.TypeRefusals.{type_refusal}
-use Rattle.mc_diagram.specs.TimeRefusals.{HasTimeRefusal}
-use Rattle.mc_diagram.specs.DelayRefusals.{delay_refusal}
-use Rattle.mc_diagram.specs.Needs.{needs_of, HasNoLoop, IsLeastLoop}
-use Rattle.mc_table.specs.FileVerdicts.{HasFileVerdict, IsModelWith}
-use Rattle.mc_table.specs.FileVerdicts as file
+use Rattle.mc_diagram.specs.declared.times.Time.{Time}
+use Rattle.mc_diagram.specs.Rows.{row_at, row_numbers}
+use Rattle.mc_diagram.specs.ResolvedTable.{ResolvedTable}
+use Rattle.mc_diagram.specs.SampleTimes.{every_tick}
+use Rattle.mc_diagram.specs.TypeRefusals.{line_at}
+pub use Rattle.mc_verdict.specs.Verdict.{Verdict, Refused, Accepted}
+use Rattle.mc_verdict.specs.Verdict as model
 use Rattle.c_emitter.specs.Flat.{is_emitted}
 
--- the bytes are the text of a model with this table and its types, operations and sample times, with which nothing is wrong
-abbrev pub IsModelOf : List ℕ → ResolvedTable → Type 0
-IsModelOf bytes r = IsModelWith bytes r.table × IsResolvedTable r
+-- whether code is written for row b: its kind is emitted, of which a subsystem is none, and it runs at every tick
+abbrev pub has_code : List Row → List Time → ℕ → Bool
+has_code rows run b = is_emitted (row_at rows b).kind && ((slice_index_or run b every_tick).period == 1)
 
--- ---- Refusals behind those of the text and of the tree: of types, of sample times, of a loop, of the delays together, and
--- ---- of a row without code
-
--- the rows of the model are refused so for their types
-abbrev pub IsIllTyped : List ℕ → PlainRefusal → Type 0
-IsIllTyped bytes refusal = (table : RowTable) × IsModelWith bytes table × (type_refusal table.rows ≡ Some refusal)
-
--- nothing is wrong with their types, and they are refused so for their sample times
-abbrev pub IsIllTimed : List ℕ → PlainRefusal → Type 0
-IsIllTimed bytes refusal =
-    (table : RowTable) × IsModelWith bytes table × (type_refusal table.rows ≡ None) × HasTimeRefusal table (Some refusal)
-
--- the places of the rows of these numbers
-abbrev pub places_of : List Row → List ℕ → List Place
-places_of rows numbers = map (λ b. (row_at rows b).place) numbers
-
--- rows of the diagram need each other at one tick, and the refusal tells their loop
-abbrev pub TellsLoop : Diagram → PlainRefusal → Type 0
-TellsLoop d refusal = (loop : List ℕ) × IsLeastLoop (needs_of d) loop × (refusal ≡ Loop (places_of d.rows loop))
-
--- the same of the model
-abbrev pub IsLooping : List ℕ → PlainRefusal → Type 0
-IsLooping bytes refusal = (r : ResolvedTable) × IsModelOf bytes r × TellsLoop (diagram_of_table r) refusal
-
--- the bytes are the text of a model of which no rows form a loop
-abbrev pub IsLoopFree : List ℕ → ResolvedTable → Type 0
-IsLoopFree bytes r = IsModelOf bytes r × HasNoLoop (needs_of (diagram_of_table r))
-
--- no rows of the model form a loop, and its delays are refused so, which together remember too many samples
-abbrev pub HasLongDelays : List ℕ → PlainRefusal → Type 0
-HasLongDelays bytes refusal = (r : ResolvedTable) × IsLoopFree bytes r × (delay_refusal r.table.rows ≡ Some refusal)
-
--- the first row of a kind that no code is written for yet
-abbrev pub first_without_code : List Row → Option Row
-first_without_code rows = find (λ (r : Row). not (is_emitted r.kind)) rows
+-- the first row without code, given the sample time of each
+abbrev pub first_without_code : List Row → List Time → Option ℕ
+first_without_code rows run = find (λ b. not (has_code rows run b)) (row_numbers rows)
 
 -- the refusal of that row
-abbrev pub code_refusal : List Row → Option PlainRefusal
-code_refusal rows = option_map (λ (r : Row). Unsupported r.place.line) (first_without_code rows)
+abbrev pub code_refusal : List Row → List Time → Option PlainRefusal
+code_refusal rows run = option_map (λ b. Unsupported (line_at rows b)) (first_without_code rows run)
 
--- nothing of all that is wrong with the model, and it is refused so for its first row without code
+-- the model is accepted, and the file is refused so for its first row without code
 abbrev pub LacksCode : List ℕ → PlainRefusal → Type 0
 LacksCode bytes refusal =
-    (r : ResolvedTable) × IsLoopFree bytes r × (delay_refusal r.table.rows ≡ None) × (code_refusal r.table.rows ≡ Some refusal)
+    (r : ResolvedTable) × model.HasVerdict bytes (Accepted r) × (code_refusal r.table.rows r.times.run ≡ Some refusal)
 
--- ---- The verdict
-
-pub data Verdict : Type 0 where
-  Refused : PlainRefusal → Verdict
-  Accepted : (resolved : ResolvedTable) → Verdict
-
--- the bytes are the text of a model with this table, which has no loop, no delays that remember too much, and code for each
--- of its rows
+-- the model is accepted, and each of its rows has code
 pub record IsAccepted (bytes : List ℕ) (r : ResolvedTable) : Type 0 where
-  pub model : IsModelOf bytes r
-  pub no_loop : HasNoLoop (needs_of (diagram_of_table r))
-  pub short_delays : delay_refusal r.table.rows ≡ None
-  pub with_code : first_without_code r.table.rows ≡ None
+  pub accepted : model.HasVerdict bytes (Accepted r)
+  pub with_code : first_without_code r.table.rows r.times.run ≡ None
 
 abbrev pub HasVerdict : List ℕ → Verdict → Type 0
-HasVerdict bytes (Refused refusal) =
-    HasFileVerdict bytes (file.Refused refusal) ⊎ IsIllTyped bytes refusal ⊎ IsIllTimed bytes refusal ⊎ IsLooping bytes refusal
-    ⊎ HasLongDelays bytes refusal ⊎ LacksCode bytes refusal
+HasVerdict bytes (Refused refusal) = model.HasVerdict bytes (Refused refusal) ⊎ LacksCode bytes refusal
 HasVerdict bytes (Accepted r) = IsAccepted bytes r
 
 -- the file has one verdict and no other

@@ -1,8 +1,6 @@
 use mc_base::{Memory, Refusal};
-use mc_diagram::BuildFault;
 use mc_fixed::FixType;
-use mdl_reader::ReadFault;
-use std::alloc::AllocError;
+use mc_verdict::ModelFault;
 use std::marker::Model;
 
 /// What a model is compiled to: the numbers of its rows, of its systems and of all their output functions, the types of
@@ -42,54 +40,16 @@ impl From<Memory> for CompileFault {
     }
 }
 
-impl From<AllocError> for CompileFault {
-    ghost use Rattle.std.specs.Prelude.{◌≡◌};
-    ghost use Rattle.mc_compile.specs.declared.compiled.CompileFault.TheVariants as fault;
-
-    ghost from_gives = { λ _ given. given ≡ fault.Memory };
-
-    fn from(_refused: AllocError) -> CompileFault {
-        CompileFault::Memory
-    }
-}
-
-impl From<Refusal> for CompileFault {
-    ghost use Rattle.std.specs.Prelude.{◌≡◌};
-    ghost use Rattle.mc_compile.specs.declared.compiled.CompileFault.TheVariants as fault;
-
-    ghost from_gives = { λ refusal given. given ≡ fault.Refused refusal };
-
-    fn from(refusal: Refusal) -> CompileFault {
-        CompileFault::Refused(refusal)
-    }
-}
-
-impl From<ReadFault> for CompileFault {
+impl From<ModelFault> for CompileFault {
     ghost use Rattle.std.specs.Prelude.{◌≡◌};
     ghost use Rattle.mc_compile.specs.Faults.{as_compile_fault};
 
-    ghost from_gives = { λ read given. given ≡ as_compile_fault read };
+    ghost from_gives = { λ model given. given ≡ as_compile_fault model };
 
-    fn from(fault: ReadFault) -> CompileFault {
+    fn from(fault: ModelFault) -> CompileFault {
         match fault {
-            ReadFault::Syntax { line, kind } => {
-                CompileFault::Refused(Refusal::Syntax { line, kind })
-            }
-            ReadFault::Memory => CompileFault::Memory,
-        }
-    }
-}
-
-impl From<BuildFault> for CompileFault {
-    ghost use Rattle.std.specs.Prelude.{◌≡◌};
-    ghost use Rattle.mc_compile.specs.Faults.{as_built_fault};
-
-    ghost from_gives = { λ built given. given ≡ as_built_fault built };
-
-    fn from(fault: BuildFault) -> CompileFault {
-        match fault {
-            BuildFault::Refused(refusal) => CompileFault::Refused(refusal),
-            BuildFault::Memory => CompileFault::Memory,
+            ModelFault::Refused(refusal) => CompileFault::Refused(refusal),
+            ModelFault::Memory => CompileFault::Memory,
         }
     }
 }

@@ -4,13 +4,9 @@
 mod code;
 mod compiled;
 mod compiler;
-mod delays;
 mod inputs;
-mod kinds;
 mod laws;
-mod loops;
-mod resolved;
-mod times;
+mod without_code;
 
 pub use compiled::{CompileFault, Compiled};
 pub use compiler::compile;

@@ -27,7 +27,7 @@ refused-file h name bytes refusal whole verdict = record { bytes = bytes; file =
 pub long-file : (h : HostTold) (name : List ℕ) → OnNamed h name (λ x. 16_777_216 < length x) → OnBytes h name (λ x. HasVerdict x (Refused TooLong))
 long-file h name long =
     let known : OnBytes h name (λ x. 16_777_216 < length x) = longer_than h name 16_777_216 long in
-    record { bytes = known.bytes; file = known.file; holds = inl (inl (known.holds, refl)) }
+    record { bytes = known.bytes; file = known.file; holds = inl (inl (inl (known.holds, refl))) }
 
 -- writing leaves what is unread
 pub still-read : (files : Option (List File)) (rest : Option (List ℕ)) (name : List ℕ) (now later : Option (List ℕ)) → OnFile files rest name (λ _. now ≡ Some []) → later ≡ now → OnFile files rest name (λ _. later ≡ Some [])

@@ -1,14 +1,14 @@
-use crate::resolved::resolve_model;
 use crate::tests::models::model;
 use mc_depend::{find_loop, needs_of};
 use mc_diagram::Resolved;
 use mc_equations::{is_trace_for, plain_run};
+use mc_verdict::accept_model;
 use std::test::Fail;
 
 /// The diagram of a model whose System has these items.
 fn diagram(rt: HostRuntime, items: &[u8]) -> Result<Resolved, Fail> {
     let text = model(rt, items)?;
-    match resolve_model(rt.alloc(), text.as_slice()) {
+    match accept_model(rt.alloc(), text.as_slice()) {
         Ok(r) => Ok(r),
         Err(_) => Err(Fail::from("refused")),
     }
@@ -81,16 +81,5 @@ fn classes_of_outputs(rt: HostRuntime) -> Result<(), Fail> {
     let needs = needs_of(rt.alloc(), &r, None)?;
     assert_eq!(rt; needs.as_slice(), [1, 1, 0].as_slice());
     assert!(rt; find_loop(rt.alloc(), &r)?.is_none());
-    Ok(())
-}
-
-#[test]
-fn loop_through_a_gain(rt: HostRuntime) -> Result<(), Fail> {
-    let r = diagram(
-        rt,
-        b"Block { / BlockType Inport / Name a / OutDataTypeStr int32 / } / Block { / BlockType Sum / Name s / Inputs \"|+-\" / } / Block { / BlockType Gain / Name g / } / Block { / BlockType Outport / Name b / } / Line { / SrcBlock a / SrcPort 1 / DstBlock s / DstPort 1 / } / Line { / SrcBlock s / SrcPort 1 / Branch { / DstBlock g / DstPort 1 / } / Branch { / DstBlock b / DstPort 1 / } / } / Line { / SrcBlock g / SrcPort 1 / DstBlock s / DstPort 2 / }",
-    )?;
-    let found = find_loop(rt.alloc(), &r)?.ok_or("no loop")?;
-    assert_eq!(rt; found.as_slice(), [1, 2].as_slice());
     Ok(())
 }

@@ -142,6 +142,30 @@ fn a_delay_of_several_samples_has_no_code_yet(rt: HostRuntime) -> Result<(), Fai
 }
 
 #[test]
+fn subsystems_and_other_rates_have_no_code_yet(rt: HostRuntime) -> Result<(), Fail> {
+    for (items, expected) in [
+        // periods 2 and 3: the base tick is 1
+        (
+            b"Block { / BlockType Inport / Name a / OutDataTypeStr int8 / SampleTime 2 / } / Block { / BlockType Inport / Name b / Port 2 / OutDataTypeStr int8 / SampleTime 3 / } / Block { / BlockType Terminator / Name s / } / Block { / BlockType Terminator / Name t / } / Line { / SrcBlock a / SrcPort 1 / DstBlock s / DstPort 1 / } / Line { / SrcBlock b / SrcPort 1 / DstBlock t / DstPort 1 / }".as_slice(),
+            b"refused F7 Unsupported line 3\n".as_slice(),
+        ),
+        // one period, which is the base tick: its row and that which inherits from it run at every tick
+        (
+            b"Block { / BlockType Inport / Name a / OutDataTypeStr int8 / SampleTime 2 / } / Block { / BlockType Outport / Name b / } / Line { / SrcBlock a / SrcPort 1 / DstBlock b / DstPort 1 / }".as_slice(),
+            b"".as_slice(),
+        ),
+        // a ground and a terminator, and behind them a subsystem with nothing in it
+        (
+            b"Block { / BlockType Ground / Name g / } / Block { / BlockType Terminator / Name t / } / Block { / BlockType SubSystem / Name s / System { / } / } / Line { / SrcBlock g / SrcPort 1 / DstBlock t / DstPort 1 / }".as_slice(),
+            b"refused F7 Unsupported line 11\n".as_slice(),
+        ),
+    ] {
+        assert_eq!(rt; answer(rt, items)?.as_slice(), expected);
+    }
+    Ok(())
+}
+
+#[test]
 fn what_a_model_has(rt: HostRuntime) -> Result<(), Fail> {
     // the second input goes to the first output, and the first one through a delay to the second output
     let compiled = compiled(

@@ -1,5 +1,0 @@
-use Rattle.mc_table.proofs.SignLemmas.{minus_mask-fits}
-use Rattle.mc_table.proofs.counts.minus_mask.Goals as goal
-
-pub with_sign-mask-requires : goal.with_sign-mask-requires
-with_sign-mask-requires c = minus_mask-fits c.loop-at.at c.args.text.now c.loop-at.mask c.requires c.loop-at.invariant.1

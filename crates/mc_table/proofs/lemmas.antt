@@ -1,3 +1,0 @@
--- Lemmas that proofs of the crates above use.
-pub mod AcceptedLists
-pub mod AcceptedModel

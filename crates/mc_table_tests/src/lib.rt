@@ -1,9 +1,0 @@
-// Tests of the tables of models, apart from them so that their proofs are made once.
-#![tactic(auto)]
-
-mod texts;
-
-pub use texts::{model_of, push_lines, push_parts};
-
-#[cfg(test)]
-mod tests;
