@@ -45,7 +45,7 @@ gain_loop() {
   }'
 }
 
-# So many SubSystem blocks beside each other: refused as long as subsystems are.
+# So many SubSystem blocks beside each other.
 empty_subsystems() {
   awk -v n="$1" 'BEGIN {
     printf "Model {\nSystem {\n"
@@ -62,6 +62,74 @@ many_ports() {
       printf "Block {\nBlockType SubSystem\nName \"s%d\"\nSystem {\n", k
       for (j = 1; j <= 2; j++) printf "Block {\nBlockType Inport\nName \"x%d\"\nPort \"%d\"\n}\nBlock {\nBlockType Outport\nName \"y%d\"\nPort \"%d\"\n}\n", j, j, j, j
       printf "}\n}\n"
+    }
+    printf "}\n}\n"
+  }'
+}
+
+# A chain of so many subsystems of eight rows each: the SubSystem, and in it an Inport, five Unit Delays and an Outport.
+subsystem_chain() {
+  awk -v n="$1" 'BEGIN {
+    printf "Model {\nSystem {\nBlock {\nBlockType Inport\nName \"s0\"\nOutDataTypeStr \"int32\"\n}\n"
+    for (k = 1; k <= n; k++) {
+      printf "Block {\nBlockType SubSystem\nName \"s%d\"\nSystem {\nBlock {\nBlockType Inport\nName \"d0\"\n}\n", k
+      for (j = 1; j <= 5; j++) printf "Block {\nBlockType UnitDelay\nName \"d%d\"\nInitialCondition \"%d\"\n}\n", j, j
+      printf "Block {\nBlockType Outport\nName \"d6\"\n}\n"
+      for (j = 0; j <= 5; j++) printf "Line {\nSrcBlock \"d%d\"\nSrcPort 1\nDstBlock \"d%d\"\nDstPort 1\n}\n", j, j + 1
+      printf "}\n}\n"
+    }
+    printf "Block {\nBlockType Outport\nName \"s%d\"\n}\n", n + 1
+    for (k = 0; k <= n; k++) printf "Line {\nSrcBlock \"s%d\"\nSrcPort 1\nDstBlock \"s%d\"\nDstPort 1\n}\n", k, k + 1
+    printf "}\n}\n"
+  }'
+}
+
+# Systems inside each other, 32 subsystems deep, with so many rows together: a chain of Unit Delays in each.
+deep_systems() {
+  awk -v n="$1" 'BEGIN {
+    long = int(n / 33) - 3
+    printf "Model {\n"
+    for (k = 0; k <= 32; k++) {
+      printf "System {\nBlock {\nBlockType Inport\nName \"d0\"\n%s}\n", k == 0 ? "OutDataTypeStr \"int32\"\n" : ""
+      for (j = 1; j <= long; j++) printf "Block {\nBlockType UnitDelay\nName \"d%d\"\n}\n", j
+      printf "Block {\nBlockType Outport\nName \"o\"\n}\n"
+      if (k < 32) printf "Block {\nBlockType SubSystem\nName \"s\"\n"
+    }
+    for (k = 32; k >= 0; k--) {
+      if (k < 32) printf "}\n"
+      for (j = 0; j < long; j++) printf "Line {\nSrcBlock \"d%d\"\nSrcPort 1\nDstBlock \"d%d\"\nDstPort 1\n}\n", j, j + 1
+      if (k < 32) printf "Line {\nSrcBlock \"d%d\"\nSrcPort 1\nDstBlock \"s\"\nDstPort 1\n}\n", long
+      printf "Line {\nSrcBlock \"%s\"\nSrcPort 1\nDstBlock \"o\"\nDstPort 1\n}\n}\n", k < 32 ? "s" : "d" long
+    }
+    printf "}\n"
+  }'
+}
+
+# A chain of Unit Delays, so many rows, whose lines stand in the reverse order of their blocks.
+lines_in_reverse() {
+  awk -v n="$1" 'BEGIN {
+    printf "Model {\nSystem {\nBlock {\nBlockType Inport\nName \"d0\"\nOutDataTypeStr \"int32\"\n}\n"
+    for (k = 1; k < n - 1; k++) printf "Block {\nBlockType UnitDelay\nName \"d%d\"\n}\n", k
+    printf "Block {\nBlockType Outport\nName \"d%d\"\n}\n", n - 1
+    for (k = n - 2; k >= 0; k--) printf "Line {\nSrcBlock \"d%d\"\nSrcPort 1\nDstBlock \"d%d\"\nDstPort 1\n}\n", k, k + 1
+    printf "}\n}\n"
+  }'
+}
+
+# So many rows of which each fourth has a sample time of its own, no two the same: 5,000 of 20,000.
+many_periods() {
+  awk -v n="$1" 'BEGIN {
+    for (p = 60; p <= 720720; p++) if (720720 % p == 0) periods[count++] = p
+    printf "Model {\nSystem {\n"
+    for (k = 0; k < n / 4; k++) {
+      printf "Block {\nBlockType Constant\nName \"c%d\"\nValue \"1\"\nOutDataTypeStr \"int8\"\n}\n", k
+      printf "Block {\nBlockType UnitDelay\nName \"d%d\"\nSampleTime \"[%d, %d]\"\n}\n", k, periods[k % count], int(k / count)
+      printf "Block {\nBlockType ZeroOrderHold\nName \"h%d\"\n}\nBlock {\nBlockType Terminator\nName \"t%d\"\n}\n", k, k
+    }
+    for (k = 0; k < n / 4; k++) {
+      printf "Line {\nSrcBlock \"c%d\"\nSrcPort 1\nDstBlock \"d%d\"\nDstPort 1\n}\n", k, k
+      printf "Line {\nSrcBlock \"d%d\"\nSrcPort 1\nDstBlock \"h%d\"\nDstPort 1\n}\n", k, k
+      printf "Line {\nSrcBlock \"h%d\"\nSrcPort 1\nDstBlock \"t%d\"\nDstPort 1\n}\n", k, k
     }
     printf "}\n}\n"
   }'
