@@ -21,14 +21,16 @@ use Rattle.mc_blocks.specs.Value.{conversion, aligned_number}
 use Rattle.mc_blocks.specs.Laws.{ConversionFits}
 use Rattle.c_syntax.specs.declared.BinOp.TheVariants.{Mul}
 use Rattle.c_syntax.specs.Tree.{ExprTree, binary, pure, exprs_of_list, PureTree}
-use Rattle.c_machine.specs.Values.{Answer, gives, and_then, Function, Reads, function_at, functions_of, eval, step_limit}
+use Rattle.c_machine.specs.Values.{gives, Function, Reads, function_at, functions_of, eval, step_limit}
+use Rattle.c_machine.specs.EvaluationLaws.{Gives}
+use Rattle.c_machine.proofs.lemmas.WithoutSteps.{gives_literal, gives_mul, call_after}
 use Rattle.c_prelude.specs.Rules.{IsPrelude, WholeNumbersStay, rounding_position, cast_call}
 use Rattle.std.specs.Prelude.{Option}
 use Rattle.c_blocks.specs.declared.ranges.Range.{Range}
 use Rattle.c_blocks.specs.Ranges.{surely_holds}
 use Rattle.c_blocks.specs.RowCode.{aligned, cast, converted, power, written}
 use Rattle.c_blocks.specs.Computed.{conversion_returns}
-use Rattle.c_blocks.proofs.Evaluation.{Gives, gives_mul, gives_written, call_after}
+use Rattle.c_blocks.proofs.lemmas.WrittenNumbers.{gives_written}
 use Rattle.c_blocks.proofs.RangeLaws.{InRange, held_is_in}
 
 -- ---- Numbers of types
@@ -148,17 +150,18 @@ module _ (functions : List Function) (reads : Reads) (line : ℕ) where
     where
       by : (b : Bool) → (f == F) ≡ b → Is (if b then e else binary Mul e (power (F - f))) (aligned_number v f F)
       by true same = subst (Is e) (same_units v f F same) h
-      by false other = gives_mul functions reads line e (power (F - f)) v (pos (2 ^ (F - f))) h (λ steps. refl) (omega (arith, small))
+      by false other = gives_mul functions reads line e (power (F - f)) v (pos (2 ^ (F - f))) h
+          (gives_literal functions reads line (pos (2 ^ (F - f)))) (omega (arith, small))
 
   -- a number that an expression comes to is brought into a type by one call
-  cast_after : (over : Over) (t : FixType) (e : ExprTree) (steps : ℕ) (a : Answer ℤ) → eval functions reads line e steps ≡ a →
-      eval functions reads line (cast over t e) steps ≡ and_then a (λ q count. cast_call functions over t (q ∷ []) count)
-  cast_after Saturate t e steps a first =
-      call_after functions reads line 6 e (written (least_of t) ∷ written (greatest_of t) ∷ []) (least_of t ∷ greatest_of t ∷ [])
-      (gives_written functions reads line (least_of t) (least_small t), (gives_written functions reads line (greatest_of t) (greatest_small t), tt)) steps a first
-  cast_after Wrap t e steps a first =
-      call_after functions reads line 7 e (written (least_of t) ∷ power t.bits ∷ []) (least_of t ∷ pos (2 ^ t.bits) ∷ [])
-      (gives_written functions reads line (least_of t) (least_small t), ((λ count. refl), tt)) steps a first
+  cast_after : (over : Over) (t : FixType) (e : ExprTree) (q : ℤ) (steps mid : ℕ) → eval functions reads line e steps ≡ gives q mid →
+      eval functions reads line (cast over t e) steps ≡ cast_call functions over t (q ∷ []) mid
+  cast_after Saturate t e q steps mid first =
+      call_after functions reads line 6 e (written (least_of t) ∷ written (greatest_of t) ∷ []) q (least_of t ∷ greatest_of t ∷ [])
+      (gives_written functions reads line (least_of t) (least_small t), (gives_written functions reads line (greatest_of t) (greatest_small t), tt)) steps mid first
+  cast_after Wrap t e q steps mid first =
+      call_after functions reads line 7 e (written (least_of t) ∷ power t.bits ∷ []) q (least_of t ∷ pos (2 ^ t.bits) ∷ [])
+      (gives_written functions reads line (least_of t) (least_small t), (gives_literal functions reads line (pos (2 ^ t.bits)), tt)) steps mid first
 
 -- ---- Conversions
 
@@ -211,8 +214,12 @@ module _ (ps : List PureTree) (prelude : IsPrelude ps) (stay : WholeNumbersStay)
       rounding = pure position (exprs_of_list (e ∷ power (f - to.frac) ∷ []))
 
       down : eval functions reads line rounding steps ≡ function_at functions position (v ∷ pos (2 ^ (f - to.frac)) ∷ []) steps
-      down = call_after functions reads line position e (power (f - to.frac) ∷ []) (pos (2 ^ (f - to.frac)) ∷ [])
-          ((λ count. refl), tt) steps (gives v steps) (h steps)
+      down = call_after functions reads line position e (power (f - to.frac) ∷ []) v (pos (2 ^ (f - to.frac)) ∷ [])
+          (gives_literal functions reads line (pos (2 ^ (f - to.frac))), tt) steps steps (h steps)
+
+      rounds : to.frac < f → function_at functions position (v ∷ pos (2 ^ (f - to.frac)) ∷ []) steps
+          ≡ gives (rounded how.round v (2 ^ (f - to.frac))) (steps + 1)
+      rounds lt = prelude.rounds how.round v (f - to.frac) steps (omega (arith, lt)) fits.1 small (omega (arith, room))
 
       held_up : f ≤ to.frac → surely_holds to f range ≡ true →
           eval functions reads line (aligned e f to.frac) steps ≡ gives (conversion v f to how) (steps + 0)
@@ -226,22 +233,22 @@ module _ (ps : List PureTree) (prelude : IsPrelude ps) (stay : WholeNumbersStay)
       held_down lt held =
           let none : to.frac - f ≡ 0 = omega (arith, lt) in
           let whole : v ≡ over_units v f to.frac = sym (times_one v (to.frac - f) none) in
-          down ∙ prelude.rounds how.round v (f - to.frac) steps (omega (arith, lt)) fits.1 small (omega (arith, room))
-          ∙ ap (λ n. gives (rounded how.round n (under_units f to.frac)) (steps + 1)) whole
+          down ∙ rounds lt ∙ ap (λ n. gives (rounded how.round n (under_units f to.frac)) (steps + 1)) whole
           ∙ ap (λ q. gives q (steps + 1)) (held_is one v f range to how inside held)
 
       finer : f ≤ to.frac → eval functions reads line (cast how.over to (aligned e f to.frac)) steps ≡ gives (conversion v f to how) (steps + 1)
       finer le =
-          cast_after functions reads line how.over to (aligned e f to.frac) steps (gives x steps) up
+          cast_after functions reads line how.over to (aligned e f to.frac) x steps steps up
           ∙ cast_gives how.over to x steps fit (omega (arith, room))
           ∙ ap (λ q. gives (cast_into how.over to q) (steps + 1)) (whole_units stay how.round v f to le)
 
       coarser : to.frac < f → eval functions reads line (cast how.over to rounding) steps ≡ gives (conversion v f to how) (steps + 2)
       coarser lt =
           let case : Case = record { round = how.round; over = how.over; signed = to.signed } in
-          cast_after functions reads line how.over to rounding steps
-          (function_at functions position (v ∷ pos (2 ^ (f - to.frac)) ∷ []) steps) down
-          ∙ prelude.converts case (every_case how.round how.over to.signed) to v f steps refl (omega (arith, lt)) fits.1 small (omega (arith, room))
+          let both = prelude.converts case (every_case how.round how.over to.signed) to v f steps refl (omega (arith, lt)) fits.1 small
+          (omega (arith, room)) in
+          cast_after functions reads line how.over to rounding (rounded how.round v (2 ^ (f - to.frac))) steps (steps + 1) (down ∙ rounds lt)
+          ∙ rw (rounds lt) at both
 
       by : (b held : Bool) → nat_le f to.frac ≡ b → surely_holds to f range ≡ held →
           (let whole = if b then aligned e f to.frac else rounding in

@@ -10,9 +10,10 @@ use Rattle.c_syntax.specs.declared.BinOp.TheVariants.{Add, Mul}
 use Rattle.c_syntax.specs.declared.Leaf.{Leaf}
 use Rattle.c_syntax.specs.Tree.{ExprTree, literal, read, binary}
 use Rattle.c_machine.specs.Values.{Function, Reads}
+use Rattle.c_machine.specs.EvaluationLaws.{Gives}
+use Rattle.c_machine.proofs.lemmas.WithoutSteps.{gives_literal, gives_read, gives_add, gives_mul, gives_neg}
 use Rattle.c_blocks.specs.RowCode.{nought, aligned, signed, term_codes, sum_code, product_code}
 use Rattle.c_blocks.proofs.BalancedLaws.{balanced_related, balanced_total, total}
-use Rattle.c_blocks.proofs.Evaluation.{Gives, gives_add, gives_mul, gives_neg}
 use Rattle.c_blocks.proofs.IntegerProducts.{product_assoc}
 use Rattle.c_blocks.proofs.Conversions.{aligned_gives}
 
@@ -88,14 +89,14 @@ module _ (functions : List Function) (reads : Reads) (line : ℕ) where
   terms_related minus F i [] leaves = tt
   terms_related minus F i (f ∷ fs) [] = tt
   terms_related minus F i (f ∷ fs) (l ∷ leaves) =
-      ((λ small. signed_gives (bit_at minus i == 1) (aligned (read l) f F) (aligned_number (reads.leaf l) f F) (aligned_gives functions reads line (read l) (reads.leaf l) f F (λ steps. refl) small) small), terms_related minus F (suc i) fs leaves)
+      ((λ small. signed_gives (bit_at minus i == 1) (aligned (read l) f F) (aligned_number (reads.leaf l) f F) (aligned_gives functions reads line (read l) (reads.leaf l) f F (gives_read functions reads line l) small) small), terms_related minus F (suc i) fs leaves)
 
   -- the exact sum, which is no larger than its terms together
   pub sum_gives : (minus F : ℕ) (fs : List ℕ) (leaves : List Leaf) → length fs ≤ 16 → sum_magnitude F fs (map reads.leaf leaves) ≤ 2 ^ 62 →
       Is (sum_code minus F fs leaves) (exact_sum minus F 0 fs (map reads.leaf leaves)) × (unsigned_abs (exact_sum minus F 0 fs (map reads.leaf leaves)) ≤ sum_magnitude F fs (map reads.leaf leaves))
   sum_gives minus F fs leaves few small =
       let parts = term_parts reads minus F 0 fs leaves in
-      let tree = balanced_related (binary Add) add_parts IsTerm terms_add nought no_part (λ bound. ((λ steps. refl), omega arith)) (term_codes minus F 0 fs leaves) parts (terms_related minus F 0 fs leaves) in
+      let tree = balanced_related (binary Add) add_parts IsTerm terms_add nought no_part (λ bound. (gives_literal functions reads line (pos 0), omega arith)) (term_codes minus F 0 fs leaves) parts (terms_related minus F 0 fs leaves) in
       let whole = balanced_total add_parts no_part add_assoc add_none parts (omega (arith, few, term_parts_length reads minus F 0 fs leaves)) in
       let is_term = subst (IsTerm (sum_code minus F fs leaves)) whole tree in
       let same = term_parts_most reads minus F 0 fs leaves in
@@ -159,14 +160,14 @@ module _ (functions : List Function) (reads : Reads) (line : ℕ) where
 
   factors_related : (leaves : List Leaf) → AllZip IsFactor (map read leaves) (factor_parts reads leaves)
   factors_related [] = tt
-  factors_related (l ∷ leaves) = ((le-max_left 1 (unsigned_abs (reads.leaf l)), λ small. ((λ steps. refl), le-max_right 1 (unsigned_abs (reads.leaf l)))), factors_related leaves)
+  factors_related (l ∷ leaves) = ((le-max_left 1 (unsigned_abs (reads.leaf l)), λ small. (gives_read functions reads line l, le-max_right 1 (unsigned_abs (reads.leaf l)))), factors_related leaves)
 
   -- the exact product, which is no larger than its factors together
   pub product_gives : (leaves : List Leaf) → length leaves ≤ 16 → product_magnitude (map reads.leaf leaves) ≤ 2 ^ 62 →
       Has (product_code leaves) (exact_product (map reads.leaf leaves)) × (unsigned_abs (exact_product (map reads.leaf leaves)) ≤ product_magnitude (map reads.leaf leaves))
   product_gives leaves few small =
       let parts = factor_parts reads leaves in
-      let tree = balanced_related (binary Mul) mul_parts IsFactor factors_multiply (literal (pos 1)) one_part (omega arith, λ bound. ((λ steps. refl), omega arith)) (map read leaves) parts (factors_related leaves) in
+      let tree = balanced_related (binary Mul) mul_parts IsFactor factors_multiply (literal (pos 1)) one_part (omega arith, λ bound. (gives_literal functions reads line (pos 1), omega arith)) (map read leaves) parts (factors_related leaves) in
       let whole = balanced_total mul_parts one_part mul_parts_assoc mul_one parts (omega (arith, few, factor_parts_length reads leaves)) in
       let is_factor = subst (IsFactor (product_code leaves)) whole tree in
       let same = factor_parts_most reads leaves in

@@ -17,11 +17,13 @@ use Rattle.c_syntax.specs.declared.Leaf.{Leaf}
 use Rattle.c_syntax.specs.Tree.{ExprTree, CondTree, literal, read, both, either}
 use Rattle.c_machine.specs.Values as c
 use Rattle.c_machine.specs.Values.{Function, Reads}
+use Rattle.c_machine.specs.EvaluationLaws.{Gives, Holds}
+use Rattle.c_machine.proofs.lemmas.WithoutSteps.{gives_literal, gives_read, gives_pick, holds_compare, holds_both, holds_either, holds_negated}
 use Rattle.c_blocks.specs.RowCode.{nought, truth, truths, is_true_code, differ, always, never, all_hold, some_holds, odd_hold, logic_code, passes_code, passes_all, written}
 use Rattle.c_blocks.specs.declared.ranges.Range.{Range}
 use Rattle.c_blocks.proofs.RangeLaws.{InRange}
 use Rattle.c_blocks.proofs.BalancedLaws.{balanced_related, balanced_total, total}
-use Rattle.c_blocks.proofs.Evaluation.{Gives, Holds, gives_pick, gives_written, holds_compare, holds_both, holds_either, holds_negated}
+use Rattle.c_blocks.proofs.lemmas.WrittenNumbers.{gives_written}
 
 -- comparisons of C are those of blocks
 pub same_compare : (how : Compare) (x y : ℤ) → c.compares how x y ≡ value.compares how x y
@@ -108,35 +110,47 @@ module _ (functions : List Function) (reads : Reads) (line : ℕ) where
   abbrev Has : CondTree → Bool → Type 0
   Has t b = Holds functions reads line t b
 
+  gives_nought : Gives functions reads line nought (pos 0)
+  gives_nought = gives_literal functions reads line (pos 0)
+
+  gives_one : Gives functions reads line (literal (pos 1)) (pos 1)
+  gives_one = gives_literal functions reads line (pos 1)
+
+  always_holds : Has always true
+  always_holds = holds_compare functions reads line Eq nought nought (pos 0) (pos 0) gives_nought gives_nought
+
+  never_holds : Has never false
+  never_holds = holds_compare functions reads line Ne nought nought (pos 0) (pos 0) gives_nought gives_nought
+
   pub truth_gives : (t : CondTree) (b : Bool) → Has t b → Gives functions reads line (truth t) (number_of_bool b)
-  truth_gives t b h = subst (Gives functions reads line (truth t)) (bit_is b) (gives_pick functions reads line t (literal (pos 1)) nought b (pos 1) (pos 0) h (λ steps. refl) (λ steps. refl))
+  truth_gives t b h = subst (Gives functions reads line (truth t)) (bit_is b) (gives_pick functions reads line t (literal (pos 1)) nought b (pos 1) (pos 0) h gives_one gives_nought)
 
   pub is_true_holds : (e : ExprTree) (v : ℤ) → Gives functions reads line e v → Has (is_true_code e) (is_true v)
-  is_true_holds e v h = holds_compare functions reads line Ne e nought v (pos 0) h (λ steps. refl)
+  is_true_holds e v h = holds_compare functions reads line Ne e nought v (pos 0) h gives_nought
 
   differ_holds : (s t : CondTree) (p q : Bool) → Has s p → Has t q → Has (differ s t) (xor p q)
   differ_holds s t p q f g =
       subst (Has (differ s t)) (differ_is_xor p q)
       (holds_compare functions reads line Ne (truth s) (truth t) (cond p (pos 1) (pos 0)) (cond q (pos 1) (pos 0))
-      (gives_pick functions reads line s (literal (pos 1)) nought p (pos 1) (pos 0) f (λ steps. refl) (λ steps. refl))
-      (gives_pick functions reads line t (literal (pos 1)) nought q (pos 1) (pos 0) g (λ steps. refl) (λ steps. refl)))
+      (gives_pick functions reads line s (literal (pos 1)) nought p (pos 1) (pos 0) f gives_one gives_nought)
+      (gives_pick functions reads line t (literal (pos 1)) nought q (pos 1) (pos 0) g gives_one gives_nought))
 
   truths_hold : (leaves : List Leaf) → AllZip Has (truths leaves) (map is_true (map reads.leaf leaves))
   truths_hold [] = tt
-  truths_hold (l ∷ leaves) = (is_true_holds (read l) (reads.leaf l) (λ steps. refl), truths_hold leaves)
+  truths_hold (l ∷ leaves) = (is_true_holds (read l) (reads.leaf l) (gives_read functions reads line l), truths_hold leaves)
 
   module _ (tests : List CondTree) (bs : List Bool) (few : length bs ≤ 16) (related : AllZip Has tests bs) where
     all_holds : Has (all_hold tests) (list_all (λ b. b) bs)
     all_holds = subst (Has (all_hold tests)) (balanced_total ◌&&◌ true and_assoc and_true bs few ∙ all_total bs)
-        (balanced_related both ◌&&◌ Has (holds_both functions reads line) always true (λ steps. refl) tests bs related)
+        (balanced_related both ◌&&◌ Has (holds_both functions reads line) always true always_holds tests bs related)
 
     some_hold : Has (some_holds tests) (list_any (λ b. b) bs)
     some_hold = subst (Has (some_holds tests)) (balanced_total ◌||◌ false or_assoc or_false bs few ∙ any_total bs)
-        (balanced_related either ◌||◌ Has (holds_either functions reads line) never false (λ steps. refl) tests bs related)
+        (balanced_related either ◌||◌ Has (holds_either functions reads line) never false never_holds tests bs related)
 
     odd_holds : Has (odd_hold tests) (odd_trues bs)
     odd_holds = subst (Has (odd_hold tests)) (balanced_total xor false xor_assoc xor_false bs few ∙ odd_total bs)
-        (balanced_related differ xor Has differ_holds never false (λ steps. refl) tests bs related)
+        (balanced_related differ xor Has differ_holds never false never_holds tests bs related)
 
     logic_by : (op : Logic) → Has (logic_code op tests) (logic_of op bs)
     logic_by And = all_holds

@@ -12,6 +12,17 @@ const INT8: FixType = FixType {
     frac: 0,
 };
 
+const INT16: FixType = FixType {
+    signed: true,
+    bits: 16,
+    frac: 0,
+};
+
+const WRAPPED: How = How {
+    round: Round::Floor,
+    over: Over::Wrap,
+};
+
 const LEAVES: ControlLeaves = ControlLeaves {
     enable: Leaf::Param(1),
     trigger: Leaf::Param(2),
@@ -92,16 +103,7 @@ const RING: RingFields = RingFields {
 
 #[test]
 fn a_wider_type_holds_each_number(rt: HostRuntime) -> Result<(), Fail> {
-    let how = How {
-        round: Round::Floor,
-        over: Over::Wrap,
-    };
-    let int16 = FixType {
-        signed: true,
-        bits: 16,
-        frac: 0,
-    };
-    let op = resolve(&Kind::Convert(how), &[INT8], int16, false);
+    let op = resolve(&Kind::Convert(WRAPPED), &[INT8], INT16, false);
     let nothing = Expr::Literal(0);
     let code = value_code(rt.alloc(), &op, &[Leaf::Param(1)], &[INT8], nothing)?;
     assert!(rt; matches!(code, Expr::Read(Leaf::Param(1))));
@@ -110,23 +112,14 @@ fn a_wider_type_holds_each_number(rt: HostRuntime) -> Result<(), Fail> {
 
 #[test]
 fn a_sum_that_fits_is_not_brought_into_its_type(rt: HostRuntime) -> Result<(), Fail> {
-    let how = How {
-        round: Round::Floor,
-        over: Over::Wrap,
-    };
-    let int16 = FixType {
-        signed: true,
-        bits: 16,
-        frac: 0,
-    };
     let kind = Kind::Sum {
         count: 2,
         minus: 2,
-        how,
+        how: WRAPPED,
     };
     let types = [INT8, INT8];
     let leaves = [Leaf::Param(1), Leaf::Param(2)];
-    let op = resolve(&kind, &types, int16, false);
+    let op = resolve(&kind, &types, INT16, false);
     let known = value_code(rt.alloc(), &op, &leaves, &types, Expr::Literal(0))?;
     assert!(rt; matches!(known, Expr::Binary(BinOp::Add, _, _)));
     let unknown = value_code(rt.alloc(), &op, &leaves, &[], Expr::Literal(0))?;

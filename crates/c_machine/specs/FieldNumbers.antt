@@ -5,8 +5,9 @@ use Rattle.c_syntax.specs.declared.code.Leaf.{Leaf}
 use Rattle.c_syntax.specs.declared.code.Leaf.TheVariants.{Param, Own, Child}
 use Rattle.c_syntax.specs.declared.code.Target.{Target}
 use Rattle.c_syntax.specs.declared.code.Target.TheVariants.{Own as OwnTarget, Child as ChildTarget}
-use Rattle.c_syntax.specs.Tree.{ExprTree, literal, neg, read, binary, pick, pure, item, ExprTrees, no_exprs, more_exprs, CondTree, compare, both, either, negated, StmtTree, assign, assign_at, branch, call, StmtTrees, no_stmts, more_stmts, type_at}
+use Rattle.c_syntax.specs.Tree.{ExprTree, ExprTrees, CondTree, StmtTree, assign, assign_at, branch, call, StmtTrees, no_stmts, more_stmts, type_at}
 use Rattle.c_machine.specs.Cells.{Cells, cell_at}
+use Rattle.c_machine.specs.MappedLeaves.{mapped_expr, mapped_exprs, mapped_cond}
 use Rattle.c_machine.specs.Machine.{LoggedCall, StoredField, Outcome, done, stuck, Routine, routine_at, Scope, run_stmts}
 use Rattle.c_machine.specs.CellLaws.{cells_count}
 use Rattle.c_machine.specs.NumberingLaws.{AllCalls}
@@ -20,26 +21,15 @@ module _ (place : ℕ → ℕ) where
   placed_leaf (Own f) = Own (place f)
   placed_leaf (Child f g) = Child (place f) g
 
-  abbrev mutual
-    -- an expression, expressions and a condition with the new numbers of the fields
-    pub placed_expr : ExprTree → ExprTree
-    placed_expr (literal v) = literal v
-    placed_expr (neg e) = neg (placed_expr e)
-    placed_expr (read l) = read (placed_leaf l)
-    placed_expr (binary op a b) = binary op (placed_expr a) (placed_expr b)
-    placed_expr (pick test a b) = pick (placed_cond test) (placed_expr a) (placed_expr b)
-    placed_expr (pure k es) = pure k (placed_exprs es)
-    placed_expr (item f index) = item (place f) (placed_expr index)
+  -- an expression, expressions and a condition with the new numbers of the fields
+  abbrev pub placed_expr : ExprTree → ExprTree
+  placed_expr = mapped_expr placed_leaf place
 
-    pub placed_exprs : ExprTrees → ExprTrees
-    placed_exprs no_exprs = no_exprs
-    placed_exprs (more_exprs e es) = more_exprs (placed_expr e) (placed_exprs es)
+  abbrev pub placed_exprs : ExprTrees → ExprTrees
+  placed_exprs = mapped_exprs placed_leaf place
 
-    pub placed_cond : CondTree → CondTree
-    placed_cond (compare how a b) = compare how (placed_expr a) (placed_expr b)
-    placed_cond (both a b) = both (placed_cond a) (placed_cond b)
-    placed_cond (either a b) = either (placed_cond a) (placed_cond b)
-    placed_cond (negated a) = negated (placed_cond a)
+  abbrev pub placed_cond : CondTree → CondTree
+  placed_cond = mapped_cond placed_leaf place
 
   abbrev pub placed_target : Target → Target
   placed_target OwnTarget = OwnTarget

@@ -5,8 +5,10 @@ pub mod Rows
 pub mod LinesAside
 pub mod CellLaws
 pub mod RunLaws
+pub mod EvaluationLaws
 pub mod CallLaws
 pub mod NumberingLaws
+pub mod MappedLeaves
 pub mod FieldNumbers
 pub mod RowsExamples
 pub mod RoundsExamples

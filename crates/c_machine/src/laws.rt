@@ -1,5 +1,6 @@
 ghost use Rattle.c_machine.specs.CallLaws.{ArgumentsArePassed, ChildCallsStayInside, OwnCallsRunBodies};
 ghost use Rattle.c_machine.specs.CellLaws.{FieldsAreSet, ItemsAreSet};
+ghost use Rattle.c_machine.specs.EvaluationLaws.{ConditionsAreEvaluated, ExpressionsAreEvaluated, PureFunctionsTakeAStep};
 ghost use Rattle.c_machine.specs.FieldNumbers.{FieldNumbersAreFree};
 ghost use Rattle.c_machine.specs.LinesAside.{LinesMeanNothing};
 ghost use Rattle.c_machine.specs.NumberingLaws.{CodeSeesWhatItCalls, ProcedureNumbersAreFree, ProceduresStandInOrder};
@@ -78,4 +79,20 @@ pub fn fields_are_set()
 /// An item of an array that is set is what was put there, and no other changes.
 pub fn items_are_set()
     ensures { ItemsAreSet }
+{}
+
+/// An expression comes to what its operator makes of what its parts come to, from the left, and is stuck where a part is, where
+/// an int64_t doesn't hold the result, at a divisor of 0, and at an index that is no item's place.
+pub fn expressions_are_evaluated()
+    ensures { ExpressionsAreEvaluated }
+{}
+
+/// A condition comes to what its parts come to, compared or joined, and looks at no more of them than C does.
+pub fn conditions_are_evaluated()
+    ensures { ConditionsAreEvaluated }
+{}
+
+/// A pure function takes a step and evaluates its body on its arguments alone.
+pub fn pure_functions_take_a_step()
+    ensures { PureFunctionsTakeAStep }
 {}

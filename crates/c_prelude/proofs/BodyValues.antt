@@ -11,14 +11,16 @@ use Rattle.mc_fixed.specs.declared.Round.{Round}
 use Rattle.mc_fixed.specs.declared.Round.TheVariants.{Ceiling, Convergent, Floor, Nearest, Zero}
 use Rattle.mc_fixed.specs.declared.Round.TheVariants as round
 use Rattle.mc_fixed.specs.Rounding.{floor_div, rounded}
-use Rattle.c_syntax.specs.declared.BinOp.TheVariants.{Add, Sub, Div, Rem}
+use Rattle.c_syntax.specs.declared.BinOp.TheVariants.{Add, Sub, Rem}
+use Rattle.c_syntax.specs.declared.Leaf.TheVariants.{Param}
 use Rattle.c_syntax.specs.Tree.{ExprTree, literal, binary, pick, CondTree, compare, both, either}
 use Rattle.c_machine.specs.Cells.{no_cells}
-use Rattle.c_machine.specs.Values.{gives, Function, Reads, reads}
+use Rattle.c_machine.specs.Values.{Function, int_at, Reads, reads}
+use Rattle.c_machine.specs.EvaluationLaws.{Gives, Holds}
+use Rattle.c_machine.proofs.lemmas.WithoutSteps.{gives_literal, gives_read, gives_neg, gives_add, gives_sub, gives_div, gives_rem, gives_pick, holds_compare, holds_both, holds_either}
 use Rattle.c_prelude.specs.Bodies.{argument, quotient, rest, half, minus_half, one_above, one_below, floor_body, ceiling_body, zero_body, nearer, nearest_body, away_body, is_odd, even_body, clamp_body, offset_rest, wrap_body}
 use Rattle.c_prelude.proofs.Division as division
 use Rattle.c_prelude.proofs.Division.{by_rest, by_rest_is, quotient-le}
-use Rattle.c_prelude.proofs.Evaluation.{add-gives, sub-gives, div-gives, rem-gives, Gives, Holds, gives-binary, gives-neg, gives-pick, holds-compare, holds-both, holds-either}
 
 -- the body of the function of a rounding rule
 abbrev pub rounding_body : Round → ExprTree
@@ -50,6 +52,12 @@ module _ (functions : List Function) (line : ℕ) (v : ℤ) (d h : ℕ) (even : 
   abbrev Has : CondTree → Bool → Type 0
   Has c b = Holds functions leaf line c b
 
+  given : (k : ℕ) → Is (argument k) (int_at (v ∷ pos d ∷ []) k)
+  given k = gives_read functions leaf line (Param k)
+
+  number : (x : ℤ) → Is (literal x) x
+  number = gives_literal functions leaf line
+
   above : 1 ≤ d
   above = omega (arith, even, some)
 
@@ -57,68 +65,66 @@ module _ (functions : List Function) (line : ℕ) (v : ℤ) (d h : ℕ) (even : 
   quotient_small = omega (arith, quotient-le v d h even some, small_v)
 
   quotient_is : Is quotient q
-  quotient_is = gives-binary functions leaf line Div (argument 0) (argument 1) v (pos d) q (λ n. refl) (λ n. refl)
-      (λ n. div-gives v d line n above (omega (arith, quotient_small)))
+  quotient_is = gives_div functions leaf line (argument 0) (argument 1) v d (given 0) (given 1) above (omega (arith, quotient_small))
 
   rest_is : Is rest r
-  rest_is = gives-binary functions leaf line Rem (argument 0) (argument 1) v (pos d) r (λ n. refl) (λ n. refl)
-      (λ n. rem-gives v d line n above (omega (arith, quotient_small)))
+  rest_is = gives_rem functions leaf line (argument 0) (argument 1) v d (given 0) (given 1) above (omega (arith, quotient_small))
 
   half_is : Is half (pos h)
   half_is =
       let halves : d / 2 ≡ h = ap (λ k. k / 2) even ∙ halved_is h in
-      gives-binary functions leaf line Div (argument 1) (literal (pos 2)) (pos d) (pos 2) (pos h) (λ n. refl) (λ n. refl)
-      (λ n. div-gives (pos d) 2 line n (omega arith) (omega (arith, halves, even, small_d)) ∙ ap (λ k. gives (pos k) n) halves)
+      subst (λ k. Is half (pos k)) halves (gives_div functions leaf line (argument 1) (literal (pos 2)) (pos d) 2 (given 1) (number (pos 2))
+      (omega arith) (omega (arith, halves, even, small_d)))
 
   minus_half_is : Is minus_half (neg_ℤ (pos h))
-  minus_half_is = gives-neg functions leaf line half (pos h) half_is (omega (arith, ints, even, small_d))
+  minus_half_is = gives_neg functions leaf line half (pos h) half_is (omega (arith, ints, even, small_d))
 
   above_is : Is one_above (q +ℤ pos 1)
-  above_is = gives-binary functions leaf line Add quotient (literal (pos 1)) q (pos 1) (q +ℤ pos 1) quotient_is (λ n. refl)
-      (λ n. add-gives q (pos 1) line n (omega (arith, ints, quotient_small)))
+  above_is = gives_add functions leaf line quotient (literal (pos 1)) q (pos 1) quotient_is (number (pos 1))
+      (omega (arith, ints, quotient_small))
 
   below_is : Is one_below (q -ℤ pos 1)
-  below_is = gives-binary functions leaf line Sub quotient (literal (pos 1)) q (pos 1) (q -ℤ pos 1) quotient_is (λ n. refl)
-      (λ n. sub-gives q (pos 1) line n (omega (arith, ints, quotient_small)))
+  below_is = gives_sub functions leaf line quotient (literal (pos 1)) q (pos 1) quotient_is (number (pos 1))
+      (omega (arith, ints, quotient_small))
 
   nearer_is : (up down : CondTree) (t u : Bool) → Has up t → Has down u → Is (nearer up down) (cond t (q +ℤ pos 1) (cond u (q -ℤ pos 1) q))
   nearer_is up down t u f g =
-      gives-pick functions leaf line up one_above (pick down one_below quotient) t (q +ℤ pos 1) (cond u (q -ℤ pos 1) q) f above_is
-      (gives-pick functions leaf line down one_below quotient u (q -ℤ pos 1) q g below_is quotient_is)
+      gives_pick functions leaf line up one_above (pick down one_below quotient) t (q +ℤ pos 1) (cond u (q -ℤ pos 1) q) f above_is
+      (gives_pick functions leaf line down one_below quotient u (q -ℤ pos 1) q g below_is quotient_is)
 
   odd_is : Has is_odd (division.is_odd q)
-  odd_is = holds-compare functions leaf line Ne (binary Rem quotient (literal (pos 2))) (literal (pos 0)) (int_rem q (pos 2)) (pos 0)
-      (gives-binary functions leaf line Rem quotient (literal (pos 2)) q (pos 2) (int_rem q (pos 2)) quotient_is (λ n. refl)
-      (λ n. rem-gives q 2 line n (omega arith) (omega (arith, quotient-le q 2 1 refl (omega arith), quotient_small))))
-      (λ n. refl)
+  odd_is = holds_compare functions leaf line Ne (binary Rem quotient (literal (pos 2))) (literal (pos 0)) (int_rem q (pos 2)) (pos 0)
+      (gives_rem functions leaf line quotient (literal (pos 2)) q 2 quotient_is (number (pos 2)) (omega arith)
+      (omega (arith, quotient-le q 2 1 refl (omega arith), quotient_small)))
+      (number (pos 0))
 
   body_is : (rule : Round) → Is (rounding_body rule) (by_rest rule q r h)
   body_is Floor =
-      gives-pick functions leaf line (compare Lt rest (literal (pos 0))) one_below quotient (int_lt r (pos 0)) (q -ℤ pos 1) q
-      (holds-compare functions leaf line Lt rest (literal (pos 0)) r (pos 0) rest_is (λ n. refl)) below_is quotient_is
+      gives_pick functions leaf line (compare Lt rest (literal (pos 0))) one_below quotient (int_lt r (pos 0)) (q -ℤ pos 1) q
+      (holds_compare functions leaf line Lt rest (literal (pos 0)) r (pos 0) rest_is (number (pos 0))) below_is quotient_is
   body_is Ceiling =
-      gives-pick functions leaf line (compare Gt rest (literal (pos 0))) one_above quotient (int_lt (pos 0) r) (q +ℤ pos 1) q
-      (holds-compare functions leaf line Gt rest (literal (pos 0)) r (pos 0) rest_is (λ n. refl)) above_is quotient_is
+      gives_pick functions leaf line (compare Gt rest (literal (pos 0))) one_above quotient (int_lt (pos 0) r) (q +ℤ pos 1) q
+      (holds_compare functions leaf line Gt rest (literal (pos 0)) r (pos 0) rest_is (number (pos 0))) above_is quotient_is
   body_is Zero = quotient_is
   body_is Nearest =
       nearer_is (compare Ge rest half) (compare Lt rest minus_half) (int_le (pos h) r) (int_lt r (neg_ℤ (pos h)))
-      (holds-compare functions leaf line Ge rest half r (pos h) rest_is half_is)
-      (holds-compare functions leaf line Lt rest minus_half r (neg_ℤ (pos h)) rest_is minus_half_is)
+      (holds_compare functions leaf line Ge rest half r (pos h) rest_is half_is)
+      (holds_compare functions leaf line Lt rest minus_half r (neg_ℤ (pos h)) rest_is minus_half_is)
   body_is round.Round =
       nearer_is (compare Ge rest half) (compare Le rest minus_half) (int_le (pos h) r) (int_le r (neg_ℤ (pos h)))
-      (holds-compare functions leaf line Ge rest half r (pos h) rest_is half_is)
-      (holds-compare functions leaf line Le rest minus_half r (neg_ℤ (pos h)) rest_is minus_half_is)
+      (holds_compare functions leaf line Ge rest half r (pos h) rest_is half_is)
+      (holds_compare functions leaf line Le rest minus_half r (neg_ℤ (pos h)) rest_is minus_half_is)
   body_is Convergent =
       nearer_is (either (compare Gt rest half) (both (compare Eq rest half) is_odd)) (either (compare Lt rest minus_half) (both (compare Eq rest minus_half) is_odd))
       (int_lt (pos h) r || (int_eq r (pos h) && division.is_odd q)) (int_lt r (neg_ℤ (pos h)) || (int_eq r (neg_ℤ (pos h)) && division.is_odd q))
-      (holds-either functions leaf line (compare Gt rest half) (both (compare Eq rest half) is_odd) (int_lt (pos h) r) (int_eq r (pos h) && division.is_odd q)
-      (holds-compare functions leaf line Gt rest half r (pos h) rest_is half_is)
-      (holds-both functions leaf line (compare Eq rest half) is_odd (int_eq r (pos h)) (division.is_odd q)
-      (holds-compare functions leaf line Eq rest half r (pos h) rest_is half_is) odd_is))
-      (holds-either functions leaf line (compare Lt rest minus_half) (both (compare Eq rest minus_half) is_odd) (int_lt r (neg_ℤ (pos h))) (int_eq r (neg_ℤ (pos h)) && division.is_odd q)
-      (holds-compare functions leaf line Lt rest minus_half r (neg_ℤ (pos h)) rest_is minus_half_is)
-      (holds-both functions leaf line (compare Eq rest minus_half) is_odd (int_eq r (neg_ℤ (pos h))) (division.is_odd q)
-      (holds-compare functions leaf line Eq rest minus_half r (neg_ℤ (pos h)) rest_is minus_half_is) odd_is))
+      (holds_either functions leaf line (compare Gt rest half) (both (compare Eq rest half) is_odd) (int_lt (pos h) r) (int_eq r (pos h) && division.is_odd q)
+      (holds_compare functions leaf line Gt rest half r (pos h) rest_is half_is)
+      (holds_both functions leaf line (compare Eq rest half) is_odd (int_eq r (pos h)) (division.is_odd q)
+      (holds_compare functions leaf line Eq rest half r (pos h) rest_is half_is) odd_is))
+      (holds_either functions leaf line (compare Lt rest minus_half) (both (compare Eq rest minus_half) is_odd) (int_lt r (neg_ℤ (pos h))) (int_eq r (neg_ℤ (pos h)) && division.is_odd q)
+      (holds_compare functions leaf line Lt rest minus_half r (neg_ℤ (pos h)) rest_is minus_half_is)
+      (holds_both functions leaf line (compare Eq rest minus_half) is_odd (int_eq r (neg_ℤ (pos h))) (division.is_odd q)
+      (holds_compare functions leaf line Eq rest minus_half r (neg_ℤ (pos h)) rest_is minus_half_is) odd_is))
 
   pub rounding_gives : (rule : Round) → Is (rounding_body rule) (rounded rule v d)
   rounding_gives rule = subst (Is (rounding_body rule)) (by_rest_is rule v d h even some) (body_is rule)
@@ -129,12 +135,15 @@ module _ (functions : List Function) (line : ℕ) (v lo third : ℤ) where
   abbrev three : Reads
   three = reads (v ∷ lo ∷ third ∷ []) no_cells
 
+  among : (k : ℕ) → Gives functions three line (argument k) (int_at (v ∷ lo ∷ third ∷ []) k)
+  among k = gives_read functions three line (Param k)
+
   pub clamp_gives : Gives functions three line clamp_body (cond (int_lt v lo) lo (cond (int_lt third v) third v))
   clamp_gives =
-      gives-pick functions three line (compare Lt (argument 0) (argument 1)) (argument 1) (pick (compare Gt (argument 0) (argument 2)) (argument 2) (argument 0)) (int_lt v lo) lo (cond (int_lt third v) third v)
-      (holds-compare functions three line Lt (argument 0) (argument 1) v lo (λ n. refl) (λ n. refl)) (λ n. refl)
-      (gives-pick functions three line (compare Gt (argument 0) (argument 2)) (argument 2) (argument 0) (int_lt third v) third v
-      (holds-compare functions three line Gt (argument 0) (argument 2) v third (λ n. refl) (λ n. refl)) (λ n. refl) (λ n. refl))
+      gives_pick functions three line (compare Lt (argument 0) (argument 1)) (argument 1) (pick (compare Gt (argument 0) (argument 2)) (argument 2) (argument 0)) (int_lt v lo) lo (cond (int_lt third v) third v)
+      (holds_compare functions three line Lt (argument 0) (argument 1) v lo (among 0) (among 1)) (among 1)
+      (gives_pick functions three line (compare Gt (argument 0) (argument 2)) (argument 2) (argument 0) (int_lt third v) third v
+      (holds_compare functions three line Gt (argument 0) (argument 2) v third (among 0) (among 2)) (among 2) (among 0))
 
 -- the rest of a division that is not negative
 euclid : (m : ℤ) (n : ℕ) → 1 ≤ n → (e : ℕ) × (e < n) × (m ≡ (floor_div m n *ℤ pos n) +ℤ pos e) × (int_rem_euclid m (pos n) ≡ pos e)
@@ -180,12 +189,14 @@ module _ (functions : List Function) (line : ℕ) (v lo : ℤ) (n : ℕ) (some :
   abbrev t : ℤ
   t = int_rem m (pos n)
 
+  part : (k : ℕ) → Gives functions wrapping line (argument k) (int_at (v ∷ lo ∷ pos n ∷ []) k)
+  part k = gives_read functions wrapping line (Param k)
+
   offset_is : Gives functions wrapping line offset_rest t
   offset_is =
-      gives-binary functions wrapping line Rem (binary Sub (argument 0) (argument 1)) (argument 2) m (pos n) t
-      (gives-binary functions wrapping line Sub (argument 0) (argument 1) v lo m (λ k. refl) (λ k. refl) (λ k. sub-gives v lo line k (omega (arith, ints, low, high, small_v))))
-      (λ k. refl)
-      (λ k. rem-gives m n line k some (let q = quotient-abs m n some in omega (arith, ints, q, low, high, small_v)))
+      gives_rem functions wrapping line (binary Sub (argument 0) (argument 1)) (argument 2) m n
+      (gives_sub functions wrapping line (argument 0) (argument 1) v lo (part 0) (part 1) (omega (arith, ints, low, high, small_v)))
+      (part 2) some (let q = quotient-abs m n some in omega (arith, ints, q, low, high, small_v))
 
   t_small : unsigned_abs t < n
   t_small = rem_below m (pos n) some
@@ -195,15 +206,15 @@ module _ (functions : List Function) (line : ℕ) (v lo : ℤ) (n : ℕ) (some :
     where
       picked : Gives functions wrapping line wrap_body (cond (int_lt t (pos 0)) ((t +ℤ pos n) +ℤ lo) (t +ℤ lo))
       picked =
-          gives-pick functions wrapping line (compare Lt offset_rest (literal (pos 0))) (binary Add (binary Add offset_rest (argument 2)) (argument 1)) (binary Add offset_rest (argument 1)) (int_lt t (pos 0)) ((t +ℤ pos n) +ℤ lo) (t +ℤ lo)
-          (holds-compare functions wrapping line Lt offset_rest (literal (pos 0)) t (pos 0) offset_is (λ k. refl))
-          (gives-binary functions wrapping line Add (binary Add offset_rest (argument 2)) (argument 1) (t +ℤ pos n) lo ((t +ℤ pos n) +ℤ lo)
-          (gives-binary functions wrapping line Add offset_rest (argument 2) t (pos n) (t +ℤ pos n) offset_is (λ k. refl)
-          (λ k. add-gives t (pos n) line k (let small = t_small in omega (arith, ints, small, small_n))))
-          (λ k. refl)
-          (λ k. add-gives (t +ℤ pos n) lo line k (let small = t_small in omega (arith, ints, small, small_n, low, high))))
-          (gives-binary functions wrapping line Add offset_rest (argument 1) t lo (t +ℤ lo) offset_is (λ k. refl)
-          (λ k. add-gives t lo line k (let small = t_small in omega (arith, ints, small, small_n, low, high))))
+          gives_pick functions wrapping line (compare Lt offset_rest (literal (pos 0))) (binary Add (binary Add offset_rest (argument 2)) (argument 1)) (binary Add offset_rest (argument 1)) (int_lt t (pos 0)) ((t +ℤ pos n) +ℤ lo) (t +ℤ lo)
+          (holds_compare functions wrapping line Lt offset_rest (literal (pos 0)) t (pos 0) offset_is
+          (gives_literal functions wrapping line (pos 0)))
+          (gives_add functions wrapping line (binary Add offset_rest (argument 2)) (argument 1) (t +ℤ pos n) lo
+          (gives_add functions wrapping line offset_rest (argument 2) t (pos n) offset_is (part 2)
+          (let small = t_small in omega (arith, ints, small, small_n)))
+          (part 1) (let small = t_small in omega (arith, ints, small, small_n, low, high)))
+          (gives_add functions wrapping line offset_rest (argument 1) t lo offset_is (part 1)
+          (let small = t_small in omega (arith, ints, small, small_n, low, high)))
 
       by : (b : Bool) → int_lt t (pos 0) ≡ b → cond b ((t +ℤ pos n) +ℤ lo) (t +ℤ lo) ≡ lo +ℤ cond b (t +ℤ pos n) t
       by true e = omega (arith, ints)

@@ -2,7 +2,7 @@ use Rattle.std.proofs.Common.{rules, ◌≤◌, drop, length, map, arith}
 use Rattle.c_syntax.specs.Plain.{expr_tree}
 use Rattle.c_blocks.specs.RowCode as code
 use Rattle.c_blocks.proofs.Terms.{terms_end}
-use Rattle.c_blocks.proofs.Writable.{at_most_greatest}
+use Rattle.c_blocks.proofs.lemmas.Writable.{at_most_greatest}
 use Rattle.c_blocks.proofs.exact.terms.Goals as goal
 
 pub returns-in_default : goal.returns-in_default

@@ -1,4 +1,4 @@
-use Rattle.c_blocks.proofs.TestLaws.{activity_is_tested}
+use Rattle.c_blocks.proofs.lemmas.TestLaws.{activity_is_tested}
 use Rattle.c_blocks.proofs.laws.activity_is_tested.Goals as goal
 
 pub returns : goal.returns

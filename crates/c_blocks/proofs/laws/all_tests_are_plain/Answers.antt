@@ -1,4 +1,4 @@
-use Rattle.c_blocks.proofs.TestLaws.{all_tests_are_plain}
+use Rattle.c_blocks.proofs.lemmas.TestLaws.{all_tests_are_plain}
 use Rattle.c_blocks.proofs.laws.all_tests_are_plain.Goals as goal
 
 pub returns : goal.returns

@@ -1,4 +1,4 @@
-use Rattle.c_blocks.proofs.RowLaws.{returns_are_few}
+use Rattle.c_blocks.proofs.lemmas.RowLaws.{returns_are_few}
 use Rattle.c_blocks.proofs.laws.returns_are_few.Goals as goal
 
 pub returns : goal.returns

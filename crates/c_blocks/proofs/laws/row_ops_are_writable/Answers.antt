@@ -1,4 +1,4 @@
-use Rattle.c_blocks.proofs.Writable.{row_ops_are_writable}
+use Rattle.c_blocks.proofs.lemmas.Writable.{row_ops_are_writable}
 use Rattle.c_blocks.proofs.laws.row_ops_are_writable.Goals as goal
 
 pub returns : goal.returns

@@ -1,4 +1,4 @@
-use Rattle.c_blocks.proofs.RowLaws.{rows_are_computed}
+use Rattle.c_blocks.proofs.lemmas.RowLaws.{rows_are_computed}
 use Rattle.c_blocks.proofs.laws.rows_are_computed.Goals as goal
 
 pub returns : goal.returns

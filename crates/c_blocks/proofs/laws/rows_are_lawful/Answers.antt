@@ -1,4 +1,4 @@
-use Rattle.c_blocks.proofs.LawfulLaws.{rows_are_lawful}
+use Rattle.c_blocks.proofs.lemmas.LawfulLaws.{rows_are_lawful}
 use Rattle.c_blocks.proofs.laws.rows_are_lawful.Goals as goal
 
 pub returns : goal.returns

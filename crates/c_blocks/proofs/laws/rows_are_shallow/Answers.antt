@@ -1,4 +1,4 @@
-use Rattle.c_blocks.proofs.DepthLaws.{rows_are_shallow}
+use Rattle.c_blocks.proofs.lemmas.DepthLaws.{rows_are_shallow}
 use Rattle.c_blocks.proofs.laws.rows_are_shallow.Goals as goal
 
 pub returns : goal.returns

@@ -1,5 +1,5 @@
 use Rattle.std.proofs.Common.{arith}
-use Rattle.c_blocks.proofs.Writable.{at_most_greatest}
+use Rattle.c_blocks.proofs.lemmas.Writable.{at_most_greatest}
 use Rattle.c_blocks.proofs.rows.comparison.Goals as goal
 
 pub aligned-requires-clause-finer : goal.aligned-requires-clause-finer

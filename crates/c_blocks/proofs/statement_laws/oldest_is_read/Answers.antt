@@ -1,4 +1,4 @@
-use Rattle.c_blocks.proofs.RingLaws.{oldest_is_read}
+use Rattle.c_blocks.proofs.lemmas.RingLaws.{oldest_is_read}
 use Rattle.c_blocks.proofs.statement_laws.oldest_is_read.Goals as goal
 
 pub returns : goal.returns

@@ -1,4 +1,4 @@
-use Rattle.c_blocks.proofs.StatementLaws.{rows_are_stored}
+use Rattle.c_blocks.proofs.lemmas.StatementLaws.{rows_are_stored}
 use Rattle.c_blocks.proofs.statement_laws.rows_are_stored.Goals as goal
 
 pub returns : goal.returns

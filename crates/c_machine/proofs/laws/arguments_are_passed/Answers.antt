@@ -1,4 +1,4 @@
-use Rattle.c_machine.proofs.CallLaws as proof
+use Rattle.c_machine.proofs.lemmas.CallLaws as proof
 use Rattle.c_machine.proofs.laws.arguments_are_passed.Goals as goal
 
 pub returns : goal.returns

@@ -1,4 +1,4 @@
-use Rattle.c_machine.proofs.CallLaws as proof
+use Rattle.c_machine.proofs.lemmas.CallLaws as proof
 use Rattle.c_machine.proofs.laws.child_calls_stay_inside.Goals as goal
 
 pub returns : goal.returns

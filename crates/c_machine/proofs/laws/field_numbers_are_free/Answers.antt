@@ -1,4 +1,4 @@
-use Rattle.c_machine.proofs.FieldNumbers as proof
+use Rattle.c_machine.proofs.lemmas.FieldNumbers as proof
 use Rattle.c_machine.proofs.laws.field_numbers_are_free.Goals as goal
 
 pub returns : goal.returns

@@ -1,4 +1,4 @@
-use Rattle.c_machine.proofs.CellLaws as proof
+use Rattle.c_machine.proofs.lemmas.CellLaws as proof
 use Rattle.c_machine.proofs.laws.items_are_set.Goals as goal
 
 pub returns : goal.returns

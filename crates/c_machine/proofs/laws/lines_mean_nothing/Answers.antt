@@ -1,4 +1,4 @@
-use Rattle.c_machine.proofs.LinesAside as aside
+use Rattle.c_machine.proofs.lemmas.LinesAside as aside
 use Rattle.c_machine.proofs.laws.lines_mean_nothing.Goals as goal
 
 pub returns : goal.returns

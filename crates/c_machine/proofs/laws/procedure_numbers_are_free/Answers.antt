@@ -1,4 +1,4 @@
-use Rattle.c_machine.proofs.NumberingLaws as proof
+use Rattle.c_machine.proofs.lemmas.NumberingLaws as proof
 use Rattle.c_machine.proofs.laws.procedure_numbers_are_free.Goals as goal
 
 pub returns : goal.returns

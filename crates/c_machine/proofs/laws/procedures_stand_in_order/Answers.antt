@@ -1,4 +1,4 @@
-use Rattle.c_machine.proofs.NumberingLaws as proof
+use Rattle.c_machine.proofs.lemmas.NumberingLaws as proof
 use Rattle.c_machine.proofs.laws.procedures_stand_in_order.Goals as goal
 
 pub returns : goal.returns

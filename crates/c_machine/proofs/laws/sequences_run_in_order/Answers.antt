@@ -1,4 +1,4 @@
-use Rattle.c_machine.proofs.RunLaws as proof
+use Rattle.c_machine.proofs.lemmas.RunLaws as proof
 use Rattle.c_machine.proofs.laws.sequences_run_in_order.Goals as goal
 
 pub returns : goal.returns

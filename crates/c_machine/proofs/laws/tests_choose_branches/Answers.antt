@@ -1,4 +1,4 @@
-use Rattle.c_machine.proofs.RunLaws as proof
+use Rattle.c_machine.proofs.lemmas.RunLaws as proof
 use Rattle.c_machine.proofs.laws.tests_choose_branches.Goals as goal
 
 pub returns : goal.returns

@@ -17,7 +17,7 @@ use Rattle.c_machine.specs.Machine.{LoggedCall, StoredField, Outcome, done, stuc
 use Rattle.c_machine.specs.CellLaws.{cells_count, IsFieldSet}
 use Rattle.c_machine.specs.NumberingLaws.{Calls, AllCalls}
 use Rattle.c_machine.specs.FieldNumbers.{placed_leaf, placed_expr, placed_exprs, placed_cond, placed_target, placed_stmt, placed_stmts, ArePlaced, placed_call, placed_store, EndPlaced, DoesPlaced, FieldNumbersAreFree}
-use Rattle.c_machine.proofs.CellLaws.{fields_are_set}
+use Rattle.c_machine.proofs.lemmas.CellLaws.{fields_are_set}
 
 -- a field that isn't there can't be set
 past_end : (cells : Cells) (f : ℕ) (c : Cell) → (f < cells_count cells → ⊥) → set_cell cells f c ≡ cells

@@ -8,7 +8,7 @@ use Rattle.c_machine.specs.Values.{Answer, gives, sticks, and_then, within, stuc
 use Rattle.c_machine.specs.Machine.{Outcome, done, stuck, behind, on_answer, begin_step, in_child, call_entry, arguments, routine_at}
 use Rattle.c_machine.specs.CallLaws.{ArgumentsArePassed, passed_in, OwnCallsRunBodies, cells_left, ChildCallsStayInside}
 use Rattle.c_machine.proofs.lemmas.Runs.{cell_at-set_cell-other}
-use Rattle.c_machine.proofs.RunLaws.{begins, no_step}
+use Rattle.c_machine.proofs.lemmas.RunLaws.{begins, no_step}
 
 -- ---- Arguments
 

@@ -3,15 +3,16 @@ use Rattle.std.proofs.Common.{◌≡◌, refl, sym, subst, ap, ◌∙◌, ℕ, �
 use Rattle.std.specs.Prelude.{Option, unsigned_abs, ◌^◌}
 use Rattle.std.specs.List.{AllZip}
 use Rattle.mc_guards.specs.declared.TrigMem.TheVariants.{Low, High}
-use Rattle.mc_guards.specs.Activity.{is_high}
+use Rattle.mc_guards.specs.Activity.{is_high, next_memory}
 use Rattle.c_syntax.specs.declared.CType.{CType}
 use Rattle.c_syntax.specs.declared.Leaf.{Leaf}
 use Rattle.c_syntax.specs.declared.Target.TheVariants.{Child}
-use Rattle.c_syntax.specs.declared.Why.TheVariants.{Range}
 use Rattle.c_syntax.specs.Tree.{ExprTree, read, CondTree, call, no_stmts, exprs_of_list}
 use Rattle.c_machine.specs.Cells.{Cells, number, set_cell, fields_at}
-use Rattle.c_machine.specs.Values.{Answer, gives, sticks, and_then, eval, Function, functions_of, is_in_type, leaf_reads, reads, stuck_at, step_limit}
-use Rattle.c_machine.specs.Machine.{Outcome, on_answer, arguments, in_child, Routine, routine_at, Scope, run_stmt, run_stmts}
+use Rattle.c_machine.specs.Values.{gives, eval, Function, functions_of, is_in_type, leaf_reads, reads, step_limit}
+use Rattle.c_machine.specs.Machine.{arguments, in_child, Routine, routine_at, Scope, run_stmts}
+use Rattle.c_machine.proofs.lemmas.CallLaws.{arguments_are_passed, child_calls_stay_inside}
+use Rattle.c_machine.proofs.lemmas.WithoutSteps.{gives_read}
 use Rattle.mc_blocks.specs.Value.{rhs}
 use Rattle.c_blocks.specs.Computed.{returns}
 use Rattle.c_blocks.specs.Laws.{RowsAreComputed}
@@ -20,8 +21,9 @@ use Rattle.c_blocks.specs.TestCode.{level_code}
 use Rattle.c_blocks.specs.StatementCode.{only_if, store_code, child_call}
 use Rattle.c_blocks.specs.StatementLaws.{leaves, test_steps, TestsTo, Takes, ValuesAreStored, ValuesAreReset, MemoriesAreStored, RowsAreStored, TriggersAreStored, CallsAreMade, ResetsAreCalled}
 use Rattle.c_blocks.specs.TestLaws.{memory_number}
-use Rattle.c_blocks.proofs.Evaluation.{gives_written}
-use Rattle.c_blocks.proofs.StatementRuns.{few_test_steps, then_nothing, first_step, guarded_runs, only_if_runs, store_runs}
+use Rattle.c_blocks.proofs.lemmas.TestLaws.{level_gives}
+use Rattle.c_blocks.proofs.lemmas.WrittenNumbers.{gives_written}
+use Rattle.c_blocks.proofs.StatementRuns.{few_test_steps, nothing_runs, alone_runs, guarded_runs, only_if_runs, store_runs}
 
 -- ---- Values and memories
 
@@ -38,7 +40,7 @@ values_are_stored scope cells field runs r value v calls steps runs_to comes tak
         else leaves cells (steps + test_steps runs) [])
     by true is = store_runs scope cells field value v (steps + test_steps runs) (steps + test_steps runs + 1 + calls)
         (comes is (steps + test_steps runs + 1) (omega (arith, few, room))) (takes is) (omega (arith, few, room))
-    by false is = refl
+    by false is = nothing_runs scope cells (steps + test_steps runs)
 
 pub rows_are_stored : RowsAreComputed → RowsAreStored
 rows_are_stored computed ps scope cells field runs r op given types memory m steps prelude functions tests can room =
@@ -84,7 +86,7 @@ started scope cells field test b start steps tests takes small room =
     by true is = store_runs scope cells field (written start) start (steps + test_steps test) (steps + test_steps test + 1)
         (gives_written scope.functions (reads scope.values cells) 0 start small (steps + test_steps test + 1)) (takes is)
         (omega (arith, few, room))
-    by false is = refl
+    by false is = nothing_runs scope cells (steps + test_steps test)
 
 pub values_are_reset : ValuesAreReset
 values_are_reset = started
@@ -106,7 +108,8 @@ memories_are_stored scope cells field runs off r o input start steps runs_to off
         ≡ (if b then leaves (set_cell cells field (number v)) (steps + test_steps runs + 1) (field ∷ [])
         else if o then leaves (set_cell cells field (number start)) (steps + test_steps runs + test_steps off + 1) (field ∷ [])
         else leaves cells (steps + test_steps runs + test_steps off) [])
-    by true is = store_runs scope cells field (read input) v (steps + test_steps runs) (steps + test_steps runs + 1) refl (takes is)
+    by true is = store_runs scope cells field (read input) v (steps + test_steps runs) (steps + test_steps runs + 1)
+        (gives_read scope.functions (reads scope.values cells) 0 input (steps + test_steps runs + 1)) (takes is)
         (omega (arith, few, room))
     by false is = started scope cells field off o start (steps + test_steps runs) off_to starts small (omega (arith, few, room))
 
@@ -114,28 +117,15 @@ memories_are_stored scope cells field runs off r o input start steps runs_to off
 
 pub triggers_are_stored : TriggersAreStored
 triggers_are_stored scope cells field trigger memory steps type room =
-    store_runs scope cells field (level_code trigger) (level (is_high v)) steps (steps + 1) (level_gives (is_high v))
-    (in_byte (is_high v)) (omega (arith, room))
-    ∙ ap (λ w. leaves (set_cell cells field (number w)) (steps + 1) (field ∷ [])) (level_is (is_high v))
+    store_runs scope cells field (level_code trigger) (memory_number (next_memory true memory v)) steps (steps + 1)
+    (level_gives scope.functions (reads scope.values cells) 0 trigger memory (steps + 1)) (in_byte (is_high v)) (omega (arith, room))
   where
     v : ℤ
     v = leaf_reads scope.values cells trigger
 
-    level : Bool → ℤ
-    level b = if b then pos 2 else pos 1
-
-    level_gives : (b : Bool) → and_then (gives b (steps + 1)) (λ holds. if holds then gives (pos 2) else gives (pos 1))
-        ≡ gives (level b) (steps + 1)
-    level_gives true = refl
-    level_gives false = refl
-
-    in_byte : (b : Bool) → Takes scope field (level b)
+    in_byte : (b : Bool) → Takes scope field (memory_number (if b then High else Low))
     in_byte true = ap (λ t. is_in_type t (pos 2)) type
     in_byte false = ap (λ t. is_in_type t (pos 1)) type
-
-    level_is : (b : Bool) → level b ≡ memory_number (if b then High else Low)
-    level_is true = refl
-    level_is false = refl
 
 -- ---- Children
 
@@ -144,15 +134,13 @@ module _ (functions : List Function) (values : List ℤ) (cells : Cells) where
       AllZip (λ type leaf. is_in_type type (leaf_reads values cells leaf) ≡ true) types given →
       arguments functions (reads values cells) 0 types (exprs_of_list (map read given)) steps
       ≡ gives (map (leaf_reads values cells) given) steps
-  arguments_pass [] [] steps fit = refl
+  arguments_pass [] [] steps fit = (arguments_are_passed functions (reads values cells) 0 steps).none []
   arguments_pass [] (l ∷ given) steps fit = absurd fit
   arguments_pass (t ∷ types) [] steps fit = absurd fit
   arguments_pass (t ∷ types) (l ∷ given) steps fit =
-      let v = leaf_reads values cells l in
-      let rest : ℤ → ℕ → Answer (List ℤ) = λ w count. and_then
-      (arguments functions (reads values cells) 0 types (exprs_of_list (map read given)) count) (λ vs end. gives (w ∷ vs) end) in
-      ap (λ b. and_then (if b then gives v steps else sticks (stuck_at 0 Range)) rest) fit.0
-      ∙ ap (λ r. and_then r (λ vs end. gives (v ∷ vs) end)) (arguments_pass types given steps fit.1)
+      (arguments_are_passed functions (reads values cells) 0 steps).passed t types (read l) (exprs_of_list (map read given))
+      (leaf_reads values cells l) (map (leaf_reads values cells) given) steps steps
+      (gives_read functions (reads values cells) 0 l steps) fit.0 (arguments_pass types given steps fit.1)
 
 module _ (scope : Scope) (cells : Cells) (procedure field : ℕ) where
   abbrev routine : Routine
@@ -165,11 +153,8 @@ module _ (scope : Scope) (cells : Cells) (procedure field : ℕ) where
       ≡ in_child field cells (routine.run values (fields_at cells field) (steps + 1))
   call_runs given values steps pass room =
       let es = exprs_of_list (map read given) in
-      let go : List ℤ → ℕ → Outcome = λ vs count. in_child field cells (routine.run vs (fields_at cells field) count) in
-      then_nothing scope (run_stmt scope (call 0 procedure (Child field) es) cells steps)
-      ∙ first_step 0 cells steps (λ count. on_answer (arguments scope.functions
-      (reads scope.values cells) 0 routine.params es count) cells go) room
-      ∙ ap (λ a. on_answer a cells go) pass
+      alone_runs scope cells (call 0 procedure (Child field) es) steps
+      ∙ (child_calls_stay_inside scope 0 procedure field es cells steps).does values (steps + 1) room pass
 
 pub calls_are_made : CallsAreMade
 calls_are_made scope cells active a procedure field given steps tests fit room =
@@ -186,7 +171,7 @@ calls_are_made scope cells active a procedure field given steps tests fit room =
     by true is = call_runs scope cells procedure field given (map (leaf_reads scope.values cells) given) (steps + test_steps active)
         (arguments_pass scope.functions scope.values cells (routine_at scope.routines procedure).params given
         (steps + test_steps active + 1) (fit is)) (omega (arith, few, room))
-    by false is = refl
+    by false is = nothing_runs scope cells (steps + test_steps active)
 
 pub resets_are_called : ResetsAreCalled
 resets_are_called scope cells off o procedure field steps tests room =
@@ -199,5 +184,7 @@ resets_are_called scope cells off o procedure field steps tests room =
         (if b then run_stmts scope (child_call procedure field []) else run_stmts scope no_stmts) cells (steps + test_steps off)
         ≡ (if b then in_child field cells ((routine_at scope.routines procedure).run [] (fields_at cells field)
         (steps + test_steps off + 1)) else leaves cells (steps + test_steps off) [])
-    by true = call_runs scope cells procedure field [] [] (steps + test_steps off) refl (omega (arith, few, room))
-    by false = refl
+    by true = call_runs scope cells procedure field [] [] (steps + test_steps off)
+        ((arguments_are_passed scope.functions (reads scope.values cells) 0 (steps + test_steps off + 1)).none
+        (routine_at scope.routines procedure).params) (omega (arith, few, room))
+    by false = nothing_runs scope cells (steps + test_steps off)

@@ -64,10 +64,10 @@ numbers_are_stored scope line field value cells steps = record {
     go count = on_answer (value_in scope cells line count value) cells put
 
 -- the test of an index: at the place of an item it passes, else it doesn't
-place_passes : (i n : ℕ) → i < n → (int_le (pos 0) (pos i) && int_lt (pos i) (pos n)) ≡ true
+pub place_passes : (i n : ℕ) → i < n → (int_le (pos 0) (pos i) && int_lt (pos i) (pos n)) ≡ true
 place_passes i n within = grind (arith, ints, nat_tests)
 
-no_place_passes : (k : ℤ) (n : ℕ) → ((i : ℕ) → i < n → k ≢ pos i) → (int_le (pos 0) k && int_lt k (pos n)) ≡ false
+pub no_place_passes : (k : ℤ) (n : ℕ) → ((i : ℕ) → i < n → k ≢ pos i) → (int_le (pos 0) k && int_lt k (pos n)) ≡ false
 no_place_passes k n none = by (int_le (pos 0) k && int_lt k (pos n)) refl
   where
     by : (b : Bool) → (int_le (pos 0) k && int_lt k (pos n)) ≡ b → (int_le (pos 0) k && int_lt k (pos n)) ≡ false

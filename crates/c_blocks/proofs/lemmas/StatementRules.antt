@@ -12,8 +12,8 @@ use Rattle.c_blocks.specs.TestCode.{level_code}
 use Rattle.c_blocks.specs.RingCode.{oldest_code, next_taken_code, next_place_code, taken_in, emptied}
 use Rattle.c_blocks.specs.StatementCode.{guarded, only_if, store_code, child_call}
 use Rattle.c_blocks.specs.LawfulStatements.{IsRingIn, LawfulTest, StatementsAreLawful, AreShallow, ShallowTest, AllStatementsAreShallow}
-use Rattle.c_blocks.proofs.LawfulLaws.{number_lawful, written_is_lawful}
-use Rattle.c_blocks.proofs.DepthLaws.{written_depth}
+use Rattle.c_blocks.proofs.lemmas.LawfulLaws.{number_lawful, written_is_lawful}
+use Rattle.c_blocks.proofs.lemmas.DepthLaws.{written_depth}
 
 -- ---- The static rules
 

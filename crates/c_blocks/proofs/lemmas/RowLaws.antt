@@ -23,7 +23,10 @@ use Rattle.mc_blocks.specs.Laws.{ConversionFits, NarrowRowsFit, ValuesStayInType
 use Rattle.c_syntax.specs.declared.BinOp.TheVariants.{Mul}
 use Rattle.c_syntax.specs.declared.Leaf.{Leaf}
 use Rattle.c_syntax.specs.Tree.{ExprTree, CondTree, PureTree, binary, pick, compare}
-use Rattle.c_machine.specs.Values.{gives, and_then, Function, Reads, functions_of, eval, step_limit}
+use Rattle.c_machine.specs.Values.{gives, Function, Reads, functions_of, eval, step_limit}
+use Rattle.c_machine.specs.EvaluationLaws.{Gives, Holds}
+use Rattle.c_machine.proofs.lemmas.EvaluationLaws.{expressions_are_evaluated}
+use Rattle.c_machine.proofs.lemmas.WithoutSteps.{gives_literal, gives_read, gives_mul, holds_compare}
 use Rattle.c_prelude.specs.Rules.{IsPrelude, WholeNumbersStay}
 use Rattle.std.specs.Prelude.{Option, Some, None}
 use Rattle.std.specs.Option.{option_and_then}
@@ -33,11 +36,11 @@ use Rattle.c_blocks.specs.KnownTypes.{IsOfType, AreTypesOf}
 use Rattle.c_blocks.specs.RowCode.{rhs_code, input_code, converted_input, converted, written, truth, truths, logic_code, aligned, sum_code, product_code, passes_code, passes_all, either_code, nought}
 use Rattle.c_blocks.specs.Computed.{returns, conversion_returns, input_returns}
 use Rattle.c_blocks.specs.Laws.{RowsAreComputed, ReturnsAreFew}
-use Rattle.c_blocks.proofs.Evaluation.{Gives, Holds, gives_mul, gives_written, holds_compare}
+use Rattle.c_blocks.proofs.lemmas.WrittenNumbers.{gives_written}
 use Rattle.c_blocks.proofs.Conversions.{aligned_gives, converted_gives}
 use Rattle.c_blocks.proofs.RangeLaws.{InRange, input_in, gain_in, sum_in, product_in}
 use Rattle.c_blocks.proofs.ExactLaws.{sum_gives, product_gives}
-use Rattle.c_blocks.proofs.Writable.{small_number, constant_small, gain_small_of, length_fracs, first_fracs}
+use Rattle.c_blocks.proofs.lemmas.Writable.{small_number, constant_small, gain_small_of, length_fracs, first_fracs}
 use Rattle.c_blocks.proofs.TruthLaws.{same_compare, truth_gives, logic_holds, passes_holds, passes_alike}
 
 -- ---- Lists of inputs
@@ -75,8 +78,8 @@ module _ (ps : List PureTree) (prelude : IsPrelude ps) (stay : WholeNumbersStay)
   comes_at_once e x h steps room = no_step functions reads line e x h steps
 
   input_gives : (leaves : List Leaf) (i : ℕ) → Is (input_code leaves i) (input (map reads.leaf leaves) i)
-  input_gives [] i = λ steps. refl
-  input_gives (l ∷ leaves) zero = λ steps. refl
+  input_gives [] i = gives_literal functions reads line (pos 0)
+  input_gives (l ∷ leaves) zero = gives_read functions reads line l
   input_gives (l ∷ leaves) (suc i) = input_gives leaves i
 
   converted_comes : (e : ExprTree) (v : ℤ) (f : ℕ) (range : Option Range) (to : FixType) (how : How) → Is e v →
@@ -137,13 +140,10 @@ module _ (ps : List PureTree) (prelude : IsPrelude ps) (stay : WholeNumbersStay)
   pick_comes : (test : CondTree) (b : Bool) (d e : ExprTree) (x y : ℤ) (j k : ℕ) → Holds functions reads line test b → Comes d x j →
       Comes e y k →
       Comes (pick test d e) (if b then x else y) (if b then j else k)
-  pick_comes test b d e x y j k h p q steps room =
-      ap (λ r. and_then r (λ holds. if holds then eval functions reads line d else eval functions reads line e)) (h steps) ∙ by b
-    where
-      by : (b : Bool) → (if b then eval functions reads line d else eval functions reads line e) steps
-          ≡ gives (if b then x else y) (steps + (if b then j else k))
-      by true = p steps room
-      by false = q steps room
+  pick_comes test true d e x y j k h p q steps room =
+      ((expressions_are_evaluated functions reads line steps).choice test d e).holds steps (h steps) ∙ p steps room
+  pick_comes test false d e x y j k h p q steps room =
+      ((expressions_are_evaluated functions reads line steps).choice test d e).fails steps (h steps) ∙ q steps room
 
   -- the one that is known, or the one that the test gives
   either_comes : (first : Option Bool) (test : CondTree) (b : Bool) (d e : ExprTree) (x y : ℤ) (j k : ℕ) →
@@ -180,10 +180,10 @@ module _ (ps : List PureTree) (prelude : IsPrelude ps) (stay : WholeNumbersStay)
     by_kind : (k : Kind) (ts : List FixType) (out : FixType) (delays : Bool) → IsWithinLimits k → HasInputTypes k ts → wide_bits k ts out ≤ 62 → ReadsInTypes k ts vs → AreTypesOf (op_of k ts out delays) types vs → RowComes (op_of k ts out delays)
     by_kind (kind.Inport port) ts out delays limits has narrow reads_in of_types = comes_at_once (input_code leaves 0) (input vs 0) (input_gives leaves 0)
     by_kind (kind.Outport port reset initial) ts out delays limits has narrow reads_in of_types = comes_at_once (input_code leaves 0) (input vs 0) (input_gives leaves 0)
-    by_kind (kind.SubSystem control) ts out delays limits has narrow reads_in of_types = comes_at_once nought (pos 0) (λ steps. refl)
+    by_kind (kind.SubSystem control) ts out delays limits has narrow reads_in of_types = comes_at_once nought (pos 0) (gives_literal functions reads line (pos 0))
     by_kind (kind.Constant value) ts out delays limits has narrow reads_in of_types = comes_at_once (written (quantize value out)) (quantize value out) (gives_written functions reads line (quantize value out) (constant_small stays narrow_fit value out))
-    by_kind kind.Ground ts out delays limits has narrow reads_in of_types = comes_at_once nought (pos 0) (λ steps. refl)
-    by_kind kind.Terminator ts out delays limits has narrow reads_in of_types = comes_at_once nought (pos 0) (λ steps. refl)
+    by_kind kind.Ground ts out delays limits has narrow reads_in of_types = comes_at_once nought (pos 0) (gives_literal functions reads line (pos 0))
+    by_kind kind.Terminator ts out delays limits has narrow reads_in of_types = comes_at_once nought (pos 0) (gives_literal functions reads line (pos 0))
     by_kind (kind.Gain gain how) ts out delays limits has narrow reads_in of_types =
         gain_comes leaves types (gain_of gain).0 ((input_type ts 0).frac + (gain_of gain).1) out how
         (gain_small_of stays narrow_fit gain how ts out has narrow) of_types
@@ -240,8 +240,8 @@ module _ (ps : List PureTree) (prelude : IsPrelude ps) (stay : WholeNumbersStay)
         (narrow_fit (kind.Convert how) ts out delays vs has reads_in narrow)
     by_kind (kind.RateTransition initial time) ts out true limits has narrow reads_in of_types = comes_at_once memory m known
     by_kind (kind.RateTransition initial time) ts out false limits has narrow reads_in of_types = comes_at_once (input_code leaves 0) (input vs 0) (input_gives leaves 0)
-    by_kind kind.EnablePort ts out delays limits has narrow reads_in of_types = comes_at_once nought (pos 0) (λ steps. refl)
-    by_kind kind.TriggerPort ts out delays limits has narrow reads_in of_types = comes_at_once nought (pos 0) (λ steps. refl)
+    by_kind kind.EnablePort ts out delays limits has narrow reads_in of_types = comes_at_once nought (pos 0) (gives_literal functions reads line (pos 0))
+    by_kind kind.TriggerPort ts out delays limits has narrow reads_in of_types = comes_at_once nought (pos 0) (gives_literal functions reads line (pos 0))
 
 -- ---- The laws
 

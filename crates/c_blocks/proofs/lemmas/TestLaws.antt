@@ -5,7 +5,8 @@ use Rattle.std.specs.Ordering.{int_eq}
 use Rattle.std.proofs.lemmas.Bool.Decides.{nat_tests}
 use Rattle.std.proofs.Math.Nat.{div-le_self}
 use Rattle.std.proofs.lemmas.Int.{ints}
-use Rattle.mc_base.specs.declared.Compare.TheVariants.{Eq}
+use Rattle.mc_base.specs.declared.Compare.{Compare}
+use Rattle.mc_base.specs.declared.Compare.TheVariants.{Eq, Gt}
 use Rattle.mc_base.specs.declared.Control.{Control}
 use Rattle.mc_base.specs.declared.Control.TheVariants.{Plain, Enabled, Triggered, Both}
 use Rattle.mc_base.specs.declared.Edge.{Edge}
@@ -16,14 +17,35 @@ use Rattle.mc_guards.specs.Activity.{is_high, edge, active, off, next_memory}
 use Rattle.c_syntax.specs.declared.BinOp.TheVariants.{Rem}
 use Rattle.c_syntax.specs.declared.Leaf.{Leaf}
 use Rattle.c_syntax.specs.Tree.{CondTree, literal, read, binary, compare, negated}
-use Rattle.c_machine.specs.Values.{gives, Function, Reads}
+use Rattle.c_machine.specs.Values.{gives, compares, Function, Reads}
+use Rattle.c_machine.specs.EvaluationLaws.{Gives, Holds}
+use Rattle.c_machine.proofs.lemmas.WithoutSteps.{gives_literal, gives_read, gives_pick, gives_rem, holds_compare, holds_both, holds_either, holds_negated}
 use Rattle.c_blocks.specs.declared.leaves.ControlLeaves.{ControlLeaves}
 use Rattle.c_blocks.specs.TestCode.{is_high_code, was, rises, falls, event_test, active_by, disabled_by, off_by, hit_test, level_code}
 use Rattle.c_syntax.specs.Limits.{cond_depth}
 use Rattle.c_blocks.specs.Reading.{TestsOnly}
 use Rattle.mc_diagram.specs.declared.Time.{Time}
 use Rattle.c_blocks.specs.TestLaws.{memory_number, disabled, TestIs, ActivityIsTested, HitsAreTested, BothAreTested, control_leaves, IsPlainTest, AllTestsArePlain}
-use Rattle.c_blocks.proofs.Evaluation.{Gives, Holds, gives_pick, gives_rem, holds_compare, holds_both, holds_either, holds_negated}
+
+-- what one leaf tells
+module _ (functions : List Function) (reads : Reads) (line : ℕ) (l : Leaf) where
+  read_holds : (how : Compare) (n : ℕ) → Holds functions reads line (compare how (read l) (literal (pos n)))
+      (compares how (reads.leaf l) (pos n))
+  read_holds how n = holds_compare functions reads line how (read l) (literal (pos n)) (reads.leaf l) (pos n)
+      (gives_read functions reads line l) (gives_literal functions reads line (pos n))
+
+  high_holds : Holds functions reads line (is_high_code l) (is_high (reads.leaf l))
+  high_holds = read_holds Gt 0
+
+  -- the level of a trigger is what it remembers next
+  pub level_gives : (memory : TrigMem) → Gives functions reads line (level_code l) (memory_number (next_memory true memory (reads.leaf l)))
+  level_gives memory = subst (Gives functions reads line (level_code l)) (by (is_high (reads.leaf l)))
+      (gives_pick functions reads line (is_high_code l) (literal (pos 2)) (literal (pos 1)) (is_high (reads.leaf l)) (pos 2) (pos 1)
+      high_holds (gives_literal functions reads line (pos 2)) (gives_literal functions reads line (pos 1)))
+    where
+      by : (b : Bool) → cond b (pos 2) (pos 1) ≡ memory_number (if b then High else Low)
+      by true = refl
+      by false = refl
 
 module _ (leaves : ControlLeaves) (memory : TrigMem) (functions : List Function) (reads : Reads) (line : ℕ) (remembers : reads.leaf leaves.remembers ≡ memory_number memory) where
   abbrev Has : CondTree → Bool → Type 0
@@ -32,22 +54,19 @@ module _ (leaves : ControlLeaves) (memory : TrigMem) (functions : List Function)
   abbrev trigger : ℤ
   trigger = reads.leaf leaves.trigger
 
-  high_holds : (l : Leaf) → Has (is_high_code l) (is_high (reads.leaf l))
-  high_holds l = λ steps. refl
-
   low_enable : Has (negated (is_high_code leaves.enable)) (not (is_high (reads.leaf leaves.enable)))
-  low_enable = holds_negated functions reads line (is_high_code leaves.enable) (is_high (reads.leaf leaves.enable)) (high_holds leaves.enable)
+  low_enable = holds_negated functions reads line (is_high_code leaves.enable) (is_high (reads.leaf leaves.enable)) (high_holds functions reads line leaves.enable)
 
   was_holds : (level : ℕ) → Has (was leaves level) (int_eq (memory_number memory) (pos level))
-  was_holds level = subst (λ v. Has (was leaves level) (int_eq v (pos level))) remembers (λ steps. refl)
+  was_holds level = subst (λ v. Has (was leaves level) (int_eq v (pos level))) remembers (read_holds functions reads line leaves.remembers Eq level)
 
   rises_hold : Has (rises leaves) (int_eq (memory_number memory) (pos 1) && is_high trigger)
-  rises_hold = holds_both functions reads line (was leaves 1) (is_high_code leaves.trigger) (int_eq (memory_number memory) (pos 1)) (is_high trigger) (was_holds 1) (high_holds leaves.trigger)
+  rises_hold = holds_both functions reads line (was leaves 1) (is_high_code leaves.trigger) (int_eq (memory_number memory) (pos 1)) (is_high trigger) (was_holds 1) (high_holds functions reads line leaves.trigger)
 
   falls_hold : Has (falls leaves) (int_eq (memory_number memory) (pos 2) && not (is_high trigger))
   falls_hold =
       holds_both functions reads line (was leaves 2) (negated (is_high_code leaves.trigger)) (int_eq (memory_number memory) (pos 2)) (not (is_high trigger)) (was_holds 2)
-      (holds_negated functions reads line (is_high_code leaves.trigger) (is_high trigger) (high_holds leaves.trigger))
+      (holds_negated functions reads line (is_high_code leaves.trigger) (is_high trigger) (high_holds functions reads line leaves.trigger))
 
   either_holds : Has (event_test Either leaves) ((int_eq (memory_number memory) (pos 1) && is_high trigger) || (int_eq (memory_number memory) (pos 2) && not (is_high trigger)))
   either_holds =
@@ -81,11 +100,11 @@ module _ (leaves : ControlLeaves) (memory : TrigMem) (functions : List Function)
 
   active_is : (control : Control) → TestIs functions reads line true (active_by control leaves) (active true control memory (reads.leaf leaves.enable) (reads.leaf leaves.trigger))
   active_is Plain = refl
-  active_is (Enabled reset) = high_holds leaves memory functions reads line remembers leaves.enable
+  active_is (Enabled reset) = high_holds functions reads line leaves.enable
   active_is (Triggered e) = event_holds e
   active_is (Both reset e) =
       holds_both functions reads line (is_high_code leaves.enable) (event_test e leaves) (is_high (reads.leaf leaves.enable)) (edge e memory (reads.leaf leaves.trigger))
-      (high_holds leaves memory functions reads line remembers leaves.enable) (event_holds e)
+      (high_holds functions reads line leaves.enable) (event_holds e)
 
   disabled_is : (control : Control) → TestIs functions reads line false (disabled_by control leaves) (disabled control (reads.leaf leaves.enable))
   disabled_is Plain = refl
@@ -101,21 +120,12 @@ module _ (leaves : ControlLeaves) (memory : TrigMem) (functions : List Function)
   off_is (Both true e) = low_enable leaves memory functions reads line remembers
   off_is (Both false e) = refl
 
-  level_is : Gives functions reads line (level_code leaves.trigger) (memory_number (next_memory true memory (reads.leaf leaves.trigger)))
-  level_is = subst (Gives functions reads line (level_code leaves.trigger)) (by (is_high (reads.leaf leaves.trigger)))
-      (gives_pick functions reads line (is_high_code leaves.trigger) (literal (pos 2)) (literal (pos 1)) (is_high (reads.leaf leaves.trigger)) (pos 2) (pos 1)
-      (high_holds leaves memory functions reads line remembers leaves.trigger) (λ steps. refl) (λ steps. refl))
-    where
-      by : (b : Bool) → cond b (pos 2) (pos 1) ≡ memory_number (if b then High else Low)
-      by true = refl
-      by false = refl
-
 pub activity_is_tested : ActivityIsTested
 activity_is_tested control leaves memory functions reads line remembers = record {
   active = active_is leaves memory functions reads line remembers control;
   disabled = disabled_is leaves memory functions reads line remembers control;
   off = off_is leaves memory functions reads line remembers control;
-  level = level_is leaves memory functions reads line remembers;
+  level = level_gives functions reads line leaves.trigger memory;
 }
 
 -- ---- Sample times
@@ -145,8 +155,9 @@ hits_are_tested time now t functions reads line is small = by (time.period == 1)
     by false other =
         subst (Holds functions reads line (compare Eq (binary Rem (read now) (literal (pos time.period))) (literal (pos time.offset)))) (rest_is t time.period time.offset)
         (holds_compare functions reads line Eq (binary Rem (read now) (literal (pos time.period))) (literal (pos time.offset)) (int_rem (pos t) (pos time.period)) (pos time.offset)
-        (gives_rem functions reads line (read now) (literal (pos time.period)) (pos t) time.period (λ steps. ap (λ v. gives v steps) is) (λ steps. refl) some (omega (arith, div-le_self t time.period, small)))
-        (λ steps. refl))
+        (gives_rem functions reads line (read now) (literal (pos time.period)) (pos t) time.period (subst (Gives functions reads line (read now)) is (gives_read functions reads line now))
+        (gives_literal functions reads line (pos time.period)) some (omega (arith, div-le_self t time.period, small)))
+        (gives_literal functions reads line (pos time.offset)))
 
 -- ---- Two tests in one
 
