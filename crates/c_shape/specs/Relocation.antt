@@ -2,7 +2,8 @@
 use Rattle.std.specs.Prelude.{ℕ, ◌+◌, ◌-◌, nat_lt, if◌then◌else◌}
 use Rattle.c_syntax.specs.declared.Leaf.{Leaf}
 use Rattle.c_syntax.specs.declared.Leaf.TheVariants.{Param, Own, Child}
-use Rattle.c_syntax.specs.Tree.{ExprTree, literal, neg, read, binary, pick, pure, item, ExprTrees, no_exprs, more_exprs, CondTree, compare, both, either, negated, StmtTree, assign, assign_at, branch, call, StmtTrees, no_stmts, more_stmts, ProcedureTree}
+use Rattle.c_syntax.specs.Tree.{ExprTree, ExprTrees, CondTree, StmtTree, assign, assign_at, branch, call, StmtTrees, no_stmts, more_stmts, ProcedureTree}
+use Rattle.c_machine.specs.MappedLeaves.{mapped_expr, mapped_exprs, mapped_cond}
 
 -- Where code goes: its own procedures, which are so many, stand from `first` on; the k-th that its children offer goes to
 -- `offered k`, and the outputs of the child at a field to others; and its struct goes to `of`.
@@ -27,26 +28,15 @@ module _ (m : Relocation) where
   moved_leaf (Own f) = Own f
   moved_leaf (Child f o) = Child f (m.output f o)
 
-  abbrev mutual
-    -- an expression with its leaves moved
-    pub moved_expr : ExprTree → ExprTree
-    moved_expr (literal v) = literal v
-    moved_expr (neg e) = neg (moved_expr e)
-    moved_expr (read leaf) = read (moved_leaf leaf)
-    moved_expr (binary op a b) = binary op (moved_expr a) (moved_expr b)
-    moved_expr (pick test a b) = pick (moved_cond test) (moved_expr a) (moved_expr b)
-    moved_expr (pure k es) = pure k (moved_exprs es)
-    moved_expr (item f index) = item f (moved_expr index)
+  -- an expression, expressions and a condition with their leaves moved
+  abbrev pub moved_expr : ExprTree → ExprTree
+  moved_expr = mapped_expr moved_leaf (λ field. field)
 
-    pub moved_exprs : ExprTrees → ExprTrees
-    moved_exprs no_exprs = no_exprs
-    moved_exprs (more_exprs e es) = more_exprs (moved_expr e) (moved_exprs es)
+  abbrev pub moved_exprs : ExprTrees → ExprTrees
+  moved_exprs = mapped_exprs moved_leaf (λ field. field)
 
-    pub moved_cond : CondTree → CondTree
-    moved_cond (compare how a b) = compare how (moved_expr a) (moved_expr b)
-    moved_cond (both a b) = both (moved_cond a) (moved_cond b)
-    moved_cond (either a b) = either (moved_cond a) (moved_cond b)
-    moved_cond (negated a) = negated (moved_cond a)
+  abbrev pub moved_cond : CondTree → CondTree
+  moved_cond = mapped_cond moved_leaf (λ field. field)
 
   abbrev mutual
     -- a statement with its calls and leaves moved

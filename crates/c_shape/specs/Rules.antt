@@ -1,5 +1,5 @@
 -- What a procedure of a system may read, store, test and call.
-use Rattle.std.specs.Prelude.{◌≡◌, ℕ, ◌==◌, MatchBool, Bool, if◌then◌else◌, List, [], ◌∷◌, ◌++◌, map, find, flat_map, Contains, bytes_eq, ⊤}
+use Rattle.std.specs.Prelude.{◌≡◌, ℕ, ◌==◌, MatchBool, Bool, if◌then◌else◌, List, [], ◌∷◌, ◌++◌, map, find, flat_map, zip, Contains, bytes_eq, ⊤}
 use Rattle.std.specs.Option.{option_map_or}
 use Rattle.std.specs.List.{AllByRecursion, AllZip, list_any}
 use Rattle.mc_diagram.specs.Rows.{is_inport, port_of}
@@ -10,7 +10,7 @@ use Rattle.mc_profile.specs.Systems.{system_name}
 use Rattle.mc_profile.specs.Locals.{bare_header, entering}
 use Rattle.c_syntax.specs.declared.Target.{Target}
 use Rattle.c_syntax.specs.declared.Target.TheVariants.{Own, Child}
-use Rattle.c_syntax.specs.Tree.{ExprTree, ParamTree, ProcedureTree}
+use Rattle.c_syntax.specs.Tree.{ExprTree, ProcedureTree}
 use Rattle.c_shape.specs.NamedLeaf.{NamedLeaf, param, own}
 use Rattle.c_shape.specs.NamedLeaf as named
 use Rattle.c_shape.specs.Names.{value_name, memory_name, place_name, taken_name, trigger_name, is_counter_name, now_name, input_name, control_name, second_control_name, trigger_param, group_name}
@@ -70,12 +70,7 @@ PassesOwn n q callee values = AllZip (λ wanted e. IsReadOf n q.params (param wa
 -- what a call on a child passes to each parameter of its update: the tick, and the places of the wires that enter
 abbrev pub passed : LocalSystem → ChildUse → List (List ℕ × NamedLeaf)
 passed local u =
-    (now_name, param now_name) ∷ zip_names (input_params u.header) (map (wire_place local) (entering u))
-  where
-    zip_names : List ParamTree → List NamedLeaf → List (List ℕ × NamedLeaf)
-    zip_names [] places = []
-    zip_names (q ∷ qs) [] = []
-    zip_names (q ∷ qs) (w ∷ ws) = (q.name, w) ∷ zip_names qs ws
+    (now_name, param now_name) ∷ zip (map (λ q. q.name) (input_params u.header)) (map (wire_place local) (entering u))
 
 -- a call on the child at a field is one of a public procedure of that child, and each value is a plain read of what is
 -- passed to the parameter

@@ -1,20 +1,5 @@
-mod NextStands
-mod RingLaws
+pub mod lemmas
 mod Lists
 mod DelayLengths
-mod LocalTickLaws
-mod Cycles
 mod RefusedCodes
-mod ChildTicks
-mod TypedTicks
 mod Totals
-mod BudgetSums
-mod NeededNodes
-mod EarlierGroups
-mod HeldOutports
-mod SoundSystems
-mod Containers
-mod SlotMembers
-mod StandingShapes
-mod ExecutedFields
-mod ExecutedCode

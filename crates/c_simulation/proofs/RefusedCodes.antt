@@ -81,6 +81,7 @@ is_typed = record {
     ),
   );
   children = tt;
+  outputs = tt;
 }
 
 may_come : MayCome (own_header local profile) (outer_tick_of local high_tick) none_called (out 1)

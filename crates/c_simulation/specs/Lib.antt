@@ -17,7 +17,6 @@ pub mod NodeCode
 pub mod SoundLocals
 pub mod StandingLaws
 pub mod ExecutedNodes
-pub mod CodePieces
 pub mod RunTicks
 pub mod RunTickLaws
 pub mod RunTickExamples

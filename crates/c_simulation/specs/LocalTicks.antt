@@ -88,6 +88,10 @@ module _ (local : LocalSystem) (m : LocalTick) where
     pub inputs : AllZip (λ type c. InType type (m.tick.value c)) u.header.inputs u.wires
     pub controls : AllZip (λ type c. InType type (m.tick.value c)) u.header.controls u.controls
 
+  -- those that it gives lie in the types of its outputs
+  abbrev pub GivesInTypes : ChildUse → Type 0
+  GivesInTypes u = AllByRecursion (λ o. InType o.1 (m.tick.value o.0)) u.header.outputs
+
   -- the numbers of the tick lie in their types, and each row that runs can be computed in 64 bits
   pub record IsTypedTick : Type 0 where
     pub inputs : AllZip (λ r v. InType r.out v) (inports local) m.tick.inputs
@@ -97,3 +101,4 @@ module _ (local : LocalSystem) (m : LocalTick) where
     pub memories : AllByRecursion (λ r. AllByRecursion (InType r.out) (m.tick.memory r.row) × AllByRecursion (InType r.out) (m.tick.memory_after r.row)) (filter (λ r. is_delay r.op) local.rows)
     pub evaluable : AllByRecursion (λ r. IsTrue (row_runs r) → IsEvaluable r.op (row_inputs r) (first_of (m.tick.memory r.row))) (filter (λ r. has_value r.kind) local.rows)
     pub children : AllByRecursion IsFed local.children
+    pub outputs : AllByRecursion GivesInTypes local.children

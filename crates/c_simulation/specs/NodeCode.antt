@@ -1,7 +1,9 @@
 -- What the emitter's functions promise of the code of a node, a memory, a trigger, an update call and a reset call: the
 -- statements of single nodes in every tick, whatever prelude, children and position in a program.
-use Rattle.std.specs.Prelude.{ℕ, List, [], ◌++◌, map, ℤ}
+use Rattle.std.specs.Prelude.{ℕ, if◌then◌else◌, List, [], ◌++◌, map, ℤ}
 use Rattle.std.specs.List.{AllZip}
+use Rattle.mc_blocks.specs.declared.Op.{Op}
+use Rattle.mc_diagram.specs.Run.{is_delay}
 use Rattle.mc_profile.specs.declared.ChildUse.{ChildUse}
 use Rattle.mc_profile.specs.declared.LocalRow.{LocalRow}
 use Rattle.mc_profile.specs.LocalSystem.{LocalSystem}
@@ -17,9 +19,10 @@ use Rattle.c_simulation.specs.Serving.{IsOfferOf}
 use Rattle.c_simulation.specs.NodeStatements.{GivesValue, GivesMemory, GivesRing, GivesTrigger, GivesCall, GivesUpdate, GivesReset}
 use Rattle.c_simulation.specs.Relation.{children_routines, behind_offers, ChildrenServe, IsCycleOf}
 
--- the most steps of each code: tests of activity and of the sample time, a store, and two calls of pure functions
-abbrev pub value_steps : ℕ
-value_steps = 5
+-- the most steps of each code: a test, which is of activity and of the sample time at once, a store, and two calls of pure
+-- functions; a test more where it can be an Outport whose output is reset, so in no delay
+abbrev pub value_steps : Op → ℕ
+value_steps op = if is_delay op then 4 else 5
 
 abbrev pub memory_steps : ℕ
 memory_steps = 3
@@ -50,7 +53,7 @@ module _ (local : LocalSystem) (slots : List Slot) (count : ℕ) (params : List 
 
   -- the code of a row's value, of its memory, and of what the trigger remembers
   abbrev pub IsValueCode : LocalRow → StmtTrees → Type 0
-  IsValueCode r code = InEveryTick (λ offers children cycle m scope moved. GivesValue local slots offers children cycle m params scope (moved code) value_steps r)
+  IsValueCode r code = InEveryTick (λ offers children cycle m scope moved. GivesValue local slots offers children cycle m params scope (moved code) (value_steps r.op) r)
 
   abbrev pub IsMemoryCode : LocalRow → StmtTrees → Type 0
   IsMemoryCode r code = InEveryTick (λ offers children cycle m scope moved. GivesMemory local slots offers children cycle m params scope (moved code) memory_steps r)

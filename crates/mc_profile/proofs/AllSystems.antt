@@ -10,7 +10,7 @@ use Rattle.mc_diagram.specs.WellFormed.{IsNested, IsOwner}
 use Rattle.mc_profile.specs.Systems.{systems, systems_inside}
 use Rattle.mc_profile.specs.TreeProfiles.{rows_inside, rows_of_all}
 use Rattle.mc_profile.proofs.lemmas.Members.{in-none, in-first, in-rest, in-cases, in-map, of-map, in-filter, of-filter, in-range, of-range}
-use Rattle.mc_profile.proofs.PortRows.{in-subsystems, of-subsystems}
+use Rattle.mc_profile.proofs.lemmas.PortRows.{in-subsystems, of-subsystems}
 use Rattle.mc_profile.proofs.RisingLists.{Rising, IsBelow, rising-append, rising-filter, rising-range, rising-map, one-list}
 use Rattle.mc_profile.proofs.SystemsAround.{owner, above, above-first, is-before, is-outer, between}
 

@@ -5,7 +5,7 @@ use Rattle.std.proofs.lemmas.Bool.{eq-eqb, eqb-true, ne_eqb}
 use Rattle.mc_cluster.specs.Grouping.{AreDifferent}
 use Rattle.mc_diagram.specs.Rows.{is_system}
 use Rattle.mc_profile.proofs.lemmas.Members.{in-none, in-cases, at-in, number-of}
-use Rattle.mc_profile.proofs.LawfulSteps.{differ-at}
+use Rattle.mc_profile.proofs.lemmas.LawfulSteps.{differ-at}
 
 -- a system that is that of row e
 pub system-is : (s : Option ℕ) (e : ℕ) → is_system s e ≡ true → s ≡ Some e

@@ -33,10 +33,10 @@ use Rattle.mc_profile.specs.NodeWires.{wires_of_row, wires_of_call, wires_of_cal
 use Rattle.mc_profile.specs.LawfulLocals.{IsChild, IsLocal}
 use Rattle.mc_profile.proofs.lemmas.Members.{in-none, in-cases, in-map, of-map, in-at, at-map, map-at}
 use Rattle.mc_profile.proofs.Numbered.{Apart, apart-range, apart-filter}
-use Rattle.mc_profile.proofs.PortRows.{of-rows, of-subsystems, of-ports, few-ports}
+use Rattle.mc_profile.proofs.lemmas.PortRows.{of-rows, of-subsystems, of-ports, few-ports}
 use Rattle.mc_profile.proofs.ChildPorts.{subsystem-kind}
 use Rattle.mc_profile.proofs.FunctionRows.{given, need-of, outs-are}
-use Rattle.mc_profile.proofs.LawfulSteps.{apart-at, apart-differ, differ-at, apart-different, apart-found, once-append, once-flat_map, of-flat_map, long-flat_map, short-filter, short-different}
+use Rattle.mc_profile.proofs.lemmas.LawfulSteps.{apart-at, apart-differ, differ-at, apart-different, apart-found, once-append, once-flat_map, of-flat_map, long-flat_map, short-filter, short-different}
 
 -- a control has a wire for each of its ports
 ports-wanted : (control : Control) (o : Option ℕ) → wires_wanted (SubSystem control) o ≡ length (control_ports control)

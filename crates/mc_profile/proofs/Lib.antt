@@ -16,16 +16,12 @@ pub mod ChildWalks
 pub mod ChildRows
 pub mod Numbered
 pub mod FunctionRows
-pub mod PortRows
 pub mod ChildPorts
 pub mod OwnNodes
 pub mod NodeSteps
 pub mod RowSteps
 pub mod NodeWalks
-pub mod LawfulSteps
 pub mod LawfulProofs
-pub mod NodeReach
-pub mod InputMasks
 pub mod NodeMasks
 pub mod ProfileNeeds
 pub mod TreeSteps

@@ -19,8 +19,8 @@ use Rattle.mc_profile.specs.LocalNodes.{same_node, call_nodes, node_list, NodeRe
 use Rattle.mc_profile.specs.LawfulLocals.{IsLocal}
 use Rattle.mc_profile.specs.NodeInputs.{InputReaches, inputs_of, AreNodeInputs, AreInputBits}
 use Rattle.mc_profile.proofs.lemmas.Members.{in-first, in-rest, in-at, at-in, at-below, at-map, at-left}
-use Rattle.mc_profile.proofs.InputMasks.{mask-with, AreMasksAt}
-use Rattle.mc_profile.proofs.NodeReach.{walk-to-places, walk-to-nodes}
+use Rattle.mc_profile.proofs.lemmas.InputMasks.{mask-with, AreMasksAt}
+use Rattle.mc_profile.proofs.lemmas.NodeReach.{walk-to-places, walk-to-nodes}
 use Rattle.mc_profile.proofs.PlaceSteps.{place, own-place, stands-at, places-stand}
 
 same-somes : (xs ys : List ℕ) → map Some xs ≡ map Some ys → xs ≡ ys

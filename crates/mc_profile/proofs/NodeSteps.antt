@@ -25,7 +25,7 @@ use Rattle.mc_profile.proofs.ChildWalks.{walk-inward}
 use Rattle.mc_profile.proofs.lemmas.Members.{at-below}
 use Rattle.mc_profile.proofs.lemmas.MaskBits.{has-set}
 use Rattle.mc_profile.proofs.FunctionRows.{header-needs}
-use Rattle.mc_profile.proofs.PortRows.{same-self, of-ports, port-place, few-ports}
+use Rattle.mc_profile.proofs.lemmas.PortRows.{same-self, of-ports, port-place, few-ports}
 use Rattle.mc_profile.proofs.ChildPorts.{IsTakenAt, of-taken}
 use Rattle.mc_profile.proofs.OwnNodes.{IsChild, of-row-needs, of-row-gives, call-gives, call-needs, child-of-gives}
 

@@ -24,7 +24,7 @@ use Rattle.mc_profile.specs.Locals.{local_row, local_of}
 use Rattle.mc_profile.specs.LocalNodes.{node_gives, NodeNeeds, NodeWalk, NodeReaches, HasNoNodeLoop}
 use Rattle.mc_profile.specs.NodeFacts.{AreHeaders, NodesReachAsRows, NodesHaveNoLoop}
 use Rattle.mc_profile.proofs.lemmas.Members.{of-map}
-use Rattle.mc_profile.proofs.PortRows.{in-rows, of-ports}
+use Rattle.mc_profile.proofs.lemmas.PortRows.{in-rows, of-ports}
 use Rattle.mc_profile.proofs.OwnNodes.{row-gives, of-row-gives}
 use Rattle.mc_profile.proofs.NodeSteps.{HasLaws, node-step}
 use Rattle.mc_profile.proofs.RowSteps.{At, row-step, at-own}

@@ -23,7 +23,7 @@ use Rattle.mc_profile.specs.NodeFacts.{AreHeaders}
 use Rattle.mc_profile.proofs.ChildNeeds.{inner, nothing-inside}
 use Rattle.mc_profile.proofs.ChildNumbers.{system-is}
 use Rattle.mc_profile.proofs.lemmas.Members.{in-none, in-first, in-cases, in-map, of-map, found-in, finds}
-use Rattle.mc_profile.proofs.PortRows.{same-self, of-rows, of-subsystems}
+use Rattle.mc_profile.proofs.lemmas.PortRows.{same-self, of-rows, of-subsystems}
 
 left-false : (a b : Bool) → (a && b) ≡ false → b ≡ true → a ≡ false
 left-false true b none holds = absurd (true≢false (sym holds ∙ none))

@@ -19,7 +19,7 @@ use Rattle.mc_profile.specs.Locals.{local_row, local_of}
 use Rattle.mc_profile.specs.NodeFacts.{AreHeaders, AreProfiles, headers_with, IsLocalOf}
 use Rattle.mc_profile.specs.NodeInputs.{InputReaches, inputs_of, AreNodeInputs}
 use Rattle.mc_profile.proofs.lemmas.Members.{in-first, in-rest, in-map, of-map}
-use Rattle.mc_profile.proofs.PortRows.{in-rows, of-rows, few-ports}
+use Rattle.mc_profile.proofs.lemmas.PortRows.{in-rows, of-rows, few-ports}
 use Rattle.mc_profile.proofs.OwnHeaders.{by_port_mapped}
 use Rattle.mc_profile.proofs.NodeWalks.{nodes_reach_as_rows}
 

@@ -25,7 +25,7 @@ use Rattle.mc_profile.proofs.ChildNeeds.{LeadsTo, IsBefore, IsInsideChild, Enter
 use Rattle.mc_profile.proofs.lemmas.Members.{in-none, in-at}
 use Rattle.mc_profile.proofs.lemmas.MaskBits.{set-has}
 use Rattle.mc_profile.proofs.FunctionRows.{header-gives, header-needs}
-use Rattle.mc_profile.proofs.PortRows.{in-rows, of-rows, in-subsystems, port-place, port-range, few-ports}
+use Rattle.mc_profile.proofs.lemmas.PortRows.{in-rows, of-rows, in-subsystems, port-place, port-range, few-ports}
 use Rattle.mc_profile.proofs.ChildPorts.{takes-input, takes-control}
 use Rattle.mc_profile.proofs.OwnNodes.{IsChild, row-needs, row-gives, call-gives, call-needs, child-found}
 use Rattle.mc_profile.proofs.NodeSteps.{HasLaws, before, read, own-inside, stays}

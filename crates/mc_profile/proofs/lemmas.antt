@@ -3,3 +3,7 @@ pub mod SystemsInside
 pub mod Members
 pub mod MaskBits
 pub mod OwnRows
+pub mod PortRows
+pub mod LawfulSteps
+pub mod NodeReach
+pub mod InputMasks

@@ -1,4 +1,4 @@
-use Rattle.c_shape.proofs.MovedCode as proof
+use Rattle.c_shape.proofs.lemmas.MovedCode as proof
 use Rattle.c_shape.proofs.laws.moved_code_agrees.Goals as goal
 
 pub returns : goal.returns

@@ -1,4 +1,4 @@
-use Rattle.c_simulation.proofs.RingLaws as proof
+use Rattle.c_simulation.proofs.lemmas.RingLaws as proof
 use Rattle.c_simulation.proofs.laws.begun_is_ring.Goals as goal
 
 pub returns : goal.returns

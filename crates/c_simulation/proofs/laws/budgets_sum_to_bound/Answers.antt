@@ -1,4 +1,4 @@
-use Rattle.c_simulation.proofs.BudgetSums as proof
+use Rattle.c_simulation.proofs.lemmas.BudgetSums as proof
 use Rattle.c_simulation.proofs.laws.budgets_sum_to_bound.Goals as goal
 
 pub returns : goal.returns

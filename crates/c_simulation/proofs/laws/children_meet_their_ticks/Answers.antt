@@ -1,4 +1,4 @@
-use Rattle.c_simulation.proofs.ChildTicks as proof
+use Rattle.c_simulation.proofs.lemmas.ChildTicks as proof
 use Rattle.c_simulation.proofs.laws.children_meet_their_ticks.Goals as goal
 
 pub returns : goal.returns

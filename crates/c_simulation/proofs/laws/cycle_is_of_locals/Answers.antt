@@ -1,4 +1,4 @@
-use Rattle.c_simulation.proofs.Cycles as proof
+use Rattle.c_simulation.proofs.lemmas.Cycles as proof
 use Rattle.c_simulation.proofs.laws.cycle_is_of_locals.Goals as goal
 
 pub returns : goal.returns

@@ -1,4 +1,4 @@
-use Rattle.c_simulation.proofs.NextStands as proof
+use Rattle.c_simulation.proofs.lemmas.NextStands as proof
 use Rattle.c_simulation.proofs.laws.first_stands.Goals as goal
 
 pub returns : goal.returns

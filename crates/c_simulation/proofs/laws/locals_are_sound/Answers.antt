@@ -1,4 +1,4 @@
-use Rattle.c_simulation.proofs.SoundSystems as proof
+use Rattle.c_simulation.proofs.lemmas.SoundSystems as proof
 use Rattle.c_simulation.proofs.laws.locals_are_sound.Goals as goal
 
 pub returns : goal.returns

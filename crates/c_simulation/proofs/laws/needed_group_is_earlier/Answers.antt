@@ -1,4 +1,4 @@
-use Rattle.c_simulation.proofs.EarlierGroups as proof
+use Rattle.c_simulation.proofs.lemmas.EarlierGroups as proof
 use Rattle.c_simulation.proofs.laws.needed_group_is_earlier.Goals as goal
 
 pub returns : goal.returns

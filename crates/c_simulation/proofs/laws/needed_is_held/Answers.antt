@@ -1,4 +1,4 @@
-use Rattle.c_simulation.proofs.NeededNodes as proof
+use Rattle.c_simulation.proofs.lemmas.NeededNodes as proof
 use Rattle.c_simulation.proofs.laws.needed_is_held.Goals as goal
 
 pub returns : goal.returns

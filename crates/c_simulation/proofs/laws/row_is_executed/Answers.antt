@@ -1,4 +1,4 @@
-use Rattle.c_simulation.proofs.ExecutedCode as proof
+use Rattle.c_simulation.proofs.lemmas.ExecutedCode as proof
 use Rattle.c_simulation.proofs.laws.row_is_executed.Goals as goal
 
 pub returns : goal.returns

@@ -1,4 +1,4 @@
-use Rattle.c_simulation.proofs.StandingShapes as proof
+use Rattle.c_simulation.proofs.lemmas.StandingShapes as proof
 use Rattle.c_simulation.proofs.laws.standing_has_slots.Goals as goal
 
 pub returns : goal.returns

@@ -1,4 +1,4 @@
-use Rattle.c_simulation.proofs.LocalTickLaws as proof
+use Rattle.c_simulation.proofs.lemmas.LocalTickLaws as proof
 use Rattle.c_simulation.proofs.laws.ticks_are_local.Goals as goal
 
 pub returns : goal.returns

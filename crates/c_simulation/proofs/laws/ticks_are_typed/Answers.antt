@@ -1,4 +1,4 @@
-use Rattle.c_simulation.proofs.TypedTicks as proof
+use Rattle.c_simulation.proofs.lemmas.TypedTicks as proof
 use Rattle.c_simulation.proofs.laws.ticks_are_typed.Goals as goal
 
 pub returns : goal.returns

@@ -1,4 +1,4 @@
-use Rattle.c_simulation.proofs.NextStands as proof
+use Rattle.c_simulation.proofs.lemmas.NextStands as proof
 use Rattle.c_simulation.proofs.laws.ticks_follow.Goals as goal
 
 pub returns : goal.returns

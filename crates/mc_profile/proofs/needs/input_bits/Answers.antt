@@ -1,6 +1,6 @@
 use Rattle.std.proofs.Common.{◌≡◌, ◌+◌, subst, sym, arith}
 use Rattle.mc_profile.specs.NodeInputs.{AreInputBits}
-use Rattle.mc_profile.proofs.InputMasks.{bits-none, bits-more}
+use Rattle.mc_profile.proofs.lemmas.InputMasks.{bits-none, bits-more}
 use Rattle.mc_profile.proofs.needs.input_bits.Goals as goal
 
 pub loop-a-init : goal.loop-a-init

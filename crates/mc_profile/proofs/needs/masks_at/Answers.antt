@@ -1,7 +1,7 @@
 use Rattle.std.proofs.Common.{subst}
 use Rattle.std.proofs.Math.Facts.{Fits-lt-pow, Fits-or}
 use Rattle.std.proofs.lemmas.List.{take_all}
-use Rattle.mc_profile.proofs.InputMasks.{AreMasksAt, masks-more}
+use Rattle.mc_profile.proofs.lemmas.InputMasks.{AreMasksAt, masks-more}
 use Rattle.mc_profile.proofs.needs.masks_at.Goals as goal
 
 pub loop-b-preserved : goal.loop-b-preserved

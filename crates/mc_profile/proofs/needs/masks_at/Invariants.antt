@@ -1,5 +1,5 @@
 use Rattle.std.proofs.Common.{take}
-use Rattle.mc_profile.proofs.InputMasks.{AreMasksAt}
+use Rattle.mc_profile.proofs.lemmas.InputMasks.{AreMasksAt}
 use Rattle.mc_profile.proofs.needs.masks_at.Given as goal
 
 abbrev pub invariant-loop-b : goal.invariant-loop-b

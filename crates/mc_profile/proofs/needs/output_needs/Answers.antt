@@ -6,7 +6,7 @@ use Rattle.mc_graph.specs.Masks.{AreMasks}
 use Rattle.mc_profile.specs.declared.local.LocalRow.{LocalRow}
 use Rattle.mc_profile.specs.Ports.{control_ports, ports_mask}
 use Rattle.mc_profile.specs.NodeInputs.{AreInputBits, AreNodeInputs}
-use Rattle.mc_profile.proofs.InputMasks.{AreMasksAt}
+use Rattle.mc_profile.proofs.lemmas.InputMasks.{AreMasksAt}
 use Rattle.mc_profile.proofs.NodeMasks.{outputs-below, inputs-are}
 use Rattle.mc_profile.proofs.needs.output_needs.Goals as goal
 

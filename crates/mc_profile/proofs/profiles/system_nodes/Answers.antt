@@ -5,7 +5,7 @@ use Rattle.mc_diagram.specs.Nested.{row_of, system_of}
 use Rattle.mc_graph.specs.Reaching.{HasNoCycle}
 use Rattle.mc_profile.specs.LocalSystem.{LocalSystem}
 use Rattle.mc_profile.specs.LocalNodes.{AreNodesOf}
-use Rattle.mc_profile.proofs.NodeReach.{no-cycle}
+use Rattle.mc_profile.proofs.lemmas.NodeReach.{no-cycle}
 use Rattle.mc_profile.proofs.NodeWalks.{nodes_have_no_loop}
 use Rattle.mc_profile.proofs.profiles.system_nodes.Goals as goal
 

@@ -34,7 +34,7 @@ use Rattle.mc_profile.proofs.lemmas.Members.{in-none, in-map, of-map, found-in, 
 use Rattle.mc_profile.proofs.lemmas.MaskBits.{holds-has, index-at, in-different}
 use Rattle.mc_profile.proofs.lemmas.OwnRows.{beside, outs-are, of-flat_map, by_port_mapped, of-rows, of-ports}
 use Rattle.c_simulation.specs.SoundLocals.{IsSoundLocal, LocalsAreSound}
-use Rattle.c_simulation.proofs.ChildTicks.{IsChildHeader, child-header}
+use Rattle.c_simulation.proofs.lemmas.ChildTicks.{IsChildHeader, child-header}
 use Rattle.c_simulation.proofs.DelayLengths.{delays-are-some}
 
 -- what is no delay remembers nothing

@@ -22,8 +22,8 @@ use Rattle.c_simulation.specs.Standing.{standing_cell, standing_cells}
 use Rattle.c_simulation.specs.NodeStatements.{HasSlot, HasSlots}
 use Rattle.c_simulation.specs.SoundLocals.{IsSoundLocal}
 use Rattle.c_simulation.specs.ExecutedNodes.{IsCounting, StandingHasSlots}
-use Rattle.c_simulation.proofs.Containers.{container-has, bit-fits, place-fits}
-use Rattle.c_simulation.proofs.SlotMembers.{SlotIs, slot-is}
+use Rattle.c_simulation.proofs.lemmas.Containers.{container-has, bit-fits, place-fits}
+use Rattle.c_simulation.proofs.lemmas.SlotMembers.{SlotIs, slot-is}
 
 -- a delay of one sample is a delay, of that length
 single-is_delay : (op : Op) → is_single op ≡ true → (is_delay op ≡ true) × (delay_length op ≡ 1)

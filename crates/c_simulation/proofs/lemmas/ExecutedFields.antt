@@ -16,7 +16,7 @@ use Rattle.c_simulation.specs.Instances.{InstanceTick, instance_at, with_called}
 use Rattle.c_simulation.specs.Standing.{with_node, is_call_executed, called_in, standing_cell, standing_cells}
 use Rattle.c_simulation.specs.ExecutedNodes.{RowIsOneField, RowIsNoField, CallIsOneChild}
 use Rattle.c_simulation.proofs.Totals.{total}
-use Rattle.c_simulation.proofs.SlotMembers.{one-if, one-value, one-child, counted-at, value-once, value-never, child-once}
+use Rattle.c_simulation.proofs.lemmas.SlotMembers.{one-if, one-value, one-child, counted-at, value-once, value-never, child-once}
 
 -- ---- What one node more says of another
 

@@ -16,7 +16,7 @@ use Rattle.mc_profile.proofs.lemmas.OwnRows.{differ-at, of-flat_map}
 use Rattle.c_shape.specs.Delays.{is_single, is_line}
 use Rattle.c_shape.specs.Slots.{Slot, value, memory, ring_items, ring_place, ring_taken, trigger, counter, instance, filler, ring_slots, own_slots, or_filler, CounterField, AreSlots}
 use Rattle.c_simulation.specs.SoundLocals.{IsSoundLocal}
-use Rattle.c_simulation.proofs.HeldOutports.{one-row}
+use Rattle.c_simulation.proofs.lemmas.HeldOutports.{one-row}
 use Rattle.c_simulation.proofs.Totals.{total, total-is, total-map, total-le, total-kept}
 
 -- ---- Sums

@@ -20,7 +20,7 @@ use Rattle.mc_profile.specs.NodeFacts.{AreHeaders, IsLocalOf, HeaderIsOfOwnRows}
 use Rattle.c_simulation.specs.Budgets.{most_outputs, own_budget}
 use Rattle.c_simulation.specs.BudgetLaws.{BudgetsSumToBound}
 use Rattle.c_simulation.proofs.Lists.{in-first, in-rest, in-cases, in-map, of-map, in-filter, in-range}
-use Rattle.c_simulation.proofs.ChildTicks.{child-header}
+use Rattle.c_simulation.proofs.lemmas.ChildTicks.{child-header}
 use Rattle.c_simulation.proofs.Totals.{total, total-is, total-cons, total-map, total-le, total-add, total-times, total-one, total-kept, by-owner, one-owner, kept-shorter, chosen-shorter, length-range, fold-has, fold-below}
 
 length-made : {A B : Type 0} (f : A → B) (xs : List A) → length (map f xs) ≡ length xs

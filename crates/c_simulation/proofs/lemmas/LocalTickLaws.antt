@@ -25,7 +25,7 @@ use Rattle.c_simulation.specs.LocalTicks.{LocalTick, IsLocalTick, row_inputs, ro
 use Rattle.c_simulation.specs.RunTicks.{next_ring, ring_at, tick_at}
 use Rattle.c_simulation.specs.RunTickLaws.{AreItems, TicksAreLocal}
 use Rattle.c_simulation.proofs.Lists.{each-row, each-kept}
-use Rattle.c_simulation.proofs.RingLaws.{begun_is_ring, emptied_is_ring, moved_is_ring}
+use Rattle.c_simulation.proofs.lemmas.RingLaws.{begun_is_ring, emptied_is_ring, moved_is_ring}
 use Rattle.c_simulation.proofs.DelayLengths.{delays-are-some}
 
 -- an Inport has no wires of its own system

@@ -2,11 +2,12 @@
 use Rattle.std.specs.Prelude.{◌≡◌, ℕ, ◌<◌, Bool, true, false, ◌||◌, List, [], map, length, Contains, IsTrue, Option, Some, ℤ}
 use Rattle.std.specs.List.{AllByRecursion, AllZip}
 use Rattle.std.proofs.Common.{refl, sym, ◌∙◌, ap, subst}
+use Rattle.mc_fixed.specs.declared.FixType.{FixType}
 use Rattle.mc_fixed.specs.Conversion.{InType}
 use Rattle.mc_blocks.specs.Meaning.{has_value}
 use Rattle.mc_blocks.specs.Evaluation.{IsEvaluable}
 use Rattle.mc_diagram.specs.declared.table.Row.{Row}
-use Rattle.mc_diagram.specs.Rows.{is_system, is_inside, inports_of}
+use Rattle.mc_diagram.specs.Rows.{is_system, is_inside, is_outport, inports_of, outports_of}
 use Rattle.mc_diagram.specs.Inputs.{entering_wires, control_wires_of}
 use Rattle.mc_diagram.specs.Diagram.{Diagram, type_at, op_at}
 use Rattle.mc_diagram.specs.Needs.{needs_of, HasNoLoop}
@@ -25,12 +26,13 @@ use Rattle.mc_profile.specs.Headers.{header_of}
 use Rattle.mc_profile.specs.SystemProfile.{SystemProfile}
 use Rattle.mc_profile.specs.Locals.{local_row, child_use, local_of, inports}
 use Rattle.mc_profile.specs.NodeFacts.{HeaderIsOfOwnRows}
-use Rattle.c_simulation.specs.LocalTicks.{LocalTick, IsFed, IsTypedTick, row_inputs, row_runs}
+use Rattle.mc_profile.proofs.lemmas.OwnRows.{of-ports}
+use Rattle.c_simulation.specs.LocalTicks.{LocalTick, IsFed, GivesInTypes, IsTypedTick, row_inputs, row_runs}
 use Rattle.c_simulation.specs.RunTicks.{tick_at}
 use Rattle.c_simulation.specs.RunTickLaws.{TicksAreTyped}
 use Rattle.c_simulation.proofs.Lists.{each-row, each-kept, each-made, zip-made, zip-from, zip-back}
-use Rattle.c_simulation.proofs.LocalTickLaws.{inputs-are}
-use Rattle.c_simulation.proofs.ChildTicks.{IsChildHeader, child-header}
+use Rattle.c_simulation.proofs.lemmas.LocalTickLaws.{inputs-are}
+use Rattle.c_simulation.proofs.lemmas.ChildTicks.{IsChildHeader, child-header}
 
 -- a subsystem among the rows of a system within s is within s
 inside-too : (rows : List Row) (s : Option ℕ) (e : ℕ) → is_inside rows s e ≡ true → IsSystemWithin rows s (Some e)
@@ -74,6 +76,18 @@ module _ (own : HeaderIsOfOwnRows) (typed : SystemsAreTyped) (r : ResolvedTree) 
             (subst (AllZip InType (map (type_at d.types) (control_wires_of d.rows (Some e)))) met.controls (zip-made InType (type_at d.types) (control_wires_of d.rows (Some e)) _ inner.controls))));
       }
 
+  -- an output is an Outport of the child
+  gives : (h : SystemHeader) → IsChildHeader d n h → GivesInTypes (local_of d r.times.delays n []) m (child_use d h)
+  gives h child =
+      let e = child.row in
+      let stands = own_rows_stand_in d.rows s n e resolved.tree.table.nested (record { in_table = child.own.in_table; own = child.own.own; within = within }) in
+      let inner = typed r s (Some e) xs run t resolved child.subsystem (inside-too d.rows s e stands.is_inside) is trace none below in
+      subst (λ (g : SystemHeader). AllByRecursion (λ (o : ℕ × FixType). InType o.1 (m.tick.value o.0)) g.outputs)
+      (sym (child.is_header ∙ ap (λ o. header_of d o h.profile) child.is_row))
+      (each-made (λ (o : ℕ × FixType). InType o.1 (m.tick.value o.0)) (λ o. (o, type_at d.types o)) (outports_of d.rows (Some e)) (λ b inside.
+      let at = of-ports d.rows (Some e) is_outport b inside in
+      inner.values b (record { in_table = at.0; own = at.1 })))
+
   whole : (headers : List SystemHeader) → ((h : SystemHeader) → Contains headers h → IsChildHeader d n h) → IsTypedTick (local_of d r.times.delays n headers) m
   whole headers are =
       let local = local_of d r.times.delays n headers in
@@ -92,6 +106,7 @@ module _ (own : HeaderIsOfOwnRows) (typed : SystemsAreTyped) (r : ResolvedTree) 
             (each-row (λ q. has_value q.kind ≡ true → IsTrue (row_runs local m q) → IsEvaluable q.op (row_inputs local m q) (first_of (m.tick.memory q.row))) row d.rows n
             (λ b in_n has does. subst (λ ins. IsEvaluable (op_at d b) ins (first_of (m.tick.memory b))) (inputs-are d r.times.delays n headers m b) (own-typed.evaluable b in_n)));
         children = each-made (IsFed local m) (child_use d) headers (λ h inside. let f = fed h (are h inside) in record { inputs = f.inputs; controls = f.controls });
+        outputs = each-made (GivesInTypes local m) (child_use d) headers (λ h inside. gives h (are h inside));
       }
 
 pub ticks_are_typed : HeaderIsOfOwnRows → SystemsAreTyped → TicksAreTyped

@@ -31,10 +31,10 @@ use Rattle.c_simulation.specs.Serving.{is_given, Serves}
 use Rattle.c_simulation.specs.NodeStatements.{IsArgument, HoldsWire, IsReady, HoldsMemory, Gives, call_needs, nothing_stored, stored_once, stored_inside}
 use Rattle.c_simulation.specs.Relation.{ChildrenServe}
 use Rattle.c_simulation.specs.ExecutedNodes.{IsCounting, IsInTick, IsNextNode, RowIsExecuted, CallIsExecuted}
-use Rattle.c_simulation.proofs.HeldOutports.{gives}
-use Rattle.c_simulation.proofs.SlotMembers.{slot-is, system-row}
-use Rattle.c_simulation.proofs.StandingShapes.{standing_has_slots}
-use Rattle.c_simulation.proofs.ExecutedFields.{row_is_one_field, call_is_one_child}
+use Rattle.c_simulation.proofs.lemmas.HeldOutports.{gives}
+use Rattle.c_simulation.proofs.lemmas.SlotMembers.{slot-is, system-row}
+use Rattle.c_simulation.proofs.lemmas.StandingShapes.{standing_has_slots}
+use Rattle.c_simulation.proofs.lemmas.ExecutedFields.{row_is_one_field, call_is_one_child}
 
 each-member : {A : Type 0} (P : A → Type 0) (xs : List A) → ((x : A) → Contains xs x → P x) → AllByRecursion P xs
 each-member P [] each = tt
