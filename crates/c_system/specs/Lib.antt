@@ -7,5 +7,7 @@ pub mod NodeCode
 pub mod Renewing
 pub mod EmittedCode
 pub mod Emittable
+pub mod Schedules
+pub mod Emitted
 pub mod SharedExamples
 pub mod EmittedExamples
