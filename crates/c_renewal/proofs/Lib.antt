@@ -1,0 +1,14 @@
+mod Lists
+mod FieldCode
+mod FieldRuns
+mod FieldForms
+mod FieldSteps
+mod FieldPlaces
+mod ProcedurePlaces
+mod MovedFields
+mod OwnProcedures
+mod OwnSlots
+mod TypedStarts
+mod BodyLengths
+mod RenewalBudgets
+mod EmittedRenewals
