@@ -1,0 +1,21 @@
+-- The shape of a system's code, from its parts.
+use Rattle.mc_profile.specs.NodeFacts.{LocalsAreLawful, NodesReachAsRows}
+use Rattle.c_blocks.specs.Laws.{RowsReadTheirLeaves}
+use Rattle.c_formed.specs.Formed.{EmittedCodeHasShape}
+use Rattle.c_formed.proofs.CalledOnce.{code_states_once}
+use Rattle.c_formed.proofs.GivenOutputs.{functions_give_their_outputs}
+use Rattle.c_formed.proofs.KeptRules.{code_keeps_rules}
+use Rattle.c_formed.proofs.OutputPlaces.{outputs_have_places}
+use Rattle.c_formed.proofs.PublicHeads.{heads_are_public}
+use Rattle.c_formed.proofs.Slots.{slots_are_right, struct_has_its_slots}
+
+pub emitted_code_has_shape : LocalsAreLawful → NodesReachAsRows → RowsReadTheirLeaves → EmittedCodeHasShape
+emitted_code_has_shape lawful reach reads local profile schedule is = record {
+  slots_right = slots_are_right local schedule;
+  structure = struct_has_its_slots local profile schedule;
+  places = outputs_have_places lawful local profile schedule is;
+  heads = heads_are_public local profile schedule is;
+  gives = functions_give_their_outputs lawful reach local profile schedule is;
+  rules = code_keeps_rules lawful reach reads local profile schedule is;
+  once = code_states_once lawful reach local profile schedule is;
+}
