@@ -1,0 +1,9 @@
+// The code of a system keeps the rules and limits of C by itself.
+#![tactic(auto)]
+
+mod laws;
+
+pub use laws::{
+    emitted_has_short_chains, emitted_is_lawful, procedures_are_lawful, procedures_differ,
+    procedures_fit, structs_are_lawful,
+};
