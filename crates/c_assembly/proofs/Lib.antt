@@ -1,0 +1,13 @@
+mod SampleOffers
+mod SystemOrder
+mod CodedViews
+mod SystemNames
+mod FirstPlaces
+mod SystemPlaces
+mod FieldPlaces
+mod ProcedurePlaces
+mod RootPlaces
+mod MovedRoutines
+mod SystemProcedures
+mod RootRows
+mod Derivations

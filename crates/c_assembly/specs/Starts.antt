@@ -1,0 +1,40 @@
+-- How the instances of a program are started and reset: each system's procedure makes what it should of any fields of its struct.
+use Rattle.std.specs.Prelude.{◌≡◌, ℕ, ◌≤◌, List, ◌∷◌, map, sum_by, Option, Some}
+use Rattle.std.specs.List.{AllByRecursion}
+use Rattle.mc_profile.specs.LocalSystem.{LocalSystem}
+use Rattle.mc_profile.specs.Systems.{systems_inside}
+use Rattle.c_machine.specs.Cells.{Cell, Cells}
+use Rattle.c_shape.specs.Programs.{struct_place}
+use Rattle.c_shape.specs.Slots.{Slot}
+use Rattle.c_simulation.specs.Forms.{HasForms}
+use Rattle.c_simulation.specs.Instances.{Offered, Offer}
+use Rattle.c_simulation.specs.Budgets.{own_budget}
+use Rattle.c_simulation.specs.Renewals.{Renewal, Renews, IsStarted, IsReset, AllSlots}
+use Rattle.c_right.specs.Anew.{forms_at, RenewsAll}
+use Rattle.c_assembly.specs.Parts.{Parts, program_of, diagram, all_systems, Views}
+use Rattle.c_assembly.specs.Offers.{offer_of}
+
+-- the budgets of a system and of all inside it
+abbrev pub budget_inside : (a : Parts) → Views a → Option ℕ → ℕ
+budget_inside a v n = sum_by (λ o. own_budget (v.at o).local) (n ∷ map Some (systems_inside (diagram a).rows n))
+
+-- One of the procedures that the system n offers, from any fields of its struct, makes this of them: of its own fields what it
+-- should, where its children are renewed so.
+pub record IsRenewed (a : Parts) (v : Views a) (which : Offer → Offered) (IsSo : LocalSystem → List Renewal → Slot → Cell → Cell → Type 0)
+    (renewals : Option ℕ → Renewal) (n : Option ℕ) : Type 0 where
+  pub forms : (renewals n).forms ≡ forms_at (program_of a) (struct_place (program_of a) n)
+  pub renews : Renews (which (offer_of a v n)) (renewals n)
+  pub becomes : (before : Cells) → HasForms (renewals n).forms before →
+      AllSlots (IsSo (v.at n).local (map (λ u. renewals u.header.row) (v.at n).local.children)) (v.at n).slots before ((renewals n).renewed before)
+  pub in_time : (renewals n).most ≤ budget_inside a v n
+
+-- each system starts and is reset
+pub record Renewed (a : Parts) (v : Views a) : Type 0 where
+  pub started : Option ℕ → Renewal
+  pub reset : Option ℕ → Renewal
+  pub starts : AllByRecursion (IsRenewed a v (λ o. o.start) IsStarted started) (all_systems a)
+  pub resets : AllByRecursion (IsRenewed a v (λ o. o.reset) IsReset reset) (all_systems a)
+
+-- each system of the program is started and reset as it should be, from any fields of its struct
+abbrev pub AssembledRenews : Parts → Type 0
+AssembledRenews a = AllByRecursion (RenewsAll (program_of a) (diagram a)) (all_systems a)

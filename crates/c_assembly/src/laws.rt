@@ -1,0 +1,69 @@
+ghost use Rattle.c_assembly.specs.Offers.{OffersAreOfHeaders, ProceduresFollow};
+ghost use Rattle.c_assembly.specs.Parts.{CodesHaveViews};
+ghost use Rattle.c_assembly.specs.Places.{FieldsHavePlaces, RootHasPlaces, SystemsHavePlaces};
+ghost use Rattle.c_assembly.specs.Whole.{CodeFollows, RunsFollow};
+
+use c_machine::procedures_stand_in_order;
+use c_shape::moved_code_agrees;
+use mc_diagram::one_run;
+use mc_profile::{header_is_of_own_rows, profiles_are_one};
+
+/// Each system of a model is known with its code, and so is each child.
+pub fn codes_have_views()
+    ensures { CodesHaveViews }
+{
+    profiles_are_one();
+    header_is_of_own_rows();
+}
+
+/// A system's struct and procedures stand in the program where its code does among the codes.
+pub fn systems_have_places()
+    ensures { SystemsHavePlaces }
+{}
+
+/// A field is found by the name of its slot.
+pub fn fields_have_places()
+    ensures { FieldsHavePlaces }
+{
+    systems_have_places();
+}
+
+/// The root's struct and procedures stand last.
+pub fn root_has_places()
+    ensures { RootHasPlaces }
+{
+    codes_have_views();
+}
+
+/// A system's procedures take what its header says.
+pub fn offers_are_of_headers()
+    ensures { OffersAreOfHeaders }
+{
+    procedures_stand_in_order();
+    systems_have_places();
+}
+
+/// A system's procedures in the program are those of its code among the procedures of its children,
+/// where what they call and read is found alike in both.
+pub fn procedures_follow()
+    ensures { ProceduresFollow }
+{
+    moved_code_agrees();
+    procedures_stand_in_order();
+    systems_have_places();
+    fields_have_places();
+}
+
+/// The program gives over each trace the outputs of the one run, within the bound on steps, by the
+/// calls of each tick, where its root starts and takes single ticks as it should, and each instance
+/// has its fields, starts, and lives through runs.
+pub fn runs_follow()
+    ensures { RunsFollow }
+{
+    one_run();
+}
+
+/// A lawful program that has each part of right code is lawful, and code for the diagram.
+pub fn code_follows()
+    ensures { CodeFollows }
+{}
