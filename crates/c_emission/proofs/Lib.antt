@@ -1,0 +1,5 @@
+pub mod Joined
+pub mod Steps
+pub mod Loops
+pub mod CodeGroups
+pub mod Agreed

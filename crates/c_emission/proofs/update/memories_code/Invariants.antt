@@ -1,0 +1,11 @@
+use Rattle.std.proofs.Common.{◌≡◌, cond, map, take}
+use Rattle.mc_diagram.specs.Run.{is_delay}
+use Rattle.c_syntax.specs.Tree.{no_stmts}
+use Rattle.c_system.specs.EmittedCode.{joined}
+use Rattle.c_system.specs.NodeCode.{memory_code}
+use Rattle.c_emission.specs.Code.{code_of}
+use Rattle.c_emission.proofs.update.memories_code.Given as goal
+
+abbrev pub invariant-loop-row : goal.invariant-loop-row
+invariant-loop-row l = code_of l.code.items
+    ≡ joined (map (λ r. cond (is_delay r.op) (memory_code l.layout.local l.params r) no_stmts) (take l.row-index l.rows))

@@ -1,0 +1,9 @@
+mod Steps
+mod FieldPlaces
+mod PortTypes
+mod OutParams
+mod LaidTables
+mod Bases
+mod CallCounts
+mod ParamNames
+mod FieldSteps

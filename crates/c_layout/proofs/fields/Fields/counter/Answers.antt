@@ -1,0 +1,26 @@
+use Rattle.std.proofs.Common.{arith, length, sym, ap, ◌∙◌}
+use Rattle.c_layout.specs.Laid.{Scheduled}
+use Rattle.c_layout.proofs.FieldPlaces.{has-fields, all-fit, place-at, trigger-is}
+use Rattle.c_layout.proofs.fields.Fields.counter.Goals as goal
+
+pub overflow_cast-result : goal.overflow_cast-result
+overflow_cast-result c =
+    let i = c.self.inside in
+    let self = c.args.self.now in
+    let has = has-fields i self c.self.invariant c.self.view_is in
+    let fit = all-fit self i.values i.singles i.lines i.counters has in
+    let behind = trigger-is self i.values i.singles i.lines i.counters has in
+    let at = place-at i.counters c.args.group c.in-Some.place (sym c.place.ensures ∙ c.in-Some.is) in
+    let same = ap (λ (s : Scheduled). length s.local.children) c.self.view_is in
+    omega (arith, fit, behind, at, same)
+
+pub overflow_add-result : goal.overflow_add-result
+overflow_add-result c =
+    let i = c.self.inside in
+    let self = c.args.self.now in
+    let has = has-fields i self c.self.invariant c.self.view_is in
+    let fit = all-fit self i.values i.singles i.lines i.counters has in
+    let behind = trigger-is self i.values i.singles i.lines i.counters has in
+    let at = place-at i.counters c.args.group c.in-Some.place (sym c.place.ensures ∙ c.in-Some.is) in
+    let same = ap (λ (s : Scheduled). length s.local.children) c.self.view_is in
+    omega (arith, fit, behind, at, same)

@@ -1,0 +1,43 @@
+-- What holds of the tables of a layout.
+use Rattle.std.specs.Prelude.{◌≡◌, ℕ, ◌+◌, List, map, length, Option}
+use Rattle.std.specs.List.{range_with_len}
+use Rattle.mc_base.specs.declared.base.Port.{Port}
+use Rattle.mc_fixed.specs.declared.types.FixType.{FixType}
+use Rattle.mc_profile.specs.Locals.{own_header}
+use Rattle.mc_profile.specs.SystemProfile.{SystemProfile}
+use Rattle.c_system.specs.declared.node.Place.{Place}
+use Rattle.c_system.specs.declared.source.Source.{Source}
+use Rattle.c_system.specs.Emittable.{IsEmittable}
+use Rattle.c_system.specs.Fields.{value_rows, single_rows, line_rows, numbers, first_place, shared_groups}
+use Rattle.c_system.specs.Groups.{code_groups, own_count}
+use Rattle.c_system.specs.Heads.{port_types}
+use Rattle.c_system.specs.Places.{node_places, child_base}
+use Rattle.c_system.specs.Sources.{sources}
+use Rattle.c_layout.specs.Laid.{Laid, Scheduled}
+
+-- a table tells the first place of each of these numbers, and of no other any
+abbrev pub TellsPlaces : List ℕ → (ℕ → Option ℕ) → Type 0
+TellsPlaces keys told = (k : ℕ) → told k ≡ first_place keys k
+
+-- the rows with a value, with the memory of one sample and with that of several, and the groups with a counter, by number
+pub record HasFields (of : Scheduled) (valued single lined counted : List ℕ) : Type 0 where
+  pub emittable : IsEmittable of.local of.schedule
+  pub values : valued ≡ numbers (value_rows of.local)
+  pub singles : single ≡ numbers (single_rows of.local)
+  pub lines : lined ≡ numbers (line_rows of.local)
+  pub counters : counted ≡ shared_groups of.schedule
+
+-- the tables of a layout beside its fields
+pub record HasTables (of : Laid) (found : List Source) (placed : List Place) (grouped based : List ℕ) (typed : List (Port × FixType)) : Type 0 where
+  pub emittable : IsEmittable of.local of.schedule
+  pub are_sources : found ≡ sources of.local
+  pub nodes : placed ≡ node_places of.local
+  pub groups : grouped ≡ code_groups of.schedule
+  pub bases : based ≡ map (child_base of.local (own_count of.schedule)) (range_with_len 0 (length of.local.children + 1))
+  pub ports : typed ≡ port_types (own_header of.local of.profile)
+
+-- these are the tables of a layout of the system, whatever its profile
+abbrev pub AreTables : (of : Scheduled) → List Source → List Place → List ℕ → List ℕ → List (Port × FixType) → Type 0
+AreTables of found placed grouped based typed =
+    (profile : SystemProfile) →
+    HasTables (record { local = of.local; profile = profile; schedule = of.schedule }) found placed grouped based typed
