@@ -4,6 +4,7 @@ mod brackets;
 mod depths;
 mod parsed;
 mod printed;
+mod rules;
 
 use crate::texts::joined;
 use c_grammar::ReadCFault;

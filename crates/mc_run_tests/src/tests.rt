@@ -1,29 +1,25 @@
 mod controls;
 mod delays;
-mod nested;
 mod profiles;
 mod rates;
 mod shared;
 mod systems;
-mod times;
 
 use mc_depend::find_loop;
-use mc_diagram::{Resolved, Tree, resolve_all};
+use mc_diagram::Resolved;
 use mc_equations::{is_trace_for, plain_run};
-use mc_times::infer_times;
-use mc_types::infer_types;
+use mc_verdict::accept_model;
+use mdl_texts::model_of;
 use std::alloc::Global;
 use std::test::Fail;
 
-/// A tree with its types, its sample times and its operations.
-fn resolved(alloc: Global, tree: Tree) -> Result<Resolved, Fail> {
-    let Ok(types) = infer_types(alloc, &tree) else {
-        return Err("the rows have no types".into());
-    };
-    let Ok(times) = infer_times(alloc, &tree) else {
-        return Err("the rows have no sample times".into());
-    };
-    Ok(resolve_all(alloc, tree, types, times)?)
+/// The resolved model of these parts.
+fn resolved(alloc: Global, parts: &str) -> Result<Resolved, Fail> {
+    let text = model_of(alloc, parts)?;
+    match accept_model(alloc, text.as_bytes()) {
+        Ok(model) => Ok(model),
+        Err(_) => Err("the model is refused".into()),
+    }
 }
 
 /// A trace with these rows.
@@ -38,31 +34,30 @@ fn trace<const INPUTS: usize>(
     Ok(trace)
 }
 
-/// The values of a row, by tick.
-fn column(alloc: Global, run: &[Vec<i64>], row: usize) -> Result<Vec<i64>, Fail> {
+/// The last value of each tick.
+fn last_column(alloc: Global, run: &[Vec<i64>]) -> Result<Vec<i64>, Fail> {
     let mut values = Vec::new(alloc);
     for tick in run {
-        values.push(*tick.as_slice().get(row).ok_or("the run has no such row")?)?;
+        values.push(*tick.as_slice().last().ok_or("there is no row")?)?;
     }
     Ok(values)
 }
 
-/// The values of a row, by tick, in the run of a tree over a trace.
-fn values_of<const INPUTS: usize>(
+/// The values of the last row, by tick, in the run of a model of these parts over a trace.
+fn outputs<const INPUTS: usize>(
     alloc: Global,
-    tree: Tree,
+    parts: &str,
     rows: &[[i64; INPUTS]],
-    row: usize,
 ) -> Result<Vec<i64>, Fail> {
-    let r = resolved(alloc, tree)?;
+    let r = resolved(alloc, parts)?;
     let inputs = trace(alloc, rows)?;
     let None = find_loop(alloc, &r)? else {
         return Err("there is a loop".into());
     };
     let rows = inputs.as_slice();
     if !is_trace_for(&r, rows) {
-        return Err("the trace is not one for the diagram".into());
+        return Err("the trace is not one for the model".into());
     }
     let run = plain_run(alloc, &r, rows)?;
-    column(alloc, run.as_slice(), row)
+    last_column(alloc, run.as_slice())
 }

@@ -43,6 +43,20 @@ fn in_subsystem(alloc: Global, parts: &str) -> Result<Vec<u8>, Fail> {
     in_root(alloc, &subsystem)
 }
 
+/// Fails where what is told of some parts isn't what is expected.
+fn is_told(told: &[u8], expected: &str, parts: &str) -> Result<(), Fail> {
+    if told == expected.as_bytes() {
+        return Ok(());
+    }
+    Err(Fail::new(format_args!("{expected} is not told of {parts}")))
+}
+
+/// Compares the verdict on a model of these parts, and that on the same in a subsystem, with what is expected.
+fn at_both_depths(alloc: Global, parts: &str, root: &str, inside: &str) -> Result<(), Fail> {
+    is_told(&in_root(alloc, parts)?, root, parts)?;
+    is_told(&in_subsystem(alloc, parts)?, inside, parts)
+}
+
 /// The resolved model of a file that is accepted.
 fn resolved(alloc: Global, file: &str) -> Result<Resolved, Fail> {
     match accept_model(alloc, file.as_bytes()) {

@@ -5,7 +5,6 @@ use mc_edge::{MemHost, MemSink, SureHost, SureSink};
 use std::alloc::{AllocError, Global};
 use std::test::Fail;
 
-mod code_texts;
 mod models;
 mod runs;
 
@@ -168,54 +167,11 @@ fn refusals(rt: HostRuntime) -> Result<(), Fail> {
             "refused F4 TwoModels line 5 Second\n",
         ),
         ("Library {\n}\n", "refused F4 TwoModels line 1 Library\n"),
-        (
-            models::WIDE_PRODUCT,
-            "refused F19 TooWide line 14 bits 64\n",
-        ),
-        (models::UNLIKE, "refused F17 NoType line 8 Unlike\n"),
-        (models::UNTYPED, "refused F17 NoType line 3 Missing\n"),
     ] {
         let told = compiled(rt.alloc(), model.as_bytes())?;
         assert_eq!(rt; told.status, 3, "{line}");
         assert_eq!(rt; told.put.as_slice(), line.as_bytes(), "{line}");
         assert_eq!(rt; told.files, 0);
-    }
-    Ok(())
-}
-
-// The Sum's Block begins in line 8, and that of the block behind it in line 13.
-#[test]
-fn returned_sums(rt: HostRuntime) -> Result<(), Fail> {
-    for (kind, line) in [
-        ("Gain", "refused F23 Loop 8 13\n"),
-        ("UnitDelay", "refused F7 Unsupported line 8\n"),
-    ] {
-        let model = models::returned(rt.alloc(), kind)?;
-        let told = compiled(rt.alloc(), model.as_bytes())?;
-        assert_eq!(rt; told.status, 3, "{kind}");
-        assert_eq!(rt; told.put.as_slice(), line.as_bytes(), "{kind}");
-        assert_eq!(rt; told.files, 0);
-    }
-    Ok(())
-}
-
-#[test]
-fn inports_that_are_refused(rt: HostRuntime) -> Result<(), Fail> {
-    for (parameters, line) in [
-        (
-            "OutDataTypeStr \"int32\"\nSampleTime \"0\"\n",
-            "refused F15 Continuous line 5\n",
-        ),
-        (
-            "OutDataTypeStr \"double\"\n",
-            "refused F16 FloatType line 5\n",
-        ),
-        ("", "refused F17 NoType line 5 Missing\n"),
-    ] {
-        let model = models::one_wire_with(rt.alloc(), parameters)?;
-        let told = compiled(rt.alloc(), model.as_bytes())?;
-        assert_eq!(rt; told.status, 3, "{line}");
-        assert_eq!(rt; told.put.as_slice(), line.as_bytes(), "{line}");
     }
     Ok(())
 }

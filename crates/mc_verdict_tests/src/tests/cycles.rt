@@ -1,4 +1,4 @@
-use super::{in_root, in_subsystem, verdict};
+use super::{at_both_depths, in_root, verdict};
 use mdl_texts::model_with;
 use std::alloc::{AllocError, Global};
 use std::test::Fail;
@@ -42,10 +42,7 @@ fn common_denominators(rt: HostRuntime) -> Result<(), Fail> {
         ),
     ] {
         let parts = two_times(rt.alloc(), first, second)?;
-        let told = in_root(rt.alloc(), &parts)?;
-        assert_eq!(rt; told.as_slice(), root.as_bytes(), "{first} {second}");
-        let told = in_subsystem(rt.alloc(), &parts)?;
-        assert_eq!(rt; told.as_slice(), inside.as_bytes(), "{first} {second}");
+        at_both_depths(rt.alloc(), &parts, root, inside)?;
     }
     Ok(())
 }
@@ -76,10 +73,7 @@ fn long_periods(rt: HostRuntime) -> Result<(), Fail> {
         ),
     ] {
         let parts = two_times(rt.alloc(), first, second)?;
-        let told = in_root(rt.alloc(), &parts)?;
-        assert_eq!(rt; told.as_slice(), root.as_bytes(), "{first} {second}");
-        let told = in_subsystem(rt.alloc(), &parts)?;
-        assert_eq!(rt; told.as_slice(), inside.as_bytes(), "{first} {second}");
+        at_both_depths(rt.alloc(), &parts, root, inside)?;
     }
     Ok(())
 }
@@ -104,10 +98,7 @@ fn long_cycles(rt: HostRuntime) -> Result<(), Fail> {
         ),
     ] {
         let parts = two_times(rt.alloc(), first, second)?;
-        let told = in_root(rt.alloc(), &parts)?;
-        assert_eq!(rt; told.as_slice(), root.as_bytes(), "{first} {second}");
-        let told = in_subsystem(rt.alloc(), &parts)?;
-        assert_eq!(rt; told.as_slice(), inside.as_bytes(), "{first} {second}");
+        at_both_depths(rt.alloc(), &parts, root, inside)?;
     }
     Ok(())
 }

@@ -1,4 +1,4 @@
-use super::{in_root, in_subsystem};
+use super::{at_both_depths, in_root, in_subsystem};
 use std::alloc::{AllocError, Global};
 use std::test::Fail;
 
@@ -34,10 +34,7 @@ fn long_delays(rt: HostRuntime) -> Result<(), Fail> {
         ),
     ] {
         let parts = delays(rt.alloc(), count, last)?;
-        let told = in_root(rt.alloc(), &parts)?;
-        assert_eq!(rt; told.as_slice(), root.as_bytes(), "{count} {last}");
-        let told = in_subsystem(rt.alloc(), &parts)?;
-        assert_eq!(rt; told.as_slice(), inside.as_bytes(), "{count} {last}");
+        at_both_depths(rt.alloc(), &parts, root, inside)?;
     }
     Ok(())
 }

@@ -1,4 +1,4 @@
-use super::{in_root, in_subsystem, verdict};
+use super::{at_both_depths, verdict};
 use std::test::Fail;
 
 /// A line of 64 bytes.
@@ -84,10 +84,7 @@ fn blocks_without_a_tree(rt: HostRuntime) -> Result<(), Fail> {
             "refused F2 Syntax line 11 Brace",
         ),
     ] {
-        let told = in_root(rt.alloc(), parts)?;
-        assert_eq!(rt; told.as_slice(), root.as_bytes(), "{parts}");
-        let told = in_subsystem(rt.alloc(), parts)?;
-        assert_eq!(rt; told.as_slice(), inside.as_bytes(), "{parts}");
+        at_both_depths(rt.alloc(), parts, root, inside)?;
     }
     Ok(())
 }

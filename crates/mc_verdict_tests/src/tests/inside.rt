@@ -1,4 +1,4 @@
-use super::{in_root, in_subsystem};
+use super::at_both_depths;
 use std::test::Fail;
 
 // Blocks from line 16 on in a subsystem that is triggered: at any depth none may have a time of its own.
@@ -30,10 +30,7 @@ fn times_inside_triggered_subsystems(rt: HostRuntime) -> Result<(), Fail> {
         let parts = format!(in rt.alloc();
             "Constant c OutDataTypeStr=boolean; SubSystem t {{; TriggerPort p; {blocks}; }}; c 1 > t trigger"
         )?;
-        let told = in_root(rt.alloc(), &parts)?;
-        assert_eq!(rt; told.as_slice(), root.as_bytes(), "{blocks}");
-        let told = in_subsystem(rt.alloc(), &parts)?;
-        assert_eq!(rt; told.as_slice(), inside.as_bytes(), "{blocks}");
+        at_both_depths(rt.alloc(), &parts, root, inside)?;
     }
     Ok(())
 }
@@ -64,10 +61,7 @@ fn holds_and_transitions_inside_triggered_subsystems(rt: HostRuntime) -> Result<
             "Constant c OutDataTypeStr=boolean; \
              SubSystem t {{; TriggerPort p; Constant k OutDataTypeStr=int8; {block}; k 1 > z 1; }}; c 1 > t trigger"
         )?;
-        let told = in_root(rt.alloc(), &parts)?;
-        assert_eq!(rt; told.as_slice(), root.as_bytes(), "{block}");
-        let told = in_subsystem(rt.alloc(), &parts)?;
-        assert_eq!(rt; told.as_slice(), inside.as_bytes(), "{block}");
+        at_both_depths(rt.alloc(), &parts, root, inside)?;
     }
     Ok(())
 }
@@ -88,10 +82,7 @@ fn times_inside_enabled_subsystems(rt: HostRuntime) -> Result<(), Fail> {
             "Constant c OutDataTypeStr=boolean; \
              SubSystem t {{; EnablePort e; {port}; Constant k OutDataTypeStr=int8 SampleTime=1; }}; c 1 > t enable; {line}"
         )?;
-        let told = in_root(rt.alloc(), &parts)?;
-        assert_eq!(rt; told.as_slice(), root.as_bytes(), "{port}");
-        let told = in_subsystem(rt.alloc(), &parts)?;
-        assert_eq!(rt; told.as_slice(), inside.as_bytes(), "{port}");
+        at_both_depths(rt.alloc(), &parts, root, inside)?;
     }
     Ok(())
 }

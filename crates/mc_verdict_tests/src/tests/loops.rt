@@ -1,4 +1,4 @@
-use super::{in_root, in_subsystem};
+use super::at_both_depths;
 use std::test::Fail;
 
 // Loops of one system: of gains, of a sum with itself, and broken by a delay.
@@ -29,10 +29,7 @@ fn loops_of_blocks(rt: HostRuntime) -> Result<(), Fail> {
             "refused F23 Loop 7 12",
         ),
     ] {
-        let told = in_root(rt.alloc(), parts)?;
-        assert_eq!(rt; told.as_slice(), root.as_bytes(), "{parts}");
-        let told = in_subsystem(rt.alloc(), parts)?;
-        assert_eq!(rt; told.as_slice(), inside.as_bytes(), "{parts}");
+        at_both_depths(rt.alloc(), parts, root, inside)?;
     }
     Ok(())
 }
@@ -60,10 +57,7 @@ fn two_loops_through_a_sum(rt: HostRuntime) -> Result<(), Fail> {
         let parts = format!(in rt.alloc();
             "Sum p OutDataTypeStr=int32; Gain k; Gain l; Gain m; {lines}"
         )?;
-        let told = in_root(rt.alloc(), &parts)?;
-        assert_eq!(rt; told.as_slice(), root.as_bytes(), "{lines}");
-        let told = in_subsystem(rt.alloc(), &parts)?;
-        assert_eq!(rt; told.as_slice(), inside.as_bytes(), "{lines}");
+        at_both_depths(rt.alloc(), &parts, root, inside)?;
     }
     Ok(())
 }
@@ -94,10 +88,7 @@ fn loops_through_subsystems(rt: HostRuntime) -> Result<(), Fail> {
             "refused F23 Loop 20 24",
         ),
     ] {
-        let told = in_root(rt.alloc(), parts)?;
-        assert_eq!(rt; told.as_slice(), root.as_bytes(), "{parts}");
-        let told = in_subsystem(rt.alloc(), parts)?;
-        assert_eq!(rt; told.as_slice(), inside.as_bytes(), "{parts}");
+        at_both_depths(rt.alloc(), parts, root, inside)?;
     }
     Ok(())
 }
@@ -114,10 +105,7 @@ fn loops_through_transitions(rt: HostRuntime) -> Result<(), Fail> {
             "Gain k OutDataTypeStr=int8 SampleTime={from}; RateTransition r OutPortSampleTime={to}; \
              k 1 > r 1; r 1 > k 1"
         )?;
-        let told = in_root(rt.alloc(), &parts)?;
-        assert_eq!(rt; told.as_slice(), root.as_bytes(), "{from} {to}");
-        let told = in_subsystem(rt.alloc(), &parts)?;
-        assert_eq!(rt; told.as_slice(), inside.as_bytes(), "{from} {to}");
+        at_both_depths(rt.alloc(), &parts, root, inside)?;
     }
     Ok(())
 }

@@ -1,4 +1,4 @@
-use super::{in_root, in_subsystem};
+use super::at_both_depths;
 use std::test::Fail;
 
 // Of two refusals the one of the lesser number, although the other's line is before: types and widths.
@@ -33,10 +33,7 @@ fn refusals_of_types_in_order(rt: HostRuntime) -> Result<(), Fail> {
             "refused F19 TooWide line 28 bits 64",
         ),
     ] {
-        let told = in_root(rt.alloc(), parts)?;
-        assert_eq!(rt; told.as_slice(), root.as_bytes(), "{parts}");
-        let told = in_subsystem(rt.alloc(), parts)?;
-        assert_eq!(rt; told.as_slice(), inside.as_bytes(), "{parts}");
+        at_both_depths(rt.alloc(), parts, root, inside)?;
     }
     Ok(())
 }
@@ -65,10 +62,7 @@ fn refusals_of_times_in_order(rt: HostRuntime) -> Result<(), Fail> {
             "refused F22 RateRatio line 18 in 2 out 3",
         ),
     ] {
-        let told = in_root(rt.alloc(), parts)?;
-        assert_eq!(rt; told.as_slice(), root.as_bytes(), "{parts}");
-        let told = in_subsystem(rt.alloc(), parts)?;
-        assert_eq!(rt; told.as_slice(), inside.as_bytes(), "{parts}");
+        at_both_depths(rt.alloc(), parts, root, inside)?;
     }
     Ok(())
 }

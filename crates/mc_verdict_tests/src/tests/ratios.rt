@@ -1,4 +1,4 @@
-use super::{in_root, in_subsystem};
+use super::at_both_depths;
 use std::test::Fail;
 
 // A RateTransition at line 9, from one time to another: both offsets are 0 and one period is a multiple of the other, or
@@ -38,10 +38,7 @@ fn ratios_of_rates(rt: HostRuntime) -> Result<(), Fail> {
         let parts = format!(in rt.alloc();
             "Constant c OutDataTypeStr=int8 SampleTime={from}; RateTransition r OutPortSampleTime={to}; c 1 > r 1"
         )?;
-        let told = in_root(rt.alloc(), &parts)?;
-        assert_eq!(rt; told.as_slice(), root.as_bytes(), "{from} {to}");
-        let told = in_subsystem(rt.alloc(), &parts)?;
-        assert_eq!(rt; told.as_slice(), inside.as_bytes(), "{from} {to}");
+        at_both_depths(rt.alloc(), &parts, root, inside)?;
     }
     Ok(())
 }
@@ -76,10 +73,7 @@ fn ratios_of_found_rates(rt: HostRuntime) -> Result<(), Fail> {
             "Constant c OutDataTypeStr=int8 SampleTime=4; Constant d OutDataTypeStr=int8 SampleTime=6; \
              Sum p; c 1 > p 1; d 1 > p 2; {more}"
         )?;
-        let told = in_root(rt.alloc(), &parts)?;
-        assert_eq!(rt; told.as_slice(), root.as_bytes(), "{more}");
-        let told = in_subsystem(rt.alloc(), &parts)?;
-        assert_eq!(rt; told.as_slice(), inside.as_bytes(), "{more}");
+        at_both_depths(rt.alloc(), &parts, root, inside)?;
     }
     Ok(())
 }

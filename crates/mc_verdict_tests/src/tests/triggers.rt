@@ -1,4 +1,4 @@
-use super::{in_root, in_subsystem};
+use super::at_both_depths;
 use std::test::Fail;
 
 // What triggers a subsystem at line 8.
@@ -22,10 +22,7 @@ fn types_of_triggers(rt: HostRuntime) -> Result<(), Fail> {
         let parts = format!(in rt.alloc();
             "Constant c OutDataTypeStr={type_text}; SubSystem t {{; TriggerPort p; }}; c 1 > t trigger"
         )?;
-        let told = in_root(rt.alloc(), &parts)?;
-        assert_eq!(rt; told.as_slice(), root.as_bytes(), "{type_text}");
-        let told = in_subsystem(rt.alloc(), &parts)?;
-        assert_eq!(rt; told.as_slice(), inside.as_bytes(), "{type_text}");
+        at_both_depths(rt.alloc(), &parts, root, inside)?;
     }
     Ok(())
 }
@@ -70,10 +67,7 @@ fn subsystems_with_signed_triggers(rt: HostRuntime) -> Result<(), Fail> {
         let parts = format!(in rt.alloc();
             "Constant b OutDataTypeStr=boolean; Constant c OutDataTypeStr=int8; {subsystems}"
         )?;
-        let told = in_root(rt.alloc(), &parts)?;
-        assert_eq!(rt; told.as_slice(), root.as_bytes(), "{subsystems}");
-        let told = in_subsystem(rt.alloc(), &parts)?;
-        assert_eq!(rt; told.as_slice(), inside.as_bytes(), "{subsystems}");
+        at_both_depths(rt.alloc(), &parts, root, inside)?;
     }
     Ok(())
 }

@@ -1,4 +1,4 @@
-use super::{in_root, in_subsystem};
+use super::{at_both_depths, in_root};
 use std::test::Fail;
 
 // Rules that lead round, to a Ground or to nothing; what has no value needs no type.
@@ -33,10 +33,7 @@ fn rows_without_a_type(rt: HostRuntime) -> Result<(), Fail> {
             "refused F17 NoType line 7 Missing",
         ),
     ] {
-        let told = in_root(rt.alloc(), parts)?;
-        assert_eq!(rt; told.as_slice(), root.as_bytes(), "{parts}");
-        let told = in_subsystem(rt.alloc(), parts)?;
-        assert_eq!(rt; told.as_slice(), inside.as_bytes(), "{parts}");
+        at_both_depths(rt.alloc(), parts, root, inside)?;
     }
     Ok(())
 }
@@ -78,10 +75,7 @@ fn types_unlike_those_read(rt: HostRuntime) -> Result<(), Fail> {
             "refused F17 NoType line 16 Unlike",
         ),
     ] {
-        let told = in_root(rt.alloc(), parts)?;
-        assert_eq!(rt; told.as_slice(), root.as_bytes(), "{parts}");
-        let told = in_subsystem(rt.alloc(), parts)?;
-        assert_eq!(rt; told.as_slice(), inside.as_bytes(), "{parts}");
+        at_both_depths(rt.alloc(), parts, root, inside)?;
     }
     Ok(())
 }
@@ -106,10 +100,7 @@ fn the_first_type_is_told(rt: HostRuntime) -> Result<(), Fail> {
             "refused F17 NoType line 12 Missing",
         ),
     ] {
-        let told = in_root(rt.alloc(), parts)?;
-        assert_eq!(rt; told.as_slice(), root.as_bytes(), "{parts}");
-        let told = in_subsystem(rt.alloc(), parts)?;
-        assert_eq!(rt; told.as_slice(), inside.as_bytes(), "{parts}");
+        at_both_depths(rt.alloc(), parts, root, inside)?;
     }
     Ok(())
 }

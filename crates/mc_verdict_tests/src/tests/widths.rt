@@ -1,63 +1,66 @@
-use super::{in_root, in_subsystem};
+use super::at_both_depths;
+use std::alloc::Global;
 use std::test::Fail;
 
-// A block at line 13 of two constants: 62 bits are the most that may be.
+// Two constants of these types before a block at line 13: 62 bits are the most that may be.
+fn wide_block(
+    alloc: Global,
+    block: &str,
+    types: (&str, &str),
+    root: &str,
+    inside: &str,
+) -> Result<(), Fail> {
+    let (first, second) = types;
+    let parts = format!(in alloc;
+        "Constant c OutDataTypeStr={first}; Constant d OutDataTypeStr={second}; {block}; c 1 > p 1; d 1 > p 2"
+    )?;
+    at_both_depths(alloc, &parts, root, inside)
+}
+
 #[test]
-fn wide_blocks(rt: HostRuntime) -> Result<(), Fail> {
-    for (first, second, block, root, inside) in [
-        ("int32", "int32", "Product p", "accepted", "accepted"),
+fn wide_products(rt: HostRuntime) -> Result<(), Fail> {
+    for (types, root, inside) in [
+        (("int32", "int32"), "accepted", "accepted"),
         (
-            "uint32",
-            "int32",
-            "Product p",
+            ("uint32", "int32"),
             "refused F19 TooWide line 13 bits 63",
             "refused F19 TooWide line 17 bits 63",
         ),
         (
-            "uint32",
-            "uint32",
-            "Product p",
+            ("uint32", "uint32"),
             "refused F19 TooWide line 13 bits 64",
             "refused F19 TooWide line 17 bits 64",
         ),
-        ("int32", "fixdt(1,32,30)", "Sum p", "accepted", "accepted"),
+    ] {
+        wide_block(rt.alloc(), "Product p", types, root, inside)?;
+    }
+    Ok(())
+}
+
+#[test]
+fn wide_sums_and_comparisons(rt: HostRuntime) -> Result<(), Fail> {
+    for (block, types, root, inside) in [
+        ("Sum p", ("int32", "fixdt(1,32,30)"), "accepted", "accepted"),
         (
-            "int32",
-            "fixdt(1,32,31)",
             "Sum p",
+            ("int32", "fixdt(1,32,31)"),
             "refused F19 TooWide line 13 bits 63",
             "refused F19 TooWide line 17 bits 63",
         ),
         (
-            "int32",
-            "fixdt(0,8,31)",
             "RelationalOperator p",
+            ("int32", "fixdt(0,8,31)"),
             "accepted",
             "accepted",
         ),
         (
-            "fixdt(0,8,31)",
-            "uint32",
             "RelationalOperator p",
+            ("fixdt(0,8,31)", "uint32"),
             "refused F19 TooWide line 13 bits 63",
             "refused F19 TooWide line 17 bits 63",
         ),
     ] {
-        let parts = format!(in rt.alloc();
-            "Constant c OutDataTypeStr={first}; Constant d OutDataTypeStr={second}; {block}; c 1 > p 1; d 1 > p 2"
-        )?;
-        let told = in_root(rt.alloc(), &parts)?;
-        assert_eq!(rt;
-            told.as_slice(),
-            root.as_bytes(),
-            "{first} {second} {block}"
-        );
-        let told = in_subsystem(rt.alloc(), &parts)?;
-        assert_eq!(rt;
-            told.as_slice(),
-            inside.as_bytes(),
-            "{first} {second} {block}"
-        );
+        wide_block(rt.alloc(), block, types, root, inside)?;
     }
     Ok(())
 }
@@ -94,10 +97,7 @@ fn wide_results(rt: HostRuntime) -> Result<(), Fail> {
             "refused F19 TooWide line 12 bits 96",
         ),
     ] {
-        let told = in_root(rt.alloc(), parts)?;
-        assert_eq!(rt; told.as_slice(), root.as_bytes(), "{parts}");
-        let told = in_subsystem(rt.alloc(), parts)?;
-        assert_eq!(rt; told.as_slice(), inside.as_bytes(), "{parts}");
+        at_both_depths(rt.alloc(), parts, root, inside)?;
     }
     Ok(())
 }

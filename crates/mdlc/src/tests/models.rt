@@ -82,18 +82,6 @@ pub const BY_DEFAULTS: &str =
 pub const SURROUNDED: &str =
     "Stateflow {\n  machine {\n  }\n}\nModel {\n  Version 7.8\n  GraphicalInterface {\n    NumRootInports 1\n  }\n  System {\n    Location [480, 85, 980, 386]\n    Annotation {\n      Text \"a wire\"\n    }\n    Block {\n      BlockType Inport\n      Name \"In1\"\n      OutDataTypeStr \"int32\"\n      Position [25, 33, 55, 47]\n    }\n    Block {\n      BlockType Outport\n      Name \"Out1\"\n      PortProperties {\n        Port 2\n      }\n    }\n    Line {\n      SrcBlock \"In1\"\n      SrcPort 1\n      Points [0, 0]\n      DstBlock \"Out1\"\n      DstPort 1\n    }\n  }\n  System {\n  }\n}\n";
 
-/// A Product of two numbers of 32 bits.
-pub const WIDE_PRODUCT: &str =
-    "Model {\nSystem {\nBlock {\nBlockType Inport\nName \"In1\"\nOutDataTypeStr \"uint32\"\n}\nBlock {\nBlockType Inport\nName \"In2\"\nPort \"2\"\nOutDataTypeStr \"uint32\"\n}\nBlock {\nBlockType Product\nName \"P\"\n}\nBlock {\nBlockType Outport\nName \"Out1\"\n}\nLine {\nSrcBlock \"In1\"\nSrcPort 1\nDstBlock \"P\"\nDstPort 1\n}\nLine {\nSrcBlock \"In2\"\nSrcPort 1\nDstBlock \"P\"\nDstPort 2\n}\nLine {\nSrcBlock \"P\"\nSrcPort 1\nDstBlock \"Out1\"\nDstPort 1\n}\n}\n}\n";
-
-/// An Inport wired to an Outport of another type.
-pub const UNLIKE: &str =
-    "Model {\nSystem {\nBlock {\nBlockType Inport\nName \"In1\"\nOutDataTypeStr \"int8\"\n}\nBlock {\nBlockType Outport\nName \"Out1\"\nOutDataTypeStr \"int16\"\n}\nLine {\nSrcBlock \"In1\"\nSrcPort 1\nDstBlock \"Out1\"\nDstPort 1\n}\n}\n}\n";
-
-/// Two Unit Delays, each wired to the other.
-pub const UNTYPED: &str =
-    "Model {\nSystem {\nBlock {\nBlockType UnitDelay\nName \"a\"\n}\nBlock {\nBlockType UnitDelay\nName \"b\"\n}\nLine {\nSrcBlock \"a\"\nSrcPort 1\nDstBlock \"b\"\nDstPort 1\n}\nLine {\nSrcBlock \"b\"\nSrcPort 1\nDstBlock \"a\"\nDstPort 1\n}\n}\n}\n";
-
 /// One Inport wired to one Outport, and to a Terminator beside it.
 pub const ENDED: &[u8] =
     b"Model {\nSystem {\nBlock {\nBlockType Inport\nName \"In1\"\nOutDataTypeStr \"int32\"\n}\nBlock {\nBlockType Terminator\nName \"T\"\n}\nBlock {\nBlockType Outport\nName \"Out1\"\n}\nLine {\nSrcBlock \"In1\"\nSrcPort 1\nBranch {\nDstBlock \"T\"\nDstPort 1\n}\nBranch {\nDstBlock \"Out1\"\nDstPort 1\n}\n}\n}\n}\n";
@@ -111,17 +99,6 @@ const BEHIND_A_TYPE: &str =
 /// The first model with these parameters in the place of its Inport's type.
 pub fn one_wire_with(alloc: Global, parameters: &str) -> Result<String, AllocError> {
     format!(in alloc; "{BEFORE_A_TYPE}{parameters}{BEHIND_A_TYPE}")
-}
-
-const BEFORE_A_RETURN: &str =
-    "Model {\nSystem {\nBlock {\nBlockType Inport\nName \"In1\"\nOutDataTypeStr \"int32\"\n}\nBlock {\nBlockType Sum\nName \"S\"\nInputs \"|+-\"\n}\nBlock {\n";
-
-const BEHIND_A_RETURN: &str =
-    "Name \"R\"\n}\nBlock {\nBlockType Outport\nName \"Out1\"\n}\nLine {\nSrcBlock \"In1\"\nSrcPort 1\nDstBlock \"S\"\nDstPort 1\n}\nLine {\nSrcBlock \"R\"\nSrcPort 1\nDstBlock \"S\"\nDstPort 2\n}\nLine {\nSrcBlock \"S\"\nSrcPort 1\nBranch {\nDstBlock \"R\"\nDstPort 1\n}\nBranch {\nDstBlock \"Out1\"\nDstPort 1\n}\n}\n}\n}\n";
-
-/// A Sum that is wired back to its second input through a block of this type.
-pub fn returned(alloc: Global, kind: &str) -> Result<String, AllocError> {
-    format!(in alloc; "{BEFORE_A_RETURN}BlockType {kind}\n{BEHIND_A_RETURN}")
 }
 
 /// So many sections, each inside the one before, and none of them closed.

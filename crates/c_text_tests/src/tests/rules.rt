@@ -1,6 +1,8 @@
+use super::{read_fault, refused};
+use c_grammar::ReadCFault;
 use c_parser::parse_c;
-use c_reader::{ReadCFault, read_c};
-use c_syntax::{CFault, CKind};
+use c_reader::read_c;
+use c_syntax::CKind;
 use std::alloc::{AllocError, Global};
 use std::test::Fail;
 
@@ -52,25 +54,12 @@ void root_start(struct root *s) { }
 void root_step(struct root *s) { }
 ";
 
-// The fault of a text, if it has one.
-fn fault_of(alloc: Global, text: &[u8]) -> Option<ReadCFault> {
-    match read_c(alloc, text) {
-        Ok(_) => None,
-        Err(fault) => Some(fault),
-    }
-}
-
 // The fault of a text where this is the body of `root_step`, on line 5.
 fn fault_in(alloc: Global, body: &[u8]) -> Result<Option<ReadCFault>, AllocError> {
     let mut text = BEFORE_A_BODY.to_vec(alloc)?;
     text.extend_from_slice(body)?;
     text.extend_from_slice(b"\n}\n")?;
-    Ok(fault_of(alloc, text.as_slice()))
-}
-
-// A fault on a line.
-fn refused(line: u32, kind: CKind) -> Option<ReadCFault> {
-    Some(ReadCFault::Refused(CFault { line, kind }))
+    Ok(read_fault(alloc, text.as_slice()))
 }
 
 #[test]
@@ -118,9 +107,9 @@ fn types_that_differ(rt: HostRuntime) -> Result<(), Fail> {
 #[test]
 fn definitions_that_break_a_rule(rt: HostRuntime) -> Result<(), Fail> {
     let alloc = rt.alloc();
-    assert_eq!(rt; fault_of(alloc, CALLS_ITSELF), refused(4, CKind::Name));
-    assert_eq!(rt; fault_of(alloc, NO_STEP), refused(4, CKind::Name));
-    assert_eq!(rt; fault_of(alloc, WITH_A_GAP), refused(3, CKind::TypeRule));
+    assert_eq!(rt; read_fault(alloc, CALLS_ITSELF), refused(4, CKind::Name));
+    assert_eq!(rt; read_fault(alloc, NO_STEP), refused(4, CKind::Name));
+    assert_eq!(rt; read_fault(alloc, WITH_A_GAP), refused(3, CKind::TypeRule));
     Ok(())
 }
 
@@ -172,13 +161,9 @@ fn a_division(rt: HostRuntime) -> Result<(), Fail> {
 
 #[test]
 fn a_condition_in_the_place_of_a_condition(rt: HostRuntime) -> Result<(), Fail> {
-    let fault = CFault {
-        line: 6,
-        kind: CKind::Syntax,
-    };
     assert_eq!(rt;
-        fault_of(rt.alloc(), CHOSEN_BY_A_CONDITION),
-        Some(ReadCFault::Refused(fault))
+        read_fault(rt.alloc(), CHOSEN_BY_A_CONDITION),
+        refused(6, CKind::Syntax)
     );
     Ok(())
 }
@@ -186,13 +171,6 @@ fn a_condition_in_the_place_of_a_condition(rt: HostRuntime) -> Result<(), Fail> 
 #[test]
 fn too_many_minuses(rt: HostRuntime) -> Result<(), Fail> {
     let text = minuses(rt.alloc(), 200)?;
-    let fault = CFault {
-        line: 105,
-        kind: CKind::Deep,
-    };
-    assert_eq!(rt;
-        fault_of(rt.alloc(), text.as_slice()),
-        Some(ReadCFault::Refused(fault))
-    );
+    assert_eq!(rt; read_fault(rt.alloc(), &text), refused(105, CKind::Deep));
     Ok(())
 }
