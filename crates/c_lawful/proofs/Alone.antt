@@ -3,12 +3,13 @@ use Rattle.mc_diagram.specs.ResolvedLaws.{ResolvedRowsAreNarrow}
 use Rattle.mc_profile.specs.NodeFacts.{LocalsAreLawful}
 use Rattle.c_blocks.specs.Resolved.{RowOpsAreWritable}
 use Rattle.c_simulation.specs.RunTickLaws.{CycleIsOfLocals}
-use Rattle.c_lawful.specs.Laws.{StructsAreLawful, ProceduresDiffer, ProceduresAreLawful, ProceduresFit, EmittedIsLawful, EmittedHasShortChains}
+use Rattle.c_lawful.specs.Laws.{StructsAreLawful, ProceduresDiffer, ProceduresAreLawful, ProceduresFit, CallsStayWithin, EmittedIsLawful, EmittedHasShortChains}
 use Rattle.c_lawful.proofs.SystemFacts.{system_facts}
 use Rattle.c_lawful.proofs.Structs as struct
 use Rattle.c_lawful.proofs.ProcedureNames as name
 use Rattle.c_lawful.proofs.LeafRules.{BlockLaws}
 use Rattle.c_lawful.proofs.OwnProcedures as own
+use Rattle.c_lawful.proofs.CalledProcedures as called
 use Rattle.c_lawful.proofs.ShortChains as chain
 use Rattle.c_lawful.proofs.Procedures as procedure
 
@@ -31,14 +32,19 @@ module _ (lawful : LocalsAreLawful) (narrow : ResolvedRowsAreNarrow) (writable :
     procedures_fit local profile schedule is =
         own.procedures_fit local profile schedule (system_facts lawful narrow writable cycles local profile schedule is) laws
 
+    pub calls_stay_within : CallsStayWithin
+    calls_stay_within local profile schedule is =
+        called.calls_within local profile schedule (system_facts lawful narrow writable cycles local profile schedule is) laws
+
     pub emitted_has_short_chains : EmittedHasShortChains
     emitted_has_short_chains local profile schedule is =
         chain.short_chains local profile schedule (system_facts lawful narrow writable cycles local profile schedule is) laws
 
-pub emitted_is_lawful : StructsAreLawful → ProceduresDiffer → ProceduresAreLawful → ProceduresFit → EmittedIsLawful
-emitted_is_lawful structs names procedures fits local profile schedule is = record {
+pub emitted_is_lawful : StructsAreLawful → ProceduresDiffer → ProceduresAreLawful → ProceduresFit → CallsStayWithin → EmittedIsLawful
+emitted_is_lawful structs names procedures fits calls local profile schedule is = record {
   names = names local profile schedule is;
   structs = structs local profile schedule is;
   procedures = procedures local profile schedule is;
+  calls = calls local profile schedule is;
   fits = fits local profile schedule is;
 }

@@ -22,6 +22,7 @@ mod Bodies
 mod GroupBodies
 mod ProcedureLists
 mod OwnProcedures
+mod CalledProcedures
 mod ShortChains
 mod Procedures
 mod Alone

@@ -9,7 +9,7 @@ use Rattle.c_syntax.specs.Lawful.{AreDistinct, pure_names, procedure_names, AreS
 use Rattle.c_syntax.specs.Limits.{ProcedureFits}
 use Rattle.c_prelude.specs.Rules.{IsPrelude}
 use Rattle.c_shape.specs.SystemTree.{SystemTree}
-use Rattle.c_right.specs.Alone.{alone, IsLawfulAlone, HasShortChains}
+use Rattle.c_right.specs.Alone.{alone, CallsWithin, IsLawfulAlone, HasShortChains}
 use Rattle.c_system.specs.Emitted.{IsEmitted}
 use Rattle.c_system.specs.EmittedCode.{system_code}
 
@@ -44,6 +44,10 @@ ProceduresAreLawful =
 -- each procedure is within the limits on depths and parameters
 abbrev pub ProceduresFit : Type 0
 ProceduresFit = OfEmitted (λ local code. AllByRecursion ProcedureFits code.procedures)
+
+-- each procedure calls those of the system and of its children alone
+abbrev pub CallsStayWithin : Type 0
+CallsStayWithin = OfEmitted (λ local code. AllByRecursion (CallsWithin local code) code.procedures)
 
 -- ---- The whole
 

@@ -1,4 +1,4 @@
-ghost use Rattle.c_lawful.specs.Laws.{EmittedHasShortChains, EmittedIsLawful, ProceduresAreLawful, ProceduresDiffer, ProceduresFit, StructsAreLawful};
+ghost use Rattle.c_lawful.specs.Laws.{CallsStayWithin, EmittedHasShortChains, EmittedIsLawful, ProceduresAreLawful, ProceduresDiffer, ProceduresFit, StructsAreLawful};
 
 use c_blocks::{
     all_statements_are_shallow, all_tests_are_plain, row_ops_are_writable, rows_are_lawful,
@@ -60,6 +60,22 @@ pub fn procedures_fit()
     all_tests_are_plain();
 }
 
+/// Each of its procedures calls those of the system and of its children alone.
+pub fn calls_stay_within()
+    ensures { CallsStayWithin }
+{
+    locals_are_lawful();
+    resolved_rows_are_narrow();
+    row_ops_are_writable();
+    cycle_is_of_locals();
+    statements_are_lawful();
+    all_statements_are_shallow();
+    rows_are_lawful();
+    rows_are_shallow();
+    tests_are_lawful();
+    all_tests_are_plain();
+}
+
 /// Its code keeps the rules and limits of C by itself.
 pub fn emitted_is_lawful()
     ensures { EmittedIsLawful }
@@ -68,6 +84,7 @@ pub fn emitted_is_lawful()
     procedures_differ();
     procedures_are_lawful();
     procedures_fit();
+    calls_stay_within();
 }
 
 /// Calls on `s` go through at most three of its procedures.

@@ -4,6 +4,6 @@
 mod laws;
 
 pub use laws::{
-    emitted_has_short_chains, emitted_is_lawful, procedures_are_lawful, procedures_differ,
-    procedures_fit, structs_are_lawful,
+    calls_stay_within, emitted_has_short_chains, emitted_is_lawful, procedures_are_lawful,
+    procedures_differ, procedures_fit, structs_are_lawful,
 };

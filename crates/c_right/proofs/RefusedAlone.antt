@@ -49,6 +49,7 @@ child_is_lawful = record {
       ),
     ),
   );
+  calls = (tt, ((lit< tt, tt), (tt, (tt, (tt, tt)))));
   fits = (record { params = lit≤ tt; statements = lit≤ tt; expressions = lit≤ tt }, (record { params = lit≤ tt; statements = lit≤ tt; expressions = lit≤ tt }, (record { params = lit≤ tt; statements = lit≤ tt; expressions = lit≤ tt }, (record { params = lit≤ tt; statements = lit≤ tt; expressions = lit≤ tt }, (record { params = lit≤ tt; statements = lit≤ tt; expressions = lit≤ tt }, tt)))));
 }
 

@@ -1,6 +1,6 @@
 -- A system's code as a program of its own, in which each child is nothing but its outputs and the heads of its procedures:
 -- so the rules and limits of C are said of it by itself.
-use Rattle.std.specs.Prelude.{ℕ, ◌+◌, ◌≤◌, List, [], ◌∷◌, ◌++◌, map, flat_map, drop, length, replicate}
+use Rattle.std.specs.Prelude.{ℕ, ◌+◌, ◌<◌, ◌≤◌, List, [], ◌∷◌, ◌++◌, map, flat_map, drop, length, replicate}
 use Rattle.std.specs.List.{AllByRecursion, enumerate_from}
 use Rattle.mc_profile.specs.declared.ChildUse.{ChildUse}
 use Rattle.mc_profile.specs.LocalSystem.{LocalSystem}
@@ -13,6 +13,8 @@ use Rattle.c_syntax.specs.Limits.{ProcedureFits}
 use Rattle.c_prelude.specs.Rules.{IsPrelude}
 use Rattle.c_shape.specs.Names.{container, value_name, filler_name}
 use Rattle.c_shape.specs.Heads.{Head, public_heads}
+use Rattle.c_shape.specs.LocalShape.{callable}
+use Rattle.c_shape.specs.Reads.{calls_in}
 use Rattle.c_shape.specs.SystemTree.{SystemTree}
 use Rattle.c_shape.specs.Relocation.{Relocation, behind_children, moved_procedure}
 
@@ -44,11 +46,16 @@ alone local code pures = record {
   procedures = bare_procedures local ++ map (moved_procedure (behind_bare local code)) code.procedures;
 }
 
+-- a procedure calls those of the system and of its children alone
+abbrev pub CallsWithin : LocalSystem → SystemTree → ProcedureTree → Type 0
+CallsWithin local code q = AllByRecursion (λ c. c.procedure < length (callable local code)) (calls_in q.body)
+
 -- behind whatever functions of the prelude, that is lawful and within the limits, but that it has no root
 pub record IsLawfulAlone (local : LocalSystem) (code : SystemTree) : Type 0 where
   pub names : (pures : List PureTree) → IsPrelude pures → AreDistinct (pure_names pures ++ procedure_names (alone local code pures).procedures)
   pub structs : AreStructs 0 (alone local code []).structs
   pub procedures : (pures : List PureTree) → IsPrelude pures → AreProcedures pures (alone local code pures).structs [] (alone local code pures).procedures
+  pub calls : AllByRecursion (CallsWithin local code) code.procedures
   pub fits : AllByRecursion ProcedureFits code.procedures
 
 -- no chain of calls on `s` has more than three procedures; a child's counts for none

@@ -33,7 +33,7 @@ pub use local::{ChildUse, Header, Local, LocalRow, local_of};
 pub use node_list::nodes_of;
 pub use nodes::{Node, Nodes};
 pub use profile::{Function, Profile};
-pub use profiles::{profile_of, system_nodes};
+pub use profiles::{local_with, profile_of, system_nodes};
 pub use tree_profiles::profiles_of;
 
 #[cfg(test)]

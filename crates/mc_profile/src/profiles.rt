@@ -65,8 +65,10 @@ pub fn system_nodes(
     nodes_of(alloc, &local)
 }
 
-// The system by its own rows, whose children have these profiles.
-fn local_with(
+/// The system `s` of a resolved tree by its own rows, whose children have these profiles, in order.
+///
+/// In time linear in the rows of the system and in the profiles of its children.
+pub fn local_with(
     alloc: Global,
     r: &Resolved,
     s: &Subsystem,
