@@ -16,7 +16,7 @@ use Rattle.mc_profile.proofs.lemmas.Members.{at-in, at-map, at-below}
 use Rattle.c_assembly.specs.Parts.{Parts, all_systems, CodedSystem, IsCodedAs}
 use Rattle.c_assembly.specs.Places.{SystemsHavePlaces, FieldsHavePlaces}
 
-last-struct : (n : ℕ) (xs : List StructTree) (s : StructTree) → AreStructs n (xs ++ s ∷ []) → (count : ℕ) × IsLawfulStruct count s
+pub last-struct : (n : ℕ) (xs : List StructTree) (s : StructTree) → AreStructs n (xs ++ s ∷ []) → (count : ℕ) × IsLawfulStruct count s
 last-struct n [] s lawful = (n, lawful.0)
 last-struct n (x ∷ xs) s lawful = last-struct (n + 1) xs s lawful.1
 

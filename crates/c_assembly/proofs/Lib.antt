@@ -1,13 +1,21 @@
+pub mod lemmas
 mod SampleOffers
-mod SystemOrder
+pub mod SystemOrder
 mod CodedViews
-mod SystemNames
-mod FirstPlaces
-mod SystemPlaces
-mod FieldPlaces
-mod ProcedurePlaces
-mod RootPlaces
+pub mod SystemNames
+pub mod FirstPlaces
+pub mod SystemPlaces
+pub mod FieldPlaces
+pub mod ProcedurePlaces
+pub mod RootPlaces
 mod MovedRoutines
 mod SystemProcedures
+pub mod LawfulBodies
+pub mod ChildSlots
+pub mod NamedCodes
+mod CalledNames
+pub mod OfferedPlaces
+mod OutputPlaces
+mod SystemOffers
 mod RootRows
 mod Derivations

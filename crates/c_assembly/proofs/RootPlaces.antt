@@ -19,11 +19,11 @@ use Rattle.c_assembly.proofs.SystemNames.{bytes-same, bytes-apart, front-one, sy
 use Rattle.c_assembly.proofs.FirstPlaces.{down, IsFirst, NonePass, first-position, first-behind, mapped-length, sum_below, sum_below-same, sum-by-places}
 use Rattle.c_assembly.proofs.SystemPlaces.{all-made, numbered, system-of, procedure-belongs, code-is, struct-name, structs-down, procedures-down}
 
-in-down : (n i : ℕ) → Contains (down n) i → i < n
+pub in-down : (n i : ℕ) → Contains (down n) i → i < n
 in-down zero i has = absurd (in-none i has)
 in-down (suc n) i has = elim (in-cases n i (down n) has) [ inl same ↦ omega arith | inr more ↦ let less = in-down n i more in omega arith ]
 
-length-down : (n : ℕ) → length (down n) ≡ n
+pub length-down : (n : ℕ) → length (down n) ≡ n
 length-down zero = refl
 length-down (suc n) = ap suc (length-down n)
 

@@ -1,38 +1,32 @@
 -- What a system offers in a program is what its code does among the procedures of its children.
 use Rattle.std.specs.Prelude.{◌≡◌, ℕ, ◌+◌, ◌<◌, List, [], ◌∷◌, map, length, slice_get, Contains, Option, Some, refl}
-use Rattle.std.specs.List.{AllZip, range_with_len}
+use Rattle.std.specs.List.{range_with_len}
 use Rattle.std.proofs.Common.{sym, ap, ap₂, subst, ◌∙◌}
 use Rattle.std.proofs.lemmas.List.Elements.{Contains-append_left, Contains-append_right}
-use Rattle.mc_fixed.specs.declared.FixType.{FixType}
-use Rattle.mc_profile.specs.declared.LocalRow.{LocalRow}
 use Rattle.mc_profile.specs.SystemHeader.{SystemHeader}
 use Rattle.mc_profile.specs.Headers.{header_functions}
-use Rattle.mc_profile.specs.Locals.{outports}
 use Rattle.c_syntax.specs.Tree.{ProcedureTree}
 use Rattle.c_machine.specs.Machine.{Routine, routine_at, program_routines}
 use Rattle.c_machine.specs.NumberingLaws.{ProceduresStandInOrder}
-use Rattle.c_shape.specs.Names.{value_name}
 use Rattle.c_shape.specs.Heads.{Head, public_heads, out_head, out_heads, update_head, start_head, reset_head}
 use Rattle.c_shape.specs.RelocationLaws.{MovedCodeAgrees}
-use Rattle.c_shape.specs.Slots.{value}
 use Rattle.c_shape.specs.Assembled.{first_procedure}
 use Rattle.c_shape.specs.LocalShape.{own_position}
 use Rattle.c_simulation.specs.Instances.{Offered}
 use Rattle.c_simulation.specs.Relation.{children_routines, system_routines}
-use Rattle.c_right.specs.Paths.{place_in}
 use Rattle.mc_profile.proofs.lemmas.Members.{in-first, in-rest, in-map, in-at, at-below}
 use Rattle.c_assembly.specs.Parts.{Parts, program_of, all_systems, coded_header, Views}
 use Rattle.c_assembly.specs.Places.{SystemsHavePlaces, FieldsHavePlaces}
 use Rattle.c_assembly.specs.Offers.{offered_by, child_offers, NamesAgree, ProceduresFollow}
-use Rattle.c_assembly.proofs.SystemPlaces.{row-is}
 use Rattle.c_assembly.proofs.ProcedurePlaces.{head-there, own-place}
 use Rattle.c_assembly.proofs.MovedRoutines.{own-routines-agree}
+use Rattle.c_assembly.proofs.OutputPlaces.{places-are}
 
 map-same : {A B : Type 0} (f g : A → B) (xs : List A) → ((x : A) → Contains xs x → f x ≡ g x) → map f xs ≡ map g xs
 map-same f g [] same = refl
 map-same f g (x ∷ xs) same = ap₂ (λ y ys. y ∷ ys) (same x (in-first x xs)) (map-same f g xs (λ z has. same z (in-rest x z xs has)))
 
-module _ (agree : MovedCodeAgrees) (order : ProceduresStandInOrder) (places : SystemsHavePlaces) (fields : FieldsHavePlaces) (a : Parts) (v : Views a) (place : ℕ) (s : Option ℕ)
+module _ (agree : MovedCodeAgrees) (order : ProceduresStandInOrder) (places : SystemsHavePlaces) (a : Parts) (v : Views a) (place : ℕ) (s : Option ℕ)
     (stands : slice_get (all_systems a) place ≡ Some s) (names : NamesAgree a v place s) where
   abbrev routines : List Routine
   routines = system_routines a.pures (v.at s).slots (child_offers a v s) (v.at s).code (λ i. first_procedure a.codes place + i)
@@ -56,26 +50,15 @@ module _ (agree : MovedCodeAgrees) (order : ProceduresStandInOrder) (places : Sy
       ∙ ap (λ routine. record { routine = routine; number = first_procedure a.codes place + own_position (v.at s).code head.name })
       (own-routines-agree agree order places a v place s stands names (own_position (v.at s).code head.name) within)
 
-  places-same : (rows : List LocalRow) (ks : List ℕ) → AllZip (λ (r : LocalRow) k. slice_get (v.at s).slots k ≡ Some (value r)) rows ks →
-      map (λ (o : ℕ × FixType). place_in (program_of a) (v.at s).local.row (value_name o.0)) (map (λ (r : LocalRow). (r.row, r.out)) rows) ≡ ks
-  places-same [] [] all = refl
-  places-same [] (k ∷ ks) all = absurd all
-  places-same (r ∷ rows) [] all = absurd all
-  places-same (r ∷ rows) (k ∷ ks) all =
-      ap₂ (λ n ns. n ∷ ns)
-      (ap (λ o. place_in (program_of a) o (value_name r.row)) (row-is a place s (v.at s) (v.each place s stands))
-      ∙ fields a v s k (value r) (in-at (all_systems a) place s stands) all.0)
-      (places-same rows ks all.1)
-
 pub procedures_follow : MovedCodeAgrees → ProceduresStandInOrder → SystemsHavePlaces → FieldsHavePlaces → ProceduresFollow
 procedures_follow agree order places fields a v place s stands names =
     let h : SystemHeader = coded_header (v.at s) in
     let rest : List Head = update_head h ∷ start_head h ∷ reset_head h ∷ [] in
-    let same = offered-same agree order places fields a v place s stands names in
-    let outs = map-same (λ j. offered_by (program_of a) (out_head h j).name) (λ j. own_offered agree order places fields a v place s stands names (out_head h j).name) (range_with_len 1 (length (header_functions h)))
+    let same = offered-same agree order places a v place s stands names in
+    let outs = map-same (λ j. offered_by (program_of a) (out_head h j).name) (λ j. own_offered agree order places a v place s stands names (out_head h j).name) (range_with_len 1 (length (header_functions h)))
     (λ j has. same (out_head h j) (Contains-append_left (out_heads h) rest (out_head h j) (in-map (out_head h) (range_with_len 1 (length (header_functions h))) j has))) in
     let update = same (update_head h) (Contains-append_right (out_heads h) rest (update_head h) (in-first (update_head h) (start_head h ∷ reset_head h ∷ []))) in
     let start = same (start_head h) (Contains-append_right (out_heads h) rest (start_head h) (in-rest (update_head h) (start_head h) (start_head h ∷ reset_head h ∷ []) (in-first (start_head h) (reset_head h ∷ [])))) in
     let reset = same (reset_head h) (Contains-append_right (out_heads h) rest (reset_head h) (in-rest (update_head h) (reset_head h) (start_head h ∷ reset_head h ∷ []) (in-rest (start_head h) (reset_head h) (reset_head h ∷ []) (in-first (reset_head h) [])))) in
-    let where_outputs = places-same agree order places fields a v place s stands names (outports (v.at s).local) (v.at s).code.outputs (v.each place s stands).shape.places in
+    let where_outputs = places-are fields a v place s stands in
     λ i. record { outs = outs i; update = update i; start = start i; reset = reset i; places = where_outputs i }

@@ -1,5 +1,5 @@
 -- How an instance lives through a run of one of the systems around it, or of its own.
-use Rattle.std.specs.Prelude.{◌≡◌, ◌⊎◌, ℕ, zero, suc, ◌<◌, ◌≤◌, Bool, List, [], ◌∷◌, ◌++◌, map, filter, length, slice_index_or, Contains, IsPermutation, IsTrue, Option, Some, ℤ}
+use Rattle.std.specs.Prelude.{◌≡◌, ◌⊎◌, ℕ, zero, suc, ◌<◌, ◌≤◌, Bool, List, [], ◌∷◌, ◌++◌, map, filter, length, slice_get, slice_index_or, Contains, IsPermutation, IsTrue, Option, Some, ℤ}
 use Rattle.std.specs.List.{AllByRecursion, range_with_len}
 use Rattle.mc_blocks.specs.Meaning.{has_value}
 use Rattle.mc_diagram.specs.Rows.{row_at, rows_of, around}
@@ -7,20 +7,24 @@ use Rattle.mc_diagram.specs.Run.{active_in}
 use Rattle.mc_diagram.specs.Laws.{Run, IsRunOver}
 use Rattle.mc_diagram.specs.RunLaws.{IsSystemWithin}
 use Rattle.mc_diagram.specs.Traces.{IsTrace}
+use Rattle.mc_profile.specs.declared.ChildUse.{ChildUse}
 use Rattle.mc_profile.specs.Headers.{header_functions}
 use Rattle.mc_profile.specs.Systems.{systems_inside}
 use Rattle.c_machine.specs.Cells.{Cells}
 use Rattle.c_shape.specs.Names.{value_name}
 use Rattle.c_simulation.specs.Forms.{HasForms}
-use Rattle.c_simulation.specs.Instances.{Act, out, update, reset, none_called, OuterTick, InstanceTick, calls_at}
+use Rattle.c_simulation.specs.Instances.{Act, out, update, reset, none_called, OuterTick, InstanceTick, instance_at, calls_at}
 use Rattle.c_simulation.specs.Serving.{Serves}
 use Rattle.c_simulation.specs.Standing.{outer_tick_of}
 use Rattle.c_simulation.specs.Accounts.{log_along, most_along, stored_along}
+use Rattle.c_simulation.specs.Relation.{KeepsRelation}
 use Rattle.c_simulation.specs.RunTicks.{tick_at}
+use Rattle.c_simulation.specs.RunTickLaws.{AreItems}
 use Rattle.c_right.specs.Paths.{place_in, path_inside}
 use Rattle.c_right.specs.Calls.{HasCallsOf}
 use Rattle.c_assembly.specs.Parts.{Parts, program_of, diagram, all_systems, coded_header, Views}
-use Rattle.c_assembly.specs.Offers.{offer_of}
+use Rattle.c_assembly.specs.Places.{FormsAreOfSlots}
+use Rattle.c_assembly.specs.Offers.{offer_of, SystemsOfferTheirs}
 use Rattle.c_assembly.specs.Starts.{budget_inside, Renewed}
 
 -- the acts of a tick in which the functions are called in this order
@@ -64,6 +68,11 @@ module _ (a : Parts) (v : Views a) (s : Option ℕ) (xs : List (List ℤ)) (run 
     pub stored_inside : AllByRecursion (λ e. StoredAtMost i (reset ∷ []) (path_inside (program_of a) (diagram a).rows n e) (Some e) 0) (systems_inside (diagram a).rows n)
     pub in_time : i.most none_called reset ≤ budget_inside a v n
 
+  -- the accounts of an instance of the system n in tick t: of all its calls, and of a reset
+  pub record HasAccounts (n : Option ℕ) (t : ℕ) (i : InstanceTick) : Type 0 where
+    pub whole : IsTrue (outer_at n t).parent → (js : List ℕ) → IsPermutation (function_numbers a v n) js → IsWhole n i t js
+    pub resets : IsTrue (outer_at n t).is_off_around → IsQuiet n i
+
   -- An instance of the system n that was started from these fields lives through the run: in each tick it serves, what it leaves is
   -- what it stands as in the next tick, and in the first it stands as its start left it.
   pub record Lives (renewed : Renewed a v) (n : Option ℕ) (before : Cells) : Type 0 where
@@ -71,8 +80,7 @@ module _ (a : Parts) (v : Views a) (s : Option ℕ) (xs : List (List ℤ)) (run 
     pub serves : (t : ℕ) → t < length xs → Serves (coded_header (v.at n)) (offer_of a v n) a.hyper (outer_at n t) (at t)
     pub follows : (t : ℕ) → suc t < length xs → (at t).after ≡ (at (suc t)).standing none_called
     pub first : 0 < length xs → (at zero).standing none_called ≡ (renewed.started n).renewed before
-    pub whole : (t : ℕ) → t < length xs → IsTrue (outer_at n t).parent → (js : List ℕ) → IsPermutation (function_numbers a v n) js → IsWhole n (at t) t js
-    pub resets : (t : ℕ) → t < length xs → IsTrue (outer_at n t).is_off_around → IsQuiet n (at t)
+    pub accounts : (t : ℕ) → t < length xs → HasAccounts n t (at t)
 
 -- each instance of a system lives through each run of the system, or of one around it
 abbrev pub EachInstanceLives : (a : Parts) (v : Views a) → Renewed a v → Type 0
@@ -80,3 +88,21 @@ EachInstanceLives a v renewed = (s : Option ℕ) (xs : List (List ℤ)) (run : R
     IsTrace (diagram a) s xs → IsRunOver (diagram a) s xs run →
     (n : Option ℕ) → Contains (all_systems a) n → IsSystemWithin (diagram a).rows s n →
     (before : Cells) → HasForms (renewed.started n).forms before → Lives a v s xs run renewed n before
+
+-- Where an instance keeps the relation of its code in a tick, and each of its children serves and has its accounts, it has its own.
+-- What a child logs of its own calls is known from its serving alone.
+abbrev pub AccountsFollow : Type 0
+AccountsFollow = (a : Parts) (v : Views a) (s : Option ℕ) (xs : List (List ℤ)) (run : Run) →
+    IsTrace (diagram a) s xs → IsRunOver (diagram a) s xs run →
+    (place : ℕ) (n : Option ℕ) (stands : slice_get (all_systems a) place ≡ Some n) → IsSystemWithin (diagram a).rows s n →
+    (items : ℕ → List ℤ) → AreItems (diagram a) items → (t : ℕ) → t < length xs → (children : List InstanceTick) →
+    (kept : KeepsRelation (v.at n).local (coded_header (v.at n)) (v.at n).slots (v.each place n stands).behaves.held (v.each place n stands).behaves.counted a.hyper
+    (tick_at (diagram a) s xs run n items t) (offer_of a v n) children) →
+    ((k : ℕ) (u : ChildUse) → slice_get (v.at n).local.children k ≡ Some u →
+    Serves (coded_header (v.at u.header.row)) (offer_of a v u.header.row) a.hyper (outer_at a v s xs run u.header.row t) (instance_at children k)) →
+    ((k : ℕ) (u : ChildUse) → slice_get (v.at n).local.children k ≡ Some u → HasAccounts a v s xs run u.header.row t (instance_at children k)) →
+    HasAccounts a v s xs run n t kept.own
+
+-- Given that, what each system offers, and what its fields hold.
+abbrev pub LivesFollow : Type 0
+LivesFollow = SystemsOfferTheirs → FormsAreOfSlots → AccountsFollow → (a : Parts) (v : Views a) (renewed : Renewed a v) → EachInstanceLives a v renewed

@@ -56,6 +56,10 @@ ProceduresAreSystems a v place s =
     offer_of a v s
     ≡ own_offer (v.at s).local (v.at s).profile a.pures (v.at s).slots (child_offers a v s) (v.at s).code (λ i. first_procedure a.codes place + i)
 
+-- each system offers what its code does
+abbrev pub SystemsOfferTheirs : Type 0
+SystemsOfferTheirs = (a : Parts) (v : Views a) (place : ℕ) (s : Option ℕ) → slice_get (all_systems a) place ≡ Some s → ProceduresAreSystems a v place s
+
 -- Given that what the system's procedures call and read is found alike in the program and in its children's offers.
 abbrev pub ProceduresFollow : Type 0
 ProceduresFollow = (a : Parts) (v : Views a) (place : ℕ) (s : Option ℕ) → slice_get (all_systems a) place ≡ Some s →

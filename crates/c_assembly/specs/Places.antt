@@ -1,5 +1,6 @@
 -- Where the structs, fields and procedures of a program stand that is put together.
 use Rattle.std.specs.Prelude.{◌≡◌, ℕ, ◌+◌, List, [], map, length, flat_map, slice_get, slice_index_or, Contains, Option, Some}
+use Rattle.mc_profile.specs.declared.ChildUse.{ChildUse}
 use Rattle.c_syntax.specs.Tree.{struct_fields}
 use Rattle.c_syntax.specs.RootFields.{procedure_named, root_struct, root_fields}
 use Rattle.c_machine.specs.Cells.{no_cells, zero_instances}
@@ -8,7 +9,7 @@ use Rattle.c_shape.specs.Programs.{struct_place, procedure_place}
 use Rattle.c_shape.specs.Slots.{Slot, slot_field}
 use Rattle.c_shape.specs.Assembled.{struct_position, first_procedure, moved_struct, root_structure}
 use Rattle.c_shape.specs.LocalShape.{own_position}
-use Rattle.c_simulation.specs.Forms.{HasForms}
+use Rattle.c_simulation.specs.Forms.{HasForms, slot_forms}
 use Rattle.c_right.specs.Paths.{place_in}
 use Rattle.c_right.specs.Anew.{forms_at}
 use Rattle.c_assembly.specs.Parts.{Parts, program_of, all_systems, Views}
@@ -41,3 +42,9 @@ RootHasPlaces = (a : Parts) → RootStandsLast a
 -- an instance all of whose numbers are 0 has the fields of its struct
 abbrev pub ZerosHaveForms : Parts → Type 0
 ZerosHaveForms a = (k : ℕ) → HasForms (forms_at (program_of a) k) (slice_index_or (zero_instances [] (program_of a).structs) k no_cells)
+
+-- the fields of a system's struct hold what its slots do, where those of its children hold what theirs do
+abbrev pub FormsAreOfSlots : Type 0
+FormsAreOfSlots = (a : Parts) (v : Views a) (place : ℕ) (s : Option ℕ) → slice_get (all_systems a) place ≡ Some s →
+    forms_at (program_of a) (struct_place (program_of a) s)
+    ≡ slot_forms (map (λ (u : ChildUse). forms_at (program_of a) (struct_place (program_of a) u.header.row)) (v.at s).local.children) (v.at s).slots

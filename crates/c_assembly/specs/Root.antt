@@ -21,7 +21,7 @@ use Rattle.c_right.specs.Paths.{path_to, cells_at}
 use Rattle.c_right.specs.Calls.{CallsInTick}
 use Rattle.c_right.specs.Anew.{forms_at, FromAnyFields, Restarts}
 use Rattle.c_assembly.specs.Parts.{Parts, program_of, diagram, all_systems, Views}
-use Rattle.c_assembly.specs.Starts.{Renewed}
+use Rattle.c_assembly.specs.Starts.{Renewed, ReachInside}
 use Rattle.c_assembly.specs.Lives.{Lives}
 
 -- the field of `root` for `top`
@@ -81,3 +81,14 @@ RootTakesTicks a v renewed = (xs : List (List ℤ)) (run : Run) (before : Cells)
     IsTrace (diagram a) None xs → IsRunOver (diagram a) None xs run → (lives : Lives a v None xs run renewed None before) →
     (t : ℕ) (cells : Cells) → t < length xs → IsRootAt (program_of a) a.hyper t ((lives.at t).standing none_called) cells →
     OnDone (step_run (program_of a) (slice_index_or xs t []) cells) (TakesTick a xs run t (lives.at t).after)
+
+-- Given that a start reaches all systems inside, and each instance has its path.
+abbrev pub RootsStart : Type 0
+RootsStart = (a : Parts) (v : Views a) (renewed : Renewed a v) → ReachInside a renewed.started → InstancesHavePaths a → RootStarts a v renewed
+
+-- Given that the root starts.
+abbrev pub RestartsFollow : Type 0
+RestartsFollow = (a : Parts) (v : Views a) (renewed : Renewed a v) → InstancesHavePaths a → RootStarts a v renewed → AssembledRestarts a
+
+abbrev pub RootsTakeTicks : Type 0
+RootsTakeTicks = (a : Parts) (v : Views a) (renewed : Renewed a v) → RootTakesTicks a v renewed

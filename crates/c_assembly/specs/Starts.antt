@@ -1,5 +1,5 @@
 -- How the instances of a program are started and reset: each system's procedure makes what it should of any fields of its struct.
-use Rattle.std.specs.Prelude.{◌≡◌, ℕ, ◌≤◌, List, ◌∷◌, map, sum_by, Option, Some}
+use Rattle.std.specs.Prelude.{◌≡◌, ℕ, ◌≤◌, List, ◌∷◌, map, sum_by, Contains, Option, Some}
 use Rattle.std.specs.List.{AllByRecursion}
 use Rattle.mc_profile.specs.LocalSystem.{LocalSystem}
 use Rattle.mc_profile.specs.Systems.{systems_inside}
@@ -10,9 +10,11 @@ use Rattle.c_simulation.specs.Forms.{HasForms}
 use Rattle.c_simulation.specs.Instances.{Offered, Offer}
 use Rattle.c_simulation.specs.Budgets.{own_budget}
 use Rattle.c_simulation.specs.Renewals.{Renewal, Renews, IsStarted, IsReset, AllSlots}
+use Rattle.c_right.specs.Paths.{path_inside, cells_at}
 use Rattle.c_right.specs.Anew.{forms_at, RenewsAll}
 use Rattle.c_assembly.specs.Parts.{Parts, program_of, diagram, all_systems, Views}
-use Rattle.c_assembly.specs.Offers.{offer_of}
+use Rattle.c_assembly.specs.Places.{FormsAreOfSlots}
+use Rattle.c_assembly.specs.Offers.{offer_of, SystemsOfferTheirs}
 
 -- the budgets of a system and of all inside it
 abbrev pub budget_inside : (a : Parts) → Views a → Option ℕ → ℕ
@@ -38,3 +40,22 @@ pub record Renewed (a : Parts) (v : Views a) : Type 0 where
 -- each system of the program is started and reset as it should be, from any fields of its struct
 abbrev pub AssembledRenews : Parts → Type 0
 AssembledRenews a = AllByRecursion (RenewsAll (program_of a) (diagram a)) (all_systems a)
+
+-- Given what each system offers, and what its fields hold.
+abbrev pub SystemsAreRenewed : Type 0
+SystemsAreRenewed = SystemsOfferTheirs → FormsAreOfSlots → (a : Parts) (v : Views a) → Renewed a v
+
+-- where an instance is renewed, so is that of each system inside, at its path
+abbrev pub ReachInside : Parts → (Option ℕ → Renewal) → Type 0
+ReachInside a renewals = (n : Option ℕ) → Contains (all_systems a) n → (e : ℕ) → Contains (systems_inside (diagram a).rows n) e →
+    (before : Cells) → HasForms (renewals n).forms before →
+    cells_at (path_inside (program_of a) (diagram a).rows n e) ((renewals n).renewed before)
+    ≡ (renewals (Some e)).renewed (cells_at (path_inside (program_of a) (diagram a).rows n e) before)
+
+-- Given what the fields of systems hold: a start, and a reset, reach all systems inside.
+abbrev pub RenewalsReachInside : Type 0
+RenewalsReachInside = FormsAreOfSlots → (a : Parts) (v : Views a) (renewed : Renewed a v) → ReachInside a renewed.started × ReachInside a renewed.reset
+
+-- Given that: each system is started and reset with all inside it.
+abbrev pub RenewalsGoInside : Type 0
+RenewalsGoInside = FormsAreOfSlots → (a : Parts) (v : Views a) → Renewed a v → AssembledRenews a

@@ -53,3 +53,8 @@ abbrev pub CodeFollows : Type 0
 CodeFollows = (a : Parts) →
     AssembledRunsRight a → AssembledAnswers a → AssembledRenews a → AssembledRestarts a →
     AssembledHasShape a → AssembledIsLeast a → AssembledIsLawful a → AssembledIsCode a
+
+-- Given that each instance has its fields, starts, and lives through runs, and that the root starts.
+abbrev pub AnswersFollow : Type 0
+AnswersFollow = (a : Parts) (v : Views a) (renewed : Renewed a v) →
+    ZerosHaveForms a → InstancesHavePaths a → EachInstanceLives a v renewed → RootStarts a v renewed → AssembledAnswers a

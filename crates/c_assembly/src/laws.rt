@@ -1,4 +1,4 @@
-ghost use Rattle.c_assembly.specs.Offers.{OffersAreOfHeaders, ProceduresFollow};
+ghost use Rattle.c_assembly.specs.Offers.{OffersAreOfHeaders, ProceduresFollow, SystemsOfferTheirs};
 ghost use Rattle.c_assembly.specs.Parts.{CodesHaveViews};
 ghost use Rattle.c_assembly.specs.Places.{FieldsHavePlaces, RootHasPlaces, SystemsHavePlaces};
 ghost use Rattle.c_assembly.specs.Whole.{CodeFollows, RunsFollow};
@@ -6,7 +6,7 @@ ghost use Rattle.c_assembly.specs.Whole.{CodeFollows, RunsFollow};
 use c_machine::procedures_stand_in_order;
 use c_shape::moved_code_agrees;
 use mc_diagram::one_run;
-use mc_profile::{header_is_of_own_rows, profiles_are_one};
+use mc_profile::{header_is_of_own_rows, locals_are_lawful, profiles_are_one};
 
 /// Each system of a model is known with its code, and so is each child.
 pub fn codes_have_views()
@@ -52,6 +52,16 @@ pub fn procedures_follow()
     procedures_stand_in_order();
     systems_have_places();
     fields_have_places();
+}
+
+/// What a system offers in the program is what its code does among the procedures of its children.
+pub fn systems_offer_theirs()
+    ensures { SystemsOfferTheirs }
+{
+    locals_are_lawful();
+    systems_have_places();
+    fields_have_places();
+    procedures_follow();
 }
 
 /// The program gives over each trace the outputs of the one run, within the bound on steps, by the

@@ -2,18 +2,18 @@
 //
 // Proved of each such program: each system is known with its code, and by the header that the system
 // around it sees; its struct, fields and procedures stand where its code does among the codes, and
-// those of the root stand last; its procedures take what its header says.
+// those of the root stand last; its procedures take what its header says, and do what its code does
+// among the procedures of its children.
 //
-// Proved to follow: where what a system's procedures call and read is found alike in the program and
-// in its children's offers, they do what its code does among its children; where instances have
-// their fields, start and live through runs, and the root starts and takes single ticks, the program
-// gives the outputs of the one run within the bound on steps, by the calls of each tick; a lawful
-// program with each part of right code is code for the diagram.
+// Proved to follow: where instances have their fields, start and live through runs, and the root
+// starts and takes single ticks, the program gives the outputs of the one run within the bound on
+// steps, by the calls of each tick; a lawful program with each part of right code is code for the
+// diagram.
 #![tactic(auto)]
 
 mod laws;
 
 pub use laws::{
     code_follows, codes_have_views, fields_have_places, offers_are_of_headers, procedures_follow,
-    root_has_places, runs_follow, systems_have_places,
+    root_has_places, runs_follow, systems_have_places, systems_offer_theirs,
 };

@@ -1,0 +1,17 @@
+mod Sums
+mod Logs
+mod SplitLists
+mod ActRows
+mod LeftFunctions
+mod Executed
+mod AlongTick
+mod SystemsUnder
+mod SumsInside
+mod SlotPlaces
+mod ProgramNames
+mod OutPlaces
+mod OwnCalls
+mod ChildRows
+mod ChildActs
+mod InnerAccounts
+mod WholeAccounts

@@ -1,0 +1,4 @@
+-- Lemmas that proofs of the crates above use.
+pub mod AssembledNames
+pub mod AssembledPlaces
+pub mod AssembledChildren

@@ -1,0 +1,53 @@
+ghost use Rattle.c_faces.specs.Faces.{AssembledAreLeast};
+ghost use Rattle.c_faces.specs.Shapes.{AssembledHaveShape, RootHasShape, StructsAreNamed, SystemsHaveShape};
+
+use c_assembly::{codes_have_views, root_has_places, systems_have_places};
+use c_simulation::cycle_is_of_locals;
+use mc_profile::{header_is_of_own_rows, locals_are_lawful, profiles_are_least};
+
+/// Each system of an assembled program has a struct and procedures of its own.
+pub fn systems_have_shape()
+    ensures { SystemsHaveShape }
+{
+    codes_have_views();
+    systems_have_places();
+    locals_are_lawful();
+}
+
+/// The structs of an assembled program are those of its systems and the root's.
+pub fn structs_are_named()
+    ensures { StructsAreNamed }
+{
+    codes_have_views();
+}
+
+/// The root of an assembled program has a struct and two procedures of its own.
+pub fn root_has_shape()
+    ensures { RootHasShape }
+{
+    codes_have_views();
+    systems_have_places();
+    root_has_places();
+    header_is_of_own_rows();
+    cycle_is_of_locals();
+}
+
+/// An assembled program has the shape of a program of its systems.
+pub fn assembled_has_shape()
+    ensures { AssembledHaveShape }
+{
+    systems_have_shape();
+    structs_are_named();
+    root_has_shape();
+}
+
+/// Each system's functions take exactly what its outputs need, and are as few as can be.
+pub fn assembled_is_least()
+    ensures { AssembledAreLeast }
+{
+    codes_have_views();
+    locals_are_lawful();
+    systems_have_places();
+    header_is_of_own_rows();
+    profiles_are_least();
+}

@@ -1,0 +1,13 @@
+// What an assembled program looks like, as the codes of its systems do by themselves.
+//
+// Proved: what positions stand for in a system's procedures in the program is what they stand for in
+// its code; so each system keeps its struct, its public procedures and the rules of what it touches,
+// and the structs and the root's procedures are those that are wanted. The output procedures of a
+// system take and give what its functions do, and no exact interface has fewer.
+#![tactic(auto)]
+
+mod laws;
+
+pub use laws::{
+    assembled_has_shape, assembled_is_least, root_has_shape, structs_are_named, systems_have_shape,
+};

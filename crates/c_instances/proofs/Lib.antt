@@ -1,0 +1,11 @@
+mod Lists
+mod FillerName
+mod ZeroFields
+mod ProgramZeros
+mod EarlierForms
+mod ChildStructs
+mod SlotForms
+mod FieldForms
+mod ChildFields
+mod InnerPaths
+mod RootPaths

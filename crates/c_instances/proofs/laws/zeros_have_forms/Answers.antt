@@ -1,0 +1,5 @@
+use Rattle.c_instances.proofs.ProgramZeros.{zeros_have_forms}
+use Rattle.c_instances.proofs.laws.zeros_have_forms.Goals as goal
+
+pub returns : goal.returns
+returns c = zeros_have_forms

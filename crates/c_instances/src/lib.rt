@@ -1,0 +1,13 @@
+// The instances of a program that the codes of all systems of a model come to: they have the fields
+// of their structs.
+//
+// Proved of each such program: an instance all of whose numbers are 0 has the forms of its struct;
+// the fields of a system's struct hold what its slots do; and in an instance of a system, and in one
+// of the root, each system inside has an instance at its path, with its forms.
+#![tactic(auto)]
+
+mod laws;
+
+pub use laws::{
+    forms_are_of_slots, instances_have_paths, instances_have_paths_inside, zeros_have_forms,
+};

@@ -1,0 +1,4 @@
+mod SlotFields
+mod FirstTicks
+mod ChildInstances
+mod LivingSystems

@@ -1,0 +1,23 @@
+ghost use Rattle.c_assembly.specs.Lives.{LivesFollow};
+
+use c_assembly::{fields_have_places, offers_are_of_headers};
+use c_simulation::{
+    children_meet_their_ticks, cycle_is_of_locals, first_stands, next_stands, ticks_are_local,
+    ticks_are_typed, ticks_follow,
+};
+
+/// Each instance lives through each run, where systems offer what their codes do, the fields of each struct hold what its
+/// slots do, and the accounts of an instance follow from those of its children.
+pub fn lives_follow()
+    ensures { LivesFollow }
+{
+    ticks_are_local();
+    ticks_are_typed();
+    ticks_follow();
+    cycle_is_of_locals();
+    children_meet_their_ticks();
+    next_stands();
+    first_stands();
+    offers_are_of_headers();
+    fields_have_places();
+}

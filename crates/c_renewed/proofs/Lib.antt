@@ -1,0 +1,12 @@
+mod Everywhere
+mod Sums
+mod NestedRows
+mod InnerSums
+mod SystemPlaces
+mod InnerBudgets
+mod RenewedSystems
+mod InnerPaths
+mod OwnSlots
+mod RenewedFields
+mod ReachedInside
+mod RenewedInside

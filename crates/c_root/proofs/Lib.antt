@@ -1,0 +1,17 @@
+mod NumberedNames
+mod PortedRows
+mod ChildCalls
+mod RootCopies
+mod RootStruct
+mod TopCode
+mod OutCount
+mod RootBound
+mod RootRoutines
+mod TopFacts
+mod RootFacts
+mod RootArguments
+mod TopCalls
+mod TopLogs
+mod RootTicks
+mod RootForms
+mod RootStarts
