@@ -3,3 +3,5 @@ pub mod Steps
 pub mod Loops
 pub mod CodeGroups
 pub mod Agreed
+mod GroupCalls
+mod WholeCode

@@ -77,7 +77,7 @@ fn own_call(alloc: Global, params: &Params, procedure: u32, wanted: &Params) -> 
 /// Calls of groups, whose parameters are given by their numbers.
 ///
 /// Fails only for want of memory.
-pub fn own_calls(
+pub(crate) fn own_calls(
     alloc: Global,
     params: &Params,
     called: &[u32],

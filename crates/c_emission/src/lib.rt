@@ -1,10 +1,10 @@
-// The functions that make the code of one system: the procedures of its groups, its update, its start and its reset, and
-// the calls of groups in its functions.
+// The code of one system, made from its own rows, its profile and the order of its nodes.
 #![tactic(auto)]
 
 mod activity;
 mod calls;
 mod children;
+mod emit;
 mod laws;
 mod lists;
 mod nodes;
@@ -16,6 +16,5 @@ mod stores;
 mod taken;
 mod update;
 
-pub use calls::own_calls;
+pub use emit::code_of_system;
 pub use laws::emitted_agree;
-pub use procedures::{group_procedure, reset_procedure, start_procedure, update_procedure};
