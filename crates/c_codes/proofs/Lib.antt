@@ -1,0 +1,4 @@
+pub mod lemmas
+mod GivenFunctions
+mod ScheduleSteps
+mod TreeSteps

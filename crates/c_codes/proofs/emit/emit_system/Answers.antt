@@ -1,0 +1,22 @@
+use Rattle.std.proofs.Common.{◌≡◌, subst, sym}
+use Rattle.std.proofs.lemmas.Result.{IfOk-weaker}
+use Rattle.c_right.specs.SystemOk.{SystemOk}
+use Rattle.c_shape.specs.SystemTree.{system_tree}
+use Rattle.c_system.specs.EmittedCode.{system_code}
+use Rattle.c_codes.proofs.emit.emit_system.Goals as goal
+
+pub code_of_system-requires-clause-emittable : goal.code_of_system-requires-clause-emittable
+code_of_system-requires-clause-emittable c =
+    c.emitted_is_emittable.ensures c.args.local.now c.args.profile.now c.args.schedule.now c.requires
+
+pub code_of_system-requires-clause-agree : goal.code_of_system-requires-clause-agree
+code_of_system-requires-clause-agree c = c.emitted_agree.ensures c.args.local.now c.args.profile.now c.args.schedule.now c.requires
+
+pub returns-clause-right : goal.returns-clause-right
+returns-clause-right c =
+    let local = c.args.local.now in
+    let profile = c.args.profile.now in
+    let code = system_code local profile c.args.schedule.now in
+    let ok = c.emitted_code_is_ok.ensures local profile c.args.schedule.now c.requires in
+    IfOk-weaker c.code_of_system.result (λ made. system_tree made ≡ code) (λ made. SystemOk local profile (system_tree made))
+    (λ made same. subst (SystemOk local profile) (sym same) ok) c.code_of_system.ensures

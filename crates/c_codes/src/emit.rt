@@ -1,0 +1,34 @@
+ghost use Rattle.std.specs.Prelude.{◌≡◌, IfOk};
+ghost use Rattle.c_right.specs.SystemOk.{SystemOk};
+ghost use Rattle.c_shape.specs.SystemTree.{system_tree};
+ghost use Rattle.c_system.specs.Emitted.{IsEmitted};
+ghost use Rattle.c_system.specs.EmittedCode.{system_code};
+
+use c_emission::{code_of_system, emitted_agree};
+use c_shape::SystemCode;
+use c_system::emitted_is_emittable;
+use c_system_right::emitted_code_is_ok;
+use mc_base::Memory;
+use mc_profile::{Local, Profile};
+use mc_schedule::Schedule;
+use std::alloc::Global;
+
+/// The code of a system of a model without a loop, by its own rows, its profile and its schedule. It is right for the
+/// system, whatever code its children have that is right for them.
+///
+/// In time linear in its rows, its children's headers and the calls of groups. Fails only for want of memory.
+pub fn emit_system(
+    alloc: Global,
+    local: &Local,
+    profile: &Profile,
+    schedule: &Schedule,
+) -> Result<SystemCode, Memory>
+    requires { IsEmitted local.now profile.now schedule.now }
+    ensures is { IfOk result (λ code. system_tree code ≡ system_code local.now profile.now schedule.now) }
+    ensures right { IfOk result (λ code. SystemOk local.now profile.now (system_tree code)) }
+{
+    emitted_is_emittable();
+    emitted_agree();
+    emitted_code_is_ok();
+    code_of_system(alloc, local, profile, schedule)
+}
