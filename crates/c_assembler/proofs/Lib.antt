@@ -1,0 +1,8 @@
+mod Steps
+mod PortOrder
+mod OutNames
+mod CodePlaces
+mod ChildNames
+mod MovedRows
+mod Programs
+mod RootCode

@@ -1,0 +1,23 @@
+use Rattle.std.proofs.Common.{sym, ◌∙◌, ap, map, List, arith}
+use Rattle.c_syntax.specs.declared.code.Expr.{Expr}
+use Rattle.c_syntax.specs.Tree.{pure, exprs_of_list}
+use Rattle.c_syntax.specs.Plain.{expr_tree}
+use Rattle.c_syntax.proofs.lemmas.PlainLaws.{expr_tree-Pure}
+use Rattle.c_shape.specs.Relocation.{moved_expr, moved_exprs}
+use Rattle.c_assembler.specs.Linked.{relocation}
+use Rattle.c_assembler.proofs.MovedRows.{exprs-moved}
+use Rattle.c_assembler.proofs.exprs.+expression.Goals as goal
+
+pub moved_expr-returns-in_ok-values-in-Pure : goal.moved_expr-returns-in_ok-values-in-Pure
+moved_expr-returns-in_ok-values-in-Pure t c =
+    let i = c.in-Pure in
+    let m = relocation c.args.links.now in
+    c.call_of_pure.ensures
+    ∙ ap (pure i.k) (c.in_ok-values-in-Pure.ensures
+    ∙ ap (λ (es : List Expr). moved_exprs m (exprs_of_list (map expr_tree es))) c.as_slice.ensures.value)
+    ∙ ap (moved_expr m) (sym (ap expr_tree i.is ∙ expr_tree-Pure i.k i.values))
+
+pub moved_exprs-returns : goal.moved_exprs-returns
+moved_exprs-returns t c =
+    exprs-moved (relocation c.args.links.now) c.args.es.now c.loop-e.list.items c.loop-e.e-index
+    (omega (arith, c.loop-e-test.false)) c.loop-e.invariant

@@ -1,0 +1,4 @@
+pub mod Places
+pub mod Linked
+pub mod Ports
+pub mod Children
