@@ -1,0 +1,38 @@
+ghost use Rattle.c_assembly.specs.Parts.{Parts};
+ghost use Rattle.c_assembly.specs.Whole.{AssembledIsCode};
+
+use c_accounts::accounts_follow;
+use c_answers::answers_follow;
+use c_assembly::{code_follows, codes_have_views, runs_follow, systems_offer_theirs};
+use c_faces::{assembled_has_shape, assembled_is_least};
+use c_instances::{forms_are_of_slots, instances_have_paths, zeros_have_forms};
+use c_keeping::assembled_is_lawful;
+use c_lives::lives_follow;
+use c_renewed::{renewals_go_inside, renewals_reach_inside, restarts_follow, systems_are_renewed};
+use c_root::{roots_start, roots_take_ticks};
+
+/// The program that the codes of all systems of a model come to, each right by itself, is lawful, and
+/// code for the model's diagram.
+pub fn assembled_is_code()
+    ensures { (a : Parts) → AssembledIsCode a }
+{
+    codes_have_views();
+    systems_offer_theirs();
+    zeros_have_forms();
+    forms_are_of_slots();
+    instances_have_paths();
+    systems_are_renewed();
+    renewals_reach_inside();
+    renewals_go_inside();
+    restarts_follow();
+    accounts_follow();
+    lives_follow();
+    roots_start();
+    roots_take_ticks();
+    runs_follow();
+    answers_follow();
+    assembled_has_shape();
+    assembled_is_least();
+    assembled_is_lawful();
+    code_follows();
+}
