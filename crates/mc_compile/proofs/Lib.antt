@@ -1,11 +1,3 @@
-pub mod ReadCode
-pub mod ListLaws
-pub mod TypedTable
-pub mod EveryTick
-pub mod FlatModel
-pub mod FaultLaws
-pub mod OneVerdict
+pub mod lemmas
 pub mod RowPasses
-pub mod FlatSystems
-pub mod FlatRuns
 pub mod InputLaws

@@ -1,11 +1,8 @@
 -- Passes over the numbers of rows, which stop at the first that passes.
-use Rattle.std.specs.Prelude.{◌≡◌, refl, ℕ, zero, suc, ◌+◌, ◌<◌, ◌≤◌, Bool, true, false, List, find, Option, Some, None, option_map}
+use Rattle.std.specs.Prelude.{◌≡◌, refl, ℕ, zero, suc, ◌+◌, ◌<◌, ◌≤◌, Bool, true, false, find, Option, Some, None}
 use Rattle.std.specs.List.{range_with_len}
 use Rattle.std.proofs.Common.{sym, ◌∙◌, ap, cond, arith, true≢false, inl, inr, ◌⊎◌}
 use native.Mathlib.Decide.{ℕ_discrete}
-use Rattle.mc_base.specs.Refusals.{Unsupported}
-use Rattle.mc_diagram.specs.declared.table.Row.{Row}
-use Rattle.mc_diagram.specs.TypeRefusals.{line_at}
 
 le-cases : (a b : ℕ) → a ≤ b → (a < b) ⊎ (a ≡ b)
 le-cases a b low = elim (ℕ_discrete a b) [ yes same ↦ inr same | no differ ↦ inl (omega (arith, low, differ)) ]
@@ -34,7 +31,7 @@ none-in-range test (suc n) a none =
     ap (λ t. cond t (Some a) (find test (range_with_len (a + 1) n))) (none a (omega arith) (omega arith))
     ∙ none-in-range test n (a + 1) (λ k above under. none k (omega (arith, above)) (omega (arith, under)))
 
--- nothing is told, so there is no such row
-pub none-mapped : (rows : List Row) (found : Option ℕ) → None ≡ option_map (λ b. Unsupported (line_at rows b)) found → found ≡ None
-none-mapped rows None e = refl
-none-mapped rows (Some b) e = absurd (let wrong : ⊥ = cc e in wrong)
+-- nothing is there
+pub none-from : {A : Type 0} (o : Option A) → ((x : A) → o ≡ Some x → ⊥) → o ≡ None
+none-from None h = refl
+none-from (Some x) h = absurd (h x refl)

@@ -6,20 +6,8 @@ use Rattle.mc_diagram.specs.ResolvedTable.{ResolvedTable, diagram_of_table}
 use Rattle.mc_diagram.specs.Inputs.{input_ports}
 use Rattle.mc_profile.specs.Systems.{systems}
 use Rattle.mc_diagram.specs.Traces.{input_type_of}
-use Rattle.c_syntax.specs.Tree.{ProgramTree}
-use Rattle.c_rules.specs.Reading.{CText}
-use Rattle.c_right.specs.Right.{RunsRight, IsFunctionCount}
-use Rattle.c_emitter.specs.Code.{IsCodeFor as IsFlatCodeFor}
-use Rattle.mc_compile.specs.Verdict.{Accepted, HasVerdict}
-
--- The bytes are the text of one program and no other, and over any trace that is right for the diagram. Of right code for a
--- table these are the parts that whatever is compiled today has; `flat` is what it has besides, as a diagram of one system.
-pub record IsRightCode (bytes : List ℕ) (d : Diagram) : Type 0 where
-  pub program : ProgramTree
-  pub reading : CText bytes program
-  pub only : (other : ProgramTree) → CText bytes other → other ≡ program
-  pub runs : RunsRight program d
-  pub flat : IsFlatCodeFor program d
+use Rattle.c_right.specs.Right.{IsRightFor, IsFunctionCount}
+use Rattle.mc_verdict.specs.Verdict.{Accepted, HasVerdict}
 
 -- the types of the root's inputs, by port
 abbrev pub root_types : Diagram → List FixType
@@ -33,16 +21,16 @@ pub record Compilation : Type 0 where
   pub inputs : List FixType
   pub code : List ℕ
 
--- of a model with this diagram
-pub record IsCompilationOf (d : Diagram) (c : Compilation) : Type 0 where
-  pub rows : c.rows ≡ length d.rows
-  pub systems : c.systems ≡ length (systems d.rows)
-  pub functions : IsFunctionCount d c.functions
-  pub inputs : c.inputs ≡ root_types d
-  pub code : IsRightCode c.code d
+-- of a model with this resolved table: the code is right for it, in all parts
+pub record IsCompilationOf (r : ResolvedTable) (c : Compilation) : Type 0 where
+  pub rows : c.rows ≡ length r.table.rows
+  pub systems : c.systems ≡ length (systems r.table.rows)
+  pub functions : IsFunctionCount (diagram_of_table r) c.functions
+  pub inputs : c.inputs ≡ root_types (diagram_of_table r)
+  pub code : IsRightFor c.code r
 
--- the file is accepted, and compiled with the diagram of its resolved table
+-- the file is accepted, and compiled with the resolved table of its model
 pub record IsCompiledFrom (bytes : List ℕ) (c : Compilation) : Type 0 where
   pub resolved : ResolvedTable
   pub verdict : HasVerdict bytes (Accepted resolved)
-  pub compiled : IsCompilationOf (diagram_of_table resolved) c
+  pub compiled : IsCompilationOf resolved c

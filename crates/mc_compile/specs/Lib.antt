@@ -1,4 +1,2 @@
-pub mod Verdict
 pub mod Compilation
-pub mod Faults
 pub mod Inputs

@@ -1,39 +1,34 @@
 ghost use Rattle.std.specs.Prelude.{IfOk};
+ghost use Rattle.mc_diagram.specs.Needs.{needs_of, HasNoLoop};
+ghost use Rattle.mc_diagram.specs.ResolvedTable.{table_of_tree};
 ghost use Rattle.mc_diagram.specs.ResolvedTree.{diagram_of};
-ghost use Rattle.c_emitter.specs.Flat.{IsFlatAtEveryTick};
 ghost use Rattle.mc_compile.specs.Compilation.{IsCompilationOf};
 
 use crate::compiled::Compiled;
 use crate::inputs::input_types;
-use c_emitter::{FlatDiagram, emit, function_count};
-use c_machine::lines_mean_nothing;
 use c_printer::print;
-use c_reading::readings_agree;
+use c_program::emit;
+use c_right::text_of_code_is_right;
 use mc_base::Memory;
 use mc_diagram::Resolved;
 use std::alloc::Global;
 
-/// The code of a diagram of one system whose rows all have code and run at every tick, and the numbers of what it has.
+/// The code of a model without a loop, and the numbers of what it has.
+///
+/// Fails only for want of memory.
 pub(crate) fn compiled_from(alloc: Global, r: &Resolved) -> Result<Compiled, Memory>
-    requires { IsFlatAtEveryTick (diagram_of r.now) }
-    ensures { IfOk result (IsCompilationOf (diagram_of r.now)) }
+    requires { HasNoLoop (needs_of (diagram_of r.now)) }
+    ensures { IfOk result (IsCompilationOf (table_of_tree r.now)) }
 {
-    lines_mean_nothing();
-    readings_agree();
+    text_of_code_is_right();
+    let emitted = emit(alloc, r)?;
+    let code = print(alloc, &emitted.program)?;
     let rows = r.tree.table().rows.as_slice();
-    let types = r.types.as_slice();
-    let diagram = FlatDiagram {
-        rows,
-        types,
-        ops: r.ops.as_slice(),
-    };
-    let program = emit(alloc, &diagram)?;
-    let code = print(alloc, &program)?;
     Ok(Compiled {
         rows: rows.len() as u32,
-        systems: 1,
-        functions: function_count(&diagram),
-        inputs: input_types(alloc, rows, types)?,
+        systems: emitted.systems,
+        functions: emitted.functions,
+        inputs: input_types(alloc, rows, r.types.as_slice())?,
         code,
     })
 }

@@ -1,8 +1,7 @@
 ghost use Rattle.std.specs.Prelude.{◌≡◌, ◌<◌, None, count_by, length, map, IfOk, IfSome};
-ghost use Rattle.mc_diagram.specs.declared.Row.{Row as PlainRow};
 ghost use Rattle.mc_diagram.specs.Diagram.{type_at};
-ghost use Rattle.mc_diagram.specs.Rows.{row_numbers, rows_of, inports_of, is_inport as is_inport_kind};
-ghost use Rattle.mc_compile.specs.Inputs.{is_inport_with, inport_with as inport_among};
+ghost use Rattle.mc_diagram.specs.Rows.{inports_of};
+ghost use Rattle.mc_compile.specs.Inputs.{is_root_inport as is_inport_of_root, is_root_inport_with, root_inport_with as inport_among};
 
 use mc_base::Memory;
 use mc_blocks::Kind;
@@ -10,57 +9,58 @@ use mc_diagram::Row;
 use mc_fixed::FixType;
 use std::alloc::Global;
 
-/// Whether a row is an Inport.
-fn is_inport(kind: &Kind) -> bool
-    ensures { result ≡ is_inport_kind kind.now }
+/// Whether a row is an Inport of the root.
+fn is_root_inport(row: &Row) -> bool
+    ensures { result ≡ is_inport_of_root row.now }
 {
-    matches!(kind, Kind::Inport { .. })
+    row.owner.is_none() && matches!(row.kind, Kind::Inport { .. })
 }
 
-/// Whether a row is the Inport with this port.
-fn has_port(kind: &Kind, port: usize) -> bool
-    ensures { result ≡ is_inport_with port kind.now }
+/// Whether a row is the Inport of the root with this port.
+fn is_root_port(row: &Row, port: usize) -> bool
+    ensures { result ≡ is_root_inport_with port row.now }
 {
-    match kind {
-        Kind::Inport { port: own } => *own as usize == port,
+    match row.kind {
+        Kind::Inport { port: own } => row.owner.is_none() && own as usize == port,
         _ => false,
     }
 }
 
-/// How many rows are Inports.
+/// How many rows are Inports of the root.
 fn inport_count(rows: &[Row]) -> usize
-    ensures { result ≡ count_by (λ (row : PlainRow). is_inport_kind row.kind) rows.now }
+    ensures { result ≡ count_by is_inport_of_root rows.now }
 {
     let mut count = 0;
     for row in rows {
-        if is_inport(&row.kind) {
+        if is_root_inport(row) {
             count += 1;
         }
     }
     count
 }
 
-/// The number of the first row that is the Inport with this port.
+/// The number of the first row that is the Inport of the root with this port.
 fn inport_with(rows: &[Row], port: usize) -> Option<usize>
     ensures found { result ≡ inport_among rows.now port }
     ensures inside { IfSome result (λ b. b < length rows.now) }
 {
     for (b, row) in rows.iter().enumerate() {
-        if has_port(&row.kind, port) {
+        if is_root_port(row, port) {
             return Some(b);
         }
     }
     None
 }
 
-/// The types of the inputs of a model all of whose rows are the root's, by port.
+/// The types of the root's inputs, by port.
+///
+/// Fails only for want of memory.
 pub(crate) fn input_types(
     alloc: Global,
     rows: &[Row],
     types: &[FixType],
 ) -> Result<Vec<FixType>, Memory>
-    requires of_root { rows_of rows.now None ≡ row_numbers rows.now }
-    requires one_type_each { length types.now ≡ length rows.now }
+    requires { length types.now ≡ length rows.now }
     ensures { IfOk result (λ v. v.items ≡ map (type_at types.now) (inports_of rows.now None)) }
 {
     let mut inputs = Vec::new(alloc);

@@ -10,10 +10,9 @@ use Rattle.c_syntax.specs.declared.fault.Stuck.{Stuck}
 use Rattle.c_syntax.specs.Tree.{ProgramTree}
 use Rattle.c_machine.specs.Cells.{Cells}
 use Rattle.c_machine.specs.Machine.{Outcome, stuck}
-use Rattle.c_machine.specs.Rows.{start_run}
+use Rattle.c_machine.specs.Rows.{start_run, c_rows, rows_of_start}
 use Rattle.c_rules.specs.Reading.{CText}
 use Rattle.c_reading.specs.Agreement.{ReadingsAgree}
-use Rattle.c_emitter.specs.Code.{Starts}
 use Rattle.c_meaning.specs.States.{MachineState, tree_of}
 use Rattle.mc_runner.specs.Ticks.{IsNarrower}
 use Rattle.mc_diagram.specs.ResolvedTable.{diagram_of_table}
@@ -23,7 +22,7 @@ use Rattle.mdlc.specs.declared.tool.Ending.TheVariants.{Compiled, Ran, Usage, Re
 use Rattle.mc_words.specs.Words.{Run, Exec}
 use Rattle.mdlc.specs.Told.{HostTold, SinkTold, NoFault}
 use Rattle.mdlc.specs.Runs.{HasStepTypes, rows_in, rows_over, RunsTaken, RunsTo}
-use Rattle.mdlc.specs.Endings.{OnNamed, OnBytes, PutsNothing, EndsNoMemory, ReadsToEnd, TakesFile, code_limit, WritesWhole, RunsModel, LosesTrace, StartsCode, ExecutesCode, LosesTraceOf, IsUnread, IsStuckAtStart, LeavesHost, CountsPuts, Finds, Ends}
+use Rattle.mdlc.specs.Endings.{OnNamed, OnBytes, PutsNothing, EndsNoMemory, ReadsToEnd, TakesFile, code_limit, WritesWhole, RunsModel, LosesTrace, StartsCode, ExecutesCode, LosesTraceOf, IsStuckAtStart, LeavesHost, CountsPuts, Finds, Ends}
 use Rattle.mdlc.specs.Acting.{WritesCompiled, NotStarted, StartsFrom, RunEnds}
 use Rattle.mdlc.proofs.Files.{there}
 use Rattle.mdlc.proofs.EndingLaws.{whole-front}
@@ -170,11 +169,11 @@ exec_unstarted PutFault code trace bytes h h1 b whole fits left none = absurd no
 program-is : (c : Compilation) (m : MachineState) (bytes : List ℕ) (from : IsCompiledFrom bytes c) → StartsFrom c.code m → tree_of m ≡ from.compiled.code.program
 program-is c m bytes from starts = from.compiled.code.only (tree_of m) starts.reading
 
-pub inputs-fit : (c : Compilation) (m : MachineState) (bytes : List ℕ) → IsCompiledFrom bytes c → StartsFrom c.code m → AllZip IsNarrower c.inputs m.program.inputs
-inputs-fit c m bytes from starts =
+pub inputs-fit : ReadingsAgree → (c : Compilation) (m : MachineState) (bytes : List ℕ) → IsCompiledFrom bytes c → StartsFrom c.code m → AllZip IsNarrower c.inputs m.program.inputs
+inputs-fit agree c m bytes from starts =
     let p : ProgramTree = from.compiled.code.program in
     subst (λ (types : List FixType). AllZip IsNarrower types m.program.inputs) (sym from.compiled.inputs)
-    (step-types (diagram_of_table from.resolved) p m.program.inputs from.compiled.code.flat
+    (step-types (diagram_of_table from.resolved) p from.resolved.times.hyper m.program.inputs (agree.lawful c.code p from.compiled.code.reads) from.compiled.code.code.shape.root
     (subst (λ (q : ProgramTree). HasStepTypes q m.program.inputs) (program-is c m bytes from starts) starts.inputs))
 
 -- what is known of the machine's program holds of the program that the code is
@@ -221,7 +220,7 @@ never-stuck at c m bytes lines from starts sticks =
     let p : ProgramTree = from.compiled.code.program in
     let types : List FixType = root_types (diagram_of_table from.resolved) in
     let moved : (rows_over p types lines).stuck_place ≡ Some at = as-compiled c m bytes (λ q inputs. (rows_over q inputs lines).stuck_place ≡ Some at) from starts sticks in
-    let free : (rows_over p types lines).stuck_place ≡ None = (from.compiled.code.runs.bounded (rows_in types lines) (rows-trace (diagram_of_table from.resolved) lines)).not_stuck in
+    let free : (rows_over p types lines).stuck_place ≡ None = (from.compiled.code.code.runs.bounded (rows_in types lines) (rows-trace (diagram_of_table from.resolved) lines)).not_stuck in
     cc (sym free ∙ moved)
 
 no-faults : (h h1 h' : HostTold) → NoFault h h1 → NoFault h1 h' → NoFault h h'
@@ -267,13 +266,15 @@ starts-right : (c : Compilation) (bytes : List ℕ) (from : IsCompiledFrom bytes
 starts-right c bytes from p at cells text start =
     let q : ProgramTree = from.compiled.code.program in
     let same : start_run q ≡ stuck at cells = ap start_run (sym (from.compiled.code.only p text)) ∙ start in
-    subst (λ (o : Outcome). Starts q (diagram_of_table from.resolved) o) same from.compiled.code.flat.started
+    let free : (c_rows q []).stuck_place ≡ None = (from.compiled.code.code.runs.bounded [] tt).not_stuck in
+    let sticks : (c_rows q []).stuck_place ≡ Some at = ap (λ (o : Outcome). (rows_of_start q o []).stuck_place) same in
+    cc (sym free ∙ sticks)
 
 -- that right code is not run comes of memory alone
 pub run_unstarted : ReadingsAgree → (e : Ending) (model code trace : List ℕ) (c : Compilation) (h h1 : HostTold) (b : SinkTold) → WritesCompiled c model code h h1 → NotStarted c.code e → Ends e (Some (Run model code trace)) h h1 b b
 run_unstarted agree NoMemory model code trace c h h1 b w none = run_forgets model code trace c h h1 b w
 run_unstarted agree (CodeRefused fault) model code trace c h h1 b w none =
-    absurd (agree.apart c.code w.model.holds.compiled.code.program fault w.model.holds.compiled.code.reading none)
+    absurd (agree.apart c.code w.model.holds.compiled.code.program fault w.model.holds.compiled.code.reads none)
 run_unstarted agree (IsStuck at) model code trace c h h1 b w none =
     absurd (starts-right c w.model.bytes w.model.holds none.0 at none.2.0 none.1 none.2.1)
 run_unstarted agree (Compiled rows systems functions) model code trace c h h1 b w none = absurd none

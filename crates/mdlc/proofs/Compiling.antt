@@ -1,9 +1,9 @@
 -- What is known of a file that was read and compiled.
-use Rattle.std.proofs.Common.{◌≡◌, ℕ, ◌<◌, inl, List, [], length, refl, sym, subst, ◌∙◌}
+use Rattle.std.proofs.Common.{◌≡◌, ℕ, ◌<◌, inl, List, [], length, refl, sym, ◌∙◌}
 use Rattle.std.specs.Prelude.{Option, Some}
 use Rattle.mc_base.specs.Refusals.{PlainRefusal, TooLong}
 use Rattle.mc_edge.specs.Files.{File, OnFile, WritesFront}
-use Rattle.mc_compile.specs.Verdict.{HasVerdict, Refused}
+use Rattle.mc_verdict.specs.Verdict.{HasVerdict, Refused}
 use Rattle.mc_compile.specs.Compilation.{Compilation, IsCompiledFrom}
 use Rattle.mdlc.specs.Told.{HostTold}
 use Rattle.mdlc.specs.Endings.{OnNamed, OnBytes, WritesCodeFront, EndsCompiled}
@@ -27,7 +27,7 @@ refused-file h name bytes refusal whole verdict = record { bytes = bytes; file =
 pub long-file : (h : HostTold) (name : List ℕ) → OnNamed h name (λ x. 16_777_216 < length x) → OnBytes h name (λ x. HasVerdict x (Refused TooLong))
 long-file h name long =
     let known : OnBytes h name (λ x. 16_777_216 < length x) = longer_than h name 16_777_216 long in
-    record { bytes = known.bytes; file = known.file; holds = inl (inl (inl (known.holds, refl))) }
+    record { bytes = known.bytes; file = known.file; holds = inl (inl (known.holds, refl)) }
 
 -- writing leaves what is unread
 pub still-read : (files : Option (List File)) (rest : Option (List ℕ)) (name : List ℕ) (now later : Option (List ℕ)) → OnFile files rest name (λ _. now ≡ Some []) → later ≡ now → OnFile files rest name (λ _. later ≡ Some [])

@@ -14,7 +14,7 @@ use Rattle.c_syntax.specs.Lawful.{IsLawful, AreDistinct, procedure_names, pure_n
 use Rattle.c_reading.specs.Agreement.{ReadingsAgree}
 use Rattle.c_syntax.proofs.lemmas.NameFacts.{AreDistinct-back, has_name-there}
 use Rattle.c_checked.specs.Checked.{fix_type}
-use Rattle.mc_compile.specs.Verdict.{Verdict, HasVerdict, Accepted, Refused as IsRefused, HasOneVerdict}
+use Rattle.mc_verdict.specs.Verdict.{Verdict, HasVerdict, Accepted, Refused as IsRefused, HasOneVerdict}
 use Rattle.mc_compile.specs.Compilation.{root_types}
 use Rattle.mc_words.specs.Words.{Asked, Compile, Run, Exec}
 use Rattle.mdlc.specs.Runs.{HasStepTypes, bad_line}

@@ -6,7 +6,6 @@ use Rattle.std.proofs.lemmas.Bool.Decides.{eqb_tells}
 use Rattle.mc_base.specs.Refusals.{PlainRefusal, plain_refusal, refusal_line}
 use Rattle.mc_fixed.specs.declared.types.FixType.{FixType}
 use Rattle.mc_edge.specs.Files.{add_file}
-use Rattle.mc_diagram.specs.Diagram.{Diagram}
 use Rattle.mc_diagram.specs.ResolvedTable.{ResolvedTable, diagram_of_table}
 use Rattle.mc_trace.specs.declared.rows.BadLine.{BadLine}
 use Rattle.c_syntax.specs.declared.fault.CFault.{CFault}
@@ -17,7 +16,7 @@ use Rattle.c_machine.specs.Machine.{After, done, stuck}
 use Rattle.c_machine.specs.Rows.{TickRow, start_run}
 use Rattle.c_rules.specs.Reading.{CFaultOf}
 use Rattle.c_reading.specs.Agreement.{ReadingsAgree}
-use Rattle.mc_compile.specs.Verdict.{HasVerdict, Refused as IsRefused}
+use Rattle.mc_verdict.specs.Verdict.{HasVerdict, Refused as IsRefused}
 use Rattle.mc_compile.specs.Compilation.{Compilation, root_types, IsCompilationOf}
 use Rattle.mc_runner.specs.declared.outcome.Totals.{Totals}
 use Rattle.mc_runner.specs.Texts.{ticks_text}
@@ -79,7 +78,7 @@ compiled one rows systems functions model s code h h' b before b' is same whole 
     status = inl is;
     done = λ zero. record {
       compilation = c;
-      right = subst (λ (x : ResolvedTable). IsCompilationOf (diagram_of_table x) c) (same_resolution one model from.resolved d from.verdict accepts) from.compiled;
+      right = subst (λ (x : ResolvedTable). IsCompilationOf x c) (same_resolution one model from.resolved d from.verdict accepts) from.compiled;
       written = written;
       line = rw (r, y, f) (put-alone b before b' (compiled_line rows systems functions) same whole);
     };
@@ -115,24 +114,24 @@ compile-does one PutFault s model code h h' b before b' ends plain is whole = ab
 -- ---- `run`
 
 -- a run to the end of the trace, or to its first bad line
-ran : (d : Diagram) (lines : List ℕ) (s : ℕ) (code : List ℕ) (h h' : HostTold) (b before b' : SinkTold) (c : Compilation) (right : IsCompilationOf d c) (bad : Option BadLine) (last : List ℕ) → h'.written ≡ add_file h.written code c.code → s ≡ run_status None bad → bad_line (root_types d) lines ≡ bad → (rows_over right.code.program (root_types d) lines).stuck_place ≡ None → last ≡ last_line (rows_over right.code.program (root_types d) lines).ticks None bad → PutsTicks (rows_over right.code.program (root_types d) lines).ticks b before → PutsWhole last before b' → RunsAccepted d lines s code h h' b b'
-ran d lines s code h h' b before b' c right bad last written is first free text ticks whole = record {
+ran : (r : ResolvedTable) (lines : List ℕ) (s : ℕ) (code : List ℕ) (h h' : HostTold) (b before b' : SinkTold) (c : Compilation) (right : IsCompilationOf r c) (bad : Option BadLine) (last : List ℕ) → h'.written ≡ add_file h.written code c.code → s ≡ run_status None bad → bad_line (root_types (diagram_of_table r)) lines ≡ bad → (rows_over right.code.program (root_types (diagram_of_table r)) lines).stuck_place ≡ None → last ≡ last_line (rows_over right.code.program (root_types (diagram_of_table r)) lines).ticks None bad → PutsTicks (rows_over right.code.program (root_types (diagram_of_table r)) lines).ticks b before → PutsWhole last before b' → RunsAccepted r lines s code h h' b b'
+ran r lines s code h h' b before b' c right bad last written is first free text ticks whole = record {
   status = inl (is ∙ ap (run_status None) (sym first));
   done = λ _. record {
     compilation = c;
     right = right;
     written = written;
-    outputs = right.code.runs.outputs (rows_in (root_types d) lines) (rows-trace d lines);
-    lines = put-run b before b' (rows_over right.code.program (root_types d) lines).ticks last ticks whole
-        ∙ ap (λ (x : List ℕ). append_known b.bytes (ticks_text (rows_over right.code.program (root_types d) lines).ticks ++ x)) text
-        ∙ ap (append_known b.bytes) (text-by right.code.program (root_types d) lines None bad free first);
+    outputs = right.code.code.runs.outputs (rows_in (root_types (diagram_of_table r)) lines) (rows-trace (diagram_of_table r) lines);
+    lines = put-run b before b' (rows_over right.code.program (root_types (diagram_of_table r)) lines).ticks last ticks whole
+        ∙ ap (λ (x : List ℕ). append_known b.bytes (ticks_text (rows_over right.code.program (root_types (diagram_of_table r)) lines).ticks ++ x)) text
+        ∙ ap (append_known b.bytes) (text-by right.code.program (root_types (diagram_of_table r)) lines None bad free first);
   };
 }
 
 -- of a model that was compiled, what is shown for its diagram holds of that of its verdict
-for-diagram : OneVerdict → (bytes trace : List ℕ) (s : ℕ) (code : List ℕ) (h h' : HostTold) (b b' : SinkTold) (w : WritesWhole code bytes h h') → IfFile h trace (λ lines. RunsAccepted (diagram_of_table w.resolved) lines s code h h' b b') → Runs bytes trace s code h h' b b'
+for-diagram : OneVerdict → (bytes trace : List ℕ) (s : ℕ) (code : List ℕ) (h h' : HostTold) (b b' : SinkTold) (w : WritesWhole code bytes h h') → IfFile h trace (λ lines. RunsAccepted w.resolved lines s code h h' b b') → Runs bytes trace s code h h' b b'
 for-diagram one bytes trace s code h h' b b' w shown = record {
-  accepted = λ d accepts. subst (λ (x : ResolvedTable). IfFile h trace (λ lines. RunsAccepted (diagram_of_table x) lines s code h h' b b')) (same_resolution one bytes w.resolved d w.verdict accepts) shown;
+  accepted = λ d accepts. subst (λ (x : ResolvedTable). IfFile h trace (λ lines. RunsAccepted x lines s code h h' b b')) (same_resolution one bytes w.resolved d w.verdict accepts) shown;
   refused = λ refusal refuses. absurd (accepted_only one bytes w.resolved refusal w.verdict refuses);
 }
 
@@ -145,10 +144,10 @@ run-memory model trace s code h h' b b' is = record {
 run-does : OneVerdict → (e : Ending) (s : ℕ) (model code trace : List ℕ) (h h' : HostTold) (b before b' : SinkTold) → Finds e (Some (Run model code trace)) h h' b before → IsPlain (status_of e) → s ≡ status_of e → PutsWhole (text_of e) before b' → IfFile h model (λ bytes. Runs bytes trace s code h h' b b')
 run-does one (Ran totals) s model code trace h h' b before b' ends plain is whole =
     known_file h.files h.rest model (named h model ends.model) (λ bytes m. for-diagram one bytes trace s code h h' b b' m.whole (known_file h.files h.rest trace (named h trace m.runs) (λ lines run.
-    ran (diagram_of_table m.whole.resolved) lines s code h h' b before b' m.whole.compilation m.whole.right None (text_of (Ran totals)) m.whole.written is run.good run.free (ap (λ (t : Totals). totals_line t.ticks t.steps t.calls) run.totals) run.lines whole)))
+    ran m.whole.resolved lines s code h h' b before b' m.whole.compilation m.whole.right None (text_of (Ran totals)) m.whole.written is run.good run.free (ap (λ (t : Totals). totals_line t.ticks t.steps t.calls) run.totals) run.lines whole)))
 run-does one (BadTrace line) s model code trace h h' b before b' ends plain is whole =
     known_file h.files h.rest model (named h model ends.model) (λ bytes m. for-diagram one bytes trace s code h h' b b' m.whole (known_file h.files h.rest trace (named h trace m.runs) (λ lines run.
-    ran (diagram_of_table m.whole.resolved) lines s code h h' b before b' m.whole.compilation m.whole.right (Some line) (text_of (BadTrace line)) m.whole.written is run.bad run.free refl run.lines whole)))
+    ran m.whole.resolved lines s code h h' b before b' m.whole.compilation m.whole.right (Some line) (text_of (BadTrace line)) m.whole.written is run.bad run.free refl run.lines whole)))
 run-does one (Refused refusal) s model code trace h h' b before b' ends plain is whole =
     known_file h.files h.rest model (named h model ends.0.model) (λ bytes v. record {
       accepted = λ d accepts. absurd (accepted_only one bytes d (plain_refusal refusal) accepts v);

@@ -6,7 +6,7 @@ use Rattle.mc_diagram.specs.Diagram.{Diagram}
 use Rattle.mc_diagram.specs.ResolvedTable.{ResolvedTable, diagram_of_table}
 use Rattle.c_syntax.specs.Tree.{ProgramTree}
 use Rattle.c_rules.specs.Reading.{CText}
-use Rattle.mc_compile.specs.Verdict.{HasVerdict, Accepted}
+use Rattle.mc_verdict.specs.Verdict.{HasVerdict, Accepted}
 use Rattle.mc_compile.specs.Compilation.{root_types}
 use Rattle.mdlc.specs.declared.tool.Ending.{Ending}
 use Rattle.mdlc.specs.declared.tool.Ending.TheVariants.{ReadFault}

@@ -13,7 +13,7 @@ use Rattle.c_machine.specs.Cells.{Cells}
 use Rattle.c_machine.specs.Machine.{After, done, stuck}
 use Rattle.c_machine.specs.Rows.{start_run}
 use Rattle.c_rules.specs.Reading.{CText, CFaultOf}
-use Rattle.mc_compile.specs.Verdict.{HasVerdict, Accepted, Refused as IsRefused}
+use Rattle.mc_verdict.specs.Verdict.{HasVerdict, Accepted, Refused as IsRefused}
 use Rattle.mc_compile.specs.Compilation.{Compilation, root_types, IsCompilationOf, IsCompiledFrom}
 use Rattle.mdlc.specs.declared.tool.Ending.{Ending}
 use Rattle.mdlc.specs.declared.tool.Ending.TheVariants.{Compiled, Ran, Usage, Refused, BadTrace, CodeRefused, CodeTooLong, Stuck as IsStuck, ReadFault, WriteFault, PutFault, NoMemory}
@@ -143,7 +143,7 @@ pub record WritesWhole (code model : List ℕ) (h h' : HostTold) : Type 0 where
   pub resolved : ResolvedTable
   pub verdict : HasVerdict model (Accepted resolved)
   pub compilation : Compilation
-  pub right : IsCompilationOf (diagram_of_table resolved) compilation
+  pub right : IsCompilationOf resolved compilation
   pub written : h'.written ≡ add_file h.written code compilation.code
 
 -- the model was compiled, its code written whole, and the program that it is run over the trace

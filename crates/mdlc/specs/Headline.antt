@@ -5,7 +5,6 @@ use Rattle.mc_base.specs.Refusals.{PlainRefusal, refusal_line}
 use Rattle.mc_fixed.specs.declared.types.FixType.{FixType}
 use Rattle.mc_edge.specs.Faults.{IsCalm}
 use Rattle.mc_edge.specs.Files.{add_file}
-use Rattle.mc_diagram.specs.Diagram.{Diagram}
 use Rattle.mc_diagram.specs.ResolvedTable.{ResolvedTable, diagram_of_table}
 use Rattle.mc_trace.specs.declared.rows.BadLine.{BadLine}
 use Rattle.c_syntax.specs.declared.fault.CFault.{CFault}
@@ -16,7 +15,7 @@ use Rattle.c_machine.specs.Machine.{After, done, stuck}
 use Rattle.c_machine.specs.Rows.{TickRow, start_run}
 use Rattle.c_rules.specs.Reading.{CText, CFaultOf}
 use Rattle.c_right.specs.Right.{GivesOutputs}
-use Rattle.mc_compile.specs.Verdict.{HasVerdict, Accepted, Refused}
+use Rattle.mc_verdict.specs.Verdict.{HasVerdict, Accepted, Refused}
 use Rattle.mc_compile.specs.Compilation.{Compilation, root_types, IsCompilationOf}
 use Rattle.mc_runner.specs.Texts.{ticks_text}
 use Rattle.mc_runner.specs.Runs.{totals_of}
@@ -45,21 +44,22 @@ pub record TellsRefusal (refusal : PlainRefusal) (s : ℕ) (h h' : HostTold) (b 
 
 -- ---- `compile`
 
--- right code for the diagram is written as the one new file, and the compiled line put
-pub record WritesRightCode (d : Diagram) (code : List ℕ) (h h' : HostTold) (b b' : SinkTold) : Type 0 where
+-- Right code for the model is written as the one new file: its bytes have one reading, and that is code for the diagram, in all
+-- parts. The compiled line is put.
+pub record WritesRightCode (r : ResolvedTable) (code : List ℕ) (h h' : HostTold) (b b' : SinkTold) : Type 0 where
   pub compilation : Compilation
-  pub right : IsCompilationOf d compilation
+  pub right : IsCompilationOf r compilation
   pub written : h'.written ≡ add_file h.written code compilation.code
   pub line : b'.bytes ≡ append_known b.bytes (compiled_line compilation.rows compilation.systems compilation.functions)
 
 -- a model that the rules accept is compiled, unless memory runs out
-pub record CompilesAccepted (d : Diagram) (s : ℕ) (code : List ℕ) (h h' : HostTold) (b b' : SinkTold) : Type 0 where
+pub record CompilesAccepted (r : ResolvedTable) (s : ℕ) (code : List ℕ) (h h' : HostTold) (b b' : SinkTold) : Type 0 where
   pub status : IsDone s
-  pub done : s ≡ 0 → WritesRightCode d code h h' b b'
+  pub done : s ≡ 0 → WritesRightCode r code h h' b b'
 
 -- what a call does with the bytes of its model
 pub record Compiles (model : List ℕ) (s : ℕ) (code : List ℕ) (h h' : HostTold) (b b' : SinkTold) : Type 0 where
-  pub accepted : (r : ResolvedTable) → HasVerdict model (Accepted r) → CompilesAccepted (diagram_of_table r) s code h h' b b'
+  pub accepted : (r : ResolvedTable) → HasVerdict model (Accepted r) → CompilesAccepted r s code h h' b b'
   pub refused : (refusal : PlainRefusal) → HasVerdict model (Refused refusal) → TellsRefusal refusal s h h' b b'
 
 -- ---- `run`
@@ -75,23 +75,23 @@ abbrev pub run_text : ProgramTree → List FixType → List ℕ → List ℕ
 run_text p types trace =
     let rows = rows_over p types trace in ticks_text rows.ticks ++ last_line rows.ticks rows.stuck_place (bad_line types trace)
 
--- Right code for the diagram is written as the one new file. What is put is what its one reading gives over the trace, up to
+-- Right code for the model is written as the one new file. What is put is what its one reading gives over the trace, up to
 -- its first bad line, and those are the outputs of the diagram's one run.
-pub record RunsRightCode (d : Diagram) (trace code : List ℕ) (h h' : HostTold) (b b' : SinkTold) : Type 0 where
+pub record RunsRightCode (r : ResolvedTable) (trace code : List ℕ) (h h' : HostTold) (b b' : SinkTold) : Type 0 where
   pub compilation : Compilation
-  pub right : IsCompilationOf d compilation
+  pub right : IsCompilationOf r compilation
   pub written : h'.written ≡ add_file h.written code compilation.code
-  pub outputs : GivesOutputs right.code.program d (rows_in (root_types d) trace)
-  pub lines : b'.bytes ≡ append_known b.bytes (run_text right.code.program (root_types d) trace)
+  pub outputs : GivesOutputs right.code.program (diagram_of_table r) (rows_in (root_types (diagram_of_table r)) trace)
+  pub lines : b'.bytes ≡ append_known b.bytes (run_text right.code.program (root_types (diagram_of_table r)) trace)
 
 -- the code of a model that the rules accept is run over the trace, unless memory runs out
-pub record RunsAccepted (d : Diagram) (trace : List ℕ) (s : ℕ) (code : List ℕ) (h h' : HostTold) (b b' : SinkTold) : Type 0 where
-  pub status : (s ≡ run_status None (bad_line (root_types d) trace)) ⊎ (s ≡ 10)
-  pub done : s ≢ 10 → RunsRightCode d trace code h h' b b'
+pub record RunsAccepted (r : ResolvedTable) (trace : List ℕ) (s : ℕ) (code : List ℕ) (h h' : HostTold) (b b' : SinkTold) : Type 0 where
+  pub status : (s ≡ run_status None (bad_line (root_types (diagram_of_table r)) trace)) ⊎ (s ≡ 10)
+  pub done : s ≢ 10 → RunsRightCode r trace code h h' b b'
 
 -- what a call does with the bytes of its model
 pub record Runs (model trace : List ℕ) (s : ℕ) (code : List ℕ) (h h' : HostTold) (b b' : SinkTold) : Type 0 where
-  pub accepted : (r : ResolvedTable) → HasVerdict model (Accepted r) → IfFile h trace (λ lines. RunsAccepted (diagram_of_table r) lines s code h h' b b')
+  pub accepted : (r : ResolvedTable) → HasVerdict model (Accepted r) → IfFile h trace (λ lines. RunsAccepted r lines s code h h' b b')
   pub refused : (refusal : PlainRefusal) → HasVerdict model (Refused refusal) → TellsRefusal refusal s h h' b b'
 
 -- ---- `exec`

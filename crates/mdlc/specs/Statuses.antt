@@ -12,7 +12,7 @@ use Rattle.c_syntax.specs.Tree.{ProgramTree}
 use Rattle.c_machine.specs.Machine.{Outcome, done, stuck}
 use Rattle.c_machine.specs.Rows.{start_run}
 use Rattle.c_rules.specs.Reading.{CText, CFaultOf}
-use Rattle.mc_compile.specs.Verdict.{HasVerdict, Accepted, Refused}
+use Rattle.mc_verdict.specs.Verdict.{HasVerdict, Accepted, Refused}
 use Rattle.mc_compile.specs.Compilation.{root_types}
 use Rattle.mc_words.specs.Words.{Asked, Compile, Run, Exec}
 use Rattle.mdlc.specs.Told.{HostTold}

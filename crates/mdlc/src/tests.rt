@@ -7,6 +7,7 @@ use std::test::Fail;
 
 mod models;
 mod runs;
+mod worked;
 
 /// How a call ended over hosts and sinks in memory.
 #[derive(Drop)]
@@ -95,6 +96,18 @@ fn one_delay(rt: HostRuntime) -> Result<(), Fail> {
     Ok(())
 }
 
+// A Gain in the place of the Outport: no output has a function.
+#[test]
+fn a_gain_without_an_output(rt: HostRuntime) -> Result<(), Fail> {
+    let done = compiled(rt.alloc(), models::GAIN.as_bytes())?;
+    assert_eq!(rt; done.status, 0);
+    assert_eq!(rt;
+        done.put.as_slice(),
+        b"compiled rows 2 systems 1 functions 0\n" as &[u8]
+    );
+    Ok(())
+}
+
 #[test]
 fn usage(rt: HostRuntime) -> Result<(), Fail> {
     for line in [
@@ -154,7 +167,7 @@ fn host_faults(rt: HostRuntime) -> Result<(), Fail> {
 #[test]
 fn refusals(rt: HostRuntime) -> Result<(), Fail> {
     for (model, line) in [
-        (models::GAIN, "refused F7 Unsupported line 11\n"),
+        (models::SCOPE, "refused F7 Unsupported line 11\n"),
         (models::UNCLOSED, "refused F2 Syntax line 22 Brace\n"),
         (
             "Model {\n  Name \"on",

@@ -66,6 +66,10 @@ DstPort 1
 pub const GAIN: &str =
     "Model {\n  Name \"one\"\n  System {\n    Name \"one\"\n    Block {\n      BlockType Inport\n      Name \"In1\"\n      Port \"1\"\n      OutDataTypeStr \"int32\"\n    }\n    Block {\n      BlockType Gain\n      Name \"Out1\"\n      Port \"1\"\n    }\n    Line {\n      SrcBlock \"In1\"\n      SrcPort 1\n      DstBlock \"Out1\"\n      DstPort 1\n    }\n  }\n}\n";
 
+/// The first model with a Scope in the place of its Outport.
+pub const SCOPE: &str =
+    "Model {\n  Name \"one\"\n  System {\n    Name \"one\"\n    Block {\n      BlockType Inport\n      Name \"In1\"\n      Port \"1\"\n      OutDataTypeStr \"int32\"\n    }\n    Block {\n      BlockType Scope\n      Name \"Out1\"\n      Port \"1\"\n    }\n    Line {\n      SrcBlock \"In1\"\n      SrcPort 1\n      DstBlock \"Out1\"\n      DstPort 1\n    }\n  }\n}\n";
+
 /// The first model without its last line.
 pub const UNCLOSED: &str =
     "Model {\n  Name \"one\"\n  System {\n    Name \"one\"\n    Block {\n      BlockType Inport\n      Name \"In1\"\n      Port \"1\"\n      OutDataTypeStr \"int32\"\n    }\n    Block {\n      BlockType Outport\n      Name \"Out1\"\n      Port \"1\"\n    }\n    Line {\n      SrcBlock \"In1\"\n      SrcPort 1\n      DstBlock \"Out1\"\n      DstPort 1\n    }\n  }\n";
@@ -89,6 +93,10 @@ pub const ENDED: &[u8] =
 /// A Constant and a Ground, each wired to an Outport with a type of its own.
 pub const CONSTANTS: &[u8] =
     b"Model {\nSystem {\nBlock {\nBlockType Constant\nName \"C\"\nValue \"300\"\nOutDataTypeStr \"int16\"\n}\nBlock {\nBlockType Ground\nName \"G\"\n}\nBlock {\nBlockType Outport\nName \"Out1\"\nOutDataTypeStr \"int16\"\n}\nBlock {\nBlockType Outport\nName \"Out2\"\nPort \"2\"\nOutDataTypeStr \"fixdt(0,20,4)\"\n}\nLine {\nSrcBlock \"C\"\nSrcPort 1\nDstBlock \"Out1\"\nDstPort 1\n}\nLine {\nSrcBlock \"G\"\nSrcPort 1\nDstBlock \"Out2\"\nDstPort 1\n}\n}\n}\n";
+
+/// A model as it is saved: an Inport of period 0.2, a Gain of 2.5 and an Outport, at a step of 0.1.
+pub const SAVED: &[u8] =
+    b"# a model as it is saved\nModel {\n  Name\t\t\t  \"plant\"\n  Version\t\t  7.8\n  GraphicalInterface {\n    NumRootInports\t    1\n    Inport {\n      BusObject\t\t      \"\"\n      Name\t\t      \"In1\"\n    }\n  }\n  Array {\n    Type\t\t    \"Handle\"\n    Dimension\t\t    1\n    Simulink.ConfigSet {\n      $ObjectID\t\t      1\n      Array {\n\tType\t\t\t\"Handle\"\n\tDimension\t\t1\n\tSimulink.SolverCC {\n\t  $ObjectID\t\t  2\n\t  FixedStep\t\t  \"0.1\"\n\t}\n\tPropName\t\t\"Components\"\n      }\n    }\n    PropName\t\t    \"ConfigurationSets\"\n  }\n  BlockParameterDefaults {\n    Block {\n      BlockType\t\t      Gain\n      Gain\t\t      \"1\"\n      OutDataTypeStr\t      \"fixdt(1,16,4)\"\n      SaturateOnIntegerOverflow on\n      SampleTime\t      \"-1\"\n    }\n  }\n  System {\n    Name\t\t    \"plant\"\n    Location\t\t    [480, 85, 980, 386]\n    Block {\n      BlockType\t\t      Inport\n      Name\t\t      \"In1\"\n      SID\t\t      \"1\"\n      Position\t\t      [25, 33, 55, 47]\n      OutDataTypeStr\t      \"int8\"\n      SampleTime\t      \"0.2\"\n    }\n    Block {\n      BlockType\t\t      Gain\n      Name\t\t      \"Long \"\n      \"gain\"\n      Gain\t\t      \"2.5\"\n    }\n    Block {\n      BlockType\t\t      Outport\n      Name\t\t      \"Out1\"\n      Position\t\t      [205, 33, 235, 47]\n    }\n    Line {\n      SrcBlock\t\t      \"In1\"\n      SrcPort\t\t      1\n      Points\t\t      [0, 0;\n 10, 0]\n      DstBlock\t\t      \"Long gain\"\n      DstPort\t\t      1\n    }\n    Line {\n      SrcBlock\t\t      \"Long gain\"\n      SrcPort\t\t      1\n      Branch {\n\tDstBlock\t\t\"Out1\"\n\tDstPort\t\t\t1\n      }\n      Branch {\n\tPoints\t\t\t[5, 0]\n      }\n    }\n    Annotation {\n      Name\t\t      \"a note\"\n    }\n  }\n}\n";
 
 const BEFORE_A_TYPE: &str =
     "Model {\n  Name \"one\"\n  System {\n    Name \"one\"\n    Block {\n      BlockType Inport\n      Name \"In1\"\n      Port \"1\"\n";

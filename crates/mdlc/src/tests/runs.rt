@@ -8,11 +8,11 @@ use std::test::Fail;
 
 /// How a call ended: its status, what it put, and the bytes of the files that it wrote.
 #[derive(Drop)]
-struct Put {
-    status: u8,
-    text: Vec<u8>,
-    code: Vec<u8>,
-    files: usize,
+pub(super) struct Put {
+    pub(super) status: u8,
+    pub(super) text: Vec<u8>,
+    pub(super) code: Vec<u8>,
+    pub(super) files: usize,
 }
 
 /// The bytes of the files `a.mdl`, `b.c` and `t`.
@@ -72,7 +72,7 @@ fn called_in_pieces(
     })
 }
 
-fn ran(alloc: Global, model: &[u8], trace: &[u8]) -> Result<Put, AllocError> {
+pub(super) fn ran(alloc: Global, model: &[u8], trace: &[u8]) -> Result<Put, AllocError> {
     let files = Files {
         model,
         code: b"",
@@ -81,7 +81,7 @@ fn ran(alloc: Global, model: &[u8], trace: &[u8]) -> Result<Put, AllocError> {
     called(alloc, "run a.mdl a.c t", files, &[], &[])
 }
 
-fn executed(alloc: Global, code: &[u8], trace: &[u8]) -> Result<Put, AllocError> {
+pub(super) fn executed(alloc: Global, code: &[u8], trace: &[u8]) -> Result<Put, AllocError> {
     let files = Files {
         model: b"",
         code,

@@ -4,8 +4,9 @@ ghost use Rattle.mdlc.specs.Acting.{WritesCompiled, NotCompiled};
 
 use super::Ending;
 use mc_base::Refusal;
-use mc_compile::{CompileFault, Compiled, compile};
+use mc_compile::{Compiled, compile};
 use mc_edge::{Failed, Host, ReadAllFault, read_all, write_all};
+use mc_verdict::ModelFault;
 use std::alloc::Global;
 
 /// The most bytes that a model has.
@@ -31,8 +32,8 @@ pub fn compile_into<H: Host>(
     };
     let compiled = match compile(alloc, &bytes) {
         Ok(compiled) => compiled,
-        Err(CompileFault::Refused(refusal)) => return Err(Ending::Refused(refusal)),
-        Err(CompileFault::Memory) => return Err(Ending::NoMemory),
+        Err(ModelFault::Refused(refusal)) => return Err(Ending::Refused(refusal)),
+        Err(ModelFault::Memory) => return Err(Ending::NoMemory),
     };
     match write_all(host, code, &compiled.code) {
         Ok(()) => Ok(compiled),

@@ -11,8 +11,8 @@ ghost use Rattle.mdlc.specs.Completeness.{CanDo, IsComplete, IsSureOf, IsUnsureO
 use super::acting::act;
 use super::finishing::finish;
 use c_reading::readings_agree;
-use mc_compile::one_verdict;
 use mc_edge::{Host, Sink, SureHost, SureSink};
+use mc_verdict::one_verdict;
 use std::alloc::Global;
 
 // Does what the words ask for, puts the text of how it ended, and says the status.

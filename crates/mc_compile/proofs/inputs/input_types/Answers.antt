@@ -4,11 +4,9 @@ use Rattle.std.specs.Option.{option_to_list}
 use Rattle.std.specs.Prelude.{filter_map, count_by}
 use Rattle.std.specs.List.{range_with_len}
 use Rattle.std.proofs.lemmas.List.{get_or_default, append-nil}
-use Rattle.mc_diagram.specs.declared.table.Row.{Row}
-use Rattle.mc_diagram.specs.Rows.{is_inport}
 use Rattle.mc_diagram.specs.Types.{type_at}
-use Rattle.c_emitter.proofs.lemmas.RowLoops.{none-from}
-use Rattle.mc_compile.specs.Inputs.{inport_with}
+use Rattle.mc_compile.specs.Inputs.{is_root_inport, root_inport_with}
+use Rattle.mc_compile.proofs.RowPasses.{none-from}
 use Rattle.mc_compile.proofs.InputLaws.{inputs-more, inports-are}
 use Rattle.mc_compile.proofs.inputs.input_types.Goals as goal
 use Rattle.mc_compile.proofs.inputs.input_types.Goals.{in-Some+in_ok-push, in_default}
@@ -20,7 +18,7 @@ loop-port-preserved c =
     let step = inputs-more rows types c.loop-port.port c.loop-port.inputs.items c.inport_with.result c.loop-port.auto.port c.loop-port.invariant c.inport_with.ensures.found in
     elim c.match-inport_with.branch [
       | in-Some+in_ok-push w ↦
-          let inside : w.in-Some.row < length types = (let within = w.in-Some.ensures.inside in let each = c.requires.one_type_each in omega (arith, within, each)) in
+          let inside : w.in-Some.row < length types = (let within = w.in-Some.ensures.inside in let each = c.requires in omega (arith, within, each)) in
           let typed = w.index-types-row.is ∙ get_or_default types w.in-Some.row w.index-types-row.result boolean inside in
           ap (λ v. v.items) w.inputs-is ∙ w.in_ok-push.ensures.items ∙ ap (λ t. c.loop-port.inputs.items ++ t ∷ []) typed
           ∙ ap (λ o. c.loop-port.inputs.items ++ map (type_at types) (option_to_list o)) (sym w.in-Some.is) ∙ step
@@ -35,5 +33,5 @@ returns c =
     let past = c.loop-port-test.false in
     let within = c.loop-port.auto.port-end in
     let low = c.loop-port.auto.port in
-    let counted : c.loop-port.port - 1 ≡ count_by (λ (row : Row). is_inport row.kind) rows = (let same = c.inport_count-port-end.ensures in omega (arith, past, within, low, same)) in
-    c.loop-port.invariant ∙ ap (map (type_at c.args.types.now)) (ap (λ n. filter_map (inport_with rows) (range_with_len 1 n)) counted ∙ inports-are rows c.requires.of_root)
+    let counted : c.loop-port.port - 1 ≡ count_by is_root_inport rows = (let same = c.inport_count-port-end.ensures in omega (arith, past, within, low, same)) in
+    c.loop-port.invariant ∙ ap (map (type_at c.args.types.now)) (ap (λ n. filter_map (root_inport_with rows) (range_with_len 1 n)) counted ∙ inports-are rows)

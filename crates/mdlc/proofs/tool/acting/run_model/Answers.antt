@@ -19,7 +19,7 @@ run_file-requires-clause-types g c =
     let starts : StartsFrom compiled.code m = subst (λ (x : List ℕ). StartsFrom x m) same (search rules) in
     let typed : c.deref-in-Ok-started.result.now ≡ compiled.inputs = search rules in
     let writes = c.in-Ok.ensures.compiled in
-    subst (λ (types : List FixType). AllZip IsNarrower types m.program.inputs) (sym typed) (inputs-fit compiled m writes.model.bytes writes.model.holds starts)
+    subst (λ (types : List FixType). AllZip IsNarrower types m.program.inputs) (sym typed) (inputs-fit c.readings_agree.ensures compiled m writes.model.bytes writes.model.holds starts)
 
 pub returns-in-Ok-started-clause-ends : goal.returns-in-Ok-started-clause-ends
 returns-in-Ok-started-clause-ends g c =

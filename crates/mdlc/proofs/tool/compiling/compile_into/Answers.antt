@@ -1,9 +1,9 @@
 use Rattle.std.proofs.Common.{rules, ◌≡◌, List, ℕ, subst}
 use Rattle.mc_base.specs.Refusals.{PlainRefusal, plain_refusal}
 use Rattle.mc_edge.specs.Files.{WritesFront}
-use Rattle.mc_compile.specs.declared.compiled.CompileFault.TheVariants as fault
-use Rattle.mc_compile.specs.Faults.{IsFaultOf}
-use Rattle.mc_compile.specs.Verdict.{HasVerdict, Refused}
+use Rattle.mc_verdict.specs.declared.fault.ModelFault.TheVariants as fault
+use Rattle.mc_verdict.specs.Faults.{IsFaultOf}
+use Rattle.mc_verdict.specs.Verdict.{HasVerdict, Refused}
 use Rattle.mc_compile.specs.Compilation.{Compilation, IsCompiledFrom}
 use Rattle.mdlc.specs.Told.{HostTold, told}
 use Rattle.mdlc.proofs.Compiling.{compiled-file, refused-file, long-file, front-file, still-read}
