@@ -1,131 +1,16 @@
-"""What the rules of docs/FORMATS.md say of a model's file: its refusal, or what it is compiled to and what it gives over a trace.
+"""What the rules of docs/FORMATS.md say of a model's file: its refusal, or what it is compiled to.
 
-Written from the rules and not from the compiler, so that the two can be compared. Plain and slow."""
+Written from the rules and not from the compiler, so that the two can be compared. Plain and slow. What a model gives over a trace
+stands in `model_runs`."""
 
-import re
-from functools import reduce
 from math import gcd, lcm
 
 import model_text
-from model_values import BACK, BLANKS, BOOLEAN, CONSTANT, FLOAT, INHERITED, nearest, number, quantize, step_of, time_of, type_of, whole
+from model_rows import CONTROLS, PARAMETERS, WITHOUT_VALUE, System, is_of_form
+from model_values import BLANKS, FLOAT, INHERITED, step_of, type_of, whole
+from model_wires import first_loop, is_unlike, outmost_trigger, own_type, progression, row_of_type, settled_time, times_before, wide_bits
 
-SAME = b"Inherit: Same as input"
-FIRST = b"Inherit: Same as first input"
-TIME = ("SampleTime", b"-1")
-HOW = (("RndMeth", b"Floor"), ("SaturateOnIntegerOverflow", b"off"), TIME)
-
-# The parameters of each type of block with their defaults, in the order in which they are checked.
-PARAMETERS = {
-    b"Inport": (("Port", b"1"), ("OutDataTypeStr", b"Inherit: auto"), TIME, ("PortDimensions", b"-1")),
-    b"Outport": (("Port", b"1"), ("OutDataTypeStr", b"Inherit: auto"), TIME, ("PortDimensions", b"-1"), ("OutputWhenDisabled", b"held"), ("InitialOutput", b"[]")),
-    b"Constant": (("Value", b"1"), ("OutDataTypeStr", b"Inherit: Inherit from 'Constant value'"), ("SampleTime", b"inf")),
-    b"Ground": (),
-    b"Terminator": (),
-    b"UnitDelay": (("InitialCondition", b"0"), TIME),
-    b"Gain": (("Gain", b"1"), ("ParamDataTypeStr", SAME), ("OutDataTypeStr", SAME), *HOW),
-    b"Sum": (("Inputs", b"++"), ("OutDataTypeStr", FIRST), *HOW),
-    b"Product": (("Inputs", b"2"), ("OutDataTypeStr", FIRST), *HOW),
-    b"Switch": (("Criteria", b"u2 >= Threshold"), ("Threshold", b"0"), ("OutDataTypeStr", FIRST), *HOW),
-    b"RelationalOperator": (("Operator", b">="), ("OutDataTypeStr", b"boolean"), TIME),
-    b"Logic": (("Operator", b"AND"), ("Inputs", b"2"), ("OutDataTypeStr", b"boolean"), TIME),
-    b"DataTypeConversion": (("OutDataTypeStr", b"Inherit: Inherit via back propagation"), ("ConvertRealWorld", b"Real World Value (RWV)"), *HOW),
-}
-MOST_DENOMINATOR, MOST_PERIOD, MOST_CYCLE = 10**9, 10**6, 2**30
-WITH_CODE = (b"Inport", b"Outport", b"UnitDelay", b"Constant", b"Ground", b"Terminator")
-TRUTHS = (b"RelationalOperator", b"Logic")
-INPUTS = {b"Outport": 1, b"Terminator": 1, b"UnitDelay": 1, b"Gain": 1, b"Switch": 3, b"RelationalOperator": 2, b"DataTypeConversion": 1}
-WORDS = {
-    "OutputWhenDisabled": (b"held", b"reset"),
-    "RndMeth": (b"Ceiling", b"Convergent", b"Floor", b"Nearest", b"Round", b"Zero"),
-    "SaturateOnIntegerOverflow": (b"on", b"off"),
-    "Criteria": (b"u2 >= Threshold", b"u2 > Threshold", b"u2 ~= 0"),
-}
-OPERATORS = {
-    b"RelationalOperator": (b"==", b"~=", b"<", b"<=", b">", b">="),
-    b"Logic": (b"AND", b"OR", b"NAND", b"NOR", b"XOR", b"NXOR", b"NOT"),
-}
-
-
-class Beyond(Exception):
-    """The model has something of which this reading says nothing: a subsystem."""
-
-
-class Row:
-    def __init__(self, section, defaults):
-        self.line, self.kind = section.line, section.param(b"BlockType")
-        self.own, self.defaults = section, defaults.get(self.kind)
-        # The rows on its inputs, by port.
-        self.sources = {}
-
-    def written(self, name):
-        """The text that stands for a parameter in the file, or None."""
-        names = [name, "X0"] if name == "InitialCondition" else [name]
-        texts = [place.param(it.encode()) for place in (self.own, self.defaults) if place for it in names]
-        return next((it for it in texts if it is not None), None)
-
-    def has(self, name):
-        return name in dict(PARAMETERS[self.kind])
-
-    def text(self, name):
-        found = self.written(name)
-        return dict(PARAMETERS[self.kind])[name] if found is None else found
-
-    def time_text(self):
-        """'inherited', 'constant', or the period and the offset that it writes."""
-        if self.is_kind(b"Ground"):
-            return CONSTANT
-        return time_of(self.text("SampleTime")) if self.has("SampleTime") else INHERITED
-
-    def has_period(self):
-        return isinstance(self.time_text(), tuple)
-
-    def is_kind(self, *kinds):
-        return self.kind in kinds
-
-    def inputs(self):
-        if self.is_kind(b"Sum"):
-            return count_of_inputs(self.text("Inputs"), rb"[+-]")
-        if self.is_kind(b"Product"):
-            return count_of_inputs(self.text("Inputs"), rb"\*")
-        if self.is_kind(b"Logic"):
-            return 1 if self.text("Operator") == b"NOT" else count_of_inputs(self.text("Inputs"), None)
-        return INPUTS.get(self.kind, 0)
-
-
-def count_of_inputs(text, sign):
-    """A whole number from 1 to 16, or as many signs, with bars among those of a Sum; else None."""
-    count = whole(text)
-    if count is None and sign is not None:
-        bare = text.replace(b"|", b"") if sign == rb"[+-]" else text
-        count = len(bare) if re.fullmatch(sign + rb"+", bare) else None
-    return count if count is not None and 1 <= count <= 16 else None
-
-
-def is_of_form(row, name, counts):
-    text = row.text(name)
-    if name == "Port":
-        port = whole(text)
-        return port is not None and 1 <= port <= counts[row.kind]
-    if name == "PortDimensions":
-        return whole(text) in (-1, 1)
-    if name in ("OutDataTypeStr", "ParamDataTypeStr"):
-        type = type_of(text)
-        return type is not None and not (row.is_kind(*TRUTHS) and isinstance(type, tuple) and type[2])
-    if name == "SampleTime":
-        time = time_of(text)
-        return time is not None and (time != CONSTANT or row.is_kind(b"Constant"))
-    if name == "Gain":
-        gain = number(text)
-        return gain is not None and -(2**31) <= nearest(gain) < 2**31
-    if name == "InitialOutput":
-        return text.strip(BLANKS) == b"[]" or number(text) is not None
-    if name == "Operator":
-        return text in OPERATORS[row.kind]
-    if name == "ConvertRealWorld":
-        return text.startswith(b"Real World Value")
-    if name == "Inputs":
-        return row.inputs() is not None
-    return text in WORDS[name] if name in WORDS else number(text) is not None
+MOST_DENOMINATOR, MOST_PERIOD, MOST_CYCLE, MOST_SAMPLES = 10**9, 10**6, 2**30, 10**6
 
 
 def branches(section):
@@ -151,55 +36,69 @@ class Model:
             raise model_text.Refused(f"F4 TwoModels line {libraries[0].line} Library")
         if len(models) > 1:
             raise model_text.Refused(f"F4 TwoModels line {models[1].line} Second")
-        self.system = models[0].all(b"System")[0]
-        self.step = step_of(first_step(models[0], self.system))
-        self.lines = self.system.all(b"Line")
+        first = models[0].all(b"System")[0]
+        self.step = step_of(first_step(models[0], first))
         defaults = {}
         for section in [block for it in models[0].all(b"BlockParameterDefaults")[:1] for block in it.all(b"Block")]:
             defaults.setdefault(section.param(b"BlockType"), section)
         defaults.pop(None, None)
-        self.rows = [Row(it, defaults) for it in self.system.all(b"Block")]
+        self.root = System(first, None, defaults)
+        self.systems, self.rows = self.root.all_systems(), self.root.all_rows()
+
+    def depths(self):
+        for row in self.rows:
+            if row.is_kind(b"SubSystem") and len(row.around()) > 31:
+                yield row.line, "F5 TooDeep line {}"
+
+    def many_rows(self):
+        for row in self.rows[20000:20001]:
+            yield row.line, f"F6 TooMany line {{}} Blocks {len(self.rows)}"
 
     def crowds(self):
-        for kind in (b"Inport", b"Outport"):
-            count = sum(row.is_kind(kind) for row in self.rows)
-            if count > 32:
-                yield self.system.line, f"F6 TooMany line {{}} {kind.decode()}s {count}"
+        for system in self.systems:
+            for kind in (b"Inport", b"Outport"):
+                count = len(system.of_kind(kind))
+                if count > 32:
+                    yield (system.owner or system.section).line, f"F6 TooMany line {{}} {kind.decode()}s {count}"
 
     def unsupported(self):
         for row in self.rows:
-            if row.is_kind(b"SubSystem") and row.own.all(b"System"):
-                raise Beyond
-            if row.kind not in PARAMETERS:
+            if row.kind not in PARAMETERS or row.is_kind(b"SubSystem") and not row.system:
                 yield row.line, "F7 Unsupported line {}"
-        for section in [it for line in self.lines for it in with_branches(line)]:
+        for section in [it for system in self.systems for line in system.lines for it in with_branches(line)]:
             if section.param(b"Src") is not None or section.param(b"Dst") is not None:
                 yield section.line, "F7 Unsupported line {}"
 
     def parameters(self):
-        counts = {kind: sum(row.is_kind(kind) for row in self.rows) for kind in PARAMETERS}
-        for row in self.rows:
-            if row.written("Name") is None:
-                yield row.line, "F8 Parameter line {} Name"
-            for name, _ in PARAMETERS[row.kind]:
-                if not is_of_form(row, name, counts):
-                    yield row.line, f"F8 Parameter line {{}} {name}"
+        for system in self.systems:
+            counts = {kind: len(system.of_kind(kind)) for kind in PARAMETERS}
+            for row in system.rows:
+                if row.written("Name") is None:
+                    yield row.line, "F8 Parameter line {} Name"
+                for name, _ in PARAMETERS[row.kind]:
+                    if not is_of_form(row, name, counts):
+                        yield row.line, f"F8 Parameter line {{}} {name}"
 
     def double_names(self):
-        known = set()
-        for row in self.rows:
-            keys = {row.written("Name")} | ({(row.kind, whole(row.text("Port")))} if row.has("Port") else set())
-            if keys & known:
-                yield row.line, "F9 DoubleName line {}"
-            known |= keys
+        for system in self.systems:
+            known = set()
+            for row in system.rows:
+                keys = {row.written("Name")} | ({(row.kind, whole(row.text("Port")))} if row.has("Port") else set())
+                if keys & known:
+                    yield row.line, "F9 DoubleName line {}"
+                known |= keys
 
     def read_lines(self):
-        """Takes the line ends as they stand: the section, the source row and the destination row, or None for each that no name finds."""
-        self.lines = [it for it in self.lines if it.param(b"SrcBlock") is not None]
-        names = {row.written("Name"): row for row in reversed(self.rows)}
-        self.places = [(line, names.get(line.param(b"SrcBlock"))) for line in self.lines]
-        ends = [(it, source) for line, source in self.places for it in with_branches(line) if it.param(b"DstBlock") is not None]
-        self.ends = [(it, source, names.get(it.param(b"DstBlock"))) for it, source in ends]
+        """Takes the line ends as they stand: the section, the source row and its port, and the destination row; or None for each that
+        no name finds."""
+        self.places, self.ends = [], []
+        for system in self.systems:
+            names = {row.written("Name"): row for row in reversed(system.rows)}
+            for line in [it for it in system.lines if it.param(b"SrcBlock") is not None]:
+                source = names.get(line.param(b"SrcBlock"))
+                self.places.append((line, source))
+                ends = [it for it in with_branches(line) if it.param(b"DstBlock") is not None]
+                self.ends += [(it, line, source, names.get(it.param(b"DstBlock"))) for it in ends]
 
     def missing_blocks(self):
         self.read_lines()
@@ -209,29 +108,46 @@ class Model:
 
     def missing_ports(self):
         for line, row in self.places:
-            if row.is_kind(b"Outport", b"Terminator") or whole(line.param(b"SrcPort")) != 1:
+            port = whole(line.param(b"SrcPort"))
+            count = len(row.system.of_kind(b"Outport")) if row.system else 0 if row.is_kind(b"Outport", b"Terminator", *CONTROLS) else 1
+            if port is None or not 1 <= port <= count:
                 yield line.line, "F11 NoPort line {}"
-        for section, _, row in self.ends:
-            port = whole(section.param(b"DstPort"))
-            if port is None or not 1 <= port <= row.inputs():
+        for section, *_, row in self.ends:
+            if port_of(section, row) is None:
                 yield section.line, "F11 NoPort line {}"
 
     def double_sources(self):
-        for section, source, row in sorted(self.ends, key=lambda it: it[0].line):
-            port = whole(section.param(b"DstPort"))
+        for section, line, source, row in sorted(self.ends, key=lambda it: it[0].line):
+            port = port_of(section, row)
             if port in row.sources:
                 yield section.line, "F12 TwoSources line {}"
-            row.sources[port] = source
+            row.sources[port] = source.system.port(b"Outport", whole(line.param(b"SrcPort"))) if source.system else source
 
     def missing_lines(self):
         for row in self.rows:
-            for port in range(1, row.inputs() + 1):
-                if port not in row.sources:
+            for port in [*range(1, row.inputs() + 1), *(row.system.controls() if row.system else [])]:
+                if port not in row.sources and not (row.owner and row.is_kind(b"Inport")):
                     yield row.line, f"F13 Unconnected line {{}} port {port}"
 
-    def continuous(self):
+    def controls(self):
+        for system in self.systems:
+            for kind in CONTROLS:
+                for row in system.of_kind(kind)[1 if system.owner else 0 :]:
+                    yield row.line, "F14 TwoControls line {}"
+
+    def settle_wires(self):
+        """Gives each Inport in a subsystem the wire that enters its port, and leaves a subsystem its controls alone."""
         for row in self.rows:
-            if row.has("SampleTime") and time_of(row.text("SampleTime")) == "zero":
+            for inport in row.system.of_kind(b"Inport") if row.system else []:
+                inport.sources = {1: row.sources[whole(inport.text("Port"))]}
+        for row in self.rows:
+            if row.system:
+                row.sources = {name: row.sources[name] for name in row.system.controls()}
+
+    def continuous(self):
+        self.settle_wires()
+        for row in self.rows:
+            if row.time_text() == "zero":
                 yield row.line, "F15 Continuous line {}"
 
     def floats(self):
@@ -244,11 +160,11 @@ class Model:
     def types(self):
         self.settle_types()
         for row in self.rows:
-            if row.is_kind(b"Ground", b"Terminator"):
+            if row.is_kind(*WITHOUT_VALUE):
                 continue
             if row.type is None:
                 yield row.line, "F17 NoType line {} Missing"
-            elif row.is_kind(b"Outport") and is_unlike(row):
+            elif (row.is_kind(b"Outport") or row.owner and row.is_kind(b"Inport")) and is_unlike(row):
                 yield row.line, "F17 NoType line {} Unlike"
 
     def settle_types(self):
@@ -264,11 +180,22 @@ class Model:
         for row in self.rows:
             row.type = settled[row]
 
+    def signed_triggers(self):
+        for row in self.rows:
+            wire = row.sources.get("trigger")
+            if wire and not wire.is_kind(b"Ground") and wire.type[0]:
+                yield row.line, "F18 TriggerSigned line {}"
+
     def wide_rows(self):
         for row in self.rows:
             bits = wide_bits(row)
             if bits > 62:
                 yield row.line, f"F19 TooWide line {{}} bits {bits}"
+
+    def inner_times(self):
+        for row in self.rows:
+            if outmost_trigger(row) and row.has_period():
+                yield row.line, "F20 TimeInside line {}"
 
     def fractions(self):
         """The rows with the periods that they write, and the offsets above 0."""
@@ -304,20 +231,34 @@ class Model:
                 yield row.line, f"F21 LongCycle line {{}} Hyper {so_far}"
                 return
 
+    def rate_ratios(self):
+        for row in self.rows:
+            row.time, row.delays = settled_time(row), row.is_kind(b"UnitDelay", b"Delay")
+            if row.is_kind(b"RateTransition"):
+                inside, outside = progression(times_before(row)), row.ticks or progression(times_before(row))
+                row.delays = outside[0] < inside[0]
+                row.time = inside if row.delays else outside
+                periods = sorted((inside[0], outside[0]))
+                if inside != outside and (inside[1] or outside[1] or periods[1] % periods[0]):
+                    yield row.line, f"F22 RateRatio line {{}} in {inside[0]} out {outside[0]}"
+
     def loops(self):
         path = first_loop(self.rows)
         if path:
             yield path[0].line, "F23 Loop " + " ".join(str(it.line) for it in path)
 
-    def rows_without_code(self):
+    def long_delays(self):
+        so_far = 0
         for row in self.rows:
-            if not row.is_kind(*WITH_CODE) or period_of(row) != 1:
-                yield row.line, "F7 Unsupported line {}"
+            so_far += whole(row.text("DelayLength")) if row.is_kind(b"Delay") else 0
+            if so_far > MOST_SAMPLES:
+                yield row.line, f"F24 LongDelays line {{}} total {so_far}"
+                return
 
     def judge(self):
-        passes = (self.crowds, self.unsupported, self.parameters, self.double_names, self.missing_blocks, self.missing_ports, self.double_sources)
-        passes += (self.missing_lines, self.continuous, self.floats, self.types, self.wide_rows, self.long_denominators, self.long_periods)
-        passes += (self.long_cycles, self.loops, self.rows_without_code)
+        passes = (self.depths, self.many_rows, self.crowds, self.unsupported, self.parameters, self.double_names, self.missing_blocks, self.missing_ports, self.double_sources)
+        passes += (self.missing_lines, self.controls, self.continuous, self.floats, self.types, self.signed_triggers, self.wide_rows)
+        passes += (self.inner_times, self.long_denominators, self.long_periods, self.long_cycles, self.rate_ratios, self.loops, self.long_delays)
         for refusals in passes:
             found = list(refusals())
             if found:
@@ -325,21 +266,21 @@ class Model:
                 raise model_text.Refused(text.format(line))
 
     def ports(self, kind):
-        return sorted((row for row in self.rows if row.is_kind(kind)), key=lambda row: whole(row.text("Port")))
+        return self.root.ports(kind)
 
     def functions(self):
-        """How many different sets of inputs the outputs need."""
-        sources = [row.sources[1] for row in self.ports(b"Outport")]
-        return len({row if row.is_kind(b"Inport") else None for row in sources})
+        return sum(it.functions() for it in self.systems)
 
-    def run(self, trace):
-        """The lines of outputs over the rows of a trace."""
-        starts = {b"UnitDelay": "InitialCondition", b"Constant": "Value"}
-        values = {row: quantize(number(row.text(starts[row.kind])), row.type) if row.kind in starts else 0 for row in self.rows}
-        for numbers in trace:
-            values |= zip(self.ports(b"Inport"), numbers)
-            yield " ".join(str(values[row.sources[1]]) for row in self.ports(b"Outport"))
-            values |= {row: values[row.sources[1]] for row in self.rows if row.is_kind(b"UnitDelay")}
+
+def port_of(section, row):
+    """The port of a row at which a line ends: a number or the name of a control, or None where the row has no such port."""
+    text = section.param(b"DstPort")
+    for name in row.system.controls() if row.system else []:
+        if text == name.encode():
+            return name
+    port = whole(text)
+    is_port = port is not None and 1 <= port <= row.inputs()
+    return port if is_port else None
 
 
 def first_step(section, passed):
@@ -355,123 +296,8 @@ def first_step(section, passed):
     return None
 
 
-def period_of(row):
-    """The period at which a row runs, in base ticks."""
-    if row.time_text() == CONSTANT:
-        return 1
-    times = [row.ticks] if row.ticks else sorted(times_before(row))
-    return reduce(gcd, [number for period, offset in times for number in (period, offset - times[0][1])], 0) or 1
-
-
-def times_before(row):
-    """The times that are found from a row backward through rows that inherit."""
-    found, seen, todo = set(), set(), [row]
-    while todo:
-        at = todo.pop()
-        if at in seen:
-            continue
-        seen.add(at)
-        if at.ticks:
-            found.add(at.ticks)
-        elif at.time_text() == INHERITED:
-            todo += at.sources.values()
-    return found
-
-
-def own_type(row):
-    """The type that a row has by itself, or None."""
-    written = type_of(row.text("OutDataTypeStr")) if row.has("OutDataTypeStr") else INHERITED
-    if isinstance(written, tuple):
-        return written
-    return BOOLEAN if written == INHERITED and row.is_kind(b"Constant", *TRUTHS) else None
-
-
-def row_of_type(row):
-    """The row whose type a row has: itself where nothing is inherited from an input."""
-    is_back = row.has("OutDataTypeStr") and type_of(row.text("OutDataTypeStr")) == BACK
-    stops = is_back or own_type(row) is not None or row.is_kind(b"Inport", b"Ground", b"Terminator")
-    return row if stops else row.sources[1]
-
-
-def is_unlike(row):
-    source = row.sources[1]
-    is_written = isinstance(type_of(row.text("OutDataTypeStr")), tuple)
-    return is_written and not source.is_kind(b"Ground") and source.type not in (None, row.type)
-
-
-def gain_constant(row):
-    """The whole number of a Gain, and how many bits of it stand after the point."""
-    gain, written = number(row.text("Gain")), type_of(row.text("ParamDataTypeStr"))
-    if isinstance(written, tuple):
-        return quantize(gain, written), written[2]
-    point = max(it for it in range(32) if -(2**31) <= nearest(gain * 2**it) < 2**31)
-    constant = nearest(gain * 2**point)
-    while point and constant % 2 == 0:
-        constant, point = constant // 2, point - 1
-    return constant, point
-
-
-def bits_for(count):
-    """The least b with count at most 2 to the b."""
-    return (count - 1).bit_length() if count else 0
-
-
-def wide_bits(row):
-    sources = [row.sources[it] for it in range(1, row.inputs() + 1)]
-    inputs = [BOOLEAN if it.is_kind(b"Ground") else it.type for it in sources]
-    magnitude = lambda type: type[1] - type[0]
-    fitted = lambda bits, point: max(bits + max(0, row.type[2] - point), point - row.type[2], 0)
-    if row.is_kind(b"Gain"):
-        constant, point = gain_constant(row)
-        return fitted(magnitude(inputs[0]) + bits_for(abs(constant)), inputs[0][2] + point)
-    if row.is_kind(b"Product"):
-        return fitted(sum(map(magnitude, inputs)), sum(it[2] for it in inputs))
-    if row.is_kind(b"Switch", b"DataTypeConversion"):
-        return max(fitted(magnitude(it), it[2]) for it in inputs[::2])
-    if row.is_kind(b"Sum", b"RelationalOperator"):
-        point = max(it[2] for it in inputs)
-        greatest = max(magnitude(it) + point - it[2] for it in inputs)
-        return fitted(greatest + bits_for(len(inputs)), point) if row.is_kind(b"Sum") else greatest
-    return 0
-
-
-def first_loop(rows):
-    """The first in order of the shortest loops through the least row on a loop, or None."""
-    needs = {row: [] if row.is_kind(b"UnitDelay") else list(row.sources.values()) for row in rows}
-    order = {row: at for at, row in enumerate(rows)}
-    for row in rows:
-        far = distances(needs, row)
-        ahead = [it for it in needs[row] if it in far]
-        if ahead:
-            path = [row, *way(needs, far, order, min(ahead, key=lambda it: (far[it], order[it])))]
-            return path[:-1]
-    return None
-
-
-def distances(needs, goal):
-    """How many steps along needs lead to the goal, for each row from which some do."""
-    back = {row: [] for row in needs}
-    for row, needed in needs.items():
-        for it in needed:
-            back[it].append(row)
-    far, todo = {goal: 0}, [goal]
-    for row in todo:
-        new = [it for it in back[row] if it not in far]
-        far |= {it: far[row] + 1 for it in new}
-        todo += dict.fromkeys(new)
-    return far
-
-
-def way(needs, far, order, row):
-    """The rows from this one to the goal, the first in order of the shortest ways."""
-    yield row
-    while far[row]:
-        row = min((it for it in needs[row] if far.get(it) == far[row] - 1), key=order.get)
-        yield row
-
-
 def verdict(data):
-    """The text of the file's refusal, or its model; None where this reading doesn't reach."""
+    """The text of the file's refusal, or its model."""
     try:
         if len(data) > 16777216:
             raise model_text.Refused("F1 TooLong")
@@ -480,5 +306,3 @@ def verdict(data):
         return model
     except model_text.Refused as refused:
         return str(refused)
-    except Beyond:
-        return None

@@ -2,7 +2,7 @@
 
 import re
 from fractions import Fraction
-from math import floor
+from math import ceil, floor, trunc
 
 BLANKS = b" \t"
 DECIMAL = re.compile(r"([+-]?)(\d+\.?\d*|\.\d+)(?:[eE]([+-]?)(\d+))?", re.A)
@@ -111,6 +111,22 @@ def nearest(number):
 def bounds(type):
     sign, bits, _ = type
     return (-(2 ** (bits - 1)), 2 ** (bits - 1) - 1) if sign else (0, 2**bits - 1)
+
+
+def away(number):
+    """To the nearest whole number, ties away from zero."""
+    return nearest(number) if number >= 0 else -nearest(-number)
+
+
+# The roundings by their words; Python's own goes to the nearest, ties to even.
+ROUNDINGS = {b"Floor": floor, b"Ceiling": ceil, b"Zero": trunc, b"Nearest": nearest, b"Round": away, b"Convergent": round}
+
+
+def converted(value, point, type, rounding, is_clamped):
+    """A whole number with so many bits behind its point, brought into a type."""
+    least, greatest = bounds(type)
+    found = ROUNDINGS[rounding](Fraction(value) * Fraction(2) ** (type[2] - point))
+    return min(max(found, least), greatest) if is_clamped else (found - least) % 2 ** type[1] + least
 
 
 def quantize(number, type):

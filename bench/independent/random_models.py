@@ -1,37 +1,49 @@
 """Random models, right and wrong, given to the built program and to the rules; prints each on which the two differ."""
 
-import random
 import re
 
+import model_rows
 import model_rules
+import model_runs
 import model_text
-from model_values import bounds, whole
+from model_values import bounds
 
 TYPES = ["int8", "int16", "int32", "uint8", "uint16", "uint32", "boolean", "fixdt(1,16,4)", "fixdt(0,12,3)", "fixdt(true, 32 ,31)", "fixdt(1,2,0)", "fixdt(0,1,0)", "fixdt(0,32,31)", "fixdt(1,31,1)"]
 ODD_TYPES = ["double", "single", "half", "Inherit: auto", "Inherit: Logical (see settings)", "Inherit: Inherit via back propagation", "Inherit: Same as first input", "fixdt(1,33,0)", "fixdt(1,1,0)", "fixdt(0,0,0)", "fixdt(1,8,32)", "fixdt(2,8,0)", "fixdt(1,8)", "Int8", " int8 ", "fixdt (1,8,0)", "fixdt(1,08,0)", "fixdt(false,8,0)", "", "Inherit:", "inherit: auto", "fixdt(1,8,0,0)", "fixdt(\t1,8,0)"]
 NUMBERS = ["0", "1", "-1", "2.5", "[3]", "1/3", "-7/2", "1e3", "1.5e-3", "true", "false", "+4", ".5", "5.", "1e9", "-1e18", "127", "128", "-129", "0.0625", "123456789012345678", "0e99", "[-2.25]", "4294967295", "[1/2]", "-.5", "000000000000000000001"]
 ODD_NUMBERS = ["", "[]", "1e19", "1e-19", "1234567890123456789", "[ 5]", "[[5]]", "1/0", "1e", "e1", ".", "--1", "1 2", "x", "0x10", "1,000", "1.0e-18", "0.1e-18", "1/-2", "[true]", "inf", "1/3.0", "0/5", "00", "1e0000000000000000000018", "0e1234567890123456789", "123456789.1234567890", "10e18", "-", "1/", "/1", " 5 ", "2147483647.49", "2147483647.5", "-2147483648.5", "-2147483648.51"]
 TIMES = ["-1", "[-1 0]", "[-1, 0]"]
+NEAR = ["0.1", "0.2", "[0.4 0.1]", "[0.4, 0.2]", "0.4", "0.8", "3/10", "[0.3 0.2]", "[1.2 0.6]"]
 PERIODS = ["0.1", "0.2", "1/10", "[0.4 0.1]", "[0.4, 0.2]", "3", "7/3", "[2 1/3]", "1e-3", "999983", "999979", "1/99991", "1/99989", "1e6", "1e9"]
 ODD_TIMES = ["inf", "[inf 0]", "0", "0.1", "[0.5 0.25]", "[0.5 0.5]", "[0 -1]", "[0 x]", "-2", "[-1]", "[-1,0]", "-1.0", "[1,0]", "[1  0]", "[1 , 0]", "1e10", "1/1000000001", "1000000001", "[5]", "Inf", "[Inf 0]", "", "[0]", " -1 ", "[0.1 0", "0/3", "-0", "[0,0]", "1000000000", "[3 -1]"]
 SIMPLE = ["Inport", "Outport", "Constant", "Ground", "Terminator", "UnitDelay"]
-KINDS = [*SIMPLE, "Gain", "Sum", "Product", "Switch", "RelationalOperator", "Logic", "DataTypeConversion"]
-UNKNOWN = ["SubSystem", "Scope", "inport", "Mux", ""]
+KINDS = [*SIMPLE, "Gain", "Sum", "Product", "Switch", "RelationalOperator", "Logic", "DataTypeConversion", "Delay", "ZeroOrderHold", "RateTransition"]
+UNKNOWN = ["SubSystem", "Scope", "inport", "Mux", "", "EnablePort", "TriggerPort"]
+COMPUTING = (b"Gain", b"Sum", b"Product", b"Switch", b"RelationalOperator", b"Logic", b"DataTypeConversion")
+LENGTHS = ["1", "2", "3", "5", "[2]", "+4", "1.0"]
+ODD_LENGTHS = ["0", "-1", "65535", "65536", "1.5", "", "x"]
+DIALOG = ["Dialog"], ["Input port", "dialog", ""], 0.1
 
 # Parameters by type of block: lawful texts, others, and how often one is written.
-INHERITED_TYPE = ("OutDataTypeStr", TYPES, ODD_TYPES, 0.3)
+INHERITED_TYPE = ("OutDataTypeStr", TYPES, ODD_TYPES, 0.5)
 TRUTH_TYPE = ("OutDataTypeStr", ["boolean", "int8", "int32", "uint16"], ODD_TYPES, 0.3)
-TIME = ("SampleTime", TIMES, ODD_TIMES, 0.1)
+TIME = ("SampleTime", TIMES, ODD_TIMES, 0.2)
 SIZE = ("PortDimensions", ["-1", "1", "1.0", "[1]"], ["2", "", "[1 1]", "0"], 0.1)
 ROUNDING = ("RndMeth", ["Ceiling", "Convergent", "Floor", "Nearest", "Round", "Zero"], ["Simplest", "floor", ""], 0.3)
 OVERFLOW = ("SaturateOnIntegerOverflow", ["on", "off"], ["On", "1", ""], 0.3)
 PARAMETERS = {
     "Inport": [("OutDataTypeStr", TYPES, ODD_TYPES, 0.97), TIME, SIZE],
-    "Outport": [("OutDataTypeStr", ["Inherit: auto"] * 4 + TYPES[:1], ODD_TYPES, 0.2), ("OutputWhenDisabled", ["held", "reset"], ["Held", "", "held "], 0.1), ("InitialOutput", NUMBERS + ["[]"], ODD_NUMBERS, 0.1), TIME, SIZE],
+    "Outport": [("OutDataTypeStr", ["Inherit: auto"] * 4 + TYPES[:1], ODD_TYPES, 0.2), ("OutputWhenDisabled", ["held", "reset"], ["Held", "", "held "], 0.4), ("InitialOutput", NUMBERS + ["[]"], ODD_NUMBERS, 0.4), TIME, SIZE],
     "Constant": [("Value", NUMBERS, ODD_NUMBERS, 0.9), ("OutDataTypeStr", TYPES, ODD_TYPES, 0.95), TIME],
     "Ground": [],
     "Terminator": [],
     "UnitDelay": [("InitialCondition", NUMBERS, ODD_NUMBERS, 0.6), ("X0", NUMBERS, ODD_NUMBERS, 0.2), TIME],
+    "Delay": [("DelayLength", LENGTHS, ODD_LENGTHS, 0.8), ("DelayLengthSource", *DIALOG), ("InitialCondition", NUMBERS, ODD_NUMBERS, 0.6), ("X0", NUMBERS, ODD_NUMBERS, 0.1), ("InitialConditionSource", *DIALOG), ("ExternalReset", ["None"], ["Rising", ""], 0.1), TIME],
+    "ZeroOrderHold": [("SampleTime", TIMES, ODD_TIMES, 0.9)],
+    "RateTransition": [("Integrity", ["on"], ["off", ""], 0.1), ("Deterministic", ["on"], ["off", ""], 0.1), ("InitialCondition", NUMBERS, ODD_NUMBERS, 0.6), ("X0", NUMBERS, ODD_NUMBERS, 0.1), ("OutPortSampleTimeOpt", ["Specify", "Specify", "Inherit"], ["Multiple", ""], 0.2), ("OutPortSampleTime", TIMES, ODD_TIMES, 0.7)],
+    "EnablePort": [("StatesWhenEnabling", ["held", "reset"], ["Held", ""], 0.7)],
+    "TriggerPort": [("TriggerType", ["rising", "falling", "either"], ["both", ""], 0.8)],
+    "SubSystem": [("SystemSampleTime", ["-1", "[-1]"], ["0", "1", ""], 0.1)],
     "Gain": [("Gain", NUMBERS, ODD_NUMBERS, 0.9), ("ParamDataTypeStr", TYPES + ["Inherit: Same as input"] * 9, ODD_TYPES, 0.3), INHERITED_TYPE, ROUNDING, OVERFLOW, TIME],
     "Sum": [("Inputs", ["++", "+-", "|++", "1", "3", "|+|-|", "2.0", "--", "[2]"], ["", "17", "0", "||", "+ +", "-1", "1.5", "+" * 17, " ++", "+*", "+1"], 0.8), INHERITED_TYPE, ROUNDING, OVERFLOW, TIME],
     "Product": [("Inputs", ["2", "1", "**", "***", "3", "+2"], ["", "17", "0", "*/", "/*", "* *", "*|*", "*" * 17], 0.8), INHERITED_TYPE, ROUNDING, OVERFLOW, TIME],
@@ -54,9 +66,15 @@ class ModelText:
     def __init__(self, chance):
         self.chance, self.lines = chance, []
         self.wrong = chance.choice([0, 0, 0.005, 0.02, 0.1])
-        self.kinds = SIMPLE if self.is_lucky(0.6) else KINDS
-        # Most models have no period or one alone, so that many are accepted.
-        self.times = TIMES + chance.sample(PERIODS, chance.choice([0, 0, 0, 0, 1, 1, 2, 3]))
+        self.kinds = SIMPLE if self.is_lucky(0.3) else KINDS
+        # How deep subsystems go, and whether the system that is written stands in one with a trigger.
+        self.depth, self.is_triggered, self.is_inside = chance.choice([0, 0, 1, 2, 3]), False, False
+        # A model with subsystems is mostly tidy, since so much may be wrong in it: types are written, and rows use earlier ones.
+        self.is_tidy = self.depth > 0 and self.is_lucky(0.9)
+        if self.is_tidy:
+            self.wrong = chance.choice([0, 0, 0, 0.002])
+            self.kinds = [it for it in KINDS if it not in ("Inport", "Ground", "Terminator")]
+        self.times = TIMES + (chance.sample(NEAR, 4) if self.is_lucky(0.5) else chance.sample(PERIODS, chance.choice([0, 1, 2, 3])))
 
     def is_lucky(self, often):
         return self.chance.random() < often
@@ -88,8 +106,13 @@ class ModelText:
 
     def parameters(self, kind):
         for name, lawful, others, often in PARAMETERS.get(kind, []):
+            if self.is_tidy and name == "OutDataTypeStr":
+                is_wire = kind == "Outport" or kind == "Inport" and self.is_inside
+                lawful, often = (["Inherit: auto"], 0.1) if is_wire else (["boolean", "uint16"] if kind in ("Logic", "RelationalOperator") else lawful, 1)
+            if self.is_tidy and name in ("SampleTime", "OutPortSampleTime") and kind != "ZeroOrderHold":
+                often = 0.05
             if self.is_lucky(often):
-                lawful = self.times if name == "SampleTime" else lawful
+                lawful = (TIMES if self.is_triggered else self.times) if name in ("SampleTime", "OutPortSampleTime") else lawful
                 yield name, self.chance.choice(others if self.is_wrong() else lawful)
 
     def block(self, kind, name, port):
@@ -104,11 +127,21 @@ class ModelText:
             self.chance.shuffle(rows)
         for key, value in rows:
             self.param(3, key, value)
+        if kind == "SubSystem" and self.depth > 0 and not self.is_wrong(0.25):
+            self.subsystem()
         if self.is_lucky(0.05):
             self.put(3, "Position [1, 2;")
             self.put(3, " 3, 4]")
         if self.is_lucky(0.02):
             self.section(3, "Port", lambda: self.put(4, "PortNumber 1"))
+
+    def subsystem(self):
+        outside = self.depth, self.is_triggered, self.is_inside
+        controls = self.chance.choice([[], [], ["EnablePort"], ["TriggerPort"], ["EnablePort", "TriggerPort"]])
+        controls += controls[:1] * self.is_wrong(0.25)
+        self.depth, self.is_triggered, self.is_inside = self.depth - 1, self.is_triggered or "TriggerPort" in controls, True
+        self.section(3, "System", lambda: self.system(controls))
+        self.depth, self.is_triggered, self.is_inside = outside
 
     def defaults(self):
         for _ in range(self.chance.randrange(4)):
@@ -126,7 +159,7 @@ class ModelText:
         if not self.is_wrong(0.25):
             self.param(depth, "DstBlock", "nobody" if self.is_wrong(0.25) else name)
         if not self.is_wrong(0.25):
-            lawful = [f"{port}", f"{port}", f"{port}.0", f"[{port}]", f"+{port}"]
+            lawful = [f"{port}"] if isinstance(port, str) else [f"{port}", f"{port}", f"{port}.0", f"[{port}]", f"+{port}"]
             self.param(depth, "DstPort", self.chance.choice(["0", "17", "", "2", "1", "trigger", "-1"] if self.is_wrong() else lawful))
 
     def branches(self, depth, ends):
@@ -136,11 +169,12 @@ class ModelText:
         for end in ends:
             self.section(depth, "Branch", lambda: self.line_end(depth + 1, *end))
 
-    def line(self, source, ends):
+    def line(self, source, port, ends):
         if not self.is_wrong(0.25):
             self.param(3, "SrcBlock", self.chance.choice(["nobody", ""]) if self.is_wrong(0.25) else source)
         if not self.is_wrong(0.25):
-            self.param(3, "SrcPort", self.chance.choice(["2", "0", "", "x", "enable", "1.5"] if self.is_wrong() else ["1", "1", "1.0", "[1]", "true"]))
+            lawful = [f"{port}", f"{port}", f"{port}.0", f"[{port}]", f"+{port}"]
+            self.param(3, "SrcPort", self.chance.choice(["2", "0", "", "x", "enable", "1.5"] if self.is_wrong() else lawful))
         if self.is_wrong(0.125):
             self.param(3, self.chance.choice(["Src", "Dst"]), "4#out:1")
         if len(ends) > 1:
@@ -156,11 +190,17 @@ class ModelText:
         del self.lines[before:]
         return found
 
-    def some_kinds(self):
-        kinds = self.chance.choices(self.kinds, k=self.chance.choice([0, 1, 2, 3, 5, 8, 13, 20]))
-        kinds += ["Inport", "Outport"] * self.is_lucky(0.5)
+    def some_kinds(self, controls):
+        kinds = self.chance.choices(self.kinds, k=self.chance.choice([0, 1, 2, 3, 5, 8, *([13, 20] if self.depth < 2 else [])]))
+        kinds += ["Inport", "Outport"] * self.is_lucky(0.5 if controls is None else 0.9) + ["Outport"] * (controls is not None)
+        kinds += controls or []
+        if self.depth > 0:
+            kinds += ["SubSystem"] * self.chance.choice([0, 1, 1, 2, 3]) + ["RelationalOperator", "Logic"]
         kinds += [self.chance.choice(["Inport", "Outport"])] * self.chance.choice([30, 31, 32, 33]) * self.is_lucky(0.01)
         self.chance.shuffle(kinds)
+        if self.is_tidy:
+            kinds += ["Inport"] * self.chance.choice([0, 1, 2, 3])
+            kinds.sort(key=lambda it: 0 if it in ("Inport", "Constant") else 2 if it == "Outport" else 1)
         return [self.chance.choice(UNKNOWN) if self.is_wrong(0.25) else it for it in kinds]
 
     def some_names(self, count):
@@ -179,29 +219,40 @@ class ModelText:
             ports |= {at: self.chance.choice(wrong) if self.is_wrong() else it for at, it in zip(places, numbers)}
         return ports
 
-    def some_ends(self, kinds, blocks):
-        """Line ends as source, destination and port."""
-        sources = [at for at, it in enumerate(kinds) if it not in ("Outport", "Terminator")]
-        for at, kind in enumerate(kinds):
-            for port in range(1, inputs_of(kind, blocks[at]) + 1):
-                earlier = [it for it in sources if it < at]
+    def some_ends(self, blocks):
+        """Line ends as a source and its port, a destination and its port. A trigger mostly gets a truth."""
+        sources = [(at, port) for at, it in enumerate(blocks) for port in outputs_of(it)]
+        truths = [it for it in sources if blocks[it[0]].kind in (b"RelationalOperator", b"Logic")]
+        for at, block in enumerate(blocks):
+            for port in inputs_of(block):
+                earlier = [it for it in sources if it[0] < at]
                 if sources and not self.is_wrong(0.5):
-                    yield self.chance.choice(earlier if earlier and self.is_lucky(0.7) else sources), at, port
+                    yield self.some_source(at, port, blocks, sources, earlier, truths), at, port
                     if self.is_wrong(0.25):
                         yield self.chance.choice(sources), at, port
 
-    def system(self):
-        kinds = self.some_kinds()
+    def some_source(self, at, port, blocks, sources, earlier, truths):
+        if port == "trigger" and truths and self.is_lucky(0.95 if self.is_tidy else 0.8):
+            return self.chance.choice(truths)
+        if self.is_tidy and earlier:
+            with_type = [it for it in sources if blocks[it[0]].kind in COMPUTING]
+            goes_back = with_type and blocks[at].kind in (b"UnitDelay", b"Delay") and self.is_lucky(0.5)
+            return self.chance.choice(with_type if goes_back else earlier[-6:] if self.is_lucky(0.99) else sources)
+        return self.chance.choice(earlier if earlier and self.is_lucky(0.7) else sources)
+
+    def system(self, controls=None):
+        kinds = self.some_kinds(controls)
         names, ports = self.some_names(len(kinds)), self.some_ports(kinds)
         parts = [self.taken(lambda: self.section(2, "Block", lambda: self.block(kind, names[at], ports.get(at)))) for at, kind in enumerate(kinds)]
-        ends = list(self.some_ends(kinds, parts))
+        ends = list(self.some_ends([row_of(kind, part) for kind, part in zip(kinds, parts)]))
         self.chance.shuffle(ends)
         while ends:
             first = ends.pop()
             same = [it for it in ends if it[0] == first[0]] if self.is_lucky(0.4) else []
             ends = [it for it in ends if it not in same]
             targets = [(names[at], port) for _, at, port in [first, *same]]
-            parts.append(self.taken(lambda: self.section(2, "Line", lambda: self.line(names[first[0]], targets))))
+            at, port = first[0]
+            parts.append(self.taken(lambda: self.section(2, "Line", lambda: self.line(names[at], port, targets))))
         if self.is_lucky(0.1):
             parts.append(["Annotation {", '  Name "note"', "}"])
         if self.is_lucky(0.1):
@@ -214,7 +265,7 @@ class ModelText:
         self.param(1, "Name", "m")
         if self.is_lucky(0.2):
             self.param(1, "FixedStep", self.chance.choice(["auto", "0.1", "1", "-1", "0", "x", "1/3", "2e9"]))
-        if self.is_lucky(0.3):
+        if self.is_lucky(0.3 if not self.is_tidy else 0.03):
             self.section(1, "BlockParameterDefaults", self.defaults)
         self.section(1, "System", self.system)
         if self.is_lucky(0.03):
@@ -230,14 +281,28 @@ class ModelText:
         return (end.join(self.lines) + end * self.is_lucky(0.9)).encode("latin1")
 
 
-def inputs_of(kind, lines):
-    """How many inputs a block has by its own text."""
-    if kind not in KINDS:
-        return 0
+def row_of(kind, lines):
+    """The row that a block is by its own text."""
     section = model_text.read("\n".join(lines).encode("latin1")).sections[0]
     section.params.insert(0, (b"BlockType", kind.encode()))
-    found = model_rules.Row(section, {}).inputs()
-    return 2 if found is None else found
+    row = model_rows.Row(section, {}, None)
+    systems = section.all(b"System") if kind == "SubSystem" else []
+    row.system = model_rows.System(systems[0], row, {}) if systems else None
+    return row
+
+
+def inputs_of(row):
+    """The ports of its inputs, the controls last."""
+    if row.kind not in model_rows.PARAMETERS:
+        return []
+    found = row.inputs()
+    return [*range(1, (2 if found is None else found) + 1), *(row.system.controls() if row.system else [])]
+
+
+def outputs_of(row):
+    if row.kind == b"SubSystem":
+        return range(1, len(row.system.of_kind(b"Outport")) + 1) if row.system else []
+    return [] if row.kind in (b"Outport", b"Terminator", b"EnablePort", b"TriggerPort") else [1]
 
 
 def with_byte(chance, line):
@@ -290,9 +355,10 @@ def bad_line(chance, types):
 def compare_runs(chance, model, program):
     """What differs where the program runs an accepted model, or None."""
     types = [row.type for row in model.ports(b"Inport")]
-    trace = [some_row(chance, types) for _ in range(chance.randrange(6))]
+    trace = [some_row(chance, types) for _ in range(chance.choice([0, 1, 2, 4, 8, 16]))]
     lines = [" ".join(map(str, it)) for it in trace]
-    wanted = "".join(f"{it}\n" for it in model.run(trace))
+    run = model_runs.Run(model)
+    wanted = "".join(f"{run.tick(it)}\n" for it in trace)
     if types and chance.random() < 0.2:
         line, cause = bad_line(chance, types)
         return program.differs(["run", *program.files("".join(f"{it}\n" for it in [*lines, line]))], 4, f"{wanted}trace line {len(lines) + 1} {cause}\n")
@@ -300,8 +366,8 @@ def compare_runs(chance, model, program):
     status, text = program.call("run", *words)
     found = re.fullmatch(re.escape(wanted) + r"ticks (\d+) steps (\d+) calls (\d+)\n", text)
     ticks, steps, calls = map(int, found.groups()) if found else (0, 0, 0)
-    bound = 12 * (len(model.rows) + 1) * (1 + len(model.ports(b"Outport")))
-    if status or not found or ticks != len(trace) or calls != ticks * (model.functions() + 1) or steps > ticks * bound:
+    bound = 12 * (len(model.rows) + 1) * (1 + max(len(it.of_kind(b"Outport")) for it in model.systems))
+    if status or not found or ticks != len(trace) or calls != run.calls or steps > ticks * bound:
         return "run", wanted, status, text
     by_gcc = program.differs_by_gcc(chance, trace, len(model.ports(b"Outport")), wanted, warns=True)
     return by_gcc or program.differs(["exec", *words[1:]], 0, text)
@@ -313,9 +379,7 @@ def compare_one(chance, program):
     data = damaged(chance, data) if chance.random() < 0.3 else data
     program.write("model", data)
     wanted = model_rules.verdict(data)
-    if wanted is None:
-        return "beyond", None
     if isinstance(wanted, str):
         return wanted.split()[0], program.differs(["compile", *program.files("")[:2]], 3, f"refused {wanted}\n")
-    text = f"compiled rows {len(wanted.rows)} systems 1 functions {wanted.functions()}\n"
-    return "accepted", program.differs(["compile", *program.files("")[:2]], 0, text) or compare_runs(chance, wanted, program)
+    text = f"compiled rows {len(wanted.rows)} systems {len(wanted.systems)} functions {wanted.functions()}\n"
+    return "accepted" if len(wanted.systems) == 1 else "with subsystems", program.differs(["compile", *program.files("")[:2]], 0, text) or compare_runs(chance, wanted, program)

@@ -1,0 +1,172 @@
+"""What the rows of an accepted model give over a trace, by the rules of docs/FORMATS.md."""
+
+from fractions import Fraction
+from math import ceil, floor, prod
+
+from model_rows import WITHOUT_VALUE
+from model_values import BLANKS, BOOLEAN, bounds, number, quantize, whole
+from model_wires import gain_constant, needs_of
+
+ROUNDINGS = {
+    b"Floor": floor,
+    b"Ceiling": ceil,
+    b"Zero": int,
+    b"Nearest": lambda exact: floor(exact + Fraction(1, 2)),
+    b"Round": lambda exact: floor(exact + Fraction(1, 2)) if exact >= 0 else ceil(exact - Fraction(1, 2)),
+    b"Convergent": round,
+}
+COMPARISONS = {
+    b"==": lambda a, b: a == b,
+    b"~=": lambda a, b: a != b,
+    b"<": lambda a, b: a < b,
+    b"<=": lambda a, b: a <= b,
+    b">=": lambda a, b: a >= b,
+    b">": lambda a, b: a > b,
+}
+TRUTHS = {
+    b"AND": all,
+    b"OR": any,
+    b"NAND": lambda it: not all(it),
+    b"NOR": lambda it: not any(it),
+    b"XOR": lambda it: sum(it) % 2 == 1,
+    b"NXOR": lambda it: sum(it) % 2 == 0,
+    b"NOT": lambda it: not it[0],
+}
+
+
+LOW, HIGH = "low", "high"
+
+
+class Run:
+    """A run of a model, tick by tick; `calls` counts those of output and update functions."""
+
+    def __init__(self, model):
+        self.model, self.now, self.calls = model, 0, 0
+        self.order = in_order(model.rows)
+        self.values = {row: first_value(row) for row in model.rows}
+        self.memories = {row: first_memory(row) for row in model.rows if row.delays}
+        # Whether a subsystem's trigger was low or high; None at first.
+        self.triggers = dict.fromkeys(model.rows)
+
+    def is_active(self, e):
+        """Whether a subsystem is active, or the root, which is None; by the controls of this tick."""
+        if e is None:
+            return True
+        enable, trigger = e.sources.get("enable"), e.sources.get("trigger")
+        is_enabled = enable is None or self.values[enable] > 0
+        return self.is_active(e.owner) and is_enabled and (trigger is None or self.is_event(e, self.values[trigger] > 0))
+
+    def is_event(self, e, is_high):
+        rises, falls = self.triggers[e] == LOW and is_high, self.triggers[e] == HIGH and not is_high
+        port = e.system.of_kind(b"TriggerPort")[0]
+        return {b"rising": rises, b"falling": falls, b"either": rises or falls}[port.text("TriggerType")]
+
+    def is_disabled(self, e):
+        return e is not None and "enable" in e.sources and self.is_active(e.owner) and self.values[e.sources["enable"]] <= 0
+
+    def is_off(self, e):
+        return self.is_disabled(e) and e.system.of_kind(b"EnablePort")[0].text("StatesWhenEnabling") == b"reset"
+
+    def runs(self, row):
+        return self.now % row.time[0] == row.time[1] and self.is_active(row.owner)
+
+    def settle(self, row, columns):
+        if row.is_kind(b"Outport") and row.text("OutputWhenDisabled") == b"reset" and self.is_disabled(row.owner):
+            self.values[row] = first_value(row)
+        elif not row.is_kind(*WITHOUT_VALUE) and self.runs(row):
+            self.values[row] = columns[row] if row in columns else self.memories[row][0] if row.delays else value_of(row, self.values)
+
+    def tick(self, numbers):
+        """The line of outputs for a row of the trace."""
+        columns = dict(zip(self.model.ports(b"Inport"), numbers))
+        for row in self.order:
+            self.settle(row, columns)
+        line = " ".join(str(self.values[row]) for row in self.model.ports(b"Outport"))
+        self.calls += sum(it.functions() + 1 for it in self.model.systems if it.owner is None or self.is_active(it.owner.owner))
+        memories = {row: self.memory_after(row) for row in self.memories}
+        self.triggers |= {row: self.trigger_after(row) for row in self.model.rows if "trigger" in row.sources}
+        self.memories = memories
+        self.now += 1
+        return line
+
+    def memory_after(self, row):
+        if any(map(self.is_off, row.around())):
+            return first_memory(row)
+        return [*self.memories[row][1:], self.values[row.sources[1]]] if self.runs(row) else self.memories[row]
+
+    def trigger_after(self, e):
+        if any(map(self.is_off, e.around())):
+            return None
+        if self.is_active(e.owner):
+            return HIGH if self.values[e.sources["trigger"]] > 0 else LOW
+        return self.triggers[e]
+
+
+def first_value(row):
+    if row.delays:
+        return first_memory(row)[0]
+    is_held = row.is_kind(b"Outport") and row.owner and row.owner.sources
+    return quantize(number(row.text("InitialOutput")), row.type) if is_held and row.text("InitialOutput").strip(BLANKS) != b"[]" else 0
+
+
+def first_memory(row):
+    start = quantize(number(row.text("InitialCondition")), row.type)
+    return [start] * (whole(row.text("DelayLength")) if row.is_kind(b"Delay") else 1)
+
+
+def in_order(rows):
+    """The rows, each behind those that it needs."""
+    done, order = set(), []
+
+    def put(row):
+        todo = [row]
+        while todo:
+            missing = [it for it in needs_of(todo[-1]) if it not in done]
+            if missing:
+                todo += missing
+            else:
+                row = todo.pop()
+                order.extend([row] if row not in done else [])
+                done.add(row)
+
+    for row in rows:
+        put(row)
+    return order
+
+
+def value_of(row, values):
+    """What a row without memory computes from its inputs."""
+    sources = [row.sources[it] for it in sorted(row.sources)]
+    inputs = [values[it] for it in sources]
+    types = [BOOLEAN if it.is_kind(b"Ground") else it.type for it in sources]
+    exact = [Fraction(value, 2 ** type[2]) for value, type in zip(inputs, types)]
+    if row.is_kind(b"Constant"):
+        return quantize(number(row.text("Value")), row.type)
+    if row.is_kind(b"Ground"):
+        return 0
+    if row.is_kind(b"Gain"):
+        constant, point = gain_constant(row)
+        return converted(row, exact[0] * Fraction(constant, 2**point))
+    if row.is_kind(b"Sum"):
+        signs = [it for it in row.text("Inputs") if it in b"+-"] if whole(row.text("Inputs")) is None else [43] * len(exact)
+        return converted(row, sum(value if sign == 43 else -value for sign, value in zip(signs, exact)))
+    if row.is_kind(b"Product"):
+        return converted(row, prod(exact))
+    if row.is_kind(b"Switch"):
+        level = quantize(number(row.text("Threshold")), types[1])
+        passes = {b"u2 >= Threshold": inputs[1] >= level, b"u2 > Threshold": inputs[1] > level, b"u2 ~= 0": inputs[1] != 0}
+        return converted(row, exact[0] if passes[row.text("Criteria")] else exact[2])
+    if row.is_kind(b"RelationalOperator"):
+        return int(COMPARISONS[row.text("Operator")](*exact))
+    if row.is_kind(b"Logic"):
+        return int(TRUTHS[row.text("Operator")]([it != 0 for it in inputs]))
+    return converted(row, exact[0]) if row.is_kind(b"DataTypeConversion") else inputs[0]
+
+
+def converted(row, exact):
+    """The exact number brought into the type of the row."""
+    rounded = ROUNDINGS[row.text("RndMeth")](exact * 2 ** row.type[2])
+    least, greatest = bounds(row.type)
+    if row.text("SaturateOnIntegerOverflow") == b"on":
+        return min(max(rounded, least), greatest)
+    return (rounded - least) % 2 ** row.type[1] + least
