@@ -27,3 +27,6 @@ pub mod OwnHeads
 pub mod WholeLines
 pub mod SystemStops
 pub mod Stopping
+pub mod Unread
+pub mod Handed
+pub mod ToldReports

@@ -57,7 +57,7 @@ record SystemStop (text : List ℕ) (left : ℕ) : Type 0 where
 pub same-head : (r : PlainReport) (h : Head) → IsHeadOf r h → head_text h ≡ system_line r
 same-head r h is = λ i. head_line (is.row i) (is.inputs i) (is.outputs i) (is.functions i) (is.controls i)
 
-same-ports : (r : PlainReport) (h : Head) → IsHeadOf r h → head_ports h ≡ ports_of r
+pub same-ports : (r : PlainReport) (h : Head) → IsHeadOf r h → head_ports h ≡ ports_of r
 same-ports r h is = λ i. ports_with (is.inputs i) (is.controls i)
 
 report-functions : (r : PlainReport) (k : IsSystemReport r) → AllByRecursion (IsFunctionOf (ports_of r) r.outputs) r.profile.functions

@@ -47,6 +47,14 @@ abbrev pub IsOnlyFunction : List Port → ℕ → ℕ → List ℕ → Function 
 IsOnlyFunction ports outputs j text g =
     (f : Function) (more : List ℕ) → IsFunctionOf ports outputs f → text ≡ out_line ports outputs j f ++ more → g ≡ f
 
+-- the line at which the text begins is that of no system
+abbrev pub StopsAtHead : List ℕ → ℕ → Type 0
+StopsAtHead text left = NoHead text × (left ≡ length text)
+
+-- the line at which the text begins is that of no function with a number
+abbrev pub StopsAtLine : List Port → ℕ → ℕ → List ℕ → ℕ → Type 0
+StopsAtLine ports outputs j text left = NoFunction ports outputs j text × (left ≡ length text)
+
 -- Some functions of a system are read, and then, with so many bytes left, comes the line of none that can follow them.
 pub record StopsAtFunction (h : Head) (text : List ℕ) (left : ℕ) : Type 0 where
   pub functions : List Function
@@ -89,7 +97,7 @@ pub record StopsInDifferences (text : List ℕ) (left : ℕ) : Type 0 where
 
 -- not all lines of a system are read
 abbrev pub StopsInSystem : List ℕ → ℕ → Type 0
-StopsInSystem text left = (NoHead text × (left ≡ length text)) ⊎ (StopsInFunctions text left ⊎ StopsInDifferences text left)
+StopsInSystem text left = StopsAtHead text left ⊎ (StopsInFunctions text left ⊎ StopsInDifferences text left)
 
 -- The bytes are the text of no reports. Some text of reports begins with their first lines, and the line at which so
 -- many bytes are left isn't there, lacks its end or can't follow those.

@@ -1,12 +1,13 @@
 ghost use Rattle.std.specs.Prelude.{◌≡◌, ◌<◌, ◌≤◌, ◌^◌, ◌↔◌, IfOk, IsTrue};
 ghost use Rattle.std.specs.String.{string_bytes};
-ghost use Rattle.mc_report.specs.Following.{controls_with};
+ghost use Rattle.mc_report.specs.Following.{CanComeFirst, controls_with};
 ghost use Rattle.mc_report.specs.Reports.{IsSetOf};
 ghost use Rattle.mc_report.specs.Heads.{HasSets, IsPossible, head_ports, head_text, own_bit};
 
 use crate::following::can_come_first;
 use crate::lines::{has, push_head_line};
 use mc_base::{Memory, Port};
+use mc_profile::Function;
 use std::alloc::Global;
 
 /// What the line of a system tells: the root, or a row, and how many inputs, outputs and functions it has, and which
@@ -43,14 +44,34 @@ impl Head {
         u64::from(self.functions) <= 1 << ports
     }
 
-    /// Whether a set is one of the inputs.
-    pub(crate) fn has_inputs(self, mask: u64) -> bool
+    // Whether a set is one of the inputs.
+    fn has_inputs(self, mask: u64) -> bool
         requires { self.inputs ≤ 32 }
         ensures { IsTrue result ↔ IsSetOf (head_ports self) mask }
     {
         let enable = own_bit(self.enabled, mask, 32);
         let trigger = own_bit(self.triggered, mask, 33);
         mask % (1 << self.inputs) + enable + trigger == mask
+    }
+
+    /// Whether functions can come first, of which a last one has these inputs. The only fault is want of memory.
+    pub(crate) fn can_have(
+        self,
+        alloc: Global,
+        inputs: u64,
+        functions: &[Function],
+    ) -> Result<bool, Memory>
+        requires inputs { self.inputs ≤ 32 }
+        requires outputs { self.outputs ≤ 32 }
+        ensures set { IfOk result (λ can. IsTrue can → IsSetOf (head_ports self) inputs) }
+        ensures first { IfOk result (λ can. IsTrue can → CanComeFirst self.outputs self.functions functions.now) }
+        ensures only { IfOk result (λ can. IsSetOf (head_ports self) inputs
+            → CanComeFirst self.outputs self.functions functions.now → IsTrue can) }
+    {
+        if !self.has_inputs(inputs) {
+            return Ok(false);
+        }
+        can_come_first(alloc, self.outputs, self.functions as usize, functions)
     }
 
     /// The line. The only fault is want of memory.

@@ -3,13 +3,14 @@ ghost use Rattle.mc_profile.specs.declared.Function.{Function};
 ghost use Rattle.mc_report.specs.Following.{AreAllFunctions, CanComeFirst};
 ghost use Rattle.mc_report.specs.Guesses.{IsLeft};
 ghost use Rattle.mc_report.specs.Heads.{IsPossible, head_ports, head_text};
-ghost use Rattle.mc_report.specs.Reading.{HasRow, IsSystemReport, IsTextOf};
+ghost use Rattle.mc_report.specs.Reading.{HasRow, IsFormFault, IsSystemReport, IsTextOf};
 ghost use Rattle.mc_report.specs.Reports.{IsSetOf};
+ghost use Rattle.mc_report.specs.Stops.{IsOnlyFunction, OfForm, OfLeft, StopsAtDifference, StopsAtFunction, StopsAtHead, StopsAtLine, StopsIn, StopsInSystem};
 ghost use Rattle.mc_report.specs.Texts.{differ_line, last_line, out_line, out_lines, report_text, system_text};
 
 use crate::cutting::{first_words, line_behind, past};
 use crate::fault::ReportFault;
-use crate::following::{can_come_first, needs_of};
+use crate::following::needs_of;
 use crate::head::Head;
 use crate::lines::{push_differ_line, push_head_line, push_out_line};
 use crate::parsing::{function_in, head_in};
@@ -24,10 +25,10 @@ use std::alloc::Global;
 /// The one list of reports that has this text.
 ///
 /// Form where no list of reports has it; the line is the first one that can't follow the lines before it in any such
-/// text, and the one after the last where the text only ends too soon. The other fault is want of memory. That what is given has
-/// this text is proved; when Form comes, and its line, are tested alone.
+/// text, and the one after the last where the text only ends too soon. The other fault is want of memory.
 pub fn read_report(alloc: Global, bytes: &[u8]) -> Result<Vec<SystemReport>, ReportFault>
-    ensures { IfOk result (λ reports. IsTextOf bytes.now reports.items) }
+    ensures text { IfOk result (λ reports. IsTextOf bytes.now reports.items) }
+    ensures form { IfErr result (λ fault. OfForm fault (IsFormFault bytes.now)) }
 {
     match read_systems(alloc, bytes) {
         Ok(reports) => Ok(reports),
@@ -44,7 +45,8 @@ pub fn read_report(alloc: Global, bytes: &[u8]) -> Result<Vec<SystemReport>, Rep
 // The reports whose text this is.
 #[tactic(auto, using(crate::proofs::ReadSystems::read_whole, crate::proofs::ReadSystems::systems_on))]
 fn read_systems(alloc: Global, bytes: &[u8]) -> Result<Vec<SystemReport>, Stop>
-    ensures { IfOk result (λ reports. IsTextOf bytes.now reports.items) }
+    ensures text { IfOk result (λ reports. IsTextOf bytes.now reports.items) }
+    ensures stops { IfErr result (λ stop. OfLeft stop (StopsIn bytes.now)) }
 {
     let mut rest = bytes;
     let mut reports = Vec::new(alloc);
@@ -77,6 +79,7 @@ fn past_last_line(alloc: Global, text: &[u8], systems: usize) -> Result<Option<&
 fn read_system(alloc: Global, text: &[u8]) -> Result<(SystemReport, &[u8]), Stop>
     ensures text { IfOk result (λ read. text.now ≡ system_text read.0 ++ read.1.now) }
     ensures report { IfOk result (λ read. IsSystemReport read.0) }
+    ensures stops { IfErr result (λ stop. OfLeft stop (StopsInSystem text.now)) }
 {
     let (head, rest) = read_head(alloc, text)?;
     let controls = head.controls(alloc)?;
@@ -104,6 +107,7 @@ fn read_head(alloc: Global, text: &[u8]) -> Result<(Head, &[u8]), Stop>
     ensures text { IfOk result (λ read. text.now ≡ head_text read.0 ++ read.1.now) }
     ensures row { IfOk result (λ read. HasRow read.0.row) }
     ensures head { IfOk result (λ read. IsPossible read.0) }
+    ensures stops { IfErr result (λ stop. OfLeft stop (StopsAtHead text.now)) }
 {
     let words = first_words(alloc, text)?;
     let Some(head) = head_in(&words) else {
@@ -128,19 +132,19 @@ fn read_functions<'a>(
     requires outputs { head.outputs ≤ 32 }
     requires inputs { head.inputs ≤ 32 }
     requires none { CanComeFirst head.outputs head.functions [] }
+    requires ports { ports.now ≡ head_ports head }
     ensures text { IfOk result (λ read.
         text.now ≡ out_lines ports.now head.outputs 1 read.0.items ++ read.1.now) }
     ensures sets { IfOk result (λ read. All (λ (f : Function). IsSetOf (head_ports head) f.inputs) read.0.items) }
     ensures functions { IfOk result (λ read. AreAllFunctions head.outputs head.functions read.0.items) }
+    ensures stops { IfErr result (λ stop. OfLeft stop (StopsAtFunction head text.now)) }
 {
     let mut rest = text;
     let mut functions = Vec::new(alloc);
     for k in 0..head.functions as usize {
-        let (function, next) = read_function(alloc, rest, ports, head.outputs, k + 1)?;
+        let (function, next) = read_function(alloc, rest, ports, head, k + 1)?;
         functions.push(function)?;
-        if !head.has_inputs(function.inputs)
-            || !can_come_first(alloc, head.outputs, head.functions as usize, &functions)?
-        {
+        if !head.can_have(alloc, function.inputs, &functions)? {
             return Err(Stop::Left(rest.len()));
         }
         rest = next;
@@ -153,18 +157,22 @@ fn read_function<'a>(
     alloc: Global,
     text: &'a [u8],
     ports: &[Port],
-    outputs: u32,
+    head: Head,
     j: usize,
 ) -> Result<(Function, &'a [u8]), Stop>
-    requires { outputs ≤ 32 }
-    ensures text { IfOk result (λ read. text.now ≡ out_line ports.now outputs j read.0 ++ read.1.now) }
+    requires outputs { head.outputs ≤ 32 }
+    requires inputs { head.inputs ≤ 32 }
+    requires ports { ports.now ≡ head_ports head }
+    ensures text { IfOk result (λ read. text.now ≡ out_line ports.now head.outputs j read.0 ++ read.1.now) }
+    ensures only { IfOk result (λ read. IsOnlyFunction ports.now head.outputs j text.now read.0) }
+    ensures stops { IfErr result (λ stop. OfLeft stop (StopsAtLine ports.now head.outputs j text.now)) }
 {
     let words = first_words(alloc, text)?;
     let Some(function) = function_in(&words) else {
         return Err(Stop::Left(text.len()));
     };
     let mut line = String::new(alloc);
-    push_out_line(&mut line, ports, outputs, j, &function)?;
+    push_out_line(&mut line, ports, head.outputs, j, &function)?;
     match past(text, line.as_bytes()) {
         Some(rest) => Ok((function, rest)),
         None => Err(Stop::Left(text.len())),
@@ -179,7 +187,8 @@ fn read_differences<'a>(
     ports: &[Port],
     differ: &[Difference],
 ) -> Result<&'a [u8], Stop>
-    ensures { IfOk result (λ next. text.now ≡ flat_map (differ_line ports.now) differ.now ++ next.now) }
+    ensures text { IfOk result (λ next. text.now ≡ flat_map (differ_line ports.now) differ.now ++ next.now) }
+    ensures stops { IfErr result (λ stop. OfLeft stop (StopsAtDifference ports.now differ.now text.now)) }
 {
     let mut rest = text;
     for d in differ {

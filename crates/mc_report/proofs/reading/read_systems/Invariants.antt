@@ -1,4 +1,4 @@
-use Rattle.std.proofs.Common.{◌≡◌, ◌++◌}
+use Rattle.std.proofs.Common.{◌≡◌, ◌+◌, ◌≤◌, ◌++◌, length}
 use Rattle.std.specs.Prelude.{All, flat_map}
 use Rattle.mc_report.specs.Reading.{IsSystemReport}
 use Rattle.mc_report.specs.Texts.{system_text}
@@ -8,4 +8,6 @@ abbrev pub invariant-loop : goal.invariant-loop
 invariant-loop l = record {
   text : l.bytes ≡ flat_map system_text l.reports.items ++ l.rest;
   each : All IsSystemReport l.reports.items;
+  number : length l.reports.items ≡ l.counter;
+  short : length l.rest + l.counter ≤ length l.bytes;
 }
