@@ -232,8 +232,11 @@ class ModelText:
                         yield self.chance.choice(sources), at, port
 
     def some_source(self, at, port, blocks, sources, earlier, truths):
-        if port == "trigger" and truths and self.is_lucky(0.95 if self.is_tidy else 0.8):
+        if port in ("enable", "trigger") and truths and self.is_lucky(0.95 if self.is_tidy else 0.8):
             return self.chance.choice(truths)
+        inner = [it for it in sources if blocks[it[0]].kind in (b"SubSystem", b"UnitDelay", b"Delay", b"Sum")]
+        if self.is_tidy and blocks[at].kind == b"Outport" and inner and self.is_lucky(0.8):
+            return self.chance.choice(inner)
         if self.is_tidy and earlier:
             with_type = [it for it in sources if blocks[it[0]].kind in COMPUTING]
             goes_back = with_type and blocks[at].kind in (b"UnitDelay", b"Delay") and self.is_lucky(0.5)
@@ -337,8 +340,8 @@ def damaged(chance, data):
 
 
 def some_row(chance, types):
-    """A row of a trace, with numbers at the ends of their types."""
-    return [chance.choice([*bounds(it), chance.randint(*bounds(it)), sorted((*bounds(it), chance.randint(-9, 9)))[1]]) for it in types]
+    """A row of a trace, with zeros and with numbers at the ends of their types."""
+    return [0 if chance.random() < 0.4 else chance.choice([*bounds(it), chance.randint(*bounds(it)), sorted((*bounds(it), chance.randint(-9, 9)))[1]]) for it in types]
 
 
 def bad_line(chance, types):
@@ -355,7 +358,7 @@ def bad_line(chance, types):
 def compare_runs(chance, model, program):
     """What differs where the program runs an accepted model, or None."""
     types = [row.type for row in model.ports(b"Inport")]
-    trace = [some_row(chance, types) for _ in range(chance.choice([0, 1, 2, 4, 8, 16]))]
+    trace = [some_row(chance, types) for _ in range(chance.choice([0, 1, 2, 4, 8, 16, 32]))]
     lines = [" ".join(map(str, it)) for it in trace]
     run = model_runs.Run(model)
     wanted = "".join(f"{run.tick(it)}\n" for it in trace)
