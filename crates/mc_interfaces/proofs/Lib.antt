@@ -1,0 +1,5 @@
+mod NeedLists
+mod PortLists
+mod ReportLists
+mod SystemReports
+mod CountSteps

@@ -1,0 +1,3 @@
+pub mod Interfaces
+pub mod Needs
+pub mod PortCounts
