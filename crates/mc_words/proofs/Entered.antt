@@ -11,8 +11,8 @@ use Rattle.clap.specs.declared.builder.value_parser.ValueParser.TheVariants as v
 use Rattle.clap.proofs.OnLiterals.{clap_on_literals}
 use Rattle.mc_words.specs.Program.{program}
 
-abbrev pub file_at : ℕ → Text → Rule
-file_at index name = record {
+abbrev pub argument_at : ℕ → Text → Rule
+argument_at index name = record {
   id = name;
   long = None;
   aliases = [];
@@ -54,19 +54,25 @@ shape name rules is_leaf = record {
 }
 
 abbrev pub compile : Shape
-compile = shape (codes "compile") (file_at 1 (codes "MODEL") ∷ file_at 2 (codes "CODE") ∷ []) true
+compile = shape (codes "compile") (argument_at 1 (codes "MODEL") ∷ argument_at 2 (codes "CODE") ∷ []) true
 
 abbrev pub run : Shape
-run = shape (codes "run") (file_at 1 (codes "MODEL") ∷ file_at 2 (codes "CODE") ∷ file_at 3 (codes "TRACE") ∷ []) true
+run = shape (codes "run") (argument_at 1 (codes "MODEL") ∷ argument_at 2 (codes "CODE") ∷ argument_at 3 (codes "TRACE") ∷ []) true
 
 abbrev pub exec : Shape
-exec = shape (codes "exec") (file_at 1 (codes "CODE") ∷ file_at 2 (codes "TRACE") ∷ []) true
+exec = shape (codes "exec") (argument_at 1 (codes "CODE") ∷ argument_at 2 (codes "TRACE") ∷ []) true
+
+abbrev pub profile : Shape
+profile = shape (codes "profile") (argument_at 1 (codes "MODEL") ∷ []) true
+
+abbrev pub gen : Shape
+gen = shape (codes "gen") (argument_at 1 (codes "START") ∷ argument_at 2 (codes "SIZE") ∷ argument_at 3 (codes "MODEL") ∷ argument_at 4 (codes "CODE") ∷ []) true
 
 abbrev pub top : Shape
 top = record (shape (codes "mdlc") [] false) { subcommand_required = true }
 
 abbrev pub ready : App
-ready = record { top = top; subs = compile ∷ run ∷ exec ∷ [] }
+ready = record { top = top; subs = compile ∷ run ∷ exec ∷ profile ∷ gen ∷ [] }
 
 is_ready : built program ≡ ready
 is_ready = refl
@@ -134,3 +140,11 @@ meets_run = record { walk = refl; turn = refl; found = refl }
 pub meets_exec : Meets (codes "exec") exec
 unfolding clap_on_literals
 meets_exec = record { walk = refl; turn = refl; found = refl }
+
+pub meets_profile : Meets (codes "profile") profile
+unfolding clap_on_literals
+meets_profile = record { walk = refl; turn = refl; found = refl }
+
+pub meets_gen : Meets (codes "gen") gen
+unfolding clap_on_literals
+meets_gen = record { walk = refl; turn = refl; found = refl }

@@ -9,9 +9,9 @@ use Rattle.clap.specs.Walk.{Held, Row, nothing_held}
 use Rattle.clap.specs.Words.{Text, subcommand_of, takes}
 use Rattle.clap.specs.declared.builder.value_parser.ValueParser.TheVariants as vp
 use Rattle.clap.specs.declared.parser.matches.ValueSource.TheVariants.{CommandLine}
-use Rattle.mc_words.specs.Words.{Asked, Compile, Run, Exec, is_word, differ, with_two, with_three, command_with, asked_by}
+use Rattle.mc_words.specs.Words.{Asked, Compile, Run, Exec, Profile, is_word, differ, number_up_to, greatest_start, greatest_size, gen_by, with_one, with_two, with_three, with_four, command_with, asked_by}
 use Rattle.mc_words.specs.Program.{program, asked_in}
-use Rattle.mc_words.proofs.Entered.{compile, run, exec, meets_compile, meets_run, meets_exec, meets_takes, meets_rows}
+use Rattle.mc_words.proofs.Entered.{compile, run, exec, profile, gen, meets_compile, meets_run, meets_exec, meets_profile, meets_gen, meets_takes, meets_rows}
 use Rattle.mc_words.proofs.Steps.{Goes, goes_level, goes_rows}
 
 -- `clap` takes the words, and its matches ask for this
@@ -21,7 +21,7 @@ Serves words o = (takes program words ≡ true) × (asked_in (subcommand_of prog
 abbrev row : Text → Text → Row
 row name word = record { id = name; values = word ∷ []; count = None; source = Some CommandLine; reading = reading_of vp.String }
 
--- rows of files that were read, and one that is being read
+-- rows of arguments that were read, and one that is being read
 abbrev held : List Row → Text → Text → Held
 held rows name word = record { rows = rows; pending = Some (name, word ∷ []); skip = 0 }
 
@@ -62,6 +62,31 @@ serves_exec code trace c t =
           ∙ ap (λ rows. asked_in (Some (codes "exec", rows))) (goes_rows exec words second goes),
     )
 
+serves_profile : (model : Text) → is_word model ≡ true → Serves (codes "profile" ∷ model ∷ []) (Some (Profile model))
+serves_profile model m =
+    let words = model ∷ [] in
+    let first = held [] (codes "MODEL") model in
+    let goes : Goes profile nothing_held 1 words first = (first, m, refl, refl, refl) in (
+      meets_takes (codes "profile") profile meets_profile words (goes_level profile words first goes refl),
+      ap asked_in (meets_rows (codes "profile") profile meets_profile words)
+          ∙ ap (λ rows. asked_in (Some (codes "profile", rows))) (goes_rows profile words first goes),
+    )
+
+serves_gen : (start size model code : Text) → is_word start ≡ true → is_word size ≡ true → is_word model ≡ true → is_word code ≡ true
+    → Serves (codes "gen" ∷ start ∷ size ∷ model ∷ code ∷ []) (gen_by (number_up_to greatest_start start) (number_up_to greatest_size size) model code)
+serves_gen start size model code s z m c =
+    let words = start ∷ size ∷ model ∷ code ∷ [] in
+    let first = held [] (codes "START") start in
+    let second = held (row (codes "START") start ∷ []) (codes "SIZE") size in
+    let third = held (row (codes "START") start ∷ row (codes "SIZE") size ∷ []) (codes "MODEL") model in
+    let fourth = held (row (codes "START") start ∷ row (codes "SIZE") size ∷ row (codes "MODEL") model ∷ []) (codes "CODE") code in
+    let goes : Goes gen nothing_held 1 words fourth =
+    (first, s, refl, refl, (second, z, refl, refl, (third, m, refl, refl, (fourth, c, refl, refl, refl)))) in (
+      meets_takes (codes "gen") gen meets_gen words (goes_level gen words fourth goes refl),
+      ap asked_in (meets_rows (codes "gen") gen meets_gen words)
+          ∙ ap (λ rows. asked_in (Some (codes "gen", rows))) (goes_rows gen words fourth goes),
+    )
+
 -- ---- Every list of words
 
 -- where something is asked for, `clap` serves it
@@ -89,6 +114,11 @@ named : (name command : Text) (words : List Text) (o : Option Asked) → Serves 
     → Right (command ∷ words) o
 named name command words o serves e some = subst (λ c. Serves (c ∷ words) o) (sym ((bytes_eq-Decides command name).0 e)) serves
 
+one_word : (command a : Text) → is_word a ≡ true → Right (command ∷ a ∷ []) (with_one command a)
+one_word command a x =
+    choose (command ∷ a ∷ []) (bytes_eq command (codes "profile")) _ _
+    (named (codes "profile") command (a ∷ []) _ (serves_profile a x)) (asks_nothing (command ∷ a ∷ []))
+
 two_words : (command a b : Text) → is_word a ≡ true → is_word b ≡ true → Right (command ∷ a ∷ b ∷ []) (with_two command a b)
 two_words command a b x y =
     choose (command ∷ a ∷ b ∷ []) (bytes_eq command (codes "compile") && differ b a) _ _
@@ -104,9 +134,16 @@ three_words command a b c x y z =
     (first_of_both (bytes_eq command (codes "run")) (differ b a) (first_of_both _ (differ b c) e)))
     (asks_nothing (command ∷ a ∷ b ∷ c ∷ []))
 
+four_words : (command a b c d : Text) → is_word a ≡ true → is_word b ≡ true → is_word c ≡ true → is_word d ≡ true
+    → Right (command ∷ a ∷ b ∷ c ∷ d ∷ []) (with_four command a b c d)
+four_words command a b c d x y z w =
+    choose (command ∷ a ∷ b ∷ c ∷ d ∷ []) (bytes_eq command (codes "gen") && differ d c) _ _
+    (λ e. named (codes "gen") command (a ∷ b ∷ c ∷ d ∷ []) _ (serves_gen a b c d x y z w) (first_of_both _ (differ d c) e))
+    (asks_nothing (command ∷ a ∷ b ∷ c ∷ d ∷ []))
+
 with_words : (command : Text) (words : List Text) → list_all is_word words ≡ true → Right (command ∷ words) (command_with command words)
 with_words command [] e = asks_nothing (command ∷ [])
-with_words command (a ∷ []) e = asks_nothing (command ∷ a ∷ [])
+with_words command (a ∷ []) e = one_word command a (first_of_both (is_word a) _ e)
 with_words command (a ∷ b ∷ []) e =
     let rest = second_of_both (is_word a) _ e in
     two_words command a b (first_of_both (is_word a) _ e) (first_of_both (is_word b) _ rest)
@@ -114,7 +151,12 @@ with_words command (a ∷ b ∷ c ∷ []) e =
     let rest = second_of_both (is_word a) _ e in
     let last = second_of_both (is_word b) _ rest in
     three_words command a b c (first_of_both (is_word a) _ e) (first_of_both (is_word b) _ rest) (first_of_both (is_word c) _ last)
-with_words command (a ∷ b ∷ c ∷ d ∷ more) e = asks_nothing (command ∷ a ∷ b ∷ c ∷ d ∷ more)
+with_words command (a ∷ b ∷ c ∷ d ∷ []) e =
+    let rest = second_of_both (is_word a) _ e in
+    let more = second_of_both (is_word b) _ rest in
+    let last = second_of_both (is_word c) _ more in
+    four_words command a b c d (first_of_both (is_word a) _ e) (first_of_both (is_word b) _ rest) (first_of_both (is_word c) _ more) (first_of_both (is_word d) _ last)
+with_words command (a ∷ b ∷ c ∷ d ∷ f ∷ more) e = asks_nothing (command ∷ a ∷ b ∷ c ∷ d ∷ f ∷ more)
 
 pub all_words : (words : List Text) → Right words (asked_by words)
 all_words [] = asks_nothing []

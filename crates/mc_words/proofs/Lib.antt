@@ -2,3 +2,6 @@ pub mod Steps
 pub mod Entered
 pub mod Laws
 pub mod Values
+pub mod PlainNumbers
+pub mod WordLists
+pub mod Adding

@@ -1,8 +1,7 @@
--- The values of files, by getters and by rows.
-use Rattle.std.proofs.Common.{◌≡◌, ◌∙◌, ap, ap₂, true≢false, Option, Some, None, codes, Box}
-use Rattle.std.specs.Prelude.{if◌then◌else◌, option_map, unwrap_or, is_some}
+-- The values of arguments, by getters and by rows.
+use Rattle.std.proofs.Common.{◌≡◌, ◌∙◌, ap, ap₂, true≢false, Option, Some, None, Box}
+use Rattle.std.specs.Prelude.{option_map, unwrap_or, is_some}
 use Rattle.std.specs.Box.{box_value}
-use Rattle.std.specs.Str.{bytes_eq}
 use Rattle.clap.specs.Matches.{first_value}
 use Rattle.clap.specs.Simple.{subcommand_rows}
 use Rattle.clap.specs.Walk.{Text, first_of, rows_of}
@@ -10,7 +9,7 @@ use Rattle.clap.specs.declared.parser.matches.ArgMatches.TheViews.{out-SubComman
 use Rattle.clap.specs.declared.parser.matches.Found.{Found}
 use Rattle.clap.specs.declared.parser.matches.SubCommand.{SubCommand}
 use Rattle.clap.proofs.WalkLemmas.{first_value-rows}
-use Rattle.mc_words.specs.Program.{compile_of, run_of, exec_of, asked_of, asked_in}
+use Rattle.mc_words.specs.Program.{asked_of, asked_in}
 
 module _ (f : Found) where
   abbrev got : Text → Option Text
@@ -20,20 +19,7 @@ module _ (f : Found) where
   told id = first_of id (rows_of f)
 
   asked_as_told : (name : Text) → asked_of name got ≡ asked_of name told
-  asked_as_told name =
-      ap (λ o. if bytes_eq name (codes "compile") then o
-      else if bytes_eq name (codes "run") then run_of (got (codes "MODEL")) (got (codes "CODE")) (got (codes "TRACE"))
-      else if bytes_eq name (codes "exec") then exec_of (got (codes "CODE")) (got (codes "TRACE")) else None)
-      (ap₂ compile_of (first_value-rows f (codes "MODEL")) (first_value-rows f (codes "CODE")))
-      ∙ ap (λ o. if bytes_eq name (codes "compile") then compile_of (told (codes "MODEL")) (told (codes "CODE"))
-      else if bytes_eq name (codes "run") then o
-      else if bytes_eq name (codes "exec") then exec_of (got (codes "CODE")) (got (codes "TRACE")) else None)
-      (ap (λ o. run_of o (got (codes "CODE")) (got (codes "TRACE"))) (first_value-rows f (codes "MODEL"))
-      ∙ ap₂ (run_of (told (codes "MODEL"))) (first_value-rows f (codes "CODE")) (first_value-rows f (codes "TRACE")))
-      ∙ ap (λ o. if bytes_eq name (codes "compile") then compile_of (told (codes "MODEL")) (told (codes "CODE"))
-      else if bytes_eq name (codes "run") then run_of (told (codes "MODEL")) (told (codes "CODE")) (told (codes "TRACE"))
-      else if bytes_eq name (codes "exec") then o else None)
-      (ap₂ exec_of (first_value-rows f (codes "CODE")) (first_value-rows f (codes "TRACE")))
+  asked_as_told name = λ i. asked_of name (λ id. first_value-rows f id i)
 
 some_is : {X : Type 0} (x y : X) → Some x ≡ Some y → x ≡ y
 some_is x y e = ap (λ o. unwrap_or o x) e

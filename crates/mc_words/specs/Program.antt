@@ -3,24 +3,30 @@ use Rattle.std.specs.Prelude.{◌≡◌, true, false, if◌then◌else◌, List,
 use Rattle.clap.specs.Words.{App, Row, Rule, Shape, Text, first_of, new_app, new_rule, shape_of}
 use Rattle.clap.specs.declared.builder.command.Command.{Command}
 use Rattle.clap.specs.declared.builder.command.Command.TheViews.{out-Command as fields_of}
-use Rattle.mc_words.specs.Words.{Asked, Compile, Run, Exec}
+use Rattle.mc_words.specs.Words.{Asked, Compile, Run, Exec, Profile, number_up_to, greatest_start, greatest_size, gen_by}
 
 -- an argument by its place, which has to be there
-abbrev pub file : Text → Rule
-file name = record (new_rule name) { required = true }
+abbrev pub argument : Text → Rule
+argument name = record (new_rule name) { required = true }
 
--- a command that takes these files
-abbrev pub with_files : Text → List Text → Shape
-with_files name files = record (new_app name).top { rules = map file files }
+-- a command that takes these arguments
+abbrev pub with_arguments : Text → List Text → Shape
+with_arguments name arguments = record (new_app name).top { rules = map argument arguments }
 
 abbrev pub compile : Shape
-compile = with_files (codes "compile") (codes "MODEL" ∷ codes "CODE" ∷ [])
+compile = with_arguments (codes "compile") (codes "MODEL" ∷ codes "CODE" ∷ [])
 
 abbrev pub run : Shape
-run = with_files (codes "run") (codes "MODEL" ∷ codes "CODE" ∷ codes "TRACE" ∷ [])
+run = with_arguments (codes "run") (codes "MODEL" ∷ codes "CODE" ∷ codes "TRACE" ∷ [])
 
 abbrev pub exec : Shape
-exec = with_files (codes "exec") (codes "CODE" ∷ codes "TRACE" ∷ [])
+exec = with_arguments (codes "exec") (codes "CODE" ∷ codes "TRACE" ∷ [])
+
+abbrev pub profile : Shape
+profile = with_arguments (codes "profile") (codes "MODEL" ∷ [])
+
+abbrev pub gen : Shape
+gen = with_arguments (codes "gen") (codes "START" ∷ codes "SIZE" ∷ codes "MODEL" ∷ codes "CODE" ∷ [])
 
 -- the program without its commands
 abbrev pub bare : App
@@ -36,7 +42,7 @@ bare = record {
 }
 
 abbrev pub program : App
-program = record { top = record bare.top { is_leaf = false }; subs = compile ∷ run ∷ exec ∷ [] }
+program = record { top = record bare.top { is_leaf = false }; subs = compile ∷ run ∷ exec ∷ profile ∷ gen ∷ [] }
 
 -- a command of this shape, which has no argument for its subcommands
 abbrev pub IsSubcommand : Command → Shape → Type 0
@@ -60,12 +66,27 @@ exec_of (Some code) (Some trace) = Some (Exec code trace)
 exec_of None _ = None
 exec_of (Some code) None = None
 
--- what a command of this name asks for, with the values of its files
+abbrev pub profile_of : Option Text → Option Asked
+profile_of (Some model) = Some (Profile model)
+profile_of None = None
+
+abbrev pub gen_of : (start size model code : Option Text) → Option Asked
+gen_of (Some start) (Some size) (Some model) (Some code) =
+    gen_by (number_up_to greatest_start start) (number_up_to greatest_size size) model code
+gen_of None _ _ _ = None
+gen_of (Some start) None _ _ = None
+gen_of (Some start) (Some size) None _ = None
+gen_of (Some start) (Some size) (Some model) None = None
+
+-- what a command of this name asks for, with the values of its arguments
 abbrev pub asked_of : Text → (Text → Option Text) → Option Asked
 asked_of name value =
     if bytes_eq name (codes "compile") then compile_of (value (codes "MODEL")) (value (codes "CODE"))
     else if bytes_eq name (codes "run") then run_of (value (codes "MODEL")) (value (codes "CODE")) (value (codes "TRACE"))
     else if bytes_eq name (codes "exec") then exec_of (value (codes "CODE")) (value (codes "TRACE"))
+    else if bytes_eq name (codes "profile") then profile_of (value (codes "MODEL"))
+    else if bytes_eq name (codes "gen")
+    then gen_of (value (codes "START")) (value (codes "SIZE")) (value (codes "MODEL")) (value (codes "CODE"))
     else None
 
 -- what the subcommand that was met asks for

@@ -1,8 +1,8 @@
 -- Words that `clap` takes, with what their matches ask for.
-use Rattle.std.specs.Prelude.{◌≡◌, refl, true, false, [], ◌∷◌, Some, codes}
+use Rattle.std.specs.Prelude.{◌≡◌, refl, true, false, [], ◌∷◌, Some, None, codes}
 use Rattle.clap.specs.Words.{subcommand_of, takes}
 use Rattle.clap.proofs.OnLiterals.{clap_on_literals}
-use Rattle.mc_words.specs.Words.{Compile, Run, Exec}
+use Rattle.mc_words.specs.Words.{Compile, Run, Exec, Profile, Gen}
 use Rattle.mc_words.specs.Program.{program, asked_in}
 
 takes-compile : takes program (codes "compile" ∷ codes "a" ∷ codes "b" ∷ []) ≡ true
@@ -20,6 +20,14 @@ asked-run = refl
 asked-exec : asked_in (subcommand_of program (codes "exec" ∷ codes "run" ∷ codes "help" ∷ [])) ≡ Some (Exec (codes "run") (codes "help"))
 unfolding clap_on_literals
 asked-exec = refl
+
+asked-profile : asked_in (subcommand_of program (codes "profile" ∷ codes "a" ∷ [])) ≡ Some (Profile (codes "a"))
+unfolding clap_on_literals
+asked-profile = refl
+
+asked-gen : asked_in (subcommand_of program (codes "gen" ∷ codes "2147483646" ∷ codes "2499" ∷ codes "a" ∷ codes "b" ∷ [])) ≡ Some (Gen 2_147_483_646 2_499 (codes "a") (codes "b"))
+unfolding clap_on_literals
+asked-gen = refl
 
 -- `clap` takes some words that are not lawful
 
@@ -46,3 +54,23 @@ takes-dash = refl
 takes-more : takes program (codes "compile" ∷ codes "a" ∷ codes "b" ∷ codes "c" ∷ []) ≡ false
 unfolding clap_on_literals
 takes-more = refl
+
+takes-gen_same : takes program (codes "gen" ∷ codes "1" ∷ codes "1" ∷ codes "a" ∷ codes "a" ∷ []) ≡ true
+unfolding clap_on_literals
+takes-gen_same = refl
+
+takes-gen_no_number : takes program (codes "gen" ∷ codes "x" ∷ codes "01" ∷ codes "a" ∷ codes "b" ∷ []) ≡ true
+unfolding clap_on_literals
+takes-gen_no_number = refl
+
+asked-gen_no_number : asked_in (subcommand_of program (codes "gen" ∷ codes "x" ∷ codes "1" ∷ codes "a" ∷ codes "b" ∷ [])) ≡ None
+unfolding clap_on_literals
+asked-gen_no_number = refl
+
+takes-gen_short : takes program (codes "gen" ∷ codes "1" ∷ codes "1" ∷ codes "a" ∷ []) ≡ false
+unfolding clap_on_literals
+takes-gen_short = refl
+
+takes-profile_dash : takes program (codes "profile" ∷ codes "-a" ∷ []) ≡ false
+unfolding clap_on_literals
+takes-profile_dash = refl

@@ -1,6 +1,6 @@
 -- Words of command lines.
-use Rattle.std.specs.Prelude.{◌≡◌, refl, [], ◌∷◌, Some, None, codes}
-use Rattle.mc_words.specs.Words.{asked_by, Compile, Run, Exec}
+use Rattle.std.specs.Prelude.{◌≡◌, refl, List, ℕ, [], ◌∷◌, Option, Some, None, codes}
+use Rattle.mc_words.specs.Words.{Asked, asked_by, number_up_to, greatest_start, greatest_size, Compile, Run, Exec, Profile, Gen}
 
 words-none : asked_by [] ≡ None
 words-none = refl
@@ -46,3 +46,81 @@ words-exec = refl
 
 words-named_run : asked_by (codes "compile" ∷ codes "run" ∷ codes "help" ∷ []) ≡ Some (Compile (codes "run") (codes "help"))
 words-named_run = refl
+
+words-profile : asked_by (codes "profile" ∷ codes "a" ∷ []) ≡ Some (Profile (codes "a"))
+words-profile = refl
+
+words-profile_short : asked_by (codes "profile" ∷ []) ≡ None
+words-profile_short = refl
+
+words-profile_long : asked_by (codes "profile" ∷ codes "a" ∷ codes "b" ∷ []) ≡ None
+words-profile_long = refl
+
+words-profile_dash : asked_by (codes "profile" ∷ codes "-a" ∷ []) ≡ None
+words-profile_dash = refl
+
+-- the words of `gen`, with a model `a`
+abbrev gen : (start size code : List ℕ) → Option Asked
+gen start size code = asked_by (codes "gen" ∷ start ∷ size ∷ codes "a" ∷ code ∷ [])
+
+words-gen : gen (codes "1") (codes "1") (codes "b") ≡ Some (Gen 1 1 (codes "a") (codes "b"))
+words-gen = refl
+
+words-gen_greatest : gen (codes "2147483646") (codes "2499") (codes "b") ≡ Some (Gen 2_147_483_646 2_499 (codes "a") (codes "b"))
+words-gen_greatest = refl
+
+words-gen_named_so : gen (codes "10") (codes "200") (codes "gen") ≡ Some (Gen 10 200 (codes "a") (codes "gen"))
+words-gen_named_so = refl
+
+words-gen_same : gen (codes "1") (codes "1") (codes "a") ≡ None
+words-gen_same = refl
+
+words-gen_start_of_nothing : gen (codes "0") (codes "1") (codes "b") ≡ None
+words-gen_start_of_nothing = refl
+
+words-gen_size_of_nothing : gen (codes "1") (codes "0") (codes "b") ≡ None
+words-gen_size_of_nothing = refl
+
+words-gen_leading_zero : gen (codes "01") (codes "1") (codes "b") ≡ None
+words-gen_leading_zero = refl
+
+words-gen_size_with_leading_zero : gen (codes "1") (codes "01") (codes "b") ≡ None
+words-gen_size_with_leading_zero = refl
+
+words-gen_start_beyond : gen (codes "2147483647") (codes "1") (codes "b") ≡ None
+words-gen_start_beyond = refl
+
+words-gen_size_beyond : gen (codes "1") (codes "2500") (codes "b") ≡ None
+words-gen_size_beyond = refl
+
+words-gen_long_start : gen (codes "12345678901") (codes "1") (codes "b") ≡ None
+words-gen_long_start = refl
+
+words-gen_no_number : gen (codes "x") (codes "1") (codes "b") ≡ None
+words-gen_no_number = refl
+
+words-gen_sign : gen (codes "+1") (codes "1") (codes "b") ≡ None
+words-gen_sign = refl
+
+words-gen_short : asked_by (codes "gen" ∷ codes "1" ∷ codes "1" ∷ codes "a" ∷ []) ≡ None
+words-gen_short = refl
+
+words-gen_long : asked_by (codes "gen" ∷ codes "1" ∷ codes "1" ∷ codes "a" ∷ codes "b" ∷ codes "c" ∷ []) ≡ None
+words-gen_long = refl
+
+-- ---- Numbers
+
+start-least : number_up_to greatest_start (codes "1") ≡ Some 1
+start-least = refl
+
+start-greatest : number_up_to greatest_start (codes "2147483646") ≡ Some 2_147_483_646
+start-greatest = refl
+
+size-greatest : number_up_to greatest_size (codes "2499") ≡ Some 2_499
+size-greatest = refl
+
+size-digit_and_letter : number_up_to greatest_size (codes "24x") ≡ None
+size-digit_and_letter = refl
+
+size-blank : number_up_to greatest_size (codes "24 ") ≡ None
+size-blank = refl

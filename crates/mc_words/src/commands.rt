@@ -1,4 +1,4 @@
-/// What words ask for, with the names of the files.
+/// What words ask for, with the names of the files and the numbers.
 #[derive(Clone, Copy, Debug, PartialEq, Eq, Drop)]
 pub enum Command<'a> {
     /// Compiles the file `model` into the file `code`.
@@ -16,5 +16,17 @@ pub enum Command<'a> {
     Exec {
         code: &'a str,
         trace: &'a str,
+    },
+    /// Puts the report on the systems of the file `model`.
+    Profile {
+        model: &'a str,
+    },
+    /// Writes the model that is made from `start` in `size` subsystems into the file `model`, compiles it into the file
+    /// `code`, and runs what was written over the trace that belongs to it. `start` is 1 to 2,147,483,646 and `size` 1 to 2,499.
+    Gen {
+        start: u32,
+        size: u32,
+        model: &'a str,
+        code: &'a str,
     },
 }

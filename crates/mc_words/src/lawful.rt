@@ -1,5 +1,8 @@
-ghost use Rattle.std.specs.Prelude.{◌≡◌, is_some};
-ghost use Rattle.mc_words.specs.Words.{word_bytes, is_word, asked_by, with_two, with_three};
+ghost use Rattle.std.specs.Prelude.{◌≡◌, is_some, string_bytes};
+ghost use Rattle.std.specs.List.{list_all};
+ghost use Rattle.mc_words.specs.Words.{word_bytes, is_word, asked_by, command_with, with_two, with_three, with_four};
+
+use crate::numbers::{size_of, start_of};
 
 // Whether a word has a first byte, which is no `-`.
 fn is_word(word: &str) -> bool
@@ -25,28 +28,47 @@ fn takes_three(command: &str, model: &str, code: &str, trace: &str) -> bool
     command == "run" && code != model && code != trace
 }
 
+// Whether a command takes these four words.
+fn takes_four(command: &str, start: &str, size: &str, model: &str, code: &str) -> bool
+    ensures { result ≡ is_some (with_four command.now start.now size.now model.now code.now) }
+{
+    command == "gen" && code != model && start_of(start).is_some() && size_of(size).is_some()
+}
+
+// Whether a command takes these further words.
+#[tactic(auto, using(crate::proofs::WordLists::one_word_asks, crate::proofs::WordLists::five_words_ask_nothing))]
+fn takes(command: &str, further: &[String]) -> bool
+    ensures { result ≡ is_some (command_with command.now (word_bytes further.now)) }
+{
+    match further {
+        [_] => command == "profile",
+        [first, second] => takes_two(command, first.as_str(), second.as_str()),
+        [model, code, trace] => takes_three(command, model.as_str(), code.as_str(), trace.as_str()),
+        [start, size, model, code] => takes_four(
+            command,
+            start.as_str(),
+            size.as_str(),
+            model.as_str(),
+            code.as_str(),
+        ),
+        _ => false,
+    }
+}
+
+// Whether each word has a first byte, which is no `-`.
+fn are_words(words: &[String]) -> bool
+    ensures { result ≡ list_all (λ w. is_word (string_bytes w)) words.now }
+{
+    words.iter().all(|word| is_word(word.as_str()))
+}
+
 /// Whether the words ask for something: they are a command with just its further words, each with a first byte that is no
-/// `-`, and the file to write is another than the files to read.
+/// `-`, the code to write is another file than those that are named beside it, and numbers are in their ranges.
 pub fn is_lawful(words: &[String]) -> bool
     ensures { result ≡ is_some (asked_by (word_bytes words.now)) }
 {
-    match words {
-        [command, first, second] => {
-            let (command, first, second) = (command.as_str(), first.as_str(), second.as_str());
-            is_word(command)
-                && is_word(first)
-                && is_word(second)
-                && takes_two(command, first, second)
-        }
-        [command, model, code, trace] => {
-            let (command, model) = (command.as_str(), model.as_str());
-            let (code, trace) = (code.as_str(), trace.as_str());
-            is_word(command)
-                && is_word(model)
-                && is_word(code)
-                && is_word(trace)
-                && takes_three(command, model, code, trace)
-        }
-        _ => false,
+    match words.split_first() {
+        Some((command, further)) => are_words(words) && takes(command.as_str(), further),
+        None => false,
     }
 }

@@ -5,6 +5,7 @@
 mod commands;
 mod lawful;
 mod matches;
+mod numbers;
 mod program;
 mod reading;
 

@@ -1,14 +1,14 @@
 ghost use Rattle.std.specs.Prelude.{◌≡◌, IfOk, false};
 ghost use Rattle.clap.specs.Words.{app_of, rule_of};
 ghost use Rattle.clap.specs.declared.builder.command.Command.TheViews.{out-Command as fields_of};
-ghost use Rattle.mc_words.specs.Program.{file, compile, run, exec, bare, program, IsSubcommand};
+ghost use Rattle.mc_words.specs.Program.{argument, compile, run, exec, profile, gen, bare, program, IsSubcommand};
 
 use clap::{Arg, Command};
 use std::alloc::{AllocError, Global};
 
-// The name of a file, which has to be there.
-fn file<'a>(alloc: Global, name: &'a str) -> Arg<'a>
-    ensures { (rule_of result ≡ file name.now) × (result.global ≡ false) }
+// An argument by its place, which has to be there.
+fn argument<'a>(alloc: Global, name: &'a str) -> Arg<'a>
+    ensures { (rule_of result ≡ argument name.now) × (result.global ≡ false) }
 {
     Arg::new(alloc, name).required(true)
 }
@@ -17,25 +17,41 @@ fn compile<'a>(alloc: Global) -> Result<Command<'a>, AllocError>
     ensures { IfOk result (λ c. IsSubcommand c compile) }
 {
     Command::new(alloc, "compile")
-        .arg(file(alloc, "MODEL"))?
-        .arg(file(alloc, "CODE"))
+        .arg(argument(alloc, "MODEL"))?
+        .arg(argument(alloc, "CODE"))
 }
 
 fn run<'a>(alloc: Global) -> Result<Command<'a>, AllocError>
     ensures { IfOk result (λ c. IsSubcommand c run) }
 {
     Command::new(alloc, "run")
-        .arg(file(alloc, "MODEL"))?
-        .arg(file(alloc, "CODE"))?
-        .arg(file(alloc, "TRACE"))
+        .arg(argument(alloc, "MODEL"))?
+        .arg(argument(alloc, "CODE"))?
+        .arg(argument(alloc, "TRACE"))
 }
 
 fn exec<'a>(alloc: Global) -> Result<Command<'a>, AllocError>
     ensures { IfOk result (λ c. IsSubcommand c exec) }
 {
     Command::new(alloc, "exec")
-        .arg(file(alloc, "CODE"))?
-        .arg(file(alloc, "TRACE"))
+        .arg(argument(alloc, "CODE"))?
+        .arg(argument(alloc, "TRACE"))
+}
+
+fn profile<'a>(alloc: Global) -> Result<Command<'a>, AllocError>
+    ensures { IfOk result (λ c. IsSubcommand c profile) }
+{
+    Command::new(alloc, "profile").arg(argument(alloc, "MODEL"))
+}
+
+fn generate<'a>(alloc: Global) -> Result<Command<'a>, AllocError>
+    ensures { IfOk result (λ c. IsSubcommand c gen) }
+{
+    Command::new(alloc, "gen")
+        .arg(argument(alloc, "START"))?
+        .arg(argument(alloc, "SIZE"))?
+        .arg(argument(alloc, "MODEL"))?
+        .arg(argument(alloc, "CODE"))
 }
 
 // The program without its commands. It has no help and no version of `clap`.
@@ -57,5 +73,7 @@ pub fn program<'a>(alloc: Global) -> Result<Command<'a>, AllocError>
     bare(alloc)
         .subcommand(compile(alloc)?)?
         .subcommand(run(alloc)?)?
-        .subcommand(exec(alloc)?)
+        .subcommand(exec(alloc)?)?
+        .subcommand(profile(alloc)?)?
+        .subcommand(generate(alloc)?)
 }

@@ -1,6 +1,6 @@
-ghost use Rattle.std.specs.Prelude.{◌≡◌, IfOk, IfErr, is_some, option_map, true};
+ghost use Rattle.std.specs.Prelude.{◌≡◌, IfOk, IfErr, IfSome, is_some, option_map, true};
 ghost use Rattle.clap.specs.Words.{kind_of, subcommand_rows_of};
-ghost use Rattle.mc_words.specs.Words.{word_bytes, asked, asked_by};
+ghost use Rattle.mc_words.specs.Words.{word_bytes, HasBounds, asked, asked_by};
 ghost use Rattle.mc_words.specs.Program.{asked_in};
 
 use crate::Command;
@@ -23,14 +23,15 @@ fn parsed<'a>(alloc: Global, words: &'a [String]) -> Result<ArgMatches<'a>, Erro
     program.try_get_matches_from(words)
 }
 
-/// What the words ask for. None exactly where they are no command with just its further words, each with a first byte that
-/// is no `-`, and the file to write another than the files to read.
+/// What the words ask for, with the numbers in their ranges. None exactly where they are no command with just its further
+/// words, each with a first byte that is no `-`, and the code to write another file than those that are named beside it.
 ///
 /// # Errors
 /// Words that ask for something are parsed, for which memory may be wanting.
 pub fn command<'a>(alloc: Global, words: &'a [String]) -> Result<Option<Command<'a>>, Memory>
     ensures values { IfOk result (λ command.
         option_map asked command ≡ asked_by (word_bytes words.entry.now)) }
+    ensures bounds { IfOk result (λ command. IfSome command HasBounds) }
     ensures memory { IfErr result (λ _. is_some (asked_by (word_bytes words.entry.now)) ≡ true) }
 {
     if !is_lawful(words) {

@@ -1,5 +1,6 @@
 use crate::{Command, command, is_lawful};
 use std::alloc::{AllocError, Global};
+use std::process::Abort;
 use std::test::Fail;
 
 fn words_of(alloc: Global, line: &str) -> Result<Vec<String>, AllocError> {
@@ -8,6 +9,14 @@ fn words_of(alloc: Global, line: &str) -> Result<Vec<String>, AllocError> {
         words.push(String::from_str(alloc, word)?)?;
     }
     Ok(words)
+}
+
+// The words of the line ask for nothing.
+fn refuses(rt: &impl Abort, alloc: Global, line: &str) -> Result<(), Fail> {
+    let words = words_of(alloc, line)?;
+    assert!(rt; !is_lawful(&words), "{line}");
+    assert_eq!(rt; command(alloc, &words)?, None, "{line}");
+    Ok(())
 }
 
 #[test]
@@ -43,9 +52,41 @@ fn asks_for_nothing(rt: HostRuntime) -> Result<(), Fail> {
         "exec a -",
         "exec a b c",
     ] {
-        let words = words_of(alloc, line)?;
-        assert!(rt; !is_lawful(&words), "{line}");
-        assert_eq!(rt; command(alloc, &words)?, None, "{line}");
+        refuses(&rt, alloc, line)?;
+    }
+    Ok(())
+}
+
+#[test]
+fn profiles_and_generates_nothing(rt: HostRuntime) -> Result<(), Fail> {
+    let alloc = rt.alloc();
+    for line in [
+        "profile",
+        "profile ",
+        "profile a b",
+        "profile -a",
+        "profiles a",
+        "gen 1 1 a",
+        "gen 1 1 a b c",
+        "gen 1 1 a a",
+        "gen 1 1 a -b",
+        "gen 0 1 a b",
+        "gen 1 0 a b",
+        "gen 01 1 a b",
+        "gen 1 01 a b",
+        "gen 1 2500 a b",
+        "gen 1 10000 a b",
+        "gen 2147483647 1 a b",
+        "gen 4294967297 1 a b",
+        "gen 12345678901 1 a b",
+        "gen x 1 a b",
+        "gen 1 1x a b",
+        "gen +1 1 a b",
+        "gen -1 1 a b",
+        "gen 1.0 1 a b",
+        "gene 1 1 a b",
+    ] {
+        refuses(&rt, alloc, line)?;
     }
     Ok(())
 }
@@ -104,6 +145,48 @@ fn executes(rt: HostRuntime) -> Result<(), Fail> {
             Some(Command::Exec { code, trace }),
             "{line}"
         );
+    }
+    Ok(())
+}
+
+#[test]
+fn profiles(rt: HostRuntime) -> Result<(), Fail> {
+    let alloc = rt.alloc();
+    for (line, model) in [
+        ("profile a", "a"),
+        ("profile profile", "profile"),
+        ("profile help", "help"),
+        ("profile a.mdl", "a.mdl"),
+    ] {
+        let words = words_of(alloc, line)?;
+        assert!(rt; is_lawful(&words), "{line}");
+        assert_eq!(rt;
+            command(alloc, &words)?,
+            Some(Command::Profile { model }),
+            "{line}"
+        );
+    }
+    Ok(())
+}
+
+#[test]
+fn generates(rt: HostRuntime) -> Result<(), Fail> {
+    let alloc = rt.alloc();
+    for (line, start, size, model, code) in [
+        ("gen 1 1 a b", 1, 1, "a", "b"),
+        ("gen 2147483646 2499 a b", 2_147_483_646, 2_499, "a", "b"),
+        ("gen 10 200 gen profile", 10, 200, "gen", "profile"),
+        ("gen 7 1000 1 7", 7, 1_000, "1", "7"),
+    ] {
+        let words = words_of(alloc, line)?;
+        assert!(rt; is_lawful(&words), "{line}");
+        let generates = Command::Gen {
+            start,
+            size,
+            model,
+            code,
+        };
+        assert_eq!(rt; command(alloc, &words)?, Some(generates), "{line}");
     }
     Ok(())
 }
