@@ -1,8 +1,8 @@
 # What the trials of the built program share: its calls, and its C compiled by other compilers. A script that takes this in has set
 # `top`, the repository, and stands in a folder of its own.
 
-# The code has parameters that it doesn't use, so that all procedures of a kind are called in one way, and all eight pure functions.
-unused="-Wno-unused-parameter -Wno-unused-function"
+# The code has parameters that it doesn't use, so that all procedures of a kind are called in one way.
+unused="-Wno-unused-parameter"
 strict="-std=c99 -Wall -Wextra -Wconversion -pedantic $unused -Werror"
 
 fail() { echo "$(basename "$0"): $*" >&2; exit 1; }

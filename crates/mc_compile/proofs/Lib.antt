@@ -1,3 +1,4 @@
 pub mod lemmas
 pub mod RowPasses
 pub mod InputLaws
+mod NeededTexts

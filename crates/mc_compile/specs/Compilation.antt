@@ -6,6 +6,7 @@ use Rattle.mc_diagram.specs.ResolvedTable.{ResolvedTable, diagram_of_table}
 use Rattle.mc_diagram.specs.Inputs.{input_ports}
 use Rattle.mc_profile.specs.Systems.{systems}
 use Rattle.mc_diagram.specs.Traces.{input_type_of}
+use Rattle.c_pruned.specs.Calls.{NoneIdle}
 use Rattle.c_right.specs.Right.{IsRightFor, IsFunctionCount}
 use Rattle.mc_verdict.specs.Verdict.{Accepted, HasVerdict}
 
@@ -21,13 +22,14 @@ pub record Compilation : Type 0 where
   pub inputs : List FixType
   pub code : List ℕ
 
--- of a model with this resolved table: the code is right for it, in all parts
+-- of a model with this resolved table: the code is right for it, in all parts, and has no pure function that isn't called
 pub record IsCompilationOf (r : ResolvedTable) (c : Compilation) : Type 0 where
   pub rows : c.rows ≡ length r.table.rows
   pub systems : c.systems ≡ length (systems r.table.rows)
   pub functions : IsFunctionCount (diagram_of_table r) c.functions
   pub inputs : c.inputs ≡ root_types (diagram_of_table r)
   pub code : IsRightFor c.code r
+  pub none_idle : NoneIdle code.program
 
 -- the file is accepted, and compiled with the resolved table of its model
 pub record IsCompiledFrom (bytes : List ℕ) (c : Compilation) : Type 0 where

@@ -6,9 +6,8 @@ ghost use Rattle.mc_compile.specs.Compilation.{IsCompilationOf};
 
 use crate::compiled::Compiled;
 use crate::inputs::input_types;
-use c_printer::print;
-use c_program::emit;
-use c_right::text_of_code_is_right;
+use crate::text::needed_text;
+use c_program::{Emitted, emit};
 use mc_base::Memory;
 use mc_diagram::Resolved;
 use std::alloc::Global;
@@ -20,14 +19,18 @@ pub(crate) fn compiled_from(alloc: Global, r: &Resolved) -> Result<Compiled, Mem
     requires { HasNoLoop (needs_of (diagram_of r.now)) }
     ensures { IfOk result (IsCompilationOf (table_of_tree r.now)) }
 {
-    text_of_code_is_right();
     let emitted = emit(alloc, r)?;
-    let code = print(alloc, &emitted.program)?;
+    let Emitted {
+        program,
+        systems,
+        functions,
+    } = emitted;
+    let code = needed_text(alloc, program)?;
     let rows = r.tree.table().rows.as_slice();
     Ok(Compiled {
         rows: rows.len() as u32,
-        systems: emitted.systems,
-        functions: emitted.functions,
+        systems,
+        functions,
         inputs: input_types(alloc, rows, r.types.as_slice())?,
         code,
     })

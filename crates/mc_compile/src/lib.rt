@@ -5,6 +5,7 @@ mod code;
 mod compiled;
 mod compiler;
 mod inputs;
+mod text;
 
 pub use compiled::Compiled;
 pub use compiler::compile;

@@ -6,12 +6,11 @@ use Rattle.mc_diagram.specs.Rows.{inports_of}
 use Rattle.mc_diagram.specs.Diagram.{type_at}
 use Rattle.mc_diagram.specs.ResolvedTable.{table_of_tree}
 use Rattle.mc_diagram.specs.ResolvedTree.{ResolvedTree, diagram_of}
-use Rattle.c_syntax.specs.Plain.{program_tree}
 use Rattle.mc_compile.proofs.lemmas.PortTypes.{inputs-are}
 use Rattle.mc_compile.proofs.code.compiled_from.Goals as goal
 
-pub print-requires : goal.print-requires
-print-requires c = c.in_ok-emitted.ensures.program.lawful
+pub needed_text-requires : goal.needed_text-requires
+needed_text-requires c = c.in_ok-emitted.ensures.program.lawful
 
 pub returns : goal.returns
 returns c =
@@ -19,10 +18,12 @@ returns c =
     let rows : c.as_slice-rows.result.now ≡ d.rows =
     c.as_slice-rows.ensures.value ∙ ap (λ (t : RowTable). t.rows) (c.behind-r.view_is ∙ c.table.ensures.table) ∙ ap (λ (r : ResolvedTree). r.tree.table.rows) c.r.view_is in
     let types : c.as_slice.result.now ≡ d.types = c.as_slice.ensures.value ∙ ap (λ (r : ResolvedTree). r.types) c.r.view_is in
+    let right = c.in_ok-code.ensures.right (table_of_tree c.args.r.now) c.in_ok-emitted.ensures.program.code in
     record {
       rows = ap (λ (own : List Row). length own) rows;
       systems = c.in_ok-emitted.ensures.systems;
       functions = c.in_ok-emitted.ensures.functions;
       inputs = c.in_ok-input_types.ensures ∙ (λ i. map (type_at (types i)) (inports_of (rows i) None)) ∙ inputs-are d boolean;
-      code = c.text_of_code_is_right.ensures c.in_ok-code.code.items (program_tree c.in_ok-emitted.emitted.program) (table_of_tree c.args.r.now) c.in_ok-code.ensures c.in_ok-emitted.ensures.program.code;
+      code = right;
+      none_idle = c.in_ok-code.ensures.none_idle right.program right.reads;
     }

@@ -1,0 +1,5 @@
+mod PrunedRows
+mod PrunedBodies
+mod PrunedRules
+mod PrunedShape
+mod PrunedTexts

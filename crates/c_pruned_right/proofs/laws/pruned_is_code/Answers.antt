@@ -1,0 +1,5 @@
+use Rattle.c_pruned_right.proofs.PrunedShape as proof
+use Rattle.c_pruned_right.proofs.laws.pruned_is_code.Goals as goal
+
+pub returns : goal.returns
+returns c = proof.pruned_is_code c.pruned_runs_alike.ensures
