@@ -1,0 +1,12 @@
+mod OneLines
+mod DigitTexts
+mod LineForms
+mod Plans
+mod Words
+mod ModelPlans
+mod PlanTexts
+mod TraceRows
+mod OwnedBlocks
+mod RootBlocks
+mod RootTypes
+mod GeneratedTraces
