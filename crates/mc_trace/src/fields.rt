@@ -13,9 +13,11 @@ const MOST_DIGITS: usize = 18;
 // More than any number of so many digits.
 const NUMBER_BOUND: u64 = 1_000_000_000_000_000_000;
 
-// The first field of the text, and the text behind it, if there is one.
+/// The first field of a line's bytes, and the bytes behind it. None where there is no field.
+///
+/// Spaces and tabs part the fields, and may stand at both ends. A field has at least one byte.
 #[tactic(auto, using(crate::proofs::FieldLaws::no_fields, crate::proofs::FieldLaws::first_field, crate::proofs::FieldLaws::shorter_behind))]
-pub(crate) fn next_field(text: &[u8]) -> Option<(&[u8], &[u8])>
+pub fn next_field(text: &[u8]) -> Option<(&[u8], &[u8])>
     ensures parts { MatchOption result (fields text.now ≡ [])
         (λ parts. fields text.now ≡ parts.0.now ∷ fields parts.1.now) }
     ensures shorter { IfSome result (λ parts. length parts.1.now < length text.now) }
@@ -49,8 +51,8 @@ pub(crate) fn field_count(text: &[u8]) -> u32
     count
 }
 
-// The number that a field writes.
-pub(crate) fn field_number(text: &[u8]) -> Option<i64>
+/// The number that a field writes: perhaps a `-`, and 1 to 18 decimal digits. None where it is of another form.
+pub fn field_number(text: &[u8]) -> Option<i64>
     ensures { result ≡ field.field_number text.now }
 {
     match text {

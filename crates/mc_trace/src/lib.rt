@@ -6,6 +6,7 @@ mod lines;
 mod rows;
 mod walk;
 
+pub use fields::{field_number, next_field};
 pub use lines::{LONGEST_LINE, Next, next_line};
 pub use rows::{BadLine, BadWhy, read_row};
 pub use walk::{last_row, next_row};

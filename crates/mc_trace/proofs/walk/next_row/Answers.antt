@@ -1,9 +1,10 @@
 use Rattle.std.proofs.Common.{arith}
-use Rattle.mc_trace.proofs.lemmas.RowWalk.{line_places, too_many, long_next, row_next, bad_next, nothing_whole}
+use Rattle.mc_trace.proofs.lemmas.LineWalk.{nothing_whole}
+use Rattle.mc_trace.proofs.lemmas.RowWalk.{line_places, too_many, long_next, row_next, bad_next}
 use Rattle.mc_trace.proofs.walk.next_row.Goals as goal
 
 pub slice_bounds-read_row-end : goal.slice_bounds-read_row-end
-slice_bounds-read_row-end c = (line_places _ _ _ _ _ c.requires.within c.in-Line.ensures).1
+slice_bounds-read_row-end c = (line_places c.args.bytes.now c.args.from _ _ _ c.in-Line.ensures).1
 
 pub returns-in_default-clause-next : goal.returns-in_default-clause-next
 returns-in_default-clause-next c =
@@ -14,7 +15,7 @@ returns-in-Long-clause-next c = long_next c.args.bytes.now c.args.types.now c.ar
 
 pub returns-in-Ok-clause-next : goal.returns-in-Ok-clause-next
 returns-in-Ok-clause-next c =
-    row_next c.args.bytes.now c.args.types.now c.args.lines c.args.from _ _ _ _ c.requires.within c.in-Line.ensures (omega arith) c.in-Ok.ensures.row
+    row_next c.args.bytes.now c.args.types.now c.args.lines c.args.from _ _ _ _ c.in-Line.ensures (omega arith) c.in-Ok.ensures.row
 
 pub returns-in-Err-clause-next : goal.returns-in-Err-clause-next
 returns-in-Err-clause-next c = bad_next c.args.bytes.now c.args.types.now c.args.lines c.args.from _ _ _ _ c.in-Line.ensures c.if-lines-eq-MOST_LINES.false c.in-Err.ensures.row
