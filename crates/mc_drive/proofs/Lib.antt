@@ -1,0 +1,11 @@
+pub mod LoopSteps
+pub mod Lists
+pub mod Fields
+pub mod Ports
+pub mod Ticks
+pub mod Callable
+pub mod Standing
+pub mod GoingOn
+pub mod Answering
+pub mod MadeCalls
+pub mod InputCounts
