@@ -1,0 +1,4 @@
+pub mod Found
+pub mod FoundExamples
+pub mod DrivenSystems
+pub mod DrivenMachines
