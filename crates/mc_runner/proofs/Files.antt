@@ -1,6 +1,6 @@
 -- Runs over bytes, and over a file that is read in pieces.
-use Rattle.std.proofs.Common.{◌≡◌, ◌≢◌, refl, sym, ◌∙◌, ap, subst, ℕ, ◌+◌, List, [], ◌∷◌, ◌++◌, length, take, drop, append_assoc, arith}
-use Rattle.std.specs.Prelude.{Option, None, Some, IfSome, Result, Ok, Err, MatchResult}
+use Rattle.std.proofs.Common.{◌≡◌, ◌≢◌, refl, sym, ◌∙◌, ap, subst, ℕ, ◌+◌, List, [], ◌++◌, length, take, drop, append_assoc}
+use Rattle.std.specs.Prelude.{Option, None, Result, Ok, Err, MatchResult}
 use Rattle.std.specs.Io.KnownBytes.{prepend_known, IsAtEnd}
 use Rattle.std.proofs.lemmas.List.{append-nil, take-append-drop}
 use Rattle.mc_edge.specs.Buffers.{ReadsOn}
@@ -14,6 +14,7 @@ use Rattle.mc_runner.specs.declared.outcome.RunFault.TheVariants.{Read, Out, Tra
 use Rattle.mc_runner.specs.Ticks.{Standing}
 use Rattle.mc_runner.specs.Runs.{no_totals, ticks_over, HasRun, RanWhole, StoppedBy, Ends, Parts, file_rows, StoppedReading, RunsOver}
 use Rattle.mc_runner.specs.Walks.{RunsThrough, RunsLines, RunsTo}
+use Rattle.mc_runner.proofs.lemmas.FilePieces.{prepend_known-twice, prepend_known-none, left_of, is_left, none_left}
 use Rattle.mc_runner.proofs.Walks.{none_through, both_through, stops_in, ends_in, EndsLast, clear, runs_clear, stops_clear, ends_clear}
 
 -- before the first tick, the rows behind no line are all
@@ -55,10 +56,6 @@ handed_on result fault trace s s' is stop = subst (λ (r : Result (Unit {0}) Run
 
 -- ---- Pieces of a file
 
-prepend_known-twice : (front more : List ℕ) (k : Option (List ℕ)) → prepend_known front (prepend_known more k) ≡ prepend_known (front ++ more) k
-prepend_known-twice front more None = refl
-prepend_known-twice front more (Some xs) = ap (λ ys. Some ys) (sym (append_assoc front more xs))
-
 -- a run that has taken some of a file: whole lines, whose rows were run, and these bytes
 pub record Reads (types : List FixType) (bytes : List ℕ) (rest rest' : Option (List ℕ)) (s s' : Standing) : Type 0 where
   pub head : List ℕ
@@ -68,16 +65,9 @@ pub record Reads (types : List FixType) (bytes : List ℕ) (rest rest' : Option 
 pub reads_none : (types : List FixType) (bytes : List ℕ) (rest : Option (List ℕ)) (s : Standing) → bytes ≡ [] → Reads types bytes rest rest s s
 reads_none types bytes rest s none = record {
   head = [];
-  took = same rest ∙ ap (λ b. prepend_known b rest) (sym none);
+  took = prepend_known-none rest ∙ ap (λ b. prepend_known b rest) (sym none);
   through = none_through types s;
 }
-  where
-    same : (k : Option (List ℕ)) → k ≡ prepend_known [] k
-    same None = refl
-    same (Some xs) = refl
-
-pub begins_none : (bytes : List ℕ) → bytes ≡ [] → BeginsLine bytes
-begins_none bytes none = subst BeginsLine (sym none) (record { no_whole = refl; short = omega arith })
 
 pub reads_on : (types : List FixType) (count : ℕ) (bytes bytes' : List ℕ) (rest rest' rest'' : Option (List ℕ)) (s s' : Standing) → Reads types bytes rest rest' s s' →
     ReadsOn count bytes bytes' rest' rest'' → Reads types bytes' rest rest'' s s'
@@ -89,15 +79,6 @@ reads_on types count bytes bytes' rest rest' rest'' s s' so_far more = record {
   through = so_far.through;
 }
 
-no_bytes : (piece : List ℕ) → length piece ≡ 0 → piece ≡ []
-no_bytes [] none = refl
-no_bytes (c ∷ cs) none = absurd (omega arith)
-
--- at the end of the file the bytes are those that were there
-pub same_bytes : (count : ℕ) (bytes bytes' : List ℕ) (rest rest' : Option (List ℕ)) → ReadsOn count bytes bytes' rest rest' → count ≡ 0 → bytes' ≡ bytes
-same_bytes count bytes bytes' rest rest' more none =
-    more.bytes ∙ ap (λ p. bytes ++ p) (no_bytes more.piece (more.size ∙ none)) ∙ append-nil bytes
-
 pub lines_read : (types : List FixType) (done : ℕ) (bytes : List ℕ) (rest rest' : Option (List ℕ)) (s s' s'' : Standing) → Reads types bytes rest rest' s s' →
     RunsLines done bytes types s' s'' → Reads types (drop done bytes) rest rest' s s''
 lines_read types done bytes rest rest' s s' s'' so_far lines = record {
@@ -107,19 +88,6 @@ lines_read types done bytes rest rest' s s' s'' so_far lines = record {
       ∙ ap (λ b. prepend_known b rest') (ap (λ b. so_far.head ++ b) (sym (take-append-drop done bytes)) ∙ sym (append_assoc so_far.head (take done bytes) (drop done bytes)));
   through = both_through so_far.head (take done bytes) types s s' s'' so_far.through lines.through;
 }
-
--- what is left of a file, where it is told
-abbrev left_of : Option (List ℕ) → List ℕ
-left_of None = []
-left_of (Some xs) = xs
-
-is_left : (rest : Option (List ℕ)) → IfSome rest (λ told. told ≡ left_of rest)
-is_left None = tt
-is_left (Some xs) = refl
-
-none_left : (rest : Option (List ℕ)) → IsAtEnd rest → left_of rest ≡ []
-none_left None end = refl
-none_left (Some xs) end = end
 
 -- the file can't be read on
 pub read_stops : (types : List FixType) (bytes : List ℕ) (rest rest' : Option (List ℕ)) (s s' : Standing) → s.totals ≡ no_totals → s.waiting ≡ [] → s'.waiting ≡ [] →
@@ -210,14 +178,10 @@ file_ends result types bytes rest rest' s s' s'' start none none' end reads last
 pub nothing_read : (rest : Option (List ℕ)) (types : List FixType) (s : Standing) → RunsOver (Err Memory) rest rest types s s
 nothing_read rest types s = record {
   parts = record { taken = []; left = left_of rest };
-  took = same rest;
+  took = prepend_known-none rest;
   left = is_left rest;
   ends = (refl, refl);
 }
-  where
-    same : (k : Option (List ℕ)) → k ≡ prepend_known [] k
-    same None = refl
-    same (Some xs) = refl
 
 pub never_read : (result : Result (Unit {0}) RunFault) (fault : RunFault) (trace : Trace) (s s' : Standing) → result ≡ Err fault → RunsTo fault trace s s' → result ≢ Err Read
 never_read result Read trace s s' is stop = absurd stop

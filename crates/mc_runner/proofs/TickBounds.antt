@@ -6,7 +6,7 @@ use Rattle.c_meaning.specs.States.{MachineState, tree_of, fields_of}
 use Rattle.c_meaning.specs.Machines.{IsTick}
 use Rattle.mc_runner.specs.declared.outcome.Totals.{Totals}
 use Rattle.mc_runner.specs.Ticks.{StaysWithin, counted}
-use Rattle.mc_runner.proofs.StepBounds.{step_run-bounded}
+use Rattle.mc_runner.proofs.lemmas.StepBounds.{step_run-bounded}
 
 pub steps_bounded : (before after : MachineState) (row outputs : List ℤ) (cost : Cost) → IsTick before after row outputs cost → cost.steps ≤ 2 ^ 32
 steps_bounded before after row outputs cost tick =

@@ -1,6 +1,6 @@
 -- Runs through a text, line by line and piece by piece.
 use Rattle.std.proofs.Common.{◌≡◌, ◌≢◌, refl, sym, ◌∙◌, ap, subst, ℕ, ◌+◌, ◌-◌, List, [], ◌∷◌, ◌++◌, length, take, drop, append_assoc, arith}
-use Rattle.std.specs.Prelude.{ℤ, true, false, Option, None, Some, Result, Ok, Err, is_err, OnOk, OnErr, MatchResult}
+use Rattle.std.specs.Prelude.{ℤ, Option, None, Some, Result, Ok, Err, MatchResult}
 use Rattle.std.specs.Io.KnownBytes.{append_known}
 use Rattle.std.specs.List.{AllZip}
 use Rattle.std.proofs.lemmas.List.{append-nil, length-append, take-append-drop}
@@ -24,7 +24,8 @@ use Rattle.mc_runner.specs.Ticks.{Standing, standing, IsNarrower, Takes, TicksOn
 use Rattle.mc_runner.specs.Runs.{totals_of, added, ticks_over, HasRun, RanWhole, StoppedBy}
 use Rattle.mc_runner.specs.declared.run.Run.{Run}
 use Rattle.mc_runner.specs.Walks.{inside, IsFilled, Runs, RunsThrough, RunsLines, RunsToEnd, RunsToLine, RunsToOut, RunsTo}
-use Rattle.mc_runner.proofs.Standings.{ticks_behind, both_ticked, both_run, both_cut, none_run, one_ticked, first_stuck, added-none, nothing, flushed, cut, all_put}
+use Rattle.mc_runner.proofs.lemmas.Waiting.{nothing, flushed, cut, all_put}
+use Rattle.mc_runner.proofs.Standings.{ticks_behind, both_ticked, both_run, both_cut, none_run, one_ticked, first_stuck, added-none}
 
 -- ---- Texts that write rows
 
@@ -405,13 +406,3 @@ last_ticked text types machine run run' put s' result filled last tick =
     subst (λ s. EndsLast result (rows_after s.totals.ticks types text) s s') (sym (same_place machine run run' put filled))
     (ticks_last text types run'.row.items (inside machine run' put) s' result
     (subst (λ n. IsLastRow text types n run'.row.items) (same_count run run' filled) last) tick)
-
--- ---- A result that was asked whether it is an error
-
-pub if_err : {T E P : Type 0} (result : Result T E) → true ≡ is_err result → OnErr result P → P
-if_err (Ok value) is p = cc
-if_err (Err fault) is p = p
-
-pub if_ok : {T E P : Type 0} (result : Result T E) → false ≡ is_err result → OnOk result P → P
-if_ok (Ok value) is p = p
-if_ok (Err fault) is p = cc

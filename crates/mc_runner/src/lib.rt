@@ -10,6 +10,7 @@ mod runner;
 mod tick;
 mod trace_file;
 
+pub use line::put_line;
 pub use outcome::{RunFault, Totals};
 pub use runner::run_bytes;
 pub use trace_file::run_trace;

@@ -55,12 +55,10 @@ fn put_numbers<S: Sink>(lines: &mut PutBuffer, sink: &mut S, numbers: &[i64]) ->
     put_others(lines, sink, &numbers[1..])
 }
 
-// Puts the line of a tick with these outputs.
-pub(crate) fn put_line<S: Sink>(
-    lines: &mut PutBuffer,
-    sink: &mut S,
-    outputs: &[i64],
-) -> Result<(), Failed>
+/// Puts the line of a tick with these outputs, or lets it wait: decimal numbers with a space between each two.
+///
+/// Fails only where the sink counted a fault. Then a front of what waited and of the line was put, and the rest is lost.
+pub fn put_line<S: Sink>(lines: &mut PutBuffer, sink: &mut S, outputs: &[i64]) -> Result<(), Failed>
     ensures taken { OnOk result (PutsAllBut lines.new (lines.old ++ outputs_line outputs.now) (S.bytes sink.old) (S.bytes sink.new)) }
     ensures front { OnErr result (PutsFront (S.bytes sink.old) (S.bytes sink.new) (lines.old ++ outputs_line outputs.now)) }
     ensures cause { HasCause (S.faults sink.old) (S.faults sink.new) result }

@@ -3,7 +3,8 @@ use Rattle.std.specs.Prelude.{Err}
 use Rattle.mc_trace.specs.Pieces.{rows_after}
 use Rattle.mc_runner.specs.declared.outcome.RunFault.TheVariants.{Out}
 use Rattle.mc_runner.specs.Walks.{inside}
-use Rattle.mc_runner.proofs.Walks.{last_flushed, last_cut, if_err, if_ok}
+use Rattle.mc_runner.proofs.lemmas.Waiting.{if_err, if_ok}
+use Rattle.mc_runner.proofs.Walks.{last_flushed, last_cut}
 use Rattle.mc_runner.proofs.lines.run_last.Goals as goal
 use Rattle.mc_runner.proofs.lines.run_last.Goals.{in-Err+in-Read-1, in-Ok-1}
 

@@ -2,7 +2,8 @@ use Rattle.std.proofs.Common.{◌≢◌, rules}
 use Rattle.std.specs.Prelude.{Err}
 use Rattle.mc_runner.specs.declared.outcome.RunFault.TheVariants.{Out}
 use Rattle.mc_runner.specs.Walks.{inside}
-use Rattle.mc_runner.proofs.Walks.{lines_flushed, lines_cut, if_err, if_ok}
+use Rattle.mc_runner.proofs.lemmas.Waiting.{if_err, if_ok}
+use Rattle.mc_runner.proofs.Walks.{lines_flushed, lines_cut}
 use Rattle.mc_runner.proofs.lines.run_lines.Goals as goal
 use Rattle.mc_runner.proofs.lines.run_lines.Goals.{in-Err+in-Read-1, in-Ok-1}
 

@@ -7,7 +7,8 @@ use Rattle.mc_runner.specs.Runs.{RunsOver}
 use Rattle.mc_runner.specs.Ticks.{standing}
 use Rattle.mc_runner.specs.Walks.{inside, RunsLines, RunsTo}
 use Rattle.mc_runner.proofs.Walks.{EndsLast}
-use Rattle.mc_runner.proofs.Files.{Reads, reads_none, begins_none, reads_on, lines_read, read_stops, lines_stop, file_ends, never_read}
+use Rattle.mc_runner.proofs.lemmas.FilePieces.{begins_none}
+use Rattle.mc_runner.proofs.Files.{Reads, reads_none, reads_on, lines_read, read_stops, lines_stop, file_ends, never_read}
 use Rattle.mc_runner.proofs.trace_file.run_pieces.Goals as goal
 
 pub loop-count-init : goal.loop-count-init

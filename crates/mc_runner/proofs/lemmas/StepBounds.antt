@@ -1,6 +1,6 @@
--- A tick takes at most 2 ^ 32 steps, and makes at most one call more than steps.
+-- A tick, and any call from outside, takes at most 2 ^ 32 steps, and makes at most one call more than steps.
 use Rattle.std.proofs.Common.{◌≡◌, refl, ap, subst, ℕ, zero, suc, ◌+◌, ◌^◌, ◌≤◌, ◌<◌, Bool, true, false, not, List, [], ◌∷◌, ◌++◌, length, arith}
-use Rattle.std.specs.Prelude.{◌+ℤ◌, ◌-ℤ◌, ◌*ℤ◌, ℤ, pos, neg_ℤ, int_div, int_rem, int_le, int_lt, unsigned_abs, ◌&&◌, nat_lt, if◌then◌else◌}
+use Rattle.std.specs.Prelude.{◌+ℤ◌, ◌-ℤ◌, ◌*ℤ◌, ℤ, pos, neg_ℤ, int_div, int_rem, int_le, int_lt, unsigned_abs, ◌&&◌, nat_lt, unwrap_or, codes, if◌then◌else◌}
 use Rattle.std.specs.Ordering.{int_eq}
 use Rattle.std.proofs.lemmas.Bool.{ltb-true}
 use Rattle.std.proofs.lemmas.List.{length-append, length-map}
@@ -15,7 +15,8 @@ use Rattle.c_syntax.specs.declared.fault.Why.TheVariants.{Overflow, ZeroDivisor,
 use Rattle.c_syntax.specs.Tree.{ExprTree, literal, neg, read, binary, pick, pure, item, ExprTrees, no_exprs, more_exprs, CondTree, compare, both, either, negated, PureTree, StmtTree, assign, assign_at, branch, call, StmtTrees, no_stmts, more_stmts, StructTree, ProcedureTree, ProgramTree, struct_fields, field_types, type_at}
 use Rattle.c_machine.specs.Cells.{Cells, no_cells, fields_at, items_at}
 use Rattle.c_machine.specs.Values.{Answer, gives, sticks, and_then, within, is_in_type, stuck_at, step_limit, operate, compares, Function, function_at, function_of, functions_of, Reads, reads, index_in, int_at, eval, eval_all, eval_cond}
-use Rattle.c_machine.specs.Machine.{After, Outcome, done, stuck, behind, then_run, begin_step, on_answer, in_child, on_target, arguments, store, store_at, LoggedCall, StoredField, call_under, Scope, run_stmt, run_stmts, Routine, routine_at, routine_of, routines_of, program_routines, call_entry, is_interface}
+use Rattle.c_machine.specs.Machine.{After, Outcome, done, stuck, behind, then_run, begin_step, on_answer, in_child, on_target, arguments, store, store_at, LoggedCall, StoredField, call_under, Scope, run_stmt, run_stmts, Routine, routine_at, routine_of, routines_of, program_routines, call_entry, is_interface, at_path, call_from_outside}
+use Rattle.c_syntax.specs.RootFields.{procedure_named}
 use Rattle.c_machine.specs.Rows.{step_run}
 
 -- ---- Expressions
@@ -275,8 +276,21 @@ program_routines-take p = routines_of-take p.structs (functions_of [] p.pures) [
 took : (n extra : ℕ) (o : Outcome) (a : After) → o ≡ done a → Takes n extra o → Took n extra a
 took n extra o a is takes = subst (Takes n extra) is takes
 
+at_path-takes : (n extra : ℕ) (path : List ℕ) (go : Cells → Outcome) → ((c : Cells) → Takes n extra (go c)) → (cells : Cells) → Takes n extra (at_path path go cells)
+at_path-takes n extra [] go takes cells = takes cells
+at_path-takes n extra (f ∷ path) go takes cells =
+    in_child-takes n extra f cells (at_path path go (fields_at cells f)) (at_path-takes n extra path go takes (fields_at cells f))
+
+-- a call from outside
+pub outside-bounded : (p : ProgramTree) (k : ℕ) (path : List ℕ) (values : List ℤ) (cells : Cells) (a : After) → call_from_outside p k path values cells ≡ done a →
+    (a.steps ≤ 2 ^ 32) × (length a.log ≤ 2 ^ 32 + 1)
+outside-bounded p k path values cells a is =
+    let inside = λ (inner : Cells). (routine_at (program_routines p) k).run values inner 0 in
+    let t =
+    took 0 1 (call_from_outside p k path values cells) a is
+    (at_path-takes 0 1 path inside (λ inner. routine_at-takes (program_routines p) (program_routines-take p) k values inner 0 (omega arith)) cells) in
+    (t.most, omega (arith, t.calls, t.most))
+
 pub step_run-bounded : (p : ProgramTree) (row : List ℤ) (cells : Cells) (a : After) → step_run p row cells ≡ done a →
     (a.steps ≤ 2 ^ 32) × (length a.log ≤ 2 ^ 32 + 1)
-step_run-bounded p row cells a is =
-    let t = took 0 1 (step_run p row cells) a is (routine_at-takes (program_routines p) (program_routines-take p) _ row cells 0 (omega arith)) in
-    (t.most, omega (arith, t.calls, t.most))
+step_run-bounded p row cells a is = outside-bounded p (unwrap_or (procedure_named p (codes "root_step")) 0) [] row cells a is

@@ -1,0 +1,24 @@
+use mc_drive::DriveFault;
+use mc_script::BadCall;
+
+/// A line of a script whose call the driver refused, by its number from 1, and why.
+#[derive(Clone, Copy, Debug, PartialEq, Eq, Drop)]
+pub struct RefusedCall {
+    pub line: u32,
+    pub why: DriveFault,
+}
+
+/// Why a run stopped before the end of its script.
+#[derive(Clone, Copy, Debug, PartialEq, Eq, Drop)]
+pub enum ScriptFault {
+    /// The script can't be read.
+    Read,
+    /// A line can't be put.
+    Out,
+    /// The first line of the script that is no call by itself.
+    Line(BadCall),
+    /// The first line whose call the driver refused.
+    Call(RefusedCall),
+    /// Memory ran out.
+    Memory,
+}
