@@ -1,0 +1,17 @@
+-- Machines of a model's code, and what is driven in them.
+use Rattle.std.specs.Prelude.{◌≡◌, ℕ, List, Option}
+use Rattle.mc_diagram.specs.ResolvedTable.{ResolvedTable}
+use Rattle.c_meaning.specs.States.{MachineState, tree_of}
+use Rattle.c_drivable.specs.DrivenMachines.{IsOfRightBytes}
+use Rattle.mc_drive.specs.Driven.{Driven}
+use Rattle.mc_driven.specs.SystemShapes.{IsSystemOfModel}
+
+-- a machine as it was made of the one reading of bytes, which are right for a model without a loop
+pub record IsMachineOf (m : MachineState) (r : ResolvedTable) : Type 0 where
+  pub bytes : List ℕ
+  pub of_right : IsOfRightBytes m bytes r
+
+-- what is driven is this system of the model, in code that is the machine's program
+pub record IsDrivenIn (m : MachineState) (r : ResolvedTable) (s : Option ℕ) (w : Driven) : Type 0 where
+  pub program : w.program ≡ tree_of m
+  pub of_model : IsSystemOfModel r s w

@@ -1,0 +1,39 @@
+-- What a driver is told of a system of a model.
+use Rattle.std.specs.Prelude.{◌≡◌, ℕ, List, length, map, Option}
+use Rattle.std.specs.List.{range_with_len}
+use Rattle.mc_base.specs.declared.Port.TheVariants.{Number}
+use Rattle.mc_diagram.specs.Diagram.{Diagram}
+use Rattle.mc_diagram.specs.Inputs.{control_ports}
+use Rattle.mc_diagram.specs.Needs.{AreTrueNeeds}
+use Rattle.mc_diagram.specs.ResolvedTable.{ResolvedTable, diagram_of_table}
+use Rattle.mc_diagram.specs.Rows.{inports_of, outports_of, system_control}
+use Rattle.mc_diagram.specs.Traces.{input_type_of}
+use Rattle.mc_profile.specs.declared.profile.Function.{Function}
+use Rattle.mc_profile.specs.Functions.{functions_for}
+use Rattle.mc_profile.specs.Systems.{system_name}
+use Rattle.c_shape.specs.Names.{value_name}
+use Rattle.mc_drive.specs.Driven.{Driven}
+use Rattle.mc_drive.specs.Shapes.{Shape}
+
+-- the shape of a system of a diagram, by its functions
+abbrev pub shape_with : Diagram → ℕ → Option ℕ → List Function → Shape
+shape_with d hyper s functions = record {
+  name = system_name s;
+  functions = functions;
+  inputs = map (λ k. input_type_of d s (Number k)) (range_with_len 1 (length (inports_of d.rows s)));
+  controls = map (λ p. (p, input_type_of d s p)) (control_ports (system_control d.rows s));
+  outputs = map value_name (outports_of d.rows s);
+  hyper = hyper;
+}
+
+-- it is the shape of the system, which has the functions for what its outputs need
+pub record IsShapeOf (r : ResolvedTable) (s : Option ℕ) (shape : Shape) : Type 0 where
+  pub needs : List ℕ
+  pub are_needs : AreTrueNeeds (diagram_of_table r) s needs
+  pub is : shape ≡ shape_with (diagram_of_table r) r.times.hyper s (functions_for needs)
+
+-- what is driven is this system of the model
+pub record IsSystemOfModel (r : ResolvedTable) (s : Option ℕ) (w : Driven) : Type 0 where
+  pub diagram : w.diagram ≡ diagram_of_table r
+  pub hyper : w.hyper ≡ r.times.hyper
+  pub system : w.system ≡ s

@@ -1,0 +1,16 @@
+//! A driver of a system of a model, over a machine of the model's code.
+#![tactic(auto)]
+
+mod controls;
+mod driver;
+mod instance;
+mod names;
+mod ports;
+mod profile;
+mod reading;
+mod shape;
+mod system;
+
+pub use driver::driver_of;
+pub use shape::shape_of;
+pub use system::{System, system_named};
