@@ -18,11 +18,13 @@ use Rattle.mc_runner.specs.Ticks.{IsNarrower}
 use Rattle.mc_diagram.specs.ResolvedTable.{diagram_of_table}
 use Rattle.mc_compile.specs.Compilation.{Compilation, root_types, IsCompiledFrom}
 use Rattle.mdlc.specs.declared.tool.Ending.{Ending}
-use Rattle.mdlc.specs.declared.tool.Ending.TheVariants.{Compiled, Ran, Usage, Refused, BadTrace, CodeRefused, CodeTooLong, Stuck as IsStuck, ReadFault, WriteFault, PutFault, NoMemory}
+use Rattle.mdlc.specs.declared.tool.Ending.TheVariants.{Compiled, Ran, Reported, Usage, Refused, BadTrace, CodeRefused, CodeTooLong, Stuck as IsStuck, ReadFault, WriteFault, PutFault, NoMemory}
 use Rattle.mc_words.specs.Words.{Run, Exec}
 use Rattle.mdlc.specs.Told.{HostTold, SinkTold, NoFault}
 use Rattle.mdlc.specs.Runs.{HasStepTypes, rows_in, rows_over, RunsTaken, RunsTo}
-use Rattle.mdlc.specs.Endings.{OnNamed, OnBytes, PutsNothing, EndsNoMemory, ReadsToEnd, TakesFile, code_limit, WritesWhole, RunsModel, LosesTrace, StartsCode, ExecutesCode, LosesTraceOf, IsStuckAtStart, LeavesHost, CountsPuts, Finds, Ends}
+use Rattle.mdlc.specs.EndingsOfModels.{OnNamed, OnBytes, PutsNothing, EndsNoMemory, LeavesHost}
+use Rattle.mdlc.specs.EndingsOfRuns.{ReadsToEnd, TakesFile, code_limit, WritesWhole, RunsModel, LosesTrace, StartsCode, ExecutesCode, LosesTraceOf, IsStuckAtStart}
+use Rattle.mdlc.specs.Endings.{CountsPuts, Finds, Ends}
 use Rattle.mdlc.specs.Acting.{WritesCompiled, NotStarted, StartsFrom, RunEnds}
 use Rattle.mdlc.proofs.Files.{there}
 use Rattle.mdlc.proofs.EndingLaws.{whole-front}
@@ -122,6 +124,7 @@ exec-finds ReadFault code trace bytes m h h1 h' b b' r run =
 exec-finds NoMemory code trace bytes m h h1 h' b b' r run = (run.written ∙ r.same.written, run.silent)
 exec-finds (Compiled rows systems functions) code trace bytes m h h1 h' b b' r run = absurd run
 exec-finds Usage code trace bytes m h h1 h' b b' r run = absurd run
+exec-finds (Reported text) code trace bytes m h h1 h' b b' r run = absurd run
 exec-finds (Refused refusal) code trace bytes m h h1 h' b b' r run = absurd run
 exec-finds (CodeRefused fault) code trace bytes m h h1 h' b b' r run = absurd run
 exec-finds CodeTooLong code trace bytes m h h1 h' b b' r run = absurd run
@@ -156,6 +159,7 @@ exec_unstarted (IsStuck at) code trace bytes h h1 b whole fits left none = recor
 exec_unstarted (Compiled rows systems functions) code trace bytes h h1 b whole fits left none = absurd none
 exec_unstarted (Ran totals) code trace bytes h h1 b whole fits left none = absurd none
 exec_unstarted Usage code trace bytes h h1 b whole fits left none = absurd none
+exec_unstarted (Reported text) code trace bytes h h1 b whole fits left none = absurd none
 exec_unstarted (Refused refusal) code trace bytes h h1 b whole fits left none = absurd none
 exec_unstarted (BadTrace line) code trace bytes h h1 b whole fits left none = absurd none
 exec_unstarted CodeTooLong code trace bytes h h1 b whole fits left none = absurd none
@@ -177,7 +181,7 @@ inputs-fit agree c m bytes from starts =
     (subst (λ (q : ProgramTree). HasStepTypes q m.program.inputs) (program-is c m bytes from starts) starts.inputs))
 
 -- what is known of the machine's program holds of the program that the code is
-as-compiled : (c : Compilation) (m : MachineState) (bytes : List ℕ) (P : ProgramTree → List FixType → Type 0) (from : IsCompiledFrom bytes c) → StartsFrom c.code m → P (tree_of m) c.inputs → P from.compiled.code.program (root_types (diagram_of_table from.resolved))
+pub as-compiled : (c : Compilation) (m : MachineState) (bytes : List ℕ) (P : ProgramTree → List FixType → Type 0) (from : IsCompiledFrom bytes c) → StartsFrom c.code m → P (tree_of m) c.inputs → P from.compiled.code.program (root_types (diagram_of_table from.resolved))
 as-compiled c m bytes P from starts run =
     subst (λ (types : List FixType). P from.compiled.code.program types) from.compiled.inputs (subst (λ (q : ProgramTree). P q c.inputs) (program-is c m bytes from starts) run)
 
@@ -215,7 +219,7 @@ model-lost model code trace c m h h1 h' b b' w starts written lines =
     }
 
 -- right code is stuck over no trace
-never-stuck : (at : Stuck) (c : Compilation) (m : MachineState) (bytes lines : List ℕ) → IsCompiledFrom bytes c → StartsFrom c.code m → (rows_over (tree_of m) c.inputs lines).stuck_place ≡ Some at → ⊥
+pub never-stuck : (at : Stuck) (c : Compilation) (m : MachineState) (bytes lines : List ℕ) → IsCompiledFrom bytes c → StartsFrom c.code m → (rows_over (tree_of m) c.inputs lines).stuck_place ≡ Some at → ⊥
 never-stuck at c m bytes lines from starts sticks =
     let p : ProgramTree = from.compiled.code.program in
     let types : List FixType = root_types (diagram_of_table from.resolved) in
@@ -248,6 +252,7 @@ run-finds ReadFault model code trace c m h h1 h' b b' w starts run =
 run-finds NoMemory model code trace c m h h1 h' b b' w starts run = (no-more model code c h h1 h' w run.written, run.silent)
 run-finds (Compiled rows systems functions) model code trace c m h h1 h' b b' w starts run = absurd run
 run-finds Usage model code trace c m h h1 h' b b' w starts run = absurd run
+run-finds (Reported text) model code trace c m h h1 h' b b' w starts run = absurd run
 run-finds (Refused refusal) model code trace c m h h1 h' b b' w starts run = absurd run
 run-finds (CodeRefused fault) model code trace c m h h1 h' b b' w starts run = absurd run
 run-finds CodeTooLong model code trace c m h h1 h' b b' w starts run = absurd run
@@ -262,7 +267,7 @@ run_forgets : (model code trace : List ℕ) (c : Compilation) (h h1 : HostTold) 
 run_forgets model code trace c h h1 b w = record { finds = (no-more model code c h h1 h1 w refl, refl); counts = refl }
 
 -- the code that a model was compiled to starts
-starts-right : (c : Compilation) (bytes : List ℕ) (from : IsCompiledFrom bytes c) (p : ProgramTree) (at : Stuck) (cells : Cells) → CText c.code p → start_run p ≡ stuck at cells → ⊥
+pub starts-right : (c : Compilation) (bytes : List ℕ) (from : IsCompiledFrom bytes c) (p : ProgramTree) (at : Stuck) (cells : Cells) → CText c.code p → start_run p ≡ stuck at cells → ⊥
 starts-right c bytes from p at cells text start =
     let q : ProgramTree = from.compiled.code.program in
     let same : start_run q ≡ stuck at cells = ap start_run (sym (from.compiled.code.only p text)) ∙ start in
@@ -280,6 +285,7 @@ run_unstarted agree (IsStuck at) model code trace c h h1 b w none =
 run_unstarted agree (Compiled rows systems functions) model code trace c h h1 b w none = absurd none
 run_unstarted agree (Ran totals) model code trace c h h1 b w none = absurd none
 run_unstarted agree Usage model code trace c h h1 b w none = absurd none
+run_unstarted agree (Reported text) model code trace c h h1 b w none = absurd none
 run_unstarted agree (Refused refusal) model code trace c h h1 b w none = absurd none
 run_unstarted agree (BadTrace line) model code trace c h h1 b w none = absurd none
 run_unstarted agree CodeTooLong model code trace c h h1 b w none = absurd none

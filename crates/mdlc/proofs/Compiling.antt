@@ -5,8 +5,9 @@ use Rattle.mc_base.specs.Refusals.{PlainRefusal, TooLong}
 use Rattle.mc_edge.specs.Files.{File, OnFile, WritesFront}
 use Rattle.mc_verdict.specs.Verdict.{HasVerdict, Refused}
 use Rattle.mc_compile.specs.Compilation.{Compilation, IsCompiledFrom}
+use Rattle.mc_interfaces.specs.Interfaces.{IsReportOf}
 use Rattle.mdlc.specs.Told.{HostTold}
-use Rattle.mdlc.specs.Endings.{OnNamed, OnBytes, WritesCodeFront, EndsCompiled}
+use Rattle.mdlc.specs.EndingsOfModels.{OnNamed, OnBytes, WritesCodeFront, EndsCompiled}
 use Rattle.mdlc.specs.Acting.{WritesCompiled}
 use Rattle.mdlc.proofs.Files.{there, longer_than}
 
@@ -22,6 +23,10 @@ module _ (h : HostTold) (name bytes : List ℕ) (c : Compilation) (whole : OnNam
 -- the file was refused
 pub refused-file : (h : HostTold) (name bytes : List ℕ) (refusal : PlainRefusal) → OnNamed h name (λ x. bytes ≡ x) → HasVerdict bytes (Refused refusal) → OnBytes h name (λ x. HasVerdict x (Refused refusal))
 refused-file h name bytes refusal whole verdict = record { bytes = bytes; file = there h.files h.rest name whole (λ x is. sym is); holds = verdict }
+
+-- the file was reported on
+pub reported-file : (h : HostTold) (name bytes text : List ℕ) → OnNamed h name (λ x. bytes ≡ x) → IsReportOf bytes text → OnBytes h name (λ x. IsReportOf x text)
+reported-file h name bytes text whole report = record { bytes = bytes; file = there h.files h.rest name whole (λ x is. sym is); holds = report }
 
 -- a file with too many bytes is refused for that
 pub long-file : (h : HostTold) (name : List ℕ) → OnNamed h name (λ x. 16_777_216 < length x) → OnBytes h name (λ x. HasVerdict x (Refused TooLong))

@@ -7,7 +7,7 @@ use Rattle.mc_edge.specs.Fakes.{SureHostState}
 use Rattle.mc_edge.specs.Files.{File, lookup}
 use Rattle.c_machine.specs.Rows.{start_run}
 use Rattle.c_reading.specs.Agreement.{ReadingsAgree}
-use Rattle.mc_words.specs.Words.{Asked, Compile, Run, Exec}
+use Rattle.mc_words.specs.Words.{Asked, Compile, Run, Exec, Profile, Gen}
 use Rattle.mdlc.specs.Told.{HostTold, SinkTold}
 use Rattle.mdlc.specs.Endings.{EndsAt}
 use Rattle.mdlc.specs.Statuses.{Comes, ComesExactly, OnTold, run_status, IsDone}
@@ -32,6 +32,8 @@ can-comes (Exec code trace) fs can =
         comes-over x.program x.types (lookup trace fs) 0 (start_run x.program) refl x.inputs (at_there (lookup trace fs) x.runs (λ lines run. over x.program x.types lines None None run.free run.good)),
       ),
     )))
+can-comes (Profile model) fs can = at_there (lookup model fs) can (λ bytes x. inr (x.0, x.1, refl))
+can-comes (Gen start size model code) fs can = inr (can.0, can.1, refl)
 
 done-by : (s : ℕ) (a : Asked) (fs : List File) → ComesExactly s a fs → s ≢ 5 → s ≢ 6 → s ≢ 7 → CanDo a fs → IsDone s
 done-by s a fs comes reads writes puts can = by (eqb_tells s 10)
@@ -54,7 +56,11 @@ apart : (b : Bool) → b ≡ true → b ≡ false → ⊥
 apart b holds fails = cc (sym holds ∙ fails)
 
 sure-not-unsure : {H : Type 0} (files : H → Option (List File)) (sure : H → List ℕ → Bool) (x : H) (a : Asked) → IsSureOf files sure x a → IsUnsureOf files sure x a → ⊥
-sure-not-unsure files sure x a of (inl unsure) = apart (sure x (first_file a)) of.first unsure
+sure-not-unsure {H = H} files sure x a of (inl unsure) = by (first_file a) of.first unsure
+  where
+    by : (o : Option (List ℕ)) → IfSome o (λ name. sure x name ≡ true) → IsSomeAnd o (λ name. sure x name ≡ false) → ⊥
+    by None surely unsure = absurd unsure
+    by (Some name) surely unsure = apart (sure x name) surely unsure
 sure-not-unsure {H = H} files sure x a of (inr later) = by (second_file a) of.second later
   where
     by : (o : Option (List ℕ)) → IfSome o (λ name. (y : H) → files y ≡ files x → sure y name ≡ true) → IsSomeAnd o (BecomesUnsureOf files sure x) → ⊥
@@ -77,15 +83,19 @@ inside : (o : Option (List ℕ)) {P : List ℕ → Type 0} {Q : Type 0} → IsSo
 inside None h q = absurd h
 inside (Some bytes) h q = q bytes h
 
-first-there : (a : Asked) (fs : List File) → CanDo a fs → is_some (lookup (first_file a) fs) ≡ true
+first-there : (a : Asked) (fs : List File) → CanDo a fs → IfSome (first_file a) (λ name. is_some (lookup name fs) ≡ true)
 first-there (Compile model code) fs can = is-there (lookup model fs) _ can
 first-there (Run model code trace) fs can = is-there (lookup model fs) _ can
 first-there (Exec code trace) fs can = is-there (lookup code fs) _ can
+first-there (Profile model) fs can = is-there (lookup model fs) _ can
+first-there (Gen start size model code) fs can = tt
 
 second-there : (a : Asked) (fs : List File) → CanDo a fs → IfSome (second_file a) (λ name. is_some (lookup name fs) ≡ true)
 second-there (Compile model code) fs can = tt
 second-there (Run model code trace) fs can = inside (lookup model fs) can (λ bytes x. is-there (lookup trace fs) _ x.2)
 second-there (Exec code trace) fs can = inside (lookup code fs) can (λ bytes x. is-there (lookup trace fs) _ x.runs)
+second-there (Profile model) fs can = tt
+second-there (Gen start size model code) fs can = tt
 
 abbrev told-files : SureHostState → Option (List File)
 told-files h = Some h.files

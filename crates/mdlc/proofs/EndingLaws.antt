@@ -6,10 +6,13 @@ use Rattle.mc_edge.specs.Faults.{Rose, IsCalm}
 use Rattle.mc_edge.specs.Files.{add_file}
 use Rattle.mc_compile.specs.Compilation.{Compilation, IsCompiledFrom}
 use Rattle.mdlc.specs.declared.tool.Ending.{Ending}
-use Rattle.mdlc.specs.declared.tool.Ending.TheVariants.{Compiled, Ran, Usage, Refused, BadTrace, CodeRefused, CodeTooLong, Stuck as IsStuck, ReadFault, WriteFault, PutFault, NoMemory}
-use Rattle.mc_words.specs.Words.{Asked, Compile, Run, Exec}
+use Rattle.mdlc.specs.declared.tool.Ending.TheVariants.{Compiled, Ran, Reported, Usage, Refused, BadTrace, CodeRefused, CodeTooLong, Stuck as IsStuck, ReadFault, WriteFault, PutFault, NoMemory}
+use Rattle.mc_words.specs.Words.{Asked, Compile, Run, Exec, Profile, Gen}
+use Rattle.mdlc.specs.Texts.{no_memory_line}
 use Rattle.mdlc.specs.Told.{HostTold, SinkTold, NoFault}
-use Rattle.mdlc.specs.Endings.{status_of, text_of, WritesCodeFront, WritesWhole, EndsRunUnread, EndsExecUnread, Finds, CountsPuts, Ends, EndsAt, IsSaidOf, PutsWhole, Puts}
+use Rattle.mdlc.specs.EndingsOfModels.{WritesCodeFront}
+use Rattle.mdlc.specs.EndingsOfRuns.{WritesWhole, EndsRunUnread, EndsExecUnread}
+use Rattle.mdlc.specs.Endings.{status_of, text_of, Finds, CountsPuts, Ends, EndsAt, IsSaidOf, PutsWhole, PutsText, Puts}
 use Rattle.mdlc.specs.Statuses.{IsPlain}
 use Rattle.mdlc.specs.Headline.{Calm}
 use Rattle.mdlc.proofs.Unsure.{only_read, only_write, only_put}
@@ -30,6 +33,11 @@ whole-front code model h h' w =
 pub ended : (found said : Ending) (s : ℕ) (a : Option Asked) (h h' : HostTold) (b before b' : SinkTold) → Ends found a h h' b before → IsSaidOf said found → Puts said s before b' → EndsAt s a h h' b b'
 ended found said s a h h' b before b' ends says puts =
     record { found = found; said = said; before = before; ends = ends; says = says; puts = puts }
+
+-- the text for want of memory was put in the place of another
+pub said_no_memory : (found : Ending) (status s : ℕ) (text : List ℕ) (b b' : SinkTold) → found ≢ PutFault → status ≡ 10 → text ≡ no_memory_line → PutsText status text s b b' → (e : Ending) × IsSaidOf e found × Puts e s b b'
+said_no_memory found status s text b b' other is same puts =
+    (NoMemory, inr (refl, other), subst (λ (n : ℕ). PutsText n no_memory_line s b b') is (subst (λ (x : List ℕ). PutsText status x s b b') same puts))
 
 -- an ending that was found, and whose text was put whole
 pub record SaysFound (s : ℕ) (a : Option Asked) (h h' : HostTold) (b b' : SinkTold) : Type 0 where
@@ -62,35 +70,57 @@ host-calm (Compiled rows systems functions) None h h' b b' ends plain = absurd e
 host-calm (Compiled rows systems functions) (Some (Compile model code)) h h' b b' ends plain = ends.0.no_fault
 host-calm (Compiled rows systems functions) (Some (Run model code trace)) h h' b b' ends plain = absurd ends
 host-calm (Compiled rows systems functions) (Some (Exec code trace)) h h' b b' ends plain = absurd ends
+host-calm (Compiled rows systems functions) (Some (Profile model)) h h' b b' ends plain = absurd ends.0
+host-calm (Compiled rows systems functions) (Some (Gen start size model code)) h h' b b' ends plain = absurd ends
 host-calm (Ran totals) None h h' b b' ends plain = absurd ends.0
 host-calm (Ran totals) (Some (Compile model code)) h h' b b' ends plain = absurd ends.0
 host-calm (Ran totals) (Some (Run model code trace)) h h' b b' ends plain = ends.no_fault
 host-calm (Ran totals) (Some (Exec code trace)) h h' b b' ends plain = ends.left.no_fault
+host-calm (Ran totals) (Some (Profile model)) h h' b b' ends plain = absurd ends.0
+host-calm (Ran totals) (Some (Gen start size model code)) h h' b b' ends plain = ends.no_fault
+host-calm (Reported text) None h h' b b' ends plain = absurd ends.0
+host-calm (Reported text) (Some (Compile model code)) h h' b b' ends plain = absurd ends.0
+host-calm (Reported text) (Some (Run model code trace)) h h' b b' ends plain = absurd ends
+host-calm (Reported text) (Some (Exec code trace)) h h' b b' ends plain = absurd ends
+host-calm (Reported text) (Some (Profile model)) h h' b b' ends plain = ends.0.left.no_fault
+host-calm (Reported text) (Some (Gen start size model code)) h h' b b' ends plain = absurd ends
 host-calm Usage None h h' b b' ends plain = ends.0.no_fault
 host-calm Usage (Some (Compile model code)) h h' b b' ends plain = absurd ends.0
 host-calm Usage (Some (Run model code trace)) h h' b b' ends plain = absurd ends
 host-calm Usage (Some (Exec code trace)) h h' b b' ends plain = absurd ends
+host-calm Usage (Some (Profile model)) h h' b b' ends plain = absurd ends.0
+host-calm Usage (Some (Gen start size model code)) h h' b b' ends plain = absurd ends
 host-calm (Refused refusal) None h h' b b' ends plain = absurd ends.0
 host-calm (Refused refusal) (Some (Compile model code)) h h' b b' ends plain = ends.0.no_fault
 host-calm (Refused refusal) (Some (Run model code trace)) h h' b b' ends plain = ends.0.no_fault
 host-calm (Refused refusal) (Some (Exec code trace)) h h' b b' ends plain = absurd ends
+host-calm (Refused refusal) (Some (Profile model)) h h' b b' ends plain = ends.0.no_fault
+host-calm (Refused refusal) (Some (Gen start size model code)) h h' b b' ends plain = ends.0.left.no_fault
 host-calm (BadTrace line) None h h' b b' ends plain = absurd ends.0
 host-calm (BadTrace line) (Some (Compile model code)) h h' b b' ends plain = absurd ends.0
 host-calm (BadTrace line) (Some (Run model code trace)) h h' b b' ends plain = ends.no_fault
 host-calm (BadTrace line) (Some (Exec code trace)) h h' b b' ends plain = ends.left.no_fault
+host-calm (BadTrace line) (Some (Profile model)) h h' b b' ends plain = absurd ends.0
+host-calm (BadTrace line) (Some (Gen start size model code)) h h' b b' ends plain = absurd ends
 host-calm (CodeRefused fault) None h h' b b' ends plain = absurd ends.0
 host-calm (CodeRefused fault) (Some (Compile model code)) h h' b b' ends plain = absurd ends.0
 host-calm (CodeRefused fault) (Some (Run model code trace)) h h' b b' ends plain = absurd ends
 host-calm (CodeRefused fault) (Some (Exec code trace)) h h' b b' ends plain = ends.left.no_fault
+host-calm (CodeRefused fault) (Some (Profile model)) h h' b b' ends plain = absurd ends.0
+host-calm (CodeRefused fault) (Some (Gen start size model code)) h h' b b' ends plain = absurd ends
 host-calm CodeTooLong None h h' b b' ends plain = absurd ends.0
 host-calm CodeTooLong (Some (Compile model code)) h h' b b' ends plain = absurd ends.0
 host-calm CodeTooLong (Some (Run model code trace)) h h' b b' ends plain = absurd ends
 host-calm CodeTooLong (Some (Exec code trace)) h h' b b' ends plain = ends.left.no_fault
+host-calm CodeTooLong (Some (Profile model)) h h' b b' ends plain = absurd ends.0
+host-calm CodeTooLong (Some (Gen start size model code)) h h' b b' ends plain = absurd ends
 host-calm (IsStuck at) None h h' b b' ends plain = absurd ends.0
 host-calm (IsStuck at) (Some (Compile model code)) h h' b b' ends plain = absurd ends.0
 host-calm (IsStuck at) (Some (Run model code trace)) h h' b b' ends plain = absurd ends
 host-calm (IsStuck at) (Some (Exec code trace)) h h' b b' (inl ends) plain = ends.left.no_fault
 host-calm (IsStuck at) (Some (Exec code trace)) h h' b b' (inr ends) plain = ends.left.no_fault
+host-calm (IsStuck at) (Some (Profile model)) h h' b b' ends plain = absurd ends.0
+host-calm (IsStuck at) (Some (Gen start size model code)) h h' b b' ends plain = absurd ends
 host-calm ReadFault a h h' b b' ends plain = absurd (plain.no_read_fault refl)
 host-calm WriteFault a h h' b b' ends plain = absurd (plain.no_write_fault refl)
 host-calm PutFault a h h' b b' ends plain = absurd (plain.no_put_fault refl)
@@ -102,6 +132,7 @@ same-puts PutFault b b' other counts = absurd (other refl)
 same-puts (Compiled rows systems functions) b b' other counts = counts
 same-puts (Ran totals) b b' other counts = counts
 same-puts Usage b b' other counts = counts
+same-puts (Reported text) b b' other counts = counts
 same-puts (Refused refusal) b b' other counts = counts
 same-puts (BadTrace line) b b' other counts = counts
 same-puts (CodeRefused fault) b b' other counts = counts
@@ -136,12 +167,16 @@ read-rose (Some (Exec code trace)) h h' b b' ends = unread ends
     unread : EndsExecUnread code trace h h' b b' → Rose h.read_faults h'.read_faults
     unread (inl u) = u.0.rose
     unread (inr u) = u.0
+read-rose (Some (Profile model)) h h' b b' ends = ends.0.rose
+read-rose (Some (Gen start size model code)) h h' b b' ends = absurd ends
 
 write-rose : (a : Option Asked) (h h' : HostTold) (b b' : SinkTold) → Finds WriteFault a h h' b b' → Rose h.write_faults h'.write_faults
 write-rose None h h' b b' ends = absurd ends.0
 write-rose (Some (Compile model code)) h h' b b' ends = ends.0.rose
 write-rose (Some (Run model code trace)) h h' b b' ends = ends.0.rose
 write-rose (Some (Exec code trace)) h h' b b' ends = absurd ends
+write-rose (Some (Profile model)) h h' b b' ends = absurd ends.0
+write-rose (Some (Gen start size model code)) h h' b b' ends = ends.0.rose
 
 -- a count that rose behind the lines rose in the call
 rises : (e : Ending) (b before : SinkTold) (now : ℕ) → CountsPuts e b before → Rose before.faults now → Rose b.faults now
@@ -149,6 +184,7 @@ rises PutFault b before now counts rose = omega (arith, counts, rose)
 rises (Compiled rows systems functions) b before now counts rose = omega (arith, counts, rose)
 rises (Ran totals) b before now counts rose = omega (arith, counts, rose)
 rises Usage b before now counts rose = omega (arith, counts, rose)
+rises (Reported text) b before now counts rose = omega (arith, counts, rose)
 rises (Refused refusal) b before now counts rose = omega (arith, counts, rose)
 rises (BadTrace line) b before now counts rose = omega (arith, counts, rose)
 rises (CodeRefused fault) b before now counts rose = omega (arith, counts, rose)

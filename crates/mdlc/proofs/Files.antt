@@ -4,7 +4,7 @@ use Rattle.std.proofs.lemmas.List.{length-replicate}
 use Rattle.std.specs.Prelude.{Option, Some, None, IsSomeAnd, IfSome, OnSome}
 use Rattle.mc_edge.specs.Files.{File, OnFile, lookup}
 use Rattle.mdlc.specs.Told.{HostTold}
-use Rattle.mdlc.specs.Endings.{OnNamed, OnBytes}
+use Rattle.mdlc.specs.EndingsOfModels.{OnNamed, OnBytes}
 
 -- P holds of the file of this name, if it is there and told
 abbrev pub IfNamed : Option (List File) → Option (List ℕ) → List ℕ → (List ℕ → Type 0) → Type 0

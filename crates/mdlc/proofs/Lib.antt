@@ -3,6 +3,11 @@ pub mod Compiling
 pub mod OneAnswer
 pub mod StatusLaws
 pub mod TraceTypes
+pub mod PutTexts
+pub mod Unwritten
+pub mod ProfileLaws
+pub mod GenerateLaws
+pub mod MadeLaws
 pub mod RightLaws
 pub mod EndingLaws
 pub mod RunLaws

@@ -16,7 +16,8 @@ use Rattle.c_syntax.proofs.lemmas.NameFacts.{AreDistinct-back, has_name-there}
 use Rattle.c_checked.specs.Checked.{fix_type}
 use Rattle.mc_verdict.specs.Verdict.{Verdict, HasVerdict, Accepted, Refused as IsRefused, HasOneVerdict}
 use Rattle.mc_compile.specs.Compilation.{root_types}
-use Rattle.mc_words.specs.Words.{Asked, Compile, Run, Exec}
+use Rattle.mc_gen.specs.Models.{model_text}
+use Rattle.mc_words.specs.Words.{Asked, Compile, Run, Exec, Profile, Gen}
 use Rattle.mdlc.specs.Runs.{HasStepTypes, bad_line}
 use Rattle.mdlc.specs.Statuses.{ModelComes, ProgramComes, CodeComes, Comes, run_status, status_over}
 
@@ -119,3 +120,7 @@ comes-one one agree (Run model code trace) fs n m h k =
     some-one (lookup model fs) n m h k (λ bytes x y. model-one one bytes n m {P = RunComes trace fs n} {Q = RunComes trace fs m} (λ d p q. some-one (lookup trace fs) n m p q (λ lines u v. u ∙ sym v)) x y)
 comes-one one agree (Exec code trace) fs n m h k =
     some-one (lookup code fs) n m h k (λ bytes x y. code-one agree bytes (lookup trace fs) n m x y)
+comes-one one agree (Profile model) fs n m h k =
+    some-one (lookup model fs) n m h k (λ bytes x y. model-one one bytes n m {P = λ d. n ≡ 0} {Q = λ d. m ≡ 0} (λ d p q. p ∙ sym q) x y)
+comes-one one agree (Gen start size model code) fs n m h k =
+    model-one one (model_text start size) n m {P = λ d. n ≡ 0} {Q = λ d. m ≡ 0} (λ d p q. p ∙ sym q) h k

@@ -1,9 +1,9 @@
 -- That what is asked for is done where nothing fails, by the way in which a call ended.
-use Rattle.std.proofs.Common.{◌≡◌, ◌≢◌, ◌⊎◌, ℕ, ◌<◌, ◌≤◌, inl, inr, List, ◌++◌, length, refl, sym, ap, subst, ◌∙◌, append_assoc, arith}
+use Rattle.std.proofs.Common.{◌≡◌, ◌≢◌, ◌⊎◌, ℕ, ◌<◌, ◌≤◌, inl, inr, List, length, refl, sym, ap, subst, ◌∙◌, arith}
 use Rattle.std.specs.Prelude.{Option, Some, None}
 use Rattle.std.specs.Io.KnownBytes.{append_known}
 use Rattle.std.proofs.lemmas.Bool.Decides.{eqb_tells}
-use Rattle.mc_base.specs.Refusals.{PlainRefusal, plain_refusal, refusal_line}
+use Rattle.mc_base.specs.Refusals.{plain_refusal}
 use Rattle.mc_fixed.specs.declared.types.FixType.{FixType}
 use Rattle.mc_edge.specs.Files.{add_file}
 use Rattle.mc_diagram.specs.ResolvedTable.{ResolvedTable, diagram_of_table}
@@ -13,62 +13,30 @@ use Rattle.c_syntax.specs.declared.fault.Stuck.{Stuck}
 use Rattle.c_syntax.specs.Tree.{ProgramTree}
 use Rattle.c_machine.specs.Cells.{Cells}
 use Rattle.c_machine.specs.Machine.{After, done, stuck}
-use Rattle.c_machine.specs.Rows.{TickRow, start_run}
+use Rattle.c_machine.specs.Rows.{start_run}
 use Rattle.c_rules.specs.Reading.{CFaultOf}
 use Rattle.c_reading.specs.Agreement.{ReadingsAgree}
-use Rattle.mc_verdict.specs.Verdict.{HasVerdict, Refused as IsRefused}
 use Rattle.mc_compile.specs.Compilation.{Compilation, root_types, IsCompilationOf}
 use Rattle.mc_runner.specs.declared.outcome.Totals.{Totals}
-use Rattle.mc_runner.specs.Texts.{ticks_text}
 use Rattle.mdlc.specs.declared.tool.Ending.{Ending}
-use Rattle.mdlc.specs.declared.tool.Ending.TheVariants.{Compiled, Ran, Usage, Refused, BadTrace, CodeRefused, CodeTooLong, Stuck as IsStuck, ReadFault, WriteFault, PutFault, NoMemory}
-use Rattle.mc_words.specs.Words.{Asked, Compile, Run, Exec}
+use Rattle.mdlc.specs.declared.tool.Ending.TheVariants.{Compiled, Ran, Reported, Usage, Refused, BadTrace, CodeRefused, CodeTooLong, Stuck as IsStuck, ReadFault, WriteFault, PutFault, NoMemory}
+use Rattle.mc_words.specs.Words.{Asked, Compile, Run, Exec, Profile, Gen}
 use Rattle.mdlc.specs.Told.{HostTold, SinkTold}
 use Rattle.mdlc.specs.Texts.{compiled_line, totals_line, code_refused_line, long_code_line, stuck_line}
 use Rattle.mdlc.specs.Runs.{HasStepTypes, rows_in, rows_over, bad_line, PutsTicks}
-use Rattle.mdlc.specs.Endings.{status_of, text_of, code_limit, WritesCode, WritesWhole, StartsCode, IsStuckAtStart, PutsWhole, Finds, EndsAt}
+use Rattle.mdlc.specs.EndingsOfModels.{WritesCode}
+use Rattle.mdlc.specs.EndingsOfRuns.{code_limit, WritesWhole, StartsCode, IsStuckAtStart}
+use Rattle.mdlc.specs.Endings.{status_of, text_of, PutsWhole, Finds, EndsAt}
 use Rattle.mdlc.specs.Statuses.{IsPlain, IfFile, run_status, status_over}
-use Rattle.mdlc.specs.Headline.{Tells, TellsRefusal, Compiles, last_line, run_text, RunsAccepted, Runs, Executes, Does, DoesRight}
+use Rattle.mdlc.specs.Headline.{Tells, Compiles, last_line, run_text, RunsAccepted, Runs, Executes, Does, DoesRight}
 use Rattle.mdlc.proofs.Files.{any_file, known_file, named}
 use Rattle.mdlc.proofs.EndingLaws.{SaysFound, says_found, calm_plain}
-use Rattle.mdlc.proofs.OneAnswer.{OneVerdict, accepted_only, same_resolution, same_refusal, same_types}
+use Rattle.mdlc.proofs.OneAnswer.{OneVerdict, accepted_only, same_resolution, same_types}
 use Rattle.mdlc.proofs.TraceTypes.{rows-trace}
-
--- ---- Texts one behind another
-
-put-both : (o : Option (List ℕ)) (x y : List ℕ) → append_known (append_known o x) y ≡ append_known o (x ++ y)
-put-both None x y = refl
-put-both (Some bytes) x y = ap Some (append_assoc bytes x y)
-
--- the lines of ticks and then the last line
-put-run : (b before b' : SinkTold) (ticks : List TickRow) (last : List ℕ) → PutsTicks ticks b before → PutsWhole last before b' → b'.bytes ≡ append_known b.bytes (ticks_text ticks ++ last)
-put-run b before b' ticks last first then =
-    then.text ∙ ap (λ (o : Option (List ℕ)). append_known o last) first ∙ put-both b.bytes (ticks_text ticks) last
-
--- a text behind nothing
-put-alone : (b before b' : SinkTold) (text : List ℕ) → before ≡ b → PutsWhole text before b' → b'.bytes ≡ append_known b.bytes text
-put-alone b before b' text same whole = whole.text ∙ ap (λ (x : SinkTold). append_known x.bytes text) same
-
--- what a run puts, by where it is stuck and by its first bad line
-text-by : (p : ProgramTree) (types : List FixType) (lines : List ℕ) (place : Option Stuck) (bad : Option BadLine) → (rows_over p types lines).stuck_place ≡ place → bad_line types lines ≡ bad → ticks_text (rows_over p types lines).ticks ++ last_line (rows_over p types lines).ticks place bad ≡ run_text p types lines
-text-by p types lines place bad free good =
-    let rows = rows_over p types lines in
-    ap (λ (last : List ℕ). ticks_text rows.ticks ++ last) (sym (ap (λ (x : Option Stuck). last_line rows.ticks x (bad_line types lines)) free ∙ ap (last_line rows.ticks place) good))
-
--- ---- Refusals
-
-refused : OneVerdict → (refusal other : PlainRefusal) (model : List ℕ) (s : ℕ) (h h' : HostTold) (b before b' : SinkTold) → s ≡ 3 → HasVerdict model (IsRefused refusal) → HasVerdict model (IsRefused other) → h'.written ≡ h.written → before ≡ b → PutsWhole (refusal_line refusal) before b' → TellsRefusal other s h h' b b'
-refused one refusal other model s h h' b before b' is verdict refuses written same whole = record {
-  tells = record {
-    status = inl is;
-    put = λ three. put-alone b before b' (refusal_line refusal) same whole ∙ ap (λ (r : PlainRefusal). append_known b.bytes (refusal_line r)) (same_refusal one model refusal other verdict refuses);
-  };
-  unwritten = λ three. written;
-}
-
-refusal-unsaid : (other : PlainRefusal) (s : ℕ) (h h' : HostTold) (b b' : SinkTold) → s ≡ 10 → TellsRefusal other s h h' b b'
-refusal-unsaid other s h h' b b' is =
-    record { tells = record { status = inr is; put = λ three. absurd (omega (arith, is, three)) }; unwritten = λ three. absurd (omega (arith, is, three)) }
+use Rattle.mdlc.proofs.PutTexts.{put_alone, run_lines, tells_refusal, refusal_unsaid}
+use Rattle.mdlc.proofs.Unwritten.{exec_unwritten, profile_unwritten}
+use Rattle.mdlc.proofs.ProfileLaws.{profile_does, profile_memory}
+use Rattle.mdlc.proofs.GenerateLaws.{generate_does, generate_memory}
 
 -- ---- `compile`
 
@@ -80,7 +48,7 @@ compiled one rows systems functions model s code h h' b before b' is same whole 
       compilation = c;
       right = subst (λ (x : ResolvedTable). IsCompilationOf x c) (same_resolution one model from.resolved d from.verdict accepts) from.compiled;
       written = written;
-      line = rw (r, y, f) (put-alone b before b' (compiled_line rows systems functions) same whole);
+      line = rw (r, y, f) (put_alone b before b' (compiled_line rows systems functions) same whole);
     };
   };
   refused = λ refusal refuses. absurd (accepted_only one model from.resolved refusal from.verdict refuses);
@@ -89,7 +57,7 @@ compiled one rows systems functions model s code h h' b before b' is same whole 
 compile-memory : (model : List ℕ) (s : ℕ) (code : List ℕ) (h h' : HostTold) (b b' : SinkTold) → s ≡ 10 → Compiles model s code h h' b b'
 compile-memory model s code h h' b b' is = record {
   accepted = λ d accepts. record { status = inr is; done = λ zero. absurd (omega (arith, is, zero)) };
-  refused = λ refusal refuses. refusal-unsaid refusal s h h' b b' is;
+  refused = λ refusal refuses. refusal_unsaid refusal s h h' b b' is;
 }
 
 compile-does : OneVerdict → (e : Ending) (s : ℕ) (model code : List ℕ) (h h' : HostTold) (b before b' : SinkTold) → Finds e (Some (Compile model code)) h h' b before → IsPlain (status_of e) → s ≡ status_of e → PutsWhole (text_of e) before b' → IfFile h model (λ bytes. Compiles bytes s code h h' b b')
@@ -98,13 +66,14 @@ compile-does one (Compiled rows systems functions) s model code h h' b before b'
 compile-does one (Refused refusal) s model code h h' b before b' ends plain is whole =
     known_file h.files h.rest model (named h model ends.0.model) (λ bytes v. record {
       accepted = λ d accepts. absurd (accepted_only one bytes d (plain_refusal refusal) accepts v);
-      refused = λ other refuses. refused one (plain_refusal refusal) other bytes s h h' b before b' is v refuses ends.0.written ends.1 whole;
+      refused = λ other refuses. tells_refusal one (plain_refusal refusal) other bytes s h h' b before b' is v refuses ends.0.written ends.1 whole;
     })
 compile-does one ReadFault s model code h h' b before b' ends plain is whole = absurd (plain.no_read_fault refl)
 compile-does one WriteFault s model code h h' b before b' ends plain is whole = absurd (plain.no_write_fault refl)
 compile-does one NoMemory s model code h h' b before b' ends plain is whole = absurd (plain.no_want_of_memory refl)
 compile-does one (Ran totals) s model code h h' b before b' ends plain is whole = absurd ends.0
 compile-does one Usage s model code h h' b before b' ends plain is whole = absurd ends.0
+compile-does one (Reported text) s model code h h' b before b' ends plain is whole = absurd ends.0
 compile-does one (BadTrace line) s model code h h' b before b' ends plain is whole = absurd ends.0
 compile-does one (CodeRefused fault) s model code h h' b before b' ends plain is whole = absurd ends.0
 compile-does one CodeTooLong s model code h h' b before b' ends plain is whole = absurd ends.0
@@ -122,9 +91,7 @@ ran r lines s code h h' b before b' c right bad last written is first free text 
     right = right;
     written = written;
     outputs = right.code.code.runs.outputs (rows_in (root_types (diagram_of_table r)) lines) (rows-trace (diagram_of_table r) lines);
-    lines = put-run b before b' (rows_over right.code.program (root_types (diagram_of_table r)) lines).ticks last ticks whole
-        ∙ ap (λ (x : List ℕ). append_known b.bytes (ticks_text (rows_over right.code.program (root_types (diagram_of_table r)) lines).ticks ++ x)) text
-        ∙ ap (append_known b.bytes) (text-by right.code.program (root_types (diagram_of_table r)) lines None bad free first);
+    lines = run_lines right.code.program (root_types (diagram_of_table r)) lines b before b' None bad last free first text ticks whole;
   };
 }
 
@@ -138,7 +105,7 @@ for-diagram one bytes trace s code h h' b b' w shown = record {
 run-memory : (model trace : List ℕ) (s : ℕ) (code : List ℕ) (h h' : HostTold) (b b' : SinkTold) → s ≡ 10 → Runs model trace s code h h' b b'
 run-memory model trace s code h h' b b' is = record {
   accepted = λ d accepts. any_file h.files h.rest trace (λ lines. record { status = inr is; done = λ other. absurd (other is) });
-  refused = λ refusal refuses. refusal-unsaid refusal s h h' b b' is;
+  refused = λ refusal refuses. refusal_unsaid refusal s h h' b b' is;
 }
 
 run-does : OneVerdict → (e : Ending) (s : ℕ) (model code trace : List ℕ) (h h' : HostTold) (b before b' : SinkTold) → Finds e (Some (Run model code trace)) h h' b before → IsPlain (status_of e) → s ≡ status_of e → PutsWhole (text_of e) before b' → IfFile h model (λ bytes. Runs bytes trace s code h h' b b')
@@ -151,7 +118,7 @@ run-does one (BadTrace line) s model code trace h h' b before b' ends plain is w
 run-does one (Refused refusal) s model code trace h h' b before b' ends plain is whole =
     known_file h.files h.rest model (named h model ends.0.model) (λ bytes v. record {
       accepted = λ d accepts. absurd (accepted_only one bytes d (plain_refusal refusal) accepts v);
-      refused = λ other refuses. refused one (plain_refusal refusal) other bytes s h h' b before b' is v refuses ends.0.written ends.1 whole;
+      refused = λ other refuses. tells_refusal one (plain_refusal refusal) other bytes s h h' b before b' is v refuses ends.0.written ends.1 whole;
     })
 run-does one ReadFault s model code trace h h' b before b' ends plain is whole = absurd (plain.no_read_fault refl)
 run-does one WriteFault s model code trace h h' b before b' ends plain is whole = absurd (plain.no_write_fault refl)
@@ -159,6 +126,7 @@ run-does one PutFault s model code trace h h' b before b' ends plain is whole = 
 run-does one NoMemory s model code trace h h' b before b' ends plain is whole = absurd (plain.no_want_of_memory refl)
 run-does one (Compiled rows systems functions) s model code trace h h' b before b' ends plain is whole = absurd ends
 run-does one Usage s model code trace h h' b before b' ends plain is whole = absurd ends
+run-does one (Reported text) s model code trace h h' b before b' ends plain is whole = absurd ends
 run-does one (CodeRefused fault) s model code trace h h' b before b' ends plain is whole = absurd ends
 run-does one CodeTooLong s model code trace h h' b before b' ends plain is whole = absurd ends
 run-does one (IsStuck at) s model code trace h h' b before b' ends plain is whole = absurd ends
@@ -186,8 +154,7 @@ executed agree bytes trace s h h' b b' x written over = record {
 told-run : (p : ProgramTree) (types : List FixType) (lines : List ℕ) (s : ℕ) (b before b' : SinkTold) (place : Option Stuck) (bad : Option BadLine) → (rows_over p types lines).stuck_place ≡ place → bad_line types lines ≡ bad → s ≡ run_status place bad → PutsTicks (rows_over p types lines).ticks b before → PutsWhole (last_line (rows_over p types lines).ticks place bad) before b' → Tells (status_over p types lines) (run_text p types lines) s b b'
 told-run p types lines s b before b' place bad free good is ticks whole = record {
   status = inl (is ∙ sym (ap (λ (x : Option Stuck). run_status x (bad_line types lines)) free ∙ ap (run_status place) good));
-  put = λ _. put-run b before b' (rows_over p types lines).ticks (last_line (rows_over p types lines).ticks place bad) ticks whole
-      ∙ ap (append_known b.bytes) (text-by p types lines place bad free good);
+  put = λ _. run_lines p types lines b before b' place bad (last_line (rows_over p types lines).ticks place bad) free good refl ticks whole;
 }
 
 tells-memory : (n : ℕ) (text : List ℕ) (s : ℕ) (b b' : SinkTold) → s ≡ 10 → n ≢ 10 → Tells n text s b b'
@@ -215,7 +182,7 @@ exec-unread agree fault bytes trace s h h' b before b' is within refuses written
   long = λ long. absurd (omega (arith, long, within));
   unread = λ fits other also. record {
     status = inl is;
-    put = λ _. put-alone b before b' (code_refused_line fault) same whole ∙ ap (λ (f : CFault). append_known b.bytes (code_refused_line f)) (agree.one_fault bytes fault other refuses also);
+    put = λ _. put_alone b before b' (code_refused_line fault) same whole ∙ ap (λ (f : CFault). append_known b.bytes (code_refused_line f)) (agree.one_fault bytes fault other refuses also);
   };
   stuck = λ fits p text at cells start. absurd (agree.apart bytes p fault text refuses);
   runs = λ fits p text after start types inputs. absurd (agree.apart bytes p fault text refuses);
@@ -225,7 +192,7 @@ exec-unread agree fault bytes trace s h h' b before b' is within refuses written
 exec-long : (bytes trace : List ℕ) (s : ℕ) (h h' : HostTold) (b before b' : SinkTold) → s ≡ 8 → code_limit < length bytes → h'.written ≡ h.written → before ≡ b → PutsWhole long_code_line before b' → Executes bytes trace s h h' b b'
 exec-long bytes trace s h h' b before b' is beyond written same whole = record {
   unwritten = written;
-  long = λ long. record { status = inl is; put = λ _. put-alone b before b' long_code_line same whole };
+  long = λ long. record { status = inl is; put = λ _. put_alone b before b' long_code_line same whole };
   unread = λ fits other also. absurd (omega (arith, beyond, fits));
   stuck = λ fits p text at cells start. absurd (omega (arith, beyond, fits));
   runs = λ fits p text after start types inputs. absurd (omega (arith, beyond, fits));
@@ -239,7 +206,7 @@ exec-start agree at bytes trace s h h' b before b' is x written same whole = rec
   unread = λ fits fault refuses. absurd (agree.apart bytes x.program fault x.reading refuses);
   stuck = λ fits p text other cells start. record {
     status = inl is;
-    put = λ _. put-alone b before b' (stuck_line at) same whole
+    put = λ _. put_alone b before b' (stuck_line at) same whole
         ∙ ap (λ (y : Stuck). append_known b.bytes (stuck_line y)) (one-place at other x.cells cells (sym x.start ∙ ap start_run (agree.one bytes x.program p x.reading text) ∙ start));
   };
   runs = λ fits p text after start types inputs. absurd (never x.cells at after (sym x.start ∙ ap start_run (agree.one bytes x.program p x.reading text) ∙ start));
@@ -275,25 +242,9 @@ exec-does agree PutFault s code trace h h' b before b' ends plain is whole = abs
 exec-does agree NoMemory s code trace h h' b before b' ends plain is whole = absurd (plain.no_want_of_memory refl)
 exec-does agree (Compiled rows systems functions) s code trace h h' b before b' ends plain is whole = absurd ends
 exec-does agree Usage s code trace h h' b before b' ends plain is whole = absurd ends
+exec-does agree (Reported text) s code trace h h' b before b' ends plain is whole = absurd ends
 exec-does agree (Refused refusal) s code trace h h' b before b' ends plain is whole = absurd ends
 exec-does agree WriteFault s code trace h h' b before b' ends plain is whole = absurd ends
-
--- `exec` writes nothing
-exec-unwritten : (e : Ending) (code trace : List ℕ) (h h' : HostTold) (b b' : SinkTold) → Finds e (Some (Exec code trace)) h h' b b' → h'.written ≡ h.written
-exec-unwritten (Ran totals) code trace h h' b b' ends = ends.left.written
-exec-unwritten (BadTrace line) code trace h h' b b' ends = ends.left.written
-exec-unwritten (IsStuck at) code trace h h' b b' (inl ends) = ends.left.written
-exec-unwritten (IsStuck at) code trace h h' b b' (inr ends) = ends.left.written
-exec-unwritten (CodeRefused fault) code trace h h' b b' ends = ends.left.written
-exec-unwritten CodeTooLong code trace h h' b b' ends = ends.left.written
-exec-unwritten ReadFault code trace h h' b b' (inl ends) = ends.0.written
-exec-unwritten ReadFault code trace h h' b b' (inr ends) = ends.1
-exec-unwritten PutFault code trace h h' b b' ends = ends.0
-exec-unwritten NoMemory code trace h h' b b' ends = ends.0
-exec-unwritten (Compiled rows systems functions) code trace h h' b b' ends = absurd ends
-exec-unwritten Usage code trace h h' b b' ends = absurd ends
-exec-unwritten (Refused refusal) code trace h h' b b' ends = absurd ends
-exec-unwritten WriteFault code trace h h' b b' ends = absurd ends
 
 -- ---- All
 
@@ -302,6 +253,8 @@ does one agree e s None h h' b before b' ends plain is whole = tt
 does one agree e s (Some (Compile model code)) h h' b before b' ends plain is whole = compile-does one e s model code h h' b before b' ends plain is whole
 does one agree e s (Some (Run model code trace)) h h' b before b' ends plain is whole = run-does one e s model code trace h h' b before b' ends plain is whole
 does one agree e s (Some (Exec code trace)) h h' b before b' ends plain is whole = exec-does agree e s code trace h h' b before b' ends plain is whole
+does one agree e s (Some (Profile model)) h h' b before b' ends plain is whole = profile_does one e s model h h' b before b' ends plain is whole
+does one agree e s (Some (Gen start size model code)) h h' b before b' ends plain is whole = generate_does one e s start size model code h h' b before b' ends plain is whole
 
 -- want of memory, whatever was found
 starved : (e : Ending) (s : ℕ) (a : Option Asked) (h h' : HostTold) (b before b' : SinkTold) → s ≡ 10 → Finds e a h h' b before → Does s a h h' b b'
@@ -309,7 +262,10 @@ starved e s None h h' b before b' is ends = tt
 starved e s (Some (Compile model code)) h h' b before b' is ends = any_file h.files h.rest model (λ bytes. compile-memory bytes s code h h' b b' is)
 starved e s (Some (Run model code trace)) h h' b before b' is ends = any_file h.files h.rest model (λ bytes. run-memory bytes trace s code h h' b b' is)
 starved e s (Some (Exec code trace)) h h' b before b' is ends =
-    any_file h.files h.rest code (λ bytes. exec-memory bytes trace s h h' b b' is (exec-unwritten e code trace h h' b before ends))
+    any_file h.files h.rest code (λ bytes. exec-memory bytes trace s h h' b b' is (exec_unwritten e code trace h h' b before ends))
+starved e s (Some (Profile model)) h h' b before b' is ends =
+    any_file h.files h.rest model (λ bytes. profile_memory bytes s h h' b b' is (profile_unwritten e model h h' b before ends))
+starved e s (Some (Gen start size model code)) h h' b before b' is ends = generate_memory start size s model code h h' b b' is
 
 pub does_right : OneVerdict → ReadingsAgree → (s : ℕ) (a : Option Asked) (h h' : HostTold) (b b' : SinkTold) → EndsAt s a h h' b b' → DoesRight s a h h' b b'
 does_right one agree s a h h' b b' e calm = by (eqb_tells s 10)

@@ -13,11 +13,13 @@ use Rattle.c_reading.specs.Agreement.{ReadingsAgree}
 use Rattle.mc_diagram.specs.ResolvedTable.{diagram_of_table}
 use Rattle.mc_compile.specs.Compilation.{root_types}
 use Rattle.mdlc.specs.declared.tool.Ending.{Ending}
-use Rattle.mdlc.specs.declared.tool.Ending.TheVariants.{Compiled, Ran, Usage, Refused, BadTrace, CodeRefused, CodeTooLong, Stuck as IsStuck, ReadFault, WriteFault, PutFault, NoMemory}
-use Rattle.mc_words.specs.Words.{Asked, Compile, Run, Exec}
+use Rattle.mdlc.specs.declared.tool.Ending.TheVariants.{Compiled, Ran, Reported, Usage, Refused, BadTrace, CodeRefused, CodeTooLong, Stuck as IsStuck, ReadFault, WriteFault, PutFault, NoMemory}
+use Rattle.mc_words.specs.Words.{Asked, Compile, Run, Exec, Profile, Gen}
 use Rattle.mdlc.specs.Told.{HostTold, SinkTold}
 use Rattle.mdlc.specs.Runs.{HasStepTypes, rows_in, rows_over, bad_line, RunsTo}
-use Rattle.mdlc.specs.Endings.{status_of, OnBytes, WritesWhole, RunsModel, StartsCode, ExecutesCode, Finds, EndsAt, IsSaidOf, Puts}
+use Rattle.mdlc.specs.EndingsOfModels.{OnBytes}
+use Rattle.mdlc.specs.EndingsOfRuns.{WritesWhole, RunsModel, StartsCode, ExecutesCode}
+use Rattle.mdlc.specs.Endings.{status_of, Finds, EndsAt, IsSaidOf, Puts}
 use Rattle.mdlc.specs.Statuses.{IsPlain, IsExactly, ProgramComes, Comes, ComesExactly, OnTold, run_status, status_over}
 use Rattle.mdlc.proofs.Files.{IfTold, named, there, at_there, told_one, told_two, told_any}
 use Rattle.mdlc.proofs.EndingLaws.{SaysFound, says_found}
@@ -68,6 +70,7 @@ compile-comes WriteFault model code h h' b b' ends = not-plain 6 (Compile model 
 compile-comes NoMemory model code h h' b b' ends = not-plain 10 (Compile model code) h (λ plain. plain.no_want_of_memory refl)
 compile-comes (Ran totals) model code h h' b b' ends = absurd ends.0
 compile-comes Usage model code h h' b b' ends = absurd ends.0
+compile-comes (Reported text) model code h h' b b' ends = absurd ends.0
 compile-comes (BadTrace line) model code h h' b b' ends = absurd ends.0
 compile-comes (CodeRefused fault) model code h h' b b' ends = absurd ends.0
 compile-comes CodeTooLong model code h h' b b' ends = absurd ends.0
@@ -87,6 +90,7 @@ running-comes PutFault model code trace h h' b b' ends = not-plain 7 (Run model 
 running-comes NoMemory model code trace h h' b b' ends = not-plain 10 (Run model code trace) h (λ plain. plain.no_want_of_memory refl)
 running-comes (Compiled rows systems functions) model code trace h h' b b' ends = absurd ends
 running-comes Usage model code trace h h' b b' ends = absurd ends
+running-comes (Reported text) model code trace h h' b b' ends = absurd ends
 running-comes (CodeRefused fault) model code trace h h' b b' ends = absurd ends
 running-comes CodeTooLong model code trace h h' b b' ends = absurd ends
 running-comes (IsStuck at) model code trace h h' b b' ends = absurd ends
@@ -113,13 +117,50 @@ executing-comes PutFault code trace h h' b b' ends = not-plain 7 (Exec code trac
 executing-comes NoMemory code trace h h' b b' ends = not-plain 10 (Exec code trace) h (λ plain. plain.no_want_of_memory refl)
 executing-comes (Compiled rows systems functions) code trace h h' b b' ends = absurd ends
 executing-comes Usage code trace h h' b b' ends = absurd ends
+executing-comes (Reported text) code trace h h' b b' ends = absurd ends
 executing-comes (Refused refusal) code trace h h' b b' ends = absurd ends
 executing-comes WriteFault code trace h h' b b' ends = absurd ends
+
+profiling-comes : (e : Ending) (model : List ℕ) (h h' : HostTold) (b b' : SinkTold) → Finds e (Some (Profile model)) h h' b b' → ComesTo (status_of e) (Profile model) h
+profiling-comes (Reported text) model h h' b b' ends =
+    told_one h.files h.rest model (named h model ends.0.model) (λ fs known plain. at_there (lookup model fs) known (λ bytes w. inr (w.resolved, w.verdict, refl)))
+profiling-comes (Refused refusal) model h h' b b' ends =
+    told_one h.files h.rest model (named h model ends.0.model) (λ fs known plain. at_there (lookup model fs) known (λ bytes v. inl (plain_refusal refusal, v, refl)))
+profiling-comes ReadFault model h h' b b' ends = not-plain 5 (Profile model) h (λ plain. plain.no_read_fault refl)
+profiling-comes NoMemory model h h' b b' ends = not-plain 10 (Profile model) h (λ plain. plain.no_want_of_memory refl)
+profiling-comes (Compiled rows systems functions) model h h' b b' ends = absurd ends.0
+profiling-comes (Ran totals) model h h' b b' ends = absurd ends.0
+profiling-comes Usage model h h' b b' ends = absurd ends.0
+profiling-comes (BadTrace line) model h h' b b' ends = absurd ends.0
+profiling-comes (CodeRefused fault) model h h' b b' ends = absurd ends.0
+profiling-comes CodeTooLong model h h' b b' ends = absurd ends.0
+profiling-comes (IsStuck at) model h h' b b' ends = absurd ends.0
+profiling-comes WriteFault model h h' b b' ends = absurd ends.0
+profiling-comes PutFault model h h' b b' ends = absurd ends.0
+
+generating-comes : (e : Ending) (start size : ℕ) (model code : List ℕ) (h h' : HostTold) (b b' : SinkTold) → Finds e (Some (Gen start size model code)) h h' b b' → ComesTo (status_of e) (Gen start size model code) h
+generating-comes (Ran totals) start size model code h h' b b' ends =
+    told_any h.files h.rest (λ fs plain. inr (ends.both.resolved, ends.both.verdict, refl))
+generating-comes (BadTrace line) start size model code h h' b b' ends = absurd ends
+generating-comes (Refused refusal) start size model code h h' b b' ends =
+    told_any h.files h.rest (λ fs plain. inl (plain_refusal refusal, ends.0.verdict, refl))
+generating-comes WriteFault start size model code h h' b b' ends = not-plain 6 (Gen start size model code) h (λ plain. plain.no_write_fault refl)
+generating-comes PutFault start size model code h h' b b' ends = not-plain 7 (Gen start size model code) h (λ plain. plain.no_put_fault refl)
+generating-comes NoMemory start size model code h h' b b' ends = not-plain 10 (Gen start size model code) h (λ plain. plain.no_want_of_memory refl)
+generating-comes (Compiled rows systems functions) start size model code h h' b b' ends = absurd ends
+generating-comes (Reported text) start size model code h h' b b' ends = absurd ends
+generating-comes Usage start size model code h h' b b' ends = absurd ends
+generating-comes (CodeRefused fault) start size model code h h' b b' ends = absurd ends
+generating-comes CodeTooLong start size model code h h' b b' ends = absurd ends
+generating-comes (IsStuck at) start size model code h h' b b' ends = absurd ends
+generating-comes ReadFault start size model code h h' b b' ends = absurd ends
 
 comes-to : (e : Ending) (a : Asked) (h h' : HostTold) (b b' : SinkTold) → Finds e (Some a) h h' b b' → ComesTo (status_of e) a h
 comes-to e (Compile model code) h h' b b' ends = compile-comes e model code h h' b b' ends
 comes-to e (Run model code trace) h h' b b' ends = running-comes e model code trace h h' b b' ends
 comes-to e (Exec code trace) h h' b b' ends = executing-comes e code trace h h' b b' ends
+comes-to e (Profile model) h h' b b' ends = profiling-comes e model h h' b b' ends
+comes-to e (Gen start size model code) h h' b b' ends = generating-comes e start size model code h h' b b' ends
 
 -- ---- Exactly
 
@@ -180,6 +221,7 @@ only-usage (Refused refusal) is = absurd (omega (arith, is))
 only-usage (BadTrace line) is = absurd (omega (arith, is))
 only-usage (CodeRefused fault) is = absurd (omega (arith, is))
 only-usage CodeTooLong is = absurd (omega (arith, is))
+only-usage (Reported text) is = absurd (omega (arith, is))
 only-usage (IsStuck at) is = absurd (omega (arith, is))
 only-usage ReadFault is = absurd (omega (arith, is))
 only-usage WriteFault is = absurd (omega (arith, is))
@@ -191,6 +233,8 @@ nothing-asked None h h' b b' ends = refl
 nothing-asked (Some (Compile model code)) h h' b b' ends = absurd ends.0
 nothing-asked (Some (Run model code trace)) h h' b b' ends = absurd ends
 nothing-asked (Some (Exec code trace)) h h' b b' ends = absurd ends
+nothing-asked (Some (Profile model)) h h' b b' ends = absurd ends.0
+nothing-asked (Some (Gen start size model code)) h h' b b' ends = absurd ends
 
 unasked : (e : Ending) (h h' : HostTold) (b b' : SinkTold) → Finds e None h h' b b' → IsPlain (status_of e) → status_of e ≡ 2
 unasked (Compiled rows systems functions) h h' b b' ends plain = absurd ends.0
@@ -200,6 +244,7 @@ unasked (Refused refusal) h h' b b' ends plain = absurd ends.0
 unasked (BadTrace line) h h' b b' ends plain = absurd ends.0
 unasked (CodeRefused fault) h h' b b' ends plain = absurd ends.0
 unasked CodeTooLong h h' b b' ends plain = absurd ends.0
+unasked (Reported text) h h' b b' ends plain = absurd ends.0
 unasked (IsStuck at) h h' b b' ends plain = absurd ends.0
 unasked ReadFault h h' b b' ends plain = absurd ends.0
 unasked WriteFault h h' b b' ends plain = absurd ends.0

@@ -3,10 +3,10 @@ use Rattle.std.proofs.Common.{◌≡◌, ℕ, inl, inr, List, refl, sym, ap, sub
 use Rattle.std.specs.Prelude.{Bool, false, Option, Some, None, IfSome, IsSomeAnd}
 use Rattle.mc_edge.specs.Files.{File}
 use Rattle.mdlc.specs.declared.tool.Ending.{Ending}
-use Rattle.mdlc.specs.declared.tool.Ending.TheVariants.{Compiled, Ran, Usage, Refused, BadTrace, CodeRefused, CodeTooLong, Stuck as IsStuck, ReadFault, WriteFault, PutFault, NoMemory}
-use Rattle.mc_words.specs.Words.{Asked}
+use Rattle.mdlc.specs.declared.tool.Ending.TheVariants.{Compiled, Ran, Reported, Usage, Refused, BadTrace, CodeRefused, CodeTooLong, Stuck as IsStuck, ReadFault, WriteFault, PutFault, NoMemory}
+use Rattle.mc_words.specs.Words.{Asked, Gen}
 use Rattle.mdlc.specs.Told.{HostTold, SinkTold}
-use Rattle.mdlc.specs.Endings.{status_of, IsSaidOf, Puts}
+use Rattle.mdlc.specs.Endings.{status_of, Ends, IsSaidOf, Puts}
 use Rattle.mdlc.specs.Acting.{NotCompiled, NotStarted}
 use Rattle.mdlc.specs.Completeness.{IfReadFault, IsUnsureOf, BecomesUnsureOf, second_file}
 
@@ -15,6 +15,7 @@ pub only_read : (e : Ending) → status_of e ≡ 5 → e ≡ ReadFault
 only_read (Compiled rows systems functions) is = absurd (omega (arith, is))
 only_read (Ran totals) is = absurd (omega (arith, is))
 only_read Usage is = absurd (omega (arith, is))
+only_read (Reported text) is = absurd (omega (arith, is))
 only_read (Refused refusal) is = absurd (omega (arith, is))
 only_read (BadTrace line) is = absurd (omega (arith, is))
 only_read (CodeRefused fault) is = absurd (omega (arith, is))
@@ -30,6 +31,7 @@ pub only_write : (e : Ending) → status_of e ≡ 6 → e ≡ WriteFault
 only_write (Compiled rows systems functions) is = absurd (omega (arith, is))
 only_write (Ran totals) is = absurd (omega (arith, is))
 only_write Usage is = absurd (omega (arith, is))
+only_write (Reported text) is = absurd (omega (arith, is))
 only_write (Refused refusal) is = absurd (omega (arith, is))
 only_write (BadTrace line) is = absurd (omega (arith, is))
 only_write (CodeRefused fault) is = absurd (omega (arith, is))
@@ -45,6 +47,7 @@ pub only_put : (e : Ending) → status_of e ≡ 7 → e ≡ PutFault
 only_put (Compiled rows systems functions) is = absurd (omega (arith, is))
 only_put (Ran totals) is = absurd (omega (arith, is))
 only_put Usage is = absurd (omega (arith, is))
+only_put (Reported text) is = absurd (omega (arith, is))
 only_put (Refused refusal) is = absurd (omega (arith, is))
 only_put (BadTrace line) is = absurd (omega (arith, is))
 only_put (CodeRefused fault) is = absurd (omega (arith, is))
@@ -60,6 +63,7 @@ pub unsure_model : (e : Ending) (model code : List ℕ) (h h' : HostTold) → No
 unsure_model (Compiled rows systems functions) model code h h' ends = tt
 unsure_model (Ran totals) model code h h' ends = tt
 unsure_model Usage model code h h' ends = tt
+unsure_model (Reported text) model code h h' ends = tt
 unsure_model (Refused refusal) model code h h' ends = tt
 unsure_model (BadTrace line) model code h h' ends = tt
 unsure_model (CodeRefused fault) model code h h' ends = tt
@@ -75,6 +79,7 @@ pub unread_start : (e : Ending) (bytes : List ℕ) (P : Type 0) → NotStarted b
 unread_start (Compiled rows systems functions) bytes P ends = tt
 unread_start (Ran totals) bytes P ends = tt
 unread_start Usage bytes P ends = tt
+unread_start (Reported text) bytes P ends = tt
 unread_start (Refused refusal) bytes P ends = tt
 unread_start (BadTrace line) bytes P ends = tt
 unread_start (CodeRefused fault) bytes P ends = tt
@@ -85,11 +90,28 @@ unread_start WriteFault bytes P ends = tt
 unread_start PutFault bytes P ends = tt
 unread_start NoMemory bytes P ends = tt
 
+-- a model that is made is not read
+pub unread_made : (e : Ending) (start size : ℕ) (model code : List ℕ) (h h' : HostTold) (b b' : SinkTold) (P : Type 0) → Ends e (Some (Gen start size model code)) h h' b b' → IfReadFault e P
+unread_made (Compiled rows systems functions) start size model code h h' b b' P ends = tt
+unread_made (Ran totals) start size model code h h' b b' P ends = tt
+unread_made (Reported text) start size model code h h' b b' P ends = tt
+unread_made Usage start size model code h h' b b' P ends = tt
+unread_made (Refused refusal) start size model code h h' b b' P ends = tt
+unread_made (BadTrace line) start size model code h h' b b' P ends = tt
+unread_made (CodeRefused fault) start size model code h h' b b' P ends = tt
+unread_made CodeTooLong start size model code h h' b b' P ends = tt
+unread_made (IsStuck at) start size model code h h' b b' P ends = tt
+unread_made ReadFault start size model code h h' b b' P ends = absurd ends.finds
+unread_made WriteFault start size model code h h' b b' P ends = tt
+unread_made PutFault start size model code h h' b b' P ends = tt
+unread_made NoMemory start size model code h h' b b' P ends = tt
+
 -- what follows from a fault of reading
 pub if_fault : (e : Ending) {P Q : Type 0} → (P → Q) → IfReadFault e P → IfReadFault e Q
 if_fault (Compiled rows systems functions) f h = tt
 if_fault (Ran totals) f h = tt
 if_fault Usage f h = tt
+if_fault (Reported text) f h = tt
 if_fault (Refused refusal) f h = tt
 if_fault (BadTrace line) f h = tt
 if_fault (CodeRefused fault) f h = tt

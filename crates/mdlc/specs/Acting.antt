@@ -12,9 +12,14 @@ use Rattle.c_meaning.specs.States.{MachineState, tree_of, fields_of}
 use Rattle.mc_compile.specs.Compilation.{Compilation, IsCompiledFrom}
 use Rattle.mdlc.specs.declared.tool.Ending.{Ending}
 use Rattle.mdlc.specs.declared.tool.Ending.TheVariants.{Compiled, Ran, BadTrace, CodeRefused, Stuck as IsStuck, ReadFault, PutFault, NoMemory}
+use Rattle.mc_words.specs.Words.{Gen}
+use Rattle.mc_gen.specs.Models.{model_text}
 use Rattle.mdlc.specs.Told.{HostTold, SinkTold, NoFault}
 use Rattle.mdlc.specs.Runs.{HasStepTypes, RunsTo}
-use Rattle.mdlc.specs.Endings.{OnNamed, OnBytes, PutsNothing, EndsCompile, LeavesHost, ReadsToEnd, TakesFile}
+use Rattle.mdlc.specs.EndingsOfModels.{OnNamed, OnBytes, PutsNothing, EndsCompile, LeavesHost}
+use Rattle.mdlc.specs.EndingsOfRuns.{ReadsToEnd, TakesFile}
+use Rattle.mdlc.specs.EndingsOfGenerating.{line_of}
+use Rattle.mdlc.specs.Endings.{PutsPart, Ends}
 
 -- ---- Compiling a model into a file
 
@@ -50,7 +55,30 @@ NotStarted bytes (IsStuck at) = (p : ProgramTree) × CText bytes p × ((cells : 
 NotStarted bytes NoMemory = ⊤
 NotStarted bytes _ = ⊥
 
+-- ---- Making a model
+
+-- the model was compiled, its text written whole, and then its code
+pub record WritesMade (c : Compilation) (start size : ℕ) (model code : List ℕ) (h h' : HostTold) : Type 0 where
+  pub from : IsCompiledFrom (model_text start size) c
+  pub written : h'.written ≡ add_file (add_file h.written model (model_text start size)) code c.code
+  pub no_fault : NoFault h h'
+
+-- it wasn't, and the call ends with nothing put
+abbrev pub NotMade : Ending → (start size : ℕ) → (model code : List ℕ) → HostTold → HostTold → Type 0
+NotMade e start size model code h h' = (b : SinkTold) → Ends e (Some (Gen start size model code)) h h' b b
+
+-- why the line of a compilation wasn't put whole
+abbrev pub NotPut : Ending → Compilation → SinkTold → SinkTold → Type 0
+NotPut PutFault c b b' = PutsPart (line_of c) b b'
+NotPut NoMemory c b b' = PutsNothing b b'
+NotPut _ c b b' = ⊥
+
 -- ---- Running a trace
+
+-- how a run of a program over these bytes ends; memory runs out before anything is put
+abbrev pub RowsEnd : Ending → ProgramTree → List FixType → List ℕ → SinkTold → SinkTold → Type 0
+RowsEnd NoMemory p types bytes b b' = PutsNothing b b'
+RowsEnd e p types bytes b b' = RunsTo e p types bytes b b'
 
 -- the trace of this name was run, up to an ending
 pub record RunsFile (e : Ending) (p : ProgramTree) (types : List FixType) (trace : List ℕ) (h h' : HostTold) (b b' : SinkTold) : Type 0 where

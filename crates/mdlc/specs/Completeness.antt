@@ -10,10 +10,11 @@ use Rattle.mc_verdict.specs.Verdict.{HasVerdict, Accepted}
 use Rattle.mc_compile.specs.Compilation.{root_types}
 use Rattle.mdlc.specs.declared.tool.Ending.{Ending}
 use Rattle.mdlc.specs.declared.tool.Ending.TheVariants.{ReadFault}
-use Rattle.mc_words.specs.Words.{Asked, Compile, Run, Exec}
+use Rattle.mc_gen.specs.Models.{model_text}
+use Rattle.mc_words.specs.Words.{Asked, Compile, Run, Exec, Profile, Gen}
 use Rattle.mdlc.specs.Told.{HostTold, SinkTold}
 use Rattle.mdlc.specs.Runs.{HasStepTypes, rows_over, bad_line}
-use Rattle.mdlc.specs.Endings.{code_limit}
+use Rattle.mdlc.specs.EndingsOfRuns.{code_limit}
 use Rattle.mdlc.specs.Statuses.{OnTold, IsDone}
 use Rattle.mdlc.specs.Headline.{Calm}
 
@@ -37,12 +38,15 @@ pub record CanExecute (code : List ℕ) (trace : Option (List ℕ)) : Type 0 whe
   pub inputs : HasStepTypes program types
   pub runs : IsSomeAnd trace (λ lines. RunsFreely program types lines)
 
--- with these files what is asked for can be done: the model is accepted, the code runs, and no line of the trace is bad
+-- with these files what is asked for can be done: the model is accepted, also one that is made, the code runs, and no line of the
+-- trace is bad
 abbrev pub CanDo : Asked → List File → Type 0
 CanDo (Compile model code) fs = IsSomeAnd (lookup model fs) (λ bytes. OnAccepted bytes (λ d. ⊤))
 CanDo (Run model code trace) fs =
     IsSomeAnd (lookup model fs) (λ bytes. OnAccepted bytes (λ d. IsSomeAnd (lookup trace fs) (λ lines. bad_line (root_types d) lines ≡ None)))
 CanDo (Exec code trace) fs = IsSomeAnd (lookup code fs) (λ bytes. CanExecute bytes (lookup trace fs))
+CanDo (Profile model) fs = IsSomeAnd (lookup model fs) (λ bytes. OnAccepted bytes (λ d. ⊤))
+CanDo (Gen start size model code) fs = OnAccepted (model_text start size) (λ d. ⊤)
 
 -- What can be done is done, unless memory runs out, where no count of faults rises or stands at its greatest value.
 abbrev pub IsComplete : ℕ → Option Asked → (h h' : HostTold) (b b' : SinkTold) → Type 0
@@ -50,20 +54,24 @@ IsComplete s a h h' b b' = Calm h h' b b' → OnTold a h (λ a fs. CanDo a fs �
 
 -- ---- Files that a host is sure of
 
--- the file that is read first, and the one that is read behind it
-abbrev pub first_file : Asked → List ℕ
-first_file (Compile model code) = model
-first_file (Run model code trace) = model
-first_file (Exec code trace) = code
+-- the file that is read first, if one is, and the one that is read behind it
+abbrev pub first_file : Asked → Option (List ℕ)
+first_file (Compile model code) = Some model
+first_file (Run model code trace) = Some model
+first_file (Exec code trace) = Some code
+first_file (Profile model) = Some model
+first_file (Gen start size model code) = None
 
 abbrev pub second_file : Asked → Option (List ℕ)
 second_file (Compile model code) = None
 second_file (Run model code trace) = Some trace
 second_file (Exec code trace) = Some trace
+second_file (Profile model) = None
+second_file (Gen start size model code) = None
 
 -- the host is sure of the first file, and whatever it becomes with the files that it tells, of the second
 pub record IsSureOf {H : Type 0} (files : H → Option (List File)) (sure : H → List ℕ → Bool) (h : H) (a : Asked) : Type 0 where
-  pub first : sure h (first_file a) ≡ true
+  pub first : IfSome (first_file a) (λ name. sure h name ≡ true)
   pub second : IfSome (second_file a) (λ name. (later : H) → files later ≡ files h → sure later name ≡ true)
 
 -- as it may become with the files that it tells, the host is not sure of the file of this name
@@ -74,7 +82,8 @@ pub record BecomesUnsureOf {H : Type 0} (files : H → Option (List File)) (sure
 
 -- the host is not sure of the first file, or may come to be not sure of the second
 abbrev pub IsUnsureOf : {H : Type 0} (files : H → Option (List File)) (sure : H → List ℕ → Bool) → H → Asked → Type 0
-IsUnsureOf files sure h a = (sure h (first_file a) ≡ false) ⊎ IsSomeAnd (second_file a) (BecomesUnsureOf files sure h)
+IsUnsureOf files sure h a =
+    IsSomeAnd (first_file a) (λ name. sure h name ≡ false) ⊎ IsSomeAnd (second_file a) (BecomesUnsureOf files sure h)
 
 -- P holds where the ending is a fault of reading
 abbrev pub IfReadFault : Ending → Type 0 → Type 0

@@ -1,4 +1,4 @@
--- What `compile`, `run` and `exec` do where nothing fails.
+-- What each command does where nothing fails.
 use Rattle.std.specs.Prelude.{◌≡◌, ◌≢◌, ◌⊎◌, ℕ, ◌<◌, ◌≤◌, List, ◌++◌, length, Option, Some, None, ⊤}
 use Rattle.std.specs.Io.KnownBytes.{append_known}
 use Rattle.mc_base.specs.Refusals.{PlainRefusal, refusal_line}
@@ -19,11 +19,13 @@ use Rattle.mc_verdict.specs.Verdict.{HasVerdict, Accepted, Refused}
 use Rattle.mc_compile.specs.Compilation.{Compilation, root_types, IsCompilationOf}
 use Rattle.mc_runner.specs.Texts.{ticks_text}
 use Rattle.mc_runner.specs.Runs.{totals_of}
-use Rattle.mc_words.specs.Words.{Asked, Compile, Run, Exec}
+use Rattle.mc_report.specs.Reports.{IsReportText}
+use Rattle.mc_gen.specs.Models.{model_text, trace_text}
+use Rattle.mc_words.specs.Words.{Asked, Compile, Run, Exec, Profile, Gen}
 use Rattle.mdlc.specs.Texts.{compiled_line, totals_line, bad_line_line, code_refused_line, long_code_line, stuck_line}
 use Rattle.mdlc.specs.Told.{HostTold, SinkTold}
 use Rattle.mdlc.specs.Runs.{HasStepTypes, rows_in, rows_over, bad_line}
-use Rattle.mdlc.specs.Endings.{code_limit}
+use Rattle.mdlc.specs.EndingsOfRuns.{code_limit}
 use Rattle.mdlc.specs.Statuses.{IfFile, IsDone, run_status, status_over}
 
 -- no count of faults rises in the call, or stands at its greatest value
@@ -105,7 +107,43 @@ pub record Executes (code trace : List ℕ) (s : ℕ) (h h' : HostTold) (b b' : 
   pub runs : length code ≤ code_limit → (p : ProgramTree) → CText code p → (after : After) → start_run p ≡ done after →
       (types : List FixType) → HasStepTypes p types → IfFile h trace (λ lines. Tells (status_over p types lines) (run_text p types lines) s b b')
 
--- ---- All three
+-- ---- `profile`
+
+-- a model that the rules accept is reported on, unless memory runs out: the report tells all systems of its diagram
+pub record ProfilesAccepted (r : ResolvedTable) (s : ℕ) (b b' : SinkTold) : Type 0 where
+  pub status : IsDone s
+  pub done : s ≡ 0 → (text : List ℕ) × IsReportText (diagram_of_table r) text × (b'.bytes ≡ append_known b.bytes text)
+
+-- what a call does with the bytes of its model; it writes nothing
+pub record Profiles (model : List ℕ) (s : ℕ) (h h' : HostTold) (b b' : SinkTold) : Type 0 where
+  pub unwritten : h'.written ≡ h.written
+  pub accepted : (r : ResolvedTable) → HasVerdict model (Accepted r) → ProfilesAccepted r s b b'
+  pub refused : (refusal : PlainRefusal) → HasVerdict model (Refused refusal) → TellsRefusal refusal s h h' b b'
+
+-- ---- `gen`
+
+-- The text of the model is written, and right code for it behind that. What is put is the compiled line, and then what the code's
+-- one reading gives over the trace that is made with the model; those are the outputs of the diagram's one run.
+pub record MakesRightCode (r : ResolvedTable) (start size : ℕ) (model code : List ℕ) (h h' : HostTold) (b b' : SinkTold) : Type 0 where
+  pub compilation : Compilation
+  pub right : IsCompilationOf r compilation
+  pub written : h'.written ≡ add_file (add_file h.written model (model_text start size)) code compilation.code
+  pub outputs : GivesOutputs right.code.program (diagram_of_table r) (rows_in (root_types (diagram_of_table r)) (trace_text start size))
+  pub lines : b'.bytes
+      ≡ append_known b.bytes (compiled_line compilation.rows compilation.systems compilation.functions
+      ++ run_text right.code.program (root_types (diagram_of_table r)) (trace_text start size))
+
+-- a model that the rules accept is made, compiled and run, unless memory runs out
+pub record MakesAccepted (r : ResolvedTable) (start size : ℕ) (s : ℕ) (model code : List ℕ) (h h' : HostTold) (b b' : SinkTold) : Type 0 where
+  pub status : IsDone s
+  pub done : s ≡ 0 → MakesRightCode r start size model code h h' b b'
+
+-- what a call does with the model of these two numbers
+pub record Makes (start size : ℕ) (s : ℕ) (model code : List ℕ) (h h' : HostTold) (b b' : SinkTold) : Type 0 where
+  pub accepted : (r : ResolvedTable) → HasVerdict (model_text start size) (Accepted r) → MakesAccepted r start size s model code h h' b b'
+  pub refused : (refusal : PlainRefusal) → HasVerdict (model_text start size) (Refused refusal) → TellsRefusal refusal s h h' b b'
+
+-- ---- All commands
 
 -- what is done with what is asked for, where the host tells the files that it names
 abbrev pub Does : ℕ → Option Asked → (h h' : HostTold) (b b' : SinkTold) → Type 0
@@ -113,8 +151,24 @@ Does s None h h' b b' = ⊤
 Does s (Some (Compile model code)) h h' b b' = IfFile h model (λ bytes. Compiles bytes s code h h' b b')
 Does s (Some (Run model code trace)) h h' b b' = IfFile h model (λ bytes. Runs bytes trace s code h h' b b')
 Does s (Some (Exec code trace)) h h' b b' = IfFile h code (λ bytes. Executes bytes trace s h h' b b')
+Does s (Some (Profile model)) h h' b b' = IfFile h model (λ bytes. Profiles bytes s h h' b b')
+Does s (Some (Gen start size model code)) h h' b b' = Makes start size s model code h h' b b'
+
+-- the command writes no file, whatever comes of it
+abbrev pub IsReadOnly : Option Asked → Type 0
+IsReadOnly None = ⊤
+IsReadOnly (Some (Compile model code)) = ⊥
+IsReadOnly (Some (Run model code trace)) = ⊥
+IsReadOnly (Some (Exec code trace)) = ⊤
+IsReadOnly (Some (Profile model)) = ⊤
+IsReadOnly (Some (Gen start size model code)) = ⊥
+
+-- with this status no file was written: by such a command, or since the model is refused
+abbrev pub WritesNothing : ℕ → Option Asked → Type 0
+WritesNothing s a = IsReadOnly a ⊎ (s ≡ 3)
 
 -- Where no count of faults rises or stands at its greatest value: right code is written for a model that the rules accept, and
--- run by `run`; nothing is written for one that they refuse; and `exec` runs the code that it is given.
+-- run by `run` and `gen`; nothing is written for one that they refuse; `exec` runs the code that it is given, and `profile` puts
+-- the report on a model that they accept.
 abbrev pub DoesRight : ℕ → Option Asked → (h h' : HostTold) (b b' : SinkTold) → Type 0
 DoesRight s a h h' b b' = Calm h h' b b' → Does s a h h' b b'

@@ -1,6 +1,9 @@
 pub mod Texts
 pub mod Told
 pub mod Runs
+pub mod EndingsOfModels
+pub mod EndingsOfRuns
+pub mod EndingsOfGenerating
 pub mod Endings
 pub mod Statuses
 pub mod Headline

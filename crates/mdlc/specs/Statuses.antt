@@ -14,10 +14,11 @@ use Rattle.c_machine.specs.Rows.{start_run}
 use Rattle.c_rules.specs.Reading.{CText, CFaultOf}
 use Rattle.mc_verdict.specs.Verdict.{HasVerdict, Accepted, Refused}
 use Rattle.mc_compile.specs.Compilation.{root_types}
-use Rattle.mc_words.specs.Words.{Asked, Compile, Run, Exec}
+use Rattle.mc_gen.specs.Models.{model_text}
+use Rattle.mc_words.specs.Words.{Asked, Compile, Run, Exec, Profile, Gen}
 use Rattle.mdlc.specs.Told.{HostTold}
 use Rattle.mdlc.specs.Runs.{HasStepTypes, rows_over, bad_line}
-use Rattle.mdlc.specs.Endings.{code_limit}
+use Rattle.mdlc.specs.EndingsOfRuns.{code_limit}
 
 -- no status that a fault or want of memory gives
 pub record IsPlain (s : ℕ) : Type 0 where
@@ -69,6 +70,8 @@ Comes (Run model code trace) fs n =
     IsSomeAnd (lookup model fs) (λ bytes. ModelComes bytes n (λ d.
     IsSomeAnd (lookup trace fs) (λ lines. n ≡ run_status None (bad_line (root_types d) lines))))
 Comes (Exec code trace) fs n = IsSomeAnd (lookup code fs) (λ bytes. CodeComes bytes (lookup trace fs) n)
+Comes (Profile model) fs n = IsSomeAnd (lookup model fs) (λ bytes. ModelComes bytes n (λ d. n ≡ 0))
+Comes (Gen start size model code) fs n = ModelComes (model_text start size) n (λ d. n ≡ 0)
 
 -- but for faults and want of memory, the status is n exactly where what is asked for comes to n
 pub record ComesExactly (s : ℕ) (a : Asked) (fs : List File) : Type 0 where

@@ -1,6 +1,6 @@
 -- What a host and a sink tell at a moment.
 use Rattle.std.specs.Prelude.{◌≡◌, ℕ, Bool, List, Option}
-use Rattle.mc_edge.specs.Files.{File}
+use Rattle.mc_edge.specs.Files.{File, add_file}
 
 -- what a host tells
 pub record HostTold : Type 0 where
@@ -30,3 +30,7 @@ sink_told bytes faults s = record { bytes = bytes s; faults = faults s }
 pub record NoFault (h h' : HostTold) : Type 0 where
   pub read : h'.read_faults ≡ h.read_faults
   pub write : h'.write_faults ≡ h.write_faults
+
+-- what a host tells with one more file written
+abbrev pub with_file : HostTold → (name bytes : List ℕ) → HostTold
+with_file h name bytes = record h { written = add_file h.written name bytes }

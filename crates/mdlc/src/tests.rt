@@ -5,7 +5,9 @@ use mc_edge::{MemHost, MemSink, SureHost, SureSink};
 use std::alloc::{AllocError, Global};
 use std::test::Fail;
 
+mod made;
 mod models;
+mod profiles;
 mod runs;
 mod worked;
 
@@ -125,6 +127,18 @@ fn usage(rt: HostRuntime) -> Result<(), Fail> {
         "exec a.c",
         "exec a.c -t",
         "exec a.c t u",
+        "profile",
+        "profile -a",
+        "profile a.mdl b",
+        "gen 1 1 a",
+        "gen 1 1 a a",
+        "gen 1 1 a b c",
+        "gen 0 1 a b",
+        "gen 01 1 a b",
+        "gen 2147483647 1 a b",
+        "gen 1 0 a b",
+        "gen 1 2500 a b",
+        "gen x 1 a b",
     ] {
         let told = called(rt.alloc(), line, models::ONE_WIRE, &[], &[], 4096)?;
         assert_eq!(rt; told.status, 2, "{line}");

@@ -16,6 +16,8 @@ pub enum Ending {
     },
     /// Code was run over a whole trace, and took this.
     Ran(Totals),
+    /// This is the report on a model.
+    Reported(Vec<u8>),
     /// The words are no command.
     Usage,
     /// The model is refused.
@@ -30,7 +32,7 @@ pub enum Ending {
     Stuck(Stuck),
     ReadFault,
     WriteFault,
-    /// A line of outputs can't be put.
+    /// A line can't be put that comes before the last text.
     PutFault,
     NoMemory,
 }
@@ -38,7 +40,10 @@ pub enum Ending {
 mod acting;
 mod compiling;
 mod finishing;
+mod generating;
 mod lines;
+mod profiling;
+mod rows;
 mod running;
 mod starting;
 mod tracing;

@@ -2,11 +2,14 @@ ghost use Rattle.std.specs.Prelude.{◌≡◌, Some, IfSome, false};
 ghost use Rattle.mc_words.specs.Words.{word_bytes, asked_by};
 ghost use Rattle.mc_words.specs.Words.Asked.{Compile, Run, Exec};
 ghost use Rattle.mdlc.specs.Told.{told, sink_told};
-ghost use Rattle.mdlc.specs.Endings.{EndsCompile, Ends};
+ghost use Rattle.mdlc.specs.EndingsOfModels.{EndsCompile};
+ghost use Rattle.mdlc.specs.Endings.{Ends};
 ghost use Rattle.mdlc.specs.Completeness.{IfReadFault, IsUnsureOf};
 
 use super::Ending;
 use super::compiling::compile_into;
+use super::generating::generate_model;
+use super::profiling::profile_model;
 use super::starting::started;
 use super::tracing::run_file;
 use c_reading::readings_agree;
@@ -103,6 +106,17 @@ pub fn act<H: Host, S: Sink>(alloc: Global, words: &[String], host: &mut H, out:
             run_model(alloc, host, out, model, code, trace)
         }
         Ok(Some(Command::Exec { code, trace })) => exec_code(alloc, host, out, code, trace),
+        Ok(Some(Command::Profile { model })) => profile_model(alloc, host, model),
+        Ok(
+            Some(
+                Command::Gen {
+                    start,
+                    size,
+                    model,
+                    code,
+                },
+            ),
+        ) => generate_model(alloc, host, out, start, size, model, code),
         Err(Memory) => Ending::NoMemory,
     }
 }

@@ -10,7 +10,7 @@ use mc_verdict::ModelFault;
 use std::alloc::Global;
 
 /// The most bytes that a model has.
-const MOST_BYTES: usize = 16_777_216;
+pub const MOST_BYTES: usize = 16_777_216;
 
 /// Compiles the file `model` into the file `code`.
 pub fn compile_into<H: Host>(

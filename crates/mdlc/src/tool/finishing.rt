@@ -1,7 +1,7 @@
 ghost use Rattle.std.specs.Prelude.{◌≡◌, IfOk, MatchResult, string_bytes};
 ghost use Rattle.mdlc.specs.declared.tool.Ending.{Ending};
 ghost use Rattle.mdlc.specs.Told.{sink_told};
-ghost use Rattle.mdlc.specs.Endings.{text_of, status_of, IsSaidOf, Puts};
+ghost use Rattle.mdlc.specs.Endings.{text_of, status_of, IsSaidOf, PutsText, Puts};
 
 use super::Ending;
 use super::lines::{
@@ -28,23 +28,24 @@ fn line_bytes(line: Result<String, AllocError>) -> Result<Vec<u8>, Memory>
     }
 }
 
-// The text of an ending.
-fn text(alloc: Global, ending: &Ending) -> Result<Vec<u8>, Memory>
-    ensures { IfOk result (λ bytes. bytes.items ≡ text_of ending.now) }
+// The text of an ending. A report is its own.
+fn text(alloc: Global, ending: Ending) -> Result<Vec<u8>, Memory>
+    ensures { IfOk result (λ bytes. bytes.items ≡ text_of ending) }
 {
     match ending {
         Ending::Compiled {
             rows,
             systems,
             functions,
-        } => line_bytes(compiled_line(alloc, *rows, *systems, *functions)),
-        Ending::Ran(totals) => line_bytes(totals_line(alloc, *totals)),
+        } => line_bytes(compiled_line(alloc, rows, systems, functions)),
+        Ending::Ran(totals) => line_bytes(totals_line(alloc, totals)),
+        Ending::Reported(report) => Ok(report),
         Ending::Usage => bytes_of(alloc, USAGE),
-        Ending::Refused(refusal) => refusal_text(alloc, refusal),
-        Ending::BadTrace(bad) => line_bytes(bad_line_line(alloc, *bad)),
-        Ending::CodeRefused(fault) => line_bytes(code_refused_line(alloc, *fault)),
+        Ending::Refused(refusal) => refusal_text(alloc, &refusal),
+        Ending::BadTrace(bad) => line_bytes(bad_line_line(alloc, bad)),
+        Ending::CodeRefused(fault) => line_bytes(code_refused_line(alloc, fault)),
         Ending::CodeTooLong => bytes_of(alloc, "code refused TooLong\n"),
-        Ending::Stuck(at) => line_bytes(stuck_line(alloc, *at)),
+        Ending::Stuck(at) => line_bytes(stuck_line(alloc, at)),
         Ending::ReadFault => bytes_of(alloc, "read fault\n"),
         Ending::WriteFault => bytes_of(alloc, "write fault\n"),
         Ending::PutFault => bytes_of(alloc, ""),
@@ -57,7 +58,7 @@ fn status(ending: &Ending) -> u8
     ensures { result ≡ status_of ending.now }
 {
     match ending {
-        Ending::Compiled { .. } | Ending::Ran(_) => 0,
+        Ending::Compiled { .. } | Ending::Ran(_) | Ending::Reported(_) => 0,
         Ending::Usage => 2,
         Ending::Refused(_) => 3,
         Ending::BadTrace(_) => 4,
@@ -70,27 +71,27 @@ fn status(ending: &Ending) -> u8
     }
 }
 
-// Puts an ending's text, and says the status.
-fn put_ending<S: Sink>(out: &mut S, ending: &Ending, text: &[u8]) -> u8
-    requires { text.now ≡ text_of ending.now }
-    ensures { let at = sink_told S.bytes S.faults in Puts ending.now result (at out.old) (at out.new) }
+// Puts the text of an ending with this status, and says the status.
+fn put_text<S: Sink>(out: &mut S, status: u8, text: &[u8]) -> u8
+    ensures { let at = sink_told S.bytes S.faults in PutsText status text.now result (at out.old) (at out.new) }
 {
     match put_all(out, text) {
-        Ok(()) => status(ending),
+        Ok(()) => status,
         Err(Failed) => 7,
     }
 }
 
 /// Puts an ending's text, or the text for want of memory, and says the status. Where a line couldn't be put, nothing more is.
-pub fn finish<S: Sink>(alloc: Global, out: &mut S, ending: &Ending) -> u8
+pub fn finish<S: Sink>(alloc: Global, out: &mut S, ending: Ending) -> u8
     ensures { let at = sink_told S.bytes S.faults in
-        (e : Ending) × IsSaidOf e ending.now × Puts e result (at out.old) (at out.new) }
+        (e : Ending) × IsSaidOf e ending × Puts e result (at out.old) (at out.new) }
 {
+    let found = status(&ending);
     if let Ending::PutFault = ending {
-        return put_ending(out, ending, b"");
+        return put_text(out, found, b"");
     }
     match text(alloc, ending) {
-        Ok(text) => put_ending(out, ending, &text),
-        Err(Memory) => put_ending(out, &Ending::NoMemory, b"no memory\n"),
+        Ok(text) => put_text(out, found, &text),
+        Err(Memory) => put_text(out, status(&Ending::NoMemory), b"no memory\n"),
     }
 }

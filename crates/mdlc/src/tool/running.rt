@@ -5,7 +5,7 @@ ghost use Rattle.mc_words.specs.Words.{word_bytes, asked_by};
 ghost use Rattle.mdlc.specs.Told.{told, sink_told};
 ghost use Rattle.mdlc.specs.Endings.{EndsAt};
 ghost use Rattle.mdlc.specs.Statuses.{IsPlain, IsExactly, Comes, ComesExactly, OnTold, IsDone};
-ghost use Rattle.mdlc.specs.Headline.{DoesRight};
+ghost use Rattle.mdlc.specs.Headline.{WritesNothing, DoesRight};
 ghost use Rattle.mdlc.specs.Completeness.{CanDo, IsComplete, IsSureOf, IsUnsureOf};
 
 use super::acting::act;
@@ -23,18 +23,21 @@ fn run<H: Host, S: Sink>(alloc: Global, words: &[String], host: &mut H, out: &mu
     ensures unsure { IfSome (asked_by (word_bytes words.now)) (λ asked. result ≡ 5 → IsUnsureOf H.files H.sure host.old asked) }
 {
     let ending = act(alloc, words, host, out);
-    finish(alloc, out, &ending)
+    finish(alloc, out, ending)
 }
 
 /// Does what the words after the program's name ask for, and says the status: 0 where the work is done, 2 for words that
 /// are no command, 3 for a model that is refused, 4 for a line of the trace that is no row, 5, 6 and 7 for faults of reading,
 /// writing and putting, 8 for code that is no program, 9 for code that is stuck, and 10 for want of memory.
 pub fn run_tool<H: Host, S: Sink>(alloc: Global, words: &[String], host: &mut H, out: &mut S) -> u8
-    // What `compile` writes of an accepted model, what `run` puts of it besides, that of a refused one nothing is written,
-    // and what `exec` puts.
+    // What `compile` writes of an accepted model, what `run` puts of it besides, and `gen` of one that it makes; what `profile`
+    // puts of an accepted model; that of a refused one nothing is written; and what `exec` puts.
     ensures right { let at = told H.files H.rest H.written H.sure H.read_faults H.write_faults in
         let sink = sink_told S.bytes S.faults in
         DoesRight result (asked_by (word_bytes words.now)) (at host.old) (at host.new) (sink out.old) (sink out.new) }
+
+    // Whatever the status, `exec` and `profile` write nothing, and nor does any command where the model is refused.
+    ensures unwritten { WritesNothing result (asked_by (word_bytes words.now)) → H.written host.new ≡ H.written host.old }
 
     // The words asked for something, or not; what was found, what was written and what was put.
     ensures ended { let at = told H.files H.rest H.written H.sure H.read_faults H.write_faults in

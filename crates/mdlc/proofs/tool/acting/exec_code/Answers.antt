@@ -4,7 +4,8 @@ use Rattle.mc_fixed.specs.declared.types.FixType.{FixType}
 use Rattle.c_meaning.specs.States.{MachineState, tree_of}
 use Rattle.mc_runner.specs.Ticks.{IsNarrower}
 use Rattle.mdlc.specs.Told.{HostTold, SinkTold, told, sink_told}
-use Rattle.mdlc.specs.Endings.{code_limit, LeavesHost}
+use Rattle.mdlc.specs.EndingsOfModels.{LeavesHost}
+use Rattle.mdlc.specs.EndingsOfRuns.{code_limit}
 use Rattle.mdlc.specs.Acting.{StartsFrom, NotStarted, RunEnds}
 use Rattle.mc_words.specs.Words.{Exec}
 use Rattle.mdlc.proofs.Files.{longer_than}

@@ -1,11 +1,15 @@
 use Rattle.mdlc.proofs.StatusLaws.{comes_exactly, exactly, usage, plain_three, plain_four, plain_eight, plain_nine}
 use Rattle.mdlc.proofs.RightLaws.{does_right}
+use Rattle.mdlc.proofs.Unwritten.{unwritten}
 use Rattle.mdlc.proofs.EndingLaws.{no_count, read_fault, write_fault, put_fault}
 use Rattle.mdlc.proofs.Completeness.{complete, surely_done}
 use Rattle.mdlc.proofs.tool.running.run_tool.Goals as goal
 
 pub returns-clause-right : goal.returns-clause-right
 returns-clause-right g c = does_right c.one_verdict.ensures c.readings_agree.ensures _ _ _ _ _ _ c.run.ensures.ended
+
+pub returns-clause-unwritten : goal.returns-clause-unwritten
+returns-clause-unwritten g c = unwritten _ _ _ _ _ _ c.run.ensures.ended
 
 pub returns-clause-usage : goal.returns-clause-usage
 returns-clause-usage g c = usage _ _ _ _ _ _ c.run.ensures.ended

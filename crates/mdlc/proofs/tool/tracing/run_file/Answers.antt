@@ -1,6 +1,6 @@
 use Rattle.std.proofs.Common.{rules}
 use Rattle.mdlc.specs.Told.{HostTold, SinkTold, told, sink_told}
-use Rattle.mdlc.specs.Endings.{LeavesHost}
+use Rattle.mdlc.specs.EndingsOfModels.{LeavesHost}
 use Rattle.mdlc.specs.Acting.{IsBehindStart}
 use Rattle.mdlc.proofs.RunLaws.{whole-file, bad-file, stuck-file, cut-file, lost-file, forget-file}
 use Rattle.mdlc.proofs.tool.tracing.run_file.Goals as goal
