@@ -1,0 +1,12 @@
+#include <stdint.h>
+static int64_t part(int64_t v, int64_t d) {
+    return ((int64_t)v / (int64_t)d);
+}
+struct root {
+    int32_t y1;
+};
+void root_start(struct root *s) {
+}
+void root_step(struct root *s, int32_t u1) {
+    s->y1 = (int32_t)part(INT64_C(100), (INT64_C(2) - (int64_t)u1));
+}

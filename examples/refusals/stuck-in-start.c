@@ -1,0 +1,10 @@
+#include <stdint.h>
+struct root {
+    int32_t y1;
+};
+void root_start(struct root *s) {
+    s->y1 = (int32_t)(INT64_C(1) / INT64_C(0));
+}
+void root_step(struct root *s, int32_t u1) {
+    s->y1 = (int32_t)(int64_t)u1;
+}

@@ -1,0 +1,9 @@
+#include <stdint.h>
+struct root {
+    int32_t y1;
+};
+void root_start(struct root *s) {
+}
+void root_step(struct root *s, int32_t u1) {
+    s->y1 = (int32_t)(INT64_C(100) / (INT64_C(2) - (int64_t)u1));
+}
