@@ -65,6 +65,11 @@ exec = shape (codes "exec") (argument_at 1 (codes "CODE") ∷ argument_at 2 (cod
 abbrev pub profile : Shape
 profile = shape (codes "profile") (argument_at 1 (codes "MODEL") ∷ []) true
 
+abbrev pub drive : Shape
+drive = shape (codes "drive")
+    (argument_at 1 (codes "MODEL") ∷ argument_at 2 (codes "CODE") ∷ argument_at 3 (codes "SUBSYSTEM") ∷ argument_at 4 (codes "SCRIPT") ∷ [])
+    true
+
 abbrev pub gen : Shape
 gen = shape (codes "gen") (argument_at 1 (codes "START") ∷ argument_at 2 (codes "SIZE") ∷ argument_at 3 (codes "MODEL") ∷ argument_at 4 (codes "CODE") ∷ []) true
 
@@ -72,7 +77,7 @@ abbrev pub top : Shape
 top = record (shape (codes "mdlc") [] false) { subcommand_required = true }
 
 abbrev pub ready : App
-ready = record { top = top; subs = compile ∷ run ∷ exec ∷ profile ∷ gen ∷ [] }
+ready = record { top = top; subs = compile ∷ run ∷ exec ∷ profile ∷ drive ∷ gen ∷ [] }
 
 is_ready : built program ≡ ready
 is_ready = refl
@@ -144,6 +149,10 @@ meets_exec = record { walk = refl; turn = refl; found = refl }
 pub meets_profile : Meets (codes "profile") profile
 unfolding clap_on_literals
 meets_profile = record { walk = refl; turn = refl; found = refl }
+
+pub meets_drive : Meets (codes "drive") drive
+unfolding clap_on_literals
+meets_drive = record { walk = refl; turn = refl; found = refl }
 
 pub meets_gen : Meets (codes "gen") gen
 unfolding clap_on_literals

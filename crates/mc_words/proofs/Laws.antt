@@ -9,9 +9,9 @@ use Rattle.clap.specs.Walk.{Held, Row, nothing_held}
 use Rattle.clap.specs.Words.{Text, subcommand_of, takes}
 use Rattle.clap.specs.declared.builder.value_parser.ValueParser.TheVariants as vp
 use Rattle.clap.specs.declared.parser.matches.ValueSource.TheVariants.{CommandLine}
-use Rattle.mc_words.specs.Words.{Asked, Compile, Run, Exec, Profile, is_word, differ, number_up_to, greatest_start, greatest_size, gen_by, with_one, with_two, with_three, with_four, command_with, asked_by}
+use Rattle.mc_words.specs.Words.{Asked, Compile, Run, Exec, Profile, Drive, is_word, differ, number_up_to, greatest_start, greatest_size, gen_by, with_one, with_two, with_three, with_four, command_with, asked_by}
 use Rattle.mc_words.specs.Program.{program, asked_in}
-use Rattle.mc_words.proofs.Entered.{compile, run, exec, profile, gen, meets_compile, meets_run, meets_exec, meets_profile, meets_gen, meets_takes, meets_rows}
+use Rattle.mc_words.proofs.Entered.{compile, run, exec, profile, drive, gen, meets_compile, meets_run, meets_exec, meets_profile, meets_drive, meets_gen, meets_takes, meets_rows}
 use Rattle.mc_words.proofs.Steps.{Goes, goes_level, goes_rows}
 
 -- `clap` takes the words, and its matches ask for this
@@ -70,6 +70,22 @@ serves_profile model m =
       meets_takes (codes "profile") profile meets_profile words (goes_level profile words first goes refl),
       ap asked_in (meets_rows (codes "profile") profile meets_profile words)
           ∙ ap (λ rows. asked_in (Some (codes "profile", rows))) (goes_rows profile words first goes),
+    )
+
+serves_drive : (model code subsystem script : Text) → is_word model ≡ true → is_word code ≡ true → is_word subsystem ≡ true
+    → is_word script ≡ true → Serves (codes "drive" ∷ model ∷ code ∷ subsystem ∷ script ∷ []) (Some (Drive model code subsystem script))
+serves_drive model code subsystem script m c b s =
+    let words = model ∷ code ∷ subsystem ∷ script ∷ [] in
+    let first = held [] (codes "MODEL") model in
+    let second = held (row (codes "MODEL") model ∷ []) (codes "CODE") code in
+    let third = held (row (codes "MODEL") model ∷ row (codes "CODE") code ∷ []) (codes "SUBSYSTEM") subsystem in
+    let rows = row (codes "MODEL") model ∷ row (codes "CODE") code ∷ row (codes "SUBSYSTEM") subsystem ∷ [] in
+    let fourth = held rows (codes "SCRIPT") script in
+    let goes : Goes drive nothing_held 1 words fourth =
+    (first, m, refl, refl, (second, c, refl, refl, (third, b, refl, refl, (fourth, s, refl, refl, refl)))) in (
+      meets_takes (codes "drive") drive meets_drive words (goes_level drive words fourth goes refl),
+      ap asked_in (meets_rows (codes "drive") drive meets_drive words)
+          ∙ ap (λ rows. asked_in (Some (codes "drive", rows))) (goes_rows drive words fourth goes),
     )
 
 serves_gen : (start size model code : Text) → is_word start ≡ true → is_word size ≡ true → is_word model ≡ true → is_word code ≡ true
@@ -137,9 +153,12 @@ three_words command a b c x y z =
 four_words : (command a b c d : Text) → is_word a ≡ true → is_word b ≡ true → is_word c ≡ true → is_word d ≡ true
     → Right (command ∷ a ∷ b ∷ c ∷ d ∷ []) (with_four command a b c d)
 four_words command a b c d x y z w =
-    choose (command ∷ a ∷ b ∷ c ∷ d ∷ []) (bytes_eq command (codes "gen") && differ d c) _ _
+    choose (command ∷ a ∷ b ∷ c ∷ d ∷ []) (bytes_eq command (codes "drive") && differ b a && differ b d) _ _
+    (λ e. named (codes "drive") command (a ∷ b ∷ c ∷ d ∷ []) _ (serves_drive a b c d x y z w)
+    (first_of_both (bytes_eq command (codes "drive")) (differ b a) (first_of_both _ (differ b d) e)))
+    (choose (command ∷ a ∷ b ∷ c ∷ d ∷ []) (bytes_eq command (codes "gen") && differ d c) _ _
     (λ e. named (codes "gen") command (a ∷ b ∷ c ∷ d ∷ []) _ (serves_gen a b c d x y z w) (first_of_both _ (differ d c) e))
-    (asks_nothing (command ∷ a ∷ b ∷ c ∷ d ∷ []))
+    (asks_nothing (command ∷ a ∷ b ∷ c ∷ d ∷ [])))
 
 with_words : (command : Text) (words : List Text) → list_all is_word words ≡ true → Right (command ∷ words) (command_with command words)
 with_words command [] e = asks_nothing (command ∷ [])

@@ -3,7 +3,7 @@ use Rattle.std.specs.Prelude.{◌≡◌, true, false, if◌then◌else◌, List,
 use Rattle.clap.specs.Words.{App, Row, Rule, Shape, Text, first_of, new_app, new_rule, shape_of}
 use Rattle.clap.specs.declared.builder.command.Command.{Command}
 use Rattle.clap.specs.declared.builder.command.Command.TheViews.{out-Command as fields_of}
-use Rattle.mc_words.specs.Words.{Asked, Compile, Run, Exec, Profile, number_up_to, greatest_start, greatest_size, gen_by}
+use Rattle.mc_words.specs.Words.{Asked, Compile, Run, Exec, Profile, Drive, number_up_to, greatest_start, greatest_size, gen_by}
 
 -- an argument by its place, which has to be there
 abbrev pub argument : Text → Rule
@@ -25,6 +25,10 @@ exec = with_arguments (codes "exec") (codes "CODE" ∷ codes "TRACE" ∷ [])
 abbrev pub profile : Shape
 profile = with_arguments (codes "profile") (codes "MODEL" ∷ [])
 
+abbrev pub drive : Shape
+drive = with_arguments (codes "drive")
+    (codes "MODEL" ∷ codes "CODE" ∷ codes "SUBSYSTEM" ∷ codes "SCRIPT" ∷ [])
+
 abbrev pub gen : Shape
 gen = with_arguments (codes "gen") (codes "START" ∷ codes "SIZE" ∷ codes "MODEL" ∷ codes "CODE" ∷ [])
 
@@ -42,7 +46,10 @@ bare = record {
 }
 
 abbrev pub program : App
-program = record { top = record bare.top { is_leaf = false }; subs = compile ∷ run ∷ exec ∷ profile ∷ gen ∷ [] }
+program = record {
+  top = record bare.top { is_leaf = false };
+  subs = compile ∷ run ∷ exec ∷ profile ∷ drive ∷ gen ∷ [];
+}
 
 -- a command of this shape, which has no argument for its subcommands
 abbrev pub IsSubcommand : Command → Shape → Type 0
@@ -70,6 +77,14 @@ abbrev pub profile_of : Option Text → Option Asked
 profile_of (Some model) = Some (Profile model)
 profile_of None = None
 
+abbrev pub drive_of : (model code subsystem script : Option Text) → Option Asked
+drive_of (Some model) (Some code) (Some subsystem) (Some script) =
+    Some (Drive model code subsystem script)
+drive_of None _ _ _ = None
+drive_of (Some model) None _ _ = None
+drive_of (Some model) (Some code) None _ = None
+drive_of (Some model) (Some code) (Some subsystem) None = None
+
 abbrev pub gen_of : (start size model code : Option Text) → Option Asked
 gen_of (Some start) (Some size) (Some model) (Some code) =
     gen_by (number_up_to greatest_start start) (number_up_to greatest_size size) model code
@@ -85,6 +100,9 @@ asked_of name value =
     else if bytes_eq name (codes "run") then run_of (value (codes "MODEL")) (value (codes "CODE")) (value (codes "TRACE"))
     else if bytes_eq name (codes "exec") then exec_of (value (codes "CODE")) (value (codes "TRACE"))
     else if bytes_eq name (codes "profile") then profile_of (value (codes "MODEL"))
+    else if bytes_eq name (codes "drive")
+    then drive_of (value (codes "MODEL")) (value (codes "CODE")) (value (codes "SUBSYSTEM"))
+    (value (codes "SCRIPT"))
     else if bytes_eq name (codes "gen")
     then gen_of (value (codes "START")) (value (codes "SIZE")) (value (codes "MODEL")) (value (codes "CODE"))
     else None

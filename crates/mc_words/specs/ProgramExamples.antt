@@ -2,7 +2,7 @@
 use Rattle.std.specs.Prelude.{◌≡◌, refl, true, false, [], ◌∷◌, Some, None, codes}
 use Rattle.clap.specs.Words.{subcommand_of, takes}
 use Rattle.clap.proofs.OnLiterals.{clap_on_literals}
-use Rattle.mc_words.specs.Words.{Compile, Run, Exec, Profile, Gen}
+use Rattle.mc_words.specs.Words.{Compile, Run, Exec, Profile, Drive, Gen}
 use Rattle.mc_words.specs.Program.{program, asked_in}
 
 takes-compile : takes program (codes "compile" ∷ codes "a" ∷ codes "b" ∷ []) ≡ true
@@ -24,6 +24,18 @@ asked-exec = refl
 asked-profile : asked_in (subcommand_of program (codes "profile" ∷ codes "a" ∷ [])) ≡ Some (Profile (codes "a"))
 unfolding clap_on_literals
 asked-profile = refl
+
+asked-drive : asked_in (subcommand_of program
+    (codes "drive" ∷ codes "a" ∷ codes "b" ∷ codes "top" ∷ codes "a" ∷ []))
+    ≡ Some (Drive (codes "a") (codes "b") (codes "top") (codes "a"))
+unfolding clap_on_literals
+asked-drive = refl
+
+asked-drive_named_so : asked_in (subcommand_of program
+    (codes "drive" ∷ codes "drive" ∷ codes "gen" ∷ codes "1" ∷ codes "run" ∷ []))
+    ≡ Some (Drive (codes "drive") (codes "gen") (codes "1") (codes "run"))
+unfolding clap_on_literals
+asked-drive_named_so = refl
 
 asked-gen : asked_in (subcommand_of program (codes "gen" ∷ codes "2147483646" ∷ codes "2499" ∷ codes "a" ∷ codes "b" ∷ [])) ≡ Some (Gen 2_147_483_646 2_499 (codes "a") (codes "b"))
 unfolding clap_on_literals
@@ -54,6 +66,31 @@ takes-dash = refl
 takes-more : takes program (codes "compile" ∷ codes "a" ∷ codes "b" ∷ codes "c" ∷ []) ≡ false
 unfolding clap_on_literals
 takes-more = refl
+
+takes-drive_over_model : takes program
+    (codes "drive" ∷ codes "a" ∷ codes "a" ∷ codes "top" ∷ codes "c" ∷ []) ≡ true
+unfolding clap_on_literals
+takes-drive_over_model = refl
+
+takes-drive_over_script : takes program
+    (codes "drive" ∷ codes "a" ∷ codes "b" ∷ codes "top" ∷ codes "b" ∷ []) ≡ true
+unfolding clap_on_literals
+takes-drive_over_script = refl
+
+takes-drive_short : takes program
+    (codes "drive" ∷ codes "a" ∷ codes "b" ∷ codes "top" ∷ []) ≡ false
+unfolding clap_on_literals
+takes-drive_short = refl
+
+takes-drive_long : takes program
+    (codes "drive" ∷ codes "a" ∷ codes "b" ∷ codes "top" ∷ codes "c" ∷ codes "d" ∷ []) ≡ false
+unfolding clap_on_literals
+takes-drive_long = refl
+
+takes-drive_dash : takes program
+    (codes "drive" ∷ codes "a" ∷ codes "b" ∷ codes "-1" ∷ codes "c" ∷ []) ≡ false
+unfolding clap_on_literals
+takes-drive_dash = refl
 
 takes-gen_same : takes program (codes "gen" ∷ codes "1" ∷ codes "1" ∷ codes "a" ∷ codes "a" ∷ []) ≡ true
 unfolding clap_on_literals

@@ -22,6 +22,7 @@ pub data Asked : Type 0 where
   Run : (model code trace : List ℕ) → Asked
   Exec : (code trace : List ℕ) → Asked
   Profile : (model : List ℕ) → Asked
+  Drive : (model code subsystem script : List ℕ) → Asked
   Gen : (start size : ℕ) (model code : List ℕ) → Asked
 
 -- ---- Numbers
@@ -68,10 +69,12 @@ abbrev pub with_three : List ℕ → (model code trace : List ℕ) → Option As
 with_three command model code trace =
     if bytes_eq command (codes "run") && differ code model && differ code trace then Some (Run model code trace) else None
 
-abbrev pub with_four : List ℕ → (start size model code : List ℕ) → Option Asked
-with_four command start size model code =
-    if bytes_eq command (codes "gen") && differ code model
-    then gen_by (number_up_to greatest_start start) (number_up_to greatest_size size) model code
+abbrev pub with_four : List ℕ → (first second third fourth : List ℕ) → Option Asked
+with_four command first second third fourth =
+    if bytes_eq command (codes "drive") && differ second first && differ second fourth
+    then Some (Drive first second third fourth)
+    else if bytes_eq command (codes "gen") && differ fourth third
+    then gen_by (number_up_to greatest_start first) (number_up_to greatest_size second) third fourth
     else None
 
 -- what a command asks for with its further words
@@ -94,6 +97,8 @@ asked (command.Compile model code) = Compile model.now code.now
 asked (command.Run model code trace) = Run model.now code.now trace.now
 asked (command.Exec code trace) = Exec code.now trace.now
 asked (command.Profile model) = Profile model.now
+asked (command.Drive model code subsystem script) =
+    Drive model.now code.now subsystem.now script.now
 asked (command.Gen start size model code) = Gen start size model.now code.now
 
 -- the numbers of a command are in their ranges
@@ -102,4 +107,5 @@ HasBounds (command.Compile model code) = ⊤
 HasBounds (command.Run model code trace) = ⊤
 HasBounds (command.Exec code trace) = ⊤
 HasBounds (command.Profile model) = ⊤
+HasBounds (command.Drive model code subsystem script) = ⊤
 HasBounds (command.Gen start size model code) = (0 < start) × (start ≤ greatest_start) × (0 < size) × (size ≤ greatest_size)

@@ -1,6 +1,6 @@
 -- Words of command lines.
 use Rattle.std.specs.Prelude.{◌≡◌, refl, List, ℕ, [], ◌∷◌, Option, Some, None, codes}
-use Rattle.mc_words.specs.Words.{Asked, asked_by, number_up_to, greatest_start, greatest_size, Compile, Run, Exec, Profile, Gen}
+use Rattle.mc_words.specs.Words.{Asked, asked_by, number_up_to, greatest_start, greatest_size, Compile, Run, Exec, Profile, Drive, Gen}
 
 words-none : asked_by [] ≡ None
 words-none = refl
@@ -58,6 +58,49 @@ words-profile_long = refl
 
 words-profile_dash : asked_by (codes "profile" ∷ codes "-a" ∷ []) ≡ None
 words-profile_dash = refl
+
+-- the words of `drive`, with a model `a`
+abbrev drive : (code subsystem script : List ℕ) → Option Asked
+drive code subsystem script =
+    asked_by (codes "drive" ∷ codes "a" ∷ code ∷ subsystem ∷ script ∷ [])
+
+words-drive : drive (codes "b") (codes "top") (codes "c")
+    ≡ Some (Drive (codes "a") (codes "b") (codes "top") (codes "c"))
+words-drive = refl
+
+words-drive_by_the_model : drive (codes "b") (codes "1") (codes "a")
+    ≡ Some (Drive (codes "a") (codes "b") (codes "1") (codes "a"))
+words-drive_by_the_model = refl
+
+words-drive_subsystem_named_as_code : drive (codes "b") (codes "b") (codes "c")
+    ≡ Some (Drive (codes "a") (codes "b") (codes "b") (codes "c"))
+words-drive_subsystem_named_as_code = refl
+
+words-drive_named_so : drive (codes "drive") (codes "10") (codes "run")
+    ≡ Some (Drive (codes "a") (codes "drive") (codes "10") (codes "run"))
+words-drive_named_so = refl
+
+words-drive_over_model : drive (codes "a") (codes "top") (codes "c") ≡ None
+words-drive_over_model = refl
+
+words-drive_over_script : drive (codes "b") (codes "top") (codes "b") ≡ None
+words-drive_over_script = refl
+
+words-drive_all_one : drive (codes "a") (codes "top") (codes "a") ≡ None
+words-drive_all_one = refl
+
+words-drive_dash : drive (codes "b") (codes "-1") (codes "c") ≡ None
+words-drive_dash = refl
+
+words-drive_empty : drive (codes "b") [] (codes "c") ≡ None
+words-drive_empty = refl
+
+words-drive_short : asked_by (codes "drive" ∷ codes "a" ∷ codes "b" ∷ codes "top" ∷ []) ≡ None
+words-drive_short = refl
+
+words-drive_long : asked_by
+    (codes "drive" ∷ codes "a" ∷ codes "b" ∷ codes "top" ∷ codes "c" ∷ codes "d" ∷ []) ≡ None
+words-drive_long = refl
 
 -- the words of `gen`, with a model `a`
 abbrev gen : (start size code : List ℕ) → Option Asked

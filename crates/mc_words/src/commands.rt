@@ -21,6 +21,14 @@ pub enum Command<'a> {
     Profile {
         model: &'a str,
     },
+    /// Compiles the file `model` into the file `code`, and drives the subsystem of this word by the calls of the file
+    /// `script`: `top` or the number of a SubSystem row.
+    Drive {
+        model: &'a str,
+        code: &'a str,
+        subsystem: &'a str,
+        script: &'a str,
+    },
     /// Writes the model that is made from `start` in `size` subsystems into the file `model`, compiles it into the file
     /// `code`, and runs what was written over the trace that belongs to it. `start` is 1 to 2,147,483,646 and `size` 1 to 2,499.
     Gen {

@@ -29,10 +29,14 @@ fn takes_three(command: &str, model: &str, code: &str, trace: &str) -> bool
 }
 
 // Whether a command takes these four words.
-fn takes_four(command: &str, start: &str, size: &str, model: &str, code: &str) -> bool
-    ensures { result ≡ is_some (with_four command.now start.now size.now model.now code.now) }
+fn takes_four(command: &str, first: &str, second: &str, third: &str, fourth: &str) -> bool
+    ensures { result ≡ is_some (with_four command.now first.now second.now third.now fourth.now) }
 {
-    command == "gen" && code != model && start_of(start).is_some() && size_of(size).is_some()
+    (command == "drive" && second != first && second != fourth)
+        || (command == "gen"
+            && fourth != third
+            && start_of(first).is_some()
+            && size_of(second).is_some())
 }
 
 // Whether a command takes these further words.
@@ -44,12 +48,12 @@ fn takes(command: &str, further: &[String]) -> bool
         [_] => command == "profile",
         [first, second] => takes_two(command, first.as_str(), second.as_str()),
         [model, code, trace] => takes_three(command, model.as_str(), code.as_str(), trace.as_str()),
-        [start, size, model, code] => takes_four(
+        [first, second, third, fourth] => takes_four(
             command,
-            start.as_str(),
-            size.as_str(),
-            model.as_str(),
-            code.as_str(),
+            first.as_str(),
+            second.as_str(),
+            third.as_str(),
+            fourth.as_str(),
         ),
         _ => false,
     }

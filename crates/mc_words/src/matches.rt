@@ -1,7 +1,7 @@
 ghost use Rattle.std.specs.Prelude.{◌≡◌, IfSome, option_map, codes};
 ghost use Rattle.clap.specs.Words.{first_value, found_of, subcommand_rows_of};
 ghost use Rattle.mc_words.specs.Words.{HasBounds, asked};
-ghost use Rattle.mc_words.specs.Program.{compile_of, run_of, exec_of, profile_of, gen_of, asked_of, asked_in};
+ghost use Rattle.mc_words.specs.Program.{compile_of, run_of, exec_of, profile_of, drive_of, gen_of, asked_of, asked_in};
 
 use crate::Command;
 use crate::numbers::{size_of, start_of};
@@ -43,6 +43,24 @@ fn profile<'a>(values: &ArgMatches<'a>) -> Option<Command<'a>>
     Some(Command::Profile { model })
 }
 
+fn drive<'a>(values: &ArgMatches<'a>) -> Option<Command<'a>>
+    ensures { let value = first_value (found_of values.now) in
+        option_map asked result
+        ≡ drive_of (value (codes "MODEL")) (value (codes "CODE")) (value (codes "SUBSYSTEM"))
+        (value (codes "SCRIPT")) }
+{
+    let model = values.get_str("MODEL")?;
+    let code = values.get_str("CODE")?;
+    let subsystem = values.get_str("SUBSYSTEM")?;
+    let script = values.get_str("SCRIPT")?;
+    Some(Command::Drive {
+        model,
+        code,
+        subsystem,
+        script,
+    })
+}
+
 fn generate<'a>(values: &ArgMatches<'a>) -> Option<Command<'a>>
     ensures asked { let value = first_value (found_of values.now) in
         option_map asked result
@@ -73,6 +91,7 @@ fn asked_of<'a>(name: &str, values: &ArgMatches<'a>) -> Option<Command<'a>>
         "run" => run(values),
         "exec" => exec(values),
         "profile" => profile(values),
+        "drive" => drive(values),
         "gen" => generate(values),
         _ => None,
     }

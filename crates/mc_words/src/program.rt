@@ -1,7 +1,7 @@
 ghost use Rattle.std.specs.Prelude.{◌≡◌, IfOk, false};
 ghost use Rattle.clap.specs.Words.{app_of, rule_of};
 ghost use Rattle.clap.specs.declared.builder.command.Command.TheViews.{out-Command as fields_of};
-ghost use Rattle.mc_words.specs.Program.{argument, compile, run, exec, profile, gen, bare, program, IsSubcommand};
+ghost use Rattle.mc_words.specs.Program.{argument, compile, run, exec, profile, drive, gen, bare, program, IsSubcommand};
 
 use clap::{Arg, Command};
 use std::alloc::{AllocError, Global};
@@ -44,6 +44,16 @@ fn profile<'a>(alloc: Global) -> Result<Command<'a>, AllocError>
     Command::new(alloc, "profile").arg(argument(alloc, "MODEL"))
 }
 
+fn drive<'a>(alloc: Global) -> Result<Command<'a>, AllocError>
+    ensures { IfOk result (λ c. IsSubcommand c drive) }
+{
+    Command::new(alloc, "drive")
+        .arg(argument(alloc, "MODEL"))?
+        .arg(argument(alloc, "CODE"))?
+        .arg(argument(alloc, "SUBSYSTEM"))?
+        .arg(argument(alloc, "SCRIPT"))
+}
+
 fn generate<'a>(alloc: Global) -> Result<Command<'a>, AllocError>
     ensures { IfOk result (λ c. IsSubcommand c gen) }
 {
@@ -75,5 +85,6 @@ pub fn program<'a>(alloc: Global) -> Result<Command<'a>, AllocError>
         .subcommand(run(alloc)?)?
         .subcommand(exec(alloc)?)?
         .subcommand(profile(alloc)?)?
+        .subcommand(drive(alloc)?)?
         .subcommand(generate(alloc)?)
 }

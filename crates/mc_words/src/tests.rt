@@ -92,6 +92,31 @@ fn profiles_and_generates_nothing(rt: HostRuntime) -> Result<(), Fail> {
 }
 
 #[test]
+fn drives_nothing(rt: HostRuntime) -> Result<(), Fail> {
+    let alloc = rt.alloc();
+    for line in [
+        "drive",
+        "drive a b c",
+        "drive a b top ",
+        "drive a b  c",
+        "drive a b top c d",
+        "drive a a top c",
+        "drive a b top b",
+        "drive a a top a",
+        "drive -a b top c",
+        "drive a -b top c",
+        "drive a b -1 c",
+        "drive a b top -c",
+        "drive a b -- c",
+        "driver a b top c",
+        "drive=a b top c",
+    ] {
+        refuses(&rt, alloc, line)?;
+    }
+    Ok(())
+}
+
+#[test]
 fn compiles(rt: HostRuntime) -> Result<(), Fail> {
     let alloc = rt.alloc();
     for (line, model, code) in [
@@ -165,6 +190,30 @@ fn profiles(rt: HostRuntime) -> Result<(), Fail> {
             Some(Command::Profile { model }),
             "{line}"
         );
+    }
+    Ok(())
+}
+
+#[test]
+fn drives(rt: HostRuntime) -> Result<(), Fail> {
+    let alloc = rt.alloc();
+    for (line, model, code, subsystem, script) in [
+        ("drive a b top c", "a", "b", "top", "c"),
+        ("drive a b 1 a", "a", "b", "1", "a"),
+        ("drive a b b c", "a", "b", "b", "c"),
+        ("drive a b x a", "a", "b", "x", "a"),
+        ("drive drive run 7 gen", "drive", "run", "7", "gen"),
+        ("drive help gen top exec", "help", "gen", "top", "exec"),
+    ] {
+        let words = words_of(alloc, line)?;
+        assert!(rt; is_lawful(&words), "{line}");
+        let drives = Command::Drive {
+            model,
+            code,
+            subsystem,
+            script,
+        };
+        assert_eq!(rt; command(alloc, &words)?, Some(drives), "{line}");
     }
     Ok(())
 }
