@@ -14,7 +14,7 @@ use Rattle.c_syntax.specs.declared.fault.Stuck.{Stuck}
 use Rattle.c_syntax.specs.Plain.{program_tree}
 use Rattle.c_checked.specs.Checked.{CheckedProgram}
 use Rattle.c_machine.specs.Cells.{Cells}
-use Rattle.c_machine.specs.Machine.{After, Outcome, done, stuck}
+use Rattle.c_machine.specs.Machine.{After, Outcome, done, stuck, cost_of}
 use Rattle.c_machine.specs.Rows.{start_run}
 use Rattle.c_meaning.specs.Instances.{instance_at}
 use Rattle.c_meaning.specs.States.{MachineState, tree_of, fields_of}
@@ -27,13 +27,13 @@ use Rattle.mc_drive.specs.Drivable.{IsDrivable}
 use Rattle.mc_drive.specs.States.{DriverState, program_of, plan_of, plan_of_update}
 use Rattle.mc_drive.specs.Judging.{call_fault, update_fault, values_fault, twice_fault, early_fault}
 use Rattle.mc_drive.specs.Calling.{IsCallFor, IsUpdateFor, at_start, given_with, IsCallOf, IsUpdate, IsStuckIn}
-use Rattle.mc_drive.specs.Driven.{Driven, functions_of, shape_of, updates, LeavesFields, StandsFor, HasDone, HasRun, Tells, functions_called, values_given}
+use Rattle.mc_drive.specs.Driven.{Driven, functions_of, shape_of, updates, LeavesFields, StandsFor, HasDone, HasRun, Tells, functions_called, values_given, call_at, TakesBehind}
 use Rattle.mc_drive.specs.Laws.{NewDriversStand, CallsGoOn, UpdatesGoOn}
 use Rattle.mc_drive.proofs.Lists.{replicated}
-use Rattle.mc_drive.proofs.Fields.{on-done, call_at, HasOutputs, leaves-more}
+use Rattle.mc_drive.proofs.Fields.{on-done, HasOutputs, leaves-more}
 use Rattle.mc_drive.proofs.Ports.{all_inputs}
 use Rattle.mc_drive.proofs.Ticks.{no-first, no-second, HasOneEach, called-more, not-called, all-called}
-use Rattle.mc_drive.proofs.Standing.{behind-more, tick, called-is, all-are, taken-are, in-types, alike, kept, one-each, is-place, call-is, answered, outputs-are}
+use Rattle.mc_drive.proofs.Standing.{behind-more, tick, called-is, all-are, taken-are, in-types, alike, kept, one-each, is-place, call-is, answered, outputs-are, driven-over}
 
 -- ---- Ticks
 
@@ -112,6 +112,15 @@ module _ (grow : ScriptsGrow) (runs : LawfulScriptsRun) (w : Driven) (before : D
       on-done (start_run w.program) (λ started. LeavesFields w 0 started.cells script (fields_of before.machine)) (λ started. LeavesFields w 0 started.cells (script ++ c ∷ []) (fields_of m))
       (λ started leaves. subst (λ end. LeavesFields w 0 started.cells (script ++ c ∷ []) end) (sym cells)
       (leaves-more w script 0 (updates script) started.cells (fields_of before.machine) c left (omega arith) leaves does)) stands.fields
+
+  -- what one more call took
+  takes-more : (c : Call) (left : After) (cost : Cost) → call_at w (updates script) c (fields_of before.machine) ≡ done left →
+      cost ≡ cost_of left → TakesBehind w script c cost
+  takes-more c left cost does is = record {
+    cells = fields_of before.machine;
+    leaves = stands.fields;
+    takes = subst (λ (o : Outcome). OnDone o (λ l. cost ≡ cost_of l)) (sym does) is;
+  }
 
   -- ---- A function
 
@@ -248,6 +257,10 @@ calls_go_on grow runs = record {
       record {
         stands = out-stands grow runs w before script stands j values out call none cost after made;
         tells = out-tells grow runs w before script stands j values out call none cost after made d;
+        takes = takes-more grow runs w before script stands (out_with j values) made.makes.call.left cost
+            (out-does grow runs w before script stands j values out call none cost after made) made.makes.call.cost_is;
+        driven = λ xs run over. driven-over w before script stands (script ++ out_with j values ∷ []) xs run
+            (lawful-more grow runs w before script stands (out_with j values) (follows grow runs w before script stands j values out call none)) over;
         runs = has-run grow runs w before script stands (out_with j values) (lawful-more grow runs w before script stands (out_with j values) (follows grow runs w before script stands j values out call none));
       };
   not_stuck = λ w script j values out at before after stands d call none is. out-not-stuck grow runs w before script stands j values out call none at after is;
@@ -259,6 +272,10 @@ updates_go_on grow runs = record {
       record {
         stands = update-stands grow runs w before script stands values call none cost after made;
         tells = tt;
+        takes = takes-more grow runs w before script stands (update_with values) made.makes.call.left cost
+            (update-does grow runs w before script stands values call none cost after made) made.makes.call.cost_is;
+        driven = λ xs run over. driven-over w before script stands (script ++ update_with values ∷ []) xs run
+            (lawful-more grow runs w before script stands (update_with values) (update-follows grow runs w before script stands values call none)) over;
         runs = has-run grow runs w before script stands (update_with values) (lawful-more grow runs w before script stands (update_with values) (update-follows grow runs w before script stands values call none));
       };
   not_stuck = λ w script values at before after stands d call none is. update-not-stuck grow runs w before script stands values call none at after is;

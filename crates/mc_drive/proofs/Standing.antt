@@ -34,9 +34,9 @@ use Rattle.mc_drive.specs.Drivable.{HasNumberField, IsDrivable}
 use Rattle.mc_drive.specs.States.{DriverState, program_of, number_of}
 use Rattle.mc_drive.specs.Judging.{values_fault, first_fault, value_fault, unlike_fault}
 use Rattle.mc_drive.specs.Calling.{given_with}
-use Rattle.mc_drive.specs.Driven.{Driven, functions_of, shape_of, updates, LeavesFields, StandsFor, RunsOver, functions_called, values_given}
+use Rattle.mc_drive.specs.Driven.{Driven, functions_of, shape_of, updates, LeavesFields, StandsFor, RunsOver, functions_called, values_given, call_at, IsDrivenOver}
 use Rattle.mc_drive.proofs.Lists.{all-kept, all-at, all-numbered, map-filter, kept-mapped}
-use Rattle.mc_drive.proofs.Fields.{call_at, HasOutputs, driven-more}
+use Rattle.mc_drive.proofs.Fields.{HasOutputs, driven-more}
 use Rattle.mc_drive.proofs.Ports.{AreIn, AreApart, AreOther, all_inputs, ports-are, types-are, inputs-apart, inputs-there}
 use Rattle.mc_drive.proofs.Ticks.{no-first, no-second, ports_of, HasOneEach, values-kept, one-each-more, like-all}
 use Rattle.mc_drive.proofs.Callable.{typed-all}
@@ -163,7 +163,14 @@ module _ (w : Driven) (before : DriverState) (script : List Call) (stands : Stan
       ∙ ap (λ (j : StructInstance). call_from_outside w.program (procedure_place w.program (name_of (shape_of w))) j.path (pos before.now ∷ values) cells) same
       ∙ ap (λ n. call_from_outside w.program (procedure_place w.program (name_of (shape_of w))) (path_to w.program w.diagram.rows w.system) (pos n ∷ values) cells) stands.now
 
-  -- in right code it is done, and gives what each run over a fitting trace has
+  -- in right code a lawful script is answered over each run over a fitting trace
+  pub driven-over : (longer : List Call) (xs : List (List ℤ)) (run : Run) → IsLawfulScript w.diagram w.system (functions_of w) longer →
+      RunsOver w longer xs run → IsDrivenOver w longer xs run
+  driven-over longer xs run lawful over =
+      all-at (AnswersAnyOrder w.program w.diagram w.hyper) (systems w.diagram.rows) w.system w.code.any_order w.in_diagram w.needs longer xs run
+      w.are_needs lawful over.is_trace over.fits over.is_run
+
+  -- one more call is done, and gives what each such run has
   pub answered : (c : Call) (xs : List (List ℤ)) (run : Run) → IsLawfulScript w.diagram w.system (functions_of w) (script ++ c ∷ []) → RunsOver w (script ++ c ∷ []) xs run →
       OnDone (call_at w (updates script) c (fields_of before.machine)) (λ a. HasOutputs w xs run (updates script) c a.cells)
   answered c xs run lawful over =
@@ -171,7 +178,7 @@ module _ (w : Driven) (before : DriverState) (script : List Call) (stands : Stan
       (λ a. DrivenFrom w.program w.diagram w.hyper w.system (functions_of w) xs run 0 a.cells [] [] (script ++ c ∷ [])) (λ a. LeavesFields w 0 a.cells script (fields_of before.machine))
       (OnDone (call_at w (updates script) c (fields_of before.machine)) (λ a. HasOutputs w xs run (updates script) c a.cells))
       (λ a rest left. driven-more w xs run script 0 (updates script) a.cells (fields_of before.machine) [] [] c (omega arith) rest left)
-      (all-at (AnswersAnyOrder w.program w.diagram w.hyper) (systems w.diagram.rows) w.system w.code.any_order w.in_diagram w.needs (script ++ c ∷ []) xs run w.are_needs lawful over.is_trace over.fits over.is_run)
+      (driven-over (script ++ c ∷ []) xs run lawful over)
       stands.fields
 
   -- ---- Outputs

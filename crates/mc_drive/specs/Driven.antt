@@ -17,6 +17,7 @@ use Rattle.mc_profile.specs.Headers.{numbered_function, given_by_function}
 use Rattle.c_syntax.specs.declared.fault.Cost.{Cost}
 use Rattle.c_syntax.specs.Tree.{ProgramTree}
 use Rattle.c_machine.specs.Cells.{Cells}
+use Rattle.c_machine.specs.Machine.{Outcome, cost_of}
 use Rattle.c_machine.specs.Rows.{start_run}
 use Rattle.c_meaning.specs.Instances.{instance_at}
 use Rattle.c_meaning.specs.Machines.{IsStarted}
@@ -27,7 +28,7 @@ use Rattle.c_simulation.specs.Instances.{OnDone}
 use Rattle.c_right.specs.Paths.{path_to}
 use Rattle.c_right.specs.Scripts.{Call, out_with, update_with, Given, TickSoFar, nothing_yet, IsLawfulScript, Fits}
 use Rattle.c_right.specs.DriveLaws.{tick_behind}
-use Rattle.c_right.specs.Right.{IsCodeFor, call_in_tick}
+use Rattle.c_right.specs.Right.{IsCodeFor, DrivenFrom, call_in_tick}
 use Rattle.mc_drive.specs.declared.inputs.Input.{Input}
 use Rattle.mc_drive.specs.declared.fault.DriveFault.{DriveFault}
 use Rattle.mc_drive.specs.declared.fault.DriveFault.TheVariants as fault
@@ -69,6 +70,13 @@ abbrev pub updates : List Call → ℕ
 updates [] = 0
 updates (out_with j values ∷ cs) = updates cs
 updates (update_with values ∷ cs) = suc (updates cs)
+
+-- what a call does in tick t, from these fields
+abbrev pub call_at : Driven → ℕ → Call → Cells → Outcome
+call_at w t (out_with j values) cells =
+    call_in_tick w.program w.diagram w.hyper w.system t (out_name w.system j) values cells
+call_at w t (update_with values) cells =
+    call_in_tick w.program w.diagram w.hyper w.system t (update_name w.system) values cells
 
 -- from these fields the calls of a script, from tick t on, are not stuck and leave those
 abbrev pub LeavesFields : Driven → ℕ → Cells → List Call → Cells → Type 0
@@ -146,16 +154,32 @@ abbrev pub outputs_in : Driven → Run → ℕ → ℕ → List ℤ
 outputs_in w run t j =
     map (value_at (slice_index_or run.values t [])) (given_by_function (numbered_function (functions_of w) j) (outports_of w.diagram.rows w.system))
 
+-- Over a run of the system, the calls of a script are answered from `root_start` on: none is stuck, each `out` leaves the run's
+-- values in the fields of its outputs, and in each completed tick the systems inside have their calls.
+abbrev pub IsDrivenOver : Driven → List Call → List (List ℤ) → Run → Type 0
+IsDrivenOver w script xs run =
+    OnDone (start_run w.program)
+    (λ started. DrivenFrom w.program w.diagram w.hyper w.system (functions_of w) xs run 0 started.cells [] [] script)
+
 -- what a call told is what the system gives over every trace that fits a script; an update tells nothing
 abbrev pub Tells : Driven → List Call → Call → List ℤ → Type 0
 Tells w script (out_with j values) out =
     (xs : List (List ℤ)) (run : Run) → RunsOver w (script ++ out_with j values ∷ []) xs run → out ≡ outputs_in w run (updates script) j
 Tells w script (update_with values) out = ⊤
 
--- a call went on a script: the driver stands for it with the call, and what it told is right
-pub record GoesOn (w : Driven) (script : List Call) (c : Call) (out : List ℤ) (after : DriverState) : Type 0 where
+-- a call behind a script took this, from the fields that the calls of the script leave
+pub record TakesBehind (w : Driven) (script : List Call) (c : Call) (cost : Cost) : Type 0 where
+  pub cells : Cells
+  pub leaves : OnDone (start_run w.program) (λ started. LeavesFields w 0 started.cells script cells)
+  pub takes : OnDone (call_at w (updates script) c cells) (λ left. cost ≡ cost_of left)
+
+-- a call went on a script: the driver stands for it with the call, what it told and took is right, and the calls so far are
+-- answered over each run
+pub record GoesOn (w : Driven) (script : List Call) (c : Call) (out : List ℤ) (cost : Cost) (after : DriverState) : Type 0 where
   pub stands : StandsFor w after (script ++ c ∷ [])
   pub tells : Tells w script c out
+  pub takes : TakesBehind w script c cost
+  pub driven : (xs : List (List ℤ)) (run : Run) → RunsOver w (script ++ c ∷ []) xs run → IsDrivenOver w (script ++ c ∷ []) xs run
   pub runs : HasRun w (script ++ c ∷ [])
 
 -- after a refusal the driver stands for the same scripts, and where it stands for one it is never stuck
@@ -167,7 +191,7 @@ StandsAfter w script (fault.Unlike input first second) after = StandsFor w after
 StandsAfter w script (fault.Stuck at) after = ⊥
 
 abbrev pub AnswersFor : Driven → List Call → Call → List ℤ → DriverState → Result Cost DriveFault → Type 0
-AnswersFor w script c out after (Ok cost) = GoesOn w script c out after
+AnswersFor w script c out after (Ok cost) = GoesOn w script c out cost after
 AnswersFor w script c out after (Err why) = StandsAfter w script why after
 
 -- whatever scripts a driver stood for, it answers a call right
