@@ -17,8 +17,8 @@ use Rattle.mc_drive.specs.Drivable.{IsDrivable}
 use Rattle.mc_drive.specs.Driven.{Driven, shape_of, IsReadyFor}
 use Rattle.c_drivable.specs.Found.{system_instance, IsInstanceOf, IsChildAnswer, IsFound, way_to, instance_behind}
 
--- a machine as it was made of a program that was read from bytes, which are right for a model without a loop that is within
--- the limits
+-- a machine as it was made of a program that was read from bytes, which are right for a model
+-- without a loop that is within the limits
 pub record IsOfRightBytes (m : MachineState) (bytes : List ℕ) (r : ResolvedTable) : Type 0 where
   pub program : CheckedProgram
   pub read : CText bytes (program_tree program.program)
@@ -34,7 +34,8 @@ pub record IsSystemOf (r : ResolvedTable) (s : Option ℕ) (needs : List ℕ) : 
   pub are_needs : AreTrueNeeds (diagram_of_table r) s needs
 
 -- what a driver of the system stands for
-abbrev pub driven_in : {m : MachineState} {bytes : List ℕ} {r : ResolvedTable} {s : Option ℕ} {needs : List ℕ} →
+abbrev pub driven_in : {m : MachineState} {bytes : List ℕ} {r : ResolvedTable} {s : Option ℕ}
+    {needs : List ℕ} →
     IsOfRightBytes m bytes r → IsSystemOf r s needs → Driven
 driven_in {m} {bytes} {r} {s} {needs} of_right of_model = record {
   program = of_right.right.program;
@@ -49,22 +50,32 @@ driven_in {m} {bytes} {r} {s} {needs} of_right of_model = record {
   no_loop = of_right.no_loop;
 }
 
--- Such a machine finds the instance of each system, from its instance 0 on; of this a driver can be made, which stands for
--- the empty script.
+-- Such a machine finds the instance of each system, from its instance 0 on; of this a driver can be
+-- made, which stands for the empty script.
 pub record MachinesCanBeDriven : Type 0 where
-  pub top : (m : MachineState) (bytes : List ℕ) (r : ResolvedTable) (child : Option ℕ) → IsOfRightBytes m bytes r →
-      IsChildAnswer (tree_of m) 0 (system_name None) child → IsFound (tree_of m) r.table.rows None child
-  pub inside : (m : MachineState) (bytes : List ℕ) (r : ResolvedTable) (e number : ℕ) (child : Option ℕ) → IsOfRightBytes m bytes r →
+  pub top : (m : MachineState) (bytes : List ℕ) (r : ResolvedTable) (child : Option ℕ) →
+      IsOfRightBytes m bytes r →
+      IsChildAnswer (tree_of m) 0 (system_name None) child →
+      IsFound (tree_of m) r.table.rows None child
+  pub inside : (m : MachineState) (bytes : List ℕ) (r : ResolvedTable) (e number : ℕ)
+      (child : Option ℕ) →
+      IsOfRightBytes m bytes r →
       e < length r.table.rows → is_subsystem (row_at r.table.rows e).kind ≡ true →
       IsInstanceOf (tree_of m) r.table.rows (row_at r.table.rows e).owner number →
-      IsChildAnswer (tree_of m) number (child_name e) child → IsFound (tree_of m) r.table.rows (Some e) child
-  pub behind : (m : MachineState) (bytes : List ℕ) (r : ResolvedTable) (s : Option ℕ) → IsOfRightBytes m bytes r →
+      IsChildAnswer (tree_of m) number (child_name e) child →
+      IsFound (tree_of m) r.table.rows (Some e) child
+  pub behind : (m : MachineState) (bytes : List ℕ) (r : ResolvedTable) (s : Option ℕ) →
+      IsOfRightBytes m bytes r →
       Contains (systems r.table.rows) s →
-      instance_behind (tree_of m) (instance_at (tree_of m) 0) (way_to r.table.rows s) ≡ Some (system_instance (tree_of m) r.table.rows s)
-  pub drivable : (m : MachineState) (bytes : List ℕ) (r : ResolvedTable) (s : Option ℕ) (needs : List ℕ) (number : ℕ) →
+      instance_behind (tree_of m) (instance_at (tree_of m) 0) (way_to r.table.rows s)
+      ≡ Some (system_instance (tree_of m) r.table.rows s)
+  pub drivable : (m : MachineState) (bytes : List ℕ) (r : ResolvedTable) (s : Option ℕ)
+      (needs : List ℕ) (number : ℕ) →
       (of_right : IsOfRightBytes m bytes r) (of_model : IsSystemOf r s needs) →
-      IsInstanceOf (tree_of m) r.table.rows s number → IsDrivable (tree_of m) number (shape_of (driven_in of_right of_model))
-  pub ready : (m : MachineState) (bytes : List ℕ) (r : ResolvedTable) (s : Option ℕ) (needs : List ℕ) (number : ℕ) →
+      IsInstanceOf (tree_of m) r.table.rows s number →
+      IsDrivable (tree_of m) number (shape_of (driven_in of_right of_model))
+  pub ready : (m : MachineState) (bytes : List ℕ) (r : ResolvedTable) (s : Option ℕ)
+      (needs : List ℕ) (number : ℕ) →
       (of_right : IsOfRightBytes m bytes r) (of_model : IsSystemOf r s needs) →
       IsInstanceOf (tree_of m) r.table.rows s number →
       IsReadyFor (driven_in of_right of_model) m number (shape_of (driven_in of_right of_model))

@@ -14,7 +14,8 @@ pub record IsOfModel (w : Driven) (r : ResolvedTable) : Type 0 where
   pub diagram : diagram_of_table r ≡ w.diagram
   pub hyper : r.times.hyper ≡ w.hyper
 
--- its instance has the procedures and fields of its shape, and the shape is within a driver's limits
+-- its instance has the procedures and fields of its shape, and the shape is within a driver's
+-- limits
 abbrev pub RightCodeIsDrivable : Type 0
 RightCodeIsDrivable =
     (w : Driven) (r : ResolvedTable) (number : ℕ) → IsOfModel w r → IsLawful w.program →

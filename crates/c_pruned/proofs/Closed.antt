@@ -48,14 +48,16 @@ module _ (reach : Reach) where
         all-both Inside (expr_functions index) (expr_functions e) (expr-inside index h.1) (expr-inside e h.2)
     stmt-inside (branch line test on_true on_false) h =
         all-both Inside (cond_functions test ++ stmts_functions on_true) (stmts_functions on_false)
-        (all-both Inside (cond_functions test) (stmts_functions on_true) (cond-inside test h.0) (stmts-inside on_true h.1)) (stmts-inside on_false h.2)
+        (all-both Inside (cond_functions test) (stmts_functions on_true) (cond-inside test h.0) (stmts-inside on_true h.1))
+        (stmts-inside on_false h.2)
     stmt-inside (call line k target es) (q, there, of, count, lawful) = exprs-inside es lawful
 
     pub stmts-inside : (xs : StmtTrees) → AreLawfulStmts reach xs → AllByRecursion Inside (stmts_functions xs)
     stmts-inside no_stmts h = tt
     stmts-inside (more_stmts x xs) h = all-both Inside (stmt_functions x) (stmts_functions xs) (stmt-inside x h.0) (stmts-inside xs h.1)
 
-pub procedures-inside : (pures : List PureTree) (structs : List StructTree) (earlier qs : List ProcedureTree) → AreProcedures pures structs earlier qs →
+pub procedures-inside : (pures : List PureTree) (structs : List StructTree) (earlier qs : List ProcedureTree) →
+    AreProcedures pures structs earlier qs →
     AllByRecursion (λ j. j < length pures) (procedures_functions qs)
 procedures-inside pures structs earlier [] h = tt
 procedures-inside pures structs earlier (q ∷ qs) h =
@@ -77,7 +79,8 @@ pures-before earlier (f ∷ fs) n count h = (
 -- ---- What is called is needed
 
 -- of what is called from behind all is called from anywhere
-pub later-needed : (later : List ℕ) (fs : List PureTree) (n k : ℕ) → has_number later k ≡ true → has_number (needed_from later n fs) k ≡ true
+pub later-needed : (later : List ℕ) (fs : List PureTree) (n k : ℕ) → has_number later k ≡ true →
+    has_number (needed_from later n fs) k ≡ true
 later-needed later [] n k h = h
 later-needed later (f ∷ fs) n k h =
     let rest = needed_from later (suc n) fs in
@@ -102,7 +105,8 @@ module _ (keeps : ℕ → Bool) where
       added = if has_number rest n then expr_functions f.body else []
 
       apart : (k : ℕ) → n ≤ k → (b : Bool) → AllByRecursion (λ j. (j == k) ≡ false) (if b then expr_functions f.body else [])
-      apart k after true = each-then (λ j. j < n) (λ j. (j == k) ≡ false) (expr_functions f.body) (λ j less. grind (arith, nat_tests)) before.0
+      apart k after true =
+          each-then (λ j. j < n) (λ j. (j == k) ≡ false) (expr_functions f.body) (λ j less. grind (arith, nat_tests)) before.0
       apart k after false = tt
 
       behind : (k : ℕ) → suc n ≤ k → keeps k ≡ true → has_number rest k ≡ true
@@ -114,8 +118,10 @@ module _ (keeps : ℕ → Bool) where
           let all : added ≡ expr_functions f.body = ap (λ b. if b then expr_functions f.body else []) here in
           each-both (λ j. j < n) (λ j. keeps j ≡ true) (expr_functions f.body) before.0
           (each-then (λ j. (has_number (expr_functions f.body) j ≡ true) × (j < n)) (λ j. keeps j ≡ true) (expr_functions f.body)
-          (λ j called_here. kept j (has-right rest added j (ap (λ xs. has_number xs j) all ∙ called_here.0)) (let less = called_here.1 in omega arith))
-          (each-both (λ j. has_number (expr_functions f.body) j ≡ true) (λ j. j < n) (expr_functions f.body) (each-has (expr_functions f.body)) before.0))
+          (λ j called_here. kept j (has-right rest added j (ap (λ xs. has_number xs j) all ∙ called_here.0))
+          (let less = called_here.1 in omega arith))
+          (each-both (λ j. has_number (expr_functions f.body) j ≡ true) (λ j. j < n) (expr_functions f.body)
+          (each-has (expr_functions f.body)) before.0))
 
 -- ---- A lawful program
 

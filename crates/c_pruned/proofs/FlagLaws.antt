@@ -20,7 +20,8 @@ marked_append [] js flags = refl
 marked_append (k ∷ ks) js flags = marked_append ks js (slice_set flags k true)
 
 -- flags that are set by two parts of code
-pub marked_two : (flags middle last : List Bool) (ks js : List ℕ) → middle ≡ marked flags ks → last ≡ marked middle js → last ≡ marked flags (ks ++ js)
+pub marked_two : (flags middle last : List Bool) (ks js : List ℕ) → middle ≡ marked flags ks → last ≡ marked middle js →
+    last ≡ marked flags (ks ++ js)
 marked_two flags middle last ks js one other = other ∙ ap (λ f. marked f js) one ∙ sym (marked_append ks js flags)
 
 -- ---- Loops
@@ -39,16 +40,20 @@ stmts-flat : (ss : List Stmt) → flat_map (λ s. stmt_functions (stmt_tree s)) 
 stmts-flat [] = refl
 stmts-flat (s ∷ ss) = ap (λ ks. stmt_functions (stmt_tree s) ++ ks) (stmts-flat ss)
 
-procedures-flat : (qs : List Procedure) → flat_map (λ q. stmts_functions (procedure_tree q).body) qs ≡ procedures_functions (map procedure_tree qs)
+procedures-flat : (qs : List Procedure) →
+    flat_map (λ q. stmts_functions (procedure_tree q).body) qs ≡ procedures_functions (map procedure_tree qs)
 procedures-flat [] = refl
 procedures-flat (q ∷ qs) = ap (λ ks. stmts_functions (procedure_tree q).body ++ ks) (procedures-flat qs)
 
 -- one member more
-pub marked-more : {A : Type 0} (f : A → List ℕ) (xs : List A) (i : ℕ) (x : A) (flags middle last : List Bool) → i < length xs → x ≡ get_or xs i x →
+pub marked-more : {A : Type 0} (f : A → List ℕ) (xs : List A) (i : ℕ) (x : A) (flags middle last : List Bool) → i < length xs →
+    x ≡ get_or xs i x →
     middle ≡ marked flags (flat_map f (take i xs)) → last ≡ marked middle (f x) → last ≡ marked flags (flat_map f (take (i + 1) xs))
 marked-more {A = A} f xs i x flags middle last inside read one other =
     marked_two flags middle last (flat_map f (take i xs)) (f x) one other
-    ∙ ap (marked flags) (sym (ap (flat_map f) (take_more xs i x inside) ∙ flat_map-append f (take i xs) (get_or xs i x ∷ []) ∙ ap (λ ks. flat_map f (take i xs) ++ ks) (alone (get_or xs i x) ∙ ap f (sym read))))
+    ∙ ap (marked flags)
+    (sym (ap (flat_map f) (take_more xs i x inside) ∙ flat_map-append f (take i xs) (get_or xs i x ∷ [])
+    ∙ ap (λ ks. flat_map f (take i xs) ++ ks) (alone (get_or xs i x) ∙ ap f (sym read))))
   where
     nothing : (ks : List ℕ) → ks ++ [] ≡ ks
     nothing [] = refl
@@ -57,17 +62,24 @@ marked-more {A = A} f xs i x flags middle last inside read one other =
     alone : (y : A) → f y ++ [] ≡ f y
     alone y = nothing (f y)
 
-pub exprs-done : (es : List Expr) (i : ℕ) (flags last : List Bool) → length es ≤ i → last ≡ marked flags (flat_map (λ e. expr_functions (expr_tree e)) (take i es)) →
+pub exprs-done : (es : List Expr) (i : ℕ) (flags last : List Bool) → length es ≤ i →
+    last ≡ marked flags (flat_map (λ e. expr_functions (expr_tree e)) (take i es)) →
     last ≡ marked flags (exprs_functions (exprs_of_list (map expr_tree es)))
-exprs-done es i flags last all is = is ∙ ap (λ xs. marked flags (flat_map (λ e. expr_functions (expr_tree e)) xs)) (take-whole es i all) ∙ ap (marked flags) (exprs-flat es)
+exprs-done es i flags last all is =
+    is ∙ ap (λ xs. marked flags (flat_map (λ e. expr_functions (expr_tree e)) xs)) (take-whole es i all) ∙ ap (marked flags) (exprs-flat es)
 
-pub stmts-done : (ss : List Stmt) (i : ℕ) (flags last : List Bool) → length ss ≤ i → last ≡ marked flags (flat_map (λ s. stmt_functions (stmt_tree s)) (take i ss)) →
+pub stmts-done : (ss : List Stmt) (i : ℕ) (flags last : List Bool) → length ss ≤ i →
+    last ≡ marked flags (flat_map (λ s. stmt_functions (stmt_tree s)) (take i ss)) →
     last ≡ marked flags (stmts_functions (stmts_of_list (map stmt_tree ss)))
-stmts-done ss i flags last all is = is ∙ ap (λ xs. marked flags (flat_map (λ s. stmt_functions (stmt_tree s)) xs)) (take-whole ss i all) ∙ ap (marked flags) (stmts-flat ss)
+stmts-done ss i flags last all is =
+    is ∙ ap (λ xs. marked flags (flat_map (λ s. stmt_functions (stmt_tree s)) xs)) (take-whole ss i all) ∙ ap (marked flags) (stmts-flat ss)
 
-pub procedures-done : (qs : List Procedure) (i : ℕ) (flags last : List Bool) → length qs ≤ i → last ≡ marked flags (flat_map (λ q. stmts_functions (procedure_tree q).body) (take i qs)) →
+pub procedures-done : (qs : List Procedure) (i : ℕ) (flags last : List Bool) → length qs ≤ i →
+    last ≡ marked flags (flat_map (λ q. stmts_functions (procedure_tree q).body) (take i qs)) →
     last ≡ marked flags (procedures_functions (map procedure_tree qs))
-procedures-done qs i flags last all is = is ∙ ap (λ xs. marked flags (flat_map (λ q. stmts_functions (procedure_tree q).body) xs)) (take-whole qs i all) ∙ ap (marked flags) (procedures-flat qs)
+procedures-done qs i flags last all is =
+    is ∙ ap (λ xs. marked flags (flat_map (λ q. stmts_functions (procedure_tree q).body) xs)) (take-whole qs i all)
+    ∙ ap (marked flags) (procedures-flat qs)
 
 -- ---- Which flags are set
 
@@ -85,7 +97,8 @@ set-flag (b ∷ bs) zero (suc k) inside = ap (λ t. t || flag_at bs k) (let e : 
 set-flag (b ∷ bs) (suc j) zero inside = ap (λ t. t || b) (let e : false ≡ (suc j == 0) = grind (arith, nat_tests) in e)
 set-flag (b ∷ bs) (suc j) (suc k) inside = set-flag bs j k (omega arith) ∙ ap (λ t. t || flag_at bs k) (sym (next-equal j k))
 
-pub marked-flag : (ks : List ℕ) (flags : List Bool) (k : ℕ) → k < length flags → flag_at (marked flags ks) k ≡ (flag_at flags k || has_number ks k)
+pub marked-flag : (ks : List ℕ) (flags : List Bool) (k : ℕ) → k < length flags →
+    flag_at (marked flags ks) k ≡ (flag_at flags k || has_number ks k)
 marked-flag [] flags k inside = last (flag_at flags k)
   where
     last : (b : Bool) → b ≡ (b || false)
@@ -120,7 +133,8 @@ flags-length n ks = marked-length ks (replicate n false) ∙ length-replicate n 
 
 pub flags-inside : (n : ℕ) (ks : List ℕ) (k : ℕ) → k < n → flag_at (flags_of n ks) k ≡ has_number ks k
 flags-inside n ks k inside =
-    marked-flag ks (replicate n false) k (let long = length-replicate n false in omega (arith, long, inside)) ∙ ap (λ b. b || has_number ks k) (no-flag n k)
+    marked-flag ks (replicate n false) k (let long = length-replicate n false in omega (arith, long, inside))
+    ∙ ap (λ b. b || has_number ks k) (no-flag n k)
 
 -- the flag at a position, by what is known of it
 pub flags-are : (n : ℕ) (ks : List ℕ) (k : ℕ) → flag_at (flags_of n ks) k ≡ (nat_lt k n && has_number ks k)
@@ -128,7 +142,9 @@ flags-are n ks k = by (nat_lt k n) refl
   where
     by : (b : Bool) → nat_lt k n ≡ b → flag_at (flags_of n ks) k ≡ (b && has_number ks k)
     by true e = flags-inside n ks k (grind (arith, nat_tests))
-    by false e = past-flags (flags_of n ks) k (let long = flags-length n ks in let past : n ≤ k = grind (arith, nat_tests) in omega (arith, long, past))
+    by false e =
+        past-flags (flags_of n ks) k
+        (let long = flags-length n ks in let past : n ≤ k = grind (arith, nat_tests) in omega (arith, long, past))
 
 -- ---- What is needed, from the last to the first
 
@@ -137,12 +153,15 @@ drop-at [] i d inside = absurd (omega (arith, inside))
 drop-at (x ∷ xs) zero d inside = refl
 drop-at (x ∷ xs) (suc i) d inside = drop-at xs i d (omega (arith, inside))
 
-pub needed-step : (later : List ℕ) (fs : List PureTree) (n k next : ℕ) (f : PureTree) (before after : List Bool) → suc k ≡ next → k < length fs → length fs ≡ n → f ≡ get_or fs k f →
+pub needed-step : (later : List ℕ) (fs : List PureTree) (n k next : ℕ) (f : PureTree) (before after : List Bool) → suc k ≡ next →
+    k < length fs → length fs ≡ n → f ≡ get_or fs k f →
     before ≡ flags_of n (needed_from later next (drop next fs)) →
     MatchBool (flag_at before k) (after ≡ marked before (expr_functions f.body)) (after ≡ before) →
     after ≡ flags_of n (needed_from later k (drop k fs))
 needed-step later fs n k next f before after step inside count read is change =
-    by (has_number rest k) (subst (λ b. MatchBool b (after ≡ marked before (expr_functions f.body)) (after ≡ before)) (ap (λ flags. flag_at flags k) marks ∙ flags-inside n rest k (omega (arith, inside, count))) change)
+    by (has_number rest k)
+    (subst (λ b. MatchBool b (after ≡ marked before (expr_functions f.body)) (after ≡ before))
+    (ap (λ flags. flag_at flags k) marks ∙ flags-inside n rest k (omega (arith, inside, count))) change)
     ∙ ap (λ xs. flags_of n (needed_from later k xs)) (sym (drop-at fs k f inside ∙ ap (λ x. x ∷ drop (suc k) fs) (sym read)))
   where
     rest : List ℕ
@@ -153,7 +172,9 @@ needed-step later fs n k next f before after step inside count read is change =
 
     by : (b : Bool) → MatchBool b (after ≡ marked before (expr_functions f.body)) (after ≡ before) →
         after ≡ flags_of n (rest ++ (if b then expr_functions f.body else []))
-    by true change = change ∙ ap (λ flags. marked flags (expr_functions f.body)) marks ∙ sym (marked_append rest (expr_functions f.body) (replicate n false))
+    by true change =
+        change ∙ ap (λ flags. marked flags (expr_functions f.body)) marks
+        ∙ sym (marked_append rest (expr_functions f.body) (replicate n false))
     by false change = change ∙ marks ∙ sym (marked_append rest [] (replicate n false))
 
 -- what is read at a place is there in what is seen of a list

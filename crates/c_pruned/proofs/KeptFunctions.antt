@@ -111,23 +111,31 @@ module _ (keeps : ℕ → Bool) where
       function_of kept (renumbered_pure (kept_before keeps) f) ≡ function_of functions f
   alike n functions kept f are is closed =
       function-same (kept_before keeps) functions kept f
-      (each-then (λ j. (j < n) × (keeps j ≡ true)) (Agree (kept_before keeps) functions kept) (expr_functions f.body) (λ j called. are.same j called.0 called.1) (closed is))
+      (each-then (λ j. (j < n) × (keeps j ≡ true)) (Agree (kept_before keeps) functions kept) (expr_functions f.body)
+      (λ j called. are.same j called.0 called.1) (closed is))
 
   pub functions-kept : (fs : List PureTree) (n : ℕ) (functions kept : List Function) → AreKept n functions kept → AreClosed n fs →
-      AreKept (n + length fs) (functions_of functions fs) (functions_of kept (map (renumbered_pure (kept_before keeps)) (kept_from keeps n fs)))
+      AreKept (n + length fs) (functions_of functions fs)
+      (functions_of kept (map (renumbered_pure (kept_before keeps)) (kept_from keeps n fs)))
   functions-kept [] n functions kept are closed = subst (λ m. AreKept m functions kept) (omega arith) are
   functions-kept (f ∷ fs) n functions kept are closed =
       by (keeps n) refl (λ some are_some. functions-kept fs (suc n) (functions ++ function_of functions f ∷ []) some are_some closed.1)
     where
       by : (b : Bool) → keeps n ≡ b →
           ((some : List Function) → AreKept (suc n) (functions ++ function_of functions f ∷ []) some →
-          AreKept (suc n + length fs) (functions_of (functions ++ function_of functions f ∷ []) fs) (functions_of some (map (renumbered_pure (kept_before keeps)) (kept_from keeps (suc n) fs)))) →
+          AreKept (suc n + length fs) (functions_of (functions ++ function_of functions f ∷ []) fs)
+          (functions_of some (map (renumbered_pure (kept_before keeps)) (kept_from keeps (suc n) fs)))) →
           AreKept (n + suc (length fs)) (functions_of (functions ++ function_of functions f ∷ []) fs)
           (functions_of kept (map (renumbered_pure (kept_before keeps)) ((if b then f ∷ [] else []) ++ kept_from keeps (suc n) fs)))
       by true is next =
           let g = renumbered_pure (kept_before keeps) f in
-          subst (λ m. AreKept m (functions_of (functions ++ function_of functions f ∷ []) fs) (functions_of (kept ++ function_of kept g ∷ []) (map (renumbered_pure (kept_before keeps)) (kept_from keeps (suc n) fs)))) (omega arith)
-          (next (kept ++ function_of kept g ∷ []) (keep-one n functions kept (function_of functions f) (function_of kept g) are is (alike n functions kept f are is closed.0)))
+          subst (λ m. AreKept m (functions_of (functions ++ function_of functions f ∷ []) fs)
+          (functions_of (kept ++ function_of kept g ∷ []) (map (renumbered_pure (kept_before keeps)) (kept_from keeps (suc n) fs))))
+          (omega arith)
+          (next (kept ++ function_of kept g ∷ [])
+          (keep-one n functions kept (function_of functions f) (function_of kept g) are is (alike n functions kept f are is closed.0)))
       by false is next =
-          subst (λ m. AreKept m (functions_of (functions ++ function_of functions f ∷ []) fs) (functions_of kept (map (renumbered_pure (kept_before keeps)) (kept_from keeps (suc n) fs)))) (omega arith)
+          subst (λ m. AreKept m (functions_of (functions ++ function_of functions f ∷ []) fs)
+          (functions_of kept (map (renumbered_pure (kept_before keeps)) (kept_from keeps (suc n) fs))))
+          (omega arith)
           (next kept (drop-one n functions kept (function_of functions f) are is))

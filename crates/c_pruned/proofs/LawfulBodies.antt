@@ -57,7 +57,8 @@ module _ (place : ℕ → ℕ) where
     pub stmt-exprs-depth : (x : StmtTree) → stmt_exprs_depth (renumbered_stmt place x) ≡ stmt_exprs_depth x
     stmt-exprs-depth (assign line f e) = expr-depth e
     stmt-exprs-depth (assign_at line f index e) = λ i. max (expr-depth index i) (expr-depth e i)
-    stmt-exprs-depth (branch line test on_true on_false) = λ i. max (cond-depth test i) (max (stmts-exprs-depth on_true i) (stmts-exprs-depth on_false i))
+    stmt-exprs-depth (branch line test on_true on_false) = λ i.
+        max (cond-depth test i) (max (stmts-exprs-depth on_true i) (stmts-exprs-depth on_false i))
     stmt-exprs-depth (call line k target es) = exprs-depth es
 
     pub stmts-exprs-depth : (xs : StmtTrees) → stmts_exprs_depth (renumbered_stmts place xs) ≡ stmts_exprs_depth xs
@@ -80,7 +81,9 @@ module _ (place : ℕ → ℕ) where
 
   -- the function at a position stands among the kept ones at its place, with as many parameters
   abbrev pub Stands : (pures kept : List PureTree) → ℕ → Type 0
-  Stands pures kept k = (f : PureTree) → slice_get pures k ≡ Some f → (g : PureTree) × (slice_get kept (place k) ≡ Some g) × (length g.params ≡ length f.params)
+  Stands pures kept k =
+      (f : PureTree) → slice_get pures k ≡ Some f →
+      (g : PureTree) × (slice_get kept (place k) ≡ Some g) × (length g.params ≡ length f.params)
 
   -- a reach with these functions and procedures
   abbrev pub with_functions : Reach → List PureTree → List ProcedureTree → Reach
@@ -104,7 +107,8 @@ module _ (place : ℕ → ℕ) where
     target-lawful (ChildTarget f) of h = h
 
     mutual
-      pub expr-lawful : (e : ExprTree) → AllByRecursion Called (expr_functions e) → IsLawfulExpr reach e → IsLawfulExpr after (renumbered_expr place e)
+      pub expr-lawful : (e : ExprTree) → AllByRecursion Called (expr_functions e) → IsLawfulExpr reach e →
+          IsLawfulExpr after (renumbered_expr place e)
       expr-lawful (literal value) called h = h
       expr-lawful (neg e) called h = expr-lawful e called h
       expr-lawful (read leaf) called h = leaf-lawful leaf h
@@ -123,14 +127,16 @@ module _ (place : ℕ → ℕ) where
           (g, stands, same ∙ count ∙ sym (same-count es), exprs-lawful es called.1 all)
       expr-lawful (item f index) called h = (h.0, expr-lawful index called h.1)
 
-      pub exprs-lawful : (es : ExprTrees) → AllByRecursion Called (exprs_functions es) → AreLawfulExprs reach es → AreLawfulExprs after (renumbered_exprs place es)
+      pub exprs-lawful : (es : ExprTrees) → AllByRecursion Called (exprs_functions es) → AreLawfulExprs reach es →
+          AreLawfulExprs after (renumbered_exprs place es)
       exprs-lawful no_exprs called h = tt
       exprs-lawful (more_exprs e es) called h = (
         expr-lawful e (all-left Called (expr_functions e) (exprs_functions es) called) h.0,
         exprs-lawful es (all-right Called (expr_functions e) (exprs_functions es) called) h.1,
       )
 
-      pub cond-lawful : (c : CondTree) → AllByRecursion Called (cond_functions c) → IsLawfulCond reach c → IsLawfulCond after (renumbered_cond place c)
+      pub cond-lawful : (c : CondTree) → AllByRecursion Called (cond_functions c) → IsLawfulCond reach c →
+          IsLawfulCond after (renumbered_cond place c)
       cond-lawful (compare how a b) called h = (
         expr-lawful a (all-left Called (expr_functions a) (expr_functions b) called) h.0,
         expr-lawful b (all-right Called (expr_functions a) (expr_functions b) called) h.1,
@@ -146,7 +152,8 @@ module _ (place : ℕ → ℕ) where
       cond-lawful (negated a) called h = cond-lawful a called h
 
     mutual
-      pub stmt-lawful : (x : StmtTree) → AllByRecursion Called (stmt_functions x) → IsLawfulStmt reach x → IsLawfulStmt after (renumbered_stmt place x)
+      pub stmt-lawful : (x : StmtTree) → AllByRecursion Called (stmt_functions x) → IsLawfulStmt reach x →
+          IsLawfulStmt after (renumbered_stmt place x)
       stmt-lawful (assign line f e) called h = (h.0, expr-lawful e called h.1)
       stmt-lawful (assign_at line f index e) called h = (
         h.0,
@@ -167,7 +174,8 @@ module _ (place : ℕ → ℕ) where
         exprs-lawful es called all,
       )
 
-      pub stmts-lawful : (xs : StmtTrees) → AllByRecursion Called (stmts_functions xs) → AreLawfulStmts reach xs → AreLawfulStmts after (renumbered_stmts place xs)
+      pub stmts-lawful : (xs : StmtTrees) → AllByRecursion Called (stmts_functions xs) → AreLawfulStmts reach xs →
+          AreLawfulStmts after (renumbered_stmts place xs)
       stmts-lawful no_stmts called h = tt
       stmts-lawful (more_stmts x xs) called h = (
         stmt-lawful x (all-left Called (stmt_functions x) (stmts_functions xs) called) h.0,

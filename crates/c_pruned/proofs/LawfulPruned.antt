@@ -68,20 +68,26 @@ module _ (keeps : ℕ → Bool) where
   none-kept : (fs : List PureTree) (others : List (List ℕ)) (n : ℕ) (name : List ℕ) →
       has_name (pure_names fs ++ others) name ≡ false → has_name (pure_names (kept_pures n fs) ++ others) name ≡ false
   none-kept [] others n name h = h
-  none-kept (f ∷ fs) others n name h = by (keeps n) (neither (bytes_eq name f.name) (has_name (pure_names fs ++ others) name) h) (none-kept fs others (suc n) name)
+  none-kept (f ∷ fs) others n name h =
+      by (keeps n) (neither (bytes_eq name f.name) (has_name (pure_names fs ++ others) name) h) (none-kept fs others (suc n) name)
     where
       by : (b : Bool) → (bytes_eq name f.name ≡ false) × (has_name (pure_names fs ++ others) name ≡ false) →
           (has_name (pure_names fs ++ others) name ≡ false → has_name (pure_names (kept_pures (suc n) fs) ++ others) name ≡ false) →
-          has_name (pure_names (map (renumbered_pure (kept_before keeps)) ((if b then f ∷ [] else []) ++ kept_from keeps (suc n) fs)) ++ others) name ≡ false
+          has_name (pure_names (map (renumbered_pure (kept_before keeps)) ((if b then f ∷ [] else []) ++ kept_from keeps (suc n) fs))
+          ++ others)
+          name
+          ≡ false
       by true e next = ap (λ c. c || has_name (pure_names (kept_pures (suc n) fs) ++ others) name) e.0 ∙ next e.1
       by false e next = next e.1
 
-  distinct-kept : (fs : List PureTree) (others : List (List ℕ)) (n : ℕ) → AreDistinct (pure_names fs ++ others) → AreDistinct (pure_names (kept_pures n fs) ++ others)
+  distinct-kept : (fs : List PureTree) (others : List (List ℕ)) (n : ℕ) → AreDistinct (pure_names fs ++ others) →
+      AreDistinct (pure_names (kept_pures n fs) ++ others)
   distinct-kept [] others n h = h
   distinct-kept (f ∷ fs) others n h = by (keeps n) (distinct-kept fs others (suc n) h.2)
     where
       by : (b : Bool) → AreDistinct (pure_names (kept_pures (suc n) fs) ++ others) →
-          AreDistinct (pure_names (map (renumbered_pure (kept_before keeps)) ((if b then f ∷ [] else []) ++ kept_from keeps (suc n) fs)) ++ others)
+          AreDistinct (pure_names (map (renumbered_pure (kept_before keeps)) ((if b then f ∷ [] else []) ++ kept_from keeps (suc n) fs))
+          ++ others)
       by true rest = (h.0, none-kept fs others (suc n) f.name h.1, rest)
       by false rest = rest
 
@@ -103,7 +109,8 @@ module _ (keeps : ℕ → Bool) where
         count = omega (arith, length-append earlier (f ∷ []));
         kept_count = omega (arith, length-append kept (g ∷ []));
         stands = λ k below keep. by k keep (below-or-at k n below);
-        names = λ name none. none-both kept (g ∷ []) name (are.names name (none-left earlier (f ∷ []) name none)) (none-right earlier (f ∷ []) name none);
+        names = λ name none.
+            none-both kept (g ∷ []) name (are.names name (none-left earlier (f ∷ []) name none)) (none-right earlier (f ∷ []) name none);
       }
     where
       g : PureTree
@@ -147,13 +154,17 @@ module _ (keeps : ℕ → Bool) where
       AreStanding (n + length fs) (earlier ++ fs) (kept ++ kept_pures n fs)
   standing-all [] n earlier kept are =
       let same : n ≡ n + 0 = omega arith in
-      subst (λ m. AreStanding m (earlier ++ []) (kept ++ [])) same (subst (λ xs. AreStanding n xs (kept ++ [])) (sym (append-nil earlier)) (subst (AreStanding n earlier) (sym (append-nil kept)) are))
+      subst (λ m. AreStanding m (earlier ++ []) (kept ++ [])) same
+      (subst (λ xs. AreStanding n xs (kept ++ [])) (sym (append-nil earlier))
+      (subst (AreStanding n earlier) (sym (append-nil kept)) are))
   standing-all (f ∷ fs) n earlier kept are =
       by (keeps n) refl (λ some are_some. standing-all fs (suc n) (earlier ++ f ∷ []) some are_some)
     where
       by : (b : Bool) → keeps n ≡ b →
-          ((some : List PureTree) → AreStanding (suc n) (earlier ++ f ∷ []) some → AreStanding (suc n + length fs) ((earlier ++ f ∷ []) ++ fs) (some ++ kept_pures (suc n) fs)) →
-          AreStanding (n + suc (length fs)) (earlier ++ f ∷ fs) (kept ++ map (renumbered_pure (kept_before keeps)) ((if b then f ∷ [] else []) ++ kept_from keeps (suc n) fs))
+          ((some : List PureTree) → AreStanding (suc n) (earlier ++ f ∷ []) some →
+          AreStanding (suc n + length fs) ((earlier ++ f ∷ []) ++ fs) (some ++ kept_pures (suc n) fs)) →
+          AreStanding (n + suc (length fs)) (earlier ++ f ∷ fs)
+          (kept ++ map (renumbered_pure (kept_before keeps)) ((if b then f ∷ [] else []) ++ kept_from keeps (suc n) fs))
       by true is next =
           let g = renumbered_pure (kept_before keeps) f in
           let number : suc n + length fs ≡ n + suc (length fs) = omega arith in
@@ -167,7 +178,8 @@ module _ (keeps : ℕ → Bool) where
           (subst (λ xs. AreStanding (suc n + length fs) xs (kept ++ kept_pures (suc n) fs)) (append_assoc earlier (f ∷ []) fs)
           (next kept (leave-one n earlier kept f are is)))
 
-  pures-lawful : (fs : List PureTree) (n : ℕ) (earlier kept : List PureTree) → AreStanding n earlier kept → AreClosed keeps n fs → ArePures earlier fs →
+  pures-lawful : (fs : List PureTree) (n : ℕ) (earlier kept : List PureTree) → AreStanding n earlier kept → AreClosed keeps n fs →
+      ArePures earlier fs →
       ArePures kept (kept_pures n fs)
   pures-lawful [] n earlier kept are closed h = tt
   pures-lawful (f ∷ fs) n earlier kept are closed h =
@@ -181,8 +193,12 @@ module _ (keeps : ℕ → Bool) where
           params = h.0.params;
           apart = apart-then f.params (pure_names earlier) (pure_names kept) are.names h.0.apart;
           some = h.0.some;
-          body = expr-lawful (kept_before keeps) (record { pures = earlier; structs = []; procedures = []; fields = []; params = length f.params; of = 0 }) kept f.body
-              (each-then (λ j. (j < n) × (keeps j ≡ true)) (Stands (kept_before keeps) earlier kept) (expr_functions f.body) (λ j called. are.stands j called.0 called.1) (closed.0 is)) h.0.body;
+          body =
+              expr-lawful (kept_before keeps)
+              (record { pures = earlier; structs = []; procedures = []; fields = []; params = length f.params; of = 0 }) kept f.body
+              (each-then (λ j. (j < n) × (keeps j ≡ true)) (Stands (kept_before keeps) earlier kept) (expr_functions f.body)
+              (λ j called. are.stands j called.0 called.1) (closed.0 is))
+              h.0.body;
         },
         next (kept ++ renumbered_pure (kept_before keeps) f ∷ []) (stand-one n earlier kept f are is),
       )
@@ -205,13 +221,15 @@ module _ (keeps : ℕ → Bool) where
     where
       by : (b : Bool) → AllByRecursion PureFits (kept_pures (suc n) fs) →
           AllByRecursion PureFits (map (renumbered_pure (kept_before keeps)) ((if b then f ∷ [] else []) ++ kept_from keeps (suc n) fs))
-      by true rest = (record { params = h.0.params; body = subst (λ d. d ≤ expr_limit) (sym (expr-depth (kept_before keeps) f.body)) h.0.body }, rest)
+      by true rest =
+          (record { params = h.0.params; body = subst (λ d. d ≤ expr_limit) (sym (expr-depth (kept_before keeps) f.body)) h.0.body }, rest)
       by false rest = rest
 
 -- ---- Procedures
 
 module _ (place : ℕ → ℕ) where
-  procedures-fit : (qs : List ProcedureTree) → AllByRecursion ProcedureFits qs → AllByRecursion ProcedureFits (map (renumbered_procedure place) qs)
+  procedures-fit : (qs : List ProcedureTree) → AllByRecursion ProcedureFits qs →
+      AllByRecursion ProcedureFits (map (renumbered_procedure place) qs)
   procedures-fit [] h = tt
   procedures-fit (q ∷ qs) h = (
     record {
@@ -229,19 +247,33 @@ module _ (place : ℕ → ℕ) where
       ∙ chains-same qs (chains ++ (stmts_chain chains q.body + 1) ∷ [])
 
   procedures-lawful : (pures kept : List PureTree) (structs : List StructTree) →
-      ((others : List (List ℕ)) (name : List ℕ) → has_name (pure_names pures ++ others) name ≡ false → has_name (pure_names kept ++ others) name ≡ false) →
+      ((others : List (List ℕ)) (name : List ℕ) → has_name (pure_names pures ++ others) name ≡ false →
+      has_name (pure_names kept ++ others) name ≡ false) →
       (qs earlier : List ProcedureTree) → AllByRecursion (λ q. AllByRecursion (Stands place pures kept) (stmts_functions q.body)) qs →
-      AreProcedures pures structs earlier qs → AreProcedures kept structs (map (renumbered_procedure place) earlier) (map (renumbered_procedure place) qs)
+      AreProcedures pures structs earlier qs →
+      AreProcedures kept structs (map (renumbered_procedure place) earlier) (map (renumbered_procedure place) qs)
   procedures-lawful pures kept structs none [] earlier called h = tt
   procedures-lawful pures kept structs none (q ∷ qs) earlier called h = (
     record {
       of = h.0.of;
       params = h.0.params;
       apart = subst (λ names. AreApart (param_names q.params) (pure_names kept ++ names)) (sym (same-names place earlier))
-          (apart-then (param_names q.params) (pure_names pures ++ procedure_names earlier) (pure_names kept ++ procedure_names earlier) (none (procedure_names earlier)) h.0.apart);
-      body = stmts-lawful place (record { pures = pures; structs = structs; procedures = earlier; fields = struct_fields structs q.of; params = length q.params; of = q.of }) kept q.body called.0 h.0.body;
+          (apart-then (param_names q.params) (pure_names pures ++ procedure_names earlier) (pure_names kept ++ procedure_names earlier)
+          (none (procedure_names earlier)) h.0.apart);
+      body =
+          stmts-lawful place
+          (record {
+            pures = pures;
+            structs = structs;
+            procedures = earlier;
+            fields = struct_fields structs q.of;
+            params = length q.params;
+            of = q.of;
+          })
+          kept q.body called.0 h.0.body;
     },
-    subst (λ before. AreProcedures kept structs before (map (renumbered_procedure place) qs)) (map-append (renumbered_procedure place) earlier (q ∷ []))
+    subst (λ before. AreProcedures kept structs before (map (renumbered_procedure place) qs))
+        (map-append (renumbered_procedure place) earlier (q ∷ []))
         (procedures-lawful pures kept structs none qs (earlier ++ q ∷ []) called.1 h.1),
   )
 
@@ -252,15 +284,20 @@ kept-lawful keeps p called h =
     let place = kept_before keeps in
     let move = renumbered_procedure place in
     let kept = kept_pures keeps 0 p.pures in
-    let none : AreStanding keeps 0 [] [] = record { count = refl; kept_count = refl; stands = λ k below keep. absurd (omega arith); names = λ name none. none } in
-    let standing = subst (λ n. AreStanding keeps n p.pures kept) (zero-add (length p.pures)) (standing-all keeps p.pures 0 [] [] none) in record {
-      functions = subst (λ names. AreDistinct (pure_names kept ++ names)) (sym (same-names place p.procedures)) (distinct-kept keeps p.pures (procedure_names p.procedures) 0 h.functions);
+    let none : AreStanding keeps 0 [] [] =
+    record { count = refl; kept_count = refl; stands = λ k below keep. absurd (omega arith); names = λ name none. none } in
+    let standing = subst (λ n. AreStanding keeps n p.pures kept) (zero-add (length p.pures)) (standing-all keeps p.pures 0 [] [] none) in
+    record {
+      functions =
+          subst (λ names. AreDistinct (pure_names kept ++ names)) (sym (same-names place p.procedures))
+          (distinct-kept keeps p.pures (procedure_names p.procedures) 0 h.functions);
       struct_names = h.struct_names;
       pures = pures-lawful keeps p.pures 0 [] [] none called.pures h.pures;
       structs = h.structs;
       procedures = procedures-lawful place p.pures kept p.structs (λ others name. none-kept keeps p.pures others 0 name) p.procedures []
           (all-parts (Stands place p.pures kept) (λ (q : ProcedureTree). stmts_functions q.body) p.procedures
-          (each-then (λ j. (j < length p.pures) × (keeps j ≡ true)) (Stands place p.pures kept) (procedures_functions p.procedures) (λ j is. standing.stands j is.0 is.1) called.procedures))
+          (each-then (λ j. (j < length p.pures) × (keeps j ≡ true)) (Stands place p.pures kept) (procedures_functions p.procedures)
+          (λ j is. standing.stands j is.0 is.1) called.procedures))
           h.procedures;
       root = record {
         of = h.root.of;

@@ -26,7 +26,9 @@ module _ (place : ℕ → ℕ) where
     expr-calls (neg e) = expr-calls e
     expr-calls (read leaf) = refl
     expr-calls (binary op a b) = two (expr_functions a) (expr_functions b) _ _ (expr-calls a) (expr-calls b)
-    expr-calls (pick test a b) = two (cond_functions test ++ expr_functions a) (expr_functions b) _ _ (two (cond_functions test) (expr_functions a) _ _ (cond-calls test) (expr-calls a)) (expr-calls b)
+    expr-calls (pick test a b) =
+        two (cond_functions test ++ expr_functions a) (expr_functions b) _ _
+        (two (cond_functions test) (expr_functions a) _ _ (cond-calls test) (expr-calls a)) (expr-calls b)
     expr-calls (pure k es) = ap (λ ks. place k ∷ ks) (exprs-calls es)
     expr-calls (item f index) = expr-calls index
 
@@ -44,14 +46,17 @@ module _ (place : ℕ → ℕ) where
     stmt-calls : (x : StmtTree) → stmt_functions (renumbered_stmt place x) ≡ map place (stmt_functions x)
     stmt-calls (assign line f e) = expr-calls e
     stmt-calls (assign_at line f index e) = two (expr_functions index) (expr_functions e) _ _ (expr-calls index) (expr-calls e)
-    stmt-calls (branch line test on_true on_false) = two (cond_functions test ++ stmts_functions on_true) (stmts_functions on_false) _ _ (two (cond_functions test) (stmts_functions on_true) _ _ (cond-calls test) (stmts-calls on_true)) (stmts-calls on_false)
+    stmt-calls (branch line test on_true on_false) =
+        two (cond_functions test ++ stmts_functions on_true) (stmts_functions on_false) _ _
+        (two (cond_functions test) (stmts_functions on_true) _ _ (cond-calls test) (stmts-calls on_true)) (stmts-calls on_false)
     stmt-calls (call line k target es) = exprs-calls es
 
     stmts-calls : (xs : StmtTrees) → stmts_functions (renumbered_stmts place xs) ≡ map place (stmts_functions xs)
     stmts-calls no_stmts = refl
     stmts-calls (more_stmts x xs) = two (stmt_functions x) (stmts_functions xs) _ _ (stmt-calls x) (stmts-calls xs)
 
-  procedures-calls : (qs : List ProcedureTree) → procedures_functions (map (renumbered_procedure place) qs) ≡ map place (procedures_functions qs)
+  procedures-calls : (qs : List ProcedureTree) →
+      procedures_functions (map (renumbered_procedure place) qs) ≡ map place (procedures_functions qs)
   procedures-calls [] = refl
   procedures-calls (q ∷ qs) = two (stmts_functions q.body) (procedures_functions qs) _ _ (stmts-calls q.body) (procedures-calls qs)
 
@@ -67,11 +72,13 @@ module _ (place : ℕ → ℕ) where
       same : (j : ℕ) → (j == j) ≡ true
       same j = grind (arith, nat_tests)
 
-      by : (b : Bool) → (x == k) ≡ b → (b || has_number xs k) ≡ true → (has_number xs k ≡ true → has_number (map place xs) (place k) ≡ true) →
+      by : (b : Bool) → (x == k) ≡ b → (b || has_number xs k) ≡ true →
+          (has_number xs k ≡ true → has_number (map place xs) (place k) ≡ true) →
           (place x == place k || has_number (map place xs) (place k)) ≡ true
       by true e is next =
           let equal : x ≡ k = grind (arith, nat_tests) in
-          ap (λ j. place x == place j || has_number (map place xs) (place k)) (sym equal) ∙ ap (λ b. b || has_number (map place xs) (place k)) (same (place x))
+          ap (λ j. place x == place j || has_number (map place xs) (place k)) (sym equal)
+          ∙ ap (λ b. b || has_number (map place xs) (place k)) (same (place x))
       by false e is next = behind (place x == place k) (next is)
 
 -- ---- What is needed is called
@@ -80,7 +87,8 @@ has-either : (xs ys : List ℕ) (k : ℕ) → has_number (xs ++ ys) k ≡ true �
 has-either [] ys k h = inr h
 has-either (x ∷ xs) ys k h = by (x == k) h (has-either xs ys k)
   where
-    by : (b : Bool) → (b || has_number (xs ++ ys) k) ≡ true → (has_number (xs ++ ys) k ≡ true → (has_number xs k ≡ true) ⊎ (has_number ys k ≡ true)) →
+    by : (b : Bool) → (b || has_number (xs ++ ys) k) ≡ true →
+        (has_number (xs ++ ys) k ≡ true → (has_number xs k ≡ true) ⊎ (has_number ys k ≡ true)) →
         ((b || has_number xs k) ≡ true) ⊎ (has_number ys k ≡ true)
     by true e next = inl refl
     by false e next = next e
@@ -94,7 +102,11 @@ module _ (keeps : ℕ → Bool) where
       has_number (pures_functions (kept_pures n (f ∷ fs))) k ≡ true
   later-calls f fs n k h = by (keeps n)
     where
-      by : (b : Bool) → has_number (pures_functions (map (renumbered_pure (kept_before keeps)) ((if b then f ∷ [] else []) ++ kept_from keeps (suc n) fs))) k ≡ true
+      by : (b : Bool) →
+          has_number (pures_functions
+          (map (renumbered_pure (kept_before keeps)) ((if b then f ∷ [] else []) ++ kept_from keeps (suc n) fs)))
+          k
+          ≡ true
       by true = has-right (expr_functions (renumbered_expr (kept_before keeps) f.body)) (pures_functions (kept_pures (suc n) fs)) k h
       by false = h
 
@@ -106,14 +118,22 @@ module _ (keeps : ℕ → Bool) where
       place : ℕ → ℕ
       place = kept_before keeps
 
-      by : (b : Bool) → b ≡ true → has_number (pures_functions (map (renumbered_pure (kept_before keeps)) ((if b then f ∷ [] else []) ++ kept_from keeps (suc n) fs))) (kept_before keeps k) ≡ true
-      by true e = has-left (expr_functions (renumbered_expr (kept_before keeps) f.body)) (pures_functions (kept_pures (suc n) fs)) (kept_before keeps k)
-          (ap (λ xs. has_number xs (kept_before keeps k)) (expr-calls (kept_before keeps) f.body) ∙ moved-has (kept_before keeps) (expr_functions f.body) k h)
+      by : (b : Bool) → b ≡ true →
+          has_number (pures_functions
+          (map (renumbered_pure (kept_before keeps)) ((if b then f ∷ [] else []) ++ kept_from keeps (suc n) fs)))
+          (kept_before keeps k)
+          ≡ true
+      by true e =
+          has-left (expr_functions (renumbered_expr (kept_before keeps) f.body)) (pures_functions (kept_pures (suc n) fs))
+          (kept_before keeps k)
+          (ap (λ xs. has_number xs (kept_before keeps k)) (expr-calls (kept_before keeps) f.body)
+          ∙ moved-has (kept_before keeps) (expr_functions f.body) k h)
       by false e = absurd (let wrong : ⊥ = cc e in wrong)
 
   -- What is needed is called by later code, or by one of the functions that are kept, where all that is needed is kept.
   needed-called : (later : List ℕ) (fs : List PureTree) (n k : ℕ) →
-      ((j : ℕ) → has_number (needed_from later n fs) j ≡ true → j < n + length fs → keeps j ≡ true) → has_number (needed_from later n fs) k ≡ true →
+      ((j : ℕ) → has_number (needed_from later n fs) j ≡ true → j < n + length fs → keeps j ≡ true) →
+      has_number (needed_from later n fs) k ≡ true →
       (has_number later k ≡ true) ⊎ (has_number (pures_functions (kept_pures n fs)) (kept_before keeps k) ≡ true)
   needed-called later [] n k kept h = inl h
   needed-called later (f ∷ fs) n k kept h =
@@ -131,7 +151,8 @@ module _ (keeps : ℕ → Bool) where
       own false is has = absurd (let wrong : ⊥ = cc has in wrong)
 
       by : (has_number rest k ≡ true) ⊎ (has_number added k ≡ true) →
-          (has_number rest k ≡ true → (has_number later k ≡ true) ⊎ (has_number (pures_functions (kept_pures (suc n) fs)) (kept_before keeps k) ≡ true)) →
+          (has_number rest k ≡ true →
+          (has_number later k ≡ true) ⊎ (has_number (pures_functions (kept_pures (suc n) fs)) (kept_before keeps k) ≡ true)) →
           (has_number later k ≡ true) ⊎ (has_number (pures_functions (kept_pures n (f ∷ fs))) (kept_before keeps k) ≡ true)
       by (inl in_rest) next = through (next in_rest)
         where
@@ -179,7 +200,9 @@ pruned_has_none_idle p lawful j h =
     let others = pures_functions (pruned p).pures in
     let by : (has_number calls k ≡ true) ⊎ (has_number others (place k) ≡ true) → has_number (moved ++ others) (place k) ≡ true =
     (λ either_way. elim either_way [
-      | inl called ↦ has-left moved others (place k) (ap (λ xs. has_number xs (place k)) (procedures-calls place p.procedures) ∙ moved-has place calls k called)
+      | inl called ↦
+          has-left moved others (place k)
+          (ap (λ xs. has_number xs (place k)) (procedures-calls place p.procedures) ∙ moved-has place calls k called)
       | inr called ↦ has-right moved others (place k) called
     ]) in
     contains (moved ++ others) j
@@ -214,4 +237,5 @@ pub calls_mean_no_lines : CallsMeanNoLines
 calls_mean_no_lines p q same idle k below =
     let counts : length p.pures ≡ length q.pures =
     sym (length-map p.pures pure_without_lines) ∙ ap (λ (x : ProgramTree). length x.pures) same ∙ length-map q.pures pure_without_lines in
-    subst (λ ks. Rattle.std.specs.Prelude.Contains ks k) (sym (called-aside p) ∙ ap called_functions same ∙ called-aside q) (idle k (omega arith))
+    subst (λ ks. Rattle.std.specs.Prelude.Contains ks k) (sym (called-aside p) ∙ ap called_functions same ∙ called-aside q)
+    (idle k (omega arith))

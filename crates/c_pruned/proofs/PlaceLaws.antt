@@ -46,14 +46,16 @@ module _ (keeps : ℕ → Bool) where
       ∙ ap (λ b. kept_before keeps (n + more) + (if b then 1 else 0)) (none (n + more) (omega arith))
       ∙ (let e : kept_before keeps (n + more) + 0 ≡ kept_before keeps (n + more) = omega arith in e) ∙ none-past n more none
 
-  pub counted-at : (count k : ℕ) → ((j : ℕ) → count ≤ j → keeps j ≡ false) → slice_index_or (counts 0 count) k (kept_before keeps count) ≡ kept_before keeps k
+  pub counted-at : (count k : ℕ) → ((j : ℕ) → count ≤ j → keeps j ≡ false) →
+      slice_index_or (counts 0 count) k (kept_before keeps count) ≡ kept_before keeps k
   counted-at count k none = by (nat_lt k count) refl
     where
       by : (b : Bool) → nat_lt k count ≡ b → slice_index_or (counts 0 count) k (kept_before keeps count) ≡ kept_before keeps k
       by true e = counts-at 0 count k k (kept_before keeps count) (grind (arith, nat_tests)) (omega arith)
       by false e =
           let past : count ≤ k = grind (arith, nat_tests) in
-          counts-past 0 count k (kept_before keeps count) past ∙ sym (ap (kept_before keeps) (let e : k ≡ count + (k - count) = omega arith in e) ∙ none-past count (k - count) none)
+          counts-past 0 count k (kept_before keeps count) past
+          ∙ sym (ap (kept_before keeps) (let e : k ≡ count + (k - count) = omega arith in e) ∙ none-past count (k - count) none)
 
 -- no flag is set past the end
 pub none-flagged : (flags : List Bool) (k : ℕ) → length flags ≤ k → flag_at flags k ≡ false
@@ -62,7 +64,8 @@ none-flagged (b ∷ bs) zero past = absurd (omega arith)
 none-flagged (b ∷ bs) (suc k) past = none-flagged bs k (omega arith)
 
 -- the places that a loop over flags makes
-pub placed : (flags : List Bool) (before : List ℕ) (kept i k : ℕ) → i ≡ length flags → before ≡ counts (flag_at flags) 0 i → kept ≡ kept_before (flag_at flags) i →
+pub placed : (flags : List Bool) (before : List ℕ) (kept i k : ℕ) → i ≡ length flags → before ≡ counts (flag_at flags) 0 i →
+    kept ≡ kept_before (flag_at flags) i →
     slice_index_or before k kept ≡ kept_before (flag_at flags) k
 placed flags before kept i k all made count =
     (λ j. slice_index_or (made j) k (count j)) ∙ counted-at (flag_at flags) i k (λ m past. none-flagged flags m (omega (arith, all, past)))
@@ -76,20 +79,24 @@ take-whole (x ∷ xs) zero e = absurd (omega (arith, e))
 take-whole (x ∷ xs) (suc i) e = ap (λ ys. x ∷ ys) (take-whole xs i (omega (arith, e)))
 
 module _ (place : ℕ → ℕ) where
-  exprs-one-by-one : (es : List Expr) → exprs_of_list (map (λ e. renumbered_expr place (expr_tree e)) es) ≡ renumbered_exprs place (exprs_of_list (map expr_tree es))
+  exprs-one-by-one : (es : List Expr) →
+      exprs_of_list (map (λ e. renumbered_expr place (expr_tree e)) es) ≡ renumbered_exprs place (exprs_of_list (map expr_tree es))
   exprs-one-by-one [] = refl
   exprs-one-by-one (e ∷ es) = ap (more_exprs (renumbered_expr place (expr_tree e))) (exprs-one-by-one es)
 
-  stmts-one-by-one : (ss : List Stmt) → stmts_of_list (map (λ s. renumbered_stmt place (stmt_tree s)) ss) ≡ renumbered_stmts place (stmts_of_list (map stmt_tree ss))
+  stmts-one-by-one : (ss : List Stmt) →
+      stmts_of_list (map (λ s. renumbered_stmt place (stmt_tree s)) ss) ≡ renumbered_stmts place (stmts_of_list (map stmt_tree ss))
   stmts-one-by-one [] = refl
   stmts-one-by-one (s ∷ ss) = ap (more_stmts (renumbered_stmt place (stmt_tree s))) (stmts-one-by-one ss)
 
-  pub exprs-renumbered : (es list : List Expr) (i : ℕ) → length es ≤ i → map expr_tree list ≡ map (λ e. renumbered_expr place (expr_tree e)) (take i es) →
+  pub exprs-renumbered : (es list : List Expr) (i : ℕ) → length es ≤ i →
+      map expr_tree list ≡ map (λ e. renumbered_expr place (expr_tree e)) (take i es) →
       exprs_of_list (map expr_tree list) ≡ renumbered_exprs place (exprs_of_list (map expr_tree es))
   exprs-renumbered es list i all made =
       ap exprs_of_list (made ∙ ap (map (λ e. renumbered_expr place (expr_tree e))) (take-whole es i all)) ∙ exprs-one-by-one es
 
-  pub stmts-renumbered : (ss list : List Stmt) (i : ℕ) → length ss ≤ i → map stmt_tree list ≡ map (λ s. renumbered_stmt place (stmt_tree s)) (take i ss) →
+  pub stmts-renumbered : (ss list : List Stmt) (i : ℕ) → length ss ≤ i →
+      map stmt_tree list ≡ map (λ s. renumbered_stmt place (stmt_tree s)) (take i ss) →
       stmts_of_list (map stmt_tree list) ≡ renumbered_stmts place (stmts_of_list (map stmt_tree ss))
   stmts-renumbered ss list i all made =
       ap stmts_of_list (made ∙ ap (map (λ s. renumbered_stmt place (stmt_tree s))) (take-whole ss i all)) ∙ stmts-one-by-one ss
@@ -99,7 +106,8 @@ module _ (place : ℕ → ℕ) where
 module _ (keeps : ℕ → Bool) where
   kept-push : (fs : List PureTree) (n m : ℕ) (f : PureTree) → n + length fs ≡ m →
       kept_from keeps n (fs ++ f ∷ []) ≡ kept_from keeps n fs ++ (if keeps m then f ∷ [] else [])
-  kept-push [] n m f e = append-nil (if keeps n then f ∷ [] else []) ∙ ap (λ k. if keeps k then f ∷ [] else []) (let same : n ≡ m = omega (arith, e) in same)
+  kept-push [] n m f e =
+      append-nil (if keeps n then f ∷ [] else []) ∙ ap (λ k. if keeps k then f ∷ [] else []) (let same : n ≡ m = omega (arith, e) in same)
   kept-push (g ∷ fs) n m f e =
       ap (λ gs. (if keeps n then g ∷ [] else []) ++ gs) (kept-push fs (suc n) m f (omega (arith, e)))
       ∙ sym (append_assoc (if keeps n then g ∷ [] else []) (kept_from keeps (suc n) fs) (if keeps m then f ∷ [] else []))
@@ -126,7 +134,8 @@ module _ (keeps : ℕ → Bool) where
       ∙ sym (kept-one-more place fs i f inside read)
 
   pub kept-no : (place : ℕ → ℕ) (fs made : List PureTree) (i : ℕ) (f : PureTree) → i < length fs → f ≡ get_or fs i f → keeps i ≡ false →
-      made ≡ map (renumbered_pure place) (kept_from keeps 0 (take i fs)) → made ≡ map (renumbered_pure place) (kept_from keeps 0 (take (i + 1) fs))
+      made ≡ map (renumbered_pure place) (kept_from keeps 0 (take i fs)) →
+      made ≡ map (renumbered_pure place) (kept_from keeps 0 (take (i + 1) fs))
   kept-no place fs made i f inside read drop is =
       is ∙ sym (append-nil (map (renumbered_pure place) (kept_from keeps 0 (take i fs))))
       ∙ ap (λ b. map (renumbered_pure place) (kept_from keeps 0 (take i fs)) ++ (if b then renumbered_pure place f ∷ [] else [])) (sym drop)

@@ -40,16 +40,19 @@ module _ (keeps : ℕ → Bool) (p : ProgramTree) where
     functions : AreKept keeps (length p.pures) (functions_of [] p.pures) (functions_of [] q.pures)
     functions =
         subst (λ n. AreKept keeps n (functions_of [] p.pures) (functions_of [] q.pures)) (zero-add (length p.pures))
-        (functions-kept keeps p.pures 0 [] [] (record { count = refl; kept_count = refl; same = λ k below keep. absurd (omega arith) }) called.pures)
+        (functions-kept keeps p.pures 0 [] []
+        (record { count = refl; kept_count = refl; same = λ k below keep. absurd (omega arith) }) called.pures)
 
     pub same-routines : program_routines q ≡ program_routines p
     same-routines =
         let agree = Agree (kept_before keeps) (functions_of [] p.pures) (functions_of [] q.pures) in
         routines-same (kept_before keeps) (functions_of [] p.pures) (functions_of [] q.pures) p.structs [] p.procedures
         (all-parts agree (λ (x : ProcedureTree). stmts_functions x.body) p.procedures
-        (each-then (λ j. (j < length p.pures) × (keeps j ≡ true)) agree (procedures_functions p.procedures) (λ j is. functions.same j is.0 is.1) called.procedures))
+        (each-then (λ j. (j < length p.pures) × (keeps j ≡ true)) agree (procedures_functions p.procedures)
+        (λ j is. functions.same j is.0 is.1) called.procedures))
 
-    call-same : (k : ℕ) (path : List ℕ) (values : List ℤ) (cells : Cells) → call_from_outside q k path values cells ≡ call_from_outside p k path values cells
+    call-same : (k : ℕ) (path : List ℕ) (values : List ℤ) (cells : Cells) →
+        call_from_outside q k path values cells ≡ call_from_outside p k path values cells
     call-same k path values cells = λ i. at_path path (λ inner. (routine_at (same-routines i) k).run values inner 0) cells
 
     start-same : start_run q ≡ start_run p
@@ -62,7 +65,8 @@ module _ (keeps : ℕ → Bool) (p : ProgramTree) where
 
     from-same : (trace : List (List ℤ)) → rows_from q trace ≡ rows_from p trace
     from-same [] = refl
-    from-same (row ∷ trace) = λ i cells. (after-same (step_run q row cells) (rows_from q trace) ∙ (λ j. rows_after p (step-same row cells j) (from-same trace j))) i
+    from-same (row ∷ trace) = λ i cells.
+        (after-same (step_run q row cells) (rows_from q trace) ∙ (λ j. rows_after p (step-same row cells j) (from-same trace j))) i
 
     of_start-same : (o : Outcome) (trace : List (List ℤ)) → rows_of_start q o trace ≡ rows_of_start p o trace
     of_start-same (done a) trace = ap (λ go. go a.cells) (from-same trace)

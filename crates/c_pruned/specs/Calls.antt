@@ -28,7 +28,8 @@ abbrev mutual
   pub stmt_functions : StmtTree → List ℕ
   stmt_functions (assign line field value) = expr_functions value
   stmt_functions (assign_at line field index value) = expr_functions index ++ expr_functions value
-  stmt_functions (branch line test on_true on_false) = cond_functions test ++ stmts_functions on_true ++ stmts_functions on_false
+  stmt_functions (branch line test on_true on_false) =
+      cond_functions test ++ stmts_functions on_true ++ stmts_functions on_false
   stmt_functions (call line procedure target values) = exprs_functions values
 
   pub stmts_functions : StmtTrees → List ℕ

@@ -18,20 +18,32 @@ of_first k = pure k (more_exprs (read (Param 0)) no_exprs)
 
 -- `s->y1 = (int32_t)VALUE;`
 abbrev pub step_with : ExprTree → ProcedureTree
-step_with value = record { name = codes "root_step"; private = false; of = 0; params = record { name = codes "u1"; type = I32 } ∷ []; body = more_stmts (assign 0 0 value) no_stmts }
+step_with value = record {
+  name = codes "root_step";
+  private = false;
+  of = 0;
+  params = record { name = codes "u1"; type = I32 } ∷ [];
+  body = more_stmts (assign 0 0 value) no_stmts;
+}
 
 abbrev pub with_functions : List PureTree → ExprTree → ProgramTree
 with_functions pures value = record {
   pures = pures;
-  structs = record { name = codes "root"; fields = record { name = codes "y1"; kind = Number I32 } ∷ [] } ∷ [];
-  procedures = record { name = codes "root_start"; private = false; of = 0; params = []; body = no_stmts } ∷ step_with value ∷ [];
+  structs =
+      record { name = codes "root"; fields = record { name = codes "y1"; kind = Number I32 } ∷ [] }
+      ∷ [];
+  procedures =
+      record { name = codes "root_start"; private = false; of = 0; params = []; body = no_stmts }
+      ∷ step_with value ∷ [];
 }
 
 -- the step calls h, and h calls b; g, which calls e, is called by none
 abbrev pub eight : ProgramTree
 eight = with_functions
-    (function (codes "a") (read (Param 0)) ∷ function (codes "b") (neg (read (Param 0))) ∷ function (codes "c") (literal (pos 1))
-    ∷ function (codes "d") (literal (pos 2)) ∷ function (codes "e") (literal (pos 3)) ∷ function (codes "f") (literal (pos 4))
+    (function (codes "a") (read (Param 0)) ∷ function (codes "b") (neg (read (Param 0)))
+    ∷ function (codes "c") (literal (pos 1))
+    ∷ function (codes "d") (literal (pos 2)) ∷ function (codes "e") (literal (pos 3))
+    ∷ function (codes "f") (literal (pos 4))
     ∷ function (codes "g") (of_first 4) ∷ function (codes "h") (of_first 1) ∷ [])
     (neg (pure 7 (more_exprs (of_first 3) no_exprs)))
 
@@ -39,7 +51,8 @@ pub eight-needed : needed eight ≡ 7 ∷ 3 ∷ 1 ∷ []
 eight-needed = refl
 
 pub eight-pruned : pruned eight ≡ with_functions
-    (function (codes "b") (neg (read (Param 0))) ∷ function (codes "d") (literal (pos 2)) ∷ function (codes "h") (of_first 0) ∷ [])
+    (function (codes "b") (neg (read (Param 0))) ∷ function (codes "d") (literal (pos 2))
+    ∷ function (codes "h") (of_first 0) ∷ [])
     (neg (pure 2 (more_exprs (of_first 1) no_exprs)))
 eight-pruned = refl
 

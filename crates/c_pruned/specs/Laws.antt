@@ -8,9 +8,11 @@ use Rattle.c_machine.specs.Rows.{c_rows, start_run}
 use Rattle.c_pruned.specs.Calls.{NoneIdle}
 use Rattle.c_pruned.specs.Pruned.{pruned}
 
--- the one program does what the other does at each call from outside, from the start, and over each trace
+-- the one program does what the other does at each call from outside, from the start, and over each
+-- trace
 pub record RunsAs (p q : ProgramTree) : Type 0 where
-  pub calls : (k : ℕ) (path : List ℕ) (values : List ℤ) (cells : Cells) → call_from_outside p k path values cells ≡ call_from_outside q k path values cells
+  pub calls : (k : ℕ) (path : List ℕ) (values : List ℤ) (cells : Cells) →
+      call_from_outside p k path values cells ≡ call_from_outside q k path values cells
   pub start : start_run p ≡ start_run q
   pub rows : (trace : List (List ℤ)) → c_rows p trace ≡ c_rows q trace
 

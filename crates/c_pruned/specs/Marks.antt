@@ -1,4 +1,5 @@
--- What the functions of this crate keep in lists: which pure functions are needed, and where those go that stay.
+-- What the functions of this crate keep in lists: which pure functions are needed, and where those
+-- go that stay.
 use Rattle.std.specs.Prelude.{ℕ, Bool, true, false, List, [], ◌∷◌, length, map, replicate, slice_index_or}
 use Rattle.std.specs.List.{slice_set}
 use Rattle.c_syntax.specs.declared.program.Procedure.{Procedure}
@@ -24,7 +25,8 @@ flags_of count ks = marked (replicate count false) ks
 -- which functions are needed
 abbrev pub needed_flags : List Pure → List Procedure → List Bool
 needed_flags pures procedures =
-    flags_of (length pures) (needed_from (procedures_functions (map procedure_tree procedures)) 0 (map pure_tree pures))
+    flags_of (length pures)
+    (needed_from (procedures_functions (map procedure_tree procedures)) 0 (map pure_tree pures))
 
 -- the new position of the function at a position
 abbrev pub place_in : Places → ℕ → ℕ

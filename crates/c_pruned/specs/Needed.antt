@@ -1,4 +1,5 @@
--- The pure functions that a program needs: those that its procedures call, and those that functions call which it needs.
+-- The pure functions that a program needs: those that its procedures call, and those that functions
+-- call which it needs.
 use Rattle.std.specs.Prelude.{ℕ, suc, ◌==◌, ◌&&◌, nat_lt, if◌then◌else◌, Bool, List, [], ◌∷◌, ◌++◌, length}
 use Rattle.std.specs.List.{list_any}
 use Rattle.c_syntax.specs.Tree.{PureTree, ProgramTree}
@@ -12,8 +13,8 @@ has_number numbers k = list_any (λ j. j == k) numbers
 abbrev pub with_calls : List ℕ → ℕ → PureTree → List ℕ
 with_calls later n f = later ++ (if has_number later n then expr_functions f.body else [])
 
--- the functions that are called by later code, which calls these, and by those of the functions from position n on that are
--- called themselves; a function is called from behind alone
+-- the functions that are called by later code, which calls these, and by those of the functions
+-- from position n on that are called themselves; a function is called from behind alone
 abbrev pub needed_from : List ℕ → ℕ → List PureTree → List ℕ
 needed_from later n [] = later
 needed_from later n (f ∷ fs) = with_calls (needed_from later (suc n) fs) n f

@@ -1,5 +1,5 @@
--- A program without the pure functions that it doesn't need. Those that stay keep their order, and calls name them by their new
--- positions.
+-- A program without the pure functions that it doesn't need. Those that stay keep their order, and
+-- calls name them by their new positions.
 use Rattle.std.specs.Prelude.{ℕ, zero, suc, ◌+◌, if◌then◌else◌, Bool, List, [], ◌∷◌, ◌++◌, map}
 use Rattle.c_syntax.specs.Tree.{ExprTree, literal, neg, read, binary, pick, pure, item, ExprTrees, no_exprs, more_exprs, CondTree, compare, both, either, negated, StmtTree, assign, assign_at, branch, call, StmtTrees, no_stmts, more_stmts, PureTree, ProcedureTree, ProgramTree}
 use Rattle.c_pruned.specs.Needed.{is_needed}
@@ -15,7 +15,8 @@ module _ (place : ℕ → ℕ) where
     renumbered_expr (neg e) = neg (renumbered_expr e)
     renumbered_expr (read leaf) = read leaf
     renumbered_expr (binary op a b) = binary op (renumbered_expr a) (renumbered_expr b)
-    renumbered_expr (pick test a b) = pick (renumbered_cond test) (renumbered_expr a) (renumbered_expr b)
+    renumbered_expr (pick test a b) =
+        pick (renumbered_cond test) (renumbered_expr a) (renumbered_expr b)
     renumbered_expr (pure function values) = pure (place function) (renumbered_exprs values)
     renumbered_expr (item field index) = item field (renumbered_expr index)
 
@@ -33,9 +34,12 @@ module _ (place : ℕ → ℕ) where
     -- a statement and statements
     pub renumbered_stmt : StmtTree → StmtTree
     renumbered_stmt (assign line field value) = assign line field (renumbered_expr value)
-    renumbered_stmt (assign_at line field index value) = assign_at line field (renumbered_expr index) (renumbered_expr value)
-    renumbered_stmt (branch line test on_true on_false) = branch line (renumbered_cond test) (renumbered_stmts on_true) (renumbered_stmts on_false)
-    renumbered_stmt (call line procedure target values) = call line procedure target (renumbered_exprs values)
+    renumbered_stmt (assign_at line field index value) =
+        assign_at line field (renumbered_expr index) (renumbered_expr value)
+    renumbered_stmt (branch line test on_true on_false) =
+        branch line (renumbered_cond test) (renumbered_stmts on_true) (renumbered_stmts on_false)
+    renumbered_stmt (call line procedure target values) =
+        call line procedure target (renumbered_exprs values)
 
     pub renumbered_stmts : StmtTrees → StmtTrees
     renumbered_stmts no_stmts = no_stmts
@@ -43,11 +47,22 @@ module _ (place : ℕ → ℕ) where
 
   -- a pure function
   abbrev pub renumbered_pure : PureTree → PureTree
-  renumbered_pure f = record { name = f.name; params = f.params; body = renumbered_expr f.body; line = f.line }
+  renumbered_pure f = record {
+    name = f.name;
+    params = f.params;
+    body = renumbered_expr f.body;
+    line = f.line;
+  }
 
   -- a procedure
   abbrev pub renumbered_procedure : ProcedureTree → ProcedureTree
-  renumbered_procedure q = record { name = q.name; private = q.private; of = q.of; params = q.params; body = renumbered_stmts q.body }
+  renumbered_procedure q = record {
+    name = q.name;
+    private = q.private;
+    of = q.of;
+    params = q.params;
+    body = renumbered_stmts q.body;
+  }
 
 -- ---- Some functions alone
 

@@ -51,7 +51,8 @@ fn mark_expr(needed: &mut [bool], e: &Expr)
 /// Marks what expressions call.
 #[cycle(expression)]
 fn mark_exprs(needed: &mut [bool], es: &[Expr])
-    ensures { needed.new ≡ marked needed.old (exprs_functions (exprs_of_list (map expr_tree es.now))) }
+    ensures { needed.new
+        ≡ marked needed.old (exprs_functions (exprs_of_list (map expr_tree es.now))) }
 {
     for e in es {
         mark_expr(needed, e);
@@ -105,7 +106,8 @@ fn mark_stmt(needed: &mut [bool], s: &Stmt)
 /// Marks what statements call.
 #[cycle(statement)]
 fn mark_stmts(needed: &mut [bool], ss: &[Stmt])
-    ensures { needed.new ≡ marked needed.old (stmts_functions (stmts_of_list (map stmt_tree ss.now))) }
+    ensures { needed.new
+        ≡ marked needed.old (stmts_functions (stmts_of_list (map stmt_tree ss.now))) }
 {
     for s in ss {
         mark_stmt(needed, s);
@@ -114,7 +116,8 @@ fn mark_stmts(needed: &mut [bool], ss: &[Stmt])
 
 /// Marks what procedures call.
 fn mark_procedures(needed: &mut [bool], procedures: &[Procedure])
-    ensures { needed.new ≡ marked needed.old (procedures_functions (map procedure_tree procedures.now)) }
+    ensures { needed.new
+        ≡ marked needed.old (procedures_functions (map procedure_tree procedures.now)) }
 {
     for q in procedures {
         mark_stmts(needed, q.body.as_slice());
@@ -124,7 +127,9 @@ fn mark_procedures(needed: &mut [bool], procedures: &[Procedure])
 /// Marks what the function at a position calls, if it is needed itself.
 fn mark_behind(needed: &mut [bool], position: usize, f: &Pure)
     requires { position < length needed.old }
-    ensures { MatchBool (flag_at needed.old position) (needed.new ≡ marked needed.old (expr_functions (expr_tree f.now.body))) (needed.new ≡ needed.old) }
+    ensures { MatchBool (flag_at needed.old position)
+        (needed.new ≡ marked needed.old (expr_functions (expr_tree f.now.body)))
+        (needed.new ≡ needed.old) }
 {
     if needed[position] {
         mark_expr(needed, &f.body);
@@ -134,7 +139,8 @@ fn mark_behind(needed: &mut [bool], position: usize, f: &Pure)
 /// Marks what needed functions call, from the last to the first: none calls itself or a later one.
 fn mark_pures(needed: &mut [bool], pures: &[Pure])
     requires { length needed.old ≡ length pures.now }
-    ensures { (later : List ℕ) → needed.old ≡ flags_of (length pures.now) later → needed.new ≡ flags_of (length pures.now) (needed_from later 0 (map pure_tree pures.now)) }
+    ensures { (later : List ℕ) → needed.old ≡ flags_of (length pures.now) later
+        → needed.new ≡ flags_of (length pures.now) (needed_from later 0 (map pure_tree pures.now)) }
 {
     for position in (0..pures.len()).rev() {
         mark_behind(needed, position, &pures[position]);

@@ -8,7 +8,8 @@ use std::alloc::Global;
 
 /// The places of the functions that are needed. Fails for want of memory, or where a position would pass 32 bits.
 pub(crate) fn places_of(alloc: Global, needed: &[bool]) -> Result<Places, Memory>
-    ensures { IfOk result (λ places. (k : ℕ) → place_in places k ≡ kept_before (flag_at needed.now) k) }
+    ensures { IfOk result
+        (λ places. (k : ℕ) → place_in places k ≡ kept_before (flag_at needed.now) k) }
 {
     let mut before = Vec::new(alloc);
     let mut kept = 0u32;

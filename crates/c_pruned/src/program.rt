@@ -35,7 +35,8 @@ fn copied_params(alloc: Global, params: &[(Text, CType)]) -> Result<Vec<(Text, C
 
 /// A pure function with its calls renumbered.
 fn renumbered_pure(alloc: Global, places: &Places, f: &Pure) -> Result<Pure, Memory>
-    ensures { IfOk result (λ g. pure_tree g ≡ pruned_trees.renumbered_pure (place_in places.now) (pure_tree f.now)) }
+    ensures { IfOk result
+        (λ g. pure_tree g ≡ pruned_trees.renumbered_pure (place_in places.now) (pure_tree f.now)) }
 {
     Ok(Pure {
         name: Text::copy_of(alloc, f.name.bytes())?,
@@ -54,7 +55,8 @@ fn kept_pures(
 ) -> Result<Vec<Pure>, Memory>
     requires { length needed.now ≡ length pures.now }
     ensures { IfOk result (λ v. map pure_tree v.items
-        ≡ map (pruned_trees.renumbered_pure (place_in places.now)) (pruned_trees.kept_from (flag_at needed.now) 0 (map pure_tree pures.now))) }
+        ≡ map (pruned_trees.renumbered_pure (place_in places.now))
+        (pruned_trees.kept_from (flag_at needed.now) 0 (map pure_tree pures.now))) }
 {
     let mut list = Vec::new(alloc);
     for (position, f) in pures.iter().enumerate() {
@@ -67,7 +69,9 @@ fn kept_pures(
 
 /// A procedure with its calls renumbered.
 fn renumbered_procedure(alloc: Global, places: &Places, q: &Procedure) -> Result<Procedure, Memory>
-    ensures { IfOk result (λ p. procedure_tree p ≡ pruned_trees.renumbered_procedure (place_in places.now) (procedure_tree q.now)) }
+    ensures { IfOk result
+        (λ p. procedure_tree p
+        ≡ pruned_trees.renumbered_procedure (place_in places.now) (procedure_tree q.now)) }
 {
     Ok(Procedure {
         name: Text::copy_of(alloc, q.name.bytes())?,
@@ -85,7 +89,8 @@ fn renumbered_procedures(
     procedures: &[Procedure],
 ) -> Result<Vec<Procedure>, Memory>
     ensures { IfOk result (λ v. map procedure_tree v.items
-        ≡ map (pruned_trees.renumbered_procedure (place_in places.now)) (map procedure_tree procedures.now)) }
+        ≡ map (pruned_trees.renumbered_procedure (place_in places.now))
+        (map procedure_tree procedures.now)) }
 {
     let mut list = Vec::new(alloc);
     for q in procedures {

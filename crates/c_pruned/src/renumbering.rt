@@ -21,7 +21,9 @@ fn call_of_pure(function: u32, values: Vec<Expr>) -> Expr
 
 /// A choice.
 fn choice(line: u32, test: Cond, yes: Vec<Stmt>, no: Vec<Stmt>) -> Stmt
-    ensures { stmt_tree result ≡ tree.branch line (cond_tree test) (stmts_of_list (map stmt_tree yes.items)) (stmts_of_list (map stmt_tree no.items)) }
+    ensures { stmt_tree result
+        ≡ tree.branch line (cond_tree test) (stmts_of_list (map stmt_tree yes.items))
+        (stmts_of_list (map stmt_tree no.items)) }
 {
     Stmt::If {
         line,
@@ -34,7 +36,8 @@ fn choice(line: u32, test: Cond, yes: Vec<Stmt>, no: Vec<Stmt>) -> Stmt
 /// An expression with its calls renumbered.
 #[cycle(expression)]
 pub(crate) fn renumbered_expr(alloc: Global, places: &Places, e: &Expr) -> Result<Expr, Memory>
-    ensures { IfOk result (λ x. expr_tree x ≡ pruned.renumbered_expr (place_in places.now) (expr_tree e.now)) }
+    ensures { IfOk result
+        (λ x. expr_tree x ≡ pruned.renumbered_expr (place_in places.now) (expr_tree e.now)) }
 {
     match e {
         Expr::Literal(value) => Ok(Expr::Literal(*value)),
@@ -68,7 +71,10 @@ pub(crate) fn renumbered_expr(alloc: Global, places: &Places, e: &Expr) -> Resul
 /// Expressions with their calls renumbered.
 #[cycle(expression)]
 fn renumbered_exprs(alloc: Global, places: &Places, es: &[Expr]) -> Result<Vec<Expr>, Memory>
-    ensures { IfOk result (λ v. exprs_of_list (map expr_tree v.items) ≡ pruned.renumbered_exprs (place_in places.now) (exprs_of_list (map expr_tree es.now))) }
+    ensures { IfOk result
+        (λ v. exprs_of_list (map expr_tree v.items)
+        ≡ pruned.renumbered_exprs (place_in places.now)
+        (exprs_of_list (map expr_tree es.now))) }
 {
     let mut list = Vec::new(alloc);
     for e in es {
@@ -80,7 +86,8 @@ fn renumbered_exprs(alloc: Global, places: &Places, es: &[Expr]) -> Result<Vec<E
 /// A condition with its calls renumbered.
 #[cycle(expression)]
 fn renumbered_cond(alloc: Global, places: &Places, test: &Cond) -> Result<Cond, Memory>
-    ensures { IfOk result (λ c. cond_tree c ≡ pruned.renumbered_cond (place_in places.now) (cond_tree test.now)) }
+    ensures { IfOk result
+        (λ c. cond_tree c ≡ pruned.renumbered_cond (place_in places.now) (cond_tree test.now)) }
 {
     match test {
         Cond::Compare(how, left, right) => {
@@ -108,7 +115,8 @@ fn renumbered_cond(alloc: Global, places: &Places, test: &Cond) -> Result<Cond, 
 /// A statement with its calls renumbered.
 #[cycle(statement)]
 fn renumbered_stmt(alloc: Global, places: &Places, s: &Stmt) -> Result<Stmt, Memory>
-    ensures { IfOk result (λ x. stmt_tree x ≡ pruned.renumbered_stmt (place_in places.now) (stmt_tree s.now)) }
+    ensures { IfOk result
+        (λ x. stmt_tree x ≡ pruned.renumbered_stmt (place_in places.now) (stmt_tree s.now)) }
 {
     match s {
         Stmt::Set { line, field, value } => {
@@ -169,7 +177,10 @@ pub(crate) fn renumbered_stmts(
     places: &Places,
     ss: &[Stmt],
 ) -> Result<Vec<Stmt>, Memory>
-    ensures { IfOk result (λ v. stmts_of_list (map stmt_tree v.items) ≡ pruned.renumbered_stmts (place_in places.now) (stmts_of_list (map stmt_tree ss.now))) }
+    ensures { IfOk result
+        (λ v. stmts_of_list (map stmt_tree v.items)
+        ≡ pruned.renumbered_stmts (place_in places.now)
+        (stmts_of_list (map stmt_tree ss.now))) }
 {
     let mut list = Vec::new(alloc);
     for s in ss {

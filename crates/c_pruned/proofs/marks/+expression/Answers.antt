@@ -18,7 +18,8 @@ mark_expr-returns-in-Pure t c =
 
 pub mark_exprs-loop-e-preserved : goal.mark_exprs-loop-e-preserved
 mark_exprs-loop-e-preserved t c =
-    marked-more (λ (e : Expr). expr_functions (expr_tree e)) c.args.es.now c.loop-e.e-index c.e-item.result c.args.needed.now c.loop-e.needed c.mark_expr.new.needed
+    marked-more (λ (e : Expr). expr_functions (expr_tree e)) c.args.es.now c.loop-e.e-index c.e-item.result c.args.needed.now
+    c.loop-e.needed c.mark_expr.new.needed
     (omega (arith, c.loop-e-test.true)) c.e-item.is c.loop-e.invariant c.mark_expr.ensures
 
 pub mark_exprs-returns : goal.mark_exprs-returns

@@ -10,10 +10,13 @@ use Rattle.c_pruned.proofs.marks.mark_procedures.Goals as goal
 
 pub loop-q-preserved : goal.loop-q-preserved
 loop-q-preserved c =
-    marked-more (λ (q : Procedure). stmts_functions (procedure_tree q).body) c.args.procedures.now c.loop-q.q-index c.q-item.result c.args.needed.now c.loop-q.needed c.mark_stmts.new.needed
+    marked-more (λ (q : Procedure). stmts_functions (procedure_tree q).body) c.args.procedures.now c.loop-q.q-index c.q-item.result
+    c.args.needed.now c.loop-q.needed c.mark_stmts.new.needed
     (omega (arith, c.loop-q-test.true)) c.q-item.is c.loop-q.invariant
-    (c.mark_stmts.ensures ∙ ap (λ (ss : List Stmt). marked c.loop-q.needed (stmts_functions (stmts_of_list (map stmt_tree ss)))) c.as_slice.ensures.value)
+    (c.mark_stmts.ensures
+    ∙ ap (λ (ss : List Stmt). marked c.loop-q.needed (stmts_functions (stmts_of_list (map stmt_tree ss)))) c.as_slice.ensures.value)
 
 pub returns : goal.returns
 returns c =
-    procedures-done c.args.procedures.now c.loop-q.q-index c.args.needed.now c.loop-q.needed (omega (arith, c.loop-q-test.false)) c.loop-q.invariant
+    procedures-done c.args.procedures.now c.loop-q.q-index c.args.needed.now c.loop-q.needed
+    (omega (arith, c.loop-q-test.false)) c.loop-q.invariant

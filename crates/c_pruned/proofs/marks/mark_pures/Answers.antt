@@ -16,7 +16,10 @@ loop-position-preserved c =
     let among : next - 1 < length (map pure_tree pures) = omega (arith, length-map pures pure_tree) in
     record {
       long = omega (arith, kept, long);
-      marks = λ later is. needed-step later (map pure_tree pures) (length pures) (next - 1) next (pure_tree c.index-pures-position.result) c.loop-position.needed c.mark_behind.new.needed
-          step among (length-map pures pure_tree) (seen-at pure_tree pures (next - 1) c.index-pures-position.result inside c.index-pures-position.is)
+      marks = λ later is.
+          needed-step later (map pure_tree pures) (length pures) (next - 1) next
+          (pure_tree c.index-pures-position.result) c.loop-position.needed c.mark_behind.new.needed
+          step among (length-map pures pure_tree)
+          (seen-at pure_tree pures (next - 1) c.index-pures-position.result inside c.index-pures-position.is)
           (c.loop-position.invariant.marks later is) c.mark_behind.ensures;
     }

@@ -22,7 +22,9 @@ loop-position-preserved c =
       | then-needed-position+in_ok-renumbered_pure+in_ok-push w ↦
           ap (λ v. map pure_tree v.items) w.list-is ∙ ap (map pure_tree) w.in_ok-push.ensures.items
           ∙ map-append pure_tree c.loop-position.list.items (w.in_ok-renumbered_pure.field-0 ∷ [])
-          ∙ kept-yes keeps place (map pure_tree pures) made i f (pure_tree w.in_ok-renumbered_pure.field-0) among read w.if-needed-position.true c.loop-position.invariant w.in_ok-renumbered_pure.ensures
+          ∙ kept-yes keeps place (map pure_tree pures) made i f (pure_tree w.in_ok-renumbered_pure.field-0) among read
+          w.if-needed-position.true c.loop-position.invariant w.in_ok-renumbered_pure.ensures
       | else-needed-position w ↦
-          ap (λ v. map pure_tree v.items) w.list-is ∙ kept-no keeps place (map pure_tree pures) made i f among read w.if-needed-position.false c.loop-position.invariant
+          ap (λ v. map pure_tree v.items) w.list-is
+          ∙ kept-no keeps place (map pure_tree pures) made i f among read w.if-needed-position.false c.loop-position.invariant
     ]
