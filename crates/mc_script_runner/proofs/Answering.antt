@@ -38,7 +38,7 @@ both_answered (x ∷ xs) ys d e f some more = (some.0, some.1, both_answered xs 
 
 -- ---- Totals
 
-same_totals : (t u : Totals) → t.ticks ≡ u.ticks → t.steps ≡ u.steps → t.calls ≡ u.calls → t ≡ u
+pub same_totals : (t u : Totals) → t.ticks ≡ u.ticks → t.steps ≡ u.steps → t.calls ≡ u.calls → t ≡ u
 same_totals t u ticks steps calls = λ i. record { ticks = ticks i; steps = steps i; calls = calls i }
 
 added-none : (t : Totals) → t ≡ added t (totals_of [])
@@ -47,20 +47,23 @@ added-none t = same_totals t (added t (totals_of [])) (omega arith) (omega arith
 pub added-one : (t : Totals) (a : Answered) (ticks : ℕ) → ticks ≡ updates (a.call ∷ []) →
     added t (record { ticks = ticks; steps = a.cost.steps; calls = a.cost.calls }) ≡ added t (totals_of (a ∷ []))
 added-one t a ticks is =
-    same_totals (added t (record { ticks = ticks; steps = a.cost.steps; calls = a.cost.calls })) (added t (totals_of (a ∷ []))) (omega (arith, is)) (omega arith) (omega arith)
+    same_totals (added t (record { ticks = ticks; steps = a.cost.steps; calls = a.cost.calls })) (added t (totals_of (a ∷ [])))
+    (omega (arith, is)) (omega arith) (omega arith)
 
 added-twice : (t : Totals) (xs ys : List Answered) → added (added t (totals_of xs)) (totals_of ys) ≡ added t (totals_of (xs ++ ys))
 added-twice t xs ys =
     same_totals (added (added t (totals_of xs)) (totals_of ys)) (added t (totals_of (xs ++ ys)))
     (omega (arith, ap updates (calls-append xs ys), updates-append (calls_in xs) (calls_in ys)))
-    (omega (arith, sum_by-append (λ (a : Answered). a.cost.steps) xs ys)) (omega (arith, sum_by-append (λ (a : Answered). a.cost.calls) xs ys))
+    (omega (arith, sum_by-append (λ (a : Answered). a.cost.steps) xs ys))
+    (omega (arith, sum_by-append (λ (a : Answered). a.cost.calls) xs ys))
 
 -- ---- Counted answers
 
 pub none_counted : (d : DriverState) (t : Totals) → AreCounted [] d d t t
 none_counted d t = record { answered = refl; totals = added-none t }
 
-pub both_counted : (xs ys : List Answered) (d e f : DriverState) (t u v : Totals) → AreCounted xs d e t u → AreCounted ys e f u v → AreCounted (xs ++ ys) d f t v
+pub both_counted : (xs ys : List Answered) (d e f : DriverState) (t u v : Totals) → AreCounted xs d e t u → AreCounted ys e f u v →
+    AreCounted (xs ++ ys) d f t v
 both_counted xs ys d e f t u v first second = record {
   answered = both_answered xs ys d e f first.answered second.answered;
   totals = second.totals ∙ ap (λ w. added w (totals_of ys)) first.totals ∙ added-twice t xs ys;

@@ -35,12 +35,14 @@ runs_clear xs s s' none none' runs = record {
   put = all_put s.waiting s'.waiting (answers_text xs) s.put s'.put none none' runs.lines;
 }
 
-end_clear : (script : Script) (s s' : Standing) → s.waiting ≡ [] → s'.waiting ≡ [] → RunsToEnd script s s' → RanWhole script (clear s) (clear s')
+end_clear : (script : Script) (s s' : Standing) → s.waiting ≡ [] → s'.waiting ≡ [] → RunsToEnd script s s' →
+    RanWhole script (clear s) (clear s')
 end_clear script s s' none none' end =
     record { calls_only = end.calls_only; answers = end.answers; calls = end.calls; run = runs_clear end.answers s s' none none' end.runs }
 
 -- what a run from the first line on is stopped by, over what was taken of a file and what is left
-stop_clear : (fault : ScriptFault) (parts : Parts) (s s' : Standing) → s.waiting ≡ [] → (fault ≢ Out → s'.waiting ≡ []) → RunsTo fault 0 (file_script parts s.driver) s s' →
+stop_clear : (fault : ScriptFault) (parts : Parts) (s s' : Standing) → s.waiting ≡ [] → (fault ≢ Out → s'.waiting ≡ []) →
+    RunsTo fault 0 (file_script parts s.driver) s s' →
     StoppedReading fault parts (clear s) (clear s')
 stop_clear Read parts s s' none none' stop = absurd stop
 stop_clear Out parts s s' none none' stop = record {
@@ -69,13 +71,16 @@ stop_clear Memory parts s s' none none' stop = absurd stop
 abbrev Ends : Result (Unit {0}) ScriptFault → Parts → Standing → Standing → Type 0
 Ends result parts s s' = MatchResult result (λ _. RanWhole (file_script parts s.driver) s s') (λ fault. StoppedReading fault parts s s')
 
-ends_clear : (result : Result (Unit {0}) ScriptFault) (parts : Parts) (s s' : Standing) → s.waiting ≡ [] → (result ≢ Err Out → s'.waiting ≡ []) →
+ends_clear : (result : Result (Unit {0}) ScriptFault) (parts : Parts) (s s' : Standing) → s.waiting ≡ [] →
+    (result ≢ Err Out → s'.waiting ≡ []) →
     EndsLast result 0 (file_script parts s.driver) s s' → Ends result parts (clear s) (clear s')
 ends_clear (Ok value) parts s s' none none' ends = end_clear (file_script parts s.driver) s s' none (none' (λ e. cc)) ends
-ends_clear (Err fault) parts s s' none none' ends = stop_clear fault parts s s' none (λ other. none' (λ e. let same : fault ≡ Out = cc in other same)) ends
+ends_clear (Err fault) parts s s' none none' ends =
+    stop_clear fault parts s s' none (λ other. none' (λ e. let same : fault ≡ Out = cc in other same)) ends
 
 -- a last line behind whole lines, as a run over both
-both_end : (result : Result (Unit {0}) ScriptFault) (head text counts : List ℕ) (all n n' : ℕ) (s s' s'' : Standing) → RunsThrough head counts all n n' s s' →
+both_end : (result : Result (Unit {0}) ScriptFault) (head text counts : List ℕ) (all n n' : ℕ) (s s' s'' : Standing) →
+    RunsThrough head counts all n n' s s' →
     EndsLast result n' (calls_after n' counts all text) s' s'' → EndsLast result n (calls_after n counts all (head ++ text)) s s''
 both_end (Ok value) head text counts all n n' s s' s'' through ends = ends_in head text counts all n n' s s' s'' through ends
 both_end (Err fault) head text counts all n n' s s' s'' through ends = stops_in fault head text counts all n n' s s' s'' through ends
@@ -88,14 +93,16 @@ pub record Reads (counts : List ℕ) (all n : ℕ) (bytes : List ℕ) (rest rest
   pub took : rest ≡ prepend_known (head ++ bytes) rest'
   pub through : RunsThrough head counts all 0 n s s'
 
-pub reads_none : (counts : List ℕ) (all n : ℕ) (bytes : List ℕ) (rest : Option (List ℕ)) (s : Standing) → n ≡ 0 → bytes ≡ [] → Reads counts all n bytes rest rest s s
+pub reads_none : (counts : List ℕ) (all n : ℕ) (bytes : List ℕ) (rest : Option (List ℕ)) (s : Standing) → n ≡ 0 → bytes ≡ [] →
+    Reads counts all n bytes rest rest s s
 reads_none counts all n bytes rest s start none = record {
   head = [];
   took = prepend_known-none rest ∙ ap (λ b. prepend_known b rest) (sym none);
   through = subst (λ k. RunsThrough [] counts all 0 k s s) (sym start) (none_through counts all 0 s);
 }
 
-pub reads_on : (counts : List ℕ) (all n count : ℕ) (bytes bytes' : List ℕ) (rest rest' rest'' : Option (List ℕ)) (s s' : Standing) → Reads counts all n bytes rest rest' s s' →
+pub reads_on : (counts : List ℕ) (all n count : ℕ) (bytes bytes' : List ℕ) (rest rest' rest'' : Option (List ℕ)) (s s' : Standing) →
+    Reads counts all n bytes rest rest' s s' →
     ReadsOn count bytes bytes' rest' rest'' → Reads counts all n bytes' rest rest'' s s'
 reads_on counts all n count bytes bytes' rest rest' rest'' s s' so_far more = record {
   head = so_far.head;
@@ -105,13 +112,16 @@ reads_on counts all n count bytes bytes' rest rest' rest'' s s' so_far more = re
   through = so_far.through;
 }
 
-pub lines_read : (counts : List ℕ) (all n n' done : ℕ) (bytes : List ℕ) (rest rest' : Option (List ℕ)) (s s' s'' : Standing) → Reads counts all n bytes rest rest' s s' →
+pub lines_read : (counts : List ℕ) (all n n' done : ℕ) (bytes : List ℕ) (rest rest' : Option (List ℕ)) (s s' s'' : Standing) →
+    Reads counts all n bytes rest rest' s s' →
     RunsLines done bytes counts all n n' s' s'' → Reads counts all n' (drop done bytes) rest rest' s s''
 lines_read counts all n n' done bytes rest rest' s s' s'' so_far lines = record {
   head = so_far.head ++ take done bytes;
   took =
       so_far.took
-      ∙ ap (λ b. prepend_known b rest') (ap (λ b. so_far.head ++ b) (sym (take-append-drop done bytes)) ∙ sym (append_assoc so_far.head (take done bytes) (drop done bytes)));
+      ∙ ap (λ b. prepend_known b rest')
+      (ap (λ b. so_far.head ++ b) (sym (take-append-drop done bytes))
+      ∙ sym (append_assoc so_far.head (take done bytes) (drop done bytes)));
   through = both_through so_far.head (take done bytes) counts all 0 n n' s s' s'' so_far.through lines.through;
 }
 
@@ -121,13 +131,16 @@ script_is : (s : Standing) (counts text : List ℕ) → counts ≡ input_counts 
 script_is s counts text are = ap (λ c. calls_after 0 c (length (inputs_of s.driver.shape)) text) are
 
 -- the file can't be read on
-pub read_stops : (counts : List ℕ) (n : ℕ) (bytes : List ℕ) (rest rest' : Option (List ℕ)) (s s' : Standing) → counts ≡ input_counts s.driver.shape → s.waiting ≡ [] → s'.waiting ≡ [] →
-    BeginsLine bytes → Reads counts (length (inputs_of s.driver.shape)) n bytes rest rest' s s' → RunsOver (Err Read) rest rest' (clear s) (clear s')
+pub read_stops : (counts : List ℕ) (n : ℕ) (bytes : List ℕ) (rest rest' : Option (List ℕ)) (s s' : Standing) →
+    counts ≡ input_counts s.driver.shape → s.waiting ≡ [] → s'.waiting ≡ [] →
+    BeginsLine bytes → Reads counts (length (inputs_of s.driver.shape)) n bytes rest rest' s s' →
+    RunsOver (Err Read) rest rest' (clear s) (clear s')
 read_stops counts n bytes rest rest' s s' are none none' begins reads =
     let answers = reads.through.answers in
     let all = length (inputs_of s.driver.shape) in
     let whole : whole_calls_of (input_counts s.driver.shape) all (reads.head ++ bytes) ≡ record { calls = calls_in answers; bad = None } =
-    ap (λ c. whole_calls_of c all (reads.head ++ bytes)) (sym are) ∙ whole_calls_are reads.head bytes counts all (calls_in answers) reads.through.writes begins in
+    ap (λ c. whole_calls_of c all (reads.head ++ bytes)) (sym are)
+    ∙ whole_calls_are reads.head bytes counts all (calls_in answers) reads.through.writes begins in
     record {
       parts = record { taken = reads.head ++ bytes; left = left_of rest' };
       took = reads.took;
@@ -141,10 +154,12 @@ read_stops counts n bytes rest rest' s s' are none none' begins reads =
     }
 
 -- a line of a piece ends the run
-pub lines_stop : (result : Result (Unit {0}) ScriptFault) (fault : ScriptFault) (counts : List ℕ) (n : ℕ) (bytes : List ℕ) (rest rest' : Option (List ℕ)) (s s' s'' : Standing) →
+pub lines_stop : (result : Result (Unit {0}) ScriptFault) (fault : ScriptFault) (counts : List ℕ) (n : ℕ) (bytes : List ℕ)
+    (rest rest' : Option (List ℕ)) (s s' s'' : Standing) →
     result ≡ Err fault → counts ≡ input_counts s.driver.shape → s.waiting ≡ [] → (fault ≢ Out → s''.waiting ≡ []) →
     Reads counts (length (inputs_of s.driver.shape)) n bytes rest rest' s s' →
-    ((behind : List ℕ) → RunsTo fault n (calls_after n counts (length (inputs_of s.driver.shape)) (bytes ++ behind)) s' s'') → RunsOver result rest rest' (clear s) (clear s'')
+    ((behind : List ℕ) → RunsTo fault n (calls_after n counts (length (inputs_of s.driver.shape)) (bytes ++ behind)) s' s'') →
+    RunsOver result rest rest' (clear s) (clear s'')
 lines_stop result fault counts n bytes rest rest' s s' s'' is are none none' reads stop =
     let left = left_of rest' in
     let parts : Parts = record { taken = reads.head ++ bytes; left = left } in
@@ -161,10 +176,12 @@ lines_stop result fault counts n bytes rest rest' s s' s'' is are none none' rea
     })
 
 -- the last line ends the run
-pub file_ends : (result : Result (Unit {0}) ScriptFault) (counts : List ℕ) (n : ℕ) (bytes : List ℕ) (rest rest' : Option (List ℕ)) (s s' s'' : Standing) →
+pub file_ends : (result : Result (Unit {0}) ScriptFault) (counts : List ℕ) (n : ℕ) (bytes : List ℕ) (rest rest' : Option (List ℕ))
+    (s s' s'' : Standing) →
     counts ≡ input_counts s.driver.shape → s.waiting ≡ [] → (result ≢ Err Out → s''.waiting ≡ []) → IsAtEnd rest' →
     Reads counts (length (inputs_of s.driver.shape)) n bytes rest rest' s s' →
-    EndsLast result n (calls_after n counts (length (inputs_of s.driver.shape)) bytes) s' s'' → RunsOver result rest rest' (clear s) (clear s'')
+    EndsLast result n (calls_after n counts (length (inputs_of s.driver.shape)) bytes) s' s'' →
+    RunsOver result rest rest' (clear s) (clear s'')
 file_ends result counts n bytes rest rest' s s' s'' are none none' end reads last =
     let parts : Parts = record { taken = reads.head ++ bytes; left = left_of rest' } in
     let all = length (inputs_of s.driver.shape) in
@@ -188,7 +205,8 @@ nothing_read rest s = record {
   ends = (refl, refl);
 }
 
-pub never_read : (result : Result (Unit {0}) ScriptFault) (fault : ScriptFault) (n : ℕ) (script : Script) (s s' : Standing) → result ≡ Err fault → RunsTo fault n script s s' → result ≢ Err Read
+pub never_read : (result : Result (Unit {0}) ScriptFault) (fault : ScriptFault) (n : ℕ) (script : Script) (s s' : Standing) →
+    result ≡ Err fault → RunsTo fault n script s s' → result ≢ Err Read
 never_read result Read n script s s' is stop = absurd stop
 never_read result Out n script s s' is stop = λ e. cc
 never_read result (BadScript bad) n script s s' is stop = λ e. cc

@@ -5,3 +5,5 @@ pub mod OneCall
 pub mod Walks
 pub mod Files
 pub mod RightAnswers
+pub mod ScriptDrives
+pub mod FaultWords

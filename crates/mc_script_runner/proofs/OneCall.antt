@@ -33,7 +33,8 @@ pub record SaysOut (result : Result Cost DriveFault) (j : ℕ) (values out : Lis
   pub left : IfErr result (λ why. Leaves why (plan_of d j) values d d')
   pub stands : AnswersRight d (out_with j values) out d' result
 
-pub out_told : (result : Result Cost DriveFault) (j : ℕ) (values numbers out : List ℤ) (d d' : DriverState) → numbers ≡ pos j ∷ out → SaysOut result j values out d d' →
+pub out_told : (result : Result Cost DriveFault) (j : ℕ) (values numbers out : List ℤ) (d d' : DriverState) → numbers ≡ pos j ∷ out →
+    SaysOut result j values out d d' →
     MatchResult result (λ cost. IsTold j values numbers cost d d') (λ why. IsRefused why (out_with j values) d d')
 out_told (Ok cost) j values numbers out d d' front says = record {
   outputs = out;
@@ -46,7 +47,8 @@ out_told (Err why) j values numbers out d d' front says = record {
 }
 
 -- its numbers, counted
-pub told_counted : (j : ℕ) (values numbers : List ℤ) (cost : Cost) (d d' : DriverState) (t t' : Totals) → IsTold j values numbers cost d d' →
+pub told_counted : (j : ℕ) (values numbers : List ℤ) (cost : Cost) (d d' : DriverState) (t t' : Totals) →
+    IsTold j values numbers cost d d' →
     t' ≡ added t (record { ticks = 0; steps = cost.steps; calls = cost.calls }) → HasTold j values numbers d d' t t'
 told_counted j values numbers cost d d' t t' told totals =
     let a : Answered = record { call = out_with j values; outputs = told.outputs; cost = cost } in
@@ -62,7 +64,10 @@ pub record SaysUpdate (result : Result Cost DriveFault) (values : List ℤ) (d d
 
 pub update_told : (result : Result Cost DriveFault) (values : List ℤ) (d d' : DriverState) → SaysUpdate result values d d' →
     MatchResult result (λ cost. IsUpdated values cost d d') (λ why. IsRefused why (update_with values) d d')
-update_told (Ok cost) values d d' says = record { made = record { allowed = sym says.refused; nothing = refl; made = says.made }; right = says.stands }
+update_told (Ok cost) values d d' says = record {
+  made = record { allowed = sym says.refused; nothing = refl; made = says.made };
+  right = says.stands;
+}
 update_told (Err why) values d d' says = record { refused = record { cause = says.refused; leaves = says.left }; right = says.stands }
 
 pub update_counted : (values : List ℤ) (cost : Cost) (d d' : DriverState) (t t' : Totals) → IsUpdated values cost d d' →
@@ -88,7 +93,8 @@ count_within ins [] k d less = absurd (omega arith)
 count_within ins (f ∷ fs) zero d less = kept-short (λ i. has_bit f.inputs (bit_of i.port)) ins
 count_within ins (f ∷ fs) (suc k) d less = count_within ins fs k d (omega arith)
 
-pub counts_within : (counts : List ℕ) (shape : Shape) (values : List ℤ) → AreCounts counts shape → length values ≡ length (inputs_of shape) →
+pub counts_within : (counts : List ℕ) (shape : Shape) (values : List ℤ) → AreCounts counts shape →
+    length values ≡ length (inputs_of shape) →
     (k d : ℕ) → k < length counts → slice_index_or counts k d ≤ length values
 counts_within counts shape values are room = λ k d less.
     subst (λ n. slice_index_or counts k d ≤ n) (sym room)

@@ -20,7 +20,7 @@ use Rattle.mc_script_runner.specs.declared.outcome.ScriptFault.TheVariants as fa
 use Rattle.mc_script_runner.specs.Answers.{Answered, calls_in, IsMade, Answers}
 use Rattle.mc_script_runner.specs.Standings.{Standing}
 use Rattle.mc_script_runner.specs.Runs.{RunsOver as RunsOverFile}
-use Rattle.mc_script_runner.specs.Right.{IsGivenBy, AreGivenBy, AnswersAreRight, IsRightRun}
+use Rattle.mc_script_runner.specs.Right.{IsGivenBy, AreGivenBy, AreTaken, AnswersAreRight, IsRightRun}
 
 -- ---- A driver stands for the calls that it answered
 
@@ -32,9 +32,11 @@ TellsNothing (update_with values) outputs = outputs ≡ []
 -- each call told what is right behind the calls before it
 abbrev TellRight : Driven → List Call → List Answered → Type 0
 TellRight w script [] = ⊤
-TellRight w script (a ∷ answers) = Tells w script a.call a.outputs × TellsNothing a.call a.outputs × TellRight w (script ++ a.call ∷ []) answers
+TellRight w script (a ∷ answers) =
+    Tells w script a.call a.outputs × TellsNothing a.call a.outputs × TellRight w (script ++ a.call ∷ []) answers
 
-nothing_told : (call : Call) (outputs : List ℤ) (cost : Cost) (d d' : DriverState) → IsMade call outputs cost d d' → TellsNothing call outputs
+nothing_told : (call : Call) (outputs : List ℤ) (cost : Cost) (d d' : DriverState) → IsMade call outputs cost d d' →
+    TellsNothing call outputs
 nothing_told (out_with j values) outputs cost d d' made = tt
 nothing_told (update_with values) outputs cost d d' made = made.nothing
 
@@ -42,16 +44,23 @@ nothing_told (update_with values) outputs cost d d' made = made.nothing
 record StandsBehind (w : Driven) (script : List Call) (answers : List Answered) (d : DriverState) : Type 0 where
   stands : StandsFor w d (script ++ calls_in answers)
   told : TellRight w script answers
+  taken : AreTaken w script answers
 
-stands_behind : (w : Driven) (script : List Call) (answers : List Answered) (d d' : DriverState) → StandsFor w d script → Answers answers d d' → StandsBehind w script answers d'
+stands_behind : (w : Driven) (script : List Call) (answers : List Answered) (d d' : DriverState) → StandsFor w d script →
+    Answers answers d d' → StandsBehind w script answers d'
 stands_behind w script [] d d' stands none =
-    record { stands = subst (λ e. StandsFor w e (script ++ [])) (sym none) (subst (StandsFor w d) (sym (append-nil script)) stands); told = tt }
+    record {
+      stands = subst (λ e. StandsFor w e (script ++ [])) (sym none) (subst (StandsFor w d) (sym (append-nil script)) stands);
+      told = tt;
+      taken = tt;
+    }
 stands_behind w script (a ∷ answers) d d' stands some =
     let here = some.1.right w script stands in
     let more = stands_behind w (script ++ a.call ∷ []) answers some.0 d' here.stands some.2 in
     record {
       stands = subst (StandsFor w d') (append_assoc script (a.call ∷ []) (calls_in answers)) more.stands;
       told = (here.tells, nothing_told a.call a.outputs a.cost d some.0 some.1.made, more.told);
+      taken = (here.takes, more.taken);
     }
 
 -- ---- A trace that fits a script has a front that fits a front of it
@@ -88,15 +97,18 @@ module _ (w : Driven) where
   ticks-out (out_with k others ∷ script) j values = omega (arith, ticks-out script j values)
   ticks-out (update_with others ∷ script) j values = omega (arith, ticks-out script j values)
 
-  agrees_in_front : (n t : ℕ) (xs : List (List ℤ)) (script more : List Call) → t + ticks script ≤ n → AgreesFrom w.diagram w.system (functions_of w) t xs (script ++ more) →
+  agrees_in_front : (n t : ℕ) (xs : List (List ℤ)) (script more : List Call) → t + ticks script ≤ n →
+      AgreesFrom w.diagram w.system (functions_of w) t xs (script ++ more) →
       AgreesFrom w.diagram w.system (functions_of w) t (take n xs) script
   agrees_in_front n t xs [] more most agrees = tt
   agrees_in_front n t xs (out_with j values ∷ script) more most agrees = (
-    subst (λ x. HasGiven w.diagram w.system (functions_of w) x (given_by w.diagram w.system (functions_of w) (out_with j values))) (sym (row_in_front xs t n (omega arith))) agrees.0,
+    subst (λ x. HasGiven w.diagram w.system (functions_of w) x (given_by w.diagram w.system (functions_of w) (out_with j values)))
+        (sym (row_in_front xs t n (omega arith))) agrees.0,
     agrees_in_front n t xs script more (omega arith) agrees.1,
   )
   agrees_in_front n t xs (update_with values ∷ script) more most agrees = (
-    subst (λ x. HasGiven w.diagram w.system (functions_of w) x (given_by w.diagram w.system (functions_of w) (update_with values))) (sym (row_in_front xs t n (omega arith))) agrees.0,
+    subst (λ x. HasGiven w.diagram w.system (functions_of w) x (given_by w.diagram w.system (functions_of w) (update_with values)))
+        (sym (row_in_front xs t n (omega arith))) agrees.0,
     agrees_in_front n (suc t) xs script more (omega arith) agrees.1,
   )
 
@@ -116,7 +128,8 @@ module _ (w : Driven) where
         },
       )
 
-  same_outputs : OutputRestsOnNeeds → (xs : List (List ℤ)) (n : ℕ) (run other : Run) (t j : ℕ) → t < n → n ≤ length xs → IsRunOver w.diagram w.system xs run →
+  same_outputs : OutputRestsOnNeeds → (xs : List (List ℤ)) (n : ℕ) (run other : Run) (t j : ℕ) → t < n → n ≤ length xs →
+      IsRunOver w.diagram w.system xs run →
       IsRunOver w.diagram w.system (take n xs) other → outputs_in w other t j ≡ outputs_in w run t j
   same_outputs rests xs n run other t j less most is_run is_other =
       each (given_by_function (numbered_function (functions_of w) j) (outports_of w.diagram.rows w.system))
@@ -126,30 +139,38 @@ module _ (w : Driven) where
       each (o ∷ os) =
           let size : t < length (take n xs) = omega (arith, length-take n xs, less, most) in
           let same =
-          rests w.diagram w.system xs (take n xs) run other t o w.no_loop is_run is_other (omega arith) size (front_twice xs t n (omega arith))
+          rests w.diagram w.system xs (take n xs) run other t o w.no_loop is_run is_other (omega arith) size
+          (front_twice xs t n (omega arith))
           (λ p needed. ap (λ x. value_at x (column w.diagram.rows w.system p)) (sym (row_in_front xs t n less))) in
           λ i. sym same i ∷ each os i
 
-  given_whole : LoopFreeHasOneRun → OutputRestsOnNeeds → (xs : List (List ℤ)) (run : Run) (script : List Call) (answers : List Answered) → RunsOver w (script ++ calls_in answers) xs run →
+  given_whole : LoopFreeHasOneRun → OutputRestsOnNeeds → (xs : List (List ℤ)) (run : Run) (script : List Call) (answers : List Answered) →
+      RunsOver w (script ++ calls_in answers) xs run →
       TellRight w script answers → AreGivenBy w run (updates script) answers
   given_whole one_run rests xs run script [] over told = tt
   given_whole one_run rests xs run script (a ∷ answers) over told =
-      let whole : script ++ (a.call ∷ calls_in answers) ≡ (script ++ a.call ∷ []) ++ calls_in answers = sym (append_assoc script (a.call ∷ []) (calls_in answers)) in
+      let whole : script ++ (a.call ∷ calls_in answers) ≡ (script ++ a.call ∷ []) ++ calls_in answers =
+      sym (append_assoc script (a.call ∷ []) (calls_in answers)) in
       let next : RunsOver w ((script ++ a.call ∷ []) ++ calls_in answers) xs run = subst (λ s. RunsOver w s xs run) whole over in (
         given_one one_run rests xs run script a.call (calls_in answers) a.outputs next told.0 told.1,
-        subst (λ t. AreGivenBy w run t answers) (updates-one script a.call) (given_whole one_run rests xs run (script ++ a.call ∷ []) answers next told.2),
+        subst (λ t. AreGivenBy w run t answers) (updates-one script a.call)
+            (given_whole one_run rests xs run (script ++ a.call ∷ []) answers next told.2),
       )
     where
-      given_one : LoopFreeHasOneRun → OutputRestsOnNeeds → (xs : List (List ℤ)) (run : Run) (script : List Call) (call : Call) (more : List Call) (outputs : List ℤ) →
-          RunsOver w ((script ++ call ∷ []) ++ more) xs run → Tells w script call outputs → TellsNothing call outputs → IsGivenBy w run (updates script) call outputs
+      given_one : LoopFreeHasOneRun → OutputRestsOnNeeds →
+          (xs : List (List ℤ)) (run : Run) (script : List Call) (call : Call) (more : List Call) (outputs : List ℤ) →
+          RunsOver w ((script ++ call ∷ []) ++ more) xs run → Tells w script call outputs → TellsNothing call outputs →
+          IsGivenBy w run (updates script) call outputs
       given_one one_run rests xs run script (out_with j values) more outputs over tells nothing =
           let n = ticks (script ++ out_with j values ∷ []) in
           let front = front_run one_run xs run (script ++ out_with j values ∷ []) more over in
           tells (take n xs) front.0 front.1
-          ∙ same_outputs rests xs n run front.0 (updates script) j (ticks-out script j values) (omega (arith, over.fits.one_row_each, ticks-more (script ++ out_with j values ∷ []) more)) over.is_run front.1.is_run
+          ∙ same_outputs rests xs n run front.0 (updates script) j (ticks-out script j values)
+          (omega (arith, over.fits.one_row_each, ticks-more (script ++ out_with j values ∷ []) more)) over.is_run front.1.is_run
       given_one one_run rests xs run script (update_with values) more outputs over tells nothing = nothing
 
-      updates-one : (script : List Call) (call : Call) → updates (script ++ call ∷ []) ≡ number_after w.diagram w.system (functions_of w) (updates script) call
+      updates-one : (script : List Call) (call : Call) →
+          updates (script ++ call ∷ []) ≡ number_after w.diagram w.system (functions_of w) (updates script) call
       updates-one [] (out_with j values) = refl
       updates-one [] (update_with values) = refl
       updates-one (out_with k others ∷ script) (out_with j values) = updates-one script (out_with j values)
@@ -167,10 +188,12 @@ answers_right one_run rests lawful w answers d d' stands some =
       stands = behind.stands;
       given = λ xs run over. given_whole w one_run rests xs run [] answers over behind.told;
       some = record { trace = one.0; one = one.3; over = record { is_trace = one.1; fits = one.2; is_run = one.3.is_run } };
+      taken = behind.taken;
     }
 
 -- a run of a script isn't stuck
-never_stuck : (w : Driven) (result : Result (Unit {0}) ScriptFault) (rest rest' : Option (List ℕ)) (s s' : Standing) → StandsFor w s.driver [] → RunsOverFile result rest rest' s s' →
+never_stuck : (w : Driven) (result : Result (Unit {0}) ScriptFault) (rest rest' : Option (List ℕ)) (s s' : Standing) →
+    StandsFor w s.driver [] → RunsOverFile result rest rest' s s' →
     (line : ℕ) (at : Stuck) → result ≢ Err (fault.Call (record { line = line; why = drive.Stuck at }))
 never_stuck w result rest rest' s s' stands over line at is =
     let over_stuck = subst (λ r. RunsOverFile r rest rest' s s') is over in
@@ -178,7 +201,8 @@ never_stuck w result rest rest' s s' stands over line at is =
     let behind = stands_behind w [] stop.front.answers s.driver stop.before stands stop.run.answered.answered in
     stop.refuses.refused.right w (calls_in stop.front.answers) behind.stands
 
-pub right_run : AnswersAreRight → (w : Driven) (result : Result (Unit {0}) ScriptFault) (rest rest' : Option (List ℕ)) (s s' : Standing) → RunsOverFile result rest rest' s s' →
+pub right_run : AnswersAreRight → (w : Driven) (result : Result (Unit {0}) ScriptFault) (rest rest' : Option (List ℕ)) (s s' : Standing) →
+    RunsOverFile result rest rest' s s' →
     StandsFor w s.driver [] → IsRightRun w result s.driver s'.driver
 right_run law w result rest rest' s s' over stands = record {
   never_stuck = never_stuck w result rest rest' s s' stands over;

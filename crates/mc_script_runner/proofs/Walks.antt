@@ -32,7 +32,8 @@ none_through counts all count s = record {
   runs = none_run s;
 }
 
-pub both_through : (text more counts : List ℕ) (all n n' n'' : ℕ) (s s' s'' : Standing) → RunsThrough text counts all n n' s s' → RunsThrough more counts all n' n'' s' s'' →
+pub both_through : (text more counts : List ℕ) (all n n' n'' : ℕ) (s s' s'' : Standing) → RunsThrough text counts all n n' s s' →
+    RunsThrough more counts all n' n'' s' s'' →
     RunsThrough (text ++ more) counts all n n'' s s''
 both_through text more counts all n n' n'' s s' s'' first second =
     let start : n' ≡ n + length (calls_in first.answers) = first.size ∙ ap (λ k. n + k) (sym (calls-length first.answers)) in
@@ -46,7 +47,8 @@ both_through text more counts all n n' n'' s s' s'' first second =
       runs = both_run first.answers second.answers s s' s'' first.runs second.runs;
     }
 
-one_through : (text counts : List ℕ) (all n : ℕ) (call : Call) (s s' : Standing) → WritesCalls text counts all n (call ∷ []) → GoesOn call s s' →
+one_through : (text counts : List ℕ) (all n : ℕ) (call : Call) (s s' : Standing) → WritesCalls text counts all n (call ∷ []) →
+    GoesOn call s s' →
     RunsThrough text counts all n (n + 1) s s'
 one_through text counts all n call s s' writes next = record {
   answers = next.answer ∷ [];
@@ -56,21 +58,26 @@ one_through text counts all n call s s' writes next = record {
 }
 
 -- one line further in a text
-pub further : (text counts : List ℕ) (all n n' n'' at after : ℕ) (call : Call) (s s' s'' : Standing) → RunsThrough (take at text) counts all n n' s s' →
+pub further : (text counts : List ℕ) (all n n' n'' at after : ℕ) (call : Call) (s s' s'' : Standing) →
+    RunsThrough (take at text) counts all n n' s s' →
     IsNextCall text counts all n' at after call → GoesOn call s' s'' → n'' ≡ n' + 1 → RunsThrough (take after text) counts all n n'' s s''
 further text counts all n n' n'' at after call s s' s'' so_far next goes one =
     let on = next.goes_on in
     let sum : at + (after - at) ≡ after = omega (arith, on) in
-    let parts : take at text ++ take (after - at) (drop at text) ≡ take after text = sym (take-add at (after - at) text) ∙ ap (λ k. take k text) sum in
+    let parts : take at text ++ take (after - at) (drop at text) ≡ take after text =
+    sym (take-add at (after - at) text) ∙ ap (λ k. take k text) sum in
     subst (λ k. RunsThrough (take after text) counts all n k s s'') (sym one)
     (subst (λ t. RunsThrough t counts all n (n' + 1) s s'') parts
-    (both_through (take at text) (take (after - at) (drop at text)) counts all n n' (n' + 1) s s' s'' so_far (one_through (take (after - at) (drop at text)) counts all n' call s' s'' next.writes goes)))
+    (both_through (take at text) (take (after - at) (drop at text)) counts all n n' (n' + 1) s s' s'' so_far
+    (one_through (take (after - at) (drop at text)) counts all n' call s' s'' next.writes goes)))
 
 -- ---- What ends a run
 
-parts_behind : (xs ys : List Answered) (behind calls : List Call) → calls ≡ calls_in ys ++ behind → calls_in xs ++ calls ≡ calls_in (xs ++ ys) ++ behind
+parts_behind : (xs ys : List Answered) (behind calls : List Call) → calls ≡ calls_in ys ++ behind →
+    calls_in xs ++ calls ≡ calls_in (xs ++ ys) ++ behind
 parts_behind xs ys behind calls parts =
-    ap (λ cs. calls_in xs ++ cs) parts ∙ sym (append_assoc (calls_in xs) (calls_in ys) behind) ∙ ap (λ cs. cs ++ behind) (sym (calls-append xs ys))
+    ap (λ cs. calls_in xs ++ cs) parts ∙ sym (append_assoc (calls_in xs) (calls_in ys) behind)
+    ∙ ap (λ cs. cs ++ behind) (sym (calls-append xs ys))
 
 -- behind some calls
 stops_behind : (fault : ScriptFault) (n : ℕ) (script : Script) (xs : List Answered) (s s' s'' : Standing) → Runs xs s s' →
@@ -106,7 +113,8 @@ stops_behind (Refused refused) n script xs s s' s'' runs stop = record {
 }
 stops_behind Memory n script xs s s' s'' runs stop = absurd stop
 
-ends_behind : (script : Script) (xs : List Answered) (s s' s'' : Standing) → Runs xs s s' → RunsToEnd script s' s'' → RunsToEnd (with_calls (calls_in xs) script) s s''
+ends_behind : (script : Script) (xs : List Answered) (s s' s'' : Standing) → Runs xs s s' → RunsToEnd script s' s'' →
+    RunsToEnd (with_calls (calls_in xs) script) s s''
 ends_behind script xs s s' s'' runs end = record {
   calls_only = end.calls_only;
   answers = xs ++ end.answers;
@@ -118,10 +126,12 @@ ends_behind script xs s s' s'' runs end = record {
 calls_behind_text : (head text counts : List ℕ) (all n n' : ℕ) (s s' : Standing) (through : RunsThrough head counts all n n' s s') →
     with_calls (calls_in through.answers) (calls_after n' counts all text) ≡ calls_after n counts all (head ++ text)
 calls_behind_text head text counts all n n' s s' through =
-    ap (λ k. with_calls (calls_in through.answers) (calls_after k counts all text)) (through.size ∙ ap (λ k. n + k) (sym (calls-length through.answers)))
+    ap (λ k. with_calls (calls_in through.answers) (calls_after k counts all text))
+    (through.size ∙ ap (λ k. n + k) (sym (calls-length through.answers)))
     ∙ sym (through.writes.every text)
 
-pub stops_in : (fault : ScriptFault) (head text counts : List ℕ) (all n n' : ℕ) (s s' s'' : Standing) → RunsThrough head counts all n n' s s' →
+pub stops_in : (fault : ScriptFault) (head text counts : List ℕ) (all n n' : ℕ) (s s' s'' : Standing) →
+    RunsThrough head counts all n n' s s' →
     RunsTo fault n' (calls_after n' counts all text) s' s'' → RunsTo fault n (calls_after n counts all (head ++ text)) s s''
 stops_in fault head text counts all n n' s s' s'' through stop =
     subst (λ t. RunsTo fault n t s s'') (calls_behind_text head text counts all n n' s s' through)
@@ -144,7 +154,8 @@ bad_stop bad script s is = record {
 }
 
 -- a first call that ends the run
-call_stop : (fault : ScriptFault) (n : ℕ) (call : Call) (rest script : Script) (s s' : Standing) → script ≡ with_calls (call ∷ []) rest → StopsOn fault n call s s' → RunsTo fault n script s s'
+call_stop : (fault : ScriptFault) (n : ℕ) (call : Call) (rest script : Script) (s s' : Standing) → script ≡ with_calls (call ∷ []) rest →
+    StopsOn fault n call s s' → RunsTo fault n script s s'
 call_stop Read n call rest script s s' is stop = absurd stop
 call_stop Out n call rest script s s' is stop = record {
   front = record {
@@ -168,7 +179,8 @@ call_stop (Refused refused) n call rest script s s' is stop = record {
   where
     still : (s s' : Standing) → s'.totals ≡ s.totals → s'.put ≡ s.put → s'.waiting ≡ s.waiting → Runs [] s (record s' { driver = s.driver })
     still s s' totals put waiting =
-        let same : s ≡ record s' { driver = s.driver } = λ i. record { driver = s.driver; totals = sym totals i; put = sym put i; waiting = sym waiting i } in
+        let same : s ≡ record s' { driver = s.driver } = λ i.
+        record { driver = s.driver; totals = sym totals i; put = sym put i; waiting = sym waiting i } in
         subst (Runs [] s) same (none_run s)
 call_stop Memory n call rest script s s' is stop = absurd stop
 
@@ -177,20 +189,24 @@ call_stop Memory n call rest script s s' is stop = absurd stop
 parted : (text behind : List ℕ) (at : ℕ) → take at text ++ (drop at text ++ behind) ≡ text ++ behind
 parted text behind at = sym (append_assoc (take at text) (drop at text) behind) ∙ ap (λ t. t ++ behind) (take-append-drop at text)
 
-pub bad_in : (bad : BadCall) (text behind counts : List ℕ) (all n n' at : ℕ) (s s' : Standing) → RunsThrough (take at text) counts all n n' s s' →
+pub bad_in : (bad : BadCall) (text behind counts : List ℕ) (all n n' at : ℕ) (s s' : Standing) →
+    RunsThrough (take at text) counts all n n' s s' →
     BeginsBadly bad (drop at text) counts all n' → RunsTo (BadScript bad) n (calls_after n counts all (text ++ behind)) s s'
 bad_in bad text behind counts all n n' at s s' through begins =
     subst (λ t. RunsTo (BadScript bad) n (calls_after n counts all t) s s') (parted text behind at)
     (stops_in (BadScript bad) (take at text) (drop at text ++ behind) counts all n n' s s' s' through (bad_stop bad _ s' (begins behind)))
 
-pub call_in : (fault : ScriptFault) (text behind counts : List ℕ) (all n n' at after : ℕ) (call : Call) (s s' s'' : Standing) → RunsThrough (take at text) counts all n n' s s' →
-    IsNextCall text counts all n' at after call → StopsOn fault n' call s' s'' → RunsTo fault n (calls_after n counts all (text ++ behind)) s s''
+pub call_in : (fault : ScriptFault) (text behind counts : List ℕ) (all n n' at after : ℕ) (call : Call) (s s' s'' : Standing) →
+    RunsThrough (take at text) counts all n n' s s' →
+    IsNextCall text counts all n' at after call → StopsOn fault n' call s' s'' →
+    RunsTo fault n (calls_after n counts all (text ++ behind)) s s''
 call_in fault text behind counts all n n' at after call s s' s'' through next stop =
     let rest = drop (after - at) (drop at text) ++ behind in
     let whole : calls_after n' counts all (drop at text ++ behind) ≡ with_calls (call ∷ []) (calls_after (n' + 1) counts all rest) =
     ap (calls_after n' counts all) (sym (parted (drop at text) behind (after - at))) ∙ next.writes.every rest in
     subst (λ t. RunsTo fault n (calls_after n counts all t) s s'') (parted text behind at)
-    (stops_in fault (take at text) (drop at text ++ behind) counts all n n' s s' s'' through (call_stop fault n' call (calls_after (n' + 1) counts all rest) _ s' s'' whole stop))
+    (stops_in fault (take at text) (drop at text ++ behind) counts all n n' s s' s'' through
+    (call_stop fault n' call (calls_after (n' + 1) counts all rest) _ s' s'' whole stop))
 
 -- ---- A last line
 
@@ -206,7 +222,8 @@ nothing_last script s is = record {
 abbrev pub EndsLast : Result (Unit {0}) ScriptFault → ℕ → Script → (s s' : Standing) → Type 0
 EndsLast ran n script s s' = MatchResult ran (λ _. RunsToEnd script s s') (λ fault. RunsTo fault n script s s')
 
-pub call_last : (text counts : List ℕ) (all n : ℕ) (call : Call) (s s' : Standing) (result : Result (Unit {0}) ScriptFault) → IsLastCall text counts all n call →
+pub call_last : (text counts : List ℕ) (all n : ℕ) (call : Call) (s s' : Standing) (result : Result (Unit {0}) ScriptFault) →
+    IsLastCall text counts all n call →
     MatchResult result (λ _. GoesOn call s s') (λ fault. StopsOn fault n call s s') → EndsLast result n (calls_after n counts all text) s s'
 call_last text counts all n call s s' (Ok value) last next = record {
   calls_only = ap (λ (t : Script). t.bad) last.calls;
@@ -223,14 +240,16 @@ call_last text counts all n call s s' (Err fault) last stop =
 abbrev pub put_at : Standing → Option (List ℕ) → List ℕ → Standing
 put_at s put waiting = record { driver = s.driver; totals = s.totals; put = put; waiting = waiting }
 
-flushed_runs : (xs : List Answered) (s s' : Standing) (put : Option (List ℕ)) (waiting : List ℕ) → put ≡ append_known s'.put s'.waiting → waiting ≡ [] → Runs xs s s' →
+flushed_runs : (xs : List Answered) (s s' : Standing) (put : Option (List ℕ)) (waiting : List ℕ) → put ≡ append_known s'.put s'.waiting →
+    waiting ≡ [] → Runs xs s s' →
     Runs xs s (put_at s' put waiting)
 flushed_runs xs s s' put waiting is none runs = record {
   answered = record { answered = runs.answered.answered; totals = runs.answered.totals };
   lines = flushed s.waiting s'.waiting waiting (answers_text xs) s.put s'.put put runs.lines is none;
 }
 
-flushed_stop : (fault : ScriptFault) (n : ℕ) (script : Script) (s s' : Standing) (put : Option (List ℕ)) (waiting : List ℕ) → put ≡ append_known s'.put s'.waiting → waiting ≡ [] →
+flushed_stop : (fault : ScriptFault) (n : ℕ) (script : Script) (s s' : Standing) (put : Option (List ℕ)) (waiting : List ℕ) →
+    put ≡ append_known s'.put s'.waiting → waiting ≡ [] →
     fault ≢ Out → RunsTo fault n script s s' → RunsTo fault n script s (put_at s' put waiting)
 flushed_stop Read n script s s' put waiting is none other stop = absurd stop
 flushed_stop Out n script s s' put waiting is none other stop = absurd (other refl)
@@ -250,8 +269,10 @@ flushed_stop (Refused refused) n script s s' put waiting is none other stop = re
 flushed_stop Memory n script s s' put waiting is none other stop = absurd stop
 
 -- a front of what waited was put, behind calls that end a script or are followed by these
-cut_runs : (xs : List Answered) (script : Script) (behind : List Call) (before : DriverState) (s s' : Standing) (put : Option (List ℕ)) (waiting : List ℕ) →
-    script.calls ≡ calls_in xs ++ behind → RefusesOrNot behind before s'.driver → PutsFront s'.put put s'.waiting → Runs xs s (record s' { driver = before }) →
+cut_runs : (xs : List Answered) (script : Script) (behind : List Call) (before : DriverState) (s s' : Standing) (put : Option (List ℕ))
+    (waiting : List ℕ) →
+    script.calls ≡ calls_in xs ++ behind → RefusesOrNot behind before s'.driver → PutsFront s'.put put s'.waiting →
+    Runs xs s (record s' { driver = before }) →
     RunsToOut script s (put_at s' put waiting)
 cut_runs xs script behind before s s' put waiting parts last front runs = record {
   front = record { answers = xs; behind = behind; parts = parts };
@@ -261,26 +282,32 @@ cut_runs xs script behind before s s' put waiting parts last front runs = record
   put = cut s.waiting s'.waiting (answers_text xs) s.put s'.put put runs.lines front;
 }
 
-cut_stop : (fault : ScriptFault) (n : ℕ) (script : Script) (s s' : Standing) (put : Option (List ℕ)) (waiting : List ℕ) → PutsFront s'.put put s'.waiting → fault ≢ Out →
+cut_stop : (fault : ScriptFault) (n : ℕ) (script : Script) (s s' : Standing) (put : Option (List ℕ)) (waiting : List ℕ) →
+    PutsFront s'.put put s'.waiting → fault ≢ Out →
     RunsTo fault n script s s' → RunsToOut script s (put_at s' put waiting)
 cut_stop Read n script s s' put waiting front other stop = absurd stop
 cut_stop Out n script s s' put waiting front other stop = absurd (other refl)
 cut_stop (BadScript bad) n script s s' put waiting front other stop =
-    cut_runs stop.answers script [] s'.driver s s' put waiting (stop.calls ∙ sym (append-nil (calls_in stop.answers))) (inl refl) front stop.runs
+    cut_runs stop.answers script [] s'.driver s s' put waiting (stop.calls ∙ sym (append-nil (calls_in stop.answers)))
+    (inl refl) front stop.runs
 cut_stop (Refused refused) n script s s' put waiting front other stop =
-    cut_runs stop.front.answers script stop.front.behind stop.before s s' put waiting stop.front.parts (inr (refused.why, stop.refuses)) front stop.runs
+    cut_runs stop.front.answers script stop.front.behind stop.before s s' put waiting stop.front.parts
+    (inr (refused.why, stop.refuses)) front stop.runs
 cut_stop Memory n script s s' put waiting front other stop = absurd stop
 
 -- how the whole lines of a text end, whatever follows it
 abbrev pub EndsLines : Result ℕ ScriptFault → (text counts : List ℕ) (all n n' : ℕ) (s s' : Standing) → Type 0
 EndsLines ran text counts all n n' s s' =
-    MatchResult ran (λ done. RunsLines done text counts all n n' s s') (λ fault. (behind : List ℕ) → RunsTo fault n (calls_after n counts all (text ++ behind)) s s')
+    MatchResult ran (λ done. RunsLines done text counts all n n' s s')
+    (λ fault. (behind : List ℕ) → RunsTo fault n (calls_after n counts all (text ++ behind)) s s')
 
 other_fault : (T : Type 0) (fault : ScriptFault) → (let failed : Result T ScriptFault = Err fault in failed ≢ Err Out) → fault ≢ Out
 other_fault T fault other is = other (ap (λ f. Err f) is)
 
-pub lines_flushed : (ran : Result ℕ ScriptFault) (text counts : List ℕ) (all n n' : ℕ) (s s' : Standing) (put : Option (List ℕ)) (waiting : List ℕ) →
-    put ≡ append_known s'.put s'.waiting → waiting ≡ [] → ran ≢ Err Out → EndsLines ran text counts all n n' s s' → EndsLines ran text counts all n n' s (put_at s' put waiting)
+pub lines_flushed : (ran : Result ℕ ScriptFault) (text counts : List ℕ) (all n n' : ℕ) (s s' : Standing) (put : Option (List ℕ))
+    (waiting : List ℕ) →
+    put ≡ append_known s'.put s'.waiting → waiting ≡ [] → ran ≢ Err Out → EndsLines ran text counts all n n' s s' →
+    EndsLines ran text counts all n n' s (put_at s' put waiting)
 lines_flushed (Ok done) text counts all n n' s s' put waiting is none other ends = record {
   within = ends.within;
   through = record {
@@ -295,19 +322,24 @@ lines_flushed (Ok done) text counts all n n' s s' put waiting is none other ends
 lines_flushed (Err fault) text counts all n n' s s' put waiting is none other ends = λ behind.
     flushed_stop fault n (calls_after n counts all (text ++ behind)) s s' put waiting is none (other_fault ℕ fault other) (ends behind)
 
-pub lines_cut : (ran : Result ℕ ScriptFault) (text behind counts : List ℕ) (all n n' : ℕ) (s s' : Standing) (put : Option (List ℕ)) (waiting : List ℕ) →
-    PutsFront s'.put put s'.waiting → ran ≢ Err Out → EndsLines ran text counts all n n' s s' → RunsToOut (calls_after n counts all (text ++ behind)) s (put_at s' put waiting)
+pub lines_cut : (ran : Result ℕ ScriptFault) (text behind counts : List ℕ) (all n n' : ℕ) (s s' : Standing) (put : Option (List ℕ))
+    (waiting : List ℕ) →
+    PutsFront s'.put put s'.waiting → ran ≢ Err Out → EndsLines ran text counts all n n' s s' →
+    RunsToOut (calls_after n counts all (text ++ behind)) s (put_at s' put waiting)
 lines_cut (Ok done) text behind counts all n n' s s' put waiting front other ends =
     let answers = ends.through.answers in
     let rest = calls_after (n + length (calls_in answers)) counts all (drop done text ++ behind) in
     cut_runs answers (calls_after n counts all (text ++ behind)) rest.calls s'.driver s s' put waiting
-    (ap (λ t. (calls_after n counts all t).calls) (sym (parted text behind done)) ∙ ap (λ (t : Script). t.calls) (ends.through.writes.every (drop done text ++ behind)))
+    (ap (λ t. (calls_after n counts all t).calls) (sym (parted text behind done))
+    ∙ ap (λ (t : Script). t.calls) (ends.through.writes.every (drop done text ++ behind)))
     (inl refl) front ends.through.runs
 lines_cut (Err fault) text behind counts all n n' s s' put waiting front other ends =
     cut_stop fault n (calls_after n counts all (text ++ behind)) s s' put waiting front (other_fault ℕ fault other) (ends behind)
 
-pub last_flushed : (ran : Result (Unit {0}) ScriptFault) (n : ℕ) (script : Script) (s s' : Standing) (put : Option (List ℕ)) (waiting : List ℕ) →
-    put ≡ append_known s'.put s'.waiting → waiting ≡ [] → ran ≢ Err Out → EndsLast ran n script s s' → EndsLast ran n script s (put_at s' put waiting)
+pub last_flushed : (ran : Result (Unit {0}) ScriptFault) (n : ℕ) (script : Script) (s s' : Standing) (put : Option (List ℕ))
+    (waiting : List ℕ) →
+    put ≡ append_known s'.put s'.waiting → waiting ≡ [] → ran ≢ Err Out → EndsLast ran n script s s' →
+    EndsLast ran n script s (put_at s' put waiting)
 last_flushed (Ok value) n script s s' put waiting is none other ends = record {
   calls_only = ends.calls_only;
   answers = ends.answers;
@@ -317,47 +349,60 @@ last_flushed (Ok value) n script s s' put waiting is none other ends = record {
 last_flushed (Err fault) n script s s' put waiting is none other ends =
     flushed_stop fault n script s s' put waiting is none (other_fault (Unit {0}) fault other) ends
 
-pub last_cut : (ran : Result (Unit {0}) ScriptFault) (n : ℕ) (script : Script) (s s' : Standing) (put : Option (List ℕ)) (waiting : List ℕ) →
+pub last_cut : (ran : Result (Unit {0}) ScriptFault) (n : ℕ) (script : Script) (s s' : Standing) (put : Option (List ℕ))
+    (waiting : List ℕ) →
     PutsFront s'.put put s'.waiting → ran ≢ Err Out → EndsLast ran n script s s' → RunsToOut script s (put_at s' put waiting)
 last_cut (Ok value) n script s s' put waiting front other ends =
-    cut_runs ends.answers script [] s'.driver s s' put waiting (ends.calls ∙ sym (append-nil (calls_in ends.answers))) (inl refl) front ends.runs
-last_cut (Err fault) n script s s' put waiting front other ends = cut_stop fault n script s s' put waiting front (other_fault (Unit {0}) fault other) ends
+    cut_runs ends.answers script [] s'.driver s s' put waiting (ends.calls ∙ sym (append-nil (calls_in ends.answers)))
+    (inl refl) front ends.runs
+last_cut (Err fault) n script s s' put waiting front other ends =
+    cut_stop fault n script s s' put waiting front (other_fault (Unit {0}) fault other) ends
 
 -- a result that hands a fault on
 pub handed : (ran : Result ℕ ScriptFault) (fault : ScriptFault) (text counts : List ℕ) (all n n' : ℕ) (s s' : Standing) → ran ≡ Err fault →
     ((behind : List ℕ) → RunsTo fault n (calls_after n counts all (text ++ behind)) s s') → EndsLines ran text counts all n n' s s'
-handed ran fault text counts all n n' s s' is stop = subst (λ (r : Result ℕ ScriptFault). EndsLines r text counts all n n' s s') (sym is) stop
+handed ran fault text counts all n n' s s' is stop =
+    subst (λ (r : Result ℕ ScriptFault). EndsLines r text counts all n n' s s') (sym is) stop
 
 -- ---- A call that was read into its room
 
 -- the run stands where it stood
-pub same_place : (driver : DriverState) (run run' : Run) (put : Option (List ℕ)) → IsFilled run run' → inside driver run put ≡ inside driver run' put
-same_place driver run run' put filled = λ i. record { driver = driver; totals = sym filled.totals i; put = put; waiting = sym filled.lines i }
+pub same_place : (driver : DriverState) (run run' : Run) (put : Option (List ℕ)) → IsFilled run run' →
+    inside driver run put ≡ inside driver run' put
+same_place driver run run' put filled = λ i.
+    record { driver = driver; totals = sym filled.totals i; put = put; waiting = sym filled.lines i }
 
 -- ---- A last line that was read
 
-pub last_answered : (text counts : List ℕ) (all : ℕ) (call : Call) (driver : DriverState) (run run' : Run) (put : Option (List ℕ)) (s' : Standing) (result : Result (Unit {0}) ScriptFault) →
+pub last_answered : (text counts : List ℕ) (all : ℕ) (call : Call) (driver : DriverState) (run run' : Run) (put : Option (List ℕ))
+    (s' : Standing) (result : Result (Unit {0}) ScriptFault) →
     IsFilled run run' → IsLastCall text counts all run.done call →
     MatchResult result (λ _. GoesOn call (inside driver run' put) s') (λ fault. StopsOn fault run'.done call (inside driver run' put) s') →
     EndsLast result run.done (calls_after run.done counts all text) (inside driver run put) s'
 last_answered text counts all call driver run run' put s' result filled last next =
     subst (λ s. EndsLast result run.done (calls_after run.done counts all text) s s') (sym (same_place driver run run' put filled))
     (subst (λ n. EndsLast result n (calls_after n counts all text) (inside driver run' put) s') filled.done
-    (call_last text counts all run'.done call (inside driver run' put) s' result (subst (λ n. IsLastCall text counts all n call) (sym filled.done) last) next))
+    (call_last text counts all run'.done call (inside driver run' put) s' result
+    (subst (λ n. IsLastCall text counts all n call) (sym filled.done) last) next))
 
-pub last_none : (script : Script) (driver : DriverState) (run run' : Run) (put : Option (List ℕ)) → IsFilled run run' → script ≡ record { calls = []; bad = None } →
+pub last_none : (script : Script) (driver : DriverState) (run run' : Run) (put : Option (List ℕ)) → IsFilled run run' →
+    script ≡ record { calls = []; bad = None } →
     RunsToEnd script (inside driver run put) (inside driver run' put)
 last_none script driver run run' put filled is =
-    subst (RunsToEnd script (inside driver run put)) (same_place driver run run' put filled) (nothing_last script (inside driver run put) is)
+    subst (RunsToEnd script (inside driver run put)) (same_place driver run run' put filled)
+    (nothing_last script (inside driver run put) is)
 
-pub last_bad : (bad : BadCall) (script : Script) (driver : DriverState) (run run' : Run) (put : Option (List ℕ)) → IsFilled run run' → script ≡ record { calls = []; bad = Some bad } →
+pub last_bad : (bad : BadCall) (script : Script) (driver : DriverState) (run run' : Run) (put : Option (List ℕ)) → IsFilled run run' →
+    script ≡ record { calls = []; bad = Some bad } →
     RunsToLine bad script (inside driver run put) (inside driver run' put)
 last_bad bad script driver run run' put filled is =
-    subst (RunsToLine bad script (inside driver run put)) (same_place driver run run' put filled) (bad_stop bad script (inside driver run put) is)
+    subst (RunsToLine bad script (inside driver run put)) (same_place driver run run' put filled)
+    (bad_stop bad script (inside driver run put) is)
 
 -- ---- A whole line that was read
 
-pub through_filled : (text counts : List ℕ) (all n : ℕ) (driver : DriverState) (run run' : Run) (put : Option (List ℕ)) (s : Standing) → IsFilled run run' →
+pub through_filled : (text counts : List ℕ) (all n : ℕ) (driver : DriverState) (run run' : Run) (put : Option (List ℕ)) (s : Standing) →
+    IsFilled run run' →
     RunsThrough text counts all n run.done s (inside driver run put) → RunsThrough text counts all n run'.done s (inside driver run' put)
 through_filled text counts all n driver run run' put s filled through =
     subst (RunsThrough text counts all n run'.done s) (same_place driver run run' put filled)
@@ -366,7 +411,8 @@ through_filled text counts all n driver run run' put s filled through =
 pub next_filled : (text counts : List ℕ) (room all at after : ℕ) (call : Call) (run run' : Run) → room ≡ all → IsFilled run run' →
     IsNextCall text counts room run.done at after call → IsNextCall text counts all run'.done at after call
 next_filled text counts room all at after call run run' same filled next =
-    subst (λ k. IsNextCall text counts all k at after call) (sym filled.done) (subst (λ k. IsNextCall text counts k run.done at after call) same next)
+    subst (λ k. IsNextCall text counts all k at after call) (sym filled.done)
+    (subst (λ k. IsNextCall text counts k run.done at after call) same next)
 
 pub bad_filled : (bad : BadCall) (text counts : List ℕ) (room all : ℕ) (run run' : Run) → room ≡ all → IsFilled run run' →
     BeginsBadly bad text counts room run.done → BeginsBadly bad text counts all run'.done

@@ -21,7 +21,8 @@ calls_in answers = map (λ a. a.call) answers
 -- ---- One call
 
 -- a call of function j isn't refused, and was made
-pub record OutMade (j : ℕ) (values outputs : List ℤ) (cost : Cost) (d d' : DriverState) : Type 0 where
+pub record OutMade (j : ℕ) (values outputs : List ℤ) (cost : Cost)
+    (d d' : DriverState) : Type 0 where
   pub allowed : call_fault d j values ≡ None
   pub made : IsCallOf j values outputs cost d d'
 
@@ -41,7 +42,8 @@ pub record IsAnswer (a : Answered) (d d' : DriverState) : Type 0 where
   pub right : AnswersRight d a.call a.outputs d' (Ok a.cost)
 
 -- a call of function j is refused for this, or the machine is stuck in it
-pub record OutRefused (j : ℕ) (values : List ℤ) (why : DriveFault) (d d' : DriverState) : Type 0 where
+pub record OutRefused (j : ℕ) (values : List ℤ) (why : DriveFault)
+    (d d' : DriverState) : Type 0 where
   pub cause : fault_unless_stuck why ≡ call_fault d j values
   pub leaves : Leaves why (plan_of d j) values d d'
 

@@ -17,9 +17,22 @@ no-outputs = refl
 -- two calls and the update of a system whose outputs are its inputs
 crossed_calls : List Answered
 crossed_calls =
-    record { call = out_with 2 (pos 9 ∷ []); outputs = pos 9 ∷ []; cost = record { steps = 2; calls = 1 } }
-    ∷ record { call = out_with 1 (pos 4 ∷ []); outputs = pos 4 ∷ []; cost = record { steps = 2; calls = 1 } }
-    ∷ record { call = update_with (pos 4 ∷ pos 9 ∷ []); outputs = []; cost = record { steps = 0; calls = 1 } } ∷ []
+    record {
+      call = out_with 2 (pos 9 ∷ []);
+      outputs = pos 9 ∷ [];
+      cost = record { steps = 2; calls = 1 };
+    }
+    ∷ record {
+      call = out_with 1 (pos 4 ∷ []);
+      outputs = pos 4 ∷ [];
+      cost = record { steps = 2; calls = 1 };
+    }
+    ∷ record {
+      call = update_with (pos 4 ∷ pos 9 ∷ []);
+      outputs = [];
+      cost = record { steps = 0; calls = 1 };
+    }
+    ∷ []
 
 crossed-text : answers_text crossed_calls ≡ codes "out 2 9\nout 1 4\n"
 unfolding crossed_calls digits

@@ -3,5 +3,9 @@ pub mod Answers
 pub mod Standings
 pub mod Runs
 pub mod Right
+pub mod ScriptEnds
+pub mod Drives
+pub mod FaultTexts
 pub mod Walks
 pub mod Examples
+pub mod ScriptEndExamples

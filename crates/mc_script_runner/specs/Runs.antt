@@ -47,7 +47,8 @@ pub record StoppedByCall (refused : RefusedCall) (script : Script) (s s' : Stand
 abbrev pub RefusesOrNot : List Call → DriverState → DriverState → Type 0
 RefusesOrNot calls d d' = (d' ≡ d) ⊎ ((why : DriveFault) × RefusesFirst why calls d d')
 
--- some first calls were answered, the one behind them may have been refused, and a front of their lines was put
+-- some first calls were answered, the one behind them may have been refused, and a front of their
+-- lines was put
 pub record StoppedByOut (script : Script) (s s' : Standing) : Type 0 where
   pub front : Front script
   pub before : DriverState
@@ -64,18 +65,22 @@ file_script parts d = script_for d (parts.taken ++ parts.left)
 abbrev pub taken_script : Parts → DriverState → Script
 taken_script parts d = whole_script_for d parts.taken
 
--- What a run is stopped by. Where the file can't be read on, each whole line among what was taken is a call that was answered
--- and whose line was put. Memory is taken before the first byte.
+-- What a run is stopped by. Where the file can't be read on, each whole line among what was taken
+-- is a call that was answered and whose line was put. Memory is taken before the first byte.
 abbrev pub StoppedReading : ScriptFault → Parts → Standing → Standing → Type 0
 StoppedReading fault.Read parts s s' = RanWhole (taken_script parts s.driver) s s'
 StoppedReading fault.Out parts s s' = StoppedByOut (file_script parts s.driver) s s'
 StoppedReading (fault.Line bad) parts s s' = StoppedAtLine bad (file_script parts s.driver) s s'
-StoppedReading (fault.Call refused) parts s s' = StoppedByCall refused (file_script parts s.driver) s s'
+StoppedReading (fault.Call refused) parts s s' =
+    StoppedByCall refused (file_script parts s.driver) s s'
 StoppedReading fault.Memory parts s s' = (s' ≡ s) × (parts.taken ≡ [])
 
--- it was a run over a file that is told to be such where the host tells it: what was taken of it in the call, and what is left
-pub record RunsOver (result : Result (Unit {0}) ScriptFault) (rest rest' : Option (List ℕ)) (s s' : Standing) : Type 0 where
+-- it was a run over a file that is told to be such where the host tells it: what was taken of it in
+-- the call, and what is left
+pub record RunsOver (result : Result (Unit {0}) ScriptFault) (rest rest' : Option (List ℕ))
+    (s s' : Standing) : Type 0 where
   pub parts : Parts
   pub took : rest ≡ prepend_known parts.taken rest'
   pub left : IfSome rest' (λ told. told ≡ parts.left)
-  pub ends : MatchResult result (λ _. RanWhole (file_script parts s.driver) s s') (λ fault. StoppedReading fault parts s s')
+  pub ends : MatchResult result (λ _. RanWhole (file_script parts s.driver) s s')
+      (λ fault. StoppedReading fault parts s s')

@@ -13,7 +13,8 @@ use Rattle.mc_script.specs.Scripts.{Script, calls_of, whole_calls_of}
 use Rattle.mc_script_runner.specs.Answers.{Answered, calls_in, Answers}
 use Rattle.mc_script_runner.specs.Texts.{answers_text}
 
--- a driver, what its calls took so far, what was put, where the sink tells it, and the lines that wait to be put
+-- a driver, what its calls took so far, what was put, where the sink tells it, and the lines that
+-- wait to be put
 pub record Standing : Type 0 where
   pub driver : DriverState
   pub totals : Totals

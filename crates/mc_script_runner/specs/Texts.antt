@@ -5,7 +5,8 @@ use Rattle.mc_base.specs.Bytes.{line_of_words}
 use Rattle.c_right.specs.Scripts.{Call, out_with, update_with}
 use Rattle.mc_script_runner.specs.Answers.{Answered}
 
--- the line of a call of function j that told these outputs: `out`, j and the outputs, with a space between each two
+-- the line of a call of function j that told these outputs: `out`, j and the outputs, with a space
+-- between each two
 abbrev pub out_line : ℕ → List ℤ → List ℕ
 out_line j outputs = line_of_words (codes "out" ∷ map signed_decimal (pos j ∷ outputs))
 

@@ -23,7 +23,12 @@ use Rattle.mc_script_runner.specs.Runs.{Front, RefusesOrNot}
 
 -- where a run stands, with the lines that wait in it
 abbrev pub inside : DriverState → Run → Option (List ℕ) → Standing
-inside driver run put = record { driver = driver; totals = run.totals; put = put; waiting = run.lines }
+inside driver run put = record {
+  driver = driver;
+  totals = run.totals;
+  put = put;
+  waiting = run.lines;
+}
 
 -- no call took more than 2 ^ 32 steps, nor more than one call besides a call for each step
 pub record StaysWithin (count : ℕ) (t : Totals) : Type 0 where
@@ -36,7 +41,8 @@ pub record AreCounts (counts : List ℕ) (shape : Shape) : Type 0 where
   pub are : counts ≡ input_counts shape
   pub few : length counts < 2 ^ 32
 
--- there is room for the values of a call and for what it tells, and the totals are no more than those of a script
+-- there is room for the values of a call and for what it tells, and the totals are no more than
+-- those of a script
 pub record HasRoom (run : Run) (shape : Shape) : Type 0 where
   pub values : length run.values.items ≡ length (inputs_of shape)
   pub numbers : length run.numbers.items ≡ length shape.outputs + 1
@@ -58,13 +64,16 @@ abbrev pub IsCallFor : Shape → Call → Type 0
 IsCallFor shape call = HasItsValues (input_counts shape) (length (inputs_of shape)) call
 
 -- a call of function j was answered, and these numbers are its own and those that it told
-pub record IsTold (j : ℕ) (values numbers : List ℤ) (cost : Cost) (d d' : DriverState) : Type 0 where
+pub record IsTold (j : ℕ) (values numbers : List ℤ) (cost : Cost)
+    (d d' : DriverState) : Type 0 where
   pub outputs : List ℤ
   pub told : numbers ≡ pos j ∷ outputs
   pub answer : IsAnswer (record { call = out_with j values; outputs = outputs; cost = cost }) d d'
 
--- a call of function j was answered and counted, and these numbers are its own and those that it told
-pub record HasTold (j : ℕ) (values numbers : List ℤ) (d d' : DriverState) (t t' : Totals) : Type 0 where
+-- a call of function j was answered and counted, and these numbers are its own and those that it
+-- told
+pub record HasTold (j : ℕ) (values numbers : List ℤ) (d d' : DriverState)
+    (t t' : Totals) : Type 0 where
   pub answer : Answered
   pub of_call : answer.call ≡ out_with j values
   pub told : numbers ≡ pos j ∷ answer.outputs
@@ -72,15 +81,18 @@ pub record HasTold (j : ℕ) (values numbers : List ℤ) (d d' : DriverState) (t
 
 -- an update was answered
 abbrev pub IsUpdated : List ℤ → Cost → DriverState → DriverState → Type 0
-IsUpdated values cost d d' = IsAnswer (record { call = update_with values; outputs = []; cost = cost }) d d'
+IsUpdated values cost d d' =
+    IsAnswer (record { call = update_with values; outputs = []; cost = cost }) d d'
 
 -- an update was answered and counted
 pub record HasUpdated (values : List ℤ) (d d' : DriverState) (t t' : Totals) : Type 0 where
   pub cost : Cost
-  pub counted : AreCounted (record { call = update_with values; outputs = []; cost = cost } ∷ []) d d' t t'
+  pub counted : AreCounted
+      (record { call = update_with values; outputs = []; cost = cost } ∷ []) d d' t t'
 
 -- the driver refused a call behind so many lines
-pub record IsRefusedOn (count : ℕ) (refused : RefusedCall) (call : Call) (d d' : DriverState) : Type 0 where
+pub record IsRefusedOn (count : ℕ) (refused : RefusedCall) (call : Call)
+    (d d' : DriverState) : Type 0 where
   pub line : refused.line ≡ count + 1
   pub refuses : IsRefused refused.why call d d'
 
@@ -92,7 +104,8 @@ pub record GoesOn (call : Call) (s s' : Standing) : Type 0 where
   pub line : Takes (call_text call answer.outputs) s s'
 
 -- the driver refused a call, and nothing was counted or put
-pub record RefusedOn (count : ℕ) (refused : RefusedCall) (call : Call) (s s' : Standing) : Type 0 where
+pub record RefusedOn (count : ℕ) (refused : RefusedCall) (call : Call)
+    (s s' : Standing) : Type 0 where
   pub refuses : IsRefusedOn count refused call s.driver s'.driver
   pub totals : s'.totals ≡ s.totals
   pub put : s'.put ≡ s.put
@@ -121,14 +134,16 @@ pub record Runs (answers : List Answered) (s s' : Standing) : Type 0 where
   pub lines : Takes (answers_text answers) s s'
 
 -- the text is whole lines behind so many others, whose calls were answered
-pub record RunsThrough (text counts : List ℕ) (all count count' : ℕ) (s s' : Standing) : Type 0 where
+pub record RunsThrough (text counts : List ℕ) (all count count' : ℕ)
+    (s s' : Standing) : Type 0 where
   pub answers : List Answered
   pub writes : WritesCalls text counts all count (calls_in answers)
   pub size : count' ≡ count + length answers
   pub runs : Runs answers s s'
 
 -- so many bytes of a text are its whole lines, whose calls were answered
-pub record RunsLines (done : ℕ) (text counts : List ℕ) (all count count' : ℕ) (s s' : Standing) : Type 0 where
+pub record RunsLines (done : ℕ) (text counts : List ℕ) (all count count' : ℕ)
+    (s s' : Standing) : Type 0 where
   pub within : done ≤ length text
   pub through : RunsThrough (take done text) counts all count count' s s'
   pub none : count' ≡ count → done ≡ 0
@@ -149,14 +164,16 @@ pub record RunsToLine (bad : BadCall) (script : Script) (s s' : Standing) : Type
   pub runs : Runs answers s s'
 
 -- the calls were answered up to one that the driver refused
-pub record RunsToCall (count : ℕ) (refused : RefusedCall) (script : Script) (s s' : Standing) : Type 0 where
+pub record RunsToCall (count : ℕ) (refused : RefusedCall) (script : Script)
+    (s s' : Standing) : Type 0 where
   pub front : Front script
   pub line : refused.line ≡ count + length front.answers + 1
   pub before : DriverState
   pub runs : Runs front.answers s (record s' { driver = before })
   pub refuses : RefusesFirst refused.why front.behind before s'.driver
 
--- some first calls were answered, the one behind them may have been refused, and a front was put of what waited and of their lines
+-- some first calls were answered, the one behind them may have been refused, and a front was put of
+-- what waited and of their lines
 pub record RunsToOut (script : Script) (s s' : Standing) : Type 0 where
   pub front : Front script
   pub before : DriverState

@@ -26,7 +26,9 @@ impl Run {
         requires one { ticks ≤ 1 }
         ensures counted { self.new ≡ record self.old {
           done = self.old.done + 1;
-          totals = added self.old.totals (record { ticks = ticks; steps = cost.steps; calls = cost.calls });
+          totals =
+              added self.old.totals
+              (record { ticks = ticks; steps = cost.steps; calls = cost.calls });
         } }
         ensures still { StaysWithin self.new.done self.new.totals }
     {

@@ -23,7 +23,8 @@ pub(crate) fn fill_call(
         (λ next. MatchOption next (BeginsLine (drop from text.now))
         (λ there. IsNextCall text.now counts.now (length run.old.values.items) run.old.done
         from there.1 (read_as there.0 run.new.values.items)))
-        (λ bad. BeginsBadly bad (drop from text.now) counts.now (length run.old.values.items) run.old.done) }
+        (λ bad. BeginsBadly bad (drop from text.now) counts.now
+        (length run.old.values.items) run.old.done) }
     ensures room { IfOk result (λ next. IfSome next
         (λ there. there.0.count ≤ length run.old.values.items)) }
     ensures filled { IsFilled run.old run.new }
@@ -44,10 +45,12 @@ pub(crate) fn fill_last(
         (λ last. MatchOption last
         (calls_after run.old.done counts.now (length run.old.values.items) text.now
         ≡ record { calls = []; bad = None })
-        (λ read. IsLastCall text.now counts.now (length run.old.values.items) run.old.done (read_as read run.new.values.items)))
+        (λ read. IsLastCall text.now counts.now (length run.old.values.items) run.old.done
+        (read_as read run.new.values.items)))
         (λ bad. calls_after run.old.done counts.now (length run.old.values.items) text.now
         ≡ record { calls = []; bad = Some bad }) }
-    ensures room { IfOk result (λ last. IfSome last (λ read. read.count ≤ length run.old.values.items)) }
+    ensures room { IfOk result
+        (λ last. IfSome last (λ read. read.count ≤ length run.old.values.items)) }
     ensures filled { IsFilled run.old run.new }
 {
     last_call(text, run.done, counts, &mut run.values)

@@ -14,9 +14,12 @@ pub(crate) fn put_call<S: Sink>(
     sink: &mut S,
     numbers: &[i64],
 ) -> Result<(), Failed>
-    ensures taken { OnOk result (PutsAllBut lines.new (lines.old ++ (codes "out " ++ outputs_line numbers.now)) (S.bytes sink.old) (S.bytes sink.new)) }
+    ensures taken { OnOk result
+        (PutsAllBut lines.new (lines.old ++ (codes "out " ++ outputs_line numbers.now))
+        (S.bytes sink.old) (S.bytes sink.new)) }
     ensures front { OnErr result (PutsFront
-        (S.bytes sink.old) (S.bytes sink.new) (lines.old ++ (codes "out " ++ outputs_line numbers.now))) }
+        (S.bytes sink.old) (S.bytes sink.new)
+        (lines.old ++ (codes "out " ++ outputs_line numbers.now))) }
     ensures cause { HasCause (S.faults sink.old) (S.faults sink.new) result }
 {
     lines.put(sink, b"out ")?;

@@ -29,7 +29,8 @@ fn answer_lines<S: Sink>(
         (inside driver.old run.old (S.bytes sink.old))
         (inside driver.new run.new (S.bytes sink.new)))
         (λ fault. (behind : List ℕ) → RunsTo fault run.old.done
-        (calls_after run.old.done counts.now (length (inputs_of driver.old.shape)) (text.now ++ behind))
+        (calls_after run.old.done counts.now (length (inputs_of driver.old.shape))
+        (text.now ++ behind))
         (inside driver.old run.old (S.bytes sink.old))
         (inside driver.new run.new (S.bytes sink.new))) }
     ensures room { HasRoom run.new driver.new.shape }
@@ -62,7 +63,8 @@ fn answer_last<S: Sink>(
     requires room { HasRoom run.old driver.old.shape }
     requires unended { whole_lines text.now ≡ [] }
     ensures ran { MatchResult result
-        (λ _. RunsToEnd (calls_after run.old.done counts.now (length (inputs_of driver.old.shape)) text.now)
+        (λ _. RunsToEnd
+        (calls_after run.old.done counts.now (length (inputs_of driver.old.shape)) text.now)
         (inside driver.old run.old (S.bytes sink.old))
         (inside driver.new run.new (S.bytes sink.new)))
         (λ fault. RunsTo fault run.old.done
@@ -96,7 +98,8 @@ pub(crate) fn run_lines<S: Sink>(
         (inside driver.old run.old (S.bytes sink.old))
         (inside driver.new run.new (S.bytes sink.new)))
         (λ fault. (behind : List ℕ) → RunsTo fault run.old.done
-        (calls_after run.old.done counts.now (length (inputs_of driver.old.shape)) (text.now ++ behind))
+        (calls_after run.old.done counts.now (length (inputs_of driver.old.shape))
+        (text.now ++ behind))
         (inside driver.old run.old (S.bytes sink.old))
         (inside driver.new run.new (S.bytes sink.new))) }
     ensures empty { result ≢ Err ScriptFault.Out → run.new.lines ≡ [] }
@@ -128,7 +131,8 @@ pub(crate) fn run_last<S: Sink>(
     requires room { HasRoom run.old driver.old.shape }
     requires unended { whole_lines text.now ≡ [] }
     ensures ran { MatchResult result
-        (λ _. RunsToEnd (calls_after run.old.done counts.now (length (inputs_of driver.old.shape)) text.now)
+        (λ _. RunsToEnd
+        (calls_after run.old.done counts.now (length (inputs_of driver.old.shape)) text.now)
         (inside driver.old run.old (S.bytes sink.old))
         (inside driver.new run.new (S.bytes sink.new)))
         (λ fault. RunsTo fault run.old.done

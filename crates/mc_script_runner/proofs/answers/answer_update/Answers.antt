@@ -14,6 +14,9 @@ count-requires-clause-calls c = (update-bounded _ _ _ _ c.in-Ok.ensures.answered
 
 pub returns-in-Ok-clause-told : goal.returns-in-Ok-clause-told
 returns-in-Ok-clause-told c =
-    subst (λ (v : List ℤ). HasUpdated (take c.args.count v) c.args.driver.now c.update_with_first.new.driver c.args.run.now.totals c.count.new.self.totals) c.deref.ensures.value
-    (update_counted (take c.args.count c.deref.result.now) c.in-Ok.cost c.args.driver.now c.update_with_first.new.driver c.args.run.now.totals c.count.new.self.totals
+    subst (λ (v : List ℤ). HasUpdated
+    (take c.args.count v) c.args.driver.now c.update_with_first.new.driver c.args.run.now.totals c.count.new.self.totals)
+    c.deref.ensures.value
+    (update_counted (take c.args.count c.deref.result.now) c.in-Ok.cost c.args.driver.now c.update_with_first.new.driver
+    c.args.run.now.totals c.count.new.self.totals
     c.in-Ok.ensures.answered (ap (λ (r : Run). r.totals) c.count.ensures.counted))

@@ -10,6 +10,12 @@ returns c =
     record {
       answered =
           out_told c.call.result c.args.function c.args.values.now _ c.call.new.out c.args.driver.now c.call.new.self
-          (number_in_front c.args.numbers.now c.call.new.out _ (search rules) ∙ ap (λ x. x ∷ c.call.new.out) (to_z-of_z fits ∙ c.from.ensures))
-          (record { refused = c.call.ensures.refused; made = c.call.ensures.made; left = c.call.ensures.left; stands = c.call.ensures.stands });
+          (number_in_front c.args.numbers.now c.call.new.out _ (search rules)
+          ∙ ap (λ x. x ∷ c.call.new.out) (to_z-of_z fits ∙ c.from.ensures))
+          (record {
+            refused = c.call.ensures.refused;
+            made = c.call.ensures.made;
+            left = c.call.ensures.left;
+            stands = c.call.ensures.stands;
+          });
     }

@@ -18,9 +18,14 @@ returns-in-Ok-clause-told c =
     let numbers = take c.in-Ok.end c.call_with.new.numbers in
     let same =
     ap (λ (r : Run). take c.in-Ok.end r.numbers.items) c.count.ensures.counted
-    ∙ ap (take c.in-Ok.end) (written_over c.call_with.new.numbers c.args.run.now.numbers.items c.args.run.now.numbers.len (search rules) (search rules)) in
-    subst (λ (v : List ℤ). HasTold c.args.function (take c.args.count v) (take c.in-Ok.end c.count.new.self.numbers.items) c.args.driver.now c.call_with.new.driver c.args.run.now.totals c.count.new.self.totals)
+    ∙ ap (take c.in-Ok.end)
+    (written_over c.call_with.new.numbers c.args.run.now.numbers.items c.args.run.now.numbers.len (search rules) (search rules)) in
+    subst (λ (v : List ℤ). HasTold c.args.function (take c.args.count v) (take c.in-Ok.end c.count.new.self.numbers.items) c.args.driver.now
+    c.call_with.new.driver c.args.run.now.totals c.count.new.self.totals)
     c.deref.ensures.value
-    (subst (λ (n : List ℤ). HasTold c.args.function (take c.args.count c.deref.result.now) n c.args.driver.now c.call_with.new.driver c.args.run.now.totals c.count.new.self.totals) (sym same)
-    (told_counted c.args.function (take c.args.count c.deref.result.now) numbers c.in-Ok.cost c.args.driver.now c.call_with.new.driver c.args.run.now.totals c.count.new.self.totals
+    (subst (λ (n : List ℤ). HasTold c.args.function
+    (take c.args.count c.deref.result.now) n c.args.driver.now c.call_with.new.driver c.args.run.now.totals c.count.new.self.totals)
+    (sym same)
+    (told_counted c.args.function (take c.args.count c.deref.result.now) numbers c.in-Ok.cost c.args.driver.now c.call_with.new.driver
+    c.args.run.now.totals c.count.new.self.totals
     c.in-Ok.ensures.answered (ap (λ (r : Run). r.totals) c.count.ensures.counted)))

@@ -6,5 +6,10 @@ pub returns : goal.returns
 returns c = record {
   answered =
       update_told c.update.result (take c.args.count c.args.values.now) c.args.driver.now c.update.new.self
-      (record { refused = c.update.ensures.refused; made = c.update.ensures.made; left = c.update.ensures.left; stands = c.update.ensures.stands });
+      (record {
+        refused = c.update.ensures.refused;
+        made = c.update.ensures.made;
+        left = c.update.ensures.left;
+        stands = c.update.ensures.stands;
+      });
 }

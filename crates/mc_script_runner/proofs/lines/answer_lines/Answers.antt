@@ -11,7 +11,9 @@ use Rattle.mc_script_runner.proofs.lines.answer_lines.Goals as goal
 pub loop-there-init : goal.loop-there-init
 loop-there-init g c = record {
   within = omega arith;
-  through = none_through c.args.counts.now (length (inputs_of c.args.driver.now.shape)) c.args.run.now.done (inside c.args.driver.now c.args.run.now (g.S.Sink.bytes c.args.sink.now));
+  through =
+      none_through c.args.counts.now (length (inputs_of c.args.driver.now.shape)) c.args.run.now.done
+      (inside c.args.driver.now c.args.run.now (g.S.Sink.bytes c.args.sink.now));
   none = λ same. refl;
   room = c.requires.room;
   shape = refl;
@@ -31,8 +33,10 @@ returns-in-Err-clause-ran g c = λ behind.
     let s = inside c.args.driver.now c.args.run.now (g.S.Sink.bytes c.args.sink.now) in
     let s' = inside c.loop-there.driver c.fill_call.new.run (g.S.Sink.bytes c.loop-there.sink) in
     bad_in c.in-Err.bad c.args.text.now behind c.args.counts.now all c.args.run.now.done c.fill_call.new.run.done c.loop-there.at s s'
-    (through_filled (take c.loop-there.at c.args.text.now) c.args.counts.now all c.args.run.now.done c.loop-there.driver c.loop-there.run c.fill_call.new.run (g.S.Sink.bytes c.loop-there.sink) s filled c.loop-there.invariant.through)
-    (bad_filled c.in-Err.bad (drop c.loop-there.at c.args.text.now) c.args.counts.now (length c.loop-there.run.values.items) all c.loop-there.run c.fill_call.new.run room filled c.in-Err.ensures.next)
+    (through_filled (take c.loop-there.at c.args.text.now) c.args.counts.now all c.args.run.now.done c.loop-there.driver c.loop-there.run
+    c.fill_call.new.run (g.S.Sink.bytes c.loop-there.sink) s filled c.loop-there.invariant.through)
+    (bad_filled c.in-Err.bad (drop c.loop-there.at c.args.text.now) c.args.counts.now
+    (length c.loop-there.run.values.items) all c.loop-there.run c.fill_call.new.run room filled c.in-Err.ensures.next)
 
 pub returns-in_err-answer-clause-ran : goal.returns-in_err-answer-clause-ran
 returns-in_err-answer-clause-ran g c =
@@ -48,11 +52,15 @@ returns-in_err-answer-clause-ran g c =
     let s'' = inside c.answer.new.driver c.answer.new.run (g.S.Sink.bytes c.answer.new.sink) in
     let next = rw c.in-Ok-Some.field-0-is at c.in-Ok-Some.ensures.next in
     let through =
-    through_filled (take c.loop-there.at c.args.text.now) c.args.counts.now all c.args.run.now.done c.loop-there.driver c.loop-there.run c.fill_call.new.run (g.S.Sink.bytes c.loop-there.sink) s filled c.loop-there.invariant.through in
-    handed c.from_residual.result fault c.args.text.now c.args.counts.now all c.args.run.now.done c.answer.new.run.done s s'' (p.1 ∙ ap (λ f. Err f) p.2)
+    through_filled (take c.loop-there.at c.args.text.now) c.args.counts.now all c.args.run.now.done c.loop-there.driver c.loop-there.run
+    c.fill_call.new.run (g.S.Sink.bytes c.loop-there.sink) s filled c.loop-there.invariant.through in
+    handed c.from_residual.result fault c.args.text.now c.args.counts.now all c.args.run.now.done c.answer.new.run.done s s''
+    (p.1 ∙ ap (λ f. Err f) p.2)
     (λ behind.
-    call_in fault c.args.text.now behind c.args.counts.now all c.args.run.now.done c.fill_call.new.run.done c.loop-there.at after call s s' s'' through
-    (next_filled c.args.text.now c.args.counts.now (length c.loop-there.run.values.items) all c.loop-there.at after call c.loop-there.run c.fill_call.new.run room filled next)
+    call_in fault c.args.text.now behind c.args.counts.now all c.args.run.now.done c.fill_call.new.run.done c.loop-there.at after call s s'
+    s'' through
+    (next_filled c.args.text.now c.args.counts.now
+    (length c.loop-there.run.values.items) all c.loop-there.at after call c.loop-there.run c.fill_call.new.run room filled next)
     c.in_err-answer.ensures.answered)
 
 pub loop-there-preserved : goal.loop-there-preserved
@@ -67,13 +75,16 @@ loop-there-preserved g c =
     let s'' = inside c.answer.new.driver c.answer.new.run (g.S.Sink.bytes c.answer.new.sink) in
     let next = rw c.in-Ok-Some.field-0-is at c.in-Ok-Some.ensures.next in
     let through =
-    through_filled (take c.loop-there.at c.args.text.now) c.args.counts.now all c.args.run.now.done c.loop-there.driver c.loop-there.run c.fill_call.new.run (g.S.Sink.bytes c.loop-there.sink) s filled c.loop-there.invariant.through in
+    through_filled (take c.loop-there.at c.args.text.now) c.args.counts.now all c.args.run.now.done c.loop-there.driver c.loop-there.run
+    c.fill_call.new.run (g.S.Sink.bytes c.loop-there.sink) s filled c.loop-there.invariant.through in
     let done = c.in_ok-answer.ensures.done in
     record {
       within = next.within;
       through =
-          further c.args.text.now c.args.counts.now all c.args.run.now.done c.fill_call.new.run.done c.answer.new.run.done c.loop-there.at after call s s' s'' through
-          (next_filled c.args.text.now c.args.counts.now (length c.loop-there.run.values.items) all c.loop-there.at after call c.loop-there.run c.fill_call.new.run room filled next)
+          further c.args.text.now c.args.counts.now all c.args.run.now.done c.fill_call.new.run.done c.answer.new.run.done c.loop-there.at
+          after call s s' s'' through
+          (next_filled c.args.text.now c.args.counts.now
+          (length c.loop-there.run.values.items) all c.loop-there.at after call c.loop-there.run c.fill_call.new.run room filled next)
           c.in_ok-answer.ensures.answered done;
       none = λ same. absurd (omega (arith, same, through.size, done));
       room = c.answer.ensures.room;

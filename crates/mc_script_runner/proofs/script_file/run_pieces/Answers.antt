@@ -16,7 +16,8 @@ use Rattle.mc_script_runner.proofs.script_file.run_pieces.Goals as goal
 pub loop-count-init : goal.loop-count-init
 loop-count-init g c = record {
   reads =
-      reads_none c.args.counts.now (length (inputs_of c.args.driver.now.shape)) c.args.run.now.done c.args.read.now.bytes _ (inside c.args.driver.now c.args.run.now (g.S.Sink.bytes c.args.sink.now))
+      reads_none c.args.counts.now (length (inputs_of c.args.driver.now.shape)) c.args.run.now.done c.args.read.now.bytes _
+      (inside c.args.driver.now c.args.run.now (g.S.Sink.bytes c.args.sink.now))
       c.requires.start c.requires.unread;
   begins = begins_none c.args.read.now.bytes c.requires.unread;
   room = c.requires.room;
@@ -35,9 +36,11 @@ returns-in_default-clause-ran g c =
     let s = inside c.args.driver.now c.args.run.now (g.S.Sink.bytes c.args.sink.now) in
     let s' = inside c.loop-count.driver c.loop-count.run (g.S.Sink.bytes c.loop-count.sink) in
     subst (λ r. RunsOver (Err Read) (g.H.Host.rest c.args.host.now) r
-    (standing c.args.driver.now c.args.run.now.totals (g.S.Sink.bytes c.args.sink.now)) (standing c.loop-count.driver c.loop-count.run.totals (g.S.Sink.bytes c.loop-count.sink)))
+    (standing c.args.driver.now c.args.run.now.totals (g.S.Sink.bytes c.args.sink.now))
+    (standing c.loop-count.driver c.loop-count.run.totals (g.S.Sink.bytes c.loop-count.sink)))
     (sym c.in_default.ensures.unread)
-    (read_stops c.args.counts.now c.loop-count.run.done c.loop-count.read.bytes (g.H.Host.rest c.args.host.now) (g.H.Host.rest c.loop-count.host) s s' c.requires.counts.are c.requires.empty c.loop-count.invariant.empty
+    (read_stops c.args.counts.now c.loop-count.run.done c.loop-count.read.bytes (g.H.Host.rest c.args.host.now)
+    (g.H.Host.rest c.loop-count.host) s s' c.requires.counts.are c.requires.empty c.loop-count.invariant.empty
     c.loop-count.invariant.begins c.loop-count.invariant.reads)
 
 pub returns-then-count-eq0-clause-ran : goal.returns-then-count-eq0-clause-ran
@@ -46,11 +49,18 @@ returns-then-count-eq0-clause-ran g c =
     let s = inside c.args.driver.now c.args.run.now (g.S.Sink.bytes c.args.sink.now) in
     let s' = inside c.loop-count.driver c.loop-count.run (g.S.Sink.bytes c.loop-count.sink) in
     let s'' = inside c.run_last.new.driver c.run_last.new.run (g.S.Sink.bytes c.run_last.new.sink) in
-    let reads = reads_on c.args.counts.now all c.loop-count.run.done c.in-Ok.count c.loop-count.read.bytes c.fill.new.self.bytes _ _ _ s s' c.loop-count.invariant.reads c.in-Ok.ensures.more in
-    file_ends c.run_last.result c.args.counts.now c.loop-count.run.done c.fill.new.self.bytes (g.H.Host.rest c.args.host.now) (g.H.Host.rest c.fill.new.host) s s' s'' c.requires.counts.are c.requires.empty
+    let reads =
+    reads_on c.args.counts.now all c.loop-count.run.done c.in-Ok.count c.loop-count.read.bytes c.fill.new.self.bytes _ _ _ s s'
+    c.loop-count.invariant.reads c.in-Ok.ensures.more in
+    file_ends c.run_last.result c.args.counts.now c.loop-count.run.done c.fill.new.self.bytes (g.H.Host.rest c.args.host.now)
+    (g.H.Host.rest c.fill.new.host) s s' s'' c.requires.counts.are c.requires.empty
     c.run_last.ensures.empty (c.in-Ok.ensures.end c.if-count-eq0.true) reads
-    (subst (λ (shape : Shape). EndsLast c.run_last.result c.loop-count.run.done (calls_after c.loop-count.run.done c.args.counts.now (length (inputs_of shape)) c.fill.new.self.bytes) s' s'') c.loop-count.invariant.shape
-    (subst (λ t. EndsLast c.run_last.result c.loop-count.run.done (calls_after c.loop-count.run.done c.args.counts.now (length (inputs_of c.loop-count.driver.shape)) t) s' s'') c.bytes.ensures c.run_last.ensures.ran))
+    (subst (λ (shape : Shape). EndsLast c.run_last.result c.loop-count.run.done
+    (calls_after c.loop-count.run.done c.args.counts.now (length (inputs_of shape)) c.fill.new.self.bytes) s' s'')
+    c.loop-count.invariant.shape
+    (subst (λ t. EndsLast c.run_last.result c.loop-count.run.done
+    (calls_after c.loop-count.run.done c.args.counts.now (length (inputs_of c.loop-count.driver.shape)) t) s' s'')
+    c.bytes.ensures c.run_last.ensures.ran))
 
 pub returns-in_err-done-clause-ran : goal.returns-in_err-done-clause-ran
 returns-in_err-done-clause-ran g c =
@@ -60,23 +70,32 @@ returns-in_err-done-clause-ran g c =
     let s = inside c.args.driver.now c.args.run.now (g.S.Sink.bytes c.args.sink.now) in
     let s' = inside c.loop-count.driver c.loop-count.run (g.S.Sink.bytes c.loop-count.sink) in
     let s'' = inside c.run_lines.new.driver c.run_lines.new.run (g.S.Sink.bytes c.run_lines.new.sink) in
-    let reads = reads_on c.args.counts.now all c.loop-count.run.done c.in-Ok.count c.loop-count.read.bytes c.fill.new.self.bytes _ _ _ s s' c.loop-count.invariant.reads c.in-Ok.ensures.more in
-    lines_stop c.from_residual.result fault c.args.counts.now c.loop-count.run.done c.fill.new.self.bytes (g.H.Host.rest c.args.host.now) (g.H.Host.rest c.fill.new.host) s s' s''
+    let reads =
+    reads_on c.args.counts.now all c.loop-count.run.done c.in-Ok.count c.loop-count.read.bytes c.fill.new.self.bytes _ _ _ s s'
+    c.loop-count.invariant.reads c.in-Ok.ensures.more in
+    lines_stop c.from_residual.result fault c.args.counts.now c.loop-count.run.done c.fill.new.self.bytes (g.H.Host.rest c.args.host.now)
+    (g.H.Host.rest c.fill.new.host) s s' s''
     (p.1 ∙ ap (λ f. Err f) p.2) c.requires.counts.are c.requires.empty
     (λ other. c.in_err-done.ensures.empty (λ e. let same : fault ≡ Out = cc in other same)) reads
     (λ behind.
-    subst (λ (shape : Shape). RunsTo fault c.loop-count.run.done (calls_after c.loop-count.run.done c.args.counts.now (length (inputs_of shape)) (c.fill.new.self.bytes ++ behind)) s' s'') c.loop-count.invariant.shape
-    (subst (λ t. RunsTo fault c.loop-count.run.done (calls_after c.loop-count.run.done c.args.counts.now (length (inputs_of c.loop-count.driver.shape)) (t ++ behind)) s' s'') c.bytes-in-loop-count.ensures (c.in_err-done.ensures.ran behind)))
+    subst (λ (shape : Shape). RunsTo fault c.loop-count.run.done
+    (calls_after c.loop-count.run.done c.args.counts.now (length (inputs_of shape)) (c.fill.new.self.bytes ++ behind)) s' s'')
+    c.loop-count.invariant.shape
+    (subst (λ t. RunsTo fault c.loop-count.run.done
+    (calls_after c.loop-count.run.done c.args.counts.now (length (inputs_of c.loop-count.driver.shape)) (t ++ behind)) s' s'')
+    c.bytes-in-loop-count.ensures (c.in_err-done.ensures.ran behind)))
 
 pub returns-in_err-done-clause-read_cause : goal.returns-in_err-done-clause-read_cause
 returns-in_err-done-clause-read_cause g c = λ read.
     let p = err_from_is_err_and c.from_residual.result c.from_residual.ensures.1 in
-    absurd (never_read c.from_residual.result c.in_err-done.field-0.0 _ _ _ _ (p.1 ∙ ap (λ f. Err f) p.2) (c.in_err-done.ensures.ran []) read)
+    absurd (never_read c.from_residual.result c.in_err-done.field-0.0 _ _ _ _ (p.1 ∙ ap (λ f. Err f) p.2)
+    (c.in_err-done.ensures.ran []) read)
 
 pub returns-in_err-done-clause-unsure : goal.returns-in_err-done-clause-unsure
 returns-in_err-done-clause-unsure g c = λ read.
     let p = err_from_is_err_and c.from_residual.result c.from_residual.ensures.1 in
-    absurd (never_read c.from_residual.result c.in_err-done.field-0.0 _ _ _ _ (p.1 ∙ ap (λ f. Err f) p.2) (c.in_err-done.ensures.ran []) read)
+    absurd (never_read c.from_residual.result c.in_err-done.field-0.0 _ _ _ _ (p.1 ∙ ap (λ f. Err f) p.2)
+    (c.in_err-done.ensures.ran []) read)
 
 pub loop-count-preserved : goal.loop-count-preserved
 loop-count-preserved g c =
@@ -86,14 +105,23 @@ loop-count-preserved g c =
     let s'' = inside c.run_lines.new.driver c.run_lines.new.run (g.S.Sink.bytes c.run_lines.new.sink) in
     let i = c.loop-count.invariant in
     let done = c.in_ok-done.done in
-    let reads = reads_on c.args.counts.now all c.loop-count.run.done c.in-Ok.count c.loop-count.read.bytes c.fill.new.self.bytes _ _ _ s s' i.reads c.in-Ok.ensures.more in
+    let reads =
+    reads_on c.args.counts.now all c.loop-count.run.done c.in-Ok.count c.loop-count.read.bytes c.fill.new.self.bytes _ _ _ s s' i.reads
+    c.in-Ok.ensures.more in
     let lines =
-    subst (λ (shape : Shape). RunsLines done c.fill.new.self.bytes c.args.counts.now (length (inputs_of shape)) c.loop-count.run.done c.run_lines.new.run.done s' s'') i.shape
-    (subst (λ t. RunsLines done t c.args.counts.now (length (inputs_of c.loop-count.driver.shape)) c.loop-count.run.done c.run_lines.new.run.done s' s'') c.bytes-in-loop-count.ensures c.in_ok-done.ensures.ran) in
+    subst (λ (shape : Shape). RunsLines done c.fill.new.self.bytes c.args.counts.now
+    (length (inputs_of shape)) c.loop-count.run.done c.run_lines.new.run.done s' s'')
+    i.shape
+    (subst (λ t. RunsLines done t c.args.counts.now
+    (length (inputs_of c.loop-count.driver.shape)) c.loop-count.run.done c.run_lines.new.run.done s' s'')
+    c.bytes-in-loop-count.ensures c.in_ok-done.ensures.ran) in
     record {
       reads =
-          subst (λ b. Reads c.args.counts.now all c.run_lines.new.run.done b (g.H.Host.rest c.args.host.now) (g.H.Host.rest c.fill.new.host) s s'') (sym c.take.ensures)
-          (lines_read c.args.counts.now all c.loop-count.run.done c.run_lines.new.run.done done c.fill.new.self.bytes (g.H.Host.rest c.args.host.now) (g.H.Host.rest c.fill.new.host) s s' s'' reads lines);
+          subst (λ b. Reads c.args.counts.now all c.run_lines.new.run.done b (g.H.Host.rest c.args.host.now)
+          (g.H.Host.rest c.fill.new.host) s s'')
+          (sym c.take.ensures)
+          (lines_read c.args.counts.now all c.loop-count.run.done c.run_lines.new.run.done done c.fill.new.self.bytes
+          (g.H.Host.rest c.args.host.now) (g.H.Host.rest c.fill.new.host) s s' s'' reads lines);
       begins = subst BeginsLine (sym c.take.ensures) lines.rest;
       room = c.run_lines.ensures.room;
       empty = c.in_ok-done.ensures.empty (λ e. cc);
