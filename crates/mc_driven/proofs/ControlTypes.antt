@@ -42,7 +42,8 @@ module _ (rows : List Row) (wired : IsWired rows) (e : ℕ) (below : e < length 
 
   -- its wires are rows
   pub wires-inside : All (λ c. c < length rows) (row_at rows e).inputs
-  wires-inside = All-from_recursion (λ c. c < length rows) (row_at rows e).inputs (wires-below rows _ (row_at rows e).inputs (wired.wires e below))
+  wires-inside =
+      All-from_recursion (λ c. c < length rows) (row_at rows e).inputs (wires-below rows _ (row_at rows e).inputs (wired.wires e below))
 
 map-controls : (f g : Port → Port × FixType) → f Enable ≡ g Enable → f Trigger ≡ g Trigger → (control : Control) →
     map f (control_ports control) ≡ map g (control_ports control)

@@ -18,7 +18,7 @@ use Rattle.mc_drive.specs.Drivable.{IsDrivable}
 use Rattle.mc_drive.specs.Driven.{Driven, shape_of, functions_of, IsReadyFor}
 use Rattle.mc_drive.specs.Shapes.{Shape}
 use Rattle.mc_driven.specs.Driving.{IsMachineOf, IsDrivenIn}
-use Rattle.mc_driven.specs.SystemShapes.{shape_with, IsShapeOf, IsSystemOfModel}
+use Rattle.mc_driven.specs.SystemShapes.{shape_with, IsShapeOf, IsSystemOfModel, ShapesAreOne}
 
 -- outputs that need the same have the same functions
 same-functions : ProfilesAreOne → (d : Diagram) (s : Option ℕ) (needs others : List ℕ) → AreTrueNeeds d s needs → AreTrueNeeds d s others →
@@ -29,16 +29,31 @@ same-functions one d s needs others are also =
     (record { needs = needs; are_needs = are; row = refl; functions = refl })
     (record { needs = others; are_needs = also; row = refl; functions = refl }))
 
+shape-one : ProfilesAreOne → (r : ResolvedTable) (s : Option ℕ) (shape other : Shape) → IsShapeOf r s shape → IsShapeOf r s other →
+    shape ≡ other
+shape-one one r s shape other is also =
+    is.is
+    ∙ ap (shape_with (diagram_of_table r) r.times.hyper s)
+    (same-functions one (diagram_of_table r) s is.needs also.needs is.are_needs also.are_needs)
+    ∙ sym also.is
+
+-- what is driven as a system has a shape of the system
+driven-shape : (r : ResolvedTable) (s : Option ℕ) (w : Driven) → IsSystemOfModel r s w → IsShapeOf r s (shape_of w)
+driven-shape r s w same = record {
+  needs = w.needs;
+  are_needs =
+      subst (λ (o : Option ℕ). AreTrueNeeds (diagram_of_table r) o w.needs) same.system
+      (subst (λ (d : Diagram). AreTrueNeeds d w.system w.needs) same.diagram w.are_needs);
+  is = λ i. shape_with (same.diagram i) (same.hyper i) (same.system i) (functions_of w);
+}
+
+pub shapes_are_one : ProfilesAreOne → ShapesAreOne
+shapes_are_one one = record { one = shape-one one; of_driven = driven-shape }
+
 -- the shape of a system is that of what is driven
 pub shape-driven : ProfilesAreOne → (r : ResolvedTable) (s : Option ℕ) (shape : Shape) (w : Driven) → IsShapeOf r s shape →
     IsSystemOfModel r s w → shape ≡ shape_of w
-shape-driven one r s shape w is same =
-    let needs : AreTrueNeeds (diagram_of_table r) s w.needs =
-    subst (λ (o : Option ℕ). AreTrueNeeds (diagram_of_table r) o w.needs) same.system
-    (subst (λ (d : Diagram). AreTrueNeeds d w.system w.needs) same.diagram w.are_needs) in
-    is.is
-    ∙ ap (shape_with (diagram_of_table r) r.times.hyper s) (same-functions one (diagram_of_table r) s is.needs w.needs is.are_needs needs)
-    ∙ (λ i. shape_with (sym same.diagram i) (sym same.hyper i) (sym same.system i) (functions_of w))
+shape-driven one r s shape w is same = shape-one one r s shape (shape_of w) is (driven-shape r s w same)
 
 module _ (laws : MachinesCanBeDriven) (m : MachineState) (r : ResolvedTable) (s : Option ℕ) (of : IsMachineOf m r)
     (has : Contains (systems r.table.rows) s) (number : ℕ) (shape : Shape) (instance : IsInstanceOf (tree_of m) r.table.rows s number) where

@@ -17,7 +17,8 @@ wire_among control wires Trigger = trigger_among control wires
 
 -- a control with the type of its wire
 abbrev pub typed_control : List FixType → Control → List ℕ → Port → Port × FixType
-typed_control types control wires p = (p, type_at types (unwrap_or (wire_among control wires p) (length types)))
+typed_control types control wires p =
+    (p, type_at types (unwrap_or (wire_among control wires p) (length types)))
 
 -- a control of a system of a diagram with its type
 abbrev pub typed_control_of : Diagram → Option ℕ → Port → Port × FixType

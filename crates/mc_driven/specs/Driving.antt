@@ -12,6 +12,7 @@ pub record IsMachineOf (m : MachineState) (r : ResolvedTable) : Type 0 where
   pub of_right : IsOfRightBytes m bytes r
 
 -- what is driven is this system of the model, in code that is the machine's program
-pub record IsDrivenIn (m : MachineState) (r : ResolvedTable) (s : Option ℕ) (w : Driven) : Type 0 where
+pub record IsDrivenIn (m : MachineState) (r : ResolvedTable) (s : Option ℕ)
+    (w : Driven) : Type 0 where
   pub program : w.program ≡ tree_of m
   pub of_model : IsSystemOfModel r s w

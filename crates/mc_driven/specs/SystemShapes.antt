@@ -12,7 +12,7 @@ use Rattle.mc_profile.specs.declared.profile.Function.{Function}
 use Rattle.mc_profile.specs.Functions.{functions_for}
 use Rattle.mc_profile.specs.Systems.{system_name}
 use Rattle.c_shape.specs.Names.{value_name}
-use Rattle.mc_drive.specs.Driven.{Driven}
+use Rattle.mc_drive.specs.Driven.{Driven, shape_of}
 use Rattle.mc_drive.specs.Shapes.{Shape}
 
 -- the shape of a system of a diagram, by its functions
@@ -20,7 +20,8 @@ abbrev pub shape_with : Diagram → ℕ → Option ℕ → List Function → Sha
 shape_with d hyper s functions = record {
   name = system_name s;
   functions = functions;
-  inputs = map (λ k. input_type_of d s (Number k)) (range_with_len 1 (length (inports_of d.rows s)));
+  inputs =
+      map (λ k. input_type_of d s (Number k)) (range_with_len 1 (length (inports_of d.rows s)));
   controls = map (λ p. (p, input_type_of d s p)) (control_ports (system_control d.rows s));
   outputs = map value_name (outports_of d.rows s);
   hyper = hyper;
@@ -37,3 +38,8 @@ pub record IsSystemOfModel (r : ResolvedTable) (s : Option ℕ) (w : Driven) : T
   pub diagram : w.diagram ≡ diagram_of_table r
   pub hyper : w.hyper ≡ r.times.hyper
   pub system : w.system ≡ s
+
+-- A system of a model has one shape, and what is driven as the system has that.
+pub record ShapesAreOne : Type 0 where
+  pub one : (r : ResolvedTable) (s : Option ℕ) (shape other : Shape) → IsShapeOf r s shape → IsShapeOf r s other → shape ≡ other
+  pub of_driven : (r : ResolvedTable) (s : Option ℕ) (w : Driven) → IsSystemOfModel r s w → IsShapeOf r s (shape_of w)

@@ -41,7 +41,8 @@ fn typed_controls(
 ) -> Result<Vec<(Port, FixType)>, Memory>
     requires each { length wires.now ≡ length (control_ports control) }
     requires inside { All (λ c. c < length types.now) wires.now }
-    ensures { IfOk result (λ v. v.items ≡ map (typed_control types.now control wires.now) (control_ports control)) }
+    ensures { IfOk result
+        (λ v. v.items ≡ map (typed_control types.now control wires.now) (control_ports control)) }
 {
     let mut controls = Vec::new(alloc);
     match control {
@@ -65,7 +66,10 @@ pub(crate) fn controls_of(
     system: Option<u32>,
 ) -> Result<Vec<(Port, FixType)>, Memory>
     requires { Contains (systems r.now.tree.table.rows) system }
-    ensures { IfOk result (λ v. v.items ≡ map (typed_control_of (diagram_of r.now) system) (control_ports (system_control r.now.tree.table.rows system))) }
+    ensures { IfOk result
+        (λ v. v.items
+        ≡ map (typed_control_of (diagram_of r.now) system)
+        (control_ports (system_control r.now.tree.table.rows system))) }
 {
     is_resolved(r);
     match system {

@@ -26,7 +26,9 @@ pub fn driver_of(
 ) -> Result<Driver, Memory>
     requires machine { IsMachineOf machine (table_of_tree r.now) }
     requires system { Contains (systems r.now.tree.table.rows) system.row }
-    ensures { IfOk result (λ d. (w : Driven) → IsDrivenIn machine (table_of_tree r.now) system.row w → StandsFor w d []) }
+    ensures { IfOk result
+        (λ d. (w : Driven) → IsDrivenIn machine (table_of_tree r.now) system.row w
+        → StandsFor w d []) }
 {
     machines_can_be_driven();
     let instance = instance_of(alloc, r, &machine, system.row)?;

@@ -36,7 +36,8 @@ pub(crate) fn instance_of(
 ) -> Result<u32, Memory>
     requires machine { IsMachineOf machine.now (table_of_tree r.now) }
     requires system { Contains (systems r.now.tree.table.rows) system }
-    ensures { IfOk result (λ number. IsInstanceOf (tree_of machine.now) r.now.tree.table.rows system number) }
+    ensures { IfOk result
+        (λ number. IsInstanceOf (tree_of machine.now) r.now.tree.table.rows system number) }
 {
     machines_can_be_driven();
     is_resolved(r);

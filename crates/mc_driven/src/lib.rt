@@ -4,6 +4,7 @@
 mod controls;
 mod driver;
 mod instance;
+mod laws;
 mod names;
 mod ports;
 mod profile;
@@ -12,5 +13,6 @@ mod shape;
 mod system;
 
 pub use driver::driver_of;
+pub use laws::shapes_are_one;
 pub use shape::shape_of;
 pub use system::{System, system_named};

@@ -69,7 +69,9 @@ fn port_count(rows: &[Row], system: Option<u32>, side: Side) -> usize
 
 // The number of the first row that is the port with a number on a side of a system.
 fn row_with(rows: &[Row], system: Option<u32>, side: Side, port: usize) -> Option<usize>
-    ensures found { result ≡ find (λ b. is_at (is_port_kind side) system port (row_at rows.now b)) (row_numbers rows.now) }
+    ensures found { result
+        ≡ find (λ b. is_at (is_port_kind side) system port (row_at rows.now b))
+        (row_numbers rows.now) }
     ensures inside { IfSome result (λ b. b < length rows.now) }
 {
     for (b, row) in rows.iter().enumerate() {

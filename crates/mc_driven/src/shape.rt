@@ -30,7 +30,9 @@ use std::alloc::Global;
 pub fn shape_of(alloc: Global, r: &Resolved, system: System) -> Result<DriveShape, Memory>
     requires { Contains (systems r.now.tree.table.rows) system.row }
     ensures shape { IfOk result (IsShapeOf (table_of_tree r.now) system.row) }
-    ensures driven { IfOk result (λ s. (w : Driven) → IsSystemOfModel (table_of_tree r.now) system.row w → s ≡ shape_of_driven w) }
+    ensures driven { IfOk result
+        (λ s. (w : Driven) → IsSystemOfModel (table_of_tree r.now) system.row w
+        → s ≡ shape_of_driven w) }
 {
     profiles_are_one();
     let shape = described(alloc, r, system.row)?;
@@ -54,7 +56,10 @@ fn described(alloc: Global, r: &Resolved, system: Option<u32>) -> Result<DriveSh
 
 // The types of the inputs of a system, by number.
 fn input_types(alloc: Global, r: &Resolved, system: Option<u32>) -> Result<Vec<FixType>, Memory>
-    ensures { IfOk result (λ v. v.items ≡ map (λ k. input_type_of (diagram_of r.now) system (Number k)) (range_with_len 1 (length (inports_of r.now.tree.table.rows system)))) }
+    ensures { IfOk result
+        (λ v. v.items
+        ≡ map (λ k. input_type_of (diagram_of r.now) system (Number k))
+        (range_with_len 1 (length (inports_of r.now.tree.table.rows system)))) }
 {
     let inports = rows_by_port(alloc, rows_of(r), system, Side::Inputs)?;
     types_at(alloc, types_of(r), &inports)
@@ -62,7 +67,8 @@ fn input_types(alloc: Global, r: &Resolved, system: Option<u32>) -> Result<Vec<F
 
 // The names of the fields of the outputs of a system, by port.
 fn output_fields(alloc: Global, r: &Resolved, system: Option<u32>) -> Result<Vec<Text>, Memory>
-    ensures { IfOk result (λ v. v.items ≡ map value_name (outports_of r.now.tree.table.rows system)) }
+    ensures { IfOk result
+        (λ v. v.items ≡ map value_name (outports_of r.now.tree.table.rows system)) }
 {
     let outports = rows_by_port(alloc, rows_of(r), system, Side::Outputs)?;
     value_names(alloc, &outports)

@@ -23,7 +23,8 @@ instance_of-requires t c =
     let owner = sym {A = Option ℕ} (ap (λ (row : Row). row.owner) c.row_at.ensures) in (
       subst (λ n. rank c.row_at.result.now.owner < n) c.decreases
           (subst (λ (o : Option ℕ). rank o < rank c.args.system) owner
-          (subst (λ (s : Option ℕ). rank (row_at rows e).owner < rank s) (sym {A = Option ℕ} c.in-Some.is) (owner-before rows nested e below))),
+          (subst (λ (s : Option ℕ). rank (row_at rows e).owner < rank s) (sym {A = Option ℕ} c.in-Some.is)
+          (owner-before rows nested e below))),
       (c.requires.machine, subst (λ (o : Option ℕ). Contains (systems rows) o) owner (owner-in rows nested e below)),
     )
 
@@ -36,7 +37,8 @@ pub found-requires-in-Some : goal.found-requires-in-Some
 found-requires-in-Some t c =
     let rows = c.args.r.now.tree.table.rows in
     let has = subst (λ (s : Option ℕ). Contains (systems rows) s) c.in-Some.is c.requires.system in
-    let around = subst (λ (row : Row). IsInstanceOf (tree_of c.args.machine.now) rows row.owner c.in_ok-around-in-Some.around) c.row_at.ensures
+    let around =
+    subst (λ (row : Row). IsInstanceOf (tree_of c.args.machine.now) rows row.owner c.in_ok-around-in-Some.around) c.row_at.ensures
     c.in_ok-around-in-Some.ensures in
     inner-found c.machines_can_be_driven.ensures c.args.machine.now (table_of_tree c.args.r.now) c.requires.machine (Some c.in-Some.e)
     c.in-Some.e c.in_ok-around-in-Some.around c.bytes-in-Some.result.now c.child-in-Some.result refl has around

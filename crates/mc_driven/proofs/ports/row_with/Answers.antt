@@ -11,7 +11,8 @@ returns-then-is_with-clause-found c =
     let here = c.index-rows-b.is ∙ get_or_default rows c.loop-b.b c.index-rows-b.result no_row c.loop-b-test.true in
     let passes : is_at (is_port c.args.side) c.args.system c.args.port (row_at rows c.loop-b.b) ≡ true =
     ap (is_at (is_port c.args.side) c.args.system c.args.port) (sym here) ∙ sym c.is_with.ensures ∙ c.if-is_with.true in
-    first-row rows (λ b. is_at (is_port c.args.side) c.args.system c.args.port (row_at rows b)) c.loop-b.b c.loop-b-test.true c.loop-b.invariant passes
+    first-row rows
+    (λ b. is_at (is_port c.args.side) c.args.system c.args.port (row_at rows b)) c.loop-b.b c.loop-b-test.true c.loop-b.invariant passes
 
 pub returns-clause-found : goal.returns-clause-found
 returns-clause-found c =

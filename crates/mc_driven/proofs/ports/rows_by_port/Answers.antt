@@ -15,7 +15,9 @@ pub loop-port-preserved : goal.loop-port-preserved
 loop-port-preserved c =
     let rows = c.args.rows.now in
     let with : ℕ → Option ℕ = λ k. find (λ b. is_at (is_port c.args.side) c.args.system k (row_at rows b)) (row_numbers rows) in
-    let step = found-more with c.loop-port.port c.loop-port.found.items c.row_with.result c.loop-port.auto.port c.loop-port.invariant.found_is c.row_with.ensures.found in
+    let step =
+    found-more with c.loop-port.port c.loop-port.found.items c.row_with.result c.loop-port.auto.port c.loop-port.invariant.found_is
+    c.row_with.ensures.found in
     elim c.match-row_with.branch [
       | in-Some+in_ok-push w ↦ record {
         found_is = ap (λ v. v.items) w.found-is ∙ w.in_ok-push.ensures.items

@@ -6,6 +6,8 @@ use Rattle.mc_driven.proofs.ports.rows_by_port.Given as goal
 
 abbrev pub invariant-loop-port : goal.invariant-loop-port
 invariant-loop-port l = record {
-  found_is : l.found.items ≡ filter_map (λ k. find (λ b. is_at (is_port l.side) l.system k (row_at l.rows b)) (row_numbers l.rows)) (range_with_len 1 (l.port - 1));
+  found_is : l.found.items
+      ≡ filter_map (λ k. find (λ b. is_at (is_port l.side) l.system k (row_at l.rows b)) (row_numbers l.rows))
+      (range_with_len 1 (l.port - 1));
   are_rows : All (λ b. b < length l.rows) l.found.items;
 }

@@ -15,7 +15,8 @@ returns-then-is_number-clause-found c =
     let subsystem : is_subsystem (row_at rows e).kind ≡ true =
     ap (λ (row : Row). is_subsystem row.kind) (sym here) ∙ sym c.is_subsystem.ensures ∙ c.if-is_subsystem.true in
     first-row rows (is_named rows c.args.word.now) e c.loop-e-test.true c.loop-e.invariant
-    (and_from (is_subsystem (row_at rows e).kind) (bytes_eq (decimal e) c.args.word.now) subsystem (sym c.is_number.ensures ∙ c.if-is_number.true))
+    (and_from (is_subsystem (row_at rows e).kind) (bytes_eq (decimal e) c.args.word.now) subsystem
+    (sym c.is_number.ensures ∙ c.if-is_number.true))
 
 pub returns-clause-found : goal.returns-clause-found
 returns-clause-found c =
