@@ -12,10 +12,12 @@ use mc_base::Memory;
 use mc_diagram::Resolved;
 use std::alloc::Global;
 
-/// The code of a model without a loop, and the numbers of what it has.
+/// The code of a model without a loop, whose code is right for its diagram in all parts, and the numbers of what it has.
 ///
-/// Fails only for want of memory.
-pub(crate) fn compiled_from(alloc: Global, r: &Resolved) -> Result<Compiled, Memory>
+/// # Errors
+///
+/// Only where memory runs out.
+pub fn compiled_from(alloc: Global, r: &Resolved) -> Result<Compiled, Memory>
     requires { HasNoLoop (needs_of (diagram_of r.now)) }
     ensures { IfOk result (IsCompilationOf (table_of_tree r.now)) }
 {

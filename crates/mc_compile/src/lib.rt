@@ -1,4 +1,4 @@
-// A model's text compiled to C.
+// A model compiled to C: its text, or the model that was accepted.
 #![tactic(auto)]
 
 mod code;
@@ -7,6 +7,7 @@ mod compiler;
 mod inputs;
 mod text;
 
+pub use code::compiled_from;
 pub use compiled::Compiled;
 pub use compiler::compile;
 
