@@ -18,7 +18,7 @@ use Rattle.mc_runner.specs.Ticks.{IsNarrower}
 use Rattle.mc_diagram.specs.ResolvedTable.{diagram_of_table}
 use Rattle.mc_compile.specs.Compilation.{Compilation, root_types, IsCompiledFrom}
 use Rattle.mdlc.specs.declared.tool.Ending.{Ending}
-use Rattle.mdlc.specs.declared.tool.Ending.TheVariants.{Compiled, Ran, Reported, Usage, Refused, BadTrace, CodeRefused, CodeTooLong, Stuck as IsStuck, ReadFault, WriteFault, PutFault, NoMemory}
+use Rattle.mdlc.specs.declared.tool.Ending.TheVariants.{Compiled, Ran, Reported, Usage, Refused, BadTrace, BadScript, CodeRefused, CodeTooLong, Stuck as IsStuck, ReadFault, WriteFault, PutFault, NoMemory}
 use Rattle.mc_words.specs.Words.{Run, Exec}
 use Rattle.mdlc.specs.Told.{HostTold, SinkTold, NoFault}
 use Rattle.mdlc.specs.Runs.{HasStepTypes, rows_in, rows_over, RunsTaken, RunsTo}
@@ -44,11 +44,11 @@ untold (Some fs) (Some xs) later first name P told h = by (lookup first fs) told
     by (Some bytes) empty = subst (λ (r : Option (List ℕ)). OnFile (Some fs) r name P) empty h
 
 -- the host h1 has the files of h, of which the first was read to its end
-retold : (first name : List ℕ) (h h1 : HostTold) (P : List ℕ → Type 0) → OnNamed h first (λ _. h1.rest ≡ Some []) → h1.files ≡ h.files → OnNamed h1 name P → OnNamed h name P
+pub retold : (first name : List ℕ) (h h1 : HostTold) (P : List ℕ → Type 0) → OnNamed h first (λ _. h1.rest ≡ Some []) → h1.files ≡ h.files → OnNamed h1 name P → OnNamed h name P
 retold first name h h1 P told files known =
     untold h.files h.rest h1.rest first name P told (subst (λ (fs : Option (List File)). OnFile fs h1.rest name P) files known)
 
-on-bytes : (first name : List ℕ) (h h1 : HostTold) (P Q : List ℕ → Type 0) → OnNamed h first (λ _. h1.rest ≡ Some []) → h1.files ≡ h.files → ((bytes : List ℕ) → P bytes → Q bytes) → OnBytes h1 name P → OnBytes h name Q
+pub on-bytes : (first name : List ℕ) (h h1 : HostTold) (P Q : List ℕ → Type 0) → OnNamed h first (λ _. h1.rest ≡ Some []) → h1.files ≡ h.files → ((bytes : List ℕ) → P bytes → Q bytes) → OnBytes h1 name P → OnBytes h name Q
 on-bytes first name h h1 P Q told files q known = record {
   bytes = known.bytes;
   file = retold first name h h1 (λ x. x ≡ known.bytes) told files known.file;
@@ -115,6 +115,7 @@ exec-finds (Ran totals) code trace bytes m h h1 h' b b' r run =
     record { code = code-found (Ran totals) code trace bytes m h h1 h' b b' r run.end run.lines; left = left-twice h h1 h' r.same run.left }
 exec-finds (BadTrace line) code trace bytes m h h1 h' b b' r run =
     record { code = code-found (BadTrace line) code trace bytes m h h1 h' b b' r run.end run.lines; left = left-twice h h1 h' r.same run.left }
+exec-finds (BadScript stop) code trace bytes m h h1 h' b b' r run = absurd run
 exec-finds (IsStuck at) code trace bytes m h h1 h' b b' r run =
     inr (record { code = code-found (IsStuck at) code trace bytes m h h1 h' b b' r run.end run.lines; left = left-twice h h1 h' r.same run.left })
 exec-finds PutFault code trace bytes m h h1 h' b b' r run =
@@ -162,6 +163,7 @@ exec_unstarted Usage code trace bytes h h1 b whole fits left none = absurd none
 exec_unstarted (Reported text) code trace bytes h h1 b whole fits left none = absurd none
 exec_unstarted (Refused refusal) code trace bytes h h1 b whole fits left none = absurd none
 exec_unstarted (BadTrace line) code trace bytes h h1 b whole fits left none = absurd none
+exec_unstarted (BadScript stop) code trace bytes h h1 b whole fits left none = absurd none
 exec_unstarted CodeTooLong code trace bytes h h1 b whole fits left none = absurd none
 exec_unstarted ReadFault code trace bytes h h1 b whole fits left none = absurd none
 exec_unstarted WriteFault code trace bytes h h1 b whole fits left none = absurd none
@@ -227,7 +229,7 @@ never-stuck at c m bytes lines from starts sticks =
     let free : (rows_over p types lines).stuck_place ≡ None = (from.compiled.code.code.runs.bounded (rows_in types lines) (rows-trace (diagram_of_table from.resolved) lines)).not_stuck in
     cc (sym free ∙ moved)
 
-no-faults : (h h1 h' : HostTold) → NoFault h h1 → NoFault h1 h' → NoFault h h'
+pub no-faults : (h h1 h' : HostTold) → NoFault h h1 → NoFault h1 h' → NoFault h h'
 no-faults h h1 h' a b = record { read = b.read ∙ a.read; write = b.write ∙ a.write }
 
 -- memory ran out behind the writing of the code
@@ -243,6 +245,7 @@ run-finds (Ran totals) model code trace c m h h1 h' b b' w starts run =
     record { model = model-found (Ran totals) model code trace c m h h1 h' b b' w starts run.left.written run.end run.lines; no_fault = no-faults h h1 h' w.no_fault run.left.no_fault }
 run-finds (BadTrace line) model code trace c m h h1 h' b b' w starts run =
     record { model = model-found (BadTrace line) model code trace c m h h1 h' b b' w starts run.left.written run.end run.lines; no_fault = no-faults h h1 h' w.no_fault run.left.no_fault }
+run-finds (BadScript stop) model code trace c m h h1 h' b b' w starts run = absurd run
 run-finds (IsStuck at) model code trace c m h h1 h' b b' w starts run =
     absurd (never-stuck at c m w.model.bytes run.lines.bytes w.model.holds starts run.lines.holds.stuck)
 run-finds PutFault model code trace c m h h1 h' b b' w starts run =
@@ -288,6 +291,7 @@ run_unstarted agree Usage model code trace c h h1 b w none = absurd none
 run_unstarted agree (Reported text) model code trace c h h1 b w none = absurd none
 run_unstarted agree (Refused refusal) model code trace c h h1 b w none = absurd none
 run_unstarted agree (BadTrace line) model code trace c h h1 b w none = absurd none
+run_unstarted agree (BadScript stop) model code trace c h h1 b w none = absurd none
 run_unstarted agree CodeTooLong model code trace c h h1 b w none = absurd none
 run_unstarted agree ReadFault model code trace c h h1 b w none = absurd none
 run_unstarted agree WriteFault model code trace c h h1 b w none = absurd none

@@ -7,17 +7,25 @@ use Rattle.mc_edge.specs.Fakes.{SureHostState}
 use Rattle.mc_edge.specs.Files.{File, lookup}
 use Rattle.c_machine.specs.Rows.{start_run}
 use Rattle.c_reading.specs.Agreement.{ReadingsAgree}
-use Rattle.mc_words.specs.Words.{Asked, Compile, Run, Exec, Profile, Gen}
+use Rattle.mc_diagram.specs.ResolvedTable.{ResolvedTable}
+use Rattle.mc_driven.specs.SystemShapes.{ShapesAreOne}
+use Rattle.mc_driven.specs.Words.{system_named}
+use Rattle.mc_words.specs.Words.{Asked, Compile, Run, Exec, Profile, Drive, Gen}
 use Rattle.mdlc.specs.Told.{HostTold, SinkTold}
 use Rattle.mdlc.specs.Endings.{EndsAt}
-use Rattle.mdlc.specs.Statuses.{Comes, ComesExactly, OnTold, run_status, IsDone}
-use Rattle.mdlc.specs.Completeness.{CanDo, IsComplete, first_file, second_file, IsSureOf, IsUnsureOf, BecomesUnsureOf}
+use Rattle.mdlc.specs.Statuses.{Comes, ComesExactly, OnTold, run_status, status_at, SystemComes, IsDone}
+use Rattle.mdlc.specs.Completeness.{CanDrive, CanDo, IsComplete, first_file, second_file, IsSureOf, IsUnsureOf, BecomesUnsureOf}
 use Rattle.mdlc.proofs.Files.{at_there}
 use Rattle.mdlc.proofs.OneAnswer.{OneVerdict}
 use Rattle.mdlc.proofs.StatusLaws.{comes-over, over, told-map, comes_exactly}
 use Rattle.mdlc.proofs.EndingLaws.{no_read, no_write, no_put}
 
 -- ---- What can be done comes to status 0
+
+can-drive : (r : ResolvedTable) (system : Option (Option ℕ)) (script : Option (List ℕ)) → CanDrive r system script →
+    SystemComes r system script 0
+can-drive r None script can = absurd can
+can-drive r (Some system) script (shape, is, whole) = (shape, is, at_there script whole (λ lines end. sym (ap status_at end)))
 
 can-comes : (a : Asked) (fs : List File) → CanDo a fs → Comes a fs 0
 can-comes (Compile model code) fs can = at_there (lookup model fs) can (λ bytes x. inr (x.0, x.1, refl))
@@ -33,6 +41,8 @@ can-comes (Exec code trace) fs can =
       ),
     )))
 can-comes (Profile model) fs can = at_there (lookup model fs) can (λ bytes x. inr (x.0, x.1, refl))
+can-comes (Drive model code word script) fs can =
+    at_there (lookup model fs) can (λ bytes x. inr (x.0, x.1, can-drive x.0 (system_named x.0.table.rows word) (lookup script fs) x.2))
 can-comes (Gen start size model code) fs can = inr (can.0, can.1, refl)
 
 done-by : (s : ℕ) (a : Asked) (fs : List File) → ComesExactly s a fs → s ≢ 5 → s ≢ 6 → s ≢ 7 → CanDo a fs → IsDone s
@@ -44,10 +54,11 @@ done-by s a fs comes reads writes puts can = by (eqb_tells s 10)
 
 -- ---- Where no count rises
 
-pub complete : OneVerdict → ReadingsAgree → (s : ℕ) (a : Option Asked) (h h' : HostTold) (b b' : SinkTold) → EndsAt s a h h' b b' → IsComplete s a h h' b b'
-complete one agree s None h h' b b' ends = λ calm. tt
-complete one agree s (Some a) h h' b b' ends = λ calm.
-    told-map h.files h.rest (comes_exactly one agree s (Some a) h h' b b' ends) (λ fs comes.
+pub complete : OneVerdict → ReadingsAgree → ShapesAreOne → (s : ℕ) (a : Option Asked) (h h' : HostTold) (b b' : SinkTold) →
+    EndsAt s a h h' b b' → IsComplete s a h h' b b'
+complete one agree shapes s None h h' b b' ends = λ calm. tt
+complete one agree shapes s (Some a) h h' b b' ends = λ calm.
+    told-map h.files h.rest (comes_exactly one agree shapes s (Some a) h h' b b' ends) (λ fs comes.
     done-by s a fs comes (no_read s (Some a) h h' b b' ends calm.reads) (no_write s (Some a) h h' b b' ends calm.writes) (no_put s (Some a) h h' b b' ends calm.puts))
 
 -- ---- A host that is sure of its files
@@ -67,10 +78,13 @@ sure-not-unsure {H = H} files sure x a of (inr later) = by (second_file a) of.se
     by None surely later = absurd later
     by (Some name) surely later = apart (sure later.later name) (surely later.later later.same) later.unsure
 
-pub surely_done : {H : Type 0} (files : H → Option (List File)) (sure : H → List ℕ → Bool) (x : H) → OneVerdict → ReadingsAgree → (s : ℕ) (a : Option Asked) (h h' : HostTold) (b b' : SinkTold) → EndsAt s a h h' b b' → IfSome a (λ a. s ≡ 5 → IsUnsureOf files sure x a) → OnTold a h (λ a fs. IsSureOf files sure x a → IsCalm h.write_faults h'.write_faults → IsCalm b.faults b'.faults → CanDo a fs → IsDone s)
-surely_done files sure x one agree s None h h' b b' ends unsure = tt
-surely_done files sure x one agree s (Some a) h h' b b' ends unsure =
-    told-map h.files h.rest (comes_exactly one agree s (Some a) h h' b b' ends) (λ fs comes of writes puts.
+pub surely_done : {H : Type 0} (files : H → Option (List File)) (sure : H → List ℕ → Bool) (x : H) →
+    OneVerdict → ReadingsAgree → ShapesAreOne → (s : ℕ) (a : Option Asked) (h h' : HostTold) (b b' : SinkTold) → EndsAt s a h h' b b' →
+    IfSome a (λ a. s ≡ 5 → IsUnsureOf files sure x a) →
+    OnTold a h (λ a fs. IsSureOf files sure x a → IsCalm h.write_faults h'.write_faults → IsCalm b.faults b'.faults → CanDo a fs → IsDone s)
+surely_done files sure x one agree shapes s None h h' b b' ends unsure = tt
+surely_done files sure x one agree shapes s (Some a) h h' b b' ends unsure =
+    told-map h.files h.rest (comes_exactly one agree shapes s (Some a) h h' b b' ends) (λ fs comes of writes puts.
     done-by s a fs comes (λ five. sure-not-unsure files sure x a of (unsure five)) (no_write s (Some a) h h' b b' ends writes) (no_put s (Some a) h h' b b' ends puts))
 
 -- ---- The host that doesn't fail
@@ -88,13 +102,21 @@ first-there (Compile model code) fs can = is-there (lookup model fs) _ can
 first-there (Run model code trace) fs can = is-there (lookup model fs) _ can
 first-there (Exec code trace) fs can = is-there (lookup code fs) _ can
 first-there (Profile model) fs can = is-there (lookup model fs) _ can
+first-there (Drive model code word script) fs can = is-there (lookup model fs) _ can
 first-there (Gen start size model code) fs can = tt
+
+script-there : (r : ResolvedTable) (system : Option (Option ℕ)) (script : Option (List ℕ)) → CanDrive r system script →
+    is_some script ≡ true
+script-there r None script can = absurd can
+script-there r (Some system) script can = is-there script _ can.2
 
 second-there : (a : Asked) (fs : List File) → CanDo a fs → IfSome (second_file a) (λ name. is_some (lookup name fs) ≡ true)
 second-there (Compile model code) fs can = tt
 second-there (Run model code trace) fs can = inside (lookup model fs) can (λ bytes x. is-there (lookup trace fs) _ x.2)
 second-there (Exec code trace) fs can = inside (lookup code fs) can (λ bytes x. is-there (lookup trace fs) _ x.runs)
 second-there (Profile model) fs can = tt
+second-there (Drive model code word script) fs can =
+    inside (lookup model fs) can (λ bytes x. script-there x.0 (system_named x.0.table.rows word) (lookup script fs) x.2)
 second-there (Gen start size model code) fs can = tt
 
 abbrev told-files : SureHostState → Option (List File)

@@ -6,12 +6,14 @@ use Rattle.mc_edge.specs.Faults.{Rose, IsCalm}
 use Rattle.mc_edge.specs.Files.{add_file}
 use Rattle.mc_compile.specs.Compilation.{Compilation, IsCompiledFrom}
 use Rattle.mdlc.specs.declared.tool.Ending.{Ending}
-use Rattle.mdlc.specs.declared.tool.Ending.TheVariants.{Compiled, Ran, Reported, Usage, Refused, BadTrace, CodeRefused, CodeTooLong, Stuck as IsStuck, ReadFault, WriteFault, PutFault, NoMemory}
-use Rattle.mc_words.specs.Words.{Asked, Compile, Run, Exec, Profile, Gen}
+use Rattle.mdlc.specs.declared.tool.Ending.TheVariants.{Compiled, Ran, Reported, Usage, Refused, BadTrace, BadScript, CodeRefused, CodeTooLong, Stuck as IsStuck, ReadFault, WriteFault, PutFault, NoMemory}
+use Rattle.mc_words.specs.Words.{Asked, Compile, Run, Exec, Profile, Drive, Gen}
 use Rattle.mdlc.specs.Texts.{no_memory_line}
 use Rattle.mdlc.specs.Told.{HostTold, SinkTold, NoFault}
 use Rattle.mdlc.specs.EndingsOfModels.{WritesCodeFront}
+use Rattle.mdlc.specs.declared.tool.ScriptStop.TheVariants.{NoSubsystem, Line, Call}
 use Rattle.mdlc.specs.EndingsOfRuns.{WritesWhole, EndsRunUnread, EndsExecUnread}
+use Rattle.mdlc.specs.EndingsOfDriving.{EndsDriveUnread}
 use Rattle.mdlc.specs.Endings.{status_of, text_of, Finds, CountsPuts, Ends, EndsAt, IsSaidOf, PutsWhole, PutsText, Puts}
 use Rattle.mdlc.specs.Statuses.{IsPlain}
 use Rattle.mdlc.specs.Headline.{Calm}
@@ -71,48 +73,65 @@ host-calm (Compiled rows systems functions) (Some (Compile model code)) h h' b b
 host-calm (Compiled rows systems functions) (Some (Run model code trace)) h h' b b' ends plain = absurd ends
 host-calm (Compiled rows systems functions) (Some (Exec code trace)) h h' b b' ends plain = absurd ends
 host-calm (Compiled rows systems functions) (Some (Profile model)) h h' b b' ends plain = absurd ends.0
+host-calm (Compiled rows systems functions) (Some (Drive model code word script)) h h' b b' ends plain = absurd ends
 host-calm (Compiled rows systems functions) (Some (Gen start size model code)) h h' b b' ends plain = absurd ends
 host-calm (Ran totals) None h h' b b' ends plain = absurd ends.0
 host-calm (Ran totals) (Some (Compile model code)) h h' b b' ends plain = absurd ends.0
 host-calm (Ran totals) (Some (Run model code trace)) h h' b b' ends plain = ends.no_fault
 host-calm (Ran totals) (Some (Exec code trace)) h h' b b' ends plain = ends.left.no_fault
 host-calm (Ran totals) (Some (Profile model)) h h' b b' ends plain = absurd ends.0
+host-calm (Ran totals) (Some (Drive model code word script)) h h' b b' ends plain = ends.no_fault
 host-calm (Ran totals) (Some (Gen start size model code)) h h' b b' ends plain = ends.no_fault
 host-calm (Reported text) None h h' b b' ends plain = absurd ends.0
 host-calm (Reported text) (Some (Compile model code)) h h' b b' ends plain = absurd ends.0
 host-calm (Reported text) (Some (Run model code trace)) h h' b b' ends plain = absurd ends
 host-calm (Reported text) (Some (Exec code trace)) h h' b b' ends plain = absurd ends
 host-calm (Reported text) (Some (Profile model)) h h' b b' ends plain = ends.0.left.no_fault
+host-calm (Reported text) (Some (Drive model code word script)) h h' b b' ends plain = absurd ends
 host-calm (Reported text) (Some (Gen start size model code)) h h' b b' ends plain = absurd ends
 host-calm Usage None h h' b b' ends plain = ends.0.no_fault
 host-calm Usage (Some (Compile model code)) h h' b b' ends plain = absurd ends.0
 host-calm Usage (Some (Run model code trace)) h h' b b' ends plain = absurd ends
 host-calm Usage (Some (Exec code trace)) h h' b b' ends plain = absurd ends
 host-calm Usage (Some (Profile model)) h h' b b' ends plain = absurd ends.0
+host-calm Usage (Some (Drive model code word script)) h h' b b' ends plain = absurd ends
 host-calm Usage (Some (Gen start size model code)) h h' b b' ends plain = absurd ends
 host-calm (Refused refusal) None h h' b b' ends plain = absurd ends.0
 host-calm (Refused refusal) (Some (Compile model code)) h h' b b' ends plain = ends.0.no_fault
 host-calm (Refused refusal) (Some (Run model code trace)) h h' b b' ends plain = ends.0.no_fault
 host-calm (Refused refusal) (Some (Exec code trace)) h h' b b' ends plain = absurd ends
 host-calm (Refused refusal) (Some (Profile model)) h h' b b' ends plain = ends.0.no_fault
+host-calm (Refused refusal) (Some (Drive model code word script)) h h' b b' ends plain = ends.0.no_fault
 host-calm (Refused refusal) (Some (Gen start size model code)) h h' b b' ends plain = ends.0.left.no_fault
 host-calm (BadTrace line) None h h' b b' ends plain = absurd ends.0
+host-calm (BadScript stop) None h h' b b' ends plain = absurd ends.0
 host-calm (BadTrace line) (Some (Compile model code)) h h' b b' ends plain = absurd ends.0
+host-calm (BadScript stop) (Some (Compile model code)) h h' b b' ends plain = absurd ends.0
 host-calm (BadTrace line) (Some (Run model code trace)) h h' b b' ends plain = ends.no_fault
+host-calm (BadScript stop) (Some (Run model code trace)) h h' b b' ends plain = absurd ends
 host-calm (BadTrace line) (Some (Exec code trace)) h h' b b' ends plain = ends.left.no_fault
+host-calm (BadScript stop) (Some (Exec code trace)) h h' b b' ends plain = absurd ends
 host-calm (BadTrace line) (Some (Profile model)) h h' b b' ends plain = absurd ends.0
+host-calm (BadScript stop) (Some (Profile model)) h h' b b' ends plain = absurd ends.0
+host-calm (BadTrace line) (Some (Drive model code word script)) h h' b b' ends plain = absurd ends
 host-calm (BadTrace line) (Some (Gen start size model code)) h h' b b' ends plain = absurd ends
+host-calm (BadScript NoSubsystem) (Some (Drive model code word script)) h h' b b' ends plain = ends.left.no_fault
+host-calm (BadScript (Line bad)) (Some (Drive model code word script)) h h' b b' ends plain = ends.no_fault
+host-calm (BadScript (Call refused)) (Some (Drive model code word script)) h h' b b' ends plain = ends.no_fault
+host-calm (BadScript stop) (Some (Gen start size model code)) h h' b b' ends plain = absurd ends
 host-calm (CodeRefused fault) None h h' b b' ends plain = absurd ends.0
 host-calm (CodeRefused fault) (Some (Compile model code)) h h' b b' ends plain = absurd ends.0
 host-calm (CodeRefused fault) (Some (Run model code trace)) h h' b b' ends plain = absurd ends
 host-calm (CodeRefused fault) (Some (Exec code trace)) h h' b b' ends plain = ends.left.no_fault
 host-calm (CodeRefused fault) (Some (Profile model)) h h' b b' ends plain = absurd ends.0
+host-calm (CodeRefused fault) (Some (Drive model code word script)) h h' b b' ends plain = absurd ends
 host-calm (CodeRefused fault) (Some (Gen start size model code)) h h' b b' ends plain = absurd ends
 host-calm CodeTooLong None h h' b b' ends plain = absurd ends.0
 host-calm CodeTooLong (Some (Compile model code)) h h' b b' ends plain = absurd ends.0
 host-calm CodeTooLong (Some (Run model code trace)) h h' b b' ends plain = absurd ends
 host-calm CodeTooLong (Some (Exec code trace)) h h' b b' ends plain = ends.left.no_fault
 host-calm CodeTooLong (Some (Profile model)) h h' b b' ends plain = absurd ends.0
+host-calm CodeTooLong (Some (Drive model code word script)) h h' b b' ends plain = absurd ends
 host-calm CodeTooLong (Some (Gen start size model code)) h h' b b' ends plain = absurd ends
 host-calm (IsStuck at) None h h' b b' ends plain = absurd ends.0
 host-calm (IsStuck at) (Some (Compile model code)) h h' b b' ends plain = absurd ends.0
@@ -120,6 +139,7 @@ host-calm (IsStuck at) (Some (Run model code trace)) h h' b b' ends plain = absu
 host-calm (IsStuck at) (Some (Exec code trace)) h h' b b' (inl ends) plain = ends.left.no_fault
 host-calm (IsStuck at) (Some (Exec code trace)) h h' b b' (inr ends) plain = ends.left.no_fault
 host-calm (IsStuck at) (Some (Profile model)) h h' b b' ends plain = absurd ends.0
+host-calm (IsStuck at) (Some (Drive model code word script)) h h' b b' ends plain = absurd ends
 host-calm (IsStuck at) (Some (Gen start size model code)) h h' b b' ends plain = absurd ends
 host-calm ReadFault a h h' b b' ends plain = absurd (plain.no_read_fault refl)
 host-calm WriteFault a h h' b b' ends plain = absurd (plain.no_write_fault refl)
@@ -135,6 +155,7 @@ same-puts Usage b b' other counts = counts
 same-puts (Reported text) b b' other counts = counts
 same-puts (Refused refusal) b b' other counts = counts
 same-puts (BadTrace line) b b' other counts = counts
+same-puts (BadScript stop) b b' other counts = counts
 same-puts (CodeRefused fault) b b' other counts = counts
 same-puts CodeTooLong b b' other counts = counts
 same-puts (IsStuck at) b b' other counts = counts
@@ -168,6 +189,11 @@ read-rose (Some (Exec code trace)) h h' b b' ends = unread ends
     unread (inl u) = u.0.rose
     unread (inr u) = u.0
 read-rose (Some (Profile model)) h h' b b' ends = ends.0.rose
+read-rose (Some (Drive model code word script)) h h' b b' ends = unread ends
+  where
+    unread : EndsDriveUnread model code word script h h' b b' → Rose h.read_faults h'.read_faults
+    unread (inl u) = u.0.rose
+    unread (inr u) = u.0
 read-rose (Some (Gen start size model code)) h h' b b' ends = absurd ends
 
 write-rose : (a : Option Asked) (h h' : HostTold) (b b' : SinkTold) → Finds WriteFault a h h' b b' → Rose h.write_faults h'.write_faults
@@ -176,6 +202,7 @@ write-rose (Some (Compile model code)) h h' b b' ends = ends.0.rose
 write-rose (Some (Run model code trace)) h h' b b' ends = ends.0.rose
 write-rose (Some (Exec code trace)) h h' b b' ends = absurd ends
 write-rose (Some (Profile model)) h h' b b' ends = absurd ends.0
+write-rose (Some (Drive model code word script)) h h' b b' ends = ends.0.rose
 write-rose (Some (Gen start size model code)) h h' b b' ends = ends.0.rose
 
 -- a count that rose behind the lines rose in the call
@@ -187,6 +214,7 @@ rises Usage b before now counts rose = omega (arith, counts, rose)
 rises (Reported text) b before now counts rose = omega (arith, counts, rose)
 rises (Refused refusal) b before now counts rose = omega (arith, counts, rose)
 rises (BadTrace line) b before now counts rose = omega (arith, counts, rose)
+rises (BadScript stop) b before now counts rose = omega (arith, counts, rose)
 rises (CodeRefused fault) b before now counts rose = omega (arith, counts, rose)
 rises CodeTooLong b before now counts rose = omega (arith, counts, rose)
 rises (IsStuck at) b before now counts rose = omega (arith, counts, rose)

@@ -12,7 +12,7 @@ use Rattle.mc_gen.specs.Models.{model_text, trace_text}
 use Rattle.mc_runner.specs.declared.outcome.Totals.{Totals}
 use Rattle.mc_runner.specs.Runs.{totals_of}
 use Rattle.mdlc.specs.declared.tool.Ending.{Ending}
-use Rattle.mdlc.specs.declared.tool.Ending.TheVariants.{Compiled, Ran, Reported, Usage, Refused, BadTrace, CodeRefused, CodeTooLong, Stuck as IsStuck, ReadFault, WriteFault, PutFault, NoMemory}
+use Rattle.mdlc.specs.declared.tool.Ending.TheVariants.{Compiled, Ran, Reported, Usage, Refused, BadTrace, BadScript, CodeRefused, CodeTooLong, Stuck as IsStuck, ReadFault, WriteFault, PutFault, NoMemory}
 use Rattle.mc_words.specs.Words.{Gen}
 use Rattle.mdlc.specs.Told.{HostTold, SinkTold}
 use Rattle.mdlc.specs.Texts.{totals_line}
@@ -69,6 +69,7 @@ pub generate_does : OneVerdict → (e : Ending) (s start size : ℕ) (model code
 generate_does one (Ran totals) s start size model code h h' b before b' ends plain is whole =
     for-verdict start size model code h h' ends.both one s b b' (ran start size model code h h' ends.both s b before b' totals is ends.runs.free ends.runs.good ends.runs.totals ends.runs.lines whole)
 generate_does one (BadTrace line) s start size model code h h' b before b' ends plain is whole = absurd ends
+generate_does one (BadScript stop) s start size model code h h' b before b' ends plain is whole = absurd ends
 generate_does one (Refused refusal) s start size model code h h' b before b' ends plain is whole = record {
   accepted = λ r accepts. absurd (accepted_only one (model_text start size) r (plain_refusal refusal) accepts ends.0.verdict);
   refused = λ other refuses. tells_refusal one (plain_refusal refusal) other (model_text start size) s h h' b before b' is ends.0.verdict refuses ends.0.left.written ends.1 whole;

@@ -8,11 +8,15 @@ pub mod Unwritten
 pub mod ProfileLaws
 pub mod GenerateLaws
 pub mod MadeLaws
+pub mod DrivesRight
 pub mod RightLaws
 pub mod EndingLaws
 pub mod RunLaws
+pub mod ScriptLaws
 pub mod RootTypes
 pub mod CodeLaws
+pub mod Drivers
+pub mod DriveLaws
 pub mod Completeness
 pub mod Unsure
 pub mod Starts

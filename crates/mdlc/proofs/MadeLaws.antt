@@ -14,7 +14,7 @@ use Rattle.mc_gen.specs.Models.{model_text, trace_text}
 use Rattle.mc_gen_models.specs.Laws.{GeneratedTracesAreRows}
 use Rattle.mc_trace.specs.declared.rows.BadLine.{BadLine}
 use Rattle.mdlc.specs.declared.tool.Ending.{Ending}
-use Rattle.mdlc.specs.declared.tool.Ending.TheVariants.{Compiled, Ran, Reported, Usage, Refused, BadTrace, CodeRefused, CodeTooLong, Stuck as IsStuck, ReadFault, WriteFault, PutFault, NoMemory}
+use Rattle.mdlc.specs.declared.tool.Ending.TheVariants.{Compiled, Ran, Reported, Usage, Refused, BadTrace, BadScript, CodeRefused, CodeTooLong, Stuck as IsStuck, ReadFault, WriteFault, PutFault, NoMemory}
 use Rattle.mc_words.specs.Words.{Gen}
 use Rattle.mdlc.specs.Told.{HostTold, SinkTold}
 use Rattle.mdlc.specs.Runs.{bad_line, RunsTo, RunsToBadLine}
@@ -57,6 +57,7 @@ module _ (c : Compilation) (start size : ℕ) (model code : List ℕ) (h h' : Ho
   made_unput Usage b b' none = absurd none
   made_unput (Refused refusal) b b' none = absurd none
   made_unput (BadTrace line) b b' none = absurd none
+  made_unput (BadScript stop) b b' none = absurd none
   made_unput (CodeRefused fault) b b' none = absurd none
   made_unput CodeTooLong b b' none = absurd none
   made_unput (IsStuck at) b b' none = absurd none
@@ -82,6 +83,7 @@ module _ (c : Compilation) (start size : ℕ) (model code : List ℕ) (h h' : Ho
     made_unstarted agree Usage none = absurd none
     made_unstarted agree (Refused refusal) none = absurd none
     made_unstarted agree (BadTrace line) none = absurd none
+    made_unstarted agree (BadScript stop) none = absurd none
     made_unstarted agree CodeTooLong none = absurd none
     made_unstarted agree ReadFault none = absurd none
     made_unstarted agree WriteFault none = absurd none
@@ -100,6 +102,7 @@ module _ (c : Compilation) (start size : ℕ) (model code : List ℕ) (h h' : Ho
     pub made_ends : GeneratedTracesAreRows → 0 < size → (e : Ending) (m : MachineState) (b' : SinkTold) → StartsFrom c.code m → RowsEnd e (tree_of m) c.inputs (trace_text start size) b1 b' → CountsPuts e b1 b' → Ends e (Some (Gen start size model code)) h h' b b'
     made_ends good some (Ran totals) m b' starts run counts = record { finds = ran-made (Ran totals) m b' starts run; counts = counts ∙ put.no_fault }
     made_ends good some (BadTrace line) m b' starts run counts = absurd (never-bad good some line (tree_of m) b1 b' run)
+    made_ends good some (BadScript stop) m b' starts run counts = absurd run
     made_ends good some PutFault m b' starts run counts =
         record { finds = inr (ran-made PutFault m b' starts run); counts = subst (λ (n : ℕ). Rose n b'.faults) put.no_fault counts }
     made_ends good some NoMemory m b' starts run counts = record { finds = inr (both-of, inr (run ∙ lined)); counts = counts ∙ put.no_fault }

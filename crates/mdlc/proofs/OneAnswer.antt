@@ -17,9 +17,13 @@ use Rattle.c_checked.specs.Checked.{fix_type}
 use Rattle.mc_verdict.specs.Verdict.{Verdict, HasVerdict, Accepted, Refused as IsRefused, HasOneVerdict}
 use Rattle.mc_compile.specs.Compilation.{root_types}
 use Rattle.mc_gen.specs.Models.{model_text}
-use Rattle.mc_words.specs.Words.{Asked, Compile, Run, Exec, Profile, Gen}
+use Rattle.mc_drive.specs.Shapes.{Shape}
+use Rattle.mc_driven.specs.SystemShapes.{ShapesAreOne}
+use Rattle.mc_driven.specs.Words.{system_named}
+use Rattle.mc_script_runner.specs.ScriptEnds.{script_end}
+use Rattle.mc_words.specs.Words.{Asked, Compile, Run, Exec, Profile, Drive, Gen}
 use Rattle.mdlc.specs.Runs.{HasStepTypes, bad_line}
-use Rattle.mdlc.specs.Statuses.{ModelComes, ProgramComes, CodeComes, Comes, run_status, status_over}
+use Rattle.mdlc.specs.Statuses.{ModelComes, ProgramComes, CodeComes, Comes, run_status, status_over, status_at, SystemComes, DriveComes}
 
 -- ---- Verdicts
 
@@ -108,19 +112,37 @@ code-one agree code trace n m (inr (inr (fits, (p, text, h)))) (inr (inr (also, 
     let same : q ≡ p = agree.one code q p too text in
     outcome-one p (start_run p) trace n m (agree.lawful code p text) h (subst (λ (x : ProgramTree). ProgramComes x (start_run x) trace m) same k)
 
+system-one : ShapesAreOne → (r : ResolvedTable) (system : Option (Option ℕ)) (script : Option (List ℕ)) (n m : ℕ) →
+    SystemComes r system script n → SystemComes r system script m → n ≡ m
+system-one shapes r None script n m h k = h ∙ sym k
+system-one shapes r (Some system) script n m (a, is, h) (b, also, k) =
+    some-one script n m h k (λ lines x y.
+    x ∙ ap (λ (shape : Shape). status_at (script_end shape lines)) (shapes.one r system a b is also) ∙ sym y)
+
+drive-one : OneVerdict → ShapesAreOne → (model word : List ℕ) (script : Option (List ℕ)) (n m : ℕ) →
+    DriveComes model word script n → DriveComes model word script m → n ≡ m
+drive-one one shapes model word script n m (inl (r, is, n-is)) (inl (q, also, m-is)) = n-is ∙ sym m-is
+drive-one one shapes model word script n m (inl (q, is, n-is)) (inr (r, also, h)) = absurd (accepted_only one model r q also is)
+drive-one one shapes model word script n m (inr (r, is, h)) (inl (q, also, m-is)) = absurd (accepted_only one model r q is also)
+drive-one one shapes model word script n m (inr (r, is, h)) (inr (other, also, k)) =
+    system-one shapes r (system_named r.table.rows word) script n m h
+    (subst (λ (x : ResolvedTable). SystemComes x (system_named x.table.rows word) script m) (same_resolution one model other r also is) k)
+
 -- the status of a run of a diagram's code over the trace of this name
 abbrev RunComes : List ℕ → List File → ℕ → Diagram → Type 0
 RunComes trace fs n d = IsSomeAnd (lookup trace fs) (λ lines. n ≡ run_status None (bad_line (root_types d) lines))
 
 -- what is asked for comes to one status
-pub comes-one : OneVerdict → ReadingsAgree → (a : Asked) (fs : List File) (n m : ℕ) → Comes a fs n → Comes a fs m → n ≡ m
-comes-one one agree (Compile model code) fs n m h k =
+pub comes-one : OneVerdict → ReadingsAgree → ShapesAreOne → (a : Asked) (fs : List File) (n m : ℕ) → Comes a fs n → Comes a fs m → n ≡ m
+comes-one one agree shapes (Compile model code) fs n m h k =
     some-one (lookup model fs) n m h k (λ bytes x y. model-one one bytes n m {P = λ d. n ≡ 0} {Q = λ d. m ≡ 0} (λ d p q. p ∙ sym q) x y)
-comes-one one agree (Run model code trace) fs n m h k =
+comes-one one agree shapes (Run model code trace) fs n m h k =
     some-one (lookup model fs) n m h k (λ bytes x y. model-one one bytes n m {P = RunComes trace fs n} {Q = RunComes trace fs m} (λ d p q. some-one (lookup trace fs) n m p q (λ lines u v. u ∙ sym v)) x y)
-comes-one one agree (Exec code trace) fs n m h k =
+comes-one one agree shapes (Exec code trace) fs n m h k =
     some-one (lookup code fs) n m h k (λ bytes x y. code-one agree bytes (lookup trace fs) n m x y)
-comes-one one agree (Profile model) fs n m h k =
+comes-one one agree shapes (Profile model) fs n m h k =
     some-one (lookup model fs) n m h k (λ bytes x y. model-one one bytes n m {P = λ d. n ≡ 0} {Q = λ d. m ≡ 0} (λ d p q. p ∙ sym q) x y)
-comes-one one agree (Gen start size model code) fs n m h k =
+comes-one one agree shapes (Drive model code word script) fs n m h k =
+    some-one (lookup model fs) n m h k (λ bytes x y. drive-one one shapes bytes word (lookup script fs) n m x y)
+comes-one one agree shapes (Gen start size model code) fs n m h k =
     model-one one (model_text start size) n m {P = λ d. n ≡ 0} {Q = λ d. m ≡ 0} (λ d p q. p ∙ sym q) h k

@@ -6,7 +6,7 @@ use Rattle.mc_diagram.specs.ResolvedTable.{ResolvedTable, diagram_of_table}
 use Rattle.mc_report.specs.Reports.{IsReportText}
 use Rattle.mc_interfaces.specs.Interfaces.{IsReportOf}
 use Rattle.mdlc.specs.declared.tool.Ending.{Ending}
-use Rattle.mdlc.specs.declared.tool.Ending.TheVariants.{Compiled, Ran, Reported, Usage, Refused, BadTrace, CodeRefused, CodeTooLong, Stuck as IsStuck, ReadFault, WriteFault, PutFault, NoMemory}
+use Rattle.mdlc.specs.declared.tool.Ending.TheVariants.{Compiled, Ran, Reported, Usage, Refused, BadTrace, BadScript, CodeRefused, CodeTooLong, Stuck as IsStuck, ReadFault, WriteFault, PutFault, NoMemory}
 use Rattle.mc_words.specs.Words.{Profile}
 use Rattle.mdlc.specs.Told.{HostTold, SinkTold}
 use Rattle.mdlc.specs.Endings.{status_of, text_of, PutsWhole, Finds}
@@ -54,6 +54,7 @@ profile_does one (Compiled rows systems functions) s model h h' b before b' ends
 profile_does one (Ran totals) s model h h' b before b' ends plain is whole = absurd ends.0
 profile_does one Usage s model h h' b before b' ends plain is whole = absurd ends.0
 profile_does one (BadTrace line) s model h h' b before b' ends plain is whole = absurd ends.0
+profile_does one (BadScript stop) s model h h' b before b' ends plain is whole = absurd ends.0
 profile_does one (CodeRefused fault) s model h h' b before b' ends plain is whole = absurd ends.0
 profile_does one CodeTooLong s model h h' b before b' ends plain is whole = absurd ends.0
 profile_does one (IsStuck at) s model h h' b before b' ends plain is whole = absurd ends.0

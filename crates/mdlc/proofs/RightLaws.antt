@@ -19,8 +19,9 @@ use Rattle.c_reading.specs.Agreement.{ReadingsAgree}
 use Rattle.mc_compile.specs.Compilation.{Compilation, root_types, IsCompilationOf}
 use Rattle.mc_runner.specs.declared.outcome.Totals.{Totals}
 use Rattle.mdlc.specs.declared.tool.Ending.{Ending}
-use Rattle.mdlc.specs.declared.tool.Ending.TheVariants.{Compiled, Ran, Reported, Usage, Refused, BadTrace, CodeRefused, CodeTooLong, Stuck as IsStuck, ReadFault, WriteFault, PutFault, NoMemory}
-use Rattle.mc_words.specs.Words.{Asked, Compile, Run, Exec, Profile, Gen}
+use Rattle.mdlc.specs.declared.tool.Ending.TheVariants.{Compiled, Ran, Reported, Usage, Refused, BadTrace, BadScript, CodeRefused, CodeTooLong, Stuck as IsStuck, ReadFault, WriteFault, PutFault, NoMemory}
+use Rattle.mc_driven.specs.SystemShapes.{ShapesAreOne}
+use Rattle.mc_words.specs.Words.{Asked, Compile, Run, Exec, Profile, Drive, Gen}
 use Rattle.mdlc.specs.Told.{HostTold, SinkTold}
 use Rattle.mdlc.specs.Texts.{compiled_line, totals_line, code_refused_line, long_code_line, stuck_line}
 use Rattle.mdlc.specs.Runs.{HasStepTypes, rows_in, rows_over, bad_line, PutsTicks}
@@ -36,6 +37,7 @@ use Rattle.mdlc.proofs.TraceTypes.{rows-trace}
 use Rattle.mdlc.proofs.PutTexts.{put_alone, run_lines, tells_refusal, refusal_unsaid}
 use Rattle.mdlc.proofs.Unwritten.{exec_unwritten, profile_unwritten}
 use Rattle.mdlc.proofs.ProfileLaws.{profile_does, profile_memory}
+use Rattle.mdlc.proofs.DrivesRight.{drive_does, drive_memory}
 use Rattle.mdlc.proofs.GenerateLaws.{generate_does, generate_memory}
 
 -- ---- `compile`
@@ -75,6 +77,7 @@ compile-does one (Ran totals) s model code h h' b before b' ends plain is whole 
 compile-does one Usage s model code h h' b before b' ends plain is whole = absurd ends.0
 compile-does one (Reported text) s model code h h' b before b' ends plain is whole = absurd ends.0
 compile-does one (BadTrace line) s model code h h' b before b' ends plain is whole = absurd ends.0
+compile-does one (BadScript stop) s model code h h' b before b' ends plain is whole = absurd ends.0
 compile-does one (CodeRefused fault) s model code h h' b before b' ends plain is whole = absurd ends.0
 compile-does one CodeTooLong s model code h h' b before b' ends plain is whole = absurd ends.0
 compile-does one (IsStuck at) s model code h h' b before b' ends plain is whole = absurd ends.0
@@ -115,6 +118,7 @@ run-does one (Ran totals) s model code trace h h' b before b' ends plain is whol
 run-does one (BadTrace line) s model code trace h h' b before b' ends plain is whole =
     known_file h.files h.rest model (named h model ends.model) (λ bytes m. for-diagram one bytes trace s code h h' b b' m.whole (known_file h.files h.rest trace (named h trace m.runs) (λ lines run.
     ran m.whole.resolved lines s code h h' b before b' m.whole.compilation m.whole.right (Some line) (text_of (BadTrace line)) m.whole.written is run.bad run.free refl run.lines whole)))
+run-does one (BadScript stop) s model code trace h h' b before b' ends plain is whole = absurd ends
 run-does one (Refused refusal) s model code trace h h' b before b' ends plain is whole =
     known_file h.files h.rest model (named h model ends.0.model) (λ bytes v. record {
       accepted = λ d accepts. absurd (accepted_only one bytes d (plain_refusal refusal) accepts v);
@@ -232,6 +236,7 @@ exec-does agree (Ran totals) s code trace h h' b before b' ends plain is whole =
 exec-does agree (BadTrace line) s code trace h h' b before b' ends plain is whole =
     known_file h.files h.rest code (named h code ends.code) (λ bytes x. executed agree bytes trace s h h' b b' x.starts ends.left.written (known_file h.files h.rest trace (named h trace x.runs) (λ lines run.
     told-run x.starts.program x.starts.types lines s b before b' None (Some line) run.free run.bad is run.lines whole)))
+exec-does agree (BadScript stop) s code trace h h' b before b' ends plain is whole = absurd ends
 exec-does agree (IsStuck at) s code trace h h' b before b' ends plain is whole = exec-stuck agree at s code trace h h' b before b' ends is whole
 exec-does agree (CodeRefused fault) s code trace h h' b before b' ends plain is whole =
     known_file h.files h.rest code (named h code ends.code) (λ bytes x. exec-unread agree fault bytes trace s h h' b before b' is x.0 x.1 ends.left.written ends.silent whole)
@@ -248,13 +253,21 @@ exec-does agree WriteFault s code trace h h' b before b' ends plain is whole = a
 
 -- ---- All
 
-does : OneVerdict → ReadingsAgree → (e : Ending) (s : ℕ) (a : Option Asked) (h h' : HostTold) (b before b' : SinkTold) → Finds e a h h' b before → IsPlain (status_of e) → s ≡ status_of e → PutsWhole (text_of e) before b' → Does s a h h' b b'
-does one agree e s None h h' b before b' ends plain is whole = tt
-does one agree e s (Some (Compile model code)) h h' b before b' ends plain is whole = compile-does one e s model code h h' b before b' ends plain is whole
-does one agree e s (Some (Run model code trace)) h h' b before b' ends plain is whole = run-does one e s model code trace h h' b before b' ends plain is whole
-does one agree e s (Some (Exec code trace)) h h' b before b' ends plain is whole = exec-does agree e s code trace h h' b before b' ends plain is whole
-does one agree e s (Some (Profile model)) h h' b before b' ends plain is whole = profile_does one e s model h h' b before b' ends plain is whole
-does one agree e s (Some (Gen start size model code)) h h' b before b' ends plain is whole = generate_does one e s start size model code h h' b before b' ends plain is whole
+does : OneVerdict → ReadingsAgree → ShapesAreOne → (e : Ending) (s : ℕ) (a : Option Asked) (h h' : HostTold) (b before b' : SinkTold) →
+    Finds e a h h' b before → IsPlain (status_of e) → s ≡ status_of e → PutsWhole (text_of e) before b' → Does s a h h' b b'
+does one agree shapes e s None h h' b before b' ends plain is whole = tt
+does one agree shapes e s (Some (Compile model code)) h h' b before b' ends plain is whole =
+    compile-does one e s model code h h' b before b' ends plain is whole
+does one agree shapes e s (Some (Run model code trace)) h h' b before b' ends plain is whole =
+    run-does one e s model code trace h h' b before b' ends plain is whole
+does one agree shapes e s (Some (Exec code trace)) h h' b before b' ends plain is whole =
+    exec-does agree e s code trace h h' b before b' ends plain is whole
+does one agree shapes e s (Some (Profile model)) h h' b before b' ends plain is whole =
+    profile_does one e s model h h' b before b' ends plain is whole
+does one agree shapes e s (Some (Drive model code word script)) h h' b before b' ends plain is whole =
+    drive_does one shapes e s model code word script h h' b before b' ends plain is whole
+does one agree shapes e s (Some (Gen start size model code)) h h' b before b' ends plain is whole =
+    generate_does one e s start size model code h h' b before b' ends plain is whole
 
 -- want of memory, whatever was found
 starved : (e : Ending) (s : ℕ) (a : Option Asked) (h h' : HostTold) (b before b' : SinkTold) → s ≡ 10 → Finds e a h h' b before → Does s a h h' b b'
@@ -265,14 +278,17 @@ starved e s (Some (Exec code trace)) h h' b before b' is ends =
     any_file h.files h.rest code (λ bytes. exec-memory bytes trace s h h' b b' is (exec_unwritten e code trace h h' b before ends))
 starved e s (Some (Profile model)) h h' b before b' is ends =
     any_file h.files h.rest model (λ bytes. profile_memory bytes s h h' b b' is (profile_unwritten e model h h' b before ends))
+starved e s (Some (Drive model code word script)) h h' b before b' is ends =
+    any_file h.files h.rest model (λ bytes. drive_memory word script code bytes s h h' b b' is)
 starved e s (Some (Gen start size model code)) h h' b before b' is ends = generate_memory start size s model code h h' b b' is
 
-pub does_right : OneVerdict → ReadingsAgree → (s : ℕ) (a : Option Asked) (h h' : HostTold) (b b' : SinkTold) → EndsAt s a h h' b b' → DoesRight s a h h' b b'
-does_right one agree s a h h' b b' e calm = by (eqb_tells s 10)
+pub does_right : OneVerdict → ReadingsAgree → ShapesAreOne → (s : ℕ) (a : Option Asked) (h h' : HostTold) (b b' : SinkTold) →
+    EndsAt s a h h' b b' → DoesRight s a h h' b b'
+does_right one agree shapes s a h h' b b' e calm = by (eqb_tells s 10)
   where
     by : {A B : Type 0} → (A × (s ≡ 10)) ⊎ (B × (s ≢ 10)) → Does s a h h' b b'
     by (inl ten) = starved e.found s a h h' b e.before b' ten.1 e.ends.finds
     by (inr other) =
         let plain : IsPlain s = calm_plain s a h h' b b' e calm other.1 in
         let f : SaysFound s a h h' b b' = says_found s a h h' b b' e plain.no_put_fault other.1 in
-        does one agree f.found s a h h' b f.before b' f.ends.finds (subst IsPlain f.status plain) f.status f.whole
+        does one agree shapes f.found s a h h' b f.before b' f.ends.finds (subst IsPlain f.status plain) f.status f.whole

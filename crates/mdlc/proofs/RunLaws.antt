@@ -46,6 +46,16 @@ both-parts rest None told parts is took left =
 both-parts rest (Some x) told parts is took left =
     some-bytes told (parts.taken ++ parts.left) (sym is ∙ took ∙ ap (λ (y : List ℕ). Some (parts.taken ++ y)) left)
 
+-- what holds of the two parts of the bytes that were run holds of the file's
+pub on-file : (rest : Option (List ℕ)) (name : List ℕ) (h h' : HostTold) → OnNamed h name (λ bytes. rest ≡ Some bytes) →
+    (parts : Parts) (P : List ℕ → Type 0) → rest ≡ prepend_known parts.taken h'.rest → IfSome h'.rest (λ told. told ≡ parts.left) →
+    P (parts.taken ++ parts.left) → OnBytes h name P
+on-file rest name h h' opened parts P took left holds = record {
+  bytes = parts.taken ++ parts.left;
+  file = there h.files h.rest name opened (λ told is. both-parts rest h'.rest told parts is took left);
+  holds = holds;
+}
+
 same-totals : (t u : Totals) → t.ticks ≡ u.ticks → t.steps ≡ u.steps → t.calls ≡ u.calls → t ≡ u
 same-totals t u ticks steps calls = λ i. record { ticks = ticks i; steps = steps i; calls = calls i }
 
@@ -106,41 +116,33 @@ module _ (m m' : MachineState) (types : List FixType) (taken : Totals) (rest : O
   abbrev Over : Result (Unit {0}) RunFault → Type 0
   Over result = RunsOver result rest h'.rest types (standing m no_totals b.bytes) (standing m' taken b'.bytes)
 
-  -- what holds of the two parts of the bytes that were run holds of the file's
-  on-file : (parts : Parts) (P : List ℕ → Type 0) → rest ≡ prepend_known parts.taken h'.rest → IfSome h'.rest (λ told. told ≡ parts.left) → P (parts.taken ++ parts.left) → OnBytes h name P
-  on-file parts P took left holds = record {
-    bytes = parts.taken ++ parts.left;
-    file = there h.files h.rest name opened (λ told is. both-parts rest h'.rest told parts is took left);
-    holds = holds;
-  }
-
   abbrev bytes-of : Parts → List ℕ
   bytes-of parts = parts.taken ++ parts.left
 
   pub whole-file : LeavesHost h h' → IsAtEnd h'.rest → Over (Ok tt) → RunsFile (Ran taken) (tree_of m) types name h h' b b'
   whole-file left end over = record {
-    lines = on-file over.parts (λ bytes. RunsWhole taken (tree_of m) types bytes b b') over.took over.left (whole_rows m m' types taken b b' start (bytes-of over.parts) over.ends);
+    lines = on-file rest name h h' opened over.parts (λ bytes. RunsWhole taken (tree_of m) types bytes b b') over.took over.left (whole_rows m m' types taken b b' start (bytes-of over.parts) over.ends);
     end = end;
     left = left;
   }
 
   pub bad-file : (line : BadLine) → LeavesHost h h' → Over (Err (fault.Trace line)) → RunsFile (BadTrace line) (tree_of m) types name h h' b b'
   bad-file line left over = record {
-    lines = on-file over.parts (λ bytes. RunsToBadLine line (tree_of m) types bytes b b') over.took over.left (bad_rows m m' types taken b b' start line (bytes-of over.parts) over.ends);
+    lines = on-file rest name h h' opened over.parts (λ bytes. RunsToBadLine line (tree_of m) types bytes b b') over.took over.left (bad_rows m m' types taken b b' start line (bytes-of over.parts) over.ends);
     end = tt;
     left = left;
   }
 
   pub stuck-file : (at : Stuck) → LeavesHost h h' → Over (Err (fault.Stuck at)) → RunsFile (IsStuck at) (tree_of m) types name h h' b b'
   stuck-file at left over = record {
-    lines = on-file over.parts (λ bytes. RunsToStuck at (tree_of m) types bytes b b') over.took over.left (stuck_rows m m' types taken b b' start at (bytes-of over.parts) over.ends);
+    lines = on-file rest name h h' opened over.parts (λ bytes. RunsToStuck at (tree_of m) types bytes b b') over.took over.left (stuck_rows m m' types taken b b' start at (bytes-of over.parts) over.ends);
     end = tt;
     left = left;
   }
 
   pub cut-file : LeavesHost h h' → Over (Err fault.Out) → RunsFile PutFault (tree_of m) types name h h' b b'
   cut-file left over = record {
-    lines = on-file over.parts (λ bytes. RunsToPutFault (tree_of m) types bytes b b') over.took over.left (cut_rows m m' types taken b b' start (bytes-of over.parts) over.ends);
+    lines = on-file rest name h h' opened over.parts (λ bytes. RunsToPutFault (tree_of m) types bytes b b') over.took over.left (cut_rows m m' types taken b b' start (bytes-of over.parts) over.ends);
     end = tt;
     left = left;
   }

@@ -10,17 +10,24 @@ use Rattle.c_syntax.specs.Tree.{ProgramTree}
 use Rattle.c_machine.specs.Machine.{Outcome, done, stuck}
 use Rattle.c_machine.specs.Rows.{start_run, rows_of_start}
 use Rattle.c_reading.specs.Agreement.{ReadingsAgree}
-use Rattle.mc_diagram.specs.ResolvedTable.{diagram_of_table}
+use Rattle.mc_diagram.specs.ResolvedTable.{ResolvedTable, diagram_of_table}
 use Rattle.mc_compile.specs.Compilation.{root_types}
+use Rattle.mc_drive.specs.Driven.{Driven, shape_of}
+use Rattle.mc_driven.specs.SystemShapes.{IsSystemOfModel, ShapesAreOne}
+use Rattle.mc_driven.specs.Words.{system_named}
+use Rattle.mc_script_runner.specs.ScriptEnds.{script_end}
 use Rattle.mdlc.specs.declared.tool.Ending.{Ending}
-use Rattle.mdlc.specs.declared.tool.Ending.TheVariants.{Compiled, Ran, Reported, Usage, Refused, BadTrace, CodeRefused, CodeTooLong, Stuck as IsStuck, ReadFault, WriteFault, PutFault, NoMemory}
-use Rattle.mc_words.specs.Words.{Asked, Compile, Run, Exec, Profile, Gen}
+use Rattle.mdlc.specs.declared.tool.Ending.TheVariants.{Compiled, Ran, Reported, Usage, Refused, BadTrace, BadScript, CodeRefused, CodeTooLong, Stuck as IsStuck, ReadFault, WriteFault, PutFault, NoMemory}
+use Rattle.mdlc.specs.declared.tool.ScriptStop.TheVariants.{NoSubsystem, Line, Call}
+use Rattle.mc_words.specs.Words.{Asked, Compile, Run, Exec, Profile, Drive, Gen}
 use Rattle.mdlc.specs.Told.{HostTold, SinkTold}
 use Rattle.mdlc.specs.Runs.{HasStepTypes, rows_in, rows_over, bad_line, RunsTo}
 use Rattle.mdlc.specs.EndingsOfModels.{OnBytes}
 use Rattle.mdlc.specs.EndingsOfRuns.{WritesWhole, RunsModel, StartsCode, ExecutesCode}
+use Rattle.mdlc.specs.Scripts.{DrivesTo}
+use Rattle.mdlc.specs.EndingsOfDriving.{WritesDriven, DrivesModel}
 use Rattle.mdlc.specs.Endings.{status_of, Finds, EndsAt, IsSaidOf, Puts}
-use Rattle.mdlc.specs.Statuses.{IsPlain, IsExactly, ProgramComes, Comes, ComesExactly, OnTold, run_status, status_over}
+use Rattle.mdlc.specs.Statuses.{IsPlain, IsExactly, ProgramComes, Comes, ComesExactly, OnTold, run_status, status_over, status_at, SystemComes}
 use Rattle.mdlc.proofs.Files.{IfTold, named, there, at_there, told_one, told_two, told_any}
 use Rattle.mdlc.proofs.EndingLaws.{SaysFound, says_found}
 use Rattle.mdlc.proofs.OneAnswer.{OneVerdict, comes-one}
@@ -54,6 +61,32 @@ exec-comes e code trace h h' b b' by_run found =
     told_two h.files h.rest code trace {X = StartsCode} {P = λ bytes (x : StartsCode bytes) lines. RunsTo e x.program x.types lines b b'} (there h.files h.rest code (named h code found) (λ bytes x. (x.starts, named h trace x.runs))) (λ fs known plain.
     at_there (lookup code fs) known (λ bytes k. inr (inr (k.0.fits, (k.0.program, k.0.reading, comes-over k.0.program k.0.types (lookup trace fs) (status_of e) (start_run k.0.program) refl k.0.inputs (at_there (lookup trace fs) k.1 (λ lines run. by_run k.0.types k.0.program lines run)))))))
 
+-- ---- A script on a system of a model
+
+-- what is driven gives the status of the script's end
+system-comes : ShapesAreOne → (r : ResolvedTable) (system : Option (Option ℕ)) (w : Driven) (script : Option (List ℕ)) (n : ℕ) →
+    IsSystemOfModel r w.system w → system ≡ Some w.system → IsSomeAnd script (λ lines. n ≡ status_at (script_end (shape_of w) lines)) →
+    SystemComes r system script n
+system-comes shapes r system w script n of_model is ends =
+    subst (λ (x : Option (Option ℕ)). SystemComes r x script n) (sym is) (shape_of w, shapes.of_driven r w.system w of_model, ends)
+
+drive-comes : ShapesAreOne → (e : Ending) (model code word script : List ℕ) (h h' : HostTold) (b b' : SinkTold) →
+    ((w : Driven) (lines : List ℕ) → DrivesTo e w lines b b' → status_of e ≡ status_at (script_end (shape_of w) lines)) →
+    OnBytes h model (λ bytes. DrivesModel e word script code bytes h h' b b') → ComesTo (status_of e) (Drive model code word script) h
+drive-comes shapes e model code word script h h' b b' by_end found =
+    told_two h.files h.rest model script {X = λ bytes. WritesDriven word code bytes h h'}
+    {P = λ bytes (w : WritesDriven word code bytes h h') lines. DrivesTo e w.driven lines b b'}
+    (there h.files h.rest model (named h model found) (λ bytes m. (m.written, named h script m.drives)))
+    (λ fs known plain. at_there (lookup model fs) known (λ bytes k.
+    let w : WritesDriven word code bytes h h' = k.0 in
+    let r = w.whole.resolved in
+    inr (
+      r,
+      w.whole.verdict,
+      system-comes shapes r (system_named r.table.rows word) w.driven (lookup script fs) (status_of e) w.of_model w.named
+          (at_there (lookup script fs) k.1 (λ lines drives. by_end w.driven lines drives)),
+    )))
+
 -- ---- Each ending
 
 pub over : (p : ProgramTree) (types : List FixType) (lines : List ℕ) (place : Option Stuck) (bad : Option BadLine) → (rows_over p types lines).stuck_place ≡ place → bad_line types lines ≡ bad → run_status place bad ≡ status_over p types lines
@@ -72,6 +105,7 @@ compile-comes (Ran totals) model code h h' b b' ends = absurd ends.0
 compile-comes Usage model code h h' b b' ends = absurd ends.0
 compile-comes (Reported text) model code h h' b b' ends = absurd ends.0
 compile-comes (BadTrace line) model code h h' b b' ends = absurd ends.0
+compile-comes (BadScript stop) model code h h' b b' ends = absurd ends.0
 compile-comes (CodeRefused fault) model code h h' b b' ends = absurd ends.0
 compile-comes CodeTooLong model code h h' b b' ends = absurd ends.0
 compile-comes (IsStuck at) model code h h' b b' ends = absurd ends.0
@@ -82,6 +116,7 @@ running-comes (Ran totals) model code trace h h' b b' ends =
     run-comes (Ran totals) model code trace h h' b b' (λ types p lines run. sym (ap (run_status None) run.good)) ends.model
 running-comes (BadTrace line) model code trace h h' b b' ends =
     run-comes (BadTrace line) model code trace h h' b b' (λ types p lines run. sym (ap (run_status None) run.bad)) ends.model
+running-comes (BadScript stop) model code trace h h' b b' ends = absurd ends
 running-comes (Refused refusal) model code trace h h' b b' ends =
     told_one h.files h.rest model (named h model ends.0.model) (λ fs known plain. at_there (lookup model fs) known (λ bytes v. inl (plain_refusal refusal, v, refl)))
 running-comes ReadFault model code trace h h' b b' ends = not-plain 5 (Run model code trace) h (λ plain. plain.no_read_fault refl)
@@ -107,6 +142,7 @@ executing-comes (Ran totals) code trace h h' b b' ends =
     exec-comes (Ran totals) code trace h h' b b' (λ types p lines run. over p types lines None None run.free run.good) ends.code
 executing-comes (BadTrace line) code trace h h' b b' ends =
     exec-comes (BadTrace line) code trace h h' b b' (λ types p lines run. over p types lines None (Some line) run.free run.bad) ends.code
+executing-comes (BadScript stop) code trace h h' b b' ends = absurd ends
 executing-comes (IsStuck at) code trace h h' b b' ends = stuck-comes at code trace h h' b b' ends
 executing-comes (CodeRefused fault) code trace h h' b b' ends =
     told_one h.files h.rest code (named h code ends.code) (λ fs known plain. at_there (lookup code fs) known (λ bytes x. inr (inl (x.0, (fault, x.1, refl)))))
@@ -132,16 +168,50 @@ profiling-comes (Compiled rows systems functions) model h h' b b' ends = absurd 
 profiling-comes (Ran totals) model h h' b b' ends = absurd ends.0
 profiling-comes Usage model h h' b b' ends = absurd ends.0
 profiling-comes (BadTrace line) model h h' b b' ends = absurd ends.0
+profiling-comes (BadScript stop) model h h' b b' ends = absurd ends.0
 profiling-comes (CodeRefused fault) model h h' b b' ends = absurd ends.0
 profiling-comes CodeTooLong model h h' b b' ends = absurd ends.0
 profiling-comes (IsStuck at) model h h' b b' ends = absurd ends.0
 profiling-comes WriteFault model h h' b b' ends = absurd ends.0
 profiling-comes PutFault model h h' b b' ends = absurd ends.0
 
+driving-comes : ShapesAreOne → (e : Ending) (model code word script : List ℕ) (h h' : HostTold) (b b' : SinkTold) →
+    Finds e (Some (Drive model code word script)) h h' b b' → ComesTo (status_of e) (Drive model code word script) h
+driving-comes shapes (Ran totals) model code word script h h' b b' ends =
+    drive-comes shapes (Ran totals) model code word script h h' b b' (λ w lines drives. sym (ap status_at drives.end)) ends.model
+driving-comes shapes (BadScript NoSubsystem) model code word script h h' b b' ends =
+    told_one h.files h.rest model (named h model ends.model) (λ fs known plain. at_there (lookup model fs) known (λ bytes v.
+    inr (v.resolved, v.verdict, subst (λ (x : Option (Option ℕ)). SystemComes v.resolved x (lookup script fs) 4) (sym v.none) refl)))
+driving-comes shapes (BadScript (Line bad)) model code word script h h' b b' ends =
+    drive-comes shapes (BadScript (Line bad)) model code word script h h' b b'
+    (λ w lines drives. sym (ap status_at drives.stops)) ends.model
+driving-comes shapes (BadScript (Call refused)) model code word script h h' b b' ends =
+    drive-comes shapes (BadScript (Call refused)) model code word script h h' b b'
+    (λ w lines drives. sym (ap status_at drives.stops)) ends.model
+driving-comes shapes (Refused refusal) model code word script h h' b b' ends =
+    told_one h.files h.rest model (named h model ends.0.model) (λ fs known plain. at_there (lookup model fs) known (λ bytes v.
+    inl (plain_refusal refusal, v, refl)))
+driving-comes shapes ReadFault model code word script h h' b b' ends =
+    not-plain 5 (Drive model code word script) h (λ plain. plain.no_read_fault refl)
+driving-comes shapes WriteFault model code word script h h' b b' ends =
+    not-plain 6 (Drive model code word script) h (λ plain. plain.no_write_fault refl)
+driving-comes shapes PutFault model code word script h h' b b' ends =
+    not-plain 7 (Drive model code word script) h (λ plain. plain.no_put_fault refl)
+driving-comes shapes NoMemory model code word script h h' b b' ends =
+    not-plain 10 (Drive model code word script) h (λ plain. plain.no_want_of_memory refl)
+driving-comes shapes (Compiled rows systems functions) model code word script h h' b b' ends = absurd ends
+driving-comes shapes Usage model code word script h h' b b' ends = absurd ends
+driving-comes shapes (Reported text) model code word script h h' b b' ends = absurd ends
+driving-comes shapes (BadTrace line) model code word script h h' b b' ends = absurd ends
+driving-comes shapes (CodeRefused fault) model code word script h h' b b' ends = absurd ends
+driving-comes shapes CodeTooLong model code word script h h' b b' ends = absurd ends
+driving-comes shapes (IsStuck at) model code word script h h' b b' ends = absurd ends
+
 generating-comes : (e : Ending) (start size : ℕ) (model code : List ℕ) (h h' : HostTold) (b b' : SinkTold) → Finds e (Some (Gen start size model code)) h h' b b' → ComesTo (status_of e) (Gen start size model code) h
 generating-comes (Ran totals) start size model code h h' b b' ends =
     told_any h.files h.rest (λ fs plain. inr (ends.both.resolved, ends.both.verdict, refl))
 generating-comes (BadTrace line) start size model code h h' b b' ends = absurd ends
+generating-comes (BadScript stop) start size model code h h' b b' ends = absurd ends
 generating-comes (Refused refusal) start size model code h h' b b' ends =
     told_any h.files h.rest (λ fs plain. inl (plain_refusal refusal, ends.0.verdict, refl))
 generating-comes WriteFault start size model code h h' b b' ends = not-plain 6 (Gen start size model code) h (λ plain. plain.no_write_fault refl)
@@ -155,12 +225,14 @@ generating-comes CodeTooLong start size model code h h' b b' ends = absurd ends
 generating-comes (IsStuck at) start size model code h h' b b' ends = absurd ends
 generating-comes ReadFault start size model code h h' b b' ends = absurd ends
 
-comes-to : (e : Ending) (a : Asked) (h h' : HostTold) (b b' : SinkTold) → Finds e (Some a) h h' b b' → ComesTo (status_of e) a h
-comes-to e (Compile model code) h h' b b' ends = compile-comes e model code h h' b b' ends
-comes-to e (Run model code trace) h h' b b' ends = running-comes e model code trace h h' b b' ends
-comes-to e (Exec code trace) h h' b b' ends = executing-comes e code trace h h' b b' ends
-comes-to e (Profile model) h h' b b' ends = profiling-comes e model h h' b b' ends
-comes-to e (Gen start size model code) h h' b b' ends = generating-comes e start size model code h h' b b' ends
+comes-to : ShapesAreOne → (e : Ending) (a : Asked) (h h' : HostTold) (b b' : SinkTold) →
+    Finds e (Some a) h h' b b' → ComesTo (status_of e) a h
+comes-to shapes e (Compile model code) h h' b b' ends = compile-comes e model code h h' b b' ends
+comes-to shapes e (Run model code trace) h h' b b' ends = running-comes e model code trace h h' b b' ends
+comes-to shapes e (Exec code trace) h h' b b' ends = executing-comes e code trace h h' b b' ends
+comes-to shapes e (Profile model) h h' b b' ends = profiling-comes e model h h' b b' ends
+comes-to shapes e (Drive model code word script) h h' b b' ends = driving-comes shapes e model code word script h h' b b' ends
+comes-to shapes e (Gen start size model code) h h' b b' ends = generating-comes e start size model code h h' b b' ends
 
 -- ---- Exactly
 
@@ -174,16 +246,18 @@ unplain : (s : ℕ) (a : Asked) (h : HostTold) → (IsPlain s → ⊥) → OnTol
 unplain s a h fault =
     told_any h.files h.rest (λ fs. record { only = λ plain. absurd (fault plain); wherever = λ n also plain. absurd (fault plain) })
 
-pub comes_exactly : OneVerdict → ReadingsAgree → (s : ℕ) (a : Option Asked) (h h' : HostTold) (b b' : SinkTold) → EndsAt s a h h' b b' → OnTold a h (ComesExactly s)
-comes_exactly one agree s None h h' b b' e = tt
-comes_exactly one agree s (Some a) h h' b b' e = by e.found e.said e.before e.ends.finds e.says e.puts
+pub comes_exactly : OneVerdict → ReadingsAgree → ShapesAreOne → (s : ℕ) (a : Option Asked) (h h' : HostTold) (b b' : SinkTold) →
+    EndsAt s a h h' b b' → OnTold a h (ComesExactly s)
+comes_exactly one agree shapes s None h h' b b' e = tt
+comes_exactly one agree shapes s (Some a) h h' b b' e = by e.found e.said e.before e.ends.finds e.says e.puts
   where
     by : (found said : Ending) (before : SinkTold) → Finds found (Some a) h h' b before → IsSaidOf said found → Puts said s before b' → OnTold (Some a) h (ComesExactly s)
     by found said before finds (inl same) (inl (is, whole)) =
         let status : s ≡ status_of found = is ∙ ap status_of same in
-        told-map h.files h.rest (comes-to found a h h' b before finds) (λ fs comes. record {
+        told-map h.files h.rest (comes-to shapes found a h h' b before finds) (λ fs comes. record {
           only = λ plain. subst (Comes a fs) (sym status) (comes (subst IsPlain status plain));
-          wherever = λ n also plain. comes-one one agree a fs s n (subst (Comes a fs) (sym status) (comes (subst IsPlain status plain))) also;
+          wherever = λ n also plain.
+              comes-one one agree shapes a fs s n (subst (Comes a fs) (sym status) (comes (subst IsPlain status plain))) also;
         })
     by found said before finds (inr none) (inl (is, whole)) = unplain s a h (λ plain. plain.no_want_of_memory (is ∙ ap status_of none.0))
     by found said before finds says (inr (seven, part)) = unplain s a h (λ plain. plain.no_put_fault seven)
@@ -196,8 +270,9 @@ exactly-by n s (Some a) h plain all = told-map h.files h.rest all (λ fs x. reco
   wherever = λ comes other. x.wherever n comes other;
 })
 
-pub exactly : OneVerdict → ReadingsAgree → (n : ℕ) → IsPlain n → (s : ℕ) (a : Option Asked) (h h' : HostTold) (b b' : SinkTold) → EndsAt s a h h' b b' → OnTold a h (λ a fs. IsExactly n s (Comes a fs n))
-exactly one agree n plain s a h h' b b' ends = exactly-by n s a h plain (comes_exactly one agree s a h h' b b' ends)
+pub exactly : OneVerdict → ReadingsAgree → ShapesAreOne → (n : ℕ) → IsPlain n → (s : ℕ) (a : Option Asked)
+    (h h' : HostTold) (b b' : SinkTold) → EndsAt s a h h' b b' → OnTold a h (λ a fs. IsExactly n s (Comes a fs n))
+exactly one agree shapes n plain s a h h' b b' ends = exactly-by n s a h plain (comes_exactly one agree shapes s a h h' b b' ends)
 
 pub plain_three : IsPlain 3
 plain_three = record { no_read_fault = omega arith; no_write_fault = omega arith; no_put_fault = omega arith; no_want_of_memory = omega arith }
@@ -219,6 +294,7 @@ only-usage (Ran totals) is = absurd (omega (arith, is))
 only-usage Usage is = refl
 only-usage (Refused refusal) is = absurd (omega (arith, is))
 only-usage (BadTrace line) is = absurd (omega (arith, is))
+only-usage (BadScript stop) is = absurd (omega (arith, is))
 only-usage (CodeRefused fault) is = absurd (omega (arith, is))
 only-usage CodeTooLong is = absurd (omega (arith, is))
 only-usage (Reported text) is = absurd (omega (arith, is))
@@ -234,6 +310,7 @@ nothing-asked (Some (Compile model code)) h h' b b' ends = absurd ends.0
 nothing-asked (Some (Run model code trace)) h h' b b' ends = absurd ends
 nothing-asked (Some (Exec code trace)) h h' b b' ends = absurd ends
 nothing-asked (Some (Profile model)) h h' b b' ends = absurd ends.0
+nothing-asked (Some (Drive model code word script)) h h' b b' ends = absurd ends
 nothing-asked (Some (Gen start size model code)) h h' b b' ends = absurd ends
 
 unasked : (e : Ending) (h h' : HostTold) (b b' : SinkTold) → Finds e None h h' b b' → IsPlain (status_of e) → status_of e ≡ 2
@@ -242,6 +319,7 @@ unasked (Ran totals) h h' b b' ends plain = absurd ends.0
 unasked Usage h h' b b' ends plain = refl
 unasked (Refused refusal) h h' b b' ends plain = absurd ends.0
 unasked (BadTrace line) h h' b b' ends plain = absurd ends.0
+unasked (BadScript stop) h h' b b' ends plain = absurd ends.0
 unasked (CodeRefused fault) h h' b b' ends plain = absurd ends.0
 unasked CodeTooLong h h' b b' ends plain = absurd ends.0
 unasked (Reported text) h h' b b' ends plain = absurd ends.0

@@ -3,7 +3,7 @@ use Rattle.std.proofs.Common.{◌≡◌, ℕ, inl, inr, List, refl, sym, ap, sub
 use Rattle.std.specs.Prelude.{Bool, false, Option, Some, None, IfSome, IsSomeAnd}
 use Rattle.mc_edge.specs.Files.{File}
 use Rattle.mdlc.specs.declared.tool.Ending.{Ending}
-use Rattle.mdlc.specs.declared.tool.Ending.TheVariants.{Compiled, Ran, Reported, Usage, Refused, BadTrace, CodeRefused, CodeTooLong, Stuck as IsStuck, ReadFault, WriteFault, PutFault, NoMemory}
+use Rattle.mdlc.specs.declared.tool.Ending.TheVariants.{Compiled, Ran, Reported, Usage, Refused, BadTrace, BadScript, CodeRefused, CodeTooLong, Stuck as IsStuck, ReadFault, WriteFault, PutFault, NoMemory}
 use Rattle.mc_words.specs.Words.{Asked, Gen}
 use Rattle.mdlc.specs.Told.{HostTold, SinkTold}
 use Rattle.mdlc.specs.Endings.{status_of, Ends, IsSaidOf, Puts}
@@ -18,6 +18,7 @@ only_read Usage is = absurd (omega (arith, is))
 only_read (Reported text) is = absurd (omega (arith, is))
 only_read (Refused refusal) is = absurd (omega (arith, is))
 only_read (BadTrace line) is = absurd (omega (arith, is))
+only_read (BadScript stop) is = absurd (omega (arith, is))
 only_read (CodeRefused fault) is = absurd (omega (arith, is))
 only_read CodeTooLong is = absurd (omega (arith, is))
 only_read (IsStuck at) is = absurd (omega (arith, is))
@@ -34,6 +35,7 @@ only_write Usage is = absurd (omega (arith, is))
 only_write (Reported text) is = absurd (omega (arith, is))
 only_write (Refused refusal) is = absurd (omega (arith, is))
 only_write (BadTrace line) is = absurd (omega (arith, is))
+only_write (BadScript stop) is = absurd (omega (arith, is))
 only_write (CodeRefused fault) is = absurd (omega (arith, is))
 only_write CodeTooLong is = absurd (omega (arith, is))
 only_write (IsStuck at) is = absurd (omega (arith, is))
@@ -50,6 +52,7 @@ only_put Usage is = absurd (omega (arith, is))
 only_put (Reported text) is = absurd (omega (arith, is))
 only_put (Refused refusal) is = absurd (omega (arith, is))
 only_put (BadTrace line) is = absurd (omega (arith, is))
+only_put (BadScript stop) is = absurd (omega (arith, is))
 only_put (CodeRefused fault) is = absurd (omega (arith, is))
 only_put CodeTooLong is = absurd (omega (arith, is))
 only_put (IsStuck at) is = absurd (omega (arith, is))
@@ -66,6 +69,7 @@ unsure_model Usage model code h h' ends = tt
 unsure_model (Reported text) model code h h' ends = tt
 unsure_model (Refused refusal) model code h h' ends = tt
 unsure_model (BadTrace line) model code h h' ends = tt
+unsure_model (BadScript stop) model code h h' ends = tt
 unsure_model (CodeRefused fault) model code h h' ends = tt
 unsure_model CodeTooLong model code h h' ends = tt
 unsure_model (IsStuck at) model code h h' ends = tt
@@ -82,6 +86,7 @@ unread_start Usage bytes P ends = tt
 unread_start (Reported text) bytes P ends = tt
 unread_start (Refused refusal) bytes P ends = tt
 unread_start (BadTrace line) bytes P ends = tt
+unread_start (BadScript stop) bytes P ends = tt
 unread_start (CodeRefused fault) bytes P ends = tt
 unread_start CodeTooLong bytes P ends = tt
 unread_start (IsStuck at) bytes P ends = tt
@@ -98,6 +103,7 @@ unread_made (Reported text) start size model code h h' b b' P ends = tt
 unread_made Usage start size model code h h' b b' P ends = tt
 unread_made (Refused refusal) start size model code h h' b b' P ends = tt
 unread_made (BadTrace line) start size model code h h' b b' P ends = tt
+unread_made (BadScript stop) start size model code h h' b b' P ends = tt
 unread_made (CodeRefused fault) start size model code h h' b b' P ends = tt
 unread_made CodeTooLong start size model code h h' b b' P ends = tt
 unread_made (IsStuck at) start size model code h h' b b' P ends = tt
@@ -114,6 +120,7 @@ if_fault Usage f h = tt
 if_fault (Reported text) f h = tt
 if_fault (Refused refusal) f h = tt
 if_fault (BadTrace line) f h = tt
+if_fault (BadScript stop) f h = tt
 if_fault (CodeRefused fault) f h = tt
 if_fault CodeTooLong f h = tt
 if_fault (IsStuck at) f h = tt

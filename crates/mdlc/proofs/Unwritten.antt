@@ -3,8 +3,8 @@ use Rattle.std.proofs.Common.{◌≡◌, ℕ, inl, inr, List, sym, ◌∙◌, ar
 use Rattle.std.specs.Prelude.{Option, Some, None}
 use Rattle.mc_base.specs.declared.refusal.Refusal.{Refusal}
 use Rattle.mdlc.specs.declared.tool.Ending.{Ending}
-use Rattle.mdlc.specs.declared.tool.Ending.TheVariants.{Compiled, Ran, Reported, Usage, Refused, BadTrace, CodeRefused, CodeTooLong, Stuck as IsStuck, ReadFault, WriteFault, PutFault, NoMemory}
-use Rattle.mc_words.specs.Words.{Asked, Compile, Run, Exec, Profile, Gen}
+use Rattle.mdlc.specs.declared.tool.Ending.TheVariants.{Compiled, Ran, Reported, Usage, Refused, BadTrace, BadScript, CodeRefused, CodeTooLong, Stuck as IsStuck, ReadFault, WriteFault, PutFault, NoMemory}
+use Rattle.mc_words.specs.Words.{Asked, Compile, Run, Exec, Profile, Drive, Gen}
 use Rattle.mdlc.specs.Told.{HostTold, SinkTold}
 use Rattle.mdlc.specs.Endings.{status_of, EndsUnasked, Finds, EndsAt}
 use Rattle.mdlc.specs.Headline.{IsReadOnly, WritesNothing}
@@ -14,6 +14,7 @@ use Rattle.mdlc.proofs.EndingLaws.{SaysFound, says_found}
 pub exec_unwritten : (e : Ending) (code trace : List ℕ) (h h' : HostTold) (b b' : SinkTold) → Finds e (Some (Exec code trace)) h h' b b' → h'.written ≡ h.written
 exec_unwritten (Ran totals) code trace h h' b b' ends = ends.left.written
 exec_unwritten (BadTrace line) code trace h h' b b' ends = ends.left.written
+exec_unwritten (BadScript stop) code trace h h' b b' ends = absurd ends
 exec_unwritten (IsStuck at) code trace h h' b b' (inl ends) = ends.left.written
 exec_unwritten (IsStuck at) code trace h h' b b' (inr ends) = ends.left.written
 exec_unwritten (CodeRefused fault) code trace h h' b b' ends = ends.left.written
@@ -35,6 +36,7 @@ profile_unwritten (Reported text) model h h' b b' ends = ends.0.left.written
 profile_unwritten Usage model h h' b b' ends = absurd ends.0
 profile_unwritten (Refused refusal) model h h' b b' ends = ends.0.written
 profile_unwritten (BadTrace line) model h h' b b' ends = absurd ends.0
+profile_unwritten (BadScript stop) model h h' b b' ends = absurd ends.0
 profile_unwritten (CodeRefused fault) model h h' b b' ends = absurd ends.0
 profile_unwritten CodeTooLong model h h' b b' ends = absurd ends.0
 profile_unwritten (IsStuck at) model h h' b b' ends = absurd ends.0
@@ -50,6 +52,7 @@ unasked-unwritten (Reported text) h h' ends = absurd ends
 unasked-unwritten Usage h h' ends = ends.written
 unasked-unwritten (Refused refusal) h h' ends = absurd ends
 unasked-unwritten (BadTrace line) h h' ends = absurd ends
+unasked-unwritten (BadScript stop) h h' ends = absurd ends
 unasked-unwritten (CodeRefused fault) h h' ends = absurd ends
 unasked-unwritten CodeTooLong h h' ends = absurd ends
 unasked-unwritten (IsStuck at) h h' ends = absurd ends
@@ -64,6 +67,7 @@ read-only e (Some (Compile model code)) h h' b b' only ends = absurd only
 read-only e (Some (Run model code trace)) h h' b b' only ends = absurd only
 read-only e (Some (Exec code trace)) h h' b b' only ends = exec_unwritten e code trace h h' b b' ends
 read-only e (Some (Profile model)) h h' b b' only ends = profile_unwritten e model h h' b b' ends
+read-only e (Some (Drive model code word script)) h h' b b' only ends = absurd only
 read-only e (Some (Gen start size model code)) h h' b b' only ends = absurd only
 
 -- a model is refused
@@ -73,6 +77,7 @@ of-refused (Some (Compile model code)) h h' b b' refusal ends = ends.0.written
 of-refused (Some (Run model code trace)) h h' b b' refusal ends = ends.0.written
 of-refused (Some (Exec code trace)) h h' b b' refusal ends = absurd ends
 of-refused (Some (Profile model)) h h' b b' refusal ends = ends.0.written
+of-refused (Some (Drive model code word script)) h h' b b' refusal ends = ends.0.written
 of-refused (Some (Gen start size model code)) h h' b b' refusal ends = ends.0.left.written
 
 with-three : (e : Ending) (a : Option Asked) (h h' : HostTold) (b b' : SinkTold) → status_of e ≡ 3 → Finds e a h h' b b' → h'.written ≡ h.written
@@ -82,6 +87,7 @@ with-three (Reported text) a h h' b b' is ends = absurd (omega (arith, is))
 with-three Usage a h h' b b' is ends = absurd (omega (arith, is))
 with-three (Refused refusal) a h h' b b' is ends = of-refused a h h' b b' refusal ends
 with-three (BadTrace line) a h h' b b' is ends = absurd (omega (arith, is))
+with-three (BadScript stop) a h h' b b' is ends = absurd (omega (arith, is))
 with-three (CodeRefused fault) a h h' b b' is ends = absurd (omega (arith, is))
 with-three CodeTooLong a h h' b b' is ends = absurd (omega (arith, is))
 with-three (IsStuck at) a h h' b b' is ends = absurd (omega (arith, is))

@@ -1,23 +1,29 @@
 -- What the parts of a command come to.
 use Rattle.std.specs.Prelude.{◌≡◌, ℕ, List, [], ◌⊎◌, Some, ⊤}
+use Rattle.mc_base.specs.Refusals.{plain_refusal}
 use Rattle.mc_fixed.specs.declared.types.FixType.{FixType}
 use Rattle.mc_edge.specs.Faults.{Rose}
-use Rattle.mc_edge.specs.Files.{add_file}
+use Rattle.mc_edge.specs.Files.{add_file, WritesFront}
+use Rattle.mc_diagram.specs.ResolvedTable.{ResolvedTable}
+use Rattle.mc_verdict.specs.Verdict.{HasVerdict, Accepted}
+use Rattle.mc_drive.specs.Driven.{Driven}
 use Rattle.c_syntax.specs.Tree.{ProgramTree}
 use Rattle.c_machine.specs.Cells.{Cells}
 use Rattle.c_machine.specs.Machine.{After, done, stuck}
 use Rattle.c_machine.specs.Rows.{start_run}
 use Rattle.c_rules.specs.Reading.{CText, CFaultOf}
 use Rattle.c_meaning.specs.States.{MachineState, tree_of, fields_of}
-use Rattle.mc_compile.specs.Compilation.{Compilation, IsCompiledFrom}
+use Rattle.mc_compile.specs.Compilation.{Compilation, IsCompilationOf, IsCompiledFrom}
 use Rattle.mdlc.specs.declared.tool.Ending.{Ending}
-use Rattle.mdlc.specs.declared.tool.Ending.TheVariants.{Compiled, Ran, BadTrace, CodeRefused, Stuck as IsStuck, ReadFault, PutFault, NoMemory}
+use Rattle.mdlc.specs.declared.tool.Ending.TheVariants.{Compiled, Ran, Refused, BadTrace, BadScript, CodeRefused, Stuck as IsStuck, ReadFault, WriteFault, PutFault, NoMemory}
 use Rattle.mc_words.specs.Words.{Gen}
 use Rattle.mc_gen.specs.Models.{model_text}
 use Rattle.mdlc.specs.Told.{HostTold, SinkTold, NoFault}
 use Rattle.mdlc.specs.Runs.{HasStepTypes, RunsTo}
-use Rattle.mdlc.specs.EndingsOfModels.{OnNamed, OnBytes, PutsNothing, EndsCompile, LeavesHost}
+use Rattle.mdlc.specs.Scripts.{DrivesTo}
+use Rattle.mdlc.specs.EndingsOfModels.{OnNamed, OnBytes, PutsNothing, EndsCompile, EndsRefused, EndsReadFault, LeavesHost}
 use Rattle.mdlc.specs.EndingsOfRuns.{ReadsToEnd, TakesFile}
+use Rattle.mdlc.specs.EndingsOfDriving.{TakesScript}
 use Rattle.mdlc.specs.EndingsOfGenerating.{line_of}
 use Rattle.mdlc.specs.Endings.{PutsPart, Ends}
 
@@ -35,6 +41,43 @@ pub record WritesCompiled (c : Compilation) (model_name code_name : List ℕ) (h
 abbrev pub NotCompiled : Ending → (model_name code_name : List ℕ) → HostTold → HostTold → Type 0
 NotCompiled (Compiled rows systems functions) model code h h' = ⊥
 NotCompiled e model code h h' = EndsCompile e model code h h'
+
+-- ---- Accepting a model, and writing its code
+
+-- the model of this name is accepted; of what the host tells to read, nothing is left
+pub record AcceptsFile (r : ResolvedTable) (name : List ℕ) (h h' : HostTold) : Type 0 where
+  pub model : OnBytes h name (λ bytes. HasVerdict bytes (Accepted r))
+  pub files : h'.files ≡ h.files
+  pub told : OnNamed h name (λ _. h'.rest ≡ Some [])
+  pub left : LeavesHost h h'
+
+-- it isn't, and the call ends
+abbrev pub NotAccepted : Ending → (name : List ℕ) → HostTold → HostTold → Type 0
+NotAccepted (Refused refusal) name h h' = EndsRefused (plain_refusal refusal) name h h'
+NotAccepted ReadFault name h h' = EndsReadFault name h h'
+NotAccepted NoMemory name h h' = h'.written ≡ h.written
+NotAccepted _ name h h' = ⊥
+
+-- right code for the table was written whole, and nothing read
+pub record WritesCodeOf (r : ResolvedTable) (c : Compilation) (code : List ℕ) (h h' : HostTold) : Type 0 where
+  pub right : IsCompilationOf r c
+  pub written : h'.written ≡ add_file h.written code c.code
+  pub files : h'.files ≡ h.files
+  pub rest : h'.rest ≡ h.rest
+  pub no_fault : NoFault h h'
+
+-- a front of it was written
+pub record CutsCodeOf (r : ResolvedTable) (code : List ℕ) (h h' : HostTold) : Type 0 where
+  pub rose : Rose h.write_faults h'.write_faults
+  pub compilation : Compilation
+  pub right : IsCompilationOf r compilation
+  pub front : WritesFront h.written h'.written code compilation.code
+
+-- it wasn't, and the call ends
+abbrev pub NotWritten : Ending → ResolvedTable → (code : List ℕ) → HostTold → HostTold → Type 0
+NotWritten WriteFault r code h h' = CutsCodeOf r code h h'
+NotWritten NoMemory r code h h' = h'.written ≡ h.written
+NotWritten _ r code h h' = ⊥
 
 -- ---- Reading C and starting it
 
@@ -106,3 +149,26 @@ RunEnds PutFault p types trace h h' b b' = RunsFile PutFault p types trace h h' 
 RunEnds ReadFault p types trace h h' b b' = MissesFile p types trace h h' b b'
 RunEnds NoMemory p types trace h h' b b' = ForgetsFile h h' b b'
 RunEnds _ p types trace h h' b b' = ⊥
+
+-- ---- Running a script
+
+-- the script of this name was run on a system, up to an ending
+pub record DrivesFile (e : Ending) (w : Driven) (script : List ℕ) (h h' : HostTold) (b b' : SinkTold) : Type 0 where
+  pub lines : OnBytes h script (λ bytes. DrivesTo e w bytes b b')
+  pub end : ReadsToEnd e h'
+  pub left : LeavesHost h h'
+
+-- a fault of reading the script: it isn't opened, and nothing was put, or the lines of all whole lines among what was taken were
+pub record MissesScript (w : Driven) (script : List ℕ) (h h' : HostTold) (b b' : SinkTold) : Type 0 where
+  pub rose : Rose h.read_faults h'.read_faults
+  pub written : h'.written ≡ h.written
+  pub lines : PutsNothing b b' ⊎ TakesScript w script h h' b b'
+
+-- how a run of the script of this name on a system ends
+abbrev pub DriveEnds : Ending → Driven → (script : List ℕ) → HostTold → HostTold → SinkTold → SinkTold → Type 0
+DriveEnds (Ran totals) w script h h' b b' = DrivesFile (Ran totals) w script h h' b b'
+DriveEnds (BadScript stop) w script h h' b b' = DrivesFile (BadScript stop) w script h h' b b'
+DriveEnds PutFault w script h h' b b' = DrivesFile PutFault w script h h' b b'
+DriveEnds ReadFault w script h h' b b' = MissesScript w script h h' b b'
+DriveEnds NoMemory w script h h' b b' = ForgetsFile h h' b b'
+DriveEnds _ w script h h' b b' = ⊥

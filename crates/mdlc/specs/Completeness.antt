@@ -11,7 +11,11 @@ use Rattle.mc_compile.specs.Compilation.{root_types}
 use Rattle.mdlc.specs.declared.tool.Ending.{Ending}
 use Rattle.mdlc.specs.declared.tool.Ending.TheVariants.{ReadFault}
 use Rattle.mc_gen.specs.Models.{model_text}
-use Rattle.mc_words.specs.Words.{Asked, Compile, Run, Exec, Profile, Gen}
+use Rattle.mc_drive.specs.Shapes.{Shape}
+use Rattle.mc_driven.specs.SystemShapes.{IsShapeOf}
+use Rattle.mc_driven.specs.Words.{system_named}
+use Rattle.mc_script_runner.specs.ScriptEnds.{Whole, script_end}
+use Rattle.mc_words.specs.Words.{Asked, Compile, Run, Exec, Profile, Drive, Gen}
 use Rattle.mdlc.specs.Told.{HostTold, SinkTold}
 use Rattle.mdlc.specs.Runs.{HasStepTypes, rows_over, bad_line}
 use Rattle.mdlc.specs.EndingsOfRuns.{code_limit}
@@ -38,14 +42,23 @@ pub record CanExecute (code : List ℕ) (trace : Option (List ℕ)) : Type 0 whe
   pub inputs : HasStepTypes program types
   pub runs : IsSomeAnd trace (λ lines. RunsFreely program types lines)
 
--- with these files what is asked for can be done: the model is accepted, also one that is made, the code runs, and no line of the
--- trace is bad
+-- a system of the model is named, and each line of the script is a call that it allows
+abbrev pub CanDrive : ResolvedTable → Option (Option ℕ) → Option (List ℕ) → Type 0
+CanDrive r None script = ⊥
+CanDrive r (Some system) script =
+    (shape : Shape) × IsShapeOf r system shape × IsSomeAnd script (λ lines. script_end shape lines ≡ Whole)
+
+-- with these files what is asked for can be done: the model is accepted, also one that is made, the code runs, no line of the
+-- trace is bad, and the system is there and its script lawful
 abbrev pub CanDo : Asked → List File → Type 0
 CanDo (Compile model code) fs = IsSomeAnd (lookup model fs) (λ bytes. OnAccepted bytes (λ d. ⊤))
 CanDo (Run model code trace) fs =
     IsSomeAnd (lookup model fs) (λ bytes. OnAccepted bytes (λ d. IsSomeAnd (lookup trace fs) (λ lines. bad_line (root_types d) lines ≡ None)))
 CanDo (Exec code trace) fs = IsSomeAnd (lookup code fs) (λ bytes. CanExecute bytes (lookup trace fs))
 CanDo (Profile model) fs = IsSomeAnd (lookup model fs) (λ bytes. OnAccepted bytes (λ d. ⊤))
+CanDo (Drive model code word script) fs =
+    IsSomeAnd (lookup model fs) (λ bytes.
+    (r : ResolvedTable) × HasVerdict bytes (Accepted r) × CanDrive r (system_named r.table.rows word) (lookup script fs))
 CanDo (Gen start size model code) fs = OnAccepted (model_text start size) (λ d. ⊤)
 
 -- What can be done is done, unless memory runs out, where no count of faults rises or stands at its greatest value.
@@ -60,6 +73,7 @@ first_file (Compile model code) = Some model
 first_file (Run model code trace) = Some model
 first_file (Exec code trace) = Some code
 first_file (Profile model) = Some model
+first_file (Drive model code word script) = Some model
 first_file (Gen start size model code) = None
 
 abbrev pub second_file : Asked → Option (List ℕ)
@@ -67,6 +81,7 @@ second_file (Compile model code) = None
 second_file (Run model code trace) = Some trace
 second_file (Exec code trace) = Some trace
 second_file (Profile model) = None
+second_file (Drive model code word script) = Some script
 second_file (Gen start size model code) = None
 
 -- the host is sure of the first file, and whatever it becomes with the files that it tells, of the second

@@ -5,12 +5,13 @@ use Rattle.mc_base.specs.Refusals.{plain_refusal, refusal_line}
 use Rattle.mc_edge.specs.Faults.{Rose}
 use Rattle.mc_edge.specs.Files.{PutsFront}
 use Rattle.mdlc.specs.declared.tool.Ending.{Ending}
-use Rattle.mdlc.specs.declared.tool.Ending.TheVariants.{Compiled, Ran, Reported, Usage, Refused, BadTrace, CodeRefused, CodeTooLong, Stuck as IsStuck, ReadFault, WriteFault, PutFault, NoMemory}
-use Rattle.mc_words.specs.Words.{Asked, Compile, Run, Exec, Profile, Gen}
-use Rattle.mdlc.specs.Texts.{compiled_line, totals_line, usage_line, bad_line_line, code_refused_line, long_code_line, stuck_line, read_fault_line, write_fault_line, no_memory_line}
+use Rattle.mdlc.specs.declared.tool.Ending.TheVariants.{Compiled, Ran, Reported, Usage, Refused, BadTrace, BadScript, CodeRefused, CodeTooLong, Stuck as IsStuck, ReadFault, WriteFault, PutFault, NoMemory}
+use Rattle.mc_words.specs.Words.{Asked, Compile, Run, Exec, Profile, Drive, Gen}
+use Rattle.mdlc.specs.Texts.{compiled_line, totals_line, usage_line, bad_line_line, script_stop_line, code_refused_line, long_code_line, stuck_line, read_fault_line, write_fault_line, no_memory_line}
 use Rattle.mdlc.specs.Told.{HostTold, SinkTold, NoFault}
 use Rattle.mdlc.specs.EndingsOfModels.{PutsNothing, EndsCompile, EndsProfiling}
 use Rattle.mdlc.specs.EndingsOfRuns.{EndsRunning, EndsExecuting}
+use Rattle.mdlc.specs.EndingsOfDriving.{EndsDriving}
 use Rattle.mdlc.specs.EndingsOfGenerating.{EndsGenerating}
 
 -- the status of an ending
@@ -21,6 +22,7 @@ status_of (Reported text) = 0
 status_of Usage = 2
 status_of (Refused refusal) = 3
 status_of (BadTrace line) = 4
+status_of (BadScript stop) = 4
 status_of ReadFault = 5
 status_of WriteFault = 6
 status_of PutFault = 7
@@ -37,6 +39,7 @@ text_of (Reported text) = text.items
 text_of Usage = usage_line
 text_of (Refused refusal) = refusal_line (plain_refusal refusal)
 text_of (BadTrace line) = bad_line_line line
+text_of (BadScript stop) = script_stop_line stop
 text_of ReadFault = read_fault_line
 text_of WriteFault = write_fault_line
 text_of PutFault = []
@@ -64,6 +67,7 @@ Finds e (Some (Compile model code)) h h' b b' = EndsCompile e model code h h' ×
 Finds e (Some (Run model code trace)) h h' b b' = EndsRunning e model code trace h h' b b'
 Finds e (Some (Exec code trace)) h h' b b' = EndsExecuting e code trace h h' b b'
 Finds e (Some (Profile model)) h h' b b' = EndsProfiling e model h h' × PutsNothing b b'
+Finds e (Some (Drive model code word script)) h h' b b' = EndsDriving e model code word script h h' b b'
 Finds e (Some (Gen start size model code)) h h' b b' = EndsGenerating e start size model code h h' b b'
 
 -- a fault of putting was counted where a line wasn't put, and else none

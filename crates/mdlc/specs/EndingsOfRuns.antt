@@ -16,14 +16,14 @@ use Rattle.c_rules.specs.Reading.{CText, CFaultOf}
 use Rattle.mc_verdict.specs.Verdict.{HasVerdict, Accepted}
 use Rattle.mc_compile.specs.Compilation.{Compilation, root_types, IsCompilationOf}
 use Rattle.mdlc.specs.declared.tool.Ending.{Ending}
-use Rattle.mdlc.specs.declared.tool.Ending.TheVariants.{Compiled, Ran, Reported, Usage, Refused, BadTrace, CodeRefused, CodeTooLong, Stuck as IsStuck, ReadFault, WriteFault, PutFault, NoMemory}
+use Rattle.mdlc.specs.declared.tool.Ending.TheVariants.{Compiled, Ran, Reported, Usage, Refused, BadTrace, BadScript, CodeRefused, CodeTooLong, Stuck as IsStuck, ReadFault, WriteFault, PutFault, NoMemory}
 use Rattle.mdlc.specs.Told.{HostTold, SinkTold, NoFault}
 use Rattle.mdlc.specs.Runs.{HasStepTypes, RunsTaken, RunsTo}
 use Rattle.mdlc.specs.EndingsOfModels.{OnNamed, OnBytes, PutsNothing, LeavesHost, EndsRefused, EndsReadFault, EndsWriteFault, EndsNoMemory}
 
 -- ---- Running over a trace
 
--- where a whole trace was run, nothing of it is left to read
+-- where a whole trace or script was run, nothing of it is left to read
 abbrev pub ReadsToEnd : Ending → HostTold → Type 0
 ReadsToEnd (Ran totals) h' = IsAtEnd h'.rest
 ReadsToEnd (Compiled rows systems functions) h' = ⊤
@@ -31,6 +31,7 @@ ReadsToEnd (Reported text) h' = ⊤
 ReadsToEnd Usage h' = ⊤
 ReadsToEnd (Refused refusal) h' = ⊤
 ReadsToEnd (BadTrace line) h' = ⊤
+ReadsToEnd (BadScript stop) h' = ⊤
 ReadsToEnd (CodeRefused fault) h' = ⊤
 ReadsToEnd CodeTooLong h' = ⊤
 ReadsToEnd (IsStuck at) h' = ⊤

@@ -21,12 +21,23 @@ use Rattle.mc_runner.specs.Texts.{ticks_text}
 use Rattle.mc_runner.specs.Runs.{totals_of}
 use Rattle.mc_report.specs.Reports.{IsReportText}
 use Rattle.mc_gen.specs.Models.{model_text, trace_text}
-use Rattle.mc_words.specs.Words.{Asked, Compile, Run, Exec, Profile, Gen}
-use Rattle.mdlc.specs.Texts.{compiled_line, totals_line, bad_line_line, code_refused_line, long_code_line, stuck_line}
+use Rattle.mc_runner.specs.declared.outcome.Totals.{Totals}
+use Rattle.mc_drive.specs.Driven.{Driven, shape_of}
+use Rattle.mc_drive.specs.Shapes.{Shape}
+use Rattle.mc_driven.specs.SystemShapes.{IsShapeOf, IsSystemOfModel}
+use Rattle.mc_driven.specs.Words.{system_named}
+use Rattle.mc_script_runner.specs.Answers.{Answered, calls_in}
+use Rattle.mc_script_runner.specs.Standings.{totals_of as totals_of_calls}
+use Rattle.mc_script_runner.specs.Texts.{answers_text}
+use Rattle.mc_script_runner.specs.ScriptEnds.{ScriptEnd, Whole, AtLine, AtCall, script_end, lawful_calls}
+use Rattle.mc_script_runner.specs.FaultTexts.{bad_call_line, refused_call_line}
+use Rattle.mc_script_runner.specs.Drives.{AreAnswered}
+use Rattle.mc_words.specs.Words.{Asked, Compile, Run, Exec, Profile, Drive, Gen}
+use Rattle.mdlc.specs.Texts.{compiled_line, totals_line, bad_line_line, no_subsystem_line, code_refused_line, long_code_line, stuck_line}
 use Rattle.mdlc.specs.Told.{HostTold, SinkTold}
 use Rattle.mdlc.specs.Runs.{HasStepTypes, rows_in, rows_over, bad_line}
 use Rattle.mdlc.specs.EndingsOfRuns.{code_limit}
-use Rattle.mdlc.specs.Statuses.{IfFile, IsDone, run_status, status_over}
+use Rattle.mdlc.specs.Statuses.{IfFile, IsDone, run_status, status_over, status_at}
 
 -- no count of faults rises in the call, or stands at its greatest value
 pub record Calm (h h' : HostTold) (b b' : SinkTold) : Type 0 where
@@ -120,6 +131,47 @@ pub record Profiles (model : List ℕ) (s : ℕ) (h h' : HostTold) (b b' : SinkT
   pub accepted : (r : ResolvedTable) → HasVerdict model (Accepted r) → ProfilesAccepted r s b b'
   pub refused : (refusal : PlainRefusal) → HasVerdict model (Refused refusal) → TellsRefusal refusal s h h' b b'
 
+-- ---- `drive`
+
+-- the last line of a script's run: what the calls up to its end took, or what stops it
+abbrev pub last_script_line : Totals → ScriptEnd → List ℕ
+last_script_line taken Whole = totals_line taken.ticks taken.steps taken.calls
+last_script_line taken (AtLine bad) = bad_call_line bad
+last_script_line taken (AtCall refused) = refused_call_line refused
+
+-- Right code for the model is written as the one new file. The calls up to the script's end are answered by its one reading as
+-- the system's run has it over every trace that fits them. Their lines are put, and then the last line.
+pub record DrivesRightCode (r : ResolvedTable) (system : Option ℕ) (script code : List ℕ) (h h' : HostTold) (b b' : SinkTold) : Type 0 where
+  pub compilation : Compilation
+  pub right : IsCompilationOf r compilation
+  pub written : h'.written ≡ add_file h.written code compilation.code
+  pub driven : Driven
+  pub of_model : IsSystemOfModel r system driven
+  pub program : driven.program ≡ right.code.program
+  pub answers : List Answered
+  pub calls : calls_in answers ≡ lawful_calls (shape_of driven) script
+  pub answered : AreAnswered driven answers
+  pub lines : b'.bytes
+      ≡ append_known b.bytes (answers_text answers
+      ++ last_script_line (totals_of_calls answers) (script_end (shape_of driven) script))
+
+-- a system of a model that the rules accept is driven by the script, unless memory runs out
+pub record DrivesSystem (r : ResolvedTable) (system : Option ℕ) (script : List ℕ) (s : ℕ) (code : List ℕ) (h h' : HostTold) (b b' : SinkTold) : Type 0 where
+  pub status : (shape : Shape) → IsShapeOf r system shape → (s ≡ status_at (script_end shape script)) ⊎ (s ≡ 10)
+  pub done : s ≢ 10 → DrivesRightCode r system script code h h' b b'
+
+-- what a call does by the system that its word names; where there is none, nothing is written
+abbrev pub DrivesNamed : ResolvedTable → Option (Option ℕ) → (script : List ℕ) (s : ℕ) (code : List ℕ) (h h' : HostTold) (b b' : SinkTold) → Type 0
+DrivesNamed r None script s code h h' b b' = Tells 4 no_subsystem_line s b b' × (s ≡ 4 → h'.written ≡ h.written)
+DrivesNamed r (Some system) script s code h h' b b' =
+    IfFile h script (λ lines. DrivesSystem r system lines s code h h' b b')
+
+-- what a call does with the bytes of its model
+pub record Drives (model word script : List ℕ) (s : ℕ) (code : List ℕ) (h h' : HostTold) (b b' : SinkTold) : Type 0 where
+  pub accepted : (r : ResolvedTable) → HasVerdict model (Accepted r) →
+      DrivesNamed r (system_named r.table.rows word) script s code h h' b b'
+  pub refused : (refusal : PlainRefusal) → HasVerdict model (Refused refusal) → TellsRefusal refusal s h h' b b'
+
 -- ---- `gen`
 
 -- The text of the model is written, and right code for it behind that. What is put is the compiled line, and then what the code's
@@ -152,6 +204,7 @@ Does s (Some (Compile model code)) h h' b b' = IfFile h model (λ bytes. Compile
 Does s (Some (Run model code trace)) h h' b b' = IfFile h model (λ bytes. Runs bytes trace s code h h' b b')
 Does s (Some (Exec code trace)) h h' b b' = IfFile h code (λ bytes. Executes bytes trace s h h' b b')
 Does s (Some (Profile model)) h h' b b' = IfFile h model (λ bytes. Profiles bytes s h h' b b')
+Does s (Some (Drive model code word script)) h h' b b' = IfFile h model (λ bytes. Drives bytes word script s code h h' b b')
 Does s (Some (Gen start size model code)) h h' b b' = Makes start size s model code h h' b b'
 
 -- the command writes no file, whatever comes of it
@@ -161,6 +214,7 @@ IsReadOnly (Some (Compile model code)) = ⊥
 IsReadOnly (Some (Run model code trace)) = ⊥
 IsReadOnly (Some (Exec code trace)) = ⊤
 IsReadOnly (Some (Profile model)) = ⊤
+IsReadOnly (Some (Drive model code word script)) = ⊥
 IsReadOnly (Some (Gen start size model code)) = ⊥
 
 -- with this status no file was written: by such a command, or since the model is refused
@@ -168,7 +222,7 @@ abbrev pub WritesNothing : ℕ → Option Asked → Type 0
 WritesNothing s a = IsReadOnly a ⊎ (s ≡ 3)
 
 -- Where no count of faults rises or stands at its greatest value: right code is written for a model that the rules accept, and
--- run by `run` and `gen`; nothing is written for one that they refuse; `exec` runs the code that it is given, and `profile` puts
--- the report on a model that they accept.
+-- run by `run` and `gen` and driven by `drive`; nothing is written for one that they refuse; `exec` runs the code that it is given,
+-- and `profile` puts the report on a model that they accept.
 abbrev pub DoesRight : ℕ → Option Asked → (h h' : HostTold) (b b' : SinkTold) → Type 0
 DoesRight s a h h' b b' = Calm h h' b b' → Does s a h h' b b'

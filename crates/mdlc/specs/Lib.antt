@@ -3,6 +3,8 @@ pub mod Told
 pub mod Runs
 pub mod EndingsOfModels
 pub mod EndingsOfRuns
+pub mod Scripts
+pub mod EndingsOfDriving
 pub mod EndingsOfGenerating
 pub mod Endings
 pub mod Statuses

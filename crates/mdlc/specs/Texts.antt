@@ -11,6 +11,9 @@ use Rattle.c_syntax.specs.declared.fault.Why.TheVariants.{Overflow, ZeroDivisor,
 use Rattle.mc_trace.specs.declared.rows.BadLine.{BadLine}
 use Rattle.mc_trace.specs.declared.rows.BadWhy.{BadWhy}
 use Rattle.mc_trace.specs.declared.rows.BadWhy.TheVariants as bad
+use Rattle.mc_script_runner.specs.FaultTexts.{bad_call_line, refused_call_line}
+use Rattle.mdlc.specs.declared.tool.ScriptStop.{ScriptStop}
+use Rattle.mdlc.specs.declared.tool.ScriptStop.TheVariants.{NoSubsystem, Line, Call}
 
 -- `compiled rows R systems S functions F`
 abbrev pub compiled_line : (rows systems functions : ℕ) → List ℕ
@@ -63,6 +66,16 @@ stuck_word Index = codes "Index"
 -- where the machine is stuck
 abbrev pub stuck_line : Stuck → List ℕ
 stuck_line at = line_of_words (codes "stuck" ∷ at_line at.line (stuck_word at.why ∷ []))
+
+-- no system of the model has this name
+abbrev pub no_subsystem_line : List ℕ
+no_subsystem_line = codes "script line 0 NoSubsystem" ++ 10 ∷ []
+
+-- what stops a script before its end
+abbrev pub script_stop_line : ScriptStop → List ℕ
+script_stop_line NoSubsystem = no_subsystem_line
+script_stop_line (Line bad) = bad_call_line bad
+script_stop_line (Call refused) = refused_call_line refused
 
 -- a fault of reading, of writing, and want of memory
 abbrev pub read_fault_line : List ℕ

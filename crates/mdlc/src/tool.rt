@@ -3,7 +3,20 @@
 use c_syntax::{CFault, Stuck};
 use mc_base::Refusal;
 use mc_runner::Totals;
+use mc_script::BadCall;
+use mc_script_runner::RefusedCall;
 use mc_trace::BadLine;
+
+/// What stops a script before its end.
+#[derive(Clone, Copy, Debug, PartialEq, Eq, Drop)]
+pub enum ScriptStop {
+    /// The model has no system of the name that is to be driven.
+    NoSubsystem,
+    /// A line is no call.
+    Line(BadCall),
+    /// The call of a line is refused.
+    Call(RefusedCall),
+}
 
 /// How a call ended, before its last text is put.
 #[derive(Debug, Drop)]
@@ -14,7 +27,7 @@ pub enum Ending {
         systems: u32,
         functions: u32,
     },
-    /// Code was run over a whole trace, and took this.
+    /// Code was run over a whole trace, or driven by a whole script, and took this.
     Ran(Totals),
     /// This is the report on a model.
     Reported(Vec<u8>),
@@ -24,6 +37,8 @@ pub enum Ending {
     Refused(Refusal),
     /// A line of the trace is no row.
     BadTrace(BadLine),
+    /// A script can't be run to its end.
+    BadScript(ScriptStop),
     /// The code is no program.
     CodeRefused(CFault),
     /// The code has too many bytes.
@@ -39,12 +54,14 @@ pub enum Ending {
 
 mod acting;
 mod compiling;
+mod driving;
 mod finishing;
 mod generating;
 mod lines;
 mod profiling;
 mod rows;
 mod running;
+mod scripting;
 mod starting;
 mod tracing;
 

@@ -1,5 +1,5 @@
 ghost use Rattle.std.specs.Prelude.{◌≡◌, Some, IfSome, false};
-ghost use Rattle.mc_words.specs.Words.{word_bytes, asked_by};
+ghost use Rattle.mc_words.specs.Words.{HasBounds, asked, asked_by, word_bytes};
 ghost use Rattle.mc_words.specs.Words.Asked.{Compile, Run, Exec};
 ghost use Rattle.mdlc.specs.Told.{told, sink_told};
 ghost use Rattle.mdlc.specs.EndingsOfModels.{EndsCompile};
@@ -8,6 +8,7 @@ ghost use Rattle.mdlc.specs.Completeness.{IfReadFault, IsUnsureOf};
 
 use super::Ending;
 use super::compiling::compile_into;
+use super::driving::drive_model;
 use super::generating::generate_model;
 use super::profiling::profile_model;
 use super::starting::started;
@@ -92,6 +93,34 @@ fn exec_code<H: Host, S: Sink>(
     run_file(alloc, host, out, &mut machine, &types, trace)
 }
 
+// Does what a command asks for, but for the last text that is put.
+fn perform<H: Host, S: Sink>(alloc: Global, command: Command, host: &mut H, out: &mut S) -> Ending
+    requires { HasBounds command }
+    ensures ends { let at = told H.files H.rest H.written H.sure H.read_faults H.write_faults in
+        let sink = sink_told S.bytes S.faults in
+        Ends result (Some (asked command.entry)) (at host.old) (at host.new) (sink out.old) (sink out.new) }
+    ensures unsure { IfReadFault result (IsUnsureOf H.files H.sure host.old (asked command.entry)) }
+{
+    match command {
+        Command::Compile { model, code } => compile_model(alloc, host, model, code),
+        Command::Run { model, code, trace } => run_model(alloc, host, out, model, code, trace),
+        Command::Exec { code, trace } => exec_code(alloc, host, out, code, trace),
+        Command::Profile { model } => profile_model(alloc, host, model),
+        Command::Drive {
+            model,
+            code,
+            subsystem,
+            script,
+        } => drive_model(alloc, host, out, model, code, subsystem, script),
+        Command::Gen {
+            start,
+            size,
+            model,
+            code,
+        } => generate_model(alloc, host, out, start, size, model, code),
+    }
+}
+
 /// Does what the words ask for, but for the last text that is put.
 pub fn act<H: Host, S: Sink>(alloc: Global, words: &[String], host: &mut H, out: &mut S) -> Ending
     ensures ends { let at = told H.files H.rest H.written H.sure H.read_faults H.write_faults in
@@ -100,23 +129,8 @@ pub fn act<H: Host, S: Sink>(alloc: Global, words: &[String], host: &mut H, out:
     ensures unsure { IfSome (asked_by (word_bytes words.now)) (λ asked. IfReadFault result (IsUnsureOf H.files H.sure host.old asked)) }
 {
     match command(alloc, words) {
+        Ok(Some(command)) => perform(alloc, command, host, out),
         Ok(None) => Ending::Usage,
-        Ok(Some(Command::Compile { model, code })) => compile_model(alloc, host, model, code),
-        Ok(Some(Command::Run { model, code, trace })) => {
-            run_model(alloc, host, out, model, code, trace)
-        }
-        Ok(Some(Command::Exec { code, trace })) => exec_code(alloc, host, out, code, trace),
-        Ok(Some(Command::Profile { model })) => profile_model(alloc, host, model),
-        Ok(
-            Some(
-                Command::Gen {
-                    start,
-                    size,
-                    model,
-                    code,
-                },
-            ),
-        ) => generate_model(alloc, host, out, start, size, model, code),
         Err(Memory) => Ending::NoMemory,
     }
 }

@@ -1,14 +1,16 @@
 ghost use Rattle.std.specs.Prelude.{◌≡◌, IfOk, MatchResult, string_bytes};
 ghost use Rattle.mdlc.specs.declared.tool.Ending.{Ending};
 ghost use Rattle.mdlc.specs.Told.{sink_told};
+ghost use Rattle.mdlc.specs.Texts.{script_stop_line};
 ghost use Rattle.mdlc.specs.Endings.{text_of, status_of, IsSaidOf, PutsText, Puts};
 
-use super::Ending;
 use super::lines::{
     USAGE, bad_line_line, code_refused_line, compiled_line, stuck_line, totals_line,
 };
+use super::{Ending, ScriptStop};
 use mc_base::{Memory, refusal_text};
 use mc_edge::{Failed, Sink, put_all};
+use mc_script_runner::{bad_call_line, refused_call_line};
 use std::alloc::{AllocError, Global};
 
 // Bytes of a text.
@@ -28,6 +30,17 @@ fn line_bytes(line: Result<String, AllocError>) -> Result<Vec<u8>, Memory>
     }
 }
 
+// The text of what stops a script.
+fn script_stop_text(alloc: Global, stop: ScriptStop) -> Result<Vec<u8>, Memory>
+    ensures { IfOk result (λ bytes. bytes.items ≡ script_stop_line stop) }
+{
+    match stop {
+        ScriptStop::NoSubsystem => bytes_of(alloc, "script line 0 NoSubsystem\n"),
+        ScriptStop::Line(bad) => Ok(bad_call_line(alloc, bad)?.into_bytes()),
+        ScriptStop::Call(refused) => Ok(refused_call_line(alloc, refused)?.into_bytes()),
+    }
+}
+
 // The text of an ending. A report is its own.
 fn text(alloc: Global, ending: Ending) -> Result<Vec<u8>, Memory>
     ensures { IfOk result (λ bytes. bytes.items ≡ text_of ending) }
@@ -43,6 +56,7 @@ fn text(alloc: Global, ending: Ending) -> Result<Vec<u8>, Memory>
         Ending::Usage => bytes_of(alloc, USAGE),
         Ending::Refused(refusal) => refusal_text(alloc, &refusal),
         Ending::BadTrace(bad) => line_bytes(bad_line_line(alloc, bad)),
+        Ending::BadScript(stop) => script_stop_text(alloc, stop),
         Ending::CodeRefused(fault) => line_bytes(code_refused_line(alloc, fault)),
         Ending::CodeTooLong => bytes_of(alloc, "code refused TooLong\n"),
         Ending::Stuck(at) => line_bytes(stuck_line(alloc, at)),
@@ -61,7 +75,7 @@ fn status(ending: &Ending) -> u8
         Ending::Compiled { .. } | Ending::Ran(_) | Ending::Reported(_) => 0,
         Ending::Usage => 2,
         Ending::Refused(_) => 3,
-        Ending::BadTrace(_) => 4,
+        Ending::BadTrace(_) | Ending::BadScript(_) => 4,
         Ending::ReadFault => 5,
         Ending::WriteFault => 6,
         Ending::PutFault => 7,

@@ -11,6 +11,7 @@ ghost use Rattle.mdlc.specs.Completeness.{CanDo, IsComplete, IsSureOf, IsUnsureO
 use super::acting::act;
 use super::finishing::finish;
 use c_reading::readings_agree;
+use mc_driven::shapes_are_one;
 use mc_edge::{Host, Sink, SureHost, SureSink};
 use mc_verdict::one_verdict;
 use std::alloc::Global;
@@ -27,11 +28,12 @@ fn run<H: Host, S: Sink>(alloc: Global, words: &[String], host: &mut H, out: &mu
 }
 
 /// Does what the words after the program's name ask for, and says the status: 0 where the work is done, 2 for words that
-/// are no command, 3 for a model that is refused, 4 for a line of the trace that is no row, 5, 6 and 7 for faults of reading,
-/// writing and putting, 8 for code that is no program, 9 for code that is stuck, and 10 for want of memory.
+/// are no command, 3 for a model that is refused, 4 for a line of the trace that is no row or a script that can't be run to its
+/// end, 5, 6 and 7 for faults of reading, writing and putting, 8 for code that is no program, 9 for code that is stuck, and 10 for
+/// want of memory.
 pub fn run_tool<H: Host, S: Sink>(alloc: Global, words: &[String], host: &mut H, out: &mut S) -> u8
-    // What `compile` writes of an accepted model, what `run` puts of it besides, and `gen` of one that it makes; what `profile`
-    // puts of an accepted model; that of a refused one nothing is written; and what `exec` puts.
+    // What `compile` writes of an accepted model, what `run` and `drive` put of it besides, and `gen` of one that it makes; what
+    // `profile` puts of an accepted model; that of a refused one nothing is written; and what `exec` puts.
     ensures right { let at = told H.files H.rest H.written H.sure H.read_faults H.write_faults in
         let sink = sink_told S.bytes S.faults in
         DoesRight result (asked_by (word_bytes words.now)) (at host.old) (at host.new) (sink out.old) (sink out.new) }
@@ -79,6 +81,7 @@ pub fn run_tool<H: Host, S: Sink>(alloc: Global, words: &[String], host: &mut H,
 {
     one_verdict();
     readings_agree();
+    shapes_are_one();
     run(alloc, words, host, out)
 }
 
