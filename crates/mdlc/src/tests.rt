@@ -5,6 +5,8 @@ use mc_edge::{MemHost, MemSink, SureHost, SureSink};
 use std::alloc::{AllocError, Global};
 use std::test::Fail;
 
+mod driven;
+mod faults;
 mod made;
 mod models;
 mod profiles;
@@ -127,6 +129,11 @@ fn usage(rt: HostRuntime) -> Result<(), Fail> {
         "exec a.c",
         "exec a.c -t",
         "exec a.c t u",
+        "drive a.mdl a.c 1",
+        "drive a.mdl a.c 1 t u",
+        "drive a.mdl a.mdl 1 t",
+        "drive a.mdl a.c 1 a.c",
+        "drive a.mdl a.c -1 t",
         "profile",
         "profile -a",
         "profile a.mdl b",
@@ -229,21 +236,25 @@ fn other_texts_of_one_wire(rt: HostRuntime) -> Result<(), Fail> {
     Ok(())
 }
 
-// The first bytes of the one wire are compiled or refused.
-fn is_told(alloc: Global, end: usize) -> Result<bool, AllocError> {
-    match models::ONE_WIRE.get(..end) {
-        Some(model) => {
-            let told = compiled(alloc, model)?;
-            Ok(told.status == 0 || told.status == 3)
-        }
-        None => Ok(false),
-    }
+// These bytes are refused, and nothing is written.
+fn is_refused(alloc: Global, model: &[u8]) -> Result<bool, AllocError> {
+    let told = compiled(alloc, model)?;
+    Ok(told.status == 3 && told.files == 0)
 }
 
+// Without its last byte the one wire is the same model; each shorter front of it is refused.
 #[test]
 fn prefixes(rt: HostRuntime) -> Result<(), Fail> {
-    for end in 0..models::ONE_WIRE.len() {
-        assert!(rt; is_told(rt.alloc(), end)?, "{end}");
+    let (_, front) = models::ONE_WIRE.split_last().ok_or("there is no model")?;
+    let done = compiled(rt.alloc(), front)?;
+    assert_eq!(rt; done.status, 0);
+    assert_eq!(rt;
+        done.put.as_slice(),
+        b"compiled rows 2 systems 1 functions 1\n" as &[u8]
+    );
+    for end in 0..front.len() {
+        let shorter = front.get(..end).unwrap_or(&[]);
+        assert!(rt; is_refused(rt.alloc(), shorter)?, "{end}");
     }
     Ok(())
 }

@@ -17,13 +17,16 @@ pub(super) struct Put {
 
 /// The bytes of the files `a.mdl`, `b.c` and `t`.
 #[derive(Clone, Copy, Drop)]
-struct Files<'a> {
-    model: &'a [u8],
-    code: &'a [u8],
-    trace: &'a [u8],
+pub(super) struct Files<'a> {
+    pub(super) model: &'a [u8],
+    pub(super) code: &'a [u8],
+    pub(super) trace: &'a [u8],
 }
 
-fn files_of(alloc: Global, files: Files<'_>) -> Result<Vec<(String, Vec<u8>)>, AllocError> {
+pub(super) fn files_of(
+    alloc: Global,
+    files: Files<'_>,
+) -> Result<Vec<(String, Vec<u8>)>, AllocError> {
     let mut named = Vec::new(alloc);
     named.push((
         String::from_str(alloc, "a.mdl")?,
@@ -35,7 +38,7 @@ fn files_of(alloc: Global, files: Files<'_>) -> Result<Vec<(String, Vec<u8>)>, A
 }
 
 // A call over a host with these files, of which these calls of the host and of the sink fail.
-fn called(
+pub(super) fn called(
     alloc: Global,
     line: &str,
     files: Files<'_>,
@@ -46,7 +49,7 @@ fn called(
 }
 
 // The same, where a call of the host or of the sink moves so many bytes at most.
-fn called_in_pieces(
+pub(super) fn called_in_pieces(
     alloc: Global,
     line: &str,
     files: Files<'_>,
@@ -157,6 +160,7 @@ fn lines_that_are_no_row(rt: HostRuntime) -> Result<(), Fail> {
         (b"1\r\n\n3", "1\ntrace line 2 Count 0\n"),
         (b"1 2\n", "trace line 1 Count 2\n"),
         (b"+1\n", "trace line 1 Form 1\n"),
+        (b"\xff", "trace line 1 Form 1\n"),
         (long.as_slice(), "trace line 1 Long\n"),
     ] {
         let put = ran(rt.alloc(), models::ONE_WIRE, trace)?;
