@@ -7,6 +7,9 @@ strict="-std=c99 -Wall -Wextra -Wconversion -pedantic $unused -Werror"
 
 fail() { echo "$(basename "$0"): $*" >&2; exit 1; }
 
+# In a table " / " stands between the lines of a text.
+lines_of() { printf '%s' "$1" | sed 's| */ *|\n|g'; }
+
 # A call must end with this status and put this; $1 is the status, $2 the text, and the words follow.
 ends() {
   local status=0 put want=$1 text=$2
@@ -24,6 +27,15 @@ gives() {
   [ "$(printf '%s\n' "$put" | sed '$d')" = "$4" ] || fail "$1: other lines of its run: $put"
   printf '%s\n' "$put" | tail -n 1 | grep -Eq "^ticks $5 steps [1-9][0-9]* calls $6\$" || fail "$1: other totals of its run: $put"
   ends 0 "$put" exec "$2" "$3"
+}
+
+# A system of the model must answer so to a script that has no bad line, with the C written to $2: $1 is the model, $3 the word for the
+# system, $4 the script, $5 the lines, $6 the ticks and $7 the calls.
+answers() {
+  local put
+  put=$("$top/mdlc" drive "$1" "$2" "$3" "$4") || fail "$1 isn't driven: $put"
+  [ "$(printf '%s\n' "$put" | sed '$d')" = "$5" ] || fail "$1: other lines of the system $3: $put"
+  printf '%s\n' "$put" | tail -n 1 | grep -Eq "^ticks $6 steps (0|[1-9][0-9]*) calls $7\$" || fail "$1: other totals of the system $3: $put"
 }
 
 # A driver of the C file $1 that goes through the trace $2 and puts $3 outputs in each tick.
