@@ -4,6 +4,7 @@ Written from the rules and not from the compiler, so that the two can be compare
 depth and number."""
 
 import re
+from functools import lru_cache
 from itertools import count, takewhile
 
 from code_text import FIRST_LINE, GREATEST, LEAST, TYPES, first_stray, last_line, tokens_of
@@ -240,6 +241,12 @@ class Program:
         return 0, "\n".join([*lines, f"ticks {ticks} steps {steps} calls {calls}\n"])
 
 
+@lru_cache(1)
+def rules_of(data):
+    """What the rules say of a text that keeps the grammar."""
+    return Rules(Reader(tokens_of(data)).file())
+
+
 def read(data):
     """The program of a text, or the line and the kind of its first fault."""
     first, end, _ = data.partition(b"\n")
@@ -250,7 +257,7 @@ def read(data):
     line_of = lambda at: tokens[at][1] if at < len(tokens) else last_line(data)
     if stray is not None:
         return line_of(stray), "Syntax"
-    rules = Rules(Reader(tokens).file())
+    rules = rules_of(data)
     if rules.faults:
         at, (_, kind) = min(rules.faults)
         return line_of(at), kind

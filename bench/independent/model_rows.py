@@ -1,6 +1,7 @@
 """The blocks of a model's file with their parameters, and its systems, by the rules of docs/FORMATS.md."""
 
 import re
+from functools import cached_property
 
 from model_values import BLANKS, CONSTANT, INHERITED, nearest, number, time_of, type_of, whole
 
@@ -182,21 +183,37 @@ class System:
         """The names of the controls that it holds."""
         return [name for name, kind in CONTROL_NAMES.items() if self.of_kind(kind)]
 
+    @cached_property
+    def profile(self):
+        """The inputs and the outputs of each output function, by its least output; the controls are inputs of each besides."""
+        outputs = {}
+        for row in self.ports(b"Outport"):
+            needed = self.needed_by(row)
+            outputs.setdefault(tuple(it for it in self.ports(b"Inport") if it in needed), []).append(row)
+        return list(outputs.items())
+
     def functions(self):
-        """How many different sets of inputs the outputs need; the controls are in each."""
-        return len({frozenset(it for it in self.needed_by(row) if it.is_kind(b"Inport") and it.owner is self.owner) for row in self.of_kind(b"Outport")})
+        return len(self.profile)
+
+    @cached_property
+    def inside(self):
+        return set(self.all_rows())
+
+    def needs_of(self, row):
+        """The rows in the system that a row's value needs, without those beyond its inputs and controls."""
+        is_input = row.is_kind(b"Inport") and row.owner is self.owner
+        wires = [] if is_input or row.delays else list(row.sources.values())
+        wires += [wire for e in row.around() if e in self.inside for wire in controls_of(e)]
+        return [it for it in wires if it in self.inside]
 
     def needed_by(self, row):
-        """The rows in the system that a row reaches by needs in it, without those beyond its inputs and controls."""
-        inside, seen, todo = set(self.all_rows()), set(), [row]
+        """The rows in the system that a row reaches by needs in it."""
+        seen, todo = set(), [row]
         while todo:
             at = todo.pop()
             if at not in seen:
                 seen.add(at)
-                is_input = self.owner and at.is_kind(b"Inport") and at.owner is self.owner
-                ways = [] if is_input or at.delays else list(at.sources.values())
-                ways += [wire for e in at.around() if e in inside for wire in controls_of(e)]
-                todo += [it for it in ways if it in inside]
+                todo += self.needs_of(at)
         return seen
 
 

@@ -234,7 +234,7 @@ class Model:
     def rate_ratios(self):
         for row in self.rows:
             row.time, row.delays = settled_time(row), row.is_kind(b"UnitDelay", b"Delay")
-            if row.is_kind(b"RateTransition"):
+            if row.is_kind(b"RateTransition") and not outmost_trigger(row):
                 inside, outside = progression(times_before(row)), row.ticks or progression(times_before(row))
                 row.delays = outside[0] < inside[0]
                 row.time = inside if row.delays else outside

@@ -5,7 +5,7 @@ from math import ceil, floor, prod
 
 from model_rows import WITHOUT_VALUE
 from model_values import BLANKS, BOOLEAN, bounds, number, quantize, whole
-from model_wires import gain_constant, needs_of
+from model_wires import gain_constant
 
 ROUNDINGS = {
     b"Floor": floor,
@@ -38,23 +38,36 @@ LOW, HIGH = "low", "high"
 
 
 class Run:
-    """A run of a model, tick by tick; `calls` counts those of output and update functions."""
+    """A run of a model, or of one of its systems by itself, tick by tick. Of the subsystems around a row only that of the system and those
+    inside count, and what holds the system is active. `calls` counts those of output and update functions."""
 
-    def __init__(self, model):
-        self.model, self.now, self.calls = model, 0, 0
-        self.order = in_order(model.rows)
-        self.values = {row: first_value(row) for row in model.rows}
-        self.memories = {row: first_memory(row) for row in model.rows if row.delays}
+    def __init__(self, model, system=None):
+        self.system, self.now, self.calls = system or model.root, 0, 0
+        rows, owner = self.system.all_rows(), self.system.owner
+        self.order = in_order(self.system)
+        # Its Inports by port, and then the names of its controls.
+        self.inputs = [*self.system.ports(b"Inport"), *self.system.controls()]
+        self.before = {row: first_value(row) for row in rows}
+        self.memories = {row: first_memory(row) for row in rows if row.delays}
         # Whether a subsystem's trigger was low or high; None at first.
-        self.triggers = dict.fromkeys(model.rows)
+        self.triggers = dict.fromkeys(it for it in [owner, *rows] if it and "trigger" in it.sources)
+
+    def control(self, e, name):
+        return self.columns[name] if e is self.system.owner else self.values[e.sources[name]]
+
+    def around(self, row):
+        return [e for e in row.around() if e is self.system.owner or e in self.system.inside]
 
     def is_active(self, e):
         """Whether a subsystem is active, or the root, which is None; by the controls of this tick."""
         if e is None:
             return True
-        enable, trigger = e.sources.get("enable"), e.sources.get("trigger")
-        is_enabled = enable is None or self.values[enable] > 0
-        return self.is_active(e.owner) and is_enabled and (trigger is None or self.is_event(e, self.values[trigger] > 0))
+        is_enabled = "enable" not in e.sources or self.control(e, "enable") > 0
+        return self.is_held_active(e) and is_enabled and ("trigger" not in e.sources or self.is_event(e, self.control(e, "trigger") > 0))
+
+    def is_held_active(self, e):
+        """Whether the system that holds a subsystem is active."""
+        return e is self.system.owner or self.is_active(e.owner)
 
     def is_event(self, e, is_high):
         rises, falls = self.triggers[e] == LOW and is_high, self.triggers[e] == HIGH and not is_high
@@ -62,7 +75,7 @@ class Run:
         return {b"rising": rises, b"falling": falls, b"either": rises or falls}[port.text("TriggerType")]
 
     def is_disabled(self, e):
-        return e is not None and "enable" in e.sources and self.is_active(e.owner) and self.values[e.sources["enable"]] <= 0
+        return e is not None and "enable" in e.sources and self.is_held_active(e) and self.control(e, "enable") <= 0
 
     def is_off(self, e):
         return self.is_disabled(e) and e.system.of_kind(b"EnablePort")[0].text("StatesWhenEnabling") == b"reset"
@@ -70,35 +83,38 @@ class Run:
     def runs(self, row):
         return self.now % row.time[0] == row.time[1] and self.is_active(row.owner)
 
-    def settle(self, row, columns):
-        if row.is_kind(b"Outport") and row.text("OutputWhenDisabled") == b"reset" and self.is_disabled(row.owner):
-            self.values[row] = first_value(row)
-        elif not row.is_kind(*WITHOUT_VALUE) and self.runs(row):
-            self.values[row] = columns[row] if row in columns else self.memories[row][0] if row.delays else value_of(row, self.values)
+    def settle(self, numbers):
+        """Gives each row its value for the inputs of this tick."""
+        self.columns, self.values = dict(zip(self.inputs, numbers)), dict(self.before)
+        for row in self.order:
+            if row.is_kind(b"Outport") and row.text("OutputWhenDisabled") == b"reset" and self.is_disabled(row.owner):
+                self.values[row] = first_value(row)
+            elif not row.is_kind(*WITHOUT_VALUE) and self.runs(row):
+                memory = self.memories.get(row)
+                self.values[row] = self.columns[row] if row in self.columns else memory[0] if memory else value_of(row, self.values)
 
     def tick(self, numbers):
         """The line of outputs for a row of the trace."""
-        columns = dict(zip(self.model.ports(b"Inport"), numbers))
-        for row in self.order:
-            self.settle(row, columns)
-        line = " ".join(str(self.values[row]) for row in self.model.ports(b"Outport"))
-        self.calls += sum(it.functions() + 1 for it in self.model.systems if it.owner is None or self.is_active(it.owner.owner))
+        self.settle(numbers)
+        line = " ".join(str(self.values[row]) for row in self.system.ports(b"Outport"))
+        systems = [it for it in self.system.all_systems() if it is self.system or self.is_active(it.owner.owner)]
+        self.calls += sum(it.functions() + 1 for it in systems)
         memories = {row: self.memory_after(row) for row in self.memories}
-        self.triggers |= {row: self.trigger_after(row) for row in self.model.rows if "trigger" in row.sources}
-        self.memories = memories
+        self.triggers = {e: self.trigger_after(e) for e in self.triggers}
+        self.memories, self.before = memories, self.values
         self.now += 1
         return line
 
     def memory_after(self, row):
-        if any(map(self.is_off, row.around())):
+        if any(map(self.is_off, self.around(row))):
             return first_memory(row)
         return [*self.memories[row][1:], self.values[row.sources[1]]] if self.runs(row) else self.memories[row]
 
     def trigger_after(self, e):
-        if any(map(self.is_off, e.around())):
+        if any(map(self.is_off, self.around(e))):
             return None
-        if self.is_active(e.owner):
-            return HIGH if self.values[e.sources["trigger"]] > 0 else LOW
+        if self.is_held_active(e):
+            return HIGH if self.control(e, "trigger") > 0 else LOW
         return self.triggers[e]
 
 
@@ -114,14 +130,14 @@ def first_memory(row):
     return [start] * (whole(row.text("DelayLength")) if row.is_kind(b"Delay") else 1)
 
 
-def in_order(rows):
-    """The rows, each behind those that it needs."""
+def in_order(system):
+    """The rows of a system, each behind those that it needs."""
     done, order = set(), []
 
     def put(row):
         todo = [row]
         while todo:
-            missing = [it for it in needs_of(todo[-1]) if it not in done]
+            missing = [it for it in system.needs_of(todo[-1]) if it not in done]
             if missing:
                 todo += missing
             else:
@@ -129,7 +145,7 @@ def in_order(rows):
                 order.extend([row] if row not in done else [])
                 done.add(row)
 
-    for row in rows:
+    for row in system.all_rows():
         put(row)
     return order
 

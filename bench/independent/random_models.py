@@ -7,6 +7,7 @@ import model_rules
 import model_runs
 import model_text
 from model_values import bounds
+from random_scripts import compare_drives, some_row
 
 TYPES = ["int8", "int16", "int32", "uint8", "uint16", "uint32", "boolean", "fixdt(1,16,4)", "fixdt(0,12,3)", "fixdt(true, 32 ,31)", "fixdt(1,2,0)", "fixdt(0,1,0)", "fixdt(0,32,31)", "fixdt(1,31,1)"]
 ODD_TYPES = ["double", "single", "half", "Inherit: auto", "Inherit: Logical (see settings)", "Inherit: Inherit via back propagation", "Inherit: Same as first input", "fixdt(1,33,0)", "fixdt(1,1,0)", "fixdt(0,0,0)", "fixdt(1,8,32)", "fixdt(2,8,0)", "fixdt(1,8)", "Int8", " int8 ", "fixdt (1,8,0)", "fixdt(1,08,0)", "fixdt(false,8,0)", "", "Inherit:", "inherit: auto", "fixdt(1,8,0,0)", "fixdt(\t1,8,0)"]
@@ -339,11 +340,6 @@ def damaged(chance, data):
     return b"\n".join(lines)
 
 
-def some_row(chance, types):
-    """A row of a trace, with zeros and with numbers at the ends of their types."""
-    return [0 if chance.random() < 0.4 else chance.choice([*bounds(it), chance.randint(*bounds(it)), sorted((*bounds(it), chance.randint(-9, 9)))[1]]) for it in types]
-
-
 def bad_line(chance, types):
     """A line that is no row, and its cause."""
     fields, at = [str(max(0, bounds(it)[0])) for it in types], chance.randrange(len(types))
@@ -385,4 +381,5 @@ def compare_one(chance, program):
     if isinstance(wanted, str):
         return wanted.split()[0], program.differs(["compile", *program.files("")[:2]], 3, f"refused {wanted}\n")
     text = f"compiled rows {len(wanted.rows)} systems {len(wanted.systems)} functions {wanted.functions()}\n"
-    return "accepted" if len(wanted.systems) == 1 else "with subsystems", program.differs(["compile", *program.files("")[:2]], 0, text) or compare_runs(chance, wanted, program)
+    difference = program.differs(["compile", *program.files("")[:2]], 0, text) or compare_runs(chance, wanted, program)
+    return "accepted" if len(wanted.systems) == 1 else "with subsystems", difference or compare_drives(chance, wanted, program)
