@@ -214,6 +214,21 @@ plain_stores() {
 # A trace of one input and so many ticks.
 long_trace() { awk -v n="$1" 'BEGIN { for (k = 1; k <= n; k++) print (k * 7919) % 20011 - 10005 }'; }
 
+# A script of so many lines for a system with two inputs, of which each of its two functions takes one: in each tick the functions, in one
+# order and then in the other, and the update.
+long_script() {
+  awk -v n="$1" 'BEGIN {
+    for (k = 0; k < n; k++) {
+      tick = int(k / 3)
+      value[1] = (tick * 7919) % 20011 - 10005
+      value[2] = (tick * 6007) % 20011 - 10005
+      j = 1 + k % 2
+      if (k % 3 == 2) print "update", value[1], value[2]
+      else print "out", j, value[j]
+    }
+  }'
+}
+
 # A program that does the same ticks by the compiled code $1, and prints the last output, so that nothing is left out.
 native_driver() {
   printf '#include "%s"\n#include <stdio.h>\n#include <stdlib.h>\nstatic struct root r;\nint main(int n, char **w) {\n' "$1"
