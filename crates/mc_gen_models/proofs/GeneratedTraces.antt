@@ -38,7 +38,7 @@ generated_rows start size table is =
     (subst (λ bs. AllZip (IsRowOf m) bs table.rows) (root_blocks start size (root_section start size) refl) is.rows)
 
 pub generated_traces_are_rows : GeneratedTracesAreRows
-generated_traces_are_rows start size some r verdict =
+generated_traces_are_rows start size r verdict =
     let (file, text, fine, is) = verdict.model.0 in
     let resolved = verdict.model.1 in
     let one = generated_rows start size r.table (subst (λ f. TableOf f r.table) (generated_tree start size file text.1) is) in

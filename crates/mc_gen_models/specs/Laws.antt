@@ -1,5 +1,5 @@
 -- The law of generated traces.
-use Rattle.std.specs.Prelude.{◌≡◌, ℕ, ◌<◌, map, None}
+use Rattle.std.specs.Prelude.{◌≡◌, ℕ, map, None}
 use Rattle.mc_diagram.specs.Inputs.{input_ports}
 use Rattle.mc_diagram.specs.ResolvedTable.{ResolvedTable, diagram_of_table}
 use Rattle.mc_diagram.specs.Traces.{input_type_of}
@@ -10,7 +10,7 @@ use Rattle.mc_gen.specs.Models.{model_text, trace_text}
 -- where a generated model is accepted, no line of its generated trace is bad for its root's inputs
 abbrev pub GeneratedTracesAreRows : Type 0
 GeneratedTracesAreRows =
-    (start size : ℕ) → 0 < size →
+    (start size : ℕ) →
     (r : ResolvedTable) → HasVerdict (model_text start size) (Accepted r) →
     let d = diagram_of_table r in
     let types = map (input_type_of d None) (input_ports d.rows None) in

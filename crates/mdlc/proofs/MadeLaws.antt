@@ -44,8 +44,8 @@ module _ (c : Compilation) (start size : ℕ) (model code : List ℕ) (h h' : Ho
   both-of = record { resolved = w.from.resolved; verdict = w.from.verdict; compilation = c; right = w.from.compiled; written = w.written }
 
   -- no line of the trace that is made is bad for the inputs of the model
-  never-bad : GeneratedTracesAreRows → 0 < size → (line : BadLine) (p : ProgramTree) (b b' : SinkTold) → RunsToBadLine line p c.inputs (trace_text start size) b b' → ⊥
-  never-bad good some line p b b' run = cc (sym run.bad ∙ ap (λ (types : List FixType). bad_line types (trace_text start size)) w.from.compiled.inputs ∙ good start size some w.from.resolved w.from.verdict)
+  never-bad : GeneratedTracesAreRows → (line : BadLine) (p : ProgramTree) (b b' : SinkTold) → RunsToBadLine line p c.inputs (trace_text start size) b b' → ⊥
+  never-bad good line p b b' run = cc (sym run.bad ∙ ap (λ (types : List FixType). bad_line types (trace_text start size)) w.from.compiled.inputs ∙ good start size w.from.resolved w.from.verdict)
 
   -- the line of the compilation wasn't put
   pub made_unput : (e : Ending) (b b' : SinkTold) → NotPut e c b b' → Ends e (Some (Gen start size model code)) h h' b b'
@@ -99,19 +99,19 @@ module _ (c : Compilation) (start size : ℕ) (model code : List ℕ) (h h' : Ho
     }
 
     -- no line of the trace that is made with a model is bad
-    pub made_ends : GeneratedTracesAreRows → 0 < size → (e : Ending) (m : MachineState) (b' : SinkTold) → StartsFrom c.code m → RowsEnd e (tree_of m) c.inputs (trace_text start size) b1 b' → CountsPuts e b1 b' → Ends e (Some (Gen start size model code)) h h' b b'
-    made_ends good some (Ran totals) m b' starts run counts = record { finds = ran-made (Ran totals) m b' starts run; counts = counts ∙ put.no_fault }
-    made_ends good some (BadTrace line) m b' starts run counts = absurd (never-bad good some line (tree_of m) b1 b' run)
-    made_ends good some (BadScript stop) m b' starts run counts = absurd run
-    made_ends good some PutFault m b' starts run counts =
+    pub made_ends : GeneratedTracesAreRows → (e : Ending) (m : MachineState) (b' : SinkTold) → StartsFrom c.code m → RowsEnd e (tree_of m) c.inputs (trace_text start size) b1 b' → CountsPuts e b1 b' → Ends e (Some (Gen start size model code)) h h' b b'
+    made_ends good (Ran totals) m b' starts run counts = record { finds = ran-made (Ran totals) m b' starts run; counts = counts ∙ put.no_fault }
+    made_ends good (BadTrace line) m b' starts run counts = absurd (never-bad good line (tree_of m) b1 b' run)
+    made_ends good (BadScript stop) m b' starts run counts = absurd run
+    made_ends good PutFault m b' starts run counts =
         record { finds = inr (ran-made PutFault m b' starts run); counts = subst (λ (n : ℕ). Rose n b'.faults) put.no_fault counts }
-    made_ends good some NoMemory m b' starts run counts = record { finds = inr (both-of, inr (run ∙ lined)); counts = counts ∙ put.no_fault }
-    made_ends good some (IsStuck at) m b' starts run counts = absurd (never-stuck at c m (model_text start size) (trace_text start size) w.from starts run.stuck)
-    made_ends good some (Compiled rows systems functions) m b' starts run counts = absurd run
-    made_ends good some (Reported text) m b' starts run counts = absurd run
-    made_ends good some Usage m b' starts run counts = absurd run
-    made_ends good some (Refused refusal) m b' starts run counts = absurd run
-    made_ends good some (CodeRefused fault) m b' starts run counts = absurd run
-    made_ends good some CodeTooLong m b' starts run counts = absurd run
-    made_ends good some ReadFault m b' starts run counts = absurd run
-    made_ends good some WriteFault m b' starts run counts = absurd run
+    made_ends good NoMemory m b' starts run counts = record { finds = inr (both-of, inr (run ∙ lined)); counts = counts ∙ put.no_fault }
+    made_ends good (IsStuck at) m b' starts run counts = absurd (never-stuck at c m (model_text start size) (trace_text start size) w.from starts run.stuck)
+    made_ends good (Compiled rows systems functions) m b' starts run counts = absurd run
+    made_ends good (Reported text) m b' starts run counts = absurd run
+    made_ends good Usage m b' starts run counts = absurd run
+    made_ends good (Refused refusal) m b' starts run counts = absurd run
+    made_ends good (CodeRefused fault) m b' starts run counts = absurd run
+    made_ends good CodeTooLong m b' starts run counts = absurd run
+    made_ends good ReadFault m b' starts run counts = absurd run
+    made_ends good WriteFault m b' starts run counts = absurd run

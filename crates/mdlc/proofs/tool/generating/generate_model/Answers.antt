@@ -53,7 +53,7 @@ returns-in-Ok-generate_trace g c =
     let run : RowsEnd c.run_rows.result (tree_of m) compiled.inputs text lined later =
     subst (λ (x : List ℕ). RowsEnd c.run_rows.result (tree_of m) compiled.inputs x lined later) traced
     (subst (λ (types : List FixType). RowsEnd c.run_rows.result (tree_of m) types c.deref-in-Ok-generate_trace-2.result.now lined later) typed c.run_rows.ensures.ends) in
-    record { ends = made_ends compiled c.args.start c.args.size c.args.model.now c.args.code.now _ _ c.in-Ok.ensures.made put lined line c.generated_traces_are_rows.ensures c.requires.size.0 c.run_rows.result m later starts run c.run_rows.ensures.counts }
+    record { ends = made_ends compiled c.args.start c.args.size c.args.model.now c.args.code.now _ _ c.in-Ok.ensures.made put lined line c.generated_traces_are_rows.ensures c.run_rows.result m later starts run c.run_rows.ensures.counts }
 
 pub returns : goal.returns
 returns g c =
