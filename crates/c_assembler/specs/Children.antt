@@ -7,7 +7,8 @@ use Rattle.c_shape.specs.Assembled.{is_child_kind}
 
 -- the name of the first field that is the child at a position
 abbrev pub child_at : List FieldTree → ℕ → Option (List ℕ)
-child_at fields k = option_map (λ (f : FieldTree). f.name) (find (λ f. is_child_kind k f.kind) fields)
+child_at fields k =
+    option_map (λ (f : FieldTree). f.name) (find (λ f. is_child_kind k f.kind) fields)
 
 -- the same for so many positions
 abbrev pub children_at : List FieldTree → ℕ → List (Option (List ℕ))

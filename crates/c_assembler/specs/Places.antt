@@ -18,7 +18,8 @@ place_in names name = get_by (λ k. bytes_eq name k.now) names
 
 -- a table tells the first code of each name from a place on, where these are the codes from there
 abbrev pub TellsCodes : ℕ → List SystemCode → (List ℕ → Option ℕ) → Type 0
-TellsCodes from codes told = (name : List ℕ) → told name ≡ position_from (λ c. bytes_eq c.structure.name name) from (trees codes)
+TellsCodes from codes told = (name : List ℕ) →
+    told name ≡ position_from (λ c. bytes_eq c.structure.name name) from (trees codes)
 
 -- a code with no name, no fields, no outputs and no procedures
 pub record IsNoCode (code : SystemCode) : Type 0 where
@@ -26,8 +27,10 @@ pub record IsNoCode (code : SystemCode) : Type 0 where
   pub outputs : code.outputs.items ≡ []
   pub procedures : length code.procedures.items ≡ 0
 
--- the codes are few, an empty one stands for those past the end, and tables tell each name's code and each code's first procedure
-pub record AreFound (codes : List SystemCode) (empty : SystemCode) (told : List ℕ → Option ℕ) (numbers : List ℕ) : Type 0 where
+-- the codes are few, an empty one stands for those past the end, and tables tell each name's code
+-- and each code's first procedure
+pub record AreFound (codes : List SystemCode) (empty : SystemCode) (told : List ℕ → Option ℕ)
+    (numbers : List ℕ) : Type 0 where
   pub few : length codes < 2 ^ 32
   pub none : IsNoCode empty
   pub places : TellsCodes 0 codes told

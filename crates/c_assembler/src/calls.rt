@@ -24,14 +24,17 @@ fn place_of(params: &[(Text, CType)], name: &[u8]) -> Option<usize>
 
 /// The position of the first parameter of a name; where there is none, 0.
 fn param_position(params: &[(Text, CType)], name: &[u8]) -> Result<u32, Memory>
-    ensures { IfOk result (λ k. k ≡ unwrap_or (position_from (λ r. bytes_eq r.name name.now) 0 (param_trees params.now)) 0) }
+    ensures { IfOk result (λ k. k
+        ≡ unwrap_or (position_from (λ r. bytes_eq r.name name.now) 0 (param_trees params.now)) 0) }
 {
     small(place_of(params, name).unwrap_or(0))
 }
 
 /// The root's parameter for a parameter of the topmost system, or the tick.
 fn root_value(params: &[(Text, CType)], wanted: &(Text, CType)) -> Result<Expr, Memory>
-    ensures { IfOk result (λ e. expr_tree e ≡ assembled.root_value [] (param_trees params.now) (record { name = wanted.now.0; type = wanted.now.1 })) }
+    ensures { IfOk result (λ e. expr_tree e
+        ≡ assembled.root_value [] (param_trees params.now)
+        (record { name = wanted.now.0; type = wanted.now.1 })) }
 {
     if is_named(&wanted.0, b"now".as_slice()) {
         return Ok(Expr::Read(Leaf::Own(0)));
@@ -46,7 +49,8 @@ fn root_values(
     params: &[(Text, CType)],
     wanted: &[(Text, CType)],
 ) -> Result<Vec<Expr>, Memory>
-    ensures { IfOk result (λ v. map expr_tree v.items ≡ map (assembled.root_value [] (param_trees params.now)) (param_trees wanted.now)) }
+    ensures { IfOk result (λ v. map expr_tree v.items
+        ≡ map (assembled.root_value [] (param_trees params.now)) (param_trees wanted.now)) }
 {
     let mut values = Vec::new(alloc);
     for param in wanted {
@@ -57,7 +61,8 @@ fn root_values(
 
 /// The first procedure of a name.
 fn procedure_named<'a>(procedures: &'a [Procedure], name: &[u8]) -> Option<&'a Procedure>
-    ensures { option_map (λ q. procedure_tree q.now) result ≡ find (λ q. bytes_eq q.name name.now) (map procedure_tree procedures.now) }
+    ensures { option_map (λ q. procedure_tree q.now) result
+        ≡ find (λ q. bytes_eq q.name name.now) (map procedure_tree procedures.now) }
 {
     for q in procedures {
         if is_named(&q.name, name) {
@@ -74,8 +79,11 @@ fn values_for(
     procedures: &[Procedure],
     name: &[u8],
 ) -> Result<Vec<Expr>, Memory>
-    ensures { IfOk result (λ v. map expr_tree v.items ≡ map (assembled.root_value [] (param_trees params.now))
-        (unwrap_or (option_map (λ q. q.params) (find (λ q. bytes_eq q.name name.now) (map procedure_tree procedures.now))) [])) }
+    ensures { IfOk result (λ v. map expr_tree v.items
+        ≡ map (assembled.root_value [] (param_trees params.now))
+        (unwrap_or
+        (option_map (λ q. q.params)
+        (find (λ q. bytes_eq q.name name.now) (map procedure_tree procedures.now))) [])) }
 {
     match procedure_named(procedures, name) {
         Some(q) => root_values(alloc, params, q.params.as_slice()),
@@ -86,7 +94,9 @@ fn values_for(
 /// A call on the field behind the tick and the outputs.
 fn call_behind(outputs: u32, procedure: u32, values: Vec<Expr>) -> Stmt
     requires { outputs + 1 < 2 ^ 32 }
-    ensures { stmt_tree result ≡ call 0 procedure (child_target (outputs + 1)) (exprs_of_list (map expr_tree values.items)) }
+    ensures { stmt_tree result
+        ≡ call 0 procedure (child_target (outputs + 1))
+        (exprs_of_list (map expr_tree values.items)) }
 {
     Stmt::Call {
         line: 0,
@@ -105,7 +115,8 @@ pub(crate) fn call_top(
     name: &[u8],
 ) -> Result<Stmt, Memory>
     requires { outputs + 1 < 2 ^ 32 }
-    ensures { IfOk result (λ s. stmt_tree s ≡ assembled.call_top (trees codes.now.list.now) (param_trees params.now) outputs name.now) }
+    ensures { IfOk result (λ s. stmt_tree s
+        ≡ assembled.call_top (trees codes.now.list.now) (param_trees params.now) outputs name.now) }
 {
     let procedure = procedure_position(codes, 0, name)?;
     let values = values_for(alloc, params, procedures_of(codes.at(0)), name)?;
@@ -122,7 +133,9 @@ pub(crate) fn push_calls(
     list: &mut Vec<Stmt>,
 ) -> Result<(), Memory>
     requires { outputs + 1 < 2 ^ 32 }
-    ensures { OnOk result (map stmt_tree list.new.items ≡ map stmt_tree list.old.items ++ map (assembled.call_top (trees codes.now.list.now) (param_trees params.now) outputs) names.now) }
+    ensures { OnOk result (map stmt_tree list.new.items ≡ map stmt_tree list.old.items
+        ++ map (assembled.call_top (trees codes.now.list.now) (param_trees params.now) outputs)
+        names.now) }
 {
     for name in names {
         list.push(call_top(alloc, codes, params, outputs, name.bytes())?)?;

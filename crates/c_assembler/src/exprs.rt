@@ -81,7 +81,8 @@ pub(crate) fn moved_exprs(
     links: &Links<'_>,
     es: &[Expr],
 ) -> Result<Vec<Expr>, Memory>
-    ensures { IfOk result (λ v. exprs_of_list (map expr_tree v.items) ≡ moved.moved_exprs (relocation links.now) (exprs_of_list (map expr_tree es.now))) }
+    ensures { IfOk result (λ v. exprs_of_list (map expr_tree v.items)
+        ≡ moved.moved_exprs (relocation links.now) (exprs_of_list (map expr_tree es.now))) }
 {
     let mut list = Vec::new(alloc);
     for e in es {
@@ -93,7 +94,8 @@ pub(crate) fn moved_exprs(
 /// A condition with its leaves moved.
 #[cycle(expression)]
 pub(crate) fn moved_cond(alloc: Global, links: &Links<'_>, test: &Cond) -> Result<Cond, Memory>
-    ensures { IfOk result (λ c. cond_tree c ≡ moved.moved_cond (relocation links.now) (cond_tree test.now)) }
+    ensures { IfOk result (λ c. cond_tree c
+        ≡ moved.moved_cond (relocation links.now) (cond_tree test.now)) }
 {
     match test {
         Cond::Compare(how, left, right) => {

@@ -19,7 +19,9 @@ use std::alloc::Global;
 
 /// The outputs of the code of a name.
 fn outputs_under<'a>(codes: &Codes<'a>, name: &[u8]) -> &'a [u32]
-    ensures { result.now ≡ (assembled.code_at (trees codes.now.list.now) (assembled.code_named (trees codes.now.list.now) name.now)).outputs }
+    ensures { result.now
+        ≡ (assembled.code_at (trees codes.now.list.now)
+        (assembled.code_named (trees codes.now.list.now) name.now)).outputs }
 {
     outputs_of(codes.at(codes.named(name)))
 }
@@ -30,7 +32,11 @@ fn field_outputs<'a>(
     codes: &Codes<'a>,
     fields: &[Field],
 ) -> Result<Vec<&'a [u32]>, Memory>
-    ensures { IfOk result (λ v. map (λ x. x.now) v.items ≡ map (λ f. (assembled.code_at (trees codes.now.list.now) (assembled.code_named (trees codes.now.list.now) f.name)).outputs) (field_trees fields.now)) }
+    ensures { IfOk result (λ v. map (λ x. x.now) v.items
+        ≡ map (λ f.
+        (assembled.code_at (trees codes.now.list.now)
+        (assembled.code_named (trees codes.now.list.now) f.name)).outputs)
+        (field_trees fields.now)) }
 {
     let mut list = Vec::new(alloc);
     for field in fields {
@@ -41,7 +47,9 @@ fn field_outputs<'a>(
 
 /// The positions of the public procedures of the codes of some names.
 fn offered_by(alloc: Global, codes: &Codes<'_>, names: &[&[u8]]) -> Result<Vec<u32>, Memory>
-    ensures { IfOk result (λ v. v.items ≡ flat_map (λ name. assembled.public_positions (trees codes.now.list.now) (assembled.code_named (trees codes.now.list.now) name)) (map (λ n. n.now) names.now)) }
+    ensures { IfOk result (λ v. v.items
+        ≡ flat_map (λ name. assembled.public_positions (trees codes.now.list.now)
+        (assembled.code_named (trees codes.now.list.now) name)) (map (λ n. n.now) names.now)) }
 {
     let mut offered = Vec::new(alloc);
     for name in names {
@@ -59,7 +67,8 @@ fn own_count(code: &SystemCode) -> Result<u32, Memory>
 
 /// Where what the code at a position names goes.
 pub(crate) fn links_of<'a>(alloc: Global, codes: &Codes<'a>, i: u32) -> Result<Links<'a>, Memory>
-    ensures { IfOk result (λ links. relocation links ≡ assembled.relocation_of (trees codes.now.list.now) i) }
+    ensures { IfOk result (λ links. relocation links
+        ≡ assembled.relocation_of (trees codes.now.list.now) i) }
 {
     let code = codes.at(i);
     let names = child_names(alloc, code)?;

@@ -29,7 +29,8 @@ fn copied_params(alloc: Global, params: &[(Text, CType)]) -> Result<Vec<(Text, C
 
 /// A procedure at its place.
 fn moved_procedure(alloc: Global, links: &Links<'_>, q: &Procedure) -> Result<Procedure, Memory>
-    ensures { IfOk result (λ p. procedure_tree p ≡ moved.moved_procedure (relocation links.now) (procedure_tree q.now)) }
+    ensures { IfOk result (λ p. procedure_tree p
+        ≡ moved.moved_procedure (relocation links.now) (procedure_tree q.now)) }
 {
     Ok(Procedure {
         name: Text::copy_of(alloc, q.name.bytes())?,
@@ -47,7 +48,8 @@ fn push_moved(
     procedures: &[Procedure],
     list: &mut Vec<Procedure>,
 ) -> Result<(), Memory>
-    ensures { OnOk result (map procedure_tree list.new.items ≡ map procedure_tree list.old.items ++ map (moved.moved_procedure (relocation links.now)) (map procedure_tree procedures.now)) }
+    ensures { OnOk result (map procedure_tree list.new.items ≡ map procedure_tree list.old.items
+        ++ map (moved.moved_procedure (relocation links.now)) (map procedure_tree procedures.now)) }
 {
     for q in procedures {
         list.push(moved_procedure(alloc, links, q)?)?;
@@ -63,7 +65,8 @@ pub(crate) fn push_procedures(
     list: &mut Vec<Procedure>,
 ) -> Result<(), Memory>
     ensures { OnOk result (map procedure_tree list.new.items ≡ map procedure_tree list.old.items
-        ++ map (moved.moved_procedure (assembled.relocation_of (trees codes.now.list.now) i)) (assembled.code_at (trees codes.now.list.now) i).procedures) }
+        ++ map (moved.moved_procedure (assembled.relocation_of (trees codes.now.list.now) i))
+        (assembled.code_at (trees codes.now.list.now) i).procedures) }
 {
     let links = links_of(alloc, codes, i)?;
     push_moved(alloc, &links, procedures_of(codes.at(i)), list)

@@ -35,7 +35,11 @@ fn no_code(alloc: Global) -> SystemCode
 
 /// The structs from the last code to the first, and the root's.
 fn all_structs(alloc: Global, codes: &Codes<'_>, root: &Local) -> Result<Vec<StructDef>, Memory>
-    ensures { IfOk result (λ v. v.items ≡ map (λ i. assembled.moved_struct (trees codes.now.list.now) (assembled.code_at (trees codes.now.list.now) i)) (assembled.from_last (trees codes.now.list.now)) ++ assembled.root_structure (trees codes.now.list.now) root.now 0 ∷ []) }
+    ensures { IfOk result (λ v. v.items
+        ≡ map (λ i. assembled.moved_struct (trees codes.now.list.now)
+        (assembled.code_at (trees codes.now.list.now) i))
+        (assembled.from_last (trees codes.now.list.now))
+        ++ assembled.root_structure (trees codes.now.list.now) root.now 0 ∷ []) }
 {
     let mut structs = Vec::new(alloc);
     for i in (0..codes.count()).rev() {
@@ -52,7 +56,12 @@ fn all_procedures(
     root: &Local,
     hyper: u32,
 ) -> Result<Vec<Procedure>, Memory>
-    ensures { IfOk result (λ v. map procedure_tree v.items ≡ flat_map (λ i. map (moved_procedure (assembled.relocation_of (trees codes.now.list.now) i)) (assembled.code_at (trees codes.now.list.now) i).procedures) (assembled.from_last (trees codes.now.list.now)) ++ assembled.root_procedures (trees codes.now.list.now) root.now hyper) }
+    ensures { IfOk result (λ v. map procedure_tree v.items
+        ≡ flat_map
+        (λ i. map (moved_procedure (assembled.relocation_of (trees codes.now.list.now) i))
+        (assembled.code_at (trees codes.now.list.now) i).procedures)
+        (assembled.from_last (trees codes.now.list.now))
+        ++ assembled.root_procedures (trees codes.now.list.now) root.now hyper) }
 {
     let mut procedures = Vec::new(alloc);
     for i in (0..codes.count()).rev() {
@@ -75,7 +84,8 @@ pub fn assemble(
     root: &Local,
     hyper: u32,
 ) -> Result<Program, Memory>
-    ensures { IfOk result (λ p. (pures : List PureTree) × IsPrelude pures × (program_tree p ≡ assembled.assembled (map system_tree codes.now) root.now hyper pures)) }
+    ensures { IfOk result (λ p. (pures : List PureTree) × IsPrelude pures
+        × (program_tree p ≡ assembled.assembled (map system_tree codes.now) root.now hyper pures)) }
 {
     let none = no_code(alloc);
     let codes = Codes::new(alloc, codes, &none)?;

@@ -24,7 +24,8 @@ fn place_among(procedures: &[Procedure], name: &[u8]) -> Option<usize>
 
 /// The same, where procedures are seen as their trees.
 fn place_of(procedures: &[Procedure], name: &[u8]) -> Option<usize>
-    ensures { result ≡ position_from (λ q. bytes_eq q.name name.now) 0 (map procedure_tree procedures.now) }
+    ensures { result
+        ≡ position_from (λ q. bytes_eq q.name name.now) 0 (map procedure_tree procedures.now) }
 {
     place_among(procedures, name)
 }
@@ -80,7 +81,8 @@ pub(crate) fn push_positions(
     i: u32,
     positions: &mut Vec<u32>,
 ) -> Result<(), Memory>
-    ensures { OnOk result (positions.new.items ≡ positions.old.items ++ assembled.public_positions (trees codes.now.list.now) i) }
+    ensures { OnOk result (positions.new.items ≡ positions.old.items
+        ++ assembled.public_positions (trees codes.now.list.now) i) }
 {
     let names = public_names(alloc, codes.at(i))?;
     for name in &names {

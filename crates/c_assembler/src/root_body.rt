@@ -35,7 +35,9 @@ fn store(field: u32, value: Expr) -> Stmt
 pub(crate) fn start_body(alloc: Global, codes: &Codes<'_>, count: u32) -> Result<Vec<Stmt>, Memory>
     requires { count + 1 < 2 ^ 32 }
     ensures { IfOk result (λ v. map stmt_tree v.items
-        ≡ assembled.call_top (trees codes.now.list.now) [] count ((assembled.code_at (trees codes.now.list.now) 0).structure.name ++ text "_start") ∷ assign 0 0 (literal (pos 0)) ∷ []) }
+        ≡ assembled.call_top (trees codes.now.list.now) [] count
+        ((assembled.code_at (trees codes.now.list.now) 0).structure.name ++ text "_start")
+        ∷ assign 0 0 (literal (pos 0)) ∷ []) }
 {
     let name = with_end(alloc, system_name(codes.at(0)), "_start")?;
     let mut list = Vec::new(alloc);
@@ -46,7 +48,8 @@ pub(crate) fn start_body(alloc: Global, codes: &Codes<'_>, count: u32) -> Result
 
 /// The names of the procedures that are called in a step.
 fn step_names(alloc: Global, code: &SystemCode) -> Result<Vec<Text>, Memory>
-    ensures { IfOk result (λ v. v.items ≡ assembled.out_names (system_tree code.now) ++ ((system_tree code.now).structure.name ++ text "_update") ∷ []) }
+    ensures { IfOk result (λ v. v.items ≡ assembled.out_names (system_tree code.now)
+        ++ ((system_tree code.now).structure.name ++ text "_update") ∷ []) }
 {
     let mut names = out_names(alloc, code)?;
     names.push(with_end(alloc, system_name(code), "_update")?)?;
@@ -56,7 +59,8 @@ fn step_names(alloc: Global, code: &SystemCode) -> Result<Vec<Text>, Memory>
 /// A store of an output of the topmost system, where the root has so many outputs.
 fn store_output(place: usize, count: u32, field: u32) -> Result<Stmt, Memory>
     requires { count + 1 < 2 ^ 32 }
-    ensures { IfOk result (λ s. stmt_tree s ≡ assign 0 (place + 1) (read (child_leaf (count + 1) field))) }
+    ensures { IfOk result (λ s. stmt_tree s
+        ≡ assign 0 (place + 1) (read (child_leaf (count + 1) field))) }
 {
     match place.checked_add(1) {
         Some(own) => Ok(store(small(own)?, Expr::Read(Leaf::Child(count + 1, field)))),
@@ -67,7 +71,9 @@ fn store_output(place: usize, count: u32, field: u32) -> Result<Stmt, Memory>
 /// Adds a store of each output of the topmost system.
 fn push_outputs(count: u32, fields: &[u32], list: &mut Vec<Stmt>) -> Result<(), Memory>
     requires { count + 1 < 2 ^ 32 }
-    ensures { OnOk result (map stmt_tree list.new.items ≡ map stmt_tree list.old.items ++ map (λ e. assign 0 (e.0 + 1) (read (child_leaf (count + 1) e.1))) (enumerate_from 0 fields.now)) }
+    ensures { OnOk result (map stmt_tree list.new.items ≡ map stmt_tree list.old.items
+        ++ map (λ e. assign 0 (e.0 + 1) (read (child_leaf (count + 1) e.1)))
+        (enumerate_from 0 fields.now)) }
 {
     for (place, field) in fields.iter().enumerate() {
         list.push(store_output(place, count, *field)?)?;
@@ -86,7 +92,9 @@ fn operation(alloc: Global, op: BinOp, left: Expr, right: Expr) -> Result<Expr, 
 
 /// The store of the next tick, which begins anew after so many.
 fn next_tick(alloc: Global, hyper: u32) -> Result<Stmt, Memory>
-    ensures { IfOk result (λ s. stmt_tree s ≡ assign 0 0 (binary Rem (binary Add (read (own_leaf 0)) (literal (pos 1))) (literal (pos hyper)))) }
+    ensures { IfOk result (λ s. stmt_tree s
+        ≡ assign 0 0 (binary Rem (binary Add (read (own_leaf 0)) (literal (pos 1)))
+        (literal (pos hyper)))) }
 {
     let tick = Expr::Read(Leaf::Own(0));
     let next = operation(alloc, BinOp::Add, tick, Expr::Literal(1))?;
@@ -105,9 +113,12 @@ pub(crate) fn step_body(
     requires { count + 1 < 2 ^ 32 }
     ensures { let top = assembled.code_at (trees codes.now.list.now) 0 in
         IfOk result (λ v. map stmt_tree v.items
-        ≡ map (assembled.call_top (trees codes.now.list.now) (param_trees params.now) count) (assembled.out_names top ++ (top.structure.name ++ text "_update") ∷ [])
-        ++ map (λ e. assign 0 (e.0 + 1) (read (child_leaf (count + 1) e.1))) (enumerate_from 0 top.outputs)
-        ++ assign 0 0 (binary Rem (binary Add (read (own_leaf 0)) (literal (pos 1))) (literal (pos hyper))) ∷ []) }
+        ≡ map (assembled.call_top (trees codes.now.list.now) (param_trees params.now) count)
+        (assembled.out_names top ++ (top.structure.name ++ text "_update") ∷ [])
+        ++ map (λ e. assign 0 (e.0 + 1) (read (child_leaf (count + 1) e.1)))
+        (enumerate_from 0 top.outputs)
+        ++ assign 0 0 (binary Rem (binary Add (read (own_leaf 0)) (literal (pos 1)))
+        (literal (pos hyper))) ∷ []) }
 {
     let top = codes.at(0);
     let names = step_names(alloc, top)?;

@@ -32,7 +32,14 @@ fn output_count(alloc: Global, root: &Local) -> Result<u32, Memory>
 
 /// A procedure of the root.
 fn procedure(name: Text, of: u32, params: Vec<(Text, CType)>, body: Vec<Stmt>) -> Procedure
-    ensures { procedure_tree result ≡ record { name = name; private = false; of = of; params = param_trees params.items; body = stmts_of_list (map stmt_tree body.items) } }
+    ensures { procedure_tree result
+        ≡ record {
+          name = name;
+          private = false;
+          of = of;
+          params = param_trees params.items;
+          body = stmts_of_list (map stmt_tree body.items);
+        } }
 {
     Procedure {
         name,
@@ -50,7 +57,8 @@ pub(crate) fn root_procedures(
     root: &Local,
     hyper: u32,
 ) -> Result<(Procedure, Procedure), Memory>
-    ensures { IfOk result (λ p. procedure_tree p.0 ∷ procedure_tree p.1 ∷ [] ≡ assembled.root_procedures (trees codes.now.list.now) root.now hyper) }
+    ensures { IfOk result (λ p. procedure_tree p.0 ∷ procedure_tree p.1 ∷ []
+        ≡ assembled.root_procedures (trees codes.now.list.now) root.now hyper) }
 {
     let count = output_count(alloc, root)?;
     let params = root_params(alloc, root)?;

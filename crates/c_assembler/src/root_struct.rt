@@ -44,7 +44,8 @@ fn field(name: Text, kind: FieldKind) -> Field
 
 /// Adds the fields for some Outports.
 fn push_outports(alloc: Global, outports: &[Ported], list: &mut Vec<Field>) -> Result<(), Memory>
-    ensures { OnOk result (field_trees list.new.items ≡ field_trees list.old.items ++ map field_of outports.now) }
+    ensures { OnOk result (field_trees list.new.items ≡ field_trees list.old.items
+        ++ map field_of outports.now) }
 {
     for outport in outports {
         let name = output_name(alloc, outport.port)?;
@@ -55,7 +56,8 @@ fn push_outports(alloc: Global, outports: &[Ported], list: &mut Vec<Field>) -> R
 
 /// The root's fields.
 fn root_fields(alloc: Global, codes: &Codes<'_>, root: &Local) -> Result<Vec<Field>, Memory>
-    ensures { IfOk result (λ v. field_trees v.items ≡ (assembled.root_structure (trees codes.now.list.now) root.now 0).fields) }
+    ensures { IfOk result (λ v. field_trees v.items
+        ≡ (assembled.root_structure (trees codes.now.list.now) root.now 0).fields) }
 {
     let outports = outports(alloc, root)?;
     let mut list = Vec::new(alloc);

@@ -26,7 +26,9 @@ fn moved_number(links: &Links<'_>, k: u32) -> Result<u32, Memory>
 
 /// A choice.
 fn choice(line: u32, test: Cond, yes: Vec<Stmt>, no: Vec<Stmt>) -> Stmt
-    ensures { stmt_tree result ≡ tree.branch line (cond_tree test) (stmts_of_list (map stmt_tree yes.items)) (stmts_of_list (map stmt_tree no.items)) }
+    ensures { stmt_tree result
+        ≡ tree.branch line (cond_tree test) (stmts_of_list (map stmt_tree yes.items))
+        (stmts_of_list (map stmt_tree no.items)) }
 {
     Stmt::If {
         line,
@@ -101,7 +103,8 @@ pub(crate) fn moved_stmts(
     links: &Links<'_>,
     ss: &[Stmt],
 ) -> Result<Vec<Stmt>, Memory>
-    ensures { IfOk result (λ v. stmts_of_list (map stmt_tree v.items) ≡ moved.moved_stmts (relocation links.now) (stmts_of_list (map stmt_tree ss.now))) }
+    ensures { IfOk result (λ v. stmts_of_list (map stmt_tree v.items)
+        ≡ moved.moved_stmts (relocation links.now) (stmts_of_list (map stmt_tree ss.now))) }
 {
     let mut list = Vec::new(alloc);
     for s in ss {

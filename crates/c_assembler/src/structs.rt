@@ -24,7 +24,13 @@ fn moved_kind(codes: &Codes<'_>, name: &[u8], kind: FieldKind) -> FieldKind
 
 /// Fields as they are in the program.
 fn moved_fields(alloc: Global, codes: &Codes<'_>, fields: &[Field]) -> Result<Vec<Field>, Memory>
-    ensures { IfOk result (λ v. field_trees v.items ≡ map (λ f. record { name = f.name; kind = assembled.moved_kind (trees codes.now.list.now) f.name f.kind }) (field_trees fields.now)) }
+    ensures { IfOk result (λ v. field_trees v.items
+        ≡ map (λ f.
+        record {
+          name = f.name;
+          kind = assembled.moved_kind (trees codes.now.list.now) f.name f.kind;
+        })
+        (field_trees fields.now)) }
 {
     let mut list = Vec::new(alloc);
     for field in fields {
@@ -42,7 +48,8 @@ pub(crate) fn moved_struct(
     codes: &Codes<'_>,
     code: &SystemCode,
 ) -> Result<StructDef, Memory>
-    ensures { IfOk result (λ s. s ≡ assembled.moved_struct (trees codes.now.list.now) (system_tree code.now)) }
+    ensures { IfOk result (λ s. s
+        ≡ assembled.moved_struct (trees codes.now.list.now) (system_tree code.now)) }
 {
     Ok(StructDef {
         name: Text::copy_of(alloc, code.structure.name.bytes())?,

@@ -41,7 +41,8 @@ fn procedure_count(list: &[SystemCode]) -> Result<usize, Memory>
 
 /// The positions of the first procedures of codes, of which the last code's come first.
 pub(crate) fn firsts_of(alloc: Global, list: &[SystemCode]) -> Result<Vec<u32>, Memory>
-    ensures { IfOk result (λ v. v.items ≡ map (first_procedure (trees list.now)) (range_with_len 0 (length list.now))) }
+    ensures { IfOk result (λ v. v.items
+        ≡ map (first_procedure (trees list.now)) (range_with_len 0 (length list.now))) }
 {
     let mut later = procedure_count(list)?;
     let mut firsts = Vec::new(alloc);

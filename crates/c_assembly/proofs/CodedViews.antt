@@ -56,7 +56,8 @@ module _ (r : ResolvedTree) where
     pub is_code : IsCodeOf r s code
     pub is : c ≡ coded s code is_code
 
-  found-at : (ss : List (Option ℕ)) (codes : List SystemTree) (all : AllZip (IsCodeOf r) ss codes) (other : CodedSystem) (place : ℕ) (s : Option ℕ) →
+  found-at : (ss : List (Option ℕ)) (codes : List SystemTree) (all : AllZip (IsCodeOf r) ss codes) (other : CodedSystem)
+      (place : ℕ) (s : Option ℕ) →
       slice_get ss place ≡ Some s → ((i : ℕ) (t : Option ℕ) → i < place → slice_get ss i ≡ Some t → same_system t s ≡ false) →
       IsFound codes place s (found ss codes all other s)
   found-at [] codes all other place s at differ = absurd (let wrong : ⊥ = cc at in wrong)
@@ -64,7 +65,12 @@ module _ (r : ResolvedTree) where
   found-at (t ∷ ss) (c ∷ codes) all other zero s at differ =
       let same : t ≡ s = cc at in
       subst (λ o. IsFound (c ∷ codes) zero o (found (t ∷ ss) (c ∷ codes) all other o)) same
-      (record { code = c; stands = refl; is_code = all.0; is = ap (λ b. if b then coded t c all.0 else found ss codes all.1 other t) (same_system-refl t) })
+      (record {
+        code = c;
+        stands = refl;
+        is_code = all.0;
+        is = ap (λ b. if b then coded t c all.0 else found ss codes all.1 other t) (same_system-refl t);
+      })
   found-at (t ∷ ss) (c ∷ codes) all other (suc place) s at differ =
       let later = found-at ss codes all.1 other place s at (λ i u below stands. differ (suc i) u (omega arith) stands) in
       record {
@@ -76,7 +82,8 @@ module _ (r : ResolvedTree) where
 
 module _ (profiles : ProfilesAreOne) (headers_are : HeaderIsOfOwnRows) (a : Parts) where
   abbrev at : Option ℕ → CodedSystem
-  at = found a.model (all_systems a) a.codes a.can.each (first_coded a.model (map Some (systems_inside (diagram a).rows None)) a.codes a.can.each)
+  at = found a.model (all_systems a) a.codes a.can.each
+      (first_coded a.model (map Some (systems_inside (diagram a).rows None)) a.codes a.can.each)
 
   earlier-differ : (place : ℕ) (s : Option ℕ) → slice_get (all_systems a) place ≡ Some s → (i : ℕ) (t : Option ℕ) → i < place →
       slice_get (all_systems a) i ≡ Some t → same_system t s ≡ false
@@ -84,11 +91,14 @@ module _ (profiles : ProfilesAreOne) (headers_are : HeaderIsOfOwnRows) (a : Part
     where
       by : (b : Bool) → same_system t s ≡ b → b ≡ false
       by false e = refl
-      by true e = absurd (let same = stands-once (diagram a).rows i place s (first ∙ ap Some (same_system-equal t s e)) stands in omega arith)
+      by true e =
+          absurd (let same = stands-once (diagram a).rows i place s (first ∙ ap Some (same_system-equal t s e))
+          stands in omega arith)
 
   each : (place : ℕ) (s : Option ℕ) → slice_get (all_systems a) place ≡ Some s → IsCodedAs a place s (at s)
   each place s stands =
-      let f = found-at a.model (all_systems a) a.codes a.can.each (first_coded a.model (map Some (systems_inside (diagram a).rows None)) a.codes a.can.each) place s stands
+      let f = found-at a.model (all_systems a) a.codes a.can.each
+      (first_coded a.model (map Some (systems_inside (diagram a).rows None)) a.codes a.can.each) place s stands
       (earlier-differ place s stands) in
       subst (IsCodedAs a place s) (sym f.is)
       (record {
@@ -102,11 +112,13 @@ module _ (profiles : ProfilesAreOne) (headers_are : HeaderIsOfOwnRows) (a : Part
       })
 
   -- the header of a child is that of its own rows
-  child-header : (e : Option ℕ) (h : SystemHeader) (c : CodedSystem) (k : ℕ) → IsCodedAs a k e c → h.row ≡ e → h ≡ header_of (diagram a) h.row h.profile →
+  child-header : (e : Option ℕ) (h : SystemHeader) (c : CodedSystem) (k : ℕ) → IsCodedAs a k e c → h.row ≡ e →
+      h ≡ header_of (diagram a) h.row h.profile →
       ((p : SystemProfile) → IsProfileOf (diagram a) e p → p ≡ h.profile) → h ≡ coded_header c
   child-header e h c k known row own one =
       own ∙ ap₂ (header_of (diagram a)) row (sym (one c.profile known.profile))
-      ∙ sym (headers_are (diagram a) a.model.times.delays e known.local.headers c.profile) ∙ ap (λ l. own_header l c.profile) (sym known.local.is_local)
+      ∙ sym (headers_are (diagram a) a.model.times.delays e known.local.headers c.profile)
+      ∙ ap (λ l. own_header l c.profile) (sym known.local.is_local)
 
   child-behind : (place : ℕ) (s : Option ℕ) (headers : List SystemHeader) (h : SystemHeader) → slice_get (all_systems a) place ≡ Some s →
       AreHeaders (diagram a) s headers → Contains headers h → IsChildBehind a at place (child_use (diagram a) h)
@@ -122,11 +134,18 @@ module _ (profiles : ProfilesAreOne) (headers_are : HeaderIsOfOwnRows) (a : Part
         stands = row;
       }
 
-  children : (place : ℕ) (s : Option ℕ) → slice_get (all_systems a) place ≡ Some s → AllByRecursion (IsChildBehind a at place) (at s).local.children
+  children : (place : ℕ) (s : Option ℕ) → slice_get (all_systems a) place ≡ Some s →
+      AllByRecursion (IsChildBehind a at place) (at s).local.children
   children place s stands =
       let local = (each place s stands).local in
       subst (λ l. AllByRecursion (IsChildBehind a at place) l.children) (sym local.is_local)
-      (each-made (IsChildBehind a at place) (child_use (diagram a)) local.headers (λ h has. child-behind place s local.headers h stands local.are_headers has))
+      (each-made (IsChildBehind a at place) (child_use (diagram a)) local.headers
+      (λ h has. child-behind place s local.headers h stands local.are_headers has))
 
 pub codes_have_views : ProfilesAreOne → HeaderIsOfOwnRows → CodesHaveViews
-codes_have_views profiles headers_are a = record { at = at profiles headers_are a; each = each profiles headers_are a; children = children profiles headers_are a }
+codes_have_views profiles headers_are a =
+    record {
+      at = at profiles headers_are a;
+      each = each profiles headers_are a;
+      children = children profiles headers_are a;
+    }

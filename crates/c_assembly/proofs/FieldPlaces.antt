@@ -21,7 +21,9 @@ last-struct n [] s lawful = (n, lawful.0)
 last-struct n (x ∷ xs) s lawful = last-struct (n + 1) xs s lawful.1
 
 same-names : (codes : List SystemTree) (fields : List FieldTree) →
-    map (λ (f : FieldTree). f.name) (map (λ (f : FieldTree). record { name = f.name; kind = moved_kind codes f.name f.kind }) fields) ≡ map (λ (f : FieldTree). f.name) fields
+    map (λ (f : FieldTree). f.name)
+    (map (λ (f : FieldTree). record { name = f.name; kind = moved_kind codes f.name f.kind }) fields)
+    ≡ map (λ (f : FieldTree). f.name) fields
 same-names codes [] = refl
 same-names codes (f ∷ fields) = ap (λ names. f.name ∷ names) (same-names codes fields)
 
@@ -30,14 +32,17 @@ slot-names [] = refl
 slot-names (slot ∷ slots) = ap (λ names. (slot_field slot).name ∷ names) (slot-names slots)
 
 -- where the names are these and differ, each is found at its place
-named-at : (fields : List FieldTree) (names : List (List ℕ)) (k : ℕ) (name : List ℕ) → map (λ (f : FieldTree). f.name) fields ≡ names → AreDistinct names →
+named-at : (fields : List FieldTree) (names : List (List ℕ)) (k : ℕ) (name : List ℕ) →
+    map (λ (f : FieldTree). f.name) fields ≡ names → AreDistinct names →
     slice_get names k ≡ Some name → field_position fields name ≡ k
 named-at fields names k name are distinct at =
-    let here : name_at (map (λ (f : FieldTree). f.name) fields) k ≡ name = ap (λ ns. name_at ns k) are ∙ get_or_from_slice_get names k name [] at in
+    let here : name_at (map (λ (f : FieldTree). f.name) fields) k ≡ name =
+    ap (λ ns. name_at ns k) are ∙ get_or_from_slice_get names k name [] at in
     let below : k < length (map (λ (f : FieldTree). f.name) fields) = subst (λ ns. k < length ns) (sym are) (at-below names k name at) in
     let same : 0 + k ≡ k = omega arith in
     ap (λ n. unwrap_or (position_from (λ (f : FieldTree). bytes_eq f.name n) 0 fields) 0) (sym here)
-    ∙ ap (λ o. unwrap_or o 0) (position_from-named (λ (f : FieldTree). f.name) fields 0 k (subst AreDistinct (sym are) distinct) below) ∙ same
+    ∙ ap (λ o. unwrap_or o 0)
+    (position_from-named (λ (f : FieldTree). f.name) fields 0 k (subst AreDistinct (sym are) distinct) below) ∙ same
 
 module _ (a : Parts) (place : ℕ) (s : Option ℕ) (c : CodedSystem) (known : IsCodedAs a place s c) where
   names-are : map (λ (f : FieldTree). f.name) c.code.structure.fields ≡ map (λ slot. (slot_field slot).name) c.slots
@@ -45,7 +50,9 @@ module _ (a : Parts) (place : ℕ) (s : Option ℕ) (c : CodedSystem) (known : I
 
   -- the names of a system's slots differ
   pub slots-differ : AreDistinct (map (λ slot. (slot_field slot).name) c.slots)
-  slots-differ = subst AreDistinct names-are (last-struct 0 (map bare_struct c.local.children) c.code.structure known.lawful.structs).1.fields
+  slots-differ =
+      subst AreDistinct names-are
+      (last-struct 0 (map bare_struct c.local.children) c.code.structure known.lawful.structs).1.fields
 
   pub moved-names : map (λ (f : FieldTree). f.name) (moved_struct a.codes c.code).fields ≡ map (λ slot. (slot_field slot).name) c.slots
   moved-names = same-names a.codes c.code.structure.fields ∙ names-are

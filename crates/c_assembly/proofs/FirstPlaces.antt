@@ -15,7 +15,8 @@ down (suc n) = n ∷ down n
 
 range-snoc : (a n : ℕ) → range_with_len a (suc n) ≡ range_with_len a n ++ (a + n) ∷ []
 range-snoc a zero = let same : a ≡ a + 0 = omega arith in ap (λ k. k ∷ []) same
-range-snoc a (suc n) = let same : a + 1 + n ≡ a + suc n = omega arith in ap (λ ks. a ∷ ks) (range-snoc (a + 1) n ∙ ap (λ k. range_with_len (a + 1) n ++ k ∷ []) same)
+range-snoc a (suc n) = let same : a + 1 + n ≡ a + suc n = omega arith in
+    ap (λ ks. a ∷ ks) (range-snoc (a + 1) n ∙ ap (λ k. range_with_len (a + 1) n ++ k ∷ []) same)
 
 pub from-last : (n : ℕ) → reverse (range_with_len 0 n) ≡ down n
 from-last zero = refl
@@ -88,7 +89,8 @@ module _ {A : Type 0} (test : A → Bool) where
   ]
 
 -- what stands there
-pub at-down : {A : Type 0} (g : ℕ → A) (rest : List A) (d : A) (n k : ℕ) → k < n → slice_index_or (map g (down n) ++ rest) (n - (k + 1)) d ≡ g k
+pub at-down : {A : Type 0} (g : ℕ → A) (rest : List A) (d : A) (n k : ℕ) → k < n →
+    slice_index_or (map g (down n) ++ rest) (n - (k + 1)) d ≡ g k
 at-down g rest d zero k below = absurd (omega arith)
 at-down g rest d (suc m) k below = elim (cases_lt k m) [
   | inl less ↦
@@ -105,7 +107,8 @@ mapped-length h [] = refl
 mapped-length h (x ∷ xs) = ap suc (mapped-length h xs)
 
 -- a search in what is made of a list
-pub first-map : {A B : Type 0} (test : B → Bool) (h : A → B) (xs : List A) (j : ℕ) → IsFirst (λ x. test (h x)) xs j → IsFirst test (map h xs) j
+pub first-map : {A B : Type 0} (test : B → Bool) (h : A → B) (xs : List A) (j : ℕ) → IsFirst (λ x. test (h x)) xs j →
+    IsFirst test (map h xs) j
 first-map test h [] j first = first
 first-map test h (x ∷ xs) zero first = first
 first-map test h (x ∷ xs) (suc j) first = (first.0, first-map test h xs j first.1)
@@ -130,15 +133,19 @@ module _ {A : Type 0} (test : A → Bool) where
       (first-before test (f k ++ flat_map f (down k)) rest j (first-before test (f k) (flat_map f (down k)) j first)))
   first-in-parts f rest (suc many) k j first others =
       let later = first-in-parts f rest many k j first (λ i above few. others i above (omega arith)) in
-      let front = first-behind test (f (suc k + many)) (flat_map f (down (many + suc k)) ++ rest) (sum_below (λ i. length (f (suc k + i))) many + j)
+      let front =
+      first-behind test (f (suc k + many)) (flat_map f (down (many + suc k)) ++ rest)
+      (sum_below (λ i. length (f (suc k + i))) many + j)
       (others (suc k + many) (omega arith) (omega arith)) later in
-      let count : length (f (suc k + many)) + (sum_below (λ i. length (f (suc k + i))) many + j) ≡ sum_below (λ i. length (f (suc k + i))) (suc many) + j = omega arith in
+      let count : length (f (suc k + many)) + (sum_below (λ i. length (f (suc k + i))) many + j)
+      ≡ sum_below (λ i. length (f (suc k + i))) (suc many) + j = omega arith in
       let top : suc k + many ≡ many + suc k = omega arith in
       let step : suc (many + suc k) ≡ suc many + suc k = omega arith in
       subst (λ n. IsFirst test (flat_map f (down n) ++ rest) (sum_below (λ i. length (f (suc k + i))) (suc many) + j)) step
       (subst (IsFirst test (flat_map f (down (suc (many + suc k))) ++ rest)) count
       (subst (λ xs. IsFirst test xs (length (f (suc k + many)) + (sum_below (λ i. length (f (suc k + i))) many + j)))
-      (sym (ap (λ n. (f n ++ flat_map f (down (many + suc k))) ++ rest) (sym top) ∙ append-append (f (suc k + many)) (flat_map f (down (many + suc k))) rest)) front))
+      (sym (ap (λ n. (f n ++ flat_map f (down (many + suc k))) ++ rest) (sym top)
+      ∙ append-append (f (suc k + many)) (flat_map f (down (many + suc k))) rest)) front))
 
 -- so many of a list's elements, by their places, are all
 sum_below-front : (w : ℕ → ℕ) (n : ℕ) → sum_below w (suc n) ≡ w 0 + sum_below (λ i. w (suc i)) n

@@ -47,7 +47,8 @@ module _ (functions : List Function) (types : List CType) (numbers : ℕ → ℕ
       let same : k ≡ k + 0 = omega arith in
       ap (routine_at (numbered_routines functions types numbers (k + 1) (earlier ++ made ∷ []) qs)) none
       ∙ numbered-before (k + 1) (earlier ++ made ∷ []) qs (length earlier) (omega (arith, length-append earlier (made ∷ [])))
-      ∙ get_or-append_seam earlier made [] no_routine ∙ ap (routine_with functions types earlier (numbers k)) (ap (λ o. unwrap_or o r) there)
+      ∙ get_or-append_seam earlier made [] no_routine
+      ∙ ap (routine_with functions types earlier (numbers k)) (ap (λ o. unwrap_or o r) there)
       ∙ ap (λ n. routine_with functions types earlier (numbers n) q) same
   numbered-at k earlier (r ∷ qs) (suc j) q there =
       let made : Routine = routine_with functions types earlier (numbers k) r in
@@ -55,10 +56,13 @@ module _ (functions : List Function) (types : List CType) (numbers : ℕ → ℕ
       let later : k + 1 + j ≡ k + suc j = omega arith in
       ap (routine_at (numbered_routines functions types numbers (k + 1) (earlier ++ made ∷ []) qs)) (sym e)
       ∙ numbered-at (k + 1) (earlier ++ made ∷ []) qs j q there
-      ∙ ap (λ n. routine_with functions types (numbered_routines functions types numbers (k + 1) (earlier ++ made ∷ []) (take j qs)) (numbers n) q) later
+      ∙ ap (λ n.
+      routine_with functions types (numbered_routines functions types numbers (k + 1) (earlier ++ made ∷ [])
+      (take j qs)) (numbers n) q) later
 
   pub numbered-found : (k : ℕ) (earlier : List Routine) (qs : List ProcedureTree) (j i : ℕ) → i < length earlier + j →
-      routine_at (numbered_routines functions types numbers k earlier qs) i ≡ routine_at (numbered_routines functions types numbers k earlier (take j qs)) i
+      routine_at (numbered_routines functions types numbers k earlier qs) i
+      ≡ routine_at (numbered_routines functions types numbers k earlier (take j qs)) i
   numbered-found k earlier [] zero i within = refl
   numbered-found k earlier [] (suc j) i within = refl
   numbered-found k earlier (q ∷ qs) zero i within = numbered-before k earlier (q ∷ qs) i (omega (arith, within))
@@ -68,7 +72,8 @@ module _ (functions : List Function) (types : List CType) (numbers : ℕ → ℕ
 
 -- ---- A procedure at two places
 
-same-routine : MovedCodeAgrees → (functions : List Function) (types : List CType) (earlier others : List Routine) (number : ℕ) (q : ProcedureTree) (m n : Relocation) →
+same-routine : MovedCodeAgrees → (functions : List Function) (types : List CType) (earlier others : List Routine)
+    (number : ℕ) (q : ProcedureTree) (m n : Relocation) →
     NameAlike q.body m n earlier others →
     routine_with functions types earlier number (moved_procedure m q) ≡ routine_with functions types others number (moved_procedure n q)
 same-routine agree functions types earlier others number q m n alike =
@@ -88,7 +93,8 @@ same-types codes (f ∷ fields) = ap₂ (λ t ts. t ∷ ts) (same-kind codes f.n
 
 -- ---- All of a system's procedures
 
-module _ (agree : MovedCodeAgrees) (order : ProceduresStandInOrder) (places : SystemsHavePlaces) (a : Parts) (v : Views a) (place : ℕ) (s : Option ℕ)
+module _ (agree : MovedCodeAgrees) (order : ProceduresStandInOrder) (places : SystemsHavePlaces) (a : Parts)
+    (v : Views a) (place : ℕ) (s : Option ℕ)
     (stands : slice_get (all_systems a) place ≡ Some s) (names : NamesAgree a v place s) where
   abbrev here : Relocation
   here = relocation_of a.codes place
@@ -119,17 +125,22 @@ module _ (agree : MovedCodeAgrees) (order : ProceduresStandInOrder) (places : Sy
   before j = routines_of (program_of a).structs functions [] (take (first_procedure a.codes place + j) (program_of a).procedures)
 
   abbrev before_there : ℕ → List Routine
-  before_there j = numbered_routines functions types numbers 0 (children_routines offers) (take j (map (moved_procedure there) (v.at s).code.procedures))
+  before_there j =
+      numbered_routines functions types numbers 0 (children_routines offers)
+      (take j (map (moved_procedure there) (v.at s).code.procedures))
 
   own-is : here.own ≡ own
   own-is = ap (λ (z : SystemTree). length z.procedures) (code-is a place s (v.at s) (v.each place s stands))
 
   number-here-own : (k : ℕ) → k < own → moved_number here k ≡ first_procedure a.codes place + k
-  number-here-own k less = ap (λ b. if b then first_procedure a.codes place + k else here.offered (k - here.own)) (lt-ltb k here.own (omega (arith, own-is, less)))
+  number-here-own k less =
+      ap (λ b. if b then first_procedure a.codes place + k else here.offered (k - here.own))
+      (lt-ltb k here.own (omega (arith, own-is, less)))
 
   number-here-other : (k : ℕ) → own ≤ k → moved_number here k ≡ here.offered (k - own)
   number-here-other k more =
-      ap (λ b. if b then first_procedure a.codes place + k else here.offered (k - here.own)) (le-ltb k here.own (omega (arith, own-is, more)))
+      ap (λ b. if b then first_procedure a.codes place + k else here.offered (k - here.own))
+      (le-ltb k here.own (omega (arith, own-is, more)))
       ∙ ap (λ n. here.offered (k - n)) own-is
 
   number-there-own : (k : ℕ) → k < own → moved_number there k ≡ length (children_routines offers) + k
@@ -140,13 +151,17 @@ module _ (agree : MovedCodeAgrees) (order : ProceduresStandInOrder) (places : Sy
 
   found-here : (j i : ℕ) → i < first_procedure a.codes place + j → routine_at (program_routines (program_of a)) i ≡ routine_at (before j) i
   found-here j i less =
-      (order (program_of a).structs functions [] (program_of a).procedures).found (first_procedure a.codes place + j) i (omega (arith, less))
+      (order (program_of a).structs functions [] (program_of a).procedures).found (first_procedure a.codes place + j) i
+      (omega (arith, less))
 
   found-there : (j i : ℕ) → i < length (children_routines offers) + j → routine_at routines i ≡ routine_at (before_there j) i
-  found-there j i less = numbered-found functions types numbers 0 (children_routines offers) (map (moved_procedure there) (v.at s).code.procedures) j i less
+  found-there j i less =
+      numbered-found functions types numbers 0 (children_routines offers)
+      (map (moved_procedure there) (v.at s).code.procedures) j i less
 
   alike : (j : ℕ) (q : ProcedureTree) → slice_get (v.at s).code.procedures j ≡ Some q → j < own →
-      ((k : ℕ) → k < j → routine_at (program_routines (program_of a)) (first_procedure a.codes place + k) ≡ routine_at routines (length (children_routines offers) + k)) →
+      ((k : ℕ) → k < j → routine_at (program_routines (program_of a)) (first_procedure a.codes place + k)
+      ≡ routine_at routines (length (children_routines offers) + k)) →
       NameAlike q.body here there (before j) (before_there j)
   alike j q at within earlier = record { procedures = λ k calls. by k (names.called j q at k calls); outputs = names.outputs j q at }
     where
@@ -161,31 +176,37 @@ module _ (agree : MovedCodeAgrees) (order : ProceduresStandInOrder) (places : Sy
           let child = names.offered (k - own) less in
           ap (routine_at (before j)) (number-here-other k more)
           ∙ sym (found-here j (here.offered (k - own)) (let low = child.0 in omega (arith, low))) ∙ child.1
-          ∙ sym (numbered-before functions types numbers 0 (children_routines offers) (map (moved_procedure there) (v.at s).code.procedures) (k - own) less)
+          ∙ sym (numbered-before functions types numbers 0 (children_routines offers)
+          (map (moved_procedure there) (v.at s).code.procedures) (k - own) less)
           ∙ found-there j (k - own) (omega (arith, less))
           ∙ ap (routine_at (before_there j)) (sym (number-there-other k more))
 
   types-are : field_types (struct_fields (program_of a).structs here.of) ≡ types
   types-are =
       let at = places a v place s stands in
-      ap field_types (ap (struct_fields (program_of a).structs) (sym at.struct) ∙ at.fields) ∙ same-types a.codes (v.at s).code.structure.fields
+      ap field_types (ap (struct_fields (program_of a).structs) (sym at.struct) ∙ at.fields)
+      ∙ same-types a.codes (v.at s).code.structure.fields
 
   same-below : (bound j : ℕ) → j < bound → j < own →
-      routine_at (program_routines (program_of a)) (first_procedure a.codes place + j) ≡ routine_at routines (length (children_routines offers) + j)
+      routine_at (program_routines (program_of a)) (first_procedure a.codes place + j)
+      ≡ routine_at routines (length (children_routines offers) + j)
   same-below zero j less within = absurd (omega (arith, less))
   same-below (suc bound) j less within =
       let (q, at) = below-at (v.at s).code.procedures j within in
       let named : 0 + (first_procedure a.codes place + j) ≡ first_procedure a.codes place + (0 + j) = omega arith in
       let start : first_procedure a.codes place + j ≡ 0 + (first_procedure a.codes place + j) = omega arith in
       ap (routine_at (program_routines (program_of a))) start
-      ∙ routines_of-at (program_of a).structs functions [] (program_of a).procedures (first_procedure a.codes place + j) (moved_procedure here q) (own-procedure a v place s stands j q at)
+      ∙ routines_of-at (program_of a).structs functions [] (program_of a).procedures (first_procedure a.codes place + j)
+      (moved_procedure here q) (own-procedure a v place s stands j q at)
       ∙ ap₂ (λ ts n. routine_with functions ts (before j) n (moved_procedure here q)) types-are named
       ∙ same-routine agree functions types (before j) (before_there j) (first_procedure a.codes place + (0 + j)) q here there
       (alike j q at within (λ k lower. same-below bound k (omega (arith, lower, less)) (omega (arith, lower, within))))
-      ∙ sym (numbered-at functions types numbers 0 (children_routines offers) (map (moved_procedure there) (v.at s).code.procedures) j (moved_procedure there q)
+      ∙ sym (numbered-at functions types numbers 0 (children_routines offers)
+      (map (moved_procedure there) (v.at s).code.procedures) j (moved_procedure there q)
       (at-map (moved_procedure there) (v.at s).code.procedures j q at))
 
   -- so each own procedure does the same in both
   pub own-routines-agree : (j : ℕ) → j < own →
-      routine_at (program_routines (program_of a)) (first_procedure a.codes place + j) ≡ routine_at routines (length (children_routines offers) + j)
+      routine_at (program_routines (program_of a)) (first_procedure a.codes place + j)
+      ≡ routine_at routines (length (children_routines offers) + j)
   own-routines-agree j within = same-below (suc j) j (omega arith) within

@@ -45,10 +45,12 @@ at-in-parts f rest (suc many) k j x at =
     let later = at-in-parts f rest many k j x at in
     let step : suc many + suc k ≡ suc (many + suc k) = omega arith in
     let top : many + suc k ≡ suc k + many = omega arith in
-    let count : sum_below (λ i. length (f (suc k + i))) (suc many) + j ≡ length (f (suc k + many)) + (sum_below (λ i. length (f (suc k + i))) many + j) = omega arith in
+    let count : sum_below (λ i. length (f (suc k + i))) (suc many) + j ≡ length (f (suc k + many))
+    + (sum_below (λ i. length (f (suc k + i))) many + j) = omega arith in
     ap (λ n. slice_get (flat_map f (down n) ++ rest) (sum_below (λ i. length (f (suc k + i))) (suc many) + j)) step
     ∙ ap (λ n. slice_get ((f n ++ flat_map f (down (many + suc k))) ++ rest) (sum_below (λ i. length (f (suc k + i))) (suc many) + j)) top
-    ∙ ap (λ xs. slice_get xs (sum_below (λ i. length (f (suc k + i))) (suc many) + j)) (append-append (f (suc k + many)) (flat_map f (down (many + suc k))) rest)
+    ∙ ap (λ xs. slice_get xs (sum_below (λ i. length (f (suc k + i))) (suc many) + j))
+    (append-append (f (suc k + many)) (flat_map f (down (many + suc k))) rest)
     ∙ ap (slice_get (f (suc k + many) ++ (flat_map f (down (many + suc k)) ++ rest))) count
     ∙ at-right (f (suc k + many)) (flat_map f (down (many + suc k)) ++ rest) (sum_below (λ i. length (f (suc k + i))) many + j) x later
 
@@ -63,18 +65,30 @@ module _ (a : Parts) (v : Views a) (place : ℕ) (s : Option ℕ) (stands : slic
       let many = length a.codes - suc place in
       let below = below-codes a v place s stands in
       let count : many + suc place ≡ length a.codes = omega arith in
-      let sum : sum_below (λ i. length (map (moved_procedure (relocation_of a.codes (suc place + i))) (code_at a.codes (suc place + i)).procedures)) many ≡ first_procedure a.codes place =
-      sum_below-same (λ i. length (map (moved_procedure (relocation_of a.codes (suc place + i))) (code_at a.codes (suc place + i)).procedures)) (λ i. length (code_at a.codes (suc place + i)).procedures) many
+      let sum : sum_below
+      (λ i. length
+      (map (moved_procedure (relocation_of a.codes (suc place + i))) (code_at a.codes (suc place + i)).procedures))
+      many ≡ first_procedure a.codes place =
+      sum_below-same
+      (λ i. length
+      (map (moved_procedure (relocation_of a.codes (suc place + i))) (code_at a.codes (suc place + i)).procedures))
+      (λ i. length (code_at a.codes (suc place + i)).procedures) many
       (λ i less. mapped-length (moved_procedure (relocation_of a.codes (suc place + i))) (code_at a.codes (suc place + i)).procedures)
       ∙ sym (sum-behind (λ (z : SystemTree). length z.procedures) no_code a.codes place) in
       ap (λ ps. slice_get ps (first_procedure a.codes place + j)) (procedures-down a (many + suc place) count)
-      ∙ ap (λ n. slice_get (flat_map (λ i. map (moved_procedure (relocation_of a.codes i)) (code_at a.codes i).procedures) (down (many + suc place)) ++ root_procedures a.codes a.root a.hyper) (n + j)) (sym sum)
-      ∙ at-in-parts (λ i. map (moved_procedure (relocation_of a.codes i)) (code_at a.codes i).procedures) (root_procedures a.codes a.root a.hyper) many place j (moved_procedure (relocation_of a.codes place) q)
-      (at-map (moved_procedure (relocation_of a.codes place)) (code_at a.codes place).procedures j q (ap (λ (z : SystemTree). slice_get z.procedures j) (code-is a place s (v.at s) known) ∙ at))
+      ∙ ap (λ n.
+      slice_get (flat_map (λ i. map (moved_procedure (relocation_of a.codes i)) (code_at a.codes i).procedures)
+      (down (many + suc place)) ++ root_procedures a.codes a.root a.hyper) (n + j)) (sym sum)
+      ∙ at-in-parts (λ i. map (moved_procedure (relocation_of a.codes i)) (code_at a.codes i).procedures)
+      (root_procedures a.codes a.root a.hyper) many place j (moved_procedure (relocation_of a.codes place) q)
+      (at-map (moved_procedure (relocation_of a.codes place)) (code_at a.codes place).procedures j q
+      (ap (λ (z : SystemTree). slice_get z.procedures j) (code-is a place s (v.at s) known) ∙ at))
 
   -- ---- Names of own procedures
 
-  alone-names : (qs : List ProcedureTree) → map (λ (q : ProcedureTree). q.name) (map (moved_procedure (behind_bare (v.at s).local (v.at s).code)) qs) ≡ map (λ (q : ProcedureTree). q.name) qs
+  alone-names : (qs : List ProcedureTree) →
+      map (λ (q : ProcedureTree). q.name) (map (moved_procedure (behind_bare (v.at s).local (v.at s).code)) qs)
+      ≡ map (λ (q : ProcedureTree). q.name) qs
   alone-names [] = refl
   alone-names (q ∷ qs) = ap (λ names. q.name ∷ names) (alone-names qs)
 
@@ -85,25 +99,33 @@ module _ (a : Parts) (v : Views a) (place : ℕ) (s : Option ℕ) (stands : slic
   pub own-names-differ : AreDistinct (map (λ (q : ProcedureTree). q.name) (v.at s).code.procedures)
   own-names-differ =
       subst AreDistinct (alone-names (v.at s).code.procedures)
-      (AreDistinct-back (procedure_names (bare_procedures (v.at s).local)) (procedure_names (map (moved_procedure (behind_bare (v.at s).local (v.at s).code)) (v.at s).code.procedures))
-      (subst AreDistinct (map-append (bare_procedures (v.at s).local) (map (moved_procedure (behind_bare (v.at s).local (v.at s).code)) (v.at s).code.procedures))
-      (AreDistinct-back (pure_names a.pures) (procedure_names (alone (v.at s).local (v.at s).code a.pures).procedures) (known.lawful.names a.pures a.prelude))))
+      (AreDistinct-back (procedure_names (bare_procedures (v.at s).local))
+      (procedure_names (map (moved_procedure (behind_bare (v.at s).local (v.at s).code)) (v.at s).code.procedures))
+      (subst AreDistinct
+      (map-append (bare_procedures (v.at s).local)
+      (map (moved_procedure (behind_bare (v.at s).local (v.at s).code)) (v.at s).code.procedures))
+      (AreDistinct-back (pure_names a.pures) (procedure_names (alone (v.at s).local (v.at s).code a.pures).procedures)
+      (known.lawful.names a.pures a.prelude))))
 
   -- a procedure is found by its name
   pub own-place : (j : ℕ) (q : ProcedureTree) → slice_get (v.at s).code.procedures j ≡ Some q → own_position (v.at s).code q.name ≡ j
   own-place j q at =
       let named = at-map (λ (z : ProcedureTree). z.name) (v.at s).code.procedures j q at in
-      let here : slice_index_or (map (λ (z : ProcedureTree). z.name) (v.at s).code.procedures) j [] ≡ q.name = get_or_from_slice_get (map (λ (z : ProcedureTree). z.name) (v.at s).code.procedures) j q.name [] named in
+      let here : slice_index_or (map (λ (z : ProcedureTree). z.name) (v.at s).code.procedures) j [] ≡ q.name =
+      get_or_from_slice_get (map (λ (z : ProcedureTree). z.name) (v.at s).code.procedures) j q.name [] named in
       let same : 0 + j ≡ j = omega arith in
       ap (λ n. unwrap_or (position_from (λ (z : ProcedureTree). bytes_eq z.name n) 0 (v.at s).code.procedures) 0) (sym here)
-      ∙ ap (λ o. unwrap_or o 0) (position_from-named (λ (z : ProcedureTree). z.name) (v.at s).code.procedures 0 j own-names-differ (at-below (map (λ (z : ProcedureTree). z.name) (v.at s).code.procedures) j q.name named)) ∙ same
+      ∙ ap (λ o. unwrap_or o 0)
+      (position_from-named (λ (z : ProcedureTree). z.name) (v.at s).code.procedures 0 j own-names-differ
+      (at-below (map (λ (z : ProcedureTree). z.name) (v.at s).code.procedures) j q.name named)) ∙ same
 
   -- each public head is that of one of them
   pub head-there : (head : Head) → Contains (public_heads (coded_header (v.at s))) head →
       (j : ℕ) × (q : ProcedureTree) × (slice_get (v.at s).code.procedures j ≡ Some q) × (head_of q ≡ head)
   head-there head has =
       let shown = of-filter (λ (z : Head). not z.private) (map head_of (v.at s).code.procedures) head
-      (Contains-permutation (public_heads (coded_header (v.at s))) (filter (λ (z : Head). not z.private) (map head_of (v.at s).code.procedures)) head known.shape.heads has) in
+      (Contains-permutation (public_heads (coded_header (v.at s)))
+      (filter (λ (z : Head). not z.private) (map head_of (v.at s).code.procedures)) head known.shape.heads has) in
       let made = of-map head_of (v.at s).code.procedures head shown.0 in
       let at = at-in (v.at s).code.procedures made.0 made.1 in
       (at.0, made.0, at.1, made.2)
@@ -116,14 +138,19 @@ module _ (a : Parts) (v : Views a) (place : ℕ) (s : Option ℕ) (stands : slic
         let name : q.name ≡ head.name = ap (λ (z : Head). z.name) is in
         let found : procedure_place (program_of a) head.name ≡ first_procedure a.codes place + j =
         (places a v place s stands).procedure head.name
-        (subst (Contains (map (λ (z : ProcedureTree). z.name) (v.at s).code.procedures)) name (in-map (λ (z : ProcedureTree). z.name) (v.at s).code.procedures q (in-at (v.at s).code.procedures j q at)))
+        (subst (Contains (map (λ (z : ProcedureTree). z.name) (v.at s).code.procedures)) name
+        (in-map (λ (z : ProcedureTree). z.name) (v.at s).code.procedures q (in-at (v.at s).code.procedures j q at)))
         ∙ ap (λ n. first_procedure a.codes place + n) (ap (own_position (v.at s).code) (sym name) ∙ own-place j q at) in
         let zero_more : first_procedure a.codes place + j ≡ 0 + (first_procedure a.codes place + j) = omega arith in
-        let standing = (order (program_of a).structs (functions_of [] (program_of a).pures) [] (program_of a).procedures).routine (first_procedure a.codes place + j) (moved_procedure (relocation_of a.codes place) q) (own-procedure j q at) in
+        let standing =
+        (order (program_of a).structs (functions_of [] (program_of a).pures) [] (program_of a).procedures).routine
+        (first_procedure a.codes place + j) (moved_procedure (relocation_of a.codes place) q)
+        (own-procedure j q at) in
         ap (λ k. (routine_at (program_routines (program_of a)) k).params) (found ∙ zero_more)
         ∙ standing.params ∙ ap (λ (z : Head). map (λ p. p.type) z.params) is
 
-zip-made : {A B C : Type 0} (P : B → C → Type 0) (f : A → B) (g : A → C) (xs : List A) → ((x : A) → Contains xs x → P (f x) (g x)) → AllZip P (map f xs) (map g xs)
+zip-made : {A B C : Type 0} (P : B → C → Type 0) (f : A → B) (g : A → C) (xs : List A) →
+    ((x : A) → Contains xs x → P (f x) (g x)) → AllZip P (map f xs) (map g xs)
 zip-made P f g [] all = tt
 zip-made P f g (x ∷ xs) all = (all x (in-first x xs), zip-made P f g xs (λ y has. all y (in-rest x y xs has)))
 
@@ -133,10 +160,23 @@ offers_are_of_headers order places a v place s stands =
     let rest : List Head = update_head h ∷ start_head h ∷ reset_head h ∷ [] in
     let take_head = λ (head : Head) (has : Contains (public_heads h) head). takes a v place s stands order places head has in
     record {
-      outs = zip-made Takes (λ j. offered_by (program_of a) (out_head h j).name) (out_head h) (range_with_len 1 (length (header_functions h)))
-          (λ j has. take_head (out_head h j) (Contains-append_left (out_heads h) rest (out_head h j) (in-map (out_head h) (range_with_len 1 (length (header_functions h))) j has)));
-      update = take_head (update_head h) (Contains-append_right (out_heads h) rest (update_head h) (in-first (update_head h) (start_head h ∷ reset_head h ∷ [])));
-      start = take_head (start_head h) (Contains-append_right (out_heads h) rest (start_head h) (in-rest (update_head h) (start_head h) (start_head h ∷ reset_head h ∷ []) (in-first (start_head h) (reset_head h ∷ []))));
-      reset = take_head (reset_head h) (Contains-append_right (out_heads h) rest (reset_head h) (in-rest (update_head h) (reset_head h) (start_head h ∷ reset_head h ∷ []) (in-rest (start_head h) (reset_head h) (reset_head h ∷ []) (in-first (reset_head h) []))));
+      outs = zip-made Takes (λ j. offered_by (program_of a) (out_head h j).name) (out_head h)
+          (range_with_len 1 (length (header_functions h)))
+          (λ j has.
+          take_head (out_head h j)
+          (Contains-append_left (out_heads h) rest (out_head h j)
+          (in-map (out_head h) (range_with_len 1 (length (header_functions h))) j has)));
+      update =
+          take_head (update_head h)
+          (Contains-append_right (out_heads h) rest (update_head h)
+          (in-first (update_head h) (start_head h ∷ reset_head h ∷ [])));
+      start = take_head (start_head h)
+          (Contains-append_right (out_heads h) rest (start_head h)
+          (in-rest (update_head h) (start_head h) (start_head h ∷ reset_head h ∷ [])
+          (in-first (start_head h) (reset_head h ∷ []))));
+      reset = take_head (reset_head h)
+          (Contains-append_right (out_heads h) rest (reset_head h)
+          (in-rest (update_head h) (reset_head h) (start_head h ∷ reset_head h ∷ [])
+          (in-rest (start_head h) (reset_head h) (reset_head h ∷ []) (in-first (reset_head h) []))));
       places = mapped-length (λ o. place_in (program_of a) h.row (value_name o.0)) h.outputs;
     }

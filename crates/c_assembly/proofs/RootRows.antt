@@ -50,32 +50,52 @@ module _ (p : ProgramTree) (d : Diagram) where
     pub calls : HasCalls p d rows.ticks xs vs gs
 
   -- one tick and the rest
-  first_row : (I : ℕ → Cells → Type 0) (count : ℕ) (x v : List ℤ) (g : List TrigMem) (xs vs : List (List ℤ)) (gs : List (List TrigMem)) (o : Outcome) → OnDone o (Took I count 0 x v g) →
+  first_row : (I : ℕ → Cells → Type 0) (count : ℕ) (x v : List ℤ) (g : List TrigMem) (xs vs : List (List ℤ))
+      (gs : List (List TrigMem)) (o : Outcome) → OnDone o (Took I count 0 x v g) →
       ((a : After) → Took I count 0 x v g a → RowsAre (rows_from p xs a.cells) xs vs gs) →
       RowsAre (rows_after p o (rows_from p xs)) (x ∷ xs) (v ∷ vs) (g ∷ gs)
   first_row I count x v g xs vs gs (stuck at cells) took go = absurd took
   first_row I count x v g xs vs gs (done a) took go =
       let rest = go a took in
-      record { outputs = ap₂ ◌∷◌ took.outputs rest.outputs; not_stuck = rest.not_stuck; steps = (took.in_bound, rest.steps); calls = (took.calls, rest.calls) }
+      record {
+        outputs = ap₂ ◌∷◌ took.outputs rest.outputs;
+        not_stuck = rest.not_stuck;
+        steps = (took.in_bound, rest.steps);
+        calls = (took.calls, rest.calls);
+      }
 
-  later_tick : (I : ℕ → Cells → Type 0) (count t : ℕ) (x v : List ℤ) (g : List TrigMem) (a : After) → Took I (suc count) (suc t) x v g a → Took (λ k. I (suc k)) count t x v g a
-  later_tick I count t x v g a took = record { next = λ below. took.next (omega arith); outputs = took.outputs; in_bound = took.in_bound; calls = took.calls }
+  later_tick : (I : ℕ → Cells → Type 0) (count t : ℕ) (x v : List ℤ) (g : List TrigMem) (a : After) →
+      Took I (suc count) (suc t) x v g a → Took (λ k. I (suc k)) count t x v g a
+  later_tick I count t x v g a took =
+      record {
+        next = λ below. took.next (omega arith);
+        outputs = took.outputs;
+        in_bound = took.in_bound;
+        calls = took.calls;
+      }
 
-  root_rows : (k : ℕ) (before : List ℤ) (m : List (List ℤ)) (g : List TrigMem) (xs vs : List (List ℤ)) (ms : List (List (List ℤ))) (gs : List (List TrigMem)) → RunFrom d None k before m g xs vs ms gs →
+  root_rows : (k : ℕ) (before : List ℤ) (m : List (List ℤ)) (g : List TrigMem) (xs vs : List (List ℤ))
+      (ms : List (List (List ℤ))) (gs : List (List TrigMem)) → RunFrom d None k before m g xs vs ms gs →
       (I : ℕ → Cells → Type 0) →
-      ((t : ℕ) (cells : Cells) → t < length xs → I t cells → OnDone (step_run p (slice_index_or xs t []) cells) (Took I (length xs) t (slice_index_or xs t []) (slice_index_or vs t []) (slice_index_or (g ∷ gs) t []))) →
+      ((t : ℕ) (cells : Cells) → t < length xs → I t cells →
+      OnDone (step_run p (slice_index_or xs t []) cells)
+      (Took I (length xs) t (slice_index_or xs t []) (slice_index_or vs t []) (slice_index_or (g ∷ gs) t []))) →
       (cells : Cells) → (0 < length xs → I 0 cells) → RowsAre (rows_from p xs cells) xs vs (g ∷ gs)
   root_rows k before m g [] [] [] [] run I tick cells holds = record { outputs = refl; not_stuck = refl; steps = tt; calls = tt }
   root_rows k before m g (x ∷ xs) (v ∷ vs) (n ∷ ms) (h ∷ gs) run I tick cells holds =
       first_row I (suc (length xs)) x v g xs vs (h ∷ gs) (step_run p x cells) (tick 0 cells (omega arith) (holds (omega arith)))
       (λ a took. root_rows (suc k) v n h xs vs ms gs run.1 (λ t. I (suc t))
-      (λ t later below at. on_done (step_run p (slice_index_or xs t []) later) _ _ (later_tick I (length xs) t (slice_index_or xs t []) (slice_index_or vs t []) (slice_index_or (h ∷ gs) t [])) (tick (suc t) later (omega arith) at))
+      (λ t later below at. on_done (step_run p (slice_index_or xs t []) later) _ _
+      (later_tick I (length xs) t (slice_index_or xs t []) (slice_index_or vs t []) (slice_index_or (h ∷ gs) t []))
+      (tick (suc t) later (omega arith) at))
       a.cells (λ below. took.next (omega arith)))
   root_rows k before m g _ _ _ _ run I tick cells holds = absurd run
 
   of_run : (xs vs : List (List ℤ)) (ms : List (List (List ℤ))) (gs : List (List TrigMem)) → IsRun d None xs vs ms gs →
       (I : ℕ → Cells → Type 0) →
-      ((t : ℕ) (cells : Cells) → t < length xs → I t cells → OnDone (step_run p (slice_index_or xs t []) cells) (Took I (length xs) t (slice_index_or xs t []) (slice_index_or vs t []) (slice_index_or gs t []))) →
+      ((t : ℕ) (cells : Cells) → t < length xs → I t cells →
+      OnDone (step_run p (slice_index_or xs t []) cells)
+      (Took I (length xs) t (slice_index_or xs t []) (slice_index_or vs t []) (slice_index_or gs t []))) →
       (cells : Cells) → (0 < length xs → I 0 cells) → RowsAre (rows_from p xs cells) xs vs gs
   of_run xs vs [] gs run I tick cells holds = absurd run
   of_run xs vs (m ∷ ms) [] run I tick cells holds = absurd run
@@ -95,22 +115,28 @@ none-around rows zero = refl
 none-around rows (suc n) = refl
 
 path_to_top : (p : ProgramTree) (rows : List Row) → path_to p rows None ≡ top_place p ∷ []
-path_to_top p rows = ap (λ es. top_place p ∷ map (λ e. place_in p (row_at rows e).owner (child_name e)) (reverse es)) (none-around rows (length rows))
+path_to_top p rows =
+    ap (λ es. top_place p ∷ map (λ e. place_in p (row_at rows e).owner (child_name e)) (reverse es))
+    (none-around rows (length rows))
 
 -- its fields are those of its struct
 top_forms : (a : Parts) (v : Views a) (renewed : Renewed a v) (before : Cells) → HasInstance a before None →
     HasForms (renewed.started None).forms (fields_at before (top_place (program_of a)))
 top_forms a v renewed before has =
     subst (λ forms. HasForms forms (fields_at before (top_place (program_of a)))) (sym renewed.starts.0.forms)
-    (subst (λ path. HasForms (forms_at (program_of a) (struct_place (program_of a) None)) (cells_at path before)) (path_to_top (program_of a) (diagram a).rows) has.forms)
+    (subst (λ path. HasForms (forms_at (program_of a) (struct_place (program_of a) None)) (cells_at path before))
+    (path_to_top (program_of a) (diagram a).rows) has.forms)
 
-module _ (a : Parts) (v : Views a) (renewed : Renewed a v) (zeros : ZerosHaveForms a) (paths : InstancesHavePaths a) (lives : EachInstanceLives a v renewed)
+module _ (a : Parts) (v : Views a) (renewed : Renewed a v) (zeros : ZerosHaveForms a) (paths : InstancesHavePaths a)
+    (lives : EachInstanceLives a v renewed)
     (root_starts : RootStarts a v renewed) (takes_ticks : RootTakesTicks a v renewed) where
   rows_are : (xs : List (List ℤ)) (run : Run) → IsTrace (diagram a) None xs → IsRunOver (diagram a) None xs run →
       RowsAre (program_of a) (diagram a) (c_rows (program_of a) xs) xs run.values run.triggers
   rows_are xs run trace is_run =
       let before = zero_root (program_of a) in
-      let living = lives None xs run trace is_run None (0, omega arith, refl) refl (fields_at before (top_place (program_of a))) (top_forms a v renewed before (paths before (zeros (root_struct (program_of a)))).0) in
+      let living =
+      lives None xs run trace is_run None (0, omega arith, refl) refl (fields_at before (top_place (program_of a)))
+      (top_forms a v renewed before (paths before (zeros (root_struct (program_of a)))).0) in
       started_rows (program_of a) (diagram a) xs run.values run.triggers (start_run (program_of a)) _
       (root_starts before (zeros (root_struct (program_of a))))
       (λ after started. of_run (program_of a) (diagram a) xs run.values run.memories run.triggers is_run
@@ -129,10 +155,13 @@ module _ (a : Parts) (v : Views a) (renewed : Renewed a v) (zeros : ZerosHaveFor
   -- the rows of the one run
   runs_right : LoopFreeHasOneRun → AssembledRunsRight a
   runs_right one_run = record {
-    outputs = λ xs trace. let one = one_run (diagram a) None xs a.can.no_loop in record { one_run = one; outputs = (rows_are xs one.run trace one.is_run).outputs };
-    bounded = λ xs trace. let one = one_run (diagram a) None xs a.can.no_loop in let rows = rows_are xs one.run trace one.is_run in record { not_stuck = rows.not_stuck; steps = rows.steps };
+    outputs = λ xs trace. let one = one_run (diagram a) None xs a.can.no_loop in
+        record { one_run = one; outputs = (rows_are xs one.run trace one.is_run).outputs };
+    bounded = λ xs trace. let one = one_run (diagram a) None xs a.can.no_loop in let rows =
+        rows_are xs one.run trace one.is_run in record { not_stuck = rows.not_stuck; steps = rows.steps };
     calls = λ xs run trace is_run. (rows_are xs run trace is_run).calls;
   }
 
 pub runs_follow : LoopFreeHasOneRun → RunsFollow
-runs_follow one_run a v renewed zeros paths lives root_starts takes_ticks = runs_right a v renewed zeros paths lives root_starts takes_ticks one_run
+runs_follow one_run a v renewed zeros paths lives root_starts takes_ticks =
+    runs_right a v renewed zeros paths lives root_starts takes_ticks one_run

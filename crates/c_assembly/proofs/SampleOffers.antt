@@ -25,12 +25,15 @@ child_known = refl
 
 -- ---- Offers
 
-child_offer : program_offer whole_program child_header ≡ own_offer child_local child_profile [] child_slots [] child_code (λ i. first_procedure (top_code ∷ child_code ∷ []) 1 + i)
+child_offer : program_offer whole_program child_header
+    ≡ own_offer child_local child_profile [] child_slots [] child_code
+    (λ i. first_procedure (top_code ∷ child_code ∷ []) 1 + i)
 unfolding digits
 child_offer = refl
 
 top_offer : program_offer whole_program (own_header top_local top_profile)
-    ≡ own_offer top_local top_profile [] top_slots (program_offer whole_program child_header ∷ []) top_code (λ i. first_procedure (top_code ∷ child_code ∷ []) 0 + i)
+    ≡ own_offer top_local top_profile [] top_slots (program_offer whole_program child_header ∷ []) top_code
+    (λ i. first_procedure (top_code ∷ child_code ∷ []) 0 + i)
 unfolding digits
 top_offer = refl
 
@@ -44,7 +47,8 @@ positions : struct_position (top_code ∷ child_code ∷ []) 0 ∷ struct_positi
 unfolding digits
 positions = refl
 
-top_fields : struct_fields whole_program.structs (struct_place whole_program None) ≡ (moved_struct (top_code ∷ child_code ∷ []) top_code).fields
+top_fields : struct_fields whole_program.structs (struct_place whole_program None)
+    ≡ (moved_struct (top_code ∷ child_code ∷ []) top_code).fields
 unfolding digits
 top_fields = refl
 
@@ -60,7 +64,8 @@ procedures : procedure_named whole_program root_start_name ∷ procedure_named w
 unfolding digits
 procedures = refl
 
-start : procedure_place whole_program (start_name None) ≡ first_procedure (top_code ∷ child_code ∷ []) 0 + own_position top_code (start_name None)
+start : procedure_place whole_program (start_name None) ≡ first_procedure (top_code ∷ child_code ∷ []) 0
+    + own_position top_code (start_name None)
 unfolding digits
 start = refl
 
@@ -70,7 +75,8 @@ child_forms : forms_at whole_program (struct_place whole_program (Some 0)) ≡ s
 unfolding digits
 child_forms = refl
 
-top_forms : forms_at whole_program (struct_place whole_program None) ≡ slot_forms (forms_at whole_program (struct_place whole_program (Some 0)) ∷ []) top_slots
+top_forms : forms_at whole_program (struct_place whole_program None)
+    ≡ slot_forms (forms_at whole_program (struct_place whole_program (Some 0)) ∷ []) top_slots
 unfolding digits
 top_forms = refl
 

@@ -40,7 +40,9 @@ front-one (x ∷ xs) [] r t plain others same =
 front-one (x ∷ xs) (y ∷ ys) r t plain others same =
     let is : x ≡ y = cc same in
     let rest : xs ++ 95 ∷ r ≡ ys ++ 95 ∷ t = cc same in
-    let later = front-one xs ys r t (and_parts (is_plain x) (list_all is_plain xs) plain).1 (and_parts (is_plain y) (list_all is_plain ys) others).1 rest in
+    let later =
+    front-one xs ys r t (and_parts (is_plain x) (list_all is_plain xs) plain).1
+    (and_parts (is_plain y) (list_all is_plain ys) others).1 rest in
     ap (λ z. z ∷ xs) is ∙ ap (λ zs. y ∷ zs) later
 
 -- ---- Digits are plain
@@ -82,5 +84,8 @@ root-apart None = refl
 root-apart (Some e) = refl
 
 -- names of procedures of two systems are two
-pub procedures-apart : (s t : Option ℕ) (r u : List ℕ) → IsNumbered s → IsNumbered t → s ≢ t → (system_name s ++ 95 ∷ r) ≢ (system_name t ++ 95 ∷ u)
-procedures-apart s t r u small few apart same = apart (system-one s t small few (front-one (system_name s) (system_name t) r u (system-plain s small) (system-plain t few) same))
+pub procedures-apart : (s t : Option ℕ) (r u : List ℕ) → IsNumbered s → IsNumbered t → s ≢ t →
+    (system_name s ++ 95 ∷ r) ≢ (system_name t ++ 95 ∷ u)
+procedures-apart s t r u small few apart same =
+    apart (system-one s t small few
+    (front-one (system_name s) (system_name t) r u (system-plain s small) (system-plain t few) same))

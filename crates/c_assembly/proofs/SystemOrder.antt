@@ -23,11 +23,15 @@ kept-above test a n k x at = (of-range a n x (of-filter test (range_with_len a n
 kept-rise : (test : ℕ → Bool) (a n i j x y : ℕ) → slice_get (filter test (range_with_len a n)) i ≡ Some x →
     slice_get (filter test (range_with_len a n)) j ≡ Some y → i < j → x < y
 kept-rise test a zero i j x y first second less = absurd (let wrong : ⊥ = cc first in wrong)
-kept-rise test a (suc n) i j x y first second less = by (test a) i j first second less (λ k l one two below. kept-rise test (a + 1) n k l x y one two below)
+kept-rise test a (suc n) i j x y first second less =
+    by (test a) i j first second less (λ k l one two below. kept-rise test (a + 1) n k l x y one two below)
   where
-    by : (t : Bool) (i j : ℕ) → slice_get (cond t (a ∷ filter test (range_with_len (a + 1) n)) (filter test (range_with_len (a + 1) n))) i ≡ Some x →
+    by : (t : Bool) (i j : ℕ) →
+        slice_get (cond t (a ∷ filter test (range_with_len (a + 1) n)) (filter test (range_with_len (a + 1) n))) i
+        ≡ Some x →
         slice_get (cond t (a ∷ filter test (range_with_len (a + 1) n)) (filter test (range_with_len (a + 1) n))) j ≡ Some y → i < j →
-        ((k l : ℕ) → slice_get (filter test (range_with_len (a + 1) n)) k ≡ Some x → slice_get (filter test (range_with_len (a + 1) n)) l ≡ Some y → k < l → x < y) → x < y
+        ((k l : ℕ) → slice_get (filter test (range_with_len (a + 1) n)) k ≡ Some x →
+        slice_get (filter test (range_with_len (a + 1) n)) l ≡ Some y → k < l → x < y) → x < y
     by false i j first second less later = later i j first second less
     by true i zero first second less later = absurd (omega arith)
     by true zero (suc j) first second less later =
@@ -46,11 +50,14 @@ systems-rise rows zero (suc j) s t first second less =
 systems-rise rows (suc i) (suc j) s t first second less =
     let one = map-at Some (systems_inside rows None) i s first in
     let two = map-at Some (systems_inside rows None) j t second in
-    let rise = kept-rise (λ e. is_subsystem (row_at rows e).kind && is_inside rows None e) 0 (length rows) i j one.0 two.0 one.1 two.1 (omega arith) in
+    let rise =
+    kept-rise (λ e. is_subsystem (row_at rows e).kind && is_inside rows None e) 0
+    (length rows) i j one.0 two.0 one.1 two.1 (omega arith) in
     subst (λ o. rank o < rank t) one.2 (subst (λ o. suc one.0 < rank o) two.2 (omega arith))
 
 -- what comes later has the higher rank, and the other way round
-pub stands-later : (rows : List Row) (i j : ℕ) (s t : Option ℕ) → slice_get (systems rows) i ≡ Some s → slice_get (systems rows) j ≡ Some t →
+pub stands-later : (rows : List Row) (i j : ℕ) (s t : Option ℕ) → slice_get (systems rows) i ≡ Some s →
+    slice_get (systems rows) j ≡ Some t →
     rank s < rank t → i < j
 stands-later rows i j s t first second less = elim (cases_lt i j) [
   | inl before ↦ before
@@ -68,7 +75,8 @@ stands-later rows i j s t first second less = elim (cases_lt i j) [
     ]
 
 -- no system stands at two places
-pub stands-once : (rows : List Row) (i j : ℕ) (s : Option ℕ) → slice_get (systems rows) i ≡ Some s → slice_get (systems rows) j ≡ Some s → i ≡ j
+pub stands-once : (rows : List Row) (i j : ℕ) (s : Option ℕ) → slice_get (systems rows) i ≡ Some s →
+    slice_get (systems rows) j ≡ Some s → i ≡ j
 stands-once rows i j s first second = elim (cases_lt i j) [
   | inl before ↦ absurd (let rise = systems-rise rows i j s s first second before in omega arith)
   | inr not_before ↦ elim (cases_lt j i) [
@@ -93,8 +101,12 @@ pub child-later : (rows : List Row) (place : ℕ) (s : Option ℕ) (e : ℕ) →
 child-later rows place s e nested at child =
     let is = of-filter (λ c. is_subsystem (row_at rows c).kind) (rows_of rows s) e child in
     let own = of-rows rows s e is.0 in
-    let inside : Contains (systems_inside rows None) e = in-filter (λ c. is_subsystem (row_at rows c).kind && is_inside rows None c) (row_numbers rows) e
+    let inside : Contains (systems_inside rows None) e =
+    in-filter (λ c. is_subsystem (row_at rows c).kind && is_inside rows None c) (row_numbers rows) e
     (in-range 0 (length rows) e (omega arith) (let below = own.0 in omega arith)) (and-all (is_subsystem (row_at rows e).kind) is.1) in
-    let stands = at-in (systems rows) (Some e) (in-rest None (Some e) (map Some (systems_inside rows None)) (in-map Some (systems_inside rows None) e inside)) in
+    let stands =
+    at-in (systems rows) (Some e)
+    (in-rest None (Some e) (map Some (systems_inside rows None))
+    (in-map Some (systems_inside rows None) e inside)) in
     let owns = subst (IsOwner rows e) own.1 (nested.owned e own.0) in
     (stands.0, stands-later rows place stands.0 s (Some e) at stands.1 (owner-before rows e s owns), stands.1)

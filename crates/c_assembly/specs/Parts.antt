@@ -1,4 +1,5 @@
--- What is put together: codes of all systems of a model, each right by itself, and what is known of each of them.
+-- What is put together: codes of all systems of a model, each right by itself, and what is known of
+-- each of them.
 use Rattle.std.specs.Prelude.{◌≡◌, ℕ, ◌<◌, List, slice_get, Option, Some}
 use Rattle.std.specs.List.{AllByRecursion}
 use Rattle.mc_diagram.specs.Diagram.{Diagram}
@@ -61,8 +62,10 @@ pub record IsCodedAs (a : Parts) (place : ℕ) (s : Option ℕ) (c : CodedSystem
   pub lawful : IsLawfulAlone c.local c.code
   pub chains : HasShortChains c.local c.code
 
--- a child is known by the header of its own rows and profile, and stands behind the system around it, which is at this place
-pub record IsChildBehind (a : Parts) (at : Option ℕ → CodedSystem) (place : ℕ) (u : ChildUse) : Type 0 where
+-- a child is known by the header of its own rows and profile, and stands behind the system around
+-- it, which is at this place
+pub record IsChildBehind (a : Parts) (at : Option ℕ → CodedSystem) (place : ℕ)
+    (u : ChildUse) : Type 0 where
   pub header : u.header ≡ coded_header (at u.header.row)
   pub inner_place : ℕ
   pub later : place < inner_place
@@ -71,11 +74,12 @@ pub record IsChildBehind (a : Parts) (at : Option ℕ → CodedSystem) (place : 
 -- what is known of each system
 pub record Views (a : Parts) : Type 0 where
   pub at : Option ℕ → CodedSystem
-  pub each : (place : ℕ) (s : Option ℕ) → slice_get (all_systems a) place ≡ Some s → IsCodedAs a place s (at s)
+  pub each : (place : ℕ) (s : Option ℕ) → slice_get (all_systems a) place ≡ Some s →
+      IsCodedAs a place s (at s)
   pub children : (place : ℕ) (s : Option ℕ) → slice_get (all_systems a) place ≡ Some s →
       AllByRecursion (IsChildBehind a at place) (at s).local.children
 
--- Systems differ, so a code is found by its system; a system has one profile, and the header of its own rows is the one that the
--- system around it sees.
+-- Systems differ, so a code is found by its system; a system has one profile, and the header of its
+-- own rows is the one that the system around it sees.
 abbrev pub CodesHaveViews : Type 0
 CodesHaveViews = (a : Parts) → Views a

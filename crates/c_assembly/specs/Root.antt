@@ -42,53 +42,71 @@ HasPath (f ∷ path) cells = (f < cells_count cells) × HasPath path (fields_at 
 -- in these fields of the root's struct there is an instance of the system at its path
 pub record HasInstance (a : Parts) (cells : Cells) (s : Option ℕ) : Type 0 where
   pub there : HasPath (path_to (program_of a) (diagram a).rows s) cells
-  pub forms : HasForms (forms_at (program_of a) (struct_place (program_of a) s)) (cells_at (path_to (program_of a) (diagram a).rows s) cells)
+  pub forms : HasForms (forms_at (program_of a) (struct_place (program_of a) s))
+      (cells_at (path_to (program_of a) (diagram a).rows s) cells)
 
 -- so it is in any fields of that struct
 abbrev pub InstancesHavePaths : Parts → Type 0
-InstancesHavePaths a = (cells : Cells) → HasForms (forms_at (program_of a) (root_struct (program_of a))) cells →
+InstancesHavePaths a =
+    (cells : Cells) → HasForms (forms_at (program_of a) (root_struct (program_of a))) cells →
     AllByRecursion (HasInstance a cells) (all_systems a)
 
--- What `root_start` leaves: the tick is 0, `top` is started, and so is each system inside at its path; the outputs are as they
--- were, and the fields keep their forms.
-pub record IsRootStarted (a : Parts) (started : Option ℕ → Renewal) (before : Cells) (after : After) : Type 0 where
-  pub stands : IsRootAt (program_of a) a.hyper 0 ((started None).renewed (fields_at before (top_place (program_of a)))) after.cells
-  pub systems : AllByRecursion (λ s. cells_at (path_to (program_of a) (diagram a).rows s) after.cells
-      ≡ (started s).renewed (cells_at (path_to (program_of a) (diagram a).rows s) before)) (all_systems a)
-  pub outputs : map (number_at after.cells) (output_fields (root_fields (program_of a))) ≡ map (number_at before) (output_fields (root_fields (program_of a)))
+-- What `root_start` leaves: the tick is 0, `top` is started, and so is each system inside at its
+-- path; the outputs are as they were, and the fields keep their forms.
+pub record IsRootStarted (a : Parts) (started : Option ℕ → Renewal) (before : Cells)
+    (after : After) : Type 0 where
+  pub stands : IsRootAt (program_of a) a.hyper 0
+      ((started None).renewed (fields_at before (top_place (program_of a)))) after.cells
+  pub systems : AllByRecursion
+      (λ s. cells_at (path_to (program_of a) (diagram a).rows s) after.cells
+      ≡ (started s).renewed (cells_at (path_to (program_of a) (diagram a).rows s) before))
+      (all_systems a)
+  pub outputs : map (number_at after.cells) (output_fields (root_fields (program_of a)))
+      ≡ map (number_at before) (output_fields (root_fields (program_of a)))
   pub keeps : HasForms (forms_at (program_of a) (root_struct (program_of a))) after.cells
 
 -- so it does from any fields of the root's struct
 abbrev pub RootStarts : (a : Parts) (v : Views a) → Renewed a v → Type 0
 RootStarts a v renewed =
-    FromAnyFields (program_of a) (root_struct (program_of a)) (unwrap_or (procedure_named (program_of a) root_start_name) 0) (IsRootStarted a renewed.started)
+    FromAnyFields (program_of a) (root_struct (program_of a))
+    (unwrap_or (procedure_named (program_of a) root_start_name) 0)
+    (IsRootStarted a renewed.started)
 
 -- the whole program is started as it should be
 abbrev pub AssembledRestarts : Parts → Type 0
 AssembledRestarts a = Restarts (program_of a) (diagram a)
 
--- A tick of the root goes from the tick's number and an instance of `top` in which nothing was called to those of the next tick,
--- gives the outputs, stays within the bound, and makes the calls and stores of the tick.
-pub record TakesTick (a : Parts) (xs : List (List ℤ)) (run : Run) (t : ℕ) (top : Cells) (after : After) : Type 0 where
+-- A tick of the root goes from the tick's number and an instance of `top` in which nothing was
+-- called to those of the next tick, gives the outputs, stays within the bound, and makes the calls
+-- and stores of the tick.
+pub record TakesTick (a : Parts) (xs : List (List ℤ)) (run : Run) (t : ℕ) (top : Cells)
+    (after : After) : Type 0 where
   pub stands : IsRootAt (program_of a) a.hyper (suc t) top after.cells
-  pub outputs : (tick_row (program_of a) after).outputs ≡ outs (diagram a) None (slice_index_or run.values t [])
+  pub outputs : (tick_row (program_of a) after).outputs
+      ≡ outs (diagram a) None (slice_index_or run.values t [])
   pub in_bound : after.steps ≤ step_bound (diagram a).rows
-  pub calls : CallsInTick (program_of a) (diagram a) (slice_index_or xs t []) (slice_index_or run.values t []) (slice_index_or run.triggers t []) after.log after.stores
+  pub calls : CallsInTick (program_of a) (diagram a) (slice_index_or xs t [])
+      (slice_index_or run.values t []) (slice_index_or run.triggers t []) after.log after.stores
 
 -- so it does in each tick of a run through which the instance of `top` lives
 abbrev pub RootTakesTicks : (a : Parts) (v : Views a) → Renewed a v → Type 0
 RootTakesTicks a v renewed = (xs : List (List ℤ)) (run : Run) (before : Cells) →
-    IsTrace (diagram a) None xs → IsRunOver (diagram a) None xs run → (lives : Lives a v None xs run renewed None before) →
-    (t : ℕ) (cells : Cells) → t < length xs → IsRootAt (program_of a) a.hyper t ((lives.at t).standing none_called) cells →
-    OnDone (step_run (program_of a) (slice_index_or xs t []) cells) (TakesTick a xs run t (lives.at t).after)
+    IsTrace (diagram a) None xs → IsRunOver (diagram a) None xs run →
+    (lives : Lives a v None xs run renewed None before) →
+    (t : ℕ) (cells : Cells) → t < length xs →
+    IsRootAt (program_of a) a.hyper t ((lives.at t).standing none_called) cells →
+    OnDone (step_run (program_of a) (slice_index_or xs t []) cells)
+    (TakesTick a xs run t (lives.at t).after)
 
 -- Given that a start reaches all systems inside, and each instance has its path.
 abbrev pub RootsStart : Type 0
-RootsStart = (a : Parts) (v : Views a) (renewed : Renewed a v) → ReachInside a renewed.started → InstancesHavePaths a → RootStarts a v renewed
+RootsStart = (a : Parts) (v : Views a) (renewed : Renewed a v) → ReachInside a renewed.started →
+    InstancesHavePaths a → RootStarts a v renewed
 
 -- Given that the root starts.
 abbrev pub RestartsFollow : Type 0
-RestartsFollow = (a : Parts) (v : Views a) (renewed : Renewed a v) → InstancesHavePaths a → RootStarts a v renewed → AssembledRestarts a
+RestartsFollow = (a : Parts) (v : Views a) (renewed : Renewed a v) → InstancesHavePaths a →
+    RootStarts a v renewed → AssembledRestarts a
 
 abbrev pub RootsTakeTicks : Type 0
 RootsTakeTicks = (a : Parts) (v : Views a) (renewed : Renewed a v) → RootTakesTicks a v renewed

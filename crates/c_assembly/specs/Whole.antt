@@ -15,7 +15,8 @@ use Rattle.c_assembly.specs.Root.{InstancesHavePaths, RootStarts, AssembledResta
 
 -- each system answers its calls in any order
 abbrev pub AssembledAnswers : Parts → Type 0
-AssembledAnswers a = AllByRecursion (AnswersAnyOrder (program_of a) (diagram a) a.hyper) (all_systems a)
+AssembledAnswers a =
+    AllByRecursion (AnswersAnyOrder (program_of a) (diagram a) a.hyper) (all_systems a)
 
 -- the root's rows are those of the run, within the bound, with the calls and stores of each tick
 abbrev pub AssembledRunsRight : Parts → Type 0
@@ -42,7 +43,8 @@ pub record IsAssembled (r : ResolvedTree) (hyper : ℕ) (p : ProgramTree) : Type
 abbrev pub AssembledIsCode : Parts → Type 0
 AssembledIsCode a = IsAssembled a.model a.hyper (program_of a)
 
--- Given the root's start and its single ticks, and that each instance has its fields, starts, and lives through runs.
+-- Given the root's start and its single ticks, and that each instance has its fields, starts, and
+-- lives through runs.
 abbrev pub RunsFollow : Type 0
 RunsFollow = (a : Parts) (v : Views a) (renewed : Renewed a v) →
     ZerosHaveForms a → InstancesHavePaths a → EachInstanceLives a v renewed →
@@ -54,7 +56,9 @@ CodeFollows = (a : Parts) →
     AssembledRunsRight a → AssembledAnswers a → AssembledRenews a → AssembledRestarts a →
     AssembledHasShape a → AssembledIsLeast a → AssembledIsLawful a → AssembledIsCode a
 
--- Given that each instance has its fields, starts, and lives through runs, and that the root starts.
+-- Given that each instance has its fields, starts, and lives through runs, and that the root
+-- starts.
 abbrev pub AnswersFollow : Type 0
 AnswersFollow = (a : Parts) (v : Views a) (renewed : Renewed a v) →
-    ZerosHaveForms a → InstancesHavePaths a → EachInstanceLives a v renewed → RootStarts a v renewed → AssembledAnswers a
+    ZerosHaveForms a → InstancesHavePaths a → EachInstanceLives a v renewed →
+    RootStarts a v renewed → AssembledAnswers a

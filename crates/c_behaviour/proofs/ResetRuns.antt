@@ -498,7 +498,8 @@ module _ (numbers_are_written : NumbersAreWritten) (local : LocalSystem) (h : Sy
         (with_lines rs (more q)) (ring_field local p.row + 2)) same (
           stays-lines rs (more q) (ring_field local q.row + 1) (in-rest (ring_field local q.row + 2) (ring_field local q.row + 1)
               ((ring_field local q.row + 1) ∷ fields) (in-first (ring_field local q.row + 1) fields)),
-          stays-lines rs (more q) (ring_field local q.row + 2) (in-first (ring_field local q.row + 2) ((ring_field local q.row + 1) ∷ fields)),
+          stays-lines rs (more q) (ring_field local q.row + 2)
+              (in-first (ring_field local q.row + 2) ((ring_field local q.row + 1) ∷ fields)),
         )
     | inr later ↦ new-line rs (more q) r later
   ]

@@ -36,7 +36,8 @@ use Rattle.c_blocks.proofs.RangeLaws.{InRange, held_is_in}
 -- ---- Numbers of types
 
 small_by : (signed : Bool) (bits frac : ℕ) → InProfile signed bits frac → (v : ℤ) →
-    cond signed (neg_ℤ (pos (2 ^ (bits - 1)))) (pos 0) ≤ℤ v → v ≤ℤ cond signed (pos (2 ^ (bits - 1) - 1)) (pos (2 ^ bits - 1)) → unsigned_abs v ≤ 2 ^ 32
+    cond signed (neg_ℤ (pos (2 ^ (bits - 1)))) (pos 0) ≤ℤ v →
+    v ≤ℤ cond signed (pos (2 ^ (bits - 1) - 1)) (pos (2 ^ bits - 1)) → unsigned_abs v ≤ 2 ^ 32
 small_by true bits frac p v low high =
     let few : bits - 1 ≤ 32 = omega (arith, p.1) in
     let power : 2 ^ (bits - 1) ≤ 2 ^ 32 = pow_mono few in
@@ -51,8 +52,10 @@ pub in_type_small : (t : FixType) (v : ℤ) → InType t v → unsigned_abs v < 
 in_type_small t v h = let small = small_by t.signed t.bits t.frac t.in_profile v h.0 h.1 in omega (arith, small)
 
 ends_by : (signed : Bool) (bits frac : ℕ) → InProfile signed bits frac →
-    (neg_ℤ (pos (2 ^ 31)) ≤ℤ cond signed (neg_ℤ (pos (2 ^ (bits - 1)))) (pos 0)) × (cond signed (neg_ℤ (pos (2 ^ (bits - 1)))) (pos 0) ≤ℤ pos 0)
-    × (pos 0 ≤ℤ cond signed (pos (2 ^ (bits - 1) - 1)) (pos (2 ^ bits - 1))) × (cond signed (pos (2 ^ (bits - 1) - 1)) (pos (2 ^ bits - 1)) ≤ℤ pos (2 ^ 32)) × (1 ≤ bits)
+    (neg_ℤ (pos (2 ^ 31)) ≤ℤ cond signed (neg_ℤ (pos (2 ^ (bits - 1)))) (pos 0))
+    × (cond signed (neg_ℤ (pos (2 ^ (bits - 1)))) (pos 0) ≤ℤ pos 0)
+    × (pos 0 ≤ℤ cond signed (pos (2 ^ (bits - 1) - 1)) (pos (2 ^ bits - 1)))
+    × (cond signed (pos (2 ^ (bits - 1) - 1)) (pos (2 ^ bits - 1)) ≤ℤ pos (2 ^ 32)) × (1 ≤ bits)
 ends_by true bits frac p =
     let few : bits - 1 ≤ 31 = omega (arith, p.1) in
     let power : 2 ^ (bits - 1) ≤ 2 ^ 31 = pow_mono few in
@@ -145,7 +148,8 @@ module _ (functions : List Function) (reads : Reads) (line : ℕ) where
   Is e x = Gives functions reads line e x
 
   -- a number in a finer unit
-  pub aligned_gives : (e : ExprTree) (v : ℤ) (f F : ℕ) → Is e v → unsigned_abs (aligned_number v f F) ≤ 2 ^ 62 → Is (aligned e f F) (aligned_number v f F)
+  pub aligned_gives : (e : ExprTree) (v : ℤ) (f F : ℕ) → Is e v → unsigned_abs (aligned_number v f F) ≤ 2 ^ 62 →
+      Is (aligned e f F) (aligned_number v f F)
   aligned_gives e v f F h small = by (f == F) refl
     where
       by : (b : Bool) → (f == F) ≡ b → Is (if b then e else binary Mul e (power (F - f))) (aligned_number v f F)
@@ -157,15 +161,20 @@ module _ (functions : List Function) (reads : Reads) (line : ℕ) where
   cast_after : (over : Over) (t : FixType) (e : ExprTree) (q : ℤ) (steps mid : ℕ) → eval functions reads line e steps ≡ gives q mid →
       eval functions reads line (cast over t e) steps ≡ cast_call functions over t (q ∷ []) mid
   cast_after Saturate t e q steps mid first =
-      call_after functions reads line 6 e (written (least_of t) ∷ written (greatest_of t) ∷ []) q (least_of t ∷ greatest_of t ∷ [])
-      (gives_written functions reads line (least_of t) (least_small t), (gives_written functions reads line (greatest_of t) (greatest_small t), tt)) steps mid first
+      call_after functions reads line 6 e (written (least_of t) ∷ written (greatest_of t) ∷ []) q (least_of t ∷ greatest_of t ∷ []) (
+        gives_written functions reads line (least_of t) (least_small t),
+        (gives_written functions reads line (greatest_of t) (greatest_small t), tt),
+      ) steps mid first
   cast_after Wrap t e q steps mid first =
-      call_after functions reads line 7 e (written (least_of t) ∷ power t.bits ∷ []) q (least_of t ∷ pos (2 ^ t.bits) ∷ [])
-      (gives_written functions reads line (least_of t) (least_small t), (gives_literal functions reads line (pos (2 ^ t.bits)), tt)) steps mid first
+      call_after functions reads line 7 e (written (least_of t) ∷ power t.bits ∷ []) q (least_of t ∷ pos (2 ^ t.bits) ∷ []) (
+        gives_written functions reads line (least_of t) (least_small t),
+        (gives_literal functions reads line (pos (2 ^ t.bits)), tt),
+      ) steps mid first
 
 -- ---- Conversions
 
-whole_units : (stay : WholeNumbersStay) (r : Round) (v : ℤ) (f : ℕ) (t : FixType) → f ≤ t.frac → aligned_number v f t.frac ≡ rounded r (over_units v f t.frac) (under_units f t.frac)
+whole_units : (stay : WholeNumbersStay) (r : Round) (v : ℤ) (f : ℕ) (t : FixType) → f ≤ t.frac →
+    aligned_number v f t.frac ≡ rounded r (over_units v f t.frac) (under_units f t.frac)
 whole_units stay r v f t h =
     let none : f - t.frac ≡ 0 = omega (arith, h) in
     sym (ap (λ k. rounded r (v *ℤ pos (2 ^ (t.frac - f))) (2 ^ k)) none ∙ stay r (v *ℤ pos (2 ^ (t.frac - f))))
@@ -236,7 +245,8 @@ module _ (ps : List PureTree) (prelude : IsPrelude ps) (stay : WholeNumbersStay)
           down ∙ rounds lt ∙ ap (λ n. gives (rounded how.round n (under_units f to.frac)) (steps + 1)) whole
           ∙ ap (λ q. gives q (steps + 1)) (held_is one v f range to how inside held)
 
-      finer : f ≤ to.frac → eval functions reads line (cast how.over to (aligned e f to.frac)) steps ≡ gives (conversion v f to how) (steps + 1)
+      finer : f ≤ to.frac → eval functions reads line (cast how.over to (aligned e f to.frac)) steps ≡ gives
+          (conversion v f to how) (steps + 1)
       finer le =
           cast_after functions reads line how.over to (aligned e f to.frac) x steps steps up
           ∙ cast_gives how.over to x steps fit (omega (arith, room))
@@ -247,7 +257,8 @@ module _ (ps : List PureTree) (prelude : IsPrelude ps) (stay : WholeNumbersStay)
           let case : Case = record { round = how.round; over = how.over; signed = to.signed } in
           let both = prelude.converts case (every_case how.round how.over to.signed) to v f steps refl (omega (arith, lt)) fits.1 small
           (omega (arith, room)) in
-          cast_after functions reads line how.over to rounding (rounded how.round v (2 ^ (f - to.frac))) steps (steps + 1) (down ∙ rounds lt)
+          cast_after functions reads line how.over to rounding (rounded how.round v (2 ^ (f - to.frac))) steps
+          (steps + 1) (down ∙ rounds lt)
           ∙ rw (rounds lt) at both
 
       by : (b held : Bool) → nat_le f to.frac ≡ b → surely_holds to f range ≡ held →

@@ -25,13 +25,15 @@ third : (a b : ℕ) (z : ℤ) → (pos a *ℤ pos b) *ℤ z ≡ pos a *ℤ (pos 
 third a b (pos c) = ap pos (mul_assoc a b c)
 third a b (negsuc c) =
     let C = pos (suc c) in
-    mul_neg (pos a *ℤ pos b) C ∙ ap neg_ℤ (ap pos (mul_assoc a b (suc c))) ∙ sym (mul_neg (pos a) (pos b *ℤ C)) ∙ ap (λ n. pos a *ℤ n) (sym (mul_neg (pos b) C))
+    mul_neg (pos a *ℤ pos b) C ∙ ap neg_ℤ (ap pos (mul_assoc a b (suc c))) ∙ sym (mul_neg (pos a) (pos b *ℤ C))
+    ∙ ap (λ n. pos a *ℤ n) (sym (mul_neg (pos b) C))
 
 second : (a : ℕ) (y z : ℤ) → (pos a *ℤ y) *ℤ z ≡ pos a *ℤ (y *ℤ z)
 second a (pos b) z = third a b z
 second a (negsuc b) z =
     let B = pos (suc b) in
-    ap (λ n. n *ℤ z) (mul_neg (pos a) B) ∙ neg_mul (pos a *ℤ B) z ∙ ap neg_ℤ (third a (suc b) z) ∙ sym (mul_neg (pos a) (B *ℤ z)) ∙ ap (λ n. pos a *ℤ n) (sym (neg_mul B z))
+    ap (λ n. n *ℤ z) (mul_neg (pos a) B) ∙ neg_mul (pos a *ℤ B) z ∙ ap neg_ℤ (third a (suc b) z)
+    ∙ sym (mul_neg (pos a) (B *ℤ z)) ∙ ap (λ n. pos a *ℤ n) (sym (neg_mul B z))
 
 pub product_assoc : (x y z : ℤ) → (x *ℤ y) *ℤ z ≡ x *ℤ (y *ℤ z)
 product_assoc (pos a) y z = second a y z

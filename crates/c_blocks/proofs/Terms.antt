@@ -12,4 +12,6 @@ no_terms minus F i (f ∷ fs) = refl
 pub terms_end : (done whole : List ExprTree) (minus F i : ℕ) (fs : List ℕ) (leaves : List Leaf) → length leaves ≤ i →
     done ++ term_codes minus F i fs (drop i leaves) ≡ whole → done ≡ whole
 terms_end done whole minus F i fs leaves over so_far =
-    sym (append-nil done) ∙ ap (λ rest. done ++ rest) (sym (at_drop_all (term_codes minus F i fs) leaves i over ∙ no_terms minus F i fs)) ∙ so_far
+    sym (append-nil done)
+    ∙ ap (λ rest. done ++ rest) (sym (at_drop_all (term_codes minus F i fs) leaves i over ∙ no_terms minus F i fs))
+    ∙ so_far

@@ -123,7 +123,9 @@ module _ (functions : List Function) (reads : Reads) (line : ℕ) where
   never_holds = holds_compare functions reads line Ne nought nought (pos 0) (pos 0) gives_nought gives_nought
 
   pub truth_gives : (t : CondTree) (b : Bool) → Has t b → Gives functions reads line (truth t) (number_of_bool b)
-  truth_gives t b h = subst (Gives functions reads line (truth t)) (bit_is b) (gives_pick functions reads line t (literal (pos 1)) nought b (pos 1) (pos 0) h gives_one gives_nought)
+  truth_gives t b h =
+      subst (Gives functions reads line (truth t)) (bit_is b)
+      (gives_pick functions reads line t (literal (pos 1)) nought b (pos 1) (pos 0) h gives_one gives_nought)
 
   pub is_true_holds : (e : ExprTree) (v : ℤ) → Gives functions reads line e v → Has (is_true_code e) (is_true v)
   is_true_holds e v h = holds_compare functions reads line Ne e nought v (pos 0) h gives_nought
@@ -165,14 +167,21 @@ module _ (functions : List Function) (reads : Reads) (line : ℕ) where
   length_truths [] = refl
   length_truths (l ∷ leaves) = ap suc (length_truths leaves)
 
-  pub logic_holds : (op : Logic) (leaves : List Leaf) → length leaves ≤ 16 → Has (logic_code op (truths leaves)) (logic_of op (map is_true (map reads.leaf leaves)))
+  pub logic_holds : (op : Logic) (leaves : List Leaf) → length leaves ≤ 16 →
+      Has (logic_code op (truths leaves)) (logic_of op (map is_true (map reads.leaf leaves)))
   logic_holds op leaves few =
-      logic_by (truths leaves) (map is_true (map reads.leaf leaves)) (subst (λ n. n ≤ 16) (sym (length_truths leaves)) few) (truths_hold leaves) op
+      logic_by (truths leaves) (map is_true (map reads.leaf leaves))
+      (subst (λ n. n ≤ 16) (sym (length_truths leaves)) few) (truths_hold leaves) op
 
-  pub passes_holds : (criterion : Criterion) (e : ExprTree) (v threshold : ℤ) → Gives functions reads line e v → unsigned_abs threshold < 2 ^ 63 →
+  pub passes_holds : (criterion : Criterion) (e : ExprTree) (v threshold : ℤ) → Gives functions reads line e v →
+      unsigned_abs threshold < 2 ^ 63 →
       Has (passes_code criterion e threshold) (passes criterion v threshold)
-  passes_holds Ge e v threshold h small = holds_compare functions reads line AtLeast e (written threshold) v threshold h (gives_written functions reads line threshold small)
-  passes_holds Gt e v threshold h small = holds_compare functions reads line Above e (written threshold) v threshold h (gives_written functions reads line threshold small)
+  passes_holds Ge e v threshold h small =
+      holds_compare functions reads line AtLeast e (written threshold) v threshold h
+      (gives_written functions reads line threshold small)
+  passes_holds Gt e v threshold h small =
+      holds_compare functions reads line Above e (written threshold) v threshold h
+      (gives_written functions reads line threshold small)
   passes_holds NotZero e v threshold h small = is_true_holds e v h
 
 -- what a switch does for each number of a range alike it does for this one

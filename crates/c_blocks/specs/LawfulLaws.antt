@@ -15,15 +15,18 @@ use Rattle.c_blocks.specs.TestLaws.{OnTest, control_leaves}
 use Rattle.c_blocks.specs.RowCode.{rhs_code}
 use Rattle.c_blocks.specs.Resolved.{IsRowOp}
 
--- where its leaves stand for something, the expression for its memory is lawful and the eight functions are there, a
--- row's expression is lawful
+-- where its leaves stand for something, the expression for its memory is lawful and the eight
+-- functions are there, a row's expression is lawful
 abbrev pub RowsAreLawful : Type 0
 RowsAreLawful =
-    (reach : Reach) (op : Op) (leaves : List Leaf) (types : List FixType) (memory : ExprTree) → IsPrelude reach.pures → IsRowOp op →
-    AllByRecursion (IsLawfulLeaf reach) leaves → IsLawfulExpr reach memory → IsLawfulExpr reach (rhs_code op leaves types memory)
+    (reach : Reach) (op : Op) (leaves : List Leaf) (types : List FixType) (memory : ExprTree) →
+    IsPrelude reach.pures → IsRowOp op →
+    AllByRecursion (IsLawfulLeaf reach) leaves → IsLawfulExpr reach memory →
+    IsLawfulExpr reach (rhs_code op leaves types memory)
 
 -- so are the tests
-pub record AreLawfulTests (reach : Reach) (control : Control) (leaves : ControlLeaves) (time : Time) (now : Leaf) : Type 0 where
+pub record AreLawfulTests (reach : Reach) (control : Control) (leaves : ControlLeaves) (time : Time)
+    (now : Leaf) : Type 0 where
   pub active : OnTest (IsLawfulCond reach) (active_by control leaves)
   pub disabled : OnTest (IsLawfulCond reach) (disabled_by control leaves)
   pub off : OnTest (IsLawfulCond reach) (off_by control leaves)
@@ -32,4 +35,5 @@ pub record AreLawfulTests (reach : Reach) (control : Control) (leaves : ControlL
 abbrev pub TestsAreLawful : Type 0
 TestsAreLawful =
     (reach : Reach) (control : Control) (leaves : ControlLeaves) (time : Time) (now : Leaf) →
-    AllByRecursion (IsLawfulLeaf reach) (control_leaves control leaves) → IsLawfulLeaf reach now → time.period < 2 ^ 63 → AreLawfulTests reach control leaves time now
+    AllByRecursion (IsLawfulLeaf reach) (control_leaves control leaves) → IsLawfulLeaf reach now →
+    time.period < 2 ^ 63 → AreLawfulTests reach control leaves time now

@@ -23,34 +23,45 @@ LawfulTest reach test = OnTest (IsLawfulCond reach) test
 
 -- the statements of rows keep the rules, where what they name is there
 pub record RowStatementsAreLawful (reach : Reach) : Type 0 where
-  pub value : (field : ℕ) (runs : Option CondTree) (value : ExprTree) → IsNumberAt reach.fields field → LawfulTest reach runs →
+  pub value : (field : ℕ) (runs : Option CondTree) (value : ExprTree) →
+      IsNumberAt reach.fields field → LawfulTest reach runs →
       IsLawfulExpr reach value →
       AreLawfulStmts reach (value_statements field runs value)
-  pub value_reset : (field : ℕ) (disabled : Option CondTree) (start : ℤ) → IsNumberAt reach.fields field → LawfulTest reach disabled →
+  pub value_reset : (field : ℕ) (disabled : Option CondTree) (start : ℤ) →
+      IsNumberAt reach.fields field → LawfulTest reach disabled →
       unsigned_abs start < 2 ^ 63 →
       AreLawfulStmts reach (value_reset_statements field disabled start)
-  pub memory : (field : ℕ) (runs off : Option CondTree) (input : Leaf) (start : ℤ) → IsNumberAt reach.fields field →
-      LawfulTest reach runs → LawfulTest reach off → IsLawfulLeaf reach input → unsigned_abs start < 2 ^ 63 →
+  pub memory : (field : ℕ) (runs off : Option CondTree) (input : Leaf) (start : ℤ) →
+      IsNumberAt reach.fields field →
+      LawfulTest reach runs → LawfulTest reach off → IsLawfulLeaf reach input →
+      unsigned_abs start < 2 ^ 63 →
       AreLawfulStmts reach (memory_statements field runs input off start)
-  pub ring : (fields : RingFields) (n : ℕ) (runs off : Option CondTree) (input : Leaf) → IsRingIn reach fields → n < 2 ^ 63 →
+  pub ring : (fields : RingFields) (n : ℕ) (runs off : Option CondTree) (input : Leaf) →
+      IsRingIn reach fields → n < 2 ^ 63 →
       LawfulTest reach runs → LawfulTest reach off → IsLawfulLeaf reach input →
       AreLawfulStmts reach (ring_statements fields n runs input off)
-  pub oldest : (fields : RingFields) (n : ℕ) (start : ℤ) → IsRingIn reach fields → n < 2 ^ 63 → unsigned_abs start < 2 ^ 63 →
+  pub oldest : (fields : RingFields) (n : ℕ) (start : ℤ) → IsRingIn reach fields → n < 2 ^ 63 →
+      unsigned_abs start < 2 ^ 63 →
       IsLawfulExpr reach (oldest_code fields n start)
-  pub trigger : (field : ℕ) (leaf : Leaf) → IsNumberAt reach.fields field → IsLawfulLeaf reach leaf →
+  pub trigger : (field : ℕ) (leaf : Leaf) → IsNumberAt reach.fields field →
+      IsLawfulLeaf reach leaf →
       AreLawfulStmts reach (trigger_statements field leaf)
 
 -- so do calls of a procedure of the child's struct, with an argument for each of its parameters
 pub record ChildStatementsAreLawful (reach : Reach) : Type 0 where
   pub call : (active : Option CondTree) (k field : ℕ) (leaves : List Leaf) (p : ProcedureTree) →
-      slice_get reach.procedures k ≡ Some p → IsStructAt reach.fields field p.of → length p.params ≡ length leaves →
-      LawfulTest reach active → AllByRecursion (IsLawfulLeaf reach) leaves → AreLawfulStmts reach (call_statements active k field leaves)
-  pub reset : (off : Option CondTree) (k field : ℕ) (p : ProcedureTree) → slice_get reach.procedures k ≡ Some p →
+      slice_get reach.procedures k ≡ Some p → IsStructAt reach.fields field p.of →
+      length p.params ≡ length leaves →
+      LawfulTest reach active → AllByRecursion (IsLawfulLeaf reach) leaves →
+      AreLawfulStmts reach (call_statements active k field leaves)
+  pub reset : (off : Option CondTree) (k field : ℕ) (p : ProcedureTree) →
+      slice_get reach.procedures k ≡ Some p →
       IsStructAt reach.fields field p.of → length p.params ≡ 0 → LawfulTest reach off →
       AreLawfulStmts reach (reset_call_statements off k field)
 
 abbrev pub StatementsAreLawful : Type 0
-StatementsAreLawful = (reach : Reach) → RowStatementsAreLawful reach × ChildStatementsAreLawful reach
+StatementsAreLawful =
+    (reach : Reach) → RowStatementsAreLawful reach × ChildStatementsAreLawful reach
 
 -- ---- Depths
 
@@ -62,21 +73,29 @@ pub record AreShallow (depth : ℕ) (code : StmtTrees) : Type 0 where
 abbrev pub ShallowTest : ℕ → Option CondTree → Type 0
 ShallowTest depth test = OnTest (λ t. cond_depth t ≤ depth) test
 
--- where tests and values are no deeper, and 3 is within the depth, which the expressions of rings and levels need
+-- where tests and values are no deeper, and 3 is within the depth, which the expressions of rings
+-- and levels need
 pub record StatementsAreShallow (depth : ℕ) : Type 0 where
-  pub value : (field : ℕ) (runs : Option CondTree) (value : ExprTree) → ShallowTest depth runs → expr_depth value ≤ depth →
+  pub value : (field : ℕ) (runs : Option CondTree) (value : ExprTree) → ShallowTest depth runs →
+      expr_depth value ≤ depth →
       AreShallow depth (value_statements field runs value)
-  pub value_reset : (field : ℕ) (disabled : Option CondTree) (start : ℤ) → ShallowTest depth disabled →
+  pub value_reset : (field : ℕ) (disabled : Option CondTree) (start : ℤ) →
+      ShallowTest depth disabled →
       AreShallow depth (value_reset_statements field disabled start)
-  pub memory : (field : ℕ) (runs off : Option CondTree) (input : Leaf) (start : ℤ) → ShallowTest depth runs → ShallowTest depth off →
+  pub memory : (field : ℕ) (runs off : Option CondTree) (input : Leaf) (start : ℤ) →
+      ShallowTest depth runs → ShallowTest depth off →
       AreShallow depth (memory_statements field runs input off start)
-  pub ring : (fields : RingFields) (n : ℕ) (runs off : Option CondTree) (input : Leaf) → ShallowTest depth runs →
+  pub ring : (fields : RingFields) (n : ℕ) (runs off : Option CondTree) (input : Leaf) →
+      ShallowTest depth runs →
       ShallowTest depth off → AreShallow depth (ring_statements fields n runs input off)
-  pub oldest : (fields : RingFields) (n : ℕ) (start : ℤ) → expr_depth (oldest_code fields n start) ≤ depth
+  pub oldest : (fields : RingFields) (n : ℕ) (start : ℤ) → expr_depth (oldest_code fields n start)
+      ≤ depth
   pub trigger : (field : ℕ) (leaf : Leaf) → AreShallow depth (trigger_statements field leaf)
-  pub call : (active : Option CondTree) (k field : ℕ) (leaves : List Leaf) → ShallowTest depth active →
+  pub call : (active : Option CondTree) (k field : ℕ) (leaves : List Leaf) →
+      ShallowTest depth active →
       AreShallow depth (call_statements active k field leaves)
-  pub reset_call : (off : Option CondTree) (k field : ℕ) → ShallowTest depth off → AreShallow depth (reset_call_statements off k field)
+  pub reset_call : (off : Option CondTree) (k field : ℕ) → ShallowTest depth off →
+      AreShallow depth (reset_call_statements off k field)
 
 abbrev pub AllStatementsAreShallow : Type 0
 AllStatementsAreShallow = (depth : ℕ) → 3 ≤ depth → StatementsAreShallow depth

@@ -14,13 +14,16 @@ use Rattle.c_blocks.specs.Computed.{returns}
 use Rattle.c_blocks.specs.KnownTypes.{AreTypesOf}
 use Rattle.c_blocks.specs.Reading.{ReadsOnly}
 
--- whatever its leaves read, and the expression for its memory gives in no step, a row's expression gives what the row
--- computes of that, and isn't stuck: inputs in their types, which may be known, and a row that 64 bits can compute
+-- whatever its leaves read, and the expression for its memory gives in no step, a row's expression
+-- gives what the row computes of that, and isn't stuck: inputs in their types, which may be known,
+-- and a row that 64 bits can compute
 abbrev pub RowsAreComputed : Type 0
 RowsAreComputed =
-    (op : Op) (leaves : List Leaf) (types : List FixType) (memory : ExprTree) (m : ℤ) (ps : List PureTree) (reads : Reads)
+    (op : Op) (leaves : List Leaf) (types : List FixType) (memory : ExprTree) (m : ℤ)
+    (ps : List PureTree) (reads : Reads)
     (line steps : ℕ) →
-    IsPrelude ps → IsEvaluable op (map reads.leaf leaves) m → AreTypesOf op types (map reads.leaf leaves) → steps + 2 ≤ step_limit →
+    IsPrelude ps → IsEvaluable op (map reads.leaf leaves) m →
+    AreTypesOf op types (map reads.leaf leaves) → steps + 2 ≤ step_limit →
     ((n : ℕ) → eval (functions_of [] ps) reads line memory n ≡ gives m n) →
     eval (functions_of [] ps) reads line (rhs_code op leaves types memory) steps
     ≡ gives (rhs op (map reads.leaf leaves) m) (steps + returns op types (map reads.leaf leaves))
@@ -29,11 +32,13 @@ RowsAreComputed =
 abbrev pub ReturnsAreFew : Type 0
 ReturnsAreFew = (op : Op) (types : List FixType) (vs : List ℤ) → returns op types vs ≤ 2
 
--- it reads the leaves of its inputs and those that the expression for its memory reads, and no others
+-- it reads the leaves of its inputs and those that the expression for its memory reads, and no
+-- others
 abbrev pub RowsReadTheirLeaves : Type 0
 RowsReadTheirLeaves =
     (op : Op) (leaves others : List Leaf) (types : List FixType) (memory : ExprTree) →
-    ReadsOnly (Contains others) memory → ReadsOnly (Contains (leaves ++ others)) (rhs_code op leaves types memory)
+    ReadsOnly (Contains others) memory →
+    ReadsOnly (Contains (leaves ++ others)) (rhs_code op leaves types memory)
 
 -- it is 40 deep at most, or as deep as the expression for its memory
 abbrev pub RowsAreShallow : Type 0

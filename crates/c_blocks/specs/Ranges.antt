@@ -13,7 +13,8 @@ fits_64 v = int_le (neg_ℤ (pos (2 ^ 63))) v && int_lt v (pos (2 ^ 63))
 
 -- the numbers from one to another, where 64 bits hold both
 abbrev pub range_from : ℤ → ℤ → Option Range
-range_from low high = if fits_64 low && fits_64 high then Some (record { least = low; greatest = high }) else None
+range_from low high =
+    if fits_64 low && fits_64 high then Some (record { least = low; greatest = high }) else None
 
 -- one number
 abbrev pub just : ℤ → Option Range
@@ -47,15 +48,19 @@ multiplied (Some a) (Some b) =
 abbrev pub gain_range : ℤ → List FixType → Option Range
 gain_range m types = multiplied (input_range types 0) (just m)
 
--- a number of a total and the term for input i + 1, of f bits after the point, in units of F bits; bit i of minus subtracts it
+-- a number of a total and the term for input i + 1, of f bits after the point, in units of F bits;
+-- bit i of minus subtracts it
 abbrev pub with_term : ℕ → ℕ → ℕ → ℕ → List FixType → Option Range → Option Range
 with_term minus F i f types total =
-    added total (multiplied (input_range types i) (just (signed_term (bit_at minus i == 1) (pos (2 ^ (F - f))))))
+    added total
+    (multiplied (input_range types i)
+    (just (signed_term (bit_at minus i == 1) (pos (2 ^ (F - f))))))
 
 -- the same with the terms from input i + 1 on
 abbrev pub sum_range : ℕ → ℕ → ℕ → List ℕ → List FixType → Option Range → Option Range
 sum_range minus F i [] types total = total
-sum_range minus F i (f ∷ fs) types total = sum_range minus F (suc i) fs types (with_term minus F i f types total)
+sum_range minus F i (f ∷ fs) types total =
+    sum_range minus F (suc i) fs types (with_term minus F i f types total)
 
 -- the product of the first inputs
 abbrev pub product_range : ℕ → List FixType → Option Range
@@ -64,8 +69,8 @@ product_range (suc n) types = multiplied (product_range n types) (input_range ty
 
 -- ---- Types
 
--- a type holds each number of a range, of f bits after the point, and so each that these are rounded to: the ends of both are
--- compared in the finer unit
+-- a type holds each number of a range, of f bits after the point, and so each that these are
+-- rounded to: the ends of both are compared in the finer unit
 abbrev pub holds : FixType → ℕ → Range → Bool
 holds to f range =
     int_le (aligned_number (least_of to) to.frac f) (aligned_number range.least f to.frac)

@@ -4,7 +4,8 @@ use Rattle.c_syntax.specs.declared.Leaf.{Leaf}
 use Rattle.c_syntax.specs.declared.Leaf.TheVariants.{Own}
 use Rattle.c_syntax.specs.Tree.{ExprTree, literal, neg, read, binary, pick, pure, item, ExprTrees, no_exprs, more_exprs, CondTree, compare, both, either, negated}
 
--- each leaf that an expression reads, in the tests of its choices too, is one of these; an item of an array counts as its field
+-- each leaf that an expression reads, in the tests of its choices too, is one of these; an item of
+-- an array counts as its field
 module _ (IsGiven : Leaf → Type 0) where
   abbrev mutual
     pub ReadsOnly : ExprTree → Type 0

@@ -29,7 +29,8 @@ IsWritable (Line length start) = unsigned_abs start < 2 ^ 63
 IsWritable (Gain m frac to how) = (unsigned_abs m < 2 ^ 63) × (frac - to.frac ≤ 62)
 IsWritable (Sum count minus fracs to how) = (count ≤ 16) × (greatest_in (take count fracs) ≤ 31)
 IsWritable (Product count frac to how) = frac - to.frac ≤ 62
-IsWritable (Switch criterion threshold fracs to how) = (unsigned_abs threshold < 2 ^ 63) × (get_or fracs 0 0 ≤ 31) × (get_or fracs 1 0 ≤ 31)
+IsWritable (Switch criterion threshold fracs to how) =
+    (unsigned_abs threshold < 2 ^ 63) × (get_or fracs 0 0 ≤ 31) × (get_or fracs 1 0 ≤ 31)
 IsWritable (Relational how fracs) = greatest_in fracs ≤ 31
 IsWritable (Logic o count) = ⊤
 IsWritable (Convert frac to how) = frac ≤ 31

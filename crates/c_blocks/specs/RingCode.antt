@@ -1,5 +1,6 @@
--- The code of a delay of several samples: an array of its items, the place of the oldest one, and how many were taken since
--- the start. Until so many were taken as it has items, the oldest sample is the start, whatever stands in its place.
+-- The code of a delay of several samples: an array of its items, the place of the oldest one, and
+-- how many were taken since the start. Until so many were taken as it has items, the oldest sample
+-- is the start, whatever stands in its place.
 use Rattle.std.specs.Prelude.{ℕ, [], ◌∷◌, ℤ, pos}
 use Rattle.mc_base.specs.declared.Compare.TheVariants.{Lt}
 use Rattle.c_syntax.specs.declared.BinOp.TheVariants.{Add, Rem}
@@ -21,15 +22,18 @@ is_filling_code ring n = compare Lt (taken_read ring) (literal (pos n))
 
 -- the oldest of n samples
 abbrev pub oldest_code : RingFields → (n : ℕ) (start : ℤ) → ExprTree
-oldest_code ring n start = pick (is_filling_code ring n) (written start) (item ring.items (place_read ring))
+oldest_code ring n start =
+    pick (is_filling_code ring n) (written start) (item ring.items (place_read ring))
 
 -- one more was taken, until there are n
 abbrev pub next_taken_code : RingFields → ℕ → ExprTree
-next_taken_code ring n = pick (is_filling_code ring n) (binary Add (taken_read ring) (literal (pos 1))) (taken_read ring)
+next_taken_code ring n =
+    pick (is_filling_code ring n) (binary Add (taken_read ring) (literal (pos 1))) (taken_read ring)
 
 -- the next of n places, and the first one behind the last
 abbrev pub next_place_code : RingFields → ℕ → ExprTree
-next_place_code ring n = binary Rem (binary Add (place_read ring) (literal (pos 1))) (literal (pos n))
+next_place_code ring n =
+    binary Rem (binary Add (place_read ring) (literal (pos 1))) (literal (pos n))
 
 -- a sample takes the place of the oldest one; the item first, since its index reads the place
 abbrev pub taken_in : RingFields → ℕ → Leaf → StmtTrees

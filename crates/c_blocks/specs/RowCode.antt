@@ -1,4 +1,5 @@
--- The expression for a row's value, over the leaves of its inputs and an expression for its memory: what `rhs` says, in C.
+-- The expression for a row's value, over the leaves of its inputs and an expression for its memory:
+-- what `rhs` says, in C.
 use Rattle.std.specs.Prelude.{ℕ, suc, ◌-◌, ◌^◌, Bool, true, false, ◌==◌, nat_le, if◌then◌else◌, List, [], ◌∷◌, map, take, slice_get, get_or, Option, Some, None, ℤ, pos, neg_ℤ, int_lt, int_le}
 use Rattle.std.specs.Option.{option_and_then, option_map_or}
 use Rattle.std.specs.Int.{bit_at}
@@ -44,20 +45,24 @@ truth test = pick test (literal (pos 1)) nought
 abbrev pub aligned : ExprTree → ℕ → ℕ → ExprTree
 aligned e f F = if f == F then e else binary Mul e (power (F - f))
 
--- e with f bits after the point as a whole number of units of g bits: rounded by a call where these are coarser
+-- e with f bits after the point as a whole number of units of g bits: rounded by a call where these
+-- are coarser
 abbrev pub rounded_code : ExprTree → ℕ → ℕ → How → ExprTree
 rounded_code e f g how =
-    if nat_le f g then aligned e f g else pure (rounding_position how.round) (exprs_of_list (e ∷ power (f - g) ∷ []))
+    if nat_le f g then aligned e f g
+    else pure (rounding_position how.round) (exprs_of_list (e ∷ power (f - g) ∷ []))
 
 -- a whole number brought into a type
 abbrev pub cast : Over → FixType → ExprTree → ExprTree
 cast Saturate t e = pure 6 (exprs_of_list (e ∷ written (least_of t) ∷ written (greatest_of t) ∷ []))
 cast Wrap t e = pure 7 (exprs_of_list (e ∷ written (least_of t) ∷ power t.bits ∷ []))
 
--- e, of a range and with f bits after the point, converted into a type: without a cast where that surely holds the range
+-- e, of a range and with f bits after the point, converted into a type: without a cast where that
+-- surely holds the range
 abbrev pub converted : ExprTree → ℕ → Option Range → FixType → How → ExprTree
 converted e f range to how =
-    let whole = rounded_code e f to.frac how in if surely_holds to f range then whole else cast how.over to whole
+    let whole = rounded_code e f to.frac how in if surely_holds to f range then whole
+    else cast how.over to whole
 
 -- ---- Sums and products
 
@@ -125,9 +130,11 @@ passes_code NotZero e threshold = is_true_code e
 -- whether it does for each number of a range alike
 abbrev pub passes_all : Criterion → ℤ → Range → Option Bool
 passes_all Ge threshold range =
-    if int_le threshold range.least then Some true else if int_lt range.greatest threshold then Some false else None
+    if int_le threshold range.least then Some true else if int_lt range.greatest threshold
+    then Some false else None
 passes_all Gt threshold range =
-    if int_lt threshold range.least then Some true else if int_le range.greatest threshold then Some false else None
+    if int_lt threshold range.least then Some true else if int_le range.greatest threshold
+    then Some false else None
 passes_all NotZero threshold range = None
 
 -- one of two expressions, by a test where it isn't known which
@@ -144,10 +151,11 @@ input_code leaves i = option_map_or read (slice_get leaves i) nought
 
 -- input i + 1 with f bits after the point converted into a type
 abbrev pub converted_input : List Leaf → List FixType → ℕ → ℕ → FixType → How → ExprTree
-converted_input leaves types i f to how = converted (input_code leaves i) f (input_range types i) to how
+converted_input leaves types i f to how =
+    converted (input_code leaves i) f (input_range types i) to how
 
--- the inputs have these types, as far as they are known; the last expression stands for what the row remembers, which only
--- delays read
+-- the inputs have these types, as far as they are known; the last expression stands for what the
+-- row remembers, which only delays read
 abbrev pub rhs_code : Op → List Leaf → List FixType → ExprTree → ExprTree
 rhs_code Copy leaves types memory = input_code leaves 0
 rhs_code (Value v) leaves types memory = written v
@@ -163,10 +171,12 @@ rhs_code (Product count frac to how) leaves types memory =
 rhs_code (Switch criterion threshold fracs to how) leaves types memory =
     either_code (option_and_then (passes_all criterion threshold) (input_range types 1))
     (passes_code criterion (input_code leaves 1) threshold)
-    (converted_input leaves types 0 (get_or fracs 0 0) to how) (converted_input leaves types 2 (get_or fracs 1 0) to how)
+    (converted_input leaves types 0 (get_or fracs 0 0) to how)
+    (converted_input leaves types 2 (get_or fracs 1 0) to how)
 rhs_code (Relational how fracs) leaves types memory =
     let F = greatest_in fracs in
-    truth (compare how (aligned (input_code leaves 0) (get_or fracs 0 0) F) (aligned (input_code leaves 1) (get_or fracs 1 0) F))
+    truth (compare how (aligned (input_code leaves 0) (get_or fracs 0 0) F)
+    (aligned (input_code leaves 1) (get_or fracs 1 0) F))
 rhs_code (Logical op count) leaves types memory = truth (logic_code op (truths leaves))
 rhs_code (Convert frac to how) leaves types memory = converted_input leaves types 0 frac to how
 rhs_code Nothing leaves types memory = nought

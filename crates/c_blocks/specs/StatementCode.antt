@@ -36,13 +36,16 @@ abbrev pub value_reset_statements : ℕ → (disabled : Option CondTree) (start 
 value_reset_statements field disabled start = only_if disabled (store_code field (written start))
 
 -- where a delay runs its memory takes the input, and else it begins anew where the system is off
-abbrev pub memory_statements : ℕ → (runs : Option CondTree) → Leaf → (off : Option CondTree) (start : ℤ) → StmtTrees
+abbrev pub memory_statements : ℕ → (runs : Option CondTree) → Leaf →
+    (off : Option CondTree) (start : ℤ) → StmtTrees
 memory_statements field runs input off start =
     guarded runs (store_code field (read input)) (only_if off (store_code field (written start)))
 
 -- the same of a delay of n samples
-abbrev pub ring_statements : RingFields → (n : ℕ) (runs : Option CondTree) → Leaf → (off : Option CondTree) → StmtTrees
-ring_statements ring n runs input off = guarded runs (taken_in ring n input) (only_if off (emptied ring))
+abbrev pub ring_statements : RingFields → (n : ℕ) (runs : Option CondTree) → Leaf →
+    (off : Option CondTree) → StmtTrees
+ring_statements ring n runs input off =
+    guarded runs (taken_in ring n input) (only_if off (emptied ring))
 
 -- the trigger remembers its level
 abbrev pub trigger_statements : ℕ → Leaf → StmtTrees
@@ -52,11 +55,14 @@ trigger_statements field trigger = store_code field (level_code trigger)
 
 -- a call of a procedure, on the child in an own field, with what these leaves read
 abbrev pub child_call : (procedure field : ℕ) → List Leaf → StmtTrees
-child_call procedure field leaves = one (call 0 procedure (Child field) (exprs_of_list (map read leaves)))
+child_call procedure field leaves =
+    one (call 0 procedure (Child field) (exprs_of_list (map read leaves)))
 
 -- where the system is active, a child's function or update is called
-abbrev pub call_statements : (active : Option CondTree) (procedure field : ℕ) → List Leaf → StmtTrees
-call_statements active procedure field leaves = guarded active (child_call procedure field leaves) no_stmts
+abbrev pub call_statements : (active : Option CondTree) (procedure field : ℕ) → List Leaf →
+    StmtTrees
+call_statements active procedure field leaves =
+    guarded active (child_call procedure field leaves) no_stmts
 
 -- where it is off, a child is reset
 abbrev pub reset_call_statements : (off : Option CondTree) (procedure field : ℕ) → StmtTrees

@@ -1,4 +1,5 @@
--- The tests of activity and of the sample time, over the leaves of a system's controls and of the tick.
+-- The tests of activity and of the sample time, over the leaves of a system's controls and of the
+-- tick.
 use Rattle.std.specs.Prelude.{ℕ, ◌==◌, if◌then◌else◌, Option, Some, None, pos}
 use Rattle.mc_base.specs.declared.Compare.TheVariants.{Eq, Gt}
 use Rattle.mc_base.specs.declared.Control.{Control}
@@ -38,7 +39,8 @@ abbrev pub active_by : Control → ControlLeaves → Option CondTree
 active_by Plain leaves = None
 active_by (Enabled reset) leaves = Some (is_high_code leaves.enable)
 active_by (Triggered edge) leaves = Some (event_test edge leaves)
-active_by (Both reset edge) leaves = Some (both (is_high_code leaves.enable) (event_test edge leaves))
+active_by (Both reset edge) leaves =
+    Some (both (is_high_code leaves.enable) (event_test edge leaves))
 
 -- its enable is low; no test never holds
 abbrev pub disabled_by : Control → ControlLeaves → Option CondTree
@@ -52,13 +54,15 @@ abbrev pub off_by : Control → ControlLeaves → Option CondTree
 off_by Plain leaves = None
 off_by (Enabled reset) leaves = if reset then Some (negated (is_high_code leaves.enable)) else None
 off_by (Triggered edge) leaves = None
-off_by (Both reset edge) leaves = if reset then Some (negated (is_high_code leaves.enable)) else None
+off_by (Both reset edge) leaves =
+    if reset then Some (negated (is_high_code leaves.enable)) else None
 
 -- the tick is one of the sample time; no test always holds
 abbrev pub hit_test : Time → Leaf → Option CondTree
 hit_test time now =
     if time.period == 1 then None
-    else Some (compare Eq (binary Rem (read now) (literal (pos time.period))) (literal (pos time.offset)))
+    else Some (compare Eq (binary Rem (read now) (literal (pos time.period)))
+    (literal (pos time.offset)))
 
 -- what a trigger remembers of its level: low (1) or high (2)
 abbrev pub level_code : Leaf → ExprTree

@@ -42,7 +42,8 @@ pub(crate) fn balanced_expr(
     parts: Vec<Expr>,
 ) -> Result<Expr, Memory>
     ensures { IfOk result
-        (λ e. expr_tree e ≡ balanced (tree.binary op) (expr_tree none) (map expr_tree parts.items)) }
+        (λ e. expr_tree e
+        ≡ balanced (tree.binary op) (expr_tree none) (map expr_tree parts.items)) }
 {
     let twos = pairs_of_exprs(alloc, op, parts)?;
     let fours = pairs_of_exprs(alloc, op, twos)?;

@@ -35,7 +35,8 @@ fn comparison(alloc: Global, how: Compare, fracs: &[u8], inputs: &[Leaf]) -> Res
     requires unit { greatest_in fracs.now ≤ 31 }
     ensures { IfOk result (λ e. expr_tree e ≡ code.truth (compare how
         (code.aligned (code.input_code inputs.now 0) (get_or fracs.now 0 0) (greatest_in fracs.now))
-        (code.aligned (code.input_code inputs.now 1) (get_or fracs.now 1 0) (greatest_in fracs.now)))) }
+        (code.aligned (code.input_code inputs.now 1) (get_or fracs.now 1 0)
+        (greatest_in fracs.now)))) }
 {
     let common = u32::from(greatest_frac(fracs));
     let left = aligned(alloc, input(inputs, 0), u32::from(fracs[0]), common)?;

@@ -15,7 +15,8 @@ use std::alloc::Global;
 
 /// One statement.
 fn one(alloc: Global, statement: Stmt) -> Result<Vec<Stmt>, Memory>
-    ensures { IfOk result (λ v. stmts_of_list (map stmt_tree v.items) ≡ code.one (stmt_tree statement)) }
+    ensures { IfOk result (λ v. stmts_of_list (map stmt_tree v.items)
+        ≡ code.one (stmt_tree statement)) }
 {
     let mut statements = Vec::new(alloc);
     statements.push(statement)?;
@@ -42,7 +43,8 @@ fn guarded(
     yes: Vec<Stmt>,
     no: Vec<Stmt>,
 ) -> Result<Vec<Stmt>, Memory>
-    ensures { IfOk result (λ v. stmts_of_list (map stmt_tree v.items) ≡ code.guarded (option_map cond_tree test)
+    ensures { IfOk result (λ v. stmts_of_list (map stmt_tree v.items)
+        ≡ code.guarded (option_map cond_tree test)
         (stmts_of_list (map stmt_tree yes.items)) (stmts_of_list (map stmt_tree no.items))) }
 {
     match test {
@@ -124,7 +126,8 @@ pub fn memory_statements(
 ) -> Result<Vec<Stmt>, Memory>
     requires { unsigned_abs start < 2 ^ 63 }
     ensures { IfOk result (λ v. stmts_of_list (map stmt_tree v.items)
-        ≡ code.memory_statements field (option_map cond_tree runs) input (option_map cond_tree off) start) }
+        ≡ code.memory_statements field (option_map cond_tree runs) input
+        (option_map cond_tree off) start) }
 {
     let taken = store(alloc, field, Expr::Read(input))?;
     let started = store(alloc, field, written(alloc, start)?)?;
@@ -145,7 +148,8 @@ pub fn ring_statements(
     off: Option<Cond>,
 ) -> Result<Vec<Stmt>, Memory>
     ensures { IfOk result (λ v. stmts_of_list (map stmt_tree v.items)
-        ≡ code.ring_statements ring length (option_map cond_tree runs) input (option_map cond_tree off)) }
+        ≡ code.ring_statements ring length (option_map cond_tree runs) input
+        (option_map cond_tree off)) }
 {
     let taken = taken_in(alloc, ring, length, input)?;
     let begun = only_if(alloc, off, emptied(alloc, ring)?)?;

@@ -27,7 +27,8 @@ impl Model for Checked {
 
     ghost view = { λ c. record { program = c.program; inputs = c.inputs.items; outputs = c.outputs } };
 
-    ghost invariant = { λ c. IsChecked (record { program = c.program; inputs = c.inputs.items; outputs = c.outputs }) };
+    ghost invariant = { λ c. IsChecked
+        (record { program = c.program; inputs = c.inputs.items; outputs = c.outputs }) };
 }
 
 impl Checked {

@@ -43,7 +43,8 @@ pub(crate) fn giving_functions(
 ) -> Result<Vec<u32>, Memory>
     requires outputs { outputs ≤ 32 }
     requires few { length profile.now.functions ≤ 32 }
-    ensures is { IfOk result (λ v. v.items ≡ map (function_giving profile.now) (range_with_len 0 outputs)) }
+    ensures is { IfOk result (λ v. v.items
+        ≡ map (function_giving profile.now) (range_with_len 0 outputs)) }
     ensures few { IfOk result (λ v. All (λ j. j < 32) v.items) }
 {
     let mut given = Vec::new(alloc);

@@ -35,7 +35,8 @@ pub struct Codes {
 /// the schedules. A code is moved once for each system around its own.
 pub fn codes_of(alloc: Global, r: &Resolved) -> Result<Codes, Memory>
     requires { HasNoLoop (needs_of (diagram_of r.now)) }
-    ensures { IfOk result (λ c. CanAssemble r.now (map system_tree c.codes.items) c.root r.now.times.hyper) }
+    ensures { IfOk result
+        (λ c. CanAssemble r.now (map system_tree c.codes.items) c.root r.now.times.hyper) }
 {
     is_resolved(r);
     tree_has_all_systems();
@@ -63,7 +64,8 @@ fn codes_inside(alloc: Global, r: &Resolved, s: &Subsystem) -> Result<Inside, Me
     requires listed { Contains (systems r.now.tree.table.rows) (row_of (system_of s.now)) }
     ensures local { IfOk result (λ i. IsLocalOf r.now (row_of (system_of s.now)) i.local) }
     ensures profile { IfOk result (λ i. IsProfileOf (diagram_of r.now) (row_of (system_of s.now)) i.profile) }
-    ensures codes { IfOk result (λ i. AllZip (IsCodeOf r.now) (rows_inside (system_of s.now)) (map system_tree i.codes.items)) }
+    ensures codes { IfOk result (λ i. AllZip (IsCodeOf r.now) (rows_inside (system_of s.now))
+        (map system_tree i.codes.items)) }
 {
     let mut inner = Vec::new(alloc);
     let mut children = Vec::new(alloc);
@@ -104,7 +106,8 @@ fn code_of(
     requires inside { IsInTable r.now.tree.table.rows (row_of (system_of s.now)) }
     requires listed { Contains (systems r.now.tree.table.rows) (row_of (system_of s.now)) }
     requires children { AreProfiles (diagram_of r.now) (row_of (system_of s.now)) children.now }
-    requires is_local { local.now ≡ local_of (diagram_of r.now) r.now.times.delays (row_of (system_of s.now))
+    requires is_local { local.now
+        ≡ local_of (diagram_of r.now) r.now.times.delays (row_of (system_of s.now))
         (headers_with (diagram_of r.now) children.now) }
     requires local { IsLocalOf r.now (row_of (system_of s.now)) local.now }
     requires profile { IsProfileOf (diagram_of r.now) (row_of (system_of s.now)) own.now }

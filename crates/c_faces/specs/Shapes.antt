@@ -10,11 +10,16 @@ use Rattle.c_assembly.specs.Whole.{AssembledHasShape}
 
 -- each system has a struct and procedures of its own
 abbrev pub SystemsHaveShape : Type 0
-SystemsHaveShape = (a : Parts) → AllByRecursion (HasSystemShape (program_of a) (diagram a) a.model.times.delays) (all_systems a)
+SystemsHaveShape =
+    (a : Parts) → AllByRecursion (HasSystemShape (program_of a) (diagram a) a.model.times.delays)
+    (all_systems a)
 
 -- the structs are those of the systems and the root's
 abbrev pub StructsAreNamed : Type 0
-StructsAreNamed = (a : Parts) → IsPermutation (root_name ∷ map system_name (all_systems a)) (map (λ st. st.name) (program_of a).structs)
+StructsAreNamed =
+    (a : Parts) →
+    IsPermutation (root_name ∷ map system_name (all_systems a))
+    (map (λ st. st.name) (program_of a).structs)
 
 -- so has the root
 abbrev pub RootHasShape : Type 0

@@ -17,42 +17,56 @@ use Rattle.c_system.specs.EmittedCode.{system_code}
 use Rattle.c_system.specs.Fields.{code_slots}
 
 abbrev pub SlotsAreRight : Type 0
-SlotsAreRight = (local : LocalSystem) (schedule : SystemSchedule) → AreSlots local (code_slots local schedule)
+SlotsAreRight =
+    (local : LocalSystem) (schedule : SystemSchedule) → AreSlots local (code_slots local schedule)
 
 abbrev pub StructHasItsSlots : Type 0
 StructHasItsSlots = (local : LocalSystem) (profile : SystemProfile) (schedule : SystemSchedule) →
     IsStructOf local (code_slots local schedule) (system_code local profile schedule).structure
 
 abbrev pub OutputsHavePlaces : Type 0
-OutputsHavePlaces = (local : LocalSystem) (profile : SystemProfile) (schedule : SystemSchedule) → IsEmitted local profile schedule →
+OutputsHavePlaces = (local : LocalSystem) (profile : SystemProfile) (schedule : SystemSchedule) →
+    IsEmitted local profile schedule →
     AreOutputPlaces local (code_slots local schedule) (system_code local profile schedule).outputs
 
 abbrev pub HeadsArePublic : Type 0
-HeadsArePublic = (local : LocalSystem) (profile : SystemProfile) (schedule : SystemSchedule) → IsEmitted local profile schedule →
+HeadsArePublic = (local : LocalSystem) (profile : SystemProfile) (schedule : SystemSchedule) →
+    IsEmitted local profile schedule →
     IsPermutation (public_heads (own_header local profile))
     (filter (λ h. not h.private) (map head_of (system_code local profile schedule).procedures))
 
 -- each procedure reads, stores, tests and calls only what the rules allow
 abbrev pub CodeKeepsRules : Type 0
-CodeKeepsRules = (local : LocalSystem) (profile : SystemProfile) (schedule : SystemSchedule) → IsEmitted local profile schedule →
-    AllByRecursion (KeepsRules (local_names local (code_slots local schedule) (system_code local profile schedule)) local
+CodeKeepsRules = (local : LocalSystem) (profile : SystemProfile) (schedule : SystemSchedule) →
+    IsEmitted local profile schedule →
+    AllByRecursion
+    (KeepsRules
+    (local_names local (code_slots local schedule) (system_code local profile schedule)) local
     (counters_in (code_slots local schedule)))
     (system_code local profile schedule).procedures
 
--- in its ticks each value is stored, and each function and update of a child called, by one statement
+-- in its ticks each value is stored, and each function and update of a child called, by one
+-- statement
 abbrev pub CodeStatesOnce : Type 0
-CodeStatesOnce = (local : LocalSystem) (profile : SystemProfile) (schedule : SystemSchedule) → IsEmitted local profile schedule →
-    StatesOnce (local_names local (code_slots local schedule) (system_code local profile schedule)) local
+CodeStatesOnce = (local : LocalSystem) (profile : SystemProfile) (schedule : SystemSchedule) →
+    IsEmitted local profile schedule →
+    StatesOnce (local_names local (code_slots local schedule) (system_code local profile schedule))
+    local
     (system_code local profile schedule).procedures
 
 -- each function stores just the outputs that its number gives, itself or through groups
 abbrev pub FunctionsGiveTheirOutputs : Type 0
-FunctionsGiveTheirOutputs = (local : LocalSystem) (profile : SystemProfile) (schedule : SystemSchedule) → IsEmitted local profile schedule →
-    AllByRecursion (λ j. outputs_stored local (code_slots local schedule) (system_code local profile schedule)
-    (own_position (system_code local profile schedule) (out_name local.row j)) ≡ given_rows (own_header local profile) j)
+FunctionsGiveTheirOutputs =
+    (local : LocalSystem) (profile : SystemProfile) (schedule : SystemSchedule) →
+    IsEmitted local profile schedule →
+    AllByRecursion
+    (λ j. outputs_stored local (code_slots local schedule) (system_code local profile schedule)
+    (own_position (system_code local profile schedule) (out_name local.row j))
+    ≡ given_rows (own_header local profile) j)
     (range_with_len 1 (length profile.functions))
 
 -- the whole
 abbrev pub EmittedCodeHasShape : Type 0
-EmittedCodeHasShape = (local : LocalSystem) (profile : SystemProfile) (schedule : SystemSchedule) → IsEmitted local profile schedule →
+EmittedCodeHasShape = (local : LocalSystem) (profile : SystemProfile) (schedule : SystemSchedule) →
+    IsEmitted local profile schedule →
     HasLocalShape local profile (code_slots local schedule) (system_code local profile schedule)

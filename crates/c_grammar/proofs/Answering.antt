@@ -15,16 +15,20 @@ pub record Answers {X : Type 0} (now : Option CFault) (claim : X → Type 0) (an
   pub is : Given now claim answer
 
 -- a spelling leaves the rest, and the needs of the tokens are those that are left of the rest
-pub record Reads {X : Type 0} (last : ℕ) (now : Option CFault) (spelling : X → Spelling) (more : List Need) (tokens : List Token) (x : X × List Token) : Type 0 where
+pub record Reads {X : Type 0} (last : ℕ) (now : Option CFault) (spelling : X → Spelling) (more : List Need)
+    (tokens : List Token) (x : X × List Token) : Type 0 where
   pub spelled : spelling x.0 tokens ≡ Some x.1
   pub goes : now ≡ token_fault more last x.1
 
 -- one parse and then another
-pub chain : {X Y : Type 0} {now : Option CFault} {claim : X → Type 0} {aim : Y → Type 0} (answer : Result X CFault) (go : X → Result Y CFault) → Answers now claim answer → ((x : X) → claim x → Answers now aim (go x)) → Answers now aim (answer >>= go)
+pub chain : {X Y : Type 0} {now : Option CFault} {claim : X → Type 0} {aim : Y → Type 0} (answer : Result X CFault)
+    (go : X → Result Y CFault) → Answers now claim answer → ((x : X) → claim x → Answers now aim (go x)) →
+    Answers now aim (answer >>= go)
 chain (Ok x) go a later = later x a.is
 chain (Err fault) go a later = record { is = a.is }
 
 -- a claim for another
-pub turned : {X : Type 0} {now : Option CFault} {claim aim : X → Type 0} (answer : Result X CFault) → Answers now claim answer → ((x : X) → claim x → aim x) → Answers now aim answer
+pub turned : {X : Type 0} {now : Option CFault} {claim aim : X → Type 0} (answer : Result X CFault) →
+    Answers now claim answer → ((x : X) → claim x → aim x) → Answers now aim answer
 turned (Ok x) a later = record { is = later x a.is }
 turned (Err fault) a later = record { is = a.is }

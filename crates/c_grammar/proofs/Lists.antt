@@ -32,23 +32,40 @@ module _ {X : Type 0} (last : ℕ) (stack : ℕ → List Need) (more : List Need
     pub goes : now ≡ token_fault more last x.1
 
   abbrev pub StepReads : (ℕ → List Token → Result (Step X) CFault) → Type 0
-  StepReads step = (now : Option CFault) (count : ℕ) (tokens : List Token) → now ≡ token_fault (stack count) last tokens → Answers now (Stepped now count tokens) (step count tokens)
+  StepReads step = (now : Option CFault) (count : ℕ) (tokens : List Token) →
+      now ≡ token_fault (stack count) last tokens → Answers now (Stepped now count tokens) (step count tokens)
 
-  pub many-reads : (step : ℕ → List Token → Result (Step X) CFault) → StepReads step → (fuel count : ℕ) (now : Option CFault) (tokens : List Token) → length tokens < fuel → now ≡ token_fault (stack count) last tokens → Answers now (ReadsList now tokens) (many step fuel count tokens)
+  pub many-reads : (step : ℕ → List Token → Result (Step X) CFault) → StepReads step →
+      (fuel count : ℕ) (now : Option CFault) (tokens : List Token) → length tokens < fuel →
+      now ≡ token_fault (stack count) last tokens → Answers now (ReadsList now tokens) (many step fuel count tokens)
   many-reads step each zero count now tokens enough h = absurd (omega (arith, enough))
   many-reads step each (suc fuel) count now tokens enough h =
-      chain _ _ (each now count tokens h) (by (λ rest shorter k. many-reads step each fuel (count + 1) now rest (omega (arith, enough, shorter)) k))
+      chain _ _ (each now count tokens h)
+      (by (λ rest shorter k. many-reads step each fuel (count + 1) now rest (omega (arith, enough, shorter)) k))
     where
-      by : ((rest : List Token) → length rest < length tokens → now ≡ token_fault (stack (count + 1)) last rest → Answers now (ReadsList now rest) (many step fuel (count + 1) rest)) → (s : Step X) → Stepped now count tokens s → Answers now (ReadsList now tokens) (after_step (many step fuel) count s)
+      by : ((rest : List Token) → length rest < length tokens → now ≡ token_fault (stack (count + 1)) last rest →
+          Answers now (ReadsList now rest) (many step fuel (count + 1) rest)) → (s : Step X) →
+          Stepped now count tokens s → Answers now (ReadsList now tokens) (after_step (many step fuel) count s)
       by later (the_end rest) e = record { is = record { elements = e.none; goes = e.goes } }
       by later (one_more x rest) e =
-          chain _ _ (later rest e.shorter e.goes) (λ xs r. record { is = record { elements = e.grows xs.0 xs.1 r.elements; goes = r.goes } })
+          chain _ _ (later rest e.shorter e.goes)
+          (λ xs r. record { is = record { elements = e.grows xs.0 xs.1 r.elements; goes = r.goes } })
 
 -- a `,` and a further element, or the `)`
-pub comma-reads : {X : Type 0} (last : ℕ) (now : Option CFault) (needs more : List Need) (t : Token) (tokens : List Token) (claim : X → Type 0) (go : Comma → Result X CFault) → now ≡ on_reply (with_needs (comma_reply needs t.text) more) t.line (λ left. token_fault left last tokens) → (bytes_eq t.text (codes ",") ≡ true → now ≡ token_fault (needs ++ more) last tokens → Answers now claim (go another)) → (bytes_eq t.text (codes ")") ≡ true → now ≡ token_fault more last tokens → Answers now claim (go closed)) → go no_comma ≡ syntax_at t → Answers now claim (go (comma_of t.text))
-comma-reads last now needs more t tokens claim go h on_comma on_close on_other = by (bytes_eq t.text (codes ",")) (bytes_eq t.text (codes ")")) refl refl h
+pub comma-reads : {X : Type 0} (last : ℕ) (now : Option CFault) (needs more : List Need) (t : Token)
+    (tokens : List Token) (claim : X → Type 0) (go : Comma → Result X CFault) →
+    now ≡ on_reply (with_needs (comma_reply needs t.text) more) t.line (λ left. token_fault left last tokens) →
+    (bytes_eq t.text (codes ",") ≡ true → now ≡ token_fault (needs ++ more) last tokens →
+    Answers now claim (go another)) →
+    (bytes_eq t.text (codes ")") ≡ true → now ≡ token_fault more last tokens → Answers now claim (go closed)) →
+    go no_comma ≡ syntax_at t → Answers now claim (go (comma_of t.text))
+comma-reads last now needs more t tokens claim go h on_comma on_close on_other =
+    by (bytes_eq t.text (codes ",")) (bytes_eq t.text (codes ")")) refl refl h
   where
-    by : (a b : Bool) → bytes_eq t.text (codes ",") ≡ a → bytes_eq t.text (codes ")") ≡ b → now ≡ on_reply (with_needs (first_reply ((a, leaves needs) ∷ (b, leaves []) ∷ [])) more) t.line (λ left. token_fault left last tokens) → Answers now claim (go (if a then another else (if b then closed else no_comma)))
+    by : (a b : Bool) → bytes_eq t.text (codes ",") ≡ a → bytes_eq t.text (codes ")") ≡ b →
+        now ≡ on_reply (with_needs (first_reply ((a, leaves needs) ∷ (b, leaves []) ∷ [])) more) t.line
+        (λ left. token_fault left last tokens) →
+        Answers now claim (go (if a then another else (if b then closed else no_comma)))
     by true b e f k = on_comma e k
     by false true e f k = on_close f k
     by false false e f k = rw on_other (record { is = k })

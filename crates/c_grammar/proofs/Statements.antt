@@ -30,23 +30,33 @@ own-takes field = word-takes (codes "s") ▸ word-shrinks (codes "->") ▹ name-
 
 stmt-takes : (s : WrittenStmt) → Takes (stmt_spelling s)
 stmt-takes (assign line field cast e) =
-    line-takes line (word-takes (codes "s")) ▸ word-shrinks (codes "->") ▹ name-shrinks field ▹ word-shrinks (codes "=") ▹ cast-shrinks cast ▹ expr-shrinks e ▹ word-shrinks (codes ";")
+    line-takes line (word-takes (codes "s")) ▸ word-shrinks (codes "->") ▹ name-shrinks field ▹ word-shrinks
+    (codes "=") ▹ cast-shrinks cast ▹ expr-shrinks e ▹ word-shrinks (codes ";")
 stmt-takes (assign_at line field index cast e) =
     line-takes line (own-takes field) ▸ brackets-shrink (expr-shrinks index) ▹ word-shrinks (codes "=") ▹ cast-shrinks cast ▹ expr-shrinks e
     ▹ word-shrinks (codes ";")
 stmt-takes (branch line c on_true) =
     line-takes line (word-takes (codes "if")) ▸ cond-shrinks c ▹ braces-shrink (stmts-shrink on_true)
 stmt-takes (branch_else line c on_true on_false) =
-    line-takes line (word-takes (codes "if")) ▸ cond-shrinks c ▹ braces-shrink (stmts-shrink on_true) ▹ word-shrinks (codes "else") ▹ braces-shrink (stmts-shrink on_false)
+    line-takes line (word-takes (codes "if")) ▸ cond-shrinks c ▹ braces-shrink (stmts-shrink on_true) ▹ word-shrinks
+    (codes "else") ▹ braces-shrink (stmts-shrink on_false)
 stmt-takes (call line procedure target values) =
     line-takes line (name-takes procedure) ▸ parens-shrink (target-shrinks target ▹ arguments-shrink values) ▹ word-shrinks (codes ";")
 
 module _ (last : ℕ) where
-  target-reads : (now : Option CFault) (more : List Need) (tokens : List Token) → now ≡ token_fault (target_need ∷ more) last tokens → Answers now (Reads last now target_spelling more tokens) (parse_target last tokens)
+  target-reads : (now : Option CFault) (more : List Need) (tokens : List Token) →
+      now ≡ token_fault (target_need ∷ more) last tokens →
+      Answers now (Reads last now target_spelling more tokens) (parse_target last tokens)
   target-reads now more [] h = record { is = h }
   target-reads now more (t ∷ tokens) h = by (bytes_eq t.text (codes "s")) (bytes_eq t.text (codes "&")) refl refl h
     where
-      by : (a b : Bool) → bytes_eq t.text (codes "s") ≡ a → bytes_eq t.text (codes "&") ≡ b → now ≡ on_reply (with_needs (first_reply ((a, leaves []) ∷ (b, leaves (text_need (codes "s") ∷ text_need (codes "->") ∷ name_need ∷ [])) ∷ [])) more) t.line (λ left. token_fault left last tokens) → Answers now (Reads last now target_spelling more (t ∷ tokens)) (parse_target_from last t tokens (if a then own_opener else (if b then field_opener else no_target)))
+      by : (a b : Bool) → bytes_eq t.text (codes "s") ≡ a → bytes_eq t.text (codes "&") ≡ b →
+          now ≡ on_reply
+          (with_needs
+          (first_reply ((a, leaves []) ∷ (b, leaves (text_need (codes "s") ∷ text_need (codes "->") ∷ name_need ∷ []))
+          ∷ [])) more) t.line (λ left. token_fault left last tokens) →
+          Answers now (Reads last now target_spelling more (t ∷ tokens))
+          (parse_target_from last t tokens (if a then own_opener else (if b then field_opener else no_target)))
       by true b e f k = record { is = record { spelled = rw e refl; goes = k } }
       by false true e f k =
           chain _ _ (word-reads last (codes "s") now (text_need (codes "->") ∷ name_need ∷ more) tokens k) (λ x rx.
@@ -58,13 +68,25 @@ module _ (last : ℕ) where
     abbrev Arguments : List Argument → List Token → List Token → Type 0
     Arguments values tokens rest = (arguments_spelling (arguments_from values) ⨾ word (codes ")")) tokens ≡ Some rest
 
-    arguments_step-reads : (more : List Need) (now : Option CFault) (count : ℕ) (tokens : List Token) → now ≡ token_fault (arguments_need ∷ more) last tokens → Answers now (Stepped last (λ n. arguments_need ∷ more) more Arguments now count tokens) (arguments_step last limits count tokens)
+    arguments_step-reads : (more : List Need) (now : Option CFault) (count : ℕ) (tokens : List Token) →
+        now ≡ token_fault (arguments_need ∷ more) last tokens →
+        Answers now (Stepped last (λ n. arguments_need ∷ more) more Arguments now count tokens)
+        (arguments_step last limits count tokens)
     arguments_step-reads more now count [] h = record { is = h }
     arguments_step-reads more now count (t ∷ tokens) h =
-        comma-reads last now (text_need (codes "(") ∷ type_need ∷ text_need (codes ")") ∷ expr_need 1 ∷ arguments_need ∷ []) more t tokens _ (arguments_step_by last limits t tokens) h
+        comma-reads last now (text_need (codes "(") ∷ type_need ∷ text_need (codes ")") ∷ expr_need 1 ∷ arguments_need
+        ∷ []) more t tokens _ (arguments_step_by last limits t tokens) h
         (λ comma k. chain _ _ (cast-reads last now (expr_need 1 ∷ arguments_need ∷ more) tokens k) (λ type rt.
         chain _ _ (expr-reads last limits.exprs exprs now (arguments_need ∷ more) type.1 refl rt.goes) (λ e re.
-        record { is = record { grows = λ values end later. rw (comma, rt.spelled, re.spelled) later; shorter = (word-takes (codes ",") ▸ cast-shrinks type.0 ▹ expr-shrinks e.0).by (t ∷ tokens) e.1 (rw (comma, rt.spelled, re.spelled) refl); goes = re.goes } })))
+        record {
+          is = record {
+            grows = λ values end later. rw (comma, rt.spelled, re.spelled) later;
+            shorter =
+                (word-takes (codes ",") ▸ cast-shrinks type.0 ▹ expr-shrinks e.0).by (t ∷ tokens) e.1
+                (rw (comma, rt.spelled, re.spelled) refl);
+            goes = re.goes;
+          };
+        })))
         (λ close k. record { is = record { none = rw close refl; goes = k } })
         refl
 
@@ -120,59 +142,125 @@ module _ (last : ℕ) where
         chain _ _ (field_name-reads last now (index_need ∷ stored_needs (stmts_need d ∷ more)) tokens h) (λ field rf.
         store_in-reads now (stmts_need d ∷ more) t tokens rf.middle field.0 field.1 begins rf.arrow rf.name rf.goes)
 
-    call-reads : (d : ℕ) (now : Option CFault) (more : List Need) (t : Token) (tokens : List Token) → is_name t.text ≡ true → now ≡ token_fault (text_need (codes "(") ∷ target_need ∷ arguments_need ∷ text_need (codes ";") ∷ stmts_need d ∷ more) last tokens → Answers now (Reads last now stmt_spelling (stmts_need d ∷ more) (t ∷ tokens)) (parse_call last limits t tokens)
+    call-reads : (d : ℕ) (now : Option CFault) (more : List Need) (t : Token) (tokens : List Token) →
+        is_name t.text ≡ true →
+        now ≡ token_fault (text_need (codes "(") ∷ target_need ∷ arguments_need ∷ text_need (codes ";") ∷ stmts_need d
+        ∷ more) last tokens → Answers now (Reads last now stmt_spelling (stmts_need d ∷ more) (t ∷ tokens))
+        (parse_call last limits t tokens)
     call-reads d now more t tokens named h =
-        chain _ _ (word-reads last (codes "(") now (target_need ∷ arguments_need ∷ text_need (codes ";") ∷ stmts_need d ∷ more) tokens h) (λ x rx.
+        chain _ _
+        (word-reads last (codes "(") now (target_need ∷ arguments_need ∷ text_need (codes ";") ∷ stmts_need d
+        ∷ more) tokens h) (λ x rx.
         chain _ _ (target-reads now (arguments_need ∷ text_need (codes ";") ∷ stmts_need d ∷ more) x.1 rx.goes) (λ target rt.
-        chain _ _ (many-reads last (λ n. arguments_need ∷ text_need (codes ";") ∷ stmts_need d ∷ more) (text_need (codes ";") ∷ stmts_need d ∷ more) Arguments (arguments_step last limits) (arguments_step-reads (text_need (codes ";") ∷ stmts_need d ∷ more)) (suc (length target.1)) 0 now target.1 (omega arith) rt.goes) (λ values rv.
+        chain _ _ (many-reads last (λ n. arguments_need ∷ text_need (codes ";") ∷ stmts_need d ∷ more)
+        (text_need (codes ";") ∷ stmts_need d ∷ more) Arguments (arguments_step last limits)
+        (arguments_step-reads (text_need (codes ";") ∷ stmts_need d ∷ more)) (suc (length target.1)) 0 now target.1
+        (omega arith) rt.goes) (λ values rv.
         chain _ _ (word-reads last (codes ";") now (stmts_need d ∷ more) values.1 rv.goes) (λ end rn.
-        record { is = record { spelled = rw (eq-eqb t.line t.line refl, named, same-text t.text, rx.spelled, rt.spelled, rv.elements, rn.spelled) refl; goes = rn.goes } }))))
+        record {
+          is = record {
+            spelled = rw (
+              eq-eqb t.line t.line refl,
+              named,
+              same-text t.text,
+              rx.spelled,
+              rt.spelled,
+              rv.elements,
+              rn.spelled,
+            ) refl;
+            goes = rn.goes;
+          };
+        }))))
 
     -- `statement` answers what the needs say at a depth
     abbrev pub StatementReads : ℕ → (List Token → Parsed WrittenStmt) → Type 0
     StatementReads d statement =
-        (now : Option CFault) (more : List Need) (tokens : List Token) → bytes_eq (first_text tokens) (codes "}") ≡ false → now ≡ token_fault (stmts_need d ∷ more) last tokens → Answers now (Reads last now stmt_spelling (stmts_need d ∷ more) tokens) (statement tokens)
+        (now : Option CFault) (more : List Need) (tokens : List Token) →
+        bytes_eq (first_text tokens) (codes "}") ≡ false → now ≡ token_fault (stmts_need d ∷ more) last tokens →
+        Answers now (Reads last now stmt_spelling (stmts_need d ∷ more) tokens) (statement tokens)
 
     abbrev Statements : List WrittenStmt → List Token → List Token → Type 0
     Statements ss tokens rest = (stmts_spelling (stmts_from ss) ⨾ word (codes "}")) tokens ≡ Some rest
 
     module _ (d : ℕ) (statement : List Token → Parsed WrittenStmt) (each : StatementReads d statement) where
-      stmts_step-reads : (more : List Need) (now : Option CFault) (count : ℕ) (tokens : List Token) → now ≡ token_fault (stmts_need d ∷ more) last tokens → Answers now (Stepped last (λ n. stmts_need d ∷ more) more Statements now count tokens) (stmts_step last limits statement count tokens)
+      stmts_step-reads : (more : List Need) (now : Option CFault) (count : ℕ) (tokens : List Token) →
+          now ≡ token_fault (stmts_need d ∷ more) last tokens →
+          Answers now (Stepped last (λ n. stmts_need d ∷ more) more Statements now count tokens)
+          (stmts_step last limits statement count tokens)
       stmts_step-reads more now count [] h = chain _ _ (each now more [] refl h) (λ s r.
-          record { is = record { grows = λ ss end later. rw r.spelled later; shorter = (stmt-takes s.0).by [] s.1 r.spelled; goes = r.goes } })
+          record {
+            is = record {
+              grows = λ ss end later. rw r.spelled later;
+              shorter = (stmt-takes s.0).by [] s.1 r.spelled;
+              goes = r.goes;
+            };
+          })
       stmts_step-reads more now count (t ∷ tokens) h = by (bytes_eq t.text (codes "}")) refl
         where
-          by : (b : Bool) → bytes_eq t.text (codes "}") ≡ b → Answers now (Stepped last (λ n. stmts_need d ∷ more) more Statements now count (t ∷ tokens)) (stmts_step_by last limits statement (t ∷ tokens) b)
+          by : (b : Bool) → bytes_eq t.text (codes "}") ≡ b →
+              Answers now (Stepped last (λ n. stmts_need d ∷ more) more Statements now count (t ∷ tokens))
+              (stmts_step_by last limits statement (t ∷ tokens) b)
           by true e = record { is = record { none = rw e refl; goes = rw e at h } }
           by false e = chain _ _ (each now more (t ∷ tokens) e h) (λ s r.
-              record { is = record { grows = λ ss end later. rw r.spelled later; shorter = (stmt-takes s.0).by (t ∷ tokens) s.1 r.spelled; goes = r.goes } })
+              record {
+                is = record {
+                  grows = λ ss end later. rw r.spelled later;
+                  shorter = (stmt-takes s.0).by (t ∷ tokens) s.1 r.spelled;
+                  goes = r.goes;
+                };
+              })
 
-      pub block-reads : (now : Option CFault) (more : List Need) (tokens : List Token) → now ≡ token_fault (text_need (codes "{") ∷ stmts_need d ∷ more) last tokens → Answers now (Reads last now (λ ss. in_braces (stmts_spelling ss)) more tokens) (parse_block last limits statement tokens)
+      pub block-reads : (now : Option CFault) (more : List Need) (tokens : List Token) →
+          now ≡ token_fault (text_need (codes "{") ∷ stmts_need d ∷ more) last tokens →
+          Answers now (Reads last now (λ ss. in_braces (stmts_spelling ss)) more tokens)
+          (parse_block last limits statement tokens)
       block-reads now more tokens h =
           chain _ _ (word-reads last (codes "{") now (stmts_need d ∷ more) tokens h) (λ x rx.
-          chain _ _ (many-reads last (λ n. stmts_need d ∷ more) more Statements (stmts_step last limits statement) (stmts_step-reads more) (suc (length x.1)) 0 now x.1 (omega arith) rx.goes) (λ ss rs.
+          chain _ _ (many-reads last (λ n. stmts_need d ∷ more) more Statements (stmts_step last limits statement)
+          (stmts_step-reads more) (suc (length x.1)) 0 now x.1 (omega arith) rx.goes) (λ ss rs.
           record { is = record { spelled = rw rx.spelled rs.elements; goes = rs.goes } }))
 
     module _ (d : ℕ) (statement : List Token → Parsed WrittenStmt) (deeper : StatementReads (d + 1) statement) where
-      second-reads : (now : Option CFault) (more : List Need) (t : Token) (start middle : List Token) (c : WrittenCond) (on_true : WrittenStmts) (tokens : List Token) → word (codes "if") (t ∷ start) ≡ Some start → cond_spelling c start ≡ Some middle → in_braces (stmts_spelling on_true) middle ≡ Some tokens → now ≡ token_fault (else_need d ∷ stmts_need d ∷ more) last tokens → Answers now (Reads last now stmt_spelling (stmts_need d ∷ more) (t ∷ start)) (parse_second last limits statement t c on_true tokens (bytes_eq (first_text tokens) (codes "else")))
+      second-reads : (now : Option CFault) (more : List Need) (t : Token) (start middle : List Token) (c : WrittenCond)
+          (on_true : WrittenStmts) (tokens : List Token) → word (codes "if") (t ∷ start) ≡ Some start →
+          cond_spelling c start ≡ Some middle → in_braces (stmts_spelling on_true) middle ≡ Some tokens →
+          now ≡ token_fault (else_need d ∷ stmts_need d ∷ more) last tokens →
+          Answers now (Reads last now stmt_spelling (stmts_need d ∷ more) (t ∷ start))
+          (parse_second last limits statement t c on_true tokens (bytes_eq (first_text tokens) (codes "else")))
       second-reads now more t start middle c on_true [] begins test body h =
           record { is = record { spelled = rw (eq-eqb t.line t.line refl, begins, test, body) refl; goes = h } }
       second-reads now more t start middle c on_true (u ∷ tokens) begins test body h = by (bytes_eq u.text (codes "else")) refl h
         where
-          by : (b : Bool) → bytes_eq u.text (codes "else") ≡ b → now ≡ on_reply (if b then leaves (text_need (codes "{") ∷ stmts_need (d + 1) ∷ stmts_need d ∷ more) else step_needs (stmts_need d ∷ more) u.text) u.line (λ left. token_fault left last tokens) → Answers now (Reads last now stmt_spelling (stmts_need d ∷ more) (t ∷ start)) (parse_second last limits statement t c on_true (u ∷ tokens) b)
+          by : (b : Bool) → bytes_eq u.text (codes "else") ≡ b →
+              now ≡ on_reply (if b then leaves (text_need (codes "{") ∷ stmts_need (d + 1) ∷ stmts_need d ∷ more)
+              else step_needs (stmts_need d ∷ more) u.text) u.line (λ left. token_fault left last tokens) →
+              Answers now (Reads last now stmt_spelling (stmts_need d ∷ more) (t ∷ start))
+              (parse_second last limits statement t c on_true (u ∷ tokens) b)
           by true e k =
               chain _ _ (block-reads (d + 1) statement deeper now (stmts_need d ∷ more) tokens k) (λ ss r.
               record { is = record { spelled = rw (eq-eqb t.line t.line refl, begins, test, body, e, r.spelled) refl; goes = r.goes } })
           by false e k = record { is = record { spelled = rw (eq-eqb t.line t.line refl, begins, test, body) refl; goes = k } }
 
-      if-reads : (now : Option CFault) (more : List Need) (t : Token) (tokens : List Token) → bytes_eq t.text (codes "if") ≡ true → now ≡ token_fault (cond_need 1 ∷ text_need (codes "{") ∷ stmts_need (d + 1) ∷ else_need d ∷ stmts_need d ∷ more) last tokens → Answers now (Reads last now stmt_spelling (stmts_need d ∷ more) (t ∷ tokens)) (parse_if last limits statement t tokens)
+      if-reads : (now : Option CFault) (more : List Need) (t : Token) (tokens : List Token) →
+          bytes_eq t.text (codes "if") ≡ true →
+          now ≡ token_fault (cond_need 1 ∷ text_need (codes "{") ∷ stmts_need (d + 1) ∷ else_need d ∷ stmts_need d
+          ∷ more) last tokens → Answers now (Reads last now stmt_spelling (stmts_need d ∷ more) (t ∷ tokens))
+          (parse_if last limits statement t tokens)
       if-reads now more t tokens begins h =
-          chain _ _ (cond-reads last limits.exprs exprs now (text_need (codes "{") ∷ stmts_need (d + 1) ∷ else_need d ∷ stmts_need d ∷ more) tokens refl h) (λ c rc.
+          chain _ _
+          (cond-reads last limits.exprs exprs now (text_need (codes "{") ∷ stmts_need (d + 1) ∷ else_need d
+          ∷ stmts_need d ∷ more) tokens refl h) (λ c rc.
           chain _ _ (block-reads (d + 1) statement deeper now (else_need d ∷ stmts_need d ∷ more) c.1 rc.goes) (λ ss rs.
           second-reads now more t tokens c.1 c.0 ss.0 ss.1 (rw begins refl) rc.spelled rs.spelled rs.goes))
 
-      stmt_opened-reads : (now : Option CFault) (more : List Need) (t : Token) (tokens : List Token) → nat_le d stmt_limit ≡ true → bytes_eq t.text (codes "}") ≡ false → now ≡ token_fault (stmts_need d ∷ more) last (t ∷ tokens) → Answers now (Reads last now stmt_spelling (stmts_need d ∷ more) (t ∷ tokens)) (parse_stmt_opened last limits statement t tokens (stmt_opener_of t.text))
-      stmt_opened-reads now more t tokens fits goes_on h = by (bytes_eq t.text (codes "s")) (bytes_eq t.text (codes "if")) (is_name t.text) refl refl refl (rw goes_on at h)
+      stmt_opened-reads : (now : Option CFault) (more : List Need) (t : Token) (tokens : List Token) →
+          nat_le d stmt_limit ≡ true → bytes_eq t.text (codes "}") ≡ false →
+          now ≡ token_fault (stmts_need d ∷ more) last (t ∷ tokens) →
+          Answers now (Reads last now stmt_spelling (stmts_need d ∷ more) (t ∷ tokens))
+          (parse_stmt_opened last limits statement t tokens (stmt_opener_of t.text))
+      stmt_opened-reads now more t tokens fits goes_on h =
+          by (bytes_eq t.text (codes "s")) (bytes_eq t.text (codes "if")) (is_name t.text) refl refl refl
+          (rw goes_on at h)
         where
           by : (a b c : Bool) → bytes_eq t.text (codes "s") ≡ a → bytes_eq t.text (codes "if") ≡ b → is_name t.text ≡ c
               → now ≡ on_reply (with_needs (with_needs (within_limit d stmt_limit
@@ -192,8 +280,13 @@ module _ (last : ℕ) where
           by false false true a_is b_is c_is k = call-reads d now more t tokens c_is (rw fits at k)
           by false false false a_is b_is c_is k = record { is = k }
 
-    stmt_too_deep-reads : (d : ℕ) (now : Option CFault) (more : List Need) (t : Token) (tokens : List Token) → nat_le d stmt_limit ≡ false → bytes_eq t.text (codes "}") ≡ false → now ≡ token_fault (stmts_need d ∷ more) last (t ∷ tokens) → Answers now (Reads last now stmt_spelling (stmts_need d ∷ more) (t ∷ tokens)) (stmt_too_deep last limits t (stmt_opener_of t.text))
-    stmt_too_deep-reads d now more t tokens beyond goes_on h = by (bytes_eq t.text (codes "s")) (bytes_eq t.text (codes "if")) (is_name t.text) (rw goes_on at h)
+    stmt_too_deep-reads : (d : ℕ) (now : Option CFault) (more : List Need) (t : Token) (tokens : List Token) →
+        nat_le d stmt_limit ≡ false → bytes_eq t.text (codes "}") ≡ false →
+        now ≡ token_fault (stmts_need d ∷ more) last (t ∷ tokens) →
+        Answers now (Reads last now stmt_spelling (stmts_need d ∷ more) (t ∷ tokens))
+        (stmt_too_deep last limits t (stmt_opener_of t.text))
+    stmt_too_deep-reads d now more t tokens beyond goes_on h =
+        by (bytes_eq t.text (codes "s")) (bytes_eq t.text (codes "if")) (is_name t.text) (rw goes_on at h)
       where
         by : (a b c : Bool)
             → now ≡ on_reply (with_needs (with_needs (within_limit d stmt_limit
@@ -219,4 +312,5 @@ module _ (last : ℕ) where
         stmt_too_deep-reads d now more t tokens (beyond-limit d stmt_limit (omega (arith, e))) goes_on h
     stmt-reads (suc levels) d e now more [] goes_on h = record { is = h }
     stmt-reads (suc levels) d e now more (t ∷ tokens) goes_on h =
-        stmt_opened-reads d (parse_stmt last limits levels) (stmt-reads levels (d + 1) (omega (arith, e))) now more t tokens (le-leb d stmt_limit (omega (arith, e))) goes_on h
+        stmt_opened-reads d (parse_stmt last limits levels) (stmt-reads levels (d + 1) (omega (arith, e))) now more t
+        tokens (le-leb d stmt_limit (omega (arith, e))) goes_on h

@@ -1,4 +1,5 @@
--- Texts with arrays, by hand: what an array, an item and a store in one may be, and the first fault of what they may not.
+-- Texts with arrays, by hand: what an array, an item and a store in one may be, and the first fault
+-- of what they may not.
 use Rattle.std.specs.Prelude.{◌≡◌, ℕ, zero, suc, List, [], ◌∷◌, ◌++◌, Option, Some, None, codes, refl}
 use Rattle.c_syntax.specs.declared.fault.CKind.TheVariants.{Syntax, Deep}
 use Rattle.c_syntax.specs.declared.fault.CFault.{CFault}
@@ -36,7 +37,8 @@ array-fits = refl
 pub greatest_length-fits : field_fault (codes "int8_t a[9223372036854775807];") ≡ None
 greatest_length-fits = refl
 
-pub wide_length-refused : field_fault (codes "int8_t a[9223372036854775808];") ≡ Some (fault_at 3 Syntax)
+pub wide_length-refused : field_fault (codes "int8_t a[9223372036854775808];")
+    ≡ Some (fault_at 3 Syntax)
 wide_length-refused = refl
 
 pub no_length-refused : field_fault (codes "int8_t a[];") ≡ Some (fault_at 3 Syntax)
@@ -61,7 +63,8 @@ pub array_of_structs-refused : field_fault (codes "struct c a[3];") ≡ Some (fa
 array_of_structs-refused = refl
 
 -- the `;` on line 4 comes in place of a `]`, and the `}` in place of a `;`
-pub open_length-refused : field_fault (codes "int8_t a[3" ++ 10 ∷ codes "; ];") ≡ Some (fault_at 4 Syntax)
+pub open_length-refused : field_fault (codes "int8_t a[3" ++ 10 ∷ codes "; ];")
+    ≡ Some (fault_at 4 Syntax)
 open_length-refused = refl
 
 pub unended_array-refused : field_fault (codes "int8_t a[3]") ≡ Some (fault_at 4 Syntax)
@@ -71,67 +74,86 @@ unended_array-refused = refl
 pub item-fits : expr_fault (codes "(int64_t)s->a[(((int64_t)u1 + INT64_C(1)) % INT64_C(3))]") ≡ None
 item-fits = refl
 
-pub item_of_an_item-fits : expr_fault (codes "((int64_t) s -> a [ (int64_t)s->a[(int64_t)s->c.y] ] * (int64_t)s->y1)") ≡ None
+pub item_of_an_item-fits : expr_fault
+    (codes "((int64_t) s -> a [ (int64_t)s->a[(int64_t)s->c.y] ] * (int64_t)s->y1)") ≡ None
 item_of_an_item-fits = refl
 
-pub item_of_a_parameter-refused : expr_fault (codes "(int64_t)u1[INT64_C(0)]") ≡ Some (fault_at 7 Syntax)
+pub item_of_a_parameter-refused : expr_fault (codes "(int64_t)u1[INT64_C(0)]")
+    ≡ Some (fault_at 7 Syntax)
 item_of_a_parameter-refused = refl
 
-pub item_of_a_child-refused : expr_fault (codes "(int64_t)s->c.a[INT64_C(0)]") ≡ Some (fault_at 7 Syntax)
+pub item_of_a_child-refused : expr_fault (codes "(int64_t)s->c.a[INT64_C(0)]")
+    ≡ Some (fault_at 7 Syntax)
 item_of_a_child-refused = refl
 
-pub field_of_an_item-refused : expr_fault (codes "(int64_t)s->a[INT64_C(0)].y") ≡ Some (fault_at 7 Syntax)
+pub field_of_an_item-refused : expr_fault (codes "(int64_t)s->a[INT64_C(0)].y")
+    ≡ Some (fault_at 7 Syntax)
 field_of_an_item-refused = refl
 
-pub item_of_an_own_item-refused : expr_fault (codes "(int64_t)s->a[INT64_C(0)][INT64_C(0)]") ≡ Some (fault_at 7 Syntax)
+pub item_of_an_own_item-refused : expr_fault (codes "(int64_t)s->a[INT64_C(0)][INT64_C(0)]")
+    ≡ Some (fault_at 7 Syntax)
 item_of_an_own_item-refused = refl
 
 pub item_without_a_cast-refused : expr_fault (codes "s->a[INT64_C(0)]") ≡ Some (fault_at 7 Syntax)
 item_without_a_cast-refused = refl
 
-pub item_of_the_instance-refused : expr_fault (codes "(int64_t)s[INT64_C(0)]") ≡ Some (fault_at 7 Syntax)
+pub item_of_the_instance-refused : expr_fault (codes "(int64_t)s[INT64_C(0)]")
+    ≡ Some (fault_at 7 Syntax)
 item_of_the_instance-refused = refl
 
-pub no_index-refused : expr_fault (codes "(int64_t)s->a[" ++ 10 ∷ codes "]") ≡ Some (fault_at 8 Syntax)
+pub no_index-refused : expr_fault (codes "(int64_t)s->a[" ++ 10 ∷ codes "]")
+    ≡ Some (fault_at 8 Syntax)
 no_index-refused = refl
 
-pub plain_index-refused : expr_fault (codes "(int64_t)s->a[" ++ 10 ∷ codes "0]") ≡ Some (fault_at 8 Syntax)
+pub plain_index-refused : expr_fault (codes "(int64_t)s->a[" ++ 10 ∷ codes "0]")
+    ≡ Some (fault_at 8 Syntax)
 plain_index-refused = refl
 
 -- a comparison is a condition, and none is an index
-pub condition_as_index-refused : expr_fault (codes "(int64_t)s->a[(INT64_C(0)" ++ 10 ∷ codes "< INT64_C(1))]") ≡ Some (fault_at 8 Syntax)
+pub condition_as_index-refused : expr_fault (codes "(int64_t)s->a[(INT64_C(0)" ++ 10
+    ∷ codes "< INT64_C(1))]") ≡ Some (fault_at 8 Syntax)
 condition_as_index-refused = refl
 
-pub two_indices-refused : expr_fault (codes "(int64_t)s->a[INT64_C(0)" ++ 10 ∷ codes ", INT64_C(0)]") ≡ Some (fault_at 8 Syntax)
+pub two_indices-refused : expr_fault (codes "(int64_t)s->a[INT64_C(0)" ++ 10
+    ∷ codes ", INT64_C(0)]") ≡ Some (fault_at 8 Syntax)
 two_indices-refused = refl
 
-pub open_index-refused : expr_fault (codes "(int64_t)s->a[INT64_C(0)" ++ 10 ∷ codes ")") ≡ Some (fault_at 8 Syntax)
+pub open_index-refused : expr_fault (codes "(int64_t)s->a[INT64_C(0)" ++ 10 ∷ codes ")")
+    ≡ Some (fault_at 8 Syntax)
 open_index-refused = refl
 
 -- a store in an item, and what it may not be
-pub store-fits : stmt_fault (codes "s->a[((int64_t)u1 % INT64_C(3))] = (int32_t)(int64_t)s->a[INT64_C(2)];") ≡ None
+pub store-fits : stmt_fault
+    (codes "s->a[((int64_t)u1 % INT64_C(3))] = (int32_t)(int64_t)s->a[INT64_C(2)];") ≡ None
 store-fits = refl
 
-pub store_in_a_child-refused : stmt_fault (codes "s->c.a[INT64_C(0)] = (int32_t)INT64_C(1);") ≡ Some (fault_at 7 Syntax)
+pub store_in_a_child-refused : stmt_fault (codes "s->c.a[INT64_C(0)] = (int32_t)INT64_C(1);")
+    ≡ Some (fault_at 7 Syntax)
 store_in_a_child-refused = refl
 
-pub store_without_an_index-refused : stmt_fault (codes "s->a[" ++ 10 ∷ codes "] = (int32_t)INT64_C(1);") ≡ Some (fault_at 8 Syntax)
+pub store_without_an_index-refused : stmt_fault
+    (codes "s->a[" ++ 10 ∷ codes "] = (int32_t)INT64_C(1);") ≡ Some (fault_at 8 Syntax)
 store_without_an_index-refused = refl
 
-pub store_in_two_items-refused : stmt_fault (codes "s->a[INT64_C(0)]" ++ 10 ∷ codes "[INT64_C(0)] = (int32_t)INT64_C(1);")
+pub store_in_two_items-refused : stmt_fault (codes "s->a[INT64_C(0)]" ++ 10
+    ∷ codes "[INT64_C(0)] = (int32_t)INT64_C(1);")
     ≡ Some (fault_at 8 Syntax)
 store_in_two_items-refused = refl
 
-pub store_without_an_equals-refused : stmt_fault (codes "s->a[INT64_C(0)]" ++ 10 ∷ codes "(int32_t)INT64_C(1);") ≡ Some (fault_at 8 Syntax)
+pub store_without_an_equals-refused : stmt_fault (codes "s->a[INT64_C(0)]" ++ 10
+    ∷ codes "(int32_t)INT64_C(1);") ≡ Some (fault_at 8 Syntax)
 store_without_an_equals-refused = refl
 
-pub call_on_an_item-refused : stmt_fault (codes "p(&s->a" ++ 10 ∷ codes "[INT64_C(0)]);") ≡ Some (fault_at 8 Syntax)
+pub call_on_an_item-refused : stmt_fault (codes "p(&s->a" ++ 10 ∷ codes "[INT64_C(0)]);")
+    ≡ Some (fault_at 8 Syntax)
 call_on_an_item-refused = refl
 
 -- the text ends in brackets: its last line
 abbrev pub cut_fault : List ℕ → Option CFault
 cut_fault end =
-    first_token_fault (text_of_lines (codes "#include <stdint.h>" ∷ codes "struct root { int32_t y1; int32_t a[3]; };"
+    first_token_fault
+    (text_of_lines (codes "#include <stdint.h>"
+    ∷ codes "struct root { int32_t y1; int32_t a[3]; };"
     ∷ codes "void root_start(struct root *s) {" ∷ end ∷ []))
 
 pub cut_at_a_bracket-refused : cut_fault (codes "s->a[") ≡ Some (fault_at 4 Syntax)
@@ -165,10 +187,12 @@ store_in index = codes "s->a[" ++ index ++ codes "] = (int32_t)INT64_C(1);"
 pub store_index_100-fits : stmt_fault (store_in (nested_items 99 (codes "INT64_C(1)"))) ≡ None
 store_index_100-fits = refl
 
-pub store_index_101-deep : stmt_fault (store_in (nested_items 100 (codes "INT64_C(1)"))) ≡ Some (fault_at 8 Deep)
+pub store_index_101-deep : stmt_fault (store_in (nested_items 100 (codes "INT64_C(1)")))
+    ≡ Some (fault_at 8 Deep)
 store_index_101-deep = refl
 
 -- of two faults the one in the index stands before the one in the value
-pub index-before-value : stmt_fault (codes "s->a[" ++ nested_items 100 (codes "INT64_C(1)") ++ codes "] =" ++ 10 ∷ codes "INT64_C(1);")
+pub index-before-value : stmt_fault (codes "s->a[" ++ nested_items 100 (codes "INT64_C(1)")
+    ++ codes "] =" ++ 10 ∷ codes "INT64_C(1);")
     ≡ Some (fault_at 8 Deep)
 index-before-value = refl

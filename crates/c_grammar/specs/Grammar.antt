@@ -12,7 +12,8 @@ use Rattle.c_syntax.specs.Kinds.{WrittenKind, number_kind, array_kind, struct_ki
 use Rattle.c_grammar.specs.Written.{WrittenLeaf, param, own, child, WrittenExpr, literal, neg, read, binary, pick, pure, item, WrittenExprs, no_exprs, more_exprs, WrittenCond, compare, both, either, negated, WrittenTarget, own_target, field_target, WrittenArguments, no_arguments, more_arguments, WrittenStmt, assign, assign_at, branch, branch_else, call, WrittenStmts, no_stmts, more_stmts, WrittenParam, WrittenPureParam, WrittenPure, WrittenField, WrittenStruct, WrittenProcedure, WrittenProgram}
 
 infixr 30 ◌⨾◌
--- spells at the front of a list of tokens, and gives what is left; none where the front is otherwise
+-- spells at the front of a list of tokens, and gives what is left; none where the front is
+-- otherwise
 abbrev pub Spelling : Type 0
 Spelling = List Token → Option (List Token)
 
@@ -93,17 +94,23 @@ own_spelling field = word (codes "s") ⨾ word (codes "->") ⨾ name_word field
 abbrev pub leaf_spelling : WrittenLeaf → Spelling
 leaf_spelling (param name) = name_word name
 leaf_spelling (own field) = own_spelling field
-leaf_spelling (child field inner) = word (codes "s") ⨾ word (codes "->") ⨾ name_word field ⨾ word (codes ".") ⨾ name_word inner
+leaf_spelling (child field inner) =
+    word (codes "s") ⨾ word (codes "->") ⨾ name_word field ⨾ word (codes ".") ⨾ name_word inner
 
 abbrev mutual
   pub expr_spelling : WrittenExpr → Spelling
   expr_spelling (literal value) = word (codes "INT64_C") ⨾ in_parens (literal_word value)
   expr_spelling (neg e) = in_parens (word (codes "-") ⨾ expr_spelling e)
-  expr_spelling (read line leaf) = in_parens (word (codes "int64_t")) ⨾ at_line line (leaf_spelling leaf)
+  expr_spelling (read line leaf) =
+      in_parens (word (codes "int64_t")) ⨾ at_line line (leaf_spelling leaf)
   expr_spelling (binary op a b) = in_parens (expr_spelling a ⨾ word (op_text op) ⨾ expr_spelling b)
-  expr_spelling (pick test a b) = in_parens (cond_spelling test ⨾ word (codes "?") ⨾ expr_spelling a ⨾ word (codes ":") ⨾ expr_spelling b)
-  expr_spelling (pure line function values) = at_line line (name_word function) ⨾ in_parens (exprs_spelling values)
-  expr_spelling (item line field index) = in_parens (word (codes "int64_t")) ⨾ at_line line (own_spelling field)
+  expr_spelling (pick test a b) =
+      in_parens (cond_spelling test ⨾ word (codes "?") ⨾ expr_spelling a ⨾ word (codes ":")
+      ⨾ expr_spelling b)
+  expr_spelling (pure line function values) =
+      at_line line (name_word function) ⨾ in_parens (exprs_spelling values)
+  expr_spelling (item line field index) =
+      in_parens (word (codes "int64_t")) ⨾ at_line line (own_spelling field)
       ⨾ in_brackets (expr_spelling index)
 
   -- expressions with `,` between each two, and at least one
@@ -113,10 +120,12 @@ abbrev mutual
 
   pub more_exprs_spelling : WrittenExprs → Spelling
   more_exprs_spelling no_exprs = nothing
-  more_exprs_spelling (more_exprs e es) = word (codes ",") ⨾ expr_spelling e ⨾ more_exprs_spelling es
+  more_exprs_spelling (more_exprs e es) =
+      word (codes ",") ⨾ expr_spelling e ⨾ more_exprs_spelling es
 
   pub cond_spelling : WrittenCond → Spelling
-  cond_spelling (compare how a b) = in_parens (expr_spelling a ⨾ word (compare_text how) ⨾ expr_spelling b)
+  cond_spelling (compare how a b) =
+      in_parens (expr_spelling a ⨾ word (compare_text how) ⨾ expr_spelling b)
   cond_spelling (both a b) = in_parens (cond_spelling a ⨾ word (codes "&&") ⨾ cond_spelling b)
   cond_spelling (either a b) = in_parens (cond_spelling a ⨾ word (codes "||") ⨾ cond_spelling b)
   cond_spelling (negated a) = in_parens (word (codes "!") ⨾ cond_spelling a)
@@ -124,7 +133,8 @@ abbrev mutual
 -- whose procedure is called
 abbrev pub target_spelling : WrittenTarget → Spelling
 target_spelling own_target = word (codes "s")
-target_spelling (field_target field) = word (codes "&") ⨾ word (codes "s") ⨾ word (codes "->") ⨾ name_word field
+target_spelling (field_target field) =
+    word (codes "&") ⨾ word (codes "s") ⨾ word (codes "->") ⨾ name_word field
 
 -- a cast, without what is cast
 abbrev pub cast_spelling : CType → Spelling
@@ -133,21 +143,26 @@ cast_spelling type = in_parens (word (type_text type))
 -- the arguments of a call of a procedure, each with its cast behind a `,`
 abbrev pub arguments_spelling : WrittenArguments → Spelling
 arguments_spelling no_arguments = nothing
-arguments_spelling (more_arguments cast e rest) = word (codes ",") ⨾ cast_spelling cast ⨾ expr_spelling e ⨾ arguments_spelling rest
+arguments_spelling (more_arguments cast e rest) =
+    word (codes ",") ⨾ cast_spelling cast ⨾ expr_spelling e ⨾ arguments_spelling rest
 
 abbrev mutual
   pub stmt_spelling : WrittenStmt → Spelling
   stmt_spelling (assign line field cast value) =
-      at_line line (word (codes "s")) ⨾ word (codes "->") ⨾ name_word field ⨾ word (codes "=") ⨾ cast_spelling cast ⨾ expr_spelling value ⨾ word (codes ";")
+      at_line line (word (codes "s")) ⨾ word (codes "->") ⨾ name_word field ⨾ word (codes "=")
+      ⨾ cast_spelling cast ⨾ expr_spelling value ⨾ word (codes ";")
   stmt_spelling (assign_at line field index cast value) =
-      at_line line (own_spelling field) ⨾ in_brackets (expr_spelling index) ⨾ word (codes "=") ⨾ cast_spelling cast ⨾ expr_spelling value
+      at_line line (own_spelling field) ⨾ in_brackets (expr_spelling index) ⨾ word (codes "=")
+      ⨾ cast_spelling cast ⨾ expr_spelling value
       ⨾ word (codes ";")
   stmt_spelling (branch line test on_true) =
       at_line line (word (codes "if")) ⨾ cond_spelling test ⨾ in_braces (stmts_spelling on_true)
   stmt_spelling (branch_else line test on_true on_false) =
-      at_line line (word (codes "if")) ⨾ cond_spelling test ⨾ in_braces (stmts_spelling on_true) ⨾ word (codes "else") ⨾ in_braces (stmts_spelling on_false)
+      at_line line (word (codes "if")) ⨾ cond_spelling test ⨾ in_braces (stmts_spelling on_true)
+      ⨾ word (codes "else") ⨾ in_braces (stmts_spelling on_false)
   stmt_spelling (call line procedure target values) =
-      at_line line (name_word procedure) ⨾ in_parens (target_spelling target ⨾ arguments_spelling values) ⨾ word (codes ";")
+      at_line line (name_word procedure)
+      ⨾ in_parens (target_spelling target ⨾ arguments_spelling values) ⨾ word (codes ";")
 
   pub stmts_spelling : WrittenStmts → Spelling
   stmts_spelling no_stmts = nothing
@@ -169,7 +184,8 @@ pure_param_spelling p = at_line p.line (word (codes "int64_t")) ⨾ name_word p.
 -- parameters of a pure function, each behind a `,`
 abbrev pub more_pure_params_spelling : List WrittenPureParam → Spelling
 more_pure_params_spelling [] = nothing
-more_pure_params_spelling (p ∷ ps) = word (codes ",") ⨾ pure_param_spelling p ⨾ more_pure_params_spelling ps
+more_pure_params_spelling (p ∷ ps) =
+    word (codes ",") ⨾ pure_param_spelling p ⨾ more_pure_params_spelling ps
 
 -- the parameters of a pure function, at least one
 abbrev pub pure_params_spelling : List WrittenPureParam → Spelling
@@ -179,7 +195,10 @@ pure_params_spelling (p ∷ ps) = pure_param_spelling p ⨾ more_pure_params_spe
 -- a pure function
 abbrev pub pure_spelling : WrittenPure → Spelling
 pure_spelling p =
-    at_line p.line (word (codes "static")) ⨾ word (codes "int64_t") ⨾ name_word p.name ⨾ in_parens (pure_params_spelling p.params) ⨾ in_braces (at_line p.return_line (word (codes "return")) ⨾ expr_spelling p.body ⨾ word (codes ";"))
+    at_line p.line (word (codes "static")) ⨾ word (codes "int64_t") ⨾ name_word p.name
+    ⨾ in_parens (pure_params_spelling p.params)
+    ⨾ in_braces (at_line p.return_line (word (codes "return")) ⨾ expr_spelling p.body
+    ⨾ word (codes ";"))
 
 -- what a field's declaration begins with
 abbrev pub kind_spelling : WrittenKind → Spelling
@@ -195,7 +214,8 @@ length_spelling (struct_kind name) = nothing
 
 -- a field
 abbrev pub field_spelling : WrittenField → Spelling
-field_spelling f = at_line f.line (kind_spelling f.kind) ⨾ name_word f.name ⨾ length_spelling f.kind ⨾ word (codes ";")
+field_spelling f = at_line f.line (kind_spelling f.kind) ⨾ name_word f.name ⨾ length_spelling f.kind
+    ⨾ word (codes ";")
 
 -- the things of a list, one after another
 abbrev pub all_spelling : {A : Type 0} → (A → Spelling) → List A → Spelling
@@ -210,7 +230,8 @@ some_spelling spelling (x ∷ xs) = spelling x ⨾ all_spelling spelling xs
 -- a struct
 abbrev pub struct_spelling : WrittenStruct → Spelling
 struct_spelling d =
-    at_line d.line (word (codes "struct")) ⨾ name_word d.name ⨾ in_braces (some_spelling field_spelling d.fields) ⨾ word (codes ";")
+    at_line d.line (word (codes "struct")) ⨾ name_word d.name
+    ⨾ in_braces (some_spelling field_spelling d.fields) ⨾ word (codes ";")
 
 -- what a procedure begins with: only a private one is `static`
 abbrev pub private_spelling : Bool → Spelling
@@ -220,12 +241,15 @@ private_spelling false = word (codes "void")
 -- a procedure
 abbrev pub procedure_spelling : WrittenProcedure → Spelling
 procedure_spelling p =
-    at_line p.line (private_spelling p.private) ⨾ name_word p.name ⨾ in_parens (word (codes "struct") ⨾ name_word p.of ⨾ word (codes "*") ⨾ word (codes "s") ⨾ more_params_spelling p.params) ⨾ in_braces (stmts_spelling p.body)
+    at_line p.line (private_spelling p.private) ⨾ name_word p.name
+    ⨾ in_parens (word (codes "struct") ⨾ name_word p.of ⨾ word (codes "*") ⨾ word (codes "s")
+    ⨾ more_params_spelling p.params) ⨾ in_braces (stmts_spelling p.body)
 
 -- pure functions, then structs, then procedures
 abbrev pub program_spelling : WrittenProgram → Spelling
 program_spelling p =
-    all_spelling pure_spelling p.pures ⨾ some_spelling struct_spelling p.structs ⨾ some_spelling procedure_spelling p.procedures
+    all_spelling pure_spelling p.pures ⨾ some_spelling struct_spelling p.structs
+    ⨾ some_spelling procedure_spelling p.procedures
 
 -- these tokens, and no others, spell the program
 abbrev pub Spells : List Token → WrittenProgram → Type 0

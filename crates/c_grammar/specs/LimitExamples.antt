@@ -36,7 +36,8 @@ store_of e = codes "s->y1 = (int32_t)" ++ e ++ codes ";"
 pub expr_100-fits : first_token_fault (text_with (store_of (minus_signs 99))) ≡ None
 expr_100-fits = refl
 
-pub expr_101-deep : first_token_fault (text_with (store_of (minus_signs 100))) ≡ Some (fault_at 5 Deep)
+pub expr_101-deep : first_token_fault (text_with (store_of (minus_signs 100)))
+    ≡ Some (fault_at 5 Deep)
 expr_101-deep = refl
 
 -- statements 20 deep, and 21
@@ -47,36 +48,47 @@ pub stmt_21-deep : first_token_fault (text_with (nested_ifs 20)) ≡ Some (fault
 stmt_21-deep = refl
 
 -- what a `(` opens is known when its first operand has ended
-pub choice-fits : first_token_fault (text_with (store_of (codes "((((int64_t)u1 + INT64_C(1)) < INT64_C(3)) ? ((!((int64_t)u1 == (-INT64_C(1)))) ? INT64_C(4) : (int64_t)s->y1) : INT64_C(5))"))) ≡ None
+pub choice-fits : first_token_fault
+    (text_with
+    (store_of
+    (codes "((((int64_t)u1 + INT64_C(1)) < INT64_C(3)) ? ((!((int64_t)u1 == (-INT64_C(1)))) ? INT64_C(4) : (int64_t)s->y1) : INT64_C(5))")))
+    ≡ None
 choice-fits = refl
 
 -- a comparison where a number must stand, and a number where a condition must
-pub compare-refused : first_token_fault (text_with (store_of (codes "(INT64_C(1) < INT64_C(2))"))) ≡ Some (fault_at 5 Syntax)
+pub compare-refused : first_token_fault (text_with (store_of (codes "(INT64_C(1) < INT64_C(2))")))
+    ≡ Some (fault_at 5 Syntax)
 compare-refused = refl
 
-pub number-refused : first_token_fault (text_with (codes "if (INT64_C(1) + INT64_C(2)) { }")) ≡ Some (fault_at 5 Syntax)
+pub number-refused : first_token_fault (text_with (codes "if (INT64_C(1) + INT64_C(2)) { }"))
+    ≡ Some (fault_at 5 Syntax)
 number-refused = refl
 
 -- a literal with a leading 0, one past 63 bits, a keyword as a name, and a comment without its end
-pub leading_zero-refused : first_token_fault (text_with (store_of (codes "INT64_C(01)"))) ≡ Some (fault_at 5 Syntax)
+pub leading_zero-refused : first_token_fault (text_with (store_of (codes "INT64_C(01)")))
+    ≡ Some (fault_at 5 Syntax)
 leading_zero-refused = refl
 
-pub wide_literal-refused : first_token_fault (text_with (store_of (codes "INT64_C(9223372036854775808)"))) ≡ Some (fault_at 5 Syntax)
+pub wide_literal-refused : first_token_fault
+    (text_with (store_of (codes "INT64_C(9223372036854775808)"))) ≡ Some (fault_at 5 Syntax)
 wide_literal-refused = refl
 
-pub greatest_literal-fits : first_token_fault (text_with (store_of (codes "INT64_C(9223372036854775807)"))) ≡ None
+pub greatest_literal-fits : first_token_fault
+    (text_with (store_of (codes "INT64_C(9223372036854775807)"))) ≡ None
 greatest_literal-fits = refl
 
 pub keyword-refused : first_token_fault (text_with (codes "goto(s);")) ≡ Some (fault_at 5 Syntax)
 keyword-refused = refl
 
-pub open_comment-refused : first_token_fault (text_with (codes "/* open")) ≡ Some (fault_at 5 Syntax)
+pub open_comment-refused : first_token_fault (text_with (codes "/* open"))
+    ≡ Some (fault_at 5 Syntax)
 open_comment-refused = refl
 
 -- so many pure functions, and a procedure with so many parameters
 abbrev pub pure_functions : ℕ → List ℕ
 pure_functions zero = []
-pure_functions (suc n) = codes "static int64_t f(int64_t x) { return (int64_t)x; } " ++ pure_functions n
+pure_functions (suc n) =
+    codes "static int64_t f(int64_t x) { return (int64_t)x; } " ++ pure_functions n
 
 abbrev pub further_params : ℕ → List ℕ
 further_params zero = []

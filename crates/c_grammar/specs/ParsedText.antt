@@ -19,5 +19,9 @@ parse_text bytes = parse_behind (has_header bytes) bytes
 
 -- what the parse gives is spelled and has no fault; the fault that it gives is the first
 pub record ParsingAgrees : Type 0 where
-  pub read : (last : ℕ) (tokens : List Token) (w : WrittenProgram) → parse_file last the_limits tokens ≡ Ok w → Spells tokens w × (token_fault file_needs last tokens ≡ None)
-  pub refused : (last : ℕ) (tokens : List Token) (fault : CFault) → parse_file last the_limits tokens ≡ Err fault → token_fault file_needs last tokens ≡ Some fault
+  pub read : (last : ℕ) (tokens : List Token) (w : WrittenProgram) →
+      parse_file last the_limits tokens ≡ Ok w →
+      Spells tokens w × (token_fault file_needs last tokens ≡ None)
+  pub refused : (last : ℕ) (tokens : List Token) (fault : CFault) →
+      parse_file last the_limits tokens ≡ Err fault →
+      token_fault file_needs last tokens ≡ Some fault

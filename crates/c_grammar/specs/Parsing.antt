@@ -1,4 +1,5 @@
--- The written program of tokens by recursive descent, or their first fault. What it is of the grammar is proved of it.
+-- The written program of tokens by recursive descent, or their first fault. What it is of the
+-- grammar is proved of it.
 use Rattle.std.specs.Prelude.{ℕ, zero, suc, ◌+◌, Bool, true, false, ◌&&◌, nat_le, if◌then◌else◌, List, [], ◌∷◌, length, Option, Some, None, Result, Ok, Err, codes, bytes_eq}
 use Rattle.mc_base.specs.declared.base.Compare.{Compare}
 use Rattle.mc_base.specs.declared.base.Compare.TheVariants.{Eq, Ne, Lt, Le, Ge, Gt}
@@ -49,22 +50,38 @@ pub record Limits : Type 0 where
 
 -- the limits on texts
 abbrev pub the_limits : Limits
-the_limits = record { exprs = expr_limit; stmts = stmt_limit; pures = pure_limit; params = param_limit }
+the_limits =
+    record { exprs = expr_limit; stmts = stmt_limit; pures = pure_limit; params = param_limit }
 
 -- what a token stands for
 abbrev pub type_of_text : List ℕ → Option CType
 type_of_text text =
-    if bytes_eq text (codes "int8_t") then Some I8 else (if bytes_eq text (codes "uint8_t") then Some U8 else (if bytes_eq text (codes "int16_t") then Some I16 else (if bytes_eq text (codes "uint16_t") then Some U16 else (if bytes_eq text (codes "int32_t") then Some I32 else (if bytes_eq text (codes "uint32_t") then Some U32 else (if bytes_eq text (codes "int64_t") then Some I64 else None))))))
+    if bytes_eq text (codes "int8_t") then Some I8
+    else (if bytes_eq text (codes "uint8_t") then Some U8
+    else (if bytes_eq text (codes "int16_t") then Some I16
+    else (if bytes_eq text (codes "uint16_t") then Some U16
+    else (if bytes_eq text (codes "int32_t") then Some I32
+    else (if bytes_eq text (codes "uint32_t") then Some U32
+    else (if bytes_eq text (codes "int64_t") then Some I64 else None))))))
 
 -- the operator that is written so
 abbrev pub op_of_text : List ℕ → Option BinOp
 op_of_text text =
-    if bytes_eq text (codes "+") then Some Add else (if bytes_eq text (codes "-") then Some Sub else (if bytes_eq text (codes "*") then Some Mul else (if bytes_eq text (codes "/") then Some Div else (if bytes_eq text (codes "%") then Some Rem else None))))
+    if bytes_eq text (codes "+") then Some Add
+    else (if bytes_eq text (codes "-") then Some Sub
+    else (if bytes_eq text (codes "*") then Some Mul
+    else (if bytes_eq text (codes "/") then Some Div
+    else (if bytes_eq text (codes "%") then Some Rem else None))))
 
 -- the comparison that is written so
 abbrev pub compare_of_text : List ℕ → Option Compare
 compare_of_text text =
-    if bytes_eq text (codes "==") then Some Eq else (if bytes_eq text (codes "!=") then Some Ne else (if bytes_eq text (codes "<") then Some Lt else (if bytes_eq text (codes "<=") then Some Le else (if bytes_eq text (codes ">=") then Some Ge else (if bytes_eq text (codes ">") then Some Gt else None)))))
+    if bytes_eq text (codes "==") then Some Eq
+    else (if bytes_eq text (codes "!=") then Some Ne
+    else (if bytes_eq text (codes "<") then Some Lt
+    else (if bytes_eq text (codes "<=") then Some Le
+    else (if bytes_eq text (codes ">=") then Some Ge
+    else (if bytes_eq text (codes ">") then Some Gt else None)))))
 
 -- an expression may stand here
 abbrev pub wants_value : Want → Bool
@@ -86,16 +103,22 @@ pub data Operand : Type 0 where
 -- what a token opens where an operand is wanted
 abbrev pub opener_of : Want → List ℕ → Opener
 opener_of want text =
-    if wants_value want && bytes_eq text (codes "INT64_C") then number_opener else (if wants_value want && is_name text then call_opener else (if bytes_eq text (codes "(") then paren_opener else no_opener))
+    if wants_value want && bytes_eq text (codes "INT64_C") then number_opener
+    else (if wants_value want && is_name text then call_opener
+    else (if bytes_eq text (codes "(") then paren_opener else no_opener))
 
 -- what a token opens behind the `(` of an operand
 abbrev pub inside_of : Want → List ℕ → Inside
 inside_of want text =
-    if wants_value want && bytes_eq text (codes "-") then minus_inside else (if wants_test want && bytes_eq text (codes "!") then not_inside else (if wants_value want && bytes_eq text (codes "int64_t") then cast_inside else first_inside))
+    if wants_value want && bytes_eq text (codes "-") then minus_inside
+    else (if wants_test want && bytes_eq text (codes "!") then not_inside
+    else (if wants_value want && bytes_eq text (codes "int64_t") then cast_inside
+    else first_inside))
 
 -- what a token begins behind the name of an own field
 abbrev pub tail_of : List ℕ → Tail
-tail_of text = if bytes_eq text (codes ".") then dot_tail else (if bytes_eq text (codes "[") then bracket_tail else no_tail)
+tail_of text = if bytes_eq text (codes ".") then dot_tail
+    else (if bytes_eq text (codes "[") then bracket_tail else no_tail)
 
 -- an operator or a comparison behind an expression
 abbrev pub first_joint : Option BinOp → Option Compare → ValueJoint
@@ -105,30 +128,40 @@ first_joint None None = no_value_joint
 
 -- what a token is behind an expression, where that may stand
 abbrev pub value_joint : Want → List ℕ → ValueJoint
-value_joint want text = first_joint (if wants_value want then op_of_text text else None) (if wants_test want then compare_of_text text else None)
+value_joint want text =
+    first_joint (if wants_value want then op_of_text text else None) (if wants_test want
+    then compare_of_text text else None)
 
 -- what a token is behind a condition, where that may stand
 abbrev pub test_joint : Want → List ℕ → TestJoint
 test_joint want text =
-    if wants_test want && bytes_eq text (codes "&&") then and_joint else (if wants_test want && bytes_eq text (codes "||") then or_joint else (if wants_value want && bytes_eq text (codes "?") then pick_joint else no_test_joint))
+    if wants_test want && bytes_eq text (codes "&&") then and_joint
+    else (if wants_test want && bytes_eq text (codes "||") then or_joint
+    else (if wants_value want && bytes_eq text (codes "?") then pick_joint else no_test_joint))
 
 -- what a token opens where a statement is wanted
 abbrev pub stmt_opener_of : List ℕ → StmtOpener
 stmt_opener_of text =
-    if bytes_eq text (codes "s") then store_opener else (if bytes_eq text (codes "if") then if_opener else (if is_name text then invoke_opener else no_stmt))
+    if bytes_eq text (codes "s") then store_opener
+    else (if bytes_eq text (codes "if") then if_opener
+    else (if is_name text then invoke_opener else no_stmt))
 
 -- whether a list goes on
 abbrev pub comma_of : List ℕ → Comma
-comma_of text = if bytes_eq text (codes ",") then another else (if bytes_eq text (codes ")") then closed else no_comma)
+comma_of text = if bytes_eq text (codes ",") then another
+    else (if bytes_eq text (codes ")") then closed else no_comma)
 
 -- what a token opens where the target of a call is wanted
 abbrev pub target_opener_of : List ℕ → TargetOpener
-target_opener_of text = if bytes_eq text (codes "s") then own_opener else (if bytes_eq text (codes "&") then field_opener else no_target)
+target_opener_of text = if bytes_eq text (codes "s") then own_opener
+    else (if bytes_eq text (codes "&") then field_opener else no_target)
 
 -- the kind of definition that a token opens
 abbrev pub definition_of : List ℕ → Definition
 definition_of text =
-    if bytes_eq text (codes "static") then static_definition else (if bytes_eq text (codes "struct") then struct_definition else (if bytes_eq text (codes "void") then void_definition else no_definition))
+    if bytes_eq text (codes "static") then static_definition
+    else (if bytes_eq text (codes "struct") then struct_definition
+    else (if bytes_eq text (codes "void") then void_definition else no_definition))
 
 -- one more element of a list, or its end; and what is left
 pub data Step (X : Type 0) : Type 0 where
@@ -136,12 +169,15 @@ pub data Step (X : Type 0) : Type 0 where
   the_end : (rest : List Token) → Step X
 
 -- the end of a list, or one element and those that `later` gives
-abbrev pub after_step : {X : Type 0} → (ℕ → List Token → Parsed (List X)) → ℕ → Step X → Parsed (List X)
+abbrev pub after_step : {X : Type 0} → (ℕ → List Token → Parsed (List X)) → ℕ → Step X →
+    Parsed (List X)
 after_step later count (the_end rest) = Ok ([], rest)
 after_step later count (one_more x rest) = later (count + 1) rest >>= (λ xs. Ok (x ∷ xs.0, xs.1))
 
--- elements up to the end of their list, where `step` is told how many came before; `most` is more than there are
-abbrev pub many : {X : Type 0} → (ℕ → List Token → Result (Step X) CFault) → (most count : ℕ) → List Token → Parsed (List X)
+-- elements up to the end of their list, where `step` is told how many came before; `most` is more
+-- than there are
+abbrev pub many : {X : Type 0} → (ℕ → List Token → Result (Step X) CFault) → (most count : ℕ) →
+    List Token → Parsed (List X)
 many step zero count tokens = Ok ([], tokens)
 many step (suc most) count tokens = step count tokens >>= after_step (many step most) count
 
@@ -177,7 +213,8 @@ abbrev pub or_syntax : {X : Type 0} → Token → Option X → Result X CFault
 or_syntax t (Some x) = Ok x
 or_syntax t None = syntax_at t
 
--- a fault of syntax at a token that fails a test, and one of depth at one that opens something beyond a limit
+-- a fault of syntax at a token that fails a test, and one of depth at one that opens something
+-- beyond a limit
 abbrev pub or_syntax_unless : Token → Bool → Result (Unit {0}) CFault
 or_syntax_unless t true = Ok tt
 or_syntax_unless t false = syntax_at t
@@ -241,7 +278,8 @@ module _ (last : ℕ) where
     arrow ← parse_word (codes "->") tokens
     parse_name arrow.1
 
-  -- an operand that is an expression, and one that is a condition; where one is wanted there is no other
+  -- an operand that is an expression, and one that is a condition; where one is wanted there is no
+  -- other
   abbrev pub value_only : Operand × List Token → Parsed WrittenExpr
   value_only (value e, tokens) = Ok (e, tokens)
   value_only (test c, tokens) = Err (fault_at last Syntax)
@@ -269,7 +307,8 @@ module _ (last : ℕ) where
       close ← parse_word (codes "]") e.1
       Ok (e.0, close.1)
 
-    -- a field of the own struct, a field of that field, or an item of it; the line is that of the `s`
+    -- a field of the own struct, a field of that field, or an item of it; the line is that of the
+    -- `s`
     abbrev pub parse_tail : (line : ℕ) → List ℕ → List Token → Tail → Parsed WrittenExpr
     parse_tail line field tokens dot_tail = do
       dot ← next tokens
@@ -323,8 +362,10 @@ module _ (last : ℕ) where
 
     -- what a first operand is joined to
     abbrev pub join_value : WrittenExpr → Token → List Token → ValueJoint → Parsed Operand
-    join_value a t tokens (op_joint op) = deeper_value tokens >>= (λ b. Ok (value (binary op a b.0), b.1))
-    join_value a t tokens (compare_joint how) = deeper_value tokens >>= (λ b. Ok (test (compare how a b.0), b.1))
+    join_value a t tokens (op_joint op) =
+        deeper_value tokens >>= (λ b. Ok (value (binary op a b.0), b.1))
+    join_value a t tokens (compare_joint how) =
+        deeper_value tokens >>= (λ b. Ok (test (compare how a b.0), b.1))
     join_value a t tokens no_value_joint = syntax_at t
 
     -- the rest of an operand whose first is a condition
@@ -371,7 +412,8 @@ module _ (last : ℕ) where
     abbrev pub parse_opened : Want → Token → List Token → Opener → Parsed Operand
     parse_opened want t tokens number_opener = parse_number tokens
     parse_opened want t tokens call_opener = parse_values t tokens
-    parse_opened want t tokens paren_opener = parse_inside want tokens (inside_of want (first_text tokens))
+    parse_opened want t tokens paren_opener =
+        parse_inside want tokens (inside_of want (first_text tokens))
     parse_opened want t tokens no_opener = syntax_at t
 
   -- a token that would open an operand beyond the limit
@@ -383,8 +425,11 @@ module _ (last : ℕ) where
 
   -- an operand, where so many more levels may be opened
   abbrev pub parse_operand : (levels : ℕ) → Want → List Token → Parsed Operand
-  parse_operand zero want tokens = next tokens >>= (λ t. opened_too_deep t.0 (opener_of want t.0.text))
-  parse_operand (suc levels) want tokens = next tokens >>= (λ t. parse_opened (parse_operand levels) want t.0 t.1 (opener_of want t.0.text))
+  parse_operand zero want tokens =
+      next tokens >>= (λ t. opened_too_deep t.0 (opener_of want t.0.text))
+  parse_operand (suc levels) want tokens =
+      next tokens
+      >>= (λ t. parse_opened (parse_operand levels) want t.0 t.1 (opener_of want t.0.text))
 
   -- an expression, where so many more levels may be opened
   abbrev pub parse_expr : (levels : ℕ) → List Token → Parsed WrittenExpr
@@ -419,7 +464,8 @@ module _ (last : ℕ) where
 
     -- what follows an argument
     abbrev pub arguments_step : ℕ → List Token → Result (Step Argument) CFault
-    arguments_step count tokens = next tokens >>= (λ t. arguments_step_by t.0 t.1 (comma_of t.0.text))
+    arguments_step count tokens =
+        next tokens >>= (λ t. arguments_step_by t.0 t.1 (comma_of t.0.text))
 
     -- what is stored, from the `=` to the `;`
     abbrev pub parse_stored : List Token → Parsed Argument
@@ -431,7 +477,8 @@ module _ (last : ℕ) where
       Ok ((type.0, e.0), end.1)
 
     -- a store in a field, or in an item of it
-    abbrev pub parse_store_in : Token → List ℕ → List Token → (has_index : Bool) → Parsed WrittenStmt
+    abbrev pub parse_store_in : Token → List ℕ → List Token → (has_index : Bool) →
+        Parsed WrittenStmt
     parse_store_in t field tokens true = do
       index ← parse_index (parse_operand limits.exprs) tokens
       stored ← parse_stored index.1
@@ -474,7 +521,8 @@ module _ (last : ℕ) where
         Ok (stmts_from ss.0, ss.1)
 
       -- a choice, whose second block may be left out
-      abbrev pub parse_second : Token → WrittenCond → WrittenStmts → List Token → (has_else : Bool) → Parsed WrittenStmt
+      abbrev pub parse_second : Token → WrittenCond → WrittenStmts → List Token →
+          (has_else : Bool) → Parsed WrittenStmt
       parse_second t c on_true tokens true = do
         else_word ← next tokens
         on_false ← parse_block else_word.1
@@ -505,7 +553,9 @@ module _ (last : ℕ) where
     -- a statement, where so many more levels may be opened
     abbrev pub parse_stmt : (levels : ℕ) → List Token → Parsed WrittenStmt
     parse_stmt zero tokens = next tokens >>= (λ t. stmt_too_deep t.0 (stmt_opener_of t.0.text))
-    parse_stmt (suc levels) tokens = next tokens >>= (λ t. parse_stmt_opened (parse_stmt levels) t.0 t.1 (stmt_opener_of t.0.text))
+    parse_stmt (suc levels) tokens =
+        next tokens
+        >>= (λ t. parse_stmt_opened (parse_stmt levels) t.0 t.1 (stmt_opener_of t.0.text))
 
     -- a parameter, behind so many
     abbrev pub parse_pure_param : ℕ → List Token → Parsed WrittenPureParam
@@ -517,14 +567,17 @@ module _ (last : ℕ) where
       Ok (record { line = t.0.line; name = name.0 }, name.1)
 
     -- a further parameter of a pure function, or the `)`
-    abbrev pub pure_params_step_by : ℕ → Token → List Token → Comma → Result (Step WrittenPureParam) CFault
-    pure_params_step_by count t tokens another = parse_pure_param count tokens >>= (λ p. Ok (one_more p.0 p.1))
+    abbrev pub pure_params_step_by : ℕ → Token → List Token → Comma →
+        Result (Step WrittenPureParam) CFault
+    pure_params_step_by count t tokens another =
+        parse_pure_param count tokens >>= (λ p. Ok (one_more p.0 p.1))
     pure_params_step_by count t tokens closed = Ok (the_end tokens)
     pure_params_step_by count t tokens no_comma = syntax_at t
 
     -- what follows a parameter of a pure function
     abbrev pub pure_params_step : ℕ → List Token → Result (Step WrittenPureParam) CFault
-    pure_params_step count tokens = next tokens >>= (λ t. pure_params_step_by count t.0 t.1 (comma_of t.0.text))
+    pure_params_step count tokens =
+        next tokens >>= (λ t. pure_params_step_by count t.0 t.1 (comma_of t.0.text))
 
     -- a parameter of a procedure, behind so many
     abbrev pub parse_param : ℕ → List Token → Parsed WrittenParam
@@ -537,13 +590,15 @@ module _ (last : ℕ) where
 
     -- a further parameter of a procedure, or the `)`
     abbrev pub params_step_by : ℕ → Token → List Token → Comma → Result (Step WrittenParam) CFault
-    params_step_by count t tokens another = parse_param count tokens >>= (λ p. Ok (one_more p.0 p.1))
+    params_step_by count t tokens another =
+        parse_param count tokens >>= (λ p. Ok (one_more p.0 p.1))
     params_step_by count t tokens closed = Ok (the_end tokens)
     params_step_by count t tokens no_comma = syntax_at t
 
     -- what follows a parameter of a procedure
     abbrev pub params_step : ℕ → List Token → Result (Step WrittenParam) CFault
-    params_step count tokens = next tokens >>= (λ t. params_step_by count t.0 t.1 (comma_of t.0.text))
+    params_step count tokens =
+        next tokens >>= (λ t. params_step_by count t.0 t.1 (comma_of t.0.text))
 
     -- a pure function behind its `static`
     abbrev pub parse_pure : Token → List Token → Parsed WrittenPure
@@ -559,7 +614,16 @@ module _ (last : ℕ) where
       body ← parse_expr limits.exprs r.1
       end ← parse_word (codes ";") body.1
       close ← parse_word (codes "}") end.1
-      Ok (record { line = t.line; name = name.0; params = first.0 ∷ later.0; return_line = r.0.line; body = body.0 }, close.1)
+      Ok (
+        record {
+          line = t.line;
+          name = name.0;
+          params = first.0 ∷ later.0;
+          return_line = r.0.line;
+          body = body.0;
+        },
+        close.1,
+      )
 
     -- behind the name of a field of a type: an array where a length follows, else a number
     abbrev pub parse_length : CType → List Token → (has_length : Bool) → Parsed WrittenKind
@@ -610,7 +674,8 @@ module _ (last : ℕ) where
       Ok (record { line = t.line; name = name.0; fields = first.0 ∷ later.0 }, end.1)
 
     -- a procedure behind its `void`, which may have a `static` before it
-    abbrev pub parse_procedure_behind : (line : ℕ) → (private : Bool) → List Token → Parsed WrittenProcedure
+    abbrev pub parse_procedure_behind : (line : ℕ) → (private : Bool) → List Token →
+        Parsed WrittenProcedure
     parse_procedure_behind line private tokens = do
       name ← parse_name tokens
       opened ← parse_word (codes "(") name.1
@@ -620,7 +685,17 @@ module _ (last : ℕ) where
       instance ← parse_word (codes "s") star.1
       params ← many params_step (suc (length instance.1)) 0 instance.1
       body ← parse_block (parse_stmt limits.stmts) params.1
-      Ok (record { line = line; private = private; name = name.0; of = of.0; params = params.0; body = body.0 }, body.1)
+      Ok (
+        record {
+          line = line;
+          private = private;
+          name = name.0;
+          of = of.0;
+          params = params.0;
+          body = body.0;
+        },
+        body.1,
+      )
 
     -- a definition that is a procedure
     abbrev pub parse_procedure : Token → List Token → Definition → Parsed WrittenProcedure
@@ -632,7 +707,8 @@ module _ (last : ℕ) where
     parse_procedure t tokens no_definition = syntax_at t
 
     -- a further pure function, or the first struct
-    abbrev pub pures_step_by : ℕ → Token → List Token → List Token → Definition → Result (Step WrittenPure) CFault
+    abbrev pub pures_step_by : ℕ → Token → List Token → List Token → Definition →
+        Result (Step WrittenPure) CFault
     pures_step_by count t tokens all static_definition = do
       or_deep_unless t (nat_le (count + 1) limits.pures)
       p ← parse_pure t tokens
@@ -643,23 +719,28 @@ module _ (last : ℕ) where
 
     -- what follows a pure function
     abbrev pub pures_step : ℕ → List Token → Result (Step WrittenPure) CFault
-    pures_step count tokens = next tokens >>= (λ t. pures_step_by count t.0 t.1 tokens (definition_of t.0.text))
+    pures_step count tokens =
+        next tokens >>= (λ t. pures_step_by count t.0 t.1 tokens (definition_of t.0.text))
 
     -- a further struct, or the first procedure
-    abbrev pub structs_step_by : Token → List Token → List Token → Definition → Result (Step WrittenStruct) CFault
-    structs_step_by t tokens all struct_definition = parse_struct t tokens >>= (λ d. Ok (one_more d.0 d.1))
+    abbrev pub structs_step_by : Token → List Token → List Token → Definition →
+        Result (Step WrittenStruct) CFault
+    structs_step_by t tokens all struct_definition =
+        parse_struct t tokens >>= (λ d. Ok (one_more d.0 d.1))
     structs_step_by t tokens all static_definition = Ok (the_end all)
     structs_step_by t tokens all void_definition = Ok (the_end all)
     structs_step_by t tokens all no_definition = syntax_at t
 
     -- what follows a struct
     abbrev pub structs_step : ℕ → List Token → Result (Step WrittenStruct) CFault
-    structs_step count tokens = next tokens >>= (λ t. structs_step_by t.0 t.1 tokens (definition_of t.0.text))
+    structs_step count tokens =
+        next tokens >>= (λ t. structs_step_by t.0 t.1 tokens (definition_of t.0.text))
 
     -- a further procedure, or the end
     abbrev pub procedures_step : ℕ → List Token → Result (Step WrittenProcedure) CFault
     procedures_step count [] = Ok (the_end [])
-    procedures_step count (t ∷ tokens) = parse_procedure t tokens (definition_of t.text) >>= (λ p. Ok (one_more p.0 p.1))
+    procedures_step count (t ∷ tokens) =
+        parse_procedure t tokens (definition_of t.text) >>= (λ p. Ok (one_more p.0 p.1))
 
     -- a whole file behind its first line
     abbrev pub parse_file : List Token → Result WrittenProgram CFault

@@ -17,7 +17,9 @@ is_one_of texts text = list_any (bytes_eq text) texts
 
 -- a text is a type
 abbrev pub is_type : List ℕ → Bool
-is_type text = is_one_of (type_text I8 ∷ type_text U8 ∷ type_text I16 ∷ type_text U16 ∷ type_text I32 ∷ type_text U32 ∷ type_text I64 ∷ []) text
+is_type text =
+    is_one_of (type_text I8 ∷ type_text U8 ∷ type_text I16 ∷ type_text U16 ∷ type_text I32
+    ∷ type_text U32 ∷ type_text I64 ∷ []) text
 
 -- a text is an operator
 abbrev pub is_op : List ℕ → Bool
@@ -25,7 +27,8 @@ is_op text = is_one_of (codes "+" ∷ codes "-" ∷ codes "*" ∷ codes "/" ∷ 
 
 -- a text is a comparison
 abbrev pub is_comparison : List ℕ → Bool
-is_comparison text = is_one_of (codes "==" ∷ codes "!=" ∷ codes "<" ∷ codes "<=" ∷ codes ">" ∷ codes ">=" ∷ []) text
+is_comparison text =
+    is_one_of (codes "==" ∷ codes "!=" ∷ codes "<" ∷ codes "<=" ∷ codes ">" ∷ codes ">=" ∷ []) text
 
 -- a text joins two conditions
 abbrev pub is_connective : List ℕ → Bool
@@ -40,7 +43,8 @@ digits_value n (d ∷ ds) = digits_value (10 * n + (d - 48)) ds
 abbrev pub is_literal : List ℕ → Bool
 is_literal [] = false
 is_literal (d ∷ ds) =
-    list_all is_ascii_digit (d ∷ ds) && (bytes_eq (d ∷ ds) (codes "0") || not (d == 48)) && nat_lt (digits_value 0 (d ∷ ds)) (2 ^ 63)
+    list_all is_ascii_digit (d ∷ ds) && (bytes_eq (d ∷ ds) (codes "0") || not (d == 48))
+    && nat_lt (digits_value 0 (d ∷ ds)) (2 ^ 63)
 
 -- what a `(` may turn out to open: an expression, a condition, or the first operand of such a `(`
 pub data Kind : Type 0 where
@@ -98,7 +102,8 @@ pub data Need : Type 0 where
   -- further procedures, or the end
   procedures_need : Need
 
--- what a need says to a token: no file goes on with it; it opens something too deep; or these needs are left
+-- what a need says to a token: no file goes on with it; it opens something too deep; or these needs
+-- are left
 pub data Reply : Type 0 where
   refuses : Reply
   too_deep : Reply
@@ -147,8 +152,16 @@ first_reply (entry ∷ rest) = if entry.0 then entry.1 else first_reply rest
 abbrev pub operand_reply : Role → ℕ → List ℕ → Reply
 operand_reply role depth text =
     within_limit depth expr_limit (first_reply
-    ((allows role expression && bytes_eq text (codes "INT64_C"), leaves (text_need (codes "(") ∷ literal_need ∷ text_need (codes ")") ∷ follow expression role depth))
-    ∷ (allows role expression && is_name text, leaves (text_need (codes "(") ∷ expr_need (depth + 1) ∷ values_need (depth + 1) ∷ follow expression role depth))
+    ((
+      allows role expression && bytes_eq text (codes "INT64_C"),
+      leaves (text_need (codes "(") ∷ literal_need ∷ text_need (codes ")")
+          ∷ follow expression role depth),
+    )
+    ∷ (
+      allows role expression && is_name text,
+      leaves (text_need (codes "(") ∷ expr_need (depth + 1) ∷ values_need (depth + 1)
+          ∷ follow expression role depth),
+    )
     ∷ (bytes_eq text (codes "("), leaves (inside_need role depth ∷ []))
     ∷ []))
 
@@ -156,8 +169,14 @@ operand_reply role depth text =
 abbrev pub inside_reply : Role → ℕ → List ℕ → Reply
 inside_reply role depth text =
     first_reply
-    ((allows role expression && bytes_eq text (codes "-"), leaves (expr_need (depth + 1) ∷ text_need (codes ")") ∷ follow expression role depth))
-    ∷ (allows role condition && bytes_eq text (codes "!"), leaves (cond_need (depth + 1) ∷ text_need (codes ")") ∷ follow condition role depth))
+    ((
+      allows role expression && bytes_eq text (codes "-"),
+      leaves (expr_need (depth + 1) ∷ text_need (codes ")") ∷ follow expression role depth),
+    )
+    ∷ (
+      allows role condition && bytes_eq text (codes "!"),
+      leaves (cond_need (depth + 1) ∷ text_need (codes ")") ∷ follow condition role depth),
+    )
     ∷ (
       allows role expression && bytes_eq text (codes "int64_t"),
       leaves
@@ -170,13 +189,26 @@ inside_reply role depth text =
 abbrev pub joint_reply : Kind → Role → ℕ → List ℕ → Reply
 joint_reply expression role depth text =
     first_reply
-    ((allows role expression && is_op text, leaves (expr_need depth ∷ text_need (codes ")") ∷ follow expression role (depth - 1)))
-    ∷ (allows role condition && is_comparison text, leaves (expr_need depth ∷ text_need (codes ")") ∷ follow condition role (depth - 1)))
+    ((
+      allows role expression && is_op text,
+      leaves (expr_need depth ∷ text_need (codes ")") ∷ follow expression role (depth - 1)),
+    )
+    ∷ (
+      allows role condition && is_comparison text,
+      leaves (expr_need depth ∷ text_need (codes ")") ∷ follow condition role (depth - 1)),
+    )
     ∷ [])
 joint_reply condition role depth text =
     first_reply
-    ((allows role condition && is_connective text, leaves (cond_need depth ∷ text_need (codes ")") ∷ follow condition role (depth - 1)))
-    ∷ (allows role expression && bytes_eq text (codes "?"), leaves (expr_need depth ∷ text_need (codes ":") ∷ expr_need depth ∷ text_need (codes ")") ∷ follow expression role (depth - 1)))
+    ((
+      allows role condition && is_connective text,
+      leaves (cond_need depth ∷ text_need (codes ")") ∷ follow condition role (depth - 1)),
+    )
+    ∷ (
+      allows role expression && bytes_eq text (codes "?"),
+      leaves (expr_need depth ∷ text_need (codes ":") ∷ expr_need depth ∷ text_need (codes ")")
+          ∷ follow expression role (depth - 1)),
+    )
     ∷ [])
 
 -- an index that opens at a depth, behind its `[`
@@ -193,11 +225,19 @@ stmt_reply depth text =
     within_limit depth stmt_limit (first_reply
     ((
       bytes_eq text (codes "s"),
-      leaves (text_need (codes "->") ∷ name_need ∷ index_need ∷ text_need (codes "=") ∷ text_need (codes "(")
+      leaves (text_need (codes "->") ∷ name_need ∷ index_need ∷ text_need (codes "=")
+          ∷ text_need (codes "(")
           ∷ type_need ∷ text_need (codes ")") ∷ expr_need 1 ∷ text_need (codes ";") ∷ []),
     )
-    ∷ (bytes_eq text (codes "if"), leaves (cond_need 1 ∷ text_need (codes "{") ∷ stmts_need (depth + 1) ∷ else_need depth ∷ []))
-    ∷ (is_name text, leaves (text_need (codes "(") ∷ target_need ∷ arguments_need ∷ text_need (codes ";") ∷ []))
+    ∷ (
+      bytes_eq text (codes "if"),
+      leaves (cond_need 1 ∷ text_need (codes "{") ∷ stmts_need (depth + 1) ∷ else_need depth
+          ∷ []),
+    )
+    ∷ (
+      is_name text,
+      leaves (text_need (codes "(") ∷ target_need ∷ arguments_need ∷ text_need (codes ";") ∷ []),
+    )
     ∷ []))
 
 -- a token that opens a field
@@ -210,15 +250,20 @@ field_reply text =
 
 -- what is left of a struct behind `struct`, and of a procedure behind `void`
 abbrev pub struct_needs : List Need
-struct_needs = name_need ∷ text_need (codes "{") ∷ field_need ∷ fields_need ∷ text_need (codes ";") ∷ structs_need ∷ []
+struct_needs = name_need ∷ text_need (codes "{") ∷ field_need ∷ fields_need ∷ text_need (codes ";")
+    ∷ structs_need ∷ []
 
 -- what is left of a procedure behind `void`
 abbrev pub procedure_needs : List Need
-procedure_needs = name_need ∷ text_need (codes "(") ∷ text_need (codes "struct") ∷ name_need ∷ text_need (codes "*") ∷ text_need (codes "s") ∷ params_need 0 ∷ text_need (codes "{") ∷ stmts_need 1 ∷ procedures_need ∷ []
+procedure_needs = name_need ∷ text_need (codes "(") ∷ text_need (codes "struct") ∷ name_need
+    ∷ text_need (codes "*") ∷ text_need (codes "s") ∷ params_need 0 ∷ text_need (codes "{")
+    ∷ stmts_need 1 ∷ procedures_need ∷ []
 
 -- what is left of a pure function behind `static`, which is the one of this number
 abbrev pub pure_needs : ℕ → List Need
-pure_needs number = text_need (codes "int64_t") ∷ name_need ∷ text_need (codes "(") ∷ pure_param_need 1 ∷ pure_params_need 1 ∷ text_need (codes "{") ∷ text_need (codes "return") ∷ expr_need 1 ∷ text_need (codes ";") ∷ text_need (codes "}") ∷ pures_need number ∷ []
+pure_needs number = text_need (codes "int64_t") ∷ name_need ∷ text_need (codes "(")
+    ∷ pure_param_need 1 ∷ pure_params_need 1 ∷ text_need (codes "{") ∷ text_need (codes "return")
+    ∷ expr_need 1 ∷ text_need (codes ";") ∷ text_need (codes "}") ∷ pures_need number ∷ []
 
 -- a token that opens a procedure
 abbrev pub procedures_reply : List ℕ → Reply
@@ -230,7 +275,9 @@ procedures_reply text =
 
 -- `,` and then these needs, or `)`
 abbrev pub comma_reply : List Need → List ℕ → Reply
-comma_reply needs text = first_reply ((bytes_eq text (codes ","), leaves needs) ∷ (bytes_eq text (codes ")"), leaves []) ∷ [])
+comma_reply needs text =
+    first_reply ((bytes_eq text (codes ","), leaves needs) ∷ (bytes_eq text (codes ")"), leaves [])
+    ∷ [])
 
 -- what a need says to a token; what may be left out is looked at by `step_needs` first
 abbrev pub reply_of : Need → List ℕ → Reply
@@ -243,40 +290,72 @@ reply_of (inside_need role depth) text = inside_reply role depth text
 reply_of (joint_need kind role depth) text = joint_reply kind role depth text
 reply_of (values_need depth) text = comma_reply (expr_need depth ∷ values_need depth ∷ []) text
 reply_of (leaf_need depth) text =
-    first_reply ((bytes_eq text (codes "s"), leaves (text_need (codes "->") ∷ name_need ∷ tail_need depth ∷ [])) ∷ (is_name text, leaves [])
+    first_reply
+    ((
+      bytes_eq text (codes "s"),
+      leaves (text_need (codes "->") ∷ name_need ∷ tail_need depth ∷ []),
+    )
+    ∷ (is_name text, leaves [])
     ∷ [])
 reply_of (tail_need depth) text =
-    first_reply ((bytes_eq text (codes "."), leaves (name_need ∷ [])) ∷ (bytes_eq text (codes "["), leaves (index_needs depth)) ∷ [])
+    first_reply ((bytes_eq text (codes "."), leaves (name_need ∷ []))
+    ∷ (bytes_eq text (codes "["), leaves (index_needs depth)) ∷ [])
 reply_of index_need text = only_if (bytes_eq text (codes "[")) (leaves (index_needs 1))
 reply_of length_need text = only_if (bytes_eq text (codes "[")) (leaves length_needs)
 reply_of target_need text =
-    first_reply ((bytes_eq text (codes "s"), leaves []) ∷ (bytes_eq text (codes "&"), leaves (text_need (codes "s") ∷ text_need (codes "->") ∷ name_need ∷ [])) ∷ [])
+    first_reply ((bytes_eq text (codes "s"), leaves [])
+    ∷ (
+      bytes_eq text (codes "&"),
+      leaves (text_need (codes "s") ∷ text_need (codes "->") ∷ name_need ∷ []),
+    ) ∷ [])
 reply_of arguments_need text =
-    comma_reply (text_need (codes "(") ∷ type_need ∷ text_need (codes ")") ∷ expr_need 1 ∷ arguments_need ∷ []) text
+    comma_reply (text_need (codes "(") ∷ type_need ∷ text_need (codes ")") ∷ expr_need 1
+    ∷ arguments_need ∷ []) text
 reply_of (stmts_need depth) text =
-    if bytes_eq text (codes "}") then leaves [] else with_needs (stmt_reply depth text) (stmts_need depth ∷ [])
-reply_of (else_need depth) text = only_if (bytes_eq text (codes "else")) (leaves (text_need (codes "{") ∷ stmts_need (depth + 1) ∷ []))
-reply_of (pure_param_need number) text = within_limit number param_limit (only_if (bytes_eq text (codes "int64_t")) (leaves (name_need ∷ [])))
-reply_of (pure_params_need count) text = comma_reply (pure_param_need (count + 1) ∷ pure_params_need (count + 1) ∷ []) text
-reply_of (param_need number) text = within_limit number param_limit (only_if (is_type text) (leaves (name_need ∷ [])))
-reply_of (params_need count) text = comma_reply (param_need (count + 1) ∷ params_need (count + 1) ∷ []) text
+    if bytes_eq text (codes "}") then leaves []
+    else with_needs (stmt_reply depth text) (stmts_need depth ∷ [])
+reply_of (else_need depth) text =
+    only_if (bytes_eq text (codes "else"))
+    (leaves (text_need (codes "{") ∷ stmts_need (depth + 1) ∷ []))
+reply_of (pure_param_need number) text =
+    within_limit number param_limit
+    (only_if (bytes_eq text (codes "int64_t")) (leaves (name_need ∷ [])))
+reply_of (pure_params_need count) text =
+    comma_reply (pure_param_need (count + 1) ∷ pure_params_need (count + 1) ∷ []) text
+reply_of (param_need number) text =
+    within_limit number param_limit (only_if (is_type text) (leaves (name_need ∷ [])))
+reply_of (params_need count) text =
+    comma_reply (param_need (count + 1) ∷ params_need (count + 1) ∷ []) text
 reply_of field_need text = field_reply text
 reply_of fields_need text =
-    if bytes_eq text (codes "}") then leaves [] else with_needs (field_reply text) (fields_need ∷ [])
+    if bytes_eq text (codes "}") then leaves []
+    else with_needs (field_reply text) (fields_need ∷ [])
 reply_of (pures_need count) text =
-    first_reply ((bytes_eq text (codes "static"), within_limit (count + 1) pure_limit (leaves (pure_needs (count + 1)))) ∷ (bytes_eq text (codes "struct"), leaves struct_needs) ∷ [])
-reply_of structs_need text = if bytes_eq text (codes "struct") then leaves struct_needs else procedures_reply text
+    first_reply
+    ((
+      bytes_eq text (codes "static"),
+      within_limit (count + 1) pure_limit (leaves (pure_needs (count + 1))),
+    )
+    ∷ (bytes_eq text (codes "struct"), leaves struct_needs) ∷ [])
+reply_of structs_need text =
+    if bytes_eq text (codes "struct") then leaves struct_needs else procedures_reply text
 reply_of procedures_need text = procedures_reply text
 
--- what a list of needs says to a token; a `.` with a name, an index, a length, and an `else` with its block may be left out
+-- what a list of needs says to a token; a `.` with a name, an index, a length, and an `else` with
+-- its block may be left out
 abbrev pub step_needs : List Need → List ℕ → Reply
 step_needs [] text = refuses
 step_needs (tail_need depth ∷ needs) text =
     if bytes_eq text (codes ".") then leaves (name_need ∷ needs) else
-    (if bytes_eq text (codes "[") then leaves (index_needs depth ++ needs) else step_needs needs text)
-step_needs (index_need ∷ needs) text = if bytes_eq text (codes "[") then leaves (index_needs 1 ++ needs) else step_needs needs text
-step_needs (length_need ∷ needs) text = if bytes_eq text (codes "[") then leaves (length_needs ++ needs) else step_needs needs text
-step_needs (else_need depth ∷ needs) text = if bytes_eq text (codes "else") then leaves (text_need (codes "{") ∷ stmts_need (depth + 1) ∷ needs) else step_needs needs text
+    (if bytes_eq text (codes "[") then leaves (index_needs depth ++ needs)
+    else step_needs needs text)
+step_needs (index_need ∷ needs) text =
+    if bytes_eq text (codes "[") then leaves (index_needs 1 ++ needs) else step_needs needs text
+step_needs (length_need ∷ needs) text =
+    if bytes_eq text (codes "[") then leaves (length_needs ++ needs) else step_needs needs text
+step_needs (else_need depth ∷ needs) text =
+    if bytes_eq text (codes "else")
+    then leaves (text_need (codes "{") ∷ stmts_need (depth + 1) ∷ needs) else step_needs needs text
 step_needs (need ∷ needs) text = with_needs (reply_of need text) needs
 
 -- the file may end here
@@ -297,7 +376,8 @@ on_reply (leaves needs) line go = go needs
 -- the first fault of syntax or depth in these tokens; `last` is the text's last line
 abbrev pub token_fault : List Need → ℕ → List Token → Option CFault
 token_fault needs last [] = if may_end needs then None else Some (fault_at last Syntax)
-token_fault needs last (t ∷ tokens) = on_reply (step_needs needs t.text) t.line (λ left. token_fault left last tokens)
+token_fault needs last (t ∷ tokens) =
+    on_reply (step_needs needs t.text) t.line (λ left. token_fault left last tokens)
 
 -- what a whole file has to be, behind its first line
 abbrev pub file_needs : List Need

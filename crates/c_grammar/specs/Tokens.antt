@@ -17,7 +17,8 @@ is_white_space b = (b == 32) || (b == 9) || (b == 10) || (b == 13)
 -- two bytes that are one token
 abbrev pub is_double_sign : ℕ → ℕ → Bool
 is_double_sign b c =
-    list_any (λ sign. bytes_eq (b ∷ c ∷ []) sign) (codes "->" ∷ codes "==" ∷ codes "!=" ∷ codes "<=" ∷ codes ">=" ∷ codes "&&" ∷ codes "||" ∷ [])
+    list_any (λ sign. bytes_eq (b ∷ c ∷ []) sign) (codes "->" ∷ codes "==" ∷ codes "!=" ∷ codes "<="
+    ∷ codes ">=" ∷ codes "&&" ∷ codes "||" ∷ [])
 
 -- what a byte begins
 pub data ByteClass : Type 0 where
@@ -26,7 +27,9 @@ pub data ByteClass : Type 0 where
 -- the class of a byte
 abbrev pub class_of : ℕ → ByteClass
 class_of b =
-    if is_white_space b then blank_class else (if is_word_start b then word_class else (if is_ascii_digit b then digit_class else sign_class))
+    if is_white_space b then blank_class
+    else (if is_word_start b then word_class
+    else (if is_ascii_digit b then digit_class else sign_class))
 
 -- a piece of a text: a blank byte, a comment with so many bytes after its first, or a token
 pub data Piece : Type 0 where
@@ -38,7 +41,8 @@ pub data Piece : Type 0 where
 abbrev pub comment_end : List ℕ → Option ℕ
 comment_end [] = None
 comment_end (b ∷ []) = None
-comment_end (b ∷ c ∷ bs) = if (b == 42) && (c == 47) then Some 2 else option_map (λ n. n + 1) (comment_end (c ∷ bs))
+comment_end (b ∷ c ∷ bs) =
+    if (b == 42) && (c == 47) then Some 2 else option_map (λ n. n + 1) (comment_end (c ∷ bs))
 
 -- a comment; without its end it is a token that no grammar has
 abbrev pub comment_piece : Option ℕ → Piece
@@ -67,12 +71,14 @@ line_after b line = if b == 10 then line + 1 else line
 abbrev pub piece_tokens : Piece → ℕ → (ℕ → List Token) → List Token
 piece_tokens blank line rest = rest 0
 piece_tokens (comment more) line rest = rest more
-piece_tokens (token text) line rest = record { text = text; line = reported_number line } ∷ rest (length text - 1)
+piece_tokens (token text) line rest =
+    record { text = text; line = reported_number line } ∷ rest (length text - 1)
 
 -- the tokens of a text, whose first `skip` bytes belong to a piece before it
 abbrev pub tokens_from : (skip line : ℕ) → List ℕ → List Token
 tokens_from skip line [] = []
-tokens_from zero line (b ∷ bs) = piece_tokens (piece_of (class_of b) b bs) line (λ more. tokens_from more (line_after b line) bs)
+tokens_from zero line (b ∷ bs) =
+    piece_tokens (piece_of (class_of b) b bs) line (λ more. tokens_from more (line_after b line) bs)
 tokens_from (suc skip) line (b ∷ bs) = tokens_from skip (line_after b line) bs
 
 -- the end of a line
@@ -86,7 +92,8 @@ header_line = codes "#include <stdint.h>"
 -- the first line is the include line, but for a byte 13 at its end
 abbrev pub has_header : List ℕ → Bool
 has_header bytes =
-    bytes_eq (before_first is_line_end bytes) header_line || bytes_eq (before_first is_line_end bytes) (header_line ++ 13 ∷ [])
+    bytes_eq (before_first is_line_end bytes) header_line
+    || bytes_eq (before_first is_line_end bytes) (header_line ++ 13 ∷ [])
 
 -- the tokens behind the first line
 abbrev pub tokens_of : List ℕ → List Token

@@ -1,4 +1,5 @@
--- A program as it is written: names in place of positions, with the lines of what a rule may refuse.
+-- A program as it is written: names in place of positions, with the lines of what a rule may
+-- refuse.
 use Rattle.std.specs.Prelude.{ℕ, Bool, List}
 use Rattle.mc_base.specs.declared.base.Compare.{Compare}
 use Rattle.c_syntax.specs.declared.code.BinOp.{BinOp}
@@ -49,10 +50,12 @@ mutual
   -- a statement
   pub data WrittenStmt : Type 0 where
     assign : (line : ℕ) (field : List ℕ) (cast : CType) (value : WrittenExpr) → WrittenStmt
-    assign_at : (line : ℕ) (field : List ℕ) (index : WrittenExpr) (cast : CType) (value : WrittenExpr) → WrittenStmt
+    assign_at : (line : ℕ) (field : List ℕ) (index : WrittenExpr) (cast : CType)
+        (value : WrittenExpr) → WrittenStmt
     branch : (line : ℕ) (test : WrittenCond) (on_true : WrittenStmts) → WrittenStmt
     branch_else : (line : ℕ) (test : WrittenCond) (on_true on_false : WrittenStmts) → WrittenStmt
-    call : (line : ℕ) (procedure : List ℕ) (target : WrittenTarget) (values : WrittenArguments) → WrittenStmt
+    call : (line : ℕ) (procedure : List ℕ) (target : WrittenTarget) (values : WrittenArguments) →
+        WrittenStmt
 
   -- a row of statements
   pub data WrittenStmts : Type 0 where

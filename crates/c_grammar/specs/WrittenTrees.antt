@@ -35,7 +35,8 @@ abbrev mutual
   expr_of (Neg' p operand) = neg (expr_of operand)
   expr_of (Read line leaf) = read line (leaf_of leaf)
   expr_of (Binary' op p left q right) = binary op (expr_of left) (expr_of right)
-  expr_of (Pick' p test q on_true r on_false) = pick (cond_of test) (expr_of on_true) (expr_of on_false)
+  expr_of (Pick' p test q on_true r on_false) =
+      pick (cond_of test) (expr_of on_true) (expr_of on_false)
   expr_of (Pure' line function shape values) = pure line function.now (exprs_of values)
   expr_of (Item' line field p index) = item line field.now (expr_of index)
 
@@ -60,7 +61,8 @@ abbrev pub argument_of : Argument → CType × WrittenExpr
 argument_of a = (a.cast, expr_of a.value)
 
 -- a choice, with or without its `else`
-abbrev pub choice_of : (line : ℕ) → WrittenCond → WrittenStmts → (has_else : Bool) → WrittenStmts → WrittenStmt
+abbrev pub choice_of : (line : ℕ) → WrittenCond → WrittenStmts → (has_else : Bool) → WrittenStmts →
+    WrittenStmt
 choice_of line test on_true true on_false = branch_else line test on_true on_false
 choice_of line test on_true false on_false = branch line test on_true
 
@@ -68,9 +70,12 @@ abbrev mutual
   -- a statement
   pub stmt_of : Stmt → WrittenStmt
   stmt_of (Set line field cast value) = assign line field.now cast (expr_of value)
-  stmt_of (SetAt line field index cast value) = assign_at line field.now (expr_of index) cast (expr_of value)
-  stmt_of (If' line test p on_true has_else q on_false) = choice_of line (cond_of test) (stmts_of on_true) has_else (stmts_of on_false)
-  stmt_of (Call line procedure target values) = call line procedure.now (target_of target) (arguments_from (map argument_of values.items))
+  stmt_of (SetAt line field index cast value) =
+      assign_at line field.now (expr_of index) cast (expr_of value)
+  stmt_of (If' line test p on_true has_else q on_false) =
+      choice_of line (cond_of test) (stmts_of on_true) has_else (stmts_of on_false)
+  stmt_of (Call line procedure target values) =
+      call line procedure.now (target_of target) (arguments_from (map argument_of values.items))
 
   -- statements
   pub stmts_of : {m : _} → Row_of-WrittenStmt m → WrittenStmts
@@ -87,7 +92,13 @@ pure_param_of p = record { line = p.line; name = p.name.now }
 
 -- a pure function
 abbrev pub pure_of : PureFunction → WrittenPure
-pure_of p = record { line = p.line; name = p.name.now; params = map pure_param_of p.params.items; return_line = p.return_line; body = expr_of p.body }
+pure_of p = record {
+  line = p.line;
+  name = p.name.now;
+  params = map pure_param_of p.params.items;
+  return_line = p.return_line;
+  body = expr_of p.body;
+}
 
 -- the kind of a field
 abbrev pub kind_of : Kind → WrittenKind
@@ -106,8 +117,19 @@ struct_of s = record { line = s.line; name = s.name.now; fields = map field_of s
 -- a procedure
 abbrev pub procedure_of : Procedure → WrittenProcedure
 procedure_of p =
-    record { line = p.line; private = p.private; name = p.name.now; of = p.of.now; params = map param_of p.params.items; body = stmts_from (map stmt_of p.body.items) }
+    record {
+      line = p.line;
+      private = p.private;
+      name = p.name.now;
+      of = p.of.now;
+      params = map param_of p.params.items;
+      body = stmts_from (map stmt_of p.body.items);
+    }
 
 -- a program
 abbrev pub program_of : Program → WrittenProgram
-program_of p = record { pures = map pure_of p.pures.items; structs = map struct_of p.structs.items; procedures = map procedure_of p.procedures.items }
+program_of p = record {
+  pures = map pure_of p.pures.items;
+  structs = map struct_of p.structs.items;
+  procedures = map procedure_of p.procedures.items;
+}

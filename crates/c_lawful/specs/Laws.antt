@@ -21,7 +21,8 @@ OfEmitted Holds =
 
 -- and behind whatever functions of the prelude
 abbrev BehindPrelude : (LocalSystem → SystemTree → List PureTree → Type 0) → Type 0
-BehindPrelude Holds = OfEmitted (λ local code. (pures : List PureTree) → IsPrelude pures → Holds local code pures)
+BehindPrelude Holds =
+    OfEmitted (λ local code. (pures : List PureTree) → IsPrelude pures → Holds local code pures)
 
 -- ---- Its parts
 

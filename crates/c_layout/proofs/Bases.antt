@@ -10,7 +10,8 @@ use Rattle.mc_profile.specs.Headers.{header_functions}
 abbrev pub procedures : ChildUse → ℕ
 procedures u = length (header_functions u.header) + 3
 
-pub base-within : (count bound : ℕ) (children : List ChildUse) (i : ℕ) (u : ChildUse) → i < length children → count + sum_by procedures children < bound →
+pub base-within : (count bound : ℕ) (children : List ChildUse) (i : ℕ) (u : ChildUse) → i < length children →
+    count + sum_by procedures children < bound →
     count + sum_by procedures (take i children) + procedures (get_or children i u) < bound
 base-within count bound children i u inside fits = let part = sum_by_more_le procedures children i u inside in omega (arith, part, fits)
 
@@ -19,5 +20,7 @@ pub base-more : (count : ℕ) (children : List ChildUse) (i : ℕ) (u : ChildUse
 base-more count children i u inside = let more = sum_by_more procedures children i u inside in omega (arith, more)
 
 pub bases-more : (count : ℕ) (children : List ChildUse) (i : ℕ) →
-    map (λ k. count + sum_by procedures (take k children)) (range_with_len 0 (i + 1 + 1)) ≡ map (λ k. count + sum_by procedures (take k children)) (range_with_len 0 (i + 1)) ++ (count + sum_by procedures (take (i + 1) children)) ∷ []
+    map (λ k. count + sum_by procedures (take k children)) (range_with_len 0 (i + 1 + 1))
+    ≡ map (λ k. count + sum_by procedures (take k children)) (range_with_len 0 (i + 1))
+    ++ (count + sum_by procedures (take (i + 1) children)) ∷ []
 bases-more count children i = map-range_with_len_more (λ k. count + sum_by procedures (take k children)) 0 (i + 1) (i + 1) (omega arith)

@@ -20,7 +20,9 @@ place-at keys k i e = subst (λ o. unwrap_or o 0 ≤ length keys) e (place-withi
 -- ---- The fields of a system
 
 -- what a value of the program has, of the system that it is seen as
-pub has-fields : (i : Inside) (self : Scheduled) → HasFields (record { local = i.local.now; schedule = i.schedule.now }) i.values i.singles i.lines i.counters → record { local = i.local.now; schedule = i.schedule.now } ≡ self →
+pub has-fields : (i : Inside) (self : Scheduled) →
+    HasFields (record { local = i.local.now; schedule = i.schedule.now }) i.values i.singles i.lines i.counters →
+    record { local = i.local.now; schedule = i.schedule.now } ≡ self →
     HasFields self i.values i.singles i.lines i.counters
 has-fields i self has same = subst (λ (of : Scheduled). HasFields of i.values i.singles i.lines i.counters) same has
 
@@ -41,17 +43,21 @@ module _ (of : Scheduled) (v s l c : List ℕ) (has : HasFields of v s l c) wher
   pub trigger-is : length v + length s + 3 * length l ≡ trigger_field of.local
   trigger-is = omega (arith, value-count, single-count, line-count)
 
-  pub all-fit : (length v + length s + 3 * length l + cond (is_triggered of.local.control) 1 0 + length of.local.children) + length c ≤ 2 ^ 31
+  pub all-fit : (length v + length s + 3 * length l + cond (is_triggered of.local.control) 1 0
+      + length of.local.children) + length c ≤ 2 ^ 31
   all-fit = let few = has.emittable.fields in omega (arith, few, trigger-is, counter-count)
 
   pub value-is : (b : ℕ) → unwrap_or (first_place v b) 0 ≡ value_field of.local b
   value-is b = ap (λ keys. unwrap_or (first_place keys b) 0) has.values
 
   pub memory-is : (b : ℕ) → length v + unwrap_or (first_place s b) 0 ≡ memory_field of.local b
-  memory-is b = let at : unwrap_or (first_place s b) 0 ≡ unwrap_or (first_place (numbers (single_rows of.local)) b) 0 = ap (λ keys. unwrap_or (first_place keys b) 0) has.singles in omega (arith, at, value-count)
+  memory-is b = let at : unwrap_or (first_place s b) 0 ≡ unwrap_or (first_place (numbers (single_rows of.local)) b) 0 =
+      ap (λ keys. unwrap_or (first_place keys b) 0) has.singles in omega (arith, at, value-count)
 
   pub ring-is : (b : ℕ) → length v + length s + 3 * unwrap_or (first_place l b) 0 ≡ ring_field of.local b
-  ring-is b = let at : unwrap_or (first_place l b) 0 ≡ unwrap_or (first_place (numbers (line_rows of.local)) b) 0 = ap (λ keys. unwrap_or (first_place keys b) 0) has.lines in omega (arith, at, value-count, single-count)
+  ring-is b = let at : unwrap_or (first_place l b) 0 ≡ unwrap_or (first_place (numbers (line_rows of.local)) b) 0 =
+      ap (λ keys. unwrap_or (first_place keys b) 0) has.lines in omega (arith, at, value-count, single-count)
 
-  pub counter-is : (g : ℕ) → option_map (λ k. child_field of.local (length of.local.children) + k) (first_place c g) ≡ counter_field of.local of.schedule g
+  pub counter-is : (g : ℕ) → option_map (λ k. child_field of.local (length of.local.children) + k) (first_place c g)
+      ≡ counter_field of.local of.schedule g
   counter-is g = ap (λ keys. option_map (λ k. child_field of.local (length of.local.children) + k) (first_place keys g)) has.counters

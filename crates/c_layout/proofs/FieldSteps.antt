@@ -15,9 +15,11 @@ use Rattle.c_system.specs.Fields.{counter_slot, shared_groups, code_slots}
 use Rattle.c_layout.specs.StructFields.{filled, trigger_slots}
 use Rattle.c_layout.proofs.Steps.{map-map}
 
-pub field-more : (list new : List Field) (f : Field) (before front : List FieldTree) → new ≡ list ++ f ∷ [] → field_trees list ≡ before ++ front → field_trees new ≡ before ++ (front ++ field_tree f ∷ [])
+pub field-more : (list new : List Field) (f : Field) (before front : List FieldTree) → new ≡ list ++ f ∷ [] →
+    field_trees list ≡ before ++ front → field_trees new ≡ before ++ (front ++ field_tree f ∷ [])
 field-more list new f before front pushed kept =
-    ap field_trees pushed ∙ map-append field_tree list (f ∷ []) ∙ ap (λ l. l ++ field_tree f ∷ []) kept ∙ append_assoc before front (field_tree f ∷ [])
+    ap field_trees pushed ∙ map-append field_tree list (f ∷ []) ∙ ap (λ l. l ++ field_tree f ∷ []) kept
+    ∙ append_assoc before front (field_tree f ∷ [])
 
 -- ---- All fields
 
@@ -26,8 +28,11 @@ map-flat g f [] = refl
 map-flat g f (x ∷ xs) = map-append g (f x) (flat_map f xs) ∙ ap (λ ys. map g (f x) ++ ys) (map-flat g f xs)
 
 pub slots-are : (local : LocalSystem) →
-    map (λ r. slot_field (value r)) (filter (λ r. has_value r.kind) local.rows) ++ map (λ r. slot_field (memory r)) (filter (λ r. is_single r.op) local.rows) ++ flat_map (λ r. map slot_field (ring_slots r)) (filter (λ r. is_line r.op) local.rows)
-    ++ map slot_field (trigger_slots local.control) ++ map (λ e. slot_field (instance e.0 e.1)) (enumerate_from 0 local.children) ≡ map slot_field (own_slots local)
+    map (λ r. slot_field (value r)) (filter (λ r. has_value r.kind) local.rows)
+    ++ map (λ r. slot_field (memory r)) (filter (λ r. is_single r.op) local.rows)
+    ++ flat_map (λ r. map slot_field (ring_slots r)) (filter (λ r. is_line r.op) local.rows)
+    ++ map slot_field (trigger_slots local.control)
+    ++ map (λ e. slot_field (instance e.0 e.1)) (enumerate_from 0 local.children) ≡ map slot_field (own_slots local)
 slots-are local =
     let v : List Slot = map value (filter (λ r. has_value r.kind) local.rows) in
     let s : List Slot = map memory (filter (λ r. is_single r.op) local.rows) in
@@ -38,7 +43,9 @@ slots-are local =
     ∙ ap₂ (λ (a b : List FieldTree). a ++ b)
     (map-append slot_field (v ++ s ++ l) t ∙ ap (λ (a : List FieldTree). a ++ map slot_field t)
     (map-append slot_field (v ++ s) l ∙ ap₂ (λ (a b : List FieldTree). a ++ b)
-    (map-append slot_field v s ∙ ap₂ (λ (a b : List FieldTree). a ++ b) (map-map slot_field value (filter (λ r. has_value r.kind) local.rows)) (map-map slot_field memory (filter (λ r. is_single r.op) local.rows)))
+    (map-append slot_field v s
+    ∙ ap₂ (λ (a b : List FieldTree). a ++ b) (map-map slot_field value (filter (λ r. has_value r.kind) local.rows))
+    (map-map slot_field memory (filter (λ r. is_single r.op) local.rows)))
     (map-flat slot_field ring_slots (filter (λ r. is_line r.op) local.rows))))
     (map-map slot_field (λ (e : ℕ × ChildUse). instance e.0 e.1) (enumerate_from 0 local.children)))
 
@@ -47,7 +54,10 @@ filled-map [] = refl
 filled-map (s ∷ slots) = refl
 
 pub all-slots-are : (local : LocalSystem) (schedule : SystemSchedule) →
-    filled (map slot_field (own_slots local) ++ map (λ g. slot_field (counter_slot g)) (shared_groups schedule)) ≡ map slot_field (code_slots local schedule)
+    filled (map slot_field (own_slots local) ++ map (λ g. slot_field (counter_slot g)) (shared_groups schedule))
+    ≡ map slot_field (code_slots local schedule)
 all-slots-are local schedule =
-    ap (λ (l : List FieldTree). filled (map slot_field (own_slots local) ++ l)) (sym (map-map slot_field counter_slot (shared_groups schedule)))
-    ∙ ap filled (sym (map-append slot_field (own_slots local) (map counter_slot (shared_groups schedule)))) ∙ filled-map (own_slots local ++ map counter_slot (shared_groups schedule))
+    ap (λ (l : List FieldTree). filled (map slot_field (own_slots local) ++ l))
+    (sym (map-map slot_field counter_slot (shared_groups schedule)))
+    ∙ ap filled (sym (map-append slot_field (own_slots local) (map counter_slot (shared_groups schedule))))
+    ∙ filled-map (own_slots local ++ map counter_slot (shared_groups schedule))

@@ -14,14 +14,20 @@ use Rattle.c_layout.specs.Laid.{Laid}
 use Rattle.c_layout.specs.Tables.{HasTables}
 
 -- what a value of the program has, of the system that it is seen as
-pub has-tables : (i : Inside) (self : Laid) → HasTables (record { local = i.fields.local; profile = i.profile.now; schedule = i.fields.schedule }) i.sources i.nodes.items i.groups.items i.bases.items i.ports.items →
-    record { local = i.fields.local; profile = i.profile.now; schedule = i.fields.schedule } ≡ self → HasTables self i.sources i.nodes.items i.groups.items i.bases.items i.ports.items
+pub has-tables : (i : Inside) (self : Laid) →
+    HasTables (record { local = i.fields.local; profile = i.profile.now; schedule = i.fields.schedule }) i.sources
+    i.nodes.items i.groups.items i.bases.items i.ports.items →
+    record { local = i.fields.local; profile = i.profile.now; schedule = i.fields.schedule } ≡ self →
+    HasTables self i.sources i.nodes.items i.groups.items i.bases.items i.ports.items
 has-tables i self has same = subst (λ (of : Laid). HasTables of i.sources i.nodes.items i.groups.items i.bases.items i.ports.items) same has
 
 -- ---- Procedures
 
-pub base-of-all : (local : LocalSystem) (count : ℕ) → child_base local count (length local.children) ≡ count + sum_by (λ u. length (header_functions u.header) + 3) local.children
-base-of-all local count = ap (λ (us : List ChildUse). count + sum_by (λ u. length (header_functions u.header) + 3) us) (take_all (length local.children) local.children (omega arith))
+pub base-of-all : (local : LocalSystem) (count : ℕ) → child_base local count (length local.children) ≡ count
+    + sum_by (λ u. length (header_functions u.header) + 3) local.children
+base-of-all local count =
+    ap (λ (us : List ChildUse). count + sum_by (λ u. length (header_functions u.header) + 3) us)
+    (take_all (length local.children) local.children (omega arith))
 
 pub own-within : (local : LocalSystem) (schedule : SystemSchedule) → IsEmittable local schedule → own_count schedule ≤ 2 ^ 31
 own-within local schedule is = let few = is.procedures in let all = base-of-all local (own_count schedule) in omega (arith, few, all)

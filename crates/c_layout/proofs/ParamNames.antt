@@ -23,5 +23,8 @@ bytes-apart a b apart = by (bytes_eq a b) refl
 pub inputs-same : (j k : ℕ) → j < 2 ^ 64 → k < 2 ^ 64 → bytes_eq (input_name j) (input_name k) ≡ eqb j k
 inputs-same j k low high = elim (eqb_tells j k) [
   | inl same ↦ bytes-same (input_name j) (input_name k) (ap input_name same.1) ∙ sym same.0
-  | inr apart ↦ bytes-apart (input_name j) (input_name k) (λ e. apart.1 (decimal_injective j k low high (append_cancel_left (117 ∷ []) (decimal j) (decimal k) e))) ∙ sym apart.0
+  | inr apart ↦
+      bytes-apart (input_name j) (input_name k)
+      (λ e. apart.1 (decimal_injective j k low high (append_cancel_left (117 ∷ []) (decimal j) (decimal k) e)))
+      ∙ sym apart.0
 ]

@@ -19,7 +19,8 @@ use Rattle.c_layout.specs.Laid.{Laid, Scheduled}
 abbrev pub TellsPlaces : List ℕ → (ℕ → Option ℕ) → Type 0
 TellsPlaces keys told = (k : ℕ) → told k ≡ first_place keys k
 
--- the rows with a value, with the memory of one sample and with that of several, and the groups with a counter, by number
+-- the rows with a value, with the memory of one sample and with that of several, and the groups
+-- with a counter, by number
 pub record HasFields (of : Scheduled) (valued single lined counted : List ℕ) : Type 0 where
   pub emittable : IsEmittable of.local of.schedule
   pub values : valued ≡ numbers (value_rows of.local)
@@ -28,16 +29,21 @@ pub record HasFields (of : Scheduled) (valued single lined counted : List ℕ) :
   pub counters : counted ≡ shared_groups of.schedule
 
 -- the tables of a layout beside its fields
-pub record HasTables (of : Laid) (found : List Source) (placed : List Place) (grouped based : List ℕ) (typed : List (Port × FixType)) : Type 0 where
+pub record HasTables (of : Laid) (found : List Source) (placed : List Place)
+    (grouped based : List ℕ) (typed : List (Port × FixType)) : Type 0 where
   pub emittable : IsEmittable of.local of.schedule
   pub are_sources : found ≡ sources of.local
   pub nodes : placed ≡ node_places of.local
   pub groups : grouped ≡ code_groups of.schedule
-  pub bases : based ≡ map (child_base of.local (own_count of.schedule)) (range_with_len 0 (length of.local.children + 1))
+  pub bases : based
+      ≡ map (child_base of.local (own_count of.schedule))
+      (range_with_len 0 (length of.local.children + 1))
   pub ports : typed ≡ port_types (own_header of.local of.profile)
 
 -- these are the tables of a layout of the system, whatever its profile
-abbrev pub AreTables : (of : Scheduled) → List Source → List Place → List ℕ → List ℕ → List (Port × FixType) → Type 0
+abbrev pub AreTables : (of : Scheduled) → List Source → List Place → List ℕ → List ℕ →
+    List (Port × FixType) → Type 0
 AreTables of found placed grouped based typed =
     (profile : SystemProfile) →
-    HasTables (record { local = of.local; profile = profile; schedule = of.schedule }) found placed grouped based typed
+    HasTables (record { local = of.local; profile = profile; schedule = of.schedule }) found placed
+    grouped based typed

@@ -35,7 +35,8 @@ impl<'a> Model for Fields<'a> {
 
     ghost view = { λ f. record { local = f.local.now; schedule = f.schedule.now } };
 
-    ghost invariant = { λ f. HasFields (record { local = f.local.now; schedule = f.schedule.now }) f.values f.singles f.lines f.counters };
+    ghost invariant = { λ f. HasFields (record { local = f.local.now; schedule = f.schedule.now }) f.values
+        f.singles f.lines f.counters };
 }
 
 impl<'a> Fields<'a> {
@@ -169,7 +170,8 @@ fn child_count(local: &Local) -> usize
 
 // The numbers of the rows with a value.
 fn value_numbers(alloc: Global, rows: &[LocalRow]) -> Result<Vec<u32>, Memory>
-    ensures { IfOk result (λ v. v.items ≡ fields.numbers (filter (λ r. has_value_of_kind r.kind) rows.now)) }
+    ensures { IfOk result (λ v. v.items
+        ≡ fields.numbers (filter (λ r. has_value_of_kind r.kind) rows.now)) }
 {
     let mut numbers = Vec::new(alloc);
     for row in rows {

@@ -25,7 +25,8 @@ pub(crate) fn shared_groups(alloc: Global, schedule: &Schedule) -> Result<Vec<u3
 // How often functions call each group, as far as the counts go: one above 1 stays above 1.
 fn call_counts(alloc: Global, schedule: &Schedule) -> Result<Vec<u8>, Memory>
     ensures length { IfOk result (λ v. length v.items ≡ length schedule.now.groups) }
-    ensures counts { IfOk result (λ v. (g : ℕ) → g < length schedule.now.groups → min (slice_index v.items g) 2 ≡ min (call_count schedule.now g) 2) }
+    ensures counts { IfOk result (λ v. (g : ℕ) → g < length schedule.now.groups →
+        min (slice_index v.items g) 2 ≡ min (call_count schedule.now g) 2) }
 {
     let mut counts = vec![in alloc; 0; schedule.groups.len()]?;
     for groups in &schedule.functions {
@@ -36,7 +37,9 @@ fn call_counts(alloc: Global, schedule: &Schedule) -> Result<Vec<u8>, Memory>
 
 // Counts the calls of these groups, as far as the counts go.
 fn count_calls(groups: &[u32], counts: &mut [u8])
-    ensures { (g : ℕ) → g < length counts.old → min (slice_index counts.new g) 2 ≡ min (slice_index counts.old g + count_by (λ called. called == g) groups.now) 2 }
+    ensures { (g : ℕ) → g < length counts.old →
+        min (slice_index counts.new g) 2
+        ≡ min (slice_index counts.old g + count_by (λ called. called == g) groups.now) 2 }
 {
     for group in groups {
         let group = *group as usize;
@@ -56,7 +59,8 @@ pub(crate) fn code_groups(alloc: Global, schedule: &Schedule) -> Result<Vec<u32>
 
 fn groups_with_nodes(alloc: Global, groups: &[NodeList]) -> Result<Vec<u32>, Memory>
     requires { length groups.now < 2 ^ 32 }
-    ensures { IfOk result (λ v. v.items ≡ filter (λ g. has_some (slice_index_or groups.now g [])) (range_with_len 0 (length groups.now))) }
+    ensures { IfOk result (λ v. v.items ≡ filter (λ g. has_some (slice_index_or groups.now g []))
+        (range_with_len 0 (length groups.now))) }
 {
     let mut found = Vec::new(alloc);
     for (group, nodes) in groups.iter().enumerate() {

@@ -30,7 +30,8 @@ pub(crate) fn port_types(alloc: Global, local: &Local) -> Result<Vec<(Port, FixT
 // The inputs alone.
 fn input_types(alloc: Global, inports: &[Ported]) -> Result<Vec<(Port, FixType)>, Memory>
     requires { length inports.now ≤ 32 }
-    ensures { IfOk result (λ v. v.items ≡ zip (map number_port (range_with_len 1 (length inports.now))) (map (λ e. e.out) inports.now)) }
+    ensures { IfOk result (λ v. v.items ≡ zip (map number_port (range_with_len 1 (length inports.now)))
+        (map (λ e. e.out) inports.now)) }
 {
     let mut ports = Vec::new(alloc);
     for (k, inport) in inports.iter().enumerate() {
@@ -45,7 +46,8 @@ fn push_controls(
     types: &[FixType],
     ports: &mut Vec<(Port, FixType)>,
 ) -> Result<(), Memory>
-    ensures { OnOk result (ports.new.items ≡ ports.old.items ++ zip (ports_of_control control) types.now) }
+    ensures { OnOk result (ports.new.items
+        ≡ ports.old.items ++ zip (ports_of_control control) types.now) }
 {
     match control {
         Control::Plain => Ok(()),
@@ -67,7 +69,8 @@ fn push_first(port: Port, types: &[FixType], ports: &mut Vec<(Port, FixType)>) -
 
 // Adds an enable with the first type and a trigger with the second, as far as there are any.
 fn push_both(types: &[FixType], ports: &mut Vec<(Port, FixType)>) -> Result<(), Memory>
-    ensures { OnOk result (ports.new.items ≡ ports.old.items ++ zip (enable_port ∷ trigger_port ∷ []) types.now) }
+    ensures { OnOk result (ports.new.items
+        ≡ ports.old.items ++ zip (enable_port ∷ trigger_port ∷ []) types.now) }
 {
     if let Some((enable, later)) = types.split_first() {
         ports.push((Port::Enable, *enable))?;
@@ -99,7 +102,10 @@ pub(crate) fn params_of_function(
     ports: &[(Port, FixType)],
 ) -> Result<Params, Memory>
     requires { All (λ e. bit_of_port e.0 < 64) ports.now }
-    ensures { IfOk result (λ p. p ≡ now_param ∷ heads.params_where control (λ port. has_bit_of function.now.inputs (bit_of_port port)) ports.now) }
+    ensures { IfOk result (λ p. p
+        ≡ now_param
+        ∷ heads.params_where control (λ port. has_bit_of function.now.inputs (bit_of_port port))
+        ports.now) }
 {
     let mut params = now_only(alloc)?;
     for (port, number) in ports {
@@ -117,7 +123,8 @@ pub(crate) fn params_of_ports(
     inports: &[u32],
     ports: &[(Port, FixType)],
 ) -> Result<Params, Memory>
-    ensures { IfOk result (λ p. p ≡ now_param ∷ heads.params_where control (heads.takes inports.now) ports.now) }
+    ensures { IfOk result (λ p. p
+        ≡ now_param ∷ heads.params_where control (heads.takes inports.now) ports.now) }
 {
     let mut params = now_only(alloc)?;
     for (port, number) in ports {
@@ -144,7 +151,8 @@ fn push_port(
     number: FixType,
     params: &mut Params,
 ) -> Result<(), Memory>
-    ensures { OnOk result (params.new ≡ params.old ++ heads.port_param control (port, number) ∷ []) }
+    ensures { OnOk result (params.new ≡ params.old ++ heads.port_param control (port, number)
+        ∷ []) }
 {
     params.push(port_parameter(control, port), container(number))
 }

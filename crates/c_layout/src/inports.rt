@@ -14,7 +14,9 @@ pub(crate) fn inports_among(
     places: &[Place],
     nodes: &[u32],
 ) -> Result<Vec<u32>, Memory>
-    ensures { IfOk result (λ v. v.items ≡ filter_map (λ n. option_and_then (port_at_place local.now) (slice_get places.now n)) nodes.now) }
+    ensures { IfOk result (λ v. v.items
+        ≡ filter_map (λ n. option_and_then (port_at_place local.now) (slice_get places.now n))
+        nodes.now) }
 {
     let mut ports = Vec::new(alloc);
     for node in nodes {

@@ -54,9 +54,14 @@ impl<'a> Model for Layout<'a> {
 
     ghost Value = { Laid };
 
-    ghost view = { λ l. record { local = l.fields.local; profile = l.profile.now; schedule = l.fields.schedule } };
+    ghost view = { λ l. record {
+      local = l.fields.local;
+      profile = l.profile.now;
+      schedule = l.fields.schedule;
+    } };
 
-    ghost invariant = { λ l. HasTables (record { local = l.fields.local; profile = l.profile.now; schedule = l.fields.schedule })
+    ghost invariant = { λ l. HasTables
+        (record { local = l.fields.local; profile = l.profile.now; schedule = l.fields.schedule })
         l.sources l.nodes.items l.groups.items l.bases.items l.ports.items };
 }
 
@@ -71,7 +76,8 @@ impl<'a> Layout<'a> {
         schedule: &'a Schedule,
     ) -> Result<Layout<'a>, Memory>
         requires { IsEmittable local.now schedule.now }
-        ensures { IfOk result (λ l. l ≡ record { local = local.now; profile = profile.now; schedule = schedule.now }) }
+        ensures { IfOk result (λ l. l
+            ≡ record { local = local.now; profile = profile.now; schedule = schedule.now }) }
     {
         let fields = Fields::new(alloc, local, schedule)?;
         let tables = Tables::new(alloc, &fields)?;
@@ -182,7 +188,8 @@ impl<'a> Layout<'a> {
     ///
     /// Fails only for want of memory.
     pub fn output_fields(&self, alloc: Global) -> Result<Vec<u32>, Memory>
-        ensures { IfOk result (λ v. v.items ≡ map (λ o. fields.value_field self.now.local o.row) (locals.outports self.now.local)) }
+        ensures { IfOk result (λ v. v.items
+            ≡ map (λ o. fields.value_field self.now.local o.row) (locals.outports self.now.local)) }
     {
         let outports = outports(alloc, self.fields.local())?;
         let mut found = Vec::new(alloc);
@@ -275,7 +282,8 @@ impl<'a> Layout<'a> {
     /// The number of the first procedure of the child at a place, behind the own ones and those of the children before.
     pub fn child_base(&self, place: usize) -> u32
         requires { place ≤ length self.now.local.children }
-        ensures { result ≡ places.child_base self.now.local (groups.own_count self.now.schedule) place }
+        ensures { result
+            ≡ places.child_base self.now.local (groups.own_count self.now.schedule) place }
     {
         self.bases[place]
     }
@@ -288,7 +296,8 @@ impl<'a> Layout<'a> {
     pub fn out_params(&self, alloc: Global, j: u32) -> Result<Params, Memory>
         requires first { 0 < j }
         requires last { j ≤ length self.now.profile.functions }
-        ensures { IfOk result (λ p. p ≡ (heads.out_head (locals.own_header self.now.local self.now.profile) j).params) }
+        ensures { IfOk result (λ p. p
+            ≡ (heads.out_head (locals.own_header self.now.local self.now.profile) j).params) }
     {
         let local = self.fields.local();
         let profile = self.profile;
@@ -300,7 +309,8 @@ impl<'a> Layout<'a> {
     ///
     /// Fails only for want of memory.
     pub fn update_params(&self, alloc: Global) -> Result<Params, Memory>
-        ensures { IfOk result (λ p. p ≡ (heads.update_head (locals.own_header self.now.local self.now.profile)).params) }
+        ensures { IfOk result (λ p. p
+            ≡ (heads.update_head (locals.own_header self.now.local self.now.profile)).params) }
     {
         let local = self.fields.local();
         all_params(alloc, local.control, &self.ports)
@@ -311,7 +321,8 @@ impl<'a> Layout<'a> {
     /// Fails only for want of memory.
     pub fn group_params(&self, alloc: Global, group: u32) -> Result<Params, Memory>
         requires { group < length self.now.schedule.groups }
-        ensures { IfOk result (λ p. p ≡ code.group_params self.now.local self.now.profile self.now.schedule group) }
+        ensures { IfOk result (λ p. p
+            ≡ code.group_params self.now.local self.now.profile self.now.schedule group) }
     {
         let local = self.fields.local();
         let nodes = group_nodes(self.fields.schedule(), group);

@@ -112,7 +112,9 @@ impl Params {
 
 // The place of the first parameter in a list with the name of another.
 fn place_of(list: &[(Parameter, CType)], wanted: Parameter) -> Option<usize>
-    ensures { result ≡ position_from (λ q. bytes_eq (parameters.param_name q.0) (parameters.param_name wanted)) 0 list.now }
+    ensures { result
+        ≡ position_from (λ q. bytes_eq (parameters.param_name q.0) (parameters.param_name wanted)) 0
+        list.now }
 {
     list.iter().position(|q| is_same(q.0, wanted))
 }

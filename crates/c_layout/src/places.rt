@@ -34,7 +34,8 @@ fn row_places(alloc: Global, count: usize) -> Result<Vec<Place>, Memory>
 // Adds the calls of the functions of each child.
 fn push_children(children: &[ChildUse], nodes: &mut Vec<Place>) -> Result<(), Memory>
     requires { All IsChild children.now }
-    ensures { OnOk result (nodes.new.items ≡ nodes.old.items ++ flat_map places.call_places (enumerate_from 0 children.now)) }
+    ensures { OnOk result (nodes.new.items
+        ≡ nodes.old.items ++ flat_map places.call_places (enumerate_from 0 children.now)) }
 {
     for (place, child) in children.iter().enumerate() {
         push_calls(place, child, nodes)?;
@@ -56,7 +57,8 @@ fn push_calls(place: usize, child: &ChildUse, nodes: &mut Vec<Place>) -> Result<
 // Adds the calls of so many functions of the child at a place.
 fn push_calls_of(place: usize, functions: usize, nodes: &mut Vec<Place>) -> Result<(), Memory>
     requires { functions ≤ 32 }
-    ensures { OnOk result (nodes.new.items ≡ nodes.old.items ++ map (call_place place) (range_with_len 1 functions)) }
+    ensures { OnOk result (nodes.new.items
+        ≡ nodes.old.items ++ map (call_place place) (range_with_len 1 functions)) }
 {
     for k in 0..functions {
         nodes.push(Place::Call {
@@ -78,14 +80,18 @@ pub(crate) fn function_count(child: &ChildUse) -> usize
 /// system's own.
 pub(crate) fn child_bases(alloc: Global, count: u32, local: &Local) -> Result<Vec<u32>, Memory>
     requires { places.child_base local.now count (length local.now.children) < 2 ^ 32 }
-    ensures { IfOk result (λ v. v.items ≡ map (places.child_base local.now count) (range_with_len 0 (length local.now.children + 1))) }
+    ensures { IfOk result (λ v. v.items
+        ≡ map (places.child_base local.now count)
+        (range_with_len 0 (length local.now.children + 1))) }
 {
     bases_of(alloc, count, local.children.as_slice())
 }
 
 fn bases_of(alloc: Global, count: u32, children: &[ChildUse]) -> Result<Vec<u32>, Memory>
     requires { count + sum_by (λ u. length (header_functions u.header) + 3) children.now < 2 ^ 32 }
-    ensures { IfOk result (λ v. v.items ≡ map (λ k. count + sum_by (λ u. length (header_functions u.header) + 3) (take k children.now)) (range_with_len 0 (length children.now + 1))) }
+    ensures { IfOk result (λ v. v.items
+        ≡ map (λ k. count + sum_by (λ u. length (header_functions u.header) + 3)
+        (take k children.now)) (range_with_len 0 (length children.now + 1))) }
 {
     let mut bases = Vec::new(alloc);
     let mut next = count;

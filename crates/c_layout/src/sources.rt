@@ -50,7 +50,9 @@ impl Sources {
 
     /// The first source of a row's value.
     pub(crate) fn of(&self, row: u32) -> Option<Source>
-        ensures { result ≡ option_and_then (slice_get self.now) (first_place (map (λ source. source.row) self.now) row) }
+        ensures { result
+            ≡ option_and_then (slice_get self.now)
+            (first_place (map (λ source. source.row) self.now) row) }
     {
         match self.rows.place(row) {
             Some(place) => self.list.get(place).copied(),
@@ -67,7 +69,9 @@ fn push_children(
 ) -> Result<(), Memory>
     requires same { children.now ≡ fields.now.local.children }
     requires children { All IsChild children.now }
-    ensures { OnOk result (list.new.items ≡ list.old.items ++ flat_map (sources.child_sources fields.now.local) (enumerate_from 0 children.now)) }
+    ensures { OnOk result (list.new.items
+        ≡ list.old.items ++ flat_map (sources.child_sources fields.now.local)
+        (enumerate_from 0 children.now)) }
 {
     for (place, child) in children.iter().enumerate() {
         push_outputs(fields.child(place), child.header.outputs.as_slice(), list)?;
@@ -82,7 +86,8 @@ fn push_outputs(
     list: &mut Vec<Source>,
 ) -> Result<(), Memory>
     requires { length outputs.now ≤ 32 }
-    ensures { OnOk result (list.new.items ≡ list.old.items ++ map (sources.output_source field) (enumerate_from 0 outputs.now)) }
+    ensures { OnOk result (list.new.items
+        ≡ list.old.items ++ map (sources.output_source field) (enumerate_from 0 outputs.now)) }
 {
     for (k, (row, number)) in outputs.iter().enumerate() {
         list.push(Source {
@@ -96,7 +101,8 @@ fn push_outputs(
 
 // Adds the values of these rows.
 fn push_values(fields: &Fields<'_>, rows: &[LocalRow], list: &mut Vec<Source>) -> Result<(), Memory>
-    ensures { OnOk result (list.new.items ≡ list.old.items ++ map (sources.value_source fields.now.local) (filter (λ r. has_value_of_kind r.kind) rows.now)) }
+    ensures { OnOk result (list.new.items ≡ list.old.items ++ map (sources.value_source fields.now.local)
+        (filter (λ r. has_value_of_kind r.kind) rows.now)) }
 {
     for row in rows {
         if has_value(&row.kind) {

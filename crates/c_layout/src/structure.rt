@@ -20,7 +20,11 @@ use std::alloc::Global;
 
 /// The struct of a system with these fields.
 pub(crate) fn structure(alloc: Global, fields: &Fields<'_>) -> Result<StructDef, Memory>
-    ensures { IfOk result (λ s. s ≡ record { name = name_of_system fields.now.local.row; fields = map slots.slot_field (code_slots fields.now.local fields.now.schedule) }) }
+    ensures { IfOk result (λ s. s
+        ≡ record {
+          name = name_of_system fields.now.local.row;
+          fields = map slots.slot_field (code_slots fields.now.local fields.now.schedule);
+        }) }
 {
     fields.is_emittable();
     let system = fields.local();
@@ -36,7 +40,8 @@ pub(crate) fn structure(alloc: Global, fields: &Fields<'_>) -> Result<StructDef,
 // The fields but the counters.
 fn own_fields(alloc: Global, local: &Local) -> Result<Vec<Field>, Memory>
     requires { length local.now.children < 2 ^ 32 }
-    ensures { IfOk result (λ v. field_trees v.items ≡ map slots.slot_field (slots.own_slots local.now)) }
+    ensures { IfOk result (λ v. field_trees v.items
+        ≡ map slots.slot_field (slots.own_slots local.now)) }
 {
     let rows = local.rows.as_slice();
     let mut list = Vec::new(alloc);
@@ -59,7 +64,9 @@ fn number(name: Text, of: CType) -> Field
 
 // Adds a field for the value of each row that has one.
 fn push_values(alloc: Global, rows: &[LocalRow], list: &mut Vec<Field>) -> Result<(), Memory>
-    ensures { OnOk result (field_trees list.new.items ≡ field_trees list.old.items ++ map (λ r. slots.slot_field (slots.value r)) (filter (λ r. has_value_of_kind r.kind) rows.now)) }
+    ensures { OnOk result (field_trees list.new.items ≡ field_trees list.old.items
+        ++ map (λ r. slots.slot_field (slots.value r))
+        (filter (λ r. has_value_of_kind r.kind) rows.now)) }
 {
     for row in rows {
         if has_value(&row.kind) {
@@ -71,7 +78,9 @@ fn push_values(alloc: Global, rows: &[LocalRow], list: &mut Vec<Field>) -> Resul
 
 // Adds a field for what each row remembers that remembers one sample.
 fn push_singles(alloc: Global, rows: &[LocalRow], list: &mut Vec<Field>) -> Result<(), Memory>
-    ensures { OnOk result (field_trees list.new.items ≡ field_trees list.old.items ++ map (λ r. slots.slot_field (slots.memory r)) (filter (λ r. is_single_op r.op) rows.now)) }
+    ensures { OnOk result (field_trees list.new.items ≡ field_trees list.old.items
+        ++ map (λ r. slots.slot_field (slots.memory r))
+        (filter (λ r. is_single_op r.op) rows.now)) }
 {
     for row in rows {
         if is_single(&row.op) {
@@ -83,7 +92,9 @@ fn push_singles(alloc: Global, rows: &[LocalRow], list: &mut Vec<Field>) -> Resu
 
 // Adds the three fields of each ring.
 fn push_lines(alloc: Global, rows: &[LocalRow], list: &mut Vec<Field>) -> Result<(), Memory>
-    ensures { OnOk result (field_trees list.new.items ≡ field_trees list.old.items ++ flat_map (λ r. map slots.slot_field (slots.ring_slots r)) (filter (λ r. is_line_op r.op) rows.now)) }
+    ensures { OnOk result (field_trees list.new.items ≡ field_trees list.old.items
+        ++ flat_map (λ r. map slots.slot_field (slots.ring_slots r))
+        (filter (λ r. is_line_op r.op) rows.now)) }
 {
     for row in rows {
         if is_line(&row.op) {
@@ -95,7 +106,8 @@ fn push_lines(alloc: Global, rows: &[LocalRow], list: &mut Vec<Field>) -> Result
 
 // Adds the items, the place and the count of a ring.
 fn push_ring(alloc: Global, row: &LocalRow, list: &mut Vec<Field>) -> Result<(), Memory>
-    ensures { OnOk result (field_trees list.new.items ≡ field_trees list.old.items ++ map slots.slot_field (slots.ring_slots row.now)) }
+    ensures { OnOk result (field_trees list.new.items ≡ field_trees list.old.items
+        ++ map slots.slot_field (slots.ring_slots row.now)) }
 {
     list.push(Field {
         name: memory_name(alloc, row.row)?,
@@ -108,7 +120,8 @@ fn push_ring(alloc: Global, row: &LocalRow, list: &mut Vec<Field>) -> Result<(),
 
 // Adds the field of what the trigger remembers, where there is a trigger.
 fn push_trigger(alloc: Global, control: Control, list: &mut Vec<Field>) -> Result<(), Memory>
-    ensures { OnOk result (field_trees list.new.items ≡ field_trees list.old.items ++ map slots.slot_field (trigger_slots control)) }
+    ensures { OnOk result (field_trees list.new.items ≡ field_trees list.old.items
+        ++ map slots.slot_field (trigger_slots control)) }
 {
     if is_triggered(control) {
         list.push(number(named(alloc, "w")?, CType::I8))?;
@@ -129,7 +142,8 @@ fn push_filler(alloc: Global, list: &mut Vec<Field>) -> Result<(), Memory>
 // Adds a field for each child.
 fn push_children(alloc: Global, children: &[ChildUse], list: &mut Vec<Field>) -> Result<(), Memory>
     requires { length children.now < 2 ^ 32 }
-    ensures { OnOk result (field_trees list.new.items ≡ field_trees list.old.items ++ map (λ e. slots.slot_field (slots.instance e.0 e.1)) (enumerate_from 0 children.now)) }
+    ensures { OnOk result (field_trees list.new.items ≡ field_trees list.old.items
+        ++ map (λ e. slots.slot_field (slots.instance e.0 e.1)) (enumerate_from 0 children.now)) }
 {
     for (place, child) in children.iter().enumerate() {
         list.push(Field {
@@ -142,7 +156,8 @@ fn push_children(alloc: Global, children: &[ChildUse], list: &mut Vec<Field>) ->
 
 // Adds the counters of these groups.
 fn push_counters(alloc: Global, groups: &[u32], list: &mut Vec<Field>) -> Result<(), Memory>
-    ensures { OnOk result (field_trees list.new.items ≡ field_trees list.old.items ++ map (λ g. slots.slot_field (counter_slot g)) groups.now) }
+    ensures { OnOk result (field_trees list.new.items ≡ field_trees list.old.items
+        ++ map (λ g. slots.slot_field (counter_slot g)) groups.now) }
 {
     for group in groups {
         list.push(number(counter_name(alloc, u64::from(*group) + 1)?, CType::U8))?;

@@ -33,7 +33,8 @@ impl Tables {
     /// Fails only for want of memory.
     pub(crate) fn new(alloc: Global, fields: &Fields<'_>) -> Result<Tables, Memory>
         ensures { IfOk result (λ t.
-            AreTables fields.now t.sources t.nodes.items t.groups.items t.bases.items t.ports.items) }
+            AreTables fields.now t.sources t.nodes.items t.groups.items t.bases.items
+            t.ports.items) }
     {
         fields.is_emittable();
         let local = fields.local();

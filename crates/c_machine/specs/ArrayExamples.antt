@@ -27,49 +27,85 @@ abbrev pub run_once : StmtTree → Outcome
 run_once s = run_stmt three_items s before_run 0
 
 abbrev pub stored_in : ℕ → Cells → Outcome
-stored_in f cells = done (record { cells = cells; steps = 1; log = []; stores = record { path = []; field = f } ∷ [] })
+stored_in f cells =
+    done (record {
+      cells = cells;
+      steps = 1;
+      log = [];
+      stores = record { path = []; field = f }
+          ∷ [];
+    })
 
 abbrev pub by_zero : ExprTree
 by_zero = binary Div (literal (pos 1)) (literal (pos 0))
 
 -- `s->v = (int8_t)s->a[u];` and `s->a[u] = (int8_t)s->v;`
-pub item-read : run_once (assign 3 0 (item 1 (read (Param 0)))) ≡ stored_in 0 (item_fields (pos 30) (pos 10 ∷ pos 20 ∷ pos 30 ∷ []))
+pub item-read : run_once (assign 3 0 (item 1 (read (Param 0))))
+    ≡ stored_in 0 (item_fields (pos 30) (pos 10 ∷ pos 20 ∷ pos 30 ∷ []))
 item-read = refl
 
-pub item-stored : run_once (assign_at 3 1 (read (Param 0)) (read (Own 0))) ≡ stored_in 1 (item_fields (pos 7) (pos 10 ∷ pos 20 ∷ pos 7 ∷ []))
+pub item-stored : run_once (assign_at 3 1 (read (Param 0)) (read (Own 0)))
+    ≡ stored_in 1 (item_fields (pos 7) (pos 10 ∷ pos 20 ∷ pos 7 ∷ []))
 item-stored = refl
 
-pub first_item-stored : run_once (assign_at 3 1 (literal (pos 0)) (item 1 (literal (pos 1)))) ≡ stored_in 1 (item_fields (pos 7) (pos 20 ∷ pos 20 ∷ pos 30 ∷ []))
+pub first_item-stored : run_once (assign_at 3 1 (literal (pos 0)) (item 1 (literal (pos 1))))
+    ≡ stored_in 1 (item_fields (pos 7) (pos 20 ∷ pos 20 ∷ pos 30 ∷ []))
 first_item-stored = refl
 
 -- the length is no index, and neither is a number below 0
-pub length-stuck : run_once (assign 3 0 (item 1 (literal (pos 3)))) ≡ stuck (stuck_at 3 Index) before_run
+pub length-stuck : run_once (assign 3 0 (item 1 (literal (pos 3))))
+    ≡ stuck (stuck_at 3 Index) before_run
 length-stuck = refl
 
-pub below_zero-stuck : run_once (assign_at 3 1 (neg (literal (pos 1))) (literal (pos 5))) ≡ stuck (stuck_at 3 Index) before_run
+pub below_zero-stuck : run_once (assign_at 3 1 (neg (literal (pos 1))) (literal (pos 5)))
+    ≡ stuck (stuck_at 3 Index) before_run
 below_zero-stuck = refl
 
--- the index is looked at before the value: first its own evaluation, then its place, then the value, then the value's type
-pub index-first : run_once (assign_at 3 1 by_zero (binary Add (literal (pos 9223372036854775807)) (literal (pos 1)))) ≡ stuck (stuck_at 3 ZeroDivisor) before_run
+-- the index is looked at before the value: first its own evaluation, then its place, then the
+-- value, then the value's type
+pub index-first : run_once
+    (assign_at 3 1 by_zero (binary Add (literal (pos 9223372036854775807)) (literal (pos 1))))
+    ≡ stuck (stuck_at 3 ZeroDivisor) before_run
 index-first = refl
 
-pub place-second : run_once (assign_at 3 1 (literal (pos 3)) by_zero) ≡ stuck (stuck_at 3 Index) before_run
+pub place-second : run_once (assign_at 3 1 (literal (pos 3)) by_zero)
+    ≡ stuck (stuck_at 3 Index) before_run
 place-second = refl
 
-pub value-third : run_once (assign_at 3 1 (literal (pos 2)) by_zero) ≡ stuck (stuck_at 3 ZeroDivisor) before_run
+pub value-third : run_once (assign_at 3 1 (literal (pos 2)) by_zero)
+    ≡ stuck (stuck_at 3 ZeroDivisor) before_run
 value-third = refl
 
-pub type-last : run_once (assign_at 3 1 (literal (pos 2)) (literal (pos 128))) ≡ stuck (stuck_at 3 Range) before_run
+pub type-last : run_once (assign_at 3 1 (literal (pos 2)) (literal (pos 128)))
+    ≡ stuck (stuck_at 3 Range) before_run
 type-last = refl
 
 -- `struct root { int32_t y1; int32_t a[2]; };` and a store in `a[2]`
 abbrev pub outside_program : ProgramTree
 outside_program = record {
   pures = [];
-  structs = record { name = codes "root"; fields = field (codes "y1") ∷ record { name = codes "a"; kind = Array I32 2 } ∷ [] } ∷ [];
+  structs =
+      record {
+        name = codes "root";
+        fields = field (codes "y1")
+            ∷ record { name = codes "a"; kind = Array I32 2 } ∷ [];
+      } ∷ [];
   procedures =
-      record { name = codes "root_start"; private = false; of = 0; params = []; body = stmts_of_list [] }
-      ∷ record { name = codes "root_step"; private = false; of = 0; params = param (codes "u1") ∷ []; body = stmts_of_list (assign_at 5 1 (literal (pos 2)) (literal (pos 1)) ∷ []) }
+      record {
+        name = codes "root_start";
+        private = false;
+        of = 0;
+        params = [];
+        body = stmts_of_list [];
+      }
+      ∷ record {
+        name = codes "root_step";
+        private = false;
+        of = 0;
+        params = param (codes "u1")
+            ∷ [];
+        body = stmts_of_list (assign_at 5 1 (literal (pos 2)) (literal (pos 1)) ∷ []);
+      }
       ∷ [];
 }
 
@@ -78,7 +114,8 @@ pub items-zero : zero_root outside_program ≡ item_fields (pos 0) (pos 0 ∷ po
 unfolding digits
 items-zero = refl
 
-pub outside_program-stuck : (c_rows outside_program ((pos 1 ∷ []) ∷ [])).stuck_place ≡ Some (record { line = 5; why = Index })
+pub outside_program-stuck : (c_rows outside_program ((pos 1 ∷ []) ∷ [])).stuck_place
+    ≡ Some (record { line = 5; why = Index })
 unfolding digits
 outside_program-stuck = refl
 
@@ -86,10 +123,31 @@ outside_program-stuck = refl
 abbrev pub delay_program : ProgramTree
 delay_program = record {
   pures = [];
-  structs = record { name = codes "root"; fields = field (codes "y1") ∷ record { name = codes "a"; kind = Array I32 2 } ∷ [] } ∷ [];
+  structs =
+      record {
+        name = codes "root";
+        fields = field (codes "y1")
+            ∷ record { name = codes "a"; kind = Array I32 2 } ∷ [];
+      } ∷ [];
   procedures =
-      record { name = codes "root_start"; private = false; of = 0; params = []; body = stmts_of_list (assign_at 4 1 (literal (pos 1)) (literal (pos 9)) ∷ []) }
-      ∷ record { name = codes "root_step"; private = false; of = 0; params = param (codes "u1") ∷ []; body = stmts_of_list (assign 7 0 (item 1 (literal (pos 0))) ∷ assign_at 8 1 (literal (pos 0)) (item 1 (literal (pos 1))) ∷ assign_at 9 1 (literal (pos 1)) (read (Param 0)) ∷ []) }
+      record {
+        name = codes "root_start";
+        private = false;
+        of = 0;
+        params = [];
+        body = stmts_of_list (assign_at 4 1 (literal (pos 1)) (literal (pos 9)) ∷ []);
+      }
+      ∷ record {
+        name = codes "root_step";
+        private = false;
+        of = 0;
+        params = param (codes "u1")
+            ∷ [];
+        body =
+            stmts_of_list (assign 7 0 (item 1 (literal (pos 0)))
+            ∷ assign_at 8 1 (literal (pos 0)) (item 1 (literal (pos 1)))
+            ∷ assign_at 9 1 (literal (pos 1)) (read (Param 0)) ∷ []);
+      }
       ∷ [];
 }
 
@@ -98,9 +156,12 @@ delay_tick v = record {
   outputs = v ∷ [];
   steps = 3;
   log = [];
-  stores = record { path = []; field = 0 } ∷ record { path = []; field = 1 } ∷ record { path = []; field = 1 } ∷ [];
+  stores = record { path = []; field = 0 } ∷ record { path = []; field = 1 }
+      ∷ record { path = []; field = 1 } ∷ [];
 }
 
-pub delay_program-rows : (c_rows delay_program ((pos 1 ∷ []) ∷ (negsuc 1 ∷ []) ∷ (pos 3 ∷ []) ∷ (pos 4 ∷ []) ∷ [])).ticks ≡ delay_tick (pos 0) ∷ delay_tick (pos 9) ∷ delay_tick (pos 1) ∷ delay_tick (negsuc 1) ∷ []
+pub delay_program-rows : (c_rows delay_program ((pos 1 ∷ []) ∷ (negsuc 1 ∷ []) ∷ (pos 3 ∷ [])
+    ∷ (pos 4 ∷ []) ∷ [])).ticks ≡ delay_tick (pos 0) ∷ delay_tick (pos 9) ∷ delay_tick (pos 1)
+    ∷ delay_tick (negsuc 1) ∷ []
 unfolding digits
 delay_program-rows = refl

@@ -8,15 +8,17 @@ abbrev pub cells_count : Cells → ℕ
 cells_count no_cells = 0
 cells_count (more_cells c cs) = suc (cells_count cs)
 
--- A field that is set, where there is one, holds what was put there, and each other holds what it held. Setting what is there
--- changes nothing, setting again replaces, and the order in which two fields are set is free.
+-- A field that is set, where there is one, holds what was put there, and each other holds what it
+-- held. Setting what is there changes nothing, setting again replaces, and the order in which two
+-- fields are set is free.
 pub record IsFieldSet (cells : Cells) (f : ℕ) (c : Cell) : Type 0 where
   pub here : f < cells_count cells → cell_at (set_cell cells f c) f ≡ c
   pub others : (g : ℕ) → f ≢ g → cell_at (set_cell cells f c) g ≡ cell_at cells g
   pub count : cells_count (set_cell cells f c) ≡ cells_count cells
   pub nothing_new : cell_at cells f ≡ c → set_cell cells f c ≡ cells
   pub again : (d : Cell) → set_cell (set_cell cells f c) f d ≡ set_cell cells f d
-  pub in_any_order : (g : ℕ) (d : Cell) → f ≢ g → set_cell (set_cell cells f c) g d ≡ set_cell (set_cell cells g d) f c
+  pub in_any_order : (g : ℕ) (d : Cell) → f ≢ g →
+      set_cell (set_cell cells f c) g d ≡ set_cell (set_cell cells g d) f c
 
 abbrev pub FieldsAreSet : Type 0
 FieldsAreSet = (cells : Cells) (f : ℕ) (c : Cell) → IsFieldSet cells f c

@@ -65,7 +65,8 @@ set_item [] i v = []
 set_item (x ∷ xs) zero v = v ∷ xs
 set_item (x ∷ xs) (suc i) v = x ∷ set_item xs i v
 
--- a field all of whose numbers are 0; `earlier` has such an instance of each struct that it may name
+-- a field all of whose numbers are 0; `earlier` has such an instance of each struct that it may
+-- name
 abbrev pub zero_cell : List Cells → FieldKind → Cell
 zero_cell earlier (Number type) = number (pos 0)
 zero_cell earlier (Array type count) = items (replicate count (pos 0))

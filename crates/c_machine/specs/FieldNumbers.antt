@@ -1,4 +1,5 @@
--- Another numbering of the own fields: code that names each field by its new number does the same to fields that stand there.
+-- Another numbering of the own fields: code that names each field by its new number does the same
+-- to fields that stand there.
 use Rattle.std.specs.Prelude.{◌≡◌, ◌↔◌, ℕ, ◌<◌, List, [], ◌∷◌, map, ℤ}
 use Rattle.c_syntax.specs.declared.code.CType.{CType}
 use Rattle.c_syntax.specs.declared.code.Leaf.{Leaf}
@@ -39,8 +40,10 @@ module _ (place : ℕ → ℕ) where
     -- a statement, and statements, with the new numbers
     pub placed_stmt : StmtTree → StmtTree
     placed_stmt (assign line f e) = assign line (place f) (placed_expr e)
-    placed_stmt (assign_at line f index e) = assign_at line (place f) (placed_expr index) (placed_expr e)
-    placed_stmt (branch line test on_true on_false) = branch line (placed_cond test) (placed_stmts on_true) (placed_stmts on_false)
+    placed_stmt (assign_at line f index e) =
+        assign_at line (place f) (placed_expr index) (placed_expr e)
+    placed_stmt (branch line test on_true on_false) =
+        branch line (placed_cond test) (placed_stmts on_true) (placed_stmts on_false)
     placed_stmt (call line k target es) = call line k (placed_target target) (placed_exprs es)
 
     pub placed_stmts : StmtTrees → StmtTrees
@@ -69,29 +72,41 @@ module _ (place : ℕ → ℕ) where
   abbrev pub placed_store : StoredField → StoredField
   placed_store s = record { path = placed_path s.path; field = placed_field s.path s.field }
 
-  -- both are done in the same steps, or stuck alike; fields, calls and stores are those of the one by the new numbers
+  -- both are done in the same steps, or stuck alike; fields, calls and stores are those of the one
+  -- by the new numbers
   abbrev pub EndPlaced : Outcome → Outcome → Type 0
-  EndPlaced (done a) (done b) = ArePlaced a.cells b.cells × (a.steps ≡ b.steps) × (map placed_call a.log ≡ b.log)
+  EndPlaced (done a) (done b) =
+      ArePlaced a.cells b.cells × (a.steps ≡ b.steps) × (map placed_call a.log ≡ b.log)
       × (map placed_store a.stores ≡ b.stores)
   EndPlaced (done a) (stuck at others) = ⊥
   EndPlaced (stuck at cells) (done b) = ⊥
   EndPlaced (stuck at cells) (stuck at_other others) = (at ≡ at_other) × ArePlaced cells others
 
-  -- what is called does the same: on the instance itself to the fields at their new places, and the same to one inside
+  -- what is called does the same: on the instance itself to the fields at their new places, and the
+  -- same to one inside
   abbrev pub DoesPlaced : Target → Routine → Routine → Type 0
   DoesPlaced OwnTarget r q =
-      (r.params ≡ q.params) × ((values : List ℤ) (cells others : Cells) (steps : ℕ) → ArePlaced cells others →
+      (r.params ≡ q.params) × ((values : List ℤ) (cells others : Cells) (steps : ℕ) →
+      ArePlaced cells others →
       EndPlaced (r.run values cells steps) (q.run values others steps))
   DoesPlaced (ChildTarget f) r q = r ≡ q
 
--- Code with other numbers of the own fields does the same to fields that stand at these numbers, whose types are there too,
--- where no two fields have one number, and what it calls does.
+-- Code with other numbers of the own fields does the same to fields that stand at these numbers,
+-- whose types are there too, where no two fields have one number, and what it calls does.
 abbrev pub FieldNumbersAreFree : Type 0
 FieldNumbersAreFree =
     (place : ℕ → ℕ) → ((f g : ℕ) → place f ≡ place g → f ≡ g) →
-    (scope : Scope) (routines : List Routine) (types : List CType) → ((f : ℕ) → type_at types (place f) ≡ type_at scope.types f) →
-    (stmts : StmtTrees) → AllCalls (λ k target. DoesPlaced place target (routine_at scope.routines k) (routine_at routines k)) stmts →
+    (scope : Scope) (routines : List Routine) (types : List CType) →
+    ((f : ℕ) → type_at types (place f) ≡ type_at scope.types f) →
+    (stmts : StmtTrees) →
+    AllCalls (λ k target. DoesPlaced place target (routine_at scope.routines k)
+    (routine_at routines k)) stmts →
     (cells others : Cells) (steps : ℕ) → ArePlaced place cells others →
     EndPlaced place (run_stmts scope stmts cells steps)
-    (run_stmts (record { functions = scope.functions; routines = routines; types = types; values = scope.values })
+    (run_stmts (record {
+      functions = scope.functions;
+      routines = routines;
+      types = types;
+      values = scope.values;
+    })
     (placed_stmts place stmts) others steps)

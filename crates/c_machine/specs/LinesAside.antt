@@ -1,4 +1,5 @@
--- What two programs that differ in lines alone have in common: all that they do, but for the line where one is stuck.
+-- What two programs that differ in lines alone have in common: all that they do, but for the line
+-- where one is stuck.
 use Rattle.std.specs.Prelude.{◌≡◌, ℕ, ℤ, List, option_map}
 use Rattle.c_syntax.specs.declared.fault.Stuck.{Stuck}
 use Rattle.c_syntax.specs.Tree.{ProgramTree}
@@ -18,11 +19,18 @@ outcome_aside (stuck at cells) = stuck (stuck_aside at) cells
 
 -- rows that don't say so
 abbrev pub rows_aside : Rows → Rows
-rows_aside rows = record { ticks = rows.ticks; cells = rows.cells; stuck_place = option_map stuck_aside rows.stuck_place }
+rows_aside rows =
+    record {
+      ticks = rows.ticks;
+      cells = rows.cells;
+      stuck_place = option_map stuck_aside rows.stuck_place;
+    }
 
 -- both do the same at each call from outside, from the start, and over each trace
 pub record RunAlike (p q : ProgramTree) : Type 0 where
-  pub calls : (k : ℕ) (path : List ℕ) (values : List ℤ) (cells : Cells) → outcome_aside (call_from_outside p k path values cells) ≡ outcome_aside (call_from_outside q k path values cells)
+  pub calls : (k : ℕ) (path : List ℕ) (values : List ℤ) (cells : Cells) →
+      outcome_aside (call_from_outside p k path values cells)
+      ≡ outcome_aside (call_from_outside q k path values cells)
   pub start : outcome_aside (start_run p) ≡ outcome_aside (start_run q)
   pub rows : (trace : List (List ℤ)) → rows_aside (c_rows p trace) ≡ rows_aside (c_rows q trace)
 

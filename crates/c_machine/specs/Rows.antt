@@ -12,11 +12,13 @@ zero_root p = slice_index_or (zero_instances [] p.structs) (root_struct p) no_ce
 
 -- a call of `root_start`, from all numbers 0
 abbrev pub start_run : ProgramTree → Outcome
-start_run p = call_from_outside p (unwrap_or (procedure_named p (codes "root_start")) 0) [] [] (zero_root p)
+start_run p =
+    call_from_outside p (unwrap_or (procedure_named p (codes "root_start")) 0) [] [] (zero_root p)
 
 -- a call of `root_step` on one row of the trace
 abbrev pub step_run : ProgramTree → List ℤ → Cells → Outcome
-step_run p row cells = call_from_outside p (unwrap_or (procedure_named p (codes "root_step")) 0) [] row cells
+step_run p row cells =
+    call_from_outside p (unwrap_or (procedure_named p (codes "root_step")) 0) [] row cells
 
 -- a tick: the outputs after it, and its steps, interface calls and stores
 pub record TickRow : Type 0 where
@@ -31,7 +33,13 @@ interface_calls row = length row.log
 
 -- the row of a tick from what the execution of its step leaves
 abbrev pub tick_row : ProgramTree → After → TickRow
-tick_row p a = record { outputs = map (number_at a.cells) (output_fields (root_fields p)); steps = a.steps; log = a.log; stores = a.stores }
+tick_row p a =
+    record {
+      outputs = map (number_at a.cells) (output_fields (root_fields p));
+      steps = a.steps;
+      log = a.log;
+      stores = a.stores;
+    }
 
 -- what a run gives: the ticks, the fields that it leaves, and the place where it is stuck, if it is
 pub record Rows : Type 0 where
@@ -41,7 +49,8 @@ pub record Rows : Type 0 where
 
 -- the rows with one more before them
 abbrev pub with_tick : TickRow → Rows → Rows
-with_tick row rows = record { ticks = row ∷ rows.ticks; cells = rows.cells; stuck_place = rows.stuck_place }
+with_tick row rows =
+    record { ticks = row ∷ rows.ticks; cells = rows.cells; stuck_place = rows.stuck_place }
 
 -- the row of a tick and what follows, or the end where the tick is stuck
 abbrev pub rows_after : ProgramTree → Outcome → (Cells → Rows) → Rows

@@ -10,14 +10,17 @@ one_tick v = record {
   outputs = v ∷ [];
   steps = 6;
   log = record { path = 2 ∷ []; procedure = 2 } ∷ record { path = 2 ∷ []; procedure = 3 } ∷ [];
-  stores = record { path = 2 ∷ []; field = 0 } ∷ record { path = 2 ∷ []; field = 1 } ∷ record { path = []; field = 1 } ∷ record { path = []; field = 0 } ∷ [];
+  stores = record { path = 2 ∷ []; field = 0 } ∷ record { path = 2 ∷ []; field = 1 }
+      ∷ record { path = []; field = 1 } ∷ record { path = []; field = 0 } ∷ [];
 }
 
 -- each tick gives its input, in six steps and two calls
-pub one_program-rows : (c_rows one_program ((pos 5 ∷ []) ∷ (negsuc 6 ∷ []) ∷ (pos 2147483647 ∷ []) ∷ [])).ticks ≡ one_tick (pos 5) ∷ one_tick (negsuc 6) ∷ one_tick (pos 2147483647) ∷ []
+pub one_program-rows : (c_rows one_program ((pos 5 ∷ []) ∷ (negsuc 6 ∷ []) ∷ (pos 2147483647 ∷ [])
+    ∷ [])).ticks ≡ one_tick (pos 5) ∷ one_tick (negsuc 6) ∷ one_tick (pos 2147483647) ∷ []
 unfolding digits
 one_program-rows = refl
 
-pub zero_program-stuck : (c_rows zero_program ((pos 1 ∷ []) ∷ [])).stuck_place ≡ Some (record { line = 5; why = ZeroDivisor })
+pub zero_program-stuck : (c_rows zero_program ((pos 1 ∷ []) ∷ [])).stuck_place
+    ≡ Some (record { line = 5; why = ZeroDivisor })
 unfolding digits
 zero_program-stuck = refl

@@ -48,7 +48,8 @@ compares Le x y = int_le x y
 compares Ge x y = int_le y x
 compares Gt x y = int_lt y x
 
--- what an evaluation comes to: a result, with the count of the steps so far, or the place where it is stuck
+-- what an evaluation comes to: a result, with the count of the steps so far, or the place where it
+-- is stuck
 pub data Answer (A : Type 0) : Type 0 where
   gives : (result : A) (steps : ℕ) → Answer A
   sticks : (at : Stuck) → Answer A
@@ -72,7 +73,8 @@ step_limit = 2 ^ 32
 
 -- takes one more step and goes on, unless that is one too many
 abbrev pub take_step : {A : Type 0} → ℕ → ℕ → (ℕ → Answer A) → Answer A
-take_step line steps go = if nat_lt steps step_limit then go (steps + 1) else sticks (stuck_at line Steps)
+take_step line steps go =
+    if nat_lt steps step_limit then go (steps + 1) else sticks (stuck_at line Steps)
 
 -- the result of an operator; a remainder is stuck where the quotient is
 abbrev pub operate : BinOp → ℕ → ℤ → ℤ → ℕ → Answer ℤ
@@ -80,9 +82,12 @@ operate Add line x y steps = within I64 Overflow line (x +ℤ y) steps
 operate Sub line x y steps = within I64 Overflow line (x -ℤ y) steps
 operate Mul line x y steps = within I64 Overflow line (x *ℤ y) steps
 operate Div line x y steps =
-    if int_eq y (pos 0) then sticks (stuck_at line ZeroDivisor) else within I64 Overflow line (int_div x y) steps
+    if int_eq y (pos 0) then sticks (stuck_at line ZeroDivisor)
+    else within I64 Overflow line (int_div x y) steps
 operate Rem line x y steps =
-    if int_eq y (pos 0) then sticks (stuck_at line ZeroDivisor) else and_then (within I64 Overflow line (int_div x y) steps) (λ quotient count. gives (int_rem x y) count)
+    if int_eq y (pos 0) then sticks (stuck_at line ZeroDivisor)
+    else and_then (within I64 Overflow line (int_div x y) steps)
+    (λ quotient count. gives (int_rem x y) count)
 
 -- what a pure function gives of its arguments
 abbrev pub Function : Type 0
@@ -114,38 +119,50 @@ reads values cells = record { leaf = leaf_reads values cells; array = items_at c
 -- the place that an index stands for in an array, which is stuck where there is none
 abbrev pub index_in : ℕ → List ℤ → ℤ → ℕ → Answer ℕ
 index_in line array i steps =
-    if int_le (pos 0) i && int_lt i (pos (length array)) then gives (unsigned_abs i) steps else sticks (stuck_at line Index)
+    if int_le (pos 0) i && int_lt i (pos (length array)) then gives (unsigned_abs i) steps
+    else sticks (stuck_at line Index)
 
 abbrev mutual
   -- the value of an expression at a line, where `leaf` says what is read; the left side comes first
   pub eval : List Function → Reads → ℕ → ExprTree → ℕ → Answer ℤ
   eval functions leaf line (literal value) steps = gives value steps
   eval functions leaf line (neg e) steps =
-      and_then (eval functions leaf line e steps) (λ v count. within I64 Overflow line (neg_ℤ v) count)
+      and_then (eval functions leaf line e steps)
+      (λ v count. within I64 Overflow line (neg_ℤ v) count)
   eval functions leaf line (read l) steps = gives (leaf.leaf l) steps
   eval functions leaf line (binary op a b) steps =
-      and_then (eval functions leaf line a steps) (λ x count. and_then (eval functions leaf line b count) (λ y end. operate op line x y end))
+      and_then (eval functions leaf line a steps)
+      (λ x count. and_then (eval functions leaf line b count)
+      (λ y end. operate op line x y end))
   eval functions leaf line (pick test a b) steps =
-      and_then (eval_cond functions leaf line test steps) (λ holds. if holds then eval functions leaf line a else eval functions leaf line b)
+      and_then (eval_cond functions leaf line test steps) (λ holds. if holds
+      then eval functions leaf line a else eval functions leaf line b)
   eval functions leaf line (pure k es) steps =
       and_then (eval_all functions leaf line es steps) (function_at functions k)
   eval functions leaf line (item f index) steps =
-      and_then (and_then (eval functions leaf line index steps) (index_in line (leaf.array f))) (λ i count. gives (int_at (leaf.array f) i) count)
+      and_then (and_then (eval functions leaf line index steps) (index_in line (leaf.array f)))
+      (λ i count. gives (int_at (leaf.array f) i) count)
 
   -- the values of expressions, from the left
   pub eval_all : List Function → Reads → ℕ → ExprTrees → ℕ → Answer (List ℤ)
   eval_all functions leaf line no_exprs steps = gives [] steps
   eval_all functions leaf line (more_exprs e es) steps =
-      and_then (eval functions leaf line e steps) (λ v count. and_then (eval_all functions leaf line es count) (λ vs end. gives (v ∷ vs) end))
+      and_then (eval functions leaf line e steps)
+      (λ v count. and_then (eval_all functions leaf line es count)
+      (λ vs end. gives (v ∷ vs) end))
 
   -- whether a condition holds; `&&` and `||` look at their right side only where C does
   pub eval_cond : List Function → Reads → ℕ → CondTree → ℕ → Answer Bool
   eval_cond functions leaf line (compare how a b) steps =
-      and_then (eval functions leaf line a steps) (λ x count. and_then (eval functions leaf line b count) (λ y end. gives (compares how x y) end))
+      and_then (eval functions leaf line a steps)
+      (λ x count. and_then (eval functions leaf line b count)
+      (λ y end. gives (compares how x y) end))
   eval_cond functions leaf line (both a b) steps =
-      and_then (eval_cond functions leaf line a steps) (λ holds. if holds then eval_cond functions leaf line b else gives false)
+      and_then (eval_cond functions leaf line a steps) (λ holds. if holds
+      then eval_cond functions leaf line b else gives false)
   eval_cond functions leaf line (either a b) steps =
-      and_then (eval_cond functions leaf line a steps) (λ holds. if holds then gives true else eval_cond functions leaf line b)
+      and_then (eval_cond functions leaf line a steps) (λ holds. if holds then gives true
+      else eval_cond functions leaf line b)
   eval_cond functions leaf line (negated a) steps =
       and_then (eval_cond functions leaf line a steps) (λ holds count. gives (not holds) count)
 

@@ -28,23 +28,37 @@ use Rattle.c_meaning.proofs.Places.{own_is, under_is, array_is}
 use Rattle.c_meaning.proofs.Evaluations.{drop_at, again}
 use Rattle.c_meaning.proofs.Items.{items_length}
 
-pub frame_reads : (p : ProgramTree) (layouts : List StructLayout) (logged : List Bool) (v : View) (of : ℕ) (values s : List ℤ) → IsReady p layouts logged → v.layouts.now ≡ layouts → v.slots.now ≡ (layout_at layouts of).slots → v.numbers.now ≡ s → v.values.now ≡ values → view_reads v ≡ reads values (filled (zero_at p of) s)
+pub frame_reads : (p : ProgramTree) (layouts : List StructLayout) (logged : List Bool) (v : View) (of : ℕ)
+    (values s : List ℤ) → IsReady p layouts logged → v.layouts.now ≡ layouts →
+    v.slots.now ≡ (layout_at layouts of).slots → v.numbers.now ≡ s → v.values.now ≡ values →
+    view_reads v ≡ reads values (filled (zero_at p of) s)
 frame_reads p layouts logged v of values s ready same_layouts same_slots same_numbers same_values =
     λ i. record { leaf = fun_ext (λ leaf. at_leaf leaf) i; array = fun_ext (λ f. at_array f) i }
   where
     at_array : (f : ℕ) → view_array v f ≡ items_at (filled (zero_at p of) s) f
-    at_array f = (λ i. Rattle.c_meaning.specs.Slots.items_in (same_numbers i) (slice_get (same_slots i) f)) ∙ sym (array_is p.structs layouts (zeros_of p) ready.laid of s f)
+    at_array f = (λ i. Rattle.c_meaning.specs.Slots.items_in (same_numbers i) (slice_get (same_slots i) f))
+        ∙ sym (array_is p.structs layouts (zeros_of p) ready.laid of s f)
 
     at_leaf : (leaf : Leaf) → view_leaf v leaf ≡ leaf_reads values (filled (zero_at p of) s) leaf
     at_leaf (Param k) = λ i. Rattle.c_machine.specs.Values.int_at (same_values i) k
-    at_leaf (Own f) = (λ i. Rattle.c_meaning.specs.Slots.number_in (same_numbers i) (slice_get (same_slots i) f)) ∙ sym (own_is p.structs layouts (zeros_of p) ready.laid of s f)
-    at_leaf (Child f g) = (λ i. Rattle.c_meaning.specs.Slots.number_under (same_layouts i) (same_numbers i) (slice_get (same_slots i) f) g) ∙ sym (under_is p.structs layouts (zeros_of p) ready.laid of s f g)
+    at_leaf (Own f) = (λ i. Rattle.c_meaning.specs.Slots.number_in (same_numbers i) (slice_get (same_slots i) f))
+        ∙ sym (own_is p.structs layouts (zeros_of p) ready.laid of s f)
+    at_leaf (Child f g) =
+        (λ i. Rattle.c_meaning.specs.Slots.number_under (same_layouts i) (same_numbers i)
+        (slice_get (same_slots i) f) g) ∙ sym (under_is p.structs layouts (zeros_of p) ready.laid of s f g)
 
-pub eval_same : (v : View) (pures : List Pure) (line steps : ℕ) (e : ExprTree) (leaf : Reads) (answer : Answer ℤ) → v.pures.now ≡ pures → v.line ≡ line → view_reads v ≡ leaf → answer ≡ eval (view_functions v) (view_reads v) v.line e steps → answer ≡ eval (functions_of [] (map pure_tree pures)) leaf line e steps
+pub eval_same : (v : View) (pures : List Pure) (line steps : ℕ) (e : ExprTree) (leaf : Reads) (answer : Answer ℤ) →
+    v.pures.now ≡ pures → v.line ≡ line → view_reads v ≡ leaf →
+    answer ≡ eval (view_functions v) (view_reads v) v.line e steps →
+    answer ≡ eval (functions_of [] (map pure_tree pures)) leaf line e steps
 eval_same v pures line steps e leaf answer a b c given = given ∙ (λ i. eval (functions_of [] (map pure_tree (a i))) (c i) (b i) e steps)
 
-pub eval_cond_same : (v : View) (pures : List Pure) (line steps : ℕ) (e : CondTree) (leaf : Reads) (answer : Answer Bool) → v.pures.now ≡ pures → v.line ≡ line → view_reads v ≡ leaf → answer ≡ eval_cond (view_functions v) (view_reads v) v.line e steps → answer ≡ eval_cond (functions_of [] (map pure_tree pures)) leaf line e steps
-eval_cond_same v pures line steps e leaf answer a b c given = given ∙ (λ i. eval_cond (functions_of [] (map pure_tree (a i))) (c i) (b i) e steps)
+pub eval_cond_same : (v : View) (pures : List Pure) (line steps : ℕ) (e : CondTree) (leaf : Reads)
+    (answer : Answer Bool) → v.pures.now ≡ pures → v.line ≡ line → view_reads v ≡ leaf →
+    answer ≡ eval_cond (view_functions v) (view_reads v) v.line e steps →
+    answer ≡ eval_cond (functions_of [] (map pure_tree pures)) leaf line e steps
+eval_cond_same v pures line steps e leaf answer a b c given =
+    given ∙ (λ i. eval_cond (functions_of [] (map pure_tree (a i))) (c i) (b i) e steps)
 
 drop_param : (xs : List (Text × CType)) (j : ℕ) (x : Text × CType) → j < length xs → x ≡ get_or xs j x → drop j xs ≡ x ∷ drop (j + 1) xs
 drop_param [] j x h there = absurd (omega arith)
@@ -52,16 +66,60 @@ drop_param (y ∷ ys) zero x h there = ap (λ z. z ∷ ys) (sym there)
 drop_param (y ∷ ys) (suc j) x h there = simp unary_clauses (simp unary_clauses at (drop_param ys j x (omega arith) there))
 
 -- one more argument
-pub arguments_more : (fs : List Function) (leaf : Reads) (line start steps m : ℕ) (whole : Answer (List ℤ)) (ps : List (Text × CType)) (es : List Expr) (k : ℕ) (q : Text × CType) (e : Expr) (out now : List ℤ) (v : ℤ) → k < length ps → k < length es → k < length out → q ≡ get_or ps k q → e ≡ get_or es k e → now ≡ set out k v → gives v m ≡ and_then (eval fs leaf line (expr_tree e) steps) (within (get_or ps k q).1 Range line) → whole ≡ and_then (arguments fs leaf line (map (λ x. x.1) (drop k ps)) (exprs_of_list (map expr_tree (drop k es))) steps) (λ vs end. gives (take k out ++ vs) end) → whole ≡ and_then (arguments fs leaf line (map (λ x. x.1) (drop (k + 1) ps)) (exprs_of_list (map expr_tree (drop (k + 1) es))) m) (λ vs end. gives (take (k + 1) now ++ vs) end)
+pub arguments_more : (fs : List Function) (leaf : Reads) (line start steps m : ℕ) (whole : Answer (List ℤ))
+    (ps : List (Text × CType)) (es : List Expr) (k : ℕ) (q : Text × CType) (e : Expr) (out now : List ℤ) (v : ℤ) →
+    k < length ps → k < length es → k < length out → q ≡ get_or ps k q → e ≡ get_or es k e → now ≡ set out k v →
+    gives v m ≡ and_then (eval fs leaf line (expr_tree e) steps) (within (get_or ps k q).1 Range line) →
+    whole ≡ and_then
+    (arguments fs leaf line (map (λ x. x.1) (drop k ps)) (exprs_of_list (map expr_tree (drop k es))) steps)
+    (λ vs end. gives (take k out ++ vs) end) →
+    whole ≡ and_then
+    (arguments fs leaf line (map (λ x. x.1) (drop (k + 1) ps)) (exprs_of_list (map expr_tree (drop (k + 1) es))) m)
+    (λ vs end. gives (take (k + 1) now ++ vs) end)
 arguments_more fs leaf line start steps m whole ps es k q e out now v hp he inside there_q there_e is given before =
-    before ∙ (λ i. and_then (arguments fs leaf line (map (λ x. x.1) (drop_param ps k q hp there_q i)) (exprs_of_list (map expr_tree (drop_at es k e he there_e i))) steps) (λ vs end. gives (take k out ++ vs) end)) ∙ ap (λ a. and_then (and_then a (λ x count. and_then (arguments fs leaf line (map (λ y. y.1) (drop (k + 1) ps)) (exprs_of_list (map expr_tree (drop (k + 1) es))) count) (λ vs end. gives (x ∷ vs) end))) (λ vs end. gives (take k out ++ vs) end)) (sym (given ∙ (λ i. and_then (eval fs leaf line (expr_tree e) steps) (within (sym there_q i).1 Range line)))) ∙ again k out now v (arguments fs leaf line (map (λ x. x.1) (drop (k + 1) ps)) (exprs_of_list (map expr_tree (drop (k + 1) es))) m) inside is
+    before ∙ (λ i.
+    and_then
+    (arguments fs leaf line (map (λ x. x.1) (drop_param ps k q hp there_q i))
+    (exprs_of_list (map expr_tree (drop_at es k e he there_e i))) steps) (λ vs end. gives (take k out ++ vs) end))
+    ∙ ap (λ a.
+    and_then
+    (and_then a
+    (λ x count.
+    and_then
+    (arguments fs leaf line (map (λ y. y.1) (drop (k + 1) ps)) (exprs_of_list (map expr_tree (drop (k + 1) es)))
+    count) (λ vs end. gives (x ∷ vs) end))) (λ vs end. gives (take k out ++ vs) end))
+    (sym (given ∙ (λ i. and_then (eval fs leaf line (expr_tree e) steps) (within (sym there_q i).1 Range line))))
+    ∙ again k out now v
+    (arguments fs leaf line (map (λ x. x.1) (drop (k + 1) ps)) (exprs_of_list (map expr_tree (drop (k + 1) es))) m)
+    inside is
 
 -- the argument where it is stuck
-pub arguments_stop : (fs : List Function) (leaf : Reads) (line steps : ℕ) (whole : Answer (List ℤ)) (ps : List (Text × CType)) (es : List Expr) (k : ℕ) (q : Text × CType) (e : Expr) (out : List ℤ) (at : Stuck) → k < length ps → k < length es → q ≡ get_or ps k q → e ≡ get_or es k e → sticks at ≡ and_then (eval fs leaf line (expr_tree e) steps) (within (get_or ps k q).1 Range line) → whole ≡ and_then (arguments fs leaf line (map (λ x. x.1) (drop k ps)) (exprs_of_list (map expr_tree (drop k es))) steps) (λ vs end. gives (take k out ++ vs) end) → sticks at ≡ whole
+pub arguments_stop : (fs : List Function) (leaf : Reads) (line steps : ℕ) (whole : Answer (List ℤ))
+    (ps : List (Text × CType)) (es : List Expr) (k : ℕ) (q : Text × CType) (e : Expr) (out : List ℤ) (at : Stuck) →
+    k < length ps → k < length es → q ≡ get_or ps k q → e ≡ get_or es k e →
+    sticks at ≡ and_then (eval fs leaf line (expr_tree e) steps) (within (get_or ps k q).1 Range line) →
+    whole ≡ and_then
+    (arguments fs leaf line (map (λ x. x.1) (drop k ps)) (exprs_of_list (map expr_tree (drop k es))) steps)
+    (λ vs end. gives (take k out ++ vs) end) → sticks at ≡ whole
 arguments_stop fs leaf line steps whole ps es k q e out at hp he there_q there_e given before =
-    sym (before ∙ (λ i. and_then (arguments fs leaf line (map (λ x. x.1) (drop_param ps k q hp there_q i)) (exprs_of_list (map expr_tree (drop_at es k e he there_e i))) steps) (λ vs end. gives (take k out ++ vs) end)) ∙ ap (λ a. and_then (and_then a (λ x count. and_then (arguments fs leaf line (map (λ y. y.1) (drop (k + 1) ps)) (exprs_of_list (map expr_tree (drop (k + 1) es))) count) (λ vs end. gives (x ∷ vs) end))) (λ vs end. gives (take k out ++ vs) end)) (sym (given ∙ (λ i. and_then (eval fs leaf line (expr_tree e) steps) (within (sym there_q i).1 Range line)))))
+    sym (before
+    ∙ (λ i. and_then
+    (arguments fs leaf line (map (λ x. x.1) (drop_param ps k q hp there_q i))
+    (exprs_of_list (map expr_tree (drop_at es k e he there_e i))) steps) (λ vs end. gives (take k out ++ vs) end))
+    ∙ ap (λ a.
+    and_then
+    (and_then a
+    (λ x count.
+    and_then
+    (arguments fs leaf line (map (λ y. y.1) (drop (k + 1) ps)) (exprs_of_list (map expr_tree (drop (k + 1) es)))
+    count) (λ vs end. gives (x ∷ vs) end))) (λ vs end. gives (take k out ++ vs) end))
+    (sym (given ∙ (λ i. and_then (eval fs leaf line (expr_tree e) steps) (within (sym there_q i).1 Range line)))))
 
 -- how many items an own array has
-pub items_many : (p : ProgramTree) (layouts : List StructLayout) (logged : List Bool) (of f at count : ℕ) (slots : List Slot) (s : List ℤ) → IsReady p layouts logged → slots ≡ (layout_at layouts of).slots → items_in s (slice_get slots f) ≡ filled_items (replicate count (pos 0)) (drop at s) → length (items_at (filled (zero_at p of) s) f) ≡ count
+pub items_many : (p : ProgramTree) (layouts : List StructLayout) (logged : List Bool) (of f at count : ℕ)
+    (slots : List Slot) (s : List ℤ) → IsReady p layouts logged → slots ≡ (layout_at layouts of).slots →
+    items_in s (slice_get slots f) ≡ filled_items (replicate count (pos 0)) (drop at s) →
+    length (items_at (filled (zero_at p of) s) f) ≡ count
 items_many p layouts logged of f at count slots s ready same is =
-    ap length (array_is p.structs layouts (zeros_of p) ready.laid of s f ∙ (λ i. items_in s (slice_get (sym same i) f)) ∙ is) ∙ items_length (replicate count (pos 0)) (drop at s) ∙ length-replicate count (pos 0)
+    ap length (array_is p.structs layouts (zeros_of p) ready.laid of s f ∙ (λ i. items_in s (slice_get (sym same i) f))
+    ∙ is) ∙ items_length (replicate count (pos 0)) (drop at s) ∙ length-replicate count (pos 0)

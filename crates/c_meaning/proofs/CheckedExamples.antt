@@ -12,7 +12,8 @@ use Rattle.c_checked.specs.Checked.{AreInputsOf, IsChecked}
 pub HasOneOutput : ProgramTree → Type 0
 HasOneOutput t = (lawful : IsLawful t) × AreInputsOf lawful.root.step_procedure [] × (1 ≡ length (output_fields (root_fields t)))
 
-pub is_checked : (p : Program) (t : ProgramTree) → program_tree p ≡ t → HasOneOutput t → length t.procedures < 2 ^ 32 → IsChecked (record { program = p; inputs = []; outputs = 1 })
+pub is_checked : (p : Program) (t : ProgramTree) → program_tree p ≡ t → HasOneOutput t → length t.procedures < 2 ^ 32 →
+    IsChecked (record { program = p; inputs = []; outputs = 1 })
 unfolding HasOneOutput
 is_checked p t same has few =
     let all : HasOneOutput (program_tree p) = subst HasOneOutput (sym same) has in
@@ -23,6 +24,7 @@ is_checked p t same has few =
       outputs = all.2;
     }
 
-pub one_output : (t : ProgramTree) (lawful : IsLawful t) → AreInputsOf lawful.root.step_procedure [] → 1 ≡ length (output_fields (root_fields t)) → HasOneOutput t
+pub one_output : (t : ProgramTree) (lawful : IsLawful t) → AreInputsOf lawful.root.step_procedure [] →
+    1 ≡ length (output_fields (root_fields t)) → HasOneOutput t
 unfolding HasOneOutput
 one_output t lawful inputs outputs = (lawful, inputs, outputs)

@@ -21,20 +21,28 @@ pures_take [] (suc k) narrow = tt
 pures_take (p ∷ ps) zero narrow = tt
 pures_take (p ∷ ps) (suc k) narrow = (narrow.0, pures_take ps k narrow.1)
 
-pub pures_at : (ps : List Pure) (k : ℕ) (p : Pure) → k < length ps → p ≡ get_or ps k p → AreNarrow (map pure_tree ps) → IsNarrowExpr (expr_tree p.body)
+pub pures_at : (ps : List Pure) (k : ℕ) (p : Pure) → k < length ps → p ≡ get_or ps k p → AreNarrow (map pure_tree ps) →
+    IsNarrowExpr (expr_tree p.body)
 pures_at [] k p h there narrow = absurd (omega arith)
 pures_at (q ∷ ps) zero p h there narrow = subst (λ (x : Pure). IsNarrowExpr (expr_tree x.body)) (sym there) narrow.0
 pures_at (q ∷ ps) (suc k) p h there narrow = pures_at ps k p (omega arith) there narrow.1
 
-pub exprs_here : (es : List Expr) (k : ℕ) (e : Expr) → k < length es → e ≡ get_or es k e → AreNarrowExprs (exprs_of_list (map expr_tree (drop k es))) → IsNarrowExpr (expr_tree e)
+pub exprs_here : (es : List Expr) (k : ℕ) (e : Expr) → k < length es → e ≡ get_or es k e →
+    AreNarrowExprs (exprs_of_list (map expr_tree (drop k es))) → IsNarrowExpr (expr_tree e)
 exprs_here [] k e h there narrow = absurd (omega arith)
 exprs_here (x ∷ es) zero e h there narrow = subst (λ (y : Expr). IsNarrowExpr (expr_tree y)) (sym there) narrow.0
 exprs_here (x ∷ es) (suc k) e h there narrow = exprs_here es k e (omega arith) there narrow
 
-pub pure_narrow : (e : Expr) (k : ℕ) (values : Vec Expr Global) (items : List Expr) → e ≡ views.Pure k values → items ≡ values.items → IsNarrowExpr (expr_tree e) → IsNarrowExpr (pure k (exprs_of_list (map expr_tree items)))
+pub pure_narrow : (e : Expr) (k : ℕ) (values : Vec Expr Global) (items : List Expr) → e ≡ views.Pure k values →
+    items ≡ values.items → IsNarrowExpr (expr_tree e) → IsNarrowExpr (pure k (exprs_of_list (map expr_tree items)))
 pure_narrow e k values items is same narrow =
     subst IsNarrowExpr (ap expr_tree is ∙ expr_tree-Pure k values ∙ ap (λ xs. pure k (exprs_of_list (map expr_tree xs))) (sym same)) narrow
 
-pub pure_gives : (fs : List Function) (leaf : Reads) (line steps : ℕ) (e : Expr) (k : ℕ) (values : Vec Expr Global) (items : List Expr) (answer : Answer ℤ) → e ≡ views.Pure k values → items ≡ values.items → answer ≡ eval fs leaf line (pure k (exprs_of_list (map expr_tree items))) steps → answer ≡ eval fs leaf line (expr_tree e) steps
+pub pure_gives : (fs : List Function) (leaf : Reads) (line steps : ℕ) (e : Expr) (k : ℕ) (values : Vec Expr Global)
+    (items : List Expr) (answer : Answer ℤ) → e ≡ views.Pure k values → items ≡ values.items →
+    answer ≡ eval fs leaf line (pure k (exprs_of_list (map expr_tree items))) steps →
+    answer ≡ eval fs leaf line (expr_tree e) steps
 pure_gives fs leaf line steps e k values items answer is same given =
-    given ∙ sym (ap (λ t. eval fs leaf line t steps) (ap expr_tree is ∙ expr_tree-Pure k values ∙ ap (λ xs. pure k (exprs_of_list (map expr_tree xs))) (sym same)))
+    given ∙ sym
+    (ap (λ t. eval fs leaf line t steps) (ap expr_tree is ∙ expr_tree-Pure k values
+    ∙ ap (λ xs. pure k (exprs_of_list (map expr_tree xs))) (sym same)))

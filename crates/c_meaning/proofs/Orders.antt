@@ -7,7 +7,9 @@ use Rattle.mc_base.specs.declared.base.Compare.{Compare}
 use Rattle.mc_base.specs.declared.base.Compare.TheVariants.{Eq, Ne, Lt, Le, Ge, Gt}
 use Rattle.c_machine.specs.Values.{compares}
 
-pub by_order : (how : Compare) (x y : ℤ) → ((int_lt x y && compares how (pos 0) (pos 1)) || (int_eq x y && compares how (pos 0) (pos 0))) || (int_lt y x && compares how (pos 1) (pos 0)) ≡ compares how x y
+pub by_order : (how : Compare) (x y : ℤ) →
+    ((int_lt x y && compares how (pos 0) (pos 1)) || (int_eq x y && compares how (pos 0) (pos 0)))
+    || (int_lt y x && compares how (pos 1) (pos 0)) ≡ compares how x y
 by_order Eq x y = grind (arith, ints)
 by_order Ne x y = grind (arith, ints)
 by_order Lt x y = grind (arith, ints)

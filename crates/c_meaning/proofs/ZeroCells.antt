@@ -45,7 +45,9 @@ mutual
   filled-zero : (cs : Cells) (vs : List ℤ) → AreZero cs → AllZero vs → filled cs vs ≡ cs
   filled-zero no_cells vs h all = refl
   filled-zero (more_cells c cs) vs h all =
-      λ i. more_cells (filled_cell-zero c (take (length (numbers_in c)) vs) h.0 (taken (length (numbers_in c)) vs all) i) (filled-zero cs (drop (length (numbers_in c)) vs) h.1 (dropped (length (numbers_in c)) vs all) i)
+      λ i. more_cells
+      (filled_cell-zero c (take (length (numbers_in c)) vs) h.0 (taken (length (numbers_in c)) vs all) i)
+      (filled-zero cs (drop (length (numbers_in c)) vs) h.1 (dropped (length (numbers_in c)) vs all) i)
 
 zeros : (n : ℕ) → AllZero (replicate n (pos 0))
 zeros zero = tt
@@ -71,8 +73,14 @@ zero-more (y ∷ zs) z all h = (all.0, zero-more zs z all.1 h)
 
 zero-all : (zs : List Cells) (ss : List StructTree) → AllByRecursion AreZero zs → AllByRecursion AreZero (zero_instances zs ss)
 zero-all zs [] all = all
-zero-all zs (s ∷ ss) all = zero-all (zs ++ zero_cells zs s.fields ∷ []) ss (zero-more zs (zero_cells zs s.fields) all (zero_cells-zero zs s.fields all))
+zero-all zs (s ∷ ss) all =
+    zero-all (zs ++ zero_cells zs s.fields ∷ []) ss
+    (zero-more zs (zero_cells zs s.fields) all (zero_cells-zero zs s.fields all))
 
 -- numbers that are all 0 are those of an instance of zeros
-pub filled_zeros : (ss : List StructTree) (of n : ℕ) → filled (slice_index_or (zero_instances [] ss) of no_cells) (replicate n (pos 0)) ≡ slice_index_or (zero_instances [] ss) of no_cells
-filled_zeros ss of n = filled-zero (slice_index_or (zero_instances [] ss) of no_cells) (replicate n (pos 0)) (zero-at (zero_instances [] ss) of (zero-all [] ss tt)) (zeros n)
+pub filled_zeros : (ss : List StructTree) (of n : ℕ) →
+    filled (slice_index_or (zero_instances [] ss) of no_cells) (replicate n (pos 0))
+    ≡ slice_index_or (zero_instances [] ss) of no_cells
+filled_zeros ss of n =
+    filled-zero (slice_index_or (zero_instances [] ss) of no_cells) (replicate n (pos 0))
+    (zero-at (zero_instances [] ss) of (zero-all [] ss tt)) (zeros n)

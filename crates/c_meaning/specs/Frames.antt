@@ -68,4 +68,5 @@ run_in f s numbers cost = seen cost.calls (run_stmt (scope_in f) s (cells_in f n
 
 -- what statements of it leave, one after another
 abbrev pub run_all_in : Frame → StmtTrees → List ℤ → Cost → Seen
-run_all_in f ss numbers cost = seen cost.calls (run_stmts (scope_in f) ss (cells_in f numbers) cost.steps)
+run_all_in f ss numbers cost =
+    seen cost.calls (run_stmts (scope_in f) ss (cells_in f numbers) cost.steps)

@@ -1,4 +1,5 @@
--- The instances of a program's structs, numbered from the root's, which is 0: each before those inside it, in the order of its fields.
+-- The instances of a program's structs, numbered from the root's, which is 0: each before those
+-- inside it, in the order of its fields.
 use Rattle.std.specs.Prelude.{ℕ, ◌+◌, ℤ, List, [], ◌∷◌, ◌++◌, length, map, Option, Some, None, option_and_then, slice_get, slice_index_or, bytes_eq}
 use Rattle.std.specs.List.{position_from}
 use Rattle.c_syntax.specs.declared.program.FieldKind.{FieldKind}
@@ -29,13 +30,16 @@ kind_instances earlier f (Struct k) = map (instance_under f) (slice_index_or ear
 -- the instances in the fields from a position on
 abbrev pub field_instances : List (List StructInstance) → ℕ → List FieldTree → List StructInstance
 field_instances earlier f [] = []
-field_instances earlier f (x ∷ xs) = kind_instances earlier f x.kind ++ field_instances earlier (f + 1) xs
+field_instances earlier f (x ∷ xs) =
+    kind_instances earlier f x.kind ++ field_instances earlier (f + 1) xs
 
 -- an instance of each struct, before those inside it; a struct holds only earlier ones
-abbrev pub struct_instances : List (List StructInstance) → List StructTree → List (List StructInstance)
+abbrev pub struct_instances : List (List StructInstance) → List StructTree →
+    List (List StructInstance)
 struct_instances earlier [] = earlier
 struct_instances earlier (s ∷ ss) =
-    struct_instances (earlier ++ (whole_instance (length earlier) ∷ field_instances earlier 0 s.fields) ∷ []) ss
+    struct_instances
+    (earlier ++ (whole_instance (length earlier) ∷ field_instances earlier 0 s.fields) ∷ []) ss
 
 -- the instances of a program, in the order of their numbers
 abbrev pub instances : ProgramTree → List StructInstance
@@ -63,7 +67,10 @@ field_child i f (Struct k) = Some (record { path = i.path ++ f ∷ []; struct = 
 -- the instance in the struct field with a name, of an instance
 abbrev pub child_named : ProgramTree → List ℕ → StructInstance → Option StructInstance
 child_named p name i =
-    option_and_then (λ f. option_and_then (λ x. field_child i f x.kind) (slice_get (struct_fields p.structs i.struct) f)) (field_named (struct_fields p.structs i.struct) name)
+    option_and_then
+    (λ f. option_and_then (λ x. field_child i f x.kind)
+    (slice_get (struct_fields p.structs i.struct) f))
+    (field_named (struct_fields p.structs i.struct) name)
 
 -- the number in a field of these, where the field is one
 abbrev pub field_number : Cells → ℕ → FieldKind → Option ℤ
@@ -74,4 +81,6 @@ field_number cells f (Struct k) = None
 -- the number in the number field with a name, of an instance below these fields of the root
 abbrev pub number_named : ProgramTree → Cells → List ℕ → StructInstance → Option ℤ
 number_named p cells name i =
-    option_and_then (λ f. option_and_then (λ x. field_number (cells_under i.path cells) f x.kind) (slice_get (struct_fields p.structs i.struct) f)) (field_named (struct_fields p.structs i.struct) name)
+    option_and_then (λ f. option_and_then (λ x. field_number (cells_under i.path cells) f x.kind)
+    (slice_get (struct_fields p.structs i.struct) f))
+    (field_named (struct_fields p.structs i.struct) name)

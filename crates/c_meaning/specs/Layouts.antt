@@ -24,7 +24,8 @@ slot_of earlier at (kind.Struct k) = Instance at (layout_at earlier k).size k
 -- fields, one behind the other
 abbrev pub slots_from : List StructLayout → ℕ → List FieldTree → List Slot
 slots_from earlier at [] = []
-slots_from earlier at (f ∷ fs) = slot_of earlier at f.kind ∷ slots_from earlier (at + kind_size earlier f.kind) fs
+slots_from earlier at (f ∷ fs) =
+    slot_of earlier at f.kind ∷ slots_from earlier (at + kind_size earlier f.kind) fs
 
 -- where they end
 abbrev pub end_of : List StructLayout → ℕ → List FieldTree → ℕ
@@ -33,7 +34,8 @@ end_of earlier at (f ∷ fs) = end_of earlier (at + kind_size earlier f.kind) fs
 
 -- a struct with these fields; it holds only earlier ones
 abbrev pub layout_of : List StructLayout → List FieldTree → StructLayout
-layout_of earlier fields = record { size = end_of earlier 0 fields; slots = slots_from earlier 0 fields }
+layout_of earlier fields =
+    record { size = end_of earlier 0 fields; slots = slots_from earlier 0 fields }
 
 -- the structs of a list
 abbrev pub layouts_of : List StructLayout → List StructTree → List StructLayout
@@ -41,7 +43,11 @@ layouts_of earlier [] = earlier
 layouts_of earlier (s ∷ ss) = layouts_of (earlier ++ layout_of earlier s.fields ∷ []) ss
 
 -- the layouts of structs, whose instances with all numbers 0 are these
-pub record AreLaidOut (structs : List StructTree) (layouts : List StructLayout) (zeros : List Cells) : Type 0 where
-  pub sized : (k : ℕ) → (layout_at layouts k).size ≡ length (numbers_of (slice_index_or zeros k no_cells))
-  pub zero_is : (k : ℕ) → slice_index_or zeros k no_cells ≡ zero_cells zeros (struct_fields structs k)
-  pub slots_are : (k : ℕ) → (layout_at layouts k).slots ≡ slots_from layouts 0 (struct_fields structs k)
+pub record AreLaidOut (structs : List StructTree) (layouts : List StructLayout)
+    (zeros : List Cells) : Type 0 where
+  pub sized : (k : ℕ) →
+      (layout_at layouts k).size ≡ length (numbers_of (slice_index_or zeros k no_cells))
+  pub zero_is : (k : ℕ) →
+      slice_index_or zeros k no_cells ≡ zero_cells zeros (struct_fields structs k)
+  pub slots_are : (k : ℕ) →
+      (layout_at layouts k).slots ≡ slots_from layouts 0 (struct_fields structs k)

@@ -1,4 +1,5 @@
--- Three lawful programs: one whose root holds instances that hold instances, one that is stuck at its start, and one with arrays.
+-- Three lawful programs: one whose root holds instances that hold instances, one that is stuck at
+-- its start, and one with arrays.
 use Rattle.std.specs.Prelude.{ℕ, pos, false, List, [], ◌∷◌, codes, refl}
 use Rattle.std.specs.Fmt.{digits}
 use Rattle.std.proofs.Common.{lit≤}
@@ -26,24 +27,39 @@ leaf = record { name = codes "leaf"; fields = number_8 (codes "v") ∷ number_32
 
 -- `struct mid { int32_t a; struct leaf l; struct leaf r; };`
 abbrev pub middle : StructTree
-middle = record { name = codes "mid"; fields = number_32 (codes "a") ∷ instance_of 0 (codes "l") ∷ instance_of 0 (codes "r") ∷ [] }
+middle =
+    record {
+      name = codes "mid";
+      fields = number_32 (codes "a") ∷ instance_of 0 (codes "l")
+          ∷ instance_of 0 (codes "r") ∷ [];
+    }
 
 -- `struct root { struct mid m; int32_t y1; struct leaf n; };`
 abbrev pub root : StructTree
-root = record { name = codes "root"; fields = instance_of 1 (codes "m") ∷ number_32 (codes "y1") ∷ instance_of 0 (codes "n") ∷ [] }
+root = record {
+  name = codes "root";
+  fields = instance_of 1 (codes "m") ∷ number_32 (codes "y1")
+      ∷ instance_of 0 (codes "n") ∷ [];
+}
 
 -- a procedure without parameters
 abbrev pub plain : List ℕ → ℕ → List StmtTree → ProcedureTree
-plain name of body = record { name = name; private = false; of = of; params = []; body = stmts_of_list body }
+plain name of body =
+    record { name = name; private = false; of = of; params = []; body = stmts_of_list body }
 
 -- `if (0 < s->w) { s->v = s->v + 100; } s->w = s->w + 1;`
 abbrev pub leaf_update : ProcedureTree
 leaf_update =
-    plain (codes "leaf_update") 0 (branch 6 (compare Lt (literal (pos 0)) (read (Own 1))) (stmts_of_list (assign 7 0 (binary Add (read (Own 0)) (literal (pos 100))) ∷ [])) no_stmts ∷ assign 9 1 (binary Add (read (Own 1)) (literal (pos 1))) ∷ [])
+    plain (codes "leaf_update") 0
+    (branch 6 (compare Lt (literal (pos 0)) (read (Own 1)))
+    (stmts_of_list (assign 7 0 (binary Add (read (Own 0)) (literal (pos 100))) ∷ [])) no_stmts
+    ∷ assign 9 1 (binary Add (read (Own 1)) (literal (pos 1))) ∷ [])
 
 -- `s->a = 5; leaf_update(&s->r);`
 abbrev pub mid_out1 : ProcedureTree
-mid_out1 = plain (codes "mid_out1") 1 (assign 12 0 (literal (pos 5)) ∷ call 13 0 (ChildTarget 2) no_exprs ∷ [])
+mid_out1 =
+    plain (codes "mid_out1") 1 (assign 12 0 (literal (pos 5)) ∷ call 13 0 (ChildTarget 2) no_exprs
+    ∷ [])
 
 -- `s->y1 = 9;`
 abbrev pub root_start : ProcedureTree
@@ -51,12 +67,18 @@ root_start = plain (codes "root_start") 2 (assign 16 1 (literal (pos 9)) ∷ [])
 
 -- `s->y1 = s->y1 / s->m.a;`
 abbrev pub root_step : ProcedureTree
-root_step = plain (codes "root_step") 2 (assign 19 1 (binary Div (read (Own 1)) (read (Child 0 0))) ∷ [])
+root_step =
+    plain (codes "root_step") 2 (assign 19 1 (binary Div (read (Own 1)) (read (Child 0 0))) ∷ [])
 
 -- the instances: 0 is the root, 1 its m, 2 and 3 the l and r of m, and 4 its n
 abbrev pub nested_program : ProgramTree
 nested_program =
-    record { pures = []; structs = leaf ∷ middle ∷ root ∷ []; procedures = leaf_update ∷ mid_out1 ∷ root_start ∷ root_step ∷ [] }
+    record {
+      pures = [];
+      structs = leaf ∷ middle ∷ root ∷ [];
+      procedures = leaf_update ∷ mid_out1
+          ∷ root_start ∷ root_step ∷ [];
+    }
 
 unfoldable pub nested_program-lawful : IsLawful nested_program
 unfolding digits
@@ -65,11 +87,26 @@ nested_program-lawful = record {
   struct_names = (refl, refl, (refl, refl, (refl, refl, tt)));
   pures = tt;
   structs = (
-    record { fields = (refl, refl, (refl, refl, tt)); some = lit≤ tt; kinds = (tt, (tt, tt)); outputs = λ same. (refl, (refl, tt)) },
+    record {
+      fields = (refl, refl, (refl, refl, tt));
+      some = lit≤ tt;
+      kinds = (tt, (tt, tt));
+      outputs = λ same. (refl, (refl, tt));
+    },
     (
-      record { fields = (refl, refl, (refl, refl, (refl, refl, tt))); some = lit≤ tt; kinds = (tt, (lit≤ tt, (lit≤ tt, tt))); outputs = λ same. (refl, (refl, (refl, tt))) },
+      record {
+        fields = (refl, refl, (refl, refl, (refl, refl, tt)));
+        some = lit≤ tt;
+        kinds = (tt, (lit≤ tt, (lit≤ tt, tt)));
+        outputs = λ same. (refl, (refl, (refl, tt)));
+      },
       (
-        record { fields = (refl, refl, (refl, refl, (refl, refl, tt))); some = lit≤ tt; kinds = (lit≤ tt, (tt, (lit≤ tt, tt))); outputs = λ same. (refl, (refl, (refl, tt))) },
+        record {
+          fields = (refl, refl, (refl, refl, (refl, refl, tt)));
+          some = lit≤ tt;
+          kinds = (lit≤ tt, (tt, (lit≤ tt, tt)));
+          outputs = λ same. (refl, (refl, (refl, tt)));
+        },
         tt,
       ),
     ),
@@ -82,10 +119,22 @@ nested_program-lawful = record {
       body = (
         (
           ((0, refl, lit≤ tt), (number_32 (codes "w"), refl, refl)),
-          (((number_8 (codes "v"), refl, refl), ((number_8 (codes "v"), refl, refl), (100, refl, lit≤ tt))), tt),
+          (
+            (
+              (number_8 (codes "v"), refl, refl),
+              ((number_8 (codes "v"), refl, refl), (100, refl, lit≤ tt)),
+            ),
+            tt,
+          ),
           tt,
         ),
-        (((number_32 (codes "w"), refl, refl), ((number_32 (codes "w"), refl, refl), (1, refl, lit≤ tt))), tt),
+        (
+          (
+            (number_32 (codes "w"), refl, refl),
+            ((number_32 (codes "w"), refl, refl), (1, refl, lit≤ tt)),
+          ),
+          tt,
+        ),
       );
     },
     (
@@ -99,7 +148,12 @@ nested_program-lawful = record {
         );
       },
       (
-        record { of = lit≤ tt; params = tt; apart = tt; body = (((number_32 (codes "y1"), refl, refl), (9, refl, lit≤ tt)), tt) },
+        record {
+          of = lit≤ tt;
+          params = tt;
+          apart = tt;
+          body = (((number_32 (codes "y1"), refl, refl), (9, refl, lit≤ tt)), tt);
+        },
         (
           record {
             of = lit≤ tt;
@@ -108,7 +162,14 @@ nested_program-lawful = record {
             body = (
               (
                 (number_32 (codes "y1"), refl, refl),
-                ((number_32 (codes "y1"), refl, refl), (1, (instance_of 1 (codes "m"), refl, refl), (number_32 (codes "a"), refl, refl))),
+                (
+                  (number_32 (codes "y1"), refl, refl),
+                  (
+                    1,
+                    (instance_of 1 (codes "m"), refl, refl),
+                    (number_32 (codes "a"), refl, refl),
+                  ),
+                ),
               ),
               tt,
             );
@@ -167,7 +228,8 @@ idle_step = plain (codes "root_step") 0 []
 
 -- the number that the start stores is out of its field's type
 abbrev pub stuck_program : ProgramTree
-stuck_program = record { pures = []; structs = narrow_root ∷ []; procedures = stuck_start ∷ idle_step ∷ [] }
+stuck_program =
+    record { pures = []; structs = narrow_root ∷ []; procedures = stuck_start ∷ idle_step ∷ [] }
 
 unfoldable pub stuck_program-lawful : IsLawful stuck_program
 unfolding digits
@@ -175,9 +237,22 @@ stuck_program-lawful = record {
   functions = (refl, refl, (refl, refl, tt));
   struct_names = (refl, refl, tt);
   pures = tt;
-  structs = (record { fields = (refl, refl, tt); some = lit≤ tt; kinds = (tt, tt); outputs = λ same. (refl, tt) }, tt);
+  structs = (
+    record {
+      fields = (refl, refl, tt);
+      some = lit≤ tt;
+      kinds = (tt, tt);
+      outputs = λ same. (refl, tt);
+    },
+    tt,
+  );
   procedures = (
-    record { of = lit≤ tt; params = tt; apart = tt; body = (((number_8 (codes "y1"), refl, refl), (128, refl, lit≤ tt)), tt) },
+    record {
+      of = lit≤ tt;
+      params = tt;
+      apart = tt;
+      body = (((number_8 (codes "y1"), refl, refl), (128, refl, lit≤ tt)), tt);
+    },
     (record { of = lit≤ tt; params = tt; apart = tt; body = tt }, tt),
   );
   root = record {
@@ -214,21 +289,30 @@ array_8 name count = record { name = name; kind = Array I8 count }
 
 -- `struct ring { int8_t a[3]; int32_t w; int8_t b[2]; };`
 abbrev pub ring : StructTree
-ring = record { name = codes "ring"; fields = array_8 (codes "a") 3 ∷ number_32 (codes "w") ∷ array_8 (codes "b") 2 ∷ [] }
+ring = record {
+  name = codes "ring";
+  fields = array_8 (codes "a") 3 ∷ number_32 (codes "w")
+      ∷ array_8 (codes "b") 2 ∷ [];
+}
 
 -- `struct root { int32_t y1; struct ring r; };`
 abbrev pub ring_root : StructTree
-ring_root = record { name = codes "root"; fields = number_32 (codes "y1") ∷ instance_of 0 (codes "r") ∷ [] }
+ring_root =
+    record { name = codes "root"; fields = number_32 (codes "y1") ∷ instance_of 0 (codes "r") ∷ [] }
 
 -- `s->a[s->w] = s->a[s->w] + 60; s->b[0] = s->w; s->w = s->a[0] + s->b[0];`
 abbrev pub ring_update : ProcedureTree
 ring_update =
-    plain (codes "ring_update") 0 (assign_at 5 0 (read (Own 1)) (binary Add (item 0 (read (Own 1))) (literal (pos 60))) ∷ assign_at 6 2 (literal (pos 0)) (read (Own 1)) ∷ assign 7 1 (binary Add (item 0 (literal (pos 0))) (item 2 (literal (pos 0)))) ∷ [])
+    plain (codes "ring_update") 0
+    (assign_at 5 0 (read (Own 1)) (binary Add (item 0 (read (Own 1))) (literal (pos 60)))
+    ∷ assign_at 6 2 (literal (pos 0)) (read (Own 1))
+    ∷ assign 7 1 (binary Add (item 0 (literal (pos 0))) (item 2 (literal (pos 0)))) ∷ [])
 
 -- `s->w = 1 + (-s->w); s->a[s->w] = 1 / 0;`
 abbrev pub ring_out1 : ProcedureTree
 ring_out1 =
-    plain (codes "ring_out1") 0 (assign 11 1 (binary Add (literal (pos 1)) (neg (read (Own 1)))) ∷ assign_at 12 0 (read (Own 1)) (binary Div (literal (pos 1)) (literal (pos 0))) ∷ [])
+    plain (codes "ring_out1") 0 (assign 11 1 (binary Add (literal (pos 1)) (neg (read (Own 1))))
+    ∷ assign_at 12 0 (read (Own 1)) (binary Div (literal (pos 1)) (literal (pos 0))) ∷ [])
 
 -- nothing at the start
 abbrev pub ring_start : ProcedureTree
@@ -236,11 +320,18 @@ ring_start = plain (codes "root_start") 1 []
 
 -- `ring_update(&s->r); s->y1 = s->r.w;`
 abbrev pub ring_step : ProcedureTree
-ring_step = plain (codes "root_step") 1 (call 18 0 (ChildTarget 1) no_exprs ∷ assign 19 0 (read (Child 1 1)) ∷ [])
+ring_step =
+    plain (codes "root_step") 1 (call 18 0 (ChildTarget 1) no_exprs ∷ assign 19 0 (read (Child 1 1))
+    ∷ [])
 
 abbrev pub ring_program : ProgramTree
 ring_program =
-    record { pures = []; structs = ring ∷ ring_root ∷ []; procedures = ring_update ∷ ring_out1 ∷ ring_start ∷ ring_step ∷ [] }
+    record {
+      pures = [];
+      structs = ring ∷ ring_root ∷ [];
+      procedures = ring_update ∷ ring_out1
+          ∷ ring_start ∷ ring_step ∷ [];
+    }
 
 unfoldable pub ring_program-lawful : IsLawful ring_program
 unfolding digits
@@ -249,9 +340,20 @@ ring_program-lawful = record {
   struct_names = (refl, refl, (refl, refl, tt));
   pures = tt;
   structs = (
-    record { fields = (refl, refl, (refl, refl, (refl, refl, tt))); some = lit≤ tt; kinds = ((lit≤ tt, lit≤ tt), (tt, ((lit≤ tt, lit≤ tt), tt))); outputs = λ same. (refl, (refl, (refl, tt))) },
+    record {
+      fields = (refl, refl, (refl, refl, (refl, refl, tt)));
+      some = lit≤ tt;
+      kinds = ((lit≤ tt, lit≤ tt), (tt, ((lit≤ tt, lit≤ tt), tt)));
+      outputs =
+          λ same. (refl, (refl, (refl, tt)));
+    },
     (
-      record { fields = (refl, refl, (refl, refl, tt)); some = lit≤ tt; kinds = (tt, (lit≤ tt, tt)); outputs = λ same. (refl, (refl, tt)) },
+      record {
+        fields = (refl, refl, (refl, refl, tt));
+        some = lit≤ tt;
+        kinds = (tt, (lit≤ tt, tt));
+        outputs = λ same. (refl, (refl, tt));
+      },
       tt,
     ),
   );
@@ -264,14 +366,24 @@ ring_program-lawful = record {
         (
           (array_8 (codes "a") 3, I8, 3, refl, refl),
           (number_32 (codes "w"), refl, refl),
-          (((array_8 (codes "a") 3, I8, 3, refl, refl), (number_32 (codes "w"), refl, refl)), (60, refl, lit≤ tt)),
+          (
+            ((array_8 (codes "a") 3, I8, 3, refl, refl), (number_32 (codes "w"), refl, refl)),
+            (60, refl, lit≤ tt),
+          ),
         ),
         (
-          ((array_8 (codes "b") 2, I8, 2, refl, refl), (0, refl, lit≤ tt), (number_32 (codes "w"), refl, refl)),
+          (
+            (array_8 (codes "b") 2, I8, 2, refl, refl),
+            (0, refl, lit≤ tt),
+            (number_32 (codes "w"), refl, refl),
+          ),
           (
             (
               (number_32 (codes "w"), refl, refl),
-              (((array_8 (codes "a") 3, I8, 3, refl, refl), (0, refl, lit≤ tt)), ((array_8 (codes "b") 2, I8, 2, refl, refl), (0, refl, lit≤ tt))),
+              (
+                ((array_8 (codes "a") 3, I8, 3, refl, refl), (0, refl, lit≤ tt)),
+                ((array_8 (codes "b") 2, I8, 2, refl, refl), (0, refl, lit≤ tt)),
+              ),
             ),
             tt,
           ),
@@ -284,9 +396,16 @@ ring_program-lawful = record {
         params = tt;
         apart = tt;
         body = (
-          ((number_32 (codes "w"), refl, refl), ((1, refl, lit≤ tt), (number_32 (codes "w"), refl, refl))),
           (
-            ((array_8 (codes "a") 3, I8, 3, refl, refl), (number_32 (codes "w"), refl, refl), ((1, refl, lit≤ tt), (0, refl, lit≤ tt))),
+            (number_32 (codes "w"), refl, refl),
+            ((1, refl, lit≤ tt), (number_32 (codes "w"), refl, refl)),
+          ),
+          (
+            (
+              (array_8 (codes "a") 3, I8, 3, refl, refl),
+              (number_32 (codes "w"), refl, refl),
+              ((1, refl, lit≤ tt), (0, refl, lit≤ tt)),
+            ),
             tt,
           ),
         );
@@ -301,7 +420,14 @@ ring_program-lawful = record {
             body = (
               (ring_update, refl, (instance_of 0 (codes "r"), refl, refl), refl, tt),
               (
-                ((number_32 (codes "y1"), refl, refl), (0, (instance_of 0 (codes "r"), refl, refl), (number_32 (codes "w"), refl, refl))),
+                (
+                  (number_32 (codes "y1"), refl, refl),
+                  (
+                    0,
+                    (instance_of 0 (codes "r"), refl, refl),
+                    (number_32 (codes "w"), refl, refl),
+                  ),
+                ),
                 tt,
               ),
             );

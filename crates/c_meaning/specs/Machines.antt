@@ -25,7 +25,8 @@ pub record IsStarted (program : CheckedProgram) (m : MachineState) : Type 0 wher
 
 -- `root_start` is stuck there; of want of memory nothing is said
 abbrev pub IsStartFault : CheckedProgram → NewFault → Type 0
-IsStartFault program (fault.Stuck at) = (cells : Cells) × (start_run (program_tree program.program) ≡ stuck at cells)
+IsStartFault program (fault.Stuck at) =
+    (cells : Cells) × (start_run (program_tree program.program) ≡ stuck at cells)
 IsStartFault program fault.Memory = ⊤
 
 -- numbers for the inputs, each in its type
@@ -42,9 +43,11 @@ pub record IsTick (before after : MachineState) (row outputs : List ℤ) (cost :
 
 -- a tick on a row is stuck there
 abbrev pub IsStuckTick : (before after : MachineState) → List ℤ → Stuck → Type 0
-IsStuckTick before after row at = step_run (tree_of before) row (fields_of before) ≡ stuck at (fields_of after)
+IsStuckTick before after row at =
+    step_run (tree_of before) row (fields_of before) ≡ stuck at (fields_of after)
 
--- there is such an instance, the procedure is one of its struct, and the numbers are arguments of it, each in its parameter's type
+-- there is such an instance, the procedure is one of its struct, and the numbers are arguments of
+-- it, each in its parameter's type
 pub record IsCallable (m : MachineState) (procedure instance : ℕ) (values : List ℤ) : Type 0 where
   pub instance_is : StructInstance
   pub instance_there : instance_at (tree_of m) instance ≡ Some instance_is
@@ -54,16 +57,20 @@ pub record IsCallable (m : MachineState) (procedure instance : ℕ) (values : Li
   pub fit : AllZip (λ (q : ParamTree) v. is_in_type q.type v ≡ true) procedure_is.params values
 
 -- a call from outside on an instance, which takes this
-pub record IsCall (before after : MachineState) (procedure instance : ℕ) (values : List ℤ) (cost : Cost) : Type 0 where
+pub record IsCall (before after : MachineState) (procedure instance : ℕ) (values : List ℤ)
+    (cost : Cost) : Type 0 where
   pub instance_is : StructInstance
   pub there : instance_at (tree_of before) instance ≡ Some instance_is
   pub left : After
-  pub run : call_from_outside (tree_of before) procedure instance_is.path values (fields_of before) ≡ done left
+  pub run : call_from_outside (tree_of before) procedure instance_is.path values (fields_of before)
+      ≡ done left
   pub cells : fields_of after ≡ left.cells
   pub cost_is : cost ≡ cost_of left
 
 -- a call from outside on an instance is stuck there
-pub record IsStuckCall (before after : MachineState) (procedure instance : ℕ) (values : List ℤ) (at : Stuck) : Type 0 where
+pub record IsStuckCall (before after : MachineState) (procedure instance : ℕ) (values : List ℤ)
+    (at : Stuck) : Type 0 where
   pub instance_is : StructInstance
   pub there : instance_at (tree_of before) instance ≡ Some instance_is
-  pub run : call_from_outside (tree_of before) procedure instance_is.path values (fields_of before) ≡ stuck at (fields_of after)
+  pub run : call_from_outside (tree_of before) procedure instance_is.path values (fields_of before)
+      ≡ stuck at (fields_of after)

@@ -32,10 +32,13 @@ counts_of earlier [] = earlier
 counts_of earlier (s ∷ ss) = counts_of (earlier ++ suc (fields_count earlier s.fields) ∷ []) ss
 
 -- the counts of structs, whose instances are these
-pub record AreNumbered (structs : List StructTree) (counts : List ℕ) (all : List (List StructInstance)) : Type 0 where
+pub record AreNumbered (structs : List StructTree) (counts : List ℕ)
+    (all : List (List StructInstance)) : Type 0 where
   pub counted : (k : ℕ) → slice_index_or counts k 0 ≡ length (slice_index_or all k [])
-  pub first : (k : ℕ) → k < length structs → slice_index_or all k [] ≡ whole_instance k ∷ field_instances all 0 (struct_fields structs k)
-  pub earlier : (k f c : ℕ) (x : FieldTree) → slice_get (struct_fields structs k) f ≡ Some x → x.kind ≡ kind.Struct c → c < k
+  pub first : (k : ℕ) → k < length structs → slice_index_or all k [] ≡ whole_instance k
+      ∷ field_instances all 0 (struct_fields structs k)
+  pub earlier : (k f c : ℕ) (x : FieldTree) → slice_get (struct_fields structs k) f ≡ Some x →
+      x.kind ≡ kind.Struct c → c < k
 
 -- the instances of each struct of a program
 abbrev pub instances_of : ProgramTree → List (List StructInstance)
@@ -45,8 +48,10 @@ instances_of p = struct_instances [] p.structs
 abbrev pub instances_in : ProgramTree → ℕ → List StructInstance
 instances_in p k = slice_index_or (instances_of p) k []
 
--- the instance with this number, counted from those in the first field, is the one with the number `left` in the field at a position
-pub record IsHeld (counts : List ℕ) (fields : List FieldTree) (position left number : ℕ) : Type 0 where
+-- the instance with this number, counted from those in the first field, is the one with the number
+-- `left` in the field at a position
+pub record IsHeld (counts : List ℕ) (fields : List FieldTree)
+    (position left number : ℕ) : Type 0 where
   pub field : FieldTree
   pub there : slice_get fields position ≡ Some field
   pub inside : left < kind_count counts field.kind
@@ -56,23 +61,30 @@ pub record IsHeld (counts : List ℕ) (fields : List FieldTree) (position left n
 abbrev pub IsReached : List StructLayout → ℕ → List ℕ → ℕ → ℕ → Type 0
 IsReached layouts of [] struct at = (struct ≡ of) × (at ≡ 0)
 IsReached layouts of (f ∷ path) struct at =
-    (from size inner rest : ℕ) × (slice_get (layout_at layouts of).slots f ≡ Some (Instance from size inner)) × (at ≡ from + rest) × IsReached layouts inner path struct rest
+    (from size inner rest : ℕ)
+    × (slice_get (layout_at layouts of).slots f ≡ Some (Instance from size inner))
+    × (at ≡ from + rest) × IsReached layouts inner path struct rest
 
 -- an instance that a path leads to, seen from where the path begins
 abbrev pub instance_below : List ℕ → StructInstance → StructInstance
 instance_below path i = record { path = path ++ i.path; struct = i.struct }
 
--- the instance with a number has this struct, and its numbers begin there; behind it stand those inside it
-pub record IsPlace (p : ProgramTree) (layouts : List StructLayout) (root number struct at : ℕ) : Type 0 where
+-- the instance with a number has this struct, and its numbers begin there; behind it stand those
+-- inside it
+pub record IsPlace (p : ProgramTree) (layouts : List StructLayout)
+    (root number struct at : ℕ) : Type 0 where
   pub path : List ℕ
   pub known : struct < length p.structs
   pub reached : IsReached layouts root path struct at
-  pub there : (n : ℕ) → n < length (instances_in p struct) → slice_get (instances_in p root) (number + n) ≡ option_map (instance_below path) (slice_get (instances_in p struct) n)
+  pub there : (n : ℕ) → n < length (instances_in p struct) →
+      slice_get (instances_in p root) (number + n)
+      ≡ option_map (instance_below path) (slice_get (instances_in p struct) n)
 
 -- the tables are those of a program and small enough, and there is such a root
 pub record IsNumbering (n : Numbering) : Type 0 where
   pub laid : AreLaidOut (code_tree n.code).structs n.code.layouts (zeros_of (code_tree n.code))
-  pub numbered : AreNumbered (code_tree n.code).structs n.counts.now (instances_of (code_tree n.code))
+  pub numbered : AreNumbered (code_tree n.code).structs n.counts.now
+      (instances_of (code_tree n.code))
   pub root_known : n.root < length (code_tree n.code).structs
   pub sized : (layout_at n.code.layouts n.root).size < 2 ^ 64
   pub counted : n.count ≡ length (instances_in (code_tree n.code) n.root)
@@ -86,9 +98,10 @@ all_instances n = instances_in (code_tree n.code) n.root
 abbrev pub root_cells : Numbering → List ℤ → Cells
 root_cells n numbers = filled (zero_at (code_tree n.code) n.root) numbers
 
--- the instance with a number, counted from those in the first field, is the one with the number `left` in a field that holds an
--- instance of this struct, whose numbers begin there
-pub record IsStep (p : ProgramTree) (layouts : List StructLayout) (counts : List ℕ) (of inner from left number : ℕ) : Type 0 where
+-- the instance with a number, counted from those in the first field, is the one with the number
+-- `left` in a field that holds an instance of this struct, whose numbers begin there
+pub record IsStep (p : ProgramTree) (layouts : List StructLayout) (counts : List ℕ)
+    (of inner from left number : ℕ) : Type 0 where
   pub position : ℕ
   pub size : ℕ
   pub field : FieldTree
@@ -98,8 +111,10 @@ pub record IsStep (p : ProgramTree) (layouts : List StructLayout) (counts : List
   pub inside : left < slice_index_or counts inner 0
   pub sum : number ≡ fields_count counts (take position (struct_fields p.structs of)) + left
 
--- an instance is the one with the number `left` in an instance of a struct, whose numbers begin there
-pub record IsOnWay (p : ProgramTree) (layouts : List StructLayout) (root instance left struct at : ℕ) : Type 0 where
+-- an instance is the one with the number `left` in an instance of a struct, whose numbers begin
+-- there
+pub record IsOnWay (p : ProgramTree) (layouts : List StructLayout)
+    (root instance left struct at : ℕ) : Type 0 where
   pub base : ℕ
   pub sum : base + left ≡ instance
   pub place : IsPlace p layouts root base struct at
@@ -114,7 +129,8 @@ kind_before before (kind.Struct k) = Some before
 -- the same of the field at a position
 abbrev pub struct_count : List ℕ → List FieldTree → ℕ → Option ℕ
 struct_count counts fields position =
-    option_and_then (λ x. kind_before (fields_count counts (take position fields)) x.kind) (slice_get fields position)
+    option_and_then (λ x. kind_before (fields_count counts (take position fields)) x.kind)
+    (slice_get fields position)
 
 -- the number that a field holds, where it is one
 abbrev pub slot_number : List ℤ → Option Slot → Option ℤ

@@ -27,7 +27,8 @@ view_reads v = record { leaf = view_leaf v; array = view_array v }
 -- the place of an index in an array of so many items, which is stuck where there is none
 abbrev pub place_in : ℕ → ℕ → ℤ → ℕ → Answer ℕ
 place_in line count i steps =
-    if int_le (pos 0) i && int_lt i (pos count) then gives (unsigned_abs i) steps else sticks (stuck_at line Index)
+    if int_le (pos 0) i && int_lt i (pos count) then gives (unsigned_abs i) steps
+    else sticks (stuck_at line Index)
 
 -- the functions that it can call
 abbrev pub view_functions : View → List Function

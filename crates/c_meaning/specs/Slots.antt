@@ -30,11 +30,13 @@ abbrev pub number_under : List StructLayout → List ℤ → Option Slot → ℕ
 number_under layouts numbers None g = pos 0
 number_under layouts numbers (Some (Number at type)) g = pos 0
 number_under layouts numbers (Some (Array at count type)) g = pos 0
-number_under layouts numbers (Some (Instance at size of)) g = number_in (drop at numbers) (slice_get (layout_at layouts of).slots g)
+number_under layouts numbers (Some (Instance at size of)) g =
+    number_in (drop at numbers) (slice_get (layout_at layouts of).slots g)
 
 -- the items of the array that a field is, and none where it is no array
 abbrev pub items_in : List ℤ → Option Slot → List ℤ
 items_in numbers None = []
 items_in numbers (Some (Number at type)) = []
-items_in numbers (Some (Array at count type)) = filled_items (replicate count (pos 0)) (drop at numbers)
+items_in numbers (Some (Array at count type)) =
+    filled_items (replicate count (pos 0)) (drop at numbers)
 items_in numbers (Some (Instance at size of)) = []

@@ -54,17 +54,21 @@ pub record HasArguments (p : ProgramTree) (k count : ℕ) : Type 0 where
   pub room : count ≤ 64
 
 abbrev mutual
-  -- a statement of a procedure at a position, of a struct: stores go to numbers and items of arrays, calls to earlier procedures of their targets
+  -- a statement of a procedure at a position, of a struct: stores go to numbers and items of
+  -- arrays, calls to earlier procedures of their targets
   pub IsSoundStmt : ProgramTree → ℕ → ℕ → StmtTree → Type 0
   IsSoundStmt p level of (assign line f e) = IsNumberField p of f × IsNarrowExpr e
-  IsSoundStmt p level of (assign_at line f index e) = IsArrayField p of f × IsNarrowExpr index × IsNarrowExpr e
-  IsSoundStmt p level of (branch line test on_true on_false) = IsNarrowCond test × AreSoundStmts p level of on_true × AreSoundStmts p level of on_false
+  IsSoundStmt p level of (assign_at line f index e) =
+      IsArrayField p of f × IsNarrowExpr index × IsNarrowExpr e
+  IsSoundStmt p level of (branch line test on_true on_false) =
+      IsNarrowCond test × AreSoundStmts p level of on_true × AreSoundStmts p level of on_false
   IsSoundStmt p level of (call line k target es) =
       IsCallOf p of k target × HasArguments p k (exprs_length es) × (k < level) × AreNarrowExprs es
 
   pub AreSoundStmts : ProgramTree → ℕ → ℕ → StmtTrees → Type 0
   AreSoundStmts p level of no_stmts = ⊤
-  AreSoundStmts p level of (more_stmts s ss) = IsSoundStmt p level of s × AreSoundStmts p level of ss
+  AreSoundStmts p level of (more_stmts s ss) =
+      IsSoundStmt p level of s × AreSoundStmts p level of ss
 
 -- an instance of each struct with all numbers 0
 abbrev pub zeros_of : ProgramTree → List Cells
@@ -77,11 +81,18 @@ zero_at p of = slice_index_or (zeros_of p) of no_cells
 -- what a body of the procedure at a position sees
 abbrev pub scope_at : ProgramTree → ℕ → ℕ → List ℤ → Scope
 scope_at p level of values =
-    record { functions = functions_of [] p.pures; routines = routines_of p.structs (functions_of [] p.pures) [] (take level p.procedures); types = field_types (struct_fields p.structs of); values = values }
+    record {
+      functions = functions_of [] p.pures;
+      routines = routines_of p.structs (functions_of [] p.pures) [] (take level p.procedures);
+      types = field_types (struct_fields p.structs of);
+      values = values;
+    }
 
 -- a program with the tables that the machine made for it
-pub record IsReady (p : ProgramTree) (layouts : List StructLayout) (logged : List Bool) : Type 0 where
+pub record IsReady (p : ProgramTree) (layouts : List StructLayout)
+    (logged : List Bool) : Type 0 where
   pub laid : AreLaidOut p.structs layouts (zeros_of p)
   pub logged_is : logged ≡ map (λ q. is_interface q.name) p.procedures
   pub narrow : AreNarrow p.pures
-  pub sound : (k : ℕ) (q : ProcedureTree) → slice_get p.procedures k ≡ Some q → AreSoundStmts p k q.of q.body
+  pub sound : (k : ℕ) (q : ProcedureTree) → slice_get p.procedures k ≡ Some q →
+      AreSoundStmts p k q.of q.body

@@ -40,7 +40,8 @@ abbrev mutual
   pub filled : Cells → List ℤ → Cells
   filled no_cells values = no_cells
   filled (more_cells c cs) values =
-      more_cells (filled_cell c (take (length (numbers_in c)) values)) (filled cs (drop (length (numbers_in c)) values))
+      more_cells (filled_cell c (take (length (numbers_in c)) values))
+      (filled cs (drop (length (numbers_in c)) values))
 
 -- the program, and the numbers of the instance of `struct root`
 pub record MachineState : Type 0 where

@@ -14,7 +14,8 @@ const STEP_LIMIT: u64 = 1 << 32;
 /// A negated number.
 #[inline(always)]
 pub(crate) fn negate(line: u32, x: i64) -> Result<i64, Halt>
-    ensures { (steps : ℕ) → answered result steps ≡ within CType.I64 Why.Overflow line (neg_ℤ x) steps }
+    ensures { (steps : ℕ) →
+        answered result steps ≡ within CType.I64 Why.Overflow line (neg_ℤ x) steps }
 {
     x.checked_neg().ok_or(Halt::at(line, Why::Overflow))
 }

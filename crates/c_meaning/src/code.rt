@@ -33,14 +33,19 @@ impl<'a> Model for Code<'a> {
 
     ghost view = { λ c. record { program = c.program.now; layouts = c.layouts.now; logged = c.logged.now } };
 
-    ghost invariant = { λ c. IsReadyCode (record { program = c.program.now; layouts = c.layouts.now; logged = c.logged.now }) };
+    ghost invariant = { λ c. IsReadyCode
+        (record { program = c.program.now; layouts = c.layouts.now; logged = c.logged.now }) };
 }
 
 impl<'a> Code<'a> {
     /// A program with the tables that were made for it.
     pub(crate) fn new(program: &'a Program, layouts: &'a [Layout], logged: &'a [bool]) -> Code<'a>
         requires { IsReady (program_tree program.now) layouts.now logged.now }
-        ensures { result ≡ record { program = program.now; layouts = layouts.now; logged = logged.now } }
+        ensures { result ≡ record {
+          program = program.now;
+          layouts = layouts.now;
+          logged = logged.now;
+        } }
     {
         Code {
             program,

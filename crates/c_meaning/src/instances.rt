@@ -187,7 +187,8 @@ pub(crate) fn number_of(
 ) -> Option<i64>
     requires { IsNumbering numbering.now }
     ensures { result ≡ option_and_then
-        (number_named (code_tree numbering.now.code) (root_cells numbering.now numbers.now) name.now)
+        (number_named (code_tree numbering.now.code) (root_cells numbering.now numbers.now)
+        name.now)
         (slice_get (all_instances numbering.now) instance) }
 {
     let place = place_of(numbering, instance)?;

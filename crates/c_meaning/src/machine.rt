@@ -119,7 +119,9 @@ impl Machine {
     /// before those inside it, in the order of its fields. None exactly where there is no such instance, or its struct has no
     /// struct field of that name.
     pub fn child(&self, instance: u32, field: &[u8]) -> Option<u32>
-        ensures child { option_and_then (instance_at (tree_of self.now)) result ≡ option_and_then (child_named (tree_of self.now) field.now) (instance_at (tree_of self.now) instance) }
+        ensures child { option_and_then (instance_at (tree_of self.now)) result
+            ≡ option_and_then (child_named (tree_of self.now) field.now)
+            (instance_at (tree_of self.now) instance) }
         ensures there { IfSome result (λ j. j < length (instances (tree_of self.now))) }
     {
         let numbering = numbering_of(&self.checked, &self.tables);
@@ -129,7 +131,9 @@ impl Machine {
     /// The number in the number field with a name, of an instance. None exactly where there is no such instance, or its struct has
     /// no number field of that name.
     pub fn field(&self, instance: u32, name: &[u8]) -> Option<i64>
-        ensures { result ≡ option_and_then (number_named (tree_of self.now) (fields_of self.now) name.now) (instance_at (tree_of self.now) instance) }
+        ensures { result
+            ≡ option_and_then (number_named (tree_of self.now) (fields_of self.now) name.now)
+            (instance_at (tree_of self.now) instance) }
     {
         let numbering = numbering_of(&self.checked, &self.tables);
         number_of(&numbering, &self.numbers, instance, name)

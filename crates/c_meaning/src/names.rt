@@ -34,7 +34,10 @@ fn leading_digits(name: &[u8]) -> usize
 
 // Digits, and then `_out` backwards.
 fn is_number_of_out(name: &[u8]) -> bool
-    ensures { result ≡ (nat_lt 0 (prefix_len is_ascii_digit name.now) && starts_with nat_eq (drop (prefix_len is_ascii_digit name.now) name.now) (reverse (codes "_out"))) }
+    ensures { result
+        ≡ (nat_lt 0 (prefix_len is_ascii_digit name.now)
+        && starts_with nat_eq (drop (prefix_len is_ascii_digit name.now) name.now)
+        (reverse (codes "_out"))) }
 {
     let digits = leading_digits(name);
     if digits == 0 {
@@ -46,7 +49,9 @@ fn is_number_of_out(name: &[u8]) -> bool
 // The name of an interface's procedure, backwards.
 fn is_interface_backwards(name: &[u8]) -> bool
     ensures { result ≡ (if starts_with nat_eq name.now (reverse (codes "_update")) then true
-        else nat_lt 0 (prefix_len is_ascii_digit name.now) && starts_with nat_eq (drop (prefix_len is_ascii_digit name.now) name.now) (reverse (codes "_out"))) }
+        else nat_lt 0 (prefix_len is_ascii_digit name.now)
+        && starts_with nat_eq (drop (prefix_len is_ascii_digit name.now) name.now)
+        (reverse (codes "_out"))) }
 {
     if name.starts_with(b"etadpu_") {
         true

@@ -88,7 +88,8 @@ pub(crate) fn output_fields(
     fields: &[Field],
     count: u32,
 ) -> Result<Vec<usize>, AllocError>
-    ensures { IfOk result (λ v. v.items ≡ map (field_position (field_trees fields.now)) (map output_name (numbers_from 1 count))) }
+    ensures { IfOk result (λ v. v.items
+        ≡ map (field_position (field_trees fields.now)) (map output_name (numbers_from 1 count))) }
 {
     let mut positions = Vec::new(alloc);
     for k in 0..count {
@@ -149,7 +150,9 @@ fn procedure_position(program: &Program, name: &[u8]) -> usize
 pub(crate) fn tables_of(alloc: Global, program: &Program, count: u32) -> Result<Tables, AllocError>
     requires lawful { IsLawful (program_tree program.now) }
     requires count { count ≡ length (output_fields (root_fields (program_tree program.now))) }
-    ensures tables { IfOk result (λ t. AreTables (program_tree program.now) t.layouts.items t.logged.items t.root t.start t.step t.outputs.items) }
+    ensures tables { IfOk result
+        (λ t. AreTables (program_tree program.now) t.layouts.items t.logged.items t.root t.start
+        t.step t.outputs.items) }
     ensures counts { IfOk result (λ t. AreCounts (program_tree program.now) t.counts.items t.root) }
 {
     let layouts = layouts_of(alloc, &program.structs)?;

@@ -127,7 +127,8 @@ fn store_at(
     requires array { IsArrayField (tree_in frame.now) frame.now.of field }
     requires inside { place < length (items_at (cells_in frame.now numbers.old) field) }
     ensures { (cost : Cost) → left_in frame.now result numbers.new cost
-        ≡ seen cost.calls (store_at line (type_at (scope_in frame.now).types field) field place value
+        ≡ seen cost.calls
+        (store_at line (type_at (scope_in frame.now).types field) field place value
         (cells_in frame.now numbers.old) cost.steps) }
 {
     let (at, _, of) = array_slot(frame, field);
@@ -236,7 +237,8 @@ fn run_if(
     requires room { length numbers.old ≡ size_in frame.now }
     requires counted { IsCounted cost.old }
     ensures ran { left_in frame.now result numbers.new cost.new
-        ≡ run_in frame.now (branch line (cond_tree test.now) (stmts_of_list (map stmt_tree on_true.now))
+        ≡ run_in frame.now
+        (branch line (cond_tree test.now) (stmts_of_list (map stmt_tree on_true.now))
         (stmts_of_list (map stmt_tree on_false.now))) numbers.old cost.old }
     ensures counted { IsCounted cost.new }
 {
@@ -393,7 +395,8 @@ pub(crate) fn run_procedure(
     requires room { length numbers.old ≡ (layout_at frame.now.code.layouts of).size }
     requires stepped { IsStepped cost.old }
     ensures ran { ended (zero_at (tree_in frame.now) of) result numbers.new cost.new
-        ≡ seen cost.old.calls ((routine_at (scope_in frame.now).routines procedure).run arguments.now
+        ≡ seen cost.old.calls
+        ((routine_at (scope_in frame.now).routines procedure).run arguments.now
         (filled (zero_at (tree_in frame.now) of) numbers.old) cost.old.steps) }
     ensures counted { IsCounted cost.new }
 {

@@ -79,7 +79,8 @@ pub(crate) fn read(view: &View, leaf: Leaf) -> i64
 #[tactic(auto, using(crate::proofs::Items::item_gives, crate::proofs::Items::item_sticks))]
 fn item_at(view: &View, field: u32, index: i64) -> Result<i64, Halt>
     ensures { (steps : ℕ) → answered result steps
-        ≡ and_then (index_in view.now.line (view_array view.now field) index steps) (λ i count. gives (int_at (view_array view.now field) i) count) }
+        ≡ and_then (index_in view.now.line (view_array view.now field) index steps)
+        (λ i count. gives (int_at (view_array view.now field) i) count) }
 {
     let (at, count) = own_array(view.slots, field);
     let place = place_in(view.line, count, index)?;
@@ -92,7 +93,9 @@ fn item_at(view: &View, field: u32, index: i64) -> Result<i64, Halt>
 pub(crate) fn eval(view: &View, e: &Expr, steps: &mut u64) -> Result<i64, Halt>
     requires narrow { IsNarrowExpr (expr_tree e.now) }
     requires pures { AreNarrow (map pure_tree view.now.pures.now) }
-    ensures value { answered result steps.new ≡ eval (view_functions view.now) (view_reads view.now) view.now.line (expr_tree e.now) steps.old }
+    ensures value { answered result steps.new
+        ≡ eval (view_functions view.now) (view_reads view.now) view.now.line
+        (expr_tree e.now) steps.old }
     ensures later { IsLater steps.old steps.new }
 {
     if let Expr::Read(leaf) = e {
@@ -111,7 +114,9 @@ pub(crate) fn eval(view: &View, e: &Expr, steps: &mut u64) -> Result<i64, Halt>
 pub(crate) fn eval_any(view: &View, e: &Expr, steps: &mut u64) -> Result<i64, Halt>
     requires narrow { IsNarrowExpr (expr_tree e.now) }
     requires pures { AreNarrow (map pure_tree view.now.pures.now) }
-    ensures value { answered result steps.new ≡ eval (view_functions view.now) (view_reads view.now) view.now.line (expr_tree e.now) steps.old }
+    ensures value { answered result steps.new
+        ≡ eval (view_functions view.now) (view_reads view.now) view.now.line
+        (expr_tree e.now) steps.old }
     ensures later { IsLater steps.old steps.new }
 {
     match e {
@@ -153,7 +158,9 @@ pub(crate) fn eval_any(view: &View, e: &Expr, steps: &mut u64) -> Result<i64, Ha
 pub(crate) fn eval_cond(view: &View, test: &Cond, steps: &mut u64) -> Verdict
     requires narrow { IsNarrowCond (cond_tree test.now) }
     requires pures { AreNarrow (map pure_tree view.now.pures.now) }
-    ensures value { judged result steps.new ≡ eval_cond (view_functions view.now) (view_reads view.now) view.now.line (cond_tree test.now) steps.old }
+    ensures value { judged result steps.new
+        ≡ eval_cond (view_functions view.now) (view_reads view.now) view.now.line
+        (cond_tree test.now) steps.old }
     ensures later { IsLater steps.old steps.new }
 {
     match test {
@@ -191,7 +198,9 @@ pub(crate) fn eval_cond(view: &View, test: &Cond, steps: &mut u64) -> Verdict
 fn call_pure(view: &View, k: u32, values: &[Expr], steps: &mut u64) -> Result<i64, Halt>
     requires narrow { IsNarrowExpr (pure k (exprs_of_list (map expr_tree values.now))) }
     requires pures { AreNarrow (map pure_tree view.now.pures.now) }
-    ensures value { answered result steps.new ≡ eval (view_functions view.now) (view_reads view.now) view.now.line (pure k (exprs_of_list (map expr_tree values.now))) steps.old }
+    ensures value { answered result steps.new
+        ≡ eval (view_functions view.now) (view_reads view.now) view.now.line
+        (pure k (exprs_of_list (map expr_tree values.now))) steps.old }
     ensures later { IsLater steps.old steps.new }
 {
     if values.len() <= FEW {
@@ -207,7 +216,9 @@ fn call_few(view: &View, k: u32, values: &[Expr], steps: &mut u64) -> Result<i64
     requires narrow { IsNarrowExpr (pure k (exprs_of_list (map expr_tree values.now))) }
     requires pures { AreNarrow (map pure_tree view.now.pures.now) }
     requires few { length values.now ≤ 8 }
-    ensures value { answered result steps.new ≡ eval (view_functions view.now) (view_reads view.now) view.now.line (pure k (exprs_of_list (map expr_tree values.now))) steps.old }
+    ensures value { answered result steps.new
+        ≡ eval (view_functions view.now) (view_reads view.now) view.now.line
+        (pure k (exprs_of_list (map expr_tree values.now))) steps.old }
     ensures later { IsLater steps.old steps.new }
 {
     let mut room = [0; FEW];
@@ -225,7 +236,9 @@ fn call_few(view: &View, k: u32, values: &[Expr], steps: &mut u64) -> Result<i64
 fn call_many(view: &View, k: u32, values: &[Expr], steps: &mut u64) -> Result<i64, Halt>
     requires narrow { IsNarrowExpr (pure k (exprs_of_list (map expr_tree values.now))) }
     requires pures { AreNarrow (map pure_tree view.now.pures.now) }
-    ensures value { answered result steps.new ≡ eval (view_functions view.now) (view_reads view.now) view.now.line (pure k (exprs_of_list (map expr_tree values.now))) steps.old }
+    ensures value { answered result steps.new
+        ≡ eval (view_functions view.now) (view_reads view.now) view.now.line
+        (pure k (exprs_of_list (map expr_tree values.now))) steps.old }
     ensures later { IsLater steps.old steps.new }
 {
     let mut room = [0; ROOM];
@@ -244,7 +257,9 @@ fn call_with(
     requires narrow { AreNarrowExprs (exprs_of_list (map expr_tree values.now)) }
     requires pures { AreNarrow (map pure_tree view.now.pures.now) }
     requires room { length arguments.old ≡ length values.now }
-    ensures value { answered result steps.new ≡ eval (view_functions view.now) (view_reads view.now) view.now.line (pure k (exprs_of_list (map expr_tree values.now))) steps.old }
+    ensures value { answered result steps.new
+        ≡ eval (view_functions view.now) (view_reads view.now) view.now.line
+        (pure k (exprs_of_list (map expr_tree values.now))) steps.old }
     ensures later { IsLater steps.old steps.new }
 {
     eval_all(view, values, arguments, steps)?;
@@ -258,7 +273,9 @@ fn eval_all(view: &View, values: &[Expr], out: &mut [i64], steps: &mut u64) -> R
     requires narrow { AreNarrowExprs (exprs_of_list (map expr_tree values.now)) }
     requires pures { AreNarrow (map pure_tree view.now.pures.now) }
     requires room { length out.old ≡ length values.now }
-    ensures value { put_answer result out.new steps.new ≡ eval_all (view_functions view.now) (view_reads view.now) view.now.line (exprs_of_list (map expr_tree values.now)) steps.old }
+    ensures value { put_answer result out.new steps.new
+        ≡ eval_all (view_functions view.now) (view_reads view.now) view.now.line
+        (exprs_of_list (map expr_tree values.now)) steps.old }
     ensures later { IsLater steps.old steps.new }
 {
     for (i, e) in values.iter().enumerate() {
@@ -272,7 +289,8 @@ fn eval_all(view: &View, values: &[Expr], out: &mut [i64], steps: &mut u64) -> R
 #[tactic(auto, using(crate::proofs::Evaluations::function_there, crate::proofs::Evaluations::function_past, crate::proofs::Narrow::pures_take, crate::proofs::Narrow::pures_at, crate::proofs::Measures::bodies_at))]
 fn run_pure(pures: &[Pure], k: u32, values: &[i64], steps: &mut u64) -> Result<i64, Halt>
     requires pures { AreNarrow (map pure_tree pures.now) }
-    ensures value { answered result steps.new ≡ function_at (functions_of [] (map pure_tree pures.now)) k values.now steps.old }
+    ensures value { answered result steps.new
+        ≡ function_at (functions_of [] (map pure_tree pures.now)) k values.now steps.old }
     ensures later { IsLater steps.old steps.new }
 {
     match pures.get(k as usize) {
@@ -287,7 +305,9 @@ fn run_pure(pures: &[Pure], k: u32, values: &[i64], steps: &mut u64) -> Result<i
 fn run_body(earlier: &[Pure], pure: &Pure, values: &[i64], steps: &mut u64) -> Result<i64, Halt>
     requires pures { AreNarrow (map pure_tree earlier.now) }
     requires narrow { IsNarrowExpr (expr_tree pure.now.body) }
-    ensures value { answered result steps.new ≡ function_of (functions_of [] (map pure_tree earlier.now)) (pure_tree pure.now) values.now steps.old }
+    ensures value { answered result steps.new
+        ≡ function_of (functions_of [] (map pure_tree earlier.now))
+        (pure_tree pure.now) values.now steps.old }
     ensures later { IsLater steps.old steps.new }
 {
     take_step(pure.line, steps)?;

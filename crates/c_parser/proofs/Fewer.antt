@@ -50,7 +50,8 @@ below-err {X} n fault = record { by = λ y left e. absurd (no y left e) }
     no : (y : X) (left : List Token) → ◌≡◌ {A = Parsed X} (Err fault) (Ok (y, left)) → ⊥
     no y left e = cc
 
-pub below-then : {X Y : Type 0} (m n : ℕ) (r : Parsed X) (go : X × List Token → Parsed Y) → Below m r → ((read : X × List Token) → length read.1 < m → Below n (go read)) → Below n (r >>= go)
+pub below-then : {X Y : Type 0} (m n : ℕ) (r : Parsed X) (go : X × List Token → Parsed Y) → Below m r →
+    ((read : X × List Token) → length read.1 < m → Below n (go read)) → Below n (r >>= go)
 below-then m n (Ok read) go first later = later read (first.by read.0 read.1 refl)
 below-then m n (Err fault) go first later = below-err n fault
 
@@ -75,7 +76,11 @@ step-err {X} n fault = record { more = λ x rest e. absurd (no-more x rest e); e
     no-end rest e = cc
 
 pub step-more : {X : Type 0} (n : ℕ) (r : Parsed X) → Below n r → StepBelow n (r >>= (λ (x : X × List Token). Ok (one_more x.0 x.1)))
-step-more {X} n (Ok read) below = record { more = λ x rest e. omega (arith, below.by read.0 read.1 refl, ap (left_behind 0) e); ends = λ rest e. absurd (no rest e) }
+step-more {X} n (Ok read) below =
+    record {
+      more = λ x rest e. omega (arith, below.by read.0 read.1 refl, ap (left_behind 0) e);
+      ends = λ rest e. absurd (no rest e);
+    }
   where
     no : (rest : List Token) → ◌≡◌ {A = Result (Step X) CFault} (Ok (one_more read.0 read.1)) (Ok (the_end rest)) → ⊥
     no rest e = cc
@@ -87,23 +92,34 @@ step-end {X} n left h = record { more = λ x rest e. absurd (no x rest e); ends 
     no : (x : X) (rest : List Token) → ◌≡◌ {A = Result (Step X) CFault} (Ok (the_end left)) (Ok (one_more x rest)) → ⊥
     no x rest e = cc
 
-pub step-then : {X Y : Type 0} (m n : ℕ) (r : Parsed X) (go : X × List Token → Result (Step Y) CFault) → Below m r → ((read : X × List Token) → length read.1 < m → StepBelow n (go read)) → StepBelow n (r >>= go)
+pub step-then : {X Y : Type 0} (m n : ℕ) (r : Parsed X) (go : X × List Token → Result (Step Y) CFault) → Below m r →
+    ((read : X × List Token) → length read.1 < m → StepBelow n (go read)) → StepBelow n (r >>= go)
 step-then m n (Ok read) go first later = later read (first.by read.0 read.1 refl)
 step-then m n (Err fault) go first later = step-err n fault
 
 pub step-wider : {X : Type 0} (m n : ℕ) (r : Result (Step X) CFault) → m ≤ n → StepBelow m r → StepBelow n r
-step-wider m n r h first = record { more = λ x rest e. let one : length rest < m = first.more x rest e in omega arith; ends = λ rest e. let one : length rest ≤ m = first.ends rest e in omega arith }
+step-wider m n r h first =
+    record {
+      more = λ x rest e. let one : length rest < m = first.more x rest e in
+          omega arith;
+      ends = λ rest e. let one : length rest ≤ m = first.ends rest e in omega arith;
+    }
 
-pub many-below : {X : Type 0} (step : ℕ → List Token → Result (Step X) CFault) → ((count : ℕ) (tokens : List Token) → StepBelow (length tokens) (step count tokens)) → (m count : ℕ) (tokens : List Token) → Below (suc (length tokens)) (many step m count tokens)
+pub many-below : {X : Type 0} (step : ℕ → List Token → Result (Step X) CFault) →
+    ((count : ℕ) (tokens : List Token) → StepBelow (length tokens) (step count tokens)) →
+    (m count : ℕ) (tokens : List Token) → Below (suc (length tokens)) (many step m count tokens)
 many-below step s zero count tokens = below-ok (suc (length tokens)) [] tokens (omega arith)
 many-below {X} step s (suc m) count tokens = by (step count tokens) (many-below step s m (count + 1)) (s count tokens)
   where
-    by : (r : Result (Step X) CFault) → ((rest : List Token) → Below (suc (length rest)) (many step m (count + 1) rest)) → StepBelow (length tokens) r → Below (suc (length tokens)) (r >>= after_step (many step m) count)
+    by : (r : Result (Step X) CFault) →
+        ((rest : List Token) → Below (suc (length rest)) (many step m (count + 1) rest)) → StepBelow (length tokens) r →
+        Below (suc (length tokens)) (r >>= after_step (many step m) count)
     by (Err fault) each b = below-err (suc (length tokens)) fault
     by (Ok (the_end rest)) each b = below-ok (suc (length tokens)) [] rest (omega (arith, b.ends rest refl))
     by (Ok (one_more x rest)) each b =
         let fewer : length rest < length tokens = b.more x rest refl in
-        below-then (suc (length rest)) (suc (length tokens)) (many step m (count + 1) rest) _ (each rest) (λ read h. below-ok (suc (length tokens)) (x ∷ read.0) read.1 (omega arith))
+        below-then (suc (length rest)) (suc (length tokens)) (many step m (count + 1) rest) _ (each rest)
+        (λ read h. below-ok (suc (length tokens)) (x ∷ read.0) read.1 (omega arith))
 
 module _ (last : ℕ) where
   pub next-below : (tokens : List Token) → Below (length tokens) (next last tokens)
@@ -111,16 +127,27 @@ module _ (last : ℕ) where
   next-below (t ∷ tokens) = below-ok (suc (length tokens)) t tokens (omega arith)
 
   pub word-below : (text : List ℕ) (tokens : List Token) → Below (length tokens) (parse_word last text tokens)
-  word-below text tokens = below-then (length tokens) (length tokens) (next last tokens) _ (next-below tokens) (λ t h. below-unless (length tokens) (or_syntax_unless t.0 (bytes_eq t.0.text text)) _ (below-ok (length tokens) tt t.1 h))
+  word-below text tokens =
+      below-then (length tokens) (length tokens) (next last tokens) _ (next-below tokens)
+      (λ t h. below-unless (length tokens) (or_syntax_unless t.0 (bytes_eq t.0.text text)) _
+      (below-ok (length tokens) tt t.1 h))
 
   pub name-below : (tokens : List Token) → Below (length tokens) (parse_name last tokens)
-  name-below tokens = below-then (length tokens) (length tokens) (next last tokens) _ (next-below tokens) (λ t h. below-unless (length tokens) (or_syntax_unless t.0 (is_name t.0.text)) _ (below-ok (length tokens) t.0.text t.1 h))
+  name-below tokens =
+      below-then (length tokens) (length tokens) (next last tokens) _ (next-below tokens)
+      (λ t h. below-unless (length tokens) (or_syntax_unless t.0 (is_name t.0.text)) _
+      (below-ok (length tokens) t.0.text t.1 h))
 
   pub type-below : (tokens : List Token) → Below (length tokens) (parse_type last tokens)
-  type-below tokens = below-then (length tokens) (length tokens) (next last tokens) _ (next-below tokens) (λ t h. below-after (length tokens) (or_syntax t.0 (type_of_text t.0.text)) _ (λ type. below-ok (length tokens) type t.1 h))
+  type-below tokens =
+      below-then (length tokens) (length tokens) (next last tokens) _ (next-below tokens)
+      (λ t h. below-after (length tokens) (or_syntax t.0 (type_of_text t.0.text)) _
+      (λ type. below-ok (length tokens) type t.1 h))
 
   pub literal-below : (tokens : List Token) → Below (length tokens) (parse_literal last tokens)
-  literal-below tokens = below-then (length tokens) (length tokens) (next last tokens) _ (next-below tokens) (λ t h. below-unless (length tokens) _ _ (below-ok (length tokens) _ t.1 h))
+  literal-below tokens =
+      below-then (length tokens) (length tokens) (next last tokens) _ (next-below tokens)
+      (λ t h. below-unless (length tokens) _ _ (below-ok (length tokens) _ t.1 h))
 
   pub cast-below : (tokens : List Token) → Below (length tokens) (parse_cast last tokens)
   cast-below tokens =
@@ -142,12 +169,17 @@ module _ (last : ℕ) where
   test_only-below n (value e, tokens) h = below-err n _
   test_only-below n (test c, tokens) h = below-ok n c tokens h
 
-  module _ (operand : Want → List Token → Parsed Operand) (each : (want : Want) (tokens : List Token) → Below (length tokens) (operand want tokens)) where
+  module _ (operand : Want → List Token → Parsed Operand) (each : (want : Want) (tokens : List Token) →
+      Below (length tokens) (operand want tokens)) where
     value-below : (tokens : List Token) → Below (length tokens) (deeper_value last operand tokens)
-    value-below tokens = below-then (length tokens) (length tokens) (operand want_value tokens) _ (each want_value tokens) (λ read h. value_only-below (length tokens) read h)
+    value-below tokens =
+        below-then (length tokens) (length tokens) (operand want_value tokens) _ (each want_value tokens)
+        (λ read h. value_only-below (length tokens) read h)
 
     test-below : (tokens : List Token) → Below (length tokens) (deeper_test last operand tokens)
-    test-below tokens = below-then (length tokens) (length tokens) (operand want_test tokens) _ (each want_test tokens) (λ read h. test_only-below (length tokens) read h)
+    test-below tokens =
+        below-then (length tokens) (length tokens) (operand want_test tokens) _ (each want_test tokens)
+        (λ read h. test_only-below (length tokens) read h)
 
     index-below : (tokens : List Token) → Below (length tokens) (parse_index last operand tokens)
     index-below tokens =
@@ -189,31 +221,48 @@ module _ (last : ℕ) where
         below-then (length n.1) (length tokens) (parse_word last (codes ")") n.1) _ (word-below (codes ")") n.1) (λ close j.
         below-ok (length tokens) _ close.1 (omega arith))))
 
-    values_step_by-below : (t : Token) (tokens : List Token) (comma : Comma) → StepBelow (suc (length tokens)) (values_step_by last operand t tokens comma)
-    values_step_by-below t tokens another = step-more (suc (length tokens)) (deeper_value last operand tokens) (below-more (length tokens) (suc (length tokens)) (deeper_value last operand tokens) (omega arith) (value-below tokens))
+    values_step_by-below : (t : Token) (tokens : List Token) (comma : Comma) →
+        StepBelow (suc (length tokens)) (values_step_by last operand t tokens comma)
+    values_step_by-below t tokens another =
+        step-more (suc (length tokens)) (deeper_value last operand tokens)
+        (below-more (length tokens) (suc (length tokens)) (deeper_value last operand tokens) (omega arith)
+        (value-below tokens))
     values_step_by-below t tokens closed = step-end (suc (length tokens)) tokens (omega arith)
     values_step_by-below t tokens no_comma = step-err (suc (length tokens)) _
 
     values_step-below : (count : ℕ) (tokens : List Token) → StepBelow (length tokens) (values_step last operand count tokens)
     values_step-below count tokens =
         step-then (length tokens) (length tokens) (next last tokens) _ (next-below tokens) (λ t h.
-        step-wider (suc (length t.1)) (length tokens) (values_step_by last operand t.0 t.1 (comma_of t.0.text)) (omega arith) (values_step_by-below t.0 t.1 (comma_of t.0.text)))
+        step-wider (suc (length t.1)) (length tokens) (values_step_by last operand t.0 t.1 (comma_of t.0.text))
+        (omega arith) (values_step_by-below t.0 t.1 (comma_of t.0.text)))
 
     values-below : (t : Token) (tokens : List Token) → Below (length tokens) (parse_values last operand t tokens)
     values-below t tokens =
         below-then (length tokens) (length tokens) (parse_word last (codes "(") tokens) _ (word-below (codes "(") tokens) (λ opened h.
         below-then (length opened.1) (length tokens) (deeper_value last operand opened.1) _ (value-below opened.1) (λ first k.
-        below-then (suc (length first.1)) (length tokens) (many (values_step last operand) (suc (length first.1)) 0 first.1) _ (many-below (values_step last operand) values_step-below (suc (length first.1)) 0 first.1) (λ later j.
+        below-then (suc (length first.1)) (length tokens)
+        (many (values_step last operand) (suc (length first.1)) 0 first.1) _
+        (many-below (values_step last operand) values_step-below (suc (length first.1)) 0 first.1) (λ later j.
         below-ok (length tokens) _ later.1 (omega arith))))
 
-    join_value-below : (a : WrittenExpr) (t : Token) (tokens : List Token) (joint : ValueJoint) → Below (length tokens) (join_value last operand a t tokens joint)
-    join_value-below a t tokens (op_joint op) = below-then (length tokens) (length tokens) (deeper_value last operand tokens) _ (value-below tokens) (λ b h. below-ok (length tokens) _ b.1 h)
-    join_value-below a t tokens (compare_joint how) = below-then (length tokens) (length tokens) (deeper_value last operand tokens) _ (value-below tokens) (λ b h. below-ok (length tokens) _ b.1 h)
+    join_value-below : (a : WrittenExpr) (t : Token) (tokens : List Token) (joint : ValueJoint) →
+        Below (length tokens) (join_value last operand a t tokens joint)
+    join_value-below a t tokens (op_joint op) =
+        below-then (length tokens) (length tokens) (deeper_value last operand tokens) _ (value-below tokens)
+        (λ b h. below-ok (length tokens) _ b.1 h)
+    join_value-below a t tokens (compare_joint how) =
+        below-then (length tokens) (length tokens) (deeper_value last operand tokens) _ (value-below tokens)
+        (λ b h. below-ok (length tokens) _ b.1 h)
     join_value-below a t tokens no_value_joint = below-err (length tokens) _
 
-    join_test-below : (c : WrittenCond) (t : Token) (tokens : List Token) (joint : TestJoint) → Below (length tokens) (join_test last operand c t tokens joint)
-    join_test-below c t tokens and_joint = below-then (length tokens) (length tokens) (deeper_test last operand tokens) _ (test-below tokens) (λ d h. below-ok (length tokens) _ d.1 h)
-    join_test-below c t tokens or_joint = below-then (length tokens) (length tokens) (deeper_test last operand tokens) _ (test-below tokens) (λ d h. below-ok (length tokens) _ d.1 h)
+    join_test-below : (c : WrittenCond) (t : Token) (tokens : List Token) (joint : TestJoint) →
+        Below (length tokens) (join_test last operand c t tokens joint)
+    join_test-below c t tokens and_joint =
+        below-then (length tokens) (length tokens) (deeper_test last operand tokens) _ (test-below tokens)
+        (λ d h. below-ok (length tokens) _ d.1 h)
+    join_test-below c t tokens or_joint =
+        below-then (length tokens) (length tokens) (deeper_test last operand tokens) _ (test-below tokens)
+        (λ d h. below-ok (length tokens) _ d.1 h)
     join_test-below c t tokens pick_joint =
         below-then (length tokens) (length tokens) (deeper_value last operand tokens) _ (value-below tokens) (λ a h.
         below-then (length a.1) (length tokens) (parse_word last (codes ":") a.1) _ (word-below (codes ":") a.1) (λ colon k.
@@ -225,7 +274,8 @@ module _ (last : ℕ) where
     join-below want (value a) t = join_value-below a t.0 t.1 (value_joint want t.0.text)
     join-below want (test c) t = join_test-below c t.0 t.1 (test_joint want t.0.text)
 
-    inside-below : (want : Want) (tokens : List Token) (inside : Inside) → Below (length tokens) (parse_inside last operand want tokens inside)
+    inside-below : (want : Want) (tokens : List Token) (inside : Inside) →
+        Below (length tokens) (parse_inside last operand want tokens inside)
     inside-below want tokens minus_inside =
         below-then (length tokens) (length tokens) (next last tokens) _ (next-below tokens) (λ sign h.
         below-then (length sign.1) (length tokens) (deeper_value last operand sign.1) _ (value-below sign.1) (λ e k.
@@ -248,7 +298,8 @@ module _ (last : ℕ) where
         below-then (length joined.1) (length tokens) (parse_word last (codes ")") joined.1) _ (word-below (codes ")") joined.1) (λ close i.
         below-ok (length tokens) _ close.1 (omega arith)))))
 
-    opened-below : (want : Want) (t : Token) (tokens : List Token) (opener : Opener) → Below (length tokens) (parse_opened last operand want t tokens opener)
+    opened-below : (want : Want) (t : Token) (tokens : List Token) (opener : Opener) →
+        Below (length tokens) (parse_opened last operand want t tokens opener)
     opened-below want t tokens number_opener = number-below tokens
     opened-below want t tokens call_opener = values-below t tokens
     opened-below want t tokens paren_opener = inside-below want tokens (inside_of want (first_text tokens))
@@ -261,10 +312,14 @@ module _ (last : ℕ) where
   too_deep-below n t no_opener = below-err n _
 
   pub operand-below : (levels : ℕ) (want : Want) (tokens : List Token) → Below (length tokens) (parse_operand last levels want tokens)
-  operand-below zero want tokens = below-then (length tokens) (length tokens) (next last tokens) _ (next-below tokens) (λ t h. too_deep-below (length tokens) t.0 (opener_of want t.0.text))
+  operand-below zero want tokens =
+      below-then (length tokens) (length tokens) (next last tokens) _ (next-below tokens)
+      (λ t h. too_deep-below (length tokens) t.0 (opener_of want t.0.text))
   operand-below (suc levels) want tokens =
       below-then (length tokens) (length tokens) (next last tokens) _ (next-below tokens) (λ t h.
-      below-more (length t.1) (length tokens) (parse_opened last (parse_operand last levels) want t.0 t.1 (opener_of want t.0.text)) (omega arith) (opened-below (parse_operand last levels) (operand-below levels) want t.0 t.1 (opener_of want t.0.text)))
+      below-more (length t.1) (length tokens)
+      (parse_opened last (parse_operand last levels) want t.0 t.1 (opener_of want t.0.text)) (omega arith)
+      (opened-below (parse_operand last levels) (operand-below levels) want t.0 t.1 (opener_of want t.0.text)))
 
   pub expr-below : (levels : ℕ) (tokens : List Token) → Below (length tokens) (parse_expr last levels tokens)
   expr-below levels tokens = value-below (parse_operand last levels) (operand-below levels) tokens
@@ -275,5 +330,7 @@ module _ (last : ℕ) where
   pub cond-below : (levels : ℕ) (tokens : List Token) → Below (length tokens) (parse_cond last levels tokens)
   cond-below levels tokens = test-below (parse_operand last levels) (operand-below levels) tokens
 
-  pub values_step-falls : (levels : ℕ) (count : ℕ) (tokens : List Token) (x : WrittenExpr) (rest : List Token) → values_step last (parse_operand last levels) count tokens ≡ Ok (one_more x rest) → length rest < length tokens
-  values_step-falls levels count tokens x rest e = (values_step-below (parse_operand last levels) (operand-below levels) count tokens).more x rest e
+  pub values_step-falls : (levels : ℕ) (count : ℕ) (tokens : List Token) (x : WrittenExpr) (rest : List Token) →
+      values_step last (parse_operand last levels) count tokens ≡ Ok (one_more x rest) → length rest < length tokens
+  values_step-falls levels count tokens x rest e =
+      (values_step-below (parse_operand last levels) (operand-below levels) count tokens).more x rest e

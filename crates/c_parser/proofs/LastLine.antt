@@ -18,12 +18,14 @@ same-after c a b e = by (c == 10)
     by true = next-same a b e
     by false = e
 
-last-same : (a b : ℕ) (bytes : List ℕ) → reported_number a ≡ reported_number b → reported_number (last_line_from a bytes) ≡ reported_number (last_line_from b bytes)
+last-same : (a b : ℕ) (bytes : List ℕ) → reported_number a ≡ reported_number b →
+    reported_number (last_line_from a bytes) ≡ reported_number (last_line_from b bytes)
 last-same a b [] e = e
 last-same a b (c ∷ []) e = e
 last-same a b (c ∷ d ∷ bytes) e = last-same (line_after c a) (line_after c b) (d ∷ bytes) (same-after c a b e)
 
-last-behind : (line b : ℕ) (front : List ℕ) → reported_number (last_line_from line (front ++ b ∷ [])) ≡ reported_number (line_behind line front)
+last-behind : (line b : ℕ) (front : List ℕ) →
+    reported_number (last_line_from line (front ++ b ∷ [])) ≡ reported_number (line_behind line front)
 last-behind line b [] = refl
 last-behind line b (c ∷ []) = told-once (line_after c line)
 last-behind line b (c ∷ d ∷ front) =
@@ -31,6 +33,7 @@ last-behind line b (c ∷ d ∷ front) =
     ∙ last-behind (reported_number (line_after c line)) b (d ∷ front)
 
 -- a text that ends in a byte
-pub last-line-is : (bytes front : List ℕ) (b line : ℕ) → bytes ≡ front ++ b ∷ [] → line ≡ line_behind 1 front → line < 4294967296 → line ≡ last_line bytes
+pub last-line-is : (bytes front : List ℕ) (b line : ℕ) → bytes ≡ front ++ b ∷ [] → line ≡ line_behind 1 front →
+    line < 4294967296 → line ≡ last_line bytes
 last-line-is bytes front b line list is fits =
     sym (told line fits) ∙ ap reported_number is ∙ sym (last-behind 1 b front) ∙ ap (λ bs. reported_number (last_line_from 1 bs)) (sym list)

@@ -13,7 +13,10 @@ use Rattle.c_parser.specs.Numerals.{is_plain_numeral}
 
 digit-is : (d : ℕ) → is_ascii_digit d ≡ true → digit_value d ≡ d - 48
 digit-is d e =
-    let range : IsInRange 48 57 d = (leb-true 48 d (and_first (nat_le 48 d) (nat_le d 57) e), leb-true d 57 (and_second (nat_le 48 d) (nat_le d 57) e)) in
+    let range : IsInRange 48 57 d = (
+      leb-true 48 d (and_first (nat_le 48 d) (nat_le d 57) e),
+      leb-true d 57 (and_second (nat_le 48 d) (nat_le d 57) e),
+    ) in
     omega (arith, digit_value_digit d range)
 
 pub values-agree : (n : ℕ) (ds : List ℕ) → list_all is_ascii_digit ds ≡ true → digits_value_after 10 n ds ≡ digits_value n ds
@@ -38,7 +41,9 @@ fits-literal (d ∷ ds) e h =
 -- and no other is
 pub wide-no_literal : (text : List ℕ) → 2 ^ 63 ≤ digits_value 0 text → is_literal text ≡ false
 wide-no_literal [] h = refl
-wide-no_literal (d ∷ ds) h = by (list_all is_ascii_digit (d ∷ ds) && (bytes_eq (d ∷ ds) (codes "0") || not (d == 48))) (nat_lt (digits_value 0 (d ∷ ds)) (2 ^ 63)) refl
+wide-no_literal (d ∷ ds) h =
+    by (list_all is_ascii_digit (d ∷ ds) && (bytes_eq (d ∷ ds) (codes "0") || not (d == 48)))
+    (nat_lt (digits_value 0 (d ∷ ds)) (2 ^ 63)) refl
   where
     by : (a b : Bool) → nat_lt (digits_value 0 (d ∷ ds)) (2 ^ 63) ≡ b → (a && b) ≡ false
     by a true e = absurd (omega (arith, h, leb-true (suc (digits_value 0 (d ∷ ds))) (2 ^ 63) e))
@@ -49,5 +54,6 @@ pub other-no_literal : (text : List ℕ) → is_plain_numeral text ≡ false →
 other-no_literal [] e = refl
 other-no_literal (d ∷ ds) e = rw e refl
 
-pub capped : (text : List ℕ) (value : ℕ) → is_plain_numeral text ≡ true → value ≡ min (number_of 10 text) (2 ^ 63) → (value < 2 ^ 63 → digits_value 0 text ≡ value) × (value ≡ 2 ^ 63 → 2 ^ 63 ≤ digits_value 0 text)
+pub capped : (text : List ℕ) (value : ℕ) → is_plain_numeral text ≡ true → value ≡ min (number_of 10 text) (2 ^ 63) →
+    (value < 2 ^ 63 → digits_value 0 text ≡ value) × (value ≡ 2 ^ 63 → 2 ^ 63 ≤ digits_value 0 text)
 capped text value e is = (λ h. omega (arith, value-is text e, is, h), λ h. omega (arith, value-is text e, is, h))

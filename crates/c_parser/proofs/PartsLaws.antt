@@ -13,7 +13,8 @@ by-step : {A B : Type 0} (r : Result A CFault) (f g : A → Result B CFault) →
 by-step (Ok x) f g e = e x
 by-step (Err fault) f g e = refl
 
-then-then : {A B C : Type 0} (r : Result A CFault) (f : A → Result B CFault) (g : B → Result C CFault) → ((r >>= f) >>= g) ≡ (r >>= (λ x. f x >>= g))
+then-then : {A B C : Type 0} (r : Result A CFault) (f : A → Result B CFault) (g : B → Result C CFault) →
+    ((r >>= f) >>= g) ≡ (r >>= (λ x. f x >>= g))
 then-then (Ok x) f g = refl
 then-then (Err fault) f g = refl
 
@@ -32,15 +33,18 @@ module _ (last : ℕ) (limits : Limits) where
       by-step (parse_name last type.1) _ _ (λ name.
       by-step (parse_word last (codes "(") name.1) _ _ (λ opened.
       then-then (parse_pure_param last limits 0 opened.1) _ _ ∙ by-step (parse_pure_param last limits 0 opened.1) _ _ (λ first.
-      then-then (many (pure_params_step last limits) (suc (length first.1)) 1 first.1) _ _ ∙ by-step (many (pure_params_step last limits) (suc (length first.1)) 1 first.1) _ _ (λ later.
+      then-then (many (pure_params_step last limits) (suc (length first.1)) 1 first.1) _ _
+      ∙ by-step (many (pure_params_step last limits) (suc (length first.1)) 1 first.1) _ _ (λ later.
       by-step (parse_word last (codes "{") later.1) _ _ (λ open_body.
       then-then (next last open_body.1) _ _ ∙ by-step (next last open_body.1) _ _ (λ r.
-      unless-then (or_syntax_unless r.0 (bytes_eq r.0.text (codes "return"))) _ _ ∙ by-unless (or_syntax_unless r.0 (bytes_eq r.0.text (codes "return"))) _ _ (
+      unless-then (or_syntax_unless r.0 (bytes_eq r.0.text (codes "return"))) _ _
+      ∙ by-unless (or_syntax_unless r.0 (bytes_eq r.0.text (codes "return"))) _ _ (
       then-then (parse_expr last limits.exprs r.1) _ _ ∙ by-step (parse_expr last limits.exprs r.1) _ _ (λ body.
       then-then (parse_word last (codes ";") body.1) _ _ ∙ by-step (parse_word last (codes ";") body.1) _ _ (λ end.
       then-then (parse_word last (codes "}") end.1) _ _))))))))))
 
-  pub procedure_parts-is : (line : ℕ) (private : Bool) (tokens : List Token) → procedure_parts last limits line private tokens ≡ parse_procedure_behind last limits line private tokens
+  pub procedure_parts-is : (line : ℕ) (private : Bool) (tokens : List Token) →
+      procedure_parts last limits line private tokens ≡ parse_procedure_behind last limits line private tokens
   procedure_parts-is line private tokens =
       by-step (parse_name last tokens) _ _ (λ name.
       by-step (parse_word last (codes "(") name.1) _ _ (λ opened.
@@ -69,9 +73,18 @@ one-first x (Ok read) = refl
 one-first x (Err fault) = refl
 
 -- a list whose first element is read before the others
-pub first-gives : {A X : Type 0} (view : A → List X) (x : X) (rest : List Token) (p : Parsed X) (later : List Token → Parsed (List X)) (ys : List X) (result : Result (A × List Token) ReadCFault) → p ≡ Ok (x, rest) → ys ≡ x ∷ [] → Gives view result (behind ys (later rest)) → Gives view result (p >>= (λ (first : X × List Token). later first.1 >>= (λ (xs : List X × List Token). Ok (first.0 ∷ xs.0, xs.1))))
+pub first-gives : {A X : Type 0} (view : A → List X) (x : X) (rest : List Token) (p : Parsed X) (later : List Token →
+    Parsed (List X)) (ys : List X) (result : Result (A × List Token) ReadCFault) → p ≡ Ok (x, rest) → ys ≡ x ∷ [] →
+    Gives view result (behind ys (later rest)) →
+    Gives view result
+    (p >>= (λ (first : X × List Token). later first.1 >>= (λ (xs : List X × List Token). Ok (first.0 ∷ xs.0, xs.1))))
 first-gives {A} {X} view x rest p later ys result e one g =
     subst (Gives view result) same g
   where
-    same : behind ys (later rest) ≡ (p >>= (λ (first : X × List Token). later first.1 >>= (λ (xs : List X × List Token). Ok (first.0 ∷ xs.0, xs.1))))
-    same = ap (λ zs. behind zs (later rest)) one ∙ one-first x (later rest) ∙ ap (λ (q : Parsed X). q >>= (λ (first : X × List Token). later first.1 >>= (λ (xs : List X × List Token). Ok (first.0 ∷ xs.0, xs.1)))) (sym e)
+    same : behind ys (later rest)
+        ≡ (p >>= (λ (first : X × List Token). later first.1
+        >>= (λ (xs : List X × List Token). Ok (first.0 ∷ xs.0, xs.1))))
+    same = ap (λ zs. behind zs (later rest)) one ∙ one-first x (later rest)
+        ∙ ap (λ (q : Parsed X). q
+        >>= (λ (first : X × List Token). later first.1 >>= (λ (xs : List X × List Token). Ok (first.0 ∷ xs.0, xs.1))))
+        (sym e)

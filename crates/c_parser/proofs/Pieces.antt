@@ -21,13 +21,16 @@ comment_end-le (b ∷ c ∷ bytes) n e = by ((b == 42) && (c == 47)) (comment_en
     some-same : (x y : ℕ) → ◌≡◌ {A = Option ℕ} (Some x) (Some y) → x ≡ y
     some-same x y h = cc
 
-    by : (t : Bool) (o : Option ℕ) → comment_end (c ∷ bytes) ≡ o → ((m : ℕ) → comment_end (c ∷ bytes) ≡ Some m → m ≤ length (c ∷ bytes)) → (if t then Some 2 else option_map (λ m. m + 1) o) ≡ Some n → n ≤ length (b ∷ c ∷ bytes)
+    by : (t : Bool) (o : Option ℕ) → comment_end (c ∷ bytes) ≡ o →
+        ((m : ℕ) → comment_end (c ∷ bytes) ≡ Some m → m ≤ length (c ∷ bytes)) →
+        (if t then Some 2 else option_map (λ m. m + 1) o) ≡ Some n → n ≤ length (b ∷ c ∷ bytes)
     by true o k later h = omega (arith, some-same 2 n h)
     by false None k later h = cc
     by false (Some m) k later h = omega (arith, some-same (m + 1) n h, later m k)
 
 -- what a piece makes of the tokens
-of_piece : (line b : ℕ) (bs : List ℕ) (p : Piece) → piece_of (class_of b) b bs ≡ p → tokens_from 0 line (b ∷ bs) ≡ piece_tokens p line (λ more. tokens_from more (line_after b line) bs)
+of_piece : (line b : ℕ) (bs : List ℕ) (p : Piece) → piece_of (class_of b) b bs ≡ p →
+    tokens_from 0 line (b ∷ bs) ≡ piece_tokens p line (λ more. tokens_from more (line_after b line) bs)
 of_piece line b bs p e = ap (λ q. piece_tokens q line (λ more. tokens_from more (line_after b line) bs)) e
 
 -- a byte that ends no line, before others that end none
@@ -55,7 +58,9 @@ prefix-others p (b ∷ bs) fails = by (p b) refl (prefix-others p bs fails)
 
     by : (passes : Bool) → p b ≡ passes → OnOneLine (take (prefix_len p bs) bs) →
         OnOneLine (take (cond passes (1 + prefix_len p bs) 0) (b ∷ bs))
-    by true e later = subst (λ n. OnOneLine (take n (b ∷ bs))) one (others-behind b (take (prefix_len p bs) bs) (other-of p b fails e) later)
+    by true e later =
+        subst (λ n. OnOneLine (take n (b ∷ bs))) one
+        (others-behind b (take (prefix_len p bs) bs) (other-of p b fails e) later)
     by false e later = refl
 
 -- a sign, and the second of two
@@ -85,7 +90,8 @@ token-first : (b len : ℕ) (bs : List ℕ) → piece_of (class_of b) b bs ≡ t
     OnOneLine (take (suc len) (b ∷ bs)) → len ≤ length bs → IsFirstToken (suc len) (b ∷ bs)
 token-first b len bs e one few line =
     of_piece line b bs (token (take (suc len) (b ∷ bs))) e
-    ∙ ap (λ n. record { text = take (suc len) (b ∷ bs); line = reported_number line } ∷ tokens_from n (line_after b line) bs) (omega (arith, few, length-take len bs))
+    ∙ ap (λ n. record { text = take (suc len) (b ∷ bs); line = reported_number line }
+    ∷ tokens_from n (line_after b line) bs) (omega (arith, few, length-take len bs))
     ∙ ap (λ ts. record { text = take (suc len) (b ∷ bs); line = reported_number line } ∷ ts) behind
   where
     behind : tokens_from (suc len) line (b ∷ bs) ≡ tokens_from 0 line (drop (suc len) (b ∷ bs))
@@ -107,7 +113,8 @@ pub comment-fits : (len : ℕ) (cs : List ℕ) → Some len ≡ comment_end cs �
 comment-fits len cs end = comment_end-le cs len (sym end)
 
 -- a comment
-pub comment-piece : (b c len : ℕ) (cs : List ℕ) → class_of b ≡ sign_class → true ≡ ((b == 47) && (c == 42)) → Some len ≡ comment_end cs → IsPiece (Comment (2 + len)) (b ∷ c ∷ cs)
+pub comment-piece : (b c len : ℕ) (cs : List ℕ) → class_of b ≡ sign_class → true ≡ ((b == 47) && (c == 42)) →
+    Some len ≡ comment_end cs → IsPiece (Comment (2 + len)) (b ∷ c ∷ cs)
 comment-piece b c len cs class opens end =
     comment-by (suc (suc len)) (2 + len) (b ∷ c ∷ cs) (omega arith) (omega arith, omega (arith, comment-fits len cs end), skip)
   where
@@ -120,9 +127,11 @@ comment-piece b c len cs class opens end =
         ∙ tokens-behind (suc (suc len)) line (b ∷ c ∷ cs) (omega (arith, comment-fits len cs end))
 
 -- a comment without its end
-pub open-comment-piece : (b c : ℕ) (cs : List ℕ) → class_of b ≡ sign_class → true ≡ ((b == 47) && (c == 42)) → None ≡ comment_end cs → IsPiece (Token 2) (b ∷ c ∷ cs)
+pub open-comment-piece : (b c : ℕ) (cs : List ℕ) → class_of b ≡ sign_class → true ≡ ((b == 47) && (c == 42)) →
+    None ≡ comment_end cs → IsPiece (Token 2) (b ∷ c ∷ cs)
 open-comment-piece b c cs class opens end =
-    token-of 1 2 b (c ∷ cs) refl (rw (class, sym opens, sym end) (ap token signs)) (others-behind b (c ∷ []) (other-sign b class) star) (omega arith)
+    token-of 1 2 b (c ∷ cs) refl (rw (class, sym opens, sym end) (ap token signs))
+    (others-behind b (c ∷ []) (other-sign b class) star) (omega arith)
   where
     star : OnOneLine (c ∷ [])
     star = others-behind c [] (ap is_line_end (eqb-true c 42 (and_second (b == 47) (c == 42) (sym opens)))) refl
@@ -131,16 +140,20 @@ open-comment-piece b c cs class opens end =
     signs = rw (eqb-true b 47 (and_first (b == 47) (c == 42) (sym opens)), eqb-true c 42 (and_second (b == 47) (c == 42) (sym opens))) refl
 
 -- a word, a number, and signs
-pub word-piece : (b n : ℕ) (bs : List ℕ) → false ≡ is_white_space b → true ≡ is_word_start b → n ≡ prefix_len is_word_byte bs → IsPiece (Token (1 + n)) (b ∷ bs)
+pub word-piece : (b n : ℕ) (bs : List ℕ) → false ≡ is_white_space b → true ≡ is_word_start b →
+    n ≡ prefix_len is_word_byte bs → IsPiece (Token (1 + n)) (b ∷ bs)
 word-piece b n bs white start e =
     token-of (prefix_len is_word_byte bs) (1 + n) b bs (omega (arith, e)) (rw (sym white, sym start) refl)
-    (others-behind b (take (prefix_len is_word_byte bs) bs) (other-of is_word_start b refl (sym start)) (prefix-others is_word_byte bs refl))
+    (others-behind b (take (prefix_len is_word_byte bs) bs) (other-of is_word_start b refl (sym start))
+    (prefix-others is_word_byte bs refl))
     (prefix_len-le-length is_word_byte bs)
 
-pub number-piece : (b n : ℕ) (bs : List ℕ) → false ≡ is_white_space b → false ≡ is_word_start b → true ≡ is_ascii_digit b → n ≡ prefix_len is_ascii_digit bs → IsPiece (Token (1 + n)) (b ∷ bs)
+pub number-piece : (b n : ℕ) (bs : List ℕ) → false ≡ is_white_space b → false ≡ is_word_start b →
+    true ≡ is_ascii_digit b → n ≡ prefix_len is_ascii_digit bs → IsPiece (Token (1 + n)) (b ∷ bs)
 number-piece b n bs white start digit e =
     token-of (prefix_len is_ascii_digit bs) (1 + n) b bs (omega (arith, e)) (rw (sym white, sym start, sym digit) refl)
-    (others-behind b (take (prefix_len is_ascii_digit bs) bs) (other-of is_ascii_digit b refl (sym digit)) (prefix-others is_ascii_digit bs refl))
+    (others-behind b (take (prefix_len is_ascii_digit bs) bs) (other-of is_ascii_digit b refl (sym digit))
+    (prefix-others is_ascii_digit bs refl))
     (prefix_len-le-length is_ascii_digit bs)
 
 pub sign-class : (b : ℕ) → false ≡ is_white_space b → false ≡ is_word_start b → false ≡ is_ascii_digit b → class_of b ≡ sign_class
@@ -149,11 +162,13 @@ sign-class b white start digit = rw (sym white, sym start, sym digit) refl
 pub last-sign-piece : (b : ℕ) → class_of b ≡ sign_class → IsPiece (Token 1) (b ∷ [])
 last-sign-piece b class = token-of 0 1 b [] refl (rw class refl) (others-behind b [] (other-sign b class) refl) (omega arith)
 
-pub double-piece : (b c : ℕ) (cs : List ℕ) → class_of b ≡ sign_class → false ≡ ((b == 47) && (c == 42)) → true ≡ is_double_sign b c → IsPiece (Token 2) (b ∷ c ∷ cs)
+pub double-piece : (b c : ℕ) (cs : List ℕ) → class_of b ≡ sign_class → false ≡ ((b == 47) && (c == 42)) →
+    true ≡ is_double_sign b c → IsPiece (Token 2) (b ∷ c ∷ cs)
 double-piece b c cs class other double =
     token-of 1 2 b (c ∷ cs) refl (rw (class, sym other, sym double) refl)
     (others-behind b (c ∷ []) (other-sign b class) (others-behind c [] (other-second b c (sym double)) refl)) (omega arith)
 
-pub sign-piece : (b c : ℕ) (cs : List ℕ) → class_of b ≡ sign_class → false ≡ ((b == 47) && (c == 42)) → false ≡ is_double_sign b c → IsPiece (Token 1) (b ∷ c ∷ cs)
+pub sign-piece : (b c : ℕ) (cs : List ℕ) → class_of b ≡ sign_class → false ≡ ((b == 47) && (c == 42)) →
+    false ≡ is_double_sign b c → IsPiece (Token 1) (b ∷ c ∷ cs)
 sign-piece b c cs class other double =
     token-of 0 1 b (c ∷ cs) refl (rw (class, sym other, sym double) refl) (others-behind b [] (other-sign b class) refl) (omega arith)

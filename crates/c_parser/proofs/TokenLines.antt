@@ -31,16 +31,22 @@ told line h = omega (arith, h)
 -- tokens are the same where lines are told the same
 pub tokens-same : (skip a b : ℕ) (bytes : List ℕ) → Same a b → tokens_from skip a bytes ≡ tokens_from skip b bytes
 tokens-same skip a b [] e = refl
-tokens-same zero a b (c ∷ bytes) e = by (piece_of (class_of c) c bytes) (λ more. tokens-same more (line_after c a) (line_after c b) bytes (same-after c a b e))
+tokens-same zero a b (c ∷ bytes) e =
+    by (piece_of (class_of c) c bytes)
+    (λ more. tokens-same more (line_after c a) (line_after c b) bytes (same-after c a b e))
   where
-    by : (p : Piece) → ((more : ℕ) → tokens_from more (line_after c a) bytes ≡ tokens_from more (line_after c b) bytes) → piece_tokens p a (λ more. tokens_from more (line_after c a) bytes) ≡ piece_tokens p b (λ more. tokens_from more (line_after c b) bytes)
+    by : (p : Piece) →
+        ((more : ℕ) → tokens_from more (line_after c a) bytes ≡ tokens_from more (line_after c b) bytes) →
+        piece_tokens p a (λ more. tokens_from more (line_after c a) bytes)
+        ≡ piece_tokens p b (λ more. tokens_from more (line_after c b) bytes)
     by blank later = later 0
     by (comment more) later = later more
     by (token text) later = λ i. record { text = text; line = e i } ∷ later (length text - 1) i
 tokens-same (suc skip) a b (c ∷ bytes) e = tokens-same skip (line_after c a) (line_after c b) bytes (same-after c a b e)
 
 -- bytes that are skipped
-pub tokens-behind : (skip line : ℕ) (bytes : List ℕ) → skip ≤ length bytes → tokens_from skip line bytes ≡ tokens_from 0 (line_behind line (take skip bytes)) (drop skip bytes)
+pub tokens-behind : (skip line : ℕ) (bytes : List ℕ) → skip ≤ length bytes →
+    tokens_from skip line bytes ≡ tokens_from 0 (line_behind line (take skip bytes)) (drop skip bytes)
 tokens-behind zero line bytes few = refl
 tokens-behind (suc skip) line [] few = absurd (omega (arith, few))
 tokens-behind (suc skip) line (c ∷ bytes) few =

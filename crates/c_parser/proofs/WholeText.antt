@@ -11,7 +11,10 @@ use Rattle.c_grammar.specs.ParsedText.{parse_behind, parse_text}
 use Rattle.c_parser.specs.ParsedText.{GivesText}
 
 -- a text with the first line
-pub text-gives : (bytes behind : List ℕ) (tokens : List Token) (last : ℕ) (limits : Limits) (b : Bool) (answer : Result Program ReadCFault) → b ≡ has_header bytes → b ≡ true → last ≡ last_line bytes → limits ≡ the_limits → tokens ≡ tokens_from 0 2 behind → behind ≡ after_first is_line_end bytes → GivesProgram answer (parse_file last limits tokens) → GivesText bytes answer
+pub text-gives : (bytes behind : List ℕ) (tokens : List Token) (last : ℕ) (limits : Limits) (b : Bool)
+    (answer : Result Program ReadCFault) → b ≡ has_header bytes → b ≡ true → last ≡ last_line bytes →
+    limits ≡ the_limits → tokens ≡ tokens_from 0 2 behind → behind ≡ after_first is_line_end bytes →
+    GivesProgram answer (parse_file last limits tokens) → GivesText bytes answer
 text-gives bytes behind tokens last limits b answer is headed ends kept there from gives = by answer gives
   where
     same : parse_text bytes ≡ parse_file last limits tokens

@@ -25,7 +25,8 @@ module _ (last : ℕ) (limits : Limits) where
 
   -- the first procedure
   abbrev pub first_procedure : List Token → Parsed WrittenProcedure
-  first_procedure tokens = next last tokens >>= (λ t. parse_procedure last limits t.0 t.1 (definition_of t.0.text))
+  first_procedure tokens =
+      next last tokens >>= (λ t. parse_procedure last limits t.0 t.1 (definition_of t.0.text))
 
   -- the procedures, of which there is one at least
   abbrev pub procedures : List Token → Parsed (List WrittenProcedure)

@@ -23,7 +23,8 @@ Gives view (Err (Refused fault)) parsed = parsed ≡ Err fault
 Gives view (Err Memory) parsed = ⊤
 
 -- one more element of a list or its end, unless memory ran out
-abbrev pub GivesMore : {A B : Type 0} → (A → B) → Result (Option A × List Token) ReadCFault → Result (Step B) CFault → Type 0
+abbrev pub GivesMore : {A B : Type 0} → (A → B) → Result (Option A × List Token) ReadCFault →
+    Result (Step B) CFault → Type 0
 GivesMore view (Ok (Some x, rest)) step = step ≡ Ok (one_more (view x) rest)
 GivesMore view (Ok (None, rest)) step = step ≡ Ok (the_end rest)
 GivesMore view (Err (Refused fault)) step = step ≡ Err fault

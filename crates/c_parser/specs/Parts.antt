@@ -48,14 +48,34 @@ module _ (last : ℕ) where
       params ← pure_params opened.1
       open_body ← parse_word last (codes "{") params.1
       body ← returned open_body.1
-      Ok (record { line = t.line; name = name.0; params = params.0; return_line = body.0.0; body = body.0.1 }, body.1)
+      Ok (
+        record {
+          line = t.line;
+          name = name.0;
+          params = params.0;
+          return_line = body.0.0;
+          body = body.0.1;
+        },
+        body.1,
+      )
 
     -- a procedure behind its `void`
-    abbrev pub procedure_parts : (line : ℕ) → (private : Bool) → List Token → Parsed WrittenProcedure
+    abbrev pub procedure_parts : (line : ℕ) → (private : Bool) → List Token →
+        Parsed WrittenProcedure
     procedure_parts line private tokens = do
       name ← parse_name last tokens
       opened ← parse_word last (codes "(") name.1
       of ← instance opened.1
       params ← many (params_step last limits) (suc (length of.1)) 0 of.1
       body ← parse_block last limits (parse_stmt last limits limits.stmts) params.1
-      Ok (record { line = line; private = private; name = name.0; of = of.0; params = params.0; body = body.0 }, body.1)
+      Ok (
+        record {
+          line = line;
+          private = private;
+          name = name.0;
+          of = of.0;
+          params = params.0;
+          body = body.0;
+        },
+        body.1,
+      )

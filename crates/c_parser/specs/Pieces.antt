@@ -8,11 +8,16 @@ use Rattle.c_parser.specs.declared.bytes.Piece.TheVariants.{Blank, Comment, Toke
 
 -- bytes without a token, whose tokens are those behind the first so many
 abbrev pub IsSkipped : ℕ → List ℕ → Type 0
-IsSkipped len bytes = (line : ℕ) → tokens_from 0 line bytes ≡ tokens_from 0 (line_behind line (take len bytes)) (drop len bytes)
+IsSkipped len bytes =
+    (line : ℕ) → tokens_from 0 line bytes ≡ tokens_from 0 (line_behind line (take len bytes))
+    (drop len bytes)
 
 -- bytes whose first token is the first so many, with the tokens behind it on the same line
 abbrev pub IsFirstToken : ℕ → List ℕ → Type 0
-IsFirstToken len bytes = (line : ℕ) → tokens_from 0 line bytes ≡ record { text = take len bytes; line = reported_number line } ∷ tokens_from 0 line (drop len bytes)
+IsFirstToken len bytes =
+    (line : ℕ) →
+    tokens_from 0 line bytes ≡ record { text = take len bytes; line = reported_number line }
+    ∷ tokens_from 0 line (drop len bytes)
 
 -- the first piece of bytes
 abbrev pub IsPiece : Piece → List ℕ → Type 0

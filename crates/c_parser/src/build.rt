@@ -78,13 +78,15 @@ pub(crate) fn pick<'a>(
     on_false: Box<WrittenExpr<'a>>,
 ) -> Result<Box<WrittenExpr<'a>>, Memory>
     ensures { IfOk result (λ e. boxed_expr e
-        ≡ written.pick (boxed_cond test.entry) (boxed_expr on_true.entry) (boxed_expr on_false.entry)) }
+        ≡ written.pick (boxed_cond test.entry) (boxed_expr on_true.entry)
+        (boxed_expr on_false.entry)) }
 {
     box_of_expr(alloc, WrittenExpr::Pick(test, on_true, on_false))
 }
 
 fn call_of_pure<'a>(line: u32, function: &'a [u8], values: Vec<WrittenExpr<'a>>) -> WrittenExpr<'a>
-    ensures { expr_of result ≡ written.pure line function.now (exprs_from (map expr_of values.entry.items)) }
+    ensures { expr_of result
+        ≡ written.pure line function.now (exprs_from (map expr_of values.entry.items)) }
 {
     WrittenExpr::Pure {
         line,

@@ -20,7 +20,8 @@ impl Reader {
         tokens: Tokens<'a>,
         opener: TargetOpener,
     ) -> Read<'a, WrittenTarget<'a>>
-        ensures { read_as target_of result ≡ parsing.parse_target_from self.last token.now tokens.entry opener }
+        ensures { read_as target_of result
+            ≡ parsing.parse_target_from self.last token.now tokens.entry opener }
     {
         match opener {
             TargetOpener::Own => Ok((WrittenTarget::Own, tokens)),
@@ -41,7 +42,8 @@ impl Reader {
     }
 
     fn arguments_step<'a>(self, tokens: &Tokens<'a>) -> Parse<'a, Option<Argument<'a>>>
-        ensures { GivesMore argument_of result (parsing.arguments_step self.last (limits_of self.limits) 0 tokens.now) }
+        ensures { GivesMore argument_of result
+            (parsing.arguments_step self.last (limits_of self.limits) 0 tokens.now) }
     {
         let (token, rest) = self.next(tokens)?;
         match comma_of(token.text) {
@@ -61,7 +63,8 @@ impl Reader {
 
     fn arguments<'a>(self, tokens: Tokens<'a>) -> Parse<'a, Vec<Argument<'a>>>
         ensures { Gives (λ v. map argument_of v.items) result
-            (parsing.many (parsing.arguments_step self.last (limits_of self.limits)) (suc (length tokens.entry)) 0 tokens.entry) }
+            (parsing.many (parsing.arguments_step self.last (limits_of self.limits))
+            (suc (length tokens.entry)) 0 tokens.entry) }
     {
         let mut arguments = Vec::new(self.alloc);
         let mut rest = tokens;
@@ -113,7 +116,8 @@ impl Reader {
 
     /// A store behind its `s`.
     pub fn store<'a>(self, token: &Token<'a>, tokens: &Tokens<'a>) -> Parse<'a, WrittenStmt<'a>>
-        ensures { Gives stmt_of result (parsing.parse_store self.last (limits_of self.limits) token.now tokens.now) }
+        ensures { Gives stmt_of result
+            (parsing.parse_store self.last (limits_of self.limits) token.now tokens.now) }
     {
         let (field, rest) = self.field_name(tokens)?;
         self.store_in(token, field, rest)
@@ -121,7 +125,8 @@ impl Reader {
 
     /// A call behind the procedure's name.
     pub fn call<'a>(self, token: &Token<'a>, tokens: &Tokens<'a>) -> Parse<'a, WrittenStmt<'a>>
-        ensures { Gives stmt_of result (parsing.parse_call self.last (limits_of self.limits) token.now tokens.now) }
+        ensures { Gives stmt_of result
+            (parsing.parse_call self.last (limits_of self.limits) token.now tokens.now) }
     {
         let rest = self.word(tokens, b"(")?;
         let (target, rest) = self.target(&rest)?;

@@ -15,7 +15,8 @@ use c_grammar::{Definition, WrittenExpr, WrittenProcedure, WrittenPure};
 impl Reader {
     // What a pure function returns, with the line of its `return`, up to the `}`.
     fn returned<'a>(self, tokens: &Tokens<'a>) -> Parse<'a, (u32, WrittenExpr<'a>)>
-        ensures { Gives parts.returned_of result (parts.returned self.last (limits_of self.limits) tokens.now) }
+        ensures { Gives parts.returned_of result
+            (parts.returned self.last (limits_of self.limits) tokens.now) }
     {
         let (token, rest) = self.next(tokens)?;
         if !is(token.text, b"return") {
@@ -28,7 +29,8 @@ impl Reader {
     }
 
     fn pure_of_parts<'a>(self, token: &Token<'a>, tokens: &Tokens<'a>) -> Parse<'a, WrittenPure<'a>>
-        ensures { Gives pure_of result (parts.pure_parts self.last (limits_of self.limits) token.now tokens.now) }
+        ensures { Gives pure_of result
+            (parts.pure_parts self.last (limits_of self.limits) token.now tokens.now) }
     {
         let rest = self.word(tokens, b"int64_t")?;
         let (name, rest) = self.name(&rest)?;
@@ -49,7 +51,8 @@ impl Reader {
 
     /// A pure function behind its `static`.
     pub fn pure<'a>(self, token: &Token<'a>, tokens: &Tokens<'a>) -> Parse<'a, WrittenPure<'a>>
-        ensures { Gives pure_of result (parsing.parse_pure self.last (limits_of self.limits) token.now tokens.now) }
+        ensures { Gives pure_of result
+            (parsing.parse_pure self.last (limits_of self.limits) token.now tokens.now) }
     {
         self.pure_of_parts(token, tokens)
     }
@@ -71,7 +74,8 @@ impl Reader {
         private: bool,
         tokens: &Tokens<'a>,
     ) -> Parse<'a, WrittenProcedure<'a>>
-        ensures { Gives procedure_of result (parts.procedure_parts self.last (limits_of self.limits) line private tokens.now) }
+        ensures { Gives procedure_of result
+            (parts.procedure_parts self.last (limits_of self.limits) line private tokens.now) }
     {
         let (name, rest) = self.name(tokens)?;
         let rest = self.word(&rest, b"(")?;
@@ -96,7 +100,9 @@ impl Reader {
         private: bool,
         tokens: &Tokens<'a>,
     ) -> Parse<'a, WrittenProcedure<'a>>
-        ensures { Gives procedure_of result (parsing.parse_procedure_behind self.last (limits_of self.limits) line private tokens.now) }
+        ensures { Gives procedure_of result
+            (parsing.parse_procedure_behind self.last (limits_of self.limits) line private
+            tokens.now) }
     {
         self.procedure_of_parts(line, private, tokens)
     }
@@ -109,7 +115,8 @@ impl Reader {
         definition: Definition,
     ) -> Parse<'a, WrittenProcedure<'a>>
         ensures { Gives procedure_of result
-            (parsing.parse_procedure self.last (limits_of self.limits) token.now tokens.now definition) }
+            (parsing.parse_procedure self.last (limits_of self.limits) token.now tokens.now
+            definition) }
     {
         match definition {
             Definition::Static => {

@@ -62,7 +62,8 @@ impl Reader {
     }
 
     fn number<'a>(self, tokens: &Tokens<'a>) -> Parse<'a, Operand<'a>>
-        ensures { Gives operand_of result (parsing.parse_number self.last (parsing.parse_operand self.last 0) tokens.now) }
+        ensures { Gives operand_of result
+            (parsing.parse_number self.last (parsing.parse_operand self.last 0) tokens.now) }
     {
         let rest = self.word(tokens, b"(")?;
         let (number, rest) = self.literal(&rest)?;
@@ -72,7 +73,8 @@ impl Reader {
 
     #[cycle(expressions)]
     fn values_step<'a>(self, levels: u32, tokens: &Tokens<'a>) -> Parse<'a, Option<WrittenExpr<'a>>>
-        ensures { GivesMore expr_of result (parsing.values_step self.last (parsing.parse_operand self.last levels) 0 tokens.now) }
+        ensures { GivesMore expr_of result
+            (parsing.values_step self.last (parsing.parse_operand self.last levels) 0 tokens.now) }
     {
         let (token, rest) = self.next(tokens)?;
         match comma_of(token.text) {
@@ -94,7 +96,8 @@ impl Reader {
         tokens: Tokens<'a>,
     ) -> Parse<'a, Vec<WrittenExpr<'a>>>
         ensures { Gives (λ v. map expr_of v.items) result (behind (map expr_of values.entry.items)
-            (parsing.many (parsing.values_step self.last (parsing.parse_operand self.last levels)) (suc (length tokens.entry)) 0 tokens.entry)) }
+            (parsing.many (parsing.values_step self.last (parsing.parse_operand self.last levels))
+            (suc (length tokens.entry)) 0 tokens.entry)) }
     {
         let mut values = values;
         let mut rest = tokens;
@@ -115,7 +118,9 @@ impl Reader {
         token: &Token<'a>,
         tokens: &Tokens<'a>,
     ) -> Parse<'a, Operand<'a>>
-        ensures { Gives operand_of result (parsing.parse_values self.last (parsing.parse_operand self.last levels) token.now tokens.now) }
+        ensures { Gives operand_of result
+            (parsing.parse_values self.last (parsing.parse_operand self.last levels) token.now
+            tokens.now) }
     {
         let rest = self.word(tokens, b"(")?;
         let (first, rest) = self.value(levels, &rest)?;
@@ -128,7 +133,9 @@ impl Reader {
 
     #[cycle(expressions)]
     fn minus<'a>(self, levels: u32, tokens: &Tokens<'a>) -> Parse<'a, Operand<'a>>
-        ensures { Gives operand_of result (parsing.parse_inside self.last (parsing.parse_operand self.last levels) wants.Any tokens.now insides.Minus) }
+        ensures { Gives operand_of result
+            (parsing.parse_inside self.last (parsing.parse_operand self.last levels) wants.Any
+            tokens.now insides.Minus) }
     {
         let (_, rest) = self.next(tokens)?;
         let (operand, rest) = self.value(levels, &rest)?;
@@ -138,7 +145,9 @@ impl Reader {
 
     #[cycle(expressions)]
     fn negation<'a>(self, levels: u32, tokens: &Tokens<'a>) -> Parse<'a, Operand<'a>>
-        ensures { Gives operand_of result (parsing.parse_inside self.last (parsing.parse_operand self.last levels) wants.Any tokens.now insides.Not) }
+        ensures { Gives operand_of result
+            (parsing.parse_inside self.last (parsing.parse_operand self.last levels) wants.Any
+            tokens.now insides.Not) }
     {
         let (_, rest) = self.next(tokens)?;
         let (operand, rest) = self.test(levels, &rest)?;
@@ -148,7 +157,9 @@ impl Reader {
 
     #[cycle(expressions)]
     fn cast_leaf<'a>(self, levels: u32, tokens: &Tokens<'a>) -> Parse<'a, Operand<'a>>
-        ensures { Gives operand_of result (parsing.parse_inside self.last (parsing.parse_operand self.last levels) wants.Any tokens.now insides.Cast) }
+        ensures { Gives operand_of result
+            (parsing.parse_inside self.last (parsing.parse_operand self.last levels) wants.Any
+            tokens.now insides.Cast) }
     {
         let (_, rest) = self.next(tokens)?;
         let rest = self.word(&rest, b")")?;
@@ -165,7 +176,9 @@ impl Reader {
         tokens: &Tokens<'a>,
         joint: ValueJoint,
     ) -> Parse<'a, Operand<'a>>
-        ensures { Gives operand_of result (parsing.join_value self.last (parsing.parse_operand self.last levels) (boxed_expr left.entry) token.now tokens.now joint) }
+        ensures { Gives operand_of result
+            (parsing.join_value self.last (parsing.parse_operand self.last levels)
+            (boxed_expr left.entry) token.now tokens.now joint) }
     {
         match joint {
             ValueJoint::Operator(op) => {
@@ -190,7 +203,9 @@ impl Reader {
         token: &Token<'a>,
         tokens: &Tokens<'a>,
     ) -> Parse<'a, Operand<'a>>
-        ensures { Gives operand_of result (parsing.join_test self.last (parsing.parse_operand self.last levels) (boxed_cond test.entry) token.now tokens.now joints.Pick) }
+        ensures { Gives operand_of result
+            (parsing.join_test self.last (parsing.parse_operand self.last levels)
+            (boxed_cond test.entry) token.now tokens.now joints.Pick) }
     {
         let (on_true, rest) = self.value(levels, tokens)?;
         let rest = self.word(&rest, b":")?;
@@ -210,7 +225,9 @@ impl Reader {
         tokens: &Tokens<'a>,
         joint: TestJoint,
     ) -> Parse<'a, Operand<'a>>
-        ensures { Gives operand_of result (parsing.join_test self.last (parsing.parse_operand self.last levels) (boxed_cond left.entry) token.now tokens.now joint) }
+        ensures { Gives operand_of result
+            (parsing.join_test self.last (parsing.parse_operand self.last levels)
+            (boxed_cond left.entry) token.now tokens.now joint) }
     {
         match joint {
             TestJoint::And => {
@@ -235,7 +252,9 @@ impl Reader {
         token: &Token<'a>,
         tokens: &Tokens<'a>,
     ) -> Parse<'a, Operand<'a>>
-        ensures { Gives operand_of result (parsing.join self.last (parsing.parse_operand self.last levels) want (operand_of first.entry) (token.now, tokens.now)) }
+        ensures { Gives operand_of result
+            (parsing.join self.last (parsing.parse_operand self.last levels) want
+            (operand_of first.entry) (token.now, tokens.now)) }
     {
         match first {
             Operand::Value(left) => self.join_value(
@@ -257,7 +276,9 @@ impl Reader {
 
     #[cycle(expressions)]
     fn joined<'a>(self, levels: u32, want: Want, tokens: &Tokens<'a>) -> Parse<'a, Operand<'a>>
-        ensures { Gives operand_of result (parsing.parse_inside self.last (parsing.parse_operand self.last levels) want tokens.now insides.First) }
+        ensures { Gives operand_of result
+            (parsing.parse_inside self.last (parsing.parse_operand self.last levels) want tokens.now
+            insides.First) }
     {
         let (first, rest) = self.operand(levels, Want::Any, tokens)?;
         let (token, rest) = self.next(&rest)?;
@@ -274,7 +295,9 @@ impl Reader {
         tokens: &Tokens<'a>,
         inside: Inside,
     ) -> Parse<'a, Operand<'a>>
-        ensures { Gives operand_of result (parsing.parse_inside self.last (parsing.parse_operand self.last levels) want tokens.now inside) }
+        ensures { Gives operand_of result
+            (parsing.parse_inside self.last (parsing.parse_operand self.last levels) want tokens.now
+            inside) }
     {
         match inside {
             Inside::Minus => self.minus(levels, tokens),
@@ -293,7 +316,9 @@ impl Reader {
         tokens: &Tokens<'a>,
         opener: Opener,
     ) -> Parse<'a, Operand<'a>>
-        ensures { Gives operand_of result (parsing.parse_opened self.last (parsing.parse_operand self.last levels) want token.now tokens.now opener) }
+        ensures { Gives operand_of result
+            (parsing.parse_opened self.last (parsing.parse_operand self.last levels) want token.now
+            tokens.now opener) }
     {
         match opener {
             Opener::Number => self.number(tokens),

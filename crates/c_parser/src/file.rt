@@ -18,7 +18,8 @@ use c_grammar::{
 
 impl Reader {
     fn pures_step<'a>(self, count: usize, tokens: Tokens<'a>) -> Parse<'a, Option<WrittenPure<'a>>>
-        ensures { GivesMore pure_of result (parsing.pures_step self.last (limits_of self.limits) count tokens.entry) }
+        ensures { GivesMore pure_of result
+            (parsing.pures_step self.last (limits_of self.limits) count tokens.entry) }
     {
         let (token, rest) = self.next(&tokens)?;
         match definition_of(token.text) {
@@ -36,7 +37,8 @@ impl Reader {
 
     fn pures<'a>(self, tokens: Tokens<'a>) -> Parse<'a, Vec<WrittenPure<'a>>>
         ensures { Gives (λ v. map pure_of v.items) result
-            (parsing.many (parsing.pures_step self.last (limits_of self.limits)) (suc (length tokens.entry)) 0 tokens.entry) }
+            (parsing.many (parsing.pures_step self.last (limits_of self.limits))
+            (suc (length tokens.entry)) 0 tokens.entry) }
     {
         let mut pures = Vec::new(self.alloc);
         let mut rest = tokens;
@@ -51,7 +53,8 @@ impl Reader {
     }
 
     fn structs_step<'a>(self, tokens: Tokens<'a>) -> Parse<'a, Option<WrittenStruct<'a>>>
-        ensures { GivesMore struct_of result (parsing.structs_step self.last (limits_of self.limits) 0 tokens.entry) }
+        ensures { GivesMore struct_of result
+            (parsing.structs_step self.last (limits_of self.limits) 0 tokens.entry) }
     {
         let (token, rest) = self.next(&tokens)?;
         match definition_of(token.text) {
@@ -66,7 +69,8 @@ impl Reader {
 
     fn structs<'a>(self, tokens: Tokens<'a>) -> Parse<'a, Vec<WrittenStruct<'a>>>
         ensures { Gives (λ v. map struct_of v.items) result
-            (parsing.many (parsing.structs_step self.last (limits_of self.limits)) (suc (length tokens.entry)) 0 tokens.entry) }
+            (parsing.many (parsing.structs_step self.last (limits_of self.limits))
+            (suc (length tokens.entry)) 0 tokens.entry) }
     {
         let mut structs = Vec::new(self.alloc);
         let mut rest = tokens;
@@ -81,7 +85,8 @@ impl Reader {
     }
 
     fn procedures_step<'a>(self, tokens: Tokens<'a>) -> Parse<'a, Option<WrittenProcedure<'a>>>
-        ensures { GivesMore procedure_of result (parsing.procedures_step self.last (limits_of self.limits) 0 tokens.entry) }
+        ensures { GivesMore procedure_of result
+            (parsing.procedures_step self.last (limits_of self.limits) 0 tokens.entry) }
     {
         let Some((token, rest)) = tokens.split_first() else {
             return Ok((None, tokens));
@@ -95,8 +100,10 @@ impl Reader {
         procedures: Vec<WrittenProcedure<'a>>,
         tokens: Tokens<'a>,
     ) -> Parse<'a, Vec<WrittenProcedure<'a>>>
-        ensures { Gives (λ v. map procedure_of v.items) result (behind (map procedure_of procedures.entry.items)
-            (parsing.many (parsing.procedures_step self.last (limits_of self.limits)) (suc (length tokens.entry)) 0 tokens.entry)) }
+        ensures { Gives (λ v. map procedure_of v.items) result
+            (behind (map procedure_of procedures.entry.items)
+            (parsing.many (parsing.procedures_step self.last (limits_of self.limits))
+            (suc (length tokens.entry)) 0 tokens.entry)) }
     {
         let mut procedures = procedures;
         let mut rest = tokens;
@@ -111,14 +118,16 @@ impl Reader {
     }
 
     fn first_procedure<'a>(self, tokens: &Tokens<'a>) -> Parse<'a, WrittenProcedure<'a>>
-        ensures { Gives procedure_of result (parts.first_procedure self.last (limits_of self.limits) tokens.now) }
+        ensures { Gives procedure_of result
+            (parts.first_procedure self.last (limits_of self.limits) tokens.now) }
     {
         let (token, rest) = self.next(tokens)?;
         self.procedure(&token, &rest, definition_of(token.text))
     }
 
     fn procedures<'a>(self, tokens: &Tokens<'a>) -> Parse<'a, Vec<WrittenProcedure<'a>>>
-        ensures { Gives (λ v. map procedure_of v.items) result (parts.procedures self.last (limits_of self.limits) tokens.now) }
+        ensures { Gives (λ v. map procedure_of v.items) result
+            (parts.procedures self.last (limits_of self.limits) tokens.now) }
     {
         let (first, rest) = self.first_procedure(tokens)?;
         let mut procedures = Vec::new(self.alloc);
@@ -141,7 +150,8 @@ impl Reader {
 
     /// A whole file behind its first line.
     pub fn file<'a>(self, tokens: Tokens<'a>) -> Result<WrittenProgram<'a>, ReadCFault>
-        ensures { GivesProgram result (parsing.parse_file self.last (limits_of self.limits) tokens.entry) }
+        ensures { GivesProgram result
+            (parsing.parse_file self.last (limits_of self.limits) tokens.entry) }
     {
         self.file_of_parts(tokens)
     }

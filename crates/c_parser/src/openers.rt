@@ -63,7 +63,8 @@ fn operator_of(want: Want, text: &[u8]) -> Option<BinOp>
 }
 
 fn comparison_of(want: Want, text: &[u8]) -> Option<Compare>
-    ensures { result ≡ (if parsing.wants_test want then parsing.compare_of_text text.now else None) }
+    ensures { result
+        ≡ (if parsing.wants_test want then parsing.compare_of_text text.now else None) }
 {
     if want.takes_test() {
         compare_of_text(text)

@@ -22,7 +22,8 @@ pub(crate) fn has_room(count: usize, most: usize) -> bool
 
 impl Reader {
     fn pure_param<'a>(self, count: usize, tokens: &Tokens<'a>) -> Parse<'a, WrittenPureParam<'a>>
-        ensures { Gives pure_param_of result (parsing.parse_pure_param self.last (limits_of self.limits) count tokens.now) }
+        ensures { Gives pure_param_of result
+            (parsing.parse_pure_param self.last (limits_of self.limits) count tokens.now) }
     {
         let (token, rest) = self.next(tokens)?;
         if !is(token.text, b"int64_t") {
@@ -44,7 +45,8 @@ impl Reader {
         count: usize,
         tokens: &Tokens<'a>,
     ) -> Parse<'a, Option<WrittenPureParam<'a>>>
-        ensures { GivesMore pure_param_of result (parsing.pure_params_step self.last (limits_of self.limits) count tokens.now) }
+        ensures { GivesMore pure_param_of result
+            (parsing.pure_params_step self.last (limits_of self.limits) count tokens.now) }
     {
         let (token, rest) = self.next(tokens)?;
         match comma_of(token.text) {
@@ -62,8 +64,10 @@ impl Reader {
         params: Vec<WrittenPureParam<'a>>,
         tokens: Tokens<'a>,
     ) -> Parse<'a, Vec<WrittenPureParam<'a>>>
-        ensures { Gives (λ v. map pure_param_of v.items) result (behind (map pure_param_of params.entry.items)
-            (parsing.many (parsing.pure_params_step self.last (limits_of self.limits)) (suc (length tokens.entry)) (vec_len params.entry) tokens.entry)) }
+        ensures { Gives (λ v. map pure_param_of v.items) result
+            (behind (map pure_param_of params.entry.items)
+            (parsing.many (parsing.pure_params_step self.last (limits_of self.limits))
+            (suc (length tokens.entry)) (vec_len params.entry) tokens.entry)) }
     {
         let mut params = params;
         let mut rest = tokens;
@@ -79,7 +83,8 @@ impl Reader {
 
     /// The parameters of a pure function behind its `(`, and the `)`.
     pub fn pure_params<'a>(self, tokens: &Tokens<'a>) -> Parse<'a, Vec<WrittenPureParam<'a>>>
-        ensures { Gives (λ v. map pure_param_of v.items) result (parts.pure_params self.last (limits_of self.limits) tokens.now) }
+        ensures { Gives (λ v. map pure_param_of v.items) result
+            (parts.pure_params self.last (limits_of self.limits) tokens.now) }
     {
         let (first, rest) = self.pure_param(0, tokens)?;
         let mut params = Vec::new(self.alloc);
@@ -88,7 +93,8 @@ impl Reader {
     }
 
     fn param<'a>(self, count: usize, tokens: &Tokens<'a>) -> Parse<'a, WrittenParam<'a>>
-        ensures { Gives param_of result (parsing.parse_param self.last (limits_of self.limits) count tokens.now) }
+        ensures { Gives param_of result
+            (parsing.parse_param self.last (limits_of self.limits) count tokens.now) }
     {
         let (token, rest) = self.next(tokens)?;
         let Some(ty) = type_of_text(token.text) else {
@@ -111,7 +117,8 @@ impl Reader {
         count: usize,
         tokens: &Tokens<'a>,
     ) -> Parse<'a, Option<WrittenParam<'a>>>
-        ensures { GivesMore param_of result (parsing.params_step self.last (limits_of self.limits) count tokens.now) }
+        ensures { GivesMore param_of result
+            (parsing.params_step self.last (limits_of self.limits) count tokens.now) }
     {
         let (token, rest) = self.next(tokens)?;
         match comma_of(token.text) {
@@ -127,7 +134,8 @@ impl Reader {
     /// The parameters of a procedure behind its instance, and the `)`.
     pub fn params<'a>(self, tokens: Tokens<'a>) -> Parse<'a, Vec<WrittenParam<'a>>>
         ensures { Gives (λ v. map param_of v.items) result
-            (parsing.many (parsing.params_step self.last (limits_of self.limits)) (suc (length tokens.entry)) 0 tokens.entry) }
+            (parsing.many (parsing.params_step self.last (limits_of self.limits))
+            (suc (length tokens.entry)) 0 tokens.entry) }
     {
         let mut params = Vec::new(self.alloc);
         let mut rest = tokens;

@@ -35,7 +35,8 @@ fn split_line(bytes: &[u8]) -> (&[u8], &[u8])
 
 // Whether a file begins so.
 fn is_header(line: &[u8]) -> bool
-    ensures { result ≡ bytes_eq line.now tokens.header_line || bytes_eq line.now (tokens.header_line ++ 13 ∷ []) }
+    ensures { result ≡ bytes_eq line.now tokens.header_line
+        || bytes_eq line.now (tokens.header_line ++ 13 ∷ []) }
 {
     is(line, b"#include <stdint.h>") || is(line, b"#include <stdint.h>\r")
 }

@@ -94,7 +94,8 @@ impl Reader {
 
     /// A literal.
     pub fn literal<'a>(self, tokens: &Tokens<'a>) -> Read<'a, Number>
-        ensures { read_as (λ number. number.value) result ≡ parsing.parse_literal self.last tokens.now }
+        ensures { read_as (λ number. number.value) result
+            ≡ parsing.parse_literal self.last tokens.now }
     {
         let (token, rest) = self.next(tokens)?;
         match literal_of_text(token.text) {
@@ -115,7 +116,8 @@ impl Reader {
 
     /// The field behind `s`.
     pub fn field_name<'a>(self, tokens: &Tokens<'a>) -> Read<'a, &'a [u8]>
-        ensures { read_as (λ name. name.now) result ≡ parsing.parse_field_name self.last tokens.now }
+        ensures { read_as (λ name. name.now) result
+            ≡ parsing.parse_field_name self.last tokens.now }
     {
         let rest = self.word(tokens, b"->")?;
         self.name(&rest)

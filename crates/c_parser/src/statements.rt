@@ -20,7 +20,8 @@ impl Reader {
         token: &Token<'a>,
         opener: StmtOpener,
     ) -> Parse<'a, WrittenStmt<'a>>
-        ensures { Gives stmt_of result (parsing.stmt_too_deep self.last (limits_of self.limits) token.now opener) }
+        ensures { Gives stmt_of result
+            (parsing.stmt_too_deep self.last (limits_of self.limits) token.now opener) }
     {
         match opener {
             StmtOpener::Store | StmtOpener::If | StmtOpener::Call => Err(deep_on(
@@ -32,7 +33,8 @@ impl Reader {
 
     #[cycle(statements)]
     fn statement<'a>(self, levels: u32, tokens: &Tokens<'a>) -> Parse<'a, WrittenStmt<'a>>
-        ensures { Gives stmt_of result (parsing.parse_stmt self.last (limits_of self.limits) levels tokens.now) }
+        ensures { Gives stmt_of result
+            (parsing.parse_stmt self.last (limits_of self.limits) levels tokens.now) }
     {
         let (token, rest) = self.next(tokens)?;
         let opener = stmt_opener_of(token.text);
@@ -51,7 +53,8 @@ impl Reader {
         opener: StmtOpener,
     ) -> Parse<'a, WrittenStmt<'a>>
         ensures { Gives stmt_of result
-            (parsing.parse_stmt_opened self.last (limits_of self.limits) (parsing.parse_stmt self.last (limits_of self.limits) levels)
+            (parsing.parse_stmt_opened self.last (limits_of self.limits)
+            (parsing.parse_stmt self.last (limits_of self.limits) levels)
             token.now tokens.now opener) }
     {
         match opener {
@@ -69,7 +72,8 @@ impl Reader {
         tokens: &Tokens<'a>,
     ) -> Parse<'a, Option<WrittenStmt<'a>>>
         ensures { GivesMore stmt_of result
-            (parsing.stmts_step self.last (limits_of self.limits) (parsing.parse_stmt self.last (limits_of self.limits) levels) 0 tokens.now) }
+            (parsing.stmts_step self.last (limits_of self.limits)
+            (parsing.parse_stmt self.last (limits_of self.limits) levels) 0 tokens.now) }
     {
         if is(tokens.first_text(), b"}") {
             let (_, rest) = self.next(tokens)?;
@@ -82,7 +86,9 @@ impl Reader {
     #[cycle(statements)]
     fn statements<'a>(self, levels: u32, tokens: Tokens<'a>) -> Parse<'a, Vec<WrittenStmt<'a>>>
         ensures { Gives (λ v. map stmt_of v.items) result
-            (parsing.many (parsing.stmts_step self.last (limits_of self.limits) (parsing.parse_stmt self.last (limits_of self.limits) levels))
+            (parsing.many
+            (parsing.stmts_step self.last (limits_of self.limits)
+            (parsing.parse_stmt self.last (limits_of self.limits) levels))
             (suc (length tokens.entry)) 0 tokens.entry) }
     {
         let mut statements = Vec::new(self.alloc);
@@ -101,7 +107,8 @@ impl Reader {
     #[cycle(statements)]
     pub fn block<'a>(self, levels: u32, tokens: &Tokens<'a>) -> Parse<'a, Vec<WrittenStmt<'a>>>
         ensures { Gives (λ v. parsing.stmts_from (map stmt_of v.items)) result
-            (parsing.parse_block self.last (limits_of self.limits) (parsing.parse_stmt self.last (limits_of self.limits) levels) tokens.now) }
+            (parsing.parse_block self.last (limits_of self.limits)
+            (parsing.parse_stmt self.last (limits_of self.limits) levels) tokens.now) }
     {
         let rest = self.word(tokens, b"{")?;
         self.statements(levels, rest)
@@ -118,8 +125,10 @@ impl Reader {
         tokens: Tokens<'a>,
     ) -> Parse<'a, WrittenStmt<'a>>
         ensures { Gives stmt_of result
-            (parsing.parse_second self.last (limits_of self.limits) (parsing.parse_stmt self.last (limits_of self.limits) levels)
-            token.now (boxed_cond test.entry) (parsing.stmts_from (map stmt_of yes.entry.items)) tokens.entry
+            (parsing.parse_second self.last (limits_of self.limits)
+            (parsing.parse_stmt self.last (limits_of self.limits) levels)
+            token.now (boxed_cond test.entry) (parsing.stmts_from (map stmt_of yes.entry.items))
+            tokens.entry
             (bytes_eq (parsing.first_text tokens.entry) (codes "else"))) }
     {
         if !is(tokens.first_text(), b"else") {
@@ -139,7 +148,8 @@ impl Reader {
         tokens: &Tokens<'a>,
     ) -> Parse<'a, WrittenStmt<'a>>
         ensures { Gives stmt_of result
-            (parsing.parse_if self.last (limits_of self.limits) (parsing.parse_stmt self.last (limits_of self.limits) levels) token.now tokens.now) }
+            (parsing.parse_if self.last (limits_of self.limits)
+            (parsing.parse_stmt self.last (limits_of self.limits) levels) token.now tokens.now) }
     {
         let (test, rest) = self.test(self.limits.exprs, tokens)?;
         let (yes, rest) = self.block(levels, &rest)?;

@@ -48,7 +48,8 @@ impl Reader {
     // A field that is a number or an array, behind its type.
     fn number_field<'a>(self, token: &Token<'a>, tokens: &Tokens<'a>) -> Read<'a, WrittenField<'a>>
         ensures { read_as field_of result
-            ≡ parsing.parse_field_from self.last (limits_of self.limits) token.now tokens.now false }
+            ≡ parsing.parse_field_from self.last (limits_of self.limits) token.now tokens.now
+            false }
     {
         let Some(ty) = type_of_text(token.text) else {
             return Err(syntax_on(token.line));
@@ -77,7 +78,8 @@ impl Reader {
     }
 
     fn fields_step<'a>(self, tokens: &Tokens<'a>) -> Parse<'a, Option<WrittenField<'a>>>
-        ensures { GivesMore field_of result (parsing.fields_step self.last (limits_of self.limits) 0 tokens.now) }
+        ensures { GivesMore field_of result
+            (parsing.fields_step self.last (limits_of self.limits) 0 tokens.now) }
     {
         if is(tokens.first_text(), b"}") {
             let (_, rest) = self.next(tokens)?;
@@ -93,7 +95,8 @@ impl Reader {
         tokens: Tokens<'a>,
     ) -> Parse<'a, Vec<WrittenField<'a>>>
         ensures { Gives (λ v. map field_of v.items) result (behind (map field_of fields.entry.items)
-            (parsing.many (parsing.fields_step self.last (limits_of self.limits)) (suc (length tokens.entry)) 0 tokens.entry)) }
+            (parsing.many (parsing.fields_step self.last (limits_of self.limits))
+            (suc (length tokens.entry)) 0 tokens.entry)) }
     {
         let mut fields = fields;
         let mut rest = tokens;
@@ -109,7 +112,8 @@ impl Reader {
 
     // The fields of a struct behind its `{`, and the `}`.
     fn fields<'a>(self, tokens: &Tokens<'a>) -> Parse<'a, Vec<WrittenField<'a>>>
-        ensures { Gives (λ v. map field_of v.items) result (parts.fields self.last (limits_of self.limits) tokens.now) }
+        ensures { Gives (λ v. map field_of v.items) result
+            (parts.fields self.last (limits_of self.limits) tokens.now) }
     {
         let (first, rest) = self.field(tokens)?;
         let mut fields = Vec::new(self.alloc);
@@ -122,7 +126,8 @@ impl Reader {
         token: &Token<'a>,
         tokens: &Tokens<'a>,
     ) -> Parse<'a, WrittenStruct<'a>>
-        ensures { Gives struct_of result (parts.struct_parts self.last (limits_of self.limits) token.now tokens.now) }
+        ensures { Gives struct_of result
+            (parts.struct_parts self.last (limits_of self.limits) token.now tokens.now) }
     {
         let (name, rest) = self.name(tokens)?;
         let rest = self.word(&rest, b"{")?;
@@ -142,7 +147,8 @@ impl Reader {
         token: &Token<'a>,
         tokens: &Tokens<'a>,
     ) -> Parse<'a, WrittenStruct<'a>>
-        ensures { Gives struct_of result (parsing.parse_struct self.last (limits_of self.limits) token.now tokens.now) }
+        ensures { Gives struct_of result
+            (parsing.parse_struct self.last (limits_of self.limits) token.now tokens.now) }
     {
         self.struct_of_parts(token, tokens)
     }

@@ -181,7 +181,8 @@ fn is_plain_numeral(text: &[u8]) -> bool
 
 /// The literal that is written so: `0`, or digits without a leading 0, of at most 63 bits.
 pub(crate) fn literal_of_text(text: &[u8]) -> Option<Number>
-    ensures { MatchOption result (is_literal text.now ≡ false) (λ number. (is_literal text.now ≡ true) × (number.value ≡ digits_value 0 text.now)) }
+    ensures { MatchOption result (is_literal text.now ≡ false)
+        (λ number. (is_literal text.now ≡ true) × (number.value ≡ digits_value 0 text.now)) }
 {
     if !is_plain_numeral(text) {
         return None;

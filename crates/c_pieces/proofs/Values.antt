@@ -425,7 +425,8 @@ module _ (laws : RowLaws) (local : LocalSystem) (schedule : SystemSchedule) (par
               (disabled-rests m.tick.parent local.control m.tick.trigger m.tick.controls
               (second (is_reset_outport r.kind) (is_disabled local m) is))
 
-      as-run : (steps : ℕ) → steps + value_steps r.op ≤ step_limit → reset ≡ false → IsReset false steps → (b : Bool) → row_runs local m r ≡ b →
+      as-run : (steps : ℕ) → steps + value_steps r.op ≤ step_limit → reset ≡ false → IsReset false steps → (b : Bool) →
+          row_runs local m r ≡ b →
           Done steps
       as-run steps room none first true runs =
           let c = computes-value runs in
@@ -468,7 +469,9 @@ module _ (laws : RowLaws) (local : LocalSystem) (schedule : SystemSchedule) (par
           (stores-nothing (stored_once f))
 
       done-at : (steps : ℕ) → steps + value_steps r.op ≤ step_limit → Done steps
-      done-at steps room = by reset refl (resets steps (let least = at-least in omega (arith, room, least)) (is_reset_outport r.kind) (is_disabled local m) refl refl)
+      done-at steps room =
+          by reset refl (resets steps (let least = at-least in omega (arith, room, least)) (is_reset_outport r.kind)
+          (is_disabled local m) refl refl)
         where
           by : (q : Bool) → reset ≡ q → IsReset q steps → Done steps
           by true is first = as-reset steps room is first

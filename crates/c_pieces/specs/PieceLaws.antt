@@ -1,4 +1,5 @@
--- That the code of each row, memory, trigger and child is right in a procedure that has the parameters which it reads.
+-- That the code of each row, memory, trigger and child is right in a procedure that has the
+-- parameters which it reads.
 use Rattle.std.specs.Prelude.{◌≡◌, ℕ, ◌<◌, ◌≤◌, true, List, length, slice_get, Contains, Some}
 use Rattle.mc_blocks.specs.Meaning.{has_value}
 use Rattle.mc_diagram.specs.Rows.{is_inport, port_of, is_enabled, is_triggered}
@@ -31,7 +32,8 @@ pub record HasParams (local : LocalSystem) (params : List ParamTree) : Type 0 wh
 -- P holds in each such procedure of each system that is emitted
 abbrev pub InEachProcedure : (LocalSystem → SystemSchedule → List ParamTree → Type 0) → Type 0
 InEachProcedure P =
-    (local : LocalSystem) (profile : SystemProfile) (schedule : SystemSchedule) (params : List ParamTree) →
+    (local : LocalSystem) (profile : SystemProfile) (schedule : SystemSchedule)
+    (params : List ParamTree) →
     IsEmitted local profile schedule → HasParams local params → P local schedule params
 
 -- the code of a row gives its value; that of an Inport stands where its input is a parameter
@@ -39,29 +41,34 @@ abbrev pub ValuesAreGiven : Type 0
 ValuesAreGiven = InEachProcedure (λ local schedule params.
     (r : LocalRow) → Contains local.rows r → has_value r.kind ≡ true →
     (is_inport r.kind ≡ true → HasParam params (input_name (port_of r.kind))) →
-    IsValueCode local (code_slots local schedule) (own_count schedule) params r (value_code local params r))
+    IsValueCode local (code_slots local schedule) (own_count schedule) params r
+    (value_code local params r))
 
 -- the code of a memory makes it that of the next tick
 abbrev pub MemoriesAreGiven : Type 0
 MemoriesAreGiven = InEachProcedure (λ local schedule params.
     (r : LocalRow) → Contains local.rows r → is_single r.op ≡ true →
-    IsMemoryCode local (code_slots local schedule) (own_count schedule) params r (memory_code local params r))
+    IsMemoryCode local (code_slots local schedule) (own_count schedule) params r
+    (memory_code local params r))
 
 abbrev pub RingsAreGiven : Type 0
 RingsAreGiven = InEachProcedure (λ local schedule params.
     (r : LocalRow) → Contains local.rows r → is_line r.op ≡ true →
-    IsRingCode local (code_slots local schedule) (own_count schedule) params r (memory_code local params r))
+    IsRingCode local (code_slots local schedule) (own_count schedule) params r
+    (memory_code local params r))
 
 -- the trigger remembers its level
 abbrev pub TriggersAreRemembered : Type 0
 TriggersAreRemembered = InEachProcedure (λ local schedule params.
-    is_triggered local.control ≡ true → IsTriggerCode local (code_slots local schedule) (own_count schedule) params
+    is_triggered local.control ≡ true →
+    IsTriggerCode local (code_slots local schedule) (own_count schedule) params
     (trigger_code local params))
 
 -- calls of a child's function, of its update and of its reset are these acts on it
 abbrev pub CallsAreActs : Type 0
 CallsAreActs = InEachProcedure (λ local schedule params.
-    (f k j : ℕ) (u : ChildUse) → slice_get (code_slots local schedule) f ≡ Some (instance k u) → 0 < j →
+    (f k j : ℕ) (u : ChildUse) → slice_get (code_slots local schedule) f ≡ Some (instance k u) →
+    0 < j →
     j ≤ length (header_functions u.header) →
     IsCallCode local (code_slots local schedule) (own_count schedule) params f k u j
     (call_code local (own_count schedule) params k u j))

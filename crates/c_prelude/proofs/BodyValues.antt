@@ -36,7 +36,8 @@ halved_is h = omega arith
 
 -- ---- Rounding
 
-module _ (functions : List Function) (line : ℕ) (v : ℤ) (d h : ℕ) (even : d ≡ h + h) (some : 1 ≤ h) (small_v : unsigned_abs v ≤ 2 ^ 62) (small_d : d ≤ 2 ^ 62) where
+module _ (functions : List Function) (line : ℕ) (v : ℤ) (d h : ℕ) (even : d ≡ h + h) (some : 1 ≤ h)
+    (small_v : unsigned_abs v ≤ 2 ^ 62) (small_d : d ≤ 2 ^ 62) where
   abbrev leaf : Reads
   leaf = reads (v ∷ pos d ∷ []) no_cells
 
@@ -115,13 +116,17 @@ module _ (functions : List Function) (line : ℕ) (v : ℤ) (d h : ℕ) (even : 
       (holds_compare functions leaf line Ge rest half r (pos h) rest_is half_is)
       (holds_compare functions leaf line Le rest minus_half r (neg_ℤ (pos h)) rest_is minus_half_is)
   body_is Convergent =
-      nearer_is (either (compare Gt rest half) (both (compare Eq rest half) is_odd)) (either (compare Lt rest minus_half) (both (compare Eq rest minus_half) is_odd))
-      (int_lt (pos h) r || (int_eq r (pos h) && division.is_odd q)) (int_lt r (neg_ℤ (pos h)) || (int_eq r (neg_ℤ (pos h)) && division.is_odd q))
-      (holds_either functions leaf line (compare Gt rest half) (both (compare Eq rest half) is_odd) (int_lt (pos h) r) (int_eq r (pos h) && division.is_odd q)
+      nearer_is (either (compare Gt rest half) (both (compare Eq rest half) is_odd))
+      (either (compare Lt rest minus_half) (both (compare Eq rest minus_half) is_odd))
+      (int_lt (pos h) r || (int_eq r (pos h) && division.is_odd q))
+      (int_lt r (neg_ℤ (pos h)) || (int_eq r (neg_ℤ (pos h)) && division.is_odd q))
+      (holds_either functions leaf line (compare Gt rest half) (both (compare Eq rest half) is_odd) (int_lt (pos h) r)
+      (int_eq r (pos h) && division.is_odd q)
       (holds_compare functions leaf line Gt rest half r (pos h) rest_is half_is)
       (holds_both functions leaf line (compare Eq rest half) is_odd (int_eq r (pos h)) (division.is_odd q)
       (holds_compare functions leaf line Eq rest half r (pos h) rest_is half_is) odd_is))
-      (holds_either functions leaf line (compare Lt rest minus_half) (both (compare Eq rest minus_half) is_odd) (int_lt r (neg_ℤ (pos h))) (int_eq r (neg_ℤ (pos h)) && division.is_odd q)
+      (holds_either functions leaf line (compare Lt rest minus_half) (both (compare Eq rest minus_half) is_odd)
+      (int_lt r (neg_ℤ (pos h))) (int_eq r (neg_ℤ (pos h)) && division.is_odd q)
       (holds_compare functions leaf line Lt rest minus_half r (neg_ℤ (pos h)) rest_is minus_half_is)
       (holds_both functions leaf line (compare Eq rest minus_half) is_odd (int_eq r (neg_ℤ (pos h))) (division.is_odd q)
       (holds_compare functions leaf line Eq rest minus_half r (neg_ℤ (pos h)) rest_is minus_half_is) odd_is))
@@ -140,7 +145,9 @@ module _ (functions : List Function) (line : ℕ) (v lo third : ℤ) where
 
   pub clamp_gives : Gives functions three line clamp_body (cond (int_lt v lo) lo (cond (int_lt third v) third v))
   clamp_gives =
-      gives_pick functions three line (compare Lt (argument 0) (argument 1)) (argument 1) (pick (compare Gt (argument 0) (argument 2)) (argument 2) (argument 0)) (int_lt v lo) lo (cond (int_lt third v) third v)
+      gives_pick functions three line (compare Lt (argument 0) (argument 1)) (argument 1)
+      (pick (compare Gt (argument 0) (argument 2)) (argument 2) (argument 0)) (int_lt v lo) lo
+      (cond (int_lt third v) third v)
       (holds_compare functions three line Lt (argument 0) (argument 1) v lo (among 0) (among 1)) (among 1)
       (gives_pick functions three line (compare Gt (argument 0) (argument 2)) (argument 2) (argument 0) (int_lt third v) third v
       (holds_compare functions three line Gt (argument 0) (argument 2) v third (among 0) (among 2)) (among 2) (among 0))
@@ -161,14 +168,18 @@ euclid_is m n h true e =
     let small = rem_below m (pos n) h in
     let (r, below, split, is) = euclid m n h in
     let less = division.one_less (int_div m (pos n)) n in
-    let same = close (int_div m (pos n) -ℤ pos 1) (floor_div m n) n (omega (arith, ints, s, small, below, split, less, e)) (omega (arith, ints, s, small, below, split, less, e)) in
+    let same =
+    close (int_div m (pos n) -ℤ pos 1) (floor_div m n) n (omega (arith, ints, s, small, below, split, less, e))
+    (omega (arith, ints, s, small, below, split, less, e)) in
     let times = ap (λ k. k *ℤ pos n) same in
     omega (arith, ints, s, split, is, less, times)
 euclid_is m n h false e =
     let s = quot-rem m (pos n) in
     let small = rem_below m (pos n) h in
     let (r, below, split, is) = euclid m n h in
-    let same = close (int_div m (pos n)) (floor_div m n) n (omega (arith, ints, s, small, below, split, e)) (omega (arith, ints, s, small, below, split, e)) in
+    let same =
+    close (int_div m (pos n)) (floor_div m n) n (omega (arith, ints, s, small, below, split, e))
+    (omega (arith, ints, s, small, below, split, e)) in
     let times = ap (λ k. k *ℤ pos n) same in
     omega (arith, ints, s, split, is, times)
 
@@ -179,7 +190,8 @@ quotient-abs : (m : ℤ) (n : ℕ) → 1 ≤ n → unsigned_abs (int_div m (pos 
 quotient-abs (pos a) n h = part_of a n h
 quotient-abs (negsuc a) n h = omega (arith, ints, division.abs-neg (suc a / n), part_of (suc a) n h)
 
-module _ (functions : List Function) (line : ℕ) (v lo : ℤ) (n : ℕ) (some : 1 ≤ n) (small_n : n ≤ 2 ^ 32) (low : neg_ℤ (pos (2 ^ 31)) ≤ℤ lo) (high : lo ≤ℤ pos 0) (small_v : unsigned_abs v ≤ 2 ^ 62) where
+module _ (functions : List Function) (line : ℕ) (v lo : ℤ) (n : ℕ) (some : 1 ≤ n) (small_n : n ≤ 2 ^ 32)
+    (low : neg_ℤ (pos (2 ^ 31)) ≤ℤ lo) (high : lo ≤ℤ pos 0) (small_v : unsigned_abs v ≤ 2 ^ 62) where
   abbrev wrapping : Reads
   wrapping = reads (v ∷ lo ∷ pos n ∷ []) no_cells
 
@@ -206,7 +218,9 @@ module _ (functions : List Function) (line : ℕ) (v lo : ℤ) (n : ℕ) (some :
     where
       picked : Gives functions wrapping line wrap_body (cond (int_lt t (pos 0)) ((t +ℤ pos n) +ℤ lo) (t +ℤ lo))
       picked =
-          gives_pick functions wrapping line (compare Lt offset_rest (literal (pos 0))) (binary Add (binary Add offset_rest (argument 2)) (argument 1)) (binary Add offset_rest (argument 1)) (int_lt t (pos 0)) ((t +ℤ pos n) +ℤ lo) (t +ℤ lo)
+          gives_pick functions wrapping line (compare Lt offset_rest (literal (pos 0)))
+          (binary Add (binary Add offset_rest (argument 2)) (argument 1)) (binary Add offset_rest (argument 1))
+          (int_lt t (pos 0)) ((t +ℤ pos n) +ℤ lo) (t +ℤ lo)
           (holds_compare functions wrapping line Lt offset_rest (literal (pos 0)) t (pos 0) offset_is
           (gives_literal functions wrapping line (pos 0)))
           (gives_add functions wrapping line (binary Add offset_rest (argument 2)) (argument 1) (t +ℤ pos n) lo

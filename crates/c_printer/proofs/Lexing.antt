@@ -21,27 +21,36 @@ pub record IsTokenBefore (text rest : List ℕ) : Type 0 where
   pub one_line : (line : ℕ) → lines_after line text ≡ line
 
 -- the tokens that begin with it
-pub tokens_from-token : (text rest : List ℕ) (line : ℕ) → IsTokenBefore text rest → tokens_from 0 line (text ++ rest) ≡ record { text = text; line = reported_number line } ∷ tokens_from 0 line rest
+pub tokens_from-token : (text rest : List ℕ) (line : ℕ) → IsTokenBefore text rest →
+    tokens_from 0 line (text ++ rest) ≡ record { text = text; line = reported_number line } ∷ tokens_from 0 line rest
 tokens_from-token text rest line t =
     let more : ℕ → List Token = λ n. tokens_from n (line_after t.first line) (t.later ++ rest) in
     let size : length text - 1 ≡ length t.later = ap (λ x. length x - 1) t.list ∙ omega arith in
-    ap (λ x. tokens_from 0 line (x ++ rest)) t.list ∙ ap (λ p. piece_tokens p line more) t.piece ∙ ap (λ n. record { text = text; line = reported_number line } ∷ more n) size ∙ ap (λ x. record { text = text; line = reported_number line } ∷ x) (tokens_from-skip t.later rest (line_after t.first line) ∙ ap (λ n. tokens_from 0 n rest) (sym (ap (lines_after line) t.list) ∙ t.one_line line))
+    ap (λ x. tokens_from 0 line (x ++ rest)) t.list ∙ ap (λ p. piece_tokens p line more) t.piece
+    ∙ ap (λ n. record { text = text; line = reported_number line } ∷ more n) size
+    ∙ ap (λ x. record { text = text; line = reported_number line } ∷ x)
+    (tokens_from-skip t.later rest (line_after t.first line)
+    ∙ ap (λ n. tokens_from 0 n rest) (sym (ap (lines_after line) t.list) ∙ t.one_line line))
 
 -- all of the bytes that pass, and none of those behind
 pub take_while-all : (p : ℕ → Bool) (xs ys : List ℕ) → list_all p xs ≡ true → take_while p ys ≡ [] → take_while p (xs ++ ys) ≡ xs
 take_while-all p [] ys all none = none
 take_while-all p (x ∷ xs) ys all none =
-    take_while-cons p x (xs ++ ys) ∙ ap (λ b. if b then x ∷ take_while p (xs ++ ys) else []) (and_first (p x) (list_all p xs) all) ∙ ap (λ l. x ∷ l) (take_while-all p xs ys (and_second (p x) (list_all p xs) all) none)
+    take_while-cons p x (xs ++ ys)
+    ∙ ap (λ b. if b then x ∷ take_while p (xs ++ ys) else []) (and_first (p x) (list_all p xs) all)
+    ∙ ap (λ l. x ∷ l) (take_while-all p xs ys (and_second (p x) (list_all p xs) all) none)
 
 -- a byte that passes a test is none that fails it
 pub differs : (test : ℕ → Bool) (b c : ℕ) → test b ≡ true → test c ≡ false → (b == c) ≡ false
 differs test b c passes fails = ne_eqb b c (λ e. cc (sym passes ∙ ap test e ∙ fails))
 
 -- bytes that are letters, digits or `_` end no line
-pub words_on_one_line : (test : ℕ → Bool) → test 10 ≡ false → (xs : List ℕ) → list_all test xs ≡ true → (line : ℕ) → lines_after line xs ≡ line
+pub words_on_one_line : (test : ℕ → Bool) → test 10 ≡ false → (xs : List ℕ) → list_all test xs ≡ true → (line : ℕ) →
+    lines_after line xs ≡ line
 words_on_one_line test fails [] all line = refl
 words_on_one_line test fails (x ∷ xs) all line =
-    let same : line_after x line ≡ line = ap (λ b. if b then line + 1 else line) (differs test x 10 (and_first (test x) (list_all test xs) all) fails) in
+    let same : line_after x line ≡ line =
+    ap (λ b. if b then line + 1 else line) (differs test x 10 (and_first (test x) (list_all test xs) all) fails) in
     ap (λ n. lines_after n xs) same ∙ words_on_one_line test fails xs (and_second (test x) (list_all test xs) all) line
 
 or_all_false : (a b c d : Bool) → a ≡ false → b ≡ false → c ≡ false → d ≡ false → (a || b || c || d) ≡ false
@@ -54,13 +63,20 @@ or_all_false false b c d e f g h = or_three b c d f g h
 or_all_false true b c d e f g h = cc
 
 -- what passes such a test is no blank
-pub not_blank : (test : ℕ → Bool) (b : ℕ) → test b ≡ true → test 32 ≡ false → test 9 ≡ false → test 10 ≡ false → test 13 ≡ false → is_white_space b ≡ false
+pub not_blank : (test : ℕ → Bool) (b : ℕ) → test b ≡ true → test 32 ≡ false → test 9 ≡ false → test 10 ≡ false →
+    test 13 ≡ false → is_white_space b ≡ false
 not_blank test b passes space tab end return =
-    or_all_false (b == 32) (b == 9) (b == 10) (b == 13) (differs test b 32 passes space) (differs test b 9 passes tab) (differs test b 10 passes end) (differs test b 13 passes return)
+    or_all_false (b == 32) (b == 9) (b == 10) (b == 13) (differs test b 32 passes space) (differs test b 9 passes tab)
+    (differs test b 10 passes end) (differs test b 13 passes return)
 
 -- what a lower-case letter begins
 pub class_of-lower : (b : ℕ) → is_lower b ≡ true → class_of b ≡ word_class
-class_of-lower b lower = rw (not_blank is_lower b lower refl refl refl refl, or_first (is_lower b || (nat_le 65 b && nat_le b 90)) (b == 95) (or_first (is_lower b) (nat_le 65 b && nat_le b 90) lower)) refl
+class_of-lower b lower =
+    rw (
+      not_blank is_lower b lower refl refl refl refl,
+      or_first (is_lower b || (nat_le 65 b && nat_le b 90)) (b == 95)
+          (or_first (is_lower b) (nat_le 65 b && nat_le b 90) lower),
+    ) refl
 
 -- a digit begins no word
 no_word_start : (b : ℕ) → b ≤ 57 → is_word_start b ≡ false
@@ -88,8 +104,16 @@ name-parts (b ∷ bs) h =
     let c : Bool = starts_lower text && list_all is_word_byte text in
     let d : Bool = c && not (ends_with text (codes "_t")) in
     let e : Bool = d && not (list_any (bytes_eq text) keywords) in
-    let both : c ≡ true = and_first c (not (ends_with text (codes "_t"))) (and_first d (not (list_any (bytes_eq text) keywords)) (and_first e (not (bytes_eq text (codes "s"))) h)) in
-    record { first = b; later = bs; list = refl; lower = and_first (is_lower b) (list_all is_word_byte text) both; bytes = and_second (is_lower b) (list_all is_word_byte text) both }
+    let both : c ≡ true =
+    and_first c (not (ends_with text (codes "_t")))
+    (and_first d (not (list_any (bytes_eq text) keywords)) (and_first e (not (bytes_eq text (codes "s"))) h)) in
+    record {
+      first = b;
+      later = bs;
+      list = refl;
+      lower = and_first (is_lower b) (list_all is_word_byte text) both;
+      bytes = and_second (is_lower b) (list_all is_word_byte text) both;
+    }
 
 -- a name is one token where no letter, digit or `_` follows
 pub name-token : (name rest : List ℕ) → is_name name ≡ true → take_while is_word_byte rest ≡ [] → IsTokenBefore name rest
@@ -99,7 +123,10 @@ name-token name rest h none =
       first = p.first;
       later = p.later;
       list = p.list;
-      piece = ap (λ c. piece_of c p.first (p.later ++ rest)) (class_of-lower p.first p.lower) ∙ ap (λ x. token (p.first ∷ x)) (take_while-all is_word_byte p.later rest (and_second (is_word_byte p.first) (list_all is_word_byte p.later) p.bytes) none) ∙ ap token (sym p.list);
+      piece = ap (λ c. piece_of c p.first (p.later ++ rest)) (class_of-lower p.first p.lower)
+          ∙ ap (λ x. token (p.first ∷ x))
+          (take_while-all is_word_byte p.later rest
+          (and_second (is_word_byte p.first) (list_all is_word_byte p.later) p.bytes) none) ∙ ap token (sym p.list);
       one_line = λ line. ap (lines_after line) p.list ∙ words_on_one_line is_word_byte refl (p.first ∷ p.later) p.bytes line;
     }
 
@@ -113,6 +140,10 @@ decimal-token n rest small none = by (decimal n) (numeral n (omega (arith, small
       first = d;
       later = ds;
       list = refl;
-      piece = ap (λ c. piece_of c d (ds ++ rest)) (class_of-digit d (and_first (is_ascii_digit d) (list_all is_ascii_digit ds) k.all)) ∙ ap (λ x. token (d ∷ x)) (take_while-all is_ascii_digit ds rest (and_second (is_ascii_digit d) (list_all is_ascii_digit ds) k.all) none);
+      piece = ap (λ c. piece_of c d (ds ++ rest))
+          (class_of-digit d (and_first (is_ascii_digit d) (list_all is_ascii_digit ds) k.all))
+          ∙ ap (λ x. token (d ∷ x))
+          (take_while-all is_ascii_digit ds rest (and_second (is_ascii_digit d) (list_all is_ascii_digit ds) k.all)
+          none);
       one_line = words_on_one_line is_ascii_digit refl (d ∷ ds) k.all;
     }

@@ -12,50 +12,86 @@ use Rattle.c_syntax.specs.Tree.{ExprTree, StmtTrees, item, assign_at, branch, Fi
 use Rattle.c_syntax.specs.Plain.{expr_tree, cond_tree, stmt_tree}
 use Rattle.c_printer.specs.Printing.{Vocabulary, field_name, expr_bytes, cond_bytes, later_exprs_bytes, arguments_bytes, stmt_bytes, stmts_bytes, else_bytes, pure_head_bytes, pure_bytes, procedure_head_bytes, procedure_bytes, margin_bytes, deeper, ended}
 
-pub later_exprs_bytes-flat : (v : Vocabulary) (es : List Expr) → later_exprs_bytes v (exprs_of_list (map expr_tree es)) ≡ flat_map (λ e. codes ", " ++ expr_bytes v (expr_tree e)) es
+pub later_exprs_bytes-flat : (v : Vocabulary) (es : List Expr) →
+    later_exprs_bytes v (exprs_of_list (map expr_tree es)) ≡ flat_map (λ e. codes ", " ++ expr_bytes v (expr_tree e)) es
 later_exprs_bytes-flat v [] = refl
 later_exprs_bytes-flat v (e ∷ es) = ap (λ x. (codes ", " ++ expr_bytes v (expr_tree e)) ++ x) (later_exprs_bytes-flat v es)
 
-pub stmts_bytes-flat : (v : Vocabulary) (margin : ℕ) (ss : List Stmt) → stmts_bytes v margin (stmts_of_list (map stmt_tree ss)) ≡ flat_map (λ s. stmt_bytes v margin (stmt_tree s)) ss
+pub stmts_bytes-flat : (v : Vocabulary) (margin : ℕ) (ss : List Stmt) →
+    stmts_bytes v margin (stmts_of_list (map stmt_tree ss)) ≡ flat_map (λ s. stmt_bytes v margin (stmt_tree s)) ss
 stmts_bytes-flat v margin [] = refl
 stmts_bytes-flat v margin (s ∷ ss) = ap (λ x. stmt_bytes v margin (stmt_tree s) ++ x) (stmts_bytes-flat v margin ss)
 
 -- an item of an array
-pub item_bytes-put : (v : Vocabulary) (f : ℕ) (e index read : Expr) (out with_start name with_name with_open with_index : List ℕ) → expr_tree e ≡ item f (expr_tree index) → read ≡ index → name ≡ field_name v.fields f → with_start ≡ out ++ codes "(int64_t)s->" → with_name ≡ with_start ++ name → with_open ≡ with_name ++ codes "[" → with_index ≡ with_open ++ expr_bytes v (expr_tree read) → with_index ++ codes "]" ≡ out ++ expr_bytes v (expr_tree e)
+pub item_bytes-put : (v : Vocabulary) (f : ℕ) (e index read : Expr)
+    (out with_start name with_name with_open with_index : List ℕ) → expr_tree e ≡ item f (expr_tree index) →
+    read ≡ index → name ≡ field_name v.fields f → with_start ≡ out ++ codes "(int64_t)s->" →
+    with_name ≡ with_start ++ name → with_open ≡ with_name ++ codes "[" →
+    with_index ≡ with_open ++ expr_bytes v (expr_tree read) →
+    with_index ++ codes "]" ≡ out ++ expr_bytes v (expr_tree e)
 item_bytes-put v f e index read out with_start name with_name with_open with_index is same named a b c d =
-    rw (is, d, c, b, a, named, same) (regrouped out (codes "(int64_t)s->") (field_name v.fields f) (codes "[") (expr_bytes v (expr_tree index)) (codes "]"))
+    rw (is, d, c, b, a, named, same)
+    (regrouped out (codes "(int64_t)s->") (field_name v.fields f) (codes "[") (expr_bytes v (expr_tree index))
+    (codes "]"))
   where
     regrouped : (o s n b i c : List ℕ) → ((((o ++ s) ++ n) ++ b) ++ i) ++ c ≡ o ++ ((((s ++ n) ++ b) ++ i) ++ c)
     regrouped o s n b i c = simp append_assoc
 
 -- a store in an item of an array
-pub set_at_bytes-put : (v : Vocabulary) (margin f : ℕ) (index value : ExprTree) (out with_margin with_start name with_name with_open with_index with_close : List ℕ) → name ≡ field_name v.fields f → with_margin ≡ out ++ margin_bytes margin → with_start ≡ with_margin ++ codes "s->" → with_name ≡ with_start ++ name → with_open ≡ with_name ++ codes "[" → with_index ≡ with_open ++ expr_bytes v index → with_close ≡ with_index ++ codes "] = (" →
-    with_close ++ (type_text (type_at (field_types v.fields) f) ++ codes ")" ++ expr_bytes v value ++ ended (codes ";")) ≡ out ++ stmt_bytes v margin (assign_at 0 f index value)
+pub set_at_bytes-put : (v : Vocabulary) (margin f : ℕ) (index value : ExprTree)
+    (out with_margin with_start name with_name with_open with_index with_close : List ℕ) →
+    name ≡ field_name v.fields f → with_margin ≡ out ++ margin_bytes margin → with_start ≡ with_margin ++ codes "s->" →
+    with_name ≡ with_start ++ name → with_open ≡ with_name ++ codes "[" → with_index ≡ with_open ++ expr_bytes v index →
+    with_close ≡ with_index ++ codes "] = (" →
+    with_close ++ (type_text (type_at (field_types v.fields) f) ++ codes ")" ++ expr_bytes v value ++ ended (codes ";"))
+    ≡ out ++ stmt_bytes v margin (assign_at 0 f index value)
 set_at_bytes-put v margin f index value out with_margin with_start name with_name with_open with_index with_close named a b c d e g =
-    rw (g, e, d, c, b, a, named) (regrouped out (margin_bytes margin) (codes "s->") (field_name v.fields f) (codes "[") (expr_bytes v index) (codes "] = (") (type_text (type_at (field_types v.fields) f)) (codes ")") (expr_bytes v value) (ended (codes ";")))
+    rw (g, e, d, c, b, a, named) (regrouped out (margin_bytes margin) (codes "s->") (field_name v.fields f) (codes "[")
+    (expr_bytes v index) (codes "] = (") (type_text (type_at (field_types v.fields) f)) (codes ")")
+    (expr_bytes v value) (ended (codes ";")))
   where
-    regrouped : (o m s n b i c t p e z : List ℕ) → ((((((o ++ m) ++ s) ++ n) ++ b) ++ i) ++ c) ++ (((t ++ p) ++ e) ++ z) ≡ o ++ (((((((((m ++ s) ++ n) ++ b) ++ i) ++ c) ++ t) ++ p) ++ e) ++ z)
+    regrouped : (o m s n b i c t p e z : List ℕ) → ((((((o ++ m) ++ s) ++ n) ++ b) ++ i) ++ c)
+        ++ (((t ++ p) ++ e) ++ z) ≡ o ++ (((((((((m ++ s) ++ n) ++ b) ++ i) ++ c) ++ t) ++ p) ++ e) ++ z)
     regrouped o m s n b i c t p e z = simp append_assoc
 
 -- a second block that is not empty
-pub else_bytes-put : (v : Vocabulary) (margin : ℕ) (ss : List Stmt) (out with_margin with_else : List ℕ) (inner : ℕ) → length ss ≢ 0 → with_margin ≡ out ++ margin_bytes margin → with_else ≡ with_margin ++ ended (codes "} else {") → inner ≡ deeper margin → with_else ++ stmts_bytes v inner (stmts_of_list (map stmt_tree ss)) ≡ out ++ else_bytes v margin (stmts_of_list (map stmt_tree ss))
+pub else_bytes-put : (v : Vocabulary) (margin : ℕ) (ss : List Stmt) (out with_margin with_else : List ℕ) (inner : ℕ) →
+    length ss ≢ 0 → with_margin ≡ out ++ margin_bytes margin → with_else ≡ with_margin ++ ended (codes "} else {") →
+    inner ≡ deeper margin → with_else ++ stmts_bytes v inner (stmts_of_list (map stmt_tree ss)) ≡ out
+    ++ else_bytes v margin (stmts_of_list (map stmt_tree ss))
 else_bytes-put v margin [] out with_margin with_else inner some e d k = absurd (some refl)
 else_bytes-put v margin (s ∷ ss) out with_margin with_else inner some e d k = rw (d, e, k) (simp append_assoc)
 
 -- a choice
-pub branch_bytes-put : (v : Vocabulary) (margin : ℕ) (test : Cond) (on_true on_false : List Stmt) (out with_test with_yes with_no : List ℕ) (inner : ℕ) (yes_read no_read : List Stmt) → with_test ≡ out ++ (margin_bytes margin ++ codes "if " ++ cond_bytes v (cond_tree test) ++ ended (codes " {")) → with_yes ≡ with_test ++ stmts_bytes v inner (stmts_of_list (map stmt_tree yes_read)) → with_no ≡ with_yes ++ else_bytes v margin (stmts_of_list (map stmt_tree no_read)) → inner ≡ deeper margin → yes_read ≡ on_true → no_read ≡ on_false → with_no ++ (margin_bytes margin ++ ended (codes "}")) ≡ out ++ stmt_bytes v margin (branch 0 (cond_tree test) (stmts_of_list (map stmt_tree on_true)) (stmts_of_list (map stmt_tree on_false)))
-branch_bytes-put v margin test on_true on_false out with_test with_yes with_no inner yes_read no_read e d k i y n = rw (k, d, e, i, y, n) (simp append_assoc)
+pub branch_bytes-put : (v : Vocabulary) (margin : ℕ) (test : Cond) (on_true on_false : List Stmt)
+    (out with_test with_yes with_no : List ℕ) (inner : ℕ) (yes_read no_read : List Stmt) →
+    with_test ≡ out ++ (margin_bytes margin ++ codes "if " ++ cond_bytes v (cond_tree test) ++ ended (codes " {")) →
+    with_yes ≡ with_test ++ stmts_bytes v inner (stmts_of_list (map stmt_tree yes_read)) →
+    with_no ≡ with_yes ++ else_bytes v margin (stmts_of_list (map stmt_tree no_read)) → inner ≡ deeper margin →
+    yes_read ≡ on_true → no_read ≡ on_false → with_no ++ (margin_bytes margin ++ ended (codes "}")) ≡ out
+    ++ stmt_bytes v margin
+    (branch 0 (cond_tree test) (stmts_of_list (map stmt_tree on_true)) (stmts_of_list (map stmt_tree on_false)))
+branch_bytes-put v margin test on_true on_false out with_test with_yes with_no inner yes_read no_read e d k i y n =
+    rw (k, d, e, i, y, n) (simp append_assoc)
 
 -- the arguments from a position on
 abbrev pub arguments_after : {A : Type 0} → Vocabulary → List (A × CType) → List Expr → ℕ → List ℕ
 arguments_after v params values n = arguments_bytes v (map (λ q. q.1) (drop n params)) (exprs_of_list (map expr_tree (drop n values)))
 
 -- one more argument
-pub arguments_after-more : {A : Type 0} (v : Vocabulary) (params : List (A × CType)) (values : List Expr) (n m : ℕ) (p : A × CType) (e : Expr) (type out after_open after_type after_close after_value : List ℕ) → n < length params → n < length values → p ≡ get_or params n p → e ≡ get_or values n e → m ≡ n + 1 → type ≡ type_text p.1 → after_open ≡ out ++ codes ", (" → after_type ≡ after_open ++ type → after_close ≡ after_type ++ codes ")" → after_value ≡ after_close ++ expr_bytes v (expr_tree e) → after_value ++ arguments_after v params values m ≡ out ++ arguments_after v params values n
-arguments_after-more v params values n m p e type out after_open after_type after_close after_value in_params in_values this_param this_value next t a b c d =
+pub arguments_after-more : {A : Type 0} (v : Vocabulary) (params : List (A × CType)) (values : List Expr) (n m : ℕ)
+    (p : A × CType) (e : Expr) (type out after_open after_type after_close after_value : List ℕ) → n < length params →
+    n < length values → p ≡ get_or params n p → e ≡ get_or values n e → m ≡ n + 1 → type ≡ type_text p.1 →
+    after_open ≡ out ++ codes ", (" → after_type ≡ after_open ++ type → after_close ≡ after_type ++ codes ")" →
+    after_value ≡ after_close ++ expr_bytes v (expr_tree e) → after_value ++ arguments_after v params values m ≡ out
+    ++ arguments_after v params values n
+arguments_after-more v params values n m p e type out after_open after_type after_close after_value in_params in_values
+    this_param this_value next t a b c d =
     let step : suc n ≡ m = omega arith in
-    let params_drop : drop n params ≡ p ∷ drop m params = drop-cons params n p in_params ∙ ap (λ x. x ∷ drop (suc n) params) (sym this_param) ∙ ap (λ k. p ∷ drop k params) step in
-    let values_drop : drop n values ≡ e ∷ drop m values = drop-cons values n e in_values ∙ ap (λ x. x ∷ drop (suc n) values) (sym this_value) ∙ ap (λ k. e ∷ drop k values) step in
+    let params_drop : drop n params ≡ p ∷ drop m params = drop-cons params n p in_params
+    ∙ ap (λ x. x ∷ drop (suc n) params) (sym this_param) ∙ ap (λ k. p ∷ drop k params) step in
+    let values_drop : drop n values ≡ e ∷ drop m values = drop-cons values n e in_values
+    ∙ ap (λ x. x ∷ drop (suc n) values) (sym this_value) ∙ ap (λ k. e ∷ drop k values) step in
     rw (params_drop, values_drop, d, c, b, a, t) (simp append_assoc)
 
 -- no arguments where there are no types
@@ -64,7 +100,8 @@ arguments_bytes-none v no_exprs = refl
 arguments_bytes-none v (more_exprs e es) = refl
 
 -- the end of the arguments
-pub arguments_after-end : {A : Type 0} (v : Vocabulary) (params : List (A × CType)) (values : List Expr) (n : ℕ) → n ≡ min (length params) (length values) → arguments_after v params values n ≡ []
+pub arguments_after-end : {A : Type 0} (v : Vocabulary) (params : List (A × CType)) (values : List Expr) (n : ℕ) →
+    n ≡ min (length params) (length values) → arguments_after v params values n ≡ []
 arguments_after-end v params values n end = by (cases_lt n (length params))
   where
     by : (n < length params) ⊎ (length params ≤ n) → arguments_after v params values n ≡ []
@@ -72,20 +109,39 @@ arguments_after-end v params values n end = by (cases_lt n (length params))
     by (inr done) = rw (drop_all n params done) (arguments_bytes-none v (exprs_of_list (map expr_tree (drop n values))))
 
 -- one more text behind those of a list's first items
-pub flat_map-put : {A : Type 0} (text : A → List ℕ) (xs : List A) (i : ℕ) (x : A) (old out new : List ℕ) → i < length xs → x ≡ get_or xs i x → out ≡ old ++ flat_map text (take i xs) → new ≡ out ++ text x → new ≡ old ++ flat_map text (take (i + 1) xs)
+pub flat_map-put : {A : Type 0} (text : A → List ℕ) (xs : List A) (i : ℕ) (x : A) (old out new : List ℕ) →
+    i < length xs → x ≡ get_or xs i x → out ≡ old ++ flat_map text (take i xs) → new ≡ out ++ text x →
+    new ≡ old ++ flat_map text (take (i + 1) xs)
 flat_map-put text xs i x old out new within here so_far put =
-    put ∙ ap (λ y. y ++ text x) so_far ∙ flat_map_more text old (take i xs) x ∙ ap (λ y. old ++ flat_map text y) (sym (take_more xs i x within ∙ ap (λ y. take i xs ++ y ∷ []) (sym here)))
+    put ∙ ap (λ y. y ++ text x) so_far ∙ flat_map_more text old (take i xs) x
+    ∙ ap (λ y. old ++ flat_map text y) (sym (take_more xs i x within ∙ ap (λ y. take i xs ++ y ∷ []) (sym here)))
 
 -- a pure function
-pub pure_bytes-put : (p : ProgramTree) (q : PureTree) (params : List (List ℕ)) (out with_head with_return with_body : List ℕ) → with_head ≡ out ++ pure_head_bytes q → with_return ≡ with_head ++ codes "    return " → with_body ≡ with_return ++ expr_bytes (record { program = p; fields = []; params = params }) q.body → params ≡ q.params → with_body ++ (ended (codes ";") ++ ended (codes "}")) ≡ out ++ pure_bytes p q
-pure_bytes-put p q params out with_head with_return with_body a b c same = rw (c, b, a, same) (regrouped out (pure_head_bytes q) (codes "    return ") (expr_bytes (record { program = p; fields = []; params = q.params }) q.body) (ended (codes ";")) (ended (codes "}")))
+pub pure_bytes-put : (p : ProgramTree) (q : PureTree) (params : List (List ℕ))
+    (out with_head with_return with_body : List ℕ) → with_head ≡ out ++ pure_head_bytes q →
+    with_return ≡ with_head ++ codes "    return " →
+    with_body ≡ with_return ++ expr_bytes (record { program = p; fields = []; params = params }) q.body →
+    params ≡ q.params → with_body ++ (ended (codes ";") ++ ended (codes "}")) ≡ out ++ pure_bytes p q
+pure_bytes-put p q params out with_head with_return with_body a b c same =
+    rw (c, b, a, same)
+    (regrouped out (pure_head_bytes q) (codes "    return ")
+    (expr_bytes (record { program = p; fields = []; params = q.params }) q.body) (ended (codes ";"))
+    (ended (codes "}")))
   where
     regrouped : (o h r e y z : List ℕ) → (((o ++ h) ++ r) ++ e) ++ (y ++ z) ≡ o ++ ((((h ++ r) ++ e) ++ y) ++ z)
     regrouped o h r e y z = simp append_assoc
 
 -- a procedure
-pub procedure_bytes-put : (p : ProgramTree) (q : ProcedureTree) (fields : List FieldTree) (params : List (List ℕ)) (out with_head with_body : List ℕ) (body : StmtTrees) → with_head ≡ out ++ procedure_head_bytes p q → with_body ≡ with_head ++ stmts_bytes (record { program = p; fields = fields; params = params }) 4 body → fields ≡ struct_fields p.structs q.of → params ≡ map (λ x. x.name) q.params → body ≡ q.body → with_body ++ ended (codes "}") ≡ out ++ procedure_bytes p q
-procedure_bytes-put p q fields params out with_head with_body body a b same_fields same_params same_body = rw (b, a, same_fields, same_params, same_body) (regrouped out (procedure_head_bytes p q) (stmts_bytes (record { program = p; fields = struct_fields p.structs q.of; params = map (λ x. x.name) q.params }) 4 q.body) (ended (codes "}")))
+pub procedure_bytes-put : (p : ProgramTree) (q : ProcedureTree) (fields : List FieldTree) (params : List (List ℕ))
+    (out with_head with_body : List ℕ) (body : StmtTrees) → with_head ≡ out ++ procedure_head_bytes p q →
+    with_body ≡ with_head ++ stmts_bytes (record { program = p; fields = fields; params = params }) 4 body →
+    fields ≡ struct_fields p.structs q.of → params ≡ map (λ x. x.name) q.params → body ≡ q.body →
+    with_body ++ ended (codes "}") ≡ out ++ procedure_bytes p q
+procedure_bytes-put p q fields params out with_head with_body body a b same_fields same_params same_body =
+    rw (b, a, same_fields, same_params, same_body)
+    (regrouped out (procedure_head_bytes p q)
+    (stmts_bytes (record { program = p; fields = struct_fields p.structs q.of; params = map (λ x. x.name) q.params }) 4
+    q.body) (ended (codes "}")))
   where
     regrouped : (o h b z : List ℕ) → ((o ++ h) ++ b) ++ z ≡ o ++ ((h ++ b) ++ z)
     regrouped o h b z = simp append_assoc

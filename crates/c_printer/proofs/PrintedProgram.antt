@@ -40,15 +40,28 @@ later-name xs n ys h = (AreDistinct-back xs (n ∷ ys) h).0
 pub moved : {A : Type 0} (whole xs : List A) (y : A) (ys : List A) → whole ≡ xs ++ y ∷ ys → whole ≡ (xs ++ y ∷ []) ++ ys
 moved whole xs y ys e = e ∙ sym (append_assoc xs (y ∷ []) ys)
 
-pures-read : (p : ProgramTree) → AreDistinct (pure_names p.pures) → ((k : ℕ) (q : PureTree) → slice_get p.pures k ≡ Some q → 0 < length q.params) → (earlier later : List PureTree) → p.pures ≡ earlier ++ later → ArePures earlier later → (l : ℕ) (rest : List ℕ) → Reads (all_spelling pure_spelling (written_pures p l later)) l (flat_map (pure_bytes p) later ++ rest) (l + pures_lines later) rest
+pures-read : (p : ProgramTree) → AreDistinct (pure_names p.pures) →
+    ((k : ℕ) (q : PureTree) → slice_get p.pures k ≡ Some q → 0 < length q.params) → (earlier later : List PureTree) →
+    p.pures ≡ earlier ++ later → ArePures earlier later → (l : ℕ) (rest : List ℕ) →
+    Reads (all_spelling pure_spelling (written_pures p l later)) l (flat_map (pure_bytes p) later ++ rest)
+    (l + pures_lines later) rest
 pures-read p distinct some earlier [] whole h l rest = ending (omega arith) reads-nothing
 pures-read p distinct some earlier (q ∷ qs) whole h l rest =
-    let front : (k : ℕ) (x : PureTree) → slice_get earlier k ≡ Some x → 0 < length x.params = λ k x there. some k x (subst (λ ps. slice_get ps k ≡ Some x) (sym whole) (slice_get-front earlier (q ∷ qs) k x there)) in
-    let name : is_name q.name ≡ true = later-name (pure_names earlier) q.name (pure_names qs) (subst AreDistinct (ap pure_names whole ∙ map-append (λ x. x.name) earlier (q ∷ qs)) distinct) in
-    along (append_assoc (pure_bytes p q) (flat_map (pure_bytes p) qs) rest) (ending (omega arith) (pure-read p _ q (pure-speaks p q.params earlier (q ∷ qs) whole distinct front h.0.params) name h.0.params h.0.some h.0.body l (flat_map (pure_bytes p) qs ++ rest) ▸ pures-read p distinct some (earlier ++ q ∷ []) qs (moved p.pures earlier q qs whole) h.1 (l + pure_lines) rest))
+    let front : (k : ℕ) (x : PureTree) → slice_get earlier k ≡ Some x → 0 < length x.params =
+    λ k x there.
+    some k x (subst (λ ps. slice_get ps k ≡ Some x) (sym whole) (slice_get-front earlier (q ∷ qs) k x there)) in
+    let name : is_name q.name ≡ true =
+    later-name (pure_names earlier) q.name (pure_names qs)
+    (subst AreDistinct (ap pure_names whole ∙ map-append (λ x. x.name) earlier (q ∷ qs)) distinct) in
+    along (append_assoc (pure_bytes p q) (flat_map (pure_bytes p) qs) rest)
+    (ending (omega arith)
+    (pure-read p _ q (pure-speaks p q.params earlier (q ∷ qs) whole distinct front h.0.params) name h.0.params
+    h.0.some h.0.body l (flat_map (pure_bytes p) qs ++ rest) ▸ pures-read p distinct some (earlier ++ q ∷ []) qs
+    (moved p.pures earlier q qs whole) h.1 (l + pure_lines) rest))
 
 -- the kinds of a struct's fields are lawful among more structs
-more-kinds : (count total : ℕ) (fs : List FieldTree) → count ≤ total → AllByRecursion (λ f. IsLawfulKind count f.kind) fs → AreKinds total fs
+more-kinds : (count total : ℕ) (fs : List FieldTree) → count ≤ total →
+    AllByRecursion (λ f. IsLawfulKind count f.kind) fs → AreKinds total fs
 more-kinds count total [] within h = tt
 more-kinds count total (f ∷ fs) within h = (by f.kind h.0, more-kinds count total fs within h.1)
   where
@@ -57,13 +70,26 @@ more-kinds count total (f ∷ fs) within h = (by f.kind h.0, more-kinds count to
     by (Array type many) k = k
     by (Struct n) k = omega (arith, k, within)
 
-structs-read : (p : ProgramTree) → AreDistinct (map (λ d. d.name) p.structs) → (earlier later : List StructTree) → p.structs ≡ earlier ++ later → AreStructs (length earlier) later → (l : ℕ) (rest : List ℕ) → Reads (all_spelling struct_spelling (written_structs p l later)) l (flat_map (struct_bytes p) later ++ rest) (l + structs_lines later) rest
+structs-read : (p : ProgramTree) → AreDistinct (map (λ d. d.name) p.structs) → (earlier later : List StructTree) →
+    p.structs ≡ earlier ++ later → AreStructs (length earlier) later → (l : ℕ) (rest : List ℕ) →
+    Reads (all_spelling struct_spelling (written_structs p l later)) l (flat_map (struct_bytes p) later ++ rest)
+    (l + structs_lines later) rest
 structs-read p distinct earlier [] whole h l rest = ending (omega arith) reads-nothing
 structs-read p distinct earlier (d ∷ ds) whole h l rest =
-    let named : (k : ℕ) → k < length p.structs → is_name (struct_name p k) ≡ true = λ k within. AreDistinct-name (map (λ x. x.name) p.structs) k distinct (subst (λ n. k < n) (sym (length-map p.structs (λ x. x.name))) within) in
-    let name : is_name d.name ≡ true = later-name (map (λ x. x.name) earlier) d.name (map (λ x. x.name) ds) (subst AreDistinct (ap (map (λ x. x.name)) whole ∙ map-append (λ x. x.name) earlier (d ∷ ds)) distinct) in
+    let named : (k : ℕ) → k < length p.structs → is_name (struct_name p k) ≡ true =
+    λ k within. AreDistinct-name (map (λ x. x.name) p.structs) k distinct
+    (subst (λ n. k < n) (sym (length-map p.structs (λ x. x.name))) within) in
+    let name : is_name d.name ≡ true =
+    later-name (map (λ x. x.name) earlier) d.name (map (λ x. x.name) ds)
+    (subst AreDistinct (ap (map (λ x. x.name)) whole ∙ map-append (λ x. x.name) earlier (d ∷ ds)) distinct) in
     let within : length earlier ≤ length p.structs = rw whole (omega (arith, length-append earlier (d ∷ ds))) in
-    along (append_assoc (struct_bytes p d) (flat_map (struct_bytes p) ds) rest) (ending (omega arith) (struct-read p d named name h.0.some h.0.fields (more-kinds (length earlier) (length p.structs) d.fields within h.0.kinds) l (flat_map (struct_bytes p) ds ++ rest) ▸ structs-read p distinct (earlier ++ d ∷ []) ds (moved p.structs earlier d ds whole) (subst (λ n. AreStructs n ds) (sym (length-append earlier (d ∷ []))) h.1) (l + struct_lines d) rest))
+    along (append_assoc (struct_bytes p d) (flat_map (struct_bytes p) ds) rest)
+    (ending (omega arith)
+    (struct-read p d named name h.0.some h.0.fields
+    (more-kinds (length earlier) (length p.structs) d.fields within h.0.kinds) l
+    (flat_map (struct_bytes p) ds ++ rest) ▸ structs-read p distinct (earlier ++ d ∷ []) ds
+    (moved p.structs earlier d ds whole) (subst (λ n. AreStructs n ds) (sym (length-append earlier (d ∷ []))) h.1)
+    (l + struct_lines d) rest))
 
 module _ (p : ProgramTree) (lawful : IsLawful p) where
   pub pures-distinct : AreDistinct (pure_names p.pures)
@@ -73,24 +99,61 @@ module _ (p : ProgramTree) (lawful : IsLawful p) where
   procedures-distinct = AreDistinct-back (pure_names p.pures) (procedure_names p.procedures) lawful.functions
 
   struct-named : (k : ℕ) → k < length p.structs → is_name (struct_name p k) ≡ true
-  struct-named k within = AreDistinct-name (map (λ x. x.name) p.structs) k lawful.struct_names (subst (λ n. k < n) (sym (length-map p.structs (λ x. x.name))) within)
+  struct-named k within =
+      AreDistinct-name (map (λ x. x.name) p.structs) k lawful.struct_names
+      (subst (λ n. k < n) (sym (length-map p.structs (λ x. x.name))) within)
 
   -- the body of a procedure, with its parameters counted by their names
-  pub procedure-body : (earlier : List ProcedureTree) (q : ProcedureTree) → IsLawfulProcedure p.pures p.structs earlier q → AreLawfulStmts (record { pures = p.pures; structs = p.structs; procedures = earlier; fields = struct_fields p.structs q.of; params = length (param_names q.params); of = q.of }) q.body
+  pub procedure-body : (earlier : List ProcedureTree) (q : ProcedureTree) →
+      IsLawfulProcedure p.pures p.structs earlier q →
+      AreLawfulStmts
+      (record {
+        pures = p.pures;
+        structs = p.structs;
+        procedures = earlier;
+        fields = struct_fields p.structs q.of;
+        params = length (param_names q.params);
+        of = q.of;
+      }) q.body
   procedure-body earlier q h =
-      subst (λ n. AreLawfulStmts (record { pures = p.pures; structs = p.structs; procedures = earlier; fields = struct_fields p.structs q.of; params = n; of = q.of }) q.body) (sym (length-map q.params (λ x. x.name))) h.body
+      subst (λ n.
+      AreLawfulStmts
+      (record {
+        pures = p.pures;
+        structs = p.structs;
+        procedures = earlier;
+        fields = struct_fields p.structs q.of;
+        params = n;
+        of = q.of;
+      }) q.body) (sym (length-map q.params (λ x. x.name))) h.body
 
-  procedures-read : (earlier later : List ProcedureTree) → p.procedures ≡ earlier ++ later → AreProcedures p.pures p.structs earlier later → (l : ℕ) (rest : List ℕ) → Reads (all_spelling procedure_spelling (written_procedures p l later)) l (flat_map (procedure_bytes p) later ++ rest) (l + procedures_lines later) rest
+  procedures-read : (earlier later : List ProcedureTree) → p.procedures ≡ earlier ++ later →
+      AreProcedures p.pures p.structs earlier later → (l : ℕ) (rest : List ℕ) →
+      Reads (all_spelling procedure_spelling (written_procedures p l later)) l (flat_map (procedure_bytes p) later
+      ++ rest) (l + procedures_lines later) rest
   procedures-read earlier [] whole h l rest = ending (omega arith) reads-nothing
   procedures-read earlier (q ∷ qs) whole h l rest =
-      let name : is_name q.name ≡ true = later-name (procedure_names earlier) q.name (procedure_names qs) (subst AreDistinct (ap procedure_names whole ∙ map-append (λ x. x.name) earlier (q ∷ qs)) procedures-distinct) in
-      along (append_assoc (procedure_bytes p q) (flat_map (procedure_bytes p) qs) rest) (ending (omega arith) (procedure-read p _ q (procedure-speaks p q.of (param_names q.params) earlier (q ∷ qs) whole pures-distinct procedures-distinct lawful.structs (pures-some [] p.pures lawful.pures) h.0.params) name (struct-named q.of h.0.of) h.0.params (procedure-body earlier q h.0) l (flat_map (procedure_bytes p) qs ++ rest) ▸ procedures-read (earlier ++ q ∷ []) qs (moved p.procedures earlier q qs whole) h.1 (l + procedure_lines q) rest))
+      let name : is_name q.name ≡ true =
+      later-name (procedure_names earlier) q.name (procedure_names qs)
+      (subst AreDistinct (ap procedure_names whole ∙ map-append (λ x. x.name) earlier (q ∷ qs))
+      procedures-distinct) in
+      along (append_assoc (procedure_bytes p q) (flat_map (procedure_bytes p) qs) rest)
+      (ending (omega arith)
+      (procedure-read p _ q
+      (procedure-speaks p q.of (param_names q.params) earlier (q ∷ qs) whole pures-distinct procedures-distinct
+      lawful.structs (pures-some [] p.pures lawful.pures) h.0.params) name (struct-named q.of h.0.of) h.0.params
+      (procedure-body earlier q h.0) l (flat_map (procedure_bytes p) qs ++ rest) ▸ procedures-read
+      (earlier ++ q ∷ []) qs (moved p.procedures earlier q qs whole) h.1 (l + procedure_lines q) rest))
 
-  some-structs : (ds : List StructTree) (k : ℕ) (d : StructTree) (l m : ℕ) (x z : List ℕ) → slice_get ds k ≡ Some d → Reads (all_spelling struct_spelling (written_structs p l ds)) l x m z → Reads (some_spelling struct_spelling (written_structs p l ds)) l x m z
+  some-structs : (ds : List StructTree) (k : ℕ) (d : StructTree) (l m : ℕ) (x z : List ℕ) → slice_get ds k ≡ Some d →
+      Reads (all_spelling struct_spelling (written_structs p l ds)) l x m z →
+      Reads (some_spelling struct_spelling (written_structs p l ds)) l x m z
   some-structs [] k d l m x z there reads = cc
   some-structs (e ∷ ds) k d l m x z there reads = record { is = reads.is }
 
-  some-procedures : (qs : List ProcedureTree) (k : ℕ) (q : ProcedureTree) (l m : ℕ) (x z : List ℕ) → slice_get qs k ≡ Some q → Reads (all_spelling procedure_spelling (written_procedures p l qs)) l x m z → Reads (some_spelling procedure_spelling (written_procedures p l qs)) l x m z
+  some-procedures : (qs : List ProcedureTree) (k : ℕ) (q : ProcedureTree) (l m : ℕ) (x z : List ℕ) →
+      slice_get qs k ≡ Some q → Reads (all_spelling procedure_spelling (written_procedures p l qs)) l x m z →
+      Reads (some_spelling procedure_spelling (written_procedures p l qs)) l x m z
   some-procedures [] k q l m x z there reads = cc
   some-procedures (r ∷ qs) k q l m x z there reads = record { is = reads.is }
 
@@ -99,7 +162,16 @@ module _ (p : ProgramTree) (lawful : IsLawful p) where
       let a : List ℕ = flat_map (pure_bytes p) p.pures in
       let b : List ℕ = flat_map (struct_bytes p) p.structs in
       let c : List ℕ = flat_map (procedure_bytes p) p.procedures in
-      let all : Reads (program_spelling (written_program p)) 2 ((a ++ b) ++ c) (procedures_line p + procedures_lines p.procedures) [] = along (append_assoc a b c ∙ ap (λ x. a ++ (b ++ x)) (sym (append-nil c))) (pures-read p pures-distinct (pures-some [] p.pures lawful.pures) [] p.pures refl lawful.pures 2 (b ++ (c ++ [])) ▸ some-structs p.structs lawful.root.of lawful.root.struct (structs_line p) (procedures_line p) (b ++ (c ++ [])) (c ++ []) lawful.root.struct_there (structs-read p lawful.struct_names [] p.structs refl lawful.structs (structs_line p) (c ++ [])) ▸ some-procedures p.procedures lawful.root.start lawful.root.start_procedure (procedures_line p) (procedures_line p + procedures_lines p.procedures) (c ++ []) [] lawful.root.start_there (procedures-read [] p.procedures refl lawful.procedures (procedures_line p) [])) in
+      let all : Reads (program_spelling (written_program p)) 2 ((a ++ b) ++ c)
+      (procedures_line p + procedures_lines p.procedures) [] =
+      along (append_assoc a b c ∙ ap (λ x. a ++ (b ++ x)) (sym (append-nil c)))
+      (pures-read p pures-distinct (pures-some [] p.pures lawful.pures) [] p.pures refl lawful.pures 2
+      (b ++ (c ++ [])) ▸ some-structs p.structs lawful.root.of lawful.root.struct (structs_line p)
+      (procedures_line p) (b ++ (c ++ [])) (c ++ []) lawful.root.struct_there
+      (structs-read p lawful.struct_names [] p.structs refl lawful.structs (structs_line p) (c ++ [])) ▸
+      some-procedures p.procedures lawful.root.start lawful.root.start_procedure (procedures_line p)
+      (procedures_line p + procedures_lines p.procedures) (c ++ []) [] lawful.root.start_there
+      (procedures-read [] p.procedures refl lawful.procedures (procedures_line p) [])) in
       all.is
 
   pub program-header : has_header (program_bytes p) ≡ true

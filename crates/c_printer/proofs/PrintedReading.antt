@@ -37,29 +37,57 @@ abbrev pub after_pures : List PureTree → Known
 after_pures pures = record { pures = pures; structs = []; procedures = []; chains = [] }
 
 -- no function before has the name of a further one
-not_before : (pures : List (List ℕ)) (procedures : List (List ℕ)) (name : List ℕ) (later : List (List ℕ)) → AreDistinct ((pures ++ procedures) ++ name ∷ later) → has_name (pures ++ procedures) name ≡ false
+not_before : (pures : List (List ℕ)) (procedures : List (List ℕ)) (name : List ℕ) (later : List (List ℕ)) →
+    AreDistinct ((pures ++ procedures) ++ name ∷ later) → has_name (pures ++ procedures) name ≡ false
 not_before pures procedures name later h = AreDistinct-seam (pures ++ procedures) name later h
 
-pure-resolved : (p : ProgramTree) (lawful : IsLawful p) (earlier : List PureTree) (q : PureTree) (later : List PureTree) → p.pures ≡ earlier ++ q ∷ later → (done : List PureTree) → map pure_without_lines done ≡ map pure_without_lines earlier → IsLawfulPure earlier q → (l : ℕ) → resolve_pure (after_pures done) (written_pure p l q) ≡ Ok (read_pure l q)
+pure-resolved : (p : ProgramTree) (lawful : IsLawful p) (earlier : List PureTree) (q : PureTree)
+    (later : List PureTree) → p.pures ≡ earlier ++ q ∷ later → (done : List PureTree) →
+    map pure_without_lines done ≡ map pure_without_lines earlier → IsLawfulPure earlier q → (l : ℕ) →
+    resolve_pure (after_pures done) (written_pure p l q) ≡ Ok (read_pure l q)
 pure-resolved p lawful earlier q later whole done alike h l =
-    let names : function_names (after_pures done) ≡ pure_names earlier = append-nil (map (λ x. x.name) done) ∙ same-map pure_without_lines (λ x. x.name) done earlier alike in
-    let distinct : AreDistinct (pure_names earlier ++ q.name ∷ pure_names later) = subst AreDistinct (ap pure_names whole ∙ map-append (λ x. x.name) earlier (q ∷ later)) (pures-distinct p lawful) in
-    let unused : has_name (function_names (after_pures done)) q.name ≡ false = ap (λ ns. has_name ns q.name) names ∙ AreDistinct-seam (pure_names earlier) q.name (pure_names later) distinct in
-    let params : map (λ x. x.name) (map (written_pure_param (reported_number (l + 1))) q.params) ≡ q.params = pure_params-names (reported_number (l + 1)) q.params in
-    let pass : check_params (function_names (after_pures done)) [] (map (λ x. (x.line, x.name)) (map (written_pure_param (reported_number (l + 1))) q.params)) ≡ Ok tt = check_params-pass (λ x. x.line) (λ x. x.name) (function_names (after_pures done)) [] (map (written_pure_param (reported_number (l + 1))) q.params) (subst AreDistinct (sym params) h.params) (subst (λ ns. AreApart ns (function_names (after_pures done))) (sym params) (subst (AreApart q.params) (sym names) h.apart)) (AreApart-none (map (λ x. x.name) (map (written_pure_param (reported_number (l + 1))) q.params))) in
-    let body : _ = expr-resolved _ _ _ (pure-speaks p q.params earlier (q ∷ later) whole (pures-distinct p lawful) (λ k x there. pures-some [] p.pures lawful.pures k x (subst (λ ps. slice_get ps k ≡ Some x) (sym whole) (slice_get-front earlier (q ∷ later) k x there))) h.params) (pure-resolves p (after_pures done) q.params earlier (q ∷ later) whole (pures-distinct p lawful) alike h.params) (reported_number (l + 1 + 1)) q.body h.body in
+    let names : function_names (after_pures done) ≡ pure_names earlier =
+    append-nil (map (λ x. x.name) done) ∙ same-map pure_without_lines (λ x. x.name) done earlier alike in
+    let distinct : AreDistinct (pure_names earlier ++ q.name ∷ pure_names later) =
+    subst AreDistinct (ap pure_names whole ∙ map-append (λ x. x.name) earlier (q ∷ later))
+    (pures-distinct p lawful) in
+    let unused : has_name (function_names (after_pures done)) q.name ≡ false = ap (λ ns. has_name ns q.name) names
+    ∙ AreDistinct-seam (pure_names earlier) q.name (pure_names later) distinct in
+    let params : map (λ x. x.name) (map (written_pure_param (reported_number (l + 1))) q.params) ≡ q.params =
+    pure_params-names (reported_number (l + 1)) q.params in
+    let pass : check_params (function_names (after_pures done)) []
+    (map (λ x. (x.line, x.name)) (map (written_pure_param (reported_number (l + 1))) q.params)) ≡ Ok tt =
+    check_params-pass (λ x. x.line) (λ x. x.name) (function_names (after_pures done)) []
+    (map (written_pure_param (reported_number (l + 1))) q.params) (subst AreDistinct (sym params) h.params)
+    (subst (λ ns. AreApart ns (function_names (after_pures done))) (sym params)
+    (subst (AreApart q.params) (sym names) h.apart))
+    (AreApart-none (map (λ x. x.name) (map (written_pure_param (reported_number (l + 1))) q.params))) in
+    let body : _ =
+    expr-resolved _ _ _ (pure-speaks p q.params earlier (q ∷ later) whole (pures-distinct p lawful)
+    (λ k x there. pures-some [] p.pures lawful.pures k x
+    (subst (λ ps. slice_get ps k ≡ Some x) (sym whole) (slice_get-front earlier (q ∷ later) k x there))) h.params)
+    (pure-resolves p (after_pures done) q.params earlier (q ∷ later) whole (pures-distinct p lawful) alike h.params)
+    (reported_number (l + 1 + 1)) q.body h.body in
     rw (unused, pass, params, body) refl
 
-pures-resolved : (p : ProgramTree) (lawful : IsLawful p) (earlier later : List PureTree) → p.pures ≡ earlier ++ later → (done : List PureTree) → map pure_without_lines done ≡ map pure_without_lines earlier → ArePures earlier later → (l : ℕ) → resolve_pures (after_pures done) (written_pures p l later) ≡ Ok (after_pures (done ++ read_pures l later))
+pures-resolved : (p : ProgramTree) (lawful : IsLawful p) (earlier later : List PureTree) → p.pures ≡ earlier ++ later →
+    (done : List PureTree) → map pure_without_lines done ≡ map pure_without_lines earlier → ArePures earlier later →
+    (l : ℕ) → resolve_pures (after_pures done) (written_pures p l later) ≡ Ok (after_pures (done ++ read_pures l later))
 pures-resolved p lawful earlier [] whole done alike h l = ap (λ x. Ok (after_pures x)) (sym (append-nil done))
 pures-resolved p lawful earlier (q ∷ qs) whole done alike h l =
-    ap (λ r. r >>= (λ x. resolve_pures (after_pures (done ++ x ∷ [])) (written_pures p (l + pure_lines) qs))) (pure-resolved p lawful earlier q qs whole done alike h.0 l) ∙ pures-resolved p lawful (earlier ++ q ∷ []) qs (moved p.pures earlier q qs whole) (done ++ read_pure l q ∷ []) (one_more pure_without_lines done earlier (read_pure l q) q alike refl) h.1 (l + pure_lines) ∙ ap (λ x. Ok (after_pures x)) (append_assoc done (read_pure l q ∷ []) (read_pures (l + pure_lines) qs))
+    ap (λ r. r >>= (λ x. resolve_pures (after_pures (done ++ x ∷ [])) (written_pures p (l + pure_lines) qs)))
+    (pure-resolved p lawful earlier q qs whole done alike h.0 l)
+    ∙ pures-resolved p lawful (earlier ++ q ∷ []) qs (moved p.pures earlier q qs whole) (done ++ read_pure l q ∷ [])
+    (one_more pure_without_lines done earlier (read_pure l q) q alike refl) h.1 (l + pure_lines)
+    ∙ ap (λ x. Ok (after_pures x)) (append_assoc done (read_pure l q ∷ []) (read_pures (l + pure_lines) qs))
 
 -- what is known once these structs are read too
 abbrev pub after_structs : List PureTree → List StructTree → Known
 after_structs pures structs = record { pures = pures; structs = structs; procedures = []; chains = [] }
 
-kind-resolved : (p : ProgramTree) (pures : List PureTree) (earlier later : List StructTree) → p.structs ≡ earlier ++ later → AreDistinct (map (λ d. d.name) earlier) → (kind : FieldKind) → IsLawfulKind (length earlier) kind → resolve_kind (after_structs pures earlier) (written_kind p kind) ≡ Ok kind
+kind-resolved : (p : ProgramTree) (pures : List PureTree) (earlier later : List StructTree) →
+    p.structs ≡ earlier ++ later → AreDistinct (map (λ d. d.name) earlier) → (kind : FieldKind) →
+    IsLawfulKind (length earlier) kind → resolve_kind (after_structs pures earlier) (written_kind p kind) ≡ Ok kind
 kind-resolved p pures earlier later whole distinct (Number type) h = refl
 kind-resolved p pures earlier later whole distinct (Array type count) h =
     let some : nat_lt 0 count ≡ true = le-leb 1 count (omega (arith, h.0)) in
@@ -67,8 +95,13 @@ kind-resolved p pures earlier later whole distinct (Array type count) h =
     rw (some, few) refl
 kind-resolved p pures earlier later whole distinct (Struct k) h =
     let long : k < length (map (λ d. d.name) earlier) = subst (λ n. k < n) (sym (length-map earlier (λ d. d.name))) h in
-    let name : struct_name p k ≡ name_at (map (λ d. d.name) earlier) k = ap (λ ds. name_at (map (λ d. d.name) ds) k) whole ∙ ap (λ ns. name_at ns k) (map-append (λ d. d.name) earlier later) ∙ get_or_append_left (map (λ d. d.name) earlier) (map (λ d. d.name) later) [] k long in
-    let place : position_from (λ d. bytes_eq d.name (struct_name p k)) 0 earlier ≡ Some k = ap (λ n. position_from (λ d. bytes_eq d.name n) 0 earlier) name ∙ position_from-named (λ d. d.name) earlier 0 k distinct long ∙ ap Some (omega arith) in
+    let name : struct_name p k ≡ name_at (map (λ d. d.name) earlier) k =
+    ap (λ ds. name_at (map (λ d. d.name) ds) k) whole
+    ∙ ap (λ ns. name_at ns k) (map-append (λ d. d.name) earlier later)
+    ∙ get_or_append_left (map (λ d. d.name) earlier) (map (λ d. d.name) later) [] k long in
+    let place : position_from (λ d. bytes_eq d.name (struct_name p k)) 0 earlier ≡ Some k =
+    ap (λ n. position_from (λ d. bytes_eq d.name n) 0 earlier) name
+    ∙ position_from-named (λ d. d.name) earlier 0 k distinct long ∙ ap Some (omega arith) in
     rw place refl
 
 number-written : (p : ProgramTree) (kind : FieldKind) → is_number_written (written_kind p kind) ≡ is_number_kind kind
@@ -81,7 +114,8 @@ numbers-written : (p : ProgramTree) (l : ℕ) (fs : List FieldTree) → filter_m
 numbers-written p l [] = refl
 numbers-written p l (f ∷ fs) = rw (number-written p f.kind, numbers-written p (l + 1) fs) (by (is_number f))
   where
-    by : (b : Bool) → cons_option (if b then Some f.name else None) (number_names fs) ≡ map (λ x. x.name) (if b then f ∷ filter is_number fs else filter is_number fs)
+    by : (b : Bool) → cons_option (if b then Some f.name else None) (number_names fs) ≡ map (λ x. x.name)
+        (if b then f ∷ filter is_number fs else filter is_number fs)
     by true = refl
     by false = refl
 
@@ -90,29 +124,60 @@ may_be : (is_root test : Bool) → (is_root ≡ true → test ≡ true) → (not
 may_be false test h = refl
 may_be true test h = h refl
 
-fields-resolved : (p : ProgramTree) (pures : List PureTree) (earlier later : List StructTree) → p.structs ≡ earlier ++ later → AreDistinct (map (λ d. d.name) earlier) → (is_root : Bool) (numbers before : List (List ℕ)) (l : ℕ) (fs : List FieldTree) → AreDistinct (map (λ f. f.name) fs) → AreApart (map (λ f. f.name) fs) before → AllByRecursion (λ f. IsLawfulKind (length earlier) f.kind) fs → (is_root ≡ true → AllByRecursion (λ f. may_be_named numbers (is_number f) f.name ≡ true) fs) → resolve_fields (after_structs pures earlier) is_root numbers before (written_fields p l fs) ≡ Ok fs
+fields-resolved : (p : ProgramTree) (pures : List PureTree) (earlier later : List StructTree) →
+    p.structs ≡ earlier ++ later → AreDistinct (map (λ d. d.name) earlier) →
+    (is_root : Bool) (numbers before : List (List ℕ)) (l : ℕ) (fs : List FieldTree) →
+    AreDistinct (map (λ f. f.name) fs) → AreApart (map (λ f. f.name) fs) before →
+    AllByRecursion (λ f. IsLawfulKind (length earlier) f.kind) fs →
+    (is_root ≡ true → AllByRecursion (λ f. may_be_named numbers (is_number f) f.name ≡ true) fs) →
+    resolve_fields (after_structs pures earlier) is_root numbers before (written_fields p l fs) ≡ Ok fs
 fields-resolved p pures earlier later whole distinct is_root numbers before l [] unlike apart kinds outputs = refl
 fields-resolved p pures earlier later whole distinct is_root numbers before l (f ∷ fs) unlike apart kinds outputs =
-    rw (apart.0, kind-resolved p pures earlier later whole distinct f.kind kinds.0, number-written p f.kind, may_be is_root (may_be_named numbers (is_number f) f.name) (λ e. (outputs e).0), fields-resolved p pures earlier later whole distinct is_root numbers (f.name ∷ before) (l + 1) fs unlike.2 (AreApart-more (map (λ x. x.name) fs) f.name before unlike.1 apart.1) kinds.1 (λ e. (outputs e).1)) refl
+    rw (
+      apart.0,
+      kind-resolved p pures earlier later whole distinct f.kind kinds.0,
+      number-written p f.kind,
+      may_be is_root (may_be_named numbers (is_number f) f.name) (λ e. (outputs e).0),
+      fields-resolved p pures earlier later whole distinct is_root numbers (f.name ∷ before) (l + 1) fs unlike.2
+          (AreApart-more (map (λ x. x.name) fs) f.name before unlike.1 apart.1) kinds.1 (λ e. (outputs e).1),
+    ) refl
 
-struct-resolved : (p : ProgramTree) (pures : List PureTree) (earlier : List StructTree) (d : StructTree) (later : List StructTree) → p.structs ≡ earlier ++ d ∷ later → AreDistinct (map (λ x. x.name) p.structs) → IsLawfulStruct (length earlier) d → (l : ℕ) → resolve_struct (after_structs pures earlier) (written_struct p l d) ≡ Ok d
+struct-resolved : (p : ProgramTree) (pures : List PureTree) (earlier : List StructTree) (d : StructTree)
+    (later : List StructTree) → p.structs ≡ earlier ++ d ∷ later → AreDistinct (map (λ x. x.name) p.structs) →
+    IsLawfulStruct (length earlier) d → (l : ℕ) →
+    resolve_struct (after_structs pures earlier) (written_struct p l d) ≡ Ok d
 struct-resolved p pures earlier d later whole distinct h l =
-    let all : AreDistinct (map (λ x. x.name) earlier ++ d.name ∷ map (λ x. x.name) later) = subst AreDistinct (ap (map (λ x. x.name)) whole ∙ map-append (λ x. x.name) earlier (d ∷ later)) distinct in
-    let unused : has_name (map (λ x. x.name) earlier) d.name ≡ false = AreDistinct-seam (map (λ x. x.name) earlier) d.name (map (λ x. x.name) later) all in
-    let fields : resolve_fields (after_structs pures earlier) (bytes_eq d.name (codes "root")) (number_names d.fields) [] (written_fields p (l + 1 + 1) d.fields) ≡ Ok d.fields = fields-resolved p pures earlier (d ∷ later) whole (AreDistinct-front (map (λ x. x.name) earlier) (d.name ∷ map (λ x. x.name) later) all) (bytes_eq d.name (codes "root")) (number_names d.fields) [] (l + 1 + 1) d.fields h.fields (AreApart-none (map (λ f. f.name) d.fields)) h.kinds h.outputs in
+    let all : AreDistinct (map (λ x. x.name) earlier ++ d.name ∷ map (λ x. x.name) later) =
+    subst AreDistinct (ap (map (λ x. x.name)) whole ∙ map-append (λ x. x.name) earlier (d ∷ later)) distinct in
+    let unused : has_name (map (λ x. x.name) earlier) d.name ≡ false =
+    AreDistinct-seam (map (λ x. x.name) earlier) d.name (map (λ x. x.name) later) all in
+    let fields : resolve_fields (after_structs pures earlier) (bytes_eq d.name (codes "root")) (number_names d.fields)
+    [] (written_fields p (l + 1 + 1) d.fields) ≡ Ok d.fields =
+    fields-resolved p pures earlier (d ∷ later) whole
+    (AreDistinct-front (map (λ x. x.name) earlier) (d.name ∷ map (λ x. x.name) later) all)
+    (bytes_eq d.name (codes "root")) (number_names d.fields) [] (l + 1 + 1) d.fields h.fields
+    (AreApart-none (map (λ f. f.name) d.fields)) h.kinds h.outputs in
     rw (unused, numbers-written p (l + 1 + 1) d.fields, fields) refl
 
-structs-resolved : (p : ProgramTree) (pures : List PureTree) (earlier later : List StructTree) → p.structs ≡ earlier ++ later → AreDistinct (map (λ x. x.name) p.structs) → AreStructs (length earlier) later → (l : ℕ) → resolve_structs (after_structs pures earlier) (written_structs p l later) ≡ Ok (after_structs pures p.structs)
+structs-resolved : (p : ProgramTree) (pures : List PureTree) (earlier later : List StructTree) →
+    p.structs ≡ earlier ++ later → AreDistinct (map (λ x. x.name) p.structs) → AreStructs (length earlier) later →
+    (l : ℕ) → resolve_structs (after_structs pures earlier) (written_structs p l later) ≡ Ok
+    (after_structs pures p.structs)
 structs-resolved p pures earlier [] whole distinct h l = ap (λ x. Ok (after_structs pures x)) (sym (whole ∙ append-nil earlier))
 structs-resolved p pures earlier (d ∷ ds) whole distinct h l =
-    ap (λ r. r >>= (λ x. resolve_structs (after_structs pures (earlier ++ x ∷ [])) (written_structs p (l + struct_lines d) ds))) (struct-resolved p pures earlier d ds whole distinct h.0 l) ∙ structs-resolved p pures (earlier ++ d ∷ []) ds (moved p.structs earlier d ds whole) distinct (subst (λ n. AreStructs n ds) (sym (length-append earlier (d ∷ []))) h.1) (l + struct_lines d)
+    ap (λ r. r
+    >>= (λ x. resolve_structs (after_structs pures (earlier ++ x ∷ []))
+    (written_structs p (l + struct_lines d) ds))) (struct-resolved p pures earlier d ds whole distinct h.0 l)
+    ∙ structs-resolved p pures (earlier ++ d ∷ []) ds (moved p.structs earlier d ds whole) distinct
+    (subst (λ n. AreStructs n ds) (sym (length-append earlier (d ∷ []))) h.1) (l + struct_lines d)
 
 mutual
   -- lines are nothing to depths
   stmt_depth-read : (l : ℕ) (s : StmtTree) → stmt_depth (read_stmt l s) ≡ stmt_depth s
   stmt_depth-read l (assign line f e) = refl
   stmt_depth-read l (assign_at line f index e) = refl
-  stmt_depth-read l (branch line test on_true on_false) = rw (stmts_depth-read (l + 1) on_true, stmts_depth-read (l + 1 + stmts_lines on_true + 1) on_false) refl
+  stmt_depth-read l (branch line test on_true on_false) =
+      rw (stmts_depth-read (l + 1) on_true, stmts_depth-read (l + 1 + stmts_lines on_true + 1) on_false) refl
   stmt_depth-read l (call line k target es) = refl
 
   stmts_depth-read : (l : ℕ) (ss : StmtTrees) → stmts_depth (read_stmts l ss) ≡ stmts_depth ss
@@ -123,7 +188,9 @@ mutual
   stmt_exprs_depth-read : (l : ℕ) (s : StmtTree) → stmt_exprs_depth (read_stmt l s) ≡ stmt_exprs_depth s
   stmt_exprs_depth-read l (assign line f e) = refl
   stmt_exprs_depth-read l (assign_at line f index e) = refl
-  stmt_exprs_depth-read l (branch line test on_true on_false) = rw (stmts_exprs_depth-read (l + 1) on_true, stmts_exprs_depth-read (l + 1 + stmts_lines on_true + 1) on_false) refl
+  stmt_exprs_depth-read l (branch line test on_true on_false) =
+      rw (stmts_exprs_depth-read (l + 1) on_true, stmts_exprs_depth-read (l + 1 + stmts_lines on_true + 1) on_false)
+      refl
   stmt_exprs_depth-read l (call line k target es) = refl
 
   stmts_exprs_depth-read : (l : ℕ) (ss : StmtTrees) → stmts_exprs_depth (read_stmts l ss) ≡ stmts_exprs_depth ss
@@ -136,8 +203,14 @@ pures-fit l (q ∷ qs) h = (record { params = h.0.params; body = h.0.body }, pur
 
 procedures-fit : (l : ℕ) (qs : List ProcedureTree) → AllByRecursion ProcedureFits qs → AllByRecursion ProcedureFits (read_procedures l qs)
 procedures-fit l [] h = tt
-procedures-fit l (q ∷ qs) h =
-    (record { params = h.0.params; statements = rw (stmts_depth-read (l + 1 + 1) q.body) h.0.statements; expressions = rw (stmts_exprs_depth-read (l + 1 + 1) q.body) h.0.expressions }, procedures-fit (l + procedure_lines q) qs h.1)
+procedures-fit l (q ∷ qs) h = (
+  record {
+    params = h.0.params;
+    statements = rw (stmts_depth-read (l + 1 + 1) q.body) h.0.statements;
+    expressions = rw (stmts_exprs_depth-read (l + 1 + 1) q.body) h.0.expressions;
+  },
+  procedures-fit (l + procedure_lines q) qs h.1,
+)
 
 pures-counted : (l : ℕ) (qs : List PureTree) → length (read_pures l qs) ≡ length qs
 pures-counted l [] = refl
@@ -155,17 +228,37 @@ module _ (p : ProgramTree) (lawful : IsLawful p) where
   procedures_are = procedures_without_lines-read (procedures_line p) p.procedures
 
   abbrev known_of : Known
-  known_of = after_procedures (read_pures 2 p.pures) p.structs (read_procedures (procedures_line p) p.procedures) (chains_of [] p.procedures)
+  known_of = after_procedures (read_pures 2 p.pures) p.structs (read_procedures (procedures_line p) p.procedures)
+      (chains_of [] p.procedures)
 
   root-there : has_root known_of ≡ true
   root-there =
-      let procedures : map (λ x. x.name) (read_procedures (procedures_line p) p.procedures) ≡ procedure_names p.procedures = same-map procedure_without_lines (λ x. x.name) (read_procedures (procedures_line p) p.procedures) p.procedures procedures_are in
-      rw (has_name-there (λ x. x.name) p.structs lawful.root.of lawful.root.struct (codes "root") lawful.root.struct_there lawful.root.struct_name, procedures, has_name-there (λ x. x.name) p.procedures lawful.root.start lawful.root.start_procedure (codes "root_start") lawful.root.start_there lawful.root.start_name, has_name-there (λ x. x.name) p.procedures lawful.root.step lawful.root.step_procedure (codes "root_step") lawful.root.step_there lawful.root.step_name) refl
+      let procedures : map (λ x. x.name) (read_procedures (procedures_line p) p.procedures)
+      ≡ procedure_names p.procedures =
+      same-map procedure_without_lines (λ x. x.name) (read_procedures (procedures_line p) p.procedures) p.procedures
+      procedures_are in
+      rw (
+        has_name-there (λ x. x.name) p.structs lawful.root.of lawful.root.struct
+            (codes "root") lawful.root.struct_there lawful.root.struct_name,
+        procedures,
+        has_name-there (λ x. x.name) p.procedures lawful.root.start lawful.root.start_procedure
+            (codes "root_start") lawful.root.start_there lawful.root.start_name,
+        has_name-there (λ x. x.name) p.procedures lawful.root.step lawful.root.step_procedure
+            (codes "root_step") lawful.root.step_there lawful.root.step_name,
+      ) refl
 
   program-resolved : (last : ℕ) → resolve_program last (written_program p) ≡ Ok (read_program p)
   program-resolved last =
-      let procedures : _ = procedures-resolved p lawful [] p.procedures refl (read_pures 2 p.pures) pures_are [] refl [] lawful.chains lawful.procedures (procedures_line p) in
-      rw (pures-resolved p lawful [] p.pures refl [] refl lawful.pures 2, structs-resolved p (read_pures 2 p.pures) [] p.structs refl lawful.struct_names lawful.structs (structs_line p), procedures, root-there) refl
+      let procedures : _ =
+      procedures-resolved p lawful [] p.procedures refl (read_pures 2 p.pures) pures_are [] refl
+      [] lawful.chains lawful.procedures (procedures_line p) in
+      rw (
+        pures-resolved p lawful [] p.pures refl [] refl lawful.pures 2,
+        structs-resolved p (read_pures 2 p.pures) [] p.structs refl lawful.struct_names lawful.structs
+            (structs_line p),
+        procedures,
+        root-there,
+      ) refl
 
   program-fits : IsWithinLimits (read_program p)
   program-fits = record {
@@ -191,4 +284,9 @@ module _ (p : ProgramTree) (lawful : IsLawful p) where
   pub text-of : (bytes : List ℕ) → bytes ≡ program_bytes p → IsTextOf bytes p
   text-of bytes same =
       let read : CText bytes (read_program p) = subst (λ b. CText b (read_program p)) (sym same) text-read in
-      record { reading = read_program p; read = read; one = λ other r. one-reading one_written bytes other (read_program p) r read; same = text-same }
+      record {
+        reading = read_program p;
+        read = read;
+        one = λ other r. one-reading one_written bytes other (read_program p) r read;
+        same = text-same;
+      }

@@ -16,11 +16,16 @@ use Rattle.c_printer.proofs.PrintedBodies.{Speaks}
 -- the names in reach of a body stand for what they are printed from
 pub record Resolves (v : Vocabulary) (reach : Reach) (names : Names) : Type 0 where
   pub leaf : (leaf : Leaf) → IsLawfulLeaf reach leaf → resolve_leaf names (written_leaf v leaf) ≡ Ok leaf
-  pub pure : (k : ℕ) (p : PureTree) → slice_get reach.pures k ≡ Some p → resolve_pure_call names.known (pure_name v.program k) (length p.params) ≡ Ok k
+  pub pure : (k : ℕ) (p : PureTree) → slice_get reach.pures k ≡ Some p →
+      resolve_pure_call names.known (pure_name v.program k) (length p.params) ≡ Ok k
   pub store : (f : ℕ) → IsNumberAt reach.fields f → resolve_store names (field_name v.fields f) (type_at (field_types v.fields) f) ≡ Ok f
   pub array : (f : ℕ) → IsArrayAt reach.fields f → resolve_array names (field_name v.fields f) ≡ Ok f
-  pub item_store : (f : ℕ) → IsArrayAt reach.fields f → resolve_item_store names (field_name v.fields f) (type_at (field_types v.fields) f) ≡ Ok f
-  pub call : (k : ℕ) (p : ProcedureTree) (target : Target) → slice_get reach.procedures k ≡ Some p → IsLawfulTarget reach target p.of → slice_index names.known.chains k + 1 ≤ chain_limit → resolve_call names (procedure_name v.program k) (written_target v target) (procedure_types v.program k) ≡ Ok (k, target)
+  pub item_store : (f : ℕ) → IsArrayAt reach.fields f →
+      resolve_item_store names (field_name v.fields f) (type_at (field_types v.fields) f) ≡ Ok f
+  pub call : (k : ℕ) (p : ProcedureTree) (target : Target) → slice_get reach.procedures k ≡ Some p →
+      IsLawfulTarget reach target p.of → slice_index names.known.chains k + 1 ≤ chain_limit →
+      resolve_call names (procedure_name v.program k) (written_target v target) (procedure_types v.program k)
+      ≡ Ok (k, target)
 
 -- goes on with what there is
 bind : {A B E : Type 0} {r : Result A E} {x : A} (go : A → Result B E) → r ≡ Ok x → (r >>= go) ≡ go x
@@ -30,7 +35,8 @@ counted : (v : Vocabulary) (line : ℕ) (es : ExprTrees) → exprs_count (writte
 counted v line no_exprs = refl
 counted v line (more_exprs e es) = ap (λ n. n + 1) (counted v line es)
 
-casts : (v : Vocabulary) (line : ℕ) (types : List CType) (es : ExprTrees) → length types ≡ exprs_length es → argument_casts (written_arguments v line types es) ≡ types
+casts : (v : Vocabulary) (line : ℕ) (types : List CType) (es : ExprTrees) → length types ≡ exprs_length es →
+    argument_casts (written_arguments v line types es) ≡ types
 casts v line [] no_exprs h = refl
 casts v line (t ∷ types) no_exprs h = absurd (omega (arith, h))
 casts v line [] (more_exprs e es) h = absurd (omega (arith, h))
@@ -57,14 +63,17 @@ module _ (v : Vocabulary) (reach : Reach) (names : Names) (speaks : Speaks v rea
     cond-resolved line (either a b) h = rw (cond-resolved line a h.0, cond-resolved line b h.1) refl
     cond-resolved line (negated a) h = rw (cond-resolved line a h) refl
 
-  arguments-resolved : (line : ℕ) (types : List CType) (es : ExprTrees) → length types ≡ exprs_length es → AreLawfulExprs reach es → resolve_arguments names (written_arguments v line types es) ≡ Ok es
+  arguments-resolved : (line : ℕ) (types : List CType) (es : ExprTrees) → length types ≡ exprs_length es →
+      AreLawfulExprs reach es → resolve_arguments names (written_arguments v line types es) ≡ Ok es
   arguments-resolved line [] no_exprs long h = refl
   arguments-resolved line (t ∷ types) no_exprs long h = absurd (omega (arith, long))
   arguments-resolved line [] (more_exprs e es) long h = absurd (omega (arith, long))
-  arguments-resolved line (t ∷ types) (more_exprs e es) long h = rw (expr-resolved line e h.0, arguments-resolved line types es (omega (arith, long)) h.1) refl
+  arguments-resolved line (t ∷ types) (more_exprs e es) long h =
+      rw (expr-resolved line e h.0, arguments-resolved line types es (omega (arith, long)) h.1) refl
 
   mutual
-    pub stmt-resolved : (line : ℕ) (s : StmtTree) → IsLawfulStmt reach s → stmt_chain names.known.chains s + 1 ≤ chain_limit → resolve_stmt names (written_stmt v line s) ≡ Ok (read_stmt line s)
+    pub stmt-resolved : (line : ℕ) (s : StmtTree) → IsLawfulStmt reach s → stmt_chain names.known.chains s + 1
+        ≤ chain_limit → resolve_stmt names (written_stmt v line s) ≡ Ok (read_stmt line s)
     stmt-resolved line (assign own f e) h short = rw (resolves.store f h.0, expr-resolved (reported_number line) e h.1) refl
     stmt-resolved line (assign_at own f index e) h short =
         rw (resolves.item_store f h.0, expr-resolved (reported_number line) index h.1, expr-resolved (reported_number line) e h.2) refl
@@ -72,12 +81,22 @@ module _ (v : Vocabulary) (reach : Reach) (names : Names) (speaks : Speaks v rea
         rw (cond-resolved (reported_number line) test h.0, stmts-resolved (line + 1) on_true h.1 (omega (arith, short))) refl
     stmt-resolved line (branch own test on_true (more_stmts s ss)) h short =
         let k : ℕ = line + 1 + stmts_lines on_true + 1 in
-        rw (cond-resolved (reported_number line) test h.0, stmts-resolved (line + 1) on_true h.1 (omega (arith, short)), stmt-resolved k s h.2.0 (omega (arith, short)), stmts-resolved (k + stmt_lines s) ss h.2.1 (omega (arith, short))) refl
+        rw (
+          cond-resolved (reported_number line) test h.0,
+          stmts-resolved (line + 1) on_true h.1 (omega (arith, short)),
+          stmt-resolved k s h.2.0 (omega (arith, short)),
+          stmts-resolved (k + stmt_lines s) ss h.2.1 (omega (arith, short)),
+        ) refl
     stmt-resolved line (call own k target es) h short =
         let long : length (procedure_types v.program k) ≡ exprs_length es = (speaks.procedure k h.0 h.1).1 ∙ h.3 in
-        rw (casts v (reported_number line) (procedure_types v.program k) es long, resolves.call k h.0 target h.1 h.2 short, arguments-resolved (reported_number line) (procedure_types v.program k) es long h.4) refl
+        rw (
+          casts v (reported_number line) (procedure_types v.program k) es long,
+          resolves.call k h.0 target h.1 h.2 short,
+          arguments-resolved (reported_number line) (procedure_types v.program k) es long h.4,
+        ) refl
 
-    pub stmts-resolved : (line : ℕ) (ss : StmtTrees) → AreLawfulStmts reach ss → stmts_chain names.known.chains ss + 1 ≤ chain_limit → resolve_stmts names (written_stmts v line ss) ≡ Ok (read_stmts line ss)
+    pub stmts-resolved : (line : ℕ) (ss : StmtTrees) → AreLawfulStmts reach ss → stmts_chain names.known.chains ss + 1
+        ≤ chain_limit → resolve_stmts names (written_stmts v line ss) ≡ Ok (read_stmts line ss)
     stmts-resolved line no_stmts h short = refl
     stmts-resolved line (more_stmts s ss) h short =
         rw (stmt-resolved line s h.0 (omega (arith, short)), stmts-resolved (line + stmt_lines s) ss h.1 (omega (arith, short))) refl

@@ -47,7 +47,8 @@ written_target v (ChildTarget f) = WrittenTarget.field_target (field_name v.fiel
 abbrev pub written_arguments : Vocabulary → ℕ → List CType → ExprTrees → WrittenArguments
 written_arguments v line types no_exprs = WrittenArguments.no_arguments
 written_arguments v line [] (more_exprs e es) = WrittenArguments.no_arguments
-written_arguments v line (t ∷ types) (more_exprs e es) = WrittenArguments.more_arguments t (written_expr v line e) (written_arguments v line types es)
+written_arguments v line (t ∷ types) (more_exprs e es) =
+    WrittenArguments.more_arguments t (written_expr v line e) (written_arguments v line types es)
 
 abbrev mutual
   -- how many lines a statement takes
@@ -69,19 +70,24 @@ abbrev mutual
   -- a statement that begins on a line, whose number is told up to the greatest
   pub written_stmt : Vocabulary → ℕ → StmtTree → WrittenStmt
   written_stmt v line (assign own f e) =
-      WrittenStmt.assign (reported_number line) (field_name v.fields f) (type_at (field_types v.fields) f) (written_expr v (reported_number line) e)
+      WrittenStmt.assign (reported_number line) (field_name v.fields f) (type_at (field_types v.fields) f)
+      (written_expr v (reported_number line) e)
   written_stmt v line (assign_at own f index e) =
-      WrittenStmt.assign_at (reported_number line) (field_name v.fields f) (written_expr v (reported_number line) index) (type_at (field_types v.fields) f) (written_expr v (reported_number line) e)
+      WrittenStmt.assign_at (reported_number line) (field_name v.fields f) (written_expr v (reported_number line) index)
+      (type_at (field_types v.fields) f) (written_expr v (reported_number line) e)
   written_stmt v line (branch own test on_true on_false) =
-      written_branch v line (written_cond v (reported_number line) test) (written_stmts v (line + 1) on_true) (line + 1 + stmts_lines on_true + 1) on_false
+      written_branch v line (written_cond v (reported_number line) test) (written_stmts v (line + 1) on_true)
+      (line + 1 + stmts_lines on_true + 1) on_false
   written_stmt v line (call own k target es) =
-      WrittenStmt.call (reported_number line) (procedure_name v.program k) (written_target v target) (written_arguments v (reported_number line) (procedure_types v.program k) es)
+      WrittenStmt.call (reported_number line) (procedure_name v.program k) (written_target v target)
+      (written_arguments v (reported_number line) (procedure_types v.program k) es)
 
   -- a choice whose second block begins on a line, and is left out where it is empty
   pub written_branch : Vocabulary → ℕ → WrittenCond → WrittenStmts → ℕ → StmtTrees → WrittenStmt
   written_branch v line test on_true else_line no_stmts = WrittenStmt.branch (reported_number line) test on_true
   written_branch v line test on_true else_line (more_stmts s ss) =
-      WrittenStmt.branch_else (reported_number line) test on_true (WrittenStmts.more_stmts (written_stmt v else_line s) (written_stmts v (else_line + stmt_lines s) ss))
+      WrittenStmt.branch_else (reported_number line) test on_true
+      (WrittenStmts.more_stmts (written_stmt v else_line s) (written_stmts v (else_line + stmt_lines s) ss))
 
   pub written_stmts : Vocabulary → ℕ → StmtTrees → WrittenStmts
   written_stmts v line no_stmts = WrittenStmts.no_stmts
@@ -145,7 +151,9 @@ written_procedure p line q = record {
   name = q.name;
   of = struct_name p q.of;
   params = map (written_param (reported_number (line + 1))) q.params;
-  body = written_stmts (record { program = p; fields = struct_fields p.structs q.of; params = map (λ x. x.name) q.params }) (line + 1 + 1) q.body;
+  body = written_stmts
+      (record { program = p; fields = struct_fields p.structs q.of; params = map (λ x. x.name) q.params })
+      (line + 1 + 1) q.body;
 }
 
 abbrev pub read_procedure : ℕ → ProcedureTree → ProcedureTree

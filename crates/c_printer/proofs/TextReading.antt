@@ -66,9 +66,12 @@ reads-word {l} text rest t = record {
 }
 
 -- the same, where its line is asked for
-pub reads-line : {a : Spelling} {l m : ℕ} {z : List ℕ} (text rest : List ℕ) → IsTokenBefore text rest → Reads a l (text ++ rest) m z → Reads (at_line (reported_number l) a) l (text ++ rest) m z
+pub reads-line : {a : Spelling} {l m : ℕ} {z : List ℕ} (text rest : List ℕ) → IsTokenBefore text rest →
+    Reads a l (text ++ rest) m z → Reads (at_line (reported_number l) a) l (text ++ rest) m z
 reads-line {a} {l} {m} {z} text rest t reads = record {
-  is = ap (at_line (reported_number l) a) front ∙ ap (λ b. if b then a (first ∷ tokens_from 0 l rest) else None) (eq-eqb (reported_number l) (reported_number l) refl) ∙ sym (ap a front) ∙ reads.is;
+  is = ap (at_line (reported_number l) a) front
+      ∙ ap (λ b. if b then a (first ∷ tokens_from 0 l rest) else None)
+      (eq-eqb (reported_number l) (reported_number l) refl) ∙ sym (ap a front) ∙ reads.is;
 }
   where
     first : Token
@@ -78,15 +81,19 @@ reads-line {a} {l} {m} {z} text rest t reads = record {
     front = tokens_from-token text rest l t
 
 -- a name
-pub reads-name : {l : ℕ} (name rest : List ℕ) → is_name name ≡ true → take_while is_word_byte rest ≡ [] → Reads (name_word name) l (name ++ rest) l rest
+pub reads-name : {l : ℕ} (name rest : List ℕ) → is_name name ≡ true → take_while is_word_byte rest ≡ [] →
+    Reads (name_word name) l (name ++ rest) l rest
 reads-name {l} name rest h none = record {
-  is = ap (λ b. (if b then word name else never) (tokens_from 0 l (name ++ rest))) h ∙ (reads-word name rest (name-token name rest h none)).is;
+  is = ap (λ b. (if b then word name else never) (tokens_from 0 l (name ++ rest))) h
+      ∙ (reads-word name rest (name-token name rest h none)).is;
 }
 
 -- a number
-pub reads-literal : {l : ℕ} (n : ℕ) (rest : List ℕ) → n < 2 ^ 63 → take_while is_ascii_digit rest ≡ [] → Reads (literal_word n) l (decimal n ++ rest) l rest
+pub reads-literal : {l : ℕ} (n : ℕ) (rest : List ℕ) → n < 2 ^ 63 → take_while is_ascii_digit rest ≡ [] →
+    Reads (literal_word n) l (decimal n ++ rest) l rest
 reads-literal {l} n rest small none = record {
-  is = ap (λ b. (if b then word (decimal n) else never) (tokens_from 0 l (decimal n ++ rest))) (le-leb (suc n) (2 ^ 63) small) ∙ (reads-word (decimal n) rest (decimal-token n rest small none)).is;
+  is = ap (λ b. (if b then word (decimal n) else never) (tokens_from 0 l (decimal n ++ rest)))
+      (le-leb (suc n) (2 ^ 63) small) ∙ (reads-word (decimal n) rest (decimal-token n rest small none)).is;
 }
 
 -- a sign that is part of no longer one, whatever follows
@@ -183,6 +190,10 @@ pub cast : {l : ℕ} {rest : List ℕ} (type : CType) → Reads (cast_spelling t
 cast {l} {rest} type = parens (reads-word (type_text type) (41 ∷ rest) (type-token_paren type rest))
 
 -- `s->` and a name
-pub own_start : {l : ℕ} {a : Spelling} {m : ℕ} {x z : List ℕ} → Reads a l x m z → Reads (word (codes "s") ⨾ word (codes "->") ⨾ a) l (115 ∷ 45 ∷ 62 ∷ x) m z
+pub own_start : {l : ℕ} {a : Spelling} {m : ℕ} {x z : List ℕ} → Reads a l x m z →
+    Reads (word (codes "s") ⨾ word (codes "->") ⨾ a) l (115 ∷ 45 ∷ 62 ∷ x) m z
 own_start {l} {a} {m} {x} {z} reads =
-    reads-word (codes "s") (45 ∷ 62 ∷ x) (record { first = 115; later = []; list = refl; piece = refl; one_line = λ line. refl }) ▸ reads-word (codes "->") x (record { first = 45; later = 62 ∷ []; list = refl; piece = refl; one_line = λ line. refl }) ▸ reads
+    reads-word (codes "s") (45 ∷ 62 ∷ x)
+    (record { first = 115; later = []; list = refl; piece = refl; one_line = λ line. refl }) ▸ reads-word
+    (codes "->") x (record { first = 45; later = 62 ∷ []; list = refl; piece = refl; one_line = λ line. refl }) ▸
+    reads

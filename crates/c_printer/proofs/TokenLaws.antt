@@ -8,6 +8,7 @@ lines_after line [] = line
 lines_after line (b ∷ bs) = lines_after (line_after b line) bs
 
 -- what is skipped moves the line alone
-pub tokens_from-skip : (bytes rest : List ℕ) (line : ℕ) → tokens_from (length bytes) line (bytes ++ rest) ≡ tokens_from 0 (lines_after line bytes) rest
+pub tokens_from-skip : (bytes rest : List ℕ) (line : ℕ) →
+    tokens_from (length bytes) line (bytes ++ rest) ≡ tokens_from 0 (lines_after line bytes) rest
 tokens_from-skip [] rest line = refl
 tokens_from-skip (b ∷ bs) rest line = tokens_from-skip bs rest (line_after b line)

@@ -1,4 +1,5 @@
--- The bytes that a program is printed as: one statement or declaration a line, and a blank line before each definition.
+-- The bytes that a program is printed as: one statement or declaration a line, and a blank line
+-- before each definition.
 use Rattle.std.specs.Prelude.{ℕ, ℤ, ◌+◌, min, Bool, true, false, List, [], ◌∷◌, ◌++◌, map, slice_index_or, replicate, unsigned_abs, codes, decimal}
 use Rattle.std.specs.List.{flat_map}
 use Rattle.c_syntax.specs.declared.code.CType.{CType}
@@ -53,7 +54,8 @@ inner_fields v k = slice_index_or (map (λ f. kind_fields v.program.structs f.ki
 abbrev pub leaf_bytes : Vocabulary → Leaf → List ℕ
 leaf_bytes v (Param k) = name_at v.params k
 leaf_bytes v (Own f) = codes "s->" ++ field_name v.fields f
-leaf_bytes v (Child f g) = codes "s->" ++ field_name v.fields f ++ codes "." ++ field_name (inner_fields v f) g
+leaf_bytes v (Child f g) =
+    codes "s->" ++ field_name v.fields f ++ codes "." ++ field_name (inner_fields v f) g
 
 -- what a literal is printed as
 abbrev pub literal_bytes : ℤ → List ℕ
@@ -64,10 +66,13 @@ abbrev mutual
   expr_bytes v (literal value) = literal_bytes value
   expr_bytes v (neg e) = codes "(-" ++ expr_bytes v e ++ codes ")"
   expr_bytes v (read leaf) = codes "(int64_t)" ++ leaf_bytes v leaf
-  expr_bytes v (binary op a b) = codes "(" ++ expr_bytes v a ++ codes " " ++ op_text op ++ codes " " ++ expr_bytes v b ++ codes ")"
-  expr_bytes v (pick test a b) = codes "(" ++ cond_bytes v test ++ codes " ? " ++ expr_bytes v a ++ codes " : " ++ expr_bytes v b ++ codes ")"
+  expr_bytes v (binary op a b) = codes "(" ++ expr_bytes v a ++ codes " " ++ op_text op ++ codes " "
+      ++ expr_bytes v b ++ codes ")"
+  expr_bytes v (pick test a b) = codes "(" ++ cond_bytes v test ++ codes " ? " ++ expr_bytes v a
+      ++ codes " : " ++ expr_bytes v b ++ codes ")"
   expr_bytes v (pure k es) = pure_name v.program k ++ codes "(" ++ exprs_bytes v es ++ codes ")"
-  expr_bytes v (item f index) = codes "(int64_t)s->" ++ field_name v.fields f ++ codes "[" ++ expr_bytes v index ++ codes "]"
+  expr_bytes v (item f index) =
+      codes "(int64_t)s->" ++ field_name v.fields f ++ codes "[" ++ expr_bytes v index ++ codes "]"
 
   -- expressions with `, ` between each two
   pub exprs_bytes : Vocabulary → ExprTrees → List ℕ
@@ -79,9 +84,12 @@ abbrev mutual
   later_exprs_bytes v (more_exprs e es) = codes ", " ++ expr_bytes v e ++ later_exprs_bytes v es
 
   pub cond_bytes : Vocabulary → CondTree → List ℕ
-  cond_bytes v (compare how a b) = codes "(" ++ expr_bytes v a ++ codes " " ++ compare_text how ++ codes " " ++ expr_bytes v b ++ codes ")"
-  cond_bytes v (both a b) = codes "(" ++ cond_bytes v a ++ codes " && " ++ cond_bytes v b ++ codes ")"
-  cond_bytes v (either a b) = codes "(" ++ cond_bytes v a ++ codes " || " ++ cond_bytes v b ++ codes ")"
+  cond_bytes v (compare how a b) = codes "(" ++ expr_bytes v a ++ codes " " ++ compare_text how
+      ++ codes " " ++ expr_bytes v b ++ codes ")"
+  cond_bytes v (both a b) =
+      codes "(" ++ cond_bytes v a ++ codes " && " ++ cond_bytes v b ++ codes ")"
+  cond_bytes v (either a b) =
+      codes "(" ++ cond_bytes v a ++ codes " || " ++ cond_bytes v b ++ codes ")"
   cond_bytes v (negated a) = codes "(!" ++ cond_bytes v a ++ codes ")"
 
 -- the blanks that a line begins with; in a block there are four more, up to 80
@@ -105,25 +113,34 @@ target_bytes v (ChildTarget f) = codes "&s->" ++ field_name v.fields f
 abbrev pub arguments_bytes : Vocabulary → List CType → ExprTrees → List ℕ
 arguments_bytes v types no_exprs = []
 arguments_bytes v [] (more_exprs e es) = []
-arguments_bytes v (t ∷ types) (more_exprs e es) = codes ", (" ++ type_text t ++ codes ")" ++ expr_bytes v e ++ arguments_bytes v types es
+arguments_bytes v (t ∷ types) (more_exprs e es) =
+    codes ", (" ++ type_text t ++ codes ")" ++ expr_bytes v e ++ arguments_bytes v types es
 
 abbrev mutual
   -- a statement at a margin
   pub stmt_bytes : Vocabulary → ℕ → StmtTree → List ℕ
   stmt_bytes v margin (assign line f e) =
-      margin_bytes margin ++ codes "s->" ++ field_name v.fields f ++ codes " = (" ++ type_text (type_at (field_types v.fields) f) ++ codes ")" ++ expr_bytes v e ++ ended (codes ";")
+      margin_bytes margin ++ codes "s->" ++ field_name v.fields f ++ codes " = ("
+      ++ type_text (type_at (field_types v.fields) f) ++ codes ")" ++ expr_bytes v e
+      ++ ended (codes ";")
   stmt_bytes v margin (assign_at line f index e) =
-      margin_bytes margin ++ codes "s->" ++ field_name v.fields f ++ codes "[" ++ expr_bytes v index ++ codes "] = (" ++ type_text (type_at (field_types v.fields) f) ++ codes ")" ++ expr_bytes v e ++ ended (codes ";")
+      margin_bytes margin ++ codes "s->" ++ field_name v.fields f ++ codes "[" ++ expr_bytes v index
+      ++ codes "] = (" ++ type_text (type_at (field_types v.fields) f) ++ codes ")"
+      ++ expr_bytes v e ++ ended (codes ";")
   stmt_bytes v margin (branch line test on_true on_false) =
-      margin_bytes margin ++ codes "if " ++ cond_bytes v test ++ ended (codes " {") ++ stmts_bytes v (deeper margin) on_true ++ else_bytes v margin on_false ++ margin_bytes margin ++ ended (codes "}")
+      margin_bytes margin ++ codes "if " ++ cond_bytes v test ++ ended (codes " {")
+      ++ stmts_bytes v (deeper margin) on_true ++ else_bytes v margin on_false
+      ++ margin_bytes margin ++ ended (codes "}")
   stmt_bytes v margin (call line k target es) =
-      margin_bytes margin ++ procedure_name v.program k ++ codes "(" ++ target_bytes v target ++ arguments_bytes v (procedure_types v.program k) es ++ ended (codes ");")
+      margin_bytes margin ++ procedure_name v.program k ++ codes "(" ++ target_bytes v target
+      ++ arguments_bytes v (procedure_types v.program k) es ++ ended (codes ");")
 
   -- the second block of a choice, where it does something
   pub else_bytes : Vocabulary → ℕ → StmtTrees → List ℕ
   else_bytes v margin no_stmts = []
   else_bytes v margin (more_stmts s ss) =
-      margin_bytes margin ++ ended (codes "} else {") ++ (stmt_bytes v (deeper margin) s ++ stmts_bytes v (deeper margin) ss)
+      margin_bytes margin ++ ended (codes "} else {")
+      ++ (stmt_bytes v (deeper margin) s ++ stmts_bytes v (deeper margin) ss)
 
   pub stmts_bytes : Vocabulary → ℕ → StmtTrees → List ℕ
   stmts_bytes v margin no_stmts = []
@@ -140,12 +157,15 @@ pure_params_bytes (name ∷ names) = codes "int64_t " ++ name ++ later_pure_para
 
 -- a blank line, and a pure function up to its `{`
 abbrev pub pure_head_bytes : PureTree → List ℕ
-pure_head_bytes q = ended [] ++ codes "static int64_t " ++ q.name ++ codes "(" ++ pure_params_bytes q.params ++ ended (codes ") {")
+pure_head_bytes q = ended [] ++ codes "static int64_t " ++ q.name ++ codes "("
+    ++ pure_params_bytes q.params ++ ended (codes ") {")
 
 -- a pure function
 abbrev pub pure_bytes : ProgramTree → PureTree → List ℕ
 pure_bytes p q =
-    pure_head_bytes q ++ codes "    return " ++ expr_bytes (record { program = p; fields = []; params = q.params }) q.body ++ ended (codes ";") ++ ended (codes "}")
+    pure_head_bytes q ++ codes "    return "
+    ++ expr_bytes (record { program = p; fields = []; params = q.params }) q.body
+    ++ ended (codes ";") ++ ended (codes "}")
 
 -- what a field is declared as
 abbrev pub kind_bytes : ProgramTree → FieldKind → List ℕ
@@ -161,11 +181,13 @@ length_bytes (Struct k) = []
 
 -- a line that declares a field
 abbrev pub field_bytes : ProgramTree → FieldTree → List ℕ
-field_bytes p f = codes "    " ++ kind_bytes p f.kind ++ codes " " ++ f.name ++ length_bytes f.kind ++ ended (codes ";")
+field_bytes p f = codes "    " ++ kind_bytes p f.kind ++ codes " " ++ f.name ++ length_bytes f.kind
+    ++ ended (codes ";")
 
 -- a struct, behind a blank line
 abbrev pub struct_bytes : ProgramTree → StructTree → List ℕ
-struct_bytes p d = ended [] ++ codes "struct " ++ d.name ++ ended (codes " {") ++ flat_map (field_bytes p) d.fields ++ ended (codes "};")
+struct_bytes p d = ended [] ++ codes "struct " ++ d.name ++ ended (codes " {")
+    ++ flat_map (field_bytes p) d.fields ++ ended (codes "};")
 
 -- what a procedure begins with
 abbrev pub private_bytes : Bool → List ℕ
@@ -179,14 +201,21 @@ param_bytes q = codes ", " ++ type_text q.type ++ codes " " ++ q.name
 -- a blank line, and a procedure up to its `{`
 abbrev pub procedure_head_bytes : ProgramTree → ProcedureTree → List ℕ
 procedure_head_bytes p q =
-    ended [] ++ private_bytes q.private ++ q.name ++ codes "(struct " ++ struct_name p q.of ++ codes " *s" ++ flat_map param_bytes q.params ++ ended (codes ") {")
+    ended [] ++ private_bytes q.private ++ q.name ++ codes "(struct " ++ struct_name p q.of
+    ++ codes " *s" ++ flat_map param_bytes q.params ++ ended (codes ") {")
 
 -- a procedure
 abbrev pub procedure_bytes : ProgramTree → ProcedureTree → List ℕ
 procedure_bytes p q =
-    procedure_head_bytes p q ++ stmts_bytes (record { program = p; fields = struct_fields p.structs q.of; params = map (λ x. x.name) q.params }) 4 q.body ++ ended (codes "}")
+    procedure_head_bytes p q
+    ++ stmts_bytes (record {
+      program = p;
+      fields = struct_fields p.structs q.of;
+      params = map (λ x. x.name) q.params;
+    }) 4 q.body ++ ended (codes "}")
 
 -- the text of a program
 abbrev pub program_bytes : ProgramTree → List ℕ
 program_bytes p =
-    ended header_line ++ flat_map (pure_bytes p) p.pures ++ flat_map (struct_bytes p) p.structs ++ flat_map (procedure_bytes p) p.procedures
+    ended header_line ++ flat_map (pure_bytes p) p.pures ++ flat_map (struct_bytes p) p.structs
+    ++ flat_map (procedure_bytes p) p.procedures

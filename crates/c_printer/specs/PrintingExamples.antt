@@ -17,8 +17,21 @@ small_program = record {
   pures = [];
   structs = record { name = codes "root"; fields = field (codes "y1") ∷ [] } ∷ [];
   procedures =
-      record { name = codes "root_start"; private = false; of = 0; params = []; body = stmts_of_list [] }
-      ∷ record { name = codes "root_step"; private = false; of = 0; params = param (codes "u1") ∷ []; body = stmts_of_list (assign 0 0 (read (Param 0)) ∷ []) }
+      record {
+        name = codes "root_start";
+        private = false;
+        of = 0;
+        params = [];
+        body = stmts_of_list [];
+      }
+      ∷ record {
+        name = codes "root_step";
+        private = false;
+        of = 0;
+        params = param (codes "u1")
+            ∷ [];
+        body = stmts_of_list (assign 0 0 (read (Param 0)) ∷ []);
+      }
       ∷ [];
 }
 
@@ -44,11 +57,24 @@ small_program-lawful = record {
   functions = (refl, refl, (refl, refl, tt));
   struct_names = (refl, refl, tt);
   pures = tt;
-  structs = (record { fields = (refl, refl, tt); some = lit≤ tt; kinds = (tt, tt); outputs = λ root. (refl, tt) }, tt);
+  structs = (
+    record {
+      fields = (refl, refl, tt);
+      some = lit≤ tt;
+      kinds = (tt, tt);
+      outputs = λ root. (refl, tt);
+    },
+    tt,
+  );
   procedures = (
     record { of = lit≤ tt; params = tt; apart = tt; body = tt },
     (
-      record { of = lit≤ tt; params = (refl, refl, tt); apart = (refl, tt); body = (((field (codes "y1"), refl, refl), lit≤ tt), tt) },
+      record {
+        of = lit≤ tt;
+        params = (refl, refl, tt);
+        apart = (refl, tt);
+        body = (((field (codes "y1"), refl, refl), lit≤ tt), tt);
+      },
       tt,
     ),
   );
@@ -58,20 +84,43 @@ small_program-lawful = record {
     struct_there = refl;
     struct_name = refl;
     start = 0;
-    start_procedure = record { name = codes "root_start"; private = false; of = 0; params = []; body = stmts_of_list [] };
+    start_procedure =
+        record {
+          name = codes "root_start";
+          private = false;
+          of = 0;
+          params = [];
+          body = stmts_of_list [];
+        };
     start_there = refl;
     start_name = refl;
     start_of = refl;
     start_params = refl;
     step = 1;
-    step_procedure = record { name = codes "root_step"; private = false; of = 0; params = param (codes "u1") ∷ []; body = stmts_of_list (assign 0 0 (read (Param 0)) ∷ []) };
+    step_procedure =
+        record {
+          name = codes "root_step";
+          private = false;
+          of = 0;
+          params = param (codes "u1")
+              ∷ [];
+          body = stmts_of_list (assign 0 0 (read (Param 0)) ∷ []);
+        };
     step_there = refl;
     step_name = refl;
     step_of = refl;
     step_params = ((λ same. cc), tt);
   };
   chains = (lit≤ tt, (lit≤ tt, tt));
-  limits = record { count = lit≤ tt; pures = tt; procedures = (record { params = lit≤ tt; statements = lit≤ tt; expressions = lit≤ tt }, (record { params = lit≤ tt; statements = lit≤ tt; expressions = lit≤ tt }, tt)) };
+  limits =
+      record {
+        count = lit≤ tt;
+        pures = tt;
+        procedures = (
+          record { params = lit≤ tt; statements = lit≤ tt; expressions = lit≤ tt },
+          (record { params = lit≤ tt; statements = lit≤ tt; expressions = lit≤ tt }, tt),
+        );
+      };
 }
 
 -- three items: the last is stored in one of them, and the first is the output
@@ -82,15 +131,30 @@ abbrev items_struct : StructTree
 items_struct = record { name = codes "root"; fields = field (codes "y1") ∷ items_field ∷ [] }
 
 abbrev items_body : StmtTrees
-items_body = stmts_of_list (assign_at 0 1 (read (Param 0)) (item 1 (literal (pos 2))) ∷ assign 0 0 (item 1 (literal (pos 0))) ∷ [])
+items_body =
+    stmts_of_list (assign_at 0 1 (read (Param 0)) (item 1 (literal (pos 2)))
+    ∷ assign 0 0 (item 1 (literal (pos 0))) ∷ [])
 
 abbrev pub items_program : ProgramTree
 items_program = record {
   pures = [];
   structs = items_struct ∷ [];
   procedures =
-      record { name = codes "root_start"; private = false; of = 0; params = []; body = stmts_of_list [] }
-      ∷ record { name = codes "root_step"; private = false; of = 0; params = param (codes "u1") ∷ []; body = items_body }
+      record {
+        name = codes "root_start";
+        private = false;
+        of = 0;
+        params = [];
+        body = stmts_of_list [];
+      }
+      ∷ record {
+        name = codes "root_step";
+        private = false;
+        of = 0;
+        params = param (codes "u1")
+            ∷ [];
+        body = items_body;
+      }
       ∷ [];
 }
 
@@ -122,11 +186,27 @@ items_program-lawful = record {
   functions = (refl, refl, (refl, refl, tt));
   struct_names = (refl, refl, tt);
   pures = tt;
-  structs = (record { fields = (refl, refl, (refl, refl, tt)); some = lit≤ tt; kinds = (tt, ((lit≤ tt, lit≤ tt), tt)); outputs = λ root. (refl, (refl, tt)) }, tt);
+  structs = (
+    record {
+      fields = (refl, refl, (refl, refl, tt));
+      some = lit≤ tt;
+      kinds = (tt, ((lit≤ tt, lit≤ tt), tt));
+      outputs = λ root. (refl, (refl, tt));
+    },
+    tt,
+  );
   procedures = (
     record { of = lit≤ tt; params = tt; apart = tt; body = tt },
     (
-      record { of = lit≤ tt; params = (refl, refl, tt); apart = (refl, tt); body = ((items-there, lit≤ tt, (items-there, (2, refl, lit≤ tt))), (((field (codes "y1"), refl, refl), (items-there, (0, refl, lit≤ tt))), tt)) },
+      record {
+        of = lit≤ tt;
+        params = (refl, refl, tt);
+        apart = (refl, tt);
+        body = (
+          (items-there, lit≤ tt, (items-there, (2, refl, lit≤ tt))),
+          (((field (codes "y1"), refl, refl), (items-there, (0, refl, lit≤ tt))), tt),
+        );
+      },
       tt,
     ),
   );
@@ -136,18 +216,41 @@ items_program-lawful = record {
     struct_there = refl;
     struct_name = refl;
     start = 0;
-    start_procedure = record { name = codes "root_start"; private = false; of = 0; params = []; body = stmts_of_list [] };
+    start_procedure =
+        record {
+          name = codes "root_start";
+          private = false;
+          of = 0;
+          params = [];
+          body = stmts_of_list [];
+        };
     start_there = refl;
     start_name = refl;
     start_of = refl;
     start_params = refl;
     step = 1;
-    step_procedure = record { name = codes "root_step"; private = false; of = 0; params = param (codes "u1") ∷ []; body = items_body };
+    step_procedure =
+        record {
+          name = codes "root_step";
+          private = false;
+          of = 0;
+          params = param (codes "u1")
+              ∷ [];
+          body = items_body;
+        };
     step_there = refl;
     step_name = refl;
     step_of = refl;
     step_params = ((λ same. cc), tt);
   };
   chains = (lit≤ tt, (lit≤ tt, tt));
-  limits = record { count = lit≤ tt; pures = tt; procedures = (record { params = lit≤ tt; statements = lit≤ tt; expressions = lit≤ tt }, (record { params = lit≤ tt; statements = lit≤ tt; expressions = lit≤ tt }, tt)) };
+  limits =
+      record {
+        count = lit≤ tt;
+        pures = tt;
+        procedures = (
+          record { params = lit≤ tt; statements = lit≤ tt; expressions = lit≤ tt },
+          (record { params = lit≤ tt; statements = lit≤ tt; expressions = lit≤ tt }, tt),
+        );
+      };
 }

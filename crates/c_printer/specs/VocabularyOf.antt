@@ -14,4 +14,9 @@ param_names (Procedure params) = map (λ q. q.0) params.now
 
 -- the words of a scope
 abbrev pub vocabulary_of : Scope → Vocabulary
-vocabulary_of s = record { program = program_tree s.program.now; fields = field_trees s.fields.now; params = param_names s.params }
+vocabulary_of s =
+    record {
+      program = program_tree s.program.now;
+      fields = field_trees s.fields.now;
+      params = param_names s.params;
+    }

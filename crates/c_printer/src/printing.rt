@@ -39,7 +39,8 @@ fn text_of(alloc: Global, program: &Program) -> Result<Vec<u8>, AllocError>
 
 fn put_pures(alloc: Global, out: &mut Vec<u8>, program: &Program) -> Result<(), AllocError>
     ensures { OnOk result (out.new.items
-        ≡ out.old.items ++ flat_map (pure_bytes (program_tree program.now)) (map pure_tree program.now.pure.items)) }
+        ≡ out.old.items ++ flat_map (pure_bytes (program_tree program.now))
+        (map pure_tree program.now.pure.items)) }
 {
     for pure in &program.pure {
         heads::put_pure(alloc, out, program, pure)?;
@@ -49,7 +50,8 @@ fn put_pures(alloc: Global, out: &mut Vec<u8>, program: &Program) -> Result<(), 
 
 fn put_structs(alloc: Global, out: &mut Vec<u8>, program: &Program) -> Result<(), AllocError>
     ensures { OnOk result (out.new.items
-        ≡ out.old.items ++ flat_map (struct_bytes (program_tree program.now)) program.now.structs.items) }
+        ≡ out.old.items
+        ++ flat_map (struct_bytes (program_tree program.now)) program.now.structs.items) }
 {
     for def in &program.structs {
         heads::put_struct(alloc, out, program, def)?;
@@ -59,7 +61,8 @@ fn put_structs(alloc: Global, out: &mut Vec<u8>, program: &Program) -> Result<()
 
 fn put_procedures(alloc: Global, out: &mut Vec<u8>, program: &Program) -> Result<(), AllocError>
     ensures { OnOk result (out.new.items
-        ≡ out.old.items ++ flat_map (procedure_bytes (program_tree program.now)) (map procedure_tree program.now.procedures.items)) }
+        ≡ out.old.items ++ flat_map (procedure_bytes (program_tree program.now))
+        (map procedure_tree program.now.procedures.items)) }
 {
     for procedure in &program.procedures {
         heads::put_procedure(alloc, out, program, procedure)?;

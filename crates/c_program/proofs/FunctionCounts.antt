@@ -35,10 +35,16 @@ all-counted : (d : Diagram) (ps : List SystemProfile) → All (λ p. IsProfileOf
 all-counted d [] each = ([], tt, refl)
 all-counted d (p ∷ ps) each =
     let is = All-head (λ q. IsProfileOf d q.row q) p ps each in
-    let (needs, are, total) = all-counted d ps (All-tail (λ q. IsProfileOf d q.row q) p ps each) in
-    (is.needs ∷ needs, (is.are_needs, are), sum_by-cons functions_in p ps ∙ ap₂ (λ n m. n + m) (one-count d p.row p is) total ∙ sym (sum_by-cons (λ (n : ℕ). n) (class_count is.needs) (map class_count needs)))
+    let (needs, are, total) = all-counted d ps (All-tail (λ q. IsProfileOf d q.row q) p ps each) in (
+      is.needs ∷ needs,
+      (is.are_needs, are),
+      sum_by-cons functions_in p ps
+          ∙ ap₂ (λ n m. n + m) (one-count d p.row p is) total
+          ∙ sym (sum_by-cons (λ (n : ℕ). n) (class_count is.needs) (map class_count needs)),
+    )
 
-pub functions-counted : (d : Diagram) (ps : List SystemProfile) → map (λ p. p.row) ps ≡ systems d.rows → All (λ p. IsProfileOf d p.row p) ps →
+pub functions-counted : (d : Diagram) (ps : List SystemProfile) → map (λ p. p.row) ps ≡ systems d.rows →
+    All (λ p. IsProfileOf d p.row p) ps →
     IsFunctionCount d (sum_by functions_in ps)
 functions-counted d ps rows each =
     let (needs, are, total) = subst (λ ss. Counted d ss ps) rows (all-counted d ps each) in
@@ -79,7 +85,8 @@ module _ (r : ResolvedTree) (is : IsResolvedTree r) where
       let most = is.tree.table.nested.at_most in
       omega (arith, inner, mapped, numbers, most)
 
-  pub functions-fit : (ps : List SystemProfile) → map (λ p. p.row) ps ≡ systems r.tree.table.rows → All (λ p. IsProfileOf (diagram_of r) p.row p) ps →
+  pub functions-fit : (ps : List SystemProfile) → map (λ p. p.row) ps ≡ systems r.tree.table.rows →
+      All (λ p. IsProfileOf (diagram_of r) p.row p) ps →
       sum_by functions_in ps < 2 ^ 32
   functions-fit ps rows each =
       let few = all-few ps each in

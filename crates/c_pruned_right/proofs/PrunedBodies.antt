@@ -10,11 +10,14 @@ use Rattle.c_pruned.specs.Pruned.{renumbered_expr, renumbered_exprs, renumbered_
 
 -- ---- Lists that are mapped
 
-pub each-map : {A B : Type 0} (f : A → B) (P : A → Type 0) (Q : B → Type 0) (xs : List A) → ((x : A) → P x → Q (f x)) → AllByRecursion P xs → AllByRecursion Q (map f xs)
+pub each-map : {A B : Type 0} (f : A → B) (P : A → Type 0) (Q : B → Type 0) (xs : List A) → ((x : A) → P x → Q (f x)) →
+    AllByRecursion P xs → AllByRecursion Q (map f xs)
 each-map f P Q [] next h = tt
 each-map f P Q (x ∷ xs) next h = (next x h.0, each-map f P Q xs next h.1)
 
-pub zip-map : {A B C : Type 0} (f : B → C) (R : A → B → Type 0) (S : A → C → Type 0) → ((a : A) (b : B) → R a b → S a (f b)) → (firsts : List A) (bs : List B) → AllZip R firsts bs → AllZip S firsts (map f bs)
+pub zip-map : {A B C : Type 0} (f : B → C) (R : A → B → Type 0) (S : A → C → Type 0) →
+    ((a : A) (b : B) → R a b → S a (f b)) → (firsts : List A) (bs : List B) → AllZip R firsts bs →
+    AllZip S firsts (map f bs)
 zip-map f R S next [] [] h = tt
 zip-map f R S next [] (b ∷ bs) h = absurd h
 zip-map f R S next (a ∷ firsts) [] h = absurd h
@@ -25,7 +28,8 @@ filter-map f test [] = refl
 filter-map {A = A} f test (x ∷ xs) = by (test (f x)) (filter-map f test xs)
   where
     by : (b : Bool) → filter test (map f xs) ≡ map f (filter (λ y. test (f y)) xs) →
-        cond b (f x ∷ filter test (map f xs)) (filter test (map f xs)) ≡ map f (cond b (x ∷ filter (λ y. test (f y)) xs) (filter (λ y. test (f y)) xs))
+        cond b (f x ∷ filter test (map f xs)) (filter test (map f xs))
+        ≡ map f (cond b (x ∷ filter (λ y. test (f y)) xs) (filter (λ y. test (f y)) xs))
     by true e = ap (λ ys. f x ∷ ys) e
     by false e = e
 
@@ -89,7 +93,8 @@ module _ (place : ℕ → ℕ) where
     stmt-stores : (x : StmtTree) → stmt_stores (renumbered_stmt place x) ≡ map moved_store (stmt_stores x)
     stmt-stores (assign line f value) = refl
     stmt-stores (assign_at line f index value) = refl
-    stmt-stores (branch line test on_true on_false) = two moved_store (stores_in on_true) (stores_in on_false) _ _ (stores-moved on_true) (stores-moved on_false)
+    stmt-stores (branch line test on_true on_false) =
+        two moved_store (stores_in on_true) (stores_in on_false) _ _ (stores-moved on_true) (stores-moved on_false)
     stmt-stores (call line k target es) = refl
 
     pub stores-moved : (xs : StmtTrees) → stores_in (renumbered_stmts place xs) ≡ map moved_store (stores_in xs)
@@ -101,7 +106,9 @@ module _ (place : ℕ → ℕ) where
     stmt-tests (assign line f value) = refl
     stmt-tests (assign_at line f index value) = refl
     stmt-tests (branch line test on_true on_false) =
-        ap (λ rest. renumbered_cond place test ∷ rest) (two (renumbered_cond place) (tests_in on_true) (tests_in on_false) _ _ (tests-moved on_true) (tests-moved on_false))
+        ap (λ rest. renumbered_cond place test ∷ rest)
+        (two (renumbered_cond place) (tests_in on_true) (tests_in on_false) _ _ (tests-moved on_true)
+        (tests-moved on_false))
     stmt-tests (call line k target es) = refl
 
     pub tests-moved : (xs : StmtTrees) → tests_in (renumbered_stmts place xs) ≡ map (renumbered_cond place) (tests_in xs)
@@ -112,7 +119,8 @@ module _ (place : ℕ → ℕ) where
     stmt-calls : (x : StmtTree) → stmt_calls (renumbered_stmt place x) ≡ map moved_call (stmt_calls x)
     stmt-calls (assign line f value) = refl
     stmt-calls (assign_at line f index value) = refl
-    stmt-calls (branch line test on_true on_false) = two moved_call (calls_in on_true) (calls_in on_false) _ _ (calls-moved on_true) (calls-moved on_false)
+    stmt-calls (branch line test on_true on_false) =
+        two moved_call (calls_in on_true) (calls_in on_false) _ _ (calls-moved on_true) (calls-moved on_false)
     stmt-calls (call line k target es) = λ i. record { procedure = k; target = target; values = exprs-list es i } ∷ []
 
     pub calls-moved : (xs : StmtTrees) → calls_in (renumbered_stmts place xs) ≡ map moved_call (calls_in xs)
@@ -145,7 +153,8 @@ module _ (place : ℕ → ℕ) where
     stmt-indices : (x : StmtTree) → stmt_indices (renumbered_stmt place x) ≡ map moved_index (stmt_indices x)
     stmt-indices (assign line f value) = expr-indices value
     stmt-indices (assign_at line f index value) =
-        ap (λ rest. record { field = f; index = renumbered_expr place index } ∷ rest) (two moved_index (expr_indices index) (expr_indices value) _ _ (expr-indices index) (expr-indices value))
+        ap (λ rest. record { field = f; index = renumbered_expr place index } ∷ rest)
+        (two moved_index (expr_indices index) (expr_indices value) _ _ (expr-indices index) (expr-indices value))
     stmt-indices (branch line test on_true on_false) =
         two moved_index (cond_indices test ++ indices_in on_true) (indices_in on_false) _ _
         (two moved_index (cond_indices test) (indices_in on_true) _ _ (cond-indices test) (indices-moved on_true)) (indices-moved on_false)
@@ -156,7 +165,8 @@ module _ (place : ℕ → ℕ) where
     indices-moved (more_stmts x xs) = two moved_index (stmt_indices x) (indices_in xs) _ _ (stmt-indices x) (indices-moved xs)
 
   -- what each of some procedures has
-  pub flat-moved : {A : Type 0} (f : ProcedureTree → List A) (g : A → A) → ((x : ProcedureTree) → f (renumbered_procedure place x) ≡ map g (f x)) → (xs : List ProcedureTree) →
+  pub flat-moved : {A : Type 0} (f : ProcedureTree → List A) (g : A → A) →
+      ((x : ProcedureTree) → f (renumbered_procedure place x) ≡ map g (f x)) → (xs : List ProcedureTree) →
       flat_map f (map (renumbered_procedure place) xs) ≡ map g (flat_map f xs)
   flat-moved f g each [] = refl
   flat-moved f g each (x ∷ xs) = two g (f x) (flat_map f xs) _ _ (each x) (flat-moved f g each xs)

@@ -51,7 +51,9 @@ module _ (place : ℕ → ℕ) where
   place-moved name n [] = refl
   place-moved name n (q ∷ qs) = ap (λ rest. cond (bytes_eq q.name name) (Some n) rest) (place-moved name (n + 1) qs)
 
-  any-moved : (name : List ℕ) (qs : List ProcedureTree) → list_any (λ q. bytes_eq q.name name) (map (renumbered_procedure place) qs) ≡ list_any (λ q. bytes_eq q.name name) qs
+  any-moved : (name : List ℕ) (qs : List ProcedureTree) →
+      list_any (λ q. bytes_eq q.name name) (map (renumbered_procedure place) qs)
+      ≡ list_any (λ q. bytes_eq q.name name) qs
   any-moved name [] = refl
   any-moved name (q ∷ qs) = ap (λ rest. bytes_eq q.name name || rest) (any-moved name qs)
 
@@ -70,14 +72,20 @@ module _ (place : ℕ → ℕ) (pures : List PureTree) (p : ProgramTree) where
   pub same-outs : (s : Option ℕ) → out_places q s ≡ out_places p s
   same-outs s =
       (λ i. map (λ j. unwrap_or (place-moved place (out_name s j) 0 p.procedures i) 0)
-      (range_with_len 1 (prefix_len (λ j. any-moved place (out_name s j) p.procedures i) (range_with_len 1 (length-moved place p.procedures i)))))
+      (range_with_len 1
+      (prefix_len (λ j. any-moved place (out_name s j) p.procedures i)
+      (range_with_len 1 (length-moved place p.procedures i)))))
 
   module _ (alike : RunsAs q p) where
     same-ticks : (xs : List (List ℤ)) → (c_rows q xs).ticks ≡ (c_rows p xs).ticks
     same-ticks xs = ap (λ (rows : Rows). rows.ticks) (alike.rows xs)
 
     pub outputs-alike : (d : Diagram) (xs : List (List ℤ)) → GivesOutputs p d xs → GivesOutputs q d xs
-    outputs-alike d xs h = record { one_run = h.one_run; outputs = ap (λ (ticks : List TickRow). map (λ row. row.outputs) ticks) (same-ticks xs) ∙ h.outputs }
+    outputs-alike d xs h =
+        record {
+          one_run = h.one_run;
+          outputs = ap (λ (ticks : List TickRow). map (λ row. row.outputs) ticks) (same-ticks xs) ∙ h.outputs;
+        }
 
     pub bounded-alike : (d : Diagram) (xs : List (List ℤ)) → StaysInBound p d xs → StaysInBound q d xs
     bounded-alike d xs h = record {
@@ -101,28 +109,38 @@ module _ (place : ℕ → ℕ) (pures : List PureTree) (p : ProgramTree) where
     inside-alike : (d : Diagram) (s : Option ℕ) (x v : List ℤ) (g : List TrigMem) (log : List LoggedCall) (stores : List StoredField) →
         CallsInside p d s x v g log stores → CallsInside q d s x v g log stores
     inside-alike d s x v g log stores h = record {
-      each = each-then (λ e. HasCallsOf p (Some e) (active_in d s x v g (around d.rows s e)) (calls_at (path_to p d.rows (Some e)) log)) (λ e. HasCallsOf q (Some e) (active_in d s x v g (around d.rows s e)) (calls_at (path_to q d.rows (Some e)) log)) (systems_inside d.rows s)
+      each = each-then
+          (λ e. HasCallsOf p (Some e) (active_in d s x v g (around d.rows s e))
+          (calls_at (path_to p d.rows (Some e)) log))
+          (λ e. HasCallsOf q (Some e) (active_in d s x v g (around d.rows s e))
+          (calls_at (path_to q d.rows (Some e)) log)) (systems_inside d.rows s)
           (λ e one. calls-alike (Some e) (active_in d s x v g (around d.rows s e)) (calls_at (path_to p d.rows (Some e)) log) one) h.each;
       stored_once = h.stored_once;
       no_other = h.no_other;
     }
 
-    tick-alike : (d : Diagram) (x v : List ℤ) (g : List TrigMem) (log : List LoggedCall) (stores : List StoredField) → CallsInTick p d x v g log stores → CallsInTick q d x v g log stores
+    tick-alike : (d : Diagram) (x v : List ℤ) (g : List TrigMem) (log : List LoggedCall) (stores : List StoredField) →
+        CallsInTick p d x v g log stores → CallsInTick q d x v g log stores
     tick-alike d x v g log stores h = record {
       inside = inside-alike d None x v g log stores h.inside;
       top = whole-alike None (calls_at (path_to p d.rows None) log) h.top;
       top_stored_once = h.top_stored_once;
     }
 
-    ticks-alike : (d : Diagram) (ticks : List TickRow) (xs vs : List (List ℤ)) (gs : List (List TrigMem)) → HasCalls p d ticks xs vs gs → HasCalls q d ticks xs vs gs
+    ticks-alike : (d : Diagram) (ticks : List TickRow) (xs vs : List (List ℤ)) (gs : List (List TrigMem)) →
+        HasCalls p d ticks xs vs gs → HasCalls q d ticks xs vs gs
     ticks-alike d [] xs vs gs h = tt
     ticks-alike d (row ∷ rows) (x ∷ xs) (v ∷ vs) (g ∷ gs) h = (tick-alike d x v g row.log row.stores h.0, ticks-alike d rows xs vs gs h.1)
     ticks-alike d (row ∷ rows) [] vs gs h = absurd h
     ticks-alike d (row ∷ rows) (x ∷ xs) [] gs h = absurd h
     ticks-alike d (row ∷ rows) (x ∷ xs) (v ∷ vs) [] h = absurd h
 
-    pub rows-alike : (d : Diagram) (xs : List (List ℤ)) (run : Run) → HasCalls p d (c_rows p xs).ticks xs run.values run.triggers → HasCalls q d (c_rows q xs).ticks xs run.values run.triggers
-    rows-alike d xs run h = subst (λ ticks. HasCalls q d ticks xs run.values run.triggers) (sym (same-ticks xs)) (ticks-alike d (c_rows p xs).ticks xs run.values run.triggers h)
+    pub rows-alike : (d : Diagram) (xs : List (List ℤ)) (run : Run) →
+        HasCalls p d (c_rows p xs).ticks xs run.values run.triggers →
+        HasCalls q d (c_rows q xs).ticks xs run.values run.triggers
+    rows-alike d xs run h =
+        subst (λ ticks. HasCalls q d ticks xs run.values run.triggers) (sym (same-ticks xs))
+        (ticks-alike d (c_rows p xs).ticks xs run.values run.triggers h)
 
     -- ---- Scripts
 
@@ -134,25 +152,33 @@ module _ (place : ℕ → ℕ) (pures : List PureTree) (p : ProgramTree) where
 
     module _ (d : Diagram) (hyper : ℕ) (s : Option ℕ) (functions : List Function) (xs : List (List ℤ)) (run : Run) where
       driven-alike : (script : List Call) (t : ℕ) (cells : Cells) (log : List LoggedCall) (stores : List StoredField) →
-          DrivenFrom p d hyper s functions xs run t cells log stores script → DrivenFrom q d hyper s functions xs run t cells log stores script
+          DrivenFrom p d hyper s functions xs run t cells log stores script →
+          DrivenFrom q d hyper s functions xs run t cells log stores script
       driven-alike [] t cells log stores h = tt
       driven-alike (out_with j values ∷ script) t cells log stores h =
           done-same (call_in_tick p d hyper s t (out_name s j) values cells) (call_in_tick q d hyper s t (out_name s j) values cells)
-          (λ (after : After). AllByRecursion (λ o. field_of p d s after.cells o ≡ value_at (slice_index_or run.values t []) o) (given_by_function (numbered_function functions j) (outports_of d.rows s))
+          (λ (after : After). AllByRecursion (λ o. field_of p d s after.cells o
+          ≡ value_at (slice_index_or run.values t []) o)
+          (given_by_function (numbered_function functions j) (outports_of d.rows s))
           × DrivenFrom p d hyper s functions xs run t after.cells (log ++ after.log) (stores ++ after.stores) script)
-          (λ (after : After). AllByRecursion (λ o. field_of q d s after.cells o ≡ value_at (slice_index_or run.values t []) o) (given_by_function (numbered_function functions j) (outports_of d.rows s))
+          (λ (after : After). AllByRecursion (λ o. field_of q d s after.cells o
+          ≡ value_at (slice_index_or run.values t []) o)
+          (given_by_function (numbered_function functions j) (outports_of d.rows s))
           × DrivenFrom q d hyper s functions xs run t after.cells (log ++ after.log) (stores ++ after.stores) script)
           (same-call d hyper s t (out_name s j) values cells)
           (λ after both. (both.0, driven-alike script t after.cells (log ++ after.log) (stores ++ after.stores) both.1)) h
       driven-alike (update_with values ∷ script) t cells log stores h =
           done-same (call_in_tick p d hyper s t (update_name s) values cells) (call_in_tick q d hyper s t (update_name s) values cells)
-          (λ (after : After). CallsInside p d s (slice_index_or xs t []) (slice_index_or run.values t []) (slice_index_or run.triggers t []) (log ++ after.log) (stores ++ after.stores)
+          (λ (after : After). CallsInside p d s (slice_index_or xs t []) (slice_index_or run.values t [])
+          (slice_index_or run.triggers t []) (log ++ after.log) (stores ++ after.stores)
           × DrivenFrom p d hyper s functions xs run (suc t) after.cells [] [] script)
-          (λ (after : After). CallsInside q d s (slice_index_or xs t []) (slice_index_or run.values t []) (slice_index_or run.triggers t []) (log ++ after.log) (stores ++ after.stores)
+          (λ (after : After). CallsInside q d s (slice_index_or xs t []) (slice_index_or run.values t [])
+          (slice_index_or run.triggers t []) (log ++ after.log) (stores ++ after.stores)
           × DrivenFrom q d hyper s functions xs run (suc t) after.cells [] [] script)
           (same-call d hyper s t (update_name s) values cells)
           (λ after both. (
-            inside-alike d s (slice_index_or xs t []) (slice_index_or run.values t []) (slice_index_or run.triggers t []) (log ++ after.log) (stores ++ after.stores) both.0,
+            inside-alike d s (slice_index_or xs t []) (slice_index_or run.values t [])
+                (slice_index_or run.triggers t []) (log ++ after.log) (stores ++ after.stores) both.0,
             driven-alike script (suc t) after.cells [] [] both.1,
           )) h
 
@@ -166,7 +192,8 @@ module _ (place : ℕ → ℕ) (pures : List PureTree) (p : ProgramTree) where
 
     -- ---- Starts and resets
 
-    leaves-alike : (structure : ℕ) (name : List ℕ) (P Q : Cells → After → Type 0) → ((before : Cells) (a : After) → P before a → Q before a) →
+    leaves-alike : (structure : ℕ) (name : List ℕ) (P Q : Cells → After → Type 0) →
+        ((before : Cells) (a : After) → P before a → Q before a) →
         FromAnyFields p structure (procedure_place p name) P → FromAnyFields q structure (procedure_place q name) Q
     leaves-alike structure name P Q next h before has =
         let k = procedure_place p name in
@@ -186,25 +213,35 @@ module _ (place : ℕ → ℕ) (pures : List PureTree) (p : ProgramTree) where
         ((n : Option ℕ) (old new : Cells) → P n old new → Q n old new) → HoldsInside p d s P before after → HoldsInside q d s Q before after
     holds-alike d s P Q before after next h = record {
       here = next s before after h.here;
-      inside = each-then (λ e. P (Some e) (cells_at (path_inside p d.rows s e) before) (cells_at (path_inside p d.rows s e) after)) (λ e. Q (Some e) (cells_at (path_inside q d.rows s e) before) (cells_at (path_inside q d.rows s e) after)) (systems_inside d.rows s)
+      inside =
+          each-then
+          (λ e. P (Some e) (cells_at (path_inside p d.rows s e) before) (cells_at (path_inside p d.rows s e) after))
+          (λ e. Q (Some e) (cells_at (path_inside q d.rows s e) before) (cells_at (path_inside q d.rows s e) after))
+          (systems_inside d.rows s)
           (λ e one. next (Some e) (cells_at (path_inside p d.rows s e) before) (cells_at (path_inside p d.rows s e) after) one) h.inside;
     }
 
-    all-started : (d : Diagram) (s : Option ℕ) (before after : Cells) → HoldsInside p d s (λ n old new. AreStarted p d n new) before after → HoldsInside q d s (λ n old new. AreStarted q d n new) before after
+    all-started : (d : Diagram) (s : Option ℕ) (before after : Cells) →
+        HoldsInside p d s (λ n old new. AreStarted p d n new) before after →
+        HoldsInside q d s (λ n old new. AreStarted q d n new) before after
     all-started d s before after h =
-        holds-alike d s (λ n old new. AreStarted p d n new) (λ n old new. AreStarted q d n new) before after (λ n old new begun. started-alike d n new begun) h
+        holds-alike d s (λ n old new. AreStarted p d n new) (λ n old new. AreStarted q d n new) before after
+        (λ n old new begun. started-alike d n new begun) h
 
     pub renewed-alike : (d : Diagram) (s : Option ℕ) → RenewsAll p d s → RenewsAll q d s
     renewed-alike d s h = record {
       starts = leaves-alike (struct_place p s) (start_name s)
-          (λ before a. HoldsInside p d s (λ n old new. AreStarted p d n new) before a.cells) (λ before a. HoldsInside q d s (λ n old new. AreStarted q d n new) before a.cells)
+          (λ before a. HoldsInside p d s (λ n old new. AreStarted p d n new) before a.cells)
+          (λ before a. HoldsInside q d s (λ n old new. AreStarted q d n new) before a.cells)
           (λ before a one. all-started d s before a.cells one) h.starts;
       resets = leaves-alike (struct_place p s) (reset_name s)
           (λ before a. HoldsInside p d s (AreReset p d) before a.cells) (λ before a. HoldsInside q d s (AreReset q d) before a.cells)
-          (λ before a one. holds-alike d s (AreReset p d) (AreReset q d) before a.cells (λ n old new begun. reset-alike d n old new begun) one) h.resets;
+          (λ before a one. holds-alike d s (AreReset p d) (AreReset q d) before a.cells
+          (λ n old new begun. reset-alike d n old new begun) one) h.resets;
     }
 
     pub restarted-alike : (d : Diagram) → Restarts p d → Restarts q d
     restarted-alike d h =
-        leaves-alike (root_struct p) root_start_name (λ before a. AreRestarted p d before a.cells) (λ before a. AreRestarted q d before a.cells)
+        leaves-alike (root_struct p) root_start_name (λ before a. AreRestarted p d before a.cells)
+        (λ before a. AreRestarted q d before a.cells)
         (λ before a one. record { tick = one.tick; top = all-started d None _ _ one.top; outputs = one.outputs }) h

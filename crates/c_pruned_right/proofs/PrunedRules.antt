@@ -28,13 +28,15 @@ module _ (place : ℕ → ℕ) where
   move = renumbered_procedure place
 
   -- a plain read is one of the same
-  pub read-moved : (n : CodeNames) (params : List ParamTree) (what : NamedLeaf) (e : ExprTree) → IsReadOf n params what e → IsReadOf n params what (renumbered_expr place e)
+  pub read-moved : (n : CodeNames) (params : List ParamTree) (what : NamedLeaf) (e : ExprTree) →
+      IsReadOf n params what e → IsReadOf n params what (renumbered_expr place e)
   read-moved n params what e (leaf, is, named) = (leaf, ap (renumbered_expr place) is, named)
 
   passing : (n : CodeNames) (local : LocalSystem) (x : ProcedureTree) (callee : Head) (target : Target) (values : List ExprTree) →
       IsRightCall n local x target callee values → IsRightCall n local (move x) target callee (map (renumbered_expr place) values)
   passing n local x callee Own values h =
-      zip-map (renumbered_expr place) (λ (wanted : ParamTree) e. IsReadOf n x.params (param wanted.name) e) (λ (wanted : ParamTree) e. IsReadOf n x.params (param wanted.name) e)
+      zip-map (renumbered_expr place) (λ (wanted : ParamTree) e. IsReadOf n x.params (param wanted.name) e)
+      (λ (wanted : ParamTree) e. IsReadOf n x.params (param wanted.name) e)
       (λ wanted e one. read-moved n x.params (param wanted.name) e one) callee.params values h
   passing n local x callee (Child f) values h = record {
     child = h.child;
@@ -47,25 +49,50 @@ module _ (place : ℕ → ℕ) where
         (λ wanted e (what, there, is). (what, there, read-moved n x.params what e is)) callee.params values h.passes;
   }
 
-  pub keeps : (n : CodeNames) (local : LocalSystem) (counters : List (List ℕ)) (x : ProcedureTree) → KeepsRules n local counters x → KeepsRules n local counters (move x)
+  pub keeps : (n : CodeNames) (local : LocalSystem) (counters : List (List ℕ)) (x : ProcedureTree) →
+      KeepsRules n local counters x → KeepsRules n local counters (move x)
   keeps n local counters x h = record {
     private_name = h.private_name;
     params = h.params;
-    calls = subst (AllByRecursion (λ (c : CallSite). IsRightCall n local (move x) c.target (n.callee c.procedure) c.values)) (sym (calls-moved place x.body))
-        (each-map (moved_call place) (λ (c : CallSite). IsRightCall n local x c.target (n.callee c.procedure) c.values) (λ (c : CallSite). IsRightCall n local (move x) c.target (n.callee c.procedure) c.values) (calls_in x.body)
+    calls = subst
+        (AllByRecursion (λ (c : CallSite). IsRightCall n local (move x) c.target (n.callee c.procedure) c.values))
+        (sym (calls-moved place x.body))
+        (each-map (moved_call place) (λ (c : CallSite). IsRightCall n local x c.target (n.callee c.procedure) c.values)
+        (λ (c : CallSite). IsRightCall n local (move x) c.target (n.callee c.procedure) c.values) (calls_in x.body)
         (λ c one. passing n local x (n.callee c.procedure) c.target c.values one) h.calls);
-    stores = subst (AllByRecursion (λ (st : StoreSite). AllByRecursion (Contains (store_reads local counters (n.own st.field))) (named_leaves n x.params (expr_leaves st.value)))) (sym (stores-moved place x.body))
-        (each-map (moved_store place) (λ (st : StoreSite). AllByRecursion (Contains (store_reads local counters (n.own st.field))) (named_leaves n x.params (expr_leaves st.value)))
-        (λ (st : StoreSite). AllByRecursion (Contains (store_reads local counters (n.own st.field))) (named_leaves n x.params (expr_leaves st.value))) (stores_in x.body)
-        (λ st one. subst (λ leaves. AllByRecursion (Contains (store_reads local counters (n.own st.field))) (named_leaves n x.params leaves)) (sym (expr-leaves place st.value)) one) h.stores);
-    indices = subst (AllByRecursion (λ (i : IndexSite). AllByRecursion (Contains (index_reads local (n.own i.field))) (named_leaves n x.params (expr_leaves i.index)))) (sym (indices-moved place x.body))
-        (each-map (moved_index place) (λ (i : IndexSite). AllByRecursion (Contains (index_reads local (n.own i.field))) (named_leaves n x.params (expr_leaves i.index)))
-        (λ (i : IndexSite). AllByRecursion (Contains (index_reads local (n.own i.field))) (named_leaves n x.params (expr_leaves i.index))) (indices_in x.body)
-        (λ i one. subst (λ leaves. AllByRecursion (Contains (index_reads local (n.own i.field))) (named_leaves n x.params leaves)) (sym (expr-leaves place i.index)) one) h.indices);
-    tests = subst (AllByRecursion (λ (test : CondTree). AllByRecursion (Contains (test_reads counters)) (named_leaves n x.params (cond_leaves test)))) (sym (tests-moved place x.body))
-        (each-map (renumbered_cond place) (λ (test : CondTree). AllByRecursion (Contains (test_reads counters)) (named_leaves n x.params (cond_leaves test)))
-        (λ (test : CondTree). AllByRecursion (Contains (test_reads counters)) (named_leaves n x.params (cond_leaves test))) (tests_in x.body)
-        (λ test one. subst (λ leaves. AllByRecursion (Contains (test_reads counters)) (named_leaves n x.params leaves)) (sym (cond-leaves place test)) one) h.tests);
+    stores =
+        subst (AllByRecursion
+        (λ (st : StoreSite). AllByRecursion (Contains (store_reads local counters (n.own st.field)))
+        (named_leaves n x.params (expr_leaves st.value)))) (sym (stores-moved place x.body))
+        (each-map (moved_store place)
+        (λ (st : StoreSite). AllByRecursion (Contains (store_reads local counters (n.own st.field)))
+        (named_leaves n x.params (expr_leaves st.value)))
+        (λ (st : StoreSite). AllByRecursion (Contains (store_reads local counters (n.own st.field)))
+        (named_leaves n x.params (expr_leaves st.value))) (stores_in x.body)
+        (λ st one.
+        subst (λ leaves. AllByRecursion (Contains (store_reads local counters (n.own st.field)))
+        (named_leaves n x.params leaves)) (sym (expr-leaves place st.value)) one) h.stores);
+    indices =
+        subst (AllByRecursion (λ (i : IndexSite). AllByRecursion (Contains (index_reads local (n.own i.field)))
+        (named_leaves n x.params (expr_leaves i.index)))) (sym (indices-moved place x.body))
+        (each-map (moved_index place) (λ (i : IndexSite). AllByRecursion (Contains (index_reads local (n.own i.field)))
+        (named_leaves n x.params (expr_leaves i.index)))
+        (λ (i : IndexSite). AllByRecursion (Contains (index_reads local (n.own i.field)))
+        (named_leaves n x.params (expr_leaves i.index))) (indices_in x.body)
+        (λ i one.
+        subst (λ leaves. AllByRecursion (Contains (index_reads local (n.own i.field)))
+        (named_leaves n x.params leaves)) (sym (expr-leaves place i.index)) one) h.indices);
+    tests = subst
+        (AllByRecursion
+        (λ (test : CondTree). AllByRecursion (Contains (test_reads counters))
+        (named_leaves n x.params (cond_leaves test)))) (sym (tests-moved place x.body))
+        (each-map (renumbered_cond place)
+        (λ (test : CondTree). AllByRecursion (Contains (test_reads counters))
+        (named_leaves n x.params (cond_leaves test)))
+        (λ (test : CondTree). AllByRecursion (Contains (test_reads counters))
+        (named_leaves n x.params (cond_leaves test))) (tests_in x.body)
+        (λ test one. subst (λ leaves. AllByRecursion (Contains (test_reads counters)) (named_leaves n x.params leaves))
+        (sym (cond-leaves place test)) one) h.tests);
   }
 
   -- ---- Each value once
@@ -78,24 +105,33 @@ module _ (place : ℕ → ℕ) where
     stores-same name =
         let test : StoreSite → Bool = λ st. bytes_eq (n.own st.field) name in
         sym (ap (λ qs. count_by test (flat_map (λ (x : ProcedureTree). stores_in x.body) qs)) ticks-moved
-        ∙ ap (count_by test) (flat-moved place (λ (x : ProcedureTree). stores_in x.body) (moved_store place) (λ x. stores-moved place x.body) (of_ticks local xs))
+        ∙ ap (count_by test) (flat-moved place (λ (x : ProcedureTree). stores_in x.body) (moved_store place)
+        (λ x. stores-moved place x.body) (of_ticks local xs))
         ∙ count-map (moved_store place) test (flat_map (λ (x : ProcedureTree). stores_in x.body) (of_ticks local xs)))
 
     calls-same : (name : List ℕ) → call_sites n (of_ticks local xs) name ≡ call_sites n (of_ticks local (map move xs)) name
     calls-same name =
         let test : CallSite → Bool = λ c. bytes_eq (n.callee c.procedure).name name in
         sym (ap (λ qs. count_by test (flat_map (λ (x : ProcedureTree). calls_in x.body) qs)) ticks-moved
-        ∙ ap (count_by test) (flat-moved place (λ (x : ProcedureTree). calls_in x.body) (moved_call place) (λ x. calls-moved place x.body) (of_ticks local xs))
+        ∙ ap (count_by test) (flat-moved place (λ (x : ProcedureTree). calls_in x.body) (moved_call place)
+        (λ x. calls-moved place x.body) (of_ticks local xs))
         ∙ count-map (moved_call place) test (flat_map (λ (x : ProcedureTree). calls_in x.body) (of_ticks local xs)))
 
     pub once-moved : StatesOnce n local xs → StatesOnce n local (map move xs)
     once-moved h = record {
-      values = each-then (λ (r : LocalRow). store_sites n (of_ticks local xs) (value_name r.row) ≤ (if is_reset_outport r.kind then 2 else 1))
-          (λ (r : LocalRow). store_sites n (of_ticks local (map move xs)) (value_name r.row) ≤ (if is_reset_outport r.kind then 2 else 1)) (filter (λ (r : LocalRow). has_value r.kind) local.rows)
+      values =
+          each-then (λ (r : LocalRow). store_sites n (of_ticks local xs) (value_name r.row)
+          ≤ (if is_reset_outport r.kind then 2 else 1))
+          (λ (r : LocalRow). store_sites n (of_ticks local (map move xs)) (value_name r.row)
+          ≤ (if is_reset_outport r.kind then 2 else 1)) (filter (λ (r : LocalRow). has_value r.kind) local.rows)
           (λ r one. subst (λ m. m ≤ (if is_reset_outport r.kind then 2 else 1)) (stores-same (value_name r.row)) one) h.values;
-      functions = each-then (λ (u : ChildUse). AllByRecursion (λ (g : Head). call_sites n (of_ticks local xs) g.name ≡ 1) (out_heads u.header))
-          (λ (u : ChildUse). AllByRecursion (λ (g : Head). call_sites n (of_ticks local (map move xs)) g.name ≡ 1) (out_heads u.header)) local.children
-          (λ u one. each-then (λ (g : Head). call_sites n (of_ticks local xs) g.name ≡ 1) (λ (g : Head). call_sites n (of_ticks local (map move xs)) g.name ≡ 1) (out_heads u.header)
+      functions =
+          each-then (λ (u : ChildUse). AllByRecursion (λ (g : Head). call_sites n (of_ticks local xs) g.name ≡ 1)
+          (out_heads u.header))
+          (λ (u : ChildUse). AllByRecursion (λ (g : Head). call_sites n (of_ticks local (map move xs)) g.name ≡ 1)
+          (out_heads u.header)) local.children
+          (λ u one. each-then (λ (g : Head). call_sites n (of_ticks local xs) g.name ≡ 1)
+          (λ (g : Head). call_sites n (of_ticks local (map move xs)) g.name ≡ 1) (out_heads u.header)
           (λ g it. sym (calls-same g.name) ∙ it) one) h.functions;
       updates = each-then (λ (u : ChildUse). call_sites n (of_ticks local xs) (update_name u.header.row) ≡ 1)
           (λ (u : ChildUse). call_sites n (of_ticks local (map move xs)) (update_name u.header.row) ≡ 1) local.children
@@ -108,14 +144,17 @@ module _ (place : ℕ → ℕ) where
     abbrev name_of : ProcedureTree → ℕ → List ℕ
     name_of x f = field x.of f
 
-    one-stored : (earlier : List (List (List ℕ))) (x : ProcedureTree) → stored_in private name_of earlier (move x) ≡ stored_in private name_of earlier x
+    one-stored : (earlier : List (List (List ℕ))) (x : ProcedureTree) →
+        stored_in private name_of earlier (move x) ≡ stored_in private name_of earlier x
     one-stored earlier x =
         ap₂ ◌++◌
-        (ap (map (λ (st : StoreSite). field x.of st.field)) (stores-moved place x.body) ∙ map-map (λ (st : StoreSite). field x.of st.field) (moved_store place) (stores_in x.body))
+        (ap (map (λ (st : StoreSite). field x.of st.field)) (stores-moved place x.body)
+        ∙ map-map (λ (st : StoreSite). field x.of st.field) (moved_store place) (stores_in x.body))
         (ap (flat_map (λ (c : CallSite). stored_on private name_of earlier c.procedure c.target)) (calls-moved place x.body)
         ∙ flat_map-map (λ (c : CallSite). stored_on private name_of earlier c.procedure c.target) (moved_call place) (calls_in x.body))
 
-    pub stored-moved : (xs : List ProcedureTree) (earlier : List (List (List ℕ))) → stored_names private name_of earlier (map move xs) ≡ stored_names private name_of earlier xs
+    pub stored-moved : (xs : List ProcedureTree) (earlier : List (List (List ℕ))) →
+        stored_names private name_of earlier (map move xs) ≡ stored_names private name_of earlier xs
     stored-moved [] earlier = refl
     stored-moved (x ∷ xs) earlier =
         ap (λ one. stored_names private name_of (earlier ++ one ∷ []) (map move xs)) (one-stored earlier x)

@@ -62,10 +62,12 @@ called_from : (ℕ → ℕ) → List Function → (n count : ℕ) → List Funct
 called_from place functions n zero = []
 called_from place functions n (suc count) = function_at functions (place n) ∷ called_from place functions (suc n) count
 
-called-at : (place : ℕ → ℕ) (functions : List Function) (n count k m : ℕ) → k < count → n + k ≡ m → function_at functions (place m) ≡ function_at (called_from place functions n count) k
+called-at : (place : ℕ → ℕ) (functions : List Function) (n count k m : ℕ) → k < count → n + k ≡ m →
+    function_at functions (place m) ≡ function_at (called_from place functions n count) k
 unfolding called_from
 called-at place functions n zero k m inside e = absurd (omega arith)
-called-at place functions n (suc count) zero m inside e = ap (λ j. function_at functions (place j)) (let same : m ≡ n = omega (arith, e) in same)
+called-at place functions n (suc count) zero m inside e =
+    ap (λ j. function_at functions (place j)) (let same : m ≡ n = omega (arith, e) in same)
 called-at place functions n (suc count) (suc k) m inside e = called-at place functions (suc n) count k m (omega arith) (omega (arith, e))
 
 -- ---- Literals
@@ -103,7 +105,9 @@ module _ (place : ℕ → ℕ) where
       ∙ filter-map (renumbered_stmt place) (λ x. test (is_literal_store x)) (list_of_stmts xs)
       ∙ (λ i. map (renumbered_stmt place) (filter (λ x. test (store-moved x i)) (list_of_stmts xs)))
 
-  at-moved : (xs : List ProcedureTree) (k : ℕ) → slice_index_or (map (renumbered_procedure place) xs) k no_procedure ≡ renumbered_procedure place (slice_index_or xs k no_procedure)
+  at-moved : (xs : List ProcedureTree) (k : ℕ) →
+      slice_index_or (map (renumbered_procedure place) xs) k no_procedure
+      ≡ renumbered_procedure place (slice_index_or xs k no_procedure)
   at-moved [] k = refl
   at-moved (x ∷ xs) zero = refl
   at-moved (x ∷ xs) (suc k) = at-moved xs k
@@ -120,7 +124,13 @@ module _ (place : ℕ → ℕ) (pures : List PureTree) (p : ProgramTree) where
   same-head k = ap head_of (sym (at-moved place p.procedures k))
 
   same-names : (of : ℕ) → names_in p of ≡ names_in r of
-  same-names of = λ i. record { own = (names_in p of).own; inner = (names_in p of).inner; struct = (names_in p of).struct; callee = λ k. same-head k i }
+  same-names of =
+      λ i. record {
+        own = (names_in p of).own;
+        inner = (names_in p of).inner;
+        struct = (names_in p of).struct;
+        callee = λ k. same-head k i;
+      }
 
   own-moved : (k : ℕ) → map move (procedures_of p k) ≡ procedures_of r k
   own-moved k = sym (filter-map move (λ x. x.of == k) p.procedures)
@@ -129,12 +139,15 @@ module _ (place : ℕ → ℕ) (pures : List PureTree) (p : ProgramTree) where
 
   same-stored : (name : List ℕ) (k : ℕ) → stores p name k ≡ stores r name k
   same-stored name k =
-      sym (ap (λ xs. has_stored xs k name) (stored-moved place (λ j. (procedure_at p j).private) (λ of f. (field_in p of f).name) p.procedures []))
+      sym (ap (λ xs. has_stored xs k name)
+      (stored-moved place (λ j. (procedure_at p j).private) (λ of f. (field_in p of f).name) p.procedures []))
       ∙ (λ i. has_stored (stored_names (λ j. (same-head j i).private) (λ x f. (field_in p x.of f).name) [] (map move p.procedures)) k name)
 
   same-takes : (d : Diagram) (s : Option ℕ) (k : ℕ) → takes p d s k ≡ takes r d s k
   same-takes d s k =
-      ap (λ (h : Head). ports_mask (filter (λ j. list_any (λ (x : ParamTree). bytes_eq x.name (port_name (system_control d.rows s) j)) h.params) (input_ports d.rows s))) (same-head k)
+      ap (λ (h : Head). ports_mask
+      (filter (λ j. list_any (λ (x : ParamTree). bytes_eq x.name (port_name (system_control d.rows s) j)) h.params)
+      (input_ports d.rows s))) (same-head k)
 
   pub least-alike : (d : Diagram) (s : Option ℕ) → HasLeastInterface p d s → HasLeastInterface r d s
   least-alike d s h = record {
@@ -143,7 +156,12 @@ module _ (place : ℕ → ℕ) (pures : List PureTree) (p : ProgramTree) where
     face = h.face;
     is_face = record {
       functions = h.is_face.functions ∙ (λ i. map (λ k. same-takes d s k i) (sym (same-outs place pures p s) i));
-      outputs = h.is_face.outputs ∙ (λ i. map (λ o. map (λ (e : ℕ × ℕ). e.0) (filter (λ (e : ℕ × ℕ). same-stored (value_name o) e.1 i) (enumerate_from 0 (sym (same-outs place pures p s) i)))) (outports_of d.rows s));
+      outputs =
+          h.is_face.outputs
+          ∙ (λ i. map
+          (λ o. map (λ (e : ℕ × ℕ). e.0)
+          (filter (λ (e : ℕ × ℕ). same-stored (value_name o) e.1 i)
+          (enumerate_from 0 (sym (same-outs place pures p s) i)))) (outports_of d.rows s));
       no_order = h.is_face.no_order;
     };
     is_interface = h.is_interface;
@@ -162,11 +180,22 @@ module _ (place : ℕ → ℕ) (pures : List PureTree) (p : ProgramTree) where
       let own = own-moved of in record {
         view = h.view;
         struct_there = h.struct_there;
-        fields = record { slots = h.fields.slots; are_slots = h.fields.are_slots; are_fields = h.fields.are_fields ∙ ap (λ (m : CodeNames). named_fields m (struct_at p of).fields) (same-names of) };
-        heads = subst (λ hs. IsPermutation (public_heads (own_header local h.view.profile)) (filter (λ (x : Head). not x.private) hs)) (sym (map-map head_of move xs) ∙ ap (map head_of) own) h.heads;
-        rules = subst (λ (m : CodeNames). AllByRecursion (KeepsRules m local (counters_in h.fields.slots)) (procedures_of r of)) (same-names of)
+        fields =
+            record {
+              slots = h.fields.slots;
+              are_slots = h.fields.are_slots;
+              are_fields = h.fields.are_fields
+                  ∙ ap (λ (m : CodeNames). named_fields m (struct_at p of).fields) (same-names of);
+            };
+        heads = subst
+            (λ hs. IsPermutation (public_heads (own_header local h.view.profile))
+            (filter (λ (x : Head). not x.private) hs)) (sym (map-map head_of move xs) ∙ ap (map head_of) own) h.heads;
+        rules = subst (λ (m : CodeNames). AllByRecursion (KeepsRules m local (counters_in h.fields.slots))
+            (procedures_of r of)) (same-names of)
             (subst (AllByRecursion (KeepsRules n local (counters_in h.fields.slots))) own
-            (each-map move (KeepsRules n local (counters_in h.fields.slots)) (KeepsRules n local (counters_in h.fields.slots)) xs (λ x one. keeps place n local (counters_in h.fields.slots) x one) h.rules));
+            (each-map move (KeepsRules n local (counters_in h.fields.slots))
+            (KeepsRules n local (counters_in h.fields.slots)) xs
+            (λ x one. keeps place n local (counters_in h.fields.slots) x one) h.rules));
         once = subst (λ (m : CodeNames). StatesOnce m local (procedures_of r of)) (same-names of)
             (subst (StatesOnce n local) own (once-moved place n local xs h.once));
       }
@@ -174,14 +203,18 @@ module _ (place : ℕ → ℕ) (pures : List PureTree) (p : ProgramTree) where
   -- ---- The root
 
   module _ (hyper : ℕ) (x : ProcedureTree) where
-    reads-alike : (what : NamedLeaf) (e : ExprTree) → IsReadOf (names_in p x.of) x.params what e → IsReadOf (names_in r x.of) x.params what (renumbered_expr place e)
-    reads-alike what e h = subst (λ (n : CodeNames). IsReadOf n x.params what (renumbered_expr place e)) (same-names x.of) (read-moved place (names_in p x.of) x.params what e h)
+    reads-alike : (what : NamedLeaf) (e : ExprTree) → IsReadOf (names_in p x.of) x.params what e →
+        IsReadOf (names_in r x.of) x.params what (renumbered_expr place e)
+    reads-alike what e h =
+        subst (λ (n : CodeNames). IsReadOf n x.params what (renumbered_expr place e)) (same-names x.of)
+        (read-moved place (names_in p x.of) x.params what e h)
 
     call-alike : (callee : Head) (a : StmtTree) → DoesCall p hyper x callee a → DoesCall r hyper (move x) callee (renumbered_stmt place a)
     call-alike callee (call line k (Child f) values) h = (
       sym (same-head k) ∙ h.0,
       h.1,
-      subst (λ es. AllZip (λ (wanted : ParamTree) e. (what : NamedLeaf) × IsPassed wanted.name what × IsReadOf (names_in r x.of) x.params what e) callee.params es) (sym (exprs-list place values))
+      subst (λ es. AllZip (λ (wanted : ParamTree) e. (what : NamedLeaf) × IsPassed wanted.name what
+          × IsReadOf (names_in r x.of) x.params what e) callee.params es) (sym (exprs-list place values))
           (zip-map (renumbered_expr place)
           (λ (wanted : ParamTree) e. (what : NamedLeaf) × IsPassed wanted.name what × IsReadOf (names_in p x.of) x.params what e)
           (λ (wanted : ParamTree) e. (what : NamedLeaf) × IsPassed wanted.name what × IsReadOf (names_in r x.of) x.params what e)
@@ -192,7 +225,8 @@ module _ (place : ℕ → ℕ) (pures : List PureTree) (p : ProgramTree) where
     call-alike callee (assign_at line f index value) h = absurd h
     call-alike callee (branch line test on_true on_false) h = absurd h
 
-    store-alike : (name : List ℕ) (P Q : ExprTree → Type 0) → ((e : ExprTree) → P e → Q (renumbered_expr place e)) → (a : StmtTree) → DoesStore p hyper x name P a → DoesStore r hyper (move x) name Q (renumbered_stmt place a)
+    store-alike : (name : List ℕ) (P Q : ExprTree → Type 0) → ((e : ExprTree) → P e → Q (renumbered_expr place e)) →
+        (a : StmtTree) → DoesStore p hyper x name P a → DoesStore r hyper (move x) name Q (renumbered_stmt place a)
     store-alike name P Q next (assign line f value) h = (h.0, next value h.1)
     store-alike name P Q next (call line k target values) h = absurd h
     store-alike name P Q next (assign_at line f index value) h = absurd h
@@ -200,27 +234,41 @@ module _ (place : ℕ → ℕ) (pures : List PureTree) (p : ProgramTree) where
 
     moves-alike : (e : ExprTree) → MovesOn p hyper x e → MovesOn r hyper (move x) (renumbered_expr place e)
     moves-alike e h = record {
-      reads = subst (λ (n : CodeNames). AllByRecursion (λ leaf. leaf ≡ own now_name) (named_leaves n x.params (expr_leaves (renumbered_expr place e)))) (same-names x.of)
-          (subst (λ leaves. AllByRecursion (λ leaf. leaf ≡ own now_name) (named_leaves (names_in p x.of) x.params leaves)) (sym (expr-leaves place e)) h.reads);
+      reads = subst
+          (λ (n : CodeNames). AllByRecursion (λ leaf. leaf ≡ own now_name)
+          (named_leaves n x.params (expr_leaves (renumbered_expr place e)))) (same-names x.of)
+          (subst (λ leaves. AllByRecursion (λ leaf. leaf ≡ own now_name)
+          (named_leaves (names_in p x.of) x.params leaves)) (sym (expr-leaves place e)) h.reads);
       next = λ functions t inside. next functions t (h.next (called_from place functions 0 (above (expr_functions e))) t inside);
     }
       where
-        agree : (functions : List Function) → AllByRecursion (Agree place (called_from place functions 0 (above (expr_functions e))) functions) (expr_functions e)
-        agree functions = each-then (λ k. k < above (expr_functions e)) (Agree place (called_from place functions 0 (above (expr_functions e))) functions) (expr_functions e)
+        agree : (functions : List Function) →
+            AllByRecursion (Agree place (called_from place functions 0 (above (expr_functions e))) functions)
+            (expr_functions e)
+        agree functions =
+            each-then (λ k. k < above (expr_functions e))
+            (Agree place (called_from place functions 0 (above (expr_functions e))) functions) (expr_functions e)
             (λ k below. called-at place functions 0 (above (expr_functions e)) k k below (omega arith)) (each-above (expr_functions e))
 
         next : (functions : List Function) (t : ℕ) →
-            ((steps : ℕ) × (eval (called_from place functions 0 (above (expr_functions e))) (record { leaf = λ leaf. pos t; array = λ f. [] }) 0 e 0 ≡ gives (pos ((t + 1) % hyper)) steps)) →
-            ((steps : ℕ) × (eval functions (record { leaf = λ leaf. pos t; array = λ f. [] }) 0 (renumbered_expr place e) 0 ≡ gives (pos ((t + 1) % hyper)) steps))
+            ((steps : ℕ)
+            × (eval (called_from place functions 0 (above (expr_functions e)))
+            (record { leaf = λ leaf. pos t; array = λ f. [] }) 0 e 0 ≡ gives (pos ((t + 1) % hyper)) steps)) →
+            ((steps : ℕ)
+            × (eval functions (record { leaf = λ leaf. pos t; array = λ f. [] }) 0 (renumbered_expr place e) 0
+            ≡ gives (pos ((t + 1) % hyper)) steps))
         next functions t (steps, is) = (
           steps,
-          ap (λ go. go 0) (expr-same place (called_from place functions 0 (above (expr_functions e))) functions (record { leaf = λ leaf. pos t; array = λ f. [] }) 0 e (agree functions)) ∙ is,
+          ap (λ go. go 0) (expr-same place (called_from place functions 0 (above (expr_functions e))) functions
+              (record { leaf = λ leaf. pos t; array = λ f. [] }) 0 e (agree functions)) ∙ is,
         )
 
     does-alike : (step : RootStep) (a : StmtTree) → Does p hyper x step a → Does r hyper (move x) step (renumbered_stmt place a)
     does-alike (calls callee) a h = call-alike callee a h
     does-alike (copies output row) a h =
-        store-alike (output_name output) (IsReadOf (names_in p x.of) x.params (child (system_name None) (value_name row))) (IsReadOf (names_in r x.of) x.params (child (system_name None) (value_name row)))
+        store-alike (output_name output)
+        (IsReadOf (names_in p x.of) x.params (child (system_name None) (value_name row)))
+        (IsReadOf (names_in r x.of) x.params (child (system_name None) (value_name row)))
         (reads-alike (child (system_name None) (value_name row))) a h
     does-alike moves_on a h = store-alike now_name (MovesOn p hyper x) (MovesOn r hyper (move x)) moves-alike a h
 
@@ -238,21 +286,32 @@ module _ (place : ℕ → ℕ) (pures : List PureTree) (p : ProgramTree) where
         profile = h.profile;
         is_profile = h.is_profile;
         name = h.name;
-        fields = subst (λ (m : CodeNames). IsPermutation (root_fields_of d) (named_fields m (struct_at p (root_struct p)).fields)) (same-names (root_struct p)) h.fields;
+        fields =
+            subst (λ (m : CodeNames). IsPermutation (root_fields_of d)
+            (named_fields m (struct_at p (root_struct p)).fields)) (same-names (root_struct p)) h.fields;
         start = move h.start;
         step = move h.step;
-        only = subst (IsPermutation (move h.start ∷ move h.step ∷ [])) (own-moved (root_struct p)) (IsPermutation-map move (h.start ∷ h.step ∷ []) (procedures_of p (root_struct p)) h.only);
+        only = subst (IsPermutation (move h.start ∷ move h.step ∷ [])) (own-moved (root_struct p))
+            (IsPermutation-map move (h.start ∷ h.step ∷ []) (procedures_of p (root_struct p)) h.only);
         start_head = h.start_head;
         step_head = h.step_head;
-        begins = subst (λ n. 0 < n) (sym (length-map literal_stores moved_stmt) ∙ ap length (sym (kept-moved place (λ t. t) h.start.body))) h.begins;
+        begins =
+            subst (λ n. 0 < n) (sym (length-map literal_stores moved_stmt)
+            ∙ ap length (sym (kept-moved place (λ t. t) h.start.body))) h.begins;
         tick_alone = subst (AllByRecursion (BeginsTick r (move h.start))) (sym (kept-moved place (λ t. t) h.start.body))
-            (each-map moved_stmt (BeginsTick p h.start) (BeginsTick r (move h.start)) literal_stores (λ a one. begins-alike hyper h.start a one) h.tick_alone);
-        starts = subst (AllZip (Does r hyper (move h.start)) (calls (heads.start_head (header_of d None h.profile)) ∷ [])) (sym (kept-moved place not h.start.body))
-            (zip-map moved_stmt (Does p hyper h.start) (Does r hyper (move h.start)) (λ step a one. does-alike hyper h.start step a one) (calls (heads.start_head (header_of d None h.profile)) ∷ []) others h.starts);
+            (each-map moved_stmt (BeginsTick p h.start) (BeginsTick r (move h.start)) literal_stores
+            (λ a one. begins-alike hyper h.start a one) h.tick_alone);
+        starts =
+            subst (AllZip (Does r hyper (move h.start)) (calls (heads.start_head (header_of d None h.profile)) ∷ []))
+            (sym (kept-moved place not h.start.body))
+            (zip-map moved_stmt (Does p hyper h.start) (Does r hyper (move h.start))
+            (λ step a one. does-alike hyper h.start step a one)
+            (calls (heads.start_head (header_of d None h.profile)) ∷ []) others h.starts);
         steps = h.steps;
         are_steps = h.are_steps;
         does = subst (AllZip (Does r hyper (move h.step)) h.steps) (sym (stmts-list place h.step.body))
-            (zip-map moved_stmt (Does p hyper h.step) (Does r hyper (move h.step)) (λ step a one. does-alike hyper h.step step a one) h.steps (list_of_stmts h.step.body) h.does);
+            (zip-map moved_stmt (Does p hyper h.step) (Does r hyper (move h.step))
+            (λ step a one. does-alike hyper h.step step a one) h.steps (list_of_stmts h.step.body) h.does);
       }
 
   pub shape-alike : (d : Diagram) (delays : List Bool) (hyper : ℕ) → HasShape p d delays hyper → HasShape r d delays hyper
@@ -273,7 +332,9 @@ module _ (place : ℕ → ℕ) (pures : List PureTree) (p : ProgramTree) where
     };
     least = each-then (HasLeastInterface p d) (HasLeastInterface r d) (systems d.rows) (λ s one. least-alike d s one) h.least;
     shape = shape-alike d delays hyper h.shape;
-    any_order = each-then (AnswersAnyOrder p d hyper) (AnswersAnyOrder r d hyper) (systems d.rows) (λ s one. answers-alike place pures p alike d hyper s one) h.any_order;
+    any_order =
+        each-then (AnswersAnyOrder p d hyper) (AnswersAnyOrder r d hyper) (systems d.rows)
+        (λ s one. answers-alike place pures p alike d hyper s one) h.any_order;
     renewed = each-then (RenewsAll p d) (RenewsAll r d) (systems d.rows) (λ s one. renewed-alike place pures p alike d s one) h.renewed;
     restarted = restarted-alike place pures p alike d h.restarted;
   }

@@ -12,14 +12,18 @@ use Rattle.c_right.specs.Right.{IsCodeFor, IsRightFor}
 -- lawful code for a diagram is code for it when it is pruned
 abbrev pub PrunedIsCode : Type 0
 PrunedIsCode =
-    (p : ProgramTree) (d : Diagram) (delays : List Bool) (hyper : ℕ) → IsLawful p → IsCodeFor p d delays hyper →
+    (p : ProgramTree) (d : Diagram) (delays : List Bool) (hyper : ℕ) → IsLawful p →
+    IsCodeFor p d delays hyper →
     IsCodeFor (pruned p) d delays hyper
 
--- bytes are right for each table for whose diagram a program is code, and of their one reading no pure function is idle
+-- bytes are right for each table for whose diagram a program is code, and of their one reading no
+-- pure function is idle
 pub record IsTextOfCode (bytes : List ℕ) (p : ProgramTree) : Type 0 where
-  pub right : (r : ResolvedTable) → IsCodeFor p (diagram_of_table r) r.times.delays r.times.hyper → IsRightFor bytes r
+  pub right : (r : ResolvedTable) → IsCodeFor p (diagram_of_table r) r.times.delays r.times.hyper →
+      IsRightFor bytes r
   pub none_idle : (reading : ProgramTree) → CText bytes reading → NoneIdle reading
 
 -- so it is with the text of a lawful program that is pruned
 abbrev pub TextOfPrunedIsRight : Type 0
-TextOfPrunedIsRight = (bytes : List ℕ) (p q : ProgramTree) → q ≡ pruned p → IsLawful p → IsTextOf bytes q → IsTextOfCode bytes p
+TextOfPrunedIsRight = (bytes : List ℕ) (p q : ProgramTree) → q ≡ pruned p → IsLawful p →
+    IsTextOf bytes q → IsTextOfCode bytes p

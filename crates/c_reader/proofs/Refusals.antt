@@ -13,6 +13,7 @@ pub refused-text : (bytes : List ℕ) (e : ReadCFault) → Fails e (read_text by
 refused-text bytes (Refused fault) h = texts_agree.refused bytes fault h
 refused-text bytes Memory h = tt
 
-pub refused-same : {A : Type 0} (r : Result A ReadCFault) (e : ReadCFault) (P : ReadCFault → Type 0) → IsErrAnd r (λ given. given ≡ e) → P e → IfErr r P
+pub refused-same : {A : Type 0} (r : Result A ReadCFault) (e : ReadCFault) (P : ReadCFault → Type 0) →
+    IsErrAnd r (λ given. given ≡ e) → P e → IfErr r P
 refused-same (Ok x) e P h fact = tt
 refused-same (Err given) e P h fact = subst P (sym h) fact

@@ -105,7 +105,9 @@ word-text text tokens rest h =
     ap first_text f.list ∙ f.same
 
 parens-text : (a : Spelling) (tokens rest : List Token) → in_parens a tokens ≡ Some rest → Opening (first_text tokens)
-parens-text a tokens rest h = by_paren (word-text (codes "(") tokens (seq-parts (word (codes "(")) (a ⨾ word (codes ")")) tokens rest h).0 (seq-parts (word (codes "(")) (a ⨾ word (codes ")")) tokens rest h).1)
+parens-text a tokens rest h =
+    by_paren (word-text (codes "(") tokens (seq-parts (word (codes "(")) (a ⨾ word (codes ")")) tokens rest h).0
+    (seq-parts (word (codes "(")) (a ⨾ word (codes ")")) tokens rest h).1)
 
 expr-text : (e : WrittenExpr) (tokens rest : List Token) → expr_spelling e tokens ≡ Some rest → Opening (first_text tokens)
 expr-text (literal n) tokens rest h =
@@ -116,13 +118,17 @@ expr-text (read line leaf) tokens rest h =
     let p : _ = seq-parts (in_parens (word (codes "int64_t"))) (at_line line (leaf_spelling leaf)) tokens rest h in
     parens-text (word (codes "int64_t")) tokens p.0 p.1
 expr-text (binary op a b) tokens rest h = parens-text (expr_spelling a ⨾ word (op_text op) ⨾ expr_spelling b) tokens rest h
-expr-text (pick c a b) tokens rest h = parens-text (cond_spelling c ⨾ word (codes "?") ⨾ expr_spelling a ⨾ word (codes ":") ⨾ expr_spelling b) tokens rest h
+expr-text (pick c a b) tokens rest h =
+    parens-text (cond_spelling c ⨾ word (codes "?") ⨾ expr_spelling a ⨾ word (codes ":") ⨾ expr_spelling b) tokens rest
+    h
 expr-text (pure line name es) tokens rest h =
     let p : _ = seq-parts (at_line line (name_word name)) (in_parens (exprs_spelling es)) tokens rest h in
     let n : _ = name_word-inner name tokens p.0 (at_line-inner line (name_word name) tokens p.0 p.1) in
     by_name (ap is_name (word-text name tokens p.0 n.1) ∙ n.0)
 expr-text (item line field index) tokens rest h =
-    let p : _ = seq-parts (in_parens (word (codes "int64_t"))) (at_line line (own_spelling field) ⨾ in_brackets (expr_spelling index)) tokens rest h in
+    let p : _ =
+    seq-parts (in_parens (word (codes "int64_t"))) (at_line line (own_spelling field)
+    ⨾ in_brackets (expr_spelling index)) tokens rest h in
     parens-text (word (codes "int64_t")) tokens p.0 p.1
 
 cond-text : (c : WrittenCond) (tokens rest : List Token) → cond_spelling c tokens ≡ Some rest → Opening (first_text tokens)
@@ -191,7 +197,8 @@ exprs_from-in no_exprs = refl
 exprs_from-in (more_exprs e es) = ap (more_exprs e) (exprs_from-in es)
 
 -- there are fewer further arguments than tokens
-exprs-few : (es : WrittenExprs) (tokens rest : List Token) → more_exprs_spelling es tokens ≡ Some rest → length (exprs_in es) + length rest ≤ length tokens
+exprs-few : (es : WrittenExprs) (tokens rest : List Token) → more_exprs_spelling es tokens ≡ Some rest →
+    length (exprs_in es) + length rest ≤ length tokens
 exprs-few no_exprs tokens rest h = rw (some_same tokens rest h) (omega arith)
 exprs-few (more_exprs e es) tokens rest h =
     let p : _ = seq-parts (word (codes ",")) (expr_spelling e ⨾ more_exprs_spelling es) tokens rest h in
@@ -209,7 +216,9 @@ comma-closed t e = ap comma_of e
 
 module _ (last : ℕ) where
   mutual
-    pub operand-expr : (e : WrittenExpr) (levels : ℕ) (want : Want) (tokens rest : List Token) → wants_value want ≡ true → expr_spelling e tokens ≡ Some rest → Firm rest → expr_levels e ≤ levels → parse_operand last levels want tokens ≡ Ok (value e, rest)
+    pub operand-expr : (e : WrittenExpr) (levels : ℕ) (want : Want) (tokens rest : List Token) →
+        wants_value want ≡ true → expr_spelling e tokens ≡ Some rest → Firm rest → expr_levels e ≤ levels →
+        parse_operand last levels want tokens ≡ Ok (value e, rest)
     operand-expr (literal n) zero want tokens rest w h firm fits = absurd (omega (arith, fits))
     operand-expr (neg e) zero want tokens rest w h firm fits = absurd (omega (arith, fits))
     operand-expr (read line leaf) zero want tokens rest w h firm fits = absurd (omega (arith, fits))
@@ -221,52 +230,122 @@ module _ (last : ℕ) where
         let p : _ = seq-parts (word (codes "INT64_C")) (in_parens (literal_word n)) tokens rest h in
         let f : Front (codes "INT64_C") tokens p.0 = word-front (codes "INT64_C") tokens p.0 p.1 in
         let q : Parens (literal_word n) p.0 rest = parens-parts (literal_word n) p.0 rest p.2 in
-        ap (parse_operand last (suc levels) want) f.list ∙ rw (ap (opener_of want) f.same ∙ opens-number want w, word-parsed last (codes "(") p.0 q.inner q.start, literal-parsed last n q.inner q.behind q.body, word-parsed last (codes ")") q.behind rest q.close) refl
+        ap (parse_operand last (suc levels) want) f.list
+        ∙ rw (
+          ap (opener_of want) f.same ∙ opens-number want w,
+          word-parsed last (codes "(") p.0 q.inner q.start,
+          literal-parsed last n q.inner q.behind q.body,
+          word-parsed last (codes ")") q.behind rest q.close,
+        ) refl
     operand-expr (neg e) (suc levels) want tokens rest w h firm fits =
         let q : Parens (word (codes "-") ⨾ expr_spelling e) tokens rest = parens-parts (word (codes "-") ⨾ expr_spelling e) tokens rest h in
         let f : Front (codes "(") tokens q.inner = word-front (codes "(") tokens q.inner q.start in
         let p : _ = seq-parts (word (codes "-")) (expr_spelling e) q.inner q.behind q.body in
         let g : Front (codes "-") q.inner p.0 = word-front (codes "-") q.inner p.0 p.1 in
-        ap (parse_operand last (suc levels) want) f.list ∙ rw (ap (opener_of want) f.same ∙ opens-paren want, g.list, ap (inside_of want) g.same ∙ minus-begins want w, operand-expr e levels want_value p.0 q.behind refl p.2 (word-firm (codes ")") q.behind rest refl q.close) (omega (arith, fits)), word-parsed last (codes ")") q.behind rest q.close) refl
+        ap (parse_operand last (suc levels) want) f.list
+        ∙ rw (
+          ap (opener_of want) f.same ∙ opens-paren want,
+          g.list,
+          ap (inside_of want) g.same
+              ∙ minus-begins want w,
+          operand-expr e levels want_value p.0 q.behind refl p.2 (word-firm (codes ")") q.behind rest refl q.close)
+              (omega (arith, fits)),
+          word-parsed last (codes ")") q.behind rest q.close,
+        ) refl
     operand-expr (read line leaf) (suc levels) want tokens rest w h firm fits =
         let p : _ = seq-parts (in_parens (word (codes "int64_t"))) (at_line line (leaf_spelling leaf)) tokens rest h in
         let q : Parens (word (codes "int64_t")) tokens p.0 = parens-parts (word (codes "int64_t")) tokens p.0 p.1 in
         let f : Front (codes "(") tokens q.inner = word-front (codes "(") tokens q.inner q.start in
         let g : Front (codes "int64_t") q.inner q.behind = word-front (codes "int64_t") q.inner q.behind q.body in
-        ap (parse_operand last (suc levels) want) f.list ∙ rw (ap (opener_of want) f.same ∙ opens-paren want, g.list, ap (inside_of want) g.same ∙ cast-begins want w, word-parsed last (codes ")") q.behind p.0 q.close, leaf-parsed last (parse_operand last levels) line leaf p.0 rest p.2 firm) refl
+        ap (parse_operand last (suc levels) want) f.list
+        ∙ rw (
+          ap (opener_of want) f.same ∙ opens-paren want,
+          g.list,
+          ap (inside_of want) g.same
+              ∙ cast-begins want w,
+          word-parsed last (codes ")") q.behind p.0 q.close,
+          leaf-parsed last (parse_operand last levels) line leaf p.0 rest p.2 firm,
+        ) refl
     operand-expr (binary op a b) (suc levels) want tokens rest w h firm fits =
-        let q : Parens (expr_spelling a ⨾ word (op_text op) ⨾ expr_spelling b) tokens rest = parens-parts (expr_spelling a ⨾ word (op_text op) ⨾ expr_spelling b) tokens rest h in
+        let q : Parens (expr_spelling a ⨾ word (op_text op) ⨾ expr_spelling b) tokens rest =
+        parens-parts (expr_spelling a ⨾ word (op_text op) ⨾ expr_spelling b) tokens rest h in
         let f : Front (codes "(") tokens q.inner = word-front (codes "(") tokens q.inner q.start in
         let p : _ = seq-parts (expr_spelling a) (word (op_text op) ⨾ expr_spelling b) q.inner q.behind q.body in
         let r : _ = seq-parts (word (op_text op)) (expr_spelling b) p.0 q.behind p.2 in
         let g : Front (op_text op) p.0 r.0 = word-front (op_text op) p.0 r.0 r.1 in
-        ap (parse_operand last (suc levels) want) f.list ∙ rw (ap (opener_of want) f.same ∙ opens-paren want, opening-begins want (first_text q.inner) (expr-text a q.inner p.0 p.1), operand-expr a levels want_any q.inner p.0 refl p.1 (word-firm (op_text op) p.0 r.0 (op-firm op) r.1) (omega (arith, fits)), g.list, ap (value_joint want) g.same ∙ op-joins want op w, operand-expr b levels want_value r.0 q.behind refl r.2 (word-firm (codes ")") q.behind rest refl q.close) (omega (arith, fits)), word-parsed last (codes ")") q.behind rest q.close) refl
+        ap (parse_operand last (suc levels) want) f.list
+        ∙ rw (
+          ap (opener_of want) f.same ∙ opens-paren want,
+          opening-begins want (first_text q.inner) (expr-text a q.inner p.0 p.1),
+          operand-expr a levels want_any q.inner p.0 refl p.1 (word-firm (op_text op) p.0 r.0 (op-firm op) r.1)
+              (omega (arith, fits)),
+          g.list,
+          ap (value_joint want) g.same ∙ op-joins want op w,
+          operand-expr b levels want_value r.0 q.behind refl r.2 (word-firm (codes ")") q.behind rest refl q.close)
+              (omega (arith, fits)),
+          word-parsed last (codes ")") q.behind rest q.close,
+        ) refl
     operand-expr (pick c a b) (suc levels) want tokens rest w h firm fits =
-        let q : Parens (cond_spelling c ⨾ word (codes "?") ⨾ expr_spelling a ⨾ word (codes ":") ⨾ expr_spelling b) tokens rest = parens-parts (cond_spelling c ⨾ word (codes "?") ⨾ expr_spelling a ⨾ word (codes ":") ⨾ expr_spelling b) tokens rest h in
+        let q : Parens (cond_spelling c ⨾ word (codes "?") ⨾ expr_spelling a ⨾ word (codes ":") ⨾ expr_spelling b)
+        tokens rest =
+        parens-parts (cond_spelling c ⨾ word (codes "?") ⨾ expr_spelling a ⨾ word (codes ":") ⨾ expr_spelling b)
+        tokens rest h in
         let f : Front (codes "(") tokens q.inner = word-front (codes "(") tokens q.inner q.start in
-        let p : _ = seq-parts (cond_spelling c) (word (codes "?") ⨾ expr_spelling a ⨾ word (codes ":") ⨾ expr_spelling b) q.inner q.behind q.body in
+        let p : _ =
+        seq-parts (cond_spelling c) (word (codes "?") ⨾ expr_spelling a ⨾ word (codes ":") ⨾ expr_spelling b)
+        q.inner q.behind q.body in
         let r : _ = seq-parts (word (codes "?")) (expr_spelling a ⨾ word (codes ":") ⨾ expr_spelling b) p.0 q.behind p.2 in
         let s : _ = seq-parts (expr_spelling a) (word (codes ":") ⨾ expr_spelling b) r.0 q.behind r.2 in
         let t : _ = seq-parts (word (codes ":")) (expr_spelling b) s.0 q.behind s.2 in
         let g : Front (codes "?") p.0 r.0 = word-front (codes "?") p.0 r.0 r.1 in
-        ap (parse_operand last (suc levels) want) f.list ∙ rw (ap (opener_of want) f.same ∙ opens-paren want, opening-begins want (first_text q.inner) (cond-text c q.inner p.0 p.1), operand-cond c levels want_any q.inner p.0 refl p.1 (word-firm (codes "?") p.0 r.0 refl r.1) (omega (arith, fits)), g.list, ap (test_joint want) g.same ∙ pick-joins want w, operand-expr a levels want_value r.0 s.0 refl s.1 (word-firm (codes ":") s.0 t.0 refl t.1) (omega (arith, fits)), word-parsed last (codes ":") s.0 t.0 t.1, operand-expr b levels want_value t.0 q.behind refl t.2 (word-firm (codes ")") q.behind rest refl q.close) (omega (arith, fits)), word-parsed last (codes ")") q.behind rest q.close) refl
+        ap (parse_operand last (suc levels) want) f.list
+        ∙ rw (
+          ap (opener_of want) f.same ∙ opens-paren want,
+          opening-begins want (first_text q.inner) (cond-text c q.inner p.0 p.1),
+          operand-cond c levels want_any q.inner p.0 refl p.1 (word-firm (codes "?") p.0 r.0 refl r.1)
+              (omega (arith, fits)),
+          g.list,
+          ap (test_joint want) g.same ∙ pick-joins want w,
+          operand-expr a levels want_value r.0 s.0 refl s.1 (word-firm (codes ":") s.0 t.0 refl t.1)
+              (omega (arith, fits)),
+          word-parsed last (codes ":") s.0 t.0 t.1,
+          operand-expr b levels want_value t.0 q.behind refl t.2 (word-firm (codes ")") q.behind rest refl q.close)
+              (omega (arith, fits)),
+          word-parsed last (codes ")") q.behind rest q.close,
+        ) refl
     operand-expr (pure line name es) (suc levels) want tokens rest w h firm fits =
         let p : _ = seq-parts (at_line line (name_word name)) (in_parens (exprs_spelling es)) tokens rest h in
         let f : LineFront line (name_word name) tokens p.0 = line-front line (name_word name) tokens p.0 p.1 in
         let n : _ = name_word-inner name (f.token ∷ f.later) p.0 f.inner in
         let o : _ = word-rest name f.token f.later p.0 n.1 in
         let named : is_name f.token.text ≡ true = ap is_name o.0 ∙ n.0 in
-        ap (parse_operand last (suc levels) want) f.list ∙ rw (opens-call want f.token.text named w, o.1) (values-parsed es levels f.token line name p.0 rest f.is o.0 p.2 (omega (arith, fits)))
+        ap (parse_operand last (suc levels) want) f.list
+        ∙ rw (opens-call want f.token.text named w, o.1)
+        (values-parsed es levels f.token line name p.0 rest f.is o.0 p.2 (omega (arith, fits)))
     operand-expr (item line field index) (suc levels) want tokens rest w h firm fits =
-        let p : _ = seq-parts (in_parens (word (codes "int64_t"))) (at_line line (own_spelling field) ⨾ in_brackets (expr_spelling index)) tokens rest h in
+        let p : _ =
+        seq-parts (in_parens (word (codes "int64_t"))) (at_line line (own_spelling field)
+        ⨾ in_brackets (expr_spelling index)) tokens rest h in
         let q : Parens (word (codes "int64_t")) tokens p.0 = parens-parts (word (codes "int64_t")) tokens p.0 p.1 in
         let f : Front (codes "(") tokens q.inner = word-front (codes "(") tokens q.inner q.start in
         let g : Front (codes "int64_t") q.inner q.behind = word-front (codes "int64_t") q.inner q.behind q.body in
         let r : _ = seq-parts (at_line line (own_spelling field)) (in_brackets (expr_spelling index)) p.0 rest p.2 in
         let b : Brackets (expr_spelling index) r.0 rest = brackets-parts (expr_spelling index) r.0 rest r.2 in
-        ap (parse_operand last (suc levels) want) f.list ∙ rw (ap (opener_of want) f.same ∙ opens-paren want, g.list, ap (inside_of want) g.same ∙ cast-begins want w, word-parsed last (codes ")") q.behind p.0 q.close, item-parsed last (parse_operand last levels) line field index p.0 r.0 b.inner b.behind rest r.1 b.start (rw (operand-expr index levels want_value b.inner b.behind refl b.body (word-firm (codes "]") b.behind rest refl b.close) (omega (arith, fits))) refl) b.close) refl
+        ap (parse_operand last (suc levels) want) f.list
+        ∙ rw (
+          ap (opener_of want) f.same ∙ opens-paren want,
+          g.list,
+          ap (inside_of want) g.same
+              ∙ cast-begins want w,
+          word-parsed last (codes ")") q.behind p.0 q.close,
+          item-parsed last (parse_operand last levels) line field index p.0 r.0 b.inner b.behind rest r.1 b.start
+              (rw (operand-expr index levels want_value b.inner b.behind refl b.body
+              (word-firm (codes "]") b.behind rest refl b.close) (omega (arith, fits))) refl) b.close,
+        ) refl
 
-    values-parsed : (es : WrittenExprs) (levels : ℕ) (t : Token) (line : ℕ) (name : List ℕ) (tokens rest : List Token) → t.line ≡ line → t.text ≡ name → in_parens (exprs_spelling es) tokens ≡ Some rest → exprs_levels es ≤ levels → parse_values last (parse_operand last levels) t tokens ≡ Ok (value (pure line name es), rest)
+    values-parsed : (es : WrittenExprs) (levels : ℕ) (t : Token) (line : ℕ) (name : List ℕ) (tokens rest : List Token) →
+        t.line ≡ line → t.text ≡ name → in_parens (exprs_spelling es) tokens ≡ Some rest → exprs_levels es ≤ levels →
+        parse_values last (parse_operand last levels) t tokens ≡ Ok (value (pure line name es), rest)
     values-parsed no_exprs levels t line name tokens rest on same h fits =
         let q : Parens (exprs_spelling no_exprs) tokens rest = parens-parts (exprs_spelling no_exprs) tokens rest h in
         let none : None ≡ Some q.behind = q.body in
@@ -275,49 +354,115 @@ module _ (last : ℕ) where
         let q : Parens (exprs_spelling (more_exprs e es)) tokens rest = parens-parts (exprs_spelling (more_exprs e es)) tokens rest h in
         let p : _ = seq-parts (expr_spelling e) (more_exprs_spelling es) q.inner q.behind q.body in
         let few : length (exprs_in es) + length q.behind ≤ length p.0 = exprs-few es p.0 q.behind p.2 in
-        rw (word-parsed last (codes "(") tokens q.inner q.start, operand-expr e levels want_value q.inner p.0 refl p.1 (values-firm es p.0 q.behind rest p.2 q.close) (omega (arith, fits)), later-parsed es levels (suc (length p.0)) 0 p.0 q.behind rest p.2 q.close (omega (arith, fits)) (omega (arith, few)), exprs_from-in es, on, same) refl
+        rw (
+          word-parsed last (codes "(") tokens q.inner q.start,
+          operand-expr e levels want_value q.inner p.0 refl p.1 (values-firm es p.0 q.behind rest p.2 q.close)
+              (omega (arith, fits)),
+          later-parsed es levels (suc (length p.0)) 0 p.0 q.behind rest p.2 q.close
+              (omega (arith, fits)) (omega (arith, few)),
+          exprs_from-in es,
+          on,
+          same,
+        ) refl
 
-    later-parsed : (es : WrittenExprs) (levels most count : ℕ) (tokens mid rest : List Token) → more_exprs_spelling es tokens ≡ Some mid → word (codes ")") mid ≡ Some rest → exprs_levels es ≤ levels → length (exprs_in es) < most → many (values_step last (parse_operand last levels)) most count tokens ≡ Ok (exprs_in es, rest)
+    later-parsed : (es : WrittenExprs) (levels most count : ℕ) (tokens mid rest : List Token) →
+        more_exprs_spelling es tokens ≡ Some mid → word (codes ")") mid ≡ Some rest → exprs_levels es ≤ levels →
+        length (exprs_in es) < most → many (values_step last (parse_operand last levels)) most count tokens ≡ Ok
+        (exprs_in es, rest)
     later-parsed no_exprs levels zero count tokens mid rest h close fits enough = absurd (omega (arith, enough))
     later-parsed (more_exprs e es) levels zero count tokens mid rest h close fits enough = absurd (omega (arith, enough))
     later-parsed no_exprs levels (suc most) count tokens mid rest h close fits enough =
         let f : Front (codes ")") mid rest = word-front (codes ")") mid rest close in
-        ap (many (values_step last (parse_operand last levels)) (suc most) count) (some_same tokens mid h ∙ f.list) ∙ rw (comma-closed f.token f.same) refl
+        ap (many (values_step last (parse_operand last levels)) (suc most) count) (some_same tokens mid h ∙ f.list)
+        ∙ rw (comma-closed f.token f.same) refl
     later-parsed (more_exprs e es) levels (suc most) count tokens mid rest h close fits enough =
         let p : _ = seq-parts (word (codes ",")) (expr_spelling e ⨾ more_exprs_spelling es) tokens mid h in
         let q : _ = seq-parts (expr_spelling e) (more_exprs_spelling es) p.0 mid p.2 in
         let f : Front (codes ",") tokens p.0 = word-front (codes ",") tokens p.0 p.1 in
-        ap (many (values_step last (parse_operand last levels)) (suc most) count) f.list ∙ rw (comma-another f.token f.same, operand-expr e levels want_value p.0 q.0 refl q.1 (values-firm es q.0 mid rest q.2 close) (omega (arith, fits)), later-parsed es levels most (count + 1) q.0 mid rest q.2 close (omega (arith, fits)) (omega (arith, enough))) refl
+        ap (many (values_step last (parse_operand last levels)) (suc most) count) f.list
+        ∙ rw (
+          comma-another f.token f.same,
+          operand-expr e levels want_value p.0 q.0 refl q.1 (values-firm es q.0 mid rest q.2 close)
+              (omega (arith, fits)),
+          later-parsed es levels most (count + 1) q.0 mid rest q.2 close (omega (arith, fits))
+              (omega (arith, enough)),
+        ) refl
 
-    pub operand-cond : (c : WrittenCond) (levels : ℕ) (want : Want) (tokens rest : List Token) → wants_test want ≡ true → cond_spelling c tokens ≡ Some rest → Firm rest → cond_levels c ≤ levels → parse_operand last levels want tokens ≡ Ok (test c, rest)
+    pub operand-cond : (c : WrittenCond) (levels : ℕ) (want : Want) (tokens rest : List Token) →
+        wants_test want ≡ true → cond_spelling c tokens ≡ Some rest → Firm rest → cond_levels c ≤ levels →
+        parse_operand last levels want tokens ≡ Ok (test c, rest)
     operand-cond (compare how a b) zero want tokens rest w h firm fits = absurd (omega (arith, fits))
     operand-cond (both a b) zero want tokens rest w h firm fits = absurd (omega (arith, fits))
     operand-cond (either a b) zero want tokens rest w h firm fits = absurd (omega (arith, fits))
     operand-cond (negated a) zero want tokens rest w h firm fits = absurd (omega (arith, fits))
     operand-cond (compare how a b) (suc levels) want tokens rest w h firm fits =
-        let q : Parens (expr_spelling a ⨾ word (compare_text how) ⨾ expr_spelling b) tokens rest = parens-parts (expr_spelling a ⨾ word (compare_text how) ⨾ expr_spelling b) tokens rest h in
+        let q : Parens (expr_spelling a ⨾ word (compare_text how) ⨾ expr_spelling b) tokens rest =
+        parens-parts (expr_spelling a ⨾ word (compare_text how) ⨾ expr_spelling b) tokens rest h in
         let f : Front (codes "(") tokens q.inner = word-front (codes "(") tokens q.inner q.start in
         let p : _ = seq-parts (expr_spelling a) (word (compare_text how) ⨾ expr_spelling b) q.inner q.behind q.body in
         let r : _ = seq-parts (word (compare_text how)) (expr_spelling b) p.0 q.behind p.2 in
         let g : Front (compare_text how) p.0 r.0 = word-front (compare_text how) p.0 r.0 r.1 in
-        ap (parse_operand last (suc levels) want) f.list ∙ rw (ap (opener_of want) f.same ∙ opens-paren want, opening-begins want (first_text q.inner) (expr-text a q.inner p.0 p.1), operand-expr a levels want_any q.inner p.0 refl p.1 (word-firm (compare_text how) p.0 r.0 (compare-firm how) r.1) (omega (arith, fits)), g.list, ap (value_joint want) g.same ∙ compare-joins want how w, operand-expr b levels want_value r.0 q.behind refl r.2 (word-firm (codes ")") q.behind rest refl q.close) (omega (arith, fits)), word-parsed last (codes ")") q.behind rest q.close) refl
+        ap (parse_operand last (suc levels) want) f.list
+        ∙ rw (
+          ap (opener_of want) f.same ∙ opens-paren want,
+          opening-begins want (first_text q.inner) (expr-text a q.inner p.0 p.1),
+          operand-expr a levels want_any q.inner p.0 refl p.1
+              (word-firm (compare_text how) p.0 r.0 (compare-firm how) r.1) (omega (arith, fits)),
+          g.list,
+          ap (value_joint want) g.same ∙ compare-joins want how w,
+          operand-expr b levels want_value r.0 q.behind refl r.2 (word-firm (codes ")") q.behind rest refl q.close)
+              (omega (arith, fits)),
+          word-parsed last (codes ")") q.behind rest q.close,
+        ) refl
     operand-cond (both a b) (suc levels) want tokens rest w h firm fits =
-        let q : Parens (cond_spelling a ⨾ word (codes "&&") ⨾ cond_spelling b) tokens rest = parens-parts (cond_spelling a ⨾ word (codes "&&") ⨾ cond_spelling b) tokens rest h in
+        let q : Parens (cond_spelling a ⨾ word (codes "&&") ⨾ cond_spelling b) tokens rest =
+        parens-parts (cond_spelling a ⨾ word (codes "&&") ⨾ cond_spelling b) tokens rest h in
         let f : Front (codes "(") tokens q.inner = word-front (codes "(") tokens q.inner q.start in
         let p : _ = seq-parts (cond_spelling a) (word (codes "&&") ⨾ cond_spelling b) q.inner q.behind q.body in
         let r : _ = seq-parts (word (codes "&&")) (cond_spelling b) p.0 q.behind p.2 in
         let g : Front (codes "&&") p.0 r.0 = word-front (codes "&&") p.0 r.0 r.1 in
-        ap (parse_operand last (suc levels) want) f.list ∙ rw (ap (opener_of want) f.same ∙ opens-paren want, opening-begins want (first_text q.inner) (cond-text a q.inner p.0 p.1), operand-cond a levels want_any q.inner p.0 refl p.1 (word-firm (codes "&&") p.0 r.0 refl r.1) (omega (arith, fits)), g.list, ap (test_joint want) g.same ∙ and-joins want w, operand-cond b levels want_test r.0 q.behind refl r.2 (word-firm (codes ")") q.behind rest refl q.close) (omega (arith, fits)), word-parsed last (codes ")") q.behind rest q.close) refl
+        ap (parse_operand last (suc levels) want) f.list
+        ∙ rw (
+          ap (opener_of want) f.same ∙ opens-paren want,
+          opening-begins want (first_text q.inner) (cond-text a q.inner p.0 p.1),
+          operand-cond a levels want_any q.inner p.0 refl p.1 (word-firm (codes "&&") p.0 r.0 refl r.1)
+              (omega (arith, fits)),
+          g.list,
+          ap (test_joint want) g.same ∙ and-joins want w,
+          operand-cond b levels want_test r.0 q.behind refl r.2 (word-firm (codes ")") q.behind rest refl q.close)
+              (omega (arith, fits)),
+          word-parsed last (codes ")") q.behind rest q.close,
+        ) refl
     operand-cond (either a b) (suc levels) want tokens rest w h firm fits =
-        let q : Parens (cond_spelling a ⨾ word (codes "||") ⨾ cond_spelling b) tokens rest = parens-parts (cond_spelling a ⨾ word (codes "||") ⨾ cond_spelling b) tokens rest h in
+        let q : Parens (cond_spelling a ⨾ word (codes "||") ⨾ cond_spelling b) tokens rest =
+        parens-parts (cond_spelling a ⨾ word (codes "||") ⨾ cond_spelling b) tokens rest h in
         let f : Front (codes "(") tokens q.inner = word-front (codes "(") tokens q.inner q.start in
         let p : _ = seq-parts (cond_spelling a) (word (codes "||") ⨾ cond_spelling b) q.inner q.behind q.body in
         let r : _ = seq-parts (word (codes "||")) (cond_spelling b) p.0 q.behind p.2 in
         let g : Front (codes "||") p.0 r.0 = word-front (codes "||") p.0 r.0 r.1 in
-        ap (parse_operand last (suc levels) want) f.list ∙ rw (ap (opener_of want) f.same ∙ opens-paren want, opening-begins want (first_text q.inner) (cond-text a q.inner p.0 p.1), operand-cond a levels want_any q.inner p.0 refl p.1 (word-firm (codes "||") p.0 r.0 refl r.1) (omega (arith, fits)), g.list, ap (test_joint want) g.same ∙ or-joins want w, operand-cond b levels want_test r.0 q.behind refl r.2 (word-firm (codes ")") q.behind rest refl q.close) (omega (arith, fits)), word-parsed last (codes ")") q.behind rest q.close) refl
+        ap (parse_operand last (suc levels) want) f.list
+        ∙ rw (
+          ap (opener_of want) f.same ∙ opens-paren want,
+          opening-begins want (first_text q.inner) (cond-text a q.inner p.0 p.1),
+          operand-cond a levels want_any q.inner p.0 refl p.1 (word-firm (codes "||") p.0 r.0 refl r.1)
+              (omega (arith, fits)),
+          g.list,
+          ap (test_joint want) g.same ∙ or-joins want w,
+          operand-cond b levels want_test r.0 q.behind refl r.2 (word-firm (codes ")") q.behind rest refl q.close)
+              (omega (arith, fits)),
+          word-parsed last (codes ")") q.behind rest q.close,
+        ) refl
     operand-cond (negated a) (suc levels) want tokens rest w h firm fits =
         let q : Parens (word (codes "!") ⨾ cond_spelling a) tokens rest = parens-parts (word (codes "!") ⨾ cond_spelling a) tokens rest h in
         let f : Front (codes "(") tokens q.inner = word-front (codes "(") tokens q.inner q.start in
         let p : _ = seq-parts (word (codes "!")) (cond_spelling a) q.inner q.behind q.body in
         let g : Front (codes "!") q.inner p.0 = word-front (codes "!") q.inner p.0 p.1 in
-        ap (parse_operand last (suc levels) want) f.list ∙ rw (ap (opener_of want) f.same ∙ opens-paren want, g.list, ap (inside_of want) g.same ∙ not-begins want w, operand-cond a levels want_test p.0 q.behind refl p.2 (word-firm (codes ")") q.behind rest refl q.close) (omega (arith, fits)), word-parsed last (codes ")") q.behind rest q.close) refl
+        ap (parse_operand last (suc levels) want) f.list
+        ∙ rw (
+          ap (opener_of want) f.same ∙ opens-paren want,
+          g.list,
+          ap (inside_of want) g.same ∙ not-begins want w,
+          operand-cond a levels want_test p.0 q.behind refl p.2 (word-firm (codes ")") q.behind rest refl q.close)
+              (omega (arith, fits)),
+          word-parsed last (codes ")") q.behind rest q.close,
+        ) refl

@@ -1,5 +1,5 @@
--- Laws that readers of texts owe: the first fault of tokens is the first token with which no file can go on, or that opens
--- something beyond its limit; and each text has one reading or one fault.
+-- Laws that readers of texts owe: the first fault of tokens is the first token with which no file
+-- can go on, or that opens something beyond its limit; and each text has one reading or one fault.
 use Rattle.std.specs.Prelude.{◌≡◌, ℕ, true, false, List, [], ◌∷◌, ◌++◌, length, take, slice_get, Option, Some, None, Ok, Err, ◌⊎◌, ◌↔◌}
 use Rattle.std.specs.List.{list_all}
 use Rattle.c_syntax.specs.declared.fault.CFault.{CFault}
@@ -15,14 +15,16 @@ use Rattle.c_syntax.specs.Limits.{IsWithinLimits}
 use Rattle.c_rules.specs.Reading.{CText, CFaultOf}
 use Rattle.c_syntax.specs.Lawful.{IsLawful}
 
--- some file of the grammar begins with these tokens, and none of them opens anything beyond its limit
+-- some file of the grammar begins with these tokens, and none of them opens anything beyond its
+-- limit
 pub record GoesOn (tokens : List Token) : Type 0 where
   pub more : List Token
   pub program : WrittenProgram
   pub spelled : Spells (tokens ++ more) program
   pub within : list_all is_within (take (length tokens) (openings program)) ≡ true
 
--- some file of the grammar begins with these tokens and this one behind them, and the one opens something beyond its limit
+-- some file of the grammar begins with these tokens and this one behind them, and the one opens
+-- something beyond its limit
 pub record OpensBeyond (before : List Token) (t : Token) : Type 0 where
   pub more : List Token
   pub program : WrittenProgram
@@ -68,11 +70,13 @@ pub record IsFile (tokens : List Token) : Type 0 where
 -- the first fault of tokens, if they have one; `last` is the text's last line
 abbrev pub IsFirstFault : List Token → ℕ → Option CFault → Type 0
 IsFirstFault tokens last None = IsFile tokens
-IsFirstFault tokens last (Some fault) = StopsAtToken tokens fault ⊎ StopsAtDepth tokens fault ⊎ StopsAtEnd tokens last fault
+IsFirstFault tokens last (Some fault) =
+    StopsAtToken tokens fault ⊎ StopsAtDepth tokens fault ⊎ StopsAtEnd tokens last fault
 
 -- the first fault that is told is the first fault
 abbrev pub FaultsAgree : Type 0
-FaultsAgree = (tokens : List Token) (last : ℕ) (answer : Option CFault) → (token_fault file_needs last tokens ≡ answer) ↔ IsFirstFault tokens last answer
+FaultsAgree = (tokens : List Token) (last : ℕ) (answer : Option CFault) →
+    (token_fault file_needs last tokens ≡ answer) ↔ IsFirstFault tokens last answer
 
 -- a text whose first line is not the include line
 pub record LacksHeader (bytes : List ℕ) (fault : CFault) : Type 0 where
@@ -84,7 +88,8 @@ pub record StopsAmongTokens (bytes : List ℕ) (fault : CFault) : Type 0 where
   pub header : has_header bytes ≡ true
   pub first : IsFirstFault (tokens_of bytes) (last_line bytes) (Some fault)
 
--- one whose tokens are a file within the limits, in which this is the first construct that breaks a static rule
+-- one whose tokens are a file within the limits, in which this is the first construct that breaks a
+-- static rule
 pub record BreaksRule (bytes : List ℕ) (fault : CFault) : Type 0 where
   pub header : has_header bytes ≡ true
   pub file : IsFile (tokens_of bytes)
@@ -92,38 +97,59 @@ pub record BreaksRule (bytes : List ℕ) (fault : CFault) : Type 0 where
 
 -- a text is refused by its first line, else by its tokens, else by a static rule
 abbrev pub RefusalsAgree : Type 0
-RefusalsAgree = (bytes : List ℕ) (fault : CFault) → CFaultOf bytes fault ↔ (LacksHeader bytes fault ⊎ StopsAmongTokens bytes fault ⊎ BreaksRule bytes fault)
+RefusalsAgree = (bytes : List ℕ) (fault : CFault) →
+    CFaultOf bytes fault
+    ↔ (LacksHeader bytes fault ⊎ StopsAmongTokens bytes fault ⊎ BreaksRule bytes fault)
 
 -- these tokens lead from the one list of needs to the other
 abbrev pub Leads : List Need → List Token → List Need → Type 0
 Leads needs [] left = needs ≡ left
-Leads needs (t ∷ tokens) left = (next : List Need) × (step_needs needs t.text ≡ leaves next) × Leads next tokens left
+Leads needs (t ∷ tokens) left =
+    (next : List Need) × (step_needs needs t.text ≡ leaves next) × Leads next tokens left
 
 -- the needs say just what a file can go on with
 pub record NeedsAgree : Type 0 where
-  -- tokens are let through exactly where some file begins with them and none opens anything beyond its limit
-  pub passes : (tokens : List Token) → ((needs : List Need) × Leads file_needs tokens needs) ↔ GoesOn tokens
+  -- tokens are let through exactly where some file begins with them and none opens anything beyond
+  -- its limit
+  pub passes : (tokens : List Token) →
+      ((needs : List Need) × Leads file_needs tokens needs) ↔ GoesOn tokens
   -- which they then do in no file that begins so
-  pub throughout : (tokens more : List Token) (program : WrittenProgram) → GoesOn tokens → Spells (tokens ++ more) program → list_all is_within (take (length tokens) (openings program)) ≡ true
+  pub throughout : (tokens more : List Token) (program : WrittenProgram) → GoesOn tokens →
+      Spells (tokens ++ more) program →
+      list_all is_within (take (length tokens) (openings program)) ≡ true
   -- a token behind them is refused exactly where no file goes on with it
-  pub refused : (before : List Token) (needs : List Need) (t : Token) → Leads file_needs before needs → (step_needs needs t.text ≡ refuses) ↔ (CanGoOn (before ++ t ∷ []) → ⊥)
-  -- it is too deep exactly where a file goes on with it and it opens something beyond its limit there
-  pub deep : (before : List Token) (needs : List Need) (t : Token) → Leads file_needs before needs → (step_needs needs t.text ≡ too_deep) ↔ OpensBeyond before t
+  pub refused : (before : List Token) (needs : List Need) (t : Token) →
+      Leads file_needs before needs →
+      (step_needs needs t.text ≡ refuses) ↔ (CanGoOn (before ++ t ∷ []) → ⊥)
+  -- it is too deep exactly where a file goes on with it and it opens something beyond its limit
+  -- there
+  pub deep : (before : List Token) (needs : List Need) (t : Token) → Leads file_needs before needs →
+      (step_needs needs t.text ≡ too_deep) ↔ OpensBeyond before t
   -- which it then does in each file that begins so
-  pub everywhere : (before : List Token) (t : Token) (more : List Token) (program : WrittenProgram) → GoesOn before → OpensBeyond before t → Spells (before ++ t ∷ more) program → (opening : Opening) × (slice_get (openings program) (length before) ≡ Some opening) × (is_within opening ≡ false)
+  pub everywhere : (before : List Token) (t : Token) (more : List Token)
+      (program : WrittenProgram) → GoesOn before → OpensBeyond before t →
+      Spells (before ++ t ∷ more) program →
+      (opening : Opening) × (slice_get (openings program) (length before) ≡ Some opening)
+      × (is_within opening ≡ false)
   -- a file may end exactly where the needs say so
-  pub ends : (tokens : List Token) (needs : List Need) → Leads file_needs tokens needs → (may_end needs ≡ true) ↔ ((program : WrittenProgram) × Spells tokens program)
+  pub ends : (tokens : List Token) (needs : List Need) → Leads file_needs tokens needs →
+      (may_end needs ≡ true) ↔ ((program : WrittenProgram) × Spells tokens program)
   -- each token of a file has its opening
-  pub each : (tokens : List Token) (program : WrittenProgram) → Spells tokens program → length (openings program) ≡ length tokens
+  pub each : (tokens : List Token) (program : WrittenProgram) → Spells tokens program →
+      length (openings program) ≡ length tokens
 
 -- the limits on a program's tree are those on what its tokens open
 abbrev pub LimitsAgree : Type 0
-LimitsAgree = (last : ℕ) (written : WrittenProgram) (p : ProgramTree) → resolve_program last written ≡ Ok p → (list_all is_within (openings written) ≡ true) ↔ IsWithinLimits p
+LimitsAgree = (last : ℕ) (written : WrittenProgram) (p : ProgramTree) →
+    resolve_program last written ≡ Ok p →
+    (list_all is_within (openings written) ≡ true) ↔ IsWithinLimits p
 
 -- each text has one reading or one fault, and no text has both; what is read is lawful
 pub record ReadingsAgree : Type 0 where
-  pub some : (bytes : List ℕ) → ((p : ProgramTree) × CText bytes p) ⊎ ((fault : CFault) × CFaultOf bytes fault)
+  pub some : (bytes : List ℕ) →
+      ((p : ProgramTree) × CText bytes p) ⊎ ((fault : CFault) × CFaultOf bytes fault)
   pub one : (bytes : List ℕ) (p q : ProgramTree) → CText bytes p → CText bytes q → p ≡ q
   pub one_fault : (bytes : List ℕ) (f g : CFault) → CFaultOf bytes f → CFaultOf bytes g → f ≡ g
-  pub apart : (bytes : List ℕ) (p : ProgramTree) (fault : CFault) → CText bytes p → CFaultOf bytes fault → ⊥
+  pub apart : (bytes : List ℕ) (p : ProgramTree) (fault : CFault) → CText bytes p →
+      CFaultOf bytes fault → ⊥
   pub lawful : (bytes : List ℕ) (p : ProgramTree) → CText bytes p → IsLawful p

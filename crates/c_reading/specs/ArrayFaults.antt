@@ -12,7 +12,8 @@ abbrev fault_in : Result ProgramTree CFault → Option CFault
 fault_in (Ok p) = None
 fault_in (Err fault) = Some fault
 
--- of a text with a field on line 3, and of one with three 16-bit items and a statement from line 7 on
+-- of a text with a field on line 3, and of one with three 16-bit items and a statement from line 7
+-- on
 abbrev field_fault : List ℕ → Option CFault
 field_fault field = fault_in (read_text (text_of field []))
 
@@ -57,44 +58,54 @@ array_stored-refused : stmt_fault (codes "s->a = (int16_t)INT64_C(1);") ≡ Some
 unfolding digits
 array_stored-refused = refl
 
-array_read-refused : stmt_fault (codes "s->y1 = (int32_t)(int64_t)s->a;") ≡ Some (fault_at 7 TypeRule)
+array_read-refused : stmt_fault (codes "s->y1 = (int32_t)(int64_t)s->a;")
+    ≡ Some (fault_at 7 TypeRule)
 unfolding digits
 array_read-refused = refl
 
-number_stored_at-refused : stmt_fault (codes "s->y1[INT64_C(0)] = (int32_t)INT64_C(1);") ≡ Some (fault_at 7 TypeRule)
+number_stored_at-refused : stmt_fault (codes "s->y1[INT64_C(0)] = (int32_t)INT64_C(1);")
+    ≡ Some (fault_at 7 TypeRule)
 unfolding digits
 number_stored_at-refused = refl
 
-number_read_at-refused : stmt_fault (codes "s->y1 = (int32_t)(int64_t)s->y1[INT64_C(0)];") ≡ Some (fault_at 7 TypeRule)
+number_read_at-refused : stmt_fault (codes "s->y1 = (int32_t)(int64_t)s->y1[INT64_C(0)];")
+    ≡ Some (fault_at 7 TypeRule)
 unfolding digits
 number_read_at-refused = refl
 
-inside_array-refused : stmt_fault (codes "s->y1 = (int32_t)(int64_t)s->a.v;") ≡ Some (fault_at 7 TypeRule)
+inside_array-refused : stmt_fault (codes "s->y1 = (int32_t)(int64_t)s->a.v;")
+    ≡ Some (fault_at 7 TypeRule)
 unfolding digits
 inside_array-refused = refl
 
-other_cast-refused : stmt_fault (codes "s->a[INT64_C(0)] = (int32_t)INT64_C(1);") ≡ Some (fault_at 7 TypeRule)
+other_cast-refused : stmt_fault (codes "s->a[INT64_C(0)] = (int32_t)INT64_C(1);")
+    ≡ Some (fault_at 7 TypeRule)
 unfolding digits
 other_cast-refused = refl
 
-unknown_array-refused : stmt_fault (codes "s->b[INT64_C(0)] = (int16_t)INT64_C(1);") ≡ Some (fault_at 7 Name)
+unknown_array-refused : stmt_fault (codes "s->b[INT64_C(0)] = (int16_t)INT64_C(1);")
+    ≡ Some (fault_at 7 Name)
 unfolding digits
 unknown_array-refused = refl
 
 -- the store first, then its index, then its value
-store-first : stmt_fault (codes "s->a[" ++ 10 ∷ codes "(int64_t)x] = (int32_t)" ++ 10 ∷ codes "(int64_t)z;") ≡ Some (fault_at 7 TypeRule)
+store-first : stmt_fault (codes "s->a[" ++ 10 ∷ codes "(int64_t)x] = (int32_t)" ++ 10
+    ∷ codes "(int64_t)z;") ≡ Some (fault_at 7 TypeRule)
 unfolding digits
 store-first = refl
 
-index-second : stmt_fault (codes "s->a[" ++ 10 ∷ codes "(int64_t)x] = (int16_t)" ++ 10 ∷ codes "(int64_t)z;") ≡ Some (fault_at 8 Name)
+index-second : stmt_fault (codes "s->a[" ++ 10 ∷ codes "(int64_t)x] = (int16_t)" ++ 10
+    ∷ codes "(int64_t)z;") ≡ Some (fault_at 8 Name)
 unfolding digits
 index-second = refl
 
-value-third : stmt_fault (codes "s->a[" ++ 10 ∷ codes "(int64_t)u1] = (int16_t)" ++ 10 ∷ codes "(int64_t)z;") ≡ Some (fault_at 9 Name)
+value-third : stmt_fault (codes "s->a[" ++ 10 ∷ codes "(int64_t)u1] = (int16_t)" ++ 10
+    ∷ codes "(int64_t)z;") ≡ Some (fault_at 9 Name)
 unfolding digits
 value-third = refl
 
 -- a leaf before what stands in its index
-leaf-first : stmt_fault (codes "s->y1 = (int32_t)(int64_t)s->y1[" ++ 10 ∷ codes "(int64_t)x];") ≡ Some (fault_at 7 TypeRule)
+leaf-first : stmt_fault (codes "s->y1 = (int32_t)(int64_t)s->y1[" ++ 10 ∷ codes "(int64_t)x];")
+    ≡ Some (fault_at 7 TypeRule)
 unfolding digits
 leaf-first = refl

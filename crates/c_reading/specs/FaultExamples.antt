@@ -21,10 +21,30 @@ twice_named_field_text = text_of_lines
 abbrev pub twice_named_field_written : WrittenProgram
 twice_named_field_written = record {
   pures = [];
-  structs = record { line = 2; name = codes "root"; fields = record { line = 2; kind = number_kind I32; name = codes "y1" } ∷ record { line = 3; kind = number_kind I32; name = codes "y1" } ∷ [] }
+  structs =
+      record {
+        line = 2;
+        name = codes "root";
+        fields = record { line = 2; kind = number_kind I32; name = codes "y1" }
+            ∷ record { line = 3; kind = number_kind I32; name = codes "y1" } ∷ [];
+      }
       ∷ [];
-  procedures = record { line = 4; private = false; name = codes "root_start"; of = codes "root"; params = []; body = no_stmts }
-      ∷ record { line = 5; private = false; name = codes "root_step"; of = codes "root"; params = record { line = 5; type = I32; name = codes "u1" } ∷ []; body = no_stmts }
+  procedures = record {
+    line = 4;
+    private = false;
+    name = codes "root_start";
+    of = codes "root";
+    params = [];
+    body = no_stmts;
+  }
+      ∷ record {
+        line = 5;
+        private = false;
+        name = codes "root_step";
+        of = codes "root";
+        params = record { line = 5; type = I32; name = codes "u1" } ∷ [];
+        body = no_stmts;
+      }
       ∷ [];
 }
 
@@ -44,10 +64,30 @@ output_gap_text = text_of_lines
 abbrev pub output_gap_written : WrittenProgram
 output_gap_written = record {
   pures = [];
-  structs = record { line = 2; name = codes "root"; fields = record { line = 2; kind = number_kind I32; name = codes "y1" } ∷ record { line = 3; kind = number_kind I32; name = codes "y3" } ∷ [] }
+  structs =
+      record {
+        line = 2;
+        name = codes "root";
+        fields = record { line = 2; kind = number_kind I32; name = codes "y1" }
+            ∷ record { line = 3; kind = number_kind I32; name = codes "y3" } ∷ [];
+      }
       ∷ [];
-  procedures = record { line = 4; private = false; name = codes "root_start"; of = codes "root"; params = []; body = no_stmts }
-      ∷ record { line = 5; private = false; name = codes "root_step"; of = codes "root"; params = record { line = 5; type = I32; name = codes "u1" } ∷ []; body = no_stmts }
+  procedures = record {
+    line = 4;
+    private = false;
+    name = codes "root_start";
+    of = codes "root";
+    params = [];
+    body = no_stmts;
+  }
+      ∷ record {
+        line = 5;
+        private = false;
+        name = codes "root_step";
+        of = codes "root";
+        params = record { line = 5; type = I32; name = codes "u1" } ∷ [];
+        body = no_stmts;
+      }
       ∷ [];
 }
 
@@ -68,11 +108,34 @@ output_struct_text = text_of_lines
 abbrev pub output_struct_written : WrittenProgram
 output_struct_written = record {
   pures = [];
-  structs = record { line = 2; name = codes "one"; fields = record { line = 2; kind = number_kind I32; name = codes "v0" } ∷ [] }
-      ∷ record { line = 3; name = codes "root"; fields = record { line = 4; kind = struct_kind (codes "one"); name = codes "y1" } ∷ [] }
+  structs =
+      record {
+        line = 2;
+        name = codes "one";
+        fields = record { line = 2; kind = number_kind I32; name = codes "v0" } ∷ [];
+      }
+      ∷ record {
+        line = 3;
+        name = codes "root";
+        fields = record { line = 4; kind = struct_kind (codes "one"); name = codes "y1" } ∷ [];
+      }
       ∷ [];
-  procedures = record { line = 5; private = false; name = codes "root_start"; of = codes "root"; params = []; body = no_stmts }
-      ∷ record { line = 6; private = false; name = codes "root_step"; of = codes "root"; params = record { line = 6; type = I32; name = codes "u1" } ∷ []; body = no_stmts }
+  procedures = record {
+    line = 5;
+    private = false;
+    name = codes "root_start";
+    of = codes "root";
+    params = [];
+    body = no_stmts;
+  }
+      ∷ record {
+        line = 6;
+        private = false;
+        name = codes "root_step";
+        of = codes "root";
+        params = record { line = 6; type = I32; name = codes "u1" } ∷ [];
+        body = no_stmts;
+      }
       ∷ [];
 }
 
@@ -92,10 +155,30 @@ struct_in_itself_text = text_of_lines
 abbrev pub struct_in_itself_written : WrittenProgram
 struct_in_itself_written = record {
   pures = [];
-  structs = record { line = 2; name = codes "root"; fields = record { line = 2; kind = number_kind I32; name = codes "y1" } ∷ record { line = 3; kind = struct_kind (codes "root"); name = codes "one" } ∷ [] }
+  structs =
+      record {
+        line = 2;
+        name = codes "root";
+        fields = record { line = 2; kind = number_kind I32; name = codes "y1" }
+            ∷ record { line = 3; kind = struct_kind (codes "root"); name = codes "one" } ∷ [];
+      }
       ∷ [];
-  procedures = record { line = 4; private = false; name = codes "root_start"; of = codes "root"; params = []; body = no_stmts }
-      ∷ record { line = 5; private = false; name = codes "root_step"; of = codes "root"; params = record { line = 5; type = I32; name = codes "u1" } ∷ []; body = no_stmts }
+  procedures = record {
+    line = 4;
+    private = false;
+    name = codes "root_start";
+    of = codes "root";
+    params = [];
+    body = no_stmts;
+  }
+      ∷ record {
+        line = 5;
+        private = false;
+        name = codes "root_step";
+        of = codes "root";
+        params = record { line = 5; type = I32; name = codes "u1" } ∷ [];
+        body = no_stmts;
+      }
       ∷ [];
 }
 
@@ -115,12 +198,38 @@ param_named_as_function_text = text_of_lines
 
 abbrev pub param_named_as_function_written : WrittenProgram
 param_named_as_function_written = record {
-  pures = record { line = 2; name = codes "f"; params = record { line = 2; name = codes "v" } ∷ []; return_line = 2; body = (read 2 (param (codes "v"))) }
+  pures = record {
+    line = 2;
+    name = codes "f";
+    params = record { line = 2; name = codes "v" } ∷ [];
+    return_line = 2;
+    body = (read 2 (param (codes "v")));
+  }
       ∷ [];
-  structs = record { line = 3; name = codes "root"; fields = record { line = 3; kind = number_kind I32; name = codes "y1" } ∷ [] }
+  structs =
+      record {
+        line = 3;
+        name = codes "root";
+        fields = record { line = 3; kind = number_kind I32; name = codes "y1" } ∷ [];
+      }
       ∷ [];
-  procedures = record { line = 4; private = false; name = codes "root_start"; of = codes "root"; params = []; body = no_stmts }
-      ∷ record { line = 5; private = false; name = codes "root_step"; of = codes "root"; params = record { line = 5; type = I32; name = codes "u1" } ∷ record { line = 6; type = I32; name = codes "f" } ∷ []; body = no_stmts }
+  procedures = record {
+    line = 4;
+    private = false;
+    name = codes "root_start";
+    of = codes "root";
+    params = [];
+    body = no_stmts;
+  }
+      ∷ record {
+        line = 5;
+        private = false;
+        name = codes "root_step";
+        of = codes "root";
+        params = record { line = 5; type = I32; name = codes "u1" }
+            ∷ record { line = 6; type = I32; name = codes "f" } ∷ [];
+        body = no_stmts;
+      }
       ∷ [];
 }
 
@@ -140,12 +249,37 @@ field_in_pure_text = text_of_lines
 
 abbrev pub field_in_pure_written : WrittenProgram
 field_in_pure_written = record {
-  pures = record { line = 2; name = codes "f"; params = record { line = 2; name = codes "v" } ∷ []; return_line = 2; body = (read 3 (own (codes "y1"))) }
+  pures = record {
+    line = 2;
+    name = codes "f";
+    params = record { line = 2; name = codes "v" } ∷ [];
+    return_line = 2;
+    body = (read 3 (own (codes "y1")));
+  }
       ∷ [];
-  structs = record { line = 4; name = codes "root"; fields = record { line = 4; kind = number_kind I32; name = codes "y1" } ∷ [] }
+  structs =
+      record {
+        line = 4;
+        name = codes "root";
+        fields = record { line = 4; kind = number_kind I32; name = codes "y1" } ∷ [];
+      }
       ∷ [];
-  procedures = record { line = 5; private = false; name = codes "root_start"; of = codes "root"; params = []; body = no_stmts }
-      ∷ record { line = 6; private = false; name = codes "root_step"; of = codes "root"; params = record { line = 6; type = I32; name = codes "u1" } ∷ []; body = no_stmts }
+  procedures = record {
+    line = 5;
+    private = false;
+    name = codes "root_start";
+    of = codes "root";
+    params = [];
+    body = no_stmts;
+  }
+      ∷ record {
+        line = 6;
+        private = false;
+        name = codes "root_step";
+        of = codes "root";
+        params = record { line = 6; type = I32; name = codes "u1" } ∷ [];
+        body = no_stmts;
+      }
       ∷ [];
 }
 
@@ -165,10 +299,30 @@ other_cast_text = text_of_lines
 abbrev pub other_cast_written : WrittenProgram
 other_cast_written = record {
   pures = [];
-  structs = record { line = 2; name = codes "root"; fields = record { line = 2; kind = number_kind I32; name = codes "y1" } ∷ [] }
+  structs =
+      record {
+        line = 2;
+        name = codes "root";
+        fields = record { line = 2; kind = number_kind I32; name = codes "y1" } ∷ [];
+      }
       ∷ [];
-  procedures = record { line = 3; private = false; name = codes "root_start"; of = codes "root"; params = []; body = no_stmts }
-      ∷ record { line = 4; private = false; name = codes "root_step"; of = codes "root"; params = record { line = 4; type = I32; name = codes "u1" } ∷ []; body = (more_stmts (assign 5 (codes "y1") I16 (read 5 (param (codes "q")))) no_stmts) }
+  procedures = record {
+    line = 3;
+    private = false;
+    name = codes "root_start";
+    of = codes "root";
+    params = [];
+    body = no_stmts;
+  }
+      ∷ record {
+        line = 4;
+        private = false;
+        name = codes "root_step";
+        of = codes "root";
+        params = record { line = 4; type = I32; name = codes "u1" } ∷ [];
+        body =
+            (more_stmts (assign 5 (codes "y1") I16 (read 5 (param (codes "q")))) no_stmts);
+      }
       ∷ [];
 }
 
@@ -188,12 +342,42 @@ value_count_text = text_of_lines
 
 abbrev pub value_count_written : WrittenProgram
 value_count_written = record {
-  pures = record { line = 2; name = codes "f"; params = record { line = 2; name = codes "v" } ∷ []; return_line = 2; body = (read 2 (param (codes "v"))) }
+  pures = record {
+    line = 2;
+    name = codes "f";
+    params = record { line = 2; name = codes "v" } ∷ [];
+    return_line = 2;
+    body = (read 2 (param (codes "v")));
+  }
       ∷ [];
-  structs = record { line = 3; name = codes "root"; fields = record { line = 3; kind = number_kind I32; name = codes "y1" } ∷ [] }
+  structs =
+      record {
+        line = 3;
+        name = codes "root";
+        fields = record { line = 3; kind = number_kind I32; name = codes "y1" } ∷ [];
+      }
       ∷ [];
-  procedures = record { line = 4; private = false; name = codes "root_start"; of = codes "root"; params = []; body = no_stmts }
-      ∷ record { line = 5; private = false; name = codes "root_step"; of = codes "root"; params = record { line = 5; type = I32; name = codes "u1" } ∷ []; body = (more_stmts (assign 6 (codes "y1") I32 (pure 6 (codes "f") (more_exprs (read 6 (param (codes "u1"))) (more_exprs (read 6 (param (codes "q"))) no_exprs)))) no_stmts) }
+  procedures = record {
+    line = 4;
+    private = false;
+    name = codes "root_start";
+    of = codes "root";
+    params = [];
+    body = no_stmts;
+  }
+      ∷ record {
+        line = 5;
+        private = false;
+        name = codes "root_step";
+        of = codes "root";
+        params = record { line = 5; type = I32; name = codes "u1" } ∷ [];
+        body =
+            (more_stmts
+            (assign 6 (codes "y1") I32
+            (pure 6 (codes "f")
+            (more_exprs (read 6 (param (codes "u1")))
+            (more_exprs (read 6 (param (codes "q"))) no_exprs)))) no_stmts);
+      }
       ∷ [];
 }
 
@@ -213,10 +397,30 @@ call_of_itself_text = text_of_lines
 abbrev pub call_of_itself_written : WrittenProgram
 call_of_itself_written = record {
   pures = [];
-  structs = record { line = 2; name = codes "root"; fields = record { line = 2; kind = number_kind I32; name = codes "y1" } ∷ [] }
+  structs =
+      record {
+        line = 2;
+        name = codes "root";
+        fields = record { line = 2; kind = number_kind I32; name = codes "y1" } ∷ [];
+      }
       ∷ [];
-  procedures = record { line = 3; private = false; name = codes "root_start"; of = codes "root"; params = []; body = (more_stmts (call 4 (codes "root_start") own_target no_arguments) no_stmts) }
-      ∷ record { line = 5; private = false; name = codes "root_step"; of = codes "root"; params = record { line = 5; type = I32; name = codes "u1" } ∷ []; body = no_stmts }
+  procedures = record {
+    line = 3;
+    private = false;
+    name = codes "root_start";
+    of = codes "root";
+    params = [];
+    body =
+        (more_stmts (call 4 (codes "root_start") own_target no_arguments) no_stmts);
+  }
+      ∷ record {
+        line = 5;
+        private = false;
+        name = codes "root_step";
+        of = codes "root";
+        params = record { line = 5; type = I32; name = codes "u1" } ∷ [];
+        body = no_stmts;
+      }
       ∷ [];
 }
 
@@ -236,10 +440,29 @@ wide_step_param_text = text_of_lines
 abbrev pub wide_step_param_written : WrittenProgram
 wide_step_param_written = record {
   pures = [];
-  structs = record { line = 2; name = codes "root"; fields = record { line = 2; kind = number_kind I32; name = codes "y1" } ∷ [] }
+  structs =
+      record {
+        line = 2;
+        name = codes "root";
+        fields = record { line = 2; kind = number_kind I32; name = codes "y1" } ∷ [];
+      }
       ∷ [];
-  procedures = record { line = 3; private = false; name = codes "root_start"; of = codes "root"; params = []; body = no_stmts }
-      ∷ record { line = 4; private = false; name = codes "root_step"; of = codes "root"; params = record { line = 5; type = I64; name = codes "u1" } ∷ []; body = no_stmts }
+  procedures = record {
+    line = 3;
+    private = false;
+    name = codes "root_start";
+    of = codes "root";
+    params = [];
+    body = no_stmts;
+  }
+      ∷ record {
+        line = 4;
+        private = false;
+        name = codes "root_step";
+        of = codes "root";
+        params = record { line = 5; type = I64; name = codes "u1" } ∷ [];
+        body = no_stmts;
+      }
       ∷ [];
 }
 
@@ -258,9 +481,21 @@ no_step_text = text_of_lines
 abbrev pub no_step_written : WrittenProgram
 no_step_written = record {
   pures = [];
-  structs = record { line = 2; name = codes "root"; fields = record { line = 2; kind = number_kind I32; name = codes "y1" } ∷ [] }
+  structs =
+      record {
+        line = 2;
+        name = codes "root";
+        fields = record { line = 2; kind = number_kind I32; name = codes "y1" } ∷ [];
+      }
       ∷ [];
-  procedures = record { line = 3; private = false; name = codes "root_start"; of = codes "root"; params = []; body = no_stmts }
+  procedures = record {
+    line = 3;
+    private = false;
+    name = codes "root_start";
+    of = codes "root";
+    params = [];
+    body = no_stmts;
+  }
       ∷ [];
 }
 

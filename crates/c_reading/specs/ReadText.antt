@@ -13,8 +13,10 @@ use Rattle.c_grammar.specs.ParsedText.{parse_text}
 abbrev pub read_text : List ℕ → Result ProgramTree CFault
 read_text bytes = parse_text bytes >>= resolve_program (last_line bytes)
 
--- what is read from a text is its program, which is lawful; the fault that is told is the text's first
+-- what is read from a text is its program, which is lawful; the fault that is told is the text's
+-- first
 pub record TextsAgree : Type 0 where
   pub read : (bytes : List ℕ) (p : ProgramTree) → read_text bytes ≡ Ok p → CText bytes p
-  pub refused : (bytes : List ℕ) (fault : CFault) → read_text bytes ≡ Err fault → CFaultOf bytes fault
+  pub refused : (bytes : List ℕ) (fault : CFault) → read_text bytes ≡ Err fault →
+      CFaultOf bytes fault
   pub lawful : (bytes : List ℕ) (p : ProgramTree) → read_text bytes ≡ Ok p → IsLawful p

@@ -19,8 +19,12 @@ name_text-refused = refl
 no_header-refused : read_text (codes "struct root { int32_t y1; };") ≡ Err (fault_at 1 Syntax)
 no_header-refused = refl
 
-no_token-refused : read_text (text_of_lines (codes "#include <stdint.h>" ∷ codes "struct root { int32_t y1; };" ∷ codes "/* a comment" ∷ codes "*/ void root_start() { }" ∷ [])) ≡ Err (fault_at 4 Syntax)
+no_token-refused : read_text
+    (text_of_lines (codes "#include <stdint.h>" ∷ codes "struct root { int32_t y1; };"
+    ∷ codes "/* a comment" ∷ codes "*/ void root_start() { }" ∷ [])) ≡ Err (fault_at 4 Syntax)
 no_token-refused = refl
 
-early_end-refused : read_text (text_of_lines (codes "#include <stdint.h>" ∷ codes "struct root { int32_t y1; };" ∷ [])) ≡ Err (fault_at 2 Syntax)
+early_end-refused : read_text
+    (text_of_lines (codes "#include <stdint.h>" ∷ codes "struct root { int32_t y1; };" ∷ []))
+    ≡ Err (fault_at 2 Syntax)
 early_end-refused = refl

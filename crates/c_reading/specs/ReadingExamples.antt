@@ -1,4 +1,5 @@
--- Texts read: one with a division by zero, one with an unknown name, and the code of a model with one input and one output.
+-- Texts read: one with a division by zero, one with an unknown name, and the code of a model with
+-- one input and one output.
 use Rattle.std.specs.Prelude.{◌≡◌, ℕ, false, List, [], ◌∷◌, None, Ok, codes, refl}
 use Rattle.std.specs.Fmt.{digits}
 use Rattle.std.proofs.Common.{lit≤}
@@ -31,10 +32,30 @@ i32_param l n = record { line = l; type = I32; name = n }
 abbrev pub zero_written : WrittenProgram
 zero_written = record {
   pures = [];
-  structs = record { line = 2; name = codes "root"; fields = record { line = 2; kind = number_kind I32; name = codes "y1" } ∷ [] } ∷ [];
+  structs =
+      record {
+        line = 2;
+        name = codes "root";
+        fields = record { line = 2; kind = number_kind I32; name = codes "y1" } ∷ [];
+      } ∷ [];
   procedures =
-      record { line = 3; private = false; name = codes "root_start"; of = codes "root"; params = []; body = no_stmts }
-      ∷ record { line = 4; private = false; name = codes "root_step"; of = codes "root"; params = i32_param 4 (codes "u1") ∷ []; body = more_stmts (assign 5 (codes "y1") I32 (binary Div (literal 1) (literal 0))) no_stmts }
+      record {
+        line = 3;
+        private = false;
+        name = codes "root_start";
+        of = codes "root";
+        params = [];
+        body = no_stmts;
+      }
+      ∷ record {
+        line = 4;
+        private = false;
+        name = codes "root_step";
+        of = codes "root";
+        params = i32_param 4 (codes "u1") ∷ [];
+        body =
+            more_stmts (assign 5 (codes "y1") I32 (binary Div (literal 1) (literal 0))) no_stmts;
+      }
       ∷ [];
 }
 
@@ -46,7 +67,15 @@ zero_text-read = record {
   written = zero_written;
   spelled = refl;
   resolved = refl;
-  limits = record { count = lit≤ tt; pures = tt; procedures = (record { params = lit≤ tt; statements = lit≤ tt; expressions = lit≤ tt }, (record { params = lit≤ tt; statements = lit≤ tt; expressions = lit≤ tt }, tt)) };
+  limits =
+      record {
+        count = lit≤ tt;
+        pures = tt;
+        procedures = (
+          record { params = lit≤ tt; statements = lit≤ tt; expressions = lit≤ tt },
+          (record { params = lit≤ tt; statements = lit≤ tt; expressions = lit≤ tt }, tt),
+        );
+      };
 }
 
 abbrev pub name_text : List ℕ
@@ -62,10 +91,30 @@ name_text = text_of_lines
 abbrev pub name_written : WrittenProgram
 name_written = record {
   pures = [];
-  structs = record { line = 2; name = codes "root"; fields = record { line = 2; kind = number_kind I32; name = codes "y1" } ∷ [] } ∷ [];
+  structs =
+      record {
+        line = 2;
+        name = codes "root";
+        fields = record { line = 2; kind = number_kind I32; name = codes "y1" } ∷ [];
+      } ∷ [];
   procedures =
-      record { line = 3; private = false; name = codes "root_start"; of = codes "root"; params = []; body = no_stmts }
-      ∷ record { line = 4; private = false; name = codes "root_step"; of = codes "root"; params = i32_param 4 (codes "u1") ∷ []; body = more_stmts (assign 5 (codes "y1") I32 (read 5 (param (codes "q")))) no_stmts }
+      record {
+        line = 3;
+        private = false;
+        name = codes "root_start";
+        of = codes "root";
+        params = [];
+        body = no_stmts;
+      }
+      ∷ record {
+        line = 4;
+        private = false;
+        name = codes "root_step";
+        of = codes "root";
+        params = i32_param 4 (codes "u1") ∷ [];
+        body =
+            more_stmts (assign 5 (codes "y1") I32 (read 5 (param (codes "q")))) no_stmts;
+      }
       ∷ [];
 }
 
@@ -78,10 +127,14 @@ name_text-refused = (name_written, refl, refl)
 pub no_header-refused : CFaultOf (codes "struct root { int32_t y1; };") (fault_at 1 Syntax)
 no_header-refused = refl
 
-pub no_token-refused : CFaultOf (text_of_lines (codes "#include <stdint.h>" ∷ codes "struct root { int32_t y1; };" ∷ codes "/* a comment" ∷ codes "*/ void root_start() { }" ∷ [])) (fault_at 4 Syntax)
+pub no_token-refused : CFaultOf
+    (text_of_lines (codes "#include <stdint.h>" ∷ codes "struct root { int32_t y1; };"
+    ∷ codes "/* a comment" ∷ codes "*/ void root_start() { }" ∷ [])) (fault_at 4 Syntax)
 no_token-refused = refl
 
-pub early_end-refused : CFaultOf (text_of_lines (codes "#include <stdint.h>" ∷ codes "struct root { int32_t y1; };" ∷ [])) (fault_at 2 Syntax)
+pub early_end-refused : CFaultOf
+    (text_of_lines (codes "#include <stdint.h>" ∷ codes "struct root { int32_t y1; };" ∷ []))
+    (fault_at 2 Syntax)
 early_end-refused = refl
 
 abbrev pub one_text : List ℕ
@@ -118,27 +171,101 @@ abbrev pub i32_field : ℕ → List ℕ → WrittenField
 i32_field l n = record { line = l; kind = number_kind I32; name = n }
 
 abbrev pub now_and_u1 : ℕ → WrittenArguments
-now_and_u1 l = more_arguments I32 (read l (own (codes "now"))) (more_arguments I32 (read l (param (codes "u1"))) no_arguments)
+now_and_u1 l =
+    more_arguments I32 (read l (own (codes "now")))
+    (more_arguments I32 (read l (param (codes "u1"))) no_arguments)
 
 abbrev pub one_written : WrittenProgram
 one_written = record {
   pures = [];
   structs =
-      record { line = 2; name = codes "top"; fields = i32_field 2 (codes "v0") ∷ i32_field 2 (codes "v1") ∷ [] }
-      ∷ record { line = 3; name = codes "root"; fields = i32_field 3 (codes "now") ∷ i32_field 3 (codes "y1") ∷ record { line = 3; kind = struct_kind (codes "top"); name = codes "top" } ∷ [] }
+      record {
+        line = 2;
+        name = codes "top";
+        fields = i32_field 2 (codes "v0")
+            ∷ i32_field 2 (codes "v1") ∷ [];
+      }
+      ∷ record {
+        line = 3;
+        name = codes "root";
+        fields = i32_field 3 (codes "now")
+            ∷ i32_field 3 (codes "y1") ∷ record {
+              line = 3;
+              kind = struct_kind (codes "top");
+              name = codes "top";
+            } ∷ [];
+      }
       ∷ [];
   procedures =
-      record { line = 4; private = false; name = codes "top_start"; of = codes "top"; params = []; body = more_stmts (assign 5 (codes "v0") I32 (literal 0)) (more_stmts (assign 6 (codes "v1") I32 (literal 0)) no_stmts) }
-      ∷ record { line = 8; private = false; name = codes "top_reset"; of = codes "top"; params = []; body = no_stmts }
-      ∷ record { line = 10; private = false; name = codes "top_out1"; of = codes "top"; params = i32_param 10 (codes "now") ∷ i32_param 10 (codes "u1") ∷ []; body = more_stmts (assign 11 (codes "v0") I32 (read 11 (param (codes "u1")))) (more_stmts (assign 12 (codes "v1") I32 (read 12 (own (codes "v0")))) no_stmts) }
-      ∷ record { line = 14; private = false; name = codes "top_update"; of = codes "top"; params = i32_param 14 (codes "now") ∷ i32_param 14 (codes "u1") ∷ []; body = no_stmts }
-      ∷ record { line = 16; private = false; name = codes "root_start"; of = codes "root"; params = []; body = more_stmts (assign 17 (codes "now") I32 (literal 0)) (more_stmts (assign 18 (codes "y1") I32 (literal 0)) (more_stmts (call 19 (codes "top_start") (field_target (codes "top")) no_arguments) no_stmts)) }
-      ∷ record { line = 21; private = false; name = codes "root_step"; of = codes "root"; params = i32_param 21 (codes "u1") ∷ []; body = more_stmts (call 22 (codes "top_out1") (field_target (codes "top")) (now_and_u1 22)) (more_stmts (call 23 (codes "top_update") (field_target (codes "top")) (now_and_u1 23)) (more_stmts (assign 24 (codes "y1") I32 (read 24 (child (codes "top") (codes "v1")))) (more_stmts (assign 25 (codes "now") I32 (binary Rem (binary Add (read 25 (own (codes "now"))) (literal 1)) (literal 1))) no_stmts))) }
+      record {
+        line = 4;
+        private = false;
+        name = codes "top_start";
+        of = codes "top";
+        params = [];
+        body = more_stmts (assign 5 (codes "v0") I32 (literal 0))
+            (more_stmts (assign 6 (codes "v1") I32 (literal 0)) no_stmts);
+      }
+      ∷ record {
+        line = 8;
+        private = false;
+        name = codes "top_reset";
+        of = codes "top";
+        params = [];
+        body = no_stmts;
+      }
+      ∷ record {
+        line = 10;
+        private = false;
+        name = codes "top_out1";
+        of = codes "top";
+        params = i32_param 10 (codes "now") ∷ i32_param 10 (codes "u1") ∷ [];
+        body =
+            more_stmts (assign 11 (codes "v0") I32 (read 11 (param (codes "u1"))))
+            (more_stmts (assign 12 (codes "v1") I32 (read 12 (own (codes "v0")))) no_stmts);
+      }
+      ∷ record {
+        line = 14;
+        private = false;
+        name = codes "top_update";
+        of = codes "top";
+        params = i32_param 14 (codes "now") ∷ i32_param 14 (codes "u1") ∷ [];
+        body = no_stmts;
+      }
+      ∷ record {
+        line = 16;
+        private = false;
+        name = codes "root_start";
+        of = codes "root";
+        params = [];
+        body =
+            more_stmts (assign 17 (codes "now") I32 (literal 0))
+            (more_stmts (assign 18 (codes "y1") I32 (literal 0))
+            (more_stmts (call 19 (codes "top_start") (field_target (codes "top")) no_arguments)
+            no_stmts));
+      }
+      ∷ record {
+        line = 21;
+        private = false;
+        name = codes "root_step";
+        of = codes "root";
+        params = i32_param 21 (codes "u1") ∷ [];
+        body =
+            more_stmts (call 22 (codes "top_out1") (field_target (codes "top")) (now_and_u1 22))
+            (more_stmts (call 23 (codes "top_update") (field_target (codes "top")) (now_and_u1 23))
+            (more_stmts (assign 24 (codes "y1") I32 (read 24 (child (codes "top") (codes "v1"))))
+            (more_stmts
+            (assign 25 (codes "now") I32
+            (binary Rem (binary Add (read 25 (own (codes "now"))) (literal 1)) (literal 1)))
+            no_stmts)));
+      }
       ∷ [];
 }
 
--- the text of a model with one input and one output has no fault of tokens, and is one of its program
-pub one_text-no_token_fault : token_fault file_needs (last_line one_text) (tokens_of one_text) ≡ None
+-- the text of a model with one input and one output has no fault of tokens, and is one of its
+-- program
+pub one_text-no_token_fault : token_fault file_needs (last_line one_text) (tokens_of one_text)
+    ≡ None
 one_text-no_token_fault = refl
 
 pub one_text-spelled : Spells (tokens_of one_text) one_written

@@ -3,7 +3,8 @@ use Rattle.std.proofs.Common.{◌≡◌, refl, sym, ◌∙◌, ap, ℕ, ◌+◌,
 use Rattle.std.specs.List.{cons_option}
 use Rattle.c_resolver.proofs.ParamLaws.{up_to_or}
 
-filter_map-push : {X Y : Type 0} (h : X → Option Y) (xs : List X) (x : X) → filter_map h (xs ++ x ∷ []) ≡ filter_map h xs ++ cons_option (h x) []
+filter_map-push : {X Y : Type 0} (h : X → Option Y) (xs : List X) (x : X) →
+    filter_map h (xs ++ x ∷ []) ≡ filter_map h xs ++ cons_option (h x) []
 filter_map-push h [] x = refl
 filter_map-push {Y = Y} h (y ∷ ys) x = ap (cons_option (h y)) (filter_map-push h ys x) ∙ by (h y)
   where
@@ -11,6 +12,9 @@ filter_map-push {Y = Y} h (y ∷ ys) x = ap (cons_option (h y)) (filter_map-push
     by None = refl
     by (Some z) = refl
 
-pub filter_map-up_to : {A X Y : Type 0} (h : X → Option Y) (f : A → X) (xs : List A) (i : ℕ) (x : A) → i < length xs → x ≡ get_or xs i x → filter_map h (map f (take i xs)) ++ cons_option (h (f x)) [] ≡ filter_map h (map f (take (i + 1) xs))
+pub filter_map-up_to : {A X Y : Type 0} (h : X → Option Y) (f : A → X) (xs : List A) (i : ℕ) (x : A) → i < length xs →
+    x ≡ get_or xs i x → filter_map h (map f (take i xs))
+    ++ cons_option (h (f x)) [] ≡ filter_map h (map f (take (i + 1) xs))
 filter_map-up_to h f xs i x within here =
-    sym (filter_map-push h (map f (take i xs)) (f x)) ∙ ap (filter_map h) ((λ j. map f (take i xs) ++ f (here j) ∷ []) ∙ up_to_or f xs i x within)
+    sym (filter_map-push h (map f (take i xs)) (f x))
+    ∙ ap (filter_map h) ((λ j. map f (take i xs) ++ f (here j) ∷ []) ∙ up_to_or f xs i x within)

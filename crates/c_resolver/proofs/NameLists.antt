@@ -11,23 +11,29 @@ use Rattle.c_syntax.proofs.lemmas.NameFacts.{has_name-append}
 abbrev pub names_of : List (Bor (List ℕ)) → List (List ℕ)
 names_of keys = map (λ (key : Bor (List ℕ)). key.now) keys
 
-pub any-names : (name : List ℕ) (keys : List (Bor (List ℕ))) → list_any (λ (key : Bor (List ℕ)). bytes_eq name key.now) keys ≡ has_name (names_of keys) name
+pub any-names : (name : List ℕ) (keys : List (Bor (List ℕ))) →
+    list_any (λ (key : Bor (List ℕ)). bytes_eq name key.now) keys ≡ has_name (names_of keys) name
 any-names name [] = refl
 any-names name (k ∷ ks) = ap (λ b. bytes_eq name k.now || b) (any-names name ks)
 
-position_from-names : (i : ℕ) (name : List ℕ) (keys : List (Bor (List ℕ))) → position_from (λ (key : Bor (List ℕ)). bytes_eq name key.now) i keys ≡ position_from (bytes_eq name) i (names_of keys)
+position_from-names : (i : ℕ) (name : List ℕ) (keys : List (Bor (List ℕ))) →
+    position_from (λ (key : Bor (List ℕ)). bytes_eq name key.now) i keys
+    ≡ position_from (bytes_eq name) i (names_of keys)
 position_from-names i name [] = refl
 position_from-names i name (k ∷ ks) = ap (λ o. cond (bytes_eq name k.now) (Some i) o) (position_from-names (i + 1) name ks)
 
-pub position-names : (name : List ℕ) (keys : List (Bor (List ℕ))) → position (λ (key : Bor (List ℕ)). bytes_eq name key.now) keys ≡ position_from (bytes_eq name) 0 (names_of keys)
+pub position-names : (name : List ℕ) (keys : List (Bor (List ℕ))) →
+    position (λ (key : Bor (List ℕ)). bytes_eq name key.now) keys ≡ position_from (bytes_eq name) 0 (names_of keys)
 position-names name keys = position_from-zero (λ (key : Bor (List ℕ)). bytes_eq name key.now) keys ∙ position_from-names 0 name keys
 
 names-append : (xs ys : List (Bor (List ℕ))) → names_of (xs ++ ys) ≡ names_of xs ++ names_of ys
 names-append [] ys = refl
 names-append (x ∷ xs) ys = ap (λ zs. x.now ∷ zs) (names-append xs ys)
 
-pub insert-names : (name : Bor (List ℕ)) (keys : List (Bor (List ℕ))) → has_name (names_of keys) name.now ≡ false → names_of (insert_key (λ (x y : Bor (List ℕ)). bytes_eq x.now y.now) keys name) ≡ names_of keys ++ name.now ∷ []
-insert-names name keys new = ap (λ b. names_of (if b then keys else keys ++ name ∷ [])) (any-names name.now keys ∙ new) ∙ names-append keys (name ∷ [])
+pub insert-names : (name : Bor (List ℕ)) (keys : List (Bor (List ℕ))) → has_name (names_of keys) name.now ≡ false →
+    names_of (insert_key (λ (x y : Bor (List ℕ)). bytes_eq x.now y.now) keys name) ≡ names_of keys ++ name.now ∷ []
+insert-names name keys new = ap (λ b. names_of (if b then keys else keys ++ name ∷ [])) (any-names name.now keys ∙ new)
+    ∙ names-append keys (name ∷ [])
 
 turn : (a b : Bool) → (a || (b || false)) ≡ (b || a)
 turn true true = refl
@@ -39,13 +45,18 @@ turn false false = refl
 pub has_name-push : (names : List (List ℕ)) (name n : List ℕ) → has_name (names ++ name ∷ []) n ≡ (bytes_eq n name || has_name names n)
 has_name-push names name n = has_name-append names (name ∷ []) n ∙ turn (has_name names n) (bytes_eq n name)
 
-pub insert-has : (name : Bor (List ℕ)) (keys : List (Bor (List ℕ))) (n : List ℕ) → has_name (names_of (insert_key (λ (x y : Bor (List ℕ)). bytes_eq x.now y.now) keys name)) n ≡ (bytes_eq n name.now || has_name (names_of keys) n)
+pub insert-has : (name : Bor (List ℕ)) (keys : List (Bor (List ℕ))) (n : List ℕ) →
+    has_name (names_of (insert_key (λ (x y : Bor (List ℕ)). bytes_eq x.now y.now) keys name)) n
+    ≡ (bytes_eq n name.now || has_name (names_of keys) n)
 insert-has name keys n = by (list_any (λ (key : Bor (List ℕ)). bytes_eq name.now key.now) keys) (any-names name.now keys)
   where
-    old : (b : Bool) → bytes_eq n name.now ≡ b → true ≡ has_name (names_of keys) name.now → has_name (names_of keys) n ≡ (b || has_name (names_of keys) n)
+    old : (b : Bool) → bytes_eq n name.now ≡ b → true ≡ has_name (names_of keys) name.now →
+        has_name (names_of keys) n ≡ (b || has_name (names_of keys) n)
     old false same there = refl
     old true same there = ap (has_name (names_of keys)) ((bytes_eq-Decides n name.now).0 same) ∙ sym there
 
-    by : (b : Bool) → b ≡ has_name (names_of keys) name.now → has_name (names_of (if b then keys else keys ++ name ∷ [])) n ≡ (bytes_eq n name.now || has_name (names_of keys) n)
+    by : (b : Bool) → b ≡ has_name (names_of keys) name.now →
+        has_name (names_of (if b then keys else keys ++ name ∷ [])) n
+        ≡ (bytes_eq n name.now || has_name (names_of keys) n)
     by true there = old (bytes_eq n name.now) refl there
     by false there = ap (λ ns. has_name ns n) (names-append keys (name ∷ [])) ∙ has_name-push (names_of keys) name.now n

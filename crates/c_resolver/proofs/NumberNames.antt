@@ -10,11 +10,17 @@ number_names-append : (xs ys : List FieldTree) → number_names (xs ++ ys) ≡ n
 number_names-append [] ys = refl
 number_names-append (x ∷ xs) ys = by (is_number x) (number_names-append xs ys)
   where
-    by : (b : Bool) → number_names (xs ++ ys) ≡ number_names xs ++ number_names ys → map (λ (f : FieldTree). f.name) (cond b (x ∷ filter is_number (xs ++ ys)) (filter is_number (xs ++ ys))) ≡ map (λ (f : FieldTree). f.name) (cond b (x ∷ filter is_number xs) (filter is_number xs)) ++ number_names ys
+    by : (b : Bool) → number_names (xs ++ ys) ≡ number_names xs ++ number_names ys →
+        map (λ (f : FieldTree). f.name) (cond b (x ∷ filter is_number (xs ++ ys)) (filter is_number (xs ++ ys)))
+        ≡ map (λ (f : FieldTree). f.name) (cond b (x ∷ filter is_number xs) (filter is_number xs)) ++ number_names ys
     by true e = ap (λ ns. x.name ∷ ns) e
     by false e = e
 
 -- the names of the number fields up to a place and of that one
-pub number_names-up_to : (fields : List Field) (i : ℕ) (x : Field) → i < length fields → x ≡ get_or fields i x → number_names (field_trees (take i fields)) ++ number_names (field_tree x ∷ []) ≡ number_names (field_trees (take (i + 1) fields))
+pub number_names-up_to : (fields : List Field) (i : ℕ) (x : Field) → i < length fields → x ≡ get_or fields i x →
+    number_names (field_trees (take i fields)) ++ number_names (field_tree x ∷ [])
+    ≡ number_names (field_trees (take (i + 1) fields))
 number_names-up_to fields i x within here =
-    sym (number_names-append (field_trees (take i fields)) (field_tree x ∷ [])) ∙ ap (λ (f : Field). number_names (field_trees (take i fields) ++ field_tree f ∷ [])) here ∙ ap number_names (up_to_or field_tree fields i x within)
+    sym (number_names-append (field_trees (take i fields)) (field_tree x ∷ []))
+    ∙ ap (λ (f : Field). number_names (field_trees (take i fields) ++ field_tree f ∷ [])) here
+    ∙ ap number_names (up_to_or field_tree fields i x within)

@@ -21,7 +21,8 @@ flipped-push (x ∷ xs) n = ap (λ ys. ys ++ x ∷ []) (flipped-push xs n)
 
 pub has_name-flipped : (xs : List (List ℕ)) (n : List ℕ) → has_name (flipped xs) n ≡ has_name xs n
 has_name-flipped [] n = refl
-has_name-flipped (x ∷ xs) n = has_name-append (flipped xs) (x ∷ []) n ∙ ap (λ b. b || (bytes_eq n x || false)) (has_name-flipped xs n) ∙ turn (has_name xs n) (bytes_eq n x)
+has_name-flipped (x ∷ xs) n = has_name-append (flipped xs) (x ∷ []) n
+    ∙ ap (λ b. b || (bytes_eq n x || false)) (has_name-flipped xs n) ∙ turn (has_name xs n) (bytes_eq n x)
   where
     turn : (a b : Bool) → (a || (b || false)) ≡ (b || a)
     turn true true = refl
@@ -30,24 +31,31 @@ has_name-flipped (x ∷ xs) n = has_name-append (flipped xs) (x ∷ []) n ∙ ap
     turn false false = refl
 
 -- a parameter that passes
-pub param-passes : (functions names : List (List ℕ)) (p : ℕ × List ℕ) (ps : List (ℕ × List ℕ)) → has_name functions p.1 ≡ false → has_name names p.1 ≡ false →
+pub param-passes : (functions names : List (List ℕ)) (p : ℕ × List ℕ) (ps : List (ℕ × List ℕ)) →
+    has_name functions p.1 ≡ false → has_name names p.1 ≡ false →
     check_params functions (flipped names) (p ∷ ps) ≡ check_params functions (flipped (names ++ p.1 ∷ [])) ps
 param-passes functions names p ps apart new =
-    (λ i. on_line p.0 (unless_fault (not (apart i) && not ((has_name-flipped names p.1 ∙ new) i)) Name) >> check_params functions (p.1 ∷ flipped names) ps) ∙ ap (λ e. check_params functions e ps) (sym (flipped-push names p.1))
+    (λ i. on_line p.0 (unless_fault (not (apart i) && not ((has_name-flipped names p.1 ∙ new) i)) Name) >> check_params
+    functions (p.1 ∷ flipped names) ps) ∙ ap (λ e. check_params functions e ps) (sym (flipped-push names p.1))
 
 -- a parameter of a name that is taken
-pub param-fails : (functions names : List (List ℕ)) (p : ℕ × List ℕ) (ps : List (ℕ × List ℕ)) → (has_name functions p.1 || has_name names p.1) ≡ true →
+pub param-fails : (functions names : List (List ℕ)) (p : ℕ × List ℕ) (ps : List (ℕ × List ℕ)) →
+    (has_name functions p.1 || has_name names p.1) ≡ true →
     check_params functions (flipped names) (p ∷ ps) ≡ Err (fault_at p.0 Name)
 param-fails functions names p ps taken =
-    (λ i. on_line p.0 (unless_fault (not (has_name functions p.1) && not (has_name-flipped names p.1 i)) Name) >> check_params functions (p.1 ∷ flipped names) ps) ∙ by (has_name functions p.1) (has_name names p.1) taken
+    (λ i. on_line p.0 (unless_fault (not (has_name functions p.1) && not (has_name-flipped names p.1 i)) Name) >>
+    check_params functions (p.1 ∷ flipped names) ps) ∙ by (has_name functions p.1) (has_name names p.1) taken
   where
-    by : (a b : Bool) → (a || b) ≡ true → (on_line p.0 (unless_fault (not a && not b) Name) >> check_params functions (p.1 ∷ flipped names) ps) ≡ Err (fault_at p.0 Name)
+    by : (a b : Bool) → (a || b) ≡ true →
+        (on_line p.0 (unless_fault (not a && not b) Name) >> check_params functions (p.1 ∷ flipped names) ps)
+        ≡ Err (fault_at p.0 Name)
     by true b h = refl
     by false true h = refl
     by false false h = cc
 
 -- what is left, from a place on
-pub from_place : {A B : Type 0} (f : A → B) (xs : List A) (i : ℕ) (x : A) → i < length xs → x ≡ get_or xs i x → map f (drop i xs) ≡ f x ∷ map f (drop (i + 1) xs)
+pub from_place : {A B : Type 0} (f : A → B) (xs : List A) (i : ℕ) (x : A) → i < length xs → x ≡ get_or xs i x →
+    map f (drop i xs) ≡ f x ∷ map f (drop (i + 1) xs)
 from_place f xs i x within here =
     let next : suc i ≡ i + 1 = omega arith in
     ap (map f) (drop-cons xs i x within) ∙ (λ j. f (sym here j) ∷ map f (drop (next j) xs))
@@ -62,11 +70,13 @@ from_end f (x ∷ xs) zero e = absurd (omega (arith, e))
 from_end f (x ∷ xs) (suc i) e = from_end f xs i (omega (arith, e))
 
 -- the same, where a place past the end stands for something
-pub from_place_or : {A B : Type 0} (f : A → B) (xs : List A) (i : ℕ) (d : A) → i < length xs → map f (drop i xs) ≡ f (get_or xs i d) ∷ map f (drop (i + 1) xs)
+pub from_place_or : {A B : Type 0} (f : A → B) (xs : List A) (i : ℕ) (d : A) → i < length xs →
+    map f (drop i xs) ≡ f (get_or xs i d) ∷ map f (drop (i + 1) xs)
 from_place_or f xs i d within =
     let next : suc i ≡ i + 1 = omega arith in
     ap (map f) (drop-cons xs i d within) ∙ (λ j. f (get_or xs i d) ∷ map f (drop (next j) xs))
 
 -- the first of them and one more
-pub up_to_or : {A B : Type 0} (f : A → B) (xs : List A) (i : ℕ) (d : A) → i < length xs → map f (take i xs) ++ f (get_or xs i d) ∷ [] ≡ map f (take (i + 1) xs)
+pub up_to_or : {A B : Type 0} (f : A → B) (xs : List A) (i : ℕ) (d : A) → i < length xs →
+    map f (take i xs) ++ f (get_or xs i d) ∷ [] ≡ map f (take (i + 1) xs)
 up_to_or f xs i d within = map_push f (take i xs) (get_or xs i d) ∙ ap (map f) (sym (take_more xs i d within))

@@ -15,17 +15,36 @@ use Rattle.c_syntax.proofs.lemmas.NameFacts.{AreDistinct-back}
 use Rattle.c_syntax.proofs.lemmas.NamePlaces.{position_from-named, map-at}
 
 -- a type is its three numbers
-pub type-same : (signed : Bool) (bits frac : ℕ) (a b : InProfile signed bits frac) → ◌≡◌ {A = FixType} (record { signed = signed; bits = bits; frac = frac; in_profile = a }) (record { signed = signed; bits = bits; frac = frac; in_profile = b })
-type-same signed bits frac a b = λ i. record { signed = signed; bits = bits; frac = frac; in_profile = (le_prop a.0 b.0 i, le_prop a.1 b.1 i, le_prop a.2 b.2 i) }
+pub type-same : (signed : Bool) (bits frac : ℕ) (a b : InProfile signed bits frac) →
+    ◌≡◌ {A = FixType} (record { signed = signed; bits = bits; frac = frac; in_profile = a })
+    (record { signed = signed; bits = bits; frac = frac; in_profile = b })
+type-same signed bits frac a b =
+    λ i. record {
+      signed = signed;
+      bits = bits;
+      frac = frac;
+      in_profile = (le_prop a.0 b.0 i, le_prop a.1 b.1 i, le_prop a.2 b.2 i);
+    }
 
 -- the procedure that is found by its name is the root's
-pub step-found : (p : ProgramTree) (lawful : IsLawful p) (k : ℕ) (q : ProcedureTree) → procedure_named p (codes "root_step") ≡ Some k → slice_get p.procedures k ≡ Some q → lawful.root.step_procedure ≡ q
+pub step-found : (p : ProgramTree) (lawful : IsLawful p) (k : ℕ) (q : ProcedureTree) →
+    procedure_named p (codes "root_step") ≡ Some k → slice_get p.procedures k ≡ Some q → lawful.root.step_procedure ≡ q
 step-found p lawful k q named there =
     let r = lawful.root in
     let names : List (List ℕ) = procedure_names p.procedures in
-    let within : r.step < length names = omega (arith, slice_get_within p.procedures r.step r.step_procedure r.step_there, length-map p.procedures (λ x. x.name)) in
-    let at : name_at names r.step ≡ codes "root_step" = map-at (λ x. x.name) p.procedures r.step r.step_procedure [] r.step_there ∙ r.step_name in
-    let place = position_from-named (λ (x : ProcedureTree). x.name) p.procedures 0 r.step (AreDistinct-back (pure_names p.pures) names lawful.functions) within in
-    let same = some_same k (0 + r.step) (sym named ∙ ap (λ n. position_from (λ (x : ProcedureTree). bytes_eq x.name n) 0 p.procedures) (sym at) ∙ place) in
+    let within : r.step < length names =
+    omega (
+      arith,
+      slice_get_within p.procedures r.step r.step_procedure r.step_there,
+      length-map p.procedures (λ x. x.name),
+    ) in
+    let at : name_at names r.step ≡ codes "root_step" =
+    map-at (λ x. x.name) p.procedures r.step r.step_procedure [] r.step_there ∙ r.step_name in
+    let place =
+    position_from-named (λ (x : ProcedureTree). x.name) p.procedures 0 r.step
+    (AreDistinct-back (pure_names p.pures) names lawful.functions) within in
+    let same =
+    some_same k (0 + r.step) (sym named
+    ∙ ap (λ n. position_from (λ (x : ProcedureTree). bytes_eq x.name n) 0 p.procedures) (sym at) ∙ place) in
     let here : k ≡ r.step = omega (arith, same) in
     some_same r.step_procedure q (sym r.step_there ∙ ap (slice_get p.procedures) (sym here) ∙ there)

@@ -22,4 +22,10 @@ own_fields structs (Some k) = struct_fields structs k
 
 -- the names in reach of a body
 abbrev pub names_of : Scope → Names
-names_of s = record { known = known_of s.known.now; of = s.of; fields = own_fields s.known.now.structs.items.items s.of; params = s.params.now }
+names_of s =
+    record {
+      known = known_of s.known.now;
+      of = s.of;
+      fields = own_fields s.known.now.structs.items.items s.of;
+      params = s.params.now;
+    }

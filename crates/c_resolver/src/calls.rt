@@ -66,7 +66,8 @@ fn resolve_target(scope: &Scope, target: WrittenTarget) -> Result<(Target, Field
 
 /// Whether the casts of arguments are to the types of parameters.
 fn are_cast(params: &[(Text, CType)], values: &[Argument]) -> bool
-    ensures { result ≡ rules.same_types (map (λ q. q.type) (param_trees params.now)) (map (λ a. a.cast) values.now) }
+    ensures { result ≡ rules.same_types (map (λ q. q.type) (param_trees params.now))
+        (map (λ a. a.cast) values.now) }
 {
     let Some((param, params)) = params.split_first() else {
         return values.is_empty();
@@ -94,7 +95,8 @@ fn resolve_callee(
     target: WrittenTarget,
     values: &[Argument],
 ) -> Result<(u32, Target), CKind>
-    ensures { result ≡ rules.resolve_call (names_of scope.now) name.now (target_of target.entry) (map (λ a. a.cast) values.now) }
+    ensures { result ≡ rules.resolve_call (names_of scope.now) name.now (target_of target.entry)
+        (map (λ a. a.cast) values.now) }
 {
     let Some((k, procedure)) = scope.known.procedure(name) else {
         return Err(CKind::Name);
@@ -118,7 +120,8 @@ fn resolve_call(
     target: WrittenTarget,
     values: &[Argument],
 ) -> Result<(u32, Target), CKind>
-    ensures { result ≡ rules.resolve_call (names_of scope.now) name.now (target_of target.entry) (rules.argument_casts (arguments_from (map argument_of values.now))) }
+    ensures { result ≡ rules.resolve_call (names_of scope.now) name.now (target_of target.entry)
+        (rules.argument_casts (arguments_from (map argument_of values.now))) }
 {
     resolve_callee(scope, name, target, values)
 }
@@ -129,7 +132,9 @@ fn resolve_arguments(
     scope: &Scope,
     values: &[Argument],
 ) -> Result<Vec<Expr>, ReadCFault>
-    ensures { Gives (λ v. exprs_of_list (map expr_tree v.items)) result (rules.resolve_arguments (names_of scope.now) (arguments_from (map argument_of values.now))) }
+    ensures { Gives (λ v. exprs_of_list (map expr_tree v.items)) result
+        (rules.resolve_arguments (names_of scope.now)
+        (arguments_from (map argument_of values.now))) }
 {
     let mut resolved = Vec::new(alloc);
     for value in values {
@@ -147,7 +152,10 @@ pub(crate) fn resolve_call_of_procedure(
     target: WrittenTarget,
     values: &[Argument],
 ) -> Result<Stmt, ReadCFault>
-    ensures { Gives stmt_tree result (rules.resolve_stmt (names_of scope.now) (call line name.now (target_of target.entry) (arguments_from (map argument_of values.now)))) }
+    ensures { Gives stmt_tree result
+        (rules.resolve_stmt (names_of scope.now)
+        (call line name.now (target_of target.entry)
+        (arguments_from (map argument_of values.now)))) }
 {
     let (procedure, target) = on_line(line, resolve_call(scope, name, target, values))?;
     let values = resolve_arguments(alloc, scope, values)?;

@@ -35,7 +35,9 @@ fn resolve_pure_call(known: &Known, name: &[u8], count: usize) -> Result<u32, CK
 
 /// The position of a pure function that is called with these values.
 fn resolve_callee(known: &Known, name: &[u8], values: &[WrittenExpr]) -> Result<u32, CKind>
-    ensures { result ≡ rules.resolve_pure_call (known_of known.now) name.now (rules.exprs_count (exprs_from (map expr_of values.now))) }
+    ensures { result
+        ≡ rules.resolve_pure_call (known_of known.now) name.now
+        (rules.exprs_count (exprs_from (map expr_of values.now))) }
 {
     resolve_pure_call(known, name, values.len())
 }
@@ -99,7 +101,9 @@ fn resolve_call_of_pure(
     function: &[u8],
     values: &[WrittenExpr],
 ) -> Result<Expr, ReadCFault>
-    ensures { Gives expr_tree result (rules.resolve_expr (names_of scope.now) (pure line function.now (exprs_from (map expr_of values.now)))) }
+    ensures { Gives expr_tree result
+        (rules.resolve_expr (names_of scope.now)
+        (pure line function.now (exprs_from (map expr_of values.now)))) }
 {
     let k = on_line(line, resolve_callee(scope.known, function, values))?;
     let values = resolve_exprs(alloc, scope, values)?;
@@ -109,7 +113,8 @@ fn resolve_call_of_pure(
 /// What expressions stand for.
 #[cycle(expression)]
 fn resolve_exprs(alloc: Global, scope: &Scope, es: &[WrittenExpr]) -> Result<Vec<Expr>, ReadCFault>
-    ensures { Gives (λ v. exprs_of_list (map expr_tree v.items)) result (rules.resolve_exprs (names_of scope.now) (exprs_from (map expr_of es.now))) }
+    ensures { Gives (λ v. exprs_of_list (map expr_tree v.items)) result
+        (rules.resolve_exprs (names_of scope.now) (exprs_from (map expr_of es.now))) }
 {
     let mut resolved = Vec::new(alloc);
     for e in es {

@@ -54,7 +54,9 @@ fn may_be_named(numbers: &Numbers, is_number: bool, name: &[u8]) -> bool
 
 /// Whether a field may have its name, in the root's struct or in another.
 fn may_stand(is_root: bool, numbers: &Numbers, field: &WrittenField) -> bool
-    ensures { result ≡ (not is_root || named.may_be_named (names_in numbers.now) (rules.is_number_written (kind_of field.now.kind)) field.now.name.now) }
+    ensures { result
+        ≡ (not is_root || named.may_be_named (names_in numbers.now)
+        (rules.is_number_written (kind_of field.now.kind)) field.now.name.now) }
 {
     if !is_root {
         return true;
@@ -98,7 +100,8 @@ pub(crate) fn resolve_field(
     earlier: &NameTable,
     field: &WrittenField,
 ) -> Result<FieldKind, CKind>
-    ensures { rules.resolve_field (known_of known.now) is_root (names_in numbers.now) earlier.now (field_of field.now) ≡ named_kind field.now.name.now result }
+    ensures { rules.resolve_field (known_of known.now) is_root (names_in numbers.now) earlier.now
+        (field_of field.now) ≡ named_kind field.now.name.now result }
 {
     unless_fault(!earlier.contains(field.name), CKind::Name)?;
     let kind = resolve_kind(known, field.kind)?;

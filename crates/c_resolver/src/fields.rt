@@ -25,7 +25,8 @@ fn field_named(names: &NameTable, fields: &[Field], name: &[u8]) -> Result<(u32,
 impl<'a> Known<'a> {
     /// The position and the kind of a field of the struct at a position.
     pub(crate) fn field(&self, of: u32, name: &[u8]) -> Result<(u32, FieldKind), CKind>
-        ensures { result ≡ rules.field_named (struct_fields self.now.structs.items.items of) name.now }
+        ensures { result
+            ≡ rules.field_named (struct_fields self.now.structs.items.items of) name.now }
     {
         let Some(def) = self.structs.items.get(of as usize) else {
             return Err(CKind::Name);

@@ -54,7 +54,8 @@ fn fix_type(ty: CType) -> Option<FixType>
 
 /// The types of the numbers that parameters take, none of which is an int64_t.
 fn input_types(alloc: Global, params: &[(Text, CType)]) -> Result<Vec<FixType>, Memory>
-    ensures { IfOk result (λ types. map (λ q. checked.fix_type q.type) (param_trees params.now) ≡ map Some types.items) }
+    ensures { IfOk result (λ types. map (λ q. checked.fix_type q.type) (param_trees params.now)
+        ≡ map Some types.items) }
 {
     let mut types = Vec::new(alloc);
     for param in params {
@@ -68,7 +69,8 @@ fn input_types(alloc: Global, params: &[(Text, CType)]) -> Result<Vec<FixType>, 
 
 /// One more name, if this is the field of a number.
 fn push_number<'a>(names: &mut Vec<&'a [u8]>, field: &'a Field) -> Result<(), AllocError>
-    ensures { OnOk result (map (λ n. n.now) names.new.items ≡ map (λ n. n.now) names.old.items ++ number_names (field_tree field.now ∷ [])) }
+    ensures { OnOk result (map (λ n. n.now) names.new.items ≡ map (λ n. n.now) names.old.items
+        ++ number_names (field_tree field.now ∷ [])) }
 {
     match field.kind {
         FieldKind::Number(_) => {
@@ -81,7 +83,8 @@ fn push_number<'a>(names: &mut Vec<&'a [u8]>, field: &'a Field) -> Result<(), Al
 
 /// The names of the fields that are numbers.
 fn number_names(alloc: Global, fields: &[Field]) -> Result<Vec<&[u8]>, AllocError>
-    ensures { IfOk result (λ names. map (λ n. n.now) names.items ≡ number_names (field_trees fields.now)) }
+    ensures { IfOk result (λ names. map (λ n. n.now) names.items
+        ≡ number_names (field_trees fields.now)) }
 {
     let mut names = Vec::new(alloc);
     for field in fields {
@@ -92,7 +95,8 @@ fn number_names(alloc: Global, fields: &[Field]) -> Result<Vec<&[u8]>, AllocErro
 
 /// How many outputs y1, y2 and so on the root has.
 fn output_count(alloc: Global, program: &Program) -> Result<u32, Memory>
-    ensures { IfOk result (λ count. count ≡ length (output_fields (root_fields (program_tree program.now)))) }
+    ensures { IfOk result (λ count. count
+        ≡ length (output_fields (root_fields (program_tree program.now)))) }
 {
     let names = number_names(alloc, root_fields(program))?;
     let outputs = output_names(alloc, names.as_slice())?;

@@ -14,7 +14,8 @@ pub(crate) struct Known<'a> {
     pub(crate) field_names: Vec<NameTable<'a>>,
     pub(crate) procedures: Table<'a, Procedure>,
     pub(crate) chains: Vec<u32>,
-    pub(crate) ghost fields_named: { field_names.items ≡ map (λ d. map (λ f. f.name) d.fields) structs.items.items },
+    pub(crate) ghost fields_named: { field_names.items
+        ≡ map (λ d. map (λ f. f.name) d.fields) structs.items.items },
 }
 
 /// The names in reach of a body: the definitions before it, the position of its struct, and its parameters.

@@ -19,16 +19,20 @@ impl<'a> Known<'a> {
 
     /// The pure function of this name, with its position.
     pub(crate) fn pure(&self, name: &[u8]) -> Option<(u32, &Pure)>
-        ensures { let pures = (known_of self.now).pures in let place = position_from (λ p. bytes_eq p.name name.now) 0 pures in
-            MatchOption result (place ≡ None) (λ found. (place ≡ Some found.0) × (slice_get pures found.0 ≡ Some (pure_tree found.1.now))) }
+        ensures { let pures = (known_of self.now).pures in
+            let place = position_from (λ p. bytes_eq p.name name.now) 0 pures in
+            MatchOption result (place ≡ None) (λ found. (place ≡ Some found.0)
+            × (slice_get pures found.0 ≡ Some (pure_tree found.1.now))) }
     {
         self.pures.find(name)
     }
 
     /// The procedure of this name, with its position.
     pub(crate) fn procedure(&self, name: &[u8]) -> Option<(u32, &Procedure)>
-        ensures { let procedures = (known_of self.now).procedures in let place = position_from (λ p. bytes_eq p.name name.now) 0 procedures in
-            MatchOption result (place ≡ None) (λ found. (place ≡ Some found.0) × (slice_get procedures found.0 ≡ Some (procedure_tree found.1.now))) }
+        ensures { let procedures = (known_of self.now).procedures in
+            let place = position_from (λ p. bytes_eq p.name name.now) 0 procedures in
+            MatchOption result (place ≡ None) (λ found. (place ≡ Some found.0)
+            × (slice_get procedures found.0 ≡ Some (procedure_tree found.1.now))) }
     {
         self.procedures.find(name)
     }
@@ -49,7 +53,8 @@ impl<'a> Known<'a> {
 
     /// The position of the struct of this name.
     pub(crate) fn struct_position(&self, name: &[u8]) -> Option<u32>
-        ensures { result ≡ position_from (λ d. bytes_eq d.name name.now) 0 (known_of self.now).structs }
+        ensures { result
+            ≡ position_from (λ d. bytes_eq d.name name.now) 0 (known_of self.now).structs }
     {
         self.structs.position(name)
     }

@@ -53,8 +53,10 @@ impl<'a> NameTable<'a> {
 
     /// One more name, behind the others; a name that is there already stays where it is.
     pub(crate) fn push(&mut self, name: &'a [u8]) -> Result<(), Memory>
-        ensures new { OnOk result (has_name self.old name.now ≡ false → self.new ≡ self.old ++ name.now ∷ []) }
-        ensures added { OnOk result ((n : List ℕ) → has_name self.new n ≡ (bytes_eq n name.now || has_name self.old n)) }
+        ensures new { OnOk result (has_name self.old name.now ≡ false → self.new ≡ self.old ++ name.now
+            ∷ []) }
+        ensures added { OnOk result ((n : List ℕ) →
+            has_name self.new n ≡ (bytes_eq n name.now || has_name self.old n)) }
     {
         if self.names.len() >= u32::MAX as usize {
             return Err(Memory);
@@ -66,7 +68,8 @@ impl<'a> NameTable<'a> {
 
 /// A table that has the same names as a list, in which a name may stand twice.
 pub(crate) fn table_of<'a>(alloc: Global, names: &[&'a [u8]]) -> Result<NameTable<'a>, Memory>
-    ensures { IfOk result (λ table. (n : List ℕ) → has_name table n ≡ has_name (map (λ x. x.now) names.now) n) }
+    ensures { IfOk result (λ table. (n : List ℕ) →
+        has_name table n ≡ has_name (map (λ x. x.now) names.now) n) }
 {
     let mut table = NameTable::new(alloc);
     for name in names {

@@ -9,5 +9,7 @@ use crate::name_table::NameTable;
 pub(crate) struct Numbers<'n, 'a> {
     pub(crate) names: Vec<&'a [u8]>,
     pub(crate) outputs: NameTable<'n>,
-    pub(crate) ghost counted: { (n : List ℕ) → named.has_name outputs n ≡ named.has_name (named.output_names (map (λ x. x.now) names.items)) n },
+    pub(crate) ghost counted: { (n : List ℕ) →
+        named.has_name outputs n
+        ≡ named.has_name (named.output_names (map (λ x. x.now) names.items)) n },
 }

@@ -21,7 +21,8 @@ fn output_name(alloc: Global, number: usize) -> Result<Text, Memory>
 
 /// The names of the outputs, where these are the names of the number fields.
 pub(crate) fn output_names(alloc: Global, names: &[&[u8]]) -> Result<Vec<Text>, Memory>
-    ensures { IfOk result (λ found. found.items ≡ outputs.output_names (map (λ n. n.now) names.now)) }
+    ensures { IfOk result (λ found. found.items
+        ≡ outputs.output_names (map (λ n. n.now) names.now)) }
 {
     let table = table_of(alloc, names)?;
     let mut found = Vec::new(alloc);
@@ -57,7 +58,8 @@ pub(crate) fn looks_like_output(name: &[u8]) -> bool
 
 /// One more name, if this is the field of a number.
 fn push_number<'a>(names: &mut Vec<&'a [u8]>, field: &WrittenField<'a>) -> Result<(), AllocError>
-    ensures { OnOk result (map (λ n. n.now) names.new.items ≡ map (λ n. n.now) names.old.items ++ cons_option (number_name (field_of field.now)) []) }
+    ensures { OnOk result (map (λ n. n.now) names.new.items ≡ map (λ n. n.now) names.old.items
+        ++ cons_option (number_name (field_of field.now)) []) }
 {
     match field.kind {
         WrittenKind::Number(_) => {
@@ -73,7 +75,8 @@ pub(crate) fn number_names<'a>(
     alloc: Global,
     fields: &[WrittenField<'a>],
 ) -> Result<Vec<&'a [u8]>, AllocError>
-    ensures { IfOk result (λ names. map (λ n. n.now) names.items ≡ filter_map number_name (map field_of fields.now)) }
+    ensures { IfOk result (λ names. map (λ n. n.now) names.items
+        ≡ filter_map number_name (map field_of fields.now)) }
 {
     let mut names = Vec::new(alloc);
     for field in fields {

@@ -16,7 +16,9 @@ use std::alloc::Global;
 
 /// Whether a function that is defined before or an earlier parameter has this name.
 fn is_taken(known: &Known, names: &NameTable, name: &[u8]) -> bool
-    ensures { result ≡ (has_name (rules.function_names (known_of known.now)) name.now || has_name names.now name.now) }
+    ensures { result
+        ≡ (has_name (rules.function_names (known_of known.now)) name.now
+        || has_name names.now name.now) }
 {
     known.has_function(name) || names.contains(name)
 }
@@ -27,7 +29,8 @@ pub(crate) fn resolve_params<'a>(
     known: &Known<'a>,
     params: &[WrittenPureParam<'a>],
 ) -> Result<NameTable<'a>, ReadCFault>
-    ensures checked { Gives (λ names. tt) result (rules.check_params (rules.function_names (known_of known.now)) [] (map line_and_name params.now)) }
+    ensures checked { Gives (λ names. tt) result (rules.check_params (rules.function_names (known_of known.now))
+        [] (map line_and_name params.now)) }
     ensures names { IfOk result (λ names. names ≡ map (λ q. q.name.now) params.now) }
 {
     let mut names = NameTable::new(alloc);

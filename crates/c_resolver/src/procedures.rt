@@ -68,8 +68,10 @@ fn resolve_procedure<'a>(
     known: &Known<'a>,
     p: &WrittenProcedure<'a>,
 ) -> Result<Procedure, ReadCFault>
-    ensures resolved { Gives procedure_tree result (rules.resolve_procedure (known_of known.now) (procedure_of p.now)) }
-    ensures new { OnOk result (has_name (rules.function_names (known_of known.now)) p.now.name.now ≡ false) }
+    ensures resolved { Gives procedure_tree result
+        (rules.resolve_procedure (known_of known.now) (procedure_of p.now)) }
+    ensures new { OnOk result (has_name (rules.function_names (known_of known.now)) p.now.name.now
+        ≡ false) }
     ensures named { IfOk result (λ procedure. procedure.name ≡ p.now.name.now) }
 {
     let of = on_line(p.line, resolve_head(known, p))?;
@@ -95,8 +97,12 @@ impl<'a> Known<'a> {
     fn with_procedure(self, name: &'a [u8], procedure: Procedure) -> Result<Known<'a>, Memory>
         requires new { has_name (rules.function_names (known_of self)) name.now ≡ false }
         requires named { procedure.name ≡ name.now }
-        ensures { IfOk result (λ known. let before = known_of self.entry in let more = procedure_tree procedure in
-            known_of known ≡ record before { procedures = before.procedures ++ more ∷ []; chains = before.chains ++ (chain.stmts_chain before.chains more.body + 1) ∷ [] }) }
+        ensures { IfOk result (λ known. let before = known_of self.entry in
+            let more = procedure_tree procedure in
+            known_of known ≡ record before {
+              procedures = before.procedures ++ more ∷ [];
+              chains = before.chains ++ (chain.stmts_chain before.chains more.body + 1) ∷ [];
+            }) }
     {
         let Known {
             pures,
@@ -127,7 +133,8 @@ pub(crate) fn resolve_procedures<'a>(
     known: Known<'a>,
     procedures: &[WrittenProcedure<'a>],
 ) -> Result<Known<'a>, ReadCFault>
-    ensures { Gives known_of result (rules.resolve_procedures (known_of known.entry) (map procedure_of procedures.now)) }
+    ensures { Gives known_of result
+        (rules.resolve_procedures (known_of known.entry) (map procedure_of procedures.now)) }
 {
     let mut known = known;
     for p in procedures {

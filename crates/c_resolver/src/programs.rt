@@ -40,7 +40,9 @@ fn has_root(known: &Known) -> bool
 
 /// The program of these definitions.
 fn program_of(known: Known) -> Program
-    ensures tree { let all = known_of known.entry in program_tree result ≡ record { pures = all.pures; structs = all.structs; procedures = all.procedures } }
+    ensures tree { let all = known_of known.entry in
+        program_tree result
+        ≡ record { pures = all.pures; structs = all.structs; procedures = all.procedures } }
     ensures few { length result.procedures.items < 2 ^ 32 }
 {
     let Known {

@@ -23,7 +23,8 @@ fn resolve_pure<'a>(
     p: &WrittenPure<'a>,
 ) -> Result<Pure, ReadCFault>
     ensures resolved { Gives pure_tree result (rules.resolve_pure (known_of known.now) (pure_of p.now)) }
-    ensures new { OnOk result (has_name (rules.function_names (known_of known.now)) p.now.name.now ≡ false) }
+    ensures new { OnOk result (has_name (rules.function_names (known_of known.now)) p.now.name.now
+        ≡ false) }
     ensures named { IfOk result (λ pure. pure.name ≡ p.now.name.now) }
 {
     if known.has_function(p.name) {
@@ -50,7 +51,11 @@ impl<'a> Known<'a> {
     fn with_pure(self, name: &'a [u8], pure: Pure) -> Result<Known<'a>, Memory>
         requires new { has_name (rules.function_names (known_of self)) name.now ≡ false }
         requires named { pure.name ≡ name.now }
-        ensures { IfOk result (λ known. known_of known ≡ record (known_of self.entry) { pures = (known_of self.entry).pures ++ pure_tree pure ∷ [] }) }
+        ensures { IfOk result (λ known. known_of known
+            ≡ record (known_of self.entry) {
+              pures = (known_of self.entry).pures ++ pure_tree pure
+                  ∷ [];
+            }) }
     {
         let Known {
             pures,

@@ -39,7 +39,9 @@ fn are_none(params: &[WrittenParam]) -> bool
 
 /// Whether a procedure is not `root_start`, or is lawful as such.
 fn is_lawful_start(p: &WrittenProcedure) -> bool
-    ensures { let q = procedure_of p.now in result ≡ (not (bytes_eq q.name (codes "root_start")) || (bytes_eq q.of (codes "root") && (length q.params == 0))) }
+    ensures { let q = procedure_of p.now in
+        result ≡ (not (bytes_eq q.name (codes "root_start"))
+        || (bytes_eq q.of (codes "root") && (length q.params == 0))) }
 {
     if p.name != b"root_start".as_slice() {
         return true;
@@ -49,7 +51,10 @@ fn is_lawful_start(p: &WrittenProcedure) -> bool
 
 /// Whether a procedure is not `root_step`, or is lawful as such.
 fn is_lawful_step(p: &WrittenProcedure) -> bool
-    ensures { let q = procedure_of p.now in result ≡ (not (bytes_eq q.name (codes "root_step")) || (bytes_eq q.of (codes "root") && list_all (λ x. not (rules.same_type x.type I64)) q.params)) }
+    ensures { let q = procedure_of p.now in
+        result ≡ (not (bytes_eq q.name (codes "root_step"))
+        || (bytes_eq q.of (codes "root")
+        && list_all (λ x. not (rules.same_type x.type I64)) q.params)) }
 {
     if p.name != b"root_step".as_slice() {
         return true;

@@ -21,7 +21,9 @@ use std::alloc::Global;
 
 /// A choice.
 fn choice(line: u32, test: Cond, yes: Vec<Stmt>, no: Vec<Stmt>) -> Stmt
-    ensures { stmt_tree result ≡ tree.branch line (cond_tree test) (stmts_of_list (map stmt_tree yes.items)) (stmts_of_list (map stmt_tree no.items)) }
+    ensures { stmt_tree result
+        ≡ tree.branch line (cond_tree test) (stmts_of_list (map stmt_tree yes.items))
+        (stmts_of_list (map stmt_tree no.items)) }
 {
     Stmt::If {
         line,
@@ -111,7 +113,8 @@ fn resolve_else(
     has_else: bool,
     no: &[WrittenStmt],
 ) -> Result<Vec<Stmt>, ReadCFault>
-    ensures { Gives (λ v. stmts_of_list (map stmt_tree v.items)) result (resolve_second (names_of scope.now) has_else (stmts_from (map stmt_of no.now))) }
+    ensures { Gives (λ v. stmts_of_list (map stmt_tree v.items)) result
+        (resolve_second (names_of scope.now) has_else (stmts_from (map stmt_of no.now))) }
 {
     if has_else {
         resolve_stmts(alloc, scope, no)
@@ -127,7 +130,8 @@ pub(crate) fn resolve_stmts(
     scope: &Scope,
     ss: &[WrittenStmt],
 ) -> Result<Vec<Stmt>, ReadCFault>
-    ensures { Gives (λ v. stmts_of_list (map stmt_tree v.items)) result (rules.resolve_stmts (names_of scope.now) (stmts_from (map stmt_of ss.now))) }
+    ensures { Gives (λ v. stmts_of_list (map stmt_tree v.items)) result
+        (rules.resolve_stmts (names_of scope.now) (stmts_from (map stmt_of ss.now))) }
 {
     let mut resolved = Vec::new(alloc);
     for s in ss {

@@ -28,7 +28,9 @@ fn resolve_fields<'a>(
     numbers: &Numbers,
     fields: &[WrittenField<'a>],
 ) -> Result<(Vec<Field>, NameTable<'a>), ReadCFault>
-    ensures resolved { Gives (λ r. field_trees r.0.items) result (rules.resolve_fields (known_of known.now) is_root (names_in numbers.now) [] (map field_of fields.now)) }
+    ensures resolved { Gives (λ r. field_trees r.0.items) result
+        (rules.resolve_fields (known_of known.now) is_root (names_in numbers.now) []
+        (map field_of fields.now)) }
     ensures named { IfOk result (λ r. r.1 ≡ map (λ f. f.name) (field_trees r.0.items)) }
 {
     let mut resolved = Vec::new(alloc);
@@ -52,7 +54,8 @@ fn resolve_struct<'a>(
     d: &WrittenStruct<'a>,
 ) -> Result<(StructDef, NameTable<'a>), ReadCFault>
     ensures resolved { Gives (λ r. r.0) result (rules.resolve_struct (known_of known.now) (struct_of d.now)) }
-    ensures new { OnOk result (has_name (map (λ e. e.name) known.now.structs.items.items) d.now.name.now ≡ false) }
+    ensures new { OnOk result (has_name (map (λ e. e.name) known.now.structs.items.items) d.now.name.now
+        ≡ false) }
     ensures named { IfOk result (λ r. r.0.name ≡ d.now.name.now) }
     ensures fields { IfOk result (λ r. r.1 ≡ map (λ f. f.name) r.0.fields) }
 {
@@ -84,7 +87,11 @@ impl<'a> Known<'a> {
         requires new { has_name (map (λ d. d.name) self.structs.items.items) name.now ≡ false }
         requires named { def.name ≡ name.now }
         requires fields { names ≡ map (λ f. f.name) def.fields }
-        ensures { IfOk result (λ known. known_of known ≡ record (known_of self.entry) { structs = (known_of self.entry).structs ++ def ∷ [] }) }
+        ensures { IfOk result (λ known. known_of known
+            ≡ record (known_of self.entry) {
+              structs = (known_of self.entry).structs ++ def
+                  ∷ [];
+            }) }
     {
         let Known {
             pures,
@@ -111,7 +118,8 @@ pub(crate) fn resolve_structs<'a>(
     known: Known<'a>,
     structs: &[WrittenStruct<'a>],
 ) -> Result<Known<'a>, ReadCFault>
-    ensures { Gives known_of result (rules.resolve_structs (known_of known.entry) (map struct_of structs.now)) }
+    ensures { Gives known_of result
+        (rules.resolve_structs (known_of known.entry) (map struct_of structs.now)) }
 {
     let mut known = known;
     for d in structs {

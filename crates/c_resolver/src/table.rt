@@ -53,15 +53,18 @@ impl<'a, T: Named + Drop> Table<'a, T> {
 
     /// The position of the definition of this name.
     pub(crate) fn position(&self, name: &[u8]) -> Option<u32>
-        ensures { result ≡ position_from (λ x. bytes_eq (T.name x) name.now) 0 self.now.items.items }
+        ensures { result
+            ≡ position_from (λ x. bytes_eq (T.name x) name.now) 0 self.now.items.items }
     {
         self.names.position(name)
     }
 
     /// The definition of this name, with its position.
     pub(crate) fn find(&self, name: &[u8]) -> Option<(u32, &T)>
-        ensures { let place = position_from (λ x. bytes_eq (T.name x) name.now) 0 self.now.items.items in
-            MatchOption result (place ≡ None) (λ found. (place ≡ Some found.0) × (slice_get self.now.items.items found.0 ≡ Some found.1.now)) }
+        ensures { let place = position_from (λ x. bytes_eq (T.name x) name.now) 0
+            self.now.items.items in
+            MatchOption result (place ≡ None) (λ found. (place ≡ Some found.0)
+            × (slice_get self.now.items.items found.0 ≡ Some found.1.now)) }
     {
         match self.position(name) {
             Some(k) => Some((k, &self.items[k as usize])),

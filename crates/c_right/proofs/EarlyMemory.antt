@@ -20,10 +20,21 @@ delay_run = record {
 }
 
 is_delay_run : IsRunOver one_delay None delay_trace delay_run
-is_delay_run = (refl, refl, (record { values = refl; memories = refl; triggers = refl }, (record { values = refl; memories = refl; triggers = refl }, (record { values = refl; memories = refl; triggers = refl }, tt))))
+is_delay_run = (
+  refl,
+  refl,
+  (
+    record { values = refl; memories = refl; triggers = refl },
+    (
+      record { values = refl; memories = refl; triggers = refl },
+      (record { values = refl; memories = refl; triggers = refl }, tt),
+    ),
+  ),
+)
 
 -- the outputs of the one run
-run-outputs : (one : HasOneRun one_delay None delay_trace) → map (outs one_delay None) one.run.values ≡ (pos 0 ∷ []) ∷ (pos 5 ∷ []) ∷ (pos 6 ∷ []) ∷ []
+run-outputs : (one : HasOneRun one_delay None delay_trace) → map (outs one_delay None) one.run.values ≡ (pos 0 ∷ [])
+    ∷ (pos 5 ∷ []) ∷ (pos 6 ∷ []) ∷ []
 run-outputs one = ap (λ (run : Run). map (outs one_delay None) run.values) (sym (one.only delay_run is_delay_run))
 
 gives : HasOneRun one_delay None delay_trace → GivesOutputs delay_program one_delay delay_trace

@@ -19,7 +19,10 @@ top_forms = forms_of (holds_number I32 ∷ holds_number I32 ∷ holds_number I32
 renews : RenewsAll delay_program one_delay None
 unfolding digits
 renews = record {
-  starts = from-spelled delay_program (procedure_place delay_program (start_name None)) top_forms (λ c a. HoldsInside delay_program one_delay None (λ n old new. AreStarted delay_program one_delay n new) c a.cells)
+  starts =
+      from-spelled delay_program (procedure_place delay_program (start_name None)) top_forms
+      (λ c a. HoldsInside delay_program one_delay None (λ n old new. AreStarted delay_program one_delay n new) c
+      a.cells)
       (λ c. record {
         here = record {
           forgotten = record { memories = (refl, tt); places = tt; taken = tt; trigger = λ h. absurd (true≢false (sym h)) };
@@ -28,7 +31,9 @@ renews = record {
         };
         inside = tt;
       });
-  resets = from-spelled delay_program (procedure_place delay_program (reset_name None)) top_forms (λ c a. HoldsInside delay_program one_delay None (AreReset delay_program one_delay) c a.cells)
+  resets =
+      from-spelled delay_program (procedure_place delay_program (reset_name None)) top_forms
+      (λ c a. HoldsInside delay_program one_delay None (AreReset delay_program one_delay) c a.cells)
       (λ c. record {
         here = record {
           forgotten = record { memories = (refl, tt); places = tt; taken = tt; trigger = λ h. absurd (true≢false (sym h)) };

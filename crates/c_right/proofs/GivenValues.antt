@@ -27,7 +27,8 @@ pub all-joined : {A : Type 0} (P : A → Type 0) (xs ys : List A) → AllByRecur
 all-joined P [] ys hs h = h
 all-joined P (x ∷ xs) ys hs h = (hs.0, all-joined P xs ys hs.1 h)
 
-pub all-both : {A : Type 0} (P Q R : A → Type 0) (xs : List A) → ((x : A) → P x → Q x → R x) → AllByRecursion P xs → AllByRecursion Q xs → AllByRecursion R xs
+pub all-both : {A : Type 0} (P Q R : A → Type 0) (xs : List A) → ((x : A) → P x → Q x → R x) → AllByRecursion P xs →
+    AllByRecursion Q xs → AllByRecursion R xs
 all-both P Q R [] both ps qs = tt
 all-both P Q R (x ∷ xs) both ps qs = (both x ps.0 qs.0, all-both P Q R xs both ps.1 qs.1)
 
@@ -49,7 +50,8 @@ turned {A} {B} R (x ∷ xs) ys h = (heads ys h, turned R xs ys (tails ys h))
     heads [] hs = tt
     heads (z ∷ zs) hs = (hs.0.0, heads zs hs.1)
 
-    tails : (zs : List B) → AllByRecursion (λ y. AllByRecursion (λ a. R a y) (x ∷ xs)) zs → AllByRecursion (λ y. AllByRecursion (λ a. R a y) xs) zs
+    tails : (zs : List B) → AllByRecursion (λ y. AllByRecursion (λ a. R a y) (x ∷ xs)) zs →
+        AllByRecursion (λ y. AllByRecursion (λ a. R a y) xs) zs
     tails [] hs = tt
     tails (z ∷ zs) hs = (hs.0.1, tails zs hs.1)
 
@@ -92,9 +94,11 @@ later-numbers : (a b n : ℕ) (rest : List Port) → a < b → AllByRecursion (�
 later-numbers a b zero rest less h = h
 later-numbers a b (suc n) rest less h = (ne_eqb b a (λ e. omega arith), later-numbers a (b + 1) n rest (omega arith) h)
 
-apart-numbers : (a n : ℕ) (rest : List Port) → ((k : ℕ) → AllByRecursion (λ q. same_port q (Number k) ≡ false) rest) → Apart rest → Apart (map Number (range_with_len a n) ++ rest)
+apart-numbers : (a n : ℕ) (rest : List Port) → ((k : ℕ) → AllByRecursion (λ q. same_port q (Number k) ≡ false) rest) →
+    Apart rest → Apart (map Number (range_with_len a n) ++ rest)
 apart-numbers a zero rest others apart = apart
-apart-numbers a (suc n) rest others apart = (later-numbers a (a + 1) n rest (omega arith) (others a), apart-numbers (a + 1) n rest others apart)
+apart-numbers a (suc n) rest others apart =
+    (later-numbers a (a + 1) n rest (omega arith) (others a), apart-numbers (a + 1) n rest others apart)
 
 no-numbers : (c : Control) (k : ℕ) → AllByRecursion (λ q. same_port q (Number k) ≡ false) (control_ports c)
 no-numbers Plain k = tt
@@ -109,7 +113,9 @@ apart-controls (Triggered edge) = (tt, tt)
 apart-controls (Both reset edge) = ((refl, tt), (tt, tt))
 
 pub apart-inputs : (rows : List Row) (s : Option ℕ) → Apart (input_ports rows s)
-apart-inputs rows s = apart-numbers 1 (length (inports_of rows s)) (control_ports (system_control rows s)) (no-numbers (system_control rows s)) (apart-controls (system_control rows s))
+apart-inputs rows s =
+    apart-numbers 1 (length (inports_of rows s)) (control_ports (system_control rows s))
+    (no-numbers (system_control rows s)) (apart-controls (system_control rows s))
 
 pub apart-kept : (test : Port → Bool) (ps : List Port) → Apart ps → Apart (filter test ps)
 apart-kept test [] h = tt
@@ -131,14 +137,17 @@ number-at a (suc n) (suc i) p rest at = elim (number-at (a + 1) n i p rest at) [
   | inr two ↦ inr (let more = two.0 in omega arith, ap (slice_get rest) (let same : suc i - suc n ≡ i - n = omega arith in same) ∙ two.1)
 ]
 
-control-at : (rows : List Row) (s : Option ℕ) (c : Control) (k : ℕ) (p : Port) → system_control rows s ≡ c → slice_get (control_ports c) k ≡ Some p → column rows s p ≡ length (inports_of rows s) + k
+control-at : (rows : List Row) (s : Option ℕ) (c : Control) (k : ℕ) (p : Port) → system_control rows s ≡ c →
+    slice_get (control_ports c) k ≡ Some p → column rows s p ≡ length (inports_of rows s) + k
 control-at rows s Plain k p is at = cc at
 control-at rows s (Enabled reset) zero p is at = ap (column rows s) (sym (ap (λ o. unwrap_or o p) at)) ∙ omega arith
 control-at rows s (Enabled reset) (suc k) p is at = cc at
-control-at rows s (Triggered edge) zero p is at = ap (column rows s) (sym (ap (λ o. unwrap_or o p) at)) ∙ ap (λ c. length (inports_of rows s) + enable_count c) is
+control-at rows s (Triggered edge) zero p is at =
+    ap (column rows s) (sym (ap (λ o. unwrap_or o p) at)) ∙ ap (λ c. length (inports_of rows s) + enable_count c) is
 control-at rows s (Triggered edge) (suc k) p is at = cc at
 control-at rows s (Both reset edge) zero p is at = ap (column rows s) (sym (ap (λ o. unwrap_or o p) at)) ∙ omega arith
-control-at rows s (Both reset edge) (suc zero) p is at = ap (column rows s) (sym (ap (λ o. unwrap_or o p) at)) ∙ ap (λ c. length (inports_of rows s) + enable_count c) is
+control-at rows s (Both reset edge) (suc zero) p is at =
+    ap (column rows s) (sym (ap (λ o. unwrap_or o p) at)) ∙ ap (λ c. length (inports_of rows s) + enable_count c) is
 control-at rows s (Both reset edge) (suc (suc k)) p is at = cc at
 
 pub column-at : (rows : List Row) (s : Option ℕ) (i : ℕ) (p : Port) → slice_get (input_ports rows s) i ≡ Some p → column rows s p ≡ i
@@ -161,38 +170,47 @@ AreFound given = AllByRecursion (λ (e : Given). found e.input given ≡ e.value
 passed-over : (p : Port) (e : Given) (rest : List Given) → same_port p e.input ≡ false → found p (e ∷ rest) ≡ found p rest
 passed-over p e rest other = ap (λ r. cond r e.value (found p rest)) other
 
-others-apart : (p : Port) (ps : List Port) (vs : List ℤ) → AllByRecursion (λ q. same_port q p ≡ false) ps → AllByRecursion (λ (e : Given). same_port e.input p ≡ false) (given_of ps vs)
+others-apart : (p : Port) (ps : List Port) (vs : List ℤ) → AllByRecursion (λ q. same_port q p ≡ false) ps →
+    AllByRecursion (λ (e : Given). same_port e.input p ≡ false) (given_of ps vs)
 others-apart p [] vs h = tt
 others-apart p (q ∷ ps) [] h = tt
 others-apart p (q ∷ ps) (v ∷ vs) h = (h.0, others-apart p ps vs h.1)
 
-pub new-found : (ps : List Port) (vs : List ℤ) (rest : List Given) → Apart ps → AllByRecursion (λ (e : Given). found e.input (given_of ps vs ++ rest) ≡ e.value) (given_of ps vs)
+pub new-found : (ps : List Port) (vs : List ℤ) (rest : List Given) → Apart ps →
+    AllByRecursion (λ (e : Given). found e.input (given_of ps vs ++ rest) ≡ e.value) (given_of ps vs)
 new-found [] vs rest apart = tt
 new-found (p ∷ ps) [] rest apart = tt
 new-found (p ∷ ps) (v ∷ vs) rest apart = (
   ap (λ r. cond r v (found p (given_of ps vs ++ rest))) (same-self p),
-  all-both (λ (e : Given). found e.input (given_of ps vs ++ rest) ≡ e.value) (λ (e : Given). same_port e.input p ≡ false) (λ (e : Given). found e.input (record { input = p; value = v } ∷ given_of ps vs ++ rest) ≡ e.value) (given_of ps vs)
+  all-both (λ (e : Given). found e.input (given_of ps vs ++ rest) ≡ e.value) (λ (e : Given). same_port e.input p
+      ≡ false) (λ (e : Given). found e.input (record { input = p; value = v } ∷ given_of ps vs ++ rest) ≡ e.value)
+      (given_of ps vs)
       (λ e at other. passed-over e.input (record { input = p; value = v }) (given_of ps vs ++ rest) other ∙ at)
       (new-found ps vs rest apart.1) (others-apart p ps vs apart.0),
 )
 
 -- an earlier value is found behind new ones that are like it
-pub old-found : (e : Given) (new earlier : List Given) → AllByRecursion (λ (f : Given). e.input ≡ f.input → e.value ≡ f.value) new → found e.input earlier ≡ e.value →
+pub old-found : (e : Given) (new earlier : List Given) →
+    AllByRecursion (λ (f : Given). e.input ≡ f.input → e.value ≡ f.value) new → found e.input earlier ≡ e.value →
     found e.input (new ++ earlier) ≡ e.value
 old-found e [] earlier like at = at
 old-found e (f ∷ new) earlier like at = by (same_port e.input f.input) refl (old-found e new earlier like.1 at)
   where
-    by : (r : Bool) → same_port e.input f.input ≡ r → found e.input (new ++ earlier) ≡ e.value → cond (same_port e.input f.input) f.value (found e.input (new ++ earlier)) ≡ e.value
+    by : (r : Bool) → same_port e.input f.input ≡ r → found e.input (new ++ earlier) ≡ e.value →
+        cond (same_port e.input f.input) f.value (found e.input (new ++ earlier)) ≡ e.value
     by true is rest = ap (λ q. cond q f.value (found e.input (new ++ earlier))) is ∙ sym (like.0 (same-equal e.input f.input is))
     by false is rest = ap (λ q. cond q f.value (found e.input (new ++ earlier))) is ∙ rest
 
 -- what holds of each value, and of the 0 that stands for none, holds of what is found
-pub found-holds : (P : Port → ℤ → Type 0) (p : Port) (given : List Given) → P p (pos 0) → AllByRecursion (λ (e : Given). P e.input e.value) given → P p (found p given)
+pub found-holds : (P : Port → ℤ → Type 0) (p : Port) (given : List Given) → P p (pos 0) →
+    AllByRecursion (λ (e : Given). P e.input e.value) given → P p (found p given)
 found-holds P p [] nothing h = nothing
 found-holds P p (g ∷ gs) nothing h = by (same_port p g.input) refl (found-holds P p gs nothing h.1)
   where
     by : (r : Bool) → same_port p g.input ≡ r → P p (found p gs) → P p (cond (same_port p g.input) g.value (found p gs))
-    by true is rest = subst (λ v. P p v) (sym (ap (λ q. cond q g.value (found p gs)) is)) (subst (λ q. P q g.value) (sym (same-equal p g.input is)) h.0)
+    by true is rest =
+        subst (λ v. P p v) (sym (ap (λ q. cond q g.value (found p gs)) is))
+        (subst (λ q. P q g.value) (sym (same-equal p g.input is)) h.0)
     by false is rest = subst (λ v. P p v) (sym (ap (λ q. cond q g.value (found p gs)) is)) rest
 
 -- ---- The row of all inputs
@@ -200,11 +218,13 @@ found-holds P p (g ∷ gs) nothing h = by (same_port p g.input) refl (found-hold
 abbrev pub row_for : List Port → List Given → List ℤ
 row_for ports given = map (λ p. found p given) ports
 
-pub value-in-row : (ports : List Port) (given : List Given) (i : ℕ) (p : Port) → slice_get ports i ≡ Some p → value_at (row_for ports given) i ≡ found p given
+pub value-in-row : (ports : List Port) (given : List Given) (i : ℕ) (p : Port) → slice_get ports i ≡ Some p →
+    value_at (row_for ports given) i ≡ found p given
 value-in-row [] given i p at = cc at
 value-in-row (q ∷ ports) given zero p at = ap (λ o. found (unwrap_or o p) given) at
 value-in-row (q ∷ ports) given (suc i) p at = value-in-row ports given i p at
 
-pub row-holds : (P : Port → ℤ → Type 0) (ports : List Port) (given : List Given) → ((p : Port) → P p (found p given)) → AllZip P ports (row_for ports given)
+pub row-holds : (P : Port → ℤ → Type 0) (ports : List Port) (given : List Given) → ((p : Port) → P p (found p given)) →
+    AllZip P ports (row_for ports given)
 row-holds P [] given h = tt
 row-holds P (p ∷ ports) given h = (h p, row-holds P ports given h)

@@ -15,14 +15,16 @@ use Rattle.c_right.specs.RefusedAlone.{late_group, long_chain}
 -- ---- The right code
 
 -- names are distinct or apart behind whatever functions with the names of the prelude
-distinct_of : (later : List (List ℕ)) (ps : List PureTree) → pure_names ps ≡ names → AreDistinct (names ++ later) → AreDistinct (pure_names ps ++ later)
+distinct_of : (later : List (List ℕ)) (ps : List PureTree) → pure_names ps ≡ names → AreDistinct (names ++ later) →
+    AreDistinct (pure_names ps ++ later)
 distinct_of later ps named = subst (λ ns. AreDistinct (ns ++ later)) (sym named)
 
 -- the names of the first so many of its procedures
 abbrev before : ℕ → List (List ℕ)
 before k = procedure_names (take k (alone inner_local child_code []).procedures)
 
-apart_of : (params : List (List ℕ)) (k : ℕ) (ps : List PureTree) → pure_names ps ≡ names → AreApart params (names ++ before k) → AreApart params (pure_names ps ++ before k)
+apart_of : (params : List (List ℕ)) (k : ℕ) (ps : List PureTree) → pure_names ps ≡ names →
+    AreApart params (names ++ before k) → AreApart params (pure_names ps ++ before k)
 apart_of params k ps named = subst (λ ns. AreApart params (ns ++ before k)) (sym named)
 
 abbrev one_param : List (List ℕ)
@@ -34,23 +36,99 @@ two_params = now_name ∷ one_param
 child_is_lawful : IsLawfulAlone inner_local child_code
 unfolding digits
 child_is_lawful = record {
-  names = λ ps prelude. distinct_of (before 5) ps prelude.named (refl, refl, (refl, refl, (refl, refl, (refl, refl, (refl, refl, (refl, refl, (refl, refl, (refl, refl, (refl, refl, (refl, refl, (refl, refl, (refl, refl, (refl, refl, tt)))))))))))));
-  structs = (record { fields = (refl, refl, (refl, refl, (refl, refl, tt))); some = lit< tt; kinds = (tt, (tt, (tt, tt))); outputs = λ e. absurd (true≢false (sym e)) }, tt);
-  procedures = λ ps prelude. let named = prelude.named in (
-    record { of = lit< tt; params = (refl, refl, tt); apart = apart_of one_param 0 ps named (refl, tt); body = ((((_, refl, refl), (_, refl, lit< tt)), (((_, refl, refl), (_, refl, lit< tt)), (((_, refl, refl), lit< tt), (((_, refl, refl), (_, refl, refl)), tt))), tt), tt) },
+  names = λ ps prelude. distinct_of (before 5) ps prelude.named (
+    refl,
+    refl,
     (
-      record { of = lit< tt; params = (refl, refl, (refl, refl, tt)); apart = apart_of two_params 1 ps named (refl, (refl, tt)); body = ((_, refl, refl, refl, (lit< tt, tt)), tt) },
+      refl,
+      refl,
       (
-        record { of = lit< tt; params = (refl, refl, (refl, refl, tt)); apart = apart_of two_params 2 ps named (refl, (refl, tt)); body = (((_, refl, refl), (_, refl, lit< tt)), tt) },
+        refl,
+        refl,
         (
-          record { of = lit< tt; params = tt; apart = apart_of [] 3 ps named tt; body = (((_, refl, refl), (_, refl, lit< tt)), (((_, refl, refl), (_, refl, lit< tt)), (((_, refl, refl), (_, refl, lit< tt)), tt))) },
+          refl,
+          refl,
+          (
+            refl,
+            refl,
+            (
+              refl,
+              refl,
+              (refl, refl, (refl, refl, (refl, refl, (refl, refl, (refl, refl, (refl, refl, (refl, refl, tt))))))),
+            ),
+          ),
+        ),
+      ),
+    ),
+  );
+  structs = (
+    record {
+      fields = (refl, refl, (refl, refl, (refl, refl, tt)));
+      some = lit< tt;
+      kinds = (tt, (tt, (tt, tt)));
+      outputs = λ e. absurd (true≢false (sym e));
+    },
+    tt,
+  );
+  procedures = λ ps prelude. let named = prelude.named in (
+    record {
+      of = lit< tt;
+      params = (refl, refl, tt);
+      apart = apart_of one_param 0 ps named (refl, tt);
+      body = (
+        (
+          ((_, refl, refl), (_, refl, lit< tt)),
+          (((_, refl, refl), (_, refl, lit< tt)), (((_, refl, refl), lit< tt), (((_, refl, refl), (_, refl, refl)), tt))),
+          tt,
+        ),
+        tt,
+      );
+    },
+    (
+      record {
+        of = lit< tt;
+        params = (refl, refl, (refl, refl, tt));
+        apart = apart_of two_params 1 ps named (refl, (refl, tt));
+        body =
+            ((_, refl, refl, refl, (lit< tt, tt)), tt);
+      },
+      (
+        record {
+          of = lit< tt;
+          params = (refl, refl, (refl, refl, tt));
+          apart = apart_of two_params 2 ps named (refl, (refl, tt));
+          body =
+              (((_, refl, refl), (_, refl, lit< tt)), tt);
+        },
+        (
+          record {
+            of = lit< tt;
+            params = tt;
+            apart = apart_of [] 3 ps named tt;
+            body = (
+              ((_, refl, refl), (_, refl, lit< tt)),
+              (((_, refl, refl), (_, refl, lit< tt)), (((_, refl, refl), (_, refl, lit< tt)), tt)),
+            );
+          },
           (record { of = lit< tt; params = tt; apart = apart_of [] 4 ps named tt; body = tt }, tt),
         ),
       ),
     ),
   );
   calls = (tt, ((lit< tt, tt), (tt, (tt, (tt, tt)))));
-  fits = (record { params = lit≤ tt; statements = lit≤ tt; expressions = lit≤ tt }, (record { params = lit≤ tt; statements = lit≤ tt; expressions = lit≤ tt }, (record { params = lit≤ tt; statements = lit≤ tt; expressions = lit≤ tt }, (record { params = lit≤ tt; statements = lit≤ tt; expressions = lit≤ tt }, (record { params = lit≤ tt; statements = lit≤ tt; expressions = lit≤ tt }, tt)))));
+  fits = (
+    record { params = lit≤ tt; statements = lit≤ tt; expressions = lit≤ tt },
+    (
+      record { params = lit≤ tt; statements = lit≤ tt; expressions = lit≤ tt },
+      (
+        record { params = lit≤ tt; statements = lit≤ tt; expressions = lit≤ tt },
+        (
+          record { params = lit≤ tt; statements = lit≤ tt; expressions = lit≤ tt },
+          (record { params = lit≤ tt; statements = lit≤ tt; expressions = lit≤ tt }, tt),
+        ),
+      ),
+    ),
+  );
 }
 
 child_has_short_chains : HasShortChains inner_local child_code

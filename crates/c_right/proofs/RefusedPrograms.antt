@@ -32,13 +32,21 @@ use Rattle.c_right.proofs.SharedNeeds.{not_second, outer_input, outer_needs}
 
 abbrev pub shared_run : Run
 shared_run = record {
-  values = (pos 1 ∷ pos 10 ∷ pos 0 ∷ pos 1 ∷ pos 1 ∷ pos 11 ∷ pos 1 ∷ pos 11 ∷ []) ∷ (pos 2 ∷ pos 20 ∷ pos 0 ∷ pos 2 ∷ pos 2 ∷ pos 22 ∷ pos 2 ∷ pos 22 ∷ []) ∷ [];
+  values = (pos 1 ∷ pos 10 ∷ pos 0 ∷ pos 1 ∷ pos 1 ∷ pos 11 ∷ pos 1 ∷ pos 11 ∷ [])
+      ∷ (pos 2 ∷ pos 20 ∷ pos 0 ∷ pos 2 ∷ pos 2 ∷ pos 22 ∷ pos 2 ∷ pos 22 ∷ []) ∷ [];
   memories = replicate 3 (replicate 8 []);
   triggers = replicate 3 (replicate 8 NotYet);
 }
 
 pub is_shared_run : IsRunOver shared_child None trace shared_run
-is_shared_run = (refl, refl, (record { values = refl; memories = refl; triggers = refl }, (record { values = refl; memories = refl; triggers = refl }, tt)))
+is_shared_run = (
+  refl,
+  refl,
+  (
+    record { values = refl; memories = refl; triggers = refl },
+    (record { values = refl; memories = refl; triggers = refl }, tt),
+  ),
+)
 
 -- ---- Calls in each tick
 
@@ -51,7 +59,8 @@ values-apart a b differ e = apart a b differ (ap nat_abs e)
 
 -- a whole tick of calls is one longer than there are functions
 long : (p : ProgramTree) (s : Option ℕ) (calls : List ℕ) → IsWholeTick p s calls → length calls ≡ length (out_places p s) + 1
-long p s calls h = ap length h.then_update ∙ length-append h.outs _ ∙ ap (λ n. n + 1) (length_permutation (out_places p s) h.outs h.each_once)
+long p s calls h = ap length h.then_update ∙ length-append h.outs _
+    ∙ ap (λ n. n + 1) (length_permutation (out_places p s) h.outs h.each_once)
 
 -- a shared node that is run again calls the child's function twice
 repeated : HasCalls repeats_shared shared_child (c_rows repeats_shared trace).ticks trace shared_run.values shared_run.triggers → ⊥
@@ -94,7 +103,8 @@ first_giver [] rest e = let no : 0 ≡ suc (length rest) = ap (λ (xs : List (Li
 first_giver (g ∷ gives) rest e = ap (λ (xs : List (List ℕ)). slice_index_or (slice_index_or xs 0 []) 0 0) e
 
 -- no interface is exact whose first output is given by a function that takes the second input
-takes_second : (p : ProgramTree) (others : List ℕ) (rest : List (List ℕ)) → map (takes p shared_child None) (out_places p None) ≡ 3 ∷ others →
+takes_second : (p : ProgramTree) (others : List ℕ) (rest : List (List ℕ)) →
+    map (takes p shared_child None) (out_places p None) ≡ 3 ∷ others →
     map (givers p None) (6 ∷ 7 ∷ []) ≡ (0 ∷ []) ∷ rest → HasLeastInterface p shared_child None → ⊥
 takes_second p others rest inputs gives h = by h.needs h.are_needs (h.exact.exact 0 1)
   where
@@ -174,17 +184,22 @@ abbrev top_forms : Forms
 top_forms =
     let value = holds_number I32 in
     let counter = holds_number U8 in
-    forms_of (value ∷ value ∷ value ∷ value ∷ value ∷ holds_instance (forms_of (value ∷ value ∷ counter ∷ [])) ∷ counter ∷ counter ∷ counter ∷ [])
+    forms_of (value ∷ value ∷ value ∷ value ∷ value ∷ holds_instance (forms_of (value ∷ value ∷ counter ∷ [])) ∷ counter
+    ∷ counter ∷ counter ∷ [])
 
 -- fields of `top` in the midst of a tick
 abbrev midst : Cells
 midst =
-    more_cells (number (pos 9)) (more_cells (number (pos 9)) (more_cells (number (pos 9)) (more_cells (number (pos 9)) (more_cells (number (pos 9))
+    more_cells (number (pos 9))
+    (more_cells (number (pos 9))
+    (more_cells (number (pos 9)) (more_cells (number (pos 9)) (more_cells (number (pos 9))
     (more_cells (object (more_cells (number (pos 9)) (more_cells (number (pos 9)) (more_cells (number (pos 1)) no_cells))))
     (more_cells (number (pos 1)) (more_cells (number (pos 1)) (more_cells (number (pos 1)) no_cells))))))))
 
 has_forms : (p : ProgramTree) → forms_at p (struct_place p None) ≡ top_forms → HasForms (forms_at p (struct_place p None)) midst
-has_forms p same = subst (λ forms. HasForms forms midst) (sym same) (refl, (refl, (refl, (refl, (refl, ((refl, (refl, (refl, tt))), (refl, (refl, (refl, tt)))))))))
+has_forms p same =
+    subst (λ forms. HasForms forms midst) (sym same)
+    (refl, (refl, (refl, (refl, (refl, ((refl, (refl, (refl, tt))), (refl, (refl, (refl, tt)))))))))
 
 left_values : RenewsAll leaves_values shared_child None → ⊥
 unfolding digits

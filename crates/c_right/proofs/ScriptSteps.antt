@@ -14,7 +14,8 @@ module _ (d : Diagram) (s : Option ℕ) (functions : List Function) (c : Call) w
       let rest = longer script (tick_after d s functions tick b) h.1 in
       ((h.0, rest.0), rest.1)
 
-  with_one : (script : List Call) (tick : TickSoFar) → IsLawfulFrom d s functions tick script → CanFollow d s functions (tick_behind d s functions tick script) c →
+  with_one : (script : List Call) (tick : TickSoFar) → IsLawfulFrom d s functions tick script →
+      CanFollow d s functions (tick_behind d s functions tick script) c →
       IsLawfulFrom d s functions tick (script ++ c ∷ [])
   with_one [] tick h follows = (follows, tt)
   with_one (b ∷ script) tick h follows = (h.0, with_one script (tick_after d s functions tick b) h.1 follows)

@@ -80,7 +80,8 @@ mutual
   stmt-indices : (x : StmtTree) → stmt_indices (stmt_without_lines x) ≡ stmt_indices x
   stmt-indices (assign line f value) = refl
   stmt-indices (assign_at line f index value) = refl
-  stmt-indices (branch line test on_true on_false) = ap₂ (λ xs ys. cond_indices test ++ xs ++ ys) (indices-aside on_true) (indices-aside on_false)
+  stmt-indices (branch line test on_true on_false) =
+      ap₂ (λ xs ys. cond_indices test ++ xs ++ ys) (indices-aside on_true) (indices-aside on_false)
   stmt-indices (call line k target es) = refl
 
   indices-aside : (xs : StmtTrees) → indices_in (stmts_without_lines xs) ≡ indices_in xs
@@ -118,33 +119,63 @@ module _ (q r : ProcedureTree) (alike : Alike q r) where
   same-indices = sym (indices-aside q.body) ∙ ap (λ (x : ProcedureTree). indices_in x.body) alike ∙ indices-aside r.body
 
 -- what a call is right by is its caller's parameters
-passing : (n : CodeNames) (local : LocalSystem) (q r : ProcedureTree) → q.params ≡ r.params → (c : CallSite) → IsRightCall n local q c.target (n.callee c.procedure) c.values → IsRightCall n local r c.target (n.callee c.procedure) c.values
+passing : (n : CodeNames) (local : LocalSystem) (q r : ProcedureTree) → q.params ≡ r.params → (c : CallSite) →
+    IsRightCall n local q c.target (n.callee c.procedure) c.values →
+    IsRightCall n local r c.target (n.callee c.procedure) c.values
 passing n local q r same c = by c.target
   where
-    by : (target : Target) → IsRightCall n local q target (n.callee c.procedure) c.values → IsRightCall n local r target (n.callee c.procedure) c.values
-    by Own h = subst (λ ps. AllZip (λ (wanted : ParamTree) e. IsReadOf n ps (param wanted.name) e) (n.callee c.procedure).params c.values) same h
+    by : (target : Target) → IsRightCall n local q target (n.callee c.procedure) c.values →
+        IsRightCall n local r target (n.callee c.procedure) c.values
+    by Own h =
+        subst (λ ps. AllZip (λ (wanted : ParamTree) e. IsReadOf n ps (param wanted.name) e)
+        (n.callee c.procedure).params c.values) same h
     by (Child f) h = record {
       child = h.child;
       is_child = h.is_child;
       on_child = h.on_child;
       is_public = h.is_public;
-      passes = subst (λ ps. AllZip (λ (wanted : ParamTree) e. (what : NamedLeaf) × Contains (passed local h.child) (wanted.name, what) × IsReadOf n ps what e) (n.callee c.procedure).params c.values) same h.passes;
+      passes =
+          subst (λ ps. AllZip (λ (wanted : ParamTree) e. (what : NamedLeaf)
+          × Contains (passed local h.child) (wanted.name, what) × IsReadOf n ps what e)
+          (n.callee c.procedure).params c.values) same h.passes;
     }
 
-keeps : (n : CodeNames) (local : LocalSystem) (counters : List (List ℕ)) (q r : ProcedureTree) → Alike q r → KeepsRules n local counters q → KeepsRules n local counters r
+keeps : (n : CodeNames) (local : LocalSystem) (counters : List (List ℕ)) (q r : ProcedureTree) → Alike q r →
+    KeepsRules n local counters q → KeepsRules n local counters r
 keeps n local counters q r alike h =
     let head = same-head q r alike in
     let params = same-params q r alike in record {
       private_name = subst (λ (x : Head). MatchBool x.private ((g : ℕ) × (x.name ≡ group_name local.row g)) ⊤) head h.private_name;
-      params = subst (λ (x : Head). MatchBool x.private (AllByRecursion (λ (p : ParamTree). Contains (parameter_names local) p.name) x.params) ⊤) head h.params;
-      calls = subst (AllByRecursion (λ (c : CallSite). IsRightCall n local r c.target (n.callee c.procedure) c.values)) (same-calls q r alike)
-          (each-then (λ (c : CallSite). IsRightCall n local q c.target (n.callee c.procedure) c.values) (λ (c : CallSite). IsRightCall n local r c.target (n.callee c.procedure) c.values) (calls_in q.body) (λ c one. passing n local q r params c one) h.calls);
-      stores = subst (AllByRecursion (λ (st : StoreSite). AllByRecursion (Contains (store_reads local counters (n.own st.field))) (named_leaves n r.params (expr_leaves st.value)))) (same-stores q r alike)
-          (subst (λ ps. AllByRecursion (λ (st : StoreSite). AllByRecursion (Contains (store_reads local counters (n.own st.field))) (named_leaves n ps (expr_leaves st.value))) (stores_in q.body)) params h.stores);
-      indices = subst (AllByRecursion (λ (i : IndexSite). AllByRecursion (Contains (index_reads local (n.own i.field))) (named_leaves n r.params (expr_leaves i.index)))) (same-indices q r alike)
-          (subst (λ ps. AllByRecursion (λ (i : IndexSite). AllByRecursion (Contains (index_reads local (n.own i.field))) (named_leaves n ps (expr_leaves i.index))) (indices_in q.body)) params h.indices);
-      tests = subst (AllByRecursion (λ test. AllByRecursion (Contains (test_reads counters)) (named_leaves n r.params (cond_leaves test)))) (same-tests q r alike)
-          (subst (λ ps. AllByRecursion (λ test. AllByRecursion (Contains (test_reads counters)) (named_leaves n ps (cond_leaves test))) (tests_in q.body)) params h.tests);
+      params =
+          subst (λ (x : Head). MatchBool x.private
+          (AllByRecursion (λ (p : ParamTree). Contains (parameter_names local) p.name) x.params) ⊤) head h.params;
+      calls = subst (AllByRecursion (λ (c : CallSite). IsRightCall n local r c.target (n.callee c.procedure) c.values))
+          (same-calls q r alike)
+          (each-then (λ (c : CallSite). IsRightCall n local q c.target (n.callee c.procedure) c.values)
+          (λ (c : CallSite). IsRightCall n local r c.target (n.callee c.procedure) c.values) (calls_in q.body)
+          (λ c one. passing n local q r params c one) h.calls);
+      stores =
+          subst (AllByRecursion
+          (λ (st : StoreSite). AllByRecursion (Contains (store_reads local counters (n.own st.field)))
+          (named_leaves n r.params (expr_leaves st.value)))) (same-stores q r alike)
+          (subst (λ ps.
+          AllByRecursion
+          (λ (st : StoreSite). AllByRecursion (Contains (store_reads local counters (n.own st.field)))
+          (named_leaves n ps (expr_leaves st.value))) (stores_in q.body)) params h.stores);
+      indices =
+          subst (AllByRecursion (λ (i : IndexSite). AllByRecursion (Contains (index_reads local (n.own i.field)))
+          (named_leaves n r.params (expr_leaves i.index)))) (same-indices q r alike)
+          (subst (λ ps.
+          AllByRecursion (λ (i : IndexSite). AllByRecursion (Contains (index_reads local (n.own i.field)))
+          (named_leaves n ps (expr_leaves i.index))) (indices_in q.body)) params h.indices);
+      tests = subst
+          (AllByRecursion
+          (λ test. AllByRecursion (Contains (test_reads counters)) (named_leaves n r.params (cond_leaves test))))
+          (same-tests q r alike)
+          (subst (λ ps.
+          AllByRecursion
+          (λ test. AllByRecursion (Contains (test_reads counters)) (named_leaves n ps (cond_leaves test)))
+          (tests_in q.body)) params h.tests);
     }
 
 -- ---- Lists of procedures
@@ -156,7 +187,8 @@ all-alike (q ∷ qs) [] e = absurd (let wrong : ⊥ = cc e in wrong)
 all-alike (q ∷ qs) (r ∷ rs) e =
     (ap (λ (xs : List ProcedureTree). slice_index_or xs 0 (procedure_without_lines q)) e, all-alike qs rs (ap (drop 1) e))
 
-alike-at : (qs rs : List ProcedureTree) (k : ℕ) (d : ProcedureTree) → AllZip Alike qs rs → Alike (slice_index_or qs k d) (slice_index_or rs k d)
+alike-at : (qs rs : List ProcedureTree) (k : ℕ) (d : ProcedureTree) → AllZip Alike qs rs →
+    Alike (slice_index_or qs k d) (slice_index_or rs k d)
 alike-at [] [] k d h = refl
 alike-at [] (r ∷ rs) k d h = absurd h
 alike-at (q ∷ qs) [] k d h = absurd h
@@ -164,43 +196,64 @@ alike-at (q ∷ qs) (r ∷ rs) zero d h = h.0
 alike-at (q ∷ qs) (r ∷ rs) (suc k) d h = alike-at qs rs k d h.1
 
 -- what is the same of alike procedures is the same of lists of them
-map-alike : {A : Type 0} (f : ProcedureTree → A) → ((q r : ProcedureTree) → Alike q r → f q ≡ f r) → (qs rs : List ProcedureTree) → AllZip Alike qs rs → map f qs ≡ map f rs
+map-alike : {A : Type 0} (f : ProcedureTree → A) → ((q r : ProcedureTree) → Alike q r → f q ≡ f r) →
+    (qs rs : List ProcedureTree) → AllZip Alike qs rs → map f qs ≡ map f rs
 map-alike f same [] [] h = refl
 map-alike f same [] (r ∷ rs) h = absurd h
 map-alike f same (q ∷ qs) [] h = absurd h
 map-alike f same (q ∷ qs) (r ∷ rs) h = ap₂ ◌∷◌ (same q r h.0) (map-alike f same qs rs h.1)
 
-kept-alike : (test : ProcedureTree → Bool) → ((q r : ProcedureTree) → Alike q r → test q ≡ test r) → (qs rs : List ProcedureTree) → AllZip Alike qs rs → AllZip Alike (filter test qs) (filter test rs)
+kept-alike : (test : ProcedureTree → Bool) → ((q r : ProcedureTree) → Alike q r → test q ≡ test r) →
+    (qs rs : List ProcedureTree) → AllZip Alike qs rs → AllZip Alike (filter test qs) (filter test rs)
 kept-alike test same [] [] h = tt
 kept-alike test same [] (r ∷ rs) h = absurd h
 kept-alike test same (q ∷ qs) [] h = absurd h
 kept-alike test same (q ∷ qs) (r ∷ rs) h =
-    subst (λ b. AllZip Alike (cond (test q) (q ∷ filter test qs) (filter test qs)) (cond b (r ∷ filter test rs) (filter test rs))) (same q r h.0) (by (test q) (kept-alike test same qs rs h.1))
+    subst (λ b. AllZip Alike (cond (test q) (q ∷ filter test qs) (filter test qs))
+    (cond b (r ∷ filter test rs) (filter test rs))) (same q r h.0) (by (test q) (kept-alike test same qs rs h.1))
   where
-    by : (b : Bool) → AllZip Alike (filter test qs) (filter test rs) → AllZip Alike (cond b (q ∷ filter test qs) (filter test qs)) (cond b (r ∷ filter test rs) (filter test rs))
+    by : (b : Bool) → AllZip Alike (filter test qs) (filter test rs) →
+        AllZip Alike (cond b (q ∷ filter test qs) (filter test qs)) (cond b (r ∷ filter test rs) (filter test rs))
     by true rest = (h.0, rest)
     by false rest = rest
 
-each-alike : (P Q : ProcedureTree → Type 0) → ((q r : ProcedureTree) → Alike q r → P q → Q r) → (qs rs : List ProcedureTree) → AllZip Alike qs rs → AllByRecursion P qs → AllByRecursion Q rs
+each-alike : (P Q : ProcedureTree → Type 0) → ((q r : ProcedureTree) → Alike q r → P q → Q r) →
+    (qs rs : List ProcedureTree) → AllZip Alike qs rs → AllByRecursion P qs → AllByRecursion Q rs
 each-alike P Q next [] [] h all = tt
 each-alike P Q next [] (r ∷ rs) h all = absurd h
 each-alike P Q next (q ∷ qs) [] h all = absurd h
 each-alike P Q next (q ∷ qs) (r ∷ rs) h all = (next q r h.0 all.0, each-alike P Q next qs rs h.1 all.1)
 
-flat-alike : {A : Type 0} (f : ProcedureTree → List A) → ((q r : ProcedureTree) → Alike q r → f q ≡ f r) → (qs rs : List ProcedureTree) → AllZip Alike qs rs → flat_map f qs ≡ flat_map f rs
+flat-alike : {A : Type 0} (f : ProcedureTree → List A) → ((q r : ProcedureTree) → Alike q r → f q ≡ f r) →
+    (qs rs : List ProcedureTree) → AllZip Alike qs rs → flat_map f qs ≡ flat_map f rs
 flat-alike f same [] [] h = refl
 flat-alike f same [] (r ∷ rs) h = absurd h
 flat-alike f same (q ∷ qs) [] h = absurd h
 flat-alike f same (q ∷ qs) (r ∷ rs) h = ap₂ ◌++◌ (same q r h.0) (flat-alike f same qs rs h.1)
 
-once-alike : (n : CodeNames) (local : LocalSystem) (qs rs : List ProcedureTree) → AllZip Alike qs rs → StatesOnce n local qs → StatesOnce n local rs
+once-alike : (n : CodeNames) (local : LocalSystem) (qs rs : List ProcedureTree) → AllZip Alike qs rs →
+    StatesOnce n local qs → StatesOnce n local rs
 once-alike n local qs rs alike h =
-    let ticks = kept-alike (λ q. not (bytes_eq q.name (start_name local.row) || bytes_eq q.name (reset_name local.row))) (λ q r e. ap (λ name. not (bytes_eq name (start_name local.row) || bytes_eq name (reset_name local.row))) (same-name q r e)) qs rs alike in
+    let ticks = kept-alike (λ q. not (bytes_eq q.name (start_name local.row) || bytes_eq q.name (reset_name local.row)))
+    (λ q r e. ap (λ name. not (bytes_eq name (start_name local.row) || bytes_eq name (reset_name local.row)))
+    (same-name q r e)) qs rs alike in
     let stored = flat-alike (λ q. stores_in q.body) same-stores (of_ticks local qs) (of_ticks local rs) ticks in
     let called = flat-alike (λ q. calls_in q.body) same-calls (of_ticks local qs) (of_ticks local rs) ticks in record {
-      values = subst (λ (sites : List StoreSite). AllByRecursion (λ (r : LocalRow). count_by (λ (st : StoreSite). bytes_eq (n.own st.field) (value_name r.row)) sites ≤ (if is_reset_outport r.kind then 2 else 1)) (filter (λ (r : LocalRow). has_value r.kind) local.rows)) stored h.values;
-      functions = subst (λ (sites : List CallSite). AllByRecursion (λ (u : ChildUse). AllByRecursion (λ (g : Head). count_by (λ (c : CallSite). bytes_eq (n.callee c.procedure).name g.name) sites ≡ 1) (out_heads u.header)) local.children) called h.functions;
-      updates = subst (λ (sites : List CallSite). AllByRecursion (λ (u : ChildUse). count_by (λ (c : CallSite). bytes_eq (n.callee c.procedure).name (update_name u.header.row)) sites ≡ 1) local.children) called h.updates;
+      values =
+          subst (λ (sites : List StoreSite). AllByRecursion
+          (λ (r : LocalRow). count_by (λ (st : StoreSite). bytes_eq (n.own st.field) (value_name r.row)) sites
+          ≤ (if is_reset_outport r.kind then 2 else 1)) (filter (λ (r : LocalRow). has_value r.kind) local.rows)) stored
+          h.values;
+      functions =
+          subst (λ (sites : List CallSite). AllByRecursion
+          (λ (u : ChildUse). AllByRecursion
+          (λ (g : Head). count_by (λ (c : CallSite). bytes_eq (n.callee c.procedure).name g.name) sites ≡ 1)
+          (out_heads u.header)) local.children) called h.functions;
+      updates =
+          subst (λ (sites : List CallSite). AllByRecursion
+          (λ (u : ChildUse). count_by
+          (λ (c : CallSite). bytes_eq (n.callee c.procedure).name (update_name u.header.row)) sites ≡ 1) local.children)
+          called h.updates;
     }
 
 -- ---- What procedures store, themselves or through private ones
@@ -212,7 +265,10 @@ module _ (private : ℕ → Bool) (field : ℕ → ℕ → List ℕ) where
   stored-alike [] (r ∷ rs) earlier h = absurd h
   stored-alike (q ∷ qs) [] earlier h = absurd h
   stored-alike (q ∷ qs) (r ∷ rs) earlier h =
-      (λ i. stored_names private (λ x f. field x.of f) (earlier ++ (map (λ (st : StoreSite). field (same-of q r h.0 i) st.field) (same-stores q r h.0 i) ++ flat_map (λ (c : CallSite). stored_on private (λ x f. field x.of f) earlier c.procedure c.target) (same-calls q r h.0 i)) ∷ []) qs)
+      (λ i. stored_names private (λ x f. field x.of f)
+      (earlier ++ (map (λ (st : StoreSite). field (same-of q r h.0 i) st.field) (same-stores q r h.0 i)
+      ++ flat_map (λ (c : CallSite). stored_on private (λ x f. field x.of f) earlier c.procedure c.target)
+      (same-calls q r h.0 i)) ∷ []) qs)
       ∙ stored-alike qs rs (earlier ++ stored_in private (λ x f. field x.of f) earlier r ∷ []) h.1
 
 -- ---- Two programs that differ in lines alone
@@ -237,12 +293,18 @@ module _ (p q : ProgramTree) (same : without_lines p ≡ without_lines q) where
 
   same-stored : (name : List ℕ) (k : ℕ) → stores p name k ≡ stores q name k
   same-stored name k =
-      ap (λ xs. has_stored xs k name) (stored-alike (λ i. (procedure_at p i).private) (λ of f. (field_in p of f).name) p.procedures q.procedures [] procedures)
-      ∙ (λ i. has_stored (stored_names (λ j. ap (λ (h : Head). h.private) (same-head (procedure_at p j) (procedure_at q j) (at j)) i) (λ x f. (slice_index_or (struct_fields (structs i) x.of) f no_field).name) [] q.procedures) k name)
+      ap (λ xs. has_stored xs k name)
+      (stored-alike (λ i. (procedure_at p i).private) (λ of f. (field_in p of f).name) p.procedures q.procedures
+      [] procedures)
+      ∙ (λ i. has_stored
+      (stored_names (λ j. ap (λ (h : Head). h.private) (same-head (procedure_at p j) (procedure_at q j) (at j)) i)
+      (λ x f. (slice_index_or (struct_fields (structs i) x.of) f no_field).name) [] q.procedures) k name)
 
   same-takes : (d : Diagram) (s : Option ℕ) (k : ℕ) → takes p d s k ≡ takes q d s k
   same-takes d s k =
-      ap (λ (ps : List ParamTree). ports_mask (filter (λ j. list_any (λ (x : ParamTree). bytes_eq x.name (port_name (system_control d.rows s) j)) ps) (input_ports d.rows s))) (same-params (procedure_at p k) (procedure_at q k) (at k))
+      ap (λ (ps : List ParamTree). ports_mask
+      (filter (λ j. list_any (λ (x : ParamTree). bytes_eq x.name (port_name (system_control d.rows s) j)) ps)
+      (input_ports d.rows s))) (same-params (procedure_at p k) (procedure_at q k) (at k))
 
   pub least-alike : (d : Diagram) (s : Option ℕ) → HasLeastInterface p d s → HasLeastInterface q d s
   least-alike d s h = record {
@@ -251,7 +313,12 @@ module _ (p q : ProgramTree) (same : without_lines p ≡ without_lines q) where
     face = h.face;
     is_face = record {
       functions = h.is_face.functions ∙ (λ i. map (λ k. same-takes d s k i) (same-out_places s i));
-      outputs = h.is_face.outputs ∙ (λ i. map (λ o. map (λ (e : ℕ × ℕ). e.0) (filter (λ (e : ℕ × ℕ). same-stored (value_name o) e.1 i) (enumerate_from 0 (same-out_places s i)))) (outports_of d.rows s));
+      outputs =
+          h.is_face.outputs
+          ∙ (λ i. map
+          (λ o. map (λ (e : ℕ × ℕ). e.0)
+          (filter (λ (e : ℕ × ℕ). same-stored (value_name o) e.1 i) (enumerate_from 0 (same-out_places s i))))
+          (outports_of d.rows s));
       no_order = h.is_face.no_order;
     };
     is_interface = h.is_interface;
@@ -264,7 +331,9 @@ module _ (p q : ProgramTree) (same : without_lines p ≡ without_lines q) where
   same-names : (s : Option ℕ) → names_in p (struct_place p s) ≡ names_in q (struct_place q s)
   same-names s = λ i. record {
     own = λ f. (slice_index_or (struct_fields (structs i) (places s i)) f no_field).name;
-    inner = λ f g. (slice_index_or (kind_fields (record { pures = []; structs = structs i; procedures = [] }) (slice_index_or (struct_fields (structs i) (places s i)) f no_field).kind) g no_field).name;
+    inner = λ f g.
+        (slice_index_or (kind_fields (record { pures = []; structs = structs i; procedures = [] })
+        (slice_index_or (struct_fields (structs i) (places s i)) f no_field).kind) g no_field).name;
     struct = λ k. (slice_index_or (structs i) k no_struct).name;
     callee = λ k. same-head (procedure_at p k) (procedure_at q k) (at k) i;
   }
@@ -272,7 +341,8 @@ module _ (p q : ProgramTree) (same : without_lines p ≡ without_lines q) where
   own-procedures : (k l : ℕ) → k ≡ l → AllZip Alike (procedures_of p k) (procedures_of q l)
   own-procedures k l e =
       subst (λ m. AllZip Alike (procedures_of p k) (procedures_of q m)) e
-      (kept-alike (λ (x : ProcedureTree). x.of == k) (λ x y alike. ap (λ of. of == k) (same-of x y alike)) p.procedures q.procedures procedures)
+      (kept-alike (λ (x : ProcedureTree). x.of == k) (λ x y alike. ap (λ of. of == k) (same-of x y alike)) p.procedures
+      q.procedures procedures)
 
   pub system-alike : (d : Diagram) (delays : List Bool) (s : Option ℕ) → HasSystemShape p d delays s → HasSystemShape q d delays s
   system-alike d delays s h =
@@ -280,12 +350,28 @@ module _ (p q : ProgramTree) (same : without_lines p ≡ without_lines q) where
       let own = own-procedures (struct_place p s) (struct_place q s) (places s) in record {
         view = h.view;
         struct_there = sym (λ i. (slice_index_or (structs i) (places s i) no_struct).name) ∙ h.struct_there;
-        fields = record { slots = h.fields.slots; are_slots = h.fields.are_slots; are_fields = h.fields.are_fields ∙ (λ i. named_fields (same-names s i) (slice_index_or (structs i) (places s i) no_struct).fields) };
-        heads = subst (λ hs. IsPermutation (public_heads (own_header local h.view.profile)) (filter (λ (x : Head). not x.private) hs)) (map-alike head_of same-head (procedures_of p (struct_place p s)) (procedures_of q (struct_place q s)) own) h.heads;
-        rules = subst (λ (n : CodeNames). AllByRecursion (KeepsRules n local (counters_in h.fields.slots)) (procedures_of q (struct_place q s))) (same-names s)
-            (each-alike (KeepsRules (names_in p (struct_place p s)) local (counters_in h.fields.slots)) (KeepsRules (names_in p (struct_place p s)) local (counters_in h.fields.slots)) (λ x y alike one. keeps (names_in p (struct_place p s)) local (counters_in h.fields.slots) x y alike one) (procedures_of p (struct_place p s)) (procedures_of q (struct_place q s)) own h.rules);
+        fields =
+            record {
+              slots = h.fields.slots;
+              are_slots = h.fields.are_slots;
+              are_fields = h.fields.are_fields
+                  ∙ (λ i. named_fields (same-names s i) (slice_index_or (structs i) (places s i) no_struct).fields);
+            };
+        heads = subst
+            (λ hs. IsPermutation (public_heads (own_header local h.view.profile))
+            (filter (λ (x : Head). not x.private) hs))
+            (map-alike head_of same-head (procedures_of p (struct_place p s)) (procedures_of q (struct_place q s)) own)
+            h.heads;
+        rules = subst (λ (n : CodeNames). AllByRecursion (KeepsRules n local (counters_in h.fields.slots))
+            (procedures_of q (struct_place q s))) (same-names s)
+            (each-alike (KeepsRules (names_in p (struct_place p s)) local (counters_in h.fields.slots))
+            (KeepsRules (names_in p (struct_place p s)) local (counters_in h.fields.slots))
+            (λ x y alike one. keeps (names_in p (struct_place p s)) local
+            (counters_in h.fields.slots) x y alike one) (procedures_of p (struct_place p s))
+            (procedures_of q (struct_place q s)) own h.rules);
         once = subst (λ (n : CodeNames). StatesOnce n local (procedures_of q (struct_place q s))) (same-names s)
-            (once-alike (names_in p (struct_place p s)) local (procedures_of p (struct_place p s)) (procedures_of q (struct_place q s)) own h.once);
+            (once-alike (names_in p (struct_place p s)) local (procedures_of p (struct_place p s))
+            (procedures_of q (struct_place q s)) own h.once);
       }
 
 -- ---- The root
@@ -312,9 +398,14 @@ two-orders {A} x y ys is = IsPermutation-keeps (x ∷ y ∷ []) (λ l. (l ≡ x 
     second zero (suc (suc j)) a b = absurd (omega arith)
     second (suc zero) (suc (suc j)) a b = absurd (omega arith)
 
-    step : (l : List A) (i j : ℕ) → i < length l → j < length l → (l ≡ x ∷ y ∷ []) ⊎ (l ≡ y ∷ x ∷ []) → (swap l i j ≡ x ∷ y ∷ []) ⊎ (swap l i j ≡ y ∷ x ∷ [])
-    step l i j a b (inl e) = subst (λ k. (swap k i j ≡ x ∷ y ∷ []) ⊎ (swap k i j ≡ y ∷ x ∷ [])) (sym e) (first i j (subst (λ k. i < length k) e a) (subst (λ k. j < length k) e b))
-    step l i j a b (inr e) = subst (λ k. (swap k i j ≡ x ∷ y ∷ []) ⊎ (swap k i j ≡ y ∷ x ∷ [])) (sym e) (second i j (subst (λ k. i < length k) e a) (subst (λ k. j < length k) e b))
+    step : (l : List A) (i j : ℕ) → i < length l → j < length l → (l ≡ x ∷ y ∷ []) ⊎ (l ≡ y ∷ x ∷ []) →
+        (swap l i j ≡ x ∷ y ∷ []) ⊎ (swap l i j ≡ y ∷ x ∷ [])
+    step l i j a b (inl e) =
+        subst (λ k. (swap k i j ≡ x ∷ y ∷ []) ⊎ (swap k i j ≡ y ∷ x ∷ [])) (sym e)
+        (first i j (subst (λ k. i < length k) e a) (subst (λ k. j < length k) e b))
+    step l i j a b (inr e) =
+        subst (λ k. (swap k i j ≡ x ∷ y ∷ []) ⊎ (swap k i j ≡ y ∷ x ∷ [])) (sym e)
+        (second i j (subst (λ k. i < length k) e a) (subst (λ k. j < length k) e b))
 
 -- two procedures alike to these
 record Pair (x y : ProcedureTree) (zs : List ProcedureTree) : Type 0 where
@@ -336,7 +427,14 @@ pair-alike x y ys zs is alike = by (two-orders x y ys is)
     crossed : (rs : List ProcedureTree) → AllZip Alike (y ∷ x ∷ []) rs → Pair x y rs
     crossed [] h = absurd h
     crossed (a ∷ []) h = absurd h.1
-    crossed (a ∷ b ∷ []) h = record { one = b; other = a; one_alike = h.1.0; other_alike = h.0; only = record { moves = (0, 1) ∷ []; below = (omega arith, omega arith, tt); is = refl } }
+    crossed (a ∷ b ∷ []) h =
+        record {
+          one = b;
+          other = a;
+          one_alike = h.1.0;
+          other_alike = h.0;
+          only = record { moves = (0, 1) ∷ []; below = (omega arith, omega arith, tt); is = refl };
+        }
     crossed (a ∷ b ∷ c ∷ rs) h = absurd h.1.1
 
     by : (ys ≡ x ∷ y ∷ []) ⊎ (ys ≡ y ∷ x ∷ []) → Pair x y zs
@@ -351,15 +449,20 @@ list-aside : (xs : StmtTrees) → list_of_stmts (stmts_without_lines xs) ≡ map
 list-aside no_stmts = refl
 list-aside (more_stmts x xs) = ap (λ rest. stmt_without_lines x ∷ rest) (list-aside xs)
 
-stmts-alike : (firsts seconds : List StmtTree) → map stmt_without_lines firsts ≡ map stmt_without_lines seconds → AllZip StmtAlike firsts seconds
+stmts-alike : (firsts seconds : List StmtTree) → map stmt_without_lines firsts ≡ map stmt_without_lines seconds →
+    AllZip StmtAlike firsts seconds
 stmts-alike [] [] e = tt
 stmts-alike [] (b ∷ seconds) e = absurd (let wrong : ⊥ = cc e in wrong)
 stmts-alike (a ∷ firsts) [] e = absurd (let wrong : ⊥ = cc e in wrong)
-stmts-alike (a ∷ firsts) (b ∷ seconds) e = (ap (λ (xs : List StmtTree). slice_index_or xs 0 (stmt_without_lines a)) e, stmts-alike firsts seconds (ap (drop 1) e))
+stmts-alike (a ∷ firsts) (b ∷ seconds) e = (
+  ap (λ (xs : List StmtTree). slice_index_or xs 0 (stmt_without_lines a)) e,
+  stmts-alike firsts seconds (ap (drop 1) e),
+)
 
 bodies-alike : (q r : ProcedureTree) → Alike q r → AllZip StmtAlike (list_of_stmts q.body) (list_of_stmts r.body)
 bodies-alike q r alike =
-    stmts-alike (list_of_stmts q.body) (list_of_stmts r.body) (sym (list-aside q.body) ∙ ap (λ (x : ProcedureTree). list_of_stmts x.body) alike ∙ list-aside r.body)
+    stmts-alike (list_of_stmts q.body) (list_of_stmts r.body) (sym (list-aside q.body)
+    ∙ ap (λ (x : ProcedureTree). list_of_stmts x.body) alike ∙ list-aside r.body)
 
 literal-aside : (a : StmtTree) → is_literal_store (stmt_without_lines a) ≡ is_literal_store a
 literal-aside (assign line f value) = refl
@@ -367,16 +470,26 @@ literal-aside (assign_at line f index value) = refl
 literal-aside (branch line test on_true on_false) = refl
 literal-aside (call line k target es) = refl
 
-kept-stmts : (test : Bool → Bool) (firsts seconds : List StmtTree) → AllZip StmtAlike firsts seconds → AllZip StmtAlike (filter (λ a. test (is_literal_store a)) firsts) (filter (λ a. test (is_literal_store a)) seconds)
+kept-stmts : (test : Bool → Bool) (firsts seconds : List StmtTree) → AllZip StmtAlike firsts seconds →
+    AllZip StmtAlike (filter (λ a. test (is_literal_store a)) firsts) (filter (λ a. test (is_literal_store a)) seconds)
 kept-stmts test [] [] h = tt
 kept-stmts test [] (b ∷ seconds) h = absurd h
 kept-stmts test (a ∷ firsts) [] h = absurd h
 kept-stmts test (a ∷ firsts) (b ∷ seconds) h =
-    subst (λ t. AllZip StmtAlike (cond (test (is_literal_store a)) (a ∷ filter (λ x. test (is_literal_store x)) firsts) (filter (λ x. test (is_literal_store x)) firsts)) (cond (test t) (b ∷ filter (λ x. test (is_literal_store x)) seconds) (filter (λ x. test (is_literal_store x)) seconds)))
-    (sym (literal-aside a) ∙ ap is_literal_store h.0 ∙ literal-aside b) (by (test (is_literal_store a)) (kept-stmts test firsts seconds h.1))
+    subst (λ t.
+    AllZip StmtAlike (cond (test (is_literal_store a)) (a ∷ filter (λ x. test (is_literal_store x)) firsts)
+    (filter (λ x. test (is_literal_store x)) firsts))
+    (cond (test t) (b ∷ filter (λ x. test (is_literal_store x)) seconds)
+    (filter (λ x. test (is_literal_store x)) seconds)))
+    (sym (literal-aside a) ∙ ap is_literal_store h.0 ∙ literal-aside b)
+    (by (test (is_literal_store a)) (kept-stmts test firsts seconds h.1))
   where
     by : (t : Bool) → AllZip StmtAlike (filter (λ x. test (is_literal_store x)) firsts) (filter (λ x. test (is_literal_store x)) seconds) →
-        AllZip StmtAlike (cond t (a ∷ filter (λ x. test (is_literal_store x)) firsts) (filter (λ x. test (is_literal_store x)) firsts)) (cond t (b ∷ filter (λ x. test (is_literal_store x)) seconds) (filter (λ x. test (is_literal_store x)) seconds))
+        AllZip StmtAlike
+        (cond t (a ∷ filter (λ x. test (is_literal_store x)) firsts)
+        (filter (λ x. test (is_literal_store x)) firsts))
+        (cond t (b ∷ filter (λ x. test (is_literal_store x)) seconds)
+        (filter (λ x. test (is_literal_store x)) seconds))
     by true rest = (h.0, rest)
     by false rest = rest
 
@@ -386,13 +499,18 @@ lengths-alike [] (b ∷ seconds) h = absurd h
 lengths-alike (a ∷ firsts) [] h = absurd h
 lengths-alike (a ∷ firsts) (b ∷ seconds) h = ap suc (lengths-alike firsts seconds h.1)
 
-each-stmt : (P Q : StmtTree → Type 0) → ((a b : StmtTree) → StmtAlike a b → P a → Q b) → (firsts seconds : List StmtTree) → AllZip StmtAlike firsts seconds → AllByRecursion P firsts → AllByRecursion Q seconds
+each-stmt : (P Q : StmtTree → Type 0) → ((a b : StmtTree) → StmtAlike a b → P a → Q b) →
+    (firsts seconds : List StmtTree) → AllZip StmtAlike firsts seconds → AllByRecursion P firsts →
+    AllByRecursion Q seconds
 each-stmt P Q next [] [] h all = tt
 each-stmt P Q next [] (b ∷ seconds) h all = absurd h
 each-stmt P Q next (a ∷ firsts) [] h all = absurd h
 each-stmt P Q next (a ∷ firsts) (b ∷ seconds) h all = (next a b h.0 all.0, each-stmt P Q next firsts seconds h.1 all.1)
 
-zip-stmt : (P Q : RootStep → StmtTree → Type 0) → ((step : RootStep) (a b : StmtTree) → StmtAlike a b → P step a → Q step b) → (steps : List RootStep) (firsts seconds : List StmtTree) → AllZip StmtAlike firsts seconds → AllZip P steps firsts → AllZip Q steps seconds
+zip-stmt : (P Q : RootStep → StmtTree → Type 0) →
+    ((step : RootStep) (a b : StmtTree) → StmtAlike a b → P step a → Q step b) →
+    (steps : List RootStep) (firsts seconds : List StmtTree) → AllZip StmtAlike firsts seconds → AllZip P steps firsts →
+    AllZip Q steps seconds
 zip-stmt P Q next [] [] [] h all = tt
 zip-stmt P Q next [] [] (b ∷ seconds) h all = absurd h
 zip-stmt P Q next [] (a ∷ firsts) seconds h all = absurd all
@@ -416,13 +534,15 @@ module _ (p : ProgramTree) (hyper : ℕ) (x : ProcedureTree) where
   call-from callee (assign_at line f index value) h = h
   call-from callee (branch line test on_true on_false) h = h
 
-  store-to : (name : List ℕ) (IsValue : ExprTree → Type 0) (a : StmtTree) → DoesStore p hyper x name IsValue a → DoesStore p hyper x name IsValue (stmt_without_lines a)
+  store-to : (name : List ℕ) (IsValue : ExprTree → Type 0) (a : StmtTree) → DoesStore p hyper x name IsValue a →
+      DoesStore p hyper x name IsValue (stmt_without_lines a)
   store-to name IsValue (call line k target values) h = h
   store-to name IsValue (assign line f value) h = h
   store-to name IsValue (assign_at line f index value) h = h
   store-to name IsValue (branch line test on_true on_false) h = h
 
-  store-from : (name : List ℕ) (IsValue : ExprTree → Type 0) (a : StmtTree) → DoesStore p hyper x name IsValue (stmt_without_lines a) → DoesStore p hyper x name IsValue a
+  store-from : (name : List ℕ) (IsValue : ExprTree → Type 0) (a : StmtTree) →
+      DoesStore p hyper x name IsValue (stmt_without_lines a) → DoesStore p hyper x name IsValue a
   store-from name IsValue (call line k target values) h = h
   store-from name IsValue (assign line f value) h = h
   store-from name IsValue (assign_at line f index value) h = h
@@ -432,8 +552,11 @@ module _ (p : ProgramTree) (hyper : ℕ) (x : ProcedureTree) where
   does-alike (calls callee) a b e h = call-from callee b (subst (DoesCall p hyper x callee) e (call-to callee a h))
   does-alike (copies output row) a b e h =
       let value = IsReadOf (names_in p x.of) x.params (child (system_name None) (value_name row)) in
-      store-from (output_name output) value b (subst (DoesStore p hyper x (output_name output) value) e (store-to (output_name output) value a h))
-  does-alike moves_on a b e h = store-from now_name (MovesOn p hyper x) b (subst (DoesStore p hyper x now_name (MovesOn p hyper x)) e (store-to now_name (MovesOn p hyper x) a h))
+      store-from (output_name output) value b
+      (subst (DoesStore p hyper x (output_name output) value) e (store-to (output_name output) value a h))
+  does-alike moves_on a b e h =
+      store-from now_name (MovesOn p hyper x) b
+      (subst (DoesStore p hyper x now_name (MovesOn p hyper x)) e (store-to now_name (MovesOn p hyper x) a h))
 
   begins-to : (a : StmtTree) → BeginsTick p x a → BeginsTick p x (stmt_without_lines a)
   begins-to (call line k target values) h = h
@@ -454,7 +577,9 @@ module _ (p q : ProgramTree) (same : without_lines p ≡ without_lines q) (hyper
   names-at : (k l : ℕ) → k ≡ l → names_in p k ≡ names_in q l
   names-at k l e = λ i. record {
     own = λ f. (slice_index_or (struct_fields (structs p q same i) (e i)) f no_field).name;
-    inner = λ f g. (slice_index_or (kind_fields (record { pures = []; structs = structs p q same i; procedures = [] }) (slice_index_or (struct_fields (structs p q same i) (e i)) f no_field).kind) g no_field).name;
+    inner = λ f g.
+        (slice_index_or (kind_fields (record { pures = []; structs = structs p q same i; procedures = [] })
+        (slice_index_or (struct_fields (structs p q same i) (e i)) f no_field).kind) g no_field).name;
     struct = λ j. (slice_index_or (structs p q same i) j no_struct).name;
     callee = λ j. same-head (procedure_at p j) (procedure_at q j) (at p q same j) i;
   }
@@ -470,22 +595,27 @@ module _ (p q : ProgramTree) (same : without_lines p ≡ without_lines q) (hyper
     moved-call callee (call line k (Child f) values) h = (
       sym (same-head (procedure_at p k) (procedure_at q k) (at p q same k)) ∙ h.0,
       subst (λ (n : CodeNames). n.own f ≡ system_name None) names h.1,
-      subst (λ (ps : List ParamTree). AllZip (λ (wanted : ParamTree) e. (what : NamedLeaf) × IsPassed wanted.name what × IsReadOf (names_in q y.of) ps what e) callee.params (list_of_exprs values)) params
-          (subst (λ (n : CodeNames). AllZip (λ (wanted : ParamTree) e. (what : NamedLeaf) × IsPassed wanted.name what × IsReadOf n x.params what e) callee.params (list_of_exprs values)) names h.2),
+      subst (λ (ps : List ParamTree). AllZip (λ (wanted : ParamTree) e. (what : NamedLeaf) × IsPassed wanted.name what
+          × IsReadOf (names_in q y.of) ps what e) callee.params (list_of_exprs values)) params
+          (subst (λ (n : CodeNames). AllZip (λ (wanted : ParamTree) e. (what : NamedLeaf) × IsPassed wanted.name what
+          × IsReadOf n x.params what e) callee.params (list_of_exprs values)) names h.2),
     )
     moved-call callee (call line k Own values) h = h
     moved-call callee (assign line f value) h = h
     moved-call callee (assign_at line f index value) h = h
     moved-call callee (branch line test on_true on_false) h = h
 
-    moved-store : (name : List ℕ) (P Q : ExprTree → Type 0) → ((e : ExprTree) → P e → Q e) → (a : StmtTree) → DoesStore p hyper x name P a → DoesStore q hyper y name Q a
+    moved-store : (name : List ℕ) (P Q : ExprTree → Type 0) → ((e : ExprTree) → P e → Q e) → (a : StmtTree) →
+        DoesStore p hyper x name P a → DoesStore q hyper y name Q a
     moved-store name P Q next (assign line f value) h = (subst (λ (n : CodeNames). n.own f ≡ name) names h.0, next value h.1)
     moved-store name P Q next (call line k target values) h = h
     moved-store name P Q next (assign_at line f index value) h = h
     moved-store name P Q next (branch line test on_true on_false) h = h
 
     moved-read : (what : NamedLeaf) (e : ExprTree) → IsReadOf (names_in p x.of) x.params what e → IsReadOf (names_in q y.of) y.params what e
-    moved-read what e h = subst (λ ps. IsReadOf (names_in q y.of) ps what e) params (subst (λ (n : CodeNames). IsReadOf n x.params what e) names h)
+    moved-read what e h =
+        subst (λ ps. IsReadOf (names_in q y.of) ps what e) params
+        (subst (λ (n : CodeNames). IsReadOf n x.params what e) names h)
 
     moved-on : (e : ExprTree) → MovesOn p hyper x e → MovesOn q hyper y e
     moved-on e h = record {
@@ -510,36 +640,57 @@ module _ (p q : ProgramTree) (same : without_lines p ≡ without_lines q) (hyper
 
   pub root-alike : (d : Diagram) → HasRootCode p d hyper → HasRootCode q d hyper
   root-alike d h =
-      let two = pair-alike h.start h.step (procedures_of p (root_struct p)) (procedures_of q (root_struct q)) h.only (own-procedures p q same (root_struct p) (root_struct q) root-place) in
+      let two = pair-alike h.start h.step (procedures_of p (root_struct p)) (procedures_of q (root_struct q)) h.only
+      (own-procedures p q same (root_struct p) (root_struct q) root-place) in
       let starts = bodies-alike h.start two.one two.one_alike in
       let literal = kept-stmts (λ t. t) (list_of_stmts h.start.body) (list_of_stmts two.one.body) starts in
       let others = kept-stmts not (list_of_stmts h.start.body) (list_of_stmts two.one.body) starts in record {
         profile = h.profile;
         is_profile = h.is_profile;
         name = sym (λ i. (slice_index_or (structs p q same i) (root-place i) no_struct).name) ∙ h.name;
-        fields = subst (IsPermutation (root_fields_of d)) (λ i. named_fields (names-at (root_struct p) (root_struct q) root-place i) (slice_index_or (structs p q same i) (root-place i) no_struct).fields) h.fields;
+        fields =
+            subst (IsPermutation (root_fields_of d))
+            (λ i. named_fields (names-at (root_struct p) (root_struct q) root-place i)
+            (slice_index_or (structs p q same i) (root-place i) no_struct).fields) h.fields;
         start = two.one;
         step = two.other;
         only = two.only;
         start_head = sym (same-head h.start two.one two.one_alike) ∙ h.start_head;
         step_head = sym (same-head h.step two.other two.other_alike) ∙ h.step_head;
         begins = subst (λ n. 0 < n) (lengths-alike _ _ literal) h.begins;
-        tick_alone = each-stmt (BeginsTick p h.start) (BeginsTick q two.one) (λ a b e one. begins-alike q hyper two.one a b e (moved-tick h.start two.one two.one_alike a one)) _ _ literal h.tick_alone;
-        starts = zip-stmt (Does p hyper h.start) (Does q hyper two.one) (λ step a b e one. does-alike q hyper two.one step a b e (moved-step h.start two.one two.one_alike step a one)) (calls (heads.start_head (header_of d None h.profile)) ∷ []) _ _ others h.starts;
+        tick_alone =
+            each-stmt (BeginsTick p h.start) (BeginsTick q two.one)
+            (λ a b e one. begins-alike q hyper two.one a b e (moved-tick h.start two.one two.one_alike a one)) _ _
+            literal h.tick_alone;
+        starts =
+            zip-stmt (Does p hyper h.start) (Does q hyper two.one)
+            (λ step a b e one. does-alike q hyper two.one step a b e
+            (moved-step h.start two.one two.one_alike step a one))
+            (calls (heads.start_head (header_of d None h.profile)) ∷ []) _ _ others h.starts;
         steps = h.steps;
         are_steps = h.are_steps;
-        does = zip-stmt (Does p hyper h.step) (Does q hyper two.other) (λ step a b e one. does-alike q hyper two.other step a b e (moved-step h.step two.other two.other_alike step a one)) h.steps _ _ (bodies-alike h.step two.other two.other_alike) h.does;
+        does = zip-stmt (Does p hyper h.step) (Does q hyper two.other)
+            (λ step a b e one. does-alike q hyper two.other step a b e
+            (moved-step h.step two.other two.other_alike step a one)) h.steps _ _
+            (bodies-alike h.step two.other two.other_alike) h.does;
       }
 
   pub shape-alike : (d : Diagram) (delays : List Bool) → HasShape p d delays hyper → HasShape q d delays hyper
   shape-alike d delays h = record {
-    structs = subst (λ (ss : List StructTree). IsPermutation (root_name ∷ map system_name (systems d.rows)) (map (λ st. st.name) ss)) (structs p q same) h.structs;
-    each = each-then (HasSystemShape p d delays) (HasSystemShape q d delays) (systems d.rows) (λ s one. system-alike p q same d delays s one) h.each;
+    structs =
+        subst (λ (ss : List StructTree). IsPermutation (root_name ∷ map system_name (systems d.rows))
+        (map (λ st. st.name) ss)) (structs p q same) h.structs;
+    each = each-then (HasSystemShape p d delays) (HasSystemShape q d delays) (systems d.rows)
+        (λ s one. system-alike p q same d delays s one) h.each;
     root = root-alike d h.root;
   }
 
 pub shape_means_no_lines : ShapeMeansNoLines
-shape_means_no_lines = record { least = λ d s p q same h. least-alike p q same d s h; shape = λ d delays hyper p q same h. shape-alike p q same hyper d delays h }
+shape_means_no_lines =
+    record {
+      least = λ d s p q same h. least-alike p q same d s h;
+      shape = λ d delays hyper p q same h. shape-alike p q same hyper d delays h;
+    }
 
 pub text_of_code_is_right : LinesMeanNothing → TextOfCodeIsRight
 text_of_code_is_right lines bytes p r text h =
@@ -559,7 +710,8 @@ text_of_code_is_right lines bytes p r text h =
         };
         least = each-then (HasLeastInterface p d) (HasLeastInterface q d) (systems d.rows) (λ s one. least-alike p q same d s one) h.least;
         shape = shape-alike p q same r.times.hyper d r.times.delays h.shape;
-        any_order = each-then (AnswersAnyOrder p d r.times.hyper) (AnswersAnyOrder q d r.times.hyper) (systems d.rows) (λ s one. rows.any_order d r.times.hyper s p q same one) h.any_order;
+        any_order = each-then (AnswersAnyOrder p d r.times.hyper) (AnswersAnyOrder q d r.times.hyper) (systems d.rows)
+            (λ s one. rows.any_order d r.times.hyper s p q same one) h.any_order;
         renewed = each-then (RenewsAll p d) (RenewsAll q d) (systems d.rows) (λ s one. renewals.renewed d s p q same one) h.renewed;
         restarted = renewals.restarted d p q same h.restarted;
       };

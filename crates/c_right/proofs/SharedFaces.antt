@@ -13,7 +13,8 @@ pub leads-nowhere : (f g : ℕ) (path : List ℕ) → LeadsTo [] f path g → �
 leads-nowhere f g [] h = let below = h.1 in omega arith
 leads-nowhere f g (next ∷ path) h = let below = h.0.1 in omega arith
 
-pub shown-by-itself : (takes gives : List ℕ) (g k : ℕ) → ShownToNeed (record { takes = takes; gives = gives; before = [] }) g k → IsBitSet (slice_index takes g) k
+pub shown-by-itself : (takes gives : List ℕ) (g k : ℕ) →
+    ShownToNeed (record { takes = takes; gives = gives; before = [] }) g k → IsBitSet (slice_index takes g) k
 shown-by-itself takes gives g k (inl bit) = bit
 shown-by-itself takes gives g k (inr (f, way, bit)) = absurd (leads-nowhere f g way.0 way.1)
 

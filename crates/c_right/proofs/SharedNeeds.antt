@@ -106,7 +106,8 @@ in2 o way = (1, record { in_table = lit< tt; is_inport = refl; is_own = refl }, 
 
 first_needs : (k : ℕ) → 0 < k → k ≤ 32 → IsBitSet 1 (k - 1) ↔ TrueNeeds shared_child None 6 (Number k)
 first_needs k above below = (
-  λ b. subst (λ n. TrueNeeds shared_child None 6 (Number n)) (sym (first_input k above b)) (in1 6 (inr (4 ∷ 3 ∷ [], ((0, lit< tt, refl), ((0, lit< tt, refl), (0, lit< tt, refl)))))),
+  λ b. subst (λ n. TrueNeeds shared_child None 6 (Number n)) (sym (first_input k above b))
+      (in1 6 (inr (4 ∷ 3 ∷ [], ((0, lit< tt, refl), ((0, lit< tt, refl), (0, lit< tt, refl)))))),
   λ t. elim (outer_input k t.0 t.1) as (λ o. IsBitSet 1 (k - 1)) [
     | inl one ↦ subst (λ n. IsBitSet 1 (n - 1)) (sym one.0) (λ e. let no : 1 ≡ 0 = e in omega arith)
     | inr two ↦ absurd (not_second (subst (λ i. Reaches (needs_inside shared_child None) 6 i) two.1 t.2))
@@ -116,8 +117,15 @@ first_needs k above below = (
 second_needs : (k : ℕ) → 0 < k → k ≤ 32 → IsBitSet 3 (k - 1) ↔ TrueNeeds shared_child None 7 (Number k)
 second_needs k above below = (
   λ b. elim (either_input k above b) as (λ o. TrueNeeds shared_child None 7 (Number k)) [
-    | inl one ↦ subst (λ n. TrueNeeds shared_child None 7 (Number n)) (sym one) (in1 7 (inr (5 ∷ 4 ∷ 3 ∷ [], ((0, lit< tt, refl), ((0, lit< tt, refl), ((0, lit< tt, refl), (0, lit< tt, refl)))))))
-    | inr two ↦ subst (λ n. TrueNeeds shared_child None 7 (Number n)) (sym two) (in2 7 (inr (5 ∷ [], ((0, lit< tt, refl), (1, lit< tt, refl)))))
+    | inl one ↦
+        subst (λ n. TrueNeeds shared_child None 7 (Number n)) (sym one)
+        (in1 7 (inr (
+          5 ∷ 4 ∷ 3 ∷ [],
+          ((0, lit< tt, refl), ((0, lit< tt, refl), ((0, lit< tt, refl), (0, lit< tt, refl)))),
+        )))
+    | inr two ↦
+        subst (λ n. TrueNeeds shared_child None 7 (Number n)) (sym two)
+        (in2 7 (inr (5 ∷ [], ((0, lit< tt, refl), (1, lit< tt, refl)))))
   ],
   λ t. elim (outer_input k t.0 t.1) as (λ o. IsBitSet 3 (k - 1)) [
     | inl one ↦ subst (λ n. IsBitSet 3 (n - 1)) (sym one.0) (λ e. let no : 1 ≡ 0 = e in omega arith)

@@ -69,7 +69,8 @@ child_forms = forms_of (holds_number I32 ∷ holds_number I32 ∷ holds_number U
 
 abbrev top_forms : Forms
 top_forms =
-    forms_of (holds_number I32 ∷ holds_number I32 ∷ holds_number I32 ∷ holds_number I32 ∷ holds_number I32 ∷ holds_instance child_forms ∷ holds_number U8 ∷ holds_number U8 ∷ holds_number U8 ∷ [])
+    forms_of (holds_number I32 ∷ holds_number I32 ∷ holds_number I32 ∷ holds_number I32 ∷ holds_number I32
+    ∷ holds_instance child_forms ∷ holds_number U8 ∷ holds_number U8 ∷ holds_number U8 ∷ [])
 
 abbrev whole_forms : Forms
 whole_forms = forms_of (holds_number I32 ∷ holds_number I32 ∷ holds_number I32 ∷ holds_instance top_forms ∷ [])
@@ -79,36 +80,141 @@ whole_forms = forms_of (holds_number I32 ∷ holds_number I32 ∷ holds_number I
 child_renews : RenewsAll shared_program shared_child (Some 2)
 unfolding digits
 child_renews = record {
-  starts = λ before has. subst (λ c. OnDone ((routine_at (program_routines shared_program) (procedure_place shared_program (start_name (Some 2)))).run [] c 0) (λ a. HoldsInside shared_program shared_child (Some 2) (λ n old new. AreStarted shared_program shared_child n new) c a.cells)) (spelled-is child_forms before has)
-      (record { here = record { forgotten = record { memories = tt; places = tt; taken = tt; trigger = λ h. absurd (true≢false (sym h)) }; values = (refl, (refl, tt)); counters = (refl, tt) }; inside = tt });
-  resets = λ before has. subst (λ c. OnDone ((routine_at (program_routines shared_program) (procedure_place shared_program (reset_name (Some 2)))).run [] c 0) (λ a. HoldsInside shared_program shared_child (Some 2) (AreReset shared_program shared_child) c a.cells)) (spelled-is child_forms before has)
-      (record { here = record { forgotten = record { memories = tt; places = tt; taken = tt; trigger = λ h. absurd (true≢false (sym h)) }; values = (refl, (refl, tt)) }; inside = tt });
+  starts =
+      λ before has.
+      subst (λ c.
+      OnDone ((routine_at (program_routines shared_program) (procedure_place shared_program (start_name (Some 2)))).run
+      [] c 0) (λ a. HoldsInside shared_program shared_child (Some 2)
+      (λ n old new. AreStarted shared_program shared_child n new) c a.cells)) (spelled-is child_forms before has)
+      (record {
+        here = record {
+          forgotten = record {
+            memories = tt;
+            places = tt;
+            taken = tt;
+            trigger = λ h. absurd (true≢false (sym h));
+          };
+          values = (refl, (refl, tt));
+          counters = (refl, tt);
+        };
+        inside = tt;
+      });
+  resets =
+      λ before has.
+      subst (λ c.
+      OnDone ((routine_at (program_routines shared_program) (procedure_place shared_program (reset_name (Some 2)))).run
+      [] c 0) (λ a. HoldsInside shared_program shared_child (Some 2) (AreReset shared_program shared_child) c a.cells))
+      (spelled-is child_forms before has)
+      (record {
+        here = record {
+          forgotten = record {
+            memories = tt;
+            places = tt;
+            taken = tt;
+            trigger = λ h. absurd (true≢false (sym h));
+          };
+          values = (refl, (refl, tt));
+        };
+        inside = tt;
+      });
 }
 
 top_renews : RenewsAll shared_program shared_child None
 unfolding digits
 top_renews = record {
-  starts = λ before has. subst (λ c. OnDone ((routine_at (program_routines shared_program) (procedure_place shared_program (start_name None))).run [] c 0) (λ a. HoldsInside shared_program shared_child None (λ n old new. AreStarted shared_program shared_child n new) c a.cells)) (spelled-is top_forms before has)
+  starts =
+      λ before has.
+      subst (λ c.
+      OnDone ((routine_at (program_routines shared_program) (procedure_place shared_program (start_name None))).run
+      [] c 0) (λ a. HoldsInside shared_program shared_child None
+      (λ n old new. AreStarted shared_program shared_child n new) c a.cells)) (spelled-is top_forms before has)
       (record {
-        here = record { forgotten = record { memories = tt; places = tt; taken = tt; trigger = λ h. absurd (true≢false (sym h)) }; values = (refl, (refl, (refl, (refl, (refl, tt))))); counters = (refl, (refl, (refl, tt))) };
-        inside = (record { forgotten = record { memories = tt; places = tt; taken = tt; trigger = λ h. absurd (true≢false (sym h)) }; values = (refl, (refl, tt)); counters = (refl, tt) }, tt);
+        here = record {
+          forgotten = record {
+            memories = tt;
+            places = tt;
+            taken = tt;
+            trigger = λ h. absurd (true≢false (sym h));
+          };
+          values = (refl, (refl, (refl, (refl, (refl, tt)))));
+          counters = (refl, (refl, (refl, tt)));
+        };
+        inside = (
+          record {
+            forgotten = record {
+              memories = tt;
+              places = tt;
+              taken = tt;
+              trigger = λ h. absurd (true≢false (sym h));
+            };
+            values = (refl, (refl, tt));
+            counters = (refl, tt);
+          },
+          tt,
+        );
       });
-  resets = λ before has. subst (λ c. OnDone ((routine_at (program_routines shared_program) (procedure_place shared_program (reset_name None))).run [] c 0) (λ a. HoldsInside shared_program shared_child None (AreReset shared_program shared_child) c a.cells)) (spelled-is top_forms before has)
+  resets =
+      λ before has.
+      subst (λ c.
+      OnDone ((routine_at (program_routines shared_program) (procedure_place shared_program (reset_name None))).run
+      [] c 0) (λ a. HoldsInside shared_program shared_child None (AreReset shared_program shared_child) c a.cells))
+      (spelled-is top_forms before has)
       (record {
-        here = record { forgotten = record { memories = tt; places = tt; taken = tt; trigger = λ h. absurd (true≢false (sym h)) }; values = (refl, (refl, (refl, (refl, (refl, tt))))) };
-        inside = (record { forgotten = record { memories = tt; places = tt; taken = tt; trigger = λ h. absurd (true≢false (sym h)) }; values = (refl, (refl, tt)) }, tt);
+        here = record {
+          forgotten = record {
+            memories = tt;
+            places = tt;
+            taken = tt;
+            trigger = λ h. absurd (true≢false (sym h));
+          };
+          values = (refl, (refl, (refl, (refl, (refl, tt)))));
+        };
+        inside = (
+          record {
+            forgotten = record {
+              memories = tt;
+              places = tt;
+              taken = tt;
+              trigger = λ h. absurd (true≢false (sym h));
+            };
+            values = (refl, (refl, tt));
+          },
+          tt,
+        );
       });
 }
 
 restarts : Restarts shared_program shared_child
 unfolding digits
 restarts before has =
-    subst (λ c. OnDone ((routine_at (program_routines shared_program) 13).run [] c 0) (λ a. AreRestarted shared_program shared_child c a.cells)) (spelled-is whole_forms before has)
+    subst (λ c. OnDone ((routine_at (program_routines shared_program) 13).run [] c 0)
+    (λ a. AreRestarted shared_program shared_child c a.cells)) (spelled-is whole_forms before has)
     (record {
       tick = refl;
       top = record {
-        here = record { forgotten = record { memories = tt; places = tt; taken = tt; trigger = λ h. absurd (true≢false (sym h)) }; values = (refl, (refl, (refl, (refl, (refl, tt))))); counters = (refl, (refl, (refl, tt))) };
-        inside = (record { forgotten = record { memories = tt; places = tt; taken = tt; trigger = λ h. absurd (true≢false (sym h)) }; values = (refl, (refl, tt)); counters = (refl, tt) }, tt);
+        here = record {
+          forgotten = record {
+            memories = tt;
+            places = tt;
+            taken = tt;
+            trigger = λ h. absurd (true≢false (sym h));
+          };
+          values = (refl, (refl, (refl, (refl, (refl, tt)))));
+          counters = (refl, (refl, (refl, tt)));
+        };
+        inside = (
+          record {
+            forgotten = record {
+              memories = tt;
+              places = tt;
+              taken = tt;
+              trigger = λ h. absurd (true≢false (sym h));
+            };
+            values = (refl, (refl, tt));
+            counters = (refl, tt);
+          },
+          tt,
+        );
       };
       outputs = refl;
     })

@@ -18,7 +18,11 @@ use Rattle.c_right.proofs.RefusedPrograms.{shared_run, is_shared_run}
 -- of the one run
 gives : HasOneRun shared_child None trace → GivesOutputs shared_program shared_child trace
 unfolding digits
-gives one = record { one_run = one; outputs = ap (λ (run : Run). map (outs shared_child None) run.values) (one.only shared_run is_shared_run) }
+gives one =
+    record {
+      one_run = one;
+      outputs = ap (λ (run : Run). map (outs shared_child None) run.values) (one.only shared_run is_shared_run);
+    }
 
 bounded : StaysInBound shared_program shared_child trace
 unfolding digits
@@ -57,7 +61,9 @@ script =
     ∷ out_with 1 (pos 2 ∷ []) ∷ out_with 2 (pos 2 ∷ pos 20 ∷ []) ∷ update_with (pos 2 ∷ pos 20 ∷ [])
     ∷ []
 
-driven : OnDone (start_run shared_program) (λ started. DrivenFrom shared_program shared_child 1 None (functions_for (1 ∷ 3 ∷ [])) trace shared_run 0 started.cells [] [] script)
+driven : OnDone (start_run shared_program)
+    (λ started. DrivenFrom shared_program shared_child 1 None (functions_for (1 ∷ 3 ∷ [])) trace shared_run 0
+    started.cells [] [] script)
 unfolding digits
 driven = (
   (refl, tt),

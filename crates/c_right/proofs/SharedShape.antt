@@ -34,8 +34,11 @@ module _ (inner_is : IsProfileOf shared_child (Some 2) inner_profile) (outer_is 
   outer_headers : AreHeaders shared_child None (inner_header ∷ [])
   outer_headers = record { rows = refl; each = each }
     where
-      each : (h : SystemHeader) → Contains (inner_header ∷ []) h → (h ≡ header_of shared_child h.row h.profile) × IsProfileOf shared_child h.row h.profile
-      each h (zero, below, is) = subst (λ (g : SystemHeader). (g ≡ header_of shared_child g.row g.profile) × IsProfileOf shared_child g.row g.profile) is (refl, inner_is)
+      each : (h : SystemHeader) → Contains (inner_header ∷ []) h →
+          (h ≡ header_of shared_child h.row h.profile) × IsProfileOf shared_child h.row h.profile
+      each h (zero, below, is) =
+          subst (λ (g : SystemHeader). (g ≡ header_of shared_child g.row g.profile)
+          × IsProfileOf shared_child g.row g.profile) is (refl, inner_is)
       each h (suc k, below, is) = absurd (omega arith)
 
   inner_shape : HasSystemShape shared_program shared_child [] (Some 2)
@@ -43,9 +46,42 @@ module _ (inner_is : IsProfileOf shared_child (Some 2) inner_profile) (outer_is 
   inner_shape = record {
     view = record { headers = []; are_headers = inner_headers; profile = inner_profile; is_profile = inner_is };
     struct_there = refl;
-    fields = record { slots = _; are_slots = record { counters = counter_of 0 ∷ []; named = (refl, tt); all = record { moves = []; below = tt; is = refl } }; are_fields = refl };
+    fields =
+        record {
+          slots = _;
+          are_slots =
+              record { counters = counter_of 0 ∷ []; named = (refl, tt); all = record { moves = []; below = tt; is = refl } };
+          are_fields = refl;
+        };
     heads = record { moves = []; below = tt; is = refl };
-    rules = (record { private_name = (0, refl); params = ((1, lit< tt, refl), tt); calls = tt; stores = (tt, (((3, lit< tt, refl), tt), (((3, lit< tt, refl), tt), tt))); indices = tt; tests = (((4, lit< tt, refl), tt), tt) }, (record { private_name = tt; params = tt; calls = (((Param 1, refl, refl), tt), tt); stores = tt; indices = tt; tests = tt }, (record { private_name = tt; params = tt; calls = tt; stores = (tt, tt); indices = tt; tests = tt }, (record { private_name = tt; params = tt; calls = tt; stores = (tt, (tt, (tt, tt))); indices = tt; tests = tt }, (record { private_name = tt; params = tt; calls = tt; stores = tt; indices = tt; tests = tt }, tt)))));
+    rules = (
+      record {
+        private_name = (0, refl);
+        params = ((1, lit< tt, refl), tt);
+        calls = tt;
+        stores = (tt, (((3, lit< tt, refl), tt), (((3, lit< tt, refl), tt), tt)));
+        indices = tt;
+        tests =
+            (((4, lit< tt, refl), tt), tt);
+      },
+      (
+        record {
+          private_name = tt;
+          params = tt;
+          calls = (((Param 1, refl, refl), tt), tt);
+          stores = tt;
+          indices = tt;
+          tests = tt;
+        },
+        (
+          record { private_name = tt; params = tt; calls = tt; stores = (tt, tt); indices = tt; tests = tt },
+          (
+            record { private_name = tt; params = tt; calls = tt; stores = (tt, (tt, (tt, tt))); indices = tt; tests = tt },
+            (record { private_name = tt; params = tt; calls = tt; stores = tt; indices = tt; tests = tt }, tt),
+          ),
+        ),
+      ),
+    );
     once = record { values = (lit≤ tt, (lit≤ tt, tt)); functions = tt; updates = tt };
   }
 
@@ -54,14 +90,157 @@ module _ (inner_is : IsProfileOf shared_child (Some 2) inner_profile) (outer_is 
   outer_shape = record {
     view = record { headers = inner_header ∷ []; are_headers = outer_headers; profile = outer_profile; is_profile = outer_is };
     struct_there = refl;
-    fields = record { slots = _; are_slots = record { counters = map counter_of (0 ∷ 1 ∷ 2 ∷ []); named = (refl, (refl, (refl, tt))); all = record { moves = []; below = tt; is = refl } }; are_fields = refl };
+    fields =
+        record {
+          slots = _;
+          are_slots =
+              record {
+                counters = map counter_of (0 ∷ 1 ∷ 2 ∷ []);
+                named = (refl, (refl, (refl, tt)));
+                all = record { moves = []; below = tt; is = refl };
+              };
+          are_fields = refl;
+        };
     heads = record { moves = []; below = tt; is = refl };
-    rules = (record { private_name = (0, refl); params = ((0, lit< tt, refl), ((1, lit< tt, refl), tt)); calls = (record { child = child_use shared_child inner_header; is_child = (0, lit< tt, refl); on_child = refl; is_public = (0, lit< tt, refl); passes = ((_, (0, lit< tt, refl), (Param 0, refl, refl)), ((_, (1, lit< tt, refl), (Own 0, refl, refl)), tt)) }, tt); stores = (tt, (((3, lit< tt, refl), tt), tt)); indices = tt; tests = (((4, lit< tt, refl), tt), tt) }, (record { private_name = (1, refl); params = ((2, lit< tt, refl), tt); calls = tt; stores = (tt, (((3, lit< tt, refl), tt), (((3, lit< tt, refl), ((4, lit< tt, refl), tt)), (((3, lit< tt, refl), tt), tt)))); indices = tt; tests = (((5, lit< tt, refl), tt), tt) }, (record { private_name = (2, refl); params = tt; calls = tt; stores = (tt, (((3, lit< tt, refl), tt), tt)); indices = tt; tests = (((6, lit< tt, refl), tt), tt) }, (record { private_name = tt; params = tt; calls = (((Param 0, refl, refl), ((Param 1, refl, refl), tt)), (tt, tt)); stores = tt; indices = tt; tests = tt }, (record { private_name = tt; params = tt; calls = (((Param 0, refl, refl), ((Param 1, refl, refl), tt)), (((Param 2, refl, refl), tt), tt)); stores = tt; indices = tt; tests = tt }, (record { private_name = tt; params = tt; calls = (record { child = child_use shared_child inner_header; is_child = (0, lit< tt, refl); on_child = refl; is_public = (1, lit< tt, refl); passes = ((_, (0, lit< tt, refl), (Param 0, refl, refl)), ((_, (1, lit< tt, refl), (Own 0, refl, refl)), tt)) }, tt); stores = (tt, (tt, (tt, tt))); indices = tt; tests = tt }, (record { private_name = tt; params = tt; calls = (record { child = child_use shared_child inner_header; is_child = (0, lit< tt, refl); on_child = refl; is_public = (2, lit< tt, refl); passes = tt }, tt); stores = (tt, (tt, (tt, (tt, (tt, (tt, (tt, (tt, tt)))))))); indices = tt; tests = tt }, (record { private_name = tt; params = tt; calls = (record { child = child_use shared_child inner_header; is_child = (0, lit< tt, refl); on_child = refl; is_public = (3, lit< tt, refl); passes = tt }, tt); stores = tt; indices = tt; tests = tt }, tt))))))));
-    once = record { values = (lit≤ tt, (lit≤ tt, (lit≤ tt, (lit≤ tt, (lit≤ tt, tt))))); functions = ((refl, tt), tt); updates = (refl, tt) };
+    rules = (
+      record {
+        private_name = (0, refl);
+        params = ((0, lit< tt, refl), ((1, lit< tt, refl), tt));
+        calls = (
+          record {
+            child = child_use shared_child inner_header;
+            is_child = (0, lit< tt, refl);
+            on_child = refl;
+            is_public = (0, lit< tt, refl);
+            passes =
+                ((_, (0, lit< tt, refl), (Param 0, refl, refl)), ((_, (1, lit< tt, refl), (Own 0, refl, refl)), tt));
+          },
+          tt,
+        );
+        stores = (tt, (((3, lit< tt, refl), tt), tt));
+        indices = tt;
+        tests = (((4, lit< tt, refl), tt), tt);
+      },
+      (
+        record {
+          private_name = (1, refl);
+          params = ((2, lit< tt, refl), tt);
+          calls = tt;
+          stores = (
+            tt,
+            (
+              ((3, lit< tt, refl), tt),
+              (((3, lit< tt, refl), ((4, lit< tt, refl), tt)), (((3, lit< tt, refl), tt), tt)),
+            ),
+          );
+          indices = tt;
+          tests = (((5, lit< tt, refl), tt), tt);
+        },
+        (
+          record {
+            private_name = (2, refl);
+            params = tt;
+            calls = tt;
+            stores = (tt, (((3, lit< tt, refl), tt), tt));
+            indices = tt;
+            tests = (((6, lit< tt, refl), tt), tt);
+          },
+          (
+            record {
+              private_name = tt;
+              params = tt;
+              calls = (((Param 0, refl, refl), ((Param 1, refl, refl), tt)), (tt, tt));
+              stores = tt;
+              indices = tt;
+              tests =
+                  tt;
+            },
+            (
+              record {
+                private_name = tt;
+                params = tt;
+                calls = (((Param 0, refl, refl), ((Param 1, refl, refl), tt)), (((Param 2, refl, refl), tt), tt));
+                stores =
+                    tt;
+                indices = tt;
+                tests = tt;
+              },
+              (
+                record {
+                  private_name = tt;
+                  params = tt;
+                  calls = (
+                    record {
+                      child = child_use shared_child inner_header;
+                      is_child = (0, lit< tt, refl);
+                      on_child = refl;
+                      is_public = (1, lit< tt, refl);
+                      passes =
+                          ((_, (0, lit< tt, refl), (Param 0, refl, refl)), ((_, (1, lit< tt, refl), (Own 0, refl, refl)), tt));
+                    },
+                    tt,
+                  );
+                  stores = (tt, (tt, (tt, tt)));
+                  indices = tt;
+                  tests = tt;
+                },
+                (
+                  record {
+                    private_name = tt;
+                    params = tt;
+                    calls = (
+                      record {
+                        child = child_use shared_child inner_header;
+                        is_child = (0, lit< tt, refl);
+                        on_child = refl;
+                        is_public = (2, lit< tt, refl);
+                        passes = tt;
+                      },
+                      tt,
+                    );
+                    stores = (tt, (tt, (tt, (tt, (tt, (tt, (tt, (tt, tt))))))));
+                    indices = tt;
+                    tests = tt;
+                  },
+                  (
+                    record {
+                      private_name = tt;
+                      params = tt;
+                      calls = (
+                        record {
+                          child = child_use shared_child inner_header;
+                          is_child = (0, lit< tt, refl);
+                          on_child = refl;
+                          is_public = (3, lit< tt, refl);
+                          passes = tt;
+                        },
+                        tt,
+                      );
+                      stores = tt;
+                      indices = tt;
+                      tests = tt;
+                    },
+                    tt,
+                  ),
+                ),
+              ),
+            ),
+          ),
+        ),
+      ),
+    );
+    once = record {
+      values = (lit≤ tt, (lit≤ tt, (lit≤ tt, (lit≤ tt, (lit≤ tt, tt)))));
+      functions = ((refl, tt), tt);
+      updates = (refl, tt);
+    };
   }
 
   -- the cycle has one tick
-  next_tick : (functions : List Function) (t : ℕ) → t < 1 → (steps : ℕ) × (eval functions (record { leaf = λ leaf. pos t; array = λ f. [] }) 0 (binary Rem (binary Add (read (Own 0)) (literal (pos 1))) (literal (pos 1))) 0 ≡ gives (pos ((t + 1) % 1)) steps)
+  next_tick : (functions : List Function) (t : ℕ) → t < 1 →
+      (steps : ℕ)
+      × (eval functions (record { leaf = λ leaf. pos t; array = λ f. [] }) 0
+      (binary Rem (binary Add (read (Own 0)) (literal (pos 1))) (literal (pos 1))) 0 ≡ gives (pos ((t + 1) % 1)) steps)
   next_tick functions zero below = (0, refl)
   next_tick functions (suc t) below = absurd (omega arith)
 
@@ -80,9 +259,45 @@ module _ (inner_is : IsProfileOf shared_child (Some 2) inner_profile) (outer_is 
     begins = lit< tt;
     tick_alone = ((refl, refl), tt);
     starts = ((refl, refl, tt), tt);
-    steps = map calls (out_heads (header_of shared_child None outer_profile)) ++ calls (update_head (header_of shared_child None outer_profile)) ∷ copies 1 6 ∷ copies 2 7 ∷ moves_on ∷ [];
-    are_steps = record { functions = out_heads (header_of shared_child None outer_profile); each_function = record { moves = []; below = tt; is = refl }; outputs = enumerate_from 1 (outports_of shared_child.rows None); each_output = record { moves = []; below = tt; is = refl }; in_order = refl };
-    does = ((refl, refl, ((_, tick refl, (Own 0, refl, refl)), ((_, input, (Param 0, refl, refl)), tt))), ((refl, refl, ((_, tick refl, (Own 0, refl, refl)), ((_, input, (Param 0, refl, refl)), ((_, input, (Param 1, refl, refl)), tt)))), ((refl, refl, ((_, tick refl, (Own 0, refl, refl)), ((_, input, (Param 0, refl, refl)), ((_, input, (Param 1, refl, refl)), tt)))), ((refl, (Child 3 3, refl, refl)), ((refl, (Child 3 4, refl, refl)), ((refl, record { reads = (refl, tt); next = next_tick }), tt))))));
+    steps = map calls (out_heads (header_of shared_child None outer_profile))
+        ++ calls (update_head (header_of shared_child None outer_profile)) ∷ copies 1 6 ∷ copies 2 7 ∷ moves_on ∷ [];
+    are_steps =
+        record {
+          functions = out_heads (header_of shared_child None outer_profile);
+          each_function = record { moves = []; below = tt; is = refl };
+          outputs =
+              enumerate_from 1 (outports_of shared_child.rows None);
+          each_output =
+              record { moves = []; below = tt; is = refl };
+          in_order = refl;
+        };
+    does = (
+      (refl, refl, ((_, tick refl, (Own 0, refl, refl)), ((_, input, (Param 0, refl, refl)), tt))),
+      (
+        (
+          refl,
+          refl,
+          (
+            (_, tick refl, (Own 0, refl, refl)),
+            ((_, input, (Param 0, refl, refl)), ((_, input, (Param 1, refl, refl)), tt)),
+          ),
+        ),
+        (
+          (
+            refl,
+            refl,
+            (
+              (_, tick refl, (Own 0, refl, refl)),
+              ((_, input, (Param 0, refl, refl)), ((_, input, (Param 1, refl, refl)), tt)),
+            ),
+          ),
+          (
+            (refl, (Child 3 3, refl, refl)),
+            ((refl, (Child 3 4, refl, refl)), ((refl, record { reads = (refl, tt); next = next_tick }), tt)),
+          ),
+        ),
+      ),
+    );
   }
 
   whole_shape : HasShape shared_program shared_child [] 1

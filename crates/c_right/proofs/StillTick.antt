@@ -14,7 +14,8 @@ use Rattle.c_right.specs.SharedSamples.{still_tick, leaves_tick}
 use Rattle.c_right.proofs.ShapeLines.{two-orders}
 
 -- what stands beside the end of a list is the end of the other
-end-beside : {A B : Type 0} (P : A → B → Type 0) (xs zs : List A) (ys : List B) → AllZip P (xs ++ zs) ys → (front rest : List B) × (ys ≡ front ++ rest) × AllZip P zs rest
+end-beside : {A B : Type 0} (P : A → B → Type 0) (xs zs : List A) (ys : List B) → AllZip P (xs ++ zs) ys →
+    (front rest : List B) × (ys ≡ front ++ rest) × AllZip P zs rest
 end-beside P [] zs ys h = ([], ys, refl, h)
 end-beside P (x ∷ xs) zs [] h = absurd h
 end-beside P (x ∷ xs) zs (y ∷ ys) h = let e = end-beside P xs zs ys h.1 in (y ∷ e.0, e.1, ap (λ l. y ∷ l) e.2, e.3)
@@ -32,7 +33,8 @@ apart : (a b : ℕ) → (a == b) ≡ false → a ≡ b → ⊥
 apart a b differ e = true≢false (sym (eq-eqb a b e) ∙ differ)
 
 -- the last statement of a tick's step moves it on
-moves-last : (P : RootStep → StmtTree → Type 0) (steps : List RootStep) (a : StmtTree) (body : List StmtTree) → AllZip P (steps ++ moves_on ∷ []) body → P moves_on (last_of a body)
+moves-last : (P : RootStep → StmtTree → Type 0) (steps : List RootStep) (a : StmtTree) (body : List StmtTree) →
+    AllZip P (steps ++ moves_on ∷ []) body → P moves_on (last_of a body)
 moves-last P steps a body h = let e = end-beside P steps (moves_on ∷ []) body h in by e.0 e.1 e.2 e.3
   where
     by : (front rest : List StmtTree) → body ≡ front ++ rest → AllZip P (moves_on ∷ []) rest → P moves_on (last_of a body)
@@ -45,15 +47,21 @@ still : HasRootCode still_tick shared_child 1 → ⊥
 unfolding digits
 still h = by (two-orders h.start h.step (procedures_of still_tick (root_struct still_tick)) h.only)
   where
-    by : (procedures_of still_tick (root_struct still_tick) ≡ h.start ∷ h.step ∷ []) ⊎ (procedures_of still_tick (root_struct still_tick) ≡ h.step ∷ h.start ∷ []) → ⊥
+    by : (procedures_of still_tick (root_struct still_tick) ≡ h.start ∷ h.step ∷ [])
+        ⊎ (procedures_of still_tick (root_struct still_tick) ≡ h.step ∷ h.start ∷ []) → ⊥
     by (inr e) =
-        let step : procedure_at still_tick 13 ≡ h.step = ap (λ (xs : List ProcedureTree). slice_index_or xs 0 (procedure_at still_tick 13)) e in
+        let step : procedure_at still_tick 13 ≡ h.step =
+        ap (λ (xs : List ProcedureTree). slice_index_or xs 0 (procedure_at still_tick 13)) e in
         apart 10 9 refl (ap (λ (x : ProcedureTree). length x.name) step ∙ ap (λ (x : Head). length x.name) h.step_head)
     by (inl e) =
-        let step : procedure_at still_tick 14 ≡ h.step = ap (λ (xs : List ProcedureTree). slice_index_or xs 1 (procedure_at still_tick 14)) e in
+        let step : procedure_at still_tick 14 ≡ h.step =
+        ap (λ (xs : List ProcedureTree). slice_index_or xs 1 (procedure_at still_tick 14)) e in
         let does = subst (λ (x : ProcedureTree). AllZip (Does still_tick 1 x) h.steps (list_of_stmts x.body)) (sym step) h.does in
-        let moves = moves-last (Does still_tick 1 (procedure_at still_tick 14)) _ (assign 0 0 (literal (pos 0))) (list_of_stmts (procedure_at still_tick 14).body)
-        (subst (λ steps. AllZip (Does still_tick 1 (procedure_at still_tick 14)) steps (list_of_stmts (procedure_at still_tick 14).body)) h.are_steps.in_order does) in
+        let moves =
+        moves-last (Does still_tick 1 (procedure_at still_tick 14)) _ (assign 0 0 (literal (pos 0)))
+        (list_of_stmts (procedure_at still_tick 14).body)
+        (subst (λ steps. AllZip (Does still_tick 1 (procedure_at still_tick 14)) steps
+        (list_of_stmts (procedure_at still_tick 14).body)) h.are_steps.in_order does) in
         apart 2 3 refl (ap (λ (name : List ℕ). length name) moves.0)
 
 -- the start of the other has one statement, a call
@@ -64,10 +72,14 @@ left h = by (two-orders h.start h.step (procedures_of leaves_tick (root_struct l
     none : (n : ℕ) → n ≡ 0 → 0 < n → ⊥
     none n e below = omega (arith, e, below)
 
-    by : (procedures_of leaves_tick (root_struct leaves_tick) ≡ h.start ∷ h.step ∷ []) ⊎ (procedures_of leaves_tick (root_struct leaves_tick) ≡ h.step ∷ h.start ∷ []) → ⊥
+    by : (procedures_of leaves_tick (root_struct leaves_tick) ≡ h.start ∷ h.step ∷ [])
+        ⊎ (procedures_of leaves_tick (root_struct leaves_tick) ≡ h.step ∷ h.start ∷ []) → ⊥
     by (inr e) =
-        let step : procedure_at leaves_tick 13 ≡ h.step = ap (λ (xs : List ProcedureTree). slice_index_or xs 0 (procedure_at leaves_tick 13)) e in
+        let step : procedure_at leaves_tick 13 ≡ h.step =
+        ap (λ (xs : List ProcedureTree). slice_index_or xs 0 (procedure_at leaves_tick 13)) e in
         apart 10 9 refl (ap (λ (x : ProcedureTree). length x.name) step ∙ ap (λ (x : Head). length x.name) h.step_head)
     by (inl e) =
-        let start : procedure_at leaves_tick 13 ≡ h.start = ap (λ (xs : List ProcedureTree). slice_index_or xs 0 (procedure_at leaves_tick 13)) e in
-        none (length (filter is_literal_store (list_of_stmts h.start.body))) (sym (ap (λ (x : ProcedureTree). length (filter is_literal_store (list_of_stmts x.body))) start)) h.begins
+        let start : procedure_at leaves_tick 13 ≡ h.start =
+        ap (λ (xs : List ProcedureTree). slice_index_or xs 0 (procedure_at leaves_tick 13)) e in
+        none (length (filter is_literal_store (list_of_stmts h.start.body)))
+        (sym (ap (λ (x : ProcedureTree). length (filter is_literal_store (list_of_stmts x.body))) start)) h.begins

@@ -47,14 +47,17 @@ module _ (s : Option ℕ) (t : ℕ) (before : List ℤ) (m : List (List ℤ)) (g
   value-then : (b : ℕ) → row_value later_five s 0 [] before m g v b ≡ row_value later_five s t [] before m g v b
   value-then b =
       ap (λ h. if not (has_value (row_at later_five.rows b).kind) then pos 0
-      else (if is_reset_outport (row_at later_five.rows b).kind && is_disabled later_five s [] v g (around later_five.rows s b) then start_of later_five b
-      else (if active_in later_five s [] v g (around later_five.rows s b) && h then rhs (op_at later_five b) (input_values later_five s [] v g b) (first_of (memory_at m b))
+      else (if is_reset_outport (row_at later_five.rows b).kind
+      && is_disabled later_five s [] v g (around later_five.rows s b) then start_of later_five b
+      else (if active_in later_five s [] v g (around later_five.rows s b) && h
+      then rhs (op_at later_five b) (input_values later_five s [] v g b) (first_of (memory_at m b))
       else value_at before b))) (same-hit b)
 
   memory-then : (b : ℕ) → row_memory later_five s 0 [] m g v b ≡ row_memory later_five s t [] m g v b
   memory-then b =
       ap (λ h. if any_off later_five s [] v g (around later_five.rows s b) then initial_memory later_five b
-      else (if active_in later_five s [] v g (around later_five.rows s b) && h then moved_on (memory_at m b) (input (input_values later_five s [] v g b) 0)
+      else (if active_in later_five s [] v g (around later_five.rows s b) && h
+      then moved_on (memory_at m b) (input (input_values later_five s [] v g b) 0)
       else memory_at m b)) (same-hit b)
 
   pub tick-then : (m' : List (List ℤ)) (g' : List TrigMem) → IsTick later_five s 0 [] before m g v m' g' →
@@ -72,7 +75,8 @@ pub record RunsLike (s : Option ℕ) (later : List ℤ) : Type 0 where
   pub no_inputs : (x : List ℤ) → IsTraceRow later_five s x → x ≡ []
   pub memories : remembered (pos 0) ≡ memories_by later_five s (initial_memory later_five)
   pub triggers : no_triggers ≡ triggers_by later_five s (λ e. NotYet)
-  pub first : IsTick later_five s 0 [] (values_by later_five s (start_of later_five)) (remembered (pos 0)) no_triggers first_values (remembered (pos 5)) no_triggers
+  pub first : IsTick later_five s 0 [] (values_by later_five s (start_of later_five))
+      (remembered (pos 0)) no_triggers first_values (remembered (pos 5)) no_triggers
   pub second : IsTick later_five s 0 [] first_values (remembered (pos 5)) no_triggers later (remembered (pos 5)) no_triggers
   pub third : IsTick later_five s 0 [] later (remembered (pos 5)) no_triggers later (remembered (pos 5)) no_triggers
 
@@ -81,12 +85,14 @@ module _ (s : Option ℕ) (later : List ℤ) (like : RunsLike s later) where
       IsTick later_five s 0 [] before (remembered (pos 5)) no_triggers later (remembered (pos 5)) no_triggers →
       IsTick later_five s t x before (remembered (pos 5)) no_triggers later (remembered (pos 5)) no_triggers
   tick-from t x before is h =
-      subst (λ x. IsTick later_five s t x before (remembered (pos 5)) no_triggers later (remembered (pos 5)) no_triggers) (sym (like.no_inputs x is))
+      subst (λ x. IsTick later_five s t x before (remembered (pos 5)) no_triggers later
+      (remembered (pos 5)) no_triggers) (sym (like.no_inputs x is))
       (tick-then s t before (remembered (pos 5)) no_triggers later (remembered (pos 5)) no_triggers h)
 
   run-on : (t : ℕ) (before : List ℤ) (xs : List (List ℤ)) →
       IsTick later_five s 0 [] before (remembered (pos 5)) no_triggers later (remembered (pos 5)) no_triggers → IsTrace later_five s xs →
-      RunFrom later_five s t before (remembered (pos 5)) no_triggers xs (map (λ y. later) xs) (map (λ y. remembered (pos 5)) xs) (map (λ y. no_triggers) xs)
+      RunFrom later_five s t before (remembered (pos 5)) no_triggers xs (map (λ y. later) xs)
+      (map (λ y. remembered (pos 5)) xs) (map (λ y. no_triggers) xs)
   run-on t before [] tick is = tt
   run-on t before (x ∷ xs) tick is = (tick-from t x before is.0 tick, run-on (suc t) later xs like.third is.1)
 
@@ -96,7 +102,9 @@ module _ (s : Option ℕ) (later : List ℤ) (like : RunsLike s later) where
     like.memories,
     like.triggers,
     (
-      subst (λ x. IsTick later_five s 0 x (values_by later_five s (start_of later_five)) (remembered (pos 0)) no_triggers first_values (remembered (pos 5)) no_triggers) (sym (like.no_inputs x is.0)) like.first,
+      subst (λ x. IsTick later_five s 0 x (values_by later_five s (start_of later_five))
+          (remembered (pos 0)) no_triggers first_values (remembered (pos 5)) no_triggers)
+          (sym (like.no_inputs x is.0)) like.first,
       run-on 1 first_values xs like.second is.1,
     ),
   )
@@ -161,7 +169,10 @@ no-loop (a ∷ path) h = let down = walk-down a path a h in omega arith
 -- fields of `root`: the output, Out1, the child's delay, Constant, y1 and memory; the tick and counters are 0
 abbrev pub fields_of : (output out1 delayed constant y1 memory : ℤ) → Cells
 fields_of output out1 delayed constant y1 memory =
-    let child = more_cells (number delayed) (more_cells (number constant) (more_cells (number y1) (more_cells (number memory) (more_cells (number (pos 0)) no_cells)))) in
+    let child =
+    more_cells (number delayed)
+    (more_cells (number constant)
+    (more_cells (number y1) (more_cells (number memory) (more_cells (number (pos 0)) no_cells)))) in
     let top = more_cells (number out1) (more_cells (object child) (more_cells (number (pos 0)) no_cells)) in
     more_cells (number (pos 0)) (more_cells (number output) (more_cells (object top) no_cells))
 
@@ -189,8 +200,10 @@ abbrev tick_of : ℤ → TickRow
 tick_of output = record {
   outputs = output ∷ [];
   steps = 19;
-  log = record { path = 2 ∷ []; procedure = 6 } ∷ record { path = 2 ∷ 1 ∷ []; procedure = 1 } ∷ record { path = 2 ∷ []; procedure = 7 } ∷ record { path = 2 ∷ 1 ∷ []; procedure = 2 } ∷ [];
-  stores = at_top 2 ∷ in_child 4 ∷ in_child 0 ∷ in_child 2 ∷ at_top 0 ∷ in_child 1 ∷ in_child 3 ∷ in_child 4 ∷ at_top 2 ∷ at_root 1 ∷ at_root 0 ∷ [];
+  log = record { path = 2 ∷ []; procedure = 6 } ∷ record { path = 2 ∷ 1 ∷ []; procedure = 1 }
+      ∷ record { path = 2 ∷ []; procedure = 7 } ∷ record { path = 2 ∷ 1 ∷ []; procedure = 2 } ∷ [];
+  stores = at_top 2 ∷ in_child 4 ∷ in_child 0 ∷ in_child 2 ∷ at_top 0 ∷ in_child 1 ∷ in_child 3 ∷ in_child 4 ∷ at_top 2
+      ∷ at_root 1 ∷ at_root 0 ∷ [];
 }
 
 abbrev first_row : TickRow
@@ -205,9 +218,17 @@ rows_over (x ∷ xs) = first_row ∷ map (λ y. later_row) xs
 
 -- a step from these fields leaves those, and gives a row
 abbrev Steps : (before after : Cells) → TickRow → Type 0
-Steps before after row = step_run whole_program [] before ≡ done (record { cells = after; steps = row.steps; log = row.log; stores = row.stores })
+Steps before after row = step_run whole_program [] before
+    ≡ done (record { cells = after; steps = row.steps; log = row.log; stores = row.stores })
 
-pub starts : start_run whole_program ≡ done (record { cells = started; steps = 10; log = []; stores = at_top 0 ∷ at_top 2 ∷ in_child 0 ∷ in_child 1 ∷ in_child 2 ∷ in_child 3 ∷ in_child 4 ∷ at_root 0 ∷ [] })
+pub starts : start_run whole_program
+    ≡ done (record {
+      cells = started;
+      steps = 10;
+      log = [];
+      stores = at_top 0 ∷ at_top 2 ∷ in_child 0 ∷ in_child 1
+          ∷ in_child 2 ∷ in_child 3 ∷ in_child 4 ∷ at_root 0 ∷ [];
+    })
 unfolding digits
 starts = refl
 
@@ -232,14 +253,21 @@ then-rows : (before after : Cells) (output : ℤ) (xs : List (List ℤ)) → Ste
     rows_from whole_program ([] ∷ xs) before ≡ with_tick (tick_of output) (rows_from whole_program xs after)
 then-rows before after output xs step is =
     ap (λ (o : Outcome). rows_after whole_program o (rows_from whole_program xs)) step
-    ∙ ap (λ (fields : List ℕ). with_tick (record { outputs = map (number_at after) fields; steps = (tick_of output).steps; log = (tick_of output).log; stores = (tick_of output).stores }) (rows_from whole_program xs after)) places
+    ∙ ap (λ (fields : List ℕ). with_tick
+    (record {
+      outputs = map (number_at after) fields;
+      steps = (tick_of output).steps;
+      log = (tick_of output).log;
+      stores = (tick_of output).stores;
+    }) (rows_from whole_program xs after)) places
     ∙ ap (λ (v : ℤ). with_tick (tick_of v) (rows_from whole_program xs after)) is
 
 from-third : (xs : List (List ℤ)) → IsTrace later_five None xs →
     rows_from whole_program xs third ≡ record { ticks = map (λ y. later_row) xs; cells = third; stuck_place = None }
 from-third [] is = refl
 from-third (x ∷ xs) is =
-    no-inputs (λ x. rows_from whole_program (x ∷ xs) third ≡ record { ticks = later_row ∷ map (λ y. later_row) xs; cells = third; stuck_place = None }) x is.0
+    no-inputs (λ x. rows_from whole_program (x ∷ xs) third
+    ≡ record { ticks = later_row ∷ map (λ y. later_row) xs; cells = third; stuck_place = None }) x is.0
     (then-rows third third (pos 5) xs third-step refl ∙ ap (with_tick later_row) (from-third xs is.1))
 
 abbrev Gives : Rows → List TickRow → Type 0
@@ -257,8 +285,10 @@ from-first-on [] is = (refl, refl)
 from-first-on (x ∷ xs) is =
     no-inputs (λ x. Gives (rows_from whole_program (x ∷ xs) started) (first_row ∷ map (λ y. later_row) xs)) x is.0
     (let step = then-rows started second (pos 0) xs first-step refl in
-    let rest = from-second-on xs is.1 in
-    (ap (λ (rows : Rows). rows.ticks) step ∙ ap (λ (ticks : List TickRow). first_row ∷ ticks) rest.0, ap (λ (rows : Rows). rows.stuck_place) step ∙ rest.1))
+    let rest = from-second-on xs is.1 in (
+      ap (λ (rows : Rows). rows.ticks) step ∙ ap (λ (ticks : List TickRow). first_row ∷ ticks) rest.0,
+      ap (λ (rows : Rows). rows.stuck_place) step ∙ rest.1,
+    ))
 
 rows-are : (xs : List (List ℤ)) → IsTrace later_five None xs → Gives (c_rows whole_program xs) (rows_over xs)
 rows-are xs is =
@@ -269,7 +299,8 @@ rows-are xs is =
 -- ---- The parts
 
 outputs-later : (xs : List (List ℤ)) →
-    map (λ (row : TickRow). row.outputs) (map (λ (y : List ℤ). later_row) xs) ≡ map (outs later_five None) (map (λ (y : List ℤ). later_values) xs)
+    map (λ (row : TickRow). row.outputs) (map (λ (y : List ℤ). later_row) xs)
+    ≡ map (outs later_five None) (map (λ (y : List ℤ). later_values) xs)
 unfolding digits
 outputs-later [] = refl
 outputs-later (x ∷ xs) = ap (λ rest. (pos 5 ∷ []) ∷ rest) (outputs-later xs)
@@ -316,18 +347,27 @@ later-calls = record {
 calls-later : (xs : List (List ℤ)) → IsTrace later_five None xs →
     HasCalls whole_program later_five (map (λ y. later_row) xs) xs (map (λ y. later_values) xs) (no_triggers ∷ map (λ y. no_triggers) xs)
 calls-later [] is = tt
-calls-later (x ∷ xs) is = (no-inputs (λ x. CallsInTick whole_program later_five x later_values no_triggers later_row.log later_row.stores) x is.0 later-calls, calls-later xs is.1)
+calls-later (x ∷ xs) is = (
+  no-inputs (λ x. CallsInTick whole_program later_five x later_values no_triggers later_row.log later_row.stores) x
+      is.0 later-calls,
+  calls-later xs is.1,
+)
 
 calls-over : (xs : List (List ℤ)) → IsTrace later_five None xs →
     HasCalls whole_program later_five (rows_over xs) xs (run_over later_values xs).values (run_over later_values xs).triggers
 calls-over [] is = tt
-calls-over (x ∷ xs) is = (no-inputs (λ x. CallsInTick whole_program later_five x first_values no_triggers first_row.log first_row.stores) x is.0 first-calls, calls-later xs is.1)
+calls-over (x ∷ xs) is = (
+  no-inputs (λ x. CallsInTick whole_program later_five x first_values no_triggers first_row.log first_row.stores) x
+      is.0 first-calls,
+  calls-later xs is.1,
+)
 
 module _ (law : LoopFreeHasOneRun) where
   -- any run is the one
   pub run-is : (s : Option ℕ) (later : List ℤ) → RunsLike s later → (xs : List (List ℤ)) (run : Run) → IsTrace later_five s xs →
       IsRunOver later_five s xs run → run ≡ run_over later xs
-  run-is s later like xs run is has = let one = law later_five s xs no-loop in one.only run has ∙ sym (one.only (run_over later xs) (is-run_of s later like xs is))
+  run-is s later like xs run is has = let one = law later_five s xs no-loop in
+      one.only run has ∙ sym (one.only (run_over later xs) (is-run_of s later like xs is))
 
   pub whole-runs : RunsRight whole_program later_five
   whole-runs = record { outputs = outputs; bounded = bounded; calls = calls }
@@ -336,17 +376,21 @@ module _ (law : LoopFreeHasOneRun) where
       outputs xs is = let one = law later_five None xs no-loop in record {
         one_run = one;
         outputs = ap (λ (ticks : List TickRow). map (λ row. row.outputs) ticks) (rows-are xs is).0 ∙ outputs-over xs
-            ∙ ap (λ (run : Run). map (outs later_five None) run.values) (one.only (run_over later_values xs) (is-run_of None later_values root-runs xs is));
+            ∙ ap (λ (run : Run). map (outs later_five None) run.values)
+            (one.only (run_over later_values xs) (is-run_of None later_values root-runs xs is));
       }
 
       bounded : (xs : List (List ℤ)) → IsTrace later_five None xs → StaysInBound whole_program later_five xs
       bounded xs is = record {
         not_stuck = (rows-are xs is).1;
-        steps = subst (λ ticks. AllByRecursion (λ row. row.steps ≤ step_bound later_five.rows) ticks) (sym (rows-are xs is).0) (steps-over xs);
+        steps = subst (λ ticks. AllByRecursion (λ row. row.steps ≤ step_bound later_five.rows) ticks)
+            (sym (rows-are xs is).0) (steps-over xs);
       }
 
       calls : (xs : List (List ℤ)) (run : Run) → IsTrace later_five None xs → IsRunOver later_five None xs run →
           HasCalls whole_program later_five (c_rows whole_program xs).ticks xs run.values run.triggers
       calls xs run is has =
-          subst (λ (run : Run). HasCalls whole_program later_five (c_rows whole_program xs).ticks xs run.values run.triggers) (sym (run-is None later_values root-runs xs run is has))
-          (subst (λ ticks. HasCalls whole_program later_five ticks xs (run_over later_values xs).values (run_over later_values xs).triggers) (sym (rows-are xs is).0) (calls-over xs is))
+          subst (λ (run : Run). HasCalls whole_program later_five (c_rows whole_program xs).ticks xs run.values
+          run.triggers) (sym (run-is None later_values root-runs xs run is has))
+          (subst (λ ticks. HasCalls whole_program later_five ticks xs (run_over later_values xs).values
+          (run_over later_values xs).triggers) (sym (rows-are xs is).0) (calls-over xs is))

@@ -38,13 +38,16 @@ functions = record { inputs = 0; outputs = 1 } ∷ []
 -- a call from outside in a tick, which takes so many steps, leaves these fields, and logs and stores that
 abbrev Does : Option ℕ → (name : List ℕ) → (before after : Cells) → List LoggedCall → List StoredField → Type 0
 Does s name before after log stores =
-    (steps : ℕ) × (call_in_tick whole_program later_five 1 s 0 name [] before ≡ done (record { cells = after; steps = steps; log = log; stores = stores }))
+    (steps : ℕ)
+    × (call_in_tick whole_program later_five 1 s 0 name [] before
+    ≡ done (record { cells = after; steps = steps; log = log; stores = stores }))
 
 -- each tick is the first of its cycle
 at-tick : (s : Option ℕ) (t : ℕ) (name : List ℕ) (cells : Cells) →
     call_in_tick whole_program later_five 1 s t name [] cells ≡ call_in_tick whole_program later_five 1 s 0 name [] cells
 at-tick s t name cells =
-    ap (λ n. call_from_outside whole_program (procedure_place whole_program name) (path_to whole_program later_five.rows s) (pos n ∷ []) cells) (modulo-one t)
+    ap (λ n. call_from_outside whole_program (procedure_place whole_program name)
+    (path_to whole_program later_five.rows s) (pos n ∷ []) cells) (modulo-one t)
 
 -- What the calls on the system s do: the fields before the first tick, the second, and later ones, and in a tick where its
 -- function was called.
@@ -104,13 +107,17 @@ module _ (s : Option ℕ) (inputs : input_ports later_five.rows s ≡ []) where
   first-call P (update_with values) can h = absurd (true≢false (sym can.in_turn))
   first-call P (out_with zero values) can h = absurd (let above = can.in_turn.0 in omega arith)
   first-call P (out_with (suc zero) values) can h =
-      subst (λ values. P (out_with 1 values)) (sym (no-values (λ p v. InType (input_type_of later_five s p) v) (ports_in 0 (input_ports later_five.rows s)) values (ap (ports_in 0) inputs) can.in_types)) h
+      subst (λ values. P (out_with 1 values))
+      (sym (no-values (λ p v. InType (input_type_of later_five s p) v) (ports_in 0 (input_ports later_five.rows s))
+      values (ap (ports_in 0) inputs) can.in_types)) h
   first-call P (out_with (suc (suc j)) values) can h = absurd (let below = can.in_turn.1 in omega arith)
 
   -- and then the update
   next-call : (P : Call → Type 0) (c : Call) → CanFollow later_five s functions called c → P (update_with []) → P c
   next-call P (update_with values) can h =
-      subst (λ values. P (update_with values)) (sym (no-values (λ p v. InType (input_type_of later_five s p) v) (input_ports later_five.rows s) values inputs can.in_types)) h
+      subst (λ values. P (update_with values))
+      (sym (no-values (λ p v. InType (input_type_of later_five s p) v) (input_ports later_five.rows s) values inputs
+      can.in_types)) h
   next-call P (out_with zero values) can h = absurd (let above = can.in_turn.0 in omega arith)
   next-call P (out_with (suc zero) values) can h = absurd (true≢false can.in_turn.2)
   next-call P (out_with (suc (suc j)) values) can h = absurd (let below = can.in_turn.1 in omega arith)
@@ -131,20 +138,26 @@ module _ (s : Option ℕ) (later : List ℤ) (d : Drives s later) (xs : List (Li
   count script = tick_count later_five s functions script
 
   out-then : (t : ℕ) (before after : Cells) (script : List Call) → Does s (out_name s 1) before after d.out_log d.out_stores →
-      field_of whole_program later_five s after d.output ≡ value_at (slice_index_or run.values t []) d.output → Rest t after d.out_log d.out_stores script →
+      field_of whole_program later_five s after d.output ≡ value_at (slice_index_or run.values t []) d.output →
+      Rest t after d.out_log d.out_stores script →
       Rest t before [] [] (out_with 1 [] ∷ script)
   out-then t before after script does gives rest =
       subst (λ (o : Outcome). OnDone o (λ a.
-      AllByRecursion (λ b. field_of whole_program later_five s a.cells b ≡ value_at (slice_index_or run.values t []) b) (given_by_function (numbered_function functions 1) (outports_of later_five.rows s))
-      × Rest t a.cells ([] ++ a.log) ([] ++ a.stores) script)) (sym (at-tick s t (out_name s 1) before ∙ does.1))
-      (subst (λ given. AllByRecursion (λ b. field_of whole_program later_five s after b ≡ value_at (slice_index_or run.values t []) b) given) (sym d.given) (gives, tt), rest)
+      AllByRecursion (λ b. field_of whole_program later_five s a.cells b ≡ value_at (slice_index_or run.values t []) b)
+      (given_by_function (numbered_function functions 1) (outports_of later_five.rows s))
+      × Rest t a.cells ([] ++ a.log) ([] ++ a.stores) script)) (sym (at-tick s t (out_name s 1) before ∙ does.1)) (
+        subst (λ given. AllByRecursion (λ b. field_of whole_program later_five s after b
+            ≡ value_at (slice_index_or run.values t []) b) given) (sym d.given) (gives, tt),
+        rest,
+      )
 
   update-then : (t : ℕ) (before after : Cells) (script : List Call) → Does s (update_name s) before after d.update_log d.update_stores →
       Rest (suc t) after [] [] script →
       Rest t before d.out_log d.out_stores (update_with [] ∷ script)
   update-then t before after script does rest =
       subst (λ (o : Outcome). OnDone o (λ a.
-      CallsInside whole_program later_five s (slice_index_or xs t []) (slice_index_or run.values t []) (slice_index_or run.triggers t []) (d.out_log ++ a.log) (d.out_stores ++ a.stores)
+      CallsInside whole_program later_five s (slice_index_or xs t []) (slice_index_or run.values t [])
+      (slice_index_or run.triggers t []) (d.out_log ++ a.log) (d.out_stores ++ a.stores)
       × Rest (suc t) a.cells [] [] script)) (sym (at-tick s t (update_name s) before ∙ does.1))
       (d.inside (slice_index_or xs t []) (slice_index_or run.values t []) (slice_index_or run.triggers t []), rest)
 
@@ -158,30 +171,39 @@ module _ (s : Option ℕ) (later : List ℤ) (d : Drives s later) (xs : List (Li
         Rest t d.in_later d.out_log d.out_stores script
     on-called t [] above law fits = tt
     on-called t (c ∷ script) above law fits =
-        next-call s d.inputs (λ c. Lawful (tick_after later_five s functions (called s d.inputs) c) script → t + max 1 (count (c ∷ script)) ≡ length xs → Rest t d.in_later d.out_log d.out_stores (c ∷ script)) c law.0
-        (λ law fits. update-then t d.in_later d.third script d.later_update (on-idle (suc t) d.third script d.third_out (omega arith) law (omega (arith, fits)))) law.1 fits
+        next-call s d.inputs (λ c. Lawful (tick_after later_five s functions (called s d.inputs) c) script →
+        t + max 1 (count (c ∷ script)) ≡ length xs → Rest t d.in_later d.out_log d.out_stores (c ∷ script)) c law.0
+        (λ law fits. update-then t d.in_later d.third script d.later_update
+        (on-idle (suc t) d.third script d.third_out (omega arith) law (omega (arith, fits)))) law.1 fits
 
     -- and where it wasn't
     on-idle : (t : ℕ) (before : Cells) (script : List Call) → Does s (out_name s 1) before d.in_later d.out_log d.out_stores → 0 < t →
         Lawful nothing_yet script → t + count script ≡ length xs → Rest t before [] [] script
     on-idle t before [] does above law fits = tt
     on-idle t before (c ∷ script) does above law fits =
-        first-call s d.inputs (λ c. Lawful (tick_after later_five s functions nothing_yet c) script → t + count (c ∷ script) ≡ length xs → Rest t before [] [] (c ∷ script)) c law.0
-        (λ law fits. out-then t before d.in_later script does (later-value t above (omega (arith, fits))) (on-called t script above law fits)) law.1 fits
+        first-call s d.inputs (λ c. Lawful (tick_after later_five s functions nothing_yet c) script →
+        t + count (c ∷ script) ≡ length xs → Rest t before [] [] (c ∷ script)) c law.0
+        (λ law fits. out-then t before d.in_later script does (later-value t above (omega (arith, fits)))
+        (on-called t script above law fits)) law.1 fits
 
   -- in the first tick
   first-called : (script : List Call) → Lawful (called s d.inputs) script → max 1 (count script) ≡ length xs →
       Rest 0 d.in_first d.out_log d.out_stores script
   first-called [] law fits = tt
   first-called (c ∷ script) law fits =
-      next-call s d.inputs (λ c. Lawful (tick_after later_five s functions (called s d.inputs) c) script → max 1 (count (c ∷ script)) ≡ length xs → Rest 0 d.in_first d.out_log d.out_stores (c ∷ script)) c law.0
-      (λ law fits. update-then 0 d.in_first d.second script d.first_update (on-idle 1 d.second script d.second_out (lit< tt) law (omega (arith, fits)))) law.1 fits
+      next-call s d.inputs (λ c. Lawful (tick_after later_five s functions (called s d.inputs) c) script →
+      max 1 (count (c ∷ script)) ≡ length xs → Rest 0 d.in_first d.out_log d.out_stores (c ∷ script)) c law.0
+      (λ law fits. update-then 0 d.in_first d.second script d.first_update
+      (on-idle 1 d.second script d.second_out (lit< tt) law (omega (arith, fits)))) law.1 fits
 
   from-start : (script : List Call) → Lawful nothing_yet script → count script ≡ length xs → Rest 0 started [] [] script
   from-start [] law fits = tt
   from-start (c ∷ script) law fits =
-      first-call s d.inputs (λ c. Lawful (tick_after later_five s functions nothing_yet c) script → count (c ∷ script) ≡ length xs → Rest 0 started [] [] (c ∷ script)) c law.0
-      (λ law fits. out-then 0 started d.in_first script d.first_out (d.gives_first ∙ sym (ap (λ v. value_at v d.output) (value-first later xs (omega (arith, fits))))) (first-called script law fits)) law.1 fits
+      first-call s d.inputs (λ c. Lawful (tick_after later_five s functions nothing_yet c) script →
+      count (c ∷ script) ≡ length xs → Rest 0 started [] [] (c ∷ script)) c law.0
+      (λ law fits. out-then 0 started d.in_first script d.first_out (d.gives_first
+      ∙ sym (ap (λ v. value_at v d.output) (value-first later xs (omega (arith, fits)))))
+      (first-called script law fits)) law.1 fits
 
 -- a system with this function answers every lawful script
 answers : LoopFreeHasOneRun → (s : Option ℕ) (later : List ℤ) → RunsLike s later → Drives s later →
@@ -190,9 +212,11 @@ answers : LoopFreeHasOneRun → (s : Option ℕ) (later : List ℤ) → RunsLike
 answers law s later like d one needs script xs run are lawful trace fits has =
     let same = one needs are in
     let count = (subst (λ fs. Fits later_five s fs xs script) same fits).one_row_each in
-    subst (λ (o : Outcome). OnDone o (λ a. DrivenFrom whole_program later_five 1 s (functions_for needs) xs run 0 a.cells [] [] script)) (sym starts)
+    subst (λ (o : Outcome). OnDone o
+    (λ a. DrivenFrom whole_program later_five 1 s (functions_for needs) xs run 0 a.cells [] [] script)) (sym starts)
     (subst (λ fs. DrivenFrom whole_program later_five 1 s fs xs run 0 started [] [] script) (sym same)
-    (subst (λ run. DrivenFrom whole_program later_five 1 s functions xs run 0 started [] [] script) (sym (run-is law s later like xs run trace has))
+    (subst (λ run. DrivenFrom whole_program later_five 1 s functions xs run 0 started [] [] script)
+    (sym (run-is law s later like xs run trace has))
     (from-start s later d xs script (subst (λ fs. IsLawfulFrom later_five s fs nothing_yet script) same lawful) (sym count))))
 
 -- ---- The child
@@ -200,7 +224,10 @@ answers law s later like d one needs script xs run are lawful trace fits has =
 -- fields of `root` in which those of the child are the delay, the Constant, y1, the memory and the counter
 abbrev around_child : (delayed constant y1 memory counter : ℤ) → Cells
 around_child delayed constant y1 memory counter =
-    let child = more_cells (number delayed) (more_cells (number constant) (more_cells (number y1) (more_cells (number memory) (more_cells (number counter) no_cells)))) in
+    let child =
+    more_cells (number delayed)
+    (more_cells (number constant)
+    (more_cells (number y1) (more_cells (number memory) (more_cells (number counter) no_cells)))) in
     let top = more_cells (number (pos 0)) (more_cells (object child) (more_cells (number (pos 0)) no_cells)) in
     more_cells (number (pos 0)) (more_cells (number (pos 0)) (more_cells (object top) no_cells))
 
@@ -231,14 +258,19 @@ child-drives = record {
 pub child_answers : LoopFreeHasOneRun → ProfilesAreOne → AnswersAnyOrder whole_program later_five 1 (Some 0)
 child_answers law profiles =
     answers law (Some 0) child_values child-runs child-drives
-    (λ needs are. ap (λ (p : SystemProfile). p.functions) (profiles later_five (Some 0) (record { row = Some 0; functions = functions_for needs }) child_profile (record { needs = needs; are_needs = are; row = refl; functions = refl }) child_is_profile))
+    (λ needs are. ap (λ (p : SystemProfile). p.functions)
+    (profiles later_five (Some 0) (record { row = Some 0; functions = functions_for needs }) child_profile
+    (record { needs = needs; are_needs = are; row = refl; functions = refl }) child_is_profile))
 
 -- ---- The root
 
 -- fields of `root` in which those of `top` are Out1, the child's, and the counter
 abbrev around_top : (out1 delayed constant y1 memory counter top_counter : ℤ) → Cells
 around_top out1 delayed constant y1 memory counter top_counter =
-    let child = more_cells (number delayed) (more_cells (number constant) (more_cells (number y1) (more_cells (number memory) (more_cells (number counter) no_cells)))) in
+    let child =
+    more_cells (number delayed)
+    (more_cells (number constant)
+    (more_cells (number y1) (more_cells (number memory) (more_cells (number counter) no_cells)))) in
     let top = more_cells (number out1) (more_cells (object child) (more_cells (number top_counter) no_cells)) in
     more_cells (number (pos 0)) (more_cells (number (pos 0)) (more_cells (object top) no_cells))
 
@@ -273,4 +305,6 @@ top-drives = record {
 pub top_answers : LoopFreeHasOneRun → ProfilesAreOne → AnswersAnyOrder whole_program later_five 1 None
 top_answers law profiles =
     answers law None later_values root-runs top-drives
-    (λ needs are. ap (λ (p : SystemProfile). p.functions) (profiles later_five None (record { row = None; functions = functions_for needs }) top_profile (record { needs = needs; are_needs = are; row = refl; functions = refl }) top_is_profile))
+    (λ needs are. ap (λ (p : SystemProfile). p.functions)
+    (profiles later_five None (record { row = None; functions = functions_for needs }) top_profile
+    (record { needs = needs; are_needs = are; row = refl; functions = refl }) top_is_profile))

@@ -32,8 +32,11 @@ child_headers = record { rows = refl; each = λ h c. absurd (let below = c.1 in 
 top_headers : AreHeaders later_five None (child_header ∷ [])
 top_headers = record { rows = refl; each = each }
   where
-    each : (h : SystemHeader) → Contains (child_header ∷ []) h → (h ≡ header_of later_five h.row h.profile) × IsProfileOf later_five h.row h.profile
-    each h (zero, below, is) = subst (λ (g : SystemHeader). (g ≡ header_of later_five g.row g.profile) × IsProfileOf later_five g.row g.profile) is (refl, child_is_profile)
+    each : (h : SystemHeader) → Contains (child_header ∷ []) h →
+        (h ≡ header_of later_five h.row h.profile) × IsProfileOf later_five h.row h.profile
+    each h (zero, below, is) =
+        subst (λ (g : SystemHeader). (g ≡ header_of later_five g.row g.profile)
+        × IsProfileOf later_five g.row g.profile) is (refl, child_is_profile)
     each h (suc k, below, is) = absurd (omega arith)
 
 child_shape : HasSystemShape whole_program later_five [] (Some 0)
@@ -41,14 +44,35 @@ unfolding digits
 child_shape = record {
   view = record { headers = []; are_headers = child_headers; profile = child_profile; is_profile = child_is_profile };
   struct_there = refl;
-  fields = record { slots = _; are_slots = record { counters = counter ∷ []; named = (refl, tt); all = record { moves = []; below = tt; is = refl } }; are_fields = refl };
+  fields =
+      record {
+        slots = _;
+        are_slots =
+            record { counters = counter ∷ []; named = (refl, tt); all = record { moves = []; below = tt; is = refl } };
+        are_fields = refl;
+      };
   heads = record { moves = []; below = tt; is = refl };
   rules = (
-    record { private_name = (0, refl); params = tt; calls = tt; stores = (tt, (((0, lit< tt, refl), tt), (((3, lit< tt, refl), tt), tt))); indices = tt; tests = (((4, lit< tt, refl), tt), tt) },
+    record {
+      private_name = (0, refl);
+      params = tt;
+      calls = tt;
+      stores = (tt, (((0, lit< tt, refl), tt), (((3, lit< tt, refl), tt), tt)));
+      indices = tt;
+      tests =
+          (((4, lit< tt, refl), tt), tt);
+    },
     (
       record { private_name = tt; params = tt; calls = (tt, tt); stores = tt; indices = tt; tests = tt },
       (
-        record { private_name = tt; params = tt; calls = tt; stores = (tt, (((0, lit< tt, refl), tt), (tt, tt))); indices = tt; tests = tt },
+        record {
+          private_name = tt;
+          params = tt;
+          calls = tt;
+          stores = (tt, (((0, lit< tt, refl), tt), (tt, tt)));
+          indices = tt;
+          tests = tt;
+        },
         (
           record { private_name = tt; params = tt; calls = tt; stores = (tt, (tt, (tt, (tt, (tt, tt))))); indices = tt; tests = tt },
           (record { private_name = tt; params = tt; calls = tt; stores = (tt, tt); indices = tt; tests = tt }, tt),
@@ -64,17 +88,90 @@ unfolding digits
 top_shape = record {
   view = record { headers = child_header ∷ []; are_headers = top_headers; profile = top_profile; is_profile = top_is_profile };
   struct_there = refl;
-  fields = record { slots = _; are_slots = record { counters = counter ∷ []; named = (refl, tt); all = record { moves = []; below = tt; is = refl } }; are_fields = refl };
+  fields =
+      record {
+        slots = _;
+        are_slots =
+            record { counters = counter ∷ []; named = (refl, tt); all = record { moves = []; below = tt; is = refl } };
+        are_fields = refl;
+      };
   heads = record { moves = []; below = tt; is = refl };
   rules = (
-    record { private_name = (0, refl); params = ((0, lit< tt, refl), tt); calls = (record { child = child_use later_five child_header; is_child = (0, lit< tt, refl); on_child = refl; is_public = (0, lit< tt, refl); passes = ((_, (0, lit< tt, refl), (Param 0, refl, refl)), tt) }, tt); stores = (tt, (((3, lit< tt, refl), tt), tt)); indices = tt; tests = (((4, lit< tt, refl), tt), tt) },
+    record {
+      private_name = (0, refl);
+      params = ((0, lit< tt, refl), tt);
+      calls = (
+        record {
+          child = child_use later_five child_header;
+          is_child = (0, lit< tt, refl);
+          on_child = refl;
+          is_public = (0, lit< tt, refl);
+          passes = ((_, (0, lit< tt, refl), (Param 0, refl, refl)), tt);
+        },
+        tt,
+      );
+      stores = (tt, (((3, lit< tt, refl), tt), tt));
+      indices = tt;
+      tests = (((4, lit< tt, refl), tt), tt);
+    },
     (
       record { private_name = tt; params = tt; calls = (((Param 0, refl, refl), tt), tt); stores = tt; indices = tt; tests = tt },
       (
-        record { private_name = tt; params = tt; calls = (record { child = child_use later_five child_header; is_child = (0, lit< tt, refl); on_child = refl; is_public = (1, lit< tt, refl); passes = ((_, (0, lit< tt, refl), (Param 0, refl, refl)), tt) }, tt); stores = (tt, tt); indices = tt; tests = tt },
+        record {
+          private_name = tt;
+          params = tt;
+          calls = (
+            record {
+              child = child_use later_five child_header;
+              is_child = (0, lit< tt, refl);
+              on_child = refl;
+              is_public = (1, lit< tt, refl);
+              passes = ((_, (0, lit< tt, refl), (Param 0, refl, refl)), tt);
+            },
+            tt,
+          );
+          stores = (tt, tt);
+          indices = tt;
+          tests = tt;
+        },
         (
-          record { private_name = tt; params = tt; calls = (record { child = child_use later_five child_header; is_child = (0, lit< tt, refl); on_child = refl; is_public = (2, lit< tt, refl); passes = tt }, tt); stores = (tt, (tt, tt)); indices = tt; tests = tt },
-          (record { private_name = tt; params = tt; calls = (record { child = child_use later_five child_header; is_child = (0, lit< tt, refl); on_child = refl; is_public = (3, lit< tt, refl); passes = tt }, tt); stores = tt; indices = tt; tests = tt }, tt),
+          record {
+            private_name = tt;
+            params = tt;
+            calls = (
+              record {
+                child = child_use later_five child_header;
+                is_child = (0, lit< tt, refl);
+                on_child = refl;
+                is_public = (2, lit< tt, refl);
+                passes = tt;
+              },
+              tt,
+            );
+            stores = (tt, (tt, tt));
+            indices = tt;
+            tests = tt;
+          },
+          (
+            record {
+              private_name = tt;
+              params = tt;
+              calls = (
+                record {
+                  child = child_use later_five child_header;
+                  is_child = (0, lit< tt, refl);
+                  on_child = refl;
+                  is_public = (3, lit< tt, refl);
+                  passes = tt;
+                },
+                tt,
+              );
+              stores = tt;
+              indices = tt;
+              tests = tt;
+            },
+            tt,
+          ),
         ),
       ),
     ),
@@ -83,7 +180,10 @@ top_shape = record {
 }
 
 -- the cycle has one tick
-next_tick : (functions : List Function) (t : ℕ) → t < 1 → (steps : ℕ) × (eval functions (record { leaf = λ leaf. pos t; array = λ f. [] }) 0 (binary Rem (binary Add (read (Own 0)) (literal (pos 1))) (literal (pos 1))) 0 ≡ gives (pos ((t + 1) % 1)) steps)
+next_tick : (functions : List Function) (t : ℕ) → t < 1 →
+    (steps : ℕ)
+    × (eval functions (record { leaf = λ leaf. pos t; array = λ f. [] }) 0
+    (binary Rem (binary Add (read (Own 0)) (literal (pos 1))) (literal (pos 1))) 0 ≡ gives (pos ((t + 1) % 1)) steps)
 next_tick functions zero below = (0, refl)
 next_tick functions (suc t) below = absurd (omega arith)
 
@@ -102,9 +202,24 @@ root_code = record {
   begins = lit< tt;
   tick_alone = ((refl, refl), tt);
   starts = ((refl, refl, tt), tt);
-  steps = map calls (out_heads (header_of later_five None top_profile)) ++ calls (update_head (header_of later_five None top_profile)) ∷ copies 1 4 ∷ moves_on ∷ [];
-  are_steps = record { functions = out_heads (header_of later_five None top_profile); each_function = record { moves = []; below = tt; is = refl }; outputs = enumerate_from 1 (outports_of later_five.rows None); each_output = record { moves = []; below = tt; is = refl }; in_order = refl };
-  does = ((refl, refl, ((_, tick refl, (Own 0, refl, refl)), tt)), ((refl, refl, ((_, tick refl, (Own 0, refl, refl)), tt)), ((refl, (Child 2 0, refl, refl)), ((refl, record { reads = (refl, tt); next = next_tick }), tt))));
+  steps = map calls (out_heads (header_of later_five None top_profile))
+      ++ calls (update_head (header_of later_five None top_profile)) ∷ copies 1 4 ∷ moves_on ∷ [];
+  are_steps =
+      record {
+        functions = out_heads (header_of later_five None top_profile);
+        each_function = record { moves = []; below = tt; is = refl };
+        outputs =
+            enumerate_from 1 (outports_of later_five.rows None);
+        each_output = record { moves = []; below = tt; is = refl };
+        in_order = refl;
+      };
+  does = (
+    (refl, refl, ((_, tick refl, (Own 0, refl, refl)), tt)),
+    (
+      (refl, refl, ((_, tick refl, (Own 0, refl, refl)), tt)),
+      ((refl, (Child 2 0, refl, refl)), ((refl, record { reads = (refl, tt); next = next_tick }), tt)),
+    ),
+  );
 }
 
 pub whole_shape : HasShape whole_program later_five [] 1

@@ -9,14 +9,15 @@ use Rattle.c_shape.specs.SystemTree.{SystemTree}
 use Rattle.c_shape.specs.ProgramShape.{SystemView, viewed}
 use Rattle.c_right.specs.SystemOk.{SystemOk}
 
--- a code that is right for the system s; the view has the headers of its children, each that of the child's own rows and
--- profile
+-- a code that is right for the system s; the view has the headers of its children, each that of the
+-- child's own rows and profile
 pub record IsCodeOf (r : ResolvedTree) (s : Option ℕ) (code : SystemTree) : Type 0 where
   pub view : SystemView (diagram_of r) r.times.delays s
   pub ok : SystemOk (viewed view) view.profile code
 
 -- what systems' codes must be to be put together, root first and then by row
-pub record CanAssemble (r : ResolvedTree) (codes : List SystemTree) (root : LocalSystem) (hyper : ℕ) : Type 0 where
+pub record CanAssemble (r : ResolvedTree) (codes : List SystemTree) (root : LocalSystem)
+    (hyper : ℕ) : Type 0 where
   pub resolved : IsResolvedTree r
   pub no_loop : HasNoLoop (needs_of (diagram_of r))
   pub each : AllZip (IsCodeOf r) (systems (diagram_of r).rows) codes

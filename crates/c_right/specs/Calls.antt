@@ -1,4 +1,5 @@
--- Which interface procedures a tick calls on the instances of the systems, and how often it stores a value.
+-- Which interface procedures a tick calls on the instances of the systems, and how often it stores
+-- a value.
 use Rattle.std.specs.Prelude.{◌≡◌, ℕ, ◌≤◌, Bool, List, [], ◌∷◌, ◌++◌, map, filter, Contains, IsPermutation, MatchBool, Option, Some, None, ℤ}
 use Rattle.std.specs.List.{AllByRecursion}
 use Rattle.mc_guards.specs.declared.TrigMem.{TrigMem}
@@ -22,24 +23,32 @@ pub record IsWholeTick (p : ProgramTree) (s : Option ℕ) (calls : List ℕ) : T
   pub each_once : IsPermutation (out_places p s) outs
   pub then_update : calls ≡ outs ++ procedure_place p (update_name s) ∷ []
 
--- the calls on a system's instance: a whole tick of them where the system around it is active, else none
+-- the calls on a system's instance: a whole tick of them where the system around it is active, else
+-- none
 abbrev pub HasCallsOf : ProgramTree → Option ℕ → Bool → List ℕ → Type 0
 HasCallsOf p s is_active calls = MatchBool is_active (IsWholeTick p s calls) (calls ≡ [])
 
 -- each value field of a system's own rows is stored at most once
 abbrev pub StoresOnce : ProgramTree → List Row → Option ℕ → List StoredField → Type 0
 StoresOnce p rows s stores =
-    AllByRecursion (λ b. stores_at (path_to p rows s) (place_in p s (value_name b)) stores ≤ 1) (filter (λ b. has_value (row_at rows b).kind) (rows_of rows s))
+    AllByRecursion (λ b. stores_at (path_to p rows s) (place_in p s (value_name b)) stores ≤ 1)
+    (filter (λ b. has_value (row_at rows b).kind) (rows_of rows s))
 
--- A tick of the run of the system s, with the trace's row x, the values v and what the triggers remember before it:
--- on each instance inside s the calls and stores of the tick, and no calls on any other instance but that of s.
-pub record CallsInside (p : ProgramTree) (d : Diagram) (s : Option ℕ) (x v : List ℤ) (g : List TrigMem) (log : List LoggedCall) (stores : List StoredField) : Type 0 where
-  pub each : AllByRecursion (λ e. HasCallsOf p (Some e) (active_in d s x v g (around d.rows s e)) (calls_at (path_to p d.rows (Some e)) log)) (systems_inside d.rows s)
-  pub stored_once : AllByRecursion (λ e. StoresOnce p d.rows (Some e) stores) (systems_inside d.rows s)
-  pub no_other : AllByRecursion (λ c. Contains (map (path_to p d.rows) (s ∷ map Some (systems_inside d.rows s))) c.path) log
+-- A tick of the run of the system s, with the trace's row x, the values v and what the triggers
+-- remember before it: on each instance inside s the calls and stores of the tick, and no calls on
+-- any other instance but that of s.
+pub record CallsInside (p : ProgramTree) (d : Diagram) (s : Option ℕ) (x v : List ℤ)
+    (g : List TrigMem) (log : List LoggedCall) (stores : List StoredField) : Type 0 where
+  pub each : AllByRecursion (λ e. HasCallsOf p (Some e) (active_in d s x v g (around d.rows s e))
+      (calls_at (path_to p d.rows (Some e)) log)) (systems_inside d.rows s)
+  pub stored_once : AllByRecursion (λ e. StoresOnce p d.rows (Some e) stores)
+      (systems_inside d.rows s)
+  pub no_other : AllByRecursion
+      (λ c. Contains (map (path_to p d.rows) (s ∷ map Some (systems_inside d.rows s))) c.path) log
 
 -- the same for a tick of the whole program, in which `top` always has its calls
-pub record CallsInTick (p : ProgramTree) (d : Diagram) (x v : List ℤ) (g : List TrigMem) (log : List LoggedCall) (stores : List StoredField) : Type 0 where
+pub record CallsInTick (p : ProgramTree) (d : Diagram) (x v : List ℤ) (g : List TrigMem)
+    (log : List LoggedCall) (stores : List StoredField) : Type 0 where
   pub inside : CallsInside p d None x v g log stores
   pub top : IsWholeTick p None (calls_at (path_to p d.rows None) log)
   pub top_stored_once : StoresOnce p d.rows None stores

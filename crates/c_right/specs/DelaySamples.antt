@@ -1,5 +1,5 @@
--- The program of a root that delays its input by a tick, one whose memory is stored before the input that it takes, and one
--- whose reset does nothing.
+-- The program of a root that delays its input by a tick, one whose memory is stored before the
+-- input that it takes, and one whose reset does nothing.
 use Rattle.std.specs.Prelude.{◌≡◌, refl, false, List, [], ◌∷◌, ◌++◌, map, None, pos, codes, ℤ}
 use Rattle.std.specs.Fmt.{digits}
 use Rattle.mc_blocks.specs.declared.Kind.TheVariants.{Inport, Outport, UnitDelay}
@@ -18,13 +18,16 @@ use Rattle.c_shape.specs.TinySamples.{input_param, inner_procedure, zeros}
 
 -- In1 through a Unit Delay to Out1
 abbrev pub one_delay : Diagram
-one_delay = simple (row None (Inport 1) [] ∷ row None (UnitDelay zero_initial) (0 ∷ []) ∷ row None (Outport 1 false zero_initial) (1 ∷ []) ∷ [])
+one_delay =
+    simple (row None (Inport 1) [] ∷ row None (UnitDelay zero_initial) (0 ∷ [])
+    ∷ row None (Outport 1 false zero_initial) (1 ∷ []) ∷ [])
 
 abbrev pub delay_local : LocalSystem
 delay_local = local_of one_delay [] None []
 
 abbrev delay_slots : List Slot
-delay_slots = map value (map (local_row one_delay []) (0 ∷ 1 ∷ 2 ∷ [])) ++ memory (local_row one_delay [] 1) ∷ []
+delay_slots = map value (map (local_row one_delay []) (0 ∷ 1 ∷ 2 ∷ []))
+    ++ memory (local_row one_delay [] 1) ∷ []
 
 -- its code by the statements of the update and of the reset
 abbrev delay_code : (on_update on_reset : List StmtTree) → SystemTree
@@ -32,7 +35,8 @@ delay_code on_update on_reset = record {
   structure = record { name = codes "top"; fields = map slot_field delay_slots };
   outputs = 2 ∷ [];
   procedures =
-      inner_procedure (codes "top_out1") (now_param ∷ []) (assign 0 1 (read (Own 3)) ∷ assign 0 2 (read (Own 1)) ∷ [])
+      inner_procedure (codes "top_out1") (now_param ∷ []) (assign 0 1 (read (Own 3))
+      ∷ assign 0 2 (read (Own 1)) ∷ [])
       ∷ inner_procedure (codes "top_update") (now_param ∷ input_param ∷ []) on_update
       ∷ inner_procedure (codes "top_start") [] (zeros (0 ∷ 1 ∷ 2 ∷ 3 ∷ []))
       ∷ inner_procedure (codes "top_reset") [] on_reset
@@ -51,7 +55,9 @@ delay_program = program_of (delay_code in_turn (zeros (3 ∷ [])))
 
 -- the other way round
 abbrev pub early_memory : ProgramTree
-early_memory = program_of (delay_code (assign 0 3 (read (Own 0)) ∷ assign 0 0 (read (Param 1)) ∷ []) (zeros (3 ∷ [])))
+early_memory =
+    program_of (delay_code (assign 0 3 (read (Own 0)) ∷ assign 0 0 (read (Param 1)) ∷ [])
+    (zeros (3 ∷ [])))
 
 -- the reset does nothing
 abbrev pub empty_reset : ProgramTree
@@ -61,10 +67,12 @@ empty_reset = program_of (delay_code in_turn [])
 abbrev pub delay_trace : List (List ℤ)
 delay_trace = (pos 5 ∷ []) ∷ (pos 6 ∷ []) ∷ (pos 7 ∷ []) ∷ []
 
-outputs : map (λ row. row.outputs) (c_rows delay_program delay_trace).ticks ≡ (pos 0 ∷ []) ∷ (pos 5 ∷ []) ∷ (pos 6 ∷ []) ∷ []
+outputs : map (λ row. row.outputs) (c_rows delay_program delay_trace).ticks
+    ≡ (pos 0 ∷ []) ∷ (pos 5 ∷ []) ∷ (pos 6 ∷ []) ∷ []
 unfolding digits
 outputs = refl
 
-early_outputs : map (λ row. row.outputs) (c_rows early_memory delay_trace).ticks ≡ (pos 0 ∷ []) ∷ (pos 0 ∷ []) ∷ (pos 5 ∷ []) ∷ []
+early_outputs : map (λ row. row.outputs) (c_rows early_memory delay_trace).ticks
+    ≡ (pos 0 ∷ []) ∷ (pos 0 ∷ []) ∷ (pos 5 ∷ []) ∷ []
 unfolding digits
 early_outputs = refl

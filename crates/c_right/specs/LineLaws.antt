@@ -1,5 +1,5 @@
--- The lines of a program's statements mean nothing to what is said of it: so what holds of an assembled program, whose lines
--- are 0, holds of the one reading of its text.
+-- The lines of a program's statements mean nothing to what is said of it: so what holds of an
+-- assembled program, whose lines are 0, holds of the one reading of its text.
 use Rattle.std.specs.Prelude.{◌≡◌, ℕ, Bool, List, Option, ℤ}
 use Rattle.mc_diagram.specs.Diagram.{Diagram}
 use Rattle.mc_diagram.specs.Laws.{Run}
@@ -21,8 +21,10 @@ IsBlindToLines P = (p q : ProgramTree) → without_lines p ≡ without_lines q �
 pub record RowsMeanNoLines : Type 0 where
   pub outputs : (d : Diagram) (xs : List (List ℤ)) → IsBlindToLines (λ p. GivesOutputs p d xs)
   pub bounded : (d : Diagram) (xs : List (List ℤ)) → IsBlindToLines (λ p. StaysInBound p d xs)
-  pub calls : (d : Diagram) (xs : List (List ℤ)) (run : Run) → IsBlindToLines (λ p. HasCalls p d (c_rows p xs).ticks xs run.values run.triggers)
-  pub any_order : (d : Diagram) (hyper : ℕ) (s : Option ℕ) → IsBlindToLines (λ p. AnswersAnyOrder p d hyper s)
+  pub calls : (d : Diagram) (xs : List (List ℤ)) (run : Run) →
+      IsBlindToLines (λ p. HasCalls p d (c_rows p xs).ticks xs run.values run.triggers)
+  pub any_order : (d : Diagram) (hyper : ℕ) (s : Option ℕ) →
+      IsBlindToLines (λ p. AnswersAnyOrder p d hyper s)
 
 -- what is started anew and reset
 pub record RenewalsMeanNoLines : Type 0 where
@@ -32,9 +34,11 @@ pub record RenewalsMeanNoLines : Type 0 where
 -- the interfaces and the shape
 pub record ShapeMeansNoLines : Type 0 where
   pub least : (d : Diagram) (s : Option ℕ) → IsBlindToLines (λ p. HasLeastInterface p d s)
-  pub shape : (d : Diagram) (delays : List Bool) (hyper : ℕ) → IsBlindToLines (λ p. HasShape p d delays hyper)
+  pub shape : (d : Diagram) (delays : List Bool) (hyper : ℕ) →
+      IsBlindToLines (λ p. HasShape p d delays hyper)
 
 -- so a text of code for a diagram is right for it
 abbrev pub TextOfCodeIsRight : Type 0
-TextOfCodeIsRight = (bytes : List ℕ) (p : ProgramTree) (r : ResolvedTable) → IsTextOf bytes p → IsCodeFor p (diagram_of_table r) r.times.delays r.times.hyper →
+TextOfCodeIsRight = (bytes : List ℕ) (p : ProgramTree) (r : ResolvedTable) → IsTextOf bytes p →
+    IsCodeFor p (diagram_of_table r) r.times.delays r.times.hyper →
     IsRightFor bytes r

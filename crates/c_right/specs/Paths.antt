@@ -13,7 +13,8 @@ use Rattle.c_shape.specs.Programs.{struct_place}
 abbrev pub place_in : ProgramTree → Option ℕ → List ℕ → ℕ
 place_in p s name = field_position (struct_fields p.structs (struct_place p s)) name
 
--- the path of a system's instance from the root: `top`, and then a field for each subsystem down to it
+-- the path of a system's instance from the root: `top`, and then a field for each subsystem down to
+-- it
 abbrev pub path_to : ProgramTree → List Row → Option ℕ → List ℕ
 path_to p rows s =
     field_position (root_fields p) (system_name None)
@@ -21,7 +22,9 @@ path_to p rows s =
 
 -- the path from an instance of the system s to that of a subsystem inside it
 abbrev pub path_inside : ProgramTree → List Row → Option ℕ → ℕ → List ℕ
-path_inside p rows s e = map (λ f. place_in p (row_at rows f).owner (child_name f)) (reverse (e ∷ around_inside rows s e))
+path_inside p rows s e =
+    map (λ f. place_in p (row_at rows f).owner (child_name f))
+    (reverse (e ∷ around_inside rows s e))
 
 -- the fields of the instance at a path
 abbrev pub cells_at : List ℕ → Cells → Cells

@@ -45,48 +45,62 @@ pub record StaysInBound (p : ProgramTree) (d : Diagram) (xs : List (List ℤ)) :
 
 -- ---- Calls in each tick
 
--- the calls of the ticks from these on, where the run has these rows of the trace, values, and triggers before each
-abbrev pub HasCalls : ProgramTree → Diagram → List TickRow → (xs vs : List (List ℤ)) → List (List TrigMem) → Type 0
+-- the calls of the ticks from these on, where the run has these rows of the trace, values, and
+-- triggers before each
+abbrev pub HasCalls : ProgramTree → Diagram → List TickRow → (xs vs : List (List ℤ)) →
+    List (List TrigMem) → Type 0
 HasCalls p d [] xs vs gs = ⊤
-HasCalls p d (row ∷ rows) (x ∷ xs) (v ∷ vs) (g ∷ gs) = CallsInTick p d x v g row.log row.stores × HasCalls p d rows xs vs gs
+HasCalls p d (row ∷ rows) (x ∷ xs) (v ∷ vs) (g ∷ gs) =
+    CallsInTick p d x v g row.log row.stores × HasCalls p d rows xs vs gs
 HasCalls p d (row ∷ rows) _ _ _ = ⊥
 
 -- ---- Calls of one system from outside
 
 -- the number in the value field of row b of the system s
 abbrev pub field_of : ProgramTree → Diagram → Option ℕ → Cells → ℕ → ℤ
-field_of p d s cells b = number_at (cells_at (path_to p d.rows s) cells) (place_in p s (value_name b))
+field_of p d s cells b =
+    number_at (cells_at (path_to p d.rows s) cells) (place_in p s (value_name b))
 
 -- a call from outside of a procedure of the system s, in tick t
-abbrev pub call_in_tick : ProgramTree → Diagram → ℕ → Option ℕ → ℕ → List ℕ → List ℤ → Cells → Outcome
+abbrev pub call_in_tick : ProgramTree → Diagram → ℕ → Option ℕ → ℕ → List ℕ → List ℤ → Cells →
+    Outcome
 call_in_tick p d hyper s t name values cells =
-    call_from_outside p (procedure_place p name) (path_to p d.rows s) (pos (t % hyper) ∷ values) cells
+    call_from_outside p (procedure_place p name) (path_to p d.rows s)
+    (pos (t % hyper) ∷ values) cells
 
--- the rest of a script from tick t on, over a run, from these fields, with the calls and stores of the tick so far:
--- no call is stuck, each `out` leaves the run's values in its outputs' fields, and in each completed tick the systems
--- inside have their calls
-module _ (p : ProgramTree) (d : Diagram) (hyper : ℕ) (s : Option ℕ) (functions : List Function) (xs : List (List ℤ)) (run : Run) where
+-- the rest of a script from tick t on, over a run, from these fields, with the calls and stores of
+-- the tick so far: no call is stuck, each `out` leaves the run's values in its outputs' fields, and
+-- in each completed tick the systems inside have their calls
+module _ (p : ProgramTree) (d : Diagram) (hyper : ℕ) (s : Option ℕ) (functions : List Function)
+    (xs : List (List ℤ)) (run : Run) where
   abbrev pub DrivenFrom : ℕ → Cells → List LoggedCall → List StoredField → List Call → Type 0
   DrivenFrom t cells log stores [] = ⊤
   DrivenFrom t cells log stores (out_with j values ∷ script) =
       OnDone (call_in_tick p d hyper s t (out_name s j) values cells)
       (λ after.
-      AllByRecursion (λ o. field_of p d s after.cells o ≡ value_at (slice_index_or run.values t []) o) (given_by_function (numbered_function functions j) (outports_of d.rows s))
+      AllByRecursion (λ o. field_of p d s after.cells o
+      ≡ value_at (slice_index_or run.values t []) o)
+      (given_by_function (numbered_function functions j) (outports_of d.rows s))
       × DrivenFrom t after.cells (log ++ after.log) (stores ++ after.stores) script)
   DrivenFrom t cells log stores (update_with values ∷ script) =
       OnDone (call_in_tick p d hyper s t (update_name s) values cells)
       (λ after.
-      CallsInside p d s (slice_index_or xs t []) (slice_index_or run.values t []) (slice_index_or run.triggers t []) (log ++ after.log) (stores ++ after.stores)
+      CallsInside p d s (slice_index_or xs t []) (slice_index_or run.values t [])
+      (slice_index_or run.triggers t []) (log ++ after.log) (stores ++ after.stores)
       × DrivenFrom (suc t) after.cells [] [] script)
 
--- from the fields as `root_start` left them, every lawful script of the system s is answered by its run over any trace
--- that fits the script
+-- from the fields as `root_start` left them, every lawful script of the system s is answered by its
+-- run over any trace that fits the script
 abbrev pub AnswersAnyOrder : ProgramTree → Diagram → ℕ → Option ℕ → Type 0
 AnswersAnyOrder p d hyper s =
-    (needs : List ℕ) (script : List Call) (xs : List (List ℤ)) (run : Run) → AreTrueNeeds d s needs →
-    IsLawfulScript d s (functions_for needs) script → IsTrace d s xs → Fits d s (functions_for needs) xs script →
+    (needs : List ℕ) (script : List Call) (xs : List (List ℤ)) (run : Run) →
+    AreTrueNeeds d s needs →
+    IsLawfulScript d s (functions_for needs) script → IsTrace d s xs →
+    Fits d s (functions_for needs) xs script →
     IsRunOver d s xs run →
-    OnDone (start_run p) (λ started. DrivenFrom p d hyper s (functions_for needs) xs run 0 started.cells [] [] script)
+    OnDone (start_run p)
+    (λ started. DrivenFrom p d hyper s (functions_for needs) xs run 0 started.cells []
+    [] script)
 
 -- ---- The whole
 
@@ -100,11 +114,13 @@ pub record RunsRight (p : ProgramTree) (d : Diagram) : Type 0 where
   pub calls : (xs : List (List ℤ)) (run : Run) → IsTrace d None xs → IsRunOver d None xs run →
       HasCalls p d (c_rows p xs).ticks xs run.values run.triggers
 
--- a program is code for a diagram whose hits repeat after `hyper` ticks, of whose rows `delays` says which delay between rates
+-- a program is code for a diagram whose hits repeat after `hyper` ticks, of whose rows `delays`
+-- says which delay between rates
 pub record IsCodeFor (p : ProgramTree) (d : Diagram) (delays : List Bool) (hyper : ℕ) : Type 0 where
   -- driven by any trace it is right
   pub runs : RunsRight p d
-  -- each system's functions take exactly what its outputs need, and no interface that does so has fewer
+  -- each system's functions take exactly what its outputs need, and no interface that does so has
+  -- fewer
   pub least : AllByRecursion (HasLeastInterface p d) (systems d.rows)
   -- each system stands in a struct and procedures of its own
   pub shape : HasShape p d delays hyper
@@ -123,10 +139,11 @@ pub record IsRightFor (bytes : List ℕ) (r : ResolvedTable) : Type 0 where
 
 -- the bytes are right for a table
 abbrev pub IsRight : List ℕ → RowTable → Type 0
-IsRight bytes table = (r : ResolvedTable) × (r.table ≡ table) × IsResolvedTable r × IsRightFor bytes r
+IsRight bytes table =
+    (r : ResolvedTable) × (r.table ≡ table) × IsResolvedTable r × IsRightFor bytes r
 
--- so many output functions all systems have together: for each system one for each different set of its inputs that an output
--- of it needs
+-- so many output functions all systems have together: for each system one for each different set of
+-- its inputs that an output of it needs
 pub record IsFunctionCount (d : Diagram) (functions : ℕ) : Type 0 where
   -- the needs of the outputs of each system
   pub needs : List (List ℕ)

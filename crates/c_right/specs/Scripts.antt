@@ -11,8 +11,8 @@ use Rattle.mc_profile.specs.Ports.{input_ports, ports_in}
 use Rattle.mc_profile.specs.Headers.{numbered_function}
 use Rattle.mc_diagram.specs.Traces.{input_type_of}
 
--- a call of function j with the values of its inputs, or of the update with those of all inputs; by number, the
--- control last
+-- a call of function j with the values of its inputs, or of the update with those of all inputs; by
+-- number, the control last
 pub data Call : Type 0 where
   out_with : (function : ℕ) (values : List ℤ) → Call
   update_with : (values : List ℤ) → Call
@@ -23,7 +23,8 @@ pub record Given : Type 0 where
   pub value : ℤ
 
 abbrev pub given_of : List Port → List ℤ → List Given
-given_of ports values = map (λ (e : Port × ℤ). record { input = e.0; value = e.1 }) (zip ports values)
+given_of ports values =
+    map (λ (e : Port × ℤ). record { input = e.0; value = e.1 }) (zip ports values)
 
 -- what was done in the present tick: the functions called, and the values given
 pub record TickSoFar : Type 0 where
@@ -37,7 +38,8 @@ nothing_yet = record { called = []; given = [] }
 module _ (d : Diagram) (s : Option ℕ) (functions : List Function) where
   -- the inputs that a call has values for
   abbrev pub inputs_of : Call → List Port
-  inputs_of (out_with j values) = ports_in (numbered_function functions j).inputs (input_ports d.rows s)
+  inputs_of (out_with j values) =
+      ports_in (numbered_function functions j).inputs (input_ports d.rows s)
   inputs_of (update_with values) = input_ports d.rows s
 
   abbrev pub values_of : Call → List ℤ
@@ -47,11 +49,14 @@ module _ (d : Diagram) (s : Option ℕ) (functions : List Function) where
   abbrev pub given_by : Call → List Given
   given_by c = given_of (inputs_of c) (values_of c)
 
-  -- a call of a function that there is and that this tick had not, or of the update after all functions
+  -- a call of a function that there is and that this tick had not, or of the update after all
+  -- functions
   abbrev pub IsInTurn : TickSoFar → Call → Type 0
-  IsInTurn tick (out_with j values) = (0 < j) × (j ≤ length functions) × IsFalse (list_any (λ i. i == j) tick.called)
+  IsInTurn tick (out_with j values) =
+      (0 < j) × (j ≤ length functions) × IsFalse (list_any (λ i. i == j) tick.called)
   IsInTurn tick (update_with values) =
-      IsTrue (list_all (λ j. list_any (λ i. i == j) tick.called) (range_with_len 1 (length functions)))
+      IsTrue (list_all (λ j. list_any (λ i. i == j) tick.called)
+      (range_with_len 1 (length functions)))
 
   -- an input that was given a value in this tick is given the same one
   abbrev pub IsLike : List Given → Given → Type 0
@@ -64,15 +69,16 @@ module _ (d : Diagram) (s : Option ℕ) (functions : List Function) where
     pub alike : AllByRecursion (IsLike tick.given) (given_by c)
 
   abbrev pub tick_after : TickSoFar → Call → TickSoFar
-  tick_after tick (out_with j values) = record { called = j ∷ tick.called; given = given_by (out_with j values) ++ tick.given }
+  tick_after tick (out_with j values) =
+      record { called = j ∷ tick.called; given = given_by (out_with j values) ++ tick.given }
   tick_after tick (update_with values) = nothing_yet
 
   abbrev pub IsLawfulFrom : TickSoFar → List Call → Type 0
   IsLawfulFrom tick [] = ⊤
   IsLawfulFrom tick (c ∷ cs) = CanFollow tick c × IsLawfulFrom (tick_after tick c) cs
 
-  -- Between two updates no function is called twice, and at each update every one was called; values lie in their
-  -- types, and an input that is given twice in a tick has one value.
+  -- Between two updates no function is called twice, and at each update every one was called;
+  -- values lie in their types, and an input that is given twice in a tick has one value.
   abbrev pub IsLawfulScript : List Call → Type 0
   IsLawfulScript script = IsLawfulFrom nothing_yet script
 
@@ -94,7 +100,8 @@ module _ (d : Diagram) (s : Option ℕ) (functions : List Function) where
   -- the trace has the values that the calls from tick t on are given
   abbrev pub AgreesFrom : ℕ → List (List ℤ) → List Call → Type 0
   AgreesFrom t xs [] = ⊤
-  AgreesFrom t xs (c ∷ cs) = HasGiven (slice_index_or xs t []) (given_by c) × AgreesFrom (number_after t c) xs cs
+  AgreesFrom t xs (c ∷ cs) =
+      HasGiven (slice_index_or xs t []) (given_by c) × AgreesFrom (number_after t c) xs cs
 
   -- a trace fits a script: a row for each tick in which a call stands, with every value given
   pub record Fits (xs : List (List ℤ)) (script : List Call) : Type 0 where

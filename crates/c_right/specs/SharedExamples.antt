@@ -1,5 +1,5 @@
--- The program of a root and its shared child over a trace: its outputs, calls and steps, and those of programs that differ from
--- it in one thing.
+-- The program of a root and its shared child over a trace: its outputs, calls and steps, and those
+-- of programs that differ from it in one thing.
 use Rattle.std.specs.Prelude.{◌≡◌, refl, ℕ, List, [], ◌∷◌, map, pos, Some, None}
 use Rattle.std.specs.Fmt.{digits}
 use Rattle.mc_profile.specs.LocalSamples.{shared_child}
@@ -14,14 +14,16 @@ use Rattle.c_right.specs.SharedSamples.{shared_program, repeats_shared, takes_un
 -- ---- The right program
 
 -- outputs 1 11 and 2 22, in 34 steps each, where 324 are allowed
-outputs : map (λ row. row.outputs) (c_rows shared_program trace).ticks ≡ (pos 1 ∷ pos 11 ∷ []) ∷ (pos 2 ∷ pos 22 ∷ []) ∷ []
+outputs : map (λ row. row.outputs) (c_rows shared_program trace).ticks ≡ (pos 1 ∷ pos 11 ∷ [])
+    ∷ (pos 2 ∷ pos 22 ∷ []) ∷ []
 unfolding digits
 outputs = refl
 
 bound : step_bound shared_child.rows ≡ 324
 bound = refl
 
--- the positions of the functions, of which the first takes In1 and the second both, and who gives which output
+-- the positions of the functions, of which the first takes In1 and the second both, and who gives
+-- which output
 functions : out_places shared_program None ≡ 8 ∷ 9 ∷ []
 unfolding digits
 functions = refl
@@ -59,7 +61,8 @@ unfolding digits
 flat_calls = refl
 
 -- the first function takes both inputs
-unused_inputs : map (takes takes_unused shared_child None) (out_places takes_unused None) ≡ 3 ∷ 3 ∷ []
+unused_inputs : map (takes takes_unused shared_child None) (out_places takes_unused None)
+    ≡ 3 ∷ 3 ∷ []
 unfolding digits
 unused_inputs = refl
 

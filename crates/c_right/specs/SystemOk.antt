@@ -9,12 +9,13 @@ use Rattle.c_simulation.specs.Relation.{Behaves}
 use Rattle.c_right.specs.Alone.{IsLawfulAlone, HasShortChains}
 
 -- The code of a system is right by itself, whatever code its children have that does the same.
-pub record SystemOk (local : LocalSystem) (profile : SystemProfile) (code : SystemTree) : Type 0 where
+pub record SystemOk (local : LocalSystem) (profile : SystemProfile)
+    (code : SystemTree) : Type 0 where
   pub slots : List Slot
   -- its struct and procedures have their shape, and each function gives just its outputs
   pub shape : HasLocalShape local profile slots code
-  -- in each tick of each run of its rows its calls keep the relation, with each node and each call of a child once, within
-  -- its part of the bound on steps; and it starts and resets right
+  -- in each tick of each run of its rows its calls keep the relation, with each node and each call
+  -- of a child once, within its part of the bound on steps; and it starts and resets right
   pub behaves : Behaves local profile slots code
   -- it keeps the rules and limits of C
   pub lawful : IsLawfulAlone local code

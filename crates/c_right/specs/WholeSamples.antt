@@ -1,4 +1,5 @@
--- A model whose child gives 0 and then always 5, and a program that is right code for it in every part.
+-- A model whose child gives 0 and then always 5, and a program that is right code for it in every
+-- part.
 use Rattle.std.specs.Prelude.{ℕ, false, List, [], ◌∷◌, ◌++◌, map, replicate, pos, codes, Some, None, ℤ}
 use Rattle.std.proofs.Common.{lit≤}
 use Rattle.mc_base.specs.declared.Control.TheVariants.{Plain}
@@ -27,7 +28,11 @@ use Rattle.c_shape.specs.TinySamples.{inner_procedure, group_procedure, zeros}
 
 -- C, in which a Constant 5 goes through a Unit Delay to y1, and Out1, which is C's output
 abbrev pub later_five : Diagram
-later_five = simple (row None (SubSystem Plain) [] ∷ row (Some 0) (UnitDelay zero_initial) (2 ∷ []) ∷ row (Some 0) (Constant (whole_decimal 5 (lit≤ tt))) [] ∷ row (Some 0) (Outport 1 false zero_initial) (1 ∷ []) ∷ row None (Outport 1 false zero_initial) (3 ∷ []) ∷ [])
+later_five =
+    simple (row None (SubSystem Plain) [] ∷ row (Some 0) (UnitDelay zero_initial) (2 ∷ [])
+    ∷ row (Some 0) (Constant (whole_decimal 5 (lit≤ tt))) []
+    ∷ row (Some 0) (Outport 1 false zero_initial) (1 ∷ []) ∷ row None (Outport 1 false zero_initial)
+    (3 ∷ []) ∷ [])
 
 -- both systems have one function, which takes nothing
 abbrev pub child_profile : SystemProfile
@@ -49,7 +54,8 @@ at_row b = local_row later_five [] b
 
 -- the values of the delay, the Constant and y1, the delay's memory, and a counter
 abbrev pub child_slots : List Slot
-child_slots = map value (map at_row (1 ∷ 2 ∷ 3 ∷ [])) ++ memory (at_row 1) ∷ counter (counter_name 0) U8 ∷ []
+child_slots =
+    map value (map at_row (1 ∷ 2 ∷ 3 ∷ [])) ++ memory (at_row 1) ∷ counter (counter_name 0) U8 ∷ []
 
 -- its function runs the delay and y1; the update runs the Constant, and then its memory takes that
 abbrev pub child_code : SystemTree
@@ -57,9 +63,11 @@ child_code = record {
   structure = record { name = codes "s0"; fields = map slot_field child_slots };
   outputs = 2 ∷ [];
   procedures =
-      group_procedure (codes "s0_g0") [] 4 (assign 0 0 (read (Own 3)) ∷ assign 0 2 (read (Own 0)) ∷ [])
+      group_procedure (codes "s0_g0") [] 4 (assign 0 0 (read (Own 3)) ∷ assign 0 2 (read (Own 0))
+      ∷ [])
       ∷ inner_procedure (codes "s0_out1") (now_param ∷ []) (call 0 0 OnSelf no_exprs ∷ [])
-      ∷ inner_procedure (codes "s0_update") (now_param ∷ []) (assign 0 1 (literal (pos 5)) ∷ assign 0 3 (read (Own 1)) ∷ zeros (4 ∷ []))
+      ∷ inner_procedure (codes "s0_update") (now_param ∷ []) (assign 0 1 (literal (pos 5))
+      ∷ assign 0 3 (read (Own 1)) ∷ zeros (4 ∷ []))
       ∷ inner_procedure (codes "s0_start") [] (zeros (0 ∷ 1 ∷ 2 ∷ 3 ∷ 4 ∷ []))
       ∷ inner_procedure (codes "s0_reset") [] (zeros (3 ∷ []))
       ∷ [];
@@ -69,17 +77,23 @@ child_code = record {
 
 -- the value of Out1, the child, and a counter
 abbrev pub top_slots : List Slot
-top_slots = value (at_row 4) ∷ instance 0 (child_use later_five child_header) ∷ counter (counter_name 0) U8 ∷ []
+top_slots = value (at_row 4) ∷ instance 0 (child_use later_five child_header)
+    ∷ counter (counter_name 0) U8 ∷ []
 
 abbrev pub top_code : SystemTree
 top_code = record {
   structure = record { name = codes "top"; fields = map slot_field top_slots };
   outputs = 0 ∷ [];
   procedures =
-      group_procedure (codes "top_g0") (now_param ∷ []) 2 (call 0 5 (OnChild 1) (exprs_of_list (read (Param 0) ∷ [])) ∷ assign 0 0 (read (Child 1 0)) ∷ [])
-      ∷ inner_procedure (codes "top_out1") (now_param ∷ []) (call 0 0 OnSelf (exprs_of_list (read (Param 0) ∷ [])) ∷ [])
-      ∷ inner_procedure (codes "top_update") (now_param ∷ []) (call 0 6 (OnChild 1) (exprs_of_list (read (Param 0) ∷ [])) ∷ zeros (2 ∷ []))
-      ∷ inner_procedure (codes "top_start") [] (zeros (0 ∷ 2 ∷ []) ++ call 0 7 (OnChild 1) no_exprs ∷ [])
+      group_procedure (codes "top_g0") (now_param ∷ []) 2
+      (call 0 5 (OnChild 1) (exprs_of_list (read (Param 0) ∷ []))
+      ∷ assign 0 0 (read (Child 1 0)) ∷ [])
+      ∷ inner_procedure (codes "top_out1") (now_param ∷ [])
+      (call 0 0 OnSelf (exprs_of_list (read (Param 0) ∷ [])) ∷ [])
+      ∷ inner_procedure (codes "top_update") (now_param ∷ [])
+      (call 0 6 (OnChild 1) (exprs_of_list (read (Param 0) ∷ [])) ∷ zeros (2 ∷ []))
+      ∷ inner_procedure (codes "top_start") [] (zeros (0 ∷ 2 ∷ []) ++ call 0 7 (OnChild 1) no_exprs
+      ∷ [])
       ∷ inner_procedure (codes "top_reset") [] (call 0 8 (OnChild 1) no_exprs ∷ [])
       ∷ [];
 }
@@ -111,4 +125,10 @@ values_over later [] = []
 values_over later (x ∷ xs) = first_values ∷ map (λ y. later) xs
 
 abbrev pub run_over : (later : List ℤ) → List (List ℤ) → Run
-run_over later xs = record { values = values_over later xs; memories = remembered (pos 0) ∷ map (λ y. remembered (pos 5)) xs; triggers = no_triggers ∷ map (λ y. no_triggers) xs }
+run_over later xs =
+    record {
+      values = values_over later xs;
+      memories = remembered (pos 0)
+          ∷ map (λ y. remembered (pos 5)) xs;
+      triggers = no_triggers ∷ map (λ y. no_triggers) xs;
+    }

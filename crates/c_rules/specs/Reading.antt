@@ -23,12 +23,14 @@ pub record CText (bytes : List ℕ) (p : ProgramTree) : Type 0 where
 abbrev pub IsRuleFault : Option CFault → List ℕ → CFault → Type 0
 IsRuleFault (Some first) bytes fault = fault ≡ first
 IsRuleFault None bytes fault =
-    (written : WrittenProgram) × Spells (tokens_of bytes) written × (resolve_program (last_line bytes) written ≡ Err fault)
+    (written : WrittenProgram) × Spells (tokens_of bytes) written
+    × (resolve_program (last_line bytes) written ≡ Err fault)
 
 -- the first fault behind a first line that is right, or the fault of the first line
 abbrev pub IsFaultBehind : Bool → List ℕ → CFault → Type 0
 IsFaultBehind false bytes fault = fault ≡ fault_at 1 Syntax
-IsFaultBehind true bytes fault = IsRuleFault (token_fault file_needs (last_line bytes) (tokens_of bytes)) bytes fault
+IsFaultBehind true bytes fault =
+    IsRuleFault (token_fault file_needs (last_line bytes) (tokens_of bytes)) bytes fault
 
 -- the bytes are no text of a program, and this is their first fault
 abbrev pub CFaultOf : List ℕ → CFault → Type 0

@@ -1,4 +1,5 @@
--- The static rules: the program that a written program stands for, or the first construct that breaks a rule.
+-- The static rules: the program that a written program stands for, or the first construct that
+-- breaks a rule.
 use Rattle.std.specs.Prelude.{ℕ, ◌+◌, pos, Bool, true, false, not, ◌&&◌, ◌||◌, ◌==◌, nat_le, nat_lt, if◌then◌else◌, List, [], ◌∷◌, ◌++◌, length, map, filter_map, Option, Some, None, Result, Ok, Err, slice_get, slice_index, codes, bytes_eq}
 use Rattle.std.specs.List.{position_from, list_all}
 use Rattle.c_syntax.specs.declared.code.CType.{CType}
@@ -52,7 +53,8 @@ same_types [] [] = true
 same_types (t ∷ ts) (u ∷ us) = same_type t u && same_types ts us
 same_types _ _ = false
 
--- the definitions before a place; of each procedure also the length of the longest chain of calls that begins with it
+-- the definitions before a place; of each procedure also the length of the longest chain of calls
+-- that begins with it
 pub record Known : Type 0 where
   pub pures : List PureTree
   pub structs : List StructTree
@@ -63,7 +65,8 @@ pub record Known : Type 0 where
 abbrev pub function_names : Known → List (List ℕ)
 function_names known = map (λ p. p.name) known.pures ++ map (λ p. p.name) known.procedures
 
--- the names in reach of a body: the definitions before it, its struct's position and fields, and its parameters
+-- the names in reach of a body: the definitions before it, its struct's position and fields, and
+-- its parameters
 pub record Names : Type 0 where
   pub known : Known
   pub of : Option ℕ
@@ -73,7 +76,8 @@ pub record Names : Type 0 where
 -- the position and the kind of the field with a name
 abbrev pub field_from : ℕ → List FieldTree → List ℕ → Option (ℕ × FieldKind)
 field_from i [] name = None
-field_from i (f ∷ fields) name = if bytes_eq f.name name then Some (i, f.kind) else field_from (i + 1) fields name
+field_from i (f ∷ fields) name =
+    if bytes_eq f.name name then Some (i, f.kind) else field_from (i + 1) fields name
 
 -- the position and the kind of the field with a name
 abbrev pub field_named : List FieldTree → List ℕ → Result (ℕ × FieldKind) CKind
@@ -97,7 +101,8 @@ as_struct (Number type) = Err TypeRule
 as_struct (Array type count) = Err TypeRule
 as_struct (Struct k) = Ok k
 
--- a leaf of one name is a parameter; the others are number fields of the own struct or of a field's struct
+-- a leaf of one name is a parameter; the others are number fields of the own struct or of a field's
+-- struct
 abbrev pub resolve_leaf : Names → WrittenLeaf → Result Leaf CKind
 resolve_leaf names (WrittenLeaf.param name) = do
   k ← or_unnamed (position_from (bytes_eq name) 0 names.params)
@@ -222,7 +227,8 @@ resolve_target names (WrittenTarget.field_target name) = do
   field ← field_named names.fields name
   Ok (ChildTarget field.0, field.1)
 
--- a call of a procedure that is defined before, on its own struct, with casts to the parameter types, in no longer chain
+-- a call of a procedure that is defined before, on its own struct, with casts to the parameter
+-- types, in no longer chain
 abbrev pub resolve_call : Names → List ℕ → WrittenTarget → List CType → Result (ℕ × Target) CKind
 resolve_call names name target casts = do
   k ← or_unnamed (position_from (λ p. bytes_eq p.name name) 0 names.known.procedures)
@@ -266,8 +272,10 @@ abbrev mutual
     xs ← resolve_stmts names ss
     Ok (StmtTrees.more_stmts x xs)
 
--- parameters with their lines: each differs from those before it, and from the functions defined before
-abbrev pub check_params : List (List ℕ) → List (List ℕ) → List (ℕ × List ℕ) → Result (Unit {0}) CFault
+-- parameters with their lines: each differs from those before it, and from the functions defined
+-- before
+abbrev pub check_params : List (List ℕ) → List (List ℕ) → List (ℕ × List ℕ) →
+    Result (Unit {0}) CFault
 check_params functions earlier [] = Ok tt
 check_params functions earlier (p ∷ ps) = do
   on_line p.0 (unless_fault (not (has_name functions p.1) && not (has_name earlier p.1)) Name)
@@ -278,8 +286,14 @@ abbrev pub resolve_pure : Known → WrittenPure → Result PureTree CFault
 resolve_pure known p = do
   on_line p.line (unless_fault (not (has_name (function_names known) p.name)) Name)
   check_params (function_names known) [] (map (λ q. (q.line, q.name)) p.params)
-  body ← resolve_expr (record { known = known; of = None; fields = []; params = map (λ q. q.name) p.params }) p.body
-  Ok (record { name = p.name; params = map (λ q. q.name) p.params; body = body; line = p.return_line })
+  body ← resolve_expr
+      (record { known = known; of = None; fields = []; params = map (λ q. q.name) p.params }) p.body
+  Ok (record {
+    name = p.name;
+    params = map (λ q. q.name) p.params;
+    body = body;
+    line = p.return_line;
+  })
 
 -- the most items of an array
 abbrev pub array_limit : ℕ
@@ -309,8 +323,10 @@ is_number_written (struct_kind name) = false
 abbrev pub number_name : WrittenField → Option (List ℕ)
 number_name f = if is_number_written f.kind then Some f.name else None
 
--- a field: its name differs from those before it, its struct is defined before, and in the root's struct it is an output or looks like none
-abbrev pub resolve_field : Known → Bool → List (List ℕ) → List (List ℕ) → WrittenField → Result FieldTree CKind
+-- a field: its name differs from those before it, its struct is defined before, and in the root's
+-- struct it is an output or looks like none
+abbrev pub resolve_field : Known → Bool → List (List ℕ) → List (List ℕ) → WrittenField →
+    Result FieldTree CKind
 resolve_field known is_root numbers earlier f = do
   unless_fault (not (has_name earlier f.name)) Name
   kind ← resolve_kind known f.kind
@@ -318,7 +334,8 @@ resolve_field known is_root numbers earlier f = do
   Ok (record { name = f.name; kind = kind })
 
 -- what the fields of a struct stand for
-abbrev pub resolve_fields : Known → Bool → List (List ℕ) → List (List ℕ) → List WrittenField → Result (List FieldTree) CFault
+abbrev pub resolve_fields : Known → Bool → List (List ℕ) → List (List ℕ) → List WrittenField →
+    Result (List FieldTree) CFault
 resolve_fields known is_root numbers earlier [] = Ok []
 resolve_fields known is_root numbers earlier (f ∷ fs) = do
   x ← on_line f.line (resolve_field known is_root numbers earlier f)
@@ -329,13 +346,18 @@ resolve_fields known is_root numbers earlier (f ∷ fs) = do
 abbrev pub resolve_struct : Known → WrittenStruct → Result StructTree CFault
 resolve_struct known d = do
   on_line d.line (unless_fault (not (has_name (map (λ e. e.name) known.structs) d.name)) Name)
-  fields ← resolve_fields known (bytes_eq d.name (codes "root")) (filter_map number_name d.fields) [] d.fields
+  fields ← resolve_fields known (bytes_eq d.name (codes "root")) (filter_map number_name d.fields)
+      [] d.fields
   Ok (record { name = d.name; fields = fields })
 
--- `root_start` is of the root's struct and has no parameters; `root_step` is of it and has none of int64_t
+-- `root_start` is of the root's struct and has no parameters; `root_step` is of it and has none of
+-- int64_t
 abbrev pub is_lawful_root : WrittenProcedure → Bool
 is_lawful_root p =
-    (not (bytes_eq p.name (codes "root_start")) || (bytes_eq p.of (codes "root") && (length p.params == 0))) && (not (bytes_eq p.name (codes "root_step")) || (bytes_eq p.of (codes "root") && list_all (λ q. not (same_type q.type I64)) p.params))
+    (not (bytes_eq p.name (codes "root_start"))
+    || (bytes_eq p.of (codes "root") && (length p.params == 0)))
+    && (not (bytes_eq p.name (codes "root_step"))
+    || (bytes_eq p.of (codes "root") && list_all (λ q. not (same_type q.type I64)) p.params))
 
 -- a procedure's definition, without its parameters and body: the position of its struct
 abbrev pub resolve_head : Known → WrittenProcedure → Result ℕ CKind
@@ -350,8 +372,19 @@ abbrev pub resolve_procedure : Known → WrittenProcedure → Result ProcedureTr
 resolve_procedure known p = do
   k ← on_line p.line (resolve_head known p)
   check_params (function_names known) [] (map (λ q. (q.line, q.name)) p.params)
-  body ← resolve_stmts (record { known = known; of = Some k; fields = struct_fields known.structs k; params = map (λ q. q.name) p.params }) p.body
-  Ok (record { name = p.name; private = p.private; of = k; params = map (λ q. record { name = q.name; type = q.type }) p.params; body = body })
+  body ← resolve_stmts (record {
+    known = known;
+    of = Some k;
+    fields = struct_fields known.structs k;
+    params = map (λ q. q.name) p.params;
+  }) p.body
+  Ok (record {
+    name = p.name;
+    private = p.private;
+    of = k;
+    params = map (λ q. record { name = q.name; type = q.type }) p.params;
+    body = body;
+  })
 
 -- definitions one after another, each known to those after it
 abbrev pub resolve_pures : Known → List WrittenPure → Result Known CFault
@@ -372,17 +405,24 @@ abbrev pub resolve_procedures : Known → List WrittenProcedure → Result Known
 resolve_procedures known [] = Ok known
 resolve_procedures known (p ∷ ps) = do
   x ← resolve_procedure known p
-  resolve_procedures (record known { procedures = known.procedures ++ x ∷ []; chains = known.chains ++ (stmts_chain known.chains x.body + 1) ∷ [] }) ps
+  resolve_procedures
+      (record known {
+        procedures = known.procedures ++ x ∷ [];
+        chains = known.chains ++ (stmts_chain known.chains x.body + 1) ∷ [];
+      }) ps
 
 -- the root's struct and procedures are there
 abbrev pub has_root : Known → Bool
 has_root known =
-    has_name (map (λ d. d.name) known.structs) (codes "root") && has_name (map (λ p. p.name) known.procedures) (codes "root_start") && has_name (map (λ p. p.name) known.procedures) (codes "root_step")
+    has_name (map (λ d. d.name) known.structs) (codes "root")
+    && has_name (map (λ p. p.name) known.procedures) (codes "root_start")
+    && has_name (map (λ p. p.name) known.procedures) (codes "root_step")
 
 -- the program that a written program stands for, or its first fault; `last` is the text's last line
 abbrev pub resolve_program : ℕ → WrittenProgram → Result ProgramTree CFault
 resolve_program last p = do
-  with_pures ← resolve_pures (record { pures = []; structs = []; procedures = []; chains = [] }) p.pures
+  with_pures ← resolve_pures (record { pures = []; structs = []; procedures = []; chains = [] })
+      p.pures
   with_structs ← resolve_structs with_pures p.structs
   known ← resolve_procedures with_structs p.procedures
   on_line last (unless_fault (has_root known) Name)

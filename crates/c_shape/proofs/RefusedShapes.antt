@@ -52,7 +52,8 @@ unfolding digits
 from_parameter h = no-parameter h.rules.0.stores.1.1.0.0
 
 -- what a test may read holds no value
-no-value : Contains (param (codes "now") ∷ param (codes "ctl") ∷ param (codes "trg") ∷ own (codes "w") ∷ own (codes "k0") ∷ []) (own (codes "v3")) → ⊥
+no-value : Contains (param (codes "now") ∷ param (codes "ctl") ∷ param (codes "trg") ∷ own (codes "w")
+    ∷ own (codes "k0") ∷ []) (own (codes "v3")) → ⊥
 no-value (zero, below, is) = cc is
 no-value (suc zero, below, is) = cc is
 no-value (suc (suc zero), below, is) = cc is

@@ -1,5 +1,5 @@
--- What positions in a system's code stand for, so that rules are said by names: once for a system's code by itself, and
--- once for a program.
+-- What positions in a system's code stand for, so that rules are said by names: once for a system's
+-- code by itself, and once for a program.
 use Rattle.std.specs.Prelude.{◌≡◌, ℕ, List, [], map, slice_index_or}
 use Rattle.c_syntax.specs.declared.CType.{CType}
 use Rattle.c_syntax.specs.declared.CType.TheVariants.{I64}
@@ -11,7 +11,8 @@ use Rattle.c_syntax.specs.Tree.{ExprTree, read, FieldTree, ParamTree}
 use Rattle.c_shape.specs.NamedLeaf.{NamedLeaf, param, own, child}
 use Rattle.c_shape.specs.Heads.{Head}
 
--- the names of own fields, of the fields of a child, and of structs, and the heads of procedures, by position
+-- the names of own fields, of the fields of a child, and of structs, and the heads of procedures,
+-- by position
 pub record CodeNames : Type 0 where
   pub own : ℕ → List ℕ
   pub inner : ℕ → ℕ → List ℕ

@@ -23,15 +23,23 @@ now_param = record { name = now_name; type = I32 }
 
 -- the parameters for a system's inputs by port, and then for its controls
 abbrev pub input_params : SystemHeader → List ParamTree
-input_params h = map (λ e. record { name = port_name h.control e.0; type = container e.1 }) (zip (ports_of_header h) (h.inputs ++ h.controls))
+input_params h =
+    map (λ e. record { name = port_name h.control e.0; type = container e.1 })
+    (zip (ports_of_header h) (h.inputs ++ h.controls))
 
 -- function j takes the tick, the inputs that it needs, and the controls
 abbrev pub out_head : SystemHeader → ℕ → Head
-out_head h j = record { name = out_name h.row j; private = false; params = now_param ∷ taken h j (input_params h) }
+out_head h j =
+    record {
+      name = out_name h.row j;
+      private = false;
+      params = now_param ∷ taken h j (input_params h);
+    }
 
 -- the update takes the tick, all inputs and the controls
 abbrev pub update_head : SystemHeader → Head
-update_head h = record { name = update_name h.row; private = false; params = now_param ∷ input_params h }
+update_head h =
+    record { name = update_name h.row; private = false; params = now_param ∷ input_params h }
 
 abbrev pub start_head : SystemHeader → Head
 start_head h = record { name = start_name h.row; private = false; params = [] }

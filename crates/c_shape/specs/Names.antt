@@ -20,7 +20,8 @@ container t =
 abbrev pub child_name : ℕ → List ℕ
 child_name r = system_name (Some r)
 
--- the fields for the value and the memory of row r, which of a delay of several samples is an array; for what a trigger remembers, and of a struct without any other
+-- the fields for the value and the memory of row r, which of a delay of several samples is an
+-- array; for what a trigger remembers, and of a struct without any other
 abbrev pub value_name : ℕ → List ℕ
 value_name r = codes "v" ++ decimal r
 

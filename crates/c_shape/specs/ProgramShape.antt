@@ -28,7 +28,11 @@ kind_by_name name (Array type count) = array_kind type count
 kind_by_name name (Struct k) = struct_kind name
 
 abbrev pub named_slot : Slot → NamedField
-named_slot s = record { name = (slot_field s).name; kind = kind_by_name (slot_field s).name (slot_field s).kind }
+named_slot s =
+    record {
+      name = (slot_field s).name;
+      kind = kind_by_name (slot_field s).name (slot_field s).kind;
+    }
 
 -- a struct's fields are those of these slots
 pub record HasFields (local : LocalSystem) (fields : List NamedField) : Type 0 where
@@ -36,28 +40,37 @@ pub record HasFields (local : LocalSystem) (fields : List NamedField) : Type 0 w
   pub are_slots : AreSlots local slots
   pub are_fields : map named_slot slots ≡ fields
 
--- the system s of a diagram by its own rows, with its profile, where its children have these headers
+-- the system s of a diagram by its own rows, with its profile, where its children have these
+-- headers
 pub record SystemView (d : Diagram) (delays : List Bool) (s : Option ℕ) : Type 0 where
   pub headers : List SystemHeader
   pub are_headers : AreHeaders d s headers
   pub profile : SystemProfile
   pub is_profile : IsProfileOf d s profile
 
-abbrev pub viewed : {d : Diagram} {delays : List Bool} {s : Option ℕ} → SystemView d delays s → LocalSystem
+abbrev pub viewed : {d : Diagram} {delays : List Bool} {s : Option ℕ} → SystemView d delays s →
+    LocalSystem
 viewed {d} {delays} {s} view = local_of d delays s view.headers
 
--- The code of the system s: its struct, its public procedures, and what its procedures touch. In these words there is
--- nothing of the rows of another system but the headers of the children.
-pub record HasSystemShape (p : ProgramTree) (d : Diagram) (delays : List Bool) (s : Option ℕ) : Type 0 where
+-- The code of the system s: its struct, its public procedures, and what its procedures touch. In
+-- these words there is nothing of the rows of another system but the headers of the children.
+pub record HasSystemShape (p : ProgramTree) (d : Diagram) (delays : List Bool)
+    (s : Option ℕ) : Type 0 where
   pub view : SystemView d delays s
   pub struct_there : (struct_at p (struct_place p s)).name ≡ system_name s
-  pub fields : HasFields (viewed view) (named_fields (names_in p (struct_place p s)) (struct_at p (struct_place p s)).fields)
-  pub heads : IsPermutation (public_heads (own_header (viewed view) view.profile)) (filter (λ h. not h.private) (map head_of (procedures_of p (struct_place p s))))
-  pub rules : AllByRecursion (KeepsRules (names_in p (struct_place p s)) (viewed view) (counters_in fields.slots)) (procedures_of p (struct_place p s))
-  pub once : StatesOnce (names_in p (struct_place p s)) (viewed view) (procedures_of p (struct_place p s))
+  pub fields : HasFields (viewed view)
+      (named_fields (names_in p (struct_place p s)) (struct_at p (struct_place p s)).fields)
+  pub heads : IsPermutation (public_heads (own_header (viewed view) view.profile))
+      (filter (λ h. not h.private) (map head_of (procedures_of p (struct_place p s))))
+  pub rules : AllByRecursion
+      (KeepsRules (names_in p (struct_place p s)) (viewed view) (counters_in fields.slots))
+      (procedures_of p (struct_place p s))
+  pub once : StatesOnce (names_in p (struct_place p s)) (viewed view)
+      (procedures_of p (struct_place p s))
 
 -- the shape of a program for a diagram whose hits repeat after `hyper` ticks
 pub record HasShape (p : ProgramTree) (d : Diagram) (delays : List Bool) (hyper : ℕ) : Type 0 where
-  pub structs : IsPermutation (root_name ∷ map system_name (systems d.rows)) (map (λ st. st.name) p.structs)
+  pub structs : IsPermutation (root_name ∷ map system_name (systems d.rows))
+      (map (λ st. st.name) p.structs)
   pub each : AllByRecursion (HasSystemShape p d delays) (systems d.rows)
   pub root : HasRootCode p d hyper

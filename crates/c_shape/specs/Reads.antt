@@ -5,7 +5,8 @@ use Rattle.c_syntax.specs.declared.Leaf.TheVariants as leaf
 use Rattle.c_syntax.specs.declared.Target.{Target}
 use Rattle.c_syntax.specs.Tree.{ExprTree, literal, neg, read, binary, pick, pure, item, ExprTrees, no_exprs, more_exprs, CondTree, compare, both, either, negated, StmtTree, assign, assign_at, branch, call, StmtTrees, no_stmts, more_stmts, list_of_exprs}
 
--- the leaves in an expression, those in the tests of its choices too; an item of an array counts as its field
+-- the leaves in an expression, those in the tests of its choices too; an item of an array counts as
+-- its field
 abbrev mutual
   pub expr_leaves : ExprTree → List Leaf
   expr_leaves (literal value) = []
@@ -91,7 +92,8 @@ abbrev mutual
   stmt_calls (assign line field value) = []
   stmt_calls (assign_at line field index value) = []
   stmt_calls (branch line test on_true on_false) = calls_in on_true ++ calls_in on_false
-  stmt_calls (call line procedure target values) = record { procedure = procedure; target = target; values = list_of_exprs values } ∷ []
+  stmt_calls (call line procedure target values) =
+      record { procedure = procedure; target = target; values = list_of_exprs values } ∷ []
 
   pub calls_in : StmtTrees → List CallSite
   calls_in no_stmts = []
@@ -102,7 +104,8 @@ abbrev mutual
   pub stmt_leaves : StmtTree → List Leaf
   stmt_leaves (assign line field value) = expr_leaves value
   stmt_leaves (assign_at line field index value) = expr_leaves index ++ expr_leaves value
-  stmt_leaves (branch line test on_true on_false) = cond_leaves test ++ stmts_leaves on_true ++ stmts_leaves on_false
+  stmt_leaves (branch line test on_true on_false) =
+      cond_leaves test ++ stmts_leaves on_true ++ stmts_leaves on_false
   stmt_leaves (call line procedure target values) = exprs_leaves values
 
   pub stmts_leaves : StmtTrees → List Leaf
@@ -113,8 +116,10 @@ abbrev mutual
   -- the indices in statements: of stores in items, and in values, tests and arguments
   pub stmt_indices : StmtTree → List IndexSite
   stmt_indices (assign line field value) = expr_indices value
-  stmt_indices (assign_at line field index value) = record { field = field; index = index } ∷ expr_indices index ++ expr_indices value
-  stmt_indices (branch line test on_true on_false) = cond_indices test ++ indices_in on_true ++ indices_in on_false
+  stmt_indices (assign_at line field index value) =
+      record { field = field; index = index } ∷ expr_indices index ++ expr_indices value
+  stmt_indices (branch line test on_true on_false) =
+      cond_indices test ++ indices_in on_true ++ indices_in on_false
   stmt_indices (call line procedure target values) = exprs_indices values
 
   pub indices_in : StmtTrees → List IndexSite

@@ -24,14 +24,18 @@ with_bodies group on_out on_update = record {
       ∷ [];
 }
 
--- its group by its name, the value that its test compares with 0, and what its output is stored from
+-- its group by its name, the value that its test compares with 0, and what its output is stored
+-- from
 abbrev group : (name : List ℕ) (tested stored : ExprTree) → ProcedureTree
 group name tested stored = record {
   name = name;
   private = true;
   of = 0;
   params = input_param ∷ [];
-  body = stmts_of_list (branch 0 (compare Eq tested (literal (pos 0))) (stmts_of_list (assign 0 2 (literal (pos 1)) ∷ assign 0 0 (read (Param 0)) ∷ assign 0 1 stored ∷ [])) no_stmts ∷ []);
+  body = stmts_of_list
+      (branch 0 (compare Eq tested (literal (pos 0)))
+      (stmts_of_list (assign 0 2 (literal (pos 1)) ∷ assign 0 0 (read (Param 0)) ∷ assign 0 1 stored
+      ∷ [])) no_stmts ∷ []);
 }
 
 abbrev right_group : ProcedureTree
@@ -46,7 +50,12 @@ calls_group = call 0 0 OnSelf (exprs_of_list (read (Param 1) ∷ [])) ∷ []
 -- the struct has a field more
 abbrev pub longer_struct : SystemTree
 longer_struct = record {
-  structure = record { name = child_code.structure.name; fields = child_code.structure.fields ++ record { name = codes "x"; kind = Number U8 } ∷ [] };
+  structure =
+      record {
+        name = child_code.structure.name;
+        fields = child_code.structure.fields
+            ++ record { name = codes "x"; kind = Number U8 } ∷ [];
+      };
   outputs = child_code.outputs;
   procedures = child_code.procedures;
 }
@@ -57,19 +66,24 @@ stored_by_two = with_bodies right_group calls_group (assign 0 1 (read (Own 0)) �
 
 -- the output is stored from the parameter, and not from the place of what it reads
 abbrev pub reads_parameter : SystemTree
-reads_parameter = with_bodies (group (codes "s2_g0") (read (Own 2)) (read (Param 0))) calls_group (zeros (2 ∷ []))
+reads_parameter =
+    with_bodies (group (codes "s2_g0") (read (Own 2)) (read (Param 0))) calls_group (zeros (2 ∷ []))
 
 -- a test reads a value
 abbrev pub tests_value : SystemTree
-tests_value = with_bodies (group (codes "s2_g0") (read (Own 0)) (read (Own 0))) calls_group (zeros (2 ∷ []))
+tests_value =
+    with_bodies (group (codes "s2_g0") (read (Own 0)) (read (Own 0))) calls_group (zeros (2 ∷ []))
 
 -- a private procedure is none of a group
 abbrev pub named_otherwise : SystemTree
-named_otherwise = with_bodies (group (codes "s2_h0") (read (Own 2)) (read (Own 0))) calls_group (zeros (2 ∷ []))
+named_otherwise =
+    with_bodies (group (codes "s2_h0") (read (Own 2)) (read (Own 0))) calls_group (zeros (2 ∷ []))
 
 -- the group is called with a number
 abbrev pub passes_number : SystemTree
-passes_number = with_bodies right_group (call 0 0 OnSelf (exprs_of_list (literal (pos 5) ∷ [])) ∷ []) (zeros (2 ∷ []))
+passes_number =
+    with_bodies right_group (call 0 0 OnSelf (exprs_of_list (literal (pos 5) ∷ [])) ∷ [])
+    (zeros (2 ∷ []))
 
 -- the function stores nothing, and the update calls the group
 abbrev pub gives_nothing : SystemTree

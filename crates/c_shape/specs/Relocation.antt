@@ -5,8 +5,9 @@ use Rattle.c_syntax.specs.declared.Leaf.TheVariants.{Param, Own, Child}
 use Rattle.c_syntax.specs.Tree.{ExprTree, ExprTrees, CondTree, StmtTree, assign, assign_at, branch, call, StmtTrees, no_stmts, more_stmts, ProcedureTree}
 use Rattle.c_machine.specs.MappedLeaves.{mapped_expr, mapped_exprs, mapped_cond}
 
--- Where code goes: its own procedures, which are so many, stand from `first` on; the k-th that its children offer goes to
--- `offered k`, and the outputs of the child at a field to others; and its struct goes to `of`.
+-- Where code goes: its own procedures, which are so many, stand from `first` on; the k-th that its
+-- children offer goes to `offered k`, and the outputs of the child at a field to others; and its
+-- struct goes to `of`.
 pub record Relocation : Type 0 where
   pub own : ℕ
   pub first : ℕ
@@ -14,9 +15,11 @@ pub record Relocation : Type 0 where
   pub output : (field output : ℕ) → ℕ
   pub of : ℕ
 
--- own procedures, which are so many, behind all that the children offer, which are so many and stand in their order
+-- own procedures, which are so many, behind all that the children offer, which are so many and
+-- stand in their order
 abbrev pub behind_children : (own children : ℕ) (output : ℕ → ℕ → ℕ) (of : ℕ) → Relocation
-behind_children own children output of = record { own = own; first = children; offered = λ k. k; output = output; of = of }
+behind_children own children output of =
+    record { own = own; first = children; offered = λ k. k; output = output; of = of }
 
 module _ (m : Relocation) where
   -- where a procedure goes that the code names by this number
@@ -43,7 +46,8 @@ module _ (m : Relocation) where
     pub moved_stmt : StmtTree → StmtTree
     moved_stmt (assign line f e) = assign line f (moved_expr e)
     moved_stmt (assign_at line f index e) = assign_at line f (moved_expr index) (moved_expr e)
-    moved_stmt (branch line test on_true on_false) = branch line (moved_cond test) (moved_stmts on_true) (moved_stmts on_false)
+    moved_stmt (branch line test on_true on_false) =
+        branch line (moved_cond test) (moved_stmts on_true) (moved_stmts on_false)
     moved_stmt (call line k target es) = call line (moved_number k) target (moved_exprs es)
 
     pub moved_stmts : StmtTrees → StmtTrees
@@ -52,4 +56,11 @@ module _ (m : Relocation) where
 
   -- a procedure at its new place
   abbrev pub moved_procedure : ProcedureTree → ProcedureTree
-  moved_procedure q = record { name = q.name; private = q.private; of = m.of; params = q.params; body = moved_stmts q.body }
+  moved_procedure q =
+      record {
+        name = q.name;
+        private = q.private;
+        of = m.of;
+        params = q.params;
+        body = moved_stmts q.body;
+      }

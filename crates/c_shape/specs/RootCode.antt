@@ -24,32 +24,42 @@ use Rattle.c_shape.specs.Programs.{struct_at, procedure_at, names_in, procedures
 abbrev pub root_fields_of : Diagram → List NamedField
 root_fields_of d =
     record { name = now_name; kind = number_kind I32 }
-    ∷ map (λ (e : ℕ × ℕ). record { name = output_name e.0; kind = number_kind (container (type_at d.types e.1)) }) (enumerate_from 1 (outports_of d.rows None))
+    ∷ map (λ (e : ℕ × ℕ). record {
+      name = output_name e.0;
+      kind = number_kind (container (type_at d.types e.1));
+    })
+    (enumerate_from 1 (outports_of d.rows None))
     ++ record { name = system_name None; kind = struct_kind (system_name None) } ∷ []
 
--- a statement of a procedure of the root's struct: a call on `top`, the copy of an output, or the move to the next tick
+-- a statement of a procedure of the root's struct: a call on `top`, the copy of an output, or the
+-- move to the next tick
 pub data RootStep : Type 0 where
   calls : (callee : Head) → RootStep
   copies : (output row : ℕ) → RootStep
   moves_on : RootStep
 
--- what is passed to a parameter of `top`: the tick from its field, and each input from the parameter of that name
+-- what is passed to a parameter of `top`: the tick from its field, and each input from the
+-- parameter of that name
 pub data IsPassed (wanted : List ℕ) : NamedLeaf → Type 0 where
   tick : wanted ≡ now_name → IsPassed wanted (own now_name)
   input : IsPassed wanted (param wanted)
 
--- an expression reads `now` alone, and whatever functions there are it takes each tick of the cycle to the next, the last to
--- the first
-pub record MovesOn (p : ProgramTree) (hyper : ℕ) (q : ProcedureTree) (value : ExprTree) : Type 0 where
-  pub reads : AllByRecursion (λ leaf. leaf ≡ own now_name) (named_leaves (names_in p q.of) q.params (expr_leaves value))
+-- an expression reads `now` alone, and whatever functions there are it takes each tick of the cycle
+-- to the next, the last to the first
+pub record MovesOn (p : ProgramTree) (hyper : ℕ) (q : ProcedureTree)
+    (value : ExprTree) : Type 0 where
+  pub reads : AllByRecursion (λ leaf. leaf ≡ own now_name)
+      (named_leaves (names_in p q.of) q.params (expr_leaves value))
   pub next : (functions : List Function) (t : ℕ) → t < hyper →
-      (steps : ℕ) × (eval functions (record { leaf = λ leaf. pos t; array = λ f. [] }) 0 value 0 ≡ gives (pos ((t + 1) % hyper)) steps)
+      (steps : ℕ) × (eval functions (record { leaf = λ leaf. pos t; array = λ f. [] }) 0 value 0
+      ≡ gives (pos ((t + 1) % hyper)) steps)
 
 module _ (p : ProgramTree) (hyper : ℕ) (q : ProcedureTree) where
   abbrev pub DoesCall : Head → StmtTree → Type 0
   DoesCall callee (call line k (Child f) values) =
       (head_of (procedure_at p k) ≡ callee) × ((names_in p q.of).own f ≡ system_name None)
-      × AllZip (λ wanted e. (what : NamedLeaf) × IsPassed wanted.name what × IsReadOf (names_in p q.of) q.params what e) callee.params (list_of_exprs values)
+      × AllZip (λ wanted e. (what : NamedLeaf) × IsPassed wanted.name what
+      × IsReadOf (names_in p q.of) q.params what e) callee.params (list_of_exprs values)
   DoesCall callee (call line k Own values) = ⊥
   DoesCall callee (assign line f value) = ⊥
   DoesCall callee (assign_at line f index value) = ⊥
@@ -63,7 +73,9 @@ module _ (p : ProgramTree) (hyper : ℕ) (q : ProcedureTree) where
 
   abbrev pub Does : RootStep → StmtTree → Type 0
   Does (calls callee) = DoesCall callee
-  Does (copies output row) = DoesStore (output_name output) (IsReadOf (names_in p q.of) q.params (child (system_name None) (value_name row)))
+  Does (copies output row) =
+      DoesStore (output_name output)
+      (IsReadOf (names_in p q.of) q.params (child (system_name None) (value_name row)))
   Does moves_on = DoesStore now_name (MovesOn p hyper q)
 
 -- a written number, and a store of one
@@ -83,32 +95,44 @@ literal_number _ = pos 0
 
 -- 0 is stored in `now`
 abbrev pub BeginsTick : ProgramTree → ProcedureTree → StmtTree → Type 0
-BeginsTick p q (assign line f value) = ((names_in p q.of).own f ≡ now_name) × (literal_number value ≡ pos 0)
+BeginsTick p q (assign line f value) =
+    ((names_in p q.of).own f ≡ now_name) × (literal_number value ≡ pos 0)
 BeginsTick p q _ = ⊥
 
--- a tick: each function of `top` in some order, its update, each output in some order, and the move to the next tick
+-- a tick: each function of `top` in some order, its update, each output in some order, and the move
+-- to the next tick
 pub record IsTickOf (d : Diagram) (top : SystemHeader) (steps : List RootStep) : Type 0 where
   pub functions : List Head
   pub each_function : IsPermutation (out_heads top) functions
   pub outputs : List (ℕ × ℕ)
   pub each_output : IsPermutation (enumerate_from 1 (outports_of d.rows None)) outputs
-  pub in_order : steps ≡ map calls functions ++ calls (update_head top) ∷ map (λ o. copies o.0 o.1) outputs ++ moves_on ∷ []
+  pub in_order : steps ≡ map calls functions ++ calls (update_head top)
+      ∷ map (λ o. copies o.0 o.1) outputs ++ moves_on ∷ []
 
--- `struct root` has the tick, the outputs and `top`; `root_start` starts `top`, makes the tick 0, and stores nothing else;
--- `root_step` takes the inputs and does the steps of a tick
+-- `struct root` has the tick, the outputs and `top`; `root_start` starts `top`, makes the tick 0,
+-- and stores nothing else; `root_step` takes the inputs and does the steps of a tick
 pub record HasRootCode (p : ProgramTree) (d : Diagram) (hyper : ℕ) : Type 0 where
   pub profile : SystemProfile
   pub is_profile : IsProfileOf d None profile
   pub name : (struct_at p (root_struct p)).name ≡ root_name
-  pub fields : IsPermutation (root_fields_of d) (named_fields (names_in p (root_struct p)) (struct_at p (root_struct p)).fields)
+  pub fields : IsPermutation (root_fields_of d)
+      (named_fields (names_in p (root_struct p)) (struct_at p (root_struct p)).fields)
   pub start : ProcedureTree
   pub step : ProcedureTree
   pub only : IsPermutation (start ∷ step ∷ []) (procedures_of p (root_struct p))
   pub start_head : head_of start ≡ record { name = root_start_name; private = false; params = [] }
-  pub step_head : head_of step ≡ record { name = root_step_name; private = false; params = input_params (header_of d None profile) }
+  pub step_head : head_of step
+      ≡ record {
+        name = root_step_name;
+        private = false;
+        params = input_params (header_of d None profile);
+      }
   pub begins : 0 < length (filter is_literal_store (list_of_stmts start.body))
-  pub tick_alone : AllByRecursion (BeginsTick p start) (filter is_literal_store (list_of_stmts start.body))
-  pub starts : AllZip (Does p hyper start) (calls (Rattle.c_shape.specs.Heads.start_head (header_of d None profile)) ∷ []) (filter (λ st. not (is_literal_store st)) (list_of_stmts start.body))
+  pub tick_alone : AllByRecursion (BeginsTick p start)
+      (filter is_literal_store (list_of_stmts start.body))
+  pub starts : AllZip (Does p hyper start)
+      (calls (Rattle.c_shape.specs.Heads.start_head (header_of d None profile)) ∷ [])
+      (filter (λ st. not (is_literal_store st)) (list_of_stmts start.body))
   pub steps : List RootStep
   pub are_steps : IsTickOf d (header_of d None profile) steps
   pub does : AllZip (Does p hyper step) steps (list_of_stmts step.body)

@@ -16,8 +16,9 @@ use Rattle.c_syntax.specs.Tree.{FieldTree, StructTree}
 use Rattle.c_shape.specs.Names.{container, value_name, memory_name, place_name, taken_name, trigger_name, filler_name, is_counter_name}
 use Rattle.c_shape.specs.Delays.{is_single, is_line}
 
--- A field: the value of a row, the memory of a delay of one sample, the array, the place and the count of a delay of
--- several, what the trigger remembers, a counter, a child at its position, or the field of a struct that would be empty.
+-- A field: the value of a row, the memory of a delay of one sample, the array, the place and the
+-- count of a delay of several, what the trigger remembers, a counter, a child at its position, or
+-- the field of a struct that would be empty.
 pub data Slot : Type 0 where
   value : (row : LocalRow) → Slot
   memory : (row : LocalRow) → Slot
@@ -33,7 +34,8 @@ pub data Slot : Type 0 where
 abbrev pub slot_field : Slot → FieldTree
 slot_field (value r) = record { name = value_name r.row; kind = Number (container r.out) }
 slot_field (memory r) = record { name = memory_name r.row; kind = Number (container r.out) }
-slot_field (ring_items r) = record { name = memory_name r.row; kind = Array (container r.out) (delay_length r.op) }
+slot_field (ring_items r) =
+    record { name = memory_name r.row; kind = Array (container r.out) (delay_length r.op) }
 slot_field (ring_place r) = record { name = place_name r.row; kind = Number I32 }
 slot_field (ring_taken r) = record { name = taken_name r.row; kind = Number I32 }
 slot_field trigger = record { name = trigger_name; kind = Number I8 }
@@ -81,12 +83,15 @@ pub record CounterField : Type 0 where
 pub record AreSlots (local : LocalSystem) (slots : List Slot) : Type 0 where
   pub counters : List CounterField
   pub named : AllByRecursion (λ c. IsTrue (is_counter_name c.name)) counters
-  pub all : IsPermutation (or_filler (own_slots local ++ map (λ c. counter c.name c.type) counters)) slots
+  pub all : IsPermutation (or_filler (own_slots local ++ map (λ c. counter c.name c.type) counters))
+      slots
 
 -- the struct has these slots as its fields
 abbrev pub IsStructOf : LocalSystem → List Slot → StructTree → Type 0
-IsStructOf local slots struct = struct ≡ record { name = system_name local.row; fields = map slot_field slots }
+IsStructOf local slots struct =
+    struct ≡ record { name = system_name local.row; fields = map slot_field slots }
 
 -- these are, by port, the positions of the outputs' values
 abbrev pub AreOutputPlaces : LocalSystem → List Slot → List ℕ → Type 0
-AreOutputPlaces local slots places = AllZip (λ o k. slice_get slots k ≡ Some (value o)) (outports local) places
+AreOutputPlaces local slots places =
+    AllZip (λ o k. slice_get slots k ≡ Some (value o)) (outports local) places

@@ -12,4 +12,9 @@ pub record SystemTree : Type 0 where
 
 -- the plain tree of a value of the program
 abbrev pub system_tree : SystemCode → SystemTree
-system_tree c = record { structure = c.structure; outputs = c.outputs.items; procedures = map procedure_tree c.procedures.items }
+system_tree c =
+    record {
+      structure = c.structure;
+      outputs = c.outputs.items;
+      procedures = map procedure_tree c.procedures.items;
+    }

@@ -42,7 +42,8 @@ of-kind (Convert how) ts out delays k h = absurd (true≢false (sym h))
 of-kind EnablePort ts out delays k h = absurd (true≢false (sym h))
 of-kind TriggerPort ts out delays k h = absurd (true≢false (sym h))
 
-pub delays-are-some : (r : ResolvedTree) (b : ℕ) → IsResolvedTree r → b < length (diagram_of r).rows → is_delay (op_at (diagram_of r) b) ≡ true →
+pub delays-are-some : (r : ResolvedTree) (b : ℕ) → IsResolvedTree r → b < length (diagram_of r).rows →
+    is_delay (op_at (diagram_of r) b) ≡ true →
     IsLength (delay_length (op_at (diagram_of r) b))
 delays-are-some r b resolved inside delay =
     let d = diagram_of r in

@@ -9,7 +9,8 @@ use Rattle.mc_diagram.specs.SystemRuns.{IsRowOf}
 use Rattle.mc_diagram.proofs.lemmas.RestsOnNeeds.{same_system-equal}
 
 -- what holds of each number below a limit that passes a test
-each-passed : {A : Type 0} (P : A → Type 0) (f : ℕ → A) (test : ℕ → Bool) (limit n a : ℕ) → ((b : ℕ) → b < limit → test b ≡ true → P (f b)) → a + n ≤ limit →
+each-passed : {A : Type 0} (P : A → Type 0) (f : ℕ → A) (test : ℕ → Bool) (limit n a : ℕ) →
+    ((b : ℕ) → b < limit → test b ≡ true → P (f b)) → a + n ≤ limit →
     AllByRecursion P (map f (filter test (range_with_len a n)))
 each-passed P f test limit zero a holds inside = tt
 each-passed {A} P f test limit (suc n) a holds inside = by (test a) refl (each-passed P f test limit n (a + 1) holds (omega arith))
@@ -27,7 +28,8 @@ each-row P f rows n holds =
     (λ b below passes. holds b (record { in_table = below; own = same_system-equal (row_at rows b).owner n passes })) (omega arith)
 
 -- what holds of those that pass a test
-pub each-kept : {A : Type 0} (P : A → Type 0) (test : A → Bool) (xs : List A) → AllByRecursion (λ x. test x ≡ true → P x) xs → AllByRecursion P (filter test xs)
+pub each-kept : {A : Type 0} (P : A → Type 0) (test : A → Bool) (xs : List A) →
+    AllByRecursion (λ x. test x ≡ true → P x) xs → AllByRecursion P (filter test xs)
 each-kept P test [] all = tt
 each-kept {A} P test (x ∷ xs) all = by (test x) refl (each-kept P test xs all.1)
   where
@@ -108,28 +110,36 @@ of-filter p (y ∷ ys) x h = by (p y) refl h (λ more. of-filter p ys x more)
 pub of-rows : (rows : List Row) (n : Option ℕ) (b : ℕ) → Contains (rows_of rows n) b → IsRowOf rows n b
 of-rows rows n b h =
     let passes = of-filter (λ c. same_system (row_at rows c).owner n) (row_numbers rows) b h in
-    record { in_table = let below = below-end 0 (length rows) b passes.0 in omega arith; own = same_system-equal (row_at rows b).owner n passes.1 }
+    record {
+      in_table = let below = below-end 0 (length rows) b passes.0 in
+          omega arith;
+      own = same_system-equal (row_at rows b).owner n passes.1;
+    }
 
 -- what holds of each member of a list, made something else
-pub each-made : {A B : Type 0} (P : B → Type 0) (f : A → B) (xs : List A) → ((x : A) → Contains xs x → P (f x)) → AllByRecursion P (map f xs)
+pub each-made : {A B : Type 0} (P : B → Type 0) (f : A → B) (xs : List A) → ((x : A) → Contains xs x → P (f x)) →
+    AllByRecursion P (map f xs)
 each-made P f [] holds = tt
 each-made P f (x ∷ xs) holds = (holds x (in-first x xs), each-made P f xs (λ y h. holds y (in-rest x y xs h)))
 
 -- ---- Lists side by side
 
-pub zip-made : {A B C : Type 0} (P : B → C → Type 0) (f : A → B) (xs : List A) (ys : List C) → AllZip (λ x y. P (f x) y) xs ys → AllZip P (map f xs) ys
+pub zip-made : {A B C : Type 0} (P : B → C → Type 0) (f : A → B) (xs : List A) (ys : List C) →
+    AllZip (λ x y. P (f x) y) xs ys → AllZip P (map f xs) ys
 zip-made P f [] [] h = tt
 zip-made P f [] (y ∷ ys) h = absurd h
 zip-made P f (x ∷ xs) [] h = absurd h
 zip-made P f (x ∷ xs) (y ∷ ys) h = (h.0, zip-made P f xs ys h.1)
 
-pub zip-from : {A B C : Type 0} (P : B → C → Type 0) (f : A → B) (xs : List A) (ys : List C) → AllZip P (map f xs) ys → AllZip (λ x y. P (f x) y) xs ys
+pub zip-from : {A B C : Type 0} (P : B → C → Type 0) (f : A → B) (xs : List A) (ys : List C) → AllZip P (map f xs) ys →
+    AllZip (λ x y. P (f x) y) xs ys
 zip-from P f [] [] h = tt
 zip-from P f [] (y ∷ ys) h = absurd h
 zip-from P f (x ∷ xs) [] h = absurd h
 zip-from P f (x ∷ xs) (y ∷ ys) h = (h.0, zip-from P f xs ys h.1)
 
-pub zip-back : {A B C : Type 0} (P : A → C → Type 0) (f : B → C) (xs : List A) (ys : List B) → AllZip P xs (map f ys) → AllZip (λ x y. P x (f y)) xs ys
+pub zip-back : {A B C : Type 0} (P : A → C → Type 0) (f : B → C) (xs : List A) (ys : List B) → AllZip P xs (map f ys) →
+    AllZip (λ x y. P x (f y)) xs ys
 zip-back P f [] [] h = tt
 zip-back P f [] (y ∷ ys) h = absurd h
 zip-back P f (x ∷ xs) [] h = absurd h

@@ -38,7 +38,8 @@ becomes IsSo q h = by (q.routine.run [] midst 0) (h.renews.does midst 0 has room
     room : 0 + h.own.most ≤ step_limit
     room = let most : h.own.most ≤ 64 = h.most in omega arith
 
-    by : (o : Outcome) → OnDone o (λ a. (a.cells ≡ h.own.renewed midst) × (a.steps ≤ 0 + h.own.most) × (a.log ≡ [])) → OnDone o (λ a. AllSlots IsSo slots midst a.cells)
+    by : (o : Outcome) → OnDone o (λ a. (a.cells ≡ h.own.renewed midst) × (a.steps ≤ 0 + h.own.most) × (a.log ≡ [])) →
+        OnDone o (λ a. AllSlots IsSo slots midst a.cells)
     by (done a) left = subst (AllSlots IsSo slots midst) (sym left.0) (h.becomes midst has)
     by (stuck at cells) left = left
 
@@ -71,11 +72,45 @@ is_typed = record {
   values = (search rules, (search rules, (search rules, tt)));
   memories = (((search rules, tt), (search rules, tt)), tt);
   evaluable = (
-    λ runs. record { kind = Inport 1; types = []; out = int32; delays = false; is_op = refl; within_limits = tt; has_types = tt; narrow = lit≤ tt; reads = tt; passes = (lit< tt, search rules) },
+    λ runs. record {
+      kind = Inport 1;
+      types = [];
+      out = int32;
+      delays = false;
+      is_op = refl;
+      within_limits = tt;
+      has_types = tt;
+      narrow = lit≤ tt;
+      reads = tt;
+      passes = (lit< tt, search rules);
+    },
     (
-      λ runs. record { kind = UnitDelay zero_initial; types = int32 ∷ []; out = int32; delays = false; is_op = refl; within_limits = tt; has_types = tt; narrow = lit≤ tt; reads = tt; passes = search rules },
+      λ runs. record {
+        kind = UnitDelay zero_initial;
+        types = int32 ∷ [];
+        out = int32;
+        delays = false;
+        is_op = refl;
+        within_limits = tt;
+        has_types = tt;
+        narrow = lit≤ tt;
+        reads = tt;
+        passes = search rules;
+      },
       (
-        λ runs. record { kind = Outport 1 false zero_initial; types = int32 ∷ []; out = int32; delays = false; is_op = refl; within_limits = tt; has_types = tt; narrow = lit≤ tt; reads = tt; passes = (lit< tt, search rules) },
+        λ runs. record {
+          kind = Outport 1 false zero_initial;
+          types = int32 ∷ [];
+          out = int32;
+          delays = false;
+          is_op = refl;
+          within_limits = tt;
+          has_types = tt;
+          narrow = lit≤ tt;
+          reads = tt;
+          passes =
+              (lit< tt, search rules);
+        },
         tt,
       ),
     ),
@@ -96,10 +131,12 @@ module _ (pures : List PureTree) (prelude : IsPrelude pures) where
   abbrev reset_of : SystemTree → Offered
   reset_of code = (own_offer local profile pures slots [] code (λ k. k)).reset
 
-  abbrev begun : (code : SystemTree) → Behaves local profile slots code → RenewsOwn local slots [] (IsStarted local []) (own_offer local profile pures slots [] code (λ k. k)).start
+  abbrev begun : (code : SystemTree) → Behaves local profile slots code →
+      RenewsOwn local slots [] (IsStarted local []) (own_offer local profile pures slots [] code (λ k. k)).start
   begun code h = h.starts pures prelude (λ k. k) [] tt [] tt
 
-  abbrev cleared : (code : SystemTree) → Behaves local profile slots code → RenewsOwn local slots [] (IsReset local []) (own_offer local profile pures slots [] code (λ k. k)).reset
+  abbrev cleared : (code : SystemTree) → Behaves local profile slots code →
+      RenewsOwn local slots [] (IsReset local []) (own_offer local profile pures slots [] code (λ k. k)).reset
   cleared code h = h.resets pures prelude (λ k. k) [] tt [] tt
 
   values_are_left : Behaves local profile slots start_leaves_values → ⊥
@@ -118,7 +155,9 @@ module _ (pures : List PureTree) (prelude : IsPrelude pures) where
   unfolding digits
   nothing_is_reset h = apart 5 0 refl (becomes (IsReset local []) (reset_of empty_reset) (cleared empty_reset h)).1.1.1.0
 
-  keeps : (code : SystemTree) (h : Behaves local profile slots code) → KeepsRelation local (own_header local profile) slots h.held h.counted 1 high_tick (own_offer local profile pures slots [] code (λ k. k)) []
+  keeps : (code : SystemTree) (h : Behaves local profile slots code) →
+      KeepsRelation local (own_header local profile) slots h.held h.counted 1 high_tick
+      (own_offer local profile pures slots [] code (λ k. k)) []
   keeps code h = h.in_ticks pures prelude (λ k. k) 1 one_cycle [] tt high_tick is_tick is_typed [] tt
 
   -- the call of the first function takes no more steps than the budget
@@ -126,7 +165,8 @@ module _ (pures : List PureTree) (prelude : IsPrelude pures) where
   room code h =
       let k = keeps code h in
       let most : k.own.most none_called (out 1) ≡ k.steps none_called (out 1) + 0 = (k.adds none_called (out 1) may_come).most in
-      let budget : k.steps none_called (out 1) + k.steps (with_called none_called 1) update ≤ 64 = k.in_budget.ticks (1 ∷ []) (record { moves = []; below = tt; is = refl }) in
+      let budget : k.steps none_called (out 1) + k.steps (with_called none_called 1) update ≤ 64 =
+      k.in_budget.ticks (1 ∷ []) (record { moves = []; below = tt; is = refl }) in
       omega (arith, most, budget)
 
   -- a function that does nothing leaves the output at the 8 of the tick before, where it should be 5
@@ -134,7 +174,9 @@ module _ (pures : List PureTree) (prelude : IsPrelude pures) where
   unfolding digits
   nothing_is_given h =
       let k = keeps idle_function h in
-      let left : k.own.standing none_called ≡ k.own.standing (with_called none_called 1) = (k.serves.acts none_called (out 1) may_come 0 (room idle_function h)).fields in
+      let left : k.own.standing none_called ≡ k.own.standing (with_called none_called 1) =
+      (k.serves.acts none_called (out 1) may_come 0 (room idle_function h)).fields in
       let before : number_at (k.own.standing none_called) 2 ≡ pos 8 = k.serves.outputs none_called 0 (lit< tt) in
-      let behind : number_at (k.own.standing (with_called none_called 1)) 2 ≡ pos 5 = k.serves.outputs (with_called none_called 1) 0 (lit< tt) in
+      let behind : number_at (k.own.standing (with_called none_called 1)) 2 ≡ pos 5 =
+      k.serves.outputs (with_called none_called 1) 0 (lit< tt) in
       apart 8 5 refl (ap number (sym before ∙ ap (λ (cells : Cells). number_at cells 2) left ∙ behind))

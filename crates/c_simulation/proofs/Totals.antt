@@ -50,7 +50,8 @@ total-kept {A} f test (x ∷ xs) = by (test x) ∙ ap (λ n. cond (test x) (f x)
 
 -- ---- Each element has one owner at most
 
-module _ {A S : Type 0} (owns : A → S → Bool) (f : A → ℕ) (owners : List S) (one : (x : A) → total (λ s. cond (owns x s) 1 0) owners ≤ 1) where
+module _ {A S : Type 0} (owns : A → S → Bool) (f : A → ℕ) (owners : List S) (one : (x : A) →
+    total (λ s. cond (owns x s) 1 0) owners ≤ 1) where
   weighed : (x : A) (ss : List S) → total (λ s. cond (owns x s) (f x) 0) ss ≡ f x * total (λ s. cond (owns x s) 1 0) ss
   weighed x [] = omega arith
   weighed x (s ∷ ss) = ap₂ (λ a b. a + b) (by (owns x s)) (weighed x ss) ∙ omega arith
@@ -89,16 +90,23 @@ module _ {A S : Type 0} (owns : A → S → Bool) (f : A → ℕ) (owners : List
 
 -- ---- The owners of rows: no two of these systems are one
 
-none-later : (o a n : ℕ) (test : ℕ → Bool) → o < a → total (λ s. cond (same_system (Some o) s) 1 0) (map Some (filter test (range_with_len a n))) ≡ 0
+none-later : (o a n : ℕ) (test : ℕ → Bool) → o < a →
+    total (λ s. cond (same_system (Some o) s) 1 0) (map Some (filter test (range_with_len a n))) ≡ 0
 none-later o a zero test less = refl
 none-later o a (suc n) test less = by (test a) (none-later o (a + 1) n test (omega arith))
   where
     by : (r : Bool) → total (λ s. cond (same_system (Some o) s) 1 0) (map Some (filter test (range_with_len (a + 1) n))) ≡ 0 →
-        total (λ s. cond (same_system (Some o) s) 1 0) (map Some (cond r (a ∷ filter test (range_with_len (a + 1) n)) (filter test (range_with_len (a + 1) n)))) ≡ 0
-    by true rest = ap (λ q. cond q 1 0 + total (λ s. cond (same_system (Some o) s) 1 0) (map Some (filter test (range_with_len (a + 1) n)))) (ne_eqb a o (λ e. omega arith)) ∙ (let none = rest in omega arith)
+        total (λ s. cond (same_system (Some o) s) 1 0)
+        (map Some (cond r (a ∷ filter test (range_with_len (a + 1) n)) (filter test (range_with_len (a + 1) n))))
+        ≡ 0
+    by true rest =
+        ap (λ q. cond q 1 0 + total (λ s. cond (same_system (Some o) s) 1 0)
+        (map Some (filter test (range_with_len (a + 1) n)))) (ne_eqb a o (λ e. omega arith))
+        ∙ (let none = rest in omega arith)
     by false rest = rest
 
-pub one-subsystem : (o a n : ℕ) (test : ℕ → Bool) → total (λ s. cond (same_system (Some o) s) 1 0) (map Some (filter test (range_with_len a n))) ≤ 1
+pub one-subsystem : (o a n : ℕ) (test : ℕ → Bool) →
+    total (λ s. cond (same_system (Some o) s) 1 0) (map Some (filter test (range_with_len a n))) ≤ 1
 one-subsystem o a zero test = omega arith
 one-subsystem o a (suc n) test = by (test a) (a == o) refl (one-subsystem o (a + 1) n test)
   where
@@ -106,7 +114,9 @@ one-subsystem o a (suc n) test = by (test a) (a == o) refl (one-subsystem o (a +
     rest = total (λ s. cond (same_system (Some o) s) 1 0) (map Some (filter test (range_with_len (a + 1) n)))
 
     by : (r q : Bool) → (a == o) ≡ q → rest ≤ 1 →
-        total (λ s. cond (same_system (Some o) s) 1 0) (map Some (cond r (a ∷ filter test (range_with_len (a + 1) n)) (filter test (range_with_len (a + 1) n)))) ≤ 1
+        total (λ s. cond (same_system (Some o) s) 1 0)
+        (map Some (cond r (a ∷ filter test (range_with_len (a + 1) n)) (filter test (range_with_len (a + 1) n))))
+        ≤ 1
     by false q is few = few
     by true true is few =
         let e = eqb-true a o is in
@@ -119,7 +129,8 @@ no-root [] = refl
 no-root (e ∷ es) = let none = no-root es in omega arith
 
 -- the root, and those of some rows in order
-pub one-owner : (o : Option ℕ) (n : ℕ) (test : ℕ → Bool) → total (λ s. cond (same_system o s) 1 0) (None ∷ map Some (filter test (range_with_len 0 n))) ≤ 1
+pub one-owner : (o : Option ℕ) (n : ℕ) (test : ℕ → Bool) →
+    total (λ s. cond (same_system o s) 1 0) (None ∷ map Some (filter test (range_with_len 0 n))) ≤ 1
 one-owner None n test = let none = no-root (filter test (range_with_len 0 n)) in omega arith
 one-owner (Some o) n test = let few = one-subsystem o 0 n test in omega arith
 

@@ -1,5 +1,5 @@
--- Laws of the fields while nodes are executed: they have the struct's shape, one node more is one field more, and the code of a
--- node leads from the one to the other.
+-- Laws of the fields while nodes are executed: they have the struct's shape, one node more is one
+-- field more, and the code of a node leads from the one to the other.
 use Rattle.std.specs.Prelude.{◌≡◌, ◌⊎◌, ℕ, ◌+◌, ◌<◌, ◌≤◌, Bool, true, false, if◌then◌else◌, MatchBool, List, [], map, length, slice_get, Contains, IsTrue, IsFalse, Some, ℤ, pos}
 use Rattle.std.specs.List.{AllZip}
 use Rattle.mc_blocks.specs.Meaning.{has_value}
@@ -29,29 +29,37 @@ IsCounting counted = (name : List ℕ) → (counted name ≡ pos 0) ⊎ (counted
 
 -- the fields of a typed tick have the struct's shape
 abbrev pub StandingHasSlots : Type 0
-StandingHasSlots = (local : LocalSystem) (slots : List Slot) (m : LocalTick) (children : List InstanceTick) →
+StandingHasSlots =
+    (local : LocalSystem) (slots : List Slot) (m : LocalTick) (children : List InstanceTick) →
     IsSoundLocal local → AreSlots local slots → IsLocalTick local m → IsTypedTick local m →
     (executed : Node → Bool) (counted : List ℕ → ℤ) → IsCounting counted →
     HasSlots slots (standing_cells local m children slots executed counted)
 
 -- one row more is one field more
 abbrev pub RowIsOneField : Type 0
-RowIsOneField = (local : LocalSystem) (slots : List Slot) (m : LocalTick) (children : List InstanceTick) →
+RowIsOneField =
+    (local : LocalSystem) (slots : List Slot) (m : LocalTick) (children : List InstanceTick) →
     IsSoundLocal local → AreSlots local slots →
-    (executed : Node → Bool) (counted : List ℕ → ℤ) (f : ℕ) (r : LocalRow) → slice_get slots f ≡ Some (value r) →
+    (executed : Node → Bool) (counted : List ℕ → ℤ) (f : ℕ) (r : LocalRow) →
+    slice_get slots f ≡ Some (value r) →
     standing_cells local m children slots (with_node executed (Row r.row)) counted
-    ≡ set_cell (standing_cells local m children slots executed counted) f (number (m.tick.value r.row))
+    ≡ set_cell (standing_cells local m children slots executed counted) f
+    (number (m.tick.value r.row))
 
 -- a row without a value changes no field
 abbrev pub RowIsNoField : Type 0
-RowIsNoField = (local : LocalSystem) (slots : List Slot) (m : LocalTick) (children : List InstanceTick) →
+RowIsNoField =
+    (local : LocalSystem) (slots : List Slot) (m : LocalTick) (children : List InstanceTick) →
     IsSoundLocal local → AreSlots local slots →
-    (executed : Node → Bool) (counted : List ℕ → ℤ) (r : LocalRow) → Contains local.rows r → has_value r.kind ≡ false →
-    standing_cells local m children slots (with_node executed (Row r.row)) counted ≡ standing_cells local m children slots executed counted
+    (executed : Node → Bool) (counted : List ℕ → ℤ) (r : LocalRow) → Contains local.rows r →
+    has_value r.kind ≡ false →
+    standing_cells local m children slots (with_node executed (Row r.row)) counted
+    ≡ standing_cells local m children slots executed counted
 
 -- one call more is one child further, where the system is active
 abbrev pub CallIsOneChild : Type 0
-CallIsOneChild = (local : LocalSystem) (slots : List Slot) (m : LocalTick) (children : List InstanceTick) →
+CallIsOneChild =
+    (local : LocalSystem) (slots : List Slot) (m : LocalTick) (children : List InstanceTick) →
     IsSoundLocal local → AreSlots local slots →
     (executed : Node → Bool) (counted : List ℕ → ℤ) (f k j e : ℕ) (u : ChildUse) →
     slice_get slots f ≡ Some (instance k u) → u.header.row ≡ Some e →
@@ -62,8 +70,10 @@ CallIsOneChild = (local : LocalSystem) (slots : List Slot) (m : LocalTick) (chil
 
 -- ---- Code
 
--- A sound system with these slots in a typed tick in which the system around it is active, and its children serve.
-pub record IsInTick (local : LocalSystem) (slots : List Slot) (offers : List Offer) (children : List InstanceTick) (cycle : ℕ)
+-- A sound system with these slots in a typed tick in which the system around it is active, and its
+-- children serve.
+pub record IsInTick (local : LocalSystem) (slots : List Slot) (offers : List Offer)
+    (children : List InstanceTick) (cycle : ℕ)
     (m : LocalTick) : Type 0 where
   pub sound : IsSoundLocal local
   pub are_slots : AreSlots local slots
@@ -79,25 +89,41 @@ pub record IsNextNode (local : LocalSystem) (executed : Node → Bool) (y : Node
 
 -- The code of a row takes the fields from one set of executed nodes to the next.
 abbrev pub RowIsExecuted : Type 0
-RowIsExecuted = (local : LocalSystem) (slots : List Slot) (offers : List Offer) (children : List InstanceTick) (cycle : ℕ)
+RowIsExecuted =
+    (local : LocalSystem) (slots : List Slot) (offers : List Offer) (children : List InstanceTick)
+    (cycle : ℕ)
     (m : LocalTick) → IsInTick local slots offers children cycle m →
-    (params : List ParamTree) (scope : List ℤ → Scope) (code : StmtTrees) (most f : ℕ) (r : LocalRow) →
-    GivesValue local slots offers children cycle m params scope code most r → slice_get slots f ≡ Some (value r) →
-    (executed : Node → Bool) (counted : List ℕ → ℤ) → IsCounting counted → IsNextNode local executed (Row r.row) →
-    (values : List ℤ) → AllZip (IsArgument local slots offers children cycle m params scope) params values →
-    Gives local slots offers children cycle m params scope code values (standing_cells local m children slots executed counted)
-    (standing_cells local m children slots (with_node executed (Row r.row)) counted) most [] (stored_once f)
+    (params : List ParamTree) (scope : List ℤ → Scope) (code : StmtTrees) (most f : ℕ)
+    (r : LocalRow) →
+    GivesValue local slots offers children cycle m params scope code most r →
+    slice_get slots f ≡ Some (value r) →
+    (executed : Node → Bool) (counted : List ℕ → ℤ) → IsCounting counted →
+    IsNextNode local executed (Row r.row) →
+    (values : List ℤ) →
+    AllZip (IsArgument local slots offers children cycle m params scope) params values →
+    Gives local slots offers children cycle m params scope code values
+    (standing_cells local m children slots executed counted)
+    (standing_cells local m children slots (with_node executed (Row r.row)) counted) most []
+    (stored_once f)
 
 -- So does the code of a call, which is made where the system is active.
 abbrev pub CallIsExecuted : Type 0
-CallIsExecuted = (local : LocalSystem) (slots : List Slot) (offers : List Offer) (children : List InstanceTick) (cycle : ℕ)
+CallIsExecuted =
+    (local : LocalSystem) (slots : List Slot) (offers : List Offer) (children : List InstanceTick)
+    (cycle : ℕ)
     (m : LocalTick) → IsInTick local slots offers children cycle m →
-    (params : List ParamTree) (scope : List ℤ → Scope) (code : StmtTrees) (most f k j e : ℕ) (u : ChildUse) →
-    GivesCall local slots offers children cycle m params scope code most f k u j → slice_get slots f ≡ Some (instance k u) →
+    (params : List ParamTree) (scope : List ℤ → Scope) (code : StmtTrees) (most f k j e : ℕ)
+    (u : ChildUse) →
+    GivesCall local slots offers children cycle m params scope code most f k u j →
+    slice_get slots f ≡ Some (instance k u) →
     u.header.row ≡ Some e → 0 < j → j ≤ length (header_functions u.header) →
-    (executed : Node → Bool) (counted : List ℕ → ℤ) → IsCounting counted → IsNextNode local executed (Call e j) →
-    (values : List ℤ) → AllZip (IsArgument local slots offers children cycle m params scope) params values →
-    let gives = Gives local slots offers children cycle m params scope code values (standing_cells local m children slots executed counted)
+    (executed : Node → Bool) (counted : List ℕ → ℤ) → IsCounting counted →
+    IsNextNode local executed (Call e j) →
+    (values : List ℤ) →
+    AllZip (IsArgument local slots offers children cycle m params scope) params values →
+    let gives =
+    Gives local slots offers children cycle m params scope code values
+    (standing_cells local m children slots executed counted)
     (standing_cells local m children slots (with_node executed (Call e j)) counted) in
     let inner = instance_at children k in
     let called = called_in true executed u in

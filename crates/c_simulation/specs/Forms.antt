@@ -10,8 +10,8 @@ use Rattle.c_machine.specs.Values.{is_in_type}
 use Rattle.c_shape.specs.Names.{filler_name}
 use Rattle.c_shape.specs.Slots.{Slot, value, memory, ring_items, ring_place, ring_taken, trigger, counter, instance, filler, slot_field}
 
--- What a field holds: a number of a type, an array of so many, an instance; or, where a struct would be empty, a 0 that
--- nothing stores.
+-- What a field holds: a number of a type, an array of so many, an instance; or, where a struct
+-- would be empty, a 0 that nothing stores.
 mutual
   pub data Form : Type 0 where
     holds_number : (type : CType) → Form
@@ -30,7 +30,8 @@ abbrev mutual
   HasForm (holds_number type) (items vs) = ⊥
   HasForm (holds_number type) (object cells) = ⊥
   HasForm (holds_array type count) (number v) = ⊥
-  HasForm (holds_array type count) (items vs) = (length vs ≡ count) × AllByRecursion (λ v. IsTrue (is_in_type type v)) vs
+  HasForm (holds_array type count) (items vs) =
+      (length vs ≡ count) × AllByRecursion (λ v. IsTrue (is_in_type type v)) vs
   HasForm (holds_array type count) (object cells) = ⊥
   HasForm (holds_instance fields) (number v) = ⊥
   HasForm (holds_instance fields) (items vs) = ⊥
@@ -73,9 +74,11 @@ slot_forms children slots = forms_of (map (slot_form children) slots)
 
 -- what a field of a program's struct holds
 abbrev pub field_form : List Forms → FieldTree → Form
-field_form earlier f = if bytes_eq f.name filler_name then holds_nothing else kind_form earlier f.kind
+field_form earlier f =
+    if bytes_eq f.name filler_name then holds_nothing else kind_form earlier f.kind
 
 -- the forms of structs, each of which holds only earlier ones
 abbrev pub struct_forms : List Forms → List StructTree → List Forms
 struct_forms earlier [] = earlier
-struct_forms earlier (s ∷ structs) = struct_forms (earlier ++ forms_of (map (field_form earlier) s.fields) ∷ []) structs
+struct_forms earlier (s ∷ structs) =
+    struct_forms (earlier ++ forms_of (map (field_form earlier) s.fields) ∷ []) structs

@@ -1,4 +1,5 @@
--- An instance of a system as the code around it meets it in a tick: its fields as a function of what was called.
+-- An instance of a system as the code around it meets it in a tick: its fields as a function of
+-- what was called.
 use Rattle.std.specs.Prelude.{◌≡◌, ℕ, ◌-◌, ◌+◌, ◌≤◌, Bool, true, false, ◌||◌, ◌&&◌, ◌==◌, List, [], ◌∷◌, map, filter, filter_map, count_by, slice_index_or, Option, Some, None, ℤ}
 use Rattle.c_machine.specs.Cells.{Cells, no_cells}
 use Rattle.c_machine.specs.Values.{step_limit}
@@ -23,8 +24,8 @@ called_after called (out j) = with_called called j
 called_after called update = none_called
 called_after called reset = none_called
 
--- A tick as an instance meets it from outside: whether the system around is active, and whether one around is off. Values of
--- outputs are by port, before the tick and in it.
+-- A tick as an instance meets it from outside: whether the system around is active, and whether one
+-- around is off. Values of outputs are by port, before the tick and in it.
 pub record OuterTick : Type 0 where
   pub t : ℕ
   pub parent : Bool
@@ -34,8 +35,9 @@ pub record OuterTick : Type 0 where
   pub before : List ℤ
   pub outputs : List ℤ
 
--- An instance in a tick: its fields where these functions were called, and at the next tick; and for each act from there
--- the most steps that it takes, the calls that it logs, and how often at most it stores a field of an instance inside.
+-- An instance in a tick: its fields where these functions were called, and at the next tick; and
+-- for each act from there the most steps that it takes, the calls that it logs, and how often at
+-- most it stores a field of an instance inside.
 pub record InstanceTick : Type 0 where
   pub standing : (ℕ → Bool) → Cells
   pub after : Cells
@@ -44,7 +46,14 @@ pub record InstanceTick : Type 0 where
   pub stored : (ℕ → Bool) → Act → List ℕ → ℕ → ℕ
 
 abbrev pub no_instance : InstanceTick
-no_instance = record { standing = λ called. no_cells; after = no_cells; most = λ called act. 0; log = λ called act. []; stored = λ called act path field. 0 }
+no_instance =
+    record {
+      standing = λ called. no_cells;
+      after = no_cells;
+      most = λ called act. 0;
+      log = λ called act. [];
+      stored = λ called act path field. 0;
+    }
 
 abbrev pub instance_at : List InstanceTick → ℕ → InstanceTick
 instance_at instances k = slice_index_or instances k no_instance
@@ -72,7 +81,14 @@ pub record Offer : Type 0 where
   pub places : List ℕ
 
 abbrev pub no_offer : Offer
-no_offer = record { outs = []; update = nothing_offered; start = nothing_offered; reset = nothing_offered; places = [] }
+no_offer =
+    record {
+      outs = [];
+      update = nothing_offered;
+      start = nothing_offered;
+      reset = nothing_offered;
+      places = [];
+    }
 
 abbrev pub offer_at : List Offer → ℕ → Offer
 offer_at offers k = slice_index_or offers k no_offer
@@ -121,14 +137,18 @@ abbrev pub OnDone : Outcome → (After → Type 0) → Type 0
 OnDone (done after) P = P after
 OnDone (stuck at cells) P = ⊥
 
--- what an execution leaves: these fields, at most so many steps more, this log, and no field is stored more often
-pub record Leaves (cells : Cells) (steps : ℕ) (log : List LoggedCall) (stored : List ℕ → ℕ → ℕ) (a : After) : Type 0 where
+-- what an execution leaves: these fields, at most so many steps more, this log, and no field is
+-- stored more often
+pub record Leaves (cells : Cells) (steps : ℕ) (log : List LoggedCall) (stored : List ℕ → ℕ → ℕ)
+    (a : After) : Type 0 where
   pub fields : a.cells ≡ cells
   pub in_time : a.steps ≤ steps
   pub calls : a.log ≡ log
   pub stores : (path : List ℕ) (field : ℕ) → stores_at path field a.stores ≤ stored path field
 
 -- Wherever there is room for the steps, the procedure isn't stuck and leaves this.
-abbrev pub Performs : Routine → List ℤ → (before after : Cells) → ℕ → List LoggedCall → (List ℕ → ℕ → ℕ) → Type 0
+abbrev pub Performs : Routine → List ℤ → (before after : Cells) → ℕ → List LoggedCall →
+    (List ℕ → ℕ → ℕ) → Type 0
 Performs r values before after most log stored =
-    (steps : ℕ) → steps + most ≤ step_limit → OnDone (r.run values before steps) (Leaves after (steps + most) log stored)
+    (steps : ℕ) → steps + most ≤ step_limit →
+    OnDone (r.run values before steps) (Leaves after (steps + most) log stored)

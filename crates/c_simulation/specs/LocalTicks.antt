@@ -1,5 +1,5 @@
--- A tick of a run for the rows of one system: its equations, where the inputs, what the children give, and the activity of
--- the system around it are as given.
+-- A tick of a run for the rows of one system: its equations, where the inputs, what the children
+-- give, and the activity of the system around it are as given.
 use Rattle.std.specs.Prelude.{◌≡◌, ℕ, ◌-◌, Bool, not, ◌&&◌, ◌||◌, if◌then◌else◌, List, [], ◌∷◌, map, filter, length, replicate, IsTrue, IsFalse, ℤ, pos}
 use Rattle.std.specs.List.{AllByRecursion, AllZip}
 use Rattle.mc_guards.specs.declared.TrigMem.{TrigMem}
@@ -21,8 +21,8 @@ use Rattle.c_shape.specs.Delays.{is_line}
 use Rattle.c_shape.specs.RowStarts.{row_start}
 use Rattle.c_simulation.specs.Rings.{Ring, IsRing, emptied_ring, moved_ring}
 
--- A tick of a system, and the rings in which its delays of several samples have their memories, before the tick and after it.
--- A ring may lie anywhere.
+-- A tick of a system, and the rings in which its delays of several samples have their memories,
+-- before the tick and after it. A ring may lie anywhere.
 pub record LocalTick : Type 0 where
   pub tick : SystemTick
   pub ring : ℕ → Ring
@@ -45,7 +45,8 @@ module _ (local : LocalSystem) (m : LocalTick) where
 
   -- the values of a row's inputs; an Inport has the system's input
   abbrev pub row_inputs : LocalRow → List ℤ
-  row_inputs r = if is_inport r.kind then number_of m.tick.inputs (port_of r.kind - 1) ∷ [] else map m.tick.value r.inputs
+  row_inputs r = if is_inport r.kind then number_of m.tick.inputs (port_of r.kind - 1) ∷ []
+      else map m.tick.value r.inputs
 
   -- the value of a row in the tick
   abbrev pub value_of : LocalRow → ℤ
@@ -66,20 +67,28 @@ module _ (local : LocalSystem) (m : LocalTick) where
   abbrev pub ring_of : LocalRow → Ring
   ring_of r =
       if m.tick.is_off_around || is_off then emptied_ring (m.ring r.row)
-      else (if row_runs r then moved_ring (delay_length r.op) (m.ring r.row) (input (row_inputs r) 0)
+      else (if row_runs r then moved_ring (delay_length r.op) (m.ring r.row)
+      (input (row_inputs r) 0)
       else m.ring r.row)
 
   -- what the trigger remembers after the tick; the system's being off itself doesn't reset it
   abbrev pub trigger_of : TrigMem
-  trigger_of = if m.tick.is_off_around then NotYet else remembered_by m.tick.parent local.control m.tick.trigger m.tick.controls
+  trigger_of = if m.tick.is_off_around then NotYet
+      else remembered_by m.tick.parent local.control m.tick.trigger m.tick.controls
 
-  -- The equations of the tick. A subsystem that is off is not active, so nothing inside it has an active system around it.
+  -- The equations of the tick. A subsystem that is off is not active, so nothing inside it has an
+  -- active system around it.
   pub record IsLocalTick : Type 0 where
     pub values : AllByRecursion (λ r. m.tick.value r.row ≡ value_of r) local.rows
-    pub memories : AllByRecursion (λ r. m.tick.memory_after r.row ≡ memory_of r) (filter (λ r. is_delay r.op) local.rows)
-    pub lengths : AllByRecursion (λ r. length (m.tick.memory r.row) ≡ delay_length r.op) (filter (λ r. is_delay r.op) local.rows)
-    pub ring_holds : AllByRecursion (λ r. IsRing (delay_length r.op) (row_start local r) (m.ring r.row) (m.tick.memory r.row)) (filter (λ r. is_line r.op) local.rows)
-    pub rings : AllByRecursion (λ r. m.ring_after r.row ≡ ring_of r) (filter (λ r. is_line r.op) local.rows)
+    pub memories : AllByRecursion (λ r. m.tick.memory_after r.row ≡ memory_of r)
+        (filter (λ r. is_delay r.op) local.rows)
+    pub lengths : AllByRecursion (λ r. length (m.tick.memory r.row) ≡ delay_length r.op)
+        (filter (λ r. is_delay r.op) local.rows)
+    pub ring_holds : AllByRecursion
+        (λ r. IsRing (delay_length r.op) (row_start local r) (m.ring r.row) (m.tick.memory r.row))
+        (filter (λ r. is_line r.op) local.rows)
+    pub rings : AllByRecursion (λ r. m.ring_after r.row ≡ ring_of r)
+        (filter (λ r. is_line r.op) local.rows)
     pub trigger : IsTrue (is_triggered local.control) → m.tick.trigger_after ≡ trigger_of
     pub at_rest : IsTrue m.tick.is_off_around → IsFalse m.tick.parent
 
@@ -96,9 +105,15 @@ module _ (local : LocalSystem) (m : LocalTick) where
   pub record IsTypedTick : Type 0 where
     pub inputs : AllZip (λ r v. InType r.out v) (inports local) m.tick.inputs
     pub controls : AllZip InType local.controls m.tick.controls
-    pub before : AllByRecursion (λ r. InType r.out (m.tick.before r.row)) (filter (λ r. has_value r.kind) local.rows)
-    pub values : AllByRecursion (λ r. InType r.out (m.tick.value r.row)) (filter (λ r. has_value r.kind) local.rows)
-    pub memories : AllByRecursion (λ r. AllByRecursion (InType r.out) (m.tick.memory r.row) × AllByRecursion (InType r.out) (m.tick.memory_after r.row)) (filter (λ r. is_delay r.op) local.rows)
-    pub evaluable : AllByRecursion (λ r. IsTrue (row_runs r) → IsEvaluable r.op (row_inputs r) (first_of (m.tick.memory r.row))) (filter (λ r. has_value r.kind) local.rows)
+    pub before : AllByRecursion (λ r. InType r.out (m.tick.before r.row))
+        (filter (λ r. has_value r.kind) local.rows)
+    pub values : AllByRecursion (λ r. InType r.out (m.tick.value r.row))
+        (filter (λ r. has_value r.kind) local.rows)
+    pub memories : AllByRecursion (λ r. AllByRecursion (InType r.out) (m.tick.memory r.row)
+        × AllByRecursion (InType r.out) (m.tick.memory_after r.row))
+        (filter (λ r. is_delay r.op) local.rows)
+    pub evaluable : AllByRecursion (λ r. IsTrue (row_runs r) →
+        IsEvaluable r.op (row_inputs r) (first_of (m.tick.memory r.row)))
+        (filter (λ r. has_value r.kind) local.rows)
     pub children : AllByRecursion IsFed local.children
     pub outputs : AllByRecursion GivesInTypes local.children

@@ -1,6 +1,7 @@
--- What is said of the code of a single node, memory, trigger, update call or reset call: the statements on which all else
--- rests. Executed on fields of the struct's shape in which what it reads stands as in the tick, it isn't stuck, makes its
--- own field that of the run, whether the system is active or not, and changes nothing else.
+-- What is said of the code of a single node, memory, trigger, update call or reset call: the
+-- statements on which all else rests. Executed on fields of the struct's shape in which what it
+-- reads stands as in the tick, it isn't stuck, makes its own field that of the run, whether the
+-- system is active or not, and changes nothing else.
 use Rattle.std.specs.Prelude.{◌≡◌, ℕ, ◌+◌, ◌%◌, ◌≤◌, Bool, ◌==◌, MatchBool, if◌then◌else◌, List, [], ◌∷◌, ◌++◌, map, length, count_by, slice_get, slice_index, IsTrue, Some, ℤ, pos, ⊤, Option, None}
 use Rattle.std.specs.List.{AllByRecursion, AllZip}
 use Rattle.mc_base.specs.declared.Port.{Port}
@@ -91,91 +92,125 @@ stored_inside f stored (h ∷ path) g = if h == f then stored path g else 0
 -- the fields with a ring in these three
 abbrev pub ring_cells : (f g h : ℕ) → Ring → Cells → Cells
 ring_cells f g h ring cells =
-    set_cell (set_cell (set_cell cells f (items ring.items)) g (number (pos ring.place))) h (number (pos ring.taken))
+    set_cell (set_cell (set_cell cells f (items ring.items)) g (number (pos ring.place))) h
+    (number (pos ring.taken))
 
 -- what the call of a function of the child of this row needs; the root is no child
 abbrev pub call_needs : LocalSystem → (row : Option ℕ) → (j : ℕ) → List ℕ
 call_needs local None j = []
 call_needs local (Some e) j = node_needs local (Call e j)
 
--- Code of a procedure with these parameters, which sees `scope values`, in a system with these slots and children, in a
--- tick whose number counts modulo a cycle.
-module _ (local : LocalSystem) (slots : List Slot) (offers : List Offer) (children : List InstanceTick) (cycle : ℕ) (m : LocalTick) (params : List ParamTree) (scope : List ℤ → Scope) where
+-- Code of a procedure with these parameters, which sees `scope values`, in a system with these
+-- slots and children, in a tick whose number counts modulo a cycle.
+module _ (local : LocalSystem) (slots : List Slot) (offers : List Offer)
+    (children : List InstanceTick) (cycle : ℕ) (m : LocalTick) (params : List ParamTree)
+    (scope : List ℤ → Scope) where
   -- the argument for a parameter is the tick's: its number, or the value of the input
   pub data IsArgument (wanted : ParamTree) (v : ℤ) : Type 0 where
     now : wanted.name ≡ now_name → v ≡ pos (m.tick.t % cycle) → IsArgument wanted v
     input : (k : ℕ) (i : Port) → slice_get (ports_of_header (bare_header local)) k ≡ Some i →
-        wanted.name ≡ port_name local.control i → v ≡ number_of (m.tick.inputs ++ m.tick.controls) k → IsArgument wanted v
+        wanted.name ≡ port_name local.control i →
+        v ≡ number_of (m.tick.inputs ++ m.tick.controls) k → IsArgument wanted v
 
   -- the place of wire c holds the tick's value
   pub record HoldsWire (cells : Cells) (c : ℕ) : Type 0 where
-    pub own : (f : ℕ) (r : LocalRow) → slice_get slots f ≡ Some (value r) → r.row ≡ c → number_at cells f ≡ m.tick.value c
-    pub inner : (f k o : ℕ) (u : ChildUse) (type : FixType) → slice_get slots f ≡ Some (instance k u) → slice_get u.header.outputs o ≡ Some (c, type) →
+    pub own : (f : ℕ) (r : LocalRow) → slice_get slots f ≡ Some (value r) → r.row ≡ c →
+        number_at cells f ≡ m.tick.value c
+    pub inner : (f k o : ℕ) (u : ChildUse) (type : FixType) →
+        slice_get slots f ≡ Some (instance k u) → slice_get u.header.outputs o ≡ Some (c, type) →
         number_at (fields_at cells f) (slice_index (offer_at offers k).places o) ≡ m.tick.value c
 
-  -- What stands before the code is executed: the fields have their shape, the trigger's memory is that of the tick, each
-  -- argument is the tick's, and so is each of these wires, where the system is active; else none of them is read.
+  -- What stands before the code is executed: the fields have their shape, the trigger's memory is
+  -- that of the tick, each argument is the tick's, and so is each of these wires, where the system
+  -- is active; else none of them is read.
   pub record IsReady (values : List ℤ) (cells : Cells) (wires : List ℕ) : Type 0 where
     pub callable : IsTrue m.tick.parent
     pub shape : HasSlots slots cells
     pub arguments : AllZip IsArgument params values
-    pub remembers : (f : ℕ) → slice_get slots f ≡ Some trigger → number_at cells f ≡ trigger_number m.tick.trigger
+    pub remembers : (f : ℕ) → slice_get slots f ≡ Some trigger →
+        number_at cells f ≡ trigger_number m.tick.trigger
     pub needed : IsTrue (is_active local m) → AllByRecursion (HoldsWire cells) wires
 
   -- the fields of row r's memory hold it: one number, or a ring
   pub record HoldsMemory (cells : Cells) (r : LocalRow) : Type 0 where
-    pub single : (g : ℕ) → slice_get slots g ≡ Some (memory r) → number_at cells g ≡ first_of (m.tick.memory r.row)
-    pub array : (g : ℕ) → slice_get slots g ≡ Some (ring_items r) → items_at cells g ≡ (m.ring r.row).items
-    pub place : (g : ℕ) → slice_get slots g ≡ Some (ring_place r) → number_at cells g ≡ pos (m.ring r.row).place
-    pub taken : (g : ℕ) → slice_get slots g ≡ Some (ring_taken r) → number_at cells g ≡ pos (m.ring r.row).taken
+    pub single : (g : ℕ) → slice_get slots g ≡ Some (memory r) →
+        number_at cells g ≡ first_of (m.tick.memory r.row)
+    pub array : (g : ℕ) → slice_get slots g ≡ Some (ring_items r) →
+        items_at cells g ≡ (m.ring r.row).items
+    pub place : (g : ℕ) → slice_get slots g ≡ Some (ring_place r) →
+        number_at cells g ≡ pos (m.ring r.row).place
+    pub taken : (g : ℕ) → slice_get slots g ≡ Some (ring_taken r) →
+        number_at cells g ≡ pos (m.ring r.row).taken
 
   -- executed on these fields in at most so many steps, the code leaves this
-  abbrev pub Gives : StmtTrees → List ℤ → (before after : Cells) → ℕ → List LoggedCall → (List ℕ → ℕ → ℕ) → Type 0
+  abbrev pub Gives : StmtTrees → List ℤ → (before after : Cells) → ℕ → List LoggedCall →
+      (List ℕ → ℕ → ℕ) → Type 0
   Gives code values before after most log stored =
-      (steps : ℕ) → steps + most ≤ step_limit → OnDone (run_stmts (scope values) code before steps) (Leaves after (steps + most) log stored)
+      (steps : ℕ) → steps + most ≤ step_limit →
+      OnDone (run_stmts (scope values) code before steps)
+      (Leaves after (steps + most) log stored)
 
-  -- The code of row r: where it hasn't been executed and what it needs stands, it makes r's value that of the tick.
+  -- The code of row r: where it hasn't been executed and what it needs stands, it makes r's value
+  -- that of the tick.
   abbrev pub GivesValue : StmtTrees → ℕ → LocalRow → Type 0
   GivesValue code most r =
-      (values : List ℤ) (cells : Cells) (f : ℕ) → slice_get slots f ≡ Some (value r) → IsReady values cells (node_needs local (Row r.row)) →
+      (values : List ℤ) (cells : Cells) (f : ℕ) → slice_get slots f ≡ Some (value r) →
+      IsReady values cells (node_needs local (Row r.row)) →
       number_at cells f ≡ m.tick.before r.row →
       HoldsMemory cells r →
-      Gives code values cells (set_cell cells f (number (m.tick.value r.row))) most [] (stored_once f)
+      Gives code values cells (set_cell cells f (number (m.tick.value r.row))) most []
+      (stored_once f)
 
-  -- The code in the update that stores r's memory: where the memory and r's inputs stand, it makes the memory that of the
-  -- next tick.
+  -- The code in the update that stores r's memory: where the memory and r's inputs stand, it makes
+  -- the memory that of the next tick.
   abbrev pub GivesMemory : StmtTrees → ℕ → LocalRow → Type 0
   GivesMemory code most r =
-      (values : List ℤ) (cells : Cells) (f : ℕ) → slice_get slots f ≡ Some (memory r) → IsReady values cells r.inputs →
+      (values : List ℤ) (cells : Cells) (f : ℕ) → slice_get slots f ≡ Some (memory r) →
+      IsReady values cells r.inputs →
       HoldsMemory cells r →
-      Gives code values cells (set_cell cells f (number (first_of (m.tick.memory_after r.row)))) most [] (stored_once f)
+      Gives code values cells (set_cell cells f (number (first_of (m.tick.memory_after r.row))))
+      most [] (stored_once f)
 
   -- The same of a delay of several samples: its three fields become those of the next tick's ring.
   abbrev pub GivesRing : StmtTrees → ℕ → LocalRow → Type 0
   GivesRing code most r =
-      (values : List ℤ) (cells : Cells) (f g h : ℕ) → slice_get slots f ≡ Some (ring_items r) → slice_get slots g ≡ Some (ring_place r) → slice_get slots h ≡ Some (ring_taken r) →
+      (values : List ℤ) (cells : Cells) (f g h : ℕ) → slice_get slots f ≡ Some (ring_items r) →
+      slice_get slots g ≡ Some (ring_place r) → slice_get slots h ≡ Some (ring_taken r) →
       IsReady values cells r.inputs → HoldsMemory cells r →
-      Gives code values cells (ring_cells f g h (m.ring_after r.row) cells) most [] (stored_each (f ∷ g ∷ h ∷ []))
+      Gives code values cells (ring_cells f g h (m.ring_after r.row) cells) most []
+      (stored_each (f ∷ g ∷ h ∷ []))
 
   -- The code in the update that stores what the trigger remembers.
   abbrev pub GivesTrigger : StmtTrees → ℕ → Type 0
   GivesTrigger code most =
-      (values : List ℤ) (cells : Cells) (f : ℕ) → slice_get slots f ≡ Some trigger → IsReady values cells [] →
-      Gives code values cells (set_cell cells f (number (trigger_number m.tick.trigger_after))) most [] (stored_once f)
+      (values : List ℤ) (cells : Cells) (f : ℕ) → slice_get slots f ≡ Some trigger →
+      IsReady values cells [] →
+      Gives code values cells (set_cell cells f (number (trigger_number m.tick.trigger_after))) most
+      [] (stored_once f)
 
-  -- The code of an act on child k at field f, with the wires that the act's arguments are read from: where the child stands
-  -- where these functions were called, it brings the child behind the act if `acts` says so, else it changes nothing.
-  abbrev pub GivesAct : StmtTrees → ℕ → (acts : Bool) → (f k : ℕ) (u : ChildUse) → List ℕ → Act → Type 0
+  -- The code of an act on child k at field f, with the wires that the act's arguments are read
+  -- from: where the child stands where these functions were called, it brings the child behind the
+  -- act if `acts` says so, else it changes nothing.
+  abbrev pub GivesAct : StmtTrees → ℕ → (acts : Bool) → (f k : ℕ) (u : ChildUse) → List ℕ → Act →
+      Type 0
   GivesAct code most acts f k u wires act =
-      (values : List ℤ) (cells : Cells) (called : ℕ → Bool) → slice_get slots f ≡ Some (instance k u) → IsReady values cells wires →
-      (IsTrue acts → (fields_at cells f ≡ (instance_at children k).standing called) × MayCome u.header (child_tick_of local m u) called act) →
+      (values : List ℤ) (cells : Cells) (called : ℕ → Bool) →
+      slice_get slots f ≡ Some (instance k u) → IsReady values cells wires →
+      (IsTrue acts → (fields_at cells f ≡ (instance_at children k).standing called)
+      × MayCome u.header (child_tick_of local m u) called act) →
       MatchBool acts
-      (Gives code values cells (set_cell cells f (object (fields_after (instance_at children k) called act))) (most + (instance_at children k).most called act) (map (call_under f) ((instance_at children k).log called act)) (stored_inside f ((instance_at children k).stored called act)))
+      (Gives code values cells
+      (set_cell cells f (object (fields_after (instance_at children k) called act)))
+      (most + (instance_at children k).most called act)
+      (map (call_under f) ((instance_at children k).log called act))
+      (stored_inside f ((instance_at children k).stored called act)))
       (Gives code values cells cells most [] nothing_stored)
 
-  -- the code of a node: a row's value, or the call of a child's function, which is made where the system is active
+  -- the code of a node: a row's value, or the call of a child's function, which is made where the
+  -- system is active
   abbrev pub GivesCall : StmtTrees → ℕ → (f k : ℕ) (u : ChildUse) (j : ℕ) → Type 0
-  GivesCall code most f k u j = GivesAct code most (is_active local m) f k u (call_needs local u.header.row j) (out j)
+  GivesCall code most f k u j =
+      GivesAct code most (is_active local m) f k u (call_needs local u.header.row j) (out j)
 
   -- the code in the update that calls a child's update
   abbrev pub GivesUpdate : StmtTrees → ℕ → (f k : ℕ) (u : ChildUse) → Type 0

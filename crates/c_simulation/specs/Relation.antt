@@ -1,5 +1,5 @@
--- The relation between a system's code and the runs of its own rows: what a system's code does in each tick, provided that
--- the children's procedures do the same by their headers.
+-- The relation between a system's code and the runs of its own rows: what a system's code does in
+-- each tick, provided that the children's procedures do the same by their headers.
 use Rattle.std.specs.Prelude.{◌≡◌, ℕ, ◌+◌, ◌%◌, ◌^◌, ◌<◌, ◌≤◌, Bool, List, [], ◌∷◌, ◌++◌, map, flat_map, length, slice_get, slice_index, ℤ, pos, ⊤}
 use Rattle.std.specs.Option.{option_map_or}
 use Rattle.std.specs.List.{AllByRecursion, AllZip, range_with_len}
@@ -29,7 +29,8 @@ use Rattle.c_simulation.specs.Renewals.{Renewal, Renews, IsStarted, IsReset, Ren
 
 -- ---- A system's procedures among those of its children
 
--- the procedures that an instance of a child offers, in the order in which the code around it counts them
+-- the procedures that an instance of a child offers, in the order in which the code around it
+-- counts them
 abbrev pub offered_routines : Offer → List Routine
 offered_routines o = map (λ (q : Offered). q.routine) (o.outs ++ o.update ∷ o.start ∷ o.reset ∷ [])
 
@@ -51,27 +52,38 @@ place_in_child offers o filler = 0
 -- the system's own procedures, which are so many, stand behind what these offer
 abbrev pub behind_offers : List Slot → List Offer → ℕ → Relocation
 behind_offers slots offers count =
-    behind_children count (length (children_routines offers)) (λ f o. option_map_or (place_in_child offers o) (slice_get slots f) 0) 0
+    behind_children count (length (children_routines offers))
+    (λ f o. option_map_or (place_in_child offers o) (slice_get slots f) 0) 0
 
--- each procedure of a list, where the first is the k-th of its system, with its number in the program; the struct's fields have
--- these types
-abbrev pub numbered_routines : List Function → List CType → (ℕ → ℕ) → ℕ → List Routine → List ProcedureTree → List Routine
+-- each procedure of a list, where the first is the k-th of its system, with its number in the
+-- program; the struct's fields have these types
+abbrev pub numbered_routines : List Function → List CType → (ℕ → ℕ) → ℕ → List Routine →
+    List ProcedureTree → List Routine
 numbered_routines functions types numbers k earlier [] = earlier
 numbered_routines functions types numbers k earlier (q ∷ qs) =
-    numbered_routines functions types numbers (k + 1) (earlier ++ routine_with functions types earlier (numbers k) q ∷ []) qs
+    numbered_routines functions types numbers (k + 1)
+    (earlier ++ routine_with functions types earlier (numbers k) q ∷ []) qs
 
 -- the procedures of the children, and then the system's own
-abbrev pub system_routines : List PureTree → List Slot → List Offer → SystemTree → (ℕ → ℕ) → List Routine
+abbrev pub system_routines : List PureTree → List Slot → List Offer → SystemTree → (ℕ → ℕ) →
+    List Routine
 system_routines pures slots offers code numbers =
-    numbered_routines (pure_functions [] pures) (field_types code.structure.fields) numbers 0 (children_routines offers) (map (moved_procedure (behind_offers slots offers (length code.procedures))) code.procedures)
+    numbered_routines (pure_functions [] pures) (field_types code.structure.fields) numbers 0
+    (children_routines offers)
+    (map (moved_procedure (behind_offers slots offers (length code.procedures)))
+    code.procedures)
 
 -- what the system offers by the names of its procedures
-abbrev pub own_offer : LocalSystem → SystemProfile → List PureTree → List Slot → List Offer → SystemTree → (ℕ → ℕ) → Offer
+abbrev pub own_offer : LocalSystem → SystemProfile → List PureTree → List Slot → List Offer →
+    SystemTree → (ℕ → ℕ) → Offer
 own_offer local profile pures slots offers code numbers =
     let routines = system_routines pures slots offers code numbers in
-    let offered = λ (name : List ℕ). named_offer routines (length (children_routines offers)) (own_position code name) numbers in
+    let offered =
+    λ (name : List ℕ). named_offer routines (length (children_routines offers))
+    (own_position code name) numbers in
     record {
-      outs = map (λ j. offered (out_name local.row j)) (range_with_len 1 (length profile.functions));
+      outs =
+          map (λ j. offered (out_name local.row j)) (range_with_len 1 (length profile.functions));
       update = offered (update_name local.row);
       start = offered (start_name local.row);
       reset = offered (reset_name local.row);
@@ -79,14 +91,17 @@ own_offer local profile pures slots offers code numbers =
     }
   where
     named_offer : List Routine → ℕ → ℕ → (ℕ → ℕ) → Offered
-    named_offer routines before k numbers = record { routine = routine_at routines (before + k); number = numbers k }
+    named_offer routines before k numbers =
+        record { routine = routine_at routines (before + k); number = numbers k }
 
 -- ---- The relation
 
 -- each child serves in the tick as it meets it
-abbrev pub ChildrenServe : LocalSystem → LocalTick → ℕ → List ChildUse → List Offer → List InstanceTick → Type 0
+abbrev pub ChildrenServe : LocalSystem → LocalTick → ℕ → List ChildUse → List Offer →
+    List InstanceTick → Type 0
 ChildrenServe local m cycle [] [] [] = ⊤
-ChildrenServe local m cycle (u ∷ us) (o ∷ os) (i ∷ is) = Serves u.header o cycle (child_tick_of local m u) i × ChildrenServe local m cycle us os is
+ChildrenServe local m cycle (u ∷ us) (o ∷ os) (i ∷ is) =
+    Serves u.header o cycle (child_tick_of local m u) i × ChildrenServe local m cycle us os is
 ChildrenServe local m cycle _ _ _ = ⊥
 
 -- all hits of the system's rows repeat after a cycle
@@ -95,34 +110,45 @@ pub record IsCycleOf (local : LocalSystem) (cycle : ℕ) : Type 0 where
   pub short : cycle ≤ 2 ^ 30
   pub repeats : AllByRecursion (λ r. cycle % r.time.period ≡ 0) local.rows
 
--- In a tick, an instance of the system: its fields are those of the run, by the functions called; it serves; and
--- each act adds to steps, log and stores what it should.
-pub record KeepsRelation (local : LocalSystem) (h : SystemHeader) (slots : List Slot) (held : ℕ → Node → Bool) (counted : (ℕ → Bool) → List ℕ → ℤ) (cycle : ℕ) (m : LocalTick) (offer : Offer) (children : List InstanceTick) : Type 0 where
+-- In a tick, an instance of the system: its fields are those of the run, by the functions called;
+-- it serves; and each act adds to steps, log and stores what it should.
+pub record KeepsRelation (local : LocalSystem) (h : SystemHeader) (slots : List Slot) (held : ℕ →
+    Node → Bool) (counted : (ℕ → Bool) → List ℕ → ℤ) (cycle : ℕ) (m : LocalTick) (offer : Offer)
+    (children : List InstanceTick) : Type 0 where
   pub own : InstanceTick
-  pub standing : (called : ℕ → Bool) → own.standing called ≡ standing_cells local m children slots (executed_by h held called) (counted called)
+  pub standing : (called : ℕ → Bool) →
+      own.standing called ≡ standing_cells local m children slots (executed_by h held called)
+      (counted called)
   pub after : own.after ≡ after_cells local m children slots
   pub serves : Serves h offer cycle (outer_tick_of local m) own
   pub steps : (ℕ → Bool) → Act → ℕ
   pub in_budget : IsWithinBudget local h steps
-  pub adds : (called : ℕ → Bool) (act : Act) → MayCome h (outer_tick_of local m) called act → Adds local h held m slots children own steps called act
+  pub adds : (called : ℕ → Bool) (act : Act) → MayCome h (outer_tick_of local m) called act →
+      Adds local h held m slots children own steps called act
 
--- The behaviour of a system's code, whatever eight functions of the prelude, whatever numbers in a program and whatever
--- children it meets: in each tick of each run of its own rows it keeps the relation, and from any fields it starts and resets right.
-pub record Behaves (local : LocalSystem) (profile : SystemProfile) (slots : List Slot) (code : SystemTree) : Type 0 where
+-- The behaviour of a system's code, whatever eight functions of the prelude, whatever numbers in a
+-- program and whatever children it meets: in each tick of each run of its own rows it keeps the
+-- relation, and from any fields it starts and resets right.
+pub record Behaves (local : LocalSystem) (profile : SystemProfile) (slots : List Slot)
+    (code : SystemTree) : Type 0 where
   pub held : ℕ → Node → Bool
   pub are_held : AreHeld local (own_header local profile) held
   pub counted : (ℕ → Bool) → List ℕ → ℤ
   pub nothing_counted : (name : List ℕ) → counted none_called name ≡ pos 0
-  pub in_ticks : (pures : List PureTree) → IsPrelude pures → (numbers : ℕ → ℕ) (cycle : ℕ) → IsCycleOf local cycle →
+  pub in_ticks : (pures : List PureTree) → IsPrelude pures → (numbers : ℕ → ℕ) (cycle : ℕ) →
+      IsCycleOf local cycle →
       (offers : List Offer) → AllZip (λ u o. IsOfferOf u.header o) local.children offers →
       (m : LocalTick) → IsLocalTick local m → IsTypedTick local m →
       (children : List InstanceTick) → ChildrenServe local m cycle local.children offers children →
-      KeepsRelation local (own_header local profile) slots held counted cycle m (own_offer local profile pures slots offers code numbers) children
+      KeepsRelation local (own_header local profile) slots held counted cycle m
+      (own_offer local profile pures slots offers code numbers) children
   pub starts : (pures : List PureTree) → IsPrelude pures → (numbers : ℕ → ℕ) →
       (offers : List Offer) → AllZip (λ u o. IsOfferOf u.header o) local.children offers →
       (children : List Renewal) → AllZip (λ (o : Offer) n. Renews o.start n) offers children →
-      RenewsOwn local slots children (IsStarted local children) (own_offer local profile pures slots offers code numbers).start
+      RenewsOwn local slots children (IsStarted local children)
+      (own_offer local profile pures slots offers code numbers).start
   pub resets : (pures : List PureTree) → IsPrelude pures → (numbers : ℕ → ℕ) →
       (offers : List Offer) → AllZip (λ u o. IsOfferOf u.header o) local.children offers →
       (children : List Renewal) → AllZip (λ (o : Offer) n. Renews o.reset n) offers children →
-      RenewsOwn local slots children (IsReset local children) (own_offer local profile pures slots offers code numbers).reset
+      RenewsOwn local slots children (IsReset local children)
+      (own_offer local profile pures slots offers code numbers).reset

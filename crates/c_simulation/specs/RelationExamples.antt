@@ -1,4 +1,5 @@
--- The relation in the first tick of a root and its shared child, in an order of calls that no root makes.
+-- The relation in the first tick of a root and its shared child, in an order of calls that no root
+-- makes.
 use Rattle.std.specs.Prelude.{◌≡◌, refl, ℕ, Bool, true, false, ◌||◌, ◌==◌, cond, List, [], ◌∷◌, map, pos, ℤ, bytes_eq, if◌then◌else◌}
 use Rattle.std.specs.List.{list_any}
 use Rattle.std.specs.Fmt.{digits}
@@ -51,10 +52,12 @@ abbrev inner_tick : LocalTick
 inner_tick = first_tick (pos 1 ∷ [])
 
 -- the values are those of the equations, and the child meets the tick that its own rows have
-equations : map (value_of outer_local outer_tick) outer_local.rows ≡ map (λ r. values r.row) outer_local.rows
+equations : map (value_of outer_local outer_tick) outer_local.rows
+    ≡ map (λ r. values r.row) outer_local.rows
 equations = refl
 
-visits : map (child_tick_of outer_local outer_tick) outer_local.children ≡ outer_tick_of inner_local inner_tick ∷ []
+visits : map (child_tick_of outer_local outer_tick) outer_local.children
+    ≡ outer_tick_of inner_local inner_tick ∷ []
 visits = refl
 
 -- ---- The child
@@ -66,7 +69,9 @@ abbrev inner_counted : (ℕ → Bool) → List ℕ → ℤ
 inner_counted called name = cond (called 1) (pos 1) (pos 0)
 
 abbrev inner_standing : (ℕ → Bool) → Cells
-inner_standing called = standing_cells inner_local inner_tick [] (inner_slots x1 y1) (executed_by (own_header inner_local inner_profile) inner_held called) (inner_counted called)
+inner_standing called =
+    standing_cells inner_local inner_tick [] (inner_slots x1 y1)
+    (executed_by (own_header inner_local inner_profile) inner_held called) (inner_counted called)
 
 abbrev inner_after : Cells
 inner_after = after_cells inner_local inner_tick [] (inner_slots x1 y1)
@@ -75,10 +80,21 @@ abbrev inner_offer : Offer
 inner_offer = own_offer inner_local inner_profile [] (inner_slots x1 y1) [] child_code (λ k. k)
 
 abbrev inner_instance : InstanceTick
-inner_instance = record { standing = inner_standing; after = inner_after; most = λ called act. 0; log = λ called act. []; stored = λ called act path field. 0 }
+inner_instance =
+    record {
+      standing = inner_standing;
+      after = inner_after;
+      most = λ called act. 0;
+      log = λ called act. [];
+      stored = λ called act path field. 0;
+    }
 
 -- its function brings the fields to where its one function counts as called
-inner_out : OnDone ((offered_for inner_offer (out 1)).routine.run (act_values (own_header inner_local inner_profile) 1 (outer_tick_of inner_local inner_tick) (out 1)) (inner_standing none_called) 0) (λ a. a.cells ≡ inner_standing (with_called none_called 1))
+inner_out : OnDone
+    ((offered_for inner_offer (out 1)).routine.run
+    (act_values (own_header inner_local inner_profile) 1 (outer_tick_of inner_local inner_tick)
+    (out 1)) (inner_standing none_called) 0) (λ a. a.cells
+    ≡ inner_standing (with_called none_called 1))
 unfolding digits
 inner_out = refl
 
@@ -86,48 +102,66 @@ inner_out = refl
 
 -- both functions hold In1 and the call; the second holds In2, the Sum and Out2, and the first Out1
 abbrev outer_held : ℕ → Node → Bool
-outer_held j x = list_any (same_node x) (if j == 1 then Row 0 ∷ Call 2 1 ∷ Row 6 ∷ [] else Row 0 ∷ Call 2 1 ∷ Row 1 ∷ Row 5 ∷ Row 7 ∷ [])
+outer_held j x =
+    list_any (same_node x) (if j == 1 then Row 0 ∷ Call 2 1 ∷ Row 6 ∷ [] else Row 0 ∷ Call 2 1
+    ∷ Row 1 ∷ Row 5 ∷ Row 7 ∷ [])
 
 abbrev outer_counted : (ℕ → Bool) → List ℕ → ℤ
 outer_counted called name =
     if bytes_eq name (counter_name 0) then cond (called 1 || called 2) (pos 1) (pos 0)
-    else (if bytes_eq name (counter_name 1) then cond (called 2) (pos 1) (pos 0) else cond (called 1) (pos 1) (pos 0))
+    else (if bytes_eq name (counter_name 1) then cond (called 2) (pos 1) (pos 0)
+    else cond (called 1) (pos 1) (pos 0))
 
 abbrev outer_standing : (ℕ → Bool) → Cells
-outer_standing called = standing_cells outer_local outer_tick (inner_instance ∷ []) outer_slots (executed_by (own_header outer_local outer_profile) outer_held called) (outer_counted called)
+outer_standing called =
+    standing_cells outer_local outer_tick (inner_instance ∷ []) outer_slots
+    (executed_by (own_header outer_local outer_profile) outer_held called) (outer_counted called)
 
 abbrev outer_offer : Offer
-outer_offer = own_offer outer_local outer_profile [] outer_slots (inner_offer ∷ []) outer_code (λ k. k)
+outer_offer =
+    own_offer outer_local outer_profile [] outer_slots (inner_offer ∷ []) outer_code (λ k. k)
 
 -- what an act leaves
 abbrev Leads : (ℕ → Bool) → Act → Cells → Type 0
 Leads called act cells =
-    OnDone ((offered_for outer_offer act).routine.run (act_values (own_header outer_local outer_profile) 1 (outer_tick_of outer_local outer_tick) act) (outer_standing called) 0) (λ a. a.cells ≡ cells)
+    OnDone ((offered_for outer_offer act).routine.run
+    (act_values (own_header outer_local outer_profile) 1 (outer_tick_of outer_local outer_tick)
+    act) (outer_standing called) 0) (λ a. a.cells ≡ cells)
 
 -- the second function first, then the first, then the update
 second_first : Leads none_called (out 2) (outer_standing (with_called none_called 2))
 unfolding digits
 second_first = refl
 
-first_then : Leads (with_called none_called 2) (out 1) (outer_standing (with_called (with_called none_called 2) 1))
+first_then : Leads (with_called none_called 2) (out 1)
+    (outer_standing (with_called (with_called none_called 2) 1))
 unfolding digits
 first_then = refl
 
-update_last : Leads (with_called (with_called none_called 2) 1) update (after_cells outer_local outer_tick (inner_instance ∷ []) outer_slots)
+update_last : Leads (with_called (with_called none_called 2) 1) update
+    (after_cells outer_local outer_tick (inner_instance ∷ []) outer_slots)
 unfolding digits
 update_last = refl
 
 -- the child's function is called in the first of these calls and in no other
-newly_first : map (newly_called outer_local (own_header outer_local outer_profile) outer_held outer_tick none_called (out 2)) outer_local.children ≡ (1 ∷ []) ∷ []
+newly_first : map
+    (newly_called outer_local (own_header outer_local outer_profile) outer_held outer_tick
+    none_called (out 2)) outer_local.children ≡ (1 ∷ []) ∷ []
 newly_first = refl
 
-newly_then : map (newly_called outer_local (own_header outer_local outer_profile) outer_held outer_tick (with_called none_called 2) (out 1)) outer_local.children ≡ [] ∷ []
+newly_then : map
+    (newly_called outer_local (own_header outer_local outer_profile) outer_held outer_tick
+    (with_called none_called 2) (out 1)) outer_local.children ≡ [] ∷ []
 newly_then = refl
 
--- the second function's call logs itself, and the child's function, whose number is 1 in its own code, inside field 5
+-- the second function's call logs itself, and the child's function, whose number is 1 in its own
+-- code, inside field 5
 abbrev Logs : (ℕ → Bool) → Act → (own inside : List ℕ) → Type 0
 Logs called act own inside =
-    OnDone ((offered_for outer_offer act).routine.run (act_values (own_header outer_local outer_profile) 1 (outer_tick_of outer_local outer_tick) act) (outer_standing called) 0) (λ a. (calls_at [] a.log ≡ own) × (calls_at [] (calls_inside 5 a.log) ≡ inside))
+    OnDone ((offered_for outer_offer act).routine.run
+    (act_values (own_header outer_local outer_profile) 1 (outer_tick_of outer_local outer_tick)
+    act) (outer_standing called) 0) (λ a. (calls_at [] a.log ≡ own)
+    × (calls_at [] (calls_inside 5 a.log) ≡ inside))
 
 first_log : Logs none_called (out 2) (4 ∷ []) (1 ∷ [])
 unfolding digits
@@ -141,7 +175,8 @@ last_log : Logs (with_called (with_called none_called 2) 1) update (5 ∷ []) (2
 unfolding digits
 last_log = (refl, refl)
 
--- a child with two rows and one output, and a root with six rows and two outputs whose child has one
+-- a child with two rows and one output, and a root with six rows and two outputs whose child has
+-- one
 inner_budget : own_budget inner_local ≡ 32
 inner_budget = refl
 

@@ -1,5 +1,5 @@
--- The relation of an enabled subsystem whose states are reset: in a tick in which its enable is low, and in one in which a
--- subsystem around it is off.
+-- The relation of an enabled subsystem whose states are reset: in a tick in which its enable is
+-- low, and in one in which a subsystem around it is off.
 use Rattle.std.specs.Prelude.{◌≡◌, refl, ℕ, ◌^◌, Bool, true, false, cond, List, [], ◌∷◌, map, filter, Some, None, pos, ℤ, codes}
 use Rattle.std.specs.List.{list_any}
 use Rattle.std.specs.Fmt.{digits}
@@ -37,7 +37,11 @@ use Rattle.c_simulation.specs.Relation.{own_offer}
 
 -- E, enabled by In2 with its states reset: x1 through a Unit Delay to y1
 abbrev pub delayed : Diagram
-delayed = simple (row None (Inport 1) [] ∷ row None (Inport 2) [] ∷ row None (SubSystem (Enabled true)) (1 ∷ []) ∷ row (Some 2) (Inport 1) (0 ∷ []) ∷ row (Some 2) EnablePort [] ∷ row (Some 2) (UnitDelay zero_initial) (3 ∷ []) ∷ row (Some 2) (Outport 1 false zero_initial) (5 ∷ []) ∷ row None (Outport 1 false zero_initial) (6 ∷ []) ∷ [])
+delayed =
+    simple (row None (Inport 1) [] ∷ row None (Inport 2) [] ∷ row None (SubSystem (Enabled true))
+    (1 ∷ []) ∷ row (Some 2) (Inport 1) (0 ∷ []) ∷ row (Some 2) EnablePort []
+    ∷ row (Some 2) (UnitDelay zero_initial) (3 ∷ []) ∷ row (Some 2) (Outport 1 false zero_initial)
+    (5 ∷ []) ∷ row None (Outport 1 false zero_initial) (6 ∷ []) ∷ [])
 
 abbrev pub local : LocalSystem
 local = local_of delayed [] (Some 2) []
@@ -47,14 +51,18 @@ abbrev pub profile : SystemProfile
 profile = record { row = Some 2; functions = record { inputs = 2 ^ 32; outputs = 1 } ∷ [] }
 
 abbrev pub slots : List Slot
-slots = value (local_row delayed [] 3) ∷ value (local_row delayed [] 5) ∷ value (local_row delayed [] 6) ∷ memory (local_row delayed [] 5) ∷ counter (counter_name 0) U8 ∷ []
+slots = value (local_row delayed [] 3) ∷ value (local_row delayed [] 5)
+    ∷ value (local_row delayed [] 6) ∷ memory (local_row delayed [] 5) ∷ counter (counter_name 0) U8
+    ∷ []
 
 abbrev pub control_param : ParamTree
 control_param = record { name = codes "ctl"; type = I32 }
 
 -- where the parameter at a place is above 0, the first statements, else the second
 abbrev pub if_high : ℕ → List StmtTree → List StmtTree → StmtTree
-if_high k yes_stmts no_stmts_list = branch 0 (compare Gt (read (Param k)) (literal (pos 0))) (stmts_of_list yes_stmts) (stmts_of_list no_stmts_list)
+if_high k yes_stmts no_stmts_list =
+    branch 0 (compare Gt (read (Param k)) (literal (pos 0))) (stmts_of_list yes_stmts)
+    (stmts_of_list no_stmts_list)
 
 -- its code by the bodies of its group, its function, its update, its start and its reset
 abbrev pub code_of : (group function update start reset : List StmtTree) → SystemTree
@@ -71,14 +79,16 @@ code_of group function on_update on_start on_reset = record {
 }
 
 abbrev pub group_body : List StmtTree
-group_body = if_high 0 (assign 0 1 (read (Own 3)) ∷ []) [] ∷ if_high 0 (assign 0 2 (read (Own 1)) ∷ []) [] ∷ []
+group_body = if_high 0 (assign 0 1 (read (Own 3)) ∷ []) []
+    ∷ if_high 0 (assign 0 2 (read (Own 1)) ∷ []) [] ∷ []
 
 abbrev pub function_body : List StmtTree
 function_body = call 0 0 OnSelf (exprs_of_list (read (Param 1) ∷ [])) ∷ []
 
 -- x1 first, since the memory reads it
 abbrev pub update_body : List StmtTree
-update_body = if_high 2 (assign 0 0 (read (Param 1)) ∷ []) [] ∷ if_high 2 (assign 0 3 (read (Own 0)) ∷ []) (zeros (3 ∷ [])) ∷ zeros (4 ∷ [])
+update_body = if_high 2 (assign 0 0 (read (Param 1)) ∷ []) []
+    ∷ if_high 2 (assign 0 3 (read (Own 0)) ∷ []) (zeros (3 ∷ [])) ∷ zeros (4 ∷ [])
 
 abbrev pub start_body : List StmtTree
 start_body = zeros (0 ∷ 1 ∷ 2 ∷ 3 ∷ 4 ∷ [])
@@ -99,18 +109,57 @@ held_values b = number_of (pos 7 ∷ pos 0 ∷ pos 0 ∷ pos 9 ∷ pos 0 ∷ pos
 
 -- a tick in which the system around is active and the enable is low: it is off
 abbrev pub off_tick : LocalTick
-off_tick = without_rings (record { t = 4; parent = true; is_off_around = false; inputs = pos 7 ∷ []; controls = pos 0 ∷ []; before = held_values; value = held_values; memory = λ b. pos 5 ∷ []; memory_after = λ b. pos 0 ∷ []; trigger = NotYet; trigger_after = NotYet })
+off_tick =
+    without_rings (record {
+      t = 4;
+      parent = true;
+      is_off_around = false;
+      inputs = pos 7 ∷ [];
+      controls = pos 0 ∷ [];
+      before = held_values;
+      value = held_values;
+      memory = λ b. pos 5 ∷ [];
+      memory_after = λ b. pos 0 ∷ [];
+      trigger = NotYet;
+      trigger_after = NotYet;
+    })
 
 -- a tick in which a subsystem around it is off
 abbrev pub reset_tick : LocalTick
-reset_tick = without_rings (record { t = 4; parent = false; is_off_around = true; inputs = pos 7 ∷ []; controls = pos 1 ∷ []; before = held_values; value = held_values; memory = λ b. pos 5 ∷ []; memory_after = λ b. pos 0 ∷ []; trigger = NotYet; trigger_after = NotYet })
+reset_tick =
+    without_rings (record {
+      t = 4;
+      parent = false;
+      is_off_around = true;
+      inputs = pos 7 ∷ [];
+      controls = pos 1 ∷ [];
+      before = held_values;
+      value = held_values;
+      memory = λ b. pos 5 ∷ [];
+      memory_after = λ b. pos 0 ∷ [];
+      trigger = NotYet;
+      trigger_after = NotYet;
+    })
 
 -- the next tick of the run where the enable is high: the memory is passed on and takes the input
 abbrev pub high_values : ℕ → ℤ
 high_values b = number_of (pos 7 ∷ pos 1 ∷ pos 0 ∷ pos 7 ∷ pos 0 ∷ pos 5 ∷ pos 5 ∷ []) b
 
 abbrev pub high_tick : LocalTick
-high_tick = without_rings (record { t = 4; parent = true; is_off_around = false; inputs = pos 7 ∷ []; controls = pos 1 ∷ []; before = held_values; value = high_values; memory = λ b. pos 5 ∷ []; memory_after = λ b. pos 7 ∷ []; trigger = NotYet; trigger_after = NotYet })
+high_tick =
+    without_rings (record {
+      t = 4;
+      parent = true;
+      is_off_around = false;
+      inputs = pos 7 ∷ [];
+      controls = pos 1 ∷ [];
+      before = held_values;
+      value = high_values;
+      memory = λ b. pos 5 ∷ [];
+      memory_after = λ b. pos 7 ∷ [];
+      trigger = NotYet;
+      trigger_after = NotYet;
+    })
 
 is_off_now : is_off local off_tick ≡ true
 is_off_now = refl
@@ -118,20 +167,26 @@ is_off_now = refl
 high_equations : map (value_of local high_tick) local.rows ≡ map (λ r. high_values r.row) local.rows
 high_equations = refl
 
-off_memories : map (memory_of local off_tick) (filter (λ r. is_single r.op) local.rows) ≡ (pos 0 ∷ []) ∷ []
+off_memories : map (memory_of local off_tick) (filter (λ r. is_single r.op) local.rows)
+    ≡ (pos 0 ∷ []) ∷ []
 off_memories = refl
 
 abbrev pub held : ℕ → Node → Bool
 held j x = list_any (same_node x) (Row 5 ∷ Row 6 ∷ [])
 
 abbrev pub standing : LocalTick → (ℕ → Bool) → Cells
-standing m called = standing_cells local m [] slots (executed_by (own_header local profile) held called) (λ name. cond (called 1) (pos 1) (pos 0))
+standing m called =
+    standing_cells local m [] slots (executed_by (own_header local profile) held called)
+    (λ name. cond (called 1) (pos 1) (pos 0))
 
 abbrev pub offer : Offer
 offer = own_offer local profile [] slots [] code (λ k. k)
 
 abbrev Leads : LocalTick → (ℕ → Bool) → Act → Cells → Type 0
-Leads m called act cells = OnDone ((offered_for offer act).routine.run (act_values (own_header local profile) 1 (outer_tick_of local m) act) (standing m called) 0) (λ a. a.cells ≡ cells)
+Leads m called act cells =
+    OnDone ((offered_for offer act).routine.run
+    (act_values (own_header local profile) 1 (outer_tick_of local m) act) (standing m called) 0)
+    (λ a. a.cells ≡ cells)
 
 off_out : Leads off_tick none_called (out 1) (standing off_tick (with_called none_called 1))
 unfolding digits
@@ -145,7 +200,8 @@ high_out : Leads high_tick none_called (out 1) (standing high_tick (with_called 
 unfolding digits
 high_out = refl
 
-high_update : Leads high_tick (with_called none_called 1) update (after_cells local high_tick [] slots)
+high_update : Leads high_tick (with_called none_called 1) update
+    (after_cells local high_tick [] slots)
 unfolding digits
 high_update = refl
 

@@ -1,4 +1,5 @@
--- A ring of three items that starts at 7 and takes 1, 2, 3, 4, and one that lies elsewhere and has old items.
+-- A ring of three items that starts at 7 and takes 1, 2, 3, 4, and one that lies elsewhere and has
+-- old items.
 use Rattle.std.specs.Prelude.{◌≡◌, refl, List, [], ◌∷◌, ℤ, pos}
 use Rattle.mc_diagram.specs.Run.{moved_on}
 use Rattle.c_simulation.specs.Rings.{Ring, ring_list, begun_ring, moved_ring}
@@ -28,5 +29,6 @@ elsewhere = record { items = pos 40 ∷ pos 5 ∷ pos 60 ∷ []; place = 2; take
 elsewhere_holds : ring_list 3 (pos 7) elsewhere ≡ pos 7 ∷ pos 7 ∷ pos 5 ∷ []
 elsewhere_holds = refl
 
-elsewhere_moves : ring_list 3 (pos 7) (moved_ring 3 elsewhere (pos 9)) ≡ moved_on (ring_list 3 (pos 7) elsewhere) (pos 9)
+elsewhere_moves : ring_list 3 (pos 7) (moved_ring 3 elsewhere (pos 9))
+    ≡ moved_on (ring_list 3 (pos 7) elsewhere) (pos 9)
 elsewhere_moves = refl

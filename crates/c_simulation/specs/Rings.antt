@@ -1,5 +1,6 @@
--- The ring of a delay of several samples: an array of so many items, the place of the oldest, and how many samples were taken
--- since the start. Where fewer were taken than it has items, the others count as the start, whatever stands in them.
+-- The ring of a delay of several samples: an array of so many items, the place of the oldest, and
+-- how many samples were taken since the start. Where fewer were taken than it has items, the others
+-- count as the start, whatever stands in them.
 use Rattle.std.specs.Prelude.{◌≡◌, ℕ, ◌+◌, ◌-◌, ◌%◌, ◌<◌, ◌≤◌, nat_lt, if◌then◌else◌, List, map, length, replicate, slice_index_or, ℤ, pos}
 use Rattle.std.specs.List.{range_with_len}
 use Rattle.mc_diagram.specs.Run.{moved_on}
@@ -15,7 +16,8 @@ pub record Ring : Type 0 where
 -- the k-th of its numbers from the oldest on
 abbrev pub ring_item : (n : ℕ) (start : ℤ) → Ring → ℕ → ℤ
 ring_item n start ring k =
-    if nat_lt k (n - ring.taken) then start else slice_index_or ring.items ((ring.place + k) % n) (pos 0)
+    if nat_lt k (n - ring.taken) then start else slice_index_or ring.items ((ring.place + k) % n)
+    (pos 0)
 
 abbrev pub ring_list : (n : ℕ) (start : ℤ) → Ring → List ℤ
 ring_list n start ring = map (ring_item n start ring) (range_with_len 0 n)
@@ -49,11 +51,14 @@ moved_ring n ring v = record {
 
 -- a ring that was begun, and an emptied one, hold the start so many times
 abbrev pub BegunIsRing : Type 0
-BegunIsRing = (n : ℕ) (start : ℤ) (items : List ℤ) → 0 < n → length items ≡ n → IsRing n start (begun_ring items) (replicate n start)
+BegunIsRing = (n : ℕ) (start : ℤ) (items : List ℤ) → 0 < n → length items ≡ n →
+    IsRing n start (begun_ring items) (replicate n start)
 
 abbrev pub EmptiedIsRing : Type 0
-EmptiedIsRing = (n : ℕ) (start : ℤ) (ring : Ring) (memory : List ℤ) → IsRing n start ring memory → IsRing n start (emptied_ring ring) (replicate n start)
+EmptiedIsRing = (n : ℕ) (start : ℤ) (ring : Ring) (memory : List ℤ) → IsRing n start ring memory →
+    IsRing n start (emptied_ring ring) (replicate n start)
 
 -- a ring that moves holds the memory that moves
 abbrev pub MovedIsRing : Type 0
-MovedIsRing = (n : ℕ) (start v : ℤ) (ring : Ring) (memory : List ℤ) → IsRing n start ring memory → IsRing n start (moved_ring n ring v) (moved_on memory v)
+MovedIsRing = (n : ℕ) (start v : ℤ) (ring : Ring) (memory : List ℤ) → IsRing n start ring memory →
+    IsRing n start (moved_ring n ring v) (moved_on memory v)

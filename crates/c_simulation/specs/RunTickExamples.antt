@@ -1,4 +1,5 @@
--- The run of a model with an enabled subsystem, and what its ticks are for the rows of the subsystem.
+-- The run of a model with an enabled subsystem, and what its ticks are for the rows of the
+-- subsystem.
 use Rattle.std.specs.Prelude.{◌≡◌, refl, ℕ, true, List, [], ◌∷◌, ◌++◌, map, replicate, filter, Some, None, pos, ℤ}
 use Rattle.mc_guards.specs.declared.TrigMem.TheVariants.{NotYet}
 use Rattle.mc_diagram.specs.Run.{IsRun, is_delay}
@@ -21,13 +22,21 @@ remembers n = replicate 5 [] ++ (pos n ∷ []) ∷ replicate 2 []
 
 abbrev run : Run
 run = record {
-  values = (pos 7 ∷ pos 1 ∷ pos 0 ∷ pos 7 ∷ pos 0 ∷ pos 0 ∷ pos 0 ∷ pos 0 ∷ []) ∷ (pos 8 ∷ pos 0 ∷ pos 0 ∷ pos 7 ∷ pos 0 ∷ pos 0 ∷ pos 0 ∷ pos 0 ∷ []) ∷ [];
+  values = (pos 7 ∷ pos 1 ∷ pos 0 ∷ pos 7 ∷ pos 0 ∷ pos 0 ∷ pos 0 ∷ pos 0 ∷ [])
+      ∷ (pos 8 ∷ pos 0 ∷ pos 0 ∷ pos 7 ∷ pos 0 ∷ pos 0 ∷ pos 0 ∷ pos 0 ∷ []) ∷ [];
   memories = remembers 0 ∷ remembers 7 ∷ remembers 0 ∷ [];
   triggers = replicate 3 (replicate 8 NotYet);
 }
 
 is_run : IsRun delayed None trace run.values run.memories run.triggers
-is_run = (refl, refl, (record { values = refl; memories = refl; triggers = refl }, (record { values = refl; memories = refl; triggers = refl }, tt)))
+is_run = (
+  refl,
+  refl,
+  (
+    record { values = refl; memories = refl; triggers = refl },
+    (record { values = refl; memories = refl; triggers = refl }, tt),
+  ),
+)
 
 abbrev at : ℕ → LocalTick
 at t = tick_at delayed None trace run (Some 2) (λ b. []) t
@@ -40,21 +49,26 @@ second_off : is_off local (at 1) ≡ true
 second_off = refl
 
 -- the values and the memory are those of its own rows' equations
-first_values : map (value_of local (at 0)) local.rows ≡ map (λ r. (at 0).tick.value r.row) local.rows
+first_values : map (value_of local (at 0)) local.rows
+    ≡ map (λ r. (at 0).tick.value r.row) local.rows
 first_values = refl
 
-second_values : map (value_of local (at 1)) local.rows ≡ map (λ r. (at 1).tick.value r.row) local.rows
+second_values : map (value_of local (at 1)) local.rows
+    ≡ map (λ r. (at 1).tick.value r.row) local.rows
 second_values = refl
 
-first_memory : map (memory_of local (at 0)) (filter (λ r. is_delay r.op) local.rows) ≡ (pos 7 ∷ []) ∷ []
+first_memory : map (memory_of local (at 0)) (filter (λ r. is_delay r.op) local.rows)
+    ≡ (pos 7 ∷ []) ∷ []
 first_memory = refl
 
-second_memory : map (memory_of local (at 1)) (filter (λ r. is_delay r.op) local.rows) ≡ (pos 0 ∷ []) ∷ []
+second_memory : map (memory_of local (at 1)) (filter (λ r. is_delay r.op) local.rows)
+    ≡ (pos 0 ∷ []) ∷ []
 second_memory = refl
 
 -- and the root's code meets the same tick as the subsystem's own
 abbrev root_local : LocalSystem
 root_local = local_of delayed [] None (header_of delayed (Some 2) profile ∷ [])
 
-visits : map (child_tick_of root_local (tick_at delayed None trace run None (λ b. []) 1)) root_local.children ≡ outer_tick_of local (at 1) ∷ []
+visits : map (child_tick_of root_local (tick_at delayed None trace run None (λ b. []) 1))
+    root_local.children ≡ outer_tick_of local (at 1) ∷ []
 visits = refl

@@ -1,5 +1,5 @@
--- What a tick of a run of a diagram, or of one of its systems, is for the rows of each system inside, with the rings of its
--- delays of several samples.
+-- What a tick of a run of a diagram, or of one of its systems, is for the rows of each system
+-- inside, with the rings of its delays of several samples.
 use Rattle.std.specs.Prelude.{ℕ, zero, suc, ◌||◌, if◌then◌else◌, List, Option, ℤ}
 use Rattle.mc_blocks.specs.Meaning.{delay_length}
 use Rattle.mc_blocks.specs.Value.{input}
@@ -13,12 +13,14 @@ use Rattle.c_simulation.specs.LocalTicks.{LocalTick}
 abbrev pub next_ring : Diagram → Option ℕ → SystemTick → ℕ → Ring → Ring
 next_ring d n m b ring =
     if m.is_off_around || system_is_off d n m then emptied_ring ring
-    else (if own_runs d n m b then moved_ring (delay_length (op_at d b)) ring (input (own_inputs d n m b) 0)
+    else (if own_runs d n m b
+    then moved_ring (delay_length (op_at d b)) ring (input (own_inputs d n m b) 0)
     else ring)
 
--- A run of the system s of a diagram over a trace, and a system n, which is s or inside it; `items` is what stood in each ring's
--- array before the start, which lets it stand.
-module _ (d : Diagram) (s : Option ℕ) (xs : List (List ℤ)) (run : Run) (n : Option ℕ) (items : ℕ → List ℤ) where
+-- A run of the system s of a diagram over a trace, and a system n, which is s or inside it; `items`
+-- is what stood in each ring's array before the start, which lets it stand.
+module _ (d : Diagram) (s : Option ℕ) (xs : List (List ℤ)) (run : Run) (n : Option ℕ) (items : ℕ →
+    List ℤ) where
   -- The ring of row b before a tick: from the start on, as the row runs and is reset.
   abbrev pub ring_at : ℕ → ℕ → Ring
   ring_at zero b = begun_ring (items b)
@@ -26,4 +28,5 @@ module _ (d : Diagram) (s : Option ℕ) (xs : List (List ℤ)) (run : Run) (n : 
 
   -- the tick for the rows of n
   abbrev pub tick_at : ℕ → LocalTick
-  tick_at t = record { tick = system_tick d s xs run n t; ring = ring_at t; ring_after = ring_at (suc t) }
+  tick_at t =
+      record { tick = system_tick d s xs run n t; ring = ring_at t; ring_after = ring_at (suc t) }

@@ -30,14 +30,17 @@ trigger_number High = pos 2
 
 -- ---- Which nodes were executed
 
--- `held j x` says that function j holds node x: it gives an output that x reaches. What is no node is held by none.
+-- `held j x` says that function j holds node x: it gives an output that x reaches. What is no node
+-- is held by none.
 pub record AreHeld (local : LocalSystem) (h : SystemHeader) (held : ℕ → Node → Bool) : Type 0 where
-  pub nodes : (j : ℕ) (x : Node) → 0 < j → j ≤ length (header_functions h) → Contains (node_list local) x → IsTrue (held j x) ↔ Holds local h j x
+  pub nodes : (j : ℕ) (x : Node) → 0 < j → j ≤ length (header_functions h) →
+      Contains (node_list local) x → IsTrue (held j x) ↔ Holds local h j x
   pub others : (j : ℕ) (x : Node) → (Contains (node_list local) x → ⊥) → held j x ≡ false
 
 -- the nodes that called functions hold
 abbrev pub executed_by : SystemHeader → (ℕ → Node → Bool) → (ℕ → Bool) → Node → Bool
-executed_by h held called x = list_any (λ j. called j && held j x) (range_with_len 1 (length (header_functions h)))
+executed_by h held called x =
+    list_any (λ j. called j && held j x) (range_with_len 1 (length (header_functions h)))
 
 -- one node more
 abbrev pub with_node : (Node → Bool) → Node → Node → Bool
@@ -48,25 +51,28 @@ abbrev pub is_call_executed : (row : Option ℕ) → (Node → Bool) → ℕ →
 is_call_executed None executed j = false
 is_call_executed (Some e) executed j = executed (Call e j)
 
--- the functions of a child that were called: those whose nodes were executed, where the system is active
+-- the functions of a child that were called: those whose nodes were executed, where the system is
+-- active
 abbrev pub called_in : (is_active : Bool) → (Node → Bool) → ChildUse → ℕ → Bool
 called_in is_active executed u j = is_active && is_call_executed u.header.row executed j
 
 -- ---- The fields
 
 module _ (local : LocalSystem) (m : LocalTick) (children : List InstanceTick) where
-  -- A field in the tick: an executed row has the tick's value, another that before; a memory, and what the trigger
-  -- remembers, are those before the tick; a child stands where its calls brought it, and where the system isn't active it
-  -- has none.
+  -- A field in the tick: an executed row has the tick's value, another that before; a memory, and
+  -- what the trigger remembers, are those before the tick; a child stands where its calls brought
+  -- it, and where the system isn't active it has none.
   abbrev pub standing_cell : (executed : Node → Bool) (counted : List ℕ → ℤ) → Slot → Cell
-  standing_cell executed counted (value r) = number (if executed (Row r.row) then m.tick.value r.row else m.tick.before r.row)
+  standing_cell executed counted (value r) =
+      number (if executed (Row r.row) then m.tick.value r.row else m.tick.before r.row)
   standing_cell executed counted (memory r) = number (first_of (m.tick.memory r.row))
   standing_cell executed counted (ring_items r) = items (m.ring r.row).items
   standing_cell executed counted (ring_place r) = number (pos (m.ring r.row).place)
   standing_cell executed counted (ring_taken r) = number (pos (m.ring r.row).taken)
   standing_cell executed counted trigger = number (trigger_number m.tick.trigger)
   standing_cell executed counted (counter name type) = number (counted name)
-  standing_cell executed counted (instance k u) = object ((instance_at children k).standing (called_in (is_active local m) executed u))
+  standing_cell executed counted (instance k u) =
+      object ((instance_at children k).standing (called_in (is_active local m) executed u))
   standing_cell executed counted filler = number (pos 0)
 
   abbrev pub standing_cells : List Slot → (executed : Node → Bool) (counted : List ℕ → ℤ) → Cells

@@ -11,7 +11,8 @@ abbrev mutual
   pub stmt_chain : List ℕ → StmtTree → ℕ
   stmt_chain chains (StmtTree.assign line k x) = 0
   stmt_chain chains (StmtTree.assign_at line k index x) = 0
-  stmt_chain chains (StmtTree.branch line c xs ys) = max (stmts_chain chains xs) (stmts_chain chains ys)
+  stmt_chain chains (StmtTree.branch line c xs ys) =
+      max (stmts_chain chains xs) (stmts_chain chains ys)
   stmt_chain chains (StmtTree.call line k target xs) = slice_index chains k
 
   pub stmts_chain : List ℕ → StmtTrees → ℕ

@@ -19,7 +19,8 @@ use Rattle.c_syntax.specs.Limits.{IsWithinLimits}
 -- names, each of them lawful, and no two equal
 abbrev pub AreDistinct : List (List ℕ) → Type 0
 AreDistinct [] = ⊤
-AreDistinct (name ∷ names) = (is_name name ≡ true) × (has_name names name ≡ false) × AreDistinct names
+AreDistinct (name ∷ names) =
+    (is_name name ≡ true) × (has_name names name ≡ false) × AreDistinct names
 
 -- no name of the one list is in the other
 abbrev pub AreApart : List (List ℕ) → List (List ℕ) → Type 0
@@ -32,7 +33,8 @@ IsNumberAt fields k = (f : FieldTree) × (slice_get fields k ≡ Some f) × (is_
 
 -- the field at a position is an array
 abbrev pub IsArrayAt : List FieldTree → ℕ → Type 0
-IsArrayAt fields k = (f : FieldTree) × (type : CType) × (count : ℕ) × (slice_get fields k ≡ Some f) × (f.kind ≡ Array type count)
+IsArrayAt fields k = (f : FieldTree) × (type : CType) × (count : ℕ) × (slice_get fields k ≡ Some f)
+    × (f.kind ≡ Array type count)
 
 -- the field at a position is an instance of the struct at another
 abbrev pub IsStructAt : List FieldTree → ℕ → ℕ → Type 0
@@ -47,11 +49,13 @@ pub record Reach : Type 0 where
   pub params : ℕ
   pub of : ℕ
 
--- a leaf stands for a parameter, or for a number field of the instance or of an instance that it holds
+-- a leaf stands for a parameter, or for a number field of the instance or of an instance that it
+-- holds
 abbrev pub IsLawfulLeaf : Reach → Leaf → Type 0
 IsLawfulLeaf reach (Param k) = k < reach.params
 IsLawfulLeaf reach (Own f) = IsNumberAt reach.fields f
-IsLawfulLeaf reach (Child f g) = (k : ℕ) × IsStructAt reach.fields f k × IsNumberAt (struct_fields reach.structs k) g
+IsLawfulLeaf reach (Child f g) =
+    (k : ℕ) × IsStructAt reach.fields f k × IsNumberAt (struct_fields reach.structs k) g
 
 -- how many expressions there are
 abbrev pub exprs_length : ExprTrees → ℕ
@@ -65,9 +69,11 @@ abbrev mutual
   IsLawfulExpr reach (neg e) = IsLawfulExpr reach e
   IsLawfulExpr reach (read leaf) = IsLawfulLeaf reach leaf
   IsLawfulExpr reach (binary op a b) = IsLawfulExpr reach a × IsLawfulExpr reach b
-  IsLawfulExpr reach (pick test a b) = IsLawfulCond reach test × IsLawfulExpr reach a × IsLawfulExpr reach b
+  IsLawfulExpr reach (pick test a b) =
+      IsLawfulCond reach test × IsLawfulExpr reach a × IsLawfulExpr reach b
   IsLawfulExpr reach (pure k es) =
-      (p : PureTree) × (slice_get reach.pures k ≡ Some p) × (length p.params ≡ exprs_length es) × AreLawfulExprs reach es
+      (p : PureTree) × (slice_get reach.pures k ≡ Some p) × (length p.params ≡ exprs_length es)
+      × AreLawfulExprs reach es
   IsLawfulExpr reach (item f index) = IsArrayAt reach.fields f × IsLawfulExpr reach index
 
   -- all of these expressions are lawful
@@ -88,14 +94,18 @@ IsLawfulTarget reach OwnTarget of = reach.of ≡ of
 IsLawfulTarget reach (ChildTarget f) of = IsStructAt reach.fields f of
 
 abbrev mutual
-  -- a statement: a store goes to a number field or an item of an array, a call to an earlier procedure of its target, with an argument for each parameter
+  -- a statement: a store goes to a number field or an item of an array, a call to an earlier
+  -- procedure of its target, with an argument for each parameter
   pub IsLawfulStmt : Reach → StmtTree → Type 0
   IsLawfulStmt reach (assign line f e) = IsNumberAt reach.fields f × IsLawfulExpr reach e
-  IsLawfulStmt reach (assign_at line f index e) = IsArrayAt reach.fields f × IsLawfulExpr reach index × IsLawfulExpr reach e
+  IsLawfulStmt reach (assign_at line f index e) =
+      IsArrayAt reach.fields f × IsLawfulExpr reach index × IsLawfulExpr reach e
   IsLawfulStmt reach (branch line test on_true on_false) =
       IsLawfulCond reach test × AreLawfulStmts reach on_true × AreLawfulStmts reach on_false
   IsLawfulStmt reach (call line k target es) =
-      (p : ProcedureTree) × (slice_get reach.procedures k ≡ Some p) × IsLawfulTarget reach target p.of × (length p.params ≡ exprs_length es) × AreLawfulExprs reach es
+      (p : ProcedureTree) × (slice_get reach.procedures k ≡ Some p)
+      × IsLawfulTarget reach target p.of × (length p.params ≡ exprs_length es)
+      × AreLawfulExprs reach es
 
   -- all of these statements are lawful
   pub AreLawfulStmts : Reach → StmtTrees → Type 0
@@ -114,12 +124,20 @@ procedure_names procedures = map (λ p. p.name) procedures
 abbrev pub param_names : List ParamTree → List (List ℕ)
 param_names params = map (λ p. p.name) params
 
--- a pure function behind these: its parameters differ from each other and from the earlier functions, and there is one
+-- a pure function behind these: its parameters differ from each other and from the earlier
+-- functions, and there is one
 pub record IsLawfulPure (earlier : List PureTree) (p : PureTree) : Type 0 where
   pub params : AreDistinct p.params
   pub apart : AreApart p.params (pure_names earlier)
   pub some : 0 < length p.params
-  pub body : IsLawfulExpr (record { pures = earlier; structs = []; procedures = []; fields = []; params = length p.params; of = 0 }) p.body
+  pub body : IsLawfulExpr (record {
+    pures = earlier;
+    structs = [];
+    procedures = [];
+    fields = [];
+    params = length p.params;
+    of = 0;
+  }) p.body
 
 -- pure functions, each behind these and those before it
 abbrev pub ArePures : List PureTree → List PureTree → Type 0
@@ -137,7 +155,9 @@ pub record IsLawfulStruct (count : ℕ) (d : StructTree) : Type 0 where
   pub fields : AreDistinct (map (λ f. f.name) d.fields)
   pub some : 0 < length d.fields
   pub kinds : AllByRecursion (λ f. IsLawfulKind count f.kind) d.fields
-  pub outputs : bytes_eq d.name (codes "root") ≡ true → AllByRecursion (λ f. may_be_named (number_names d.fields) (is_number f) f.name ≡ true) d.fields
+  pub outputs : bytes_eq d.name (codes "root") ≡ true →
+      AllByRecursion (λ f. may_be_named (number_names d.fields) (is_number f) f.name
+      ≡ true) d.fields
 
 -- structs, each behind so many and those before it
 abbrev pub AreStructs : ℕ → List StructTree → Type 0
@@ -145,14 +165,23 @@ AreStructs count [] = ⊤
 AreStructs count (d ∷ ds) = IsLawfulStruct count d × AreStructs (count + 1) ds
 
 -- a procedure behind these
-pub record IsLawfulProcedure (pures : List PureTree) (structs : List StructTree) (earlier : List ProcedureTree) (p : ProcedureTree) : Type 0 where
+pub record IsLawfulProcedure (pures : List PureTree) (structs : List StructTree)
+    (earlier : List ProcedureTree) (p : ProcedureTree) : Type 0 where
   pub of : p.of < length structs
   pub params : AreDistinct (param_names p.params)
   pub apart : AreApart (param_names p.params) (pure_names pures ++ procedure_names earlier)
-  pub body : AreLawfulStmts (record { pures = pures; structs = structs; procedures = earlier; fields = struct_fields structs p.of; params = length p.params; of = p.of }) p.body
+  pub body : AreLawfulStmts (record {
+    pures = pures;
+    structs = structs;
+    procedures = earlier;
+    fields = struct_fields structs p.of;
+    params = length p.params;
+    of = p.of;
+  }) p.body
 
 -- procedures, each behind these and those before it
-abbrev pub AreProcedures : List PureTree → List StructTree → List ProcedureTree → List ProcedureTree → Type 0
+abbrev pub AreProcedures : List PureTree → List StructTree → List ProcedureTree →
+    List ProcedureTree → Type 0
 AreProcedures pures structs earlier [] = ⊤
 AreProcedures pures structs earlier (p ∷ ps) =
     IsLawfulProcedure pures structs earlier p × AreProcedures pures structs (earlier ++ p ∷ []) ps
@@ -197,7 +226,8 @@ abbrev mutual
   pub stmt_without_lines : StmtTree → StmtTree
   stmt_without_lines (assign line f e) = assign 0 f e
   stmt_without_lines (assign_at line f index e) = assign_at 0 f index e
-  stmt_without_lines (branch line test on_true on_false) = branch 0 test (stmts_without_lines on_true) (stmts_without_lines on_false)
+  stmt_without_lines (branch line test on_true on_false) =
+      branch 0 test (stmts_without_lines on_true) (stmts_without_lines on_false)
   stmt_without_lines (call line k target es) = call 0 k target es
 
   pub stmts_without_lines : StmtTrees → StmtTrees
@@ -210,9 +240,20 @@ pure_without_lines q = record { name = q.name; params = q.params; body = q.body;
 
 -- a procedure with all lines 0
 abbrev pub procedure_without_lines : ProcedureTree → ProcedureTree
-procedure_without_lines q = record { name = q.name; private = q.private; of = q.of; params = q.params; body = stmts_without_lines q.body }
+procedure_without_lines q =
+    record {
+      name = q.name;
+      private = q.private;
+      of = q.of;
+      params = q.params;
+      body = stmts_without_lines q.body;
+    }
 
 -- a program with all lines 0
 abbrev pub without_lines : ProgramTree → ProgramTree
 without_lines p =
-    record { pures = map pure_without_lines p.pures; structs = p.structs; procedures = map procedure_without_lines p.procedures }
+    record {
+      pures = map pure_without_lines p.pures;
+      structs = p.structs;
+      procedures = map procedure_without_lines p.procedures;
+    }

@@ -45,7 +45,8 @@ abbrev mutual
   pub stmt_depth : StmtTree → ℕ
   stmt_depth (assign line field value) = 1
   stmt_depth (assign_at line field index value) = 1
-  stmt_depth (branch line test on_true on_false) = max (stmts_depth on_true) (stmts_depth on_false) + 1
+  stmt_depth (branch line test on_true on_false) =
+      max (stmts_depth on_true) (stmts_depth on_false) + 1
   stmt_depth (call line procedure target values) = 1
 
   pub stmts_depth : StmtTrees → ℕ
@@ -57,7 +58,8 @@ abbrev mutual
   pub stmt_exprs_depth : StmtTree → ℕ
   stmt_exprs_depth (assign line field value) = expr_depth value
   stmt_exprs_depth (assign_at line field index value) = max (expr_depth index) (expr_depth value)
-  stmt_exprs_depth (branch line test on_true on_false) = max (cond_depth test) (max (stmts_exprs_depth on_true) (stmts_exprs_depth on_false))
+  stmt_exprs_depth (branch line test on_true on_false) =
+      max (cond_depth test) (max (stmts_exprs_depth on_true) (stmts_exprs_depth on_false))
   stmt_exprs_depth (call line procedure target values) = exprs_depth values
 
   pub stmts_exprs_depth : StmtTrees → ℕ

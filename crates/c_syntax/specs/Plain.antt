@@ -16,7 +16,8 @@ abbrev mutual
   expr_tree (Neg' p operand) = neg (expr_tree operand)
   expr_tree (Read leaf) = read leaf
   expr_tree (Binary' op p left q right) = binary op (expr_tree left) (expr_tree right)
-  expr_tree (Pick' p test q on_true r on_false) = pick (cond_tree test) (expr_tree on_true) (expr_tree on_false)
+  expr_tree (Pick' p test q on_true r on_false) =
+      pick (cond_tree test) (expr_tree on_true) (expr_tree on_false)
   expr_tree (Pure' function shape values) = pure function (exprs_tree values)
   expr_tree (At' field p index) = item field (expr_tree index)
 
@@ -36,9 +37,12 @@ abbrev mutual
   -- the plain tree of a statement
   pub stmt_tree : Stmt → StmtTree
   stmt_tree (Set line field value) = assign line field (expr_tree value)
-  stmt_tree (SetAt line field index value) = assign_at line field (expr_tree index) (expr_tree value)
-  stmt_tree (If' line test p on_true q on_false) = branch line (cond_tree test) (stmts_tree on_true) (stmts_tree on_false)
-  stmt_tree (Call line procedure target values) = call line procedure target (exprs_of_list (map expr_tree values.items))
+  stmt_tree (SetAt line field index value) =
+      assign_at line field (expr_tree index) (expr_tree value)
+  stmt_tree (If' line test p on_true q on_false) =
+      branch line (cond_tree test) (stmts_tree on_true) (stmts_tree on_false)
+  stmt_tree (Call line procedure target values) =
+      call line procedure target (exprs_of_list (map expr_tree values.items))
 
   -- the plain trees of a row of statements
   pub stmts_tree : {m : _} → Row_of-Stmt m → StmtTrees
@@ -47,7 +51,8 @@ abbrev mutual
 
 -- the plain tree of a pure function
 abbrev pub pure_tree : Pure → PureTree
-pure_tree p = record { name = p.name; params = p.params.items; body = expr_tree p.body; line = p.line }
+pure_tree p =
+    record { name = p.name; params = p.params.items; body = expr_tree p.body; line = p.line }
 
 -- the parameters of a procedure
 abbrev pub param_trees : List (List ℕ × CType) → List ParamTree
@@ -55,8 +60,20 @@ param_trees params = map (λ q. record { name = q.0; type = q.1 }) params
 
 -- the plain tree of a procedure
 abbrev pub procedure_tree : Procedure → ProcedureTree
-procedure_tree p = record { name = p.name; private = p.private; of = p.of; params = param_trees p.params.items; body = stmts_of_list (map stmt_tree p.body.items) }
+procedure_tree p =
+    record {
+      name = p.name;
+      private = p.private;
+      of = p.of;
+      params = param_trees p.params.items;
+      body = stmts_of_list (map stmt_tree p.body.items);
+    }
 
 -- the plain tree of a program
 abbrev pub program_tree : Program → ProgramTree
-program_tree p = record { pures = map pure_tree p.pure.items; structs = p.structs.items; procedures = map procedure_tree p.procedures.items }
+program_tree p =
+    record {
+      pures = map pure_tree p.pure.items;
+      structs = p.structs.items;
+      procedures = map procedure_tree p.procedures.items;
+    }

@@ -22,15 +22,67 @@ one_program = record {
   pures = [];
   structs =
       record { name = codes "top"; fields = field (codes "v0") ∷ field (codes "v1") ∷ [] }
-      ∷ record { name = codes "root"; fields = field (codes "now") ∷ field (codes "y1") ∷ record { name = codes "top"; kind = Struct 0 } ∷ [] }
+      ∷ record {
+        name = codes "root";
+        fields = field (codes "now") ∷ field (codes "y1")
+            ∷ record { name = codes "top"; kind = Struct 0 } ∷ [];
+      }
       ∷ [];
   procedures =
-      record { name = codes "top_start"; private = false; of = 0; params = []; body = stmts_of_list (assign 5 0 (literal (pos 0)) ∷ assign 6 1 (literal (pos 0)) ∷ []) }
-      ∷ record { name = codes "top_reset"; private = false; of = 0; params = []; body = stmts_of_list [] }
-      ∷ record { name = codes "top_out1"; private = false; of = 0; params = param (codes "now") ∷ param (codes "u1") ∷ []; body = stmts_of_list (assign 11 0 (read (Param 1)) ∷ assign 12 1 (read (Own 0)) ∷ []) }
-      ∷ record { name = codes "top_update"; private = false; of = 0; params = param (codes "now") ∷ param (codes "u1") ∷ []; body = stmts_of_list [] }
-      ∷ record { name = codes "root_start"; private = false; of = 1; params = []; body = stmts_of_list (assign 17 0 (literal (pos 0)) ∷ assign 18 1 (literal (pos 0)) ∷ call 19 0 (ChildTarget 2) no_exprs ∷ []) }
-      ∷ record { name = codes "root_step"; private = false; of = 1; params = param (codes "u1") ∷ []; body = stmts_of_list (call 22 2 (ChildTarget 2) (exprs_of_list (read (Own 0) ∷ read (Param 0) ∷ [])) ∷ call 23 3 (ChildTarget 2) (exprs_of_list (read (Own 0) ∷ read (Param 0) ∷ [])) ∷ assign 24 1 (read (Child 2 1)) ∷ assign 25 0 (binary Rem (binary Add (read (Own 0)) (literal (pos 1))) (literal (pos 1))) ∷ []) }
+      record {
+        name = codes "top_start";
+        private = false;
+        of = 0;
+        params = [];
+        body = stmts_of_list (assign 5 0 (literal (pos 0)) ∷ assign 6 1 (literal (pos 0)) ∷ []);
+      }
+      ∷ record {
+        name = codes "top_reset";
+        private = false;
+        of = 0;
+        params = [];
+        body = stmts_of_list [];
+      }
+      ∷ record {
+        name = codes "top_out1";
+        private = false;
+        of = 0;
+        params = param (codes "now")
+            ∷ param (codes "u1") ∷ [];
+        body =
+            stmts_of_list (assign 11 0 (read (Param 1)) ∷ assign 12 1 (read (Own 0)) ∷ []);
+      }
+      ∷ record {
+        name = codes "top_update";
+        private = false;
+        of = 0;
+        params = param (codes "now")
+            ∷ param (codes "u1") ∷ [];
+        body = stmts_of_list [];
+      }
+      ∷ record {
+        name = codes "root_start";
+        private = false;
+        of = 1;
+        params = [];
+        body = stmts_of_list (assign 17 0 (literal (pos 0)) ∷ assign 18 1 (literal (pos 0))
+            ∷ call 19 0 (ChildTarget 2) no_exprs ∷ []);
+      }
+      ∷ record {
+        name = codes "root_step";
+        private = false;
+        of = 1;
+        params = param (codes "u1")
+            ∷ [];
+        body =
+            stmts_of_list
+            (call 22 2 (ChildTarget 2) (exprs_of_list (read (Own 0) ∷ read (Param 0) ∷ []))
+            ∷ call 23 3 (ChildTarget 2) (exprs_of_list (read (Own 0) ∷ read (Param 0) ∷ []))
+            ∷ assign 24 1 (read (Child 2 1))
+            ∷ assign 25 0
+            (binary Rem (binary Add (read (Own 0)) (literal (pos 1))) (literal (pos 1)))
+            ∷ []);
+      }
       ∷ [];
 }
 
@@ -40,7 +92,21 @@ zero_program = record {
   pures = [];
   structs = record { name = codes "root"; fields = field (codes "y1") ∷ [] } ∷ [];
   procedures =
-      record { name = codes "root_start"; private = false; of = 0; params = []; body = stmts_of_list [] }
-      ∷ record { name = codes "root_step"; private = false; of = 0; params = param (codes "u1") ∷ []; body = stmts_of_list (assign 5 0 (binary Div (literal (pos 1)) (literal (pos 0))) ∷ []) }
+      record {
+        name = codes "root_start";
+        private = false;
+        of = 0;
+        params = [];
+        body = stmts_of_list [];
+      }
+      ∷ record {
+        name = codes "root_step";
+        private = false;
+        of = 0;
+        params = param (codes "u1")
+            ∷ [];
+        body =
+            stmts_of_list (assign 5 0 (binary Div (literal (pos 1)) (literal (pos 0))) ∷ []);
+      }
       ∷ [];
 }

@@ -1,4 +1,5 @@
--- Structs, procedures and fields by their names, and the outputs among the fields of the root's struct.
+-- Structs, procedures and fields by their names, and the outputs among the fields of the root's
+-- struct.
 use Rattle.std.specs.Prelude.{ℕ, Bool, true, false, List, map, Option, unwrap_or, filter, codes, bytes_eq}
 use Rattle.std.specs.List.{position_from}
 use Rattle.c_syntax.specs.declared.program.FieldKind.{FieldKind}
@@ -20,7 +21,8 @@ struct_named p name = position_from (λ s. bytes_eq s.name name) 0 p.structs
 abbrev pub procedure_named : ProgramTree → List ℕ → Option ℕ
 procedure_named p name = position_from (λ q. bytes_eq q.name name) 0 p.procedures
 
--- the position of the field with a name, and 0 where there is none; it is asked for names of fields only
+-- the position of the field with a name, and 0 where there is none; it is asked for names of fields
+-- only
 abbrev pub field_position : List FieldTree → List ℕ → ℕ
 field_position fields name = unwrap_or (position_from (λ f. bytes_eq f.name name) 0 fields) 0
 

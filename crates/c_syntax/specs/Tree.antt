@@ -1,4 +1,5 @@
--- Programs as plain trees: the same variants and fields as the values of the source, with lists for vectors.
+-- Programs as plain trees: the same variants and fields as the values of the source, with lists for
+-- vectors.
 use Rattle.std.specs.Prelude.{ℕ, ℤ, Bool, List, [], ◌∷◌, map, slice_index_or}
 use Rattle.mc_base.specs.declared.base.Compare.{Compare}
 use Rattle.c_syntax.specs.declared.code.BinOp.{BinOp}
@@ -65,7 +66,8 @@ no_struct = record { name = []; fields = [] }
 abbrev pub struct_fields : List StructTree → ℕ → List FieldTree
 struct_fields structs k = (slice_index_or structs k no_struct).fields
 
--- the types of the fields, of an array that of its items; a struct has none of its own, and no lawful program stores in one
+-- the types of the fields, of an array that of its items; a struct has none of its own, and no
+-- lawful program stores in one
 abbrev pub kind_type : FieldKind → CType
 kind_type (Number type) = type
 kind_type (Array type count) = type

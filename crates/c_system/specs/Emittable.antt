@@ -1,5 +1,5 @@
--- What a system needs so that its code can be written: operations and starts that C can write, and so few ports, fields and
--- procedures that 32 bits number them.
+-- What a system needs so that its code can be written: operations and starts that C can write, and
+-- so few ports, fields and procedures that 32 bits number them.
 use Rattle.std.specs.Prelude.{◌+◌, ◌^◌, ◌<◌, ◌≤◌, All, length, unsigned_abs}
 use Rattle.mc_profile.specs.declared.local.LocalRow.{LocalRow}
 use Rattle.mc_profile.specs.LocalSystem.{LocalSystem}

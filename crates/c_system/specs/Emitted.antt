@@ -1,4 +1,5 @@
--- What the code of a system is made from: a system of a resolved model without a loop, its profile and its schedule.
+-- What the code of a system is made from: a system of a resolved model without a loop, its profile
+-- and its schedule.
 use Rattle.std.specs.Prelude.{Contains}
 use Rattle.mc_diagram.specs.Needs.{needs_of, HasNoLoop}
 use Rattle.mc_diagram.specs.ResolvedTree.{ResolvedTree, IsResolvedTree, diagram_of}
@@ -11,7 +12,8 @@ use Rattle.mc_schedule.specs.SystemSchedule.{SystemSchedule}
 use Rattle.c_system.specs.Schedules.{IsScheduleOf}
 use Rattle.c_system.specs.Emittable.{IsEmittable}
 
-pub record IsEmitted (local : LocalSystem) (profile : SystemProfile) (schedule : SystemSchedule) : Type 0 where
+pub record IsEmitted (local : LocalSystem) (profile : SystemProfile)
+    (schedule : SystemSchedule) : Type 0 where
   pub resolved : ResolvedTree
   pub is_resolved : IsResolvedTree resolved
   pub no_loop : HasNoLoop (needs_of (diagram_of resolved))
@@ -22,5 +24,6 @@ pub record IsEmitted (local : LocalSystem) (profile : SystemProfile) (schedule :
 
 -- its operations and starts can be written, and 32 bits number its ports, fields and procedures
 abbrev pub EmittedIsEmittable : Type 0
-EmittedIsEmittable = (local : LocalSystem) (profile : SystemProfile) (schedule : SystemSchedule) → IsEmitted local profile schedule →
+EmittedIsEmittable = (local : LocalSystem) (profile : SystemProfile) (schedule : SystemSchedule) →
+    IsEmitted local profile schedule →
     IsEmittable local schedule

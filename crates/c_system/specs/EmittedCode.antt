@@ -33,28 +33,35 @@ joined (code ∷ codes) = stmts_append code (joined codes)
 -- ---- Procedures
 
 abbrev pub with_body : Head → StmtTrees → ProcedureTree
-with_body h body = record { name = h.name; private = h.private; of = 0; params = h.params; body = body }
+with_body h body =
+    record { name = h.name; private = h.private; of = 0; params = h.params; body = body }
 
 -- under a counter code runs only once until the counter is brought back
 abbrev pub counted : Option ℕ → StmtTrees → StmtTrees
 counted None code = code
 counted (Some f) code =
-    one (branch 0 (compare Eq (read (Own f)) nought) (more_stmts (assign 0 f (literal (pos 1))) code) no_stmts)
+    one (branch 0 (compare Eq (read (Own f)) nought)
+    (more_stmts (assign 0 f (literal (pos 1))) code) no_stmts)
 
 -- a call on `s` passes on parameters by name
 abbrev pub own_call : (params : List ParamTree) → ℕ → List ParamTree → StmtTree
-own_call params g wanted = call 0 g OnSelf (exprs_of_list (map (λ q. read (param_leaf params q.name)) wanted))
+own_call params g wanted =
+    call 0 g OnSelf (exprs_of_list (map (λ q. read (param_leaf params q.name)) wanted))
 
 module _ (local : LocalSystem) (profile : SystemProfile) (schedule : SystemSchedule) where
   abbrev pub group_params : ℕ → List ParamTree
-  group_params g = now_param ∷ params_where local.control (takes (inports_among local (group_nodes schedule g))) (port_types (own_header local profile))
+  group_params g =
+      now_param ∷ params_where local.control (takes (inports_among local (group_nodes schedule g)))
+      (port_types (own_header local profile))
 
   -- a group executes its nodes
   abbrev pub group_procedure : ℕ → ProcedureTree
   group_procedure g =
       with_body
       (record { name = group_name local.row (suc g); private = true; params = group_params g })
-      (counted (counter_field local schedule g) (joined (map (code_at local (own_count schedule) (group_params g)) (group_nodes schedule g))))
+      (counted (counter_field local schedule g)
+      (joined (map (code_at local (own_count schedule) (group_params g))
+      (group_nodes schedule g))))
 
   -- a function calls its groups
   abbrev pub function_procedure : ℕ × List ℕ → ProcedureTree
@@ -62,14 +69,17 @@ module _ (local : LocalSystem) (profile : SystemProfile) (schedule : SystemSched
       let head = out_head (own_header local profile) e.0 in
       with_body head (stmts_of_list (map (λ g. own_call head.params g (group_params g)) e.1))
 
-  -- The update executes what no function holds, stores memories, and updates or resets each child; then it stores what the
-  -- trigger remembers, which all tests before still read, and brings the counters back.
+  -- The update executes what no function holds, stores memories, and updates or resets each child;
+  -- then it stores what the trigger remembers, which all tests before still read, and brings the
+  -- counters back.
   abbrev pub update_body : List ParamTree → StmtTrees
   update_body params = joined
       (joined (map (code_at local (own_count schedule) params) schedule.update)
       ∷ joined (map (memory_code local params) (filter (λ r. is_delay r.op) local.rows))
-      ∷ joined (map (update_code local (own_count schedule) params) (enumerate_from 0 local.children))
-      ∷ joined (map (reset_code local (own_count schedule) params) (enumerate_from 0 local.children))
+      ∷ joined
+      (map (update_code local (own_count schedule) params) (enumerate_from 0 local.children))
+      ∷ joined
+      (map (reset_code local (own_count schedule) params) (enumerate_from 0 local.children))
       ∷ (if is_triggered local.control then trigger_code local params else no_stmts)
       ∷ stmts_of_list (counter_stores local schedule) ∷ [])
 
@@ -86,7 +96,11 @@ module _ (local : LocalSystem) (profile : SystemProfile) (schedule : SystemSched
   -- the code of a system by its own rows, its profile and its schedule
   abbrev pub system_code : SystemTree
   system_code = record {
-    structure = record { name = system_name local.row; fields = map slot_field (code_slots local schedule) };
+    structure =
+        record {
+          name = system_name local.row;
+          fields = map slot_field (code_slots local schedule);
+        };
     outputs = map (λ o. value_field local o.row) (outports local);
     procedures = system_procedures;
   }

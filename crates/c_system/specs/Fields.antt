@@ -1,5 +1,5 @@
--- Where the fields of a system's struct lie: its values, memories, rings, what the trigger remembers, its children, and then
--- the counters.
+-- Where the fields of a system's struct lie: its values, memories, rings, what the trigger
+-- remembers, its children, and then the counters.
 use Rattle.std.specs.Prelude.{ℕ, suc, ◌+◌, ◌*◌, nat_lt, ◌==◌, if◌then◌else◌, List, ◌++◌, map, filter, flat_map, count_by, length, Option, unwrap_or}
 use Rattle.std.specs.Option.{option_map}
 use Rattle.std.specs.List.{position_from, range_with_len}
@@ -46,12 +46,14 @@ memory_field local b = length (value_rows local) + place_among (single_rows loca
 
 -- the first of the three fields of a ring, which stand together: its items, its place and its count
 abbrev pub ring_field : LocalSystem → ℕ → ℕ
-ring_field local b = length (value_rows local) + length (single_rows local) + 3 * place_among (line_rows local) b
+ring_field local b =
+    length (value_rows local) + length (single_rows local) + 3 * place_among (line_rows local) b
 
 -- ---- Other fields
 
 abbrev pub trigger_field : LocalSystem → ℕ
-trigger_field local = length (value_rows local) + length (single_rows local) + 3 * length (line_rows local)
+trigger_field local =
+    length (value_rows local) + length (single_rows local) + 3 * length (line_rows local)
 
 -- the child at a place
 abbrev pub child_field : LocalSystem → ℕ → ℕ
@@ -61,15 +63,19 @@ child_field local k = trigger_field local + (if is_triggered local.control then 
 
 -- how often functions call group g
 abbrev pub call_count : SystemSchedule → ℕ → ℕ
-call_count schedule g = count_by (λ called. called == g) (flat_map (λ groups. groups) schedule.functions)
+call_count schedule g =
+    count_by (λ called. called == g) (flat_map (λ groups. groups) schedule.functions)
 
 -- the groups that more than one function calls: each has a counter
 abbrev pub shared_groups : SystemSchedule → List ℕ
-shared_groups schedule = filter (λ g. nat_lt 1 (call_count schedule g)) (range_with_len 0 (length schedule.groups))
+shared_groups schedule =
+    filter (λ g. nat_lt 1 (call_count schedule g)) (range_with_len 0 (length schedule.groups))
 
 -- the counter of group g, where it has one
 abbrev pub counter_field : LocalSystem → SystemSchedule → ℕ → Option ℕ
-counter_field local schedule g = option_map (λ k. child_field local (length local.children) + k) (first_place (shared_groups schedule) g)
+counter_field local schedule g =
+    option_map (λ k. child_field local (length local.children) + k)
+    (first_place (shared_groups schedule) g)
 
 -- the number of group g in names counts from 1
 abbrev pub counter_slot : ℕ → Slot

@@ -13,7 +13,8 @@ has_some (k ∷ ks) = true
 
 -- the groups that have nodes; the one of what no function holds has none, and stands last
 abbrev pub code_groups : SystemSchedule → List ℕ
-code_groups schedule = filter (λ g. has_some (group_nodes schedule g)) (range_with_len 0 (length schedule.groups))
+code_groups schedule =
+    filter (λ g. has_some (group_nodes schedule g)) (range_with_len 0 (length schedule.groups))
 
 -- the system's own procedures: groups, functions, update, start and reset
 abbrev pub own_count : SystemSchedule → ℕ

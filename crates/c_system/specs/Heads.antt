@@ -39,7 +39,8 @@ inport_at local (Row p) = option_and_then inport_of (slice_get local.rows p)
 inport_at local (Call k j) = None
 
 abbrev pub inports_among : LocalSystem → List ℕ → List ℕ
-inports_among local nodes = filter_map (λ n. option_and_then (inport_at local) (slice_get (node_places local) n)) nodes
+inports_among local nodes =
+    filter_map (λ n. option_and_then (inport_at local) (slice_get (node_places local) n)) nodes
 
 -- a group takes the inputs whose Inports are among its nodes, and all controls
 abbrev pub takes : (inports : List ℕ) → Port → Bool

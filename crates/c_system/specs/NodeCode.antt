@@ -29,12 +29,14 @@ use Rattle.c_system.specs.Sources.{wire_leaf, wire_types}
 
 -- the three fields of a ring
 abbrev pub ring_fields : LocalSystem → ℕ → RingFields
-ring_fields local b = let f = ring_field local b in record { items = f; place = f + 1; taken = f + 2 }
+ring_fields local b =
+    let f = ring_field local b in record { items = f; place = f + 1; taken = f + 2 }
 
 -- what a delay remembers from its oldest sample; of no meaning at another row
 abbrev pub memory_read : LocalSystem → LocalRow → ExprTree
 memory_read local r =
-    if is_line r.op then oldest_code (ring_fields local r.row) (delay_length r.op) (row_start local r)
+    if is_line r.op then oldest_code (ring_fields local r.row) (delay_length r.op)
+    (row_start local r)
     else read (Own (memory_field local r.row))
 
 -- In a procedure with these parameters.
@@ -42,7 +44,13 @@ module _ (local : LocalSystem) (params : List ParamTree) where
   -- ---- Tests
 
   abbrev pub control_leaves : ControlLeaves
-  control_leaves = record { enable = param_leaf params control_name; trigger = param_leaf params (trigger_param local.control); remembers = Own (trigger_field local) }
+  control_leaves =
+      record {
+        enable = param_leaf params control_name;
+        trigger = param_leaf params (trigger_param local.control);
+        remembers =
+            Own (trigger_field local);
+      }
 
   abbrev pub active_test : Option CondTree
   active_test = test.active_by local.control control_leaves
@@ -57,7 +65,8 @@ module _ (local : LocalSystem) (params : List ParamTree) where
   -- ---- Rows
 
   abbrev pub input_leaves : LocalRow → List Leaf
-  input_leaves r = if is_inport r.kind then param_leaf params (input_name (port_of r.kind)) ∷ [] else map (wire_leaf local) r.inputs
+  input_leaves r = if is_inport r.kind then param_leaf params (input_name (port_of r.kind)) ∷ []
+      else map (wire_leaf local) r.inputs
 
   abbrev pub first_input : LocalRow → Leaf
   first_input r = get_or (input_leaves r) 0 (Own 0)
@@ -65,20 +74,26 @@ module _ (local : LocalSystem) (params : List ParamTree) where
   -- an Outport whose output is reset while the system is disabled
   abbrev pub output_reset : LocalRow → StmtTrees
   output_reset r =
-      if is_reset_outport r.kind then value_reset_statements (value_field local r.row) (test.disabled_by local.control control_leaves) (row_start local r)
+      if is_reset_outport r.kind then value_reset_statements (value_field local r.row)
+      (test.disabled_by local.control control_leaves) (row_start local r)
       else no_stmts
 
   -- where a row runs, what it computes is stored
   abbrev pub value_store : LocalRow → StmtTrees
-  value_store r = value_statements (value_field local r.row) (runs_test r) (rhs_code r.op (input_leaves r) (wire_types local r.inputs) (memory_read local r))
+  value_store r =
+      value_statements (value_field local r.row) (runs_test r)
+      (rhs_code r.op (input_leaves r) (wire_types local r.inputs) (memory_read local r))
 
   abbrev pub value_code : LocalRow → StmtTrees
-  value_code r = if has_value r.kind then stmts_append (output_reset r) (value_store r) else no_stmts
+  value_code r =
+      if has_value r.kind then stmts_append (output_reset r) (value_store r) else no_stmts
 
   abbrev pub memory_code : LocalRow → StmtTrees
   memory_code r =
-      if is_line r.op then ring_statements (ring_fields local r.row) (delay_length r.op) (runs_test r) (first_input r) off_test
-      else memory_statements (memory_field local r.row) (runs_test r) (first_input r) off_test (row_start local r)
+      if is_line r.op then ring_statements (ring_fields local r.row) (delay_length r.op)
+      (runs_test r) (first_input r) off_test
+      else memory_statements (memory_field local r.row) (runs_test r) (first_input r) off_test
+      (row_start local r)
 
   -- the update is called only where the system around is active, so the trigger remembers its level
   abbrev pub trigger_code : StmtTrees
@@ -89,14 +104,21 @@ module _ (local : LocalSystem) (count : ℕ) (params : List ParamTree) where
   -- ---- The child at a place
 
   abbrev pub call_code : ℕ → ChildUse → (function : ℕ) → StmtTrees
-  call_code k u j = call_statements (active_test local params) (child_base local count k + (j - 1)) (child_field local k) (now_leaf params ∷ taken u.header j (map (wire_leaf local) (entering u)))
+  call_code k u j =
+      call_statements (active_test local params) (child_base local count k + (j - 1))
+      (child_field local k)
+      (now_leaf params ∷ taken u.header j (map (wire_leaf local) (entering u)))
 
   abbrev pub update_code : ℕ × ChildUse → StmtTrees
   update_code e =
-      call_statements (active_test local params) (child_base local count e.0 + length (header_functions e.1.header)) (child_field local e.0) (now_leaf params ∷ map (wire_leaf local) (entering e.1))
+      call_statements (active_test local params) (child_base local count e.0
+      + length (header_functions e.1.header)) (child_field local e.0)
+      (now_leaf params ∷ map (wire_leaf local) (entering e.1))
 
   abbrev pub reset_code : ℕ × ChildUse → StmtTrees
-  reset_code e = reset_call_statements (off_test local params) (child_base local count e.0 + length (header_functions e.1.header) + 2) (child_field local e.0)
+  reset_code e =
+      reset_call_statements (off_test local params) (child_base local count e.0
+      + length (header_functions e.1.header) + 2) (child_field local e.0)
 
   -- ---- Nodes
 

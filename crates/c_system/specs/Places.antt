@@ -16,16 +16,20 @@ use Rattle.c_system.specs.declared.node.Place.TheVariants.{Row, Call}
 
 -- the calls of the functions of the child at a place; nothing calls those of the root
 abbrev pub call_places : ℕ × ChildUse → List Place
-call_places e = option_map_or (λ row. map (Call e.0) (range_with_len 1 (length (header_functions e.1.header)))) e.1.header.row []
+call_places e =
+    option_map_or (λ row. map (Call e.0) (range_with_len 1 (length (header_functions e.1.header))))
+    e.1.header.row []
 
 abbrev pub node_places : LocalSystem → List Place
-node_places local = map Row (range_with_len 0 (length local.rows)) ++ flat_map call_places (enumerate_from 0 local.children)
+node_places local = map Row (range_with_len 0 (length local.rows))
+    ++ flat_map call_places (enumerate_from 0 local.children)
 
 -- ---- Procedures of children, where so many are the system's own
 
 -- the first procedure of the child at a place: in front stand those of the children before it
 abbrev pub child_base : LocalSystem → (count : ℕ) → ℕ → ℕ
-child_base local count k = count + sum_by (λ u. length (header_functions u.header) + 3) (take k local.children)
+child_base local count k =
+    count + sum_by (λ u. length (header_functions u.header) + 3) (take k local.children)
 
 -- the parameter of this name
 abbrev pub param_leaf : List ParamTree → List ℕ → Leaf

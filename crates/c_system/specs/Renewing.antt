@@ -20,7 +20,9 @@ zero_store f = assign 0 f nought
 
 -- the counters stand behind the children
 abbrev pub counter_stores : LocalSystem → SystemSchedule → List StmtTree
-counter_stores local schedule = map zero_store (range_with_len (child_field local (length local.children)) (length (shared_groups schedule)))
+counter_stores local schedule =
+    map zero_store
+    (range_with_len (child_field local (length local.children)) (length (shared_groups schedule)))
 
 -- the field of a row gets the row's start
 abbrev pub start_store : LocalSystem → ℕ → LocalRow → StmtTree
@@ -28,7 +30,8 @@ start_store local f r = assign 0 f (written (row_start local r))
 
 -- no sample was taken; the items stay
 abbrev pub ring_stores : LocalSystem → LocalRow → List StmtTree
-ring_stores local r = zero_store (ring_fields local r.row).place ∷ zero_store (ring_fields local r.row).taken ∷ []
+ring_stores local r =
+    zero_store (ring_fields local r.row).place ∷ zero_store (ring_fields local r.row).taken ∷ []
 
 abbrev pub value_starts : LocalSystem → List StmtTree
 value_starts local = map (λ r. start_store local (value_field local r.row) r) (value_rows local)
@@ -40,7 +43,8 @@ abbrev pub line_starts : LocalSystem → List StmtTree
 line_starts local = flat_map (ring_stores local) (line_rows local)
 
 abbrev pub trigger_starts : LocalSystem → List StmtTree
-trigger_starts local = if is_triggered local.control then zero_store (trigger_field local) ∷ [] else []
+trigger_starts local =
+    if is_triggered local.control then zero_store (trigger_field local) ∷ [] else []
 
 -- memories are those before the first tick, and the trigger is not yet
 abbrev pub memory_starts : LocalSystem → List StmtTree
@@ -48,16 +52,20 @@ memory_starts local = single_starts local ++ line_starts local ++ trigger_starts
 
 -- Where so many procedures are the system's own.
 module _ (local : LocalSystem) (count : ℕ) where
-  -- the procedure behind a child's functions at this place: its update is 0, its start 1, its reset 2
+  -- the procedure behind a child's functions at this place: its update is 0, its start 1, its reset
+  -- 2
   abbrev pub call_behind : ℕ → ℕ × ChildUse → StmtTree
-  call_behind i e = call 0 (child_base local count e.0 + length (header_functions e.1.header) + i) (Child (child_field local e.0)) no_exprs
+  call_behind i e =
+      call 0 (child_base local count e.0 + length (header_functions e.1.header) + i)
+      (Child (child_field local e.0)) no_exprs
 
   abbrev pub child_calls : ℕ → List StmtTree
   child_calls i = map (call_behind i) (enumerate_from 0 local.children)
 
   -- all begin with their starts, and no function counts as called
   abbrev pub start_body : SystemSchedule → List StmtTree
-  start_body schedule = value_starts local ++ memory_starts local ++ child_calls 1 ++ counter_stores local schedule
+  start_body schedule =
+      value_starts local ++ memory_starts local ++ child_calls 1 ++ counter_stores local schedule
 
   -- a reset stores no value
   abbrev pub reset_body : List StmtTree

@@ -16,14 +16,18 @@ use Rattle.mc_profile.specs.LocalNodes.{AreNodesOf}
 
 -- the function, from 0, that gives output k
 abbrev pub giving_function : SystemProfile → ℕ → ℕ
-giving_function profile k = unwrap_or (position_from (λ f. has_bit f.outputs k) 0 profile.functions) 0
+giving_function profile k =
+    unwrap_or (position_from (λ f. has_bit f.outputs k) 0 profile.functions) 0
 
 -- the function that gives each output, by port
 abbrev pub giving_functions : LocalSystem → SystemProfile → List ℕ
-giving_functions local profile = map (giving_function profile) (range_with_len 0 (length (outports local)))
+giving_functions local profile =
+    map (giving_function profile) (range_with_len 0 (length (outports local)))
 
--- the schedule of the system's nodes, in the one order, by the functions of the profile that hold them
-pub record IsScheduleOf (local : LocalSystem) (profile : SystemProfile) (schedule : SystemSchedule) : Type 0 where
+-- the schedule of the system's nodes, in the one order, by the functions of the profile that hold
+-- them
+pub record IsScheduleOf (local : LocalSystem) (profile : SystemProfile)
+    (schedule : SystemSchedule) : Type 0 where
   pub nodes : SystemNodes
   pub are_nodes : AreNodesOf local nodes
   pub clusters : List ℕ

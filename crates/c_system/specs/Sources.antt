@@ -17,7 +17,8 @@ output_source f e = record { row = e.1.0; leaf = Child f e.0; number = e.1.1 }
 
 -- the outputs of the child at a place
 abbrev pub child_sources : LocalSystem → ℕ × ChildUse → List Source
-child_sources local e = map (output_source (child_field local e.0)) (enumerate_from 0 e.1.header.outputs)
+child_sources local e =
+    map (output_source (child_field local e.0)) (enumerate_from 0 e.1.header.outputs)
 
 -- the value of an own row
 abbrev pub value_source : LocalSystem → LocalRow → Source
@@ -25,11 +26,13 @@ value_source local r = record { row = r.row; leaf = Own (value_field local r.row
 
 -- what a wire can read: outputs of children, and own values
 abbrev pub sources : LocalSystem → List Source
-sources local = flat_map (child_sources local) (enumerate_from 0 local.children) ++ map (value_source local) (value_rows local)
+sources local = flat_map (child_sources local) (enumerate_from 0 local.children)
+    ++ map (value_source local) (value_rows local)
 
 -- the source of row c's value; a row of neither has none
 abbrev pub source_of : LocalSystem → ℕ → Option Source
-source_of local c = option_and_then (slice_get (sources local)) (first_place (map (λ s. s.row) (sources local)) c)
+source_of local c =
+    option_and_then (slice_get (sources local)) (first_place (map (λ s. s.row) (sources local)) c)
 
 -- a wire's leaf; one without a source, which no lawful system has, reads the first field
 abbrev pub wire_leaf : LocalSystem → ℕ → Leaf

@@ -7,5 +7,6 @@ use Rattle.c_system.specs.EmittedCode.{system_code}
 use Rattle.c_right.specs.SystemOk.{SystemOk}
 
 abbrev pub EmittedCodeIsOk : Type 0
-EmittedCodeIsOk = (local : LocalSystem) (profile : SystemProfile) (schedule : SystemSchedule) → IsEmitted local profile schedule →
+EmittedCodeIsOk = (local : LocalSystem) (profile : SystemProfile) (schedule : SystemSchedule) →
+    IsEmitted local profile schedule →
     SystemOk local profile (system_code local profile schedule)

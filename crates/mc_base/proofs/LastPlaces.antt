@@ -49,7 +49,8 @@ once : (x : ℕ) (xs : List ℕ) → times x (different xs) ≡ cond (has xs x) 
 once x [] = refl
 once x (y ∷ ys) = elim (cases_eq y x) [
   | inl same ↦
-      times-yes x y (without y (different ys)) same ∙ ap suc (ap (λ z. times x (without z (different ys))) same ∙ none-left x (different ys))
+      times-yes x y (without y (different ys)) same
+      ∙ ap suc (ap (λ z. times x (without z (different ys))) same ∙ none-left x (different ys))
       ∙ sym (ap (λ r. cond (r || has ys x) 1 0) (eq-eqb y x same))
   | inr other ↦
       times-no x y (without y (different ys)) other ∙ all-left x y (different ys) other ∙ once x ys
@@ -70,6 +71,7 @@ as_many (x ∷ xs) = by (has xs x) (once x xs) (as_many xs)
     rest : length (without x (different xs)) + times x (different xs) ≡ length (different xs)
     rest = length-without x (different xs)
 
-    by : (r : Bool) → times x (different xs) ≡ cond r 1 0 → length (different xs) ≡ length (at_last xs) → suc (length (without x (different xs))) ≡ length (if r then at_last xs else x ∷ at_last xs)
+    by : (r : Bool) → times x (different xs) ≡ cond r 1 0 → length (different xs) ≡ length (at_last xs) →
+        suc (length (without x (different xs))) ≡ length (if r then at_last xs else x ∷ at_last xs)
     by true e more = let r = rest in omega arith
     by false e more = let r = rest in omega arith

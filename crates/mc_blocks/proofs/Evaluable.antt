@@ -36,7 +36,8 @@ HasInputs (Value v) vs = ⊤
 HasInputs (Delay initial) vs = ⊤
 HasInputs (Line length start) vs = ⊤
 HasInputs (Gain m frac to how) vs = length vs ≡ 1
-HasInputs (Sum count minus fracs to how) vs = (length vs ≡ count) × (count ≤ 16) × (greatest_in (take count fracs) ≤ 31) × (length (take count fracs) ≡ count)
+HasInputs (Sum count minus fracs to how) vs =
+    (length vs ≡ count) × (count ≤ 16) × (greatest_in (take count fracs) ≤ 31) × (length (take count fracs) ≡ count)
 HasInputs (Product count frac to how) vs = length vs ≡ count
 HasInputs (Switch criterion threshold fracs to how) vs = (length vs ≡ 3) × (length fracs ≡ 2)
 HasInputs (Relational compare fracs) vs = (length vs ≡ 2) × (length fracs ≡ 2) × (greatest_in fracs ≤ 31)
@@ -52,7 +53,8 @@ sum_fracs-le : (ts : List FixType) (count : ℕ) → length ts ≡ count → gre
 sum_fracs-le ts count e = subst (λ fs. greatest_in fs ≤ 31) (sym (first_fracs ts count e)) (fracs-le ts 0 (omega arith))
 
 has_inputs : (k : Kind) (ts : List FixType) (out : FixType) (delays : Bool) (vs : List ℤ) (memory : ℤ) →
-    IsWithinLimits k → HasInputTypes k ts → ReadsInTypes k ts vs → PassesInType (op_of k ts out delays) out vs memory → HasInputs (op_of k ts out delays) vs
+    IsWithinLimits k → HasInputTypes k ts → ReadsInTypes k ts vs → PassesInType (op_of k ts out delays) out vs memory →
+    HasInputs (op_of k ts out delays) vs
 has_inputs (kind.Inport port) ts out delays vs memory limits has reads passes = passes.0
 has_inputs (kind.Outport port reset initial) ts out delays vs memory limits has reads passes = passes.0
 has_inputs (kind.SubSystem control) ts out delays vs memory limits has reads passes = tt
@@ -60,13 +62,24 @@ has_inputs (kind.Constant value) ts out delays vs memory limits has reads passes
 has_inputs kind.Ground ts out delays vs memory limits has reads passes = tt
 has_inputs kind.Terminator ts out delays vs memory limits has reads passes = tt
 has_inputs (kind.Gain gain how) ts out delays vs memory limits has reads passes = sym (length_types ts vs reads) ∙ has
-has_inputs (kind.Sum count minus how) ts out delays vs memory limits has reads passes = (sym (length_types ts vs reads) ∙ has, limits.1, sum_fracs-le ts count has, ap length (first_fracs ts count has) ∙ length_fracs ts ∙ has)
+has_inputs (kind.Sum count minus how) ts out delays vs memory limits has reads passes = (
+  sym (length_types ts vs reads) ∙ has,
+  limits.1,
+  sum_fracs-le ts count has,
+  ap length (first_fracs ts count has)
+      ∙ length_fracs ts ∙ has,
+)
 has_inputs (kind.Product count how) ts out delays vs memory limits has reads passes = sym (length_types ts vs reads) ∙ has
 has_inputs (kind.UnitDelay initial) ts out delays vs memory limits has reads passes = tt
 has_inputs (kind.Delay length initial) ts out delays vs memory limits has reads passes = tt
 has_inputs kind.ZeroOrderHold ts out delays vs memory limits has reads passes = passes.0
-has_inputs (kind.Switch criterion threshold how) ts out delays vs memory limits has reads passes = (sym (length_types ts vs reads) ∙ has, refl)
-has_inputs (kind.Relational compare) ts out delays vs memory limits has reads passes = (sym (length_types ts vs reads) ∙ has, refl, max-le (max-le (omega arith) (input_type ts 0).in_profile.2) (input_type ts 1).in_profile.2)
+has_inputs (kind.Switch criterion threshold how) ts out delays vs memory limits has reads passes =
+    (sym (length_types ts vs reads) ∙ has, refl)
+has_inputs (kind.Relational compare) ts out delays vs memory limits has reads passes = (
+  sym (length_types ts vs reads) ∙ has,
+  refl,
+  max-le (max-le (omega arith) (input_type ts 0).in_profile.2) (input_type ts 1).in_profile.2,
+)
 has_inputs (kind.Logic o count) ts out delays vs memory limits has reads passes = sym (length_types ts vs reads) ∙ has
 has_inputs (kind.Convert how) ts out delays vs memory limits has reads passes = sym (length_types ts vs reads) ∙ has
 has_inputs (kind.RateTransition initial time) ts out true vs memory limits has reads passes = tt
@@ -78,7 +91,8 @@ has_inputs kind.TriggerPort ts out delays vs memory limits has reads passes = tt
 pub inputs_of : (op known : Op) (vs : List ℤ) (memory : ℤ) → op ≡ known → IsEvaluable op vs memory → HasInputs known vs
 inputs_of op known vs memory e h =
     subst (λ o. HasInputs o vs) (sym h.is_op ∙ e)
-    (has_inputs h.kind h.types h.out h.delays vs memory h.within_limits h.has_types h.reads (subst (λ o. PassesInType o h.out vs memory) h.is_op h.passes))
+    (has_inputs h.kind h.types h.out h.delays vs memory h.within_limits h.has_types h.reads
+    (subst (λ o. PassesInType o h.out vs memory) h.is_op h.passes))
 
 pub numbers_fit : (op known : Op) (vs : List ℤ) (memory : ℤ) → op ≡ known → IsEvaluable op vs memory → NumbersFit known vs
 numbers_fit op known vs memory e h =
@@ -90,7 +104,8 @@ take_whole vs count e = subst (λ n. take n vs ≡ vs) e (take-length vs)
 
 -- the value of a row lies in its type
 pub value_in_type : (op : Op) (vs : List ℤ) (memory result : ℤ) → result ≡ rhs op vs memory →
-    (k : Kind) (ts : List FixType) (out : FixType) (delays : Bool) → op ≡ op_of k ts out delays → PassesInType op out vs memory → InType out result
+    (k : Kind) (ts : List FixType) (out : FixType) (delays : Bool) → op ≡ op_of k ts out delays →
+    PassesInType op out vs memory → InType out result
 value_in_type op vs memory result e k ts out delays is passes =
     subst (InType out) (sym (e ∙ ap (λ o. rhs o vs memory) is))
     (values_stay_in_type k ts out delays vs memory (subst (λ o. PassesInType o out vs memory) is passes))

@@ -33,7 +33,8 @@ pair-below (suc n) first i j has = elim (Contains-append_cases (pairs_with first
   | inl (k, within, is) ↦
       let low : k < n = let e : length (pairs_with first n) ≡ n = length-map-range_with_len (λ (second : ℕ). (first, second))
       (first + 1) n in omega arith in
-      let at : ◌≡◌ {A = ℕ × ℕ} (first, first + 1 + k) (i, j) = sym (get_or-map-range_with_len (λ (second : ℕ). (first, second)) (first + 1) n k
+      let at : ◌≡◌ {A = ℕ × ℕ} (first, first + 1 + k) (i, j) =
+      sym (get_or-map-range_with_len (λ (second : ℕ). (first, second)) (first + 1) n k
       (first + 1 + k) (i, j) low refl) ∙ is in
       let left : first ≡ i = ap (λ (pair : ℕ × ℕ). pair.0) at in
       let right : first + 1 + k ≡ j = ap (λ (pair : ℕ × ℕ). pair.1) at in

@@ -1,5 +1,5 @@
--- Which certificates are sound, and the one that is made for outputs with given needs. A need is a set of inputs: a
--- number whose bit k says that input k is a member.
+-- Which certificates are sound, and the one that is made for outputs with given needs. A need is a
+-- set of inputs: a number whose bit k says that input k is a member.
 use Rattle.std.specs.Prelude.{◌≡◌, ℕ, zero, suc, ◌+◌, ◌<◌, ◌≤◌, ◌⊎◌, ◌==◌, not, List, [], ◌++◌, map, filter, length, take, slice_index, All, IsBitSet, bit_xor}
 use Rattle.std.specs.Int.{trailing_zeros, w64}
 use Rattle.std.specs.List.{list_any, range_with_len}
@@ -35,19 +35,22 @@ need_at needs representatives place = slice_index needs (slice_index representat
 -- the bit of a difference is in just one of both needs
 abbrev pub IsDifference : List ℕ → List ℕ → Difference → Type 0
 IsDifference needs representatives d =
-    IsInJustOne (need_at needs representatives d.first) (need_at needs representatives d.second) d.bit
+    IsInJustOne (need_at needs representatives d.first) (need_at needs representatives d.second)
+    d.bit
 
--- A certificate is sound where the representatives are outputs, the differences stand for all pairs of their places in
--- order, and each bit lies in just one of the two needs.
+-- A certificate is sound where the representatives are outputs, the differences stand for all pairs
+-- of their places in order, and each bit lies in just one of the two needs.
 pub record IsSound (needs : List ℕ) (c : PlainCertificate) : Type 0 where
   pub outputs : All (λ o. o < length needs) c.representatives
   pub pairs : map positions c.differ ≡ pairs_below (length c.representatives)
   pub bits : All (IsDifference needs c.representatives) c.differ
 
--- where a certificate is sound, every exact interface has at least as many output functions as it has representatives
+-- where a certificate is sound, every exact interface has at least as many output functions as it
+-- has representatives
 abbrev pub CertifiedAreLeast : Type 0
 CertifiedAreLeast =
-    (needs : List ℕ) (c : PlainCertificate) (interface : Interface) → IsSound needs c → IsInterface interface → IsExact interface needs →
+    (needs : List ℕ) (c : PlainCertificate) (interface : Interface) → IsSound needs c →
+    IsInterface interface → IsExact interface needs →
     length c.representatives ≤ output_functions interface
 
 -- ---- The certificate that is made
@@ -55,12 +58,15 @@ CertifiedAreLeast =
 -- the outputs whose need is that of no output before
 abbrev pub first_outputs : List ℕ → List ℕ
 first_outputs needs =
-    filter (λ o. not (list_any (λ n. n == slice_index needs o) (take o needs))) (range_with_len 0 (length needs))
+    filter (λ o. not (list_any (λ n. n == slice_index needs o) (take o needs)))
+    (range_with_len 0 (length needs))
 
 -- no lesser bit lies in just one of both needs
 abbrev pub IsLeastDifference : List ℕ → List ℕ → Difference → Type 0
 IsLeastDifference needs representatives d =
-    (k : ℕ) → k < d.bit → IsInJustOne (need_at needs representatives d.first) (need_at needs representatives d.second) k → ⊥
+    (k : ℕ) → k < d.bit →
+    IsInJustOne (need_at needs representatives d.first) (need_at needs representatives d.second)
+    k → ⊥
 
 -- the least output of each class of equal needs, and the least bit for each pair
 pub record IsCertificateFor (needs : List ℕ) (c : PlainCertificate) : Type 0 where
@@ -70,7 +76,8 @@ pub record IsCertificateFor (needs : List ℕ) (c : PlainCertificate) : Type 0 w
 
 -- ---- The same by a rule
 
--- the least bit in which two sets differ: how many zeros stand below the lowest one of what lies in just one of them
+-- the least bit in which two sets differ: how many zeros stand below the lowest one of what lies in
+-- just one of them
 abbrev pub least_difference : ℕ → ℕ → ℕ
 least_difference x y = trailing_zeros w64 (bit_xor x y)
 
@@ -79,7 +86,8 @@ abbrev pub difference_of : List ℕ → List ℕ → ℕ → ℕ → Difference
 difference_of needs representatives first second = record {
   first = first;
   second = second;
-  bit = least_difference (need_at needs representatives first) (need_at needs representatives second);
+  bit =
+      least_difference (need_at needs representatives first) (need_at needs representatives second);
 }
 
 -- those of a place from each of so many that follow it
@@ -91,4 +99,5 @@ differences_with needs representatives first others =
 abbrev pub differences_from : List ℕ → List ℕ → ℕ → ℕ → List Difference
 differences_from needs representatives first zero = []
 differences_from needs representatives first (suc others) =
-    differences_with needs representatives first others ++ differences_from needs representatives (first + 1) others
+    differences_with needs representatives first others ++ differences_from needs representatives
+    (first + 1) others

@@ -9,7 +9,8 @@ three_places = refl
 two_outputs : first_outputs (1 ∷ 1 ∷ 0 ∷ []) ≡ 0 ∷ 2 ∷ []
 two_outputs = refl
 
-one_difference : differences_from (1 ∷ 1 ∷ 0 ∷ []) (0 ∷ 2 ∷ []) 0 2 ≡ record { first = 0; second = 1; bit = 0 } ∷ []
+one_difference : differences_from (1 ∷ 1 ∷ 0 ∷ []) (0 ∷ 2 ∷ []) 0 2
+    ≡ record { first = 0; second = 1; bit = 0 } ∷ []
 unfolding lib.Count.count_trailing_zeros
 one_difference = refl
 
@@ -18,6 +19,7 @@ three_outputs : first_outputs (3 ∷ 5 ∷ 3 ∷ 4294967297 ∷ []) ≡ 0 ∷ 1 
 three_outputs = refl
 
 three_differences : differences_from (3 ∷ 5 ∷ 3 ∷ 4294967297 ∷ []) (0 ∷ 1 ∷ 3 ∷ []) 0 3
-    ≡ record { first = 0; second = 1; bit = 1 } ∷ record { first = 0; second = 2; bit = 1 } ∷ record { first = 1; second = 2; bit = 2 } ∷ []
+    ≡ record { first = 0; second = 1; bit = 1 } ∷ record { first = 0; second = 2; bit = 1 }
+    ∷ record { first = 1; second = 2; bit = 2 } ∷ []
 unfolding lib.Count.count_trailing_zeros
 three_differences = refl

@@ -64,7 +64,8 @@ fn push_differences(
     requires outputs { All (λ o. o < length needs.now) representatives.now }
     requires first { first < length representatives.now }
     ensures { OnOk result (differ.new.items ≡ differ.old.items
-        ++ differences_with needs.now representatives.now first (length representatives.now - (first + 1))) }
+        ++ differences_with needs.now representatives.now first (length representatives.now
+        - (first + 1))) }
 {
     let own = needs[usize::from(representatives[first])];
     for second in first + 1..representatives.len() {

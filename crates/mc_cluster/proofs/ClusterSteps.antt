@@ -27,7 +27,13 @@ turned-needs g a b (k, below, is) = (
 )
 
 turned-back : (g : NeedsGraph) (a b : ℕ) → Needs (turned g) b a → Needs g a b
-turned-back g a b (k, below, is) = (k, inside, get_or_default g.edges k (b, a) (b, a) inside ∙ ap (λ (edge : ℕ × ℕ). (edge.1, edge.0)) (sym (get_or-map (λ (edge : ℕ × ℕ). (edge.1, edge.0)) g.edges k (b, a) (a, b) inside) ∙ is))
+turned-back g a b (k, below, is) = (
+  k,
+  inside,
+  get_or_default g.edges k (b, a) (b, a) inside
+      ∙ ap (λ (edge : ℕ × ℕ). (edge.1, edge.0))
+      (sym (get_or-map (λ (edge : ℕ × ℕ). (edge.1, edge.0)) g.edges k (b, a) (a, b) inside) ∙ is),
+)
   where
     inside : k < length g.edges
     inside = let e : length (turned g).edges ≡ length g.edges = length-map g.edges (λ (edge : ℕ × ℕ). (edge.1, edge.0)) in omega arith
@@ -47,19 +53,26 @@ module _ (g h : NeedsGraph) (turn : (a b : ℕ) → Needs g b a → Needs h a b)
 
 -- ---- Clusters by masks
 
-module _ (g : NeedsGraph) (outputs class bits clusters : List ℕ) (inside : All (λ o. o < g.n) outputs) (are_bits : AreClassBits g.n outputs class (length outputs) bits) (are_masks : AreMasks (turned g) bits clusters) where
+module _ (g : NeedsGraph) (outputs class bits clusters : List ℕ) (inside : All (λ o. o < g.n) outputs)
+    (are_bits : AreClassBits g.n outputs class (length outputs) bits)
+    (are_masks : AreMasks (turned g) bits clusters) where
   to-class : (a c : ℕ) → ReachesWithBit (turned g) bits a c → ReachesClass g outputs class a c
   to-class a c (o, below, reach, bit) = let (i, low, output, of) = (are_bits.at_node o c below).0 bit in
       (i, low, of, subst (Reaches g a) (sym output) (reaches-back (turned g) g (turned-back g) o a reach))
 
   from-class : (a c : ℕ) → ReachesClass g outputs class a c → ReachesWithBit (turned g) bits a c
-  from-class a c (i, low, of, reach) = let below : get_or outputs i 0 < g.n = inside i 0 low in
-      (get_or outputs i 0, below, reaches-back g (turned g) (turned-needs g) a (get_or outputs i 0) reach, (are_bits.at_node (get_or outputs i 0) c below).1 (i, low, refl, of))
+  from-class a c (i, low, of, reach) = let below : get_or outputs i 0 < g.n = inside i 0 low in (
+    get_or outputs i 0,
+    below,
+    reaches-back g (turned g) (turned-needs g) a (get_or outputs i 0) reach,
+    (are_bits.at_node (get_or outputs i 0) c below).1 (i, low, refl, of),
+  )
 
   pub are_clusters : AreClusters g outputs class clusters
   are_clusters = record {
     one_each = are_masks.len;
-    bits = λ a c below. let masks = are_masks.bits a c below in (λ set. to-class a c (masks.0 set), λ reach. masks.1 (from-class a c reach));
+    bits = λ a c below. let masks = are_masks.bits a c below in
+        (λ set. to-class a c (masks.0 set), λ reach. masks.1 (from-class a c reach));
   }
 
 -- ---- The bits of one output more
@@ -73,10 +86,17 @@ set_at n k one = (bit_set_by_shift n k).0 (shr_and_one n k ∙ one)
 pub no_bits : (n : ℕ) (outputs class : List ℕ) → AreClassBits n outputs class 0 (replicate n 0)
 no_bits n outputs class = record {
   len = length-replicate n 0;
-  at_node = λ a c below. (λ set. absurd (let e = one_at 0 c (subst (λ m. IsBitSet m c) (get_or-replicate n a 0 0 below) set) in let z = bit_at-zero c in omega arith), λ (i, low, output, of). absurd (omega arith));
+  at_node =
+      λ a c below. (
+        λ set. absurd (let e = one_at 0 c (subst (λ m. IsBitSet m c) (get_or-replicate n a 0 0 below) set) in
+            let z = bit_at-zero c in omega arith),
+        λ (i, low, output, of). absurd (omega arith),
+      );
 }
 
-module _ (n : ℕ) (outputs class bits : List ℕ) (i mask : ℕ) (within : get_or outputs i 0 < n) (few : get_or class i 0 < 64) (read : mask ≡ get_or bits (get_or outputs i 0) 0) (so_far : AreClassBits n outputs class i bits) where
+module _ (n : ℕ) (outputs class bits : List ℕ) (i mask : ℕ) (within : get_or outputs i 0 < n)
+    (few : get_or class i 0 < 64) (read : mask ≡ get_or bits (get_or outputs i 0) 0)
+    (so_far : AreClassBits n outputs class i bits) where
   abbrev pub o : ℕ
   o = get_or outputs i 0
 
@@ -115,7 +135,8 @@ module _ (n : ℕ) (outputs class bits : List ℕ) (i mask : ℕ) (within : get_
 
   to-old : (a k : ℕ) → a < n → IsOutputOf outputs class i a k → IsBitSet (get_or (set bits o more) a 0) k
   to-old a k below given = let had : IsBitSet (get_or bits a 0) k = (so_far.at_node a k below).1 given in elim (cases_eq a o) [
-    | inl here ↦ subst (λ m. IsBitSet m k) (sym (ap (λ b. get_or (set bits o more) b 0) here ∙ own)) (kept k (subst (λ m. IsBitSet m k) (ap (λ b. get_or bits b 0) here ∙ sym read) had))
+    | inl here ↦ subst (λ m. IsBitSet m k) (sym (ap (λ b. get_or (set bits o more) b 0) here ∙ own))
+        (kept k (subst (λ m. IsBitSet m k) (ap (λ b. get_or bits b 0) here ∙ sym read) had))
     | inr there ↦ subst (λ m. IsBitSet m k) (sym (get_or-set_other bits o a more 0 there)) had
   ]
 
@@ -124,7 +145,8 @@ module _ (n : ℕ) (outputs class bits : List ℕ) (i mask : ℕ) (within : get_
     | inl last ↦
         let here : a ≡ o = sym output ∙ ap (λ i. get_or outputs i 0) last in
         let new : k ≡ c = sym of ∙ ap (λ i. get_or class i 0) last in
-        subst (λ m. IsBitSet m k) (sym (ap (λ b. get_or (set bits o more) b 0) here ∙ own)) (subst (λ j. IsBitSet more j) (sym new) (set_at more c (bit_at_set_same w64 mask c few)))
+        subst (λ m. IsBitSet m k) (sym (ap (λ b. get_or (set bits o more) b 0) here ∙ own))
+        (subst (λ j. IsBitSet more j) (sym new) (set_at more c (bit_at_set_same w64 mask c few)))
     | inr earlier ↦ to-old a k below (j, omega arith, output, of)
   ]
 

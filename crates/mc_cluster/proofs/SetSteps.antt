@@ -27,7 +27,8 @@ module _ (xs : List ℕ) (k : ℕ) (within : k < length xs) where
       by false true = refl
       by false false = refl
 
-  pub different-next : different (take (k + 1) xs) ≡ cond (has (take k xs) (get_or xs k 0)) (different (take k xs)) (different (take k xs) ++ get_or xs k 0 ∷ [])
+  pub different-next : different (take (k + 1) xs)
+      ≡ cond (has (take k xs) (get_or xs k 0)) (different (take k xs)) (different (take k xs) ++ get_or xs k 0 ∷ [])
   different-next = ap different next ∙ different-more (take k xs) (get_or xs k 0)
 
   module _ (apart : AreDifferent xs) where
@@ -43,18 +44,25 @@ module _ (xs : List ℕ) (k : ℕ) (within : k < length xs) where
             let f = found-at (λ y. eqb y (get_or xs k 0)) 0 (take k xs) j e in
             let low : j < k = (let b = f.1 in let l = len in omega arith) in
             let here : j - 0 ≡ j = omega arith in
-            absurd (apart j k low within (sym (ap (λ i. get_or (take k xs) i 0) here ∙ get_or-take k xs j 0 low) ∙ eqb-true (get_or (take k xs) (j - 0) 0) (get_or xs k 0) f.2))
+            absurd (apart j k low within (sym (ap (λ i. get_or (take k xs) i 0) here ∙ get_or-take k xs j 0 low)
+            ∙ eqb-true (get_or (take k xs) (j - 0) 0) (get_or xs k 0) f.2))
 
     -- the place of each, where there is one set more
-    pub place-more : (x : ℕ) → cond (is_eq (nat_cmp (get_or xs k 0) x)) (Some k) (position_from (λ y. eqb y x) 0 (take k xs)) ≡ position_from (λ y. eqb y x) 0 (take (k + 1) xs)
+    pub place-more : (x : ℕ) →
+        cond (is_eq (nat_cmp (get_or xs k 0) x)) (Some k) (position_from (λ y. eqb y x) 0 (take k xs))
+        ≡ position_from (λ y. eqb y x) 0 (take (k + 1) xs)
     place-more x = sym (ap (position_from (λ y. eqb y x) 0) next ∙ by (cases_eq (get_or xs k 0) x))
       where
         test : Bool → Option ℕ
         test r = cond r (Some k) (position_from (λ y. eqb y x) 0 (take k xs))
 
-        by : (get_or xs k 0 ≡ x) ⊎ (get_or xs k 0 ≢ x) → position_from (λ y. eqb y x) 0 (take k xs ++ get_or xs k 0 ∷ []) ≡ test (is_eq (nat_cmp (get_or xs k 0) x))
+        by : (get_or xs k 0 ≡ x) ⊎ (get_or xs k 0 ≢ x) →
+            position_from (λ y. eqb y x) 0 (take k xs ++ get_or xs k 0 ∷ []) ≡ test (is_eq (nat_cmp (get_or xs k 0) x))
         by (inl same) =
-            position-new (λ y. eqb y x) 0 (take k xs) (get_or xs k 0) (sym (is_some-position (λ y. eqb y x) 0 (take k xs)) ∙ ap is_some (ap (λ z. position_from (λ y. eqb y z) 0 (take k xs)) (sym same) ∙ absent)) (eq-eqb (get_or xs k 0) x same)
+            position-new (λ y. eqb y x) 0 (take k xs) (get_or xs k 0)
+            (sym (is_some-position (λ y. eqb y x) 0 (take k xs))
+            ∙ ap is_some (ap (λ z. position_from (λ y. eqb y z) 0 (take k xs)) (sym same) ∙ absent))
+            (eq-eqb (get_or xs k 0) x same)
             ∙ ap Some (let len = length-take-le k xs (omega arith) in let e : 0 + length (take k xs) ≡ k = omega arith in e)
             ∙ ap test (sym (same_tests (get_or xs k 0) x ∙ eq-eqb (get_or xs k 0) x same))
         by (inr other) =

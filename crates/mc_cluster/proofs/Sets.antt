@@ -41,7 +41,8 @@ module _ (m : ℕ → ℕ) where
   all-rest P x xs true all = all.1
   all-rest P x xs false all = all
 
-  passed : (P : ℕ → Type 0) (t : ℕ → Bool) (xs : List ℕ) (j : ℕ) → AllByRecursion P (filter t xs) → j < length xs → t (get_or xs j 0) ≡ true → P (get_or xs j 0)
+  passed : (P : ℕ → Type 0) (t : ℕ → Bool) (xs : List ℕ) (j : ℕ) → AllByRecursion P (filter t xs) → j < length xs →
+      t (get_or xs j 0) ≡ true → P (get_or xs j 0)
   passed P t [] j all below passes = absurd (omega arith)
   passed P t (x ∷ xs) zero all below passes = (subst (λ r. AllByRecursion P (cond r (x ∷ filter t xs) (filter t xs))) passes all).0
   passed P t (x ∷ xs) (suc j) all below passes = passed P t xs j (all-rest P x (filter t xs) (t x) all) (omega arith) passes
@@ -57,7 +58,8 @@ module _ (m : ℕ → ℕ) where
   rises t (x ∷ xs) i zero up before below one other = absurd (omega arith)
   rises t (x ∷ xs) zero (suc j) up before below one other =
       passed (λ y. m x < m y) t xs j (subst (λ r. Rising (cond r (x ∷ filter t xs) (filter t xs))) one up).0 (omega arith) other
-  rises t (x ∷ xs) (suc i) (suc j) up before below one other = rises t xs i j (rising-rest x (filter t xs) (t x) up) (omega arith) (omega arith) one other
+  rises t (x ∷ xs) (suc i) (suc j) up before below one other =
+      rises t xs i j (rising-rest x (filter t xs) (t x) up) (omega arith) (omega arith) one other
 
 rising-along : (m n : ℕ → ℕ) (xs : List ℕ) → AllByRecursion (λ y. n y ≡ suc (m y)) xs → Rising m xs → Rising n xs
 rising-along m n [] same up = tt
@@ -87,7 +89,8 @@ shifted t i (x ∷ xs) = by (t x) (shifted t (i + 1) xs)
 
 later-place : (x : ℕ) (xs : List ℕ) (y : ℕ) → eqb x y ≡ false → has xs y ≡ true → place_of (x ∷ xs) y ≡ suc (place_of xs y)
 later-place x xs y other there =
-    ap (λ r. unwrap_or (cond r (Some 0) (position_from (λ z. eqb z y) 1 xs)) 0) other ∙ ap (λ o. unwrap_or o 0) (shifted (λ z. eqb z y) 0 xs)
+    ap (λ r. unwrap_or (cond r (Some 0) (position_from (λ z. eqb z y) 1 xs)) 0) other
+    ∙ ap (λ o. unwrap_or o 0) (shifted (λ z. eqb z y) 0 xs)
     ∙ by (position_from (λ z. eqb z y) 0 xs) (is_some-position (λ z. eqb z y) 0 xs ∙ there)
   where
     by : (o : Option ℕ) → is_some o ≡ true → unwrap_or (option_map suc o) 0 ≡ suc (unwrap_or o 0)
@@ -112,7 +115,9 @@ rising-different (x ∷ xs) = (
     later y there = later-place x xs y other inside
       where
         both : (not (eqb y x) && has (different xs) y) ≡ true
-        both = sym (any-filter_same (λ z. eqb z y) (λ z. not (eqb z x)) (not (eqb y x)) (λ k same. ap (λ z. not (eqb z x)) (eqb-true k y same)) (different xs)) ∙ there
+        both = sym
+            (any-filter_same (λ z. eqb z y) (λ z. not (eqb z x)) (not (eqb y x))
+            (λ k same. ap (λ z. not (eqb z x)) (eqb-true k y same)) (different xs)) ∙ there
 
         apart : (r : Bool) → eqb y x ≡ r → (not r && has (different xs) y) ≡ true → (y ≡ x → ⊥) × (has (different xs) y ≡ true)
         apart true e b = absurd (false≢true b)
@@ -156,13 +161,18 @@ sorted_sets holds sets sorted stable i j before below =
   where
     no_more : count_ones (get_or sets j 0) ≤ count_ones (get_or sets i 0)
     no_more = at_least (count_ones (get_or sets i 0)) (count_ones (get_or sets j 0))
-        (sorted_far has_more (IsStrictWeakOrder-flip (λ a b. is_lt (nat_cmp (count_ones a) (count_ones b))) (ranks_by nat_cmp_total count_ones)) sets sorted i j 0 (omega arith) below)
+        (sorted_far has_more (IsStrictWeakOrder-flip (λ a b. is_lt (nat_cmp (count_ones a) (count_ones b)))
+        (ranks_by nat_cmp_total count_ones)) sets sorted i j 0 (omega arith) below)
 
     rising : Rising (place_of holds) (filter (ties has_more (get_or sets i 0)) sets)
-    rising = subst (Rising (place_of holds)) (sym (stable (get_or sets i 0))) (rising-kept (place_of holds) (ties has_more (get_or sets i 0)) (different holds) (rising-different holds))
+    rising =
+        subst (Rising (place_of holds)) (sym (stable (get_or sets i 0)))
+        (rising-kept (place_of holds) (ties has_more (get_or sets i 0)) (different holds) (rising-different holds))
 
 pub different_sets : (holds sets : List ℕ) → AreInOrder holds sets → AreDifferent sets
 different_sets holds sets ordered i j before below same = elim (ordered i j before below) [
   | inl fewer ↦ absurd (let e : count_ones (get_or sets i 0) ≡ count_ones (get_or sets j 0) = ap count_ones same in omega arith)
-  | inr (counts, places) ↦ absurd (let e : place_of holds (get_or sets i 0) ≡ place_of holds (get_or sets j 0) = ap (place_of holds) same in omega arith)
+  | inr (counts, places) ↦
+      absurd (let e : place_of holds (get_or sets i 0) ≡ place_of holds (get_or sets j 0) = ap (place_of holds) same in
+      omega arith)
 ]

@@ -8,7 +8,8 @@ turned g = record { n = g.n; edges = map (λ (edge : ℕ × ℕ). (edge.1, edge.
 
 -- node a is one of the first k outputs, of class c
 abbrev pub IsOutputOf : List ℕ → List ℕ → ℕ → ℕ → ℕ → Type 0
-IsOutputOf outputs class k a c = (i : ℕ) × (i < k) × (slice_index outputs i ≡ a) × (slice_index class i ≡ c)
+IsOutputOf outputs class k a c =
+    (i : ℕ) × (i < k) × (slice_index outputs i ≡ a) × (slice_index class i ≡ c)
 
 -- bit c of node a says whether it is one of the first k outputs, of class c
 pub record AreClassBits (n : ℕ) (outputs class : List ℕ) (k : ℕ) (bits : List ℕ) : Type 0 where

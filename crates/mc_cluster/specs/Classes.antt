@@ -17,4 +17,6 @@ class_count masks = length (different masks)
 
 -- one member more is a different one where it is none of those before it
 abbrev pub DifferentGrow : Type 0
-DifferentGrow = (xs : List ℕ) (x : ℕ) → different (xs ++ x ∷ []) ≡ (if list_any (λ y. y == x) xs then different xs else different xs ++ x ∷ [])
+DifferentGrow = (xs : List ℕ) (x : ℕ) →
+    different (xs ++ x ∷ [])
+    ≡ (if list_any (λ y. y == x) xs then different xs else different xs ++ x ∷ [])

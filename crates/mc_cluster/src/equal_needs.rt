@@ -26,7 +26,8 @@ pub fn classes(masks: &[u64], into: &mut [u32]) -> u32
 // The first output before output `k` with the same needs.
 fn first_equal(masks: &[u64], k: usize) -> Option<usize>
     requires { k < length masks.now }
-    ensures { result ≡ position_from (λ mask. mask == slice_index masks.now k) 0 (take k masks.now) }
+    ensures { result ≡ position_from (λ mask. mask == slice_index masks.now k) 0
+        (take k masks.now) }
 {
     let needs = masks[k];
     masks[..k].iter().position(|mask| *mask == needs)

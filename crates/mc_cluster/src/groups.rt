@@ -87,7 +87,8 @@ fn places(alloc: Global, holds: &[u64], sets: &[u64]) -> Result<Vec<u32>, Memory
 fn ranks(alloc: Global, sets: &[u64]) -> Result<BTreeMap<u64, u32>, Memory>
     requires few { length sets.now ≤ 2 ^ 32 }
     requires different { AreDifferent sets.now }
-    ensures { IfOk result (λ ranks. (x : ℕ) → get nat_cmp ranks x ≡ position_from (λ y. y == x) 0 sets.now) }
+    ensures { IfOk result (λ ranks. (x : ℕ) →
+        get nat_cmp ranks x ≡ position_from (λ y. y == x) 0 sets.now) }
 {
     let mut ranks = BTreeMap::new(alloc);
     for (rank, set) in sets.iter().enumerate() {

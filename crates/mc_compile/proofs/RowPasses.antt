@@ -8,12 +8,14 @@ le-cases : (a b : ℕ) → a ≤ b → (a < b) ⊎ (a ≡ b)
 le-cases a b low = elim (ℕ_discrete a b) [ yes same ↦ inr same | no differ ↦ inl (omega (arith, low, differ)) ]
 
 -- the first number of a range that passes a test
-pub first-in-range : (test : ℕ → Bool) (n a b : ℕ) → a ≤ b → b < a + n → ((k : ℕ) → a ≤ k → k < b → test k ≡ false) → test b ≡ true → find test (range_with_len a n) ≡ Some b
+pub first-in-range : (test : ℕ → Bool) (n a b : ℕ) → a ≤ b → b < a + n → ((k : ℕ) → a ≤ k → k < b → test k ≡ false) →
+    test b ≡ true → find test (range_with_len a n) ≡ Some b
 first-in-range test zero a b low high none e = absurd (omega (arith, low, high))
 first-in-range test (suc n) a b low high none e = by (test a) refl (first-in-range test n (a + 1) b)
   where
     by : (t : Bool) → test a ≡ t →
-        (a + 1 ≤ b → b < a + 1 + n → ((k : ℕ) → a + 1 ≤ k → k < b → test k ≡ false) → test b ≡ true → find test (range_with_len (a + 1) n) ≡ Some b) →
+        (a + 1 ≤ b → b < a + 1 + n → ((k : ℕ) → a + 1 ≤ k → k < b → test k ≡ false) → test b ≡ true →
+        find test (range_with_len (a + 1) n) ≡ Some b) →
         cond t (Some a) (find test (range_with_len (a + 1) n)) ≡ Some b
     by true q rest = elim (le-cases a b low) [
       | inl less ↦ absurd (true≢false (sym q ∙ none a (omega arith) less))

@@ -14,7 +14,8 @@ use Rattle.mc_verdict.specs.Verdict.{Accepted, HasVerdict}
 abbrev pub root_types : Diagram → List FixType
 root_types d = map (input_type_of d None) (input_ports d.rows None)
 
--- the numbers of rows, systems and output functions of a model, the types of its inputs, and its C text
+-- the numbers of rows, systems and output functions of a model, the types of its inputs, and its C
+-- text
 pub record Compilation : Type 0 where
   pub rows : ℕ
   pub systems : ℕ
@@ -22,7 +23,8 @@ pub record Compilation : Type 0 where
   pub inputs : List FixType
   pub code : List ℕ
 
--- of a model with this resolved table: the code is right for it, in all parts, and has no pure function that isn't called
+-- of a model with this resolved table: the code is right for it, in all parts, and has no pure
+-- function that isn't called
 pub record IsCompilationOf (r : ResolvedTable) (c : Compilation) : Type 0 where
   pub rows : c.rows ≡ length r.table.rows
   pub systems : c.systems ≡ length (systems r.table.rows)

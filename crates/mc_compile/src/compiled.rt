@@ -17,5 +17,11 @@ impl Model for Compiled {
 
     ghost Value = { Compilation };
 
-    ghost view = { λ c. record { rows = c.rows; systems = c.systems; functions = c.functions; inputs = c.inputs.items; code = c.code.items } };
+    ghost view = { λ c. record {
+      rows = c.rows;
+      systems = c.systems;
+      functions = c.functions;
+      inputs = c.inputs.items;
+      code = c.code.items;
+    } };
 }

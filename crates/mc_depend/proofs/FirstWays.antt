@@ -67,7 +67,8 @@ module _ (needs : ℕ → List ℕ) (z : ℕ) where
   no-step k a none (c ∷ path) w e = none c (w.0, (path, w.1, omega arith))
 
   -- the first way from the least next row goes on from it
-  one-step : (k a c : ℕ) (path : List ℕ) → IsLeastOf (LeadsOn k a) (Some c) → IsFirstWay needs z k c path → IsFirstWay needs z (suc k) a (c ∷ path)
+  one-step : (k a c : ℕ) (path : List ℕ) → IsLeastOf (LeadsOn k a) (Some c) → IsFirstWay needs z k c path →
+      IsFirstWay needs z (suc k) a (c ∷ path)
   one-step k a c path next way = record { walk = (next.0.0, way.walk); rows = (let e = way.rows in omega arith); first = compare }
     where
       compare : (other : List ℕ) → Walk needs a other z → length other ≡ suc k → IsTrue (is_le (slice_cmp nat_cmp (c ∷ path) other))
@@ -76,7 +77,8 @@ module _ (needs : ℕ → List ℕ) (z : ℕ) where
           first-less c d path other (next.1 d (w.0, (other, w.1, omega arith)))
           (λ same. way.first other (subst (λ b. Walk needs b other z) (sym same) w.1) (omega arith))
 
-  from-next : (k a : ℕ) (found : Option ℕ) → IsLeastOf (LeadsOn k a) found → ((c : ℕ) → NoneOrFirst needs z k c) → NoneOrFirst needs z (suc k) a
+  from-next : (k a : ℕ) (found : Option ℕ) → IsLeastOf (LeadsOn k a) found → ((c : ℕ) → NoneOrFirst needs z k c) →
+      NoneOrFirst needs z (suc k) a
   from-next k a None none ways = inl (λ way. no-step k a none way.0 way.1 way.2)
   from-next k a (Some c) next ways = elim (ways c) [
     | inl none ↦ absurd (none next.0.1)
@@ -88,5 +90,6 @@ module _ (needs : ℕ → List ℕ) (z : ℕ) where
     pub first-way : (k a : ℕ) → NoneOrFirst needs z k a
     first-way zero a = at-once a
     first-way (suc k) a =
-        let next = least-found (LeadsOn k a) (λ c. leads_on-decided k a c (way-decided needs z k c (first-way k c))) n (λ c h. first-below needs z n bounded c h.1.0 h.1.1) in
+        let next = least-found (LeadsOn k a) (λ c. leads_on-decided k a c (way-decided needs z k c (first-way k c))) n
+        (λ c h. first-below needs z n bounded c h.1.0 h.1.1) in
         from-next k a next.0 next.1 (λ c. first-way k c)

@@ -32,17 +32,33 @@ same_system-self (Some k) = eq-eqb k k refl
 pub inputs-none : (rows : List Row) (s : Option ℕ) → AreInputBits rows s 0 []
 inputs-none rows s = record { len = refl; bits = λ b k below. absurd (omega arith) }
 
-pub inputs-more : (rows : List Row) (s : Option ℕ) (n m x : ℕ) (xs : List ℕ) (row : Row) → m ≡ n + 1 → n < length rows → row ≡ row_at rows n →
-    ((k : ℕ) → IsBitSet x k ↔ ((k < 32) × (IsTrue (same_system row.owner s) × (row.kind ≡ Inport (suc k))))) → AreInputBits rows s n xs → AreInputBits rows s m (xs ++ x ∷ [])
+pub inputs-more : (rows : List Row) (s : Option ℕ) (n m x : ℕ) (xs : List ℕ) (row : Row) → m ≡ n + 1 → n < length rows →
+    row ≡ row_at rows n →
+    ((k : ℕ) → IsBitSet x k ↔ ((k < 32) × (IsTrue (same_system row.owner s) × (row.kind ≡ Inport (suc k))))) →
+    AreInputBits rows s n xs → AreInputBits rows s m (xs ++ x ∷ [])
 inputs-more rows s n m x xs row e inside read bit are = record {
   len = let l = are.len in length-append xs (x ∷ []) ∙ omega arith;
   bits = λ b k below. elim (le-or-above n b) [
     | inl last ↦ let same : n ≡ b = omega arith in
-        let at : get_or (xs ++ x ∷ []) n 0 ≡ x = get_or-append_right xs (x ∷ []) n n 0 are.len (omega arith) ∙ ap (λ q. get_or (x ∷ []) q 0) (let z : n - n ≡ 0 = omega arith in z) in
+        let at : get_or (xs ++ x ∷ []) n 0 ≡ x = get_or-append_right xs (x ∷ []) n n 0 are.len (omega arith)
+        ∙ ap (λ q. get_or (x ∷ []) q 0) (let z : n - n ≡ 0 = omega arith in z) in
         subst (λ q. IsBitSet (get_or (xs ++ x ∷ []) q 0) k ↔ ((k < 32) × IsInputRow rows s (suc k) q)) same
         (subst (λ y. IsBitSet y k ↔ ((k < 32) × IsInputRow rows s (suc k) n)) (sym at) (
-          λ h. let r = (bit k).0 h in (r.0, record { in_table = inside; is_inport = ap (λ (q : Row). q.kind) (sym read) ∙ r.1.1; is_own = ap (λ (q : Row). q.owner) (sym read) ∙ same_system-equal row.owner s r.1.0 }),
-          λ h. (bit k).1 (h.0, (ap (λ o. same_system o s) (ap (λ (q : Row). q.owner) read ∙ h.1.is_own) ∙ same_system-self s, ap (λ (q : Row). q.kind) read ∙ h.1.is_inport)),
+          λ h. let r = (bit k).0 h in (
+            r.0,
+            record {
+              in_table = inside;
+              is_inport = ap (λ (q : Row). q.kind) (sym read) ∙ r.1.1;
+              is_own = ap (λ (q : Row). q.owner) (sym read) ∙ same_system-equal row.owner s r.1.0;
+            },
+          ),
+          λ h. (bit k).1 (
+            h.0,
+            (
+              ap (λ o. same_system o s) (ap (λ (q : Row). q.owner) read ∙ h.1.is_own) ∙ same_system-self s,
+              ap (λ (q : Row). q.kind) read ∙ h.1.is_inport,
+            ),
+          ),
         ))
     | inr before ↦
         let at : get_or (xs ++ x ∷ []) b 0 ≡ get_or xs b 0 = get_or_append_left xs (x ∷ []) 0 b (let l = are.len in omega arith) in
@@ -51,14 +67,25 @@ inputs-more rows s n m x xs row e inside read bit are = record {
 }
 
 -- what the masks of the graph say of the diagram
-module _ (d : Diagram) (s : Option ℕ) (g : NeedsGraph) (is : IsGraphOf d.rows (needs_inside d s) g) (source masks : List ℕ) (own : AreInputBits d.rows s (length d.rows) source) (are : AreMasks g source masks) where
+module _ (d : Diagram) (s : Option ℕ) (g : NeedsGraph) (is : IsGraphOf d.rows (needs_inside d s) g)
+    (source masks : List ℕ) (own : AreInputBits d.rows s (length d.rows) source) (are : AreMasks g source masks) where
   reach-to : (a b : ℕ) → graph.Reaches g a b → Reaches (needs_inside d s) b a
   reach-to a b (inl same) = inl (sym same)
-  reach-to a b (inr walk) = inr (walk.0, walk-to (needed g) (needs_inside d s) (graph-to d.rows (needs_inside d s) g is) b walk.0 a (walk-from_graph g b walk.0 a walk.1))
+  reach-to a b (inr walk) =
+      inr (
+        walk.0,
+        walk-to (needed g) (needs_inside d s) (graph-to d.rows (needs_inside d s) g is) b walk.0 a
+            (walk-from_graph g b walk.0 a walk.1),
+      )
 
   reach-from : (a b : ℕ) → Reaches (needs_inside d s) b a → graph.Reaches g a b
   reach-from a b (inl same) = inl (sym same)
-  reach-from a b (inr walk) = inr (walk.0, walk-to_graph g b walk.0 a (walk-to (needs_inside d s) (needed g) (graph-from d.rows (needs_inside d s) g is) b walk.0 a walk.1))
+  reach-from a b (inr walk) =
+      inr (
+        walk.0,
+        walk-to_graph g b walk.0 a
+            (walk-to (needs_inside d s) (needed g) (graph-from d.rows (needs_inside d s) g is) b walk.0 a walk.1),
+      )
 
   pub reached-inputs : AreReachedInputs d s masks
   reached-inputs = record {
@@ -70,7 +97,12 @@ module _ (d : Diagram) (s : Option ℕ) (g : NeedsGraph) (is : IsGraphOf d.rows 
           (t.0, (r.0, t.1, reach-to r.0 b r.2)),
       λ h.
           let inside = h.1.1.in_table in
-          (are.bits b k (let e = is.size in omega arith)).1 (h.1.0, (let e = is.size in omega arith), reach-from h.1.0 b h.1.2, (own.bits h.1.0 k inside).1 (h.0, h.1.1)),
+          (are.bits b k (let e = is.size in omega arith)).1 (
+            h.1.0,
+            (let e = is.size in omega arith),
+            reach-from h.1.0 b h.1.2,
+            (own.bits h.1.0 k inside).1 (h.0, h.1.1),
+          ),
     );
   }
 
@@ -119,7 +151,8 @@ control-trigger (Enabled reset) = (λ b. absurd (b refl), λ t. absurd (true≢f
 control-trigger (Triggered edge) = (λ b. refl, λ t e. let no : 2 ^ 33 ≡ 0 = e in omega arith)
 control-trigger (Both reset edge) = (λ b. refl, λ t e. let no : 2 ^ 33 ≡ 0 = e in omega arith)
 
-pub control_inside : (rows : List Row) (b : ℕ) (row : Row) → b < length rows → row ≡ get_or rows b row → control_mask (control_of row.kind) ≡ control_mask (control_at rows b)
+pub control_inside : (rows : List Row) (b : ℕ) (row : Row) → b < length rows → row ≡ get_or rows b row →
+    control_mask (control_of row.kind) ≡ control_mask (control_at rows b)
 control_inside rows b row inside read = ap (λ (r : Row). control_mask (control_of r.kind)) (read ∙ get_or_default rows b row no_row inside)
 
 pub control_past : (rows : List Row) (b : ℕ) → length rows ≤ b → 0 ≡ control_mask (control_at rows b)
@@ -130,7 +163,8 @@ control_past rows b past = elim (row_at-past rows b) [
 
 -- the mask of a row of the table, with that of the control
 pub reached-mask : (d : Diagram) (s : Option ℕ) (masks : List ℕ) → AreReachedInputs d s masks → (o : ℕ) → o < length d.rows →
-    bit_or (get_or masks o 0) (control_mask (system_control d.rows s)) < 2 ^ 64 → IsMaskOf (TrueNeeds d s o) (bit_or (get_or masks o 0) (control_mask (system_control d.rows s)))
+    bit_or (get_or masks o 0) (control_mask (system_control d.rows s)) < 2 ^ 64 →
+    IsMaskOf (TrueNeeds d s o) (bit_or (get_or masks o 0) (control_mask (system_control d.rows s)))
 reached-mask d s masks are o inside fits =
     let m : ℕ = get_or masks o 0 in
     let control : Control = system_control d.rows s in
@@ -145,7 +179,11 @@ reached-mask d s masks are o inside fits =
               | inl own ↦ let r = ((are.bits o (k - 1) inside).0 own).1 in (r.0, subst (λ q. IsInputRow d.rows s q r.0) same r.1, r.2)
               | inr theirs ↦ absurd (let high = (control-bits control (k - 1) theirs).0 in omega (arith, high, above, most))
             ],
-            λ t. or-left m (control_mask control) (k - 1) ((are.bits o (k - 1) inside).1 ((let q = most in omega arith), (t.0, subst (λ q. IsInputRow d.rows s q t.0) (sym same) t.1, t.2))),
+            λ t. or-left m (control_mask control) (k - 1)
+                ((are.bits o (k - 1) inside).1 (
+                  (let q = most in omega arith),
+                  (t.0, subst (λ q. IsInputRow d.rows s q t.0) (sym same) t.1, t.2),
+                )),
           );
       enable = (
         λ bit. elim (or-cases m (control_mask control) 32 bit) [

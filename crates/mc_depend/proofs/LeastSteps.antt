@@ -21,11 +21,14 @@ module _ (test : ℕ → Type 0) (key : ℕ → ℕ) where
   further : (i c : ℕ) → IsAmong test key i c → IsAmong test key (suc i) c
   further i c h = (h.0, (let l = h.1 in omega arith), h.2, h.3)
 
-  pub least-pass : (i : ℕ) (found : Option ℕ) → (test i → ⊥) → IsLeastOf (IsAmong test key i) found → IsLeastOf (IsAmong test key (suc i)) found
+  pub least-pass : (i : ℕ) (found : Option ℕ) → (test i → ⊥) → IsLeastOf (IsAmong test key i) found →
+      IsLeastOf (IsAmong test key (suc i)) found
   least-pass i None fails h = λ b m. elim (last-or i b m) [ inl before ↦ h b before | inr now ↦ fails now.0 ]
-  least-pass i (Some a) fails h = (further i a h.0, λ b m. elim (last-or i b m) [ inl before ↦ h.1 b before | inr now ↦ absurd (fails now.0) ])
+  least-pass i (Some a) fails h =
+      (further i a h.0, λ b m. elim (last-or i b m) [ inl before ↦ h.1 b before | inr now ↦ absurd (fails now.0) ])
 
-  pub least-take : (i : ℕ) (found : Option ℕ) → test i → IsLeastOf (IsAmong test key i) found → IsLeastOf (IsAmong test key (suc i)) (Some (lesser_of found (key i)))
+  pub least-take : (i : ℕ) (found : Option ℕ) → test i → IsLeastOf (IsAmong test key i) found →
+      IsLeastOf (IsAmong test key (suc i)) (Some (lesser_of found (key i)))
   least-take i None passes h = (
     (i, omega arith, passes, refl),
     λ b m. elim (last-or i b m) [ inl before ↦ absurd (h b before) | inr now ↦ let e = now.1 in omega arith ],
@@ -39,6 +42,7 @@ module _ (test : ℕ → Type 0) (key : ℕ → ℕ) where
   )
 
 -- the same numbers have the same least
-pub least-same : (p q : ℕ → Type 0) (found : Option ℕ) → ((b : ℕ) → p b → q b) → ((b : ℕ) → q b → p b) → IsLeastOf p found → IsLeastOf q found
+pub least-same : (p q : ℕ → Type 0) (found : Option ℕ) → ((b : ℕ) → p b → q b) → ((b : ℕ) → q b → p b) →
+    IsLeastOf p found → IsLeastOf q found
 least-same p q None to from h = λ b m. h b (from b m)
 least-same p q (Some a) to from h = (to a h.0, λ b m. h.1 b (from b m))

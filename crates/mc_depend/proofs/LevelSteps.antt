@@ -14,7 +14,8 @@ use Rattle.mc_depend.proofs.Comparing.{le-or-above, zero-or-above}
 pub record IsAdvancing (edges : List (ℕ × ℕ)) (z k : ℕ) (old new : List ℕ) (i : ℕ) : Type 0 where
   pub len : length new ≡ length old
   pub kept : (b : ℕ) → 0 < get_or old b 0 → get_or new b 0 ≡ get_or old b 0
-  pub fresh : (b : ℕ) → 0 < get_or new b 0 → (0 < get_or old b 0) ⊎ ((get_or new b 0 ≡ suc k) × ((a : ℕ) × Contains edges (a, b) × IsAtLevel z old k a))
+  pub fresh : (b : ℕ) → 0 < get_or new b 0 →
+      (0 < get_or old b 0) ⊎ ((get_or new b 0 ≡ suc k) × ((a : ℕ) × Contains edges (a, b) × IsAtLevel z old k a))
   pub done : (e : ℕ) → e < i → IsAtLevel z old k (from edges e) → 0 < get_or new (to edges e) 0
   pub moved : (new ≡ old) ⊎ (unreached new < unreached old)
 
@@ -23,16 +24,20 @@ pub edge-at : (edges : List (ℕ × ℕ)) (e : ℕ) → e < length edges → Con
 edge-at edges e below = (e, below, get_or_default edges e (from edges e, to edges e) (0, 0) below)
 
 -- a path of which one step is known
-module _ (needs : ℕ → List ℕ) (edges : List (ℕ × ℕ)) (edge-of : (b a : ℕ) → Contains (needs b) a → Contains edges (a, b)) (need-of : (b a : ℕ) → Contains edges (a, b) → Contains (needs b) a) (z k : ℕ) (old : List ℕ) (levels : AreLevels needs z k old) where
+module _ (needs : ℕ → List ℕ) (edges : List (ℕ × ℕ)) (edge-of : (b a : ℕ) → Contains (needs b) a →
+    Contains edges (a, b)) (need-of : (b a : ℕ) → Contains edges (a, b) → Contains (needs b) a) (z k : ℕ) (old : List ℕ)
+    (levels : AreLevels needs z k old) where
   -- a row at level k has a walk of k more steps
-  step-path : (k' : ℕ) → k' ≡ k → (b a : ℕ) → Contains (needs b) a → IsAtLevel z old k' a → (path : List ℕ) × Walk needs b path z × (suc (length path) ≡ suc k')
+  step-path : (k' : ℕ) → k' ≡ k → (b a : ℕ) → Contains (needs b) a → IsAtLevel z old k' a →
+      (path : List ℕ) × Walk needs b path z × (suc (length path) ≡ suc k')
   step-path zero same b a need at = ([], subst (λ n. Contains (needs b) n) at need, refl)
   step-path (suc n) same b a need at =
       let way = (levels.walks a (omega arith)).1 in
       (a ∷ way.0, (need, way.1), (let e = way.2 in omega arith))
 
   -- what needs a row of k steps or fewer has a number, or k steps lead from that row
-  next-level : (b a : ℕ) (path : List ℕ) → Contains (needs b) a → Walk needs a path z → suc (length path) ≤ k → (0 < get_or old b 0) ⊎ (IsAtLevel z old k a × (get_or old a 0 ≡ k))
+  next-level : (b a : ℕ) (path : List ℕ) → Contains (needs b) a → Walk needs a path z → suc (length path) ≤ k →
+      (0 < get_or old b 0) ⊎ (IsAtLevel z old k a × (get_or old a 0 ≡ k))
   next-level b a path need w few =
       let r = levels.least a path w few in
       let way = levels.walks a r.0 in
@@ -45,7 +50,8 @@ module _ (needs : ℕ → List ℕ) (edges : List (ℕ × ℕ)) (edge-of : (b a 
       level-of zero same e = absurd (let r = levels.least a path w few in omega arith)
       level-of (suc n) same e = e
 
-  done-at : (new : List ℕ) → IsAdvancing edges z k old new (length edges) → (b a : ℕ) → Contains (needs b) a → IsAtLevel z old k a → 0 < get_or new b 0
+  done-at : (new : List ℕ) → IsAdvancing edges z k old new (length edges) → (b a : ℕ) → Contains (needs b) a →
+      IsAtLevel z old k a → 0 < get_or new b 0
   done-at new adv b a need at =
       let c = edge-of b a need in
       let read : get_or edges c.0 (0, 0) ≡ (a, b) = get_or_default edges c.0 (0, 0) (a, b) c.1 ∙ c.2 in
@@ -100,7 +106,8 @@ module _ (needs : ℕ → List ℕ) (edges : List (ℕ × ℕ)) (edge-of : (b a 
       ]
 
 -- a graph's needs
-module _ (g : NeedsGraph) (z k : ℕ) (old new : List ℕ) (levels : AreLevels (needed g) z k old) (adv : IsAdvancing g.edges z k old new (length g.edges)) where
+module _ (g : NeedsGraph) (z k : ℕ) (old new : List ℕ) (levels : AreLevels (needed g) z k old)
+    (adv : IsAdvancing g.edges z k old new (length g.edges)) where
   pub levels-more : (k1 : ℕ) → k1 ≡ suc k → AreLevels (needed g) z k1 new
   levels-more k1 e = subst (λ n. AreLevels (needed g) z n new) (sym e)
       (advance-done (needed g) g.edges (λ b a. needed-edge b a g.edges) (λ b a. edge-needed b a g.edges) z k old levels new adv)

@@ -22,11 +22,14 @@ abbrev those_to : ℕ → List (ℕ × ℕ) → List ℕ
 those_to b edges = map (λ edge. edge.0) (filter (λ edge. eqb edge.1 b) edges)
 
 -- one more edge
-needed-one : (b a : ℕ) (edge : ℕ × ℕ) (edges : List (ℕ × ℕ)) (t : Bool) → eqb edge.1 b ≡ t → (Contains (those_to b edges) a → Contains edges (a, b)) →
-    Contains (map (λ e. e.0) (cond t (edge ∷ filter (λ e. eqb e.1 b) edges) (filter (λ e. eqb e.1 b) edges))) a → Contains (edge ∷ edges) (a, b)
+needed-one : (b a : ℕ) (edge : ℕ × ℕ) (edges : List (ℕ × ℕ)) (t : Bool) → eqb edge.1 b ≡ t →
+    (Contains (those_to b edges) a → Contains edges (a, b)) →
+    Contains (map (λ e. e.0) (cond t (edge ∷ filter (λ e. eqb e.1 b) edges) (filter (λ e. eqb e.1 b) edges))) a →
+    Contains (edge ∷ edges) (a, b)
 needed-one b a edge edges false q rest k = Contains-behind edge edges (a, b) (rest k)
 needed-one b a edge edges true q rest k = elim (Contains-cases edge.0 (those_to b edges) a k) [
-  | inl same ↦ let both : edge ≡ (a, b) = λ i. (same i, true-eqb edge.1 b (sym q) i) in subst (λ e. Contains (e ∷ edges) (a, b)) (sym both) (Contains-front (a, b) edges)
+  | inl same ↦ let both : edge ≡ (a, b) = λ i. (same i, true-eqb edge.1 b (sym q) i) in
+      subst (λ e. Contains (e ∷ edges) (a, b)) (sym both) (Contains-front (a, b) edges)
   | inr more ↦ Contains-behind edge edges (a, b) (rest more)
 ]
 
@@ -34,16 +37,21 @@ pub needed-edge : (b a : ℕ) (edges : List (ℕ × ℕ)) → Contains (those_to
 needed-edge b a [] h = absurd (let l = h.1 in omega arith)
 needed-edge b a (edge ∷ edges) h = needed-one b a edge edges (eqb edge.1 b) refl (λ k. needed-edge b a edges k) h
 
-edge-one : (b a : ℕ) (edge : ℕ × ℕ) (edges : List (ℕ × ℕ)) (t : Bool) → eqb edge.1 b ≡ t → (Contains edges (a, b) → Contains (those_to b edges) a) →
-    (edge ≡ (a, b)) ⊎ Contains edges (a, b) → Contains (map (λ e. e.0) (cond t (edge ∷ filter (λ e. eqb e.1 b) edges) (filter (λ e. eqb e.1 b) edges))) a
-edge-one b a edge edges true q rest (inl same) = subst (λ x. Contains (edge.0 ∷ those_to b edges) x) (ap (λ (e : ℕ × ℕ). e.0) same) (Contains-front edge.0 (those_to b edges))
+edge-one : (b a : ℕ) (edge : ℕ × ℕ) (edges : List (ℕ × ℕ)) (t : Bool) → eqb edge.1 b ≡ t →
+    (Contains edges (a, b) → Contains (those_to b edges) a) →
+    (edge ≡ (a, b)) ⊎ Contains edges (a, b) →
+    Contains (map (λ e. e.0) (cond t (edge ∷ filter (λ e. eqb e.1 b) edges) (filter (λ e. eqb e.1 b) edges))) a
+edge-one b a edge edges true q rest (inl same) =
+    subst (λ x. Contains (edge.0 ∷ those_to b edges) x) (ap (λ (e : ℕ × ℕ). e.0) same)
+    (Contains-front edge.0 (those_to b edges))
 edge-one b a edge edges true q rest (inr more) = Contains-behind edge.0 (those_to b edges) a (rest more)
 edge-one b a edge edges false q rest (inl same) = absurd (true≢false (sym (eq-eqb edge.1 b (ap (λ (x : ℕ × ℕ). x.1) same)) ∙ q))
 edge-one b a edge edges false q rest (inr more) = rest more
 
 pub edge-needed : (b a : ℕ) (edges : List (ℕ × ℕ)) → Contains edges (a, b) → Contains (those_to b edges) a
 edge-needed b a [] h = absurd (let l = h.1 in omega arith)
-edge-needed b a (edge ∷ edges) h = edge-one b a edge edges (eqb edge.1 b) refl (λ k. edge-needed b a edges k) (Contains-cases edge edges (a, b) h)
+edge-needed b a (edge ∷ edges) h =
+    edge-one b a edge edges (eqb edge.1 b) refl (λ k. edge-needed b a edges k) (Contains-cases edge edges (a, b) h)
 
 module _ (g : NeedsGraph) where
   -- walks in the graph and walks along its needs are the same

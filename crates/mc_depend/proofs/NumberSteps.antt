@@ -21,7 +21,10 @@ Gets number steps next later listed b =
 
 -- ---- One edge
 
-module _ (g : NeedsGraph) (number : ℕ) (positive : 0 < number) (front before steps next : List ℕ) (i place p h a b : ℕ) (at : place ≡ suc p) (inside : p < length g.edges) (leads : from g.edges p ≡ a) (goes : b ≡ to g.edges p) (in_front : i < length front) (own : get_or front i 0 ≡ a) (chain : IsLast g.edges (from g.edges p) p h) (num : IsNumbering g number front before steps next i place) where
+module _ (g : NeedsGraph) (number : ℕ) (positive : 0 < number) (front before steps next : List ℕ) (i place p h a b : ℕ)
+    (at : place ≡ suc p) (inside : p < length g.edges) (leads : from g.edges p ≡ a) (goes : b ≡ to g.edges p)
+    (in_front : i < length front) (own : get_or front i 0 ≡ a) (chain : IsLast g.edges (from g.edges p) p h)
+    (num : IsNumbering g number front before steps next i place) where
   -- what is looked at from place h on
   looked : (e : ℕ) → IsLookedAt g.edges front i h e → (e ≡ p) ⊎ IsLookedAt g.edges front i place e
   looked e (inl earlier) = inr (inl earlier)
@@ -76,13 +79,16 @@ module _ (g : NeedsGraph) (number : ℕ) (positive : 0 < number) (front before s
         omega (arith, e, one, none)
 
     edge-of : (c : ℕ) → c ≡ b → Contains g.edges (a, c)
-    edge-of c same = subst (λ n. Contains g.edges (n, c)) leads (subst (λ n. Contains g.edges (from g.edges p, n)) (sym (same ∙ goes)) (edge-at g.edges p inside))
+    edge-of c same =
+        subst (λ n. Contains g.edges (n, c)) leads
+        (subst (λ n. Contains g.edges (from g.edges p, n)) (sym (same ∙ goes)) (edge-at g.edges p inside))
 
     pub number-take : IsNumbering g number front before (set steps b number) (next ++ b ∷ []) i h
     number-take = record {
       len = length-set steps b number ∙ num.len;
       kept = λ c some. elim (cases c) [
-        | inl same ↦ absurd (let e : get_or steps c 0 ≡ 0 = ap (λ n. get_or steps n 0) same ∙ free in let was = num.kept c some in omega arith)
+        | inl same ↦ absurd (let e : get_or steps c 0 ≡ 0 = ap (λ n. get_or steps n 0) same ∙ free in
+            let was = num.kept c some in omega arith)
         | inr other ↦ other ∙ num.kept c some
       ];
       fresh = λ c some. elim (cases c) [
@@ -119,11 +125,13 @@ module _ (g : NeedsGraph) (number : ℕ) (positive : 0 < number) (front before s
 pub record NumberLoop (g : NeedsGraph) (a number place : ℕ) (old first steps next : List ℕ) : Type 0 where
   pub below : place ≤ length g.edges
   pub leads : 0 < place → from g.edges (place - 1) ≡ a
-  pub numbers : (front before : List ℕ) (i : ℕ) → i < length front → get_or front i 0 ≡ a → IsNumbering g number front before old first i (length g.edges) →
+  pub numbers : (front before : List ℕ) (i : ℕ) → i < length front → get_or front i 0 ≡ a →
+      IsNumbering g number front before old first i (length g.edges) →
       IsNumbering g number front before steps next i place
 
 module _ (g : NeedsGraph) (last chained : List ℕ) (chains : AreChains g last chained) (a number : ℕ) where
-  pub number_begins : (place : ℕ) (steps next : List ℕ) → a < g.n → place ≡ get_or last a place → NumberLoop g a number place steps next steps next
+  pub number_begins : (place : ℕ) (steps next : List ℕ) → a < g.n → place ≡ get_or last a place →
+      NumberLoop g a number place steps next steps next
   number_begins place steps next row read = record {
     below = (let l = is.bound in let e = at in omega arith);
     leads = λ some. ap (λ n. from g.edges (n - 1)) at ∙ is.leads (let e = at in omega arith);
@@ -136,7 +144,8 @@ module _ (g : NeedsGraph) (last chained : List ℕ) (chains : AreChains g last c
       is : IsLast g.edges a (length g.edges) (get_or last a 0)
       is = chains.is_last a row
 
-      begins : (front before : List ℕ) (i : ℕ) → i < length front → get_or front i 0 ≡ a → IsNumbering g number front before steps next i (length g.edges) →
+      begins : (front before : List ℕ) (i : ℕ) → i < length front → get_or front i 0 ≡ a →
+          IsNumbering g number front before steps next i (length g.edges) →
           IsNumbering g number front before steps next i place
       begins front before i below own num = record {
         len = num.len;
@@ -150,8 +159,10 @@ module _ (g : NeedsGraph) (last chained : List ℕ) (chains : AreChains g last c
         moved = num.moved;
       }
 
-  pub number_goes_on : IsGraph g → 0 < number → (place h b : ℕ) (old first steps next later listed : List ℕ) → length steps ≡ g.n → 0 < place → b ≡ to g.edges (place - 1) →
-      h ≡ get_or chained (place - 1) h → NumberLoop g a number place old first steps next → Gets number steps next later listed b → NumberLoop g a number h old first later listed
+  pub number_goes_on : IsGraph g → 0 < number → (place h b : ℕ) (old first steps next later listed : List ℕ) →
+      length steps ≡ g.n → 0 < place → b ≡ to g.edges (place - 1) →
+      h ≡ get_or chained (place - 1) h → NumberLoop g a number place old first steps next →
+      Gets number steps next later listed b → NumberLoop g a number h old first later listed
   number_goes_on graph positive place h b old first steps next later listed len some goes read loop gets = record {
     below = (let l = is.bound in let e = at in let m = inside in omega arith);
     leads = λ more. ap (λ n. from g.edges (n - 1)) at ∙ is.leads (let e = at in omega arith) ∙ loop.leads some;
@@ -168,23 +179,29 @@ module _ (g : NeedsGraph) (last chained : List ℕ) (chains : AreChains g last c
       is = chains.is_before (place - 1) inside
 
       in_list : b < length steps
-      in_list = let below = (edge-inside g.n g.edges graph (from g.edges (place - 1)) (to g.edges (place - 1)) (edge-at g.edges (place - 1) inside)).1 in omega arith
+      in_list = let below =
+          (edge-inside g.n g.edges graph (from g.edges (place - 1)) (to g.edges (place - 1))
+          (edge-at g.edges (place - 1) inside)).1 in omega arith
 
-      by : (front before : List ℕ) (i : ℕ) → i < length front → get_or front i 0 ≡ a → IsNumbering g number front before steps next i place → Gets number steps next later listed b →
+      by : (front before : List ℕ) (i : ℕ) → i < length front → get_or front i 0 ≡ a →
+          IsNumbering g number front before steps next i place → Gets number steps next later listed b →
           IsNumbering g number front before later listed i h
       by front before i in_front own num (inl (free, set_is, listed_is)) =
           subst (λ xs. IsNumbering g number front before xs listed i h) (sym set_is)
           (subst (λ ys. IsNumbering g number front before (set steps b number) ys i h) (sym listed_is)
-          (number-take g number positive front before steps next i place (place - 1) h a b (omega arith) inside (loop.leads some) goes in_front own
+          (number-take g number positive front before steps next i place (place - 1) h a b (omega arith) inside
+          (loop.leads some) goes in_front own
           (subst (IsLast g.edges (from g.edges (place - 1)) (place - 1)) (sym at) is) num free in_list))
       by front before i in_front own num (inr (there, same, as_before)) =
           subst (λ xs. IsNumbering g number front before xs listed i h) (sym same)
           (subst (λ ys. IsNumbering g number front before steps ys i h) (sym as_before)
-          (number-pass g number positive front before steps next i place (place - 1) h a b (omega arith) inside (loop.leads some) goes in_front own
+          (number-pass g number positive front before steps next i place (place - 1) h a b (omega arith) inside
+          (loop.leads some) goes in_front own
           (subst (IsLast g.edges (from g.edges (place - 1)) (place - 1)) (sym at) is) num there))
 
   pub number_ends : (place : ℕ) (old first steps next : List ℕ) → place ≤ 0 → NumberLoop g a number place old first steps next →
-      (front before : List ℕ) (i : ℕ) → i < length front → get_or front i 0 ≡ a → IsNumbering g number front before old first i (length g.edges) →
+      (front before : List ℕ) (i : ℕ) → i < length front → get_or front i 0 ≡ a →
+      IsNumbering g number front before old first i (length g.edges) →
       IsNumbering g number front before steps next (suc i) (length g.edges)
   number_ends place old first steps next none loop front before i below own num = by (loop.numbers front before i below own num)
     where
@@ -221,7 +238,9 @@ module _ (g : NeedsGraph) (number : ℕ) (front before : List ℕ) where
     moved = inl refl;
   }
 
-  module _ (z k : ℕ) (steps next : List ℕ) (i : ℕ) (all : i ≡ length front) (next_number : number ≡ suc k) (levels : AreLevels (needed g) z k before) (exact : IsFront z k before front) (num : IsNumbering g number front before steps next i (length g.edges)) where
+  module _ (z k : ℕ) (steps next : List ℕ) (i : ℕ) (all : i ≡ length front) (next_number : number ≡ suc k)
+      (levels : AreLevels (needed g) z k before) (exact : IsFront z k before front)
+      (num : IsNumbering g number front before steps next i (length g.edges)) where
     pub front-advances : IsAdvancing g.edges z k before steps (length g.edges)
     front-advances = record {
       len = num.len;
@@ -253,7 +272,8 @@ front-first z steps front e a = subst (λ xs. Contains xs a ↔ (a ≡ z)) (sym 
   λ same. subst (λ n. Contains (z ∷ []) n) (sym same) (Contains-push [] z),
 )
 
-pub front-inside : (n z k : ℕ) (steps front : List ℕ) → z < n → length steps ≡ n → IsFront z k steps front → (a : ℕ) → Contains front a → a < n
+pub front-inside : (n z k : ℕ) (steps front : List ℕ) → z < n → length steps ≡ n → IsFront z k steps front → (a : ℕ) →
+    Contains front a → a < n
 front-inside n z zero steps front below len exact a is = let same = (exact a).0 is in omega arith
 front-inside n z (suc k) steps front below len exact a is = elim (le-or-above n a) [
   | inl past ↦ absurd (let none = get_or_past steps a 0 (omega arith) in let some = (exact a).0 is in omega arith)

@@ -32,7 +32,8 @@ filters-one p q n false v e f = ap (λ t. filter p (cond t (n ∷ []) [])) e
 abbrev pub own_below : List Row → Option ℕ → ℕ → List ℕ
 own_below rows s n = filter (λ b. is_outport (row_at rows b).kind) (filter (λ b. same_system (row_at rows b).owner s) (range_with_len 0 n))
 
-pub own-more : (rows : List Row) (s : Option ℕ) (n : ℕ) (row : Row) (t : Bool) → row ≡ row_at rows n → t ≡ (same_system row.owner s && is_outport row.kind) →
+pub own-more : (rows : List Row) (s : Option ℕ) (n : ℕ) (row : Row) (t : Bool) → row ≡ row_at rows n →
+    t ≡ (same_system row.owner s && is_outport row.kind) →
     own_below rows s (n + 1) ≡ own_below rows s n ++ cond t (n ∷ []) []
 own-more rows s n row t e told =
     let p : ℕ → Bool = λ b. is_outport (row_at rows b).kind in
@@ -41,16 +42,20 @@ own-more rows s n row t e told =
     ap (λ l. filter p (filter q l)) (range-more 0 n n here)
     ∙ ap (filter p) (filter-append q (range_with_len 0 n) (n ∷ []))
     ∙ filter-append p (filter q (range_with_len 0 n)) (filter q (n ∷ []))
-    ∙ ap (λ l. own_below rows s n ++ l) (filters-one p q n (q n) (p n) refl refl ∙ ap (λ (r : Row). cond (same_system r.owner s && is_outport r.kind) (n ∷ []) []) (sym e) ∙ ap (λ u. cond u (n ∷ []) []) (sym told))
+    ∙ ap (λ l. own_below rows s n ++ l) (filters-one p q n (q n) (p n) refl refl
+    ∙ ap (λ (r : Row). cond (same_system r.owner s && is_outport r.kind) (n ∷ []) []) (sym e)
+    ∙ ap (λ u. cond u (n ∷ []) []) (sym told))
 
 found-one : (o : Option ℕ) → cons_option o [] ≡ option_to_list o
 found-one None = refl
 found-one (Some x) = refl
 
-pub found-more : (f : ℕ → Option ℕ) (n : ℕ) → filter_map f (range_with_len 1 (n + 1)) ≡ filter_map f (range_with_len 1 n) ++ option_to_list (f (n + 1))
+pub found-more : (f : ℕ → Option ℕ) (n : ℕ) →
+    filter_map f (range_with_len 1 (n + 1)) ≡ filter_map f (range_with_len 1 n) ++ option_to_list (f (n + 1))
 found-more f n =
     let e : 1 + n ≡ n + 1 = omega arith in
-    ap (filter_map f) (range-more 1 n (n + 1) e) ∙ filter_map-append f (range_with_len 1 n) ((n + 1) ∷ []) ∙ ap (λ l. filter_map f (range_with_len 1 n) ++ l) (found-one (f (n + 1)))
+    ap (filter_map f) (range-more 1 n (n + 1) e) ∙ filter_map-append f (range_with_len 1 n) ((n + 1) ∷ [])
+    ∙ ap (λ l. filter_map f (range_with_len 1 n) ++ l) (found-one (f (n + 1)))
 
 -- ---- A search
 
@@ -58,18 +63,23 @@ pub none-from : (o : Option ℕ) → ((x : ℕ) → o ≡ Some x → ⊥) → o 
 none-from None h = refl
 none-from (Some x) h = absurd (h x refl)
 
-pub found-at : (p : ℕ → Bool) (xs : List ℕ) (i d : ℕ) → i < length xs → find p (take i xs) ≡ None → p (get_or xs i d) ≡ true → Some (get_or xs i d) ≡ find p xs
+pub found-at : (p : ℕ → Bool) (xs : List ℕ) (i d : ℕ) → i < length xs → find p (take i xs) ≡ None →
+    p (get_or xs i d) ≡ true → Some (get_or xs i d) ≡ find p xs
 found-at p [] i d inside none here = absurd (omega arith)
 found-at p (x ∷ xs) zero d inside none here = ap (λ t. cond t (Some x) (find p xs)) (sym here)
 found-at p (x ∷ xs) (suc i) d inside none here = by (p x) none (λ h. found-at p xs i d (omega arith) h here)
   where
-    by : (t : Bool) → cond t (Some x) (find p (take i xs)) ≡ None → (find p (take i xs) ≡ None → Some (get_or xs i d) ≡ find p xs) → Some (get_or xs i d) ≡ cond t (Some x) (find p xs)
+    by : (t : Bool) → cond t (Some x) (find p (take i xs)) ≡ None →
+        (find p (take i xs) ≡ None → Some (get_or xs i d) ≡ find p xs) →
+        Some (get_or xs i d) ≡ cond t (Some x) (find p xs)
     by true h later = absurd (cc h)
     by false h later = later h
 
-pub found-not : (p : ℕ → Bool) (xs : List ℕ) (i d : ℕ) → i < length xs → find p (take i xs) ≡ None → p (get_or xs i d) ≡ false → find p (take (i + 1) xs) ≡ None
+pub found-not : (p : ℕ → Bool) (xs : List ℕ) (i d : ℕ) → i < length xs → find p (take i xs) ≡ None →
+    p (get_or xs i d) ≡ false → find p (take (i + 1) xs) ≡ None
 found-not p xs i d inside none here =
-    ap (find p) (take_more xs i d inside) ∙ find-append p (take i xs) (get_or xs i d ∷ []) ∙ ap (λ o. option_or o (find p (get_or xs i d ∷ []))) none ∙ ap (λ t. cond t (Some (get_or xs i d)) None) here
+    ap (find p) (take_more xs i d inside) ∙ find-append p (take i xs) (get_or xs i d ∷ [])
+    ∙ ap (λ o. option_or o (find p (get_or xs i d ∷ []))) none ∙ ap (λ t. cond t (Some (get_or xs i d)) None) here
 
 -- ---- All of them are rows
 
@@ -97,12 +107,19 @@ all-range n k d h =
     subst (λ b. b < n) (sym e) inside
 
 pub own-inside : (rows : List Row) (s : Option ℕ) → All (λ b. b < length rows) (own_below rows s (length rows))
-own-inside rows s = All-filter (λ b. is_outport (row_at rows b).kind) (λ b. b < length rows) (filter (λ b. same_system (row_at rows b).owner s) (range_with_len 0 (length rows)))
-    (All-filter (λ b. same_system (row_at rows b).owner s) (λ b. b < length rows) (range_with_len 0 (length rows)) (all-range (length rows)))
+own-inside rows s =
+    All-filter (λ b. is_outport (row_at rows b).kind) (λ b. b < length rows)
+    (filter (λ b. same_system (row_at rows b).owner s) (range_with_len 0 (length rows)))
+    (All-filter (λ b. same_system (row_at rows b).owner s) (λ b. b < length rows) (range_with_len 0 (length rows))
+    (all-range (length rows)))
 
 outports-rows : (rows : List Row) (s : Option ℕ) → AllByRecursion (λ b. b < length rows) (outports_of rows s)
-outports-rows rows s = all-found (λ b. b < length rows) (λ k. find (λ b. port_of (row_at rows b).kind == k) (own_below rows s (length rows))) (range_with_len 1 (length (own_below rows s (length rows))))
-    (λ k. found-holds (λ b. b < length rows) (λ b. port_of (row_at rows b).kind == k) (own_below rows s (length rows)) (recursion_from_All (λ b. b < length rows) (own_below rows s (length rows)) (own-inside rows s)))
+outports-rows rows s =
+    all-found (λ b. b < length rows)
+    (λ k. find (λ b. port_of (row_at rows b).kind == k) (own_below rows s (length rows)))
+    (range_with_len 1 (length (own_below rows s (length rows))))
+    (λ k. found-holds (λ b. b < length rows) (λ b. port_of (row_at rows b).kind == k) (own_below rows s (length rows))
+    (recursion_from_All (λ b. b < length rows) (own_below rows s (length rows)) (own-inside rows s)))
 
 pub outports-inside : (rows : List Row) (s : Option ℕ) → All (λ b. b < length rows) (outports_of rows s)
 outports-inside rows s = All-from_recursion (λ b. b < length rows) (outports_of rows s) (outports-rows rows s)
@@ -113,15 +130,19 @@ outports-inside rows s = All-from_recursion (λ b. b < length rows) (outports_of
 abbrev pub AreMasksAt : List ℕ → ℕ → List ℕ → List ℕ → Type 0
 AreMasksAt reached control rows masks = AllZip (λ b mask. (mask ≡ bit_or (get_or reached b 0) control) × (mask < 2 ^ 64)) rows masks
 
-pub masks-more : (reached : List ℕ) (control : ℕ) (rows masks more : List ℕ) (i : ℕ) → i < length rows → ((b : ℕ) → bit_or (get_or reached b 0) control < 2 ^ 64) → more ≡ masks ++ bit_or (get_or reached (get_or rows i 0) 0) control ∷ [] →
+pub masks-more : (reached : List ℕ) (control : ℕ) (rows masks more : List ℕ) (i : ℕ) → i < length rows →
+    ((b : ℕ) → bit_or (get_or reached b 0) control < 2 ^ 64) →
+    more ≡ masks ++ bit_or (get_or reached (get_or rows i 0) 0) control ∷ [] →
     AreMasksAt reached control (take i rows) masks → AreMasksAt reached control (take (i + 1) rows) more
 masks-more reached control rows masks more i inside fits e h =
     let mask : ℕ = bit_or (get_or reached (get_or rows i 0) 0) control in
     subst (AreMasksAt reached control (take (i + 1) rows)) (sym e)
     (subst (λ l. AreMasksAt reached control l (masks ++ mask ∷ [])) (sym (take_more rows i 0 inside))
-    (AllZip-push (λ b mask. (mask ≡ bit_or (get_or reached b 0) control) × (mask < 2 ^ 64)) (take i rows) masks (get_or rows i 0) mask h (refl, fits (get_or rows i 0))))
+    (AllZip-push (λ b mask. (mask ≡ bit_or (get_or reached b 0) control) × (mask < 2 ^ 64)) (take i rows) masks
+    (get_or rows i 0) mask h (refl, fits (get_or rows i 0))))
 
-masks-are : (d : Diagram) (s : Option ℕ) (reached : List ℕ) → AreReachedInputs d s reached → (os masks : List ℕ) → AllByRecursion (λ o. o < length d.rows) os →
+masks-are : (d : Diagram) (s : Option ℕ) (reached : List ℕ) → AreReachedInputs d s reached → (os masks : List ℕ) →
+    AllByRecursion (λ o. o < length d.rows) os →
     AreMasksAt reached (control_mask (system_control d.rows s)) os masks → AllZip (λ o mask. IsMaskOf (TrueNeeds d s o) mask) os masks
 masks-are d s reached are [] [] below h = tt
 masks-are d s reached are [] (m ∷ ms) below h = h
@@ -131,5 +152,6 @@ masks-are d s reached are (o ∷ os) (m ∷ ms) below h = (
   masks-are d s reached are os ms below.1 h.1,
 )
 
-pub needs-are : (d : Diagram) (s : Option ℕ) (reached masks : List ℕ) → AreReachedInputs d s reached → AreMasksAt reached (control_mask (system_control d.rows s)) (outports_of d.rows s) masks → AreTrueNeeds d s masks
+pub needs-are : (d : Diagram) (s : Option ℕ) (reached masks : List ℕ) → AreReachedInputs d s reached →
+    AreMasksAt reached (control_mask (system_control d.rows s)) (outports_of d.rows s) masks → AreTrueNeeds d s masks
 needs-are d s reached masks are h = masks-are d s reached are (outports_of d.rows s) masks (outports-rows d.rows s) h

@@ -34,7 +34,11 @@ module _ (needs : ℕ → List ℕ) (n : ℕ) (bounded : (b c : ℕ) → Contain
 
   round-decided : (a k : ℕ) → Decided (Round a k)
   round-decided a k = elim (le-or-above k n) [
-    | inl few ↦ elim (way-decided needs a k a (first-way needs a n bounded k a)) [ inl none ↦ inl (λ h. none h.1) | inr way ↦ inr (few, way) ]
+    | inl few ↦ elim (way-decided needs a k a (first-way needs a n bounded k a)) [
+      | inl none ↦
+          inl (λ h. none h.1)
+      | inr way ↦ inr (few, way)
+    ]
     | inr many ↦ inl (λ h. let few = h.0 in absurd (omega arith))
   ]
 
@@ -53,7 +57,9 @@ module _ (needs : ℕ → List ℕ) (n : ℕ) (bounded : (b c : ℕ) → Contain
   loop-decided a = by (least-found (Round a) (round-decided a) (suc n) (λ k h. let few = h.0 in omega arith))
     where
       by : (found : Option ℕ) × IsLeastOf (Round a) found → (IsOnLoop needs a → ⊥) ⊎ ((path : List ℕ) × IsLeastThrough needs a path)
-      by (None, none) = inl (λ loop. let short = short-walk needs a n bounded a loop.0 loop.1 in none (length short.0) (short.2, (short.0, short.1, refl)))
+      by (None, none) =
+          inl (λ loop. let short = short-walk needs a n bounded a loop.0 loop.1 in
+          none (length short.0) (short.2, (short.0, short.1, refl)))
       by (Some k, least) = elim (first-way needs a n bounded k a) [
         | inl none ↦ absurd (none least.0.1)
         | inr way ↦ inr (way.0, least-round a k way.0 least way.1)
@@ -82,7 +88,8 @@ module _ (needs : ℕ → List ℕ) (n : ℕ) (bounded : (b c : ℕ) → Contain
       ]
 
 -- a row past the end of the table has no wires
-no-wires : (rows : List Row) (n c : ℕ) (feeds : Bool) → Contains ((if feeds then [] else []) ++ control_wires rows (outward rows None n None)) c → ⊥
+no-wires : (rows : List Row) (n c : ℕ) (feeds : Bool) →
+    Contains ((if feeds then [] else []) ++ control_wires rows (outward rows None n None)) c → ⊥
 no-wires rows zero c true h = Contains-nil c h
 no-wires rows (suc n) c true h = Contains-nil c h
 no-wires rows zero c false h = Contains-nil c h

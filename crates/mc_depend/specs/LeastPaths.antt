@@ -6,10 +6,12 @@ use Rattle.mc_diagram.specs.Walk.{Walk}
 use Rattle.mc_depend.specs.Least.{IsLeastOf}
 
 -- the path leads from a to z in as many steps as a has, and of such paths it comes first
-pub record IsLeastPath (needs : ℕ → List ℕ) (z : ℕ) (steps : List ℕ) (a : ℕ) (path : List ℕ) : Type 0 where
+pub record IsLeastPath (needs : ℕ → List ℕ) (z : ℕ) (steps : List ℕ) (a : ℕ)
+    (path : List ℕ) : Type 0 where
   pub walk : Walk needs a path z
   pub steps_taken : suc (length path) ≡ slice_index steps a
-  pub first : (other : List ℕ) → Walk needs a other z → length other ≡ length path → IsTrue (is_le (slice_cmp nat_cmp path other))
+  pub first : (other : List ℕ) → Walk needs a other z → length other ≡ length path →
+      IsTrue (is_le (slice_cmp nat_cmp path other))
 
 -- row a needs row c, from which the way to z is one step shorter
 pub record IsNextOn (needs : ℕ → List ℕ) (steps : List ℕ) (a c : ℕ) : Type 0 where
@@ -20,4 +22,5 @@ pub record IsNextOn (needs : ℕ → List ℕ) (steps : List ℕ) (a c : ℕ) : 
 -- for each row the least of these, none for a row from which the way ends
 pub record AreNextOn (needs : ℕ → List ℕ) (steps : List ℕ) (next : List (Option ℕ)) : Type 0 where
   pub len : length next ≡ length steps
-  pub least : (a : ℕ) → a < length steps → IsLeastOf (IsNextOn needs steps a) (slice_index_or next a None)
+  pub least : (a : ℕ) → a < length steps →
+      IsLeastOf (IsNextOn needs steps a) (slice_index_or next a None)

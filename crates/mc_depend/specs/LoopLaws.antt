@@ -5,8 +5,10 @@ use Rattle.mc_diagram.specs.Needs.{needs_of, HasNoLoop, IsLeastLoop}
 
 -- a diagram has no loop, or one that is told
 abbrev pub LoopIsToldOrNone : Type 0
-LoopIsToldOrNone = (d : Diagram) → HasNoLoop (needs_of d) ⊎ ((loop : List ℕ) × IsLeastLoop (needs_of d) loop)
+LoopIsToldOrNone =
+    (d : Diagram) → HasNoLoop (needs_of d) ⊎ ((loop : List ℕ) × IsLeastLoop (needs_of d) loop)
 
 -- at most one loop is told
 abbrev pub ToldLoopIsOne : Type 0
-ToldLoopIsOne = (needs : ℕ → List ℕ) (loop other : List ℕ) → IsLeastLoop needs loop → IsLeastLoop needs other → loop ≡ other
+ToldLoopIsOne = (needs : ℕ → List ℕ) (loop other : List ℕ) → IsLeastLoop needs loop →
+    IsLeastLoop needs other → loop ≡ other

@@ -1,4 +1,5 @@
--- A graph's needs as a function from a node to the nodes that it needs, and the rows that loops go through.
+-- A graph's needs as a function from a node to the nodes that it needs, and the rows that loops go
+-- through.
 use Rattle.std.specs.Prelude.{◌≡◌, ℕ, ◌<◌, ◌==◌, List, map, filter, length, Contains, ◌↔◌}
 use Rattle.mc_graph.specs.NeedsGraph.{NeedsGraph, Needs}
 use Rattle.mc_diagram.specs.declared.table.Row.{Row}

@@ -10,13 +10,15 @@ use Rattle.mc_diagram.specs.Needs.{needs_inside, IsInputRow}
 -- of the first n rows, that of input k + 1 of the system s has bit k
 pub record AreInputBits (rows : List Row) (s : Option ℕ) (n : ℕ) (source : List ℕ) : Type 0 where
   pub len : length source ≡ n
-  pub bits : (b k : ℕ) → b < n → IsBitSet (slice_index source b) k ↔ ((k < 32) × IsInputRow rows s (suc k) b)
+  pub bits : (b k : ℕ) → b < n →
+      IsBitSet (slice_index source b) k ↔ ((k < 32) × IsInputRow rows s (suc k) b)
 
 -- row b has bit k where it reaches input k + 1 of the system s
 pub record AreReachedInputs (d : Diagram) (s : Option ℕ) (masks : List ℕ) : Type 0 where
   pub len : length masks ≡ length d.rows
   pub bits : (b k : ℕ) → b < length d.rows →
-      IsBitSet (slice_index masks b) k ↔ ((k < 32) × ((i : ℕ) × IsInputRow d.rows s (suc k) i × Reaches (needs_inside d s) b i))
+      IsBitSet (slice_index masks b) k
+      ↔ ((k < 32) × ((i : ℕ) × IsInputRow d.rows s (suc k) i × Reaches (needs_inside d s) b i))
 
 -- the bits of the controls: 32 for an enable, 33 for a trigger
 abbrev pub control_mask : Control → ℕ

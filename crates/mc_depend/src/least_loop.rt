@@ -25,7 +25,8 @@ fn follow(alloc: Global, g: &Graph, steps: &[usize], row: u32) -> Result<Vec<u32
     requires len { length steps.now ≡ g.now.n }
     requires reached { 0 < slice_index steps.now row }
     requires levels { AreLevelsTo (needed g.now) row steps.now }
-    ensures { IfOk result (λ v. (path : List ℕ) × (v.items ≡ row ∷ path) × IsLeastPath (needed g.now) row steps.now row path) }
+    ensures { IfOk result (λ v. (path : List ℕ) × (v.items ≡ row ∷ path)
+        × IsLeastPath (needed g.now) row steps.now row path) }
 {
     let nearer = next_rows(alloc, g, steps)?;
     let mut rows = Vec::new(alloc);
@@ -64,7 +65,8 @@ fn find_next(g: &Graph, steps: &[usize], next: &mut [Option<u32>])
 // Keeps the lesser of what was found for row `at` and `c`.
 fn keep_lesser(next: &mut [Option<u32>], at: u32, c: u32)
     requires { at < length next.old }
-    ensures { next.new ≡ slice_set next.old at (Some (lesser_of (slice_index_or next.old at None) c)) }
+    ensures { next.new
+        ≡ slice_set next.old at (Some (lesser_of (slice_index_or next.old at None) c)) }
 {
     let found = next[at as usize];
     next[at as usize] = Some(lesser(found, c));
@@ -74,7 +76,9 @@ fn keep_lesser(next: &mut [Option<u32>], at: u32, c: u32)
 fn is_nearer(steps: &[usize], c: u32, at: u32) -> bool
     requires c_in { c < length steps.now }
     requires at_in { at < length steps.now }
-    ensures { IsTrue result ↔ ((0 < slice_index steps.now c) × (suc (slice_index steps.now c) ≡ slice_index steps.now at)) }
+    ensures { IsTrue result
+        ↔ ((0 < slice_index steps.now c)
+        × (suc (slice_index steps.now c) ≡ slice_index steps.now at)) }
 {
     let near = steps[c as usize];
     let far = steps[at as usize];

@@ -52,10 +52,13 @@ fn advance(
     requires len { length steps.old ≡ g.now.n }
     requires few { k ≤ g.now.n }
     requires inside { (a : ℕ) → Contains front.now a → a < g.now.n }
-    ensures levels { IfOk result (λ next. (z : ℕ) → AreLevels (needed g.now) z k steps.old → IsFront z k steps.old front.now →
+    ensures levels { IfOk result (λ next. (z : ℕ) → AreLevels (needed g.now) z k steps.old →
+        IsFront z k steps.old front.now →
         AreLevels (needed g.now) z (k + 1) steps.new × IsFront z (k + 1) steps.new next.items) }
-    ensures falls { OnOk result ((z : ℕ) → AreLevels (needed g.now) z k steps.old → IsFront z k steps.old front.now →
-        IsOnLoop (needed g.now) z → slice_index steps.old z ≡ 0 → unreached steps.new < unreached steps.old) }
+    ensures falls { OnOk result ((z : ℕ) → AreLevels (needed g.now) z k steps.old →
+        IsFront z k steps.old front.now →
+        IsOnLoop (needed g.now) z → slice_index steps.old z ≡ 0 →
+        unreached steps.new < unreached steps.old) }
 {
     let mut next = Vec::new(alloc);
     for a in front {
@@ -77,9 +80,11 @@ fn number(
     requires len { length steps.old ≡ g.now.n }
     requires row { a < g.now.n }
     requires count { 0 < count }
-    ensures { OnOk result ((front before : List ℕ) (i : ℕ) → i < length front → slice_index front i ≡ a →
+    ensures { OnOk result ((front before : List ℕ) (i : ℕ) → i < length front →
+        slice_index front i ≡ a →
         IsNumbering g.now count front before steps.old next.old.items i (length g.now.edges) →
-        IsNumbering g.now count front before steps.new next.new.items (suc i) (length g.now.edges)) }
+        IsNumbering g.now count front before steps.new next.new.items (suc i)
+        (length g.now.edges)) }
 {
     let mut place = chains.last[a as usize];
     while place > 0 {

@@ -17,7 +17,8 @@ use std::alloc::Global;
 /// In time linear in rows and wires where there is none. Where there is one, the rows up to the least on any are looked at
 /// in blocks of 64, each in such time; the loop through it is then found in such time.
 pub fn find_loop(alloc: Global, r: &Resolved) -> Result<Option<Vec<u32>>, Memory>
-    ensures { IfOk result (λ found. MatchOption found (HasNoLoop (needs_of (diagram_of r.now))) (λ loop. IsLeastLoop (needs_of (diagram_of r.now)) loop.items)) }
+    ensures { IfOk result (λ found. MatchOption found (HasNoLoop (needs_of (diagram_of r.now)))
+        (λ loop. IsLeastLoop (needs_of (diagram_of r.now)) loop.items)) }
 {
     let g = needs_graph(alloc, r, None)?;
     find_in(alloc, &g)
@@ -25,7 +26,9 @@ pub fn find_loop(alloc: Global, r: &Resolved) -> Result<Option<Vec<u32>>, Memory
 
 // The same in a graph.
 pub(crate) fn find_in(alloc: Global, g: &Graph) -> Result<Option<Vec<u32>>, Memory>
-    ensures { IfOk result (λ found. MatchOption found (HasNoLoop (needed g.now)) (λ loop. IsLeastLoop (needed g.now) loop.items)) }
+    ensures { IfOk result
+        (λ found. MatchOption found (HasNoLoop (needed g.now))
+        (λ loop. IsLeastLoop (needed g.now) loop.items)) }
 {
     match order(alloc, g) {
         Ok(_) => Ok(None),
@@ -36,7 +39,9 @@ pub(crate) fn find_in(alloc: Global, g: &Graph) -> Result<Option<Vec<u32>>, Memo
 
 // The same, where an order was not found.
 fn search(alloc: Global, g: &Graph) -> Result<Option<Vec<u32>>, Memory>
-    ensures { IfOk result (λ found. MatchOption found (HasNoLoop (needed g.now)) (λ loop. IsLeastLoop (needed g.now) loop.items)) }
+    ensures { IfOk result
+        (λ found. MatchOption found (HasNoLoop (needed g.now))
+        (λ loop. IsLeastLoop (needed g.now) loop.items)) }
 {
     match least_on_loop(alloc, g)? {
         None => Ok(None),

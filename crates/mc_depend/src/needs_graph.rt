@@ -15,7 +15,8 @@ use std::alloc::Global;
 // The rows, with an edge to each from those that it needs inside the system.
 pub(crate) fn needs_graph(alloc: Global, r: &Resolved, system: Option<u32>) -> Result<Graph, Memory>
     ensures inside { IfOk result (IsGraphOf r.now.tree.table.rows (needs_inside (diagram_of r.now) system)) }
-    ensures whole { system ≡ None → IfOk result (IsGraphOf r.now.tree.table.rows (needs_of (diagram_of r.now))) }
+    ensures whole { system ≡ None →
+        IfOk result (IsGraphOf r.now.tree.table.rows (needs_of (diagram_of r.now))) }
 {
     let edges = needs_edges(alloc, r, system)?;
     let n = r.tree.table().rows.len() as u32;
@@ -24,7 +25,9 @@ pub(crate) fn needs_graph(alloc: Global, r: &Resolved, system: Option<u32>) -> R
 
 // For each row an edge from each row that it needs inside the system.
 fn needs_edges(alloc: Global, r: &Resolved, system: Option<u32>) -> Result<Vec<(u32, u32)>, Memory>
-    ensures { IfOk result (λ v. AreEdgesBelow (needs_inside (diagram_of r.now) system) (length r.now.tree.table.rows) v.items) }
+    ensures { IfOk result
+        (λ v. AreEdgesBelow (needs_inside (diagram_of r.now) system)
+        (length r.now.tree.table.rows) v.items) }
 {
     let rows = r.tree.table().rows.as_slice();
     let ops = r.ops.as_slice();
@@ -44,7 +47,10 @@ fn push_used(
     system: Option<u32>,
     b: u32,
 ) -> Result<(), Memory>
-    ensures { OnOk result (edges.new.items ≡ edges.old.items ++ map (λ a. (a, b)) (if is_inport_kind row.now.kind && is_same_system row.now.owner system then [] else (if is_fed_through op.now then row.now.inputs else []))) }
+    ensures { OnOk result (edges.new.items
+        ≡ edges.old.items
+        ++ map (λ a. (a, b)) (if is_inport_kind row.now.kind && is_same_system row.now.owner system
+        then [] else (if is_fed_through op.now then row.now.inputs else []))) }
 {
     if is_inport(&row.kind) && same_system(row.owner, system) {
         return Ok(());
@@ -64,7 +70,9 @@ fn push_controls(
 ) -> Result<(), Memory>
     requires nested { IsNested rows.now }
     requires row { b < length rows.now }
-    ensures { OnOk result (edges.new.items ≡ edges.old.items ++ map (λ a. (a, b)) (control_wires rows.now (around_inside rows.now system b))) }
+    ensures { OnOk result (edges.new.items
+        ≡ edges.old.items
+        ++ map (λ a. (a, b)) (control_wires rows.now (around_inside rows.now system b))) }
 {
     if is_system(system, b) {
         return Ok(());

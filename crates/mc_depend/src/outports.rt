@@ -25,7 +25,8 @@ pub(crate) fn outports(alloc: Global, rows: &[Row], system: Option<u32>) -> Resu
 // The same in the order of the file.
 fn own_outports(alloc: Global, rows: &[Row], system: Option<u32>) -> Result<Vec<u32>, Memory>
     requires { length rows.now ≤ 20000 }
-    ensures { IfOk result (λ v. v.items ≡ filter (λ b. is_outport (row_at rows.now b).kind) (rows_of rows.now system)) }
+    ensures { IfOk result (λ v. v.items
+        ≡ filter (λ b. is_outport (row_at rows.now b).kind) (rows_of rows.now system)) }
 {
     let mut own = Vec::new(alloc);
     for b in 0..rows.len() {

@@ -17,7 +17,8 @@ fn graph(n: u32, edges: Vec<(u32, u32)>) -> Option<Graph> {
 
 /// Whether both ends of each edge are nodes.
 fn are_inside(n: u32, edges: &[(u32, u32)]) -> bool
-    ensures { IsTrue result → (k : ℕ) → k < length edges.now → ((slice_index_or edges.now k (0, 0)).0 < n) × ((slice_index_or edges.now k (0, 0)).1 < n) }
+    ensures { IsTrue result → (k : ℕ) → k < length edges.now →
+        ((slice_index_or edges.now k (0, 0)).0 < n) × ((slice_index_or edges.now k (0, 0)).1 < n) }
 {
     for edge in edges {
         if edge.0 >= n || edge.1 >= n {

@@ -32,7 +32,8 @@ pub fn needs_of(alloc: Global, r: &Resolved, system: Option<u32>) -> Result<Vec<
 // The masks of some rows, with that of the controls.
 fn masks_at(alloc: Global, reached: &[u64], control: u64, rows: &[u32]) -> Result<Vec<u64>, Memory>
     requires { All (λ b. b < length reached.now) rows.now }
-    ensures { IfOk result (λ v. AllZip (λ b mask. (mask ≡ bit_or (slice_index reached.now b) control) × (mask < 2 ^ 64)) rows.now v.items) }
+    ensures { IfOk result (λ v. AllZip (λ b mask. (mask ≡ bit_or (slice_index reached.now b) control)
+        × (mask < 2 ^ 64)) rows.now v.items) }
 {
     let mut masks = Vec::new(alloc);
     for b in rows {
@@ -64,7 +65,10 @@ fn input_bits(alloc: Global, rows: &[Row], system: Option<u32>) -> Result<Vec<u6
 
 // The bit of a row, where it is an input of the system.
 fn input_bit(row: &Row, system: Option<u32>) -> u64
-    ensures { (k : ℕ) → IsBitSet result k ↔ ((k < 32) × (IsTrue (is_same_system row.now.owner system) × (row.now.kind ≡ InportKind (suc k)))) }
+    ensures { (k : ℕ) →
+        IsBitSet result k
+        ↔ ((k < 32)
+        × (IsTrue (is_same_system row.now.owner system) × (row.now.kind ≡ InportKind (suc k)))) }
 {
     if !same_system(row.owner, system) {
         return 0;

@@ -60,7 +60,8 @@ pub held_outs : map (outs held None) (whole_run held None gated_trace).values �
 held_outs = refl
 
 -- the enable alone says when the output is reset, and it stays so until the next event
-pub reset_outs : map (outs reset_to_three None) (whole_run reset_to_three None gated_trace).values ≡ column_of (3 ∷ 6 ∷ 3 ∷ 3 ∷ 3 ∷ 3 ∷ 2 ∷ [])
+pub reset_outs : map (outs reset_to_three None) (whole_run reset_to_three None gated_trace).values
+    ≡ column_of (3 ∷ 6 ∷ 3 ∷ 3 ∷ 3 ∷ 3 ∷ 2 ∷ [])
 reset_outs = refl
 
 -- the subsystem alone reads its input, its enable and its trigger from its trace, in this order
@@ -76,14 +77,17 @@ abbrev counter : Diagram
 counter = simple (
     row None (Inport 1) [] ∷ row None (Inport 2) [] ∷ row None (SubSystem (Both true Either)) (0 ∷ 1 ∷ [])
     ∷ row (Some 2) EnablePort [] ∷ row (Some 2) TriggerPort [] ∷ row (Some 2) (Constant (whole_decimal 1 (lit≤ tt))) []
-    ∷ row (Some 2) (Sum 2 0 how) (5 ∷ 7 ∷ []) ∷ row (Some 2) (UnitDelay zero_initial) (6 ∷ []) ∷ row (Some 2) (Outport 1 false zero_initial) (6 ∷ [])
+    ∷ row (Some 2) (Sum 2 0 how) (5 ∷ 7 ∷ []) ∷ row (Some 2) (UnitDelay zero_initial) (6 ∷ [])
+    ∷ row (Some 2) (Outport 1 false zero_initial) (6 ∷ [])
     ∷ row None (Outport 1 false zero_initial) (8 ∷ []) ∷ [])
 
 abbrev two_of : ℕ → ℕ → List ℤ
 two_of a b = pos a ∷ pos b ∷ []
 
 pub counter_outs :
-    map (outs counter None) (whole_run counter None (two_of 1 0 ∷ two_of 1 1 ∷ two_of 1 0 ∷ two_of 0 1 ∷ two_of 1 0 ∷ two_of 1 0 ∷ two_of 1 1 ∷ [])).values
+    map (outs counter None)
+    (whole_run counter None (two_of 1 0 ∷ two_of 1 1 ∷ two_of 1 0 ∷ two_of 0 1 ∷ two_of 1 0 ∷ two_of 1 0
+    ∷ two_of 1 1 ∷ [])).values
     ≡ column_of (0 ∷ 1 ∷ 2 ∷ 2 ∷ 1 ∷ 1 ∷ 2 ∷ [])
 counter_outs = refl
 
@@ -112,16 +116,26 @@ needs_the_trigger = refl
 -- ---- Types and sample times
 
 abbrev numbered : ℕ → Option ℕ → Kind → List ℕ → TypeText → TimeText → Row
-numbered number owner kind inputs type time = record { place = record { row = number; line = number }; owner = owner; kind = kind; inputs = inputs; type_text = type; time_text = time }
+numbered number owner kind inputs type time =
+    record {
+      place = record { row = number; line = number };
+      owner = owner;
+      kind = kind;
+      inputs = inputs;
+      type_text = type;
+      time_text = time;
+    }
 
 -- the same with an enable and a trigger of these types and at these times, and the output inside at a time of its own
 abbrev pub table : Control → List ℕ → (enable trigger : FixType) → (at_enable at_trigger at_output : TimeText) → RowTable
 table control wires enable trigger at_enable at_trigger at_output = record {
   rows =
-      numbered 0 None (Inport 1) [] (Fixed int32) NoTime ∷ numbered 1 None (Inport 2) [] (Fixed enable) at_enable ∷ numbered 2 None (Inport 3) [] (Fixed trigger) at_trigger
+      numbered 0 None (Inport 1) [] (Fixed int32) NoTime ∷ numbered 1 None (Inport 2) [] (Fixed enable) at_enable
+      ∷ numbered 2 None (Inport 3) [] (Fixed trigger) at_trigger
       ∷ numbered 3 None (SubSystem control) wires Inherit NoTime ∷ numbered 4 (Some 3) (Inport 1) (0 ∷ []) Inherit NoTime
       ∷ numbered 5 (Some 3) EnablePort [] Inherit NoTime ∷ numbered 6 (Some 3) TriggerPort [] Inherit NoTime
-      ∷ numbered 7 (Some 3) (Outport 1 false zero_initial) (4 ∷ []) Inherit at_output ∷ numbered 8 None (Outport 1 false zero_initial) (7 ∷ []) Inherit NoTime ∷ [];
+      ∷ numbered 7 (Some 3) (Outport 1 false zero_initial) (4 ∷ []) Inherit at_output
+      ∷ numbered 8 None (Outport 1 false zero_initial) (7 ∷ []) Inherit NoTime ∷ [];
   fixed_step = None;
 }
 
@@ -172,7 +186,8 @@ pub goes_to_the_trigger : map (search_inputs two_rates.rows) (4 ∷ 7 ∷ 8 ∷ 
 goes_to_the_trigger = refl
 
 -- with an enable alone the search goes on along the inputs inside
-pub goes_inside : map (search_inputs (table (Enabled false) (1 ∷ []) boolean boolean NoTime NoTime NoTime).rows) (4 ∷ 7 ∷ []) ≡ (0 ∷ []) ∷ (4 ∷ []) ∷ []
+pub goes_inside : map (search_inputs (table (Enabled false) (1 ∷ []) boolean boolean NoTime NoTime NoTime).rows)
+    (4 ∷ 7 ∷ []) ≡ (0 ∷ []) ∷ (4 ∷ []) ∷ []
 goes_inside = refl
 
 pub inside_at_every_tick : HasTime two_rates 7 every_tick

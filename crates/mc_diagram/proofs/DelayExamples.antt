@@ -30,7 +30,8 @@ one_step = refl
 
 -- an input, a delay of three samples that begins with 7, and an output
 abbrev late : Diagram
-late = simple (row None (Inport 1) [] ∷ row None (Delay 3 (whole_decimal 7 (lit≤ tt))) (0 ∷ []) ∷ row None (Outport 1 false zero_initial) (1 ∷ []) ∷ [])
+late = simple (row None (Inport 1) [] ∷ row None (Delay 3 (whole_decimal 7 (lit≤ tt))) (0 ∷ [])
+    ∷ row None (Outport 1 false zero_initial) (1 ∷ []) ∷ [])
 
 pub late_outs : map (outs late None) (whole_run late None (column_of (1 ∷ 2 ∷ 3 ∷ 4 ∷ 5 ∷ []))).values ≡ column_of (7 ∷ 7 ∷ 7 ∷ 1 ∷ 2 ∷ [])
 late_outs = refl
@@ -45,7 +46,14 @@ late_memories = refl
 
 -- the solution is a run: the equations hold
 pub late_runs : IsRunOver late None (column_of (4 ∷ 9 ∷ [])) (whole_run late None (column_of (4 ∷ 9 ∷ [])))
-late_runs = (refl, refl, (record { values = refl; memories = refl; triggers = refl }, (record { values = refl; memories = refl; triggers = refl }, tt)))
+late_runs = (
+  refl,
+  refl,
+  (
+    record { values = refl; memories = refl; triggers = refl },
+    (record { values = refl; memories = refl; triggers = refl }, tt),
+  ),
+)
 
 pub late_needs : map (needs_of late) (1 ∷ 2 ∷ []) ≡ [] ∷ (1 ∷ []) ∷ []
 late_needs = refl
@@ -55,21 +63,33 @@ late_needs = refl
 abbrev reset_line : Diagram
 reset_line = simple (
     row None (Inport 1) [] ∷ row None (Inport 2) [] ∷ row None (SubSystem (Enabled true)) (1 ∷ [])
-    ∷ row (Some 2) (Inport 1) (0 ∷ []) ∷ row (Some 2) EnablePort [] ∷ row (Some 2) (Delay 2 zero_initial) (3 ∷ []) ∷ row (Some 2) (Outport 1 false zero_initial) (5 ∷ [])
+    ∷ row (Some 2) (Inport 1) (0 ∷ []) ∷ row (Some 2) EnablePort [] ∷ row (Some 2) (Delay 2 zero_initial) (3 ∷ [])
+    ∷ row (Some 2) (Outport 1 false zero_initial) (5 ∷ [])
     ∷ row None (Outport 1 false zero_initial) (6 ∷ []) ∷ [])
 
 pub reset_line_outs :
-    map (outs reset_line None) (whole_run reset_line None (two_of 1 1 ∷ two_of 2 1 ∷ two_of 3 1 ∷ two_of 9 0 ∷ two_of 4 1 ∷ two_of 5 1 ∷ two_of 6 1 ∷ [])).values
+    map (outs reset_line None)
+    (whole_run reset_line None (two_of 1 1 ∷ two_of 2 1 ∷ two_of 3 1 ∷ two_of 9 0 ∷ two_of 4 1 ∷ two_of 5 1
+    ∷ two_of 6 1 ∷ [])).values
     ≡ column_of (0 ∷ 0 ∷ 1 ∷ 1 ∷ 0 ∷ 0 ∷ 4 ∷ [])
 reset_line_outs = refl
 
 -- ---- Types and samples
 
 abbrev numbered : ℕ → Kind → List ℕ → Row
-numbered number kind inputs = record { place = record { row = number; line = 10 * number }; owner = None; kind = kind; inputs = inputs; type_text = Inherit; time_text = NoTime }
+numbered number kind inputs =
+    record {
+      place = record { row = number; line = 10 * number };
+      owner = None;
+      kind = kind;
+      inputs = inputs;
+      type_text = Inherit;
+      time_text = NoTime;
+    }
 
 -- a delay has the type of its input
-pub delay_type : HasType (record (numbered 0 (Inport 1) []) { type_text = Fixed int8 } ∷ numbered 1 (Delay 2 zero_initial) (0 ∷ []) ∷ []) 1 int8
+pub delay_type : HasType (record (numbered 0 (Inport 1) []) { type_text = Fixed int8 }
+    ∷ numbered 1 (Delay 2 zero_initial) (0 ∷ []) ∷ []) 1 int8
 delay_type = (2, refl)
 
 -- delays of this length in a chain, behind the row of this number

@@ -61,11 +61,13 @@ module _ (table : RowTable) where
   abbrev periods : List Row → List ℕ
   periods rows = flat_map (λ (row : Row). periods_in table (written_by row.kind row.time_text)) rows
 
-  text_divides : (text : TimeText) (time : Time) (so_far : ℕ) (rest : List ℕ) → Writes table text time → time.period ∣ fold lcm so_far (periods_in table text ++ rest)
+  text_divides : (text : TimeText) (time : Time) (so_far : ℕ) (rest : List ℕ) → Writes table text time →
+      time.period ∣ fold lcm so_far (periods_in table text ++ rest)
   text_divides Inherit time so_far rest w = absurd w
   text_divides Constant time so_far rest w = absurd w
   text_divides (Each period offset) time so_far rest w =
-      fold_keeps time.period (lcm so_far (ticks table period)) rest (subst (λ n. n ∣ lcm so_far (ticks table period)) (sym w.0) (divides_right so_far (ticks table period)))
+      fold_keeps time.period (lcm so_far (ticks table period)) rest
+      (subst (λ n. n ∣ lcm so_far (ticks table period)) (sym w.0) (divides_right so_far (ticks table period)))
 
   -- the periods of a text come to one number
   passed : (text : TimeText) (so_far : ℕ) (rest : List ℕ) → (n : ℕ) × (fold lcm so_far (periods_in table text ++ rest) ≡ fold lcm n rest)
@@ -73,7 +75,9 @@ module _ (table : RowTable) where
   passed Constant so_far rest = (so_far, refl)
   passed (Each period offset) so_far rest = (lcm so_far (ticks table period), refl)
 
-  row_divides : (rows : List Row) (b so_far : ℕ) (time : Time) → Writes table (written_by (row_at rows b).kind (row_at rows b).time_text) time → time.period ∣ fold lcm so_far (periods rows)
+  row_divides : (rows : List Row) (b so_far : ℕ) (time : Time) →
+      Writes table (written_by (row_at rows b).kind (row_at rows b).time_text) time →
+      time.period ∣ fold lcm so_far (periods rows)
   row_divides [] b so_far time w = absurd w
   row_divides (row ∷ rows) zero so_far time w = text_divides (written_by row.kind row.time_text) time so_far (periods rows) w
   row_divides (row ∷ rows) (suc b) so_far time w =
@@ -105,12 +109,15 @@ module _ (table : RowTable) where
       otherwise : (hyperperiod table % time.period ≡ 0 → ⊥) → divides time
       otherwise differ = subst divides (sym (given.none (λ found f.
           differ (mod-eq-zero_of_dvd time.period
-          (dvd_trans time.period (dvd_of_mod-eq-zero time.period ((given.some found f).includes found f).0) (found_divides f.0 found f.2)))))) each_tick
+          (dvd_trans time.period (dvd_of_mod-eq-zero time.period ((given.some found f).includes found f).0)
+          (found_divides f.0 found f.2)))))) each_tick
 
-  text_time_divides : (b : ℕ) (kind : Kind) (text : TimeText) (time : Time) → text ≡ written_time table.rows b → HasTimeBy table b kind text time → divides time
+  text_time_divides : (b : ℕ) (kind : Kind) (text : TimeText) (time : Time) → text ≡ written_time table.rows b →
+      HasTimeBy table b kind text time → divides time
   text_time_divides b kind Inherit time e h = input_divides b time h
   text_time_divides b kind Constant time e h = subst divides (sym h) each_tick
-  text_time_divides b (RateTransition initial out) (Each period offset) time e h = subst divides (sym h.4) (by (nat_lt h.1.period h.0.period))
+  text_time_divides b (RateTransition initial out) (Each period offset) time e h =
+      subst divides (sym h.4) (by (nat_lt h.1.period h.0.period))
     where
       by : (faster : Bool) → divides (if faster then h.0 else h.1)
       by true = input_divides b h.0 h.2
@@ -148,12 +155,16 @@ module _ (table : RowTable) where
   written_ticks Constant time w = tt
   written_ticks (Each period offset) time w = let below = time.in_period in omega (arith, w.0, below)
 
-  text_positive : (text : TimeText) (so_far : ℕ) (rest : List ℕ) → HasTicks text → 0 < so_far → ((n : ℕ) → 0 < n → 0 < fold lcm n rest) → 0 < fold lcm so_far (periods_in table text ++ rest)
+  text_positive : (text : TimeText) (so_far : ℕ) (rest : List ℕ) → HasTicks text → 0 < so_far →
+      ((n : ℕ) → 0 < n → 0 < fold lcm n rest) → 0 < fold lcm so_far (periods_in table text ++ rest)
   text_positive Inherit so_far rest h k more = more so_far k
   text_positive Constant so_far rest h k more = more so_far k
-  text_positive (Each period offset) so_far rest h k more = more (lcm so_far (ticks table period)) (lcm_positive so_far (ticks table period) k h)
+  text_positive (Each period offset) so_far rest h k more =
+      more (lcm so_far (ticks table period)) (lcm_positive so_far (ticks table period) k h)
 
-  all_positive : (rows : List Row) (so_far : ℕ) → ((b : ℕ) → b < length rows → HasTicks (written_by (row_at rows b).kind (row_at rows b).time_text)) → 0 < so_far → 0 < fold lcm so_far (periods table rows)
+  all_positive : (rows : List Row) (so_far : ℕ) →
+      ((b : ℕ) → b < length rows → HasTicks (written_by (row_at rows b).kind (row_at rows b).time_text)) → 0 < so_far →
+      0 < fold lcm so_far (periods table rows)
   all_positive [] so_far h k = k
   all_positive (row ∷ rows) so_far h k =
       text_positive (written_by row.kind row.time_text) so_far (periods table rows) (h 0 (omega arith)) k
@@ -171,10 +182,13 @@ module _ (table : RowTable) where
   no_each (Each period offset) e = absurd (true≢false e)
 
   -- a row that has a time, and writes none where it is inside a subsystem with a trigger
-  row_ticks : (b : ℕ) (time : Time) → HasTime table b time → (is_some (outermost_trigger table.rows b) && is_each (written_time table.rows b)) ≡ false → HasTicks (written_time table.rows b)
+  row_ticks : (b : ℕ) (time : Time) → HasTime table b time →
+      (is_some (outermost_trigger table.rows b) && is_each (written_time table.rows b)) ≡ false →
+      HasTicks (written_time table.rows b)
   row_ticks b time h e = by (outermost_trigger table.rows b) h e
     where
-      by : (trigger : Option ℕ) → HasTimeIn table b trigger time → (is_some trigger && is_each (written_time table.rows b)) ≡ false → HasTicks (written_time table.rows b)
+      by : (trigger : Option ℕ) → HasTimeIn table b trigger time →
+          (is_some trigger && is_each (written_time table.rows b)) ≡ false → HasTicks (written_time table.rows b)
       by None k e = timed_ticks b (row_at table.rows b).kind (written_time table.rows b) time k
       by (Some s) k e = no_each (written_time table.rows b) e
 
@@ -183,6 +197,10 @@ cycles_have_ticks table types ops times resolved =
     let rows = table.rows in
     let test : ℕ → Bool = λ b. is_some (outermost_trigger rows b) && is_each (written_time rows b) in
     let none = none_later (least_line (times_inside rows)) _ (nothing_written table resolved.times_accepted) in
-    let outside : (b : ℕ) → b < length rows → test b ≡ false = λ b inside. none_pass test (λ k. TimeInside (line_at rows k)) (length rows) 0 b (nothing_listed (times_inside rows) none.0) (omega arith) (omega arith) in
+    let outside : (b : ℕ) → b < length rows → test b ≡ false =
+    λ b inside. none_pass test (λ k. TimeInside (line_at rows k)) (length rows) 0 b
+    (nothing_listed (times_inside rows) none.0) (omega arith) (omega arith) in
     subst (λ n. 0 < n) (sym resolved.are_times.hyper)
-    (all_positive table rows 1 (λ b inside. row_ticks table b (slice_index_or times.run b every_tick) (resolved.are_times.run b inside) (outside b inside)) (omega arith))
+    (all_positive table rows 1
+    (λ b inside. row_ticks table b (slice_index_or times.run b every_tick) (resolved.are_times.run b inside)
+    (outside b inside)) (omega arith))

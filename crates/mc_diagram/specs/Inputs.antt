@@ -1,4 +1,5 @@
--- The inputs of a system, by number and then its controls, and the rows that give them their values.
+-- The inputs of a system, by number and then its controls, and the rows that give them their
+-- values.
 use Rattle.std.specs.Prelude.{ℕ, zero, suc, List, [], ◌∷◌, ◌++◌, map, flat_map, length, slice_get, Option, Some, None}
 use Rattle.std.specs.List.{range_with_len}
 use Rattle.mc_base.specs.declared.Control.{Control}
@@ -17,7 +18,8 @@ control_ports (Both reset edge) = Enable ∷ Trigger ∷ []
 
 -- the inputs of a system: by number, and then its controls
 abbrev pub input_ports : List Row → Option ℕ → List Port
-input_ports rows s = map Number (range_with_len 1 (length (inports_of rows s))) ++ control_ports (system_control rows s)
+input_ports rows s = map Number (range_with_len 1 (length (inports_of rows s)))
+    ++ control_ports (system_control rows s)
 
 -- An input that a system doesn't have is no row and has no wire.
 
@@ -39,14 +41,16 @@ abbrev pub inport_row : List Row → Option ℕ → ℕ → Option ℕ
 inport_row rows s zero = None
 inport_row rows s (suc k) = slice_get (inports_of rows s) k
 
--- the row of the system that encloses it which an input of a system reads: a control's wire; the root has no control
+-- the row of the system that encloses it which an input of a system reads: a control's wire; the
+-- root has no control
 abbrev pub control_row : List Row → Option ℕ → Port → Option ℕ
 control_row rows None port = None
 control_row rows (Some e) (Number k) = None
 control_row rows (Some e) Enable = enable_wire rows e
 control_row rows (Some e) Trigger = trigger_wire rows e
 
--- the row that gives an input of a system its value: the Inport of that number, or the row that a control reads
+-- the row that gives an input of a system its value: the Inport of that number, or the row that a
+-- control reads
 abbrev pub input_row : List Row → Option ℕ → Port → Option ℕ
 input_row rows s (Number k) = inport_row rows s k
 input_row rows s Enable = control_row rows s Enable

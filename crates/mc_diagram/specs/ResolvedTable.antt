@@ -7,8 +7,8 @@ use Rattle.mc_diagram.specs.RowTimes.{RowTimes}
 use Rattle.mc_diagram.specs.Diagram.{Diagram, IsResolved}
 use Rattle.mc_diagram.specs.ResolvedTree.{ResolvedTree}
 
--- the rows and the step of a table, for each row its type, its operation, its sample time and whether it is a delay between
--- rates, and the cycle after which all hits repeat
+-- the rows and the step of a table, for each row its type, its operation, its sample time and
+-- whether it is a delay between rates, and the cycle after which all hits repeat
 pub record ResolvedTable : Type 0 where
   pub table : RowTable
   pub types : List FixType

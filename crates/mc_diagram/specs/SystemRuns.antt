@@ -1,5 +1,6 @@
--- A run of a diagram, or of one of its systems, for the own rows of each system inside: it is a run of that system from the
--- values on its inputs and controls, where the activity of the system around it, and what is off around it, are as given.
+-- A run of a diagram, or of one of its systems, for the own rows of each system inside: it is a run
+-- of that system from the values on its inputs and controls, where the activity of the system
+-- around it, and what is off around it, are as given.
 use Rattle.std.specs.Prelude.{◌≡◌, ℕ, suc, ◌-◌, ◌<◌, Bool, true, false, not, ◌&&◌, ◌||◌, if◌then◌else◌, List, [], ◌∷◌, map, length, slice_index_or, Option, Some, None, ℤ, pos}
 use Rattle.std.specs.List.{range_with_len}
 use Rattle.mc_base.specs.declared.Port.TheVariants.{Number}
@@ -20,8 +21,9 @@ use Rattle.mc_diagram.specs.RunLaws.{values_before, IsSystemWithin}
 
 -- ---- Ticks of one system by itself
 
--- What a tick is for the own rows of a system. `parent` says whether the system around it is active, and `is_off_around`
--- whether a subsystem around it is off. Values and memories are by row number, those of children's Outports too.
+-- What a tick is for the own rows of a system. `parent` says whether the system around it is
+-- active, and `is_off_around` whether a subsystem around it is off. Values and memories are by row
+-- number, those of children's Outports too.
 pub record SystemTick : Type 0 where
   pub t : ℕ
   pub parent : Bool
@@ -77,24 +79,31 @@ module _ (d : Diagram) (n : Option ℕ) (m : SystemTick) where
       else (if own_runs b then moved_on (m.memory b) (input (own_inputs b) 0)
       else m.memory b)
 
-  -- what the system's trigger remembers after the tick; the system's being off itself doesn't reset it
+  -- what the system's trigger remembers after the tick; the system's being off itself doesn't reset
+  -- it
   abbrev pub own_trigger : TrigMem
   own_trigger =
-      if m.is_off_around then NotYet else remembered_by m.parent (system_control d.rows n) m.trigger m.controls
+      if m.is_off_around then NotYet
+      else remembered_by m.parent (system_control d.rows n) m.trigger m.controls
 
-  -- the equations of the tick; a subsystem that is off is not active, so nothing inside it has an active system around it
+  -- the equations of the tick; a subsystem that is off is not active, so nothing inside it has an
+  -- active system around it
   pub record IsSystemTick : Type 0 where
     pub values : (b : ℕ) → IsRowOf d.rows n b → m.value b ≡ own_value b
-    pub memories : (b : ℕ) → IsRowOf d.rows n b → is_delay (op_at d b) ≡ true → m.memory_after b ≡ own_memory b
-    pub lengths : (b : ℕ) → IsRowOf d.rows n b → is_delay (op_at d b) ≡ true → length (m.memory b) ≡ delay_length (op_at d b)
+    pub memories : (b : ℕ) → IsRowOf d.rows n b → is_delay (op_at d b) ≡ true →
+        m.memory_after b ≡ own_memory b
+    pub lengths : (b : ℕ) → IsRowOf d.rows n b → is_delay (op_at d b) ≡ true →
+        length (m.memory b) ≡ delay_length (op_at d b)
     pub trigger : is_triggered (system_control d.rows n) ≡ true → m.trigger_after ≡ own_trigger
     pub at_rest : m.is_off_around ≡ true → m.parent ≡ false
 
-  -- before the first tick each own row has its start, each own delay its initial memory, and the trigger nothing
+  -- before the first tick each own row has its start, each own delay its initial memory, and the
+  -- trigger nothing
   pub record IsFirstTick : Type 0 where
     pub at_zero : m.t ≡ 0
     pub starts : (b : ℕ) → IsRowOf d.rows n b → m.before b ≡ start_of d b
-    pub memories : (b : ℕ) → IsRowOf d.rows n b → is_delay (op_at d b) ≡ true → m.memory b ≡ initial_memory d b
+    pub memories : (b : ℕ) → IsRowOf d.rows n b → is_delay (op_at d b) ≡ true →
+        m.memory b ≡ initial_memory d b
     pub trigger : is_triggered (system_control d.rows n) ≡ true → m.trigger ≡ NotYet
 
 -- a tick begins with what the one before it leaves
@@ -105,7 +114,8 @@ pub record FollowsTick (m next : SystemTick) : Type 0 where
   pub trigger : next.trigger ≡ m.trigger_after
 
 -- a run of the system n of so many ticks
-pub record IsSystemRun (d : Diagram) (n : Option ℕ) (count : ℕ) (ticks : ℕ → SystemTick) : Type 0 where
+pub record IsSystemRun (d : Diagram) (n : Option ℕ) (count : ℕ) (ticks : ℕ →
+    SystemTick) : Type 0 where
   pub first : IsFirstTick d n (ticks 0)
   pub each : (t : ℕ) → t < count → IsSystemTick d n (ticks t)
   pub in_order : (t : ℕ) → FollowsTick (ticks t) (ticks (suc t))
@@ -137,14 +147,16 @@ module _ (d : Diagram) (s : Option ℕ) (xs : List (List ℤ)) (run : Run) (n : 
   abbrev pub inputs_at : ℕ → List ℤ
   inputs_at t =
       if same_system s n
-      then map (λ k. value_at (trace_at t) (column d.rows n (Number k))) (range_with_len 1 (length (inports_of d.rows n)))
+      then map (λ k. value_at (trace_at t) (column d.rows n (Number k)))
+      (range_with_len 1 (length (inports_of d.rows n)))
       else map (value_at (values_at t)) (entering_wires d.rows n)
 
   -- its controls, an enable before a trigger
   abbrev pub controls_at : ℕ → List ℤ
   controls_at t =
       if same_system s n
-      then map (λ p. value_at (trace_at t) (column d.rows n p)) (control_ports (system_control d.rows n))
+      then map (λ p. value_at (trace_at t) (column d.rows n p))
+      (control_ports (system_control d.rows n))
       else map (value_at (values_at t)) (control_wires_of d.rows n)
 
   -- the tick for the own rows of n
@@ -152,7 +164,8 @@ module _ (d : Diagram) (s : Option ℕ) (xs : List (List ℤ)) (run : Run) (n : 
   system_tick t = record {
     t = t;
     parent = active_in d s (trace_at t) (values_at t) (triggers_at t) (around_system d.rows s n);
-    is_off_around = any_off d s (trace_at t) (values_at t) (triggers_at t) (around_system d.rows s n);
+    is_off_around =
+        any_off d s (trace_at t) (values_at t) (triggers_at t) (around_system d.rows s n);
     inputs = inputs_at t;
     controls = controls_at t;
     before = value_at (values_before d s run t);
@@ -165,12 +178,15 @@ module _ (d : Diagram) (s : Option ℕ) (xs : List (List ℤ)) (run : Run) (n : 
 
 -- a run of the root, or of any system, is for each system within it a run of that system
 abbrev pub RunsAreOfSystems : Type 0
-RunsAreOfSystems = (r : ResolvedTree) (s n : Option ℕ) (xs : List (List ℤ)) (run : Run) → IsResolvedTree r →
+RunsAreOfSystems =
+    (r : ResolvedTree) (s n : Option ℕ) (xs : List (List ℤ)) (run : Run) → IsResolvedTree r →
     IsSystemWithin r.tree.table.rows s n → IsRunOver (diagram_of r) s xs run →
     IsSystemRun (diagram_of r) n (length xs) (system_tick (diagram_of r) s xs run n)
 
--- a child of the system n meets the activity that n has and what is off in it or around it, and reads values of n's tick
-pub record MeetsParent (d : Diagram) (n : Option ℕ) (m : SystemTick) (e : ℕ) (inner : SystemTick) : Type 0 where
+-- a child of the system n meets the activity that n has and what is off in it or around it, and
+-- reads values of n's tick
+pub record MeetsParent (d : Diagram) (n : Option ℕ) (m : SystemTick) (e : ℕ)
+    (inner : SystemTick) : Type 0 where
   pub parent : inner.parent ≡ system_is_active d n m
   pub is_off_around : inner.is_off_around ≡ (m.is_off_around || system_is_off d n m)
   pub inputs : inner.inputs ≡ map m.value (entering_wires d.rows (Some e))
@@ -178,6 +194,10 @@ pub record MeetsParent (d : Diagram) (n : Option ℕ) (m : SystemTick) (e : ℕ)
 
 -- each child of a system within s does so at each tick
 abbrev pub ChildrenMeetParents : Type 0
-ChildrenMeetParents = (r : ResolvedTree) (s n : Option ℕ) (xs : List (List ℤ)) (run : Run) (t e : ℕ) → IsResolvedTree r →
-    IsSystemWithin r.tree.table.rows s n → IsRunOver (diagram_of r) s xs run → IsRowOf r.tree.table.rows n e →
-    MeetsParent (diagram_of r) n (system_tick (diagram_of r) s xs run n t) e (system_tick (diagram_of r) s xs run (Some e) t)
+ChildrenMeetParents =
+    (r : ResolvedTree) (s n : Option ℕ) (xs : List (List ℤ)) (run : Run) (t e : ℕ) →
+    IsResolvedTree r →
+    IsSystemWithin r.tree.table.rows s n → IsRunOver (diagram_of r) s xs run →
+    IsRowOf r.tree.table.rows n e →
+    MeetsParent (diagram_of r) n (system_tick (diagram_of r) s xs run n t) e
+    (system_tick (diagram_of r) s xs run (Some e) t)

@@ -7,7 +7,8 @@ use Rattle.mc_fixed.specs.Conversion.{InType}
 use Rattle.mc_diagram.specs.Inputs.{input_ports, input_row}
 use Rattle.mc_diagram.specs.Diagram.{Diagram, type_at}
 
--- the type of an input of a system; what a system doesn't have is past the table, and no trace asks for it
+-- the type of an input of a system; what a system doesn't have is past the table, and no trace asks
+-- for it
 abbrev pub input_type_of : Diagram → Option ℕ → Port → FixType
 input_type_of d s p = type_at d.types (unwrap_or (input_row d.rows s p) (length d.rows))
 

@@ -60,22 +60,30 @@ refuses-values given ins vs =
     (refuses-first value_fault (λ (e : Input × ℤ). refuses-unless (is_of_type e.0.of e.1) (fault.Value e.0.port) refl) (zip ins vs))
     (refuses-first (unlike_fault given) (λ (e : Input × ℤ). refuses-beside e.0 (slice_index_or given e.0.place None) e.1) (zip ins vs))
 
-pub call_refuses : (d : DriverState) (j : ℕ) (vs : List ℤ) (ins : List Input) (why : DriveFault) → Some why ≡ option_or (twice_fault d.called j) (values_fault d.given ins vs) → IsRefusal why
+pub call_refuses : (d : DriverState) (j : ℕ) (vs : List ℤ) (ins : List Input) (why : DriveFault) →
+    Some why ≡ option_or (twice_fault d.called j) (values_fault d.given ins vs) → IsRefusal why
 call_refuses d j vs ins why e =
-    refuses-or (twice_fault d.called j) (values_fault d.given ins vs) (refuses-if (slice_index_or d.called (j - 1) false) (fault.Twice j) refl) (refuses-values d.given ins vs) why (sym e)
+    refuses-or (twice_fault d.called j) (values_fault d.given ins vs)
+    (refuses-if (slice_index_or d.called (j - 1) false) (fault.Twice j) refl) (refuses-values d.given ins vs) why
+    (sym e)
 
-pub update_refuses : (d : DriverState) (vs : List ℤ) (ins : List Input) (why : DriveFault) → Some why ≡ option_or (early_fault d.called) (values_fault d.given ins vs) → IsRefusal why
+pub update_refuses : (d : DriverState) (vs : List ℤ) (ins : List Input) (why : DriveFault) →
+    Some why ≡ option_or (early_fault d.called) (values_fault d.given ins vs) → IsRefusal why
 update_refuses d vs ins why e =
-    refuses-or (early_fault d.called) (values_fault d.given ins vs) (refuses-unless (missing d.called == 0) (fault.Early (missing d.called)) refl) (refuses-values d.given ins vs) why (sym e)
+    refuses-or (early_fault d.called) (values_fault d.given ins vs)
+    (refuses-unless (missing d.called == 0) (fault.Early (missing d.called)) refl)
+    (refuses-values d.given ins vs) why (sym e)
 
-pub refusal_leaves : (why : DriveFault) (plan : CallPlan) (values : List ℤ) (before after : DriverState) → IsRefusal why → after ≡ before → Leaves why plan values before after
+pub refusal_leaves : (why : DriveFault) (plan : CallPlan) (values : List ℤ) (before after : DriverState) →
+    IsRefusal why → after ≡ before → Leaves why plan values before after
 refusal_leaves (fault.Twice function) plan values before after h same = same
 refusal_leaves (fault.Early missing) plan values before after h same = same
 refusal_leaves (fault.Value input) plan values before after h same = same
 refusal_leaves (fault.Unlike input first second) plan values before after h same = same
 refusal_leaves (fault.Stuck at) plan values before after h same = absurd (cc)
 
-refusal_stands : (w : Driven) (script : List Call) (why : DriveFault) (after : DriverState) → IsRefusal why → StandsFor w after script → StandsAfter w script why after
+refusal_stands : (w : Driven) (script : List Call) (why : DriveFault) (after : DriverState) → IsRefusal why →
+    StandsFor w after script → StandsAfter w script why after
 refusal_stands w script (fault.Twice function) after h stands = stands
 refusal_stands w script (fault.Early missing) after h stands = stands
 refusal_stands w script (fault.Value input) after h stands = stands
@@ -84,10 +92,13 @@ refusal_stands w script (fault.Stuck at) after h stands = absurd (cc)
 
 -- ---- Scripts
 
-pub refusal_right : (before after : DriverState) (c : Call) (out : List ℤ) (why : DriveFault) → IsRefusal why → after ≡ before → AnswersRight before c out after (Err why)
-refusal_right before after c out why h same w script stands = refusal_stands w script why after h (subst (λ d. StandsFor w d script) (sym same) stands)
+pub refusal_right : (before after : DriverState) (c : Call) (out : List ℤ) (why : DriveFault) → IsRefusal why →
+    after ≡ before → AnswersRight before c out after (Err why)
+refusal_right before after c out why h same w script stands =
+    refusal_stands w script why after h (subst (λ d. StandsFor w d script) (sym same) stands)
 
-module _ (law : CallsGoOn) (before after : DriverState) (drivable : IsDrivable (program_of before) before.instance before.shape) (j : ℕ) (values old out : List ℤ)
+module _ (law : CallsGoOn) (before after : DriverState)
+    (drivable : IsDrivable (program_of before) before.instance before.shape) (j : ℕ) (values old out : List ℤ)
     (call : IsCallFor before j values old) (same : length out ≡ length old) (none : call_fault before j values ≡ None) where
   call-for : IsCallFor before j values out
   call-for = record { least = call.least; most = call.most; values_each = call.values_each; out_each = same ∙ call.out_each }
@@ -95,29 +106,40 @@ module _ (law : CallsGoOn) (before after : DriverState) (drivable : IsDrivable (
   pub call_right : (cost : Cost) → IsCallOf j values out cost before after → AnswersRight before (out_with j values) out after (Ok cost)
   call_right cost made w script stands = law.made w script j values out cost before after stands drivable call-for none made
 
-  pub call_stuck_right : (at : Stuck) → IsStuckIn (plan_of before j) values at before after → AnswersRight before (out_with j values) out after (Err (fault.Stuck at))
+  pub call_stuck_right : (at : Stuck) → IsStuckIn (plan_of before j) values at before after →
+      AnswersRight before (out_with j values) out after (Err (fault.Stuck at))
   call_stuck_right at is w script stands = law.not_stuck w script j values out at before after stands drivable call-for none is
 
-module _ (law : UpdatesGoOn) (before after : DriverState) (drivable : IsDrivable (program_of before) before.instance before.shape) (values : List ℤ)
+module _ (law : UpdatesGoOn) (before after : DriverState)
+    (drivable : IsDrivable (program_of before) before.instance before.shape) (values : List ℤ)
     (call : IsUpdateFor before values) (none : update_fault before values ≡ None) where
   pub update_right : (cost : Cost) → IsUpdate values cost before after → AnswersRight before (update_with values) [] after (Ok cost)
   update_right cost made w script stands = law.made w script values cost before after stands drivable call none made
 
-  pub update_stuck_right : (at : Stuck) → IsStuckIn (plan_of_update before) values at before after → AnswersRight before (update_with values) [] after (Err (fault.Stuck at))
+  pub update_stuck_right : (at : Stuck) → IsStuckIn (plan_of_update before) values at before after →
+      AnswersRight before (update_with values) [] after (Err (fault.Stuck at))
   update_stuck_right at is w script stands = law.not_stuck w script values at before after stands drivable call none is
 
 -- ---- What a driver keeps
 
 -- it keeps it where the program, the instance and the shape stay
-pub driver_stays : (d e : DriverState) (plans : List CallPlan) (update : CallPlan) (room more : List ℤ) → IsDriver d plans update room → e.machine.program ≡ d.machine.program →
-    e.instance ≡ d.instance → e.shape ≡ d.shape → length more ≡ length room → e.now < e.shape.hyper → length e.called ≡ length e.shape.functions → length e.given ≡ length (inputs_of e.shape) →
+pub driver_stays : (d e : DriverState) (plans : List CallPlan) (update : CallPlan) (room more : List ℤ) →
+    IsDriver d plans update room → e.machine.program ≡ d.machine.program →
+    e.instance ≡ d.instance → e.shape ≡ d.shape → length more ≡ length room → e.now < e.shape.hyper →
+    length e.called ≡ length e.shape.functions → length e.given ≡ length (inputs_of e.shape) →
     IsDriver e plans update more
 driver_stays d e plans update room more is program instance shape same cycle called given =
     let tree : program_of e ≡ program_of d = ap (λ (c : CheckedProgram). program_tree c.program) program in record {
-      drivable = subst (λ p. IsDrivable p e.instance e.shape) (sym tree) (subst (λ n. IsDrivable (program_of d) n e.shape) (sym instance) (subst (λ s. IsDrivable (program_of d) d.instance s) (sym shape) is.drivable));
+      drivable =
+          subst (λ p. IsDrivable p e.instance e.shape) (sym tree)
+          (subst (λ n. IsDrivable (program_of d) n e.shape) (sym instance)
+          (subst (λ s. IsDrivable (program_of d) d.instance s) (sym shape) is.drivable));
       plan_each = is.plan_each ∙ ap (λ (s : Shape). length s.functions) (sym shape);
-      plans_are = λ k below. is.plans_are k below ∙ ap Some (ap (λ (p : ProgramTree). function_plan p d.shape (suc k)) (sym tree) ∙ ap (λ s. function_plan (program_of e) s (suc k)) (sym shape));
-      update_is = is.update_is ∙ ap (λ (p : ProgramTree). update_plan p d.shape) (sym tree) ∙ ap (λ s. update_plan (program_of e) s) (sym shape);
+      plans_are = λ k below. is.plans_are k below
+          ∙ ap Some (ap (λ (p : ProgramTree). function_plan p d.shape (suc k)) (sym tree)
+          ∙ ap (λ s. function_plan (program_of e) s (suc k)) (sym shape));
+      update_is = is.update_is ∙ ap (λ (p : ProgramTree). update_plan p d.shape) (sym tree)
+          ∙ ap (λ s. update_plan (program_of e) s) (sym shape);
       room = same ∙ is.room ∙ ap (λ (s : Shape). suc (length (inputs_of s))) (sym shape);
       in_cycle = cycle;
       called_each = called;

@@ -29,29 +29,34 @@ pub out-of-done : (o : Outcome) (P : After → Type 0) (R : Type 0) → ((a : Af
 out-of-done (done a) P R f h = f a h
 out-of-done (stuck at cells) P R f h = absurd h
 
-pub out-of-both : (o : Outcome) (S P Q : After → Type 0) (R : Type 0) → ((a : After) → P a → Q a → R) → OnDone o (λ a. S a × P a) → OnDone o Q → R
+pub out-of-both : (o : Outcome) (S P Q : After → Type 0) (R : Type 0) → ((a : After) → P a → Q a → R) →
+    OnDone o (λ a. S a × P a) → OnDone o Q → R
 out-of-both (done a) S P Q R f h k = f a h.1 k
 out-of-both (stuck at cells) S P Q R f h k = absurd h
 
 module _ (w : Driven) where
   -- ---- One call more
 
-  leaves-last : (t : ℕ) (cells mid : Cells) (c : Call) (a : After) → mid ≡ cells → call_at w t c mid ≡ done a → LeavesFields w t cells (c ∷ []) a.cells
+  leaves-last : (t : ℕ) (cells mid : Cells) (c : Call) (a : After) → mid ≡ cells → call_at w t c mid ≡ done a →
+      LeavesFields w t cells (c ∷ []) a.cells
   leaves-last t cells mid (out_with j values) a same does =
       subst (λ (o : Outcome). OnDone o (λ b. a.cells ≡ b.cells)) (sym (ap (call_at w t (out_with j values)) (sym same) ∙ does)) refl
   leaves-last t cells mid (update_with values) a same does =
       subst (λ (o : Outcome). OnDone o (λ b. a.cells ≡ b.cells)) (sym (ap (call_at w t (update_with values)) (sym same) ∙ does)) refl
 
-  pub leaves-more : (script : List Call) (t n : ℕ) (cells mid : Cells) (c : Call) (a : After) → t + updates script ≡ n → LeavesFields w t cells script mid → call_at w n c mid ≡ done a →
+  pub leaves-more : (script : List Call) (t n : ℕ) (cells mid : Cells) (c : Call) (a : After) → t + updates script ≡ n →
+      LeavesFields w t cells script mid → call_at w n c mid ≡ done a →
       LeavesFields w t cells (script ++ c ∷ []) a.cells
   leaves-more [] t n cells mid c a count left does =
       let here : t ≡ n = omega (arith, count) in
       leaves-last t cells mid c a left (ap (λ (k : ℕ). call_at w k c mid) here ∙ does)
   leaves-more (out_with j values ∷ cs) t n cells mid c a count left does =
-      on-done (call_at w t (out_with j values) cells) (λ b. LeavesFields w t b.cells cs mid) (λ b. LeavesFields w t b.cells (cs ++ c ∷ []) a.cells)
+      on-done (call_at w t (out_with j values) cells) (λ b. LeavesFields w t b.cells cs mid)
+      (λ b. LeavesFields w t b.cells (cs ++ c ∷ []) a.cells)
       (λ b rest. leaves-more cs t n b.cells mid c a count rest does) left
   leaves-more (update_with values ∷ cs) t n cells mid c a count left does =
-      on-done (call_at w t (update_with values) cells) (λ b. LeavesFields w (suc t) b.cells cs mid) (λ b. LeavesFields w (suc t) b.cells (cs ++ c ∷ []) a.cells)
+      on-done (call_at w t (update_with values) cells) (λ b. LeavesFields w (suc t) b.cells cs mid)
+      (λ b. LeavesFields w (suc t) b.cells (cs ++ c ∷ []) a.cells)
       (λ b rest. leaves-more cs (suc t) n b.cells mid c a (omega (arith, count)) rest does) left
 
   -- ---- What right code says
@@ -63,29 +68,43 @@ module _ (w : Driven) where
     -- a function's outputs are those of the run
     abbrev pub HasOutputs : ℕ → Call → Cells → Type 0
     HasOutputs t (out_with j values) cells =
-        AllByRecursion (λ o. field_of w.program w.diagram w.system cells o ≡ value_at (slice_index_or run.values t []) o) (given_by_function (numbered_function (functions_of w) j) (outports_of w.diagram.rows w.system))
+        AllByRecursion (λ o. field_of w.program w.diagram w.system cells o
+        ≡ value_at (slice_index_or run.values t []) o)
+        (given_by_function (numbered_function (functions_of w) j) (outports_of w.diagram.rows w.system))
     HasOutputs t (update_with values) cells = ⊤
 
     abbrev Inside : ℕ → List LoggedCall → List StoredField → After → Type 0
-    Inside t log stores a = CallsInside w.program w.diagram w.system (slice_index_or xs t []) (slice_index_or run.values t []) (slice_index_or run.triggers t []) (log ++ a.log) (stores ++ a.stores)
+    Inside t log stores a =
+        CallsInside w.program w.diagram w.system (slice_index_or xs t []) (slice_index_or run.values t [])
+        (slice_index_or run.triggers t []) (log ++ a.log) (stores ++ a.stores)
 
-    driven-last : (t : ℕ) (cells mid : Cells) (log : List LoggedCall) (stores : List StoredField) (c : Call) → mid ≡ cells → Rest t cells log stores (c ∷ []) →
+    driven-last : (t : ℕ) (cells mid : Cells) (log : List LoggedCall) (stores : List StoredField) (c : Call) →
+        mid ≡ cells → Rest t cells log stores (c ∷ []) →
         OnDone (call_at w t c mid) (λ a. HasOutputs t c a.cells)
     driven-last t cells mid log stores (out_with j values) same h =
         subst (λ (o : Outcome). OnDone o (λ a. HasOutputs t (out_with j values) a.cells)) (ap (call_at w t (out_with j values)) (sym same))
-        (on-done (call_at w t (out_with j values) cells) (λ a. HasOutputs t (out_with j values) a.cells × Rest t a.cells (log ++ a.log) (stores ++ a.stores) []) (λ a. HasOutputs t (out_with j values) a.cells) (λ a both. both.0) h)
+        (on-done (call_at w t (out_with j values) cells) (λ a. HasOutputs t (out_with j values) a.cells
+        × Rest t a.cells (log ++ a.log) (stores ++ a.stores) []) (λ a. HasOutputs t (out_with j values) a.cells)
+        (λ a both. both.0) h)
     driven-last t cells mid log stores (update_with values) same h =
         subst (λ (o : Outcome). OnDone o (λ a. ⊤)) (ap (call_at w t (update_with values)) (sym same))
-        (on-done (call_at w t (update_with values) cells) (λ a. Inside t log stores a × Rest (suc t) a.cells [] [] []) (λ a. ⊤) (λ a both. tt) h)
+        (on-done (call_at w t (update_with values) cells) (λ a. Inside t log stores a × Rest (suc t) a.cells [] [] [])
+        (λ a. ⊤) (λ a both. tt) h)
 
-    pub driven-more : (script : List Call) (t n : ℕ) (cells mid : Cells) (log : List LoggedCall) (stores : List StoredField) (c : Call) → t + updates script ≡ n →
-        Rest t cells log stores (script ++ c ∷ []) → LeavesFields w t cells script mid → OnDone (call_at w n c mid) (λ a. HasOutputs n c a.cells)
+    pub driven-more : (script : List Call) (t n : ℕ) (cells mid : Cells) (log : List LoggedCall)
+        (stores : List StoredField) (c : Call) → t + updates script ≡ n →
+        Rest t cells log stores (script ++ c ∷ []) → LeavesFields w t cells script mid →
+        OnDone (call_at w n c mid) (λ a. HasOutputs n c a.cells)
     driven-more [] t n cells mid log stores c count h left =
         let here : t ≡ n = omega (arith, count) in
         subst (λ (k : ℕ). OnDone (call_at w k c mid) (λ a. HasOutputs k c a.cells)) here (driven-last t cells mid log stores c left h)
     driven-more (out_with j values ∷ cs) t n cells mid log stores c count h left =
-        out-of-both (call_at w t (out_with j values) cells) (λ a. HasOutputs t (out_with j values) a.cells) (λ a. Rest t a.cells (log ++ a.log) (stores ++ a.stores) (cs ++ c ∷ [])) (λ a. LeavesFields w t a.cells cs mid) (OnDone (call_at w n c mid) (λ a. HasOutputs n c a.cells))
+        out-of-both (call_at w t (out_with j values) cells) (λ a. HasOutputs t (out_with j values) a.cells)
+        (λ a. Rest t a.cells (log ++ a.log) (stores ++ a.stores) (cs ++ c ∷ []))
+        (λ a. LeavesFields w t a.cells cs mid) (OnDone (call_at w n c mid) (λ a. HasOutputs n c a.cells))
         (λ a rest leaves. driven-more cs t n a.cells mid (log ++ a.log) (stores ++ a.stores) c count rest leaves) h left
     driven-more (update_with values ∷ cs) t n cells mid log stores c count h left =
-        out-of-both (call_at w t (update_with values) cells) (Inside t log stores) (λ a. Rest (suc t) a.cells [] [] (cs ++ c ∷ [])) (λ a. LeavesFields w (suc t) a.cells cs mid) (OnDone (call_at w n c mid) (λ a. HasOutputs n c a.cells))
+        out-of-both (call_at w t (update_with values) cells) (Inside t log stores)
+        (λ a. Rest (suc t) a.cells [] [] (cs ++ c ∷ [])) (λ a. LeavesFields w (suc t) a.cells cs mid)
+        (OnDone (call_at w n c mid) (λ a. HasOutputs n c a.cells))
         (λ a rest leaves. driven-more cs (suc t) n a.cells mid [] [] c (omega (arith, count)) rest leaves) h left

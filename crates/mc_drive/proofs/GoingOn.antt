@@ -38,7 +38,8 @@ use Rattle.mc_drive.proofs.Standing.{behind-more, tick, called-is, all-are, take
 -- ---- Ticks
 
 -- what a driver of the system's shape has done
-has-done : (w : Driven) (d : DriverState) (t : TickSoFar) → d.shape ≡ shape_of w → d.called ≡ functions_called (length (functions_of w)) t.called →
+has-done : (w : Driven) (d : DriverState) (t : TickSoFar) → d.shape ≡ shape_of w →
+    d.called ≡ functions_called (length (functions_of w)) t.called →
     d.given ≡ values_given (all_inputs w) t.given → HasOneEach t.given → HasDone d t
 has-done w d t shape called given one = record {
   called = called ∙ ap (λ (s : Shape). functions_called (length s.functions) t.called) (sym shape);
@@ -47,9 +48,12 @@ has-done w d t shape called given one = record {
 }
 
 -- a driver at the start of a tick has done nothing
-nothing-done : (w : Driven) (machine : MachineState) (instance : ℕ) (shape : Shape) (now : ℕ) → shape ≡ shape_of w → HasDone (at_start machine instance shape now) nothing_yet
+nothing-done : (w : Driven) (machine : MachineState) (instance : ℕ) (shape : Shape) (now : ℕ) → shape ≡ shape_of w →
+    HasDone (at_start machine instance shape now) nothing_yet
 nothing-done w machine instance shape now e = record {
-  called = replicated false (range_with_len 1 (length shape.functions)) (length shape.functions) (sym (length-range_with_len 1 (length shape.functions)));
+  called =
+      replicated false (range_with_len 1 (length shape.functions)) (length shape.functions)
+      (sym (length-range_with_len 1 (length shape.functions)));
   given = replicated None (inputs_of shape) (length (inputs_of shape)) refl;
   one_each = tt;
 }
@@ -60,7 +64,9 @@ new_drivers_stand w machine instance shape ready = record {
   shape = ready.shape_is;
   instance = ready.instance_is;
   lawful = tt;
-  fields = subst (λ (o : Outcome). OnDone o (λ started. fields_of machine ≡ started.cells)) (sym (ap start_run (sym ready.program) ∙ ready.started.run)) ready.started.cells;
+  fields =
+      subst (λ (o : Outcome). OnDone o (λ started. fields_of machine ≡ started.cells))
+      (sym (ap start_run (sym ready.program) ∙ ready.started.run)) ready.started.cells;
   now = sym (zero-mod w.hyper);
   tick = nothing-done w machine instance shape 0 ready.shape_is;
 }
@@ -84,11 +90,13 @@ not-both o P at cells e h = subst (λ o. OnDone o P) e h
 left-has : (o : Outcome) (P : After → Type 0) (left : After) → o ≡ done left → OnDone o P → P left
 left-has o P left e h = subst (λ o. OnDone o P) e h
 
-module _ (grow : ScriptsGrow) (runs : LawfulScriptsRun) (w : Driven) (before : DriverState) (script : List Call) (stands : StandsFor w before script) where
+module _ (grow : ScriptsGrow) (runs : LawfulScriptsRun) (w : Driven) (before : DriverState) (script : List Call)
+    (stands : StandsFor w before script) where
   abbrev count : ℕ
   count = length (functions_of w)
 
-  lawful-more : (c : Call) → CanFollow w.diagram w.system (functions_of w) (tick w before script stands) c → IsLawfulScript w.diagram w.system (functions_of w) (script ++ c ∷ [])
+  lawful-more : (c : Call) → CanFollow w.diagram w.system (functions_of w) (tick w before script stands) c →
+      IsLawfulScript w.diagram w.system (functions_of w) (script ++ c ∷ [])
   lawful-more c follows = (grow w.diagram w.system (functions_of w) script c).1 (stands.lawful, follows)
 
   has-run : (c : Call) → IsLawfulScript w.diagram w.system (functions_of w) (script ++ c ∷ []) → HasRun w (script ++ c ∷ [])
@@ -102,14 +110,17 @@ module _ (grow : ScriptsGrow) (runs : LawfulScriptsRun) (w : Driven) (before : D
   never-stuck c at cells follows is =
       let lawful = lawful-more c follows in
       let run = has-run c lawful in
-      not-both (call_at w (updates script) c (fields_of before.machine)) (λ a. HasOutputs w run.trace run.one.run (updates script) c a.cells) at cells is
+      not-both (call_at w (updates script) c (fields_of before.machine))
+      (λ a. HasOutputs w run.trace run.one.run (updates script) c a.cells) at cells is
       (answered w before script stands c run.trace run.one.run lawful run.over)
 
   -- the fields behind one more call
-  fields-more : (c : Call) (left : After) (m : MachineState) → call_at w (updates script) c (fields_of before.machine) ≡ done left → fields_of m ≡ left.cells →
+  fields-more : (c : Call) (left : After) (m : MachineState) →
+      call_at w (updates script) c (fields_of before.machine) ≡ done left → fields_of m ≡ left.cells →
       OnDone (start_run w.program) (λ started. LeavesFields w 0 started.cells (script ++ c ∷ []) (fields_of m))
   fields-more c left m does cells =
-      on-done (start_run w.program) (λ started. LeavesFields w 0 started.cells script (fields_of before.machine)) (λ started. LeavesFields w 0 started.cells (script ++ c ∷ []) (fields_of m))
+      on-done (start_run w.program) (λ started. LeavesFields w 0 started.cells script (fields_of before.machine))
+      (λ started. LeavesFields w 0 started.cells (script ++ c ∷ []) (fields_of m))
       (λ started leaves. subst (λ end. LeavesFields w 0 started.cells (script ++ c ∷ []) end) (sym cells)
       (leaves-more w script 0 (updates script) started.cells (fields_of before.machine) c left (omega arith) leaves does)) stands.fields
 
@@ -141,7 +152,9 @@ module _ (grow : ScriptsGrow) (runs : LawfulScriptsRun) (w : Driven) (before : D
     each = call.values_each ∙ ap (λ s. length (function_inputs s j)) stands.shape
 
     values_none : values_fault before.given ins values ≡ None
-    values_none = ap (λ s. values_fault before.given (function_inputs s j) values) (sym stands.shape) ∙ no-second (twice_fault before.called j) (values_fault before.given (function_inputs before.shape j) values) none
+    values_none = ap (λ s. values_fault before.given (function_inputs s j) values) (sym stands.shape)
+        ∙ no-second (twice_fault before.called j) (values_fault before.given (function_inputs before.shape j) values)
+        none
 
     follows : CanFollow w.diagram w.system (functions_of w) (tick w before script stands) (out_with j values)
     follows = record {
@@ -149,7 +162,9 @@ module _ (grow : ScriptsGrow) (runs : LawfulScriptsRun) (w : Driven) (before : D
         call.least,
         (let most : j ≤ count = omega (arith, call.most, same_count) in most),
         not-called (tick w before script stands).called count j call.least (omega (arith, call.most, same_count))
-            (ap (λ c. twice_fault c j) (sym (called-is w before script stands)) ∙ no-first (twice_fault before.called j) (values_fault before.given (function_inputs before.shape j) values) none),
+            (ap (λ c. twice_fault c j) (sym (called-is w before script stands))
+            ∙ no-first (twice_fault before.called j)
+            (values_fault before.given (function_inputs before.shape j) values) none),
       );
       in_types = in-types w before script stands ins ports (taken-are w before script stands f) values each values_none;
       alike = alike w before script stands ins ports (taken-are w before script stands f) values each values_none;
@@ -158,12 +173,16 @@ module _ (grow : ScriptsGrow) (runs : LawfulScriptsRun) (w : Driven) (before : D
     out-not-stuck : (at : Stuck) (after : DriverState) → IsStuckIn (plan_of before j) values at before after → ⊥
     out-not-stuck at after is =
         never-stuck (out_with j values) at (fields_of after.machine) follows
-        (sym (call-is w before script stands (λ s. function_name s.name j) is.stuck.instance_is values (fields_of before.machine) (is-place w before script stands is.stuck.instance_is is.stuck.there)) ∙ is.stuck.run)
+        (sym (call-is w before script stands (λ s. function_name s.name j) is.stuck.instance_is values
+        (fields_of before.machine) (is-place w before script stands is.stuck.instance_is is.stuck.there))
+        ∙ is.stuck.run)
 
     module _ (cost : Cost) (after : DriverState) (made : IsCallOf j values out cost before after) where
       out-does : call_at w (updates script) (out_with j values) (fields_of before.machine) ≡ done made.makes.call.left
       out-does =
-          sym (call-is w before script stands (λ s. function_name s.name j) made.makes.call.instance_is values (fields_of before.machine) (is-place w before script stands made.makes.call.instance_is made.makes.call.there)) ∙ made.makes.call.run
+          sym (call-is w before script stands (λ s. function_name s.name j) made.makes.call.instance_is values
+          (fields_of before.machine)
+          (is-place w before script stands made.makes.call.instance_is made.makes.call.there)) ∙ made.makes.call.run
 
       shape-after : after.shape ≡ shape_of w
       shape-after = ap (λ (d : DriverState). d.shape) made.tick ∙ stands.shape
@@ -193,15 +212,22 @@ module _ (grow : ScriptsGrow) (runs : LawfulScriptsRun) (w : Driven) (before : D
         fields = fields-more (out_with j values) made.makes.call.left after.machine out-does made.makes.call.cells;
         now = ap (λ (d : DriverState). d.now) made.tick ∙ stands.now ∙ ap (λ n. n % w.hyper) (sym (updates-out script j values));
         tick = subst (λ t. HasDone after t) (sym (behind-more w nothing_yet script (out_with j values)))
-            (has-done w after (record { called = j ∷ (tick w before script stands).called; given = given_of ports values ++ (tick w before script stands).given }) shape-after called-after given-after
+            (has-done w after
+            (record {
+              called = j ∷ (tick w before script stands).called;
+              given = given_of ports values
+                  ++ (tick w before script stands).given;
+            }) shape-after called-after given-after
             (one-each w before script stands ins ports (taken-are w before script stands f) values each values_none));
       }
 
       out-tells : IsDrivable (program_of before) before.instance before.shape → Tells w script (out_with j values) out
       out-tells d xs run over =
           made.outputs
-          ∙ outputs-are w before script stands d after.machine after.instance made.makes.call.left.cells xs run j values out-program instance-after made.makes.call.cells
-          (left-has (call_at w (updates script) (out_with j values) (fields_of before.machine)) (λ a. HasOutputs w xs run (updates script) (out_with j values) a.cells) made.makes.call.left out-does
+          ∙ outputs-are w before script stands d after.machine after.instance made.makes.call.left.cells xs run j values
+          out-program instance-after made.makes.call.cells
+          (left-has (call_at w (updates script) (out_with j values) (fields_of before.machine))
+          (λ a. HasOutputs w xs run (updates script) (out_with j values) a.cells) made.makes.call.left out-does
           (answered w before script stands (out_with j values) xs run (lawful-more (out_with j values) follows) over))
 
   -- ---- The update
@@ -211,32 +237,42 @@ module _ (grow : ScriptsGrow) (runs : LawfulScriptsRun) (w : Driven) (before : D
     each-input = call ∙ ap (λ s. length (inputs_of s)) stands.shape
 
     update_none : values_fault before.given (all_inputs w) values ≡ None
-    update_none = ap (λ s. values_fault before.given (inputs_of s) values) (sym stands.shape) ∙ no-second (early_fault before.called) (values_fault before.given (inputs_of before.shape) values) none
+    update_none = ap (λ s. values_fault before.given (inputs_of s) values) (sym stands.shape)
+        ∙ no-second (early_fault before.called) (values_fault before.given (inputs_of before.shape) values) none
 
     update-follows : CanFollow w.diagram w.system (functions_of w) (tick w before script stands) (update_with values)
     update-follows = record {
       in_turn = all-called (tick w before script stands).called count
-          (ap early_fault (sym (called-is w before script stands)) ∙ no-first (early_fault before.called) (values_fault before.given (inputs_of before.shape) values) none);
-      in_types = in-types w before script stands (all_inputs w) (input_ports w.diagram.rows w.system) (all-are w before script stands) values each-input update_none;
-      alike = alike w before script stands (all_inputs w) (input_ports w.diagram.rows w.system) (all-are w before script stands) values each-input update_none;
+          (ap early_fault (sym (called-is w before script stands))
+          ∙ no-first (early_fault before.called) (values_fault before.given (inputs_of before.shape) values) none);
+      in_types =
+          in-types w before script stands (all_inputs w) (input_ports w.diagram.rows w.system)
+          (all-are w before script stands) values each-input update_none;
+      alike = alike w before script stands (all_inputs w) (input_ports w.diagram.rows w.system)
+          (all-are w before script stands) values each-input update_none;
     }
 
     update-not-stuck : (at : Stuck) (after : DriverState) → IsStuckIn (plan_of_update before) values at before after → ⊥
     update-not-stuck at after is =
         never-stuck (update_with values) at (fields_of after.machine) update-follows
-        (sym (call-is w before script stands (λ s. update_name s.name) is.stuck.instance_is values (fields_of before.machine) (is-place w before script stands is.stuck.instance_is is.stuck.there)) ∙ is.stuck.run)
+        (sym (call-is w before script stands (λ s. update_name s.name) is.stuck.instance_is values
+        (fields_of before.machine) (is-place w before script stands is.stuck.instance_is is.stuck.there))
+        ∙ is.stuck.run)
 
     module _ (cost : Cost) (after : DriverState) (made : IsUpdate values cost before after) where
       update-does : call_at w (updates script) (update_with values) (fields_of before.machine) ≡ done made.makes.call.left
       update-does =
-          sym (call-is w before script stands (λ s. update_name s.name) made.makes.call.instance_is values (fields_of before.machine) (is-place w before script stands made.makes.call.instance_is made.makes.call.there)) ∙ made.makes.call.run
+          sym (call-is w before script stands (λ s. update_name s.name) made.makes.call.instance_is values
+          (fields_of before.machine)
+          (is-place w before script stands made.makes.call.instance_is made.makes.call.there)) ∙ made.makes.call.run
 
       update-shape : after.shape ≡ shape_of w
       update-shape = ap (λ (d : DriverState). d.shape) made.tick ∙ stands.shape
 
       next-now : after.now ≡ updates (script ++ update_with values ∷ []) % w.hyper
       next-now =
-          ap (λ (d : DriverState). d.now) made.tick ∙ ap (λ (s : Shape). (before.now + 1) % s.hyper) stands.shape ∙ ap (λ n. (n + 1) % w.hyper) stands.now
+          ap (λ (d : DriverState). d.now) made.tick ∙ ap (λ (s : Shape). (before.now + 1) % s.hyper) stands.shape
+          ∙ ap (λ n. (n + 1) % w.hyper) stands.now
           ∙ mod-add-mod (updates script) w.hyper 1 ∙ ap (λ n. n % w.hyper) (sym (updates-update script values))
 
       update-stands : StandsFor w after (script ++ update_with values ∷ [])
@@ -248,7 +284,9 @@ module _ (grow : ScriptsGrow) (runs : LawfulScriptsRun) (w : Driven) (before : D
         fields = fields-more (update_with values) made.makes.call.left after.machine update-does made.makes.call.cells;
         now = next-now;
         tick = subst (λ t. HasDone after t) (sym (behind-more w nothing_yet script (update_with values)))
-            (subst (λ d. HasDone d nothing_yet) (sym made.tick) (nothing-done w after.machine before.instance before.shape ((before.now + 1) % before.shape.hyper) stands.shape));
+            (subst (λ d. HasDone d nothing_yet) (sym made.tick)
+            (nothing-done w after.machine before.instance before.shape
+            ((before.now + 1) % before.shape.hyper) stands.shape));
       }
 
 pub calls_go_on : ScriptsGrow → LawfulScriptsRun → CallsGoOn
@@ -260,10 +298,15 @@ calls_go_on grow runs = record {
         takes = takes-more grow runs w before script stands (out_with j values) made.makes.call.left cost
             (out-does grow runs w before script stands j values out call none cost after made) made.makes.call.cost_is;
         driven = λ xs run over. driven-over w before script stands (script ++ out_with j values ∷ []) xs run
-            (lawful-more grow runs w before script stands (out_with j values) (follows grow runs w before script stands j values out call none)) over;
-        runs = has-run grow runs w before script stands (out_with j values) (lawful-more grow runs w before script stands (out_with j values) (follows grow runs w before script stands j values out call none));
+            (lawful-more grow runs w before script stands (out_with j values)
+            (follows grow runs w before script stands j values out call none)) over;
+        runs = has-run grow runs w before script stands (out_with j values)
+            (lawful-more grow runs w before script stands (out_with j values)
+            (follows grow runs w before script stands j values out call none));
       };
-  not_stuck = λ w script j values out at before after stands d call none is. out-not-stuck grow runs w before script stands j values out call none at after is;
+  not_stuck =
+      λ w script j values out at before after stands d call none is.
+      out-not-stuck grow runs w before script stands j values out call none at after is;
 }
 
 pub updates_go_on : ScriptsGrow → LawfulScriptsRun → UpdatesGoOn
@@ -275,8 +318,13 @@ updates_go_on grow runs = record {
         takes = takes-more grow runs w before script stands (update_with values) made.makes.call.left cost
             (update-does grow runs w before script stands values call none cost after made) made.makes.call.cost_is;
         driven = λ xs run over. driven-over w before script stands (script ++ update_with values ∷ []) xs run
-            (lawful-more grow runs w before script stands (update_with values) (update-follows grow runs w before script stands values call none)) over;
-        runs = has-run grow runs w before script stands (update_with values) (lawful-more grow runs w before script stands (update_with values) (update-follows grow runs w before script stands values call none));
+            (lawful-more grow runs w before script stands (update_with values)
+            (update-follows grow runs w before script stands values call none)) over;
+        runs = has-run grow runs w before script stands (update_with values)
+            (lawful-more grow runs w before script stands (update_with values)
+            (update-follows grow runs w before script stands values call none));
       };
-  not_stuck = λ w script values at before after stands d call none is. update-not-stuck grow runs w before script stands values call none at after is;
+  not_stuck =
+      λ w script values at before after stands d call none is.
+      update-not-stuck grow runs w before script stands values call none at after is;
 }

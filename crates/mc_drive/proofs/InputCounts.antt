@@ -17,7 +17,8 @@ use Rattle.mc_drive.proofs.Answering.{taken_short}
 
 -- at each place of some plans the inputs are those that the function there takes
 abbrev pub TakeInputs : List Function → List Input → List CallPlan → Type 0
-TakeInputs fs ins plans = (k : ℕ) → k < length plans → (q : CallPlan) × (slice_get plans k ≡ Some q) × (q.inputs ≡ inputs_taken (slice_index_or fs k idle_function) ins)
+TakeInputs fs ins plans = (k : ℕ) → k < length plans →
+    (q : CallPlan) × (slice_get plans k ≡ Some q) × (q.inputs ≡ inputs_taken (slice_index_or fs k idle_function) ins)
 
 pub counts-same : (ins : List Input) (fs : List Function) (plans : List CallPlan) → length plans ≡ length fs → TakeInputs fs ins plans →
     map (λ (q : CallPlan). length q.inputs) plans ≡ map (λ f. length (inputs_taken f ins)) fs
@@ -86,7 +87,8 @@ few_inputs s is =
       numbered-length (length s.inputs) s.controls,
     )
 
-pub plans_take : (d : DriverState) (plans : List CallPlan) (update : CallPlan) (room : List ℤ) → IsDriver d plans update room → TakeInputs d.shape.functions (inputs_of d.shape) plans
+pub plans_take : (d : DriverState) (plans : List CallPlan) (update : CallPlan) (room : List ℤ) →
+    IsDriver d plans update room → TakeInputs d.shape.functions (inputs_of d.shape) plans
 plans_take d plans update room is = λ k less. (plan_of d (suc k), is.plans_are k less, refl)
 
 pub get-there : (plans : List CallPlan) (k : ℕ) (q other : CallPlan) → slice_get plans k ≡ Some q → slice_index_or plans k other ≡ q
@@ -99,4 +101,10 @@ pub few_taken : (d : DriverState) (plans : List CallPlan) (update : CallPlan) (r
 few_taken d plans update room is = λ k other less.
     let there = plans_take d plans update room is k less in
     let same = get-there plans k there.0 other there.1 in
-    omega (arith, ap (λ (q : CallPlan). length q.inputs) same, ap length there.2, taken_short (slice_index_or d.shape.functions k idle_function) (inputs_of d.shape), few_inputs d.shape is.drivable.shape)
+    omega (
+      arith,
+      ap (λ (q : CallPlan). length q.inputs) same,
+      ap length there.2,
+      taken_short (slice_index_or d.shape.functions k idle_function) (inputs_of d.shape),
+      few_inputs d.shape is.drivable.shape,
+    )

@@ -39,7 +39,8 @@ all-map P Q [] f h = tt
 all-map P Q (x ∷ xs) f h = (f x h.0, all-map P Q xs f h.1)
 
 -- each of the first with each of the second, and the other way round
-pub turned : {A B : Type 0} (R : A → B → Type 0) (xs : List A) (ys : List B) → AllByRecursion (λ x. AllByRecursion (R x) ys) xs → AllByRecursion (λ y. AllByRecursion (λ x. R x y) xs) ys
+pub turned : {A B : Type 0} (R : A → B → Type 0) (xs : List A) (ys : List B) →
+    AllByRecursion (λ x. AllByRecursion (R x) ys) xs → AllByRecursion (λ y. AllByRecursion (λ x. R x y) xs) ys
 turned {A} {B} R xs [] h = tt
 turned {A} {B} R xs (y ∷ ys) h = (
   all-map (λ x. AllByRecursion (R x) (y ∷ ys)) (λ x. R x y) xs (λ x each. each.0) h,
@@ -50,7 +51,8 @@ pub map-joined : {A B : Type 0} (f : A → B) (xs ys : List A) → map f (xs ++ 
 map-joined f [] ys = refl
 map-joined f (x ∷ xs) ys = ap (λ zs. f x ∷ zs) (map-joined f xs ys)
 
-pub get-mapped : {A B : Type 0} (f : A → B) (xs : List A) (k : ℕ) (x : A) (d : B) → slice_get xs k ≡ Some x → slice_index_or (map f xs) k d ≡ f x
+pub get-mapped : {A B : Type 0} (f : A → B) (xs : List A) (k : ℕ) (x : A) (d : B) → slice_get xs k ≡ Some x →
+    slice_index_or (map f xs) k d ≡ f x
 get-mapped f [] k x d at = absurd (cc)
 get-mapped f (y ∷ xs) zero x d at = let same : y ≡ x = cc in ap f same
 get-mapped f (y ∷ xs) (suc k) x d at = get-mapped f xs k x d at
@@ -83,13 +85,17 @@ replicated v (x ∷ xs) (suc n) e = ap (λ ys. v ∷ ys) (replicated v xs n (ome
 
 -- of numbered elements those whose numbers pass, under a function
 pub kept-mapped : {A B : Type 0} (f : A → B) (p : ℕ → Bool) (n : ℕ) (xs : List A) →
-    map (λ (e : ℕ × B). e.1) (filter (λ (e : ℕ × B). p e.0) (enumerate_from n (map f xs))) ≡ map f (map (λ (e : ℕ × A). e.1) (filter (λ (e : ℕ × A). p e.0) (enumerate_from n xs)))
+    map (λ (e : ℕ × B). e.1) (filter (λ (e : ℕ × B). p e.0) (enumerate_from n (map f xs)))
+    ≡ map f (map (λ (e : ℕ × A). e.1) (filter (λ (e : ℕ × A). p e.0) (enumerate_from n xs)))
 kept-mapped f p n [] = refl
 kept-mapped {A} {B} f p n (x ∷ xs) = by (p n) (kept-mapped f p (n + 1) xs)
   where
-    by : (b : Bool) → map (λ (e : ℕ × B). e.1) (filter (λ (e : ℕ × B). p e.0) (enumerate_from (n + 1) (map f xs))) ≡ map f (map (λ (e : ℕ × A). e.1) (filter (λ (e : ℕ × A). p e.0) (enumerate_from (n + 1) xs))) →
-        map (λ (e : ℕ × B). e.1) (cond b ((n, f x) ∷ filter (λ (e : ℕ × B). p e.0) (enumerate_from (n + 1) (map f xs))) (filter (λ (e : ℕ × B). p e.0) (enumerate_from (n + 1) (map f xs))))
-        ≡ map f (map (λ (e : ℕ × A). e.1) (cond b ((n, x) ∷ filter (λ (e : ℕ × A). p e.0) (enumerate_from (n + 1) xs)) (filter (λ (e : ℕ × A). p e.0) (enumerate_from (n + 1) xs))))
+    by : (b : Bool) → map (λ (e : ℕ × B). e.1) (filter (λ (e : ℕ × B). p e.0) (enumerate_from (n + 1) (map f xs)))
+        ≡ map f (map (λ (e : ℕ × A). e.1) (filter (λ (e : ℕ × A). p e.0) (enumerate_from (n + 1) xs))) →
+        map (λ (e : ℕ × B). e.1) (cond b ((n, f x) ∷ filter (λ (e : ℕ × B). p e.0) (enumerate_from (n + 1) (map f xs)))
+        (filter (λ (e : ℕ × B). p e.0) (enumerate_from (n + 1) (map f xs))))
+        ≡ map f (map (λ (e : ℕ × A). e.1) (cond b ((n, x) ∷ filter (λ (e : ℕ × A). p e.0) (enumerate_from (n + 1) xs))
+        (filter (λ (e : ℕ × A). p e.0) (enumerate_from (n + 1) xs))))
     by true h = ap (λ ys. f x ∷ ys) h
     by false h = h
 
@@ -100,6 +106,8 @@ all-numbered P p n [] h = tt
 all-numbered {A} P p n (x ∷ xs) h = by (p n) (all-numbered P p (n + 1) xs h.1)
   where
     by : (b : Bool) → AllByRecursion P (map (λ (e : ℕ × A). e.1) (filter (λ (e : ℕ × A). p e.0) (enumerate_from (n + 1) xs))) →
-        AllByRecursion P (map (λ (e : ℕ × A). e.1) (cond b ((n, x) ∷ filter (λ (e : ℕ × A). p e.0) (enumerate_from (n + 1) xs)) (filter (λ (e : ℕ × A). p e.0) (enumerate_from (n + 1) xs))))
+        AllByRecursion P
+        (map (λ (e : ℕ × A). e.1) (cond b ((n, x) ∷ filter (λ (e : ℕ × A). p e.0) (enumerate_from (n + 1) xs))
+        (filter (λ (e : ℕ × A). p e.0) (enumerate_from (n + 1) xs))))
     by true rest = (h.0, rest)
     by false rest = rest

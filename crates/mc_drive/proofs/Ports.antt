@@ -58,7 +58,9 @@ length-numbers n (t ∷ types) = ap suc (length-numbers (n + 1) types)
 
 placed-inputs : (s : Shape) → ArePlaced 0 (inputs_of s)
 placed-inputs s =
-    placed-joined 0 (length s.inputs) (numbered_inputs s.inputs) (control_inputs (length s.inputs) s.controls) (omega (arith, length-numbers 0 s.inputs)) (placed-numbers 0 s.inputs) (placed-controls (length s.inputs) s.controls)
+    placed-joined 0 (length s.inputs) (numbered_inputs s.inputs) (control_inputs (length s.inputs) s.controls)
+    (omega (arith, length-numbers 0 s.inputs)) (placed-numbers 0 s.inputs)
+    (placed-controls (length s.inputs) s.controls)
 
 get-at : {A : Type 0} (before : List A) (x : A) (after : List A) (k : ℕ) → k ≡ length before → slice_get (before ++ x ∷ after) k ≡ Some x
 get-at [] x after zero e = refl
@@ -74,7 +76,9 @@ there-behind before [] h = tt
 there-behind before (i ∷ all) h = (
   get-at before i all i.place h.0,
   subst (λ whole. AreIn whole all) (append_assoc before (i ∷ []) all)
-      (there-behind (before ++ i ∷ []) all (subst (λ n. ArePlaced n all) (let e : length before + 1 ≡ length (before ++ i ∷ []) = omega (arith, length-append before (i ∷ [])) in e) h.1)),
+      (there-behind (before ++ i ∷ []) all
+      (subst (λ n. ArePlaced n all) (let e : length before + 1
+      ≡ length (before ++ i ∷ []) = omega (arith, length-append before (i ∷ [])) in e) h.1)),
 )
 
 -- each input of a shape stands at its place
@@ -91,7 +95,8 @@ abbrev pub AreApart : List Input → Type 0
 AreApart [] = ⊤
 AreApart (i ∷ is) = AllByRecursion (AreOther i) is × AreApart is
 
-apart-numbers-from : (a b : ℕ) (t : FixType) (types : List FixType) → a < b → AllByRecursion (AreOther (numbered_input (a, t))) (map numbered_input (enumerate_from b types))
+apart-numbers-from : (a b : ℕ) (t : FixType) (types : List FixType) → a < b →
+    AllByRecursion (AreOther (numbered_input (a, t))) (map numbered_input (enumerate_from b types))
 apart-numbers-from a b t [] less = tt
 apart-numbers-from a b t (u ∷ types) less = (
   record { there = ne_eqb (a + 1) (b + 1) (λ e. omega (arith, e, less)); back = ne_eqb (b + 1) (a + 1) (λ e. omega (arith, e, less)) },
@@ -102,7 +107,8 @@ apart-numbers : (n : ℕ) (types : List FixType) → AreApart (map numbered_inpu
 apart-numbers n [] = tt
 apart-numbers n (t ∷ types) = (apart-numbers-from n (n + 1) t types (omega arith), apart-numbers (n + 1) types)
 
-apart-joined : (xs ys : List Input) → AreApart xs → AreApart ys → AllByRecursion (λ x. AllByRecursion (AreOther x) ys) xs → AreApart (xs ++ ys)
+apart-joined : (xs ys : List Input) → AreApart xs → AreApart ys →
+    AllByRecursion (λ x. AllByRecursion (AreOther x) ys) xs → AreApart (xs ++ ys)
 apart-joined [] ys h k each = k
 apart-joined (x ∷ xs) ys h k each = (all-joined (AreOther x) xs ys h.0 each.0, apart-joined xs ys h.1 k each.1)
 
@@ -129,34 +135,48 @@ module _ (T : Port → FixType) where
 
   pub apart-all : (types : List FixType) (n : ℕ) (control : Control) → AreApart (numbered_inputs types ++ controls_from n control)
   apart-all types n control =
-      apart-joined (numbered_inputs types) (controls_from n control) (apart-numbers 0 types) (apart-controls n control) (numbers-controls 0 types n control)
+      apart-joined (numbered_inputs types) (controls_from n control) (apart-numbers 0 types) (apart-controls n control)
+      (numbers-controls 0 types n control)
 
   -- ---- Ports and types
 
-  number-ports : (a n : ℕ) → map (λ (i : Input). i.port) (map numbered_input (enumerate_from a (map (λ k. T (Number k)) (range_with_len (a + 1) n)))) ≡ map Number (range_with_len (a + 1) n)
+  number-ports : (a n : ℕ) →
+      map (λ (i : Input). i.port)
+      (map numbered_input (enumerate_from a (map (λ k. T (Number k)) (range_with_len (a + 1) n))))
+      ≡ map Number (range_with_len (a + 1) n)
   number-ports a zero = refl
   number-ports a (suc n) = ap (λ ps. Number (a + 1) ∷ ps) (number-ports (a + 1) n)
 
-  control-ports : (a : ℕ) (ps : List Port) → map (λ (i : Input). i.port) (map control_input (enumerate_from a (map (λ p. (p, T p)) ps))) ≡ ps
+  control-ports : (a : ℕ) (ps : List Port) →
+      map (λ (i : Input). i.port) (map control_input (enumerate_from a (map (λ p. (p, T p)) ps))) ≡ ps
   control-ports a [] = refl
   control-ports a (p ∷ ps) = ap (λ qs. p ∷ qs) (control-ports (a + 1) ps)
 
-  number-types : (a n : ℕ) → AllByRecursion (λ (i : Input). i.of ≡ T i.port) (map numbered_input (enumerate_from a (map (λ k. T (Number k)) (range_with_len (a + 1) n))))
+  number-types : (a n : ℕ) →
+      AllByRecursion (λ (i : Input). i.of ≡ T i.port)
+      (map numbered_input (enumerate_from a (map (λ k. T (Number k)) (range_with_len (a + 1) n))))
   number-types a zero = tt
   number-types a (suc n) = (refl, number-types (a + 1) n)
 
-  control-types : (a : ℕ) (ps : List Port) → AllByRecursion (λ (i : Input). i.of ≡ T i.port) (map control_input (enumerate_from a (map (λ p. (p, T p)) ps)))
+  control-types : (a : ℕ) (ps : List Port) →
+      AllByRecursion (λ (i : Input). i.of ≡ T i.port) (map control_input (enumerate_from a (map (λ p. (p, T p)) ps)))
   control-types a [] = tt
   control-types a (p ∷ ps) = (refl, control-types (a + 1) ps)
 
-  pub all-ports : (n m : ℕ) (control : Control) → map (λ (i : Input). i.port) (numbered_inputs (map (λ k. T (Number k)) (range_with_len 1 n)) ++ controls_from m control) ≡ map Number (range_with_len 1 n) ++ control_ports control
+  pub all-ports : (n m : ℕ) (control : Control) →
+      map (λ (i : Input). i.port) (numbered_inputs (map (λ k. T (Number k)) (range_with_len 1 n))
+      ++ controls_from m control) ≡ map Number (range_with_len 1 n) ++ control_ports control
   all-ports n m control =
       map-joined (λ (i : Input). i.port) (numbered_inputs (map (λ k. T (Number k)) (range_with_len 1 n))) (controls_from m control)
-      ∙ ap (λ ps. ps ++ map (λ (i : Input). i.port) (controls_from m control)) (number-ports 0 n) ∙ ap (λ ps. map Number (range_with_len 1 n) ++ ps) (control-ports m (control_ports control))
+      ∙ ap (λ ps. ps ++ map (λ (i : Input). i.port) (controls_from m control)) (number-ports 0 n)
+      ∙ ap (λ ps. map Number (range_with_len 1 n) ++ ps) (control-ports m (control_ports control))
 
-  pub all-types : (n m : ℕ) (control : Control) → AllByRecursion (λ (i : Input). i.of ≡ T i.port) (numbered_inputs (map (λ k. T (Number k)) (range_with_len 1 n)) ++ controls_from m control)
+  pub all-types : (n m : ℕ) (control : Control) →
+      AllByRecursion (λ (i : Input). i.of ≡ T i.port) (numbered_inputs (map (λ k. T (Number k)) (range_with_len 1 n))
+      ++ controls_from m control)
   all-types n m control =
-      all-joined (λ (i : Input). i.of ≡ T i.port) (numbered_inputs (map (λ k. T (Number k)) (range_with_len 1 n))) (controls_from m control) (number-types 0 n) (control-types m (control_ports control))
+      all-joined (λ (i : Input). i.of ≡ T i.port) (numbered_inputs (map (λ k. T (Number k)) (range_with_len 1 n)))
+      (controls_from m control) (number-types 0 n) (control-types m (control_ports control))
 
 -- ---- Of the shape of a system
 
@@ -166,11 +186,15 @@ module _ (w : Driven) where
 
   pub ports-are : map (λ (i : Input). i.port) all_inputs ≡ input_ports w.diagram.rows w.system
   ports-are =
-      all-ports (input_type_of w.diagram w.system) (length (inports_of w.diagram.rows w.system)) (length (shape_of w).inputs) (system_control w.diagram.rows w.system)
+      all-ports (input_type_of w.diagram w.system) (length (inports_of w.diagram.rows w.system))
+      (length (shape_of w).inputs) (system_control w.diagram.rows w.system)
 
   pub types-are : AllByRecursion (λ (i : Input). i.of ≡ input_type_of w.diagram w.system i.port) all_inputs
   types-are =
-      all-types (input_type_of w.diagram w.system) (length (inports_of w.diagram.rows w.system)) (length (shape_of w).inputs) (system_control w.diagram.rows w.system)
+      all-types (input_type_of w.diagram w.system) (length (inports_of w.diagram.rows w.system))
+      (length (shape_of w).inputs) (system_control w.diagram.rows w.system)
 
   pub inputs-apart : AreApart all_inputs
-  inputs-apart = apart-all (input_type_of w.diagram w.system) (shape_of w).inputs (length (shape_of w).inputs) (system_control w.diagram.rows w.system)
+  inputs-apart =
+      apart-all (input_type_of w.diagram w.system) (shape_of w).inputs (length (shape_of w).inputs)
+      (system_control w.diagram.rows w.system)

@@ -42,12 +42,16 @@ abbrev pub arguments : DriverState → List ℤ → List ℤ
 arguments d values = pos d.now ∷ values
 
 -- the machine made a call, which took this
-pub record Makes (plan : CallPlan) (values : List ℤ) (cost : Cost) (before after : DriverState) : Type 0 where
-  pub call : IsCall before.machine after.machine plan.procedure before.instance (arguments before values) cost
+pub record Makes (plan : CallPlan) (values : List ℤ) (cost : Cost)
+    (before after : DriverState) : Type 0 where
+  pub call : IsCall before.machine after.machine plan.procedure before.instance
+      (arguments before values) cost
   pub program : after.machine.program ≡ before.machine.program
 
--- a call of function j was made: the outputs that it gives are told, and the tick had it and its values
-pub record IsCallOf (j : ℕ) (values out : List ℤ) (cost : Cost) (before after : DriverState) : Type 0 where
+-- a call of function j was made: the outputs that it gives are told, and the tick had it and its
+-- values
+pub record IsCallOf (j : ℕ) (values out : List ℤ) (cost : Cost)
+    (before after : DriverState) : Type 0 where
   pub makes : Makes (plan_of before j) values cost before after
   pub outputs : out ≡ numbers_of after (function_outputs before.shape j)
   pub tick : after ≡ record before {
@@ -59,11 +63,14 @@ pub record IsCallOf (j : ℕ) (values out : List ℤ) (cost : Cost) (before afte
 -- the update was made, and the next tick begins
 pub record IsUpdate (values : List ℤ) (cost : Cost) (before after : DriverState) : Type 0 where
   pub makes : Makes (plan_of_update before) values cost before after
-  pub tick : after ≡ at_start after.machine before.instance before.shape ((before.now + 1) % before.shape.hyper)
+  pub tick : after
+      ≡ at_start after.machine before.instance before.shape ((before.now + 1) % before.shape.hyper)
 
 -- the machine is stuck in a call, and nothing else changed
-pub record IsStuckIn (plan : CallPlan) (values : List ℤ) (at : Stuck) (before after : DriverState) : Type 0 where
-  pub stuck : IsStuckCall before.machine after.machine plan.procedure before.instance (arguments before values) at
+pub record IsStuckIn (plan : CallPlan) (values : List ℤ) (at : Stuck)
+    (before after : DriverState) : Type 0 where
+  pub stuck : IsStuckCall before.machine after.machine plan.procedure before.instance
+      (arguments before values) at
   pub program : after.machine.program ≡ before.machine.program
   pub tick : after ≡ record before { machine = after.machine }
 

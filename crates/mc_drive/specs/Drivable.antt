@@ -21,9 +21,10 @@ use Rattle.mc_drive.specs.Shapes.{Shape, inputs_of, function_inputs, function_na
 abbrev pub IsWide : CType → FixType → Type 0
 IsWide wide t = (v : ℤ) → InType t v → is_in_type wide v ≡ true
 
--- a procedure of the struct at a position, whose first parameter is an int32_t, and whose others are each wide enough
--- for one of these inputs
-pub record HasProcedure (p : ProgramTree) (structure : ℕ) (name : List ℕ) (inputs : List Input) : Type 0 where
+-- a procedure of the struct at a position, whose first parameter is an int32_t, and whose others
+-- are each wide enough for one of these inputs
+pub record HasProcedure (p : ProgramTree) (structure : ℕ) (name : List ℕ)
+    (inputs : List Input) : Type 0 where
   pub position : ℕ
   pub named : procedure_named p name ≡ Some position
   pub procedure : ProcedureTree
@@ -71,7 +72,8 @@ pub record IsShape (s : Shape) : Type 0 where
   pub some_ticks : 1 ≤ s.hyper
   pub few_ticks : s.hyper ≤ 2 ^ 30
 
--- There is such an instance, and its struct has the procedures and the outputs' fields that the shape names.
+-- There is such an instance, and its struct has the procedures and the outputs' fields that the
+-- shape names.
 pub record IsDrivable (p : ProgramTree) (instance : ℕ) (s : Shape) : Type 0 where
   pub shape : IsShape s
   pub instance_is : StructInstance

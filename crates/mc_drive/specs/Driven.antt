@@ -57,8 +57,12 @@ abbrev pub shape_of : Driven → Shape
 shape_of w = record {
   name = system_name w.system;
   functions = functions_of w;
-  inputs = map (λ k. input_type_of w.diagram w.system (Number k)) (range_with_len 1 (length (inports_of w.diagram.rows w.system)));
-  controls = map (λ p. (p, input_type_of w.diagram w.system p)) (control_ports (system_control w.diagram.rows w.system));
+  inputs =
+      map (λ k. input_type_of w.diagram w.system (Number k))
+      (range_with_len 1 (length (inports_of w.diagram.rows w.system)));
+  controls =
+      map (λ p. (p, input_type_of w.diagram w.system p))
+      (control_ports (system_control w.diagram.rows w.system));
   outputs = map value_name (outports_of w.diagram.rows w.system);
   hyper = w.hyper;
 }
@@ -82,9 +86,11 @@ call_at w t (update_with values) cells =
 abbrev pub LeavesFields : Driven → ℕ → Cells → List Call → Cells → Type 0
 LeavesFields w t cells [] end = end ≡ cells
 LeavesFields w t cells (out_with j values ∷ cs) end =
-    OnDone (call_in_tick w.program w.diagram w.hyper w.system t (out_name w.system j) values cells) (λ a. LeavesFields w t a.cells cs end)
+    OnDone (call_in_tick w.program w.diagram w.hyper w.system t (out_name w.system j) values cells)
+    (λ a. LeavesFields w t a.cells cs end)
 LeavesFields w t cells (update_with values ∷ cs) end =
-    OnDone (call_in_tick w.program w.diagram w.hyper w.system t (update_name w.system) values cells) (λ a. LeavesFields w (suc t) a.cells cs end)
+    OnDone (call_in_tick w.program w.diagram w.hyper w.system t (update_name w.system) values cells)
+    (λ a. LeavesFields w (suc t) a.cells cs end)
 
 -- ---- The present tick
 
@@ -110,7 +116,8 @@ functions_called count called = map (λ j. list_any (λ i. i == j) called) (rang
 abbrev pub values_given : List Input → List Given → List (Option ℤ)
 values_given inputs given = map (λ i. value_given given i.port) inputs
 
--- a driver has done in its tick what a script did behind its last update, where each input has one value
+-- a driver has done in its tick what a script did behind its last update, where each input has one
+-- value
 pub record HasDone (d : DriverState) (tick : TickSoFar) : Type 0 where
   pub called : d.called ≡ functions_called (length d.shape.functions) tick.called
   pub given : d.given ≡ values_given (inputs_of d.shape) tick.given
@@ -122,23 +129,35 @@ pub record HasDone (d : DriverState) (tick : TickSoFar) : Type 0 where
 pub record StandsFor (w : Driven) (d : DriverState) (script : List Call) : Type 0 where
   pub program : program_of d ≡ w.program
   pub shape : d.shape ≡ shape_of w
-  pub instance : instance_at w.program d.instance ≡ Some (record { path = path_to w.program w.diagram.rows w.system; struct = struct_place w.program w.system })
+  pub instance : instance_at w.program d.instance
+      ≡ Some (record {
+        path = path_to w.program w.diagram.rows w.system;
+        struct = struct_place w.program w.system;
+      })
   pub lawful : IsLawfulScript w.diagram w.system (functions_of w) script
-  pub fields : OnDone (start_run w.program) (λ started. LeavesFields w 0 started.cells script (fields_of d.machine))
+  pub fields : OnDone (start_run w.program)
+      (λ started. LeavesFields w 0 started.cells script (fields_of d.machine))
   pub now : d.now ≡ updates script % w.hyper
   pub tick : HasDone d (tick_behind w.diagram w.system (functions_of w) nothing_yet script)
 
--- what a driver is made of, where it is to stand for the empty script: a machine as `root_start` left it
-pub record IsReadyFor (w : Driven) (machine : MachineState) (instance : ℕ) (shape : Shape) : Type 0 where
+-- what a driver is made of, where it is to stand for the empty script: a machine as `root_start`
+-- left it
+pub record IsReadyFor (w : Driven) (machine : MachineState) (instance : ℕ)
+    (shape : Shape) : Type 0 where
   pub started : IsStarted machine.program machine
   pub program : tree_of machine ≡ w.program
   pub shape_is : shape ≡ shape_of w
-  pub instance_is : instance_at w.program instance ≡ Some (record { path = path_to w.program w.diagram.rows w.system; struct = struct_place w.program w.system })
+  pub instance_is : instance_at w.program instance
+      ≡ Some (record {
+        path = path_to w.program w.diagram.rows w.system;
+        struct = struct_place w.program w.system;
+      })
 
 -- ---- Answers
 
 -- a run of the system over a trace that fits a script
-pub record RunsOver (w : Driven) (script : List Call) (xs : List (List ℤ)) (run : Run) : Type 0 where
+pub record RunsOver (w : Driven) (script : List Call) (xs : List (List ℤ))
+    (run : Run) : Type 0 where
   pub is_trace : IsTrace w.diagram w.system xs
   pub fits : Fits w.diagram w.system (functions_of w) xs script
   pub is_run : IsRunOver w.diagram w.system xs run
@@ -152,19 +171,25 @@ pub record HasRun (w : Driven) (script : List Call) : Type 0 where
 -- the outputs of function j in tick t of a run
 abbrev pub outputs_in : Driven → Run → ℕ → ℕ → List ℤ
 outputs_in w run t j =
-    map (value_at (slice_index_or run.values t [])) (given_by_function (numbered_function (functions_of w) j) (outports_of w.diagram.rows w.system))
+    map (value_at (slice_index_or run.values t []))
+    (given_by_function (numbered_function (functions_of w) j)
+    (outports_of w.diagram.rows w.system))
 
--- Over a run of the system, the calls of a script are answered from `root_start` on: none is stuck, each `out` leaves the run's
--- values in the fields of its outputs, and in each completed tick the systems inside have their calls.
+-- Over a run of the system, the calls of a script are answered from `root_start` on: none is stuck,
+-- each `out` leaves the run's values in the fields of its outputs, and in each completed tick the
+-- systems inside have their calls.
 abbrev pub IsDrivenOver : Driven → List Call → List (List ℤ) → Run → Type 0
 IsDrivenOver w script xs run =
     OnDone (start_run w.program)
-    (λ started. DrivenFrom w.program w.diagram w.hyper w.system (functions_of w) xs run 0 started.cells [] [] script)
+    (λ started. DrivenFrom w.program w.diagram w.hyper w.system
+    (functions_of w) xs run 0 started.cells [] [] script)
 
--- what a call told is what the system gives over every trace that fits a script; an update tells nothing
+-- what a call told is what the system gives over every trace that fits a script; an update tells
+-- nothing
 abbrev pub Tells : Driven → List Call → Call → List ℤ → Type 0
 Tells w script (out_with j values) out =
-    (xs : List (List ℤ)) (run : Run) → RunsOver w (script ++ out_with j values ∷ []) xs run → out ≡ outputs_in w run (updates script) j
+    (xs : List (List ℤ)) (run : Run) → RunsOver w (script ++ out_with j values ∷ []) xs run →
+    out ≡ outputs_in w run (updates script) j
 Tells w script (update_with values) out = ⊤
 
 -- a call behind a script took this, from the fields that the calls of the script leave
@@ -173,16 +198,19 @@ pub record TakesBehind (w : Driven) (script : List Call) (c : Call) (cost : Cost
   pub leaves : OnDone (start_run w.program) (λ started. LeavesFields w 0 started.cells script cells)
   pub takes : OnDone (call_at w (updates script) c cells) (λ left. cost ≡ cost_of left)
 
--- a call went on a script: the driver stands for it with the call, what it told and took is right, and the calls so far are
--- answered over each run
-pub record GoesOn (w : Driven) (script : List Call) (c : Call) (out : List ℤ) (cost : Cost) (after : DriverState) : Type 0 where
+-- a call went on a script: the driver stands for it with the call, what it told and took is right,
+-- and the calls so far are answered over each run
+pub record GoesOn (w : Driven) (script : List Call) (c : Call) (out : List ℤ) (cost : Cost)
+    (after : DriverState) : Type 0 where
   pub stands : StandsFor w after (script ++ c ∷ [])
   pub tells : Tells w script c out
   pub takes : TakesBehind w script c cost
-  pub driven : (xs : List (List ℤ)) (run : Run) → RunsOver w (script ++ c ∷ []) xs run → IsDrivenOver w (script ++ c ∷ []) xs run
+  pub driven : (xs : List (List ℤ)) (run : Run) → RunsOver w (script ++ c ∷ []) xs run →
+      IsDrivenOver w (script ++ c ∷ []) xs run
   pub runs : HasRun w (script ++ c ∷ [])
 
--- after a refusal the driver stands for the same scripts, and where it stands for one it is never stuck
+-- after a refusal the driver stands for the same scripts, and where it stands for one it is never
+-- stuck
 abbrev pub StandsAfter : Driven → List Call → DriveFault → DriverState → Type 0
 StandsAfter w script (fault.Twice function) after = StandsFor w after script
 StandsAfter w script (fault.Early missing) after = StandsFor w after script
@@ -190,11 +218,14 @@ StandsAfter w script (fault.Value input) after = StandsFor w after script
 StandsAfter w script (fault.Unlike input first second) after = StandsFor w after script
 StandsAfter w script (fault.Stuck at) after = ⊥
 
-abbrev pub AnswersFor : Driven → List Call → Call → List ℤ → DriverState → Result Cost DriveFault → Type 0
+abbrev pub AnswersFor : Driven → List Call → Call → List ℤ → DriverState → Result Cost DriveFault →
+    Type 0
 AnswersFor w script c out after (Ok cost) = GoesOn w script c out cost after
 AnswersFor w script c out after (Err why) = StandsAfter w script why after
 
 -- whatever scripts a driver stood for, it answers a call right
-abbrev pub AnswersRight : DriverState → Call → List ℤ → DriverState → Result Cost DriveFault → Type 0
+abbrev pub AnswersRight : DriverState → Call → List ℤ → DriverState → Result Cost DriveFault →
+    Type 0
 AnswersRight before c out after result =
-    (w : Driven) (script : List Call) → StandsFor w before script → AnswersFor w script c out after result
+    (w : Driven) (script : List Call) → StandsFor w before script →
+    AnswersFor w script c out after result

@@ -30,15 +30,18 @@ value_fault e = if is_of_type e.0.of e.1 then None else Some (Value e.0.port)
 -- a value where the tick has another for the same input
 abbrev pub fault_beside : Input → Option ℤ → ℤ → Option DriveFault
 fault_beside i None value = None
-fault_beside i (Some first) value = if int_eq first value then None else Some (Unlike i.port first value)
+fault_beside i (Some first) value =
+    if int_eq first value then None else Some (Unlike i.port first value)
 
 abbrev pub unlike_fault : List (Option ℤ) → Input × ℤ → Option DriveFault
 unlike_fault given e = fault_beside e.0 (slice_index_or given e.0.place None) e.1
 
--- values for these inputs, where the tick has those: first whether each is in its type, then whether each is like
+-- values for these inputs, where the tick has those: first whether each is in its type, then
+-- whether each is like
 abbrev pub values_fault : List (Option ℤ) → List Input → List ℤ → Option DriveFault
 values_fault given inputs values =
-    option_or (first_fault value_fault (zip inputs values)) (first_fault (unlike_fault given) (zip inputs values))
+    option_or (first_fault value_fault (zip inputs values))
+    (first_fault (unlike_fault given) (zip inputs values))
 
 -- ---- Turns
 
@@ -62,11 +65,13 @@ early_fault called = if missing called == 0 then None else Some (Early (missing 
 
 -- why a call of function j with these values is refused, if it is
 abbrev pub call_fault : DriverState → ℕ → List ℤ → Option DriveFault
-call_fault d j values = option_or (twice_fault d.called j) (values_fault d.given (function_inputs d.shape j) values)
+call_fault d j values =
+    option_or (twice_fault d.called j) (values_fault d.given (function_inputs d.shape j) values)
 
 -- why the update is
 abbrev pub update_fault : DriverState → List ℤ → Option DriveFault
-update_fault d values = option_or (early_fault d.called) (values_fault d.given (inputs_of d.shape) values)
+update_fault d values =
+    option_or (early_fault d.called) (values_fault d.given (inputs_of d.shape) values)
 
 -- the fault of an answer, but for a machine that is stuck
 abbrev pub fault_unless_stuck : DriveFault → Option DriveFault

@@ -11,8 +11,8 @@ use Rattle.c_syntax.specs.Tree.{ProgramTree}
 use Rattle.c_shape.specs.Programs.{procedure_place}
 use Rattle.mc_drive.specs.declared.inputs.Input.{Input}
 
--- A system by its name, its functions, the types of its inputs by number and of its controls, the names of its outputs'
--- fields by port, and how many ticks its cycle has.
+-- A system by its name, its functions, the types of its inputs by number and of its controls, the
+-- names of its outputs' fields by port, and how many ticks its cycle has.
 pub record Shape : Type 0 where
   pub name : List ℕ
   pub functions : List Function
@@ -53,7 +53,8 @@ function_inputs s j = inputs_taken (numbered_function s.functions j) (inputs_of 
 
 -- of the names of all outputs by port, those that a function gives
 abbrev pub outputs_given : Function → List (List ℕ) → List (List ℕ)
-outputs_given f names = map (λ e. e.1) (filter (λ e. has_bit f.outputs e.0) (enumerate_from 0 names))
+outputs_given f names =
+    map (λ e. e.1) (filter (λ e. has_bit f.outputs e.0) (enumerate_from 0 names))
 
 -- those of function j
 abbrev pub function_outputs : Shape → ℕ → List (List ℕ)
@@ -83,4 +84,9 @@ function_plan p s j = record {
 }
 
 abbrev pub update_plan : ProgramTree → Shape → CallPlan
-update_plan p s = record { procedure = procedure_place p (update_name s.name); inputs = inputs_of s; outputs = [] }
+update_plan p s =
+    record {
+      procedure = procedure_place p (update_name s.name);
+      inputs = inputs_of s;
+      outputs = [];
+    }

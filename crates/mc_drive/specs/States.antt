@@ -6,8 +6,8 @@ use Rattle.c_meaning.specs.States.{MachineState, tree_of, fields_of}
 use Rattle.mc_drive.specs.Shapes.{Shape, CallPlan, inputs_of, function_plan, update_plan}
 use Rattle.mc_drive.specs.Drivable.{IsDrivable}
 
--- `now` is the tick modulo the cycle; `called` says of each function whether this tick had a call of it, and `given`
--- has for each input the value that this tick was given, if it was
+-- `now` is the tick modulo the cycle; `called` says of each function whether this tick had a call
+-- of it, and `given` has for each input the value that this tick was given, if it was
 pub record DriverState : Type 0 where
   pub machine : MachineState
   pub instance : ℕ
@@ -23,7 +23,9 @@ program_of d = tree_of d.machine
 -- the number in a number field of an instance, by its name; 0 where there is none
 abbrev pub number_of : MachineState → ℕ → List ℕ → ℤ
 number_of m instance name =
-    unwrap_or (option_and_then (number_named (tree_of m) (fields_of m) name) (instance_at (tree_of m) instance)) (pos 0)
+    unwrap_or
+    (option_and_then (number_named (tree_of m) (fields_of m) name)
+    (instance_at (tree_of m) instance)) (pos 0)
 
 -- the numbers in number fields of the instance that is driven
 abbrev pub numbers_of : DriverState → List (List ℕ) → List ℤ
@@ -36,8 +38,10 @@ plan_of d j = function_plan (program_of d) d.shape j
 abbrev pub plan_of_update : DriverState → CallPlan
 plan_of_update d = update_plan (program_of d) d.shape
 
--- what a driver keeps beside what is seen of it: the plans of its calls, and room for their arguments
-pub record IsDriver (d : DriverState) (plans : List CallPlan) (update : CallPlan) (arguments : List ℤ) : Type 0 where
+-- what a driver keeps beside what is seen of it: the plans of its calls, and room for their
+-- arguments
+pub record IsDriver (d : DriverState) (plans : List CallPlan) (update : CallPlan)
+    (arguments : List ℤ) : Type 0 where
   pub drivable : IsDrivable (program_of d) d.instance d.shape
   pub plan_each : length plans ≡ length d.shape.functions
   pub plans_are : (k : ℕ) → k < length plans → slice_get plans k ≡ Some (plan_of d (suc k))

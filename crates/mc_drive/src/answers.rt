@@ -32,7 +32,8 @@ impl Driver {
     ) -> Result<Driver, Memory>
         requires { IsDrivable (tree_of machine) instance shape }
         ensures fresh { IfOk result (λ d. d ≡ at_start machine instance shape 0) }
-        ensures stands { IfOk result (λ d. (w : Driven) → IsReadyFor w machine instance shape → StandsFor w d []) }
+        ensures stands { IfOk result (λ d. (w : Driven) → IsReadyFor w machine instance shape →
+            StandsFor w d []) }
     {
         new_drivers_stand();
         match Driver::made(alloc, machine, instance, shape) {
@@ -59,7 +60,8 @@ impl Driver {
         requires { IsCallFor self.old function values.now out.old }
         ensures refused { refusal_of result ≡ call_fault self.old function values.now }
         ensures made { IfOk result (λ cost. IsCallOf function values.now out.new cost self.old self.new) }
-        ensures left { IfErr result (λ why. Leaves why (plan_of self.old function) values.now self.old self.new) }
+        ensures left { IfErr result
+            (λ why. Leaves why (plan_of self.old function) values.now self.old self.new) }
         ensures stands { AnswersRight self.old (out_with function values.now) out.new self.new result }
     {
         calls_go_on();
@@ -83,7 +85,8 @@ impl Driver {
         requires { IsUpdateFor self.old values.now }
         ensures refused { refusal_of result ≡ update_fault self.old values.now }
         ensures made { IfOk result (λ cost. IsUpdate values.now cost self.old self.new) }
-        ensures left { IfErr result (λ why. Leaves why (plan_of_update self.old) values.now self.old self.new) }
+        ensures left { IfErr result
+            (λ why. Leaves why (plan_of_update self.old) values.now self.old self.new) }
         ensures stands { AnswersRight self.old (update_with values.now) [] self.new result }
     {
         updates_go_on();

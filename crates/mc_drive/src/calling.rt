@@ -34,8 +34,10 @@ pub(crate) fn make_call(
     requires room { length values.now < length arguments.old }
     requires callable { IsCallable machine.old plan.now.procedure instance (pos tick ∷ values.now) }
     ensures program { machine.new.program ≡ machine.old.program }
-    ensures called { IfOk result (IsCall machine.old machine.new plan.now.procedure instance (pos tick ∷ values.now)) }
-    ensures stuck { IfErr result (IsStuckCall machine.old machine.new plan.now.procedure instance (pos tick ∷ values.now)) }
+    ensures called { IfOk result
+        (IsCall machine.old machine.new plan.now.procedure instance (pos tick ∷ values.now)) }
+    ensures stuck { IfErr result (IsStuckCall machine.old machine.new plan.now.procedure instance
+        (pos tick ∷ values.now)) }
 {
     put_arguments(i64::from(tick), values, arguments);
     machine.call(plan.procedure, instance, &arguments[..values.len() + 1])

@@ -71,7 +71,8 @@ impl Driver {
         requires call { IsCallFor self.old function values.now out.old }
         requires right { judging.call_fault self.old function values.now ≡ None }
         ensures made { IfOk result (λ cost. IsCallOf function values.now out.new cost self.old self.new) }
-        ensures stuck { IfErr result (λ at. IsStuckIn (plan_of self.old function) values.now at self.old self.new) }
+        ensures stuck { IfErr result
+            (λ at. IsStuckIn (plan_of self.old function) values.now at self.old self.new) }
     {
         let plan = plan_at(&self.plans, function);
         let room = &mut self.arguments;
@@ -97,7 +98,8 @@ impl Driver {
         requires call { IsUpdateFor self.old values.now }
         requires right { judging.update_fault self.old values.now ≡ None }
         ensures made { IfOk result (λ cost. IsUpdate values.now cost self.old self.new) }
-        ensures stuck { IfErr result (λ at. IsStuckIn (plan_of_update self.old) values.now at self.old self.new) }
+        ensures stuck { IfErr result
+            (λ at. IsStuckIn (plan_of_update self.old) values.now at self.old self.new) }
     {
         let plan = &self.update;
         let room = &mut self.arguments;

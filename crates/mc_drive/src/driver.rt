@@ -35,9 +35,24 @@ impl Model for Driver {
 
     ghost coded = { Prim.hlevel (codes, expression.the_row.coded, statement.the_row.coded) };
 
-    ghost view = { λ d. record { machine = d.machine; instance = d.instance; shape = d.shape; now = d.tick; called = d.called.items; given = d.given.items } };
+    ghost view = { λ d. record {
+      machine = d.machine;
+      instance = d.instance;
+      shape = d.shape;
+      now = d.tick;
+      called = d.called.items;
+      given = d.given.items;
+    } };
 
-    ghost invariant = { λ d. IsDriver (record { machine = d.machine; instance = d.instance; shape = d.shape; now = d.tick; called = d.called.items; given = d.given.items }) d.plans.items d.update d.arguments.items };
+    ghost invariant = { λ d. IsDriver (record {
+      machine = d.machine;
+      instance = d.instance;
+      shape = d.shape;
+      now = d.tick;
+      called = d.called.items;
+      given = d.given.items;
+    }) d.plans.items d.update
+        d.arguments.items };
 }
 
 impl Driver {

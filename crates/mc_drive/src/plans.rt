@@ -29,7 +29,11 @@ impl Model for Plan {
 
     ghost Value = { CallPlan };
 
-    ghost view = { λ p. record { procedure = p.procedure; inputs = p.inputs.items; outputs = p.outputs.items } };
+    ghost view = { λ p. record {
+      procedure = p.procedure;
+      inputs = p.inputs.items;
+      outputs = p.outputs.items;
+    } };
 }
 
 // The place of an input in a mask.
@@ -88,7 +92,8 @@ fn push_controls(
 ) -> Result<(), Memory>
     requires few { length controls.now ≤ 2 }
     requires behind { from ≤ 32 }
-    ensures { OnOk result (inputs.new.items ≡ inputs.old.items ++ shapes.control_inputs from controls.now) }
+    ensures { OnOk result (inputs.new.items
+        ≡ inputs.old.items ++ shapes.control_inputs from controls.now) }
 {
     for (k, control) in controls.iter().enumerate() {
         inputs.push(Input {
@@ -147,7 +152,8 @@ fn position(program: &Checked, name: &[u8]) -> u32
 
 // The position of the procedure of function j of the system of a name. Fails where memory runs out.
 fn function_position(alloc: Global, program: &Checked, name: &[u8], j: u32) -> Result<u32, Memory>
-    ensures { IfOk result (λ k. k ≡ procedure_place (program_tree program.now.program) (function_name name.now j)) }
+    ensures { IfOk result (λ k. k
+        ≡ procedure_place (program_tree program.now.program) (function_name name.now j)) }
 {
     let mut text = Vec::new(alloc);
     text.extend_from_slice(name)?;
@@ -159,7 +165,8 @@ fn function_position(alloc: Global, program: &Checked, name: &[u8], j: u32) -> R
 
 // The position of the procedure of the update. Fails where memory runs out.
 fn update_position(alloc: Global, program: &Checked, name: &[u8]) -> Result<u32, Memory>
-    ensures { IfOk result (λ k. k ≡ procedure_place (program_tree program.now.program) (update_name name.now)) }
+    ensures { IfOk result (λ k. k
+        ≡ procedure_place (program_tree program.now.program) (update_name name.now)) }
 {
     let mut text = Vec::new(alloc);
     text.extend_from_slice(name)?;
@@ -178,7 +185,8 @@ fn function_plan(
     requires shape { IsShape shape.now }
     requires inputs { inputs.now ≡ shapes.inputs_of shape.now }
     requires there { at < length shape.now.functions }
-    ensures { IfOk result (λ plan. plan ≡ shapes.function_plan (program_tree program.now.program) shape.now (suc at)) }
+    ensures { IfOk result (λ plan. plan
+        ≡ shapes.function_plan (program_tree program.now.program) shape.now (suc at)) }
 {
     let function = shape.profile.functions[at];
     Ok(Plan {
@@ -217,7 +225,8 @@ pub(crate) fn update_plan(
     inputs: Vec<Input>,
 ) -> Result<Plan, Memory>
     requires { inputs.items ≡ shapes.inputs_of shape.now }
-    ensures { IfOk result (λ plan. plan ≡ shapes.update_plan (program_tree program.now.program) shape.now) }
+    ensures { IfOk result (λ plan. plan
+        ≡ shapes.update_plan (program_tree program.now.program) shape.now) }
 {
     Ok(Plan {
         procedure: update_position(alloc, program, shape.name.bytes())?,

@@ -25,5 +25,12 @@ impl Model for DriveShape {
 
     ghost Value = { Shape };
 
-    ghost view = { λ s. record { name = s.name; functions = s.profile.functions; inputs = s.inputs.items; controls = s.controls.items; outputs = s.outputs.items; hyper = s.hyper } };
+    ghost view = { λ s. record {
+      name = s.name;
+      functions = s.profile.functions;
+      inputs = s.inputs.items;
+      controls = s.controls.items;
+      outputs = s.outputs.items;
+      hyper = s.hyper;
+    } };
 }

@@ -41,5 +41,7 @@ pub record IsSystemOfModel (r : ResolvedTable) (s : Option ℕ) (w : Driven) : T
 
 -- A system of a model has one shape, and what is driven as the system has that.
 pub record ShapesAreOne : Type 0 where
-  pub one : (r : ResolvedTable) (s : Option ℕ) (shape other : Shape) → IsShapeOf r s shape → IsShapeOf r s other → shape ≡ other
-  pub of_driven : (r : ResolvedTable) (s : Option ℕ) (w : Driven) → IsSystemOfModel r s w → IsShapeOf r s (shape_of w)
+  pub one : (r : ResolvedTable) (s : Option ℕ) (shape other : Shape) → IsShapeOf r s shape →
+      IsShapeOf r s other → shape ≡ other
+  pub of_driven : (r : ResolvedTable) (s : Option ℕ) (w : Driven) → IsSystemOfModel r s w →
+      IsShapeOf r s (shape_of w)

@@ -25,7 +25,8 @@ none_held text held old new none put = record {
 }
 
 -- what was held before was put, and then all of a text but what is held now
-pub put_before : (held before text : List ℕ) (old now new : Option (List ℕ)) → now ≡ append_known old before → PutsAllBut held text now new → PutsAllBut held (before ++ text) old new
+pub put_before : (held before text : List ℕ) (old now new : Option (List ℕ)) → now ≡ append_known old before →
+    PutsAllBut held text now new → PutsAllBut held (before ++ text) old new
 put_before held before text old now new is then_text = record {
   gone = before ++ then_text.gone;
   parts = ap (λ t. before ++ t) then_text.parts ∙ sym (append_assoc before then_text.gone held);
@@ -40,7 +41,8 @@ front_of_held held text old new front = (
 )
 
 -- what was held was put, and a front of more
-pub front_behind : (before text : List ℕ) (old now new : Option (List ℕ)) → now ≡ append_known old before → PutsFront now new text → PutsFront old new (before ++ text)
+pub front_behind : (before text : List ℕ) (old now new : Option (List ℕ)) → now ≡ append_known old before →
+    PutsFront now new text → PutsFront old new (before ++ text)
 front_behind before text old now new is front = (
   length before + front.0,
   front.1 ∙ ap (λ k. append_known k (take front.0 text)) is ∙ append_known-twice old before (take front.0 text)
@@ -50,7 +52,8 @@ front_behind before text old now new is front = (
 -- ---- A room, with bytes from a start to an end
 
 -- the same bytes up to the end are the same bytes from the start on
-same_front : (new room : List ℕ) (start end : ℕ) → start ≤ end → take end new ≡ take end room → take (end - start) (drop start new) ≡ take (end - start) (drop start room)
+same_front : (new room : List ℕ) (start end : ℕ) → start ≤ end → take end new ≡ take end room →
+    take (end - start) (drop start new) ≡ take (end - start) (drop start room)
 same_front new room start end ordered same =
     let sum : start + (end - start) ≡ end = omega arith in
     let front : (xs : List ℕ) → take (end - start) (drop start xs) ≡ drop start (take end xs) =
@@ -69,14 +72,17 @@ kept_before room into behind more len start end ordered within fits =
 
 -- and what is written is behind them
 pub grown : (room into behind more : List ℕ) (len start end n : ℕ) → start ≤ end → end ≤ length room → n ≤ length into → end + n ≤ len →
-    take (end + n - start) (drop start (take len (take end room ++ (into ++ behind) ++ more))) ≡ take (end - start) (drop start room) ++ take n into
+    take (end + n - start) (drop start (take len (take end room ++ (into ++ behind) ++ more)))
+    ≡ take (end - start) (drop start room) ++ take n into
 grown room into behind more len start end n ordered within few fits =
     let size : length (take end room) ≡ end = length-take-le end room within in
     let whole = take len (take end room ++ (into ++ behind) ++ more) in
     let sum : start + (end + n - start) ≡ end + n = omega arith in
     let back : start + (end - start) ≡ end = omega arith in
     let text : take (end + n) whole ≡ take end room ++ take n into =
-    take-take (end + n) len _ fits ∙ ap (take (end + n)) (append_assoc (take end room) (into ++ behind) more ∙ ap (λ xs. take end room ++ xs) (append_assoc into behind more))
+    take-take (end + n) len _ fits
+    ∙ ap (take (end + n)) (append_assoc (take end room) (into ++ behind) more
+    ∙ ap (λ xs. take end room ++ xs) (append_assoc into behind more))
     ∙ ap (λ k. take (k + n) (take end room ++ (into ++ (behind ++ more)))) (sym size)
     ∙ take-append-add (take end room) (into ++ (behind ++ more)) n
     ∙ ap (λ xs. take end room ++ xs) (take-append-le n into (behind ++ more) few) in
@@ -94,12 +100,14 @@ taken room start end count few =
 
 -- ---- The same of a call's result
 
-pub taken_behind : {E : Type 0} (result : Result (Unit {0}) E) (held before text : List ℕ) (old now new : Option (List ℕ)) → now ≡ append_known old before →
+pub taken_behind : {E : Type 0} (result : Result (Unit {0}) E) (held before text : List ℕ)
+    (old now new : Option (List ℕ)) → now ≡ append_known old before →
     OnOk result (PutsAllBut held text now new) → OnOk result (PutsAllBut held (before ++ text) old new)
 taken_behind (Ok value) held before text old now new is taken = put_before held before text old now new is taken
 taken_behind (Err fault) held before text old now new is taken = tt
 
-pub lost_behind : {E : Type 0} (result : Result (Unit {0}) E) (before text : List ℕ) (old now new : Option (List ℕ)) → now ≡ append_known old before →
+pub lost_behind : {E : Type 0} (result : Result (Unit {0}) E) (before text : List ℕ) (old now new : Option (List ℕ)) →
+    now ≡ append_known old before →
     OnErr result (PutsFront now new text) → OnErr result (PutsFront old new (before ++ text))
 lost_behind (Ok value) before text old now new is lost = tt
 lost_behind (Err fault) before text old now new is lost = front_behind before text old now new is lost

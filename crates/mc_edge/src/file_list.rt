@@ -34,7 +34,8 @@ pub(crate) fn add(
     files: &mut Vec<(String, Vec<u8>)>,
     name: &str,
 ) -> Result<(), AllocError>
-    ensures ok { OnOk result (add_file (Some (files_of files.old.items)) name.now [] ≡ Some (files_of files.new.items)) }
+    ensures ok { OnOk result (add_file (Some (files_of files.old.items)) name.now []
+        ≡ Some (files_of files.new.items)) }
     ensures err { OnErr result (files_of files.new.items ≡ files_of files.old.items) }
 {
     let name = String::from_str(alloc, name)?;

@@ -42,7 +42,14 @@ impl MemSink {
     /// calls that are to fail.
     pub fn new(alloc: Global, fails: Vec<u64>, piece: usize) -> MemSink
         requires { 0 < piece }
-        ensures { result ≡ record { bytes = []; fails = fails.items; calls = 0; piece = piece; faults = 0; refused = 0 } }
+        ensures { result ≡ record {
+          bytes = [];
+          fails = fails.items;
+          calls = 0;
+          piece = piece;
+          faults = 0;
+          refused = 0;
+        } }
     {
         MemSink {
             bytes: Vec::new(alloc),
@@ -76,9 +83,13 @@ impl Sink for MemSink {
 
     fn put(&mut self, piece: &[u8]) -> Result<usize, Failed>
         ensures listed { Contains self.old.fails self.old.calls → IsErr result }
-        ensures only { IsErr result → Contains self.old.fails self.old.calls ⊎ Rose self.old.refused self.new.refused }
+        ensures only { IsErr result →
+            Contains self.old.fails self.old.calls ⊎ Rose self.old.refused self.new.refused }
         ensures ok { IfOk result (λ n. (n ≡ min self.old.piece (length piece.now))
-            × (self.new ≡ record self.old { bytes = self.old.bytes ++ take n piece.now; calls = next_count self.old.calls })) }
+            × (self.new ≡ record self.old {
+              bytes = self.old.bytes ++ take n piece.now;
+              calls = next_count self.old.calls;
+            })) }
         ensures err { OnErr result (self.new ≡ record self.old {
           calls = next_count self.old.calls;
           faults = next_count self.old.faults;

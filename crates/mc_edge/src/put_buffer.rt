@@ -42,8 +42,10 @@ impl PutBuffer {
     ///
     /// Fails only where the sink counted a fault. Then a front of what waited and of the bytes was put, and the rest is lost.
     pub fn put<S: Sink>(&mut self, sink: &mut S, bytes: &[u8]) -> Result<(), Failed>
-        ensures taken { OnOk result (PutsAllBut self.new (self.old ++ bytes.now) (S.bytes sink.old) (S.bytes sink.new)) }
-        ensures front { OnErr result (PutsFront (S.bytes sink.old) (S.bytes sink.new) (self.old ++ bytes.now)) }
+        ensures taken { OnOk result (PutsAllBut self.new (self.old ++ bytes.now) (S.bytes sink.old)
+            (S.bytes sink.new)) }
+        ensures front { OnErr result
+            (PutsFront (S.bytes sink.old) (S.bytes sink.new) (self.old ++ bytes.now)) }
         ensures cause { HasCause (S.faults sink.old) (S.faults sink.new) result }
     {
         if bytes.len() <= self.bytes.capacity() - self.bytes.len() {

@@ -25,7 +25,10 @@ impl Model for ReadBuffer {
 
     ghost Value = { ReadAhead };
 
-    ghost view = { λ b. record { bytes = take (b.end - b.start) (drop b.start b.bytes.items); room = vec_len b.bytes - b.end } };
+    ghost view = { λ b. record {
+      bytes = take (b.end - b.start) (drop b.start b.bytes.items);
+      room = vec_len b.bytes - b.end;
+    } };
 
     ghost invariant = { λ b. (b.start ≤ b.end) × (b.end ≤ vec_len b.bytes) × (vec_len b.bytes ≡ 65536) };
 }
@@ -70,7 +73,8 @@ impl ReadBuffer {
     // Reads into the room behind the bytes.
     fn read<H: Host>(&mut self, host: &mut H) -> Result<usize, Failed>
         requires room { 0 < self.old.room }
-        ensures more { IfOk result (λ n. ReadsOn n self.old.bytes self.new.bytes (H.rest host.old) (H.rest host.new)) }
+        ensures more { IfOk result (λ n. ReadsOn n self.old.bytes self.new.bytes (H.rest host.old)
+            (H.rest host.new)) }
         ensures end { IfOk result (λ n. n ≡ 0 → IsAtEnd (H.rest host.new)) }
         ensures kept { OnErr result (self.new.bytes ≡ self.old.bytes) }
         ensures unread { OnErr result (H.rest host.new ≡ H.rest host.old) }
@@ -90,7 +94,8 @@ impl ReadBuffer {
     /// Fails only where the host counted a fault, and leaves the bytes as they are.
     pub fn fill<H: Host>(&mut self, host: &mut H) -> Result<usize, Failed>
         requires room { length self.old.bytes < 65536 }
-        ensures more { IfOk result (λ n. ReadsOn n self.old.bytes self.new.bytes (H.rest host.old) (H.rest host.new)) }
+        ensures more { IfOk result (λ n. ReadsOn n self.old.bytes self.new.bytes (H.rest host.old)
+            (H.rest host.new)) }
         ensures end { IfOk result (λ n. n ≡ 0 → IsAtEnd (H.rest host.new)) }
         ensures kept { OnErr result (self.new.bytes ≡ self.old.bytes) }
         ensures unread { OnErr result (H.rest host.new ≡ H.rest host.old) }

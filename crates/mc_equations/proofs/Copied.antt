@@ -59,9 +59,12 @@ none-at f (suc n) a b e low high = elim (ℕ_discrete a b) [
 -- no row writes a type unlike its input's
 is-like : (rows : List Row) (b : ℕ) → type_refusal rows ≡ None → b < length rows → is_unlike rows b ≡ false
 is-like rows b accepted inside =
-    by (is_some (type_of_row rows b)) (is_unlike rows b) _ _ (none-at (type_faults rows) (length rows) 0 b (first-none (bad_types rows) _ accepted) (omega arith) (omega arith))
+    by (is_some (type_of_row rows b)) (is_unlike rows b) _ _
+    (none-at (type_faults rows) (length rows) 0 b (first-none (bad_types rows) _ accepted) (omega arith)
+    (omega arith))
   where
-    by : (some unlike : Bool) (missing wrong : PlainRefusal) → (if some then (if unlike then wrong ∷ [] else []) else missing ∷ []) ≡ [] → unlike ≡ false
+    by : (some unlike : Bool) (missing wrong : PlainRefusal) →
+        (if some then (if unlike then wrong ∷ [] else []) else missing ∷ []) ≡ [] → unlike ≡ false
     by true true missing wrong e = absurd (let no : ⊥ = cc e in no)
     by true false missing wrong e = refl
     by false unlike missing wrong e = absurd (let no : ⊥ = cc e in no)
@@ -102,7 +105,8 @@ pub record PassesOn (rows : List Row) (b : ℕ) : Type 0 where
   pub wires : length (row_at rows b).inputs ≡ 1
 
 -- what is met first by a rule that leads to row c, if no type is written
-first-met : (rows : List Row) (text : TypeText) (c n : ℕ) (type : FixType) → type_by (rule_of text (SameAs c)) (type_within rows n) ≡ Some type →
+first-met : (rows : List Row) (text : TypeText) (c n : ℕ) (type : FixType) →
+    type_by (rule_of text (SameAs c)) (type_within rows n) ≡ Some type →
     MeetsType rows c type ⊎ (known_type (rule_of text NoRule) ≡ Some type)
 first-met rows Inherit c n type e = inl (n, e)
 first-met rows Logical c n type e = inr e
@@ -160,16 +164,23 @@ module _ (r : ResolvedTree) (is : IsResolvedTree r) where
   met : (b : ℕ) → b < length table.rows → is_boolean_by_kind (row_at table.rows b).kind ≡ false → MeetsType table.rows b (type b)
   met b inside typed = matched (is_boolean_by_kind (row_at table.rows b).kind) _ _ typed (is.resolved.are_types b inside)
 
-  followed : (b : ℕ) → b < length table.rows → is_boolean_by_kind (row_at table.rows b).kind ≡ false → followed_type table.rows b ≡ Some (type b)
-  followed b inside typed = by (is_boolean_by_kind (row_at table.rows b).kind) typed ((type_followed table.rows b (type b)).0 (is.resolved.are_types b inside))
+  followed : (b : ℕ) → b < length table.rows → is_boolean_by_kind (row_at table.rows b).kind ≡ false →
+      followed_type table.rows b ≡ Some (type b)
+  followed b inside typed =
+      by (is_boolean_by_kind (row_at table.rows b).kind) typed
+      ((type_followed table.rows b (type b)).0 (is.resolved.are_types b inside))
     where
-      by : (x : Bool) → x ≡ false → (if x then Some boolean else followed_type table.rows b) ≡ Some (type b) → followed_type table.rows b ≡ Some (type b)
+      by : (x : Bool) → x ≡ false → (if x then Some boolean else followed_type table.rows b) ≡ Some (type b) →
+          followed_type table.rows b ≡ Some (type b)
       by true e h = absurd (true≢false e)
       by false e h = h
 
   module _ (b c : ℕ) (inside : b < length table.rows) (on : PassesOn table.rows b) (wired : (row_at table.rows b).inputs ≡ c ∷ []) where
     wire : IsWireIn table.rows (reading_system table.rows (row_at table.rows b).kind (row_at table.rows b).owner) c
-    wire = (subst (AllByRecursion (IsWireIn table.rows (reading_system table.rows (row_at table.rows b).kind (row_at table.rows b).owner))) wired (is.tree.table.wired.wires b inside)).0
+    wire = (subst
+        (AllByRecursion
+        (IsWireIn table.rows (reading_system table.rows (row_at table.rows b).kind (row_at table.rows b).owner))) wired
+        (is.tree.table.wired.wires b inside)).0
 
     gives : IsTrue (has_output (row_at table.rows c).kind) ⊎ IsTrue (is_outport (row_at table.rows c).kind)
     gives = elim wire.1 [ inl own ↦ inl own.1 | inr out ↦ inr out.0 ]
@@ -178,13 +189,16 @@ module _ (r : ResolvedTree) (is : IsResolvedTree r) where
     found : MeetsType table.rows c (type b) ⊎ (written_type table.rows b ≡ Some (type b))
     found = let m = met b inside on.typed in by m.0 m.1
       where
-        by : (n : ℕ) → type_within table.rows n b ≡ Some (type b) → MeetsType table.rows c (type b) ⊎ (written_type table.rows b ≡ Some (type b))
+        by : (n : ℕ) → type_within table.rows n b ≡ Some (type b) →
+            MeetsType table.rows c (type b) ⊎ (written_type table.rows b ≡ Some (type b))
         by zero e = absurd (let no : ⊥ = cc e in no)
         by (suc n) e =
             first-met table.rows (row_at table.rows b).type_text c n (type b)
-            (subst (λ rule. type_by (rule_of (row_at table.rows b).type_text rule) (type_within table.rows n) ≡ Some (type b)) (on.rule ∙ ap first_input wired) e)
+            (subst (λ rule. type_by (rule_of (row_at table.rows b).type_text rule) (type_within table.rows n)
+            ≡ Some (type b)) (on.rule ∙ ap first_input wired) e)
 
-    same : is_boolean_by_kind (row_at table.rows c).kind ≡ false → written_type table.rows b ≡ Some (type b) → same_type (type b) (type c) ≡ true
+    same : is_boolean_by_kind (row_at table.rows c).kind ≡ false → written_type table.rows b ≡ Some (type b) →
+        same_type (type b) (type c) ≡ true
     same typed written = elim on.text [
       | inl inherits ↦ absurd (let no : ⊥ = cc (sym (ap (λ text. known_type (rule_of text NoRule)) inherits) ∙ written) in no)
       | inr port ↦
@@ -196,7 +210,8 @@ module _ (r : ResolvedTree) (is : IsResolvedTree r) where
     pub copied : (number : ℤ) → FitsRow (diagram_of r) c number → InType (type b) number
     copied number fits = by (is_boolean_by_kind (row_at table.rows c).kind) refl found
       where
-        by : (x : Bool) → is_boolean_by_kind (row_at table.rows c).kind ≡ x → MeetsType table.rows c (type b) ⊎ (written_type table.rows b ≡ Some (type b)) → InType (type b) number
+        by : (x : Bool) → is_boolean_by_kind (row_at table.rows c).kind ≡ x →
+            MeetsType table.rows c (type b) ⊎ (written_type table.rows b ≡ Some (type b)) → InType (type b) number
         by true e _ = subst (InType (type b)) (sym (fits.ground (ground-wire (row_at table.rows c).kind e gives))) (zero-in (type b))
         by false e (inl meets) =
             let own = met c wire.0 e in
@@ -205,10 +220,12 @@ module _ (r : ResolvedTree) (is : IsResolvedTree r) where
 
   -- a row that passes on its input has one, in its own type
   pub passed : (b : ℕ) → b < length table.rows → PassesOn table.rows b → (v : List ℤ) → EachFits (diagram_of r) v →
-      (0 < length (map (value_at v) (row_at table.rows b).inputs)) × InType (type b) (input (map (value_at v) (row_at table.rows b).inputs) 0)
+      (0 < length (map (value_at v) (row_at table.rows b).inputs))
+      × InType (type b) (input (map (value_at v) (row_at table.rows b).inputs) 0)
   passed b inside on v fit = by (row_at table.rows b).inputs refl on.wires
     where
-      by : (ws : List ℕ) → (row_at table.rows b).inputs ≡ ws → length ws ≡ 1 → (0 < length (map (value_at v) ws)) × InType (type b) (input (map (value_at v) ws) 0)
+      by : (ws : List ℕ) → (row_at table.rows b).inputs ≡ ws → length ws ≡ 1 →
+          (0 < length (map (value_at v) ws)) × InType (type b) (input (map (value_at v) ws) 0)
       by [] e one = absurd (omega arith)
       by (c ∷ []) e one = (omega arith, copied b c inside on e (value_at v c) (fit c))
       by (c ∷ k ∷ ws) e one = absurd (omega arith)
@@ -216,14 +233,17 @@ module _ (r : ResolvedTree) (is : IsResolvedTree r) where
   -- a row of this kind passes on its input
   pub passes-on : (b : ℕ) (kind : Kind) → b < length table.rows → (row_at table.rows b).kind ≡ kind →
       inherited_rule kind (row_at table.rows b).inputs ≡ first_input (row_at table.rows b).inputs → is_boolean_by_kind kind ≡ false →
-      (IsTypeTextOf kind (row_at table.rows b).type_text → ((row_at table.rows b).type_text ≡ Inherit) ⊎ ((is_inport kind || is_outport kind) ≡ true)) →
+      (IsTypeTextOf kind (row_at table.rows b).type_text →
+      ((row_at table.rows b).type_text ≡ Inherit) ⊎ ((is_inport kind || is_outport kind) ≡ true)) →
       wires_wanted kind (row_at table.rows b).owner ≡ 1 → PassesOn table.rows b
   passes-on b kind inside e rule typed text wires = record {
     rule = ap (λ k. inherited_rule k (row_at table.rows b).inputs) e ∙ rule;
     typed = ap is_boolean_by_kind e ∙ typed;
-    text = elim (text (subst (λ k. IsTypeTextOf k (row_at table.rows b).type_text) e (all-at IsRow table.rows b no_row is.tree.table.each inside).type)) [
-      | inl inherits ↦ inl inherits
-      | inr port ↦ inr (ap (λ k. is_inport k || is_outport k) e ∙ port)
-    ];
+    text = elim (text
+        (subst (λ k. IsTypeTextOf k (row_at table.rows b).type_text) e
+        (all-at IsRow table.rows b no_row is.tree.table.each inside).type)) [
+          | inl inherits ↦ inl inherits
+          | inr port ↦ inr (ap (λ k. is_inport k || is_outport k) e ∙ port)
+        ];
     wires = is.tree.table.wired.counts b inside ∙ ap (λ k. wires_wanted k (row_at table.rows b).owner) e ∙ wires;
   }

@@ -38,10 +38,12 @@ none-outward : (rows : List Row) (n : ℕ) → outward rows None n None ≡ []
 none-outward rows zero = refl
 none-outward rows (suc n) = refl
 
-not-inside : (rows : List Row) (b : ℕ) → (row_at rows b).owner ≡ None → (s : Option ℕ) → same_system None s ≡ false → is_inside rows s b ≡ true → ⊥
+not-inside : (rows : List Row) (b : ℕ) → (row_at rows b).owner ≡ None → (s : Option ℕ) → same_system None s ≡ false →
+    is_inside rows s b ≡ true → ⊥
 not-inside rows b own None apart stands = true≢false apart
 not-inside rows b own (Some k) apart stands =
-    true≢false (sym stands ∙ ap (λ o. list_any (is_system (Some k)) (enclosing rows None o)) own ∙ ap (list_any (is_system (Some k))) (none-outward rows (length rows)))
+    true≢false (sym stands ∙ ap (λ o. list_any (is_system (Some k)) (enclosing rows None o)) own
+    ∙ ap (list_any (is_system (Some k))) (none-outward rows (length rows)))
 
 -- over a row of a resolved tree
 module _ (r : ResolvedTree) (is : IsResolvedTree r) (b : ℕ) (inside : b < length r.tree.table.rows) where
@@ -58,9 +60,11 @@ module _ (r : ResolvedTree) (is : IsResolvedTree r) (b : ℕ) (inside : b < leng
   own_delays = slice_index_or r.times.delays b false
 
   pub op-is : op_at (diagram_of r) b ≡ op_of own_kind own_types own_type own_delays
-  op-is = ap (λ (ops : List Op). slice_index_or ops b Nothing) is.resolved.are_ops ∙ by_row-at r.tree.table.rows (op_in r.tree.table.rows r.types r.times.delays) b Nothing inside
+  op-is = ap (λ (ops : List Op). slice_index_or ops b Nothing) is.resolved.are_ops
+      ∙ by_row-at r.tree.table.rows (op_in r.tree.table.rows r.types r.times.delays) b Nothing inside
 
-  module _ (s : Option ℕ) (stands : is_inside r.tree.table.rows s b ≡ true) (x v : List ℤ) (has : HasInputs (diagram_of r) s x) (fit : EachFits (diagram_of r) v) where
+  module _ (s : Option ℕ) (stands : is_inside r.tree.table.rows s b ≡ true) (x v : List ℤ)
+      (has : HasInputs (diagram_of r) s x) (fit : EachFits (diagram_of r) v) where
     abbrev own_inputs : List ℤ
     own_inputs = input_values (diagram_of r) s x v [] b
 
@@ -69,7 +73,8 @@ module _ (r : ResolvedTree) (is : IsResolvedTree r) (b : ℕ) (inside : b < leng
 
     -- all but an Inport of the system read their wires
     from-wires : is_inport own_kind ≡ false → own_inputs ≡ wire_inputs
-    from-wires e i = if (e i && same_system (row_at r.tree.table.rows b).owner s) then value_at x (port_of own_kind - 1) ∷ [] else wire_inputs
+    from-wires e i = if (e i && same_system (row_at r.tree.table.rows b).owner s) then value_at x (port_of own_kind - 1)
+        ∷ [] else wire_inputs
 
     -- a row that reads one number, in its own type
     abbrev FirstIn : List ℤ → Type 0
@@ -83,7 +88,10 @@ module _ (r : ResolvedTree) (is : IsResolvedTree r) (b : ℕ) (inside : b < leng
       where
         from-owner : (o : Option ℕ) → (row_at r.tree.table.rows b).owner ≡ o → same_system o s ≡ false → FirstIn wire_inputs
         from-owner None own apart = absurd (not-inside r.tree.table.rows b own s apart stands)
-        from-owner (Some f) own apart = passed r is b inside (passes-on r is b (Inport port) inside e refl refl (λ text. inr refl) (ap (wires_wanted (Inport port)) own)) v fit
+        from-owner (Some f) own apart =
+            passed r is b inside
+            (passes-on r is b (Inport port) inside e refl refl (λ text. inr refl) (ap (wires_wanted (Inport port)) own))
+            v fit
 
         by : (here : Bool) → same_system (row_at r.tree.table.rows b).owner s ≡ here → FirstIn own_inputs
         by true here =
@@ -100,19 +108,25 @@ module _ (r : ResolvedTree) (is : IsResolvedTree r) (b : ℕ) (inside : b < leng
     own-in kind e out on = from-wire (ap is_inport e ∙ out) on
 
     outport-in : (port : ℕ) (reset : Bool) (initial : Decimal) → own_kind ≡ Outport port reset initial → FirstIn own_inputs
-    outport-in port reset initial e = own-in (Outport port reset initial) e refl (passes-on r is b (Outport port reset initial) inside e refl refl (λ text. inr refl) refl)
+    outport-in port reset initial e =
+        own-in (Outport port reset initial) e refl
+        (passes-on r is b (Outport port reset initial) inside e refl refl (λ text. inr refl) refl)
 
     delay-in : (initial : Decimal) → own_kind ≡ UnitDelay initial → FirstIn own_inputs
     delay-in initial e = own-in (UnitDelay initial) e refl (passes-on r is b (UnitDelay initial) inside e refl refl (λ text. inl text) refl)
 
     line-in : (length : ℕ) (initial : Decimal) → own_kind ≡ Delay length initial → FirstIn own_inputs
-    line-in length initial e = own-in (Delay length initial) e refl (passes-on r is b (Delay length initial) inside e refl refl (λ text. inl text) refl)
+    line-in length initial e =
+        own-in (Delay length initial) e refl
+        (passes-on r is b (Delay length initial) inside e refl refl (λ text. inl text) refl)
 
     hold-in : own_kind ≡ ZeroOrderHold → FirstIn own_inputs
     hold-in e = own-in ZeroOrderHold e refl (passes-on r is b ZeroOrderHold inside e refl refl (λ text. inl text) refl)
 
     transition-in : (initial : Decimal) (out : TimeText) → own_kind ≡ RateTransition initial out → FirstIn own_inputs
-    transition-in initial out e = own-in (RateTransition initial out) e refl (passes-on r is b (RateTransition initial out) inside e refl refl (λ text. inl text) refl)
+    transition-in initial out e =
+        own-in (RateTransition initial out) e refl
+        (passes-on r is b (RateTransition initial out) inside e refl refl (λ text. inl text) refl)
 
     -- what an operation passes on lies in the row's type
     passes : (kind : Kind) → own_kind ≡ kind → (delays : Bool) (memory : ℤ) → InType own_type memory →
@@ -139,7 +153,8 @@ module _ (r : ResolvedTree) (is : IsResolvedTree r) (b : ℕ) (inside : b < leng
     passes TriggerPort e delays memory h = tt
 
     -- what a delay takes lies in the row's type
-    taken-in : (kind : Kind) → own_kind ≡ kind → (delays : Bool) → is_delay (op_of kind own_types own_type delays) ≡ true → InType own_type (input own_inputs 0)
+    taken-in : (kind : Kind) → own_kind ≡ kind → (delays : Bool) →
+        is_delay (op_of kind own_types own_type delays) ≡ true → InType own_type (input own_inputs 0)
     taken-in (UnitDelay initial) e delays h = (delay-in initial e).1
     taken-in (Delay length initial) e delays h = (line-in length initial e).1
     taken-in (RateTransition initial out) e true h = (transition-in initial out e).1
@@ -163,7 +178,9 @@ module _ (r : ResolvedTree) (is : IsResolvedTree r) (b : ℕ) (inside : b < leng
 
     -- a row that is computed reads its wires
     all-in : (kind : Kind) → own_kind ≡ kind → is_inport kind ≡ false → AllZip InType own_types own_inputs
-    all-in kind e out = subst (AllZip InType own_types) (sym (from-wires (ap is_inport e ∙ out))) (wires-in (diagram_of r) v fit (row_at r.tree.table.rows b).inputs)
+    all-in kind e out =
+        subst (AllZip InType own_types) (sym (from-wires (ap is_inport e ∙ out)))
+        (wires-in (diagram_of r) v fit (row_at r.tree.table.rows b).inputs)
 
     reads : (kind : Kind) → own_kind ≡ kind → ReadsInTypes kind own_types own_inputs
     reads (Inport port) e = tt
@@ -204,7 +221,10 @@ module _ (r : ResolvedTree) (is : IsResolvedTree r) (b : ℕ) (inside : b < leng
     -- and what it computes fits
     pub computed-fits : (memory : ℤ) → InType own_type memory → FitsRow (diagram_of r) b (rhs (op_at (diagram_of r) b) own_inputs memory)
     computed-fits memory h = record {
-      in_type = subst (λ op. InType own_type (rhs op own_inputs memory)) (sym op-is) (values_stay_in_type own_kind own_types own_type own_delays own_inputs memory (passes own_kind refl own_delays memory h));
+      in_type =
+          subst (λ op. InType own_type (rhs op own_inputs memory)) (sym op-is)
+          (values_stay_in_type own_kind own_types own_type own_delays own_inputs memory
+          (passes own_kind refl own_delays memory h));
       ground = λ e. ap (λ op. rhs op own_inputs memory) (op-is ∙ ap (λ kind. op_of kind own_types own_type own_delays) e);
     }
 

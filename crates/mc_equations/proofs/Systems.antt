@@ -15,7 +15,8 @@ abbrev pub rank : Option ℕ → ℕ
 rank None = 0
 rank (Some e) = suc e
 
-module _ (d : Diagram) (nested : IsNested d.rows) (v : List ℤ) (g : List TrigMem) (system : Option ℕ) (e : ℕ) (is : system ≡ Some e) (inside : e < length d.rows) (x : List ℤ) where
+module _ (d : Diagram) (nested : IsNested d.rows) (v : List ℤ) (g : List TrigMem) (system : Option ℕ) (e : ℕ)
+    (is : system ≡ Some e) (inside : e < length d.rows) (x : List ℤ) where
   -- the subsystems around the rows of a subsystem
   around-is : enclosing d.rows None system ≡ e ∷ enclosing d.rows None (row_at d.rows e).owner
   around-is = ap (enclosing d.rows None) is ∙ enclosing-step d.rows None nested e inside

@@ -18,11 +18,13 @@ use Rattle.mc_equations.specs.Traces.{HasInputs}
 -- ---- How many Inports there are
 
 -- the numbers of items that pass two tests are as many as the items
-count-both : (p q : Row → Bool) (f : ℕ → Row) (a : ℕ) (rows : List Row) → ((i : ℕ) → i < length rows → f (a + i) ≡ slice_index_or rows i no_row) →
+count-both : (p q : Row → Bool) (f : ℕ → Row) (a : ℕ) (rows : List Row) →
+    ((i : ℕ) → i < length rows → f (a + i) ≡ slice_index_or rows i no_row) →
     length (filter (λ b. p (f b)) (filter (λ b. q (f b)) (range_with_len a (length rows)))) ≡ length (filter (λ row. q row && p row) rows)
 count-both p q f a [] each = refl
 count-both p q f a (row ∷ rows) each =
-    ap (λ r. length (filter (λ b. p (f b)) (cond r (a ∷ rest) rest))) (ap q first) ∙ by (q row) (p row) (ap p first) (count-both p q f (a + 1) rows later)
+    ap (λ r. length (filter (λ b. p (f b)) (cond r (a ∷ rest) rest))) (ap q first)
+    ∙ by (q row) (p row) (ap p first) (count-both p q f (a + 1) rows later)
   where
     first : f a ≡ row
     first = let same : a ≡ a + 0 = omega arith in ap f same ∙ each 0 (omega arith)
@@ -36,8 +38,10 @@ count-both p q f a (row ∷ rows) each =
     passed : List Row
     passed = filter (λ row. q row && p row) rows
 
-    by : (s t : Bool) → p (f a) ≡ t → length (filter (λ b. p (f b)) rest) ≡ length passed → length (filter (λ b. p (f b)) (cond s (a ∷ rest) rest)) ≡ length (cond (s && t) (row ∷ passed) passed)
-    by true true e so_far = ap (λ r. length (cond r (a ∷ filter (λ b. p (f b)) rest) (filter (λ b. p (f b)) rest))) e ∙ omega (arith, so_far)
+    by : (s t : Bool) → p (f a) ≡ t → length (filter (λ b. p (f b)) rest) ≡ length passed →
+        length (filter (λ b. p (f b)) (cond s (a ∷ rest) rest)) ≡ length (cond (s && t) (row ∷ passed) passed)
+    by true true e so_far = ap (λ r. length (cond r (a ∷ filter (λ b. p (f b)) rest) (filter (λ b. p (f b)) rest))) e
+        ∙ omega (arith, so_far)
     by true false e so_far = ap (λ r. length (cond r (a ∷ filter (λ b. p (f b)) rest) (filter (λ b. p (f b)) rest))) e ∙ so_far
     by false t e so_far = so_far
 
@@ -72,16 +76,19 @@ module _ (r : ResolvedTree) (is : IsResolvedTree r) where
   row-inputs x h port b input = row-has (diagram_of r) None (is.tree.table.inports None) x h port b input
 
   -- and one that has them, and as many numbers, is a row of a trace
-  pub inputs-row : (x : List ℤ) → length x ≡ length (inports_of rows None) → HasInputs (diagram_of r) None x → IsTraceRow (diagram_of r) None x
+  pub inputs-row : (x : List ℤ) → length x ≡ length (inports_of rows None) → HasInputs (diagram_of r) None x →
+      IsTraceRow (diagram_of r) None x
   inputs-row x long has = row-from (diagram_of r) (is.tree.table.inports None) x long has
 
 -- ---- Traces
 
-pub trace-at : (d : Diagram) (s : Option ℕ) (xs : List (List ℤ)) → IsTrace d s xs → (t : ℕ) → t < length xs → IsTraceRow d s (slice_index_or xs t [])
+pub trace-at : (d : Diagram) (s : Option ℕ) (xs : List (List ℤ)) → IsTrace d s xs → (t : ℕ) → t < length xs →
+    IsTraceRow d s (slice_index_or xs t [])
 trace-at d s [] all t below = absurd (omega arith)
 trace-at d s (x ∷ xs) all zero below = all.0
 trace-at d s (x ∷ xs) all (suc t) below = trace-at d s xs all.1 t (omega arith)
 
-pub trace-from : (d : Diagram) (s : Option ℕ) (xs : List (List ℤ)) → ((t : ℕ) → t < length xs → IsTraceRow d s (slice_index_or xs t [])) → IsTrace d s xs
+pub trace-from : (d : Diagram) (s : Option ℕ) (xs : List (List ℤ)) →
+    ((t : ℕ) → t < length xs → IsTraceRow d s (slice_index_or xs t [])) → IsTrace d s xs
 trace-from d s [] each = tt
 trace-from d s (x ∷ xs) each = (each 0 (omega arith), trace-from d s xs (λ t below. each (suc t) (omega arith)))

@@ -62,19 +62,23 @@ get-below (i ∷ is) zero b e = omega arith
 get-below (i ∷ is) (suc k) b e = let rest = get-below is k b e in omega arith
 
 -- what holds of each port and its number holds of those behind the first ones
-zip-behind : (P : Port → ℤ → Type 0) (a n : ℕ) (controls : List Port) (x : List ℤ) → AllZip P (map Number (range_with_len a n) ++ controls) x →
+zip-behind : (P : Port → ℤ → Type 0) (a n : ℕ) (controls : List Port) (x : List ℤ) →
+    AllZip P (map Number (range_with_len a n) ++ controls) x →
     (k : ℕ) (p : Port) → slice_get controls k ≡ Some p → P p (value_at x (n + k))
 zip-behind P a zero [] x h k p at = absurd (let wrong : ⊥ = cc at in wrong)
 zip-behind P a zero (q ∷ controls) [] h k p at = absurd h
 zip-behind P a zero (q ∷ controls) (v ∷ x) h zero p at = let same : q ≡ p = cc at in subst (λ z. P z v) same h.0
 zip-behind P a zero (q ∷ controls) (v ∷ x) h (suc k) p at =
-    let same : suc (0 + k) ≡ 0 + suc k = omega arith in subst (λ j. P p (value_at (v ∷ x) j)) same (zip-behind P a zero controls x h.1 k p at)
+    let same : suc (0 + k) ≡ 0 + suc k =
+    omega arith in subst (λ j. P p (value_at (v ∷ x) j)) same (zip-behind P a zero controls x h.1 k p at)
 zip-behind P a (suc n) controls [] h k p at = absurd h
 zip-behind P a (suc n) controls (v ∷ x) h k p at =
-    let same : suc (n + k) ≡ suc n + k = omega arith in subst (λ j. P p (value_at (v ∷ x) j)) same (zip-behind P (a + 1) n controls x h.1 k p at)
+    let same : suc (n + k) ≡ suc n + k =
+    omega arith in subst (λ j. P p (value_at (v ∷ x) j)) same (zip-behind P (a + 1) n controls x h.1 k p at)
 
 -- the controls of a system lie in the types of the wires that they have
-controls-typed : (type : ℕ → FixType) (past : ℕ) (c : Control) (wires : List ℕ) (o : Option ℕ) (at : Port → ℤ) → length wires ≡ wires_wanted (SubSystem c) o →
+controls-typed : (type : ℕ → FixType) (past : ℕ) (c : Control) (wires : List ℕ) (o : Option ℕ) (at : Port → ℤ) →
+    length wires ≡ wires_wanted (SubSystem c) o →
     (is_enabled c ≡ true → InType (type (unwrap_or (enable_among c wires) past)) (at Enable)) →
     (is_triggered c ≡ true → InType (type (unwrap_or (trigger_among c wires) past)) (at Trigger)) →
     AllZip (λ w v. InType (type w) v) wires (map at (control_ports c))
@@ -93,13 +97,17 @@ controls-typed type past (Both reset edge) (w ∷ u ∷ z ∷ wires) o at long e
 
 -- what a list of numbers and controls gives for an enable and for a trigger
 module _ (P : Port → ℤ → Type 0) (n : ℕ) (x : List ℤ) where
-  enable-typed : (c : Control) → AllZip P (map Number (range_with_len 1 n) ++ control_ports c) x → is_enabled c ≡ true → P Enable (value_at x n)
+  enable-typed : (c : Control) → AllZip P (map Number (range_with_len 1 n) ++ control_ports c) x → is_enabled c ≡ true →
+      P Enable (value_at x n)
   enable-typed Plain h en = absurd (true≢false (sym en))
-  enable-typed (Enabled reset) h en = let same : n + 0 ≡ n = omega arith in subst (λ k. P Enable (value_at x k)) same (zip-behind P 1 n (Enable ∷ []) x h 0 Enable refl)
+  enable-typed (Enabled reset) h en = let same : n + 0 ≡ n = omega arith in
+      subst (λ k. P Enable (value_at x k)) same (zip-behind P 1 n (Enable ∷ []) x h 0 Enable refl)
   enable-typed (Triggered edge) h en = absurd (true≢false (sym en))
-  enable-typed (Both reset edge) h en = let same : n + 0 ≡ n = omega arith in subst (λ k. P Enable (value_at x k)) same (zip-behind P 1 n (Enable ∷ Trigger ∷ []) x h 0 Enable refl)
+  enable-typed (Both reset edge) h en = let same : n + 0 ≡ n = omega arith in
+      subst (λ k. P Enable (value_at x k)) same (zip-behind P 1 n (Enable ∷ Trigger ∷ []) x h 0 Enable refl)
 
-  trigger-typed : (c : Control) → AllZip P (map Number (range_with_len 1 n) ++ control_ports c) x → is_triggered c ≡ true → P Trigger (value_at x (n + enable_count c))
+  trigger-typed : (c : Control) → AllZip P (map Number (range_with_len 1 n) ++ control_ports c) x →
+      is_triggered c ≡ true → P Trigger (value_at x (n + enable_count c))
   trigger-typed Plain h tr = absurd (true≢false (sym tr))
   trigger-typed (Enabled reset) h tr = absurd (true≢false (sym tr))
   trigger-typed (Triggered edge) h tr = zip-behind P 1 n (Trigger ∷ []) x h 0 Trigger refl
@@ -126,12 +134,15 @@ module _ (r : ResolvedTree) (resolved : IsResolvedTree r) (s : Option ℕ) (xs :
   rows = r.tree.table.rows
 
   has-inputs : (t : ℕ) → t < length xs → HasInputs d s (slice_index_or xs t [])
-  has-inputs t below port b row = row-has d s (resolved.tree.table.inports s) (slice_index_or xs t []) (trace-at d s xs trace t below) port b row
+  has-inputs t below port b row =
+      row-has d s (resolved.tree.table.inports s) (slice_index_or xs t []) (trace-at d s xs trace t below) port b row
 
   abbrev before_fits : ℕ → Type 0
   before_fits t = IsFit d (values_before d s run t) (slice_index_or run.memories t []) (slice_index_or run.triggers t [])
 
-  tick-at : (t : ℕ) → t < length xs → IsTick d s t (slice_index_or xs t []) (values_before d s run t) (slice_index_or run.memories t []) (slice_index_or run.triggers t [])
+  tick-at : (t : ℕ) → t < length xs →
+      IsTick d s t (slice_index_or xs t []) (values_before d s run t) (slice_index_or run.memories t [])
+      (slice_index_or run.triggers t [])
       (slice_index_or run.values t []) (slice_index_or run.memories (suc t) []) (slice_index_or run.triggers (suc t) [])
   tick-at t below = runs_have_ticks d s xs run t is below
 
@@ -147,13 +158,15 @@ module _ (r : ResolvedTree) (resolved : IsResolvedTree r) (s : Option ℕ) (xs :
       let solves : v ≡ solution d s t x before m g = solution-only d s t x before m g none v tick.values in
       let fits : EachFits d (solution d s t x before m g) = solution-keeps d s t x before m g (EachFits d) (λ b. zero-fits d b)
       (λ w each. (values-fit r resolved s t x before m w g (has-inputs t below) fit each).each) in
-      subst (AreFit d) (sym tick.values) (values-fit r resolved s t x before m v g (has-inputs t below) fit (subst (EachFits d) (sym solves) fits))
+      subst (AreFit d) (sym tick.values)
+      (values-fit r resolved s t x before m v g (has-inputs t below) fit (subst (EachFits d) (sym solves) fits))
 
   memories-at : (t : ℕ) (below : t < length xs) → before_fits t → AreInTypes d (slice_index_or run.memories (suc t) [])
   memories-at t below fit =
       let tick = tick-at t below in
       subst (AreInTypes d) (sym tick.memories)
-      (memories-fit r resolved s t (slice_index_or xs t []) (values_before d s run t) (slice_index_or run.memories t []) (slice_index_or run.values t [])
+      (memories-fit r resolved s t (slice_index_or xs t []) (values_before d s run t) (slice_index_or run.memories t [])
+      (slice_index_or run.values t [])
       (slice_index_or run.triggers t []) (has-inputs t below) fit (values-at t below fit).each)
 
   before-at : (t : ℕ) → t ≤ length xs → before_fits t
@@ -161,7 +174,9 @@ module _ (r : ResolvedTree) (resolved : IsResolvedTree r) (s : Option ℕ) (xs :
       let first = first-fit r resolved s in record {
         values = first.values;
         memories = subst (AreInTypes d) (sym (first-memories d s xs run.values run.memories run.triggers is)) first.memories;
-        triggers = ap (λ (l : List TrigMem). length l) (first-triggers r resolved s xs run is run.values run.memories run.triggers is) ∙ length-by_row rows _;
+        triggers =
+            ap (λ (l : List TrigMem). length l)
+            (first-triggers r resolved s xs run is run.values run.memories run.triggers is) ∙ length-by_row rows _;
       }
   before-at (suc t) low =
       let fit = before-at t (omega arith) in record {
@@ -190,7 +205,8 @@ module _ (r : ResolvedTree) (resolved : IsResolvedTree r) (s : Option ℕ) (xs :
 
     stands : (b : ℕ) → IsRowOf rows n b → is_inside rows s b ≡ true
     stands b row =
-        (own_rows_stand_in rows s n b resolved.tree.table.nested (record { in_table = row.in_table; own = row.own; within = within })).is_inside
+        (own_rows_stand_in rows s n b resolved.tree.table.nested
+        (record { in_table = row.in_table; own = row.own; within = within })).is_inside
 
     read-is : (b : ℕ) → IsRowOf rows n b → input_values d s x v [] b ≡ own_inputs d n tick b
     read-is b row = inputs-are r resolved s xs run is n within t b row
@@ -213,10 +229,13 @@ module _ (r : ResolvedTree) (resolved : IsResolvedTree r) (s : Option ℕ) (xs :
         by c same ported port_is =
             let row : IsRowOf rows n c = record { in_table = ported.in_table; own = ported.is_own } in
             let kind = is_inport-equal (row_at rows c).kind ported.passing in
-            let first = (inport-in r resolved c row.in_table s (stands c row) x v (has-inputs t below) now.each (port_of (row_at rows c).kind) kind).1 in
+            let first =
+            (inport-in r resolved c row.in_table s (stands c row) x v (has-inputs t below) now.each
+            (port_of (row_at rows c).kind) kind).1 in
             let place : port_of (row_at rows c).kind - 1 ≡ k = omega (arith, port_is) in
             let read : own_inputs d n tick c ≡ number_of (inputs_at d s xs run n t) k ∷ [] =
-            ap (λ q. if q then number_of (inputs_at d s xs run n t) (port_of (row_at rows c).kind - 1) ∷ [] else map (value_at v) (row_at rows c).inputs) ported.passing
+            ap (λ q. if q then number_of (inputs_at d s xs run n t) (port_of (row_at rows c).kind - 1) ∷ []
+            else map (value_at v) (row_at rows c).inputs) ported.passing
             ∙ ap (λ j. number_of (inputs_at d s xs run n t) j ∷ []) place in
             subst (λ i. InType (type_at r.types i) (number_of (inputs_at d s xs run n t) k)) same
             (subst (λ vs. InType (type_at r.types c) (input vs 0)) (read-is c row ∙ read) first)
@@ -224,7 +243,8 @@ module _ (r : ResolvedTree) (resolved : IsResolvedTree r) (s : Option ℕ) (xs :
     inputs-long : length (inputs_at d s xs run n t) ≡ length (inports_of rows n)
     inputs-long = by (same_system s n) refl
       where
-        entered : (o : Option ℕ) → IsSystemWithin rows s o → same_system s o ≡ false → length (entering_wires rows o) ≡ length (inports_of rows o)
+        entered : (o : Option ℕ) → IsSystemWithin rows s o → same_system s o ≡ false →
+            length (entering_wires rows o) ≡ length (inports_of rows o)
         entered None inside other = absurd (true≢false (sym (ap (λ q. same_system q None) inside) ∙ other))
         entered (Some e) inside other = as-many rows resolved.tree.table.wired e (resolved.tree.table.inports (Some e))
 
@@ -242,17 +262,22 @@ module _ (r : ResolvedTree) (resolved : IsResolvedTree r) (s : Option ℕ) (xs :
         like-wires (c ∷ ws) = ((now.each c).in_type, like-wires ws)
 
         of-trace : (o : Option ℕ) → IsSystem rows o → IsTraceRow d o x →
-            AllZip (λ c w. InType (type_at r.types c) w) (control_wires_of rows o) (map (λ p. value_at x (column rows o p)) (control_ports (system_control rows o)))
+            AllZip (λ c w. InType (type_at r.types c) w) (control_wires_of rows o)
+            (map (λ p. value_at x (column rows o p)) (control_ports (system_control rows o)))
         of-trace None system row = tt
         of-trace (Some e) system row =
             let count = resolved.tree.table.wired.counts e (subsystem-inside rows e system)
             ∙ ap (λ kind. wires_wanted kind (row_at rows e).owner) (subsystem-kind (row_at rows e).kind system) in
-            controls-typed (type_at r.types) (length rows) (control_at rows e) (row_at rows e).inputs (row_at rows e).owner (λ p. value_at x (column rows (Some e) p)) count
-            (λ en. enable-typed (λ p w. InType (input_type_of d (Some e) p) w) (length (inports_of rows (Some e))) x (control_at rows e) row en)
-            (λ tr. trigger-typed (λ p w. InType (input_type_of d (Some e) p) w) (length (inports_of rows (Some e))) x (control_at rows e) row tr)
+            controls-typed (type_at r.types) (length rows) (control_at rows e) (row_at rows e).inputs
+            (row_at rows e).owner (λ p. value_at x (column rows (Some e) p)) count
+            (λ en. enable-typed (λ p w. InType (input_type_of d (Some e) p) w) (length (inports_of rows (Some e))) x
+            (control_at rows e) row en)
+            (λ tr. trigger-typed (λ p w. InType (input_type_of d (Some e) p) w) (length (inports_of rows (Some e))) x
+            (control_at rows e) row tr)
 
         by : (here : Bool) → same_system s n ≡ here → AllZip (λ c w. InType (type_at r.types c) w) (control_wires_of rows n)
-            (if here then map (λ p. value_at x (column rows n p)) (control_ports (system_control rows n)) else map (value_at v) (control_wires_of rows n))
+            (if here then map (λ p. value_at x (column rows n p)) (control_ports (system_control rows n))
+            else map (value_at v) (control_wires_of rows n))
         by true h = of-trace n system (subst (λ o. IsTraceRow d o x) (same_system-equal s n h) (trace-at d s xs trace t below))
         by false h = like-wires (control_wires_of rows n)
 

@@ -8,7 +8,8 @@ use Rattle.mc_diagram.specs.Rows.{row_at}
 use Rattle.mc_diagram.specs.Diagram.{Diagram, type_at}
 use Rattle.mc_diagram.specs.Run.{value_at, memory_at}
 
--- row b can have this number: it lies in the row's type, and is 0 at a Ground, which rows of any type copy
+-- row b can have this number: it lies in the row's type, and is 0 at a Ground, which rows of any
+-- type copy
 pub record FitsRow (d : Diagram) (b : ℕ) (number : ℤ) : Type 0 where
   pub in_type : InType (type_at d.types b) number
   pub ground : (row_at d.rows b).kind ≡ Ground → number ≡ pos 0
@@ -28,7 +29,8 @@ pub record AreInTypes (d : Diagram) (m : List (List ℤ)) : Type 0 where
   pub each : (b : ℕ) → AllByRecursion (InType (type_at d.types b)) (memory_at m b)
 
 -- before a tick each row has a value, a memory and a trigger, which it can have
-pub record IsFit (d : Diagram) (before : List ℤ) (m : List (List ℤ)) (g : List TrigMem) : Type 0 where
+pub record IsFit (d : Diagram) (before : List ℤ) (m : List (List ℤ))
+    (g : List TrigMem) : Type 0 where
   pub values : AreFit d before
   pub memories : AreInTypes d m
   pub triggers : length g ≡ length d.rows

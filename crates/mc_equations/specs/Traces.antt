@@ -10,4 +10,5 @@ use Rattle.mc_diagram.specs.Run.{value_at}
 -- there is a number for each Inport of the system s, by its port, and it lies in that Inport's type
 abbrev pub HasInputs : Diagram → Option ℕ → List ℤ → Type 0
 HasInputs d s x = (port b : ℕ) → IsInputRow d.rows s port b →
-    (column d.rows s (Number port) < length x) × InType (type_at d.types b) (value_at x (column d.rows s (Number port)))
+    (column d.rows s (Number port) < length x)
+    × InType (type_at d.types b) (value_at x (column d.rows s (Number port)))

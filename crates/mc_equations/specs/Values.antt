@@ -3,7 +3,8 @@ use Rattle.std.specs.Prelude.{◌≡◌, List, None, ℤ}
 use Rattle.mc_diagram.specs.Diagram.{Diagram}
 use Rattle.mc_diagram.specs.Laws.{Run, IsRunOver}
 
--- over the trace xs the diagram has a run, whose values by tick and row are these, and no run has others
+-- over the trace xs the diagram has a run, whose values by tick and row are these, and no run has
+-- others
 pub record AreValuesOf (d : Diagram) (xs vs : List (List ℤ)) : Type 0 where
   pub run : Run
   pub is_run : IsRunOver d None xs run

@@ -77,7 +77,8 @@ pub(crate) fn is_active(
     requires values { length values.now ≡ length r.now.tree.table.rows }
     requires system { IfSome system (λ e. e < length r.now.tree.table.rows) }
     ensures { (x : List ℤ) →
-        result ≡ run.active_in (diagram_of r.now) None x values.now triggers.now (enclosing r.now.tree.table.rows None system) }
+        result ≡ run.active_in (diagram_of r.now) None x values.now triggers.now
+        (enclosing r.now.tree.table.rows None system) }
 {
     match system {
         None => true,
@@ -108,7 +109,8 @@ pub(crate) fn is_off(
     requires values { length values.now ≡ length r.now.tree.table.rows }
     requires system { IfSome system (λ e. e < length r.now.tree.table.rows) }
     ensures { (x : List ℤ) →
-        result ≡ run.any_off (diagram_of r.now) None x values.now triggers.now (enclosing r.now.tree.table.rows None system) }
+        result ≡ run.any_off (diagram_of r.now) None x values.now triggers.now
+        (enclosing r.now.tree.table.rows None system) }
 {
     match system {
         None => false,
@@ -133,7 +135,8 @@ pub(crate) fn is_disabled(
     requires values { length values.now ≡ length r.now.tree.table.rows }
     requires system { IfSome system (λ e. e < length r.now.tree.table.rows) }
     ensures { (x : List ℤ) →
-        result ≡ run.is_disabled (diagram_of r.now) None x values.now triggers.now (enclosing r.now.tree.table.rows None system) }
+        result ≡ run.is_disabled (diagram_of r.now) None x values.now triggers.now
+        (enclosing r.now.tree.table.rows None system) }
 {
     match system {
         None => false,
@@ -167,7 +170,8 @@ pub(crate) fn runs(
     requires triggers { length triggers.now ≡ length r.now.tree.table.rows }
     requires values { length values.now ≡ length r.now.tree.table.rows }
     requires row { b < length r.now.tree.table.rows }
-    ensures { (x : List ℤ) → result ≡ run.runs (diagram_of r.now) None x values.now triggers.now tick b }
+    ensures { (x : List ℤ) →
+        result ≡ run.runs (diagram_of r.now) None x values.now triggers.now tick b }
 {
     is_active(r, triggers, values, row(r, b).owner) && hits(time(r, b), tick)
 }

@@ -82,7 +82,8 @@ pub(crate) fn input_values(
     requires inputs { HasInputs (diagram_of r.now) None inputs.now }
     requires values { length values.now ≡ length r.now.tree.table.rows }
     requires row { b < length r.now.tree.table.rows }
-    ensures { IfOk result (λ v. v.items ≡ run.input_values (diagram_of r.now) None inputs.now values.now [] b) }
+    ensures { IfOk result (λ v. v.items ≡ run.input_values (diagram_of r.now) None inputs.now values.now
+        [] b) }
 {
     let row = row(r, b);
     match (row.kind, row.owner) {

@@ -44,7 +44,8 @@ pub(crate) fn start(r: &Resolved, b: usize) -> i64
 fn initial_output(r: &Resolved, b: usize) -> i64
     requires { b < length r.now.tree.table.rows }
     ensures { let it = row_at r.now.tree.table.rows b in
-        result ≡ run.initial_output it.kind (control_of_system r.now.tree.table.rows it.owner) (type_at r.now.types b) }
+        result ≡ run.initial_output it.kind (control_of_system r.now.tree.table.rows it.owner)
+        (type_at r.now.types b) }
 {
     let row = row(r, b);
     match (row.kind, system_control(r, row.owner)) {
@@ -111,10 +112,13 @@ pub(crate) fn row_value(
     b: usize,
 ) -> Result<i64, Memory>
     requires inputs { HasInputs (diagram_of r.now) None inputs.now }
-    requires before { IsFit (diagram_of r.now) before.now.values.items before.now.memories.items before.now.triggers.items }
+    requires before { IsFit (diagram_of r.now) before.now.values.items before.now.memories.items
+        before.now.triggers.items }
     requires values { AreFit (diagram_of r.now) values.now }
     requires row { b < length r.now.tree.table.rows }
-    ensures { IfOk result (λ v. v ≡ run.row_value (diagram_of r.now) None tick inputs.now before.now.values.items before.now.memories.items before.now.triggers.items values.now b) }
+    ensures { IfOk result (λ v. v
+        ≡ run.row_value (diagram_of r.now) None tick inputs.now before.now.values.items
+        before.now.memories.items before.now.triggers.items values.now b) }
 {
     let row = row(r, b);
     if !has_value(&row.kind) {
@@ -143,7 +147,9 @@ fn computed(
     requires values { AreFit (diagram_of r.now) values.now }
     requires memory { InType (type_at r.now.types b) memory }
     requires row { b < length r.now.tree.table.rows }
-    ensures { IfOk result (λ v. v ≡ value_of (op_at (diagram_of r.now) b) (run.input_values (diagram_of r.now) None inputs.now values.now [] b) memory) }
+    ensures { IfOk result (λ v. v
+        ≡ value_of (op_at (diagram_of r.now) b)
+        (run.input_values (diagram_of r.now) None inputs.now values.now [] b) memory) }
 {
     let read = input_values(alloc, r, inputs, values, b)?;
     Ok(rhs(&op(r, b), read.as_slice(), memory))
@@ -160,11 +166,13 @@ pub(crate) fn row_memory(
     b: usize,
 ) -> Result<Samples, Memory>
     requires inputs { HasInputs (diagram_of r.now) None inputs.now }
-    requires before { IsFit (diagram_of r.now) before.now.values.items before.now.memories.items before.now.triggers.items }
+    requires before { IsFit (diagram_of r.now) before.now.values.items before.now.memories.items
+        before.now.triggers.items }
     requires values { AreFit (diagram_of r.now) values.now }
     requires row { b < length r.now.tree.table.rows }
     ensures { IfOk result (λ m. m ≡ (if run.has_memory (diagram_of r.now) None b
-        then run.row_memory (diagram_of r.now) None tick inputs.now before.now.memories.items before.now.triggers.items values.now b else [])) }
+        then run.row_memory (diagram_of r.now) None tick inputs.now before.now.memories.items
+        before.now.triggers.items values.now b else [])) }
 {
     if !is_delay(&op(r, b)) {
         return Ok(Samples::none(alloc));
@@ -192,7 +200,8 @@ fn first_input(
     requires inputs { HasInputs (diagram_of r.now) None inputs.now }
     requires values { length values.now ≡ length r.now.tree.table.rows }
     requires row { b < length r.now.tree.table.rows }
-    ensures { IfOk result (λ v. v ≡ input (run.input_values (diagram_of r.now) None inputs.now values.now [] b) 0) }
+    ensures { IfOk result (λ v. v
+        ≡ input (run.input_values (diagram_of r.now) None inputs.now values.now [] b) 0) }
 {
     let read = input_values(alloc, r, inputs, values, b)?;
     match read.as_slice().first() {

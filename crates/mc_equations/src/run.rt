@@ -23,7 +23,8 @@ use std::alloc::Global;
 pub fn plain_run(alloc: Global, r: &Resolved, inputs: &[Vec<i64>]) -> Result<Vec<Vec<i64>>, Memory>
     requires no_loop { HasNoLoop (needs_of (diagram_of r.now)) }
     requires inputs { IsTrace (diagram_of r.now) None (map (λ x. x.items) inputs.now) }
-    ensures { IfOk result (λ vs. AreValuesOf (diagram_of r.now) (map (λ x. x.items) inputs.now) (map (λ v. v.items) vs.items)) }
+    ensures { IfOk result (λ vs. AreValuesOf (diagram_of r.now) (map (λ x. x.items) inputs.now)
+        (map (λ v. v.items) vs.items)) }
 {
     let mut state = first_state(alloc, r)?;
     let mut values = Vec::new(alloc);
@@ -36,11 +37,16 @@ pub fn plain_run(alloc: Global, r: &Resolved, inputs: &[Vec<i64>]) -> Result<Vec
 
 // What stands before the first tick.
 fn first_state(alloc: Global, r: &Resolved) -> Result<State, Memory>
-    ensures values { IfOk result (λ first. first.values.items ≡ run.values_by (diagram_of r.now) None (run.start_of (diagram_of r.now))) }
-    ensures memories { IfOk result (λ first. first.memories.items ≡ run.memories_by (diagram_of r.now) None (run.initial_memory (diagram_of r.now))) }
-    ensures triggers { IfOk result (λ first. first.triggers.items ≡ run.triggers_by (diagram_of r.now) None (λ e. NotYet)) }
+    ensures values { IfOk result (λ first. first.values.items
+        ≡ run.values_by (diagram_of r.now) None (run.start_of (diagram_of r.now))) }
+    ensures memories { IfOk result (λ first. first.memories.items
+        ≡ run.memories_by (diagram_of r.now) None (run.initial_memory (diagram_of r.now))) }
+    ensures triggers { IfOk result (λ first. first.triggers.items
+        ≡ run.triggers_by (diagram_of r.now) None (λ e. NotYet)) }
     ensures resolved { IfOk result (λ first. IsResolvedTree r.now) }
-    ensures fit { IfOk result (λ first. IsFit (diagram_of r.now) first.values.items first.memories.items first.triggers.items) }
+    ensures fit { IfOk result
+        (λ first. IsFit (diagram_of r.now) first.values.items first.memories.items
+        first.triggers.items) }
 {
     let mut values = Vec::new(alloc);
     let mut memories = Vec::new(alloc);

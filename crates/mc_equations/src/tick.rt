@@ -24,10 +24,14 @@ pub(crate) fn next_state(
 ) -> Result<State, Memory>
     requires no_loop { HasNoLoop (needs_of (diagram_of r.now)) }
     requires inputs { HasInputs (diagram_of r.now) None inputs.now }
-    requires before { IsFit (diagram_of r.now) before.now.values.items before.now.memories.items before.now.triggers.items }
+    requires before { IsFit (diagram_of r.now) before.now.values.items before.now.memories.items
+        before.now.triggers.items }
     ensures tick { IfOk result (λ after. run.IsTick (diagram_of r.now) None tick inputs.now
-        before.now.values.items before.now.memories.items before.now.triggers.items after.values.items after.memories.items after.triggers.items) }
-    ensures fit { IfOk result (λ after. IsFit (diagram_of r.now) after.values.items after.memories.items after.triggers.items) }
+        before.now.values.items before.now.memories.items before.now.triggers.items
+        after.values.items after.memories.items after.triggers.items) }
+    ensures fit { IfOk result
+        (λ after. IsFit (diagram_of r.now) after.values.items after.memories.items
+        after.triggers.items) }
 {
     let values = solution(alloc, r, tick, inputs, before)?;
     let memories = memories_after(alloc, r, tick, inputs, before, values.as_slice())?;
@@ -50,9 +54,11 @@ fn solution(
 ) -> Result<Vec<i64>, Memory>
     requires no_loop { HasNoLoop (needs_of (diagram_of r.now)) }
     requires inputs { HasInputs (diagram_of r.now) None inputs.now }
-    requires before { IsFit (diagram_of r.now) before.now.values.items before.now.memories.items before.now.triggers.items }
+    requires before { IsFit (diagram_of r.now) before.now.values.items before.now.memories.items
+        before.now.triggers.items }
     ensures solves { IfOk result (λ v. v.items ≡ run.values_by (diagram_of r.now) None
-        (run.row_value (diagram_of r.now) None tick inputs.now before.now.values.items before.now.memories.items before.now.triggers.items v.items)) }
+        (run.row_value (diagram_of r.now) None tick inputs.now before.now.values.items
+        before.now.memories.items before.now.triggers.items v.items)) }
     ensures fit { IfOk result (λ v. AreFit (diagram_of r.now) v.items) }
 {
     let mut values = Vec::from_slice(alloc, before.values.as_slice())?;
@@ -76,10 +82,12 @@ fn round(
     values: &[i64],
 ) -> Result<Vec<i64>, Memory>
     requires inputs { HasInputs (diagram_of r.now) None inputs.now }
-    requires before { IsFit (diagram_of r.now) before.now.values.items before.now.memories.items before.now.triggers.items }
+    requires before { IsFit (diagram_of r.now) before.now.values.items before.now.memories.items
+        before.now.triggers.items }
     requires values { AreFit (diagram_of r.now) values.now }
     ensures values { IfOk result (λ v. v.items ≡ run.values_by (diagram_of r.now) None
-        (run.row_value (diagram_of r.now) None tick inputs.now before.now.values.items before.now.memories.items before.now.triggers.items values.now)) }
+        (run.row_value (diagram_of r.now) None tick inputs.now before.now.values.items
+        before.now.memories.items before.now.triggers.items values.now)) }
     ensures fit { IfOk result (λ v. AreFit (diagram_of r.now) v.items) }
 {
     let mut next = Vec::new(alloc);
@@ -99,10 +107,12 @@ fn memories_after(
     values: &[i64],
 ) -> Result<Vec<Samples>, Memory>
     requires inputs { HasInputs (diagram_of r.now) None inputs.now }
-    requires before { IsFit (diagram_of r.now) before.now.values.items before.now.memories.items before.now.triggers.items }
+    requires before { IsFit (diagram_of r.now) before.now.values.items before.now.memories.items
+        before.now.triggers.items }
     requires values { AreFit (diagram_of r.now) values.now }
     ensures memories { IfOk result (λ m. m.items ≡ run.memories_by (diagram_of r.now) None
-        (run.row_memory (diagram_of r.now) None tick inputs.now before.now.memories.items before.now.triggers.items values.now)) }
+        (run.row_memory (diagram_of r.now) None tick inputs.now before.now.memories.items
+        before.now.triggers.items values.now)) }
     ensures fit { IfOk result (λ m. AreInTypes (diagram_of r.now) m.items) }
 {
     let mut next = Vec::new(alloc);

@@ -46,7 +46,8 @@ fn input_count(r: &Resolved) -> usize
 
 // How many of the rows are Inports of the root.
 fn root_inports(rows: &[Row]) -> usize
-    ensures { result ≡ count_by (λ (row : PlainRow). same_system row.owner None && is_inport row.kind) rows.now }
+    ensures { result
+        ≡ count_by (λ (row : PlainRow). same_system row.owner None && is_inport row.kind) rows.now }
 {
     let mut count = 0;
     for row in rows {
@@ -83,7 +84,8 @@ fn has_inputs(r: &Resolved, inputs: &[i64]) -> bool
 fn has_input_of(r: &Resolved, inputs: &[i64], b: usize) -> bool
     requires { b < length r.now.tree.table.rows }
     ensures { (result ≡ true) ↔ ((port : ℕ) → IsInputRow r.now.tree.table.rows None port b →
-        (port - 1 < length inputs.now) × InType (type_at r.now.types b) (value_at inputs.now (port - 1))) }
+        (port - 1 < length inputs.now)
+        × InType (type_at r.now.types b) (value_at inputs.now (port - 1))) }
 {
     let row = row(r, b);
     match (row.kind, row.owner) {
@@ -96,7 +98,8 @@ fn has_input_of(r: &Resolved, inputs: &[i64], b: usize) -> bool
 
 // Whether a row of a trace has a number in this column, and it lies in the type.
 fn has_number(inputs: &[i64], column: usize, t: FixType) -> bool
-    ensures { (result ≡ true) ↔ ((column < length inputs.now) × InType t (value_at inputs.now column)) }
+    ensures { (result ≡ true)
+        ↔ ((column < length inputs.now) × InType t (value_at inputs.now column)) }
 {
     match inputs.get(column) {
         Some(number) => least(t) <= *number && *number <= greatest(t),

@@ -10,7 +10,8 @@ abbrev pub state_after : ℕ → ℕ → ℕ
 state_after start zero = start
 state_after start (suc n) = draw (state_after start n)
 
--- the gain of a subsystem, the signs of its sum and the initial condition of its delay, each by a draw
+-- the gain of a subsystem, the signs of its sum and the initial condition of its delay, each by a
+-- draw
 abbrev pub gain_of : ℕ → ℕ
 gain_of drawn = 1 + drawn % 7
 

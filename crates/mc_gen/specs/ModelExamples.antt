@@ -6,7 +6,8 @@ use Rattle.mc_gen.specs.Draws.{gain_of, initial_of, signs_of, state_after}
 use Rattle.mc_gen.specs.Models.{trace_text}
 
 -- the seven draws of a model of one subsystem and of its trace
-seven_draws : map (state_after 1) (range_with_len 1 7) ≡ 48271 ∷ 182605794 ∷ 1291394886 ∷ 1914720637 ∷ 2078669041 ∷ 407355683 ∷ 1105902161 ∷ []
+seven_draws : map (state_after 1) (range_with_len 1 7) ≡ 48271 ∷ 182605794 ∷ 1291394886 ∷ 1914720637
+    ∷ 2078669041 ∷ 407355683 ∷ 1105902161 ∷ []
 seven_draws = refl
 
 first_gain : gain_of 48271 ≡ 7

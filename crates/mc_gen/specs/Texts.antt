@@ -12,14 +12,18 @@ quoted name value = name ++ codes " \"" ++ value ++ codes "\""
 -- a block of this type and name with one further parameter
 unfoldable pub block_text : List ℕ → List ℕ → List ℕ → List ℕ → List ℕ
 block_text type name param value =
-    text_of (codes "Block {" ∷ (codes "BlockType " ++ type) ∷ quoted (codes "Name") name ∷ quoted param value ∷ codes "}" ∷ [])
+    text_of (codes "Block {" ∷ (codes "BlockType " ++ type) ∷ quoted (codes "Name") name
+    ∷ quoted param value ∷ codes "}" ∷ [])
 
 -- a line from a port of one block to a port of another
 unfoldable pub source_text : List ℕ → ℕ → List ℕ
-source_text from port = text_of (codes "Line {" ∷ quoted (codes "SrcBlock") from ∷ (codes "SrcPort " ++ decimal port) ∷ [])
+source_text from port =
+    text_of (codes "Line {" ∷ quoted (codes "SrcBlock") from ∷ (codes "SrcPort " ++ decimal port)
+    ∷ [])
 
 unfoldable pub target_text : List ℕ → ℕ → List ℕ
-target_text to port = text_of (quoted (codes "DstBlock") to ∷ (codes "DstPort " ++ decimal port) ∷ codes "}" ∷ [])
+target_text to port =
+    text_of (quoted (codes "DstBlock") to ∷ (codes "DstPort " ++ decimal port) ∷ codes "}" ∷ [])
 
 unfoldable pub line_text : List ℕ → ℕ → List ℕ → ℕ → List ℕ
 line_text from from_port to to_port = source_text from from_port ++ target_text to to_port
@@ -28,7 +32,8 @@ line_text from from_port to to_port = source_text from from_port ++ target_text 
 unfoldable pub input_text : List ℕ
 input_text =
     text_of (codes "Block {" ∷ codes "BlockType Inport" ∷ quoted (codes "Name") (codes "In1")
-    ∷ quoted (codes "Port") (codes "1") ∷ quoted (codes "OutDataTypeStr") (codes "int32") ∷ codes "}" ∷ [])
+    ∷ quoted (codes "Port") (codes "1") ∷ quoted (codes "OutDataTypeStr") (codes "int32")
+    ∷ codes "}" ∷ [])
 
 abbrev pub inport_text : List ℕ → ℕ → List ℕ
 inport_text name port = block_text (codes "Inport") name (codes "Port") (decimal port)

@@ -4,7 +4,8 @@ use Rattle.mc_diagram.specs.ResolvedTable.{ResolvedTable, diagram_of_table}
 use Rattle.mc_report.specs.Reports.{IsReportText}
 use Rattle.mc_verdict.specs.Verdict.{Accepted, HasVerdict}
 
--- the file is accepted, and the text is that of the reports on all systems of the diagram of its model
+-- the file is accepted, and the text is that of the reports on all systems of the diagram of its
+-- model
 pub record IsReportOf (bytes text : List ℕ) : Type 0 where
   pub resolved : ResolvedTable
   pub verdict : HasVerdict bytes (Accepted resolved)

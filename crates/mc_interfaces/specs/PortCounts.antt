@@ -15,4 +15,5 @@ place_of (Some e) = e + 1
 
 -- how many rows of each system pass a test, by the places of systems
 abbrev pub AreCounts : (Kind → Bool) → List Row → List ℕ → Type 0
-AreCounts test rows counts = (s : Option ℕ) → slice_index_or counts (place_of s) 0 ≡ count_by (is_own test s) rows
+AreCounts test rows counts =
+    (s : Option ℕ) → slice_index_or counts (place_of s) 0 ≡ count_by (is_own test s) rows

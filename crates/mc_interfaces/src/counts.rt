@@ -41,8 +41,10 @@ fn add_one(counts: &mut Vec<u32>, place: usize)
     requires inside { place < length counts.old.items }
     requires small { slice_index_or counts.old.items place 0 ≤ 20_000 }
     ensures length { length counts.new.items ≡ length counts.old.items }
-    ensures more { slice_index_or counts.new.items place 0 ≡ slice_index_or counts.old.items place 0 + 1 }
-    ensures others { (k : ℕ) → (k ≡ place → ⊥) → slice_index_or counts.new.items k 0 ≡ slice_index_or counts.old.items k 0 }
+    ensures more { slice_index_or counts.new.items place 0 ≡ slice_index_or counts.old.items place 0
+        + 1 }
+    ensures others { (k : ℕ) → (k ≡ place → ⊥) →
+        slice_index_or counts.new.items k 0 ≡ slice_index_or counts.old.items k 0 }
 {
     counts[place] += 1;
 }

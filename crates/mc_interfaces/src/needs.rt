@@ -41,7 +41,8 @@ pub(crate) fn needs_of(
     functions: &[Function],
 ) -> Result<Vec<u64>, Memory>
     requires { outputs ≤ 32 }
-    ensures needs { IfOk result (λ needs. needs.items ≡ map (need_from functions.now) (range_with_len 0 outputs)) }
+    ensures needs { IfOk result (λ needs. needs.items
+        ≡ map (need_from functions.now) (range_with_len 0 outputs)) }
     ensures len { IfOk result (λ needs. length needs.items ≡ outputs) }
 {
     let mut needs = Vec::new(alloc);

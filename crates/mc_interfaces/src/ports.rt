@@ -99,7 +99,8 @@ pub(crate) fn controls_of(
     r: &Resolved,
     system: Option<u32>,
 ) -> Result<Vec<Port>, Memory>
-    ensures { IfOk result (λ ports. ports.items ≡ control_ports (control_of_system r.now.tree.table.rows system)) }
+    ensures { IfOk result (λ ports. ports.items
+        ≡ control_ports (control_of_system r.now.tree.table.rows system)) }
 {
     ports_of(alloc, system_control(r, system))
 }

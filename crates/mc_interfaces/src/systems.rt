@@ -20,7 +20,9 @@ use std::alloc::Global;
 ///
 /// Fails only for want of memory.
 pub(crate) fn reports_on_systems(alloc: Global, r: &Resolved) -> Result<Vec<SystemReport>, Memory>
-    ensures each { IfOk result (λ reports. AllZip (IsReportOn (diagram_of r.now)) (systems r.now.tree.table.rows) reports.items) }
+    ensures each { IfOk result
+        (λ reports. AllZip (IsReportOn (diagram_of r.now))
+        (systems r.now.tree.table.rows) reports.items) }
     ensures right { IfOk result (λ reports. All IsReport reports.items) }
 {
     is_resolved(r);
@@ -45,7 +47,9 @@ fn reports_with(
     requires inports { AreCounts is_inport r.now.tree.table.rows inports.now }
     requires outports { AreCounts is_outport r.now.tree.table.rows outports.now }
     requires profiles { All (λ p. IsProfileOf (diagram_of r.now) p.row p) profiles.now }
-    ensures { IfOk result (λ reports. AllZip (IsReportOn (diagram_of r.now)) (map (λ p. p.row) profiles.now) reports.items) }
+    ensures { IfOk result
+        (λ reports. AllZip (IsReportOn (diagram_of r.now))
+        (map (λ p. p.row) profiles.now) reports.items) }
 {
     let mut reports = Vec::new(alloc);
     for profile in profiles {

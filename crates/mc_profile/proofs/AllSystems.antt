@@ -100,12 +100,20 @@ module _ (rows : List Row) (nested : IsNested rows) where
       record { head = e; at = subst (Contains (o ∷ hs)) is (in-first o hs); row = e; is = sym same ∙ is; sub = sub; under = inl refl }
   first o hs z e is sub (inr inner) =
       let moved : IsInner (Some e) z = subst (λ p. IsInner p z) is inner in
-      record { head = e; at = subst (Contains (o ∷ hs)) is (in-first o hs); row = moved.row; is = moved.is; sub = moved.sub; under = inr moved.under }
+      record {
+        head = e;
+        at = subst (Contains (o ∷ hs)) is (in-first o hs);
+        row = moved.row;
+        is = moved.is;
+        sub = moved.sub;
+        under = inr moved.under;
+      }
 
   later : (o : Option ℕ) (hs : List (Option ℕ)) (z : Option ℕ) → IsBehind hs z → IsBehind (o ∷ hs) z
   later o hs z b = record { head = b.head; at = in-rest o (Some b.head) hs b.at; row = b.row; is = b.is; sub = b.sub; under = b.under }
 
-  under-head : (o : Option ℕ) (head row : ℕ) → IsSub head → owner rows nested head ≡ o → IsSub row → (head ≡ row) ⊎ IsUnder (Some head) row → IsUnder o row
+  under-head : (o : Option ℕ) (head row : ℕ) → IsSub head → owner rows nested head ≡ o → IsSub row →
+      (head ≡ row) ⊎ IsUnder (Some head) row → IsUnder o row
   under-head None head row sub is inside h = tt
   under-head (Some f) head row sub is inside h =
       let owned : (f < head) × IsTrue (is_subsystem (row_at rows f).kind) = subst (IsOwner rows head) is (nested.owned head sub.0) in
@@ -126,10 +134,12 @@ module _ (rows : List Row) (nested : IsNested rows) where
     inside (system row line control own children) agrees z h = elim (in-cases row z (rows_of_all children) h) [
       | inl same ↦ inl same
       | inr more ↦
-          inr (inner-of row (heads children) z (owned-heads row (heads children) agrees.2) (behind children agrees.3 (sub-heads row (heads children) agrees.2) z more))
+          inr (inner-of row (heads children) z (owned-heads row (heads children) agrees.2)
+          (behind children agrees.3 (sub-heads row (heads children) agrees.2) z more))
     ]
 
-    behind : (cs : Systems) → AllAgree rows cs → AreSubsystems (heads cs) → (z : Option ℕ) → Contains (rows_of_all cs) z → IsBehind (heads cs) z
+    behind : (cs : Systems) → AllAgree rows cs → AreSubsystems (heads cs) → (z : Option ℕ) →
+        Contains (rows_of_all cs) z → IsBehind (heads cs) z
     behind no_more agree subs z h = absurd (in-none z h)
     behind (next c rest) agree subs z h = elim (Contains-append_cases (rows_inside c) (rows_of_all rest) z h) [
       | inl here ↦ let head = subs (row_of c) (in-first (row_of c) (heads rest)) in
@@ -147,7 +157,8 @@ module _ (rows : List Row) (nested : IsNested rows) where
       omega (arith, e, low)
 
   -- what is in one of two subsystems of a system stands before the other
-  below-head : (e f r : ℕ) → IsSub e → IsSub f → owner rows nested f ≡ owner rows nested e → e < f → IsSub r → (e ≡ r) ⊎ IsUnder (Some e) r → r < f
+  below-head : (e f r : ℕ) → IsSub e → IsSub f → owner rows nested f ≡ owner rows nested e → e < f → IsSub r →
+      (e ≡ r) ⊎ IsUnder (Some e) r → r < f
   below-head e f r sub other same low is (inl here) = omega (arith, here, low)
   below-head e f r sub other same low is (inr under) = elim (cases_lt r f) [
     | inl less ↦ less
@@ -161,7 +172,8 @@ module _ (rows : List Row) (nested : IsNested rows) where
   above-head f r is (inl here) = omega (arith, here)
   above-head f r is (inr under) = let low = is-before rows nested r f is.0 under in omega (arith, low)
 
-  apart : (o h : Option ℕ) (hs : List (Option ℕ)) (x y : Option ℕ) → AreOwned o (h ∷ hs) → IsBelow rank h hs → IsBehind (h ∷ []) x → IsBehind hs y → rank x < rank y
+  apart : (o h : Option ℕ) (hs : List (Option ℕ)) (x y : Option ℕ) → AreOwned o (h ∷ hs) → IsBelow rank h hs →
+      IsBehind (h ∷ []) x → IsBehind hs y → rank x < rank y
   apart o h hs x y owned low a b =
       let is : h ≡ Some a.head = elim (in-cases h (Some a.head) [] a.at) [
         | inl same ↦ same
@@ -185,7 +197,8 @@ module _ (rows : List Row) (nested : IsNested rows) where
           rising-all row children agrees.3 owned subs (rising-heads row (heads children) agrees.2),
         )
 
-    rising-all : (o : Option ℕ) (cs : Systems) → AllAgree rows cs → AreOwned o (heads cs) → AreSubsystems (heads cs) → Rising rank (heads cs) → Rising rank (rows_of_all cs)
+    rising-all : (o : Option ℕ) (cs : Systems) → AllAgree rows cs → AreOwned o (heads cs) → AreSubsystems (heads cs) →
+        Rising rank (heads cs) → Rising rank (rows_of_all cs)
     rising-all o no_more agree owned subs up = tt
     rising-all o (next c rest) agree owned subs up =
         let h = row_of c in
@@ -194,19 +207,23 @@ module _ (rows : List Row) (nested : IsNested rows) where
         let head = subs h (in-first h hs) in
         rising-append rank (rows_inside c) (rows_of_all rest) (rising c agree.0)
         (rising-all o rest agree.1 (λ e k. owned e (in-rest h (Some e) hs k)) fewer up.1)
-        (λ x y left right. apart o h hs x y owned up.0 (first h [] x head.0 head.1 head.2 (inside c agree.0 x left)) (behind rest agree.1 fewer y right))
+        (λ x y left right. apart o h hs x y owned up.0 (first h [] x head.0 head.1 head.2 (inside c agree.0 x left))
+        (behind rest agree.1 fewer y right))
 
   -- ---- Each subsystem is in the root
 
   mutual
-    down : (s : System) → Agrees rows s → (z : Option ℕ) (e : ℕ) → Contains (rows_inside s) z → IsSub e → owner rows nested e ≡ z → Contains (rows_inside s) (Some e)
-    down (system row line control own children) agrees z e h sub is = in-rest row (Some e) (rows_of_all children) (elim (in-cases row z (rows_of_all children) h) [
-      | inl same ↦ head-in children (Some e) (subst (λ hs. Contains hs (Some e)) (sym agrees.2)
-          (in-map Some (subsystems_of rows row) e (in-subsystems rows row e sub.0 (is ∙ sym same) sub.1)))
-      | inr more ↦ down-all children agrees.3 z e more sub is
-    ])
+    down : (s : System) → Agrees rows s → (z : Option ℕ) (e : ℕ) → Contains (rows_inside s) z → IsSub e →
+        owner rows nested e ≡ z → Contains (rows_inside s) (Some e)
+    down (system row line control own children) agrees z e h sub is =
+        in-rest row (Some e) (rows_of_all children) (elim (in-cases row z (rows_of_all children) h) [
+          | inl same ↦ head-in children (Some e) (subst (λ hs. Contains hs (Some e)) (sym agrees.2)
+              (in-map Some (subsystems_of rows row) e (in-subsystems rows row e sub.0 (is ∙ sym same) sub.1)))
+          | inr more ↦ down-all children agrees.3 z e more sub is
+        ])
 
-    down-all : (cs : Systems) → AllAgree rows cs → (z : Option ℕ) (e : ℕ) → Contains (rows_of_all cs) z → IsSub e → owner rows nested e ≡ z → Contains (rows_of_all cs) (Some e)
+    down-all : (cs : Systems) → AllAgree rows cs → (z : Option ℕ) (e : ℕ) → Contains (rows_of_all cs) z → IsSub e →
+        owner rows nested e ≡ z → Contains (rows_of_all cs) (Some e)
     down-all no_more agree z e h sub is = absurd (in-none z h)
     down-all (next c rest) agree z e h sub is = elim (Contains-append_cases (rows_inside c) (rows_of_all rest) z h) [
       | inl here ↦ Contains-append_left (rows_inside c) (rows_of_all rest) (Some e) (down c agree.0 z e here sub is)
@@ -218,7 +235,8 @@ module _ (rows : List Row) (nested : IsNested rows) where
     each-in zero e low sub = absurd (omega (arith, low))
     each-in (suc k) e low sub = by (owner rows nested e) refl (nested.owned e sub.0) (each-in k)
       where
-        by : (o : Option ℕ) → owner rows nested e ≡ o → IsOwner rows e o → ((f : ℕ) → f < k → IsSub f → Contains (rows_inside root) (Some f)) → Contains (rows_inside root) (Some e)
+        by : (o : Option ℕ) → owner rows nested e ≡ o → IsOwner rows e o →
+            ((f : ℕ) → f < k → IsSub f → Contains (rows_inside root) (Some f)) → Contains (rows_inside root) (Some e)
         by None is owned more = down root are.agrees None e (subst (Contains (rows_inside root)) are.is_root (own-in root)) sub is
         by (Some f) is owned more =
             let less : f < e = owned.0 in
@@ -232,7 +250,9 @@ module _ (rows : List Row) (nested : IsNested rows) where
     in-systems : (z : Option ℕ) → Contains (rows_inside root) z → Contains (systems rows) z
     in-systems z h = elim (inside root are.agrees z h) [
       | inl same ↦ subst (Contains (systems rows)) (sym are.is_root ∙ same) (in-first None (map Some (systems_inside rows None)))
-      | inr inner ↦ in-rest None z (map Some (systems_inside rows None)) (subst (Contains (map Some (systems_inside rows None))) (sym inner.is)
+      | inr inner ↦
+          in-rest None z (map Some (systems_inside rows None))
+          (subst (Contains (map Some (systems_inside rows None))) (sym inner.is)
           (in-map Some (systems_inside rows None) inner.row (in-filter test (row_numbers rows) inner.row
           (in-range 0 (length rows) inner.row (omega arith) (let high = inner.sub.0 in omega (arith, high)))
           (and-more (is_subsystem (row_at rows inner.row).kind) inner.sub.1))))

@@ -54,11 +54,13 @@ module _ (rows : List Row) where
         by (Some f) h = omega arith
 
     -- outward from a system inside e: those inside e, and then e
-    pub outward-through : (n : ℕ) (o : Option ℕ) → LeadsTo rows e n o → inner s (outward rows s n o) ≡ inner (Some e) (outward rows (Some e) n o) ++ e ∷ []
+    pub outward-through : (n : ℕ) (o : Option ℕ) → LeadsTo rows e n o →
+        inner s (outward rows s n o) ≡ inner (Some e) (outward rows (Some e) n o) ++ e ∷ []
     outward-through zero o h = absurd h
     outward-through (suc n) None h = absurd h
     outward-through (suc n) (Some g) (inl same) =
-        subst (λ k. inner s (outward rows s (suc n) (Some k)) ≡ inner (Some e) (outward rows (Some e) (suc n) (Some k)) ++ e ∷ []) (sym same) here
+        subst (λ k. inner s (outward rows s (suc n) (Some k)) ≡ inner (Some e) (outward rows (Some e) (suc n) (Some k))
+        ++ e ∷ []) (sym same) here
       where
         apart : is_system s e ≡ false
         apart = not-before s e before
@@ -67,18 +69,23 @@ module _ (rows : List Row) where
         own = eq-eqb e e refl
 
         outer : inner s (outward rows s (suc n) (Some e)) ≡ e ∷ []
-        outer = ap (λ r. inner s (e ∷ (if r then [] else outward rows s n (row_at rows e).owner))) apart ∙ inner-kept s e (outward rows s n (row_at rows e).owner) apart
+        outer = ap (λ r. inner s (e ∷ (if r then [] else outward rows s n (row_at rows e).owner))) apart
+            ∙ inner-kept s e (outward rows s n (row_at rows e).owner) apart
             ∙ ap (λ o. e ∷ inner s (outward rows s n o)) owned ∙ ap (λ es. e ∷ es) (nothing-inside s n)
 
         within : inner (Some e) (outward rows (Some e) (suc n) (Some e)) ≡ []
-        within = ap (λ r. inner (Some e) (e ∷ (if r then [] else outward rows (Some e) n (row_at rows e).owner))) own ∙ inner-left (Some e) e [] own
+        within = ap (λ r. inner (Some e) (e ∷ (if r then [] else outward rows (Some e) n (row_at rows e).owner))) own
+            ∙ inner-left (Some e) e [] own
 
         here : inner s (outward rows s (suc n) (Some e)) ≡ inner (Some e) (outward rows (Some e) (suc n) (Some e)) ++ e ∷ []
         here = outer ∙ sym (ap (λ es. es ++ e ∷ []) within)
     outward-through (suc n) (Some g) (inr (below, rest)) =
-        ap (λ r. inner s (g ∷ (if r then [] else outward rows s n (row_at rows g).owner))) apart ∙ inner-kept s g (outward rows s n (row_at rows g).owner) apart
+        ap (λ r. inner s (g ∷ (if r then [] else outward rows s n (row_at rows g).owner))) apart
+        ∙ inner-kept s g (outward rows s n (row_at rows g).owner) apart
         ∙ ap (λ es. g ∷ es) (outward-through n (row_at rows g).owner rest)
-        ∙ sym (ap (λ es. es ++ e ∷ []) (ap (λ r. inner (Some e) (g ∷ (if r then [] else outward rows (Some e) n (row_at rows g).owner))) other ∙ inner-kept (Some e) g (outward rows (Some e) n (row_at rows g).owner) other))
+        ∙ sym (ap (λ es. es ++ e ∷ [])
+        (ap (λ r. inner (Some e) (g ∷ (if r then [] else outward rows (Some e) n (row_at rows g).owner))) other
+        ∙ inner-kept (Some e) g (outward rows (Some e) n (row_at rows g).owner) other))
       where
         apart : is_system s g ≡ false
         apart = not-before s g (later g below)
@@ -95,13 +102,16 @@ module _ (rows : List Row) where
     around-through x inside =
         ap (λ r. inner s (if r then [] else enclosing rows s (row_at rows x).owner)) (not-before s x (later x inside.behind))
         ∙ outward-through (length rows) (row_at rows x).owner inside.leads
-        ∙ sym (ap (λ r. inner (Some e) (if r then [] else enclosing rows (Some e) (row_at rows x).owner) ++ e ∷ []) (ne_eqb e x (λ same. let b = inside.behind in omega arith)))
+        ∙ sym (ap (λ r. inner (Some e) (if r then [] else enclosing rows (Some e) (row_at rows x).owner) ++ e ∷ [])
+        (ne_eqb e x (λ same. let b = inside.behind in omega arith)))
 
 control_wires-append : (rows : List Row) (es fs : List ℕ) → control_wires rows (es ++ fs) ≡ control_wires rows es ++ control_wires rows fs
 control_wires-append rows [] fs = refl
-control_wires-append rows (e ∷ es) fs = ap (λ ws. (row_at rows e).inputs ++ ws) (control_wires-append rows es fs) ∙ sym (append_assoc (row_at rows e).inputs (control_wires rows es) (control_wires rows fs))
+control_wires-append rows (e ∷ es) fs = ap (λ ws. (row_at rows e).inputs ++ ws) (control_wires-append rows es fs)
+    ∙ sym (append_assoc (row_at rows e).inputs (control_wires rows es) (control_wires rows fs))
 
-module _ (d : Diagram) (s : Option ℕ) (e : ℕ) (owned : (row_at d.rows e).owner ≡ s) (before : IsBefore s e) (x : ℕ) (inside : IsInsideChild d.rows s e owned before x) where
+module _ (d : Diagram) (s : Option ℕ) (e : ℕ) (owned : (row_at d.rows e).owner ≡ s) (before : IsBefore s e) (x : ℕ)
+    (inside : IsInsideChild d.rows s e owned before x) where
   leads-apart : (n : ℕ) (o : Option ℕ) → LeadsTo d.rows e n o → same_system o s ≡ false
   leads-apart zero o h = absurd h
   leads-apart (suc n) None h = absurd h
@@ -109,7 +119,9 @@ module _ (d : Diagram) (s : Option ℕ) (e : ℕ) (owned : (row_at d.rows e).own
   leads-apart (suc n) (Some g) (inr (below, rest)) = not-before s g (later d.rows s e owned before g below)
 
   no_own_inport : is_inport_of d.rows s x ≡ false
-  no_own_inport = ap (λ r. is_inport (row_at d.rows x).kind && r) (leads-apart (length d.rows) (row_at d.rows x).owner inside.leads) ∙ no (is_inport (row_at d.rows x).kind)
+  no_own_inport =
+      ap (λ r. is_inport (row_at d.rows x).kind && r) (leads-apart (length d.rows) (row_at d.rows x).owner inside.leads)
+      ∙ no (is_inport (row_at d.rows x).kind)
     where
       no : (r : Bool) → (r && false) ≡ false
       no true = refl
@@ -124,7 +136,8 @@ module _ (d : Diagram) (s : Option ℕ) (e : ℕ) (owned : (row_at d.rows e).own
       ap (λ r. (if r then [] else inputs_used d x) ++ control_wires d.rows (around_inside d.rows s x)) no_own_inport
       ∙ ap (λ es. inputs_used d x ++ control_wires d.rows es) (around-through d.rows s e owned before x inside)
 
-  controls-are : control_wires d.rows (around_inside d.rows (Some e) x ++ e ∷ []) ≡ control_wires d.rows (around_inside d.rows (Some e) x) ++ ((row_at d.rows e).inputs ++ [])
+  controls-are : control_wires d.rows (around_inside d.rows (Some e) x ++ e ∷ [])
+      ≡ control_wires d.rows (around_inside d.rows (Some e) x) ++ ((row_at d.rows e).inputs ++ [])
   controls-are = control_wires-append d.rows (around_inside d.rows (Some e) x) (e ∷ [])
 
   -- a wire that enters the child: by an Inport of it, or by a control
@@ -138,23 +151,36 @@ module _ (d : Diagram) (s : Option ℕ) (e : ℕ) (owned : (row_at d.rows e).own
 
   -- what a row needs in the system around is what it needs in the child, or enters the child
   pub needs-outward : (c : ℕ) → Contains (needs_inside d s x) c → Contains (needs_inside d (Some e) x) c ⊎ Enters c
-  needs-outward c h = elim (Contains-append_cases (inputs_used d x) (control_wires d.rows (around_inside d.rows (Some e) x ++ e ∷ [])) c (subst (λ ws. Contains ws c) needs-are h)) [
-    | inl used ↦ elim (used-inside c (is_inport_of d.rows (Some e) x) refl used) [
-      | inl within ↦ inl (Contains-append_left (if is_inport_of d.rows (Some e) x then [] else inputs_used d x) (control_wires d.rows (around_inside d.rows (Some e) x)) c within)
-      | inr entering ↦ inr (inl entering)
-    ]
-    | inr control ↦ elim (Contains-append_cases (control_wires d.rows (around_inside d.rows (Some e) x)) ((row_at d.rows e).inputs ++ []) c (subst (λ ws. Contains ws c) controls-are control)) [
-      | inl within ↦ inl (Contains-append_right (if is_inport_of d.rows (Some e) x then [] else inputs_used d x) (control_wires d.rows (around_inside d.rows (Some e) x)) c within)
-      | inr own ↦ inr (inr (subst (λ ws. Contains ws c) (append-nil (row_at d.rows e).inputs) own))
-    ]
-  ]
+  needs-outward c h =
+      elim (Contains-append_cases (inputs_used d x) (control_wires d.rows (around_inside d.rows (Some e) x ++ e ∷ [])) c
+      (subst (λ ws. Contains ws c) needs-are h)) [
+        | inl used ↦ elim (used-inside c (is_inport_of d.rows (Some e) x) refl used) [
+          | inl within ↦
+              inl (Contains-append_left (if is_inport_of d.rows (Some e) x then [] else inputs_used d x)
+              (control_wires d.rows (around_inside d.rows (Some e) x)) c within)
+          | inr entering ↦ inr (inl entering)
+        ]
+        | inr control ↦
+            elim (Contains-append_cases (control_wires d.rows (around_inside d.rows (Some e) x))
+            ((row_at d.rows e).inputs ++ []) c (subst (λ ws. Contains ws c) controls-are control)) [
+              | inl within ↦
+                  inl (Contains-append_right (if is_inport_of d.rows (Some e) x then [] else inputs_used d x)
+                  (control_wires d.rows (around_inside d.rows (Some e) x)) c within)
+              | inr own ↦ inr (inr (subst (λ ws. Contains ws c) (append-nil (row_at d.rows e).inputs) own))
+            ]
+      ]
 
   from-used : (c : ℕ) → Contains (inputs_used d x) c → Contains (needs_inside d s x) c
-  from-used c h = subst (λ ws. Contains ws c) (sym needs-are) (Contains-append_left (inputs_used d x) (control_wires d.rows (around_inside d.rows (Some e) x ++ e ∷ [])) c h)
+  from-used c h =
+      subst (λ ws. Contains ws c) (sym needs-are)
+      (Contains-append_left (inputs_used d x) (control_wires d.rows (around_inside d.rows (Some e) x ++ e ∷ [])) c h)
 
-  from-controls : (c : ℕ) → Contains (control_wires d.rows (around_inside d.rows (Some e) x) ++ ((row_at d.rows e).inputs ++ [])) c → Contains (needs_inside d s x) c
+  from-controls : (c : ℕ) →
+      Contains (control_wires d.rows (around_inside d.rows (Some e) x) ++ ((row_at d.rows e).inputs ++ [])) c →
+      Contains (needs_inside d s x) c
   from-controls c h = subst (λ ws. Contains ws c) (sym needs-are)
-      (Contains-append_right (inputs_used d x) (control_wires d.rows (around_inside d.rows (Some e) x ++ e ∷ [])) c (subst (λ ws. Contains ws c) (sym controls-are) h))
+      (Contains-append_right (inputs_used d x) (control_wires d.rows (around_inside d.rows (Some e) x ++ e ∷ [])) c
+      (subst (λ ws. Contains ws c) (sym controls-are) h))
 
   used-by : (c : ℕ) (own : Bool) → Contains (if own then [] else inputs_used d x) c → Contains (inputs_used d x) c
   used-by c true (k, below, is) = absurd (omega arith)
@@ -162,10 +188,15 @@ module _ (d : Diagram) (s : Option ℕ) (e : ℕ) (owned : (row_at d.rows e).own
 
   -- and each of these is needed
   pub needs-inward : (c : ℕ) → Contains (needs_inside d (Some e) x) c ⊎ Enters c → Contains (needs_inside d s x) c
-  needs-inward c (inl within) = elim (Contains-append_cases (if is_inport_of d.rows (Some e) x then [] else inputs_used d x) (control_wires d.rows (around_inside d.rows (Some e) x)) c within) [
-    | inl used ↦ from-used c (used-by c (is_inport_of d.rows (Some e) x) used)
-    | inr control ↦ from-controls c (Contains-append_left (control_wires d.rows (around_inside d.rows (Some e) x)) ((row_at d.rows e).inputs ++ []) c control)
-  ]
+  needs-inward c (inl within) =
+      elim (Contains-append_cases (if is_inport_of d.rows (Some e) x then [] else inputs_used d x)
+      (control_wires d.rows (around_inside d.rows (Some e) x)) c within) [
+        | inl used ↦ from-used c (used-by c (is_inport_of d.rows (Some e) x) used)
+        | inr control ↦
+            from-controls c (Contains-append_left (control_wires d.rows (around_inside d.rows (Some e) x))
+            ((row_at d.rows e).inputs ++ []) c control)
+      ]
   needs-inward c (inr (inl (own, used))) = from-used c used
   needs-inward c (inr (inr control)) =
-      from-controls c (Contains-append_right (control_wires d.rows (around_inside d.rows (Some e) x)) ((row_at d.rows e).inputs ++ []) c (Contains-append_left (row_at d.rows e).inputs [] c control))
+      from-controls c (Contains-append_right (control_wires d.rows (around_inside d.rows (Some e) x))
+      ((row_at d.rows e).inputs ++ []) c (Contains-append_left (row_at d.rows e).inputs [] c control))

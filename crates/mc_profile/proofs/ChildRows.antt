@@ -17,7 +17,8 @@ use Rattle.mc_profile.proofs.ChildNeeds.{LeadsTo, IsBefore, IsInsideChild, inner
 nothing : {X : Type 0} (x : X) → Contains [] x → ⊥
 nothing x (k, below, is) = omega arith
 
-module _ (rows : List Row) (nested : IsNested rows) (wired : IsWired rows) (s : Option ℕ) (e : ℕ) (owned : (row_at rows e).owner ≡ s) (before : IsBefore s e) where
+module _ (rows : List Row) (nested : IsNested rows) (wired : IsWired rows) (s : Option ℕ) (e : ℕ)
+    (owned : (row_at rows e).owner ≡ s) (before : IsBefore s e) where
   leads-none : (n : ℕ) → LeadsTo rows e n None → ⊥
   leads-none zero h = h
   leads-none (suc n) h = h
@@ -33,7 +34,11 @@ module _ (rows : List Row) (nested : IsNested rows) (wired : IsWired rows) (s : 
   leads-more (suc m) zero g low below h = absurd h
   leads-more (suc m) (suc n) g low below (inl same) = inl same
   leads-more (suc m) (suc n) g low below (inr (behind, rest)) =
-      inr (behind, through m n g (omega arith) below (row_at rows g).owner (nested.owned g below) rest (λ f fewer inside led. leads-more m n f fewer inside led))
+      inr (
+        behind,
+        through m n g (omega arith) below (row_at rows g).owner (nested.owned g below) rest
+            (λ f fewer inside led. leads-more m n f fewer inside led),
+      )
 
   leads-owner : (m n g : ℕ) → g ≤ m → g < length rows → (o : Option ℕ) → IsOwner rows g o → LeadsTo rows e n o → LeadsTo rows e m o
   leads-owner m n g low below o owner h = through m n g low below o owner h (λ f fewer inside led. leads-more m n f fewer inside led)
@@ -70,13 +75,16 @@ module _ (rows : List Row) (nested : IsNested rows) (wired : IsWired rows) (s : 
       one : LeadsTo rows e (suc n) (Some g)
       one = inr (behind-by n g (row_at rows g).owner (nested.owned g in_table) leads, leads)
 
-  read : (b c : ℕ) → b < length rows → Contains (row_at rows b).inputs c → IsWireIn rows (reading_system rows (row_at rows b).kind (row_at rows b).owner) c
+  read : (b c : ℕ) → b < length rows → Contains (row_at rows b).inputs c →
+      IsWireIn rows (reading_system rows (row_at rows b).kind (row_at rows b).owner) c
   read b c below (k, low, is) =
       subst (IsWireIn rows (reading_system rows (row_at rows b).kind (row_at rows b).owner)) is
-      (All-from_recursion (IsWireIn rows (reading_system rows (row_at rows b).kind (row_at rows b).owner)) (row_at rows b).inputs (wired.wires b below) k c low)
+      (All-from_recursion (IsWireIn rows (reading_system rows (row_at rows b).kind (row_at rows b).owner))
+      (row_at rows b).inputs (wired.wires b below) k c low)
 
   -- where a row reads its wires, but an Inport of the child
-  reads-by : (n : ℕ) (kind : Kind) (o : Option ℕ) → LeadsTo rows e n o → (is_inport kind && same_system o (Some e)) ≡ false → (m : ℕ) × LeadsTo rows e m (reading_system rows kind o)
+  reads-by : (n : ℕ) (kind : Kind) (o : Option ℕ) → LeadsTo rows e n o →
+      (is_inport kind && same_system o (Some e)) ≡ false → (m : ℕ) × LeadsTo rows e m (reading_system rows kind o)
   reads-by zero kind o h own = absurd h
   reads-by (suc n) kind None h own = absurd h
   reads-by (suc n) (Inport port) (Some g) (inl same) own = absurd (true≢false (sym (eq-eqb e g (sym same)) ∙ own))
@@ -94,13 +102,16 @@ module _ (rows : List Row) (nested : IsNested rows) (wired : IsWired rows) (s : 
   controls-inside (suc n) m None x c owner low h k = absurd (leads-none m h)
   controls-inside (suc n) zero (Some g) x c owner low h k = absurd h
   controls-inside (suc n) (suc m) (Some g) x c owner low h k =
-      by (cases_eq e g) (λ outer more. controls-inside n m (row_at rows g).owner g c (nested.owned g in_table) (let t = in_table in omega arith) outer more)
+      by (cases_eq e g) (λ outer more. controls-inside n m (row_at rows g).owner g c (nested.owned g in_table)
+      (let t = in_table in omega arith) outer more)
     where
       in_table : g < length rows
       in_table = let o = owner.0 in omega arith
 
       by : (e ≡ g) ⊎ (e ≢ g) →
-          (LeadsTo rows e m (row_at rows g).owner → Contains (control_wires rows (inner (Some e) (outward rows (Some e) n (row_at rows g).owner))) c → IsInsideChild rows s e owned before c) →
+          (LeadsTo rows e m (row_at rows g).owner →
+          Contains (control_wires rows (inner (Some e) (outward rows (Some e) n (row_at rows g).owner))) c →
+          IsInsideChild rows s e owned before c) →
           IsInsideChild rows s e owned before c
       by (inl same) again = absurd (nothing c (subst (λ es. Contains (control_wires rows es) c) none k))
         where
@@ -108,11 +119,18 @@ module _ (rows : List Row) (nested : IsNested rows) (wired : IsWired rows) (s : 
           own = eq-eqb e g same
 
           none : inner (Some e) (outward rows (Some e) (suc n) (Some g)) ≡ []
-          none = ap (λ r. inner (Some e) (g ∷ (if r then [] else outward rows (Some e) n (row_at rows g).owner))) own ∙ inner-left (Some e) g [] own
-      by (inr other) again = elim (Contains-append_cases (row_at rows g).inputs (control_wires rows (inner (Some e) (outward rows (Some e) n (row_at rows g).owner))) c (subst (λ es. Contains (control_wires rows es) c) kept k)) [
-        | inl wire ↦ wire-inside m (row_at rows g).owner c outer (subst (λ o. IsWireIn rows o c) (subsystem-reads (row_at rows g).kind (row_at rows g).owner owner.1) (read g c in_table wire))
-        | inr more ↦ again outer more
-      ]
+          none = ap (λ r. inner (Some e) (g ∷ (if r then [] else outward rows (Some e) n (row_at rows g).owner))) own
+              ∙ inner-left (Some e) g [] own
+      by (inr other) again =
+          elim (Contains-append_cases (row_at rows g).inputs
+          (control_wires rows (inner (Some e) (outward rows (Some e) n (row_at rows g).owner))) c
+          (subst (λ es. Contains (control_wires rows es) c) kept k)) [
+            | inl wire ↦
+                wire-inside m (row_at rows g).owner c outer
+                (subst (λ o. IsWireIn rows o c) (subsystem-reads (row_at rows g).kind (row_at rows g).owner owner.1)
+                (read g c in_table wire))
+            | inr more ↦ again outer more
+          ]
         where
           apart : is_system (Some e) g ≡ false
           apart = ne_eqb e g other
@@ -120,29 +138,41 @@ module _ (rows : List Row) (nested : IsNested rows) (wired : IsWired rows) (s : 
           outer : LeadsTo rows e m (row_at rows g).owner
           outer = elim h [ inl same ↦ absurd (other (sym same)) | inr (behind, rest) ↦ rest ]
 
-          kept : inner (Some e) (outward rows (Some e) (suc n) (Some g)) ≡ g ∷ inner (Some e) (outward rows (Some e) n (row_at rows g).owner)
-          kept = ap (λ r. inner (Some e) (g ∷ (if r then [] else outward rows (Some e) n (row_at rows g).owner))) apart ∙ inner-kept (Some e) g (outward rows (Some e) n (row_at rows g).owner) apart
+          kept : inner (Some e) (outward rows (Some e) (suc n) (Some g))
+              ≡ g ∷ inner (Some e) (outward rows (Some e) n (row_at rows g).owner)
+          kept = ap (λ r. inner (Some e) (g ∷ (if r then [] else outward rows (Some e) n (row_at rows g).owner))) apart
+              ∙ inner-kept (Some e) g (outward rows (Some e) n (row_at rows g).owner) apart
 
-module _ (d : Diagram) (nested : IsNested d.rows) (wired : IsWired d.rows) (s : Option ℕ) (e : ℕ) (owned : (row_at d.rows e).owner ≡ s) (before : IsBefore s e) where
-  used-inside : (x c : ℕ) → x < length d.rows → LeadsTo d.rows e (length d.rows) (row_at d.rows x).owner → (own feeds : Bool) → is_inport_of d.rows (Some e) x ≡ own →
+module _ (d : Diagram) (nested : IsNested d.rows) (wired : IsWired d.rows) (s : Option ℕ) (e : ℕ)
+    (owned : (row_at d.rows e).owner ≡ s) (before : IsBefore s e) where
+  used-inside : (x c : ℕ) → x < length d.rows → LeadsTo d.rows e (length d.rows) (row_at d.rows x).owner →
+      (own feeds : Bool) → is_inport_of d.rows (Some e) x ≡ own →
       Contains (if own then [] else (if feeds then (row_at d.rows x).inputs else [])) c → IsInsideChild d.rows s e owned before c
   used-inside x c below h true feeds is k = absurd (nothing c k)
   used-inside x c below h false false is k = absurd (nothing c k)
   used-inside x c below h false true is k =
       let reads = reads-by d.rows nested wired s e owned before (length d.rows) (row_at d.rows x).kind (row_at d.rows x).owner h is in
-      wire-inside d.rows nested wired s e owned before reads.0 (reading_system d.rows (row_at d.rows x).kind (row_at d.rows x).owner) c reads.1 (read d.rows nested wired s e owned before x c below k)
+      wire-inside d.rows nested wired s e owned before reads.0
+      (reading_system d.rows (row_at d.rows x).kind (row_at d.rows x).owner) c reads.1
+      (read d.rows nested wired s e owned before x c below k)
 
   -- what a row inside the child needs in the child is inside it
-  pub closed : (x c : ℕ) → IsInsideChild d.rows s e owned before x → Contains (needs_inside d (Some e) x) c → IsInsideChild d.rows s e owned before c
+  pub closed : (x c : ℕ) → IsInsideChild d.rows s e owned before x → Contains (needs_inside d (Some e) x) c →
+      IsInsideChild d.rows s e owned before c
   closed x c inside k = elim (cases_lt x (length d.rows)) [
-    | inl below ↦ elim (Contains-append_cases (if is_inport_of d.rows (Some e) x then [] else inputs_used d x) (control_wires d.rows (around_inside d.rows (Some e) x)) c k) [
-      | inl used ↦ used-inside x c below inside.leads (is_inport_of d.rows (Some e) x) (feeds_through (op_at d x)) refl used
-      | inr control ↦ controls-inside d.rows nested wired s e owned before (length d.rows) (length d.rows) (row_at d.rows x).owner x c (nested.owned x below) (omega arith) inside.leads
-          (subst (λ es. Contains (control_wires d.rows es) c) around control)
-    ]
+    | inl below ↦
+        elim (Contains-append_cases (if is_inport_of d.rows (Some e) x then [] else inputs_used d x)
+        (control_wires d.rows (around_inside d.rows (Some e) x)) c k) [
+          | inl used ↦ used-inside x c below inside.leads (is_inport_of d.rows (Some e) x) (feeds_through (op_at d x)) refl used
+          | inr control ↦ controls-inside d.rows nested wired s e owned before (length d.rows) (length d.rows)
+              (row_at d.rows x).owner x c (nested.owned x below) (omega arith) inside.leads
+              (subst (λ es. Contains (control_wires d.rows es) c) around control)
+        ]
     | inr past ↦ absurd (leads-none d.rows nested wired s e owned before (length d.rows)
         (subst (λ (row : Row). LeadsTo d.rows e (length d.rows) row.owner) (get_or_past d.rows x no_row past) inside.leads))
   ]
     where
       around : around_inside d.rows (Some e) x ≡ inner (Some e) (outward d.rows (Some e) (length d.rows) (row_at d.rows x).owner)
-      around = ap (λ r. inner (Some e) (if r then [] else outward d.rows (Some e) (length d.rows) (row_at d.rows x).owner)) (ne_eqb e x (λ same. let b = inside.behind in omega arith))
+      around =
+          ap (λ r. inner (Some e) (if r then [] else outward d.rows (Some e) (length d.rows) (row_at d.rows x).owner))
+          (ne_eqb e x (λ same. let b = inside.behind in omega arith))

@@ -31,7 +31,8 @@ kept-later : {B : Type 0} (o : Option B) (ys : List B) (y : B) → Contains ys y
 kept-later None ys y h = h
 kept-later (Some x) ys y h = later-member x y ys h
 
-pub kept-from : {A B : Type 0} (f : A → Option B) (xs : List A) (y : B) → Contains (filter_map f xs) y → (x : A) × Contains xs x × (f x ≡ Some y)
+pub kept-from : {A B : Type 0} (f : A → Option B) (xs : List A) (y : B) → Contains (filter_map f xs) y →
+    (x : A) × Contains xs x × (f x ≡ Some y)
 kept-from f [] y h = absurd (no-member y h)
 kept-from f (x ∷ xs) y h = elim (kept-cases (f x) (filter_map f xs) y h) [
   | inl here ↦ (x, first-member x xs, here)
@@ -46,15 +47,18 @@ kept-to f (z ∷ xs) x y (suc k, below, is) e = kept-later (f z) (filter_map f x
 -- ---- Edges
 
 module _ (giver : ℕ → Option ℕ) where
-  pub edges-more : (n m : ℕ) (xs : List NodeWires) (x : NodeWires) → n + length xs ≡ m → edges_from giver n (xs ++ x ∷ []) ≡ edges_from giver n xs ++ filter_map (edge_by giver m) x.needs
-  edges-more n m [] x e = append-nil (filter_map (edge_by giver n) x.needs) ∙ ap (λ k. filter_map (edge_by giver k) x.needs) (let same : n ≡ m = omega (arith, e) in same)
+  pub edges-more : (n m : ℕ) (xs : List NodeWires) (x : NodeWires) → n + length xs ≡ m →
+      edges_from giver n (xs ++ x ∷ []) ≡ edges_from giver n xs ++ filter_map (edge_by giver m) x.needs
+  edges-more n m [] x e = append-nil (filter_map (edge_by giver n) x.needs)
+      ∙ ap (λ k. filter_map (edge_by giver k) x.needs) (let same : n ≡ m = omega (arith, e) in same)
   edges-more n m (y ∷ xs) x e =
       ap (λ es. filter_map (edge_by giver n) y.needs ++ es) (edges-more (n + 1) m xs x (omega (arith, e)))
       ∙ sym (append_assoc (filter_map (edge_by giver n) y.needs) (edges_from giver (n + 1) xs) (filter_map (edge_by giver m) x.needs))
 
   edge-parts : (o : Option ℕ) (a b n : ℕ) → option_map (edge_to n) o ≡ Some (a, b) → (o ≡ Some a) × (n ≡ b)
   edge-parts None a b n e = absurd (none-some (a, b) e)
-  edge-parts (Some k) a b n e = let same : edge_to n k ≡ (a, b) = same_Some (edge_to n k) (a, b) e in (ap (λ (p : ℕ × ℕ). Some p.0) same, ap (λ (p : ℕ × ℕ). p.1) same)
+  edge-parts (Some k) a b n e = let same : edge_to n k ≡ (a, b) = same_Some (edge_to n k) (a, b) e in
+      (ap (λ (p : ℕ × ℕ). Some p.0) same, ap (λ (p : ℕ × ℕ). p.1) same)
 
   -- node b needs a wire that the table says node a gives
   pub record Told (xs : List NodeWires) (n a b : ℕ) : Type 0 where
@@ -75,10 +79,19 @@ module _ (giver : ℕ → Option ℕ) where
         record { place = 0; is_place = omega (arith, parts.1); taker = x; at = refl; wire = k.0; needed = k.1; gives = parts.0 }
     | inr later ↦
         let t = told-from (n + 1) xs a b later in
-        record { place = suc t.place; is_place = let p = t.is_place in omega (arith, p); taker = t.taker; at = t.at; wire = t.wire; needed = t.needed; gives = t.gives }
+        record {
+          place = suc t.place;
+          is_place = let p = t.is_place in omega (arith, p);
+          taker = t.taker;
+          at = t.at;
+          wire = t.wire;
+          needed = t.needed;
+          gives = t.gives;
+        }
   ]
 
-  pub told-to : (n k b : ℕ) (xs : List NodeWires) (x : NodeWires) (a c : ℕ) → n + k ≡ b → slice_get xs k ≡ Some x → Contains x.needs c → giver c ≡ Some a → Contains (edges_from giver n xs) (a, b)
+  pub told-to : (n k b : ℕ) (xs : List NodeWires) (x : NodeWires) (a c : ℕ) → n + k ≡ b → slice_get xs k ≡ Some x →
+      Contains x.needs c → giver c ≡ Some a → Contains (edges_from giver n xs) (a, b)
   told-to n k b [] x a c e at needed gives = absurd (none-some x at)
   told-to n zero b (y ∷ xs) x a c e at needed gives =
       let same : y ≡ x = same_Some y x at in
@@ -86,10 +99,12 @@ module _ (giver : ℕ → Option ℕ) where
       (kept-to (edge_by giver n) y.needs c (a, b) (subst (λ (z : NodeWires). Contains z.needs c) (sym same) needed)
       (ap (option_map (edge_to n)) gives ∙ ap (λ k. Some (edge_to k a)) (let here : n ≡ b = omega (arith, e) in here)))
   told-to n (suc k) b (y ∷ xs) x a c e at needed gives =
-      Contains-append_right (filter_map (edge_by giver n) y.needs) (edges_from giver (n + 1) xs) (a, b) (told-to (n + 1) k b xs x a c (omega (arith, e)) at needed gives)
+      Contains-append_right (filter_map (edge_by giver n) y.needs) (edges_from giver (n + 1) xs) (a, b)
+      (told-to (n + 1) k b xs x a c (omega (arith, e)) at needed gives)
 
 -- one wire more, and one node more
-pub edge-pushed : (giver : ℕ → Option ℕ) (b : ℕ) (needs : List ℕ) (i : ℕ) (old so_far : List (ℕ × ℕ)) (o : Option ℕ) → i < length needs → giver (get_or needs i 0) ≡ o → so_far ≡ old ++ filter_map (edge_by giver b) (take i needs) →
+pub edge-pushed : (giver : ℕ → Option ℕ) (b : ℕ) (needs : List ℕ) (i : ℕ) (old so_far : List (ℕ × ℕ)) (o : Option ℕ) →
+    i < length needs → giver (get_or needs i 0) ≡ o → so_far ≡ old ++ filter_map (edge_by giver b) (take i needs) →
     so_far ++ option_to_list (option_map (edge_to b) o) ≡ old ++ filter_map (edge_by giver b) (take (i + 1) needs)
 edge-pushed giver b needs i old so_far o inside is before =
     ap₂ (λ (es : List (ℕ × ℕ)) (p : Option ℕ). es ++ option_to_list (option_map (edge_to b) p)) before (sym is)
@@ -102,7 +117,8 @@ edges-step giver nodes b x inside read =
     sym (ap (edges_from giver 0) (take_more nodes b x inside ∙ ap (λ y. take b nodes ++ y ∷ []) (sym read))
     ∙ edges-more giver 0 b (take b nodes) x (let l = length-take-le b nodes (omega arith) in omega (arith, l)))
 
-pub edges-are : (nodes : List NodeWires) (giver : ℕ → Option ℕ) → AreGivenOnce nodes → AreGivers nodes giver → (a b : ℕ) → Contains (edges_from giver 0 nodes) (a, b) ↔ IsEdge nodes a b
+pub edges-are : (nodes : List NodeWires) (giver : ℕ → Option ℕ) → AreGivenOnce nodes → AreGivers nodes giver →
+    (a b : ℕ) → Contains (edges_from giver 0 nodes) (a, b) ↔ IsEdge nodes a b
 edges-are nodes giver once are a b = (to, from)
   where
     to : Contains (edges_from giver 0 nodes) (a, b) → IsEdge nodes a b
@@ -110,7 +126,15 @@ edges-are nodes giver once are a b = (to, from)
         let t = told-from giver 0 nodes a b h in
         let g = are.right a t.wire t.gives in
         let same : t.place ≡ b = let p = t.is_place in omega (arith, p) in
-        record { giver = g.0; taker = t.taker; from = g.1; to = subst (λ k. slice_get nodes k ≡ Some t.taker) same t.at; wire = t.wire; given = g.2; needed = t.needed }
+        record {
+          giver = g.0;
+          taker = t.taker;
+          from = g.1;
+          to = subst (λ k. slice_get nodes k ≡ Some t.taker) same t.at;
+          wire = t.wire;
+          given = g.2;
+          needed = t.needed;
+        }
 
     from : IsEdge nodes a b → Contains (edges_from giver 0 nodes) (a, b)
     from e =
@@ -124,13 +148,15 @@ edges-are nodes giver once are a b = (to, from)
 at-before : {A : Type 0} (xs ys : List A) (k : ℕ) (x : A) → slice_get xs k ≡ Some x → slice_get (xs ++ ys) k ≡ Some x
 at-before xs ys k x e =
     let inside = slice_get_within xs k x e in
-    slice_get-get_or (xs ++ ys) k x (let l = length-append xs ys in omega (arith, l, inside)) ∙ ap Some (get_or_append_left xs ys x k inside ∙ get_or_from_slice_get xs k x x e)
+    slice_get-get_or (xs ++ ys) k x (let l = length-append xs ys in omega (arith, l, inside))
+    ∙ ap Some (get_or_append_left xs ys x k inside ∙ get_or_from_slice_get xs k x x e)
 
 at-end : {A : Type 0} (xs : List A) (x : A) → slice_get (xs ++ x ∷ []) (length xs) ≡ Some x
 at-end [] x = refl
 at-end (y ∷ xs) x = at-end xs x
 
-at-cases : {A : Type 0} (xs : List A) (x y : A) (k : ℕ) → slice_get (xs ++ x ∷ []) k ≡ Some y → (slice_get xs k ≡ Some y) ⊎ ((k ≡ length xs) × (x ≡ y))
+at-cases : {A : Type 0} (xs : List A) (x y : A) (k : ℕ) → slice_get (xs ++ x ∷ []) k ≡ Some y →
+    (slice_get xs k ≡ Some y) ⊎ ((k ≡ length xs) × (x ≡ y))
 at-cases [] x y zero e = inr (refl, same_Some x y e)
 at-cases [] x y (suc k) e = absurd (none-some y e)
 at-cases (z ∷ xs) x y zero e = inl e
@@ -160,7 +186,9 @@ givers-none giver none = record {
 }
 
 -- one node more, at the end
-pub givers-more : (nodes : List NodeWires) (x : NodeWires) (n : ℕ) (old new : ℕ → Option ℕ) → n ≡ length nodes → ((c : ℕ) → new c ≡ cond (list_any (λ d. d == c) x.gives) (Some n) (old c)) → AreGivers nodes old → AreGivers (nodes ++ x ∷ []) new
+pub givers-more : (nodes : List NodeWires) (x : NodeWires) (n : ℕ) (old new : ℕ → Option ℕ) → n ≡ length nodes →
+    ((c : ℕ) → new c ≡ cond (list_any (λ d. d == c) x.gives) (Some n) (old c)) → AreGivers nodes old →
+    AreGivers (nodes ++ x ∷ []) new
 givers-more nodes x n old new last is are = record { each = each; right = right }
   where
     by-table : (c : ℕ) (t : Bool) → list_any (λ d. d == c) x.gives ≡ t → new c ≡ cond t (Some n) (old c)
@@ -187,7 +215,8 @@ givers-more nodes x n old new last is are = record { each = each; right = right 
 
 -- ---- The graph
 
-pub edges-inside : (nodes : List NodeWires) (edges : List (ℕ × ℕ)) → ((a b : ℕ) → Contains edges (a, b) ↔ IsEdge nodes a b) → IsGraph (record { n = length nodes; edges = edges })
+pub edges-inside : (nodes : List NodeWires) (edges : List (ℕ × ℕ)) →
+    ((a b : ℕ) → Contains edges (a, b) ↔ IsEdge nodes a b) → IsGraph (record { n = length nodes; edges = edges })
 edges-inside nodes edges are = recursion_from_All (λ (edge : ℕ × ℕ). (edge.0 < length nodes) × (edge.1 < length nodes)) edges each
   where
     each : (k : ℕ) (d : ℕ × ℕ) → k < length edges → ((get_or edges k d).0 < length nodes) × ((get_or edges k d).1 < length nodes)

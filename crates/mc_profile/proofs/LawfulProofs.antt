@@ -45,7 +45,8 @@ ports-wanted (Enabled reset) o = refl
 ports-wanted (Triggered edge) o = refl
 ports-wanted (Both reset edge) o = refl
 
-module _ (d : Diagram) (delays : List Bool) (s : Option ℕ) (headers : List SystemHeader) (are : AreHeaders d s headers) (nested : IsNested d.rows) (wired : IsWired d.rows)
+module _ (d : Diagram) (delays : List Bool) (s : Option ℕ) (headers : List SystemHeader) (are : AreHeaders d s headers)
+    (nested : IsNested d.rows) (wired : IsWired d.rows)
     (has_inports : (o : Option ℕ) → HasPorts d.rows is_inport o) (has_outports : (o : Option ℕ) → HasPorts d.rows is_outport o) where
   abbrev own_local : LocalSystem
   own_local = local_of d delays s headers
@@ -97,7 +98,8 @@ module _ (d : Diagram) (delays : List Bool) (s : Option ℕ) (headers : List Sys
 
   has-row : (h : SystemHeader) → Contains headers h → HasRow h
   has-row h m =
-      let n = of-map Some (subsystems_of d.rows s) h.row (subst (λ rows. Contains rows h.row) are.rows (in-map (λ (g : SystemHeader). g.row) headers h m)) in
+      let n = of-map Some (subsystems_of d.rows s) h.row
+      (subst (λ rows. Contains rows h.row) are.rows (in-map (λ (g : SystemHeader). g.row) headers h m)) in
       let place = of-subsystems d.rows s n.0 n.1 in
       record { e = n.0; row = sym n.2; below = place.0; owned = place.1; is_subsystem = place.2 }
 
@@ -105,12 +107,14 @@ module _ (d : Diagram) (delays : List Bool) (s : Option ℕ) (headers : List Sys
   as_many_inputs h m = ap (λ (g : SystemHeader). length g.inputs) (are.each h m).0 ∙ length-map (inports_of d.rows h.row) (type_at d.types)
 
   as_many_outputs : (h : SystemHeader) → Contains headers h → length h.outputs ≡ length (outports_of d.rows h.row)
-  as_many_outputs h m = ap (λ (g : SystemHeader). length g.outputs) (are.each h m).0 ∙ length-map (outports_of d.rows h.row) (λ o. (o, type_at d.types o))
+  as_many_outputs h m = ap (λ (g : SystemHeader). length g.outputs) (are.each h m).0
+      ∙ length-map (outports_of d.rows h.row) (λ o. (o, type_at d.types o))
 
   few-functions : (h : SystemHeader) → Contains headers h → length (header_functions h) ≤ 32
   few-functions h m =
       let profile = (are.each h m).1 in
-      let many = ap (λ (fs : List Function). length fs) profile.functions ∙ length-map (different profile.needs) (function_for profile.needs) in
+      let many = ap (λ (fs : List Function). length fs) profile.functions
+      ∙ length-map (different profile.needs) (function_for profile.needs) in
       let short = short-different profile.needs in
       let needs = AllZip-long (λ o mask. IsMaskOf (TrueNeeds d h.row o) mask) (outports_of d.rows h.row) profile.needs profile.are_needs in
       let outs = few-ports d.rows h.row is_outport (has_outports h.row) in
@@ -128,7 +132,8 @@ module _ (d : Diagram) (delays : List Bool) (s : Option ℕ) (headers : List Sys
   entered : (h : SystemHeader) → Contains headers h → length (entering_wires d.rows h.row) ≡ length (inports_of d.rows h.row)
   entered h m =
       let at = has-row h m in
-      subst (λ o. length (entering_wires d.rows o) ≡ length (inports_of d.rows o)) (sym at.row) (as-many d.rows wired at.e (has_inports (Some at.e)))
+      subst (λ o. length (entering_wires d.rows o) ≡ length (inports_of d.rows o)) (sym at.row)
+      (as-many d.rows wired at.e (has_inports (Some at.e)))
 
   is-child : (h : SystemHeader) → Contains headers h → IsChild (child_use d h)
   is-child h m = record {
@@ -140,13 +145,16 @@ module _ (d : Diagram) (delays : List Bool) (s : Option ℕ) (headers : List Sys
   }
 
   are-children : All IsChild own_local.children
-  are-children = All-map IsChild (child_use d) headers (All-weaker (Contains headers) (λ h. IsChild (child_use d h)) is-child headers (All-contains_itself headers))
+  are-children =
+      All-map IsChild (child_use d) headers
+      (All-weaker (Contains headers) (λ h. IsChild (child_use d h)) is-child headers (All-contains_itself headers))
 
   -- ---- The number of nodes
 
   few-nodes : length (wires_of_nodes own_local) < 2 ^ 32
   few-nodes =
-      let rows = length-map (map (local_row d delays) (rows_of d.rows s)) wires_of_row ∙ length-map (rows_of d.rows s) (local_row d delays) in
+      let rows = length-map (map (local_row d delays) (rows_of d.rows s)) wires_of_row
+      ∙ length-map (rows_of d.rows s) (local_row d delays) in
       let own = short-filter (λ b. same_system (row_at d.rows b).owner s) (row_numbers d.rows) in
       let all = length-range_with_len 0 (length d.rows) in
       let subs = short-filter (λ b. is_subsystem (row_at d.rows b).kind) (rows_of d.rows s) in
@@ -155,7 +163,9 @@ module _ (d : Diagram) (delays : List Bool) (s : Option ℕ) (headers : List Sys
       ∙ length-map (subsystems_of d.rows s) Some in
       let calls = long-flat_map wires_of_calls own_local.children (λ u m.
       let n = of-map (child_use d) headers u m in
-      subst (λ (v : ChildUse). length (wires_of_calls v) ≤ 32) n.2 (subst (λ k. k ≤ 32) (sym (length-map (header_functions n.0) (wires_of_call (child_use d n.0)))) (few-functions n.0 n.1))) in
+      subst (λ (v : ChildUse). length (wires_of_calls v) ≤ 32) n.2
+      (subst (λ k. k ≤ 32) (sym (length-map (header_functions n.0) (wires_of_call (child_use d n.0))))
+      (few-functions n.0 n.1))) in
       let both = length-append (map wires_of_row own_local.rows) (flat_map wires_of_calls own_local.children) in
       let most = nested.at_most in
       omega (arith, rows, own, all, subs, children, calls, both, most)
@@ -167,7 +177,11 @@ module _ (d : Diagram) (delays : List Bool) (s : Option ℕ) (headers : List Sys
       let r = map-at wires_of_row own_local.rows a x at in
       let q = map-at wires_of_row own_local.rows b y to in
       let number : (r : LocalRow) (w : NodeWires) → wires_of_row r ≡ w → Contains w.gives c → r.row ≡ c =
-      λ r w e h. elim (in-cases r.row c [] (subst (λ (v : NodeWires). Contains v.gives c) (sym e) h)) [ inl same ↦ same | inr more ↦ absurd (in-none c more) ] in
+      λ r w e h. elim (in-cases r.row c [] (subst (λ (v : NodeWires). Contains v.gives c) (sym e) h)) [
+        | inl same ↦
+            same
+        | inr more ↦ absurd (in-none c more)
+      ] in
       differ-at (map (λ (r : LocalRow). r.row) own_local.rows) a b c rows-differ
       (at-map (λ (r : LocalRow). r.row) own_local.rows a r.0 r.1 ∙ ap Some (number r.0 x r.2 gives))
       (at-map (λ (r : LocalRow). r.row) own_local.rows b q.0 q.1 ∙ ap Some (number q.0 y q.2 other))
@@ -183,14 +197,17 @@ module _ (d : Diagram) (delays : List Bool) (s : Option ℕ) (headers : List Sys
     pub output : slice_get (outports_of d.rows h.row) k ≡ Some c
     pub need : slice_get needs k ≡ Some mask
 
-  has-need : (h : SystemHeader) (m : Contains headers h) (a c : ℕ) (x : NodeWires) → slice_get (wires_of_calls (child_use d h)) a ≡ Some x → Contains x.gives c → HasNeed h (are.each h m).1.needs a c
+  has-need : (h : SystemHeader) (m : Contains headers h) (a c : ℕ) (x : NodeWires) →
+      slice_get (wires_of_calls (child_use d h)) a ≡ Some x → Contains x.gives c → HasNeed h (are.each h m).1.needs a c
   has-need h m a c x at gives =
       let profile = (are.each h m).1 in
       let f = map-at (wires_of_call (child_use d h)) (header_functions h) a x at in
-      let n = map-at (function_for profile.needs) (different profile.needs) a f.0 (subst (λ fs. slice_get fs a ≡ Some f.0) profile.functions f.1) in
+      let n = map-at (function_for profile.needs) (different profile.needs) a f.0
+      (subst (λ fs. slice_get fs a ≡ Some f.0) profile.functions f.1) in
       let here : Contains (given_by_function (function_for profile.needs n.0) (outports_of d.rows h.row)) c =
       subst (λ outs. Contains (given_by_function (function_for profile.needs n.0) outs) c) (outs-of h m)
-      (subst (λ (g : Function). Contains (given_by_function g (map (λ o. o.0) h.outputs)) c) (sym n.2) (subst (λ (v : NodeWires). Contains v.gives c) (sym f.2) gives)) in
+      (subst (λ (g : Function). Contains (given_by_function g (map (λ o. o.0) h.outputs)) c) (sym n.2)
+      (subst (λ (v : NodeWires). Contains v.gives c) (sym f.2) gives)) in
       let k = need-of profile.needs (outports_of d.rows h.row) n.0 c here in
       record { mask = n.0; class = n.1; k = k.0; output = k.1; need = k.2 }
 
@@ -204,20 +221,26 @@ module _ (d : Diagram) (delays : List Bool) (s : Option ℕ) (headers : List Sys
       once a b c x y at to gives other =
           let n = has-need m.0 m.1 a c x at gives in
           let p = has-need m.0 m.1 b c y to other in
-          let own = apart-found (λ b. port_of (row_at d.rows b).kind) (filter (λ b. is_outport (row_at d.rows b).kind) (rows_of d.rows m.0.row)) 1 (length (filter (λ b. is_outport (row_at d.rows b).kind) (rows_of d.rows m.0.row))) in
+          let own =
+          apart-found (λ b. port_of (row_at d.rows b).kind)
+          (filter (λ b. is_outport (row_at d.rows b).kind) (rows_of d.rows m.0.row)) 1
+          (length (filter (λ b. is_outport (row_at d.rows b).kind) (rows_of d.rows m.0.row))) in
           let place : n.k ≡ p.k = apart-at (outports_of d.rows m.0.row) n.k p.k c own n.output p.output in
           let mask : n.mask ≡ p.mask = same_Some n.mask p.mask (sym n.need ∙ ap (slice_get (are.each m.0 m.1).1.needs) place ∙ p.need) in
-          apart-at (different (are.each m.0 m.1).1.needs) a b n.mask (apart-different (are.each m.0 m.1).1.needs) n.class (p.class ∙ ap Some (sym mask))
+          apart-at (different (are.each m.0 m.1).1.needs) a b n.mask (apart-different (are.each m.0 m.1).1.needs)
+          n.class (p.class ∙ ap Some (sym mask))
 
   -- what a child gives is an Outport of it
-  given-inside : (u : ChildUse) (w : NodeWires) (c : ℕ) → Contains own_local.children u → Contains (wires_of_calls u) w → Contains w.gives c → (row_at d.rows c).owner ≡ u.header.row
+  given-inside : (u : ChildUse) (w : NodeWires) (c : ℕ) → Contains own_local.children u →
+      Contains (wires_of_calls u) w → Contains w.gives c → (row_at d.rows c).owner ≡ u.header.row
   given-inside u w c h n gives =
       let m = of-map (child_use d) headers u h in
       let f = of-map (wires_of_call u) (header_functions u.header) w n in
       let here = given f.0 (map (λ o. o.0) u.header.outputs) c (subst (λ (v : NodeWires). Contains v.gives c) (sym f.2) gives) in
       let header : m.0 ≡ u.header = ap (λ (v : ChildUse). v.header) m.2 in
       let outs = subst (λ (g : SystemHeader). map (λ o. o.0) g.outputs ≡ outports_of d.rows g.row) header (outs-of m.0 m.1) in
-      (of-ports d.rows u.header.row is_outport c (subst (λ os. Contains os c) outs (in-at (map (λ o. o.0) u.header.outputs) here.0 c here.1))).1
+      (of-ports d.rows u.header.row is_outport c
+      (subst (λ os. Contains os c) outs (in-at (map (λ o. o.0) u.header.outputs) here.0 c here.1))).1
 
   once : AreGivenOnce (wires_of_nodes own_local)
   once =
@@ -226,7 +249,8 @@ module _ (d : Diagram) (delays : List Bool) (s : Option ℕ) (headers : List Sys
       (subsystems_of d.rows s) child-numbers children-apart calls-once given-inside)
       apart
     where
-      apart : (x y : NodeWires) (c : ℕ) → Contains (map wires_of_row own_local.rows) x → Contains (flat_map wires_of_calls own_local.children) y → Contains x.gives c → Contains y.gives c → ⊥
+      apart : (x y : NodeWires) (c : ℕ) → Contains (map wires_of_row own_local.rows) x →
+          Contains (flat_map wires_of_calls own_local.children) y → Contains x.gives c → Contains y.gives c → ⊥
       apart x y c own call gives other =
           let r = of-map wires_of_row own_local.rows x own in
           let b = of-map (local_row d delays) (rows_of d.rows s) r.0 r.1 in
@@ -237,7 +261,8 @@ module _ (d : Diagram) (delays : List Bool) (s : Option ℕ) (headers : List Sys
           let from = of-flat_map wires_of_calls own_local.children y call in
           let m = of-map (child_use d) headers from.0 from.1 in
           let at = has-row m.0 m.1 in
-          let inside : (row_at d.rows c).owner ≡ Some at.e = given-inside from.0 y c from.1 from.2 other ∙ sym (ap (λ (v : ChildUse). v.header.row) m.2) ∙ at.row in
+          let inside : (row_at d.rows c).owner ≡ Some at.e =
+          given-inside from.0 y c from.1 from.2 other ∙ sym (ap (λ (v : ChildUse). v.header.row) m.2) ∙ at.row in
           let outside : (row_at d.rows c).owner ≡ s = ap (λ k. (row_at d.rows k).owner) (sym number) ∙ (of-rows d.rows s b.0 b.1).1 in
           let itself : (row_at d.rows at.e).owner ≡ Some at.e = at.owned ∙ sym outside ∙ inside in
           let wrong = (subst (IsOwner d.rows at.e) itself (nested.owned at.e at.below)).0 in
@@ -258,4 +283,6 @@ module _ (d : Diagram) (delays : List Bool) (s : Option ℕ) (headers : List Sys
 pub locals_are_lawful : LocalsAreLawful
 locals_are_lawful r s local resolved is =
     let table = resolved.tree.table in
-    subst IsLocal (sym is.is_local) (lawful (diagram_of r) r.times.delays s is.headers is.are_headers table.nested table.wired table.inports table.outports)
+    subst IsLocal (sym is.is_local)
+    (lawful (diagram_of r) r.times.delays s is.headers is.are_headers table.nested table.wired table.inports
+    table.outports)

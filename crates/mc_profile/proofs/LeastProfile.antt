@@ -10,6 +10,7 @@ use Rattle.mc_profile.proofs.OneProfile.{one_needs}
 pub profiles_are_least : NeedsAreLeast → ProfilesAreLeast
 profiles_are_least law d s profile needs interface is are lawful exact =
     let same = one_needs d s (outports_of d.rows s) is.needs needs is.are_needs are in
-    let count : length profile.functions ≡ length (different is.needs) = ap length is.functions ∙ length-map (different is.needs) (function_for is.needs) in
+    let count : length profile.functions ≡ length (different is.needs) =
+    ap length is.functions ∙ length-map (different is.needs) (function_for is.needs) in
     let fewer = law interface needs lawful exact in
     omega (arith, ap (λ (xs : List ℕ). length (different xs)) same)

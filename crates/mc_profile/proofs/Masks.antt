@@ -19,4 +19,6 @@ mask-more (false ∷ bits) true = let rest = mask-more bits true in omega (arith
 mask-more (false ∷ bits) false = let rest = mask-more bits false in omega (arith, rest)
 
 pub or_next : (n k : ℕ) → n < 2 ^ k → bit_or n (2 ^ k) ≡ n + 2 ^ k
-or_next n k below = or_disjoint n (2 ^ k) (and_pow n k ∙ ap (λ m. m * 2 ^ k) (bit_at_above n k k below (omega arith)) ∙ (let e : 0 * 2 ^ k ≡ 0 = omega arith in e))
+or_next n k below =
+    or_disjoint n (2 ^ k) (and_pow n k ∙ ap (λ m. m * 2 ^ k) (bit_at_above n k k below (omega arith))
+    ∙ (let e : 0 * 2 ^ k ≡ 0 = omega arith in e))

@@ -20,7 +20,8 @@ listed-from (x ∷ xs) = ap (λ ys. x ∷ ys) (listed-from xs)
 pub children-are : (s : Subsystem) → children_of (system_of s) ≡ map system_of (out-Subsystem s).children.items
 children-are s = ap children_of (fold_out-Subsystem System system_from s) ∙ listed-from (map system_of (out-Subsystem s).children.items)
 
-pub got-mapped : {A B : Type 0} (f : A → B) (xs : List A) (i : ℕ) (y : A) → i < length xs → y ≡ get_or xs i y → slice_get (map f xs) i ≡ Some (f y)
+pub got-mapped : {A B : Type 0} (f : A → B) (xs : List A) (i : ℕ) (y : A) → i < length xs → y ≡ get_or xs i y →
+    slice_get (map f xs) i ≡ Some (f y)
 got-mapped f [] i y below e = absurd (omega arith)
 got-mapped f (x ∷ xs) zero y below e = ap (λ z. Some (f z)) (sym e)
 got-mapped f (x ∷ xs) (suc i) y below e = got-mapped f xs i y (omega arith) e
@@ -49,7 +50,8 @@ all-agree rows no_more i c a e = absurd (let wrong : ⊥ = cc e in wrong)
 all-agree rows (next d cs) zero c a e = subst (Agrees rows) (let same : d ≡ c = cc e in same) a.0
 all-agree rows (next d cs) (suc i) c a e = all-agree rows cs i c a.1 e
 
-pub agreed-child : (rows : List Row) (s : System) (i : ℕ) (c : System) → Agrees rows s → slice_get (children_of s) i ≡ Some c → Agrees rows c
+pub agreed-child : (rows : List Row) (s : System) (i : ℕ) (c : System) → Agrees rows s →
+    slice_get (children_of s) i ≡ Some c → Agrees rows c
 agreed-child rows (system row line control own children) i c a e = all-agree rows children i c a.3 e
 
 -- ---- Rows of a system are rows of the table
@@ -62,7 +64,9 @@ all-range n k d h =
     subst (λ b. b < n) (sym e) inside
 
 pub rows-inside : (rows : List Row) (o : Option ℕ) → All (λ b. b < length rows) (rows_of rows o)
-rows-inside rows o = All-filter (λ b. same_system (row_at rows b).owner o) (λ b. b < length rows) (range_with_len 0 (length rows)) (all-range (length rows))
+rows-inside rows o =
+    All-filter (λ b. same_system (row_at rows b).owner o) (λ b. b < length rows) (range_with_len 0 (length rows))
+    (all-range (length rows))
 
 pub subsystems-inside : (rows : List Row) (o : Option ℕ) → All (λ b. b < length rows) (subsystems_of rows o)
 subsystems-inside rows o = All-filter (λ b. is_subsystem (row_at rows b).kind) (λ b. b < length rows) (rows_of rows o) (rows-inside rows o)
@@ -75,14 +79,16 @@ got-at (y ∷ xs) zero x d e = cc e
 got-at (y ∷ xs) (suc i) x d e = got-at xs i x d e
 
 -- values for the children, each with the row of its own
-module _ {A : Type 0} (row : A → Option ℕ) (rows : List Row) (s : System) (agrees : Agrees rows s) (values : List A) (same : map row values ≡ map Some (subsystems_of rows (row_of s))) where
+module _ {A : Type 0} (row : A → Option ℕ) (rows : List Row) (s : System) (agrees : Agrees rows s) (values : List A)
+    (same : map row values ≡ map Some (subsystems_of rows (row_of s))) where
   both : map row_of (children_of s) ≡ map row values
   both = agreed-heads rows s agrees ∙ sym same
 
   pub as_many : length (children_of s) ≡ length values
   as_many = sym (length-map (children_of s) row_of) ∙ ap length both ∙ length-map values row
 
-  pub row-of : (i : ℕ) (c : System) (x : A) → i < length values → x ≡ get_or values i x → slice_get (children_of s) i ≡ Some c → row x ≡ row_of c
+  pub row-of : (i : ℕ) (c : System) (x : A) → i < length values → x ≡ get_or values i x →
+      slice_get (children_of s) i ≡ Some c → row x ≡ row_of c
   row-of i c x below read e =
       ap row read ∙ sym (get_or-map row values i x None below) ∙ ap (λ (xs : List (Option ℕ)). get_or xs i None) (sym both)
       ∙ get_or-map row_of (children_of s) i c None (let m = as_many in omega arith) ∙ ap row_of (got-at (children_of s) i c c e)
@@ -91,13 +97,17 @@ module _ {A : Type 0} (row : A → Option ℕ) (rows : List Row) (s : System) (a
   row-inside i x below read = subst (IsInTable rows) (sym here) (subsystems-inside rows (row_of s) i 0 few)
     where
       few : i < length (subsystems_of rows (row_of s))
-      few = let m : length values ≡ length (subsystems_of rows (row_of s)) = sym (length-map values row) ∙ ap length same ∙ length-map (subsystems_of rows (row_of s)) Some in omega arith
+      few = let m : length values ≡ length (subsystems_of rows (row_of s)) = sym (length-map values row)
+          ∙ ap length same ∙ length-map (subsystems_of rows (row_of s)) Some in omega arith
 
       here : row x ≡ Some (get_or (subsystems_of rows (row_of s)) i 0)
-      here = ap row read ∙ sym (get_or-map row values i x None below) ∙ ap (λ (xs : List (Option ℕ)). get_or xs i None) same ∙ get_or-map Some (subsystems_of rows (row_of s)) i 0 None few
+      here = ap row read ∙ sym (get_or-map row values i x None below)
+          ∙ ap (λ (xs : List (Option ℕ)). get_or xs i None) same
+          ∙ get_or-map Some (subsystems_of rows (row_of s)) i 0 None few
 
 -- ---- Wires are rows of the table
 
 pub wires-inside : (rows : List Row) → IsWired rows → (b : ℕ) → b < length rows → All (λ c. c < length rows) (row_at rows b).inputs
 wires-inside rows wired b below k d low =
-    (All-from_recursion (IsWireIn rows (reading_system rows (row_at rows b).kind (row_at rows b).owner)) (row_at rows b).inputs (wired.wires b below) k d low).0
+    (All-from_recursion (IsWireIn rows (reading_system rows (row_at rows b).kind (row_at rows b).owner))
+    (row_at rows b).inputs (wired.wires b below) k d low).0

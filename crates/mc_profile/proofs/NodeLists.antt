@@ -35,7 +35,8 @@ pub map-same : {A B : Type 0} (f g : A → B) (xs : List A) → ((x : A) → Con
 map-same f g [] same = refl
 map-same f g (x ∷ xs) same = ap₂ ◌∷◌ (same x (first-member x xs)) (map-same f g xs (λ y h. same y (later-member x y xs h)))
 
-pub map-flat : {A B C : Type 0} (h : B → C) (f : A → List B) (g : A → List C) (xs : List A) → ((x : A) → Contains xs x → map h (f x) ≡ g x) → map h (flat_map f xs) ≡ flat_map g xs
+pub map-flat : {A B C : Type 0} (h : B → C) (f : A → List B) (g : A → List C) (xs : List A) →
+    ((x : A) → Contains xs x → map h (f x) ≡ g x) → map h (flat_map f xs) ≡ flat_map g xs
 map-flat h f g [] same = refl
 map-flat h f g (x ∷ xs) same =
     map-append h (f x) (flat_map f xs) ∙ ap₂ ◌++◌ (same x (first-member x xs)) (map-flat h f g xs (λ y m. same y (later-member x y xs m)))
@@ -51,9 +52,11 @@ keys-later key x xs differ i j less below = differ (suc i) (suc j) (omega arith)
 
 pub key-apart : {A : Type 0} (key : A → ℕ) (x y : A) (xs : List A) → KeysDiffer key (x ∷ xs) → Contains xs y → key x ≡ key y → ⊥
 key-apart key x y xs differ (k, below, is) same =
-    differ 0 (suc k) (omega arith) (let l = length-map xs key in omega (arith, l, below)) (same ∙ sym (get_or-map key xs k y 0 below ∙ ap key is))
+    differ 0 (suc k) (omega arith) (let l = length-map xs key in omega (arith, l, below))
+    (same ∙ sym (get_or-map key xs k y 0 below ∙ ap key is))
 
-pub found-self : {A : Type 0} (key : A → ℕ) (xs : List A) (x : A) → KeysDiffer key xs → Contains xs x → find (λ y. key y == key x) xs ≡ Some x
+pub found-self : {A : Type 0} (key : A → ℕ) (xs : List A) (x : A) → KeysDiffer key xs → Contains xs x →
+    find (λ y. key y == key x) xs ≡ Some x
 found-self key [] x differ (k, below, is) = absurd (omega (arith, below))
 found-self key (y ∷ xs) x differ (zero, below, is) =
     ap (λ t. cond t (Some y) (find (λ z. key z == key x) xs)) (eq-eqb (key y) (key x) (ap key is)) ∙ ap Some is
@@ -70,7 +73,8 @@ numbered-all fs = same_lists (map (numbered_function fs) (range_with_len 1 (leng
     long : length (map (numbered_function fs) (range_with_len 1 (length fs))) ≡ length fs
     long = length-map (range_with_len 1 (length fs)) (numbered_function fs) ∙ length-range_with_len 1 (length fs)
 
-    each : (k : ℕ) (d : Function) → k < length (map (numbered_function fs) (range_with_len 1 (length fs))) → get_or (map (numbered_function fs) (range_with_len 1 (length fs))) k d ≡ get_or fs k d
+    each : (k : ℕ) (d : Function) → k < length (map (numbered_function fs) (range_with_len 1 (length fs))) →
+        get_or (map (numbered_function fs) (range_with_len 1 (length fs))) k d ≡ get_or fs k d
     each k d below =
         let inside : k < length fs = omega (arith, below, long) in
         let many : k < length (range_with_len 1 (length fs)) = let l = length-range_with_len 1 (length fs) in omega (arith, inside, l) in
@@ -101,7 +105,9 @@ module _ (local : LocalSystem) (is : IsLocal local) where
       found-numbered (λ (v : ChildUse). v.header.row) local.children is.numbers u e is.have_numbers is.children_differ h row
 
   row-wires : (r : LocalRow) → Contains local.rows r → wires_at local (Row r.row) ≡ wires_of_row r
-  row-wires r h = ap (λ (o : Option LocalRow). made (option_map_or (λ q. (wires_of_row q).needs) o []) (option_map_or (λ q. (wires_of_row q).gives) o [])) (found-row r h)
+  row-wires r h =
+      ap (λ (o : Option LocalRow). made (option_map_or (λ q. (wires_of_row q).needs) o [])
+      (option_map_or (λ q. (wires_of_row q).gives) o [])) (found-row r h)
 
   call-wires : (u : ChildUse) (e j : ℕ) → Contains local.children u → u.header.row ≡ Some e →
       wires_at local (Call e j) ≡ wires_of_call u (numbered_function (header_functions u.header) j)
@@ -122,11 +128,13 @@ module _ (local : LocalSystem) (is : IsLocal local) where
   pub wires-are : map (wires_at local) (node_list local) ≡ wires_of_nodes local
   wires-are =
       map-append (wires_at local) (map (λ (r : LocalRow). Row r.row) local.rows) (flat_map call_nodes local.children)
-      ∙ ap₂ ◌++◌ (map-map (wires_at local) (λ (r : LocalRow). Row r.row) local.rows ∙ map-same (λ (r : LocalRow). wires_at local (Row r.row)) wires_of_row local.rows row-wires)
+      ∙ ap₂ ◌++◌ (map-map (wires_at local) (λ (r : LocalRow). Row r.row) local.rows
+      ∙ map-same (λ (r : LocalRow). wires_at local (Row r.row)) wires_of_row local.rows row-wires)
       (map-flat (wires_at local) call_nodes wires_of_calls local.children calls-wires)
 
   pub nodes-many : length (wires_of_nodes local) ≡ length (node_list local)
   nodes-many = sym (ap length wires-are) ∙ length-map (node_list local) (wires_at local)
 
   pub wires-at : (a : ℕ) (x : Node) → slice_get (node_list local) a ≡ Some x → slice_get (wires_of_nodes local) a ≡ Some (wires_at local x)
-  wires-at a x h = sym (ap (λ ws. slice_get ws a) wires-are) ∙ slice_get-map (wires_at local) (node_list local) a ∙ ap (option_map (wires_at local)) h
+  wires-at a x h = sym (ap (λ ws. slice_get ws a) wires-are) ∙ slice_get-map (wires_at local) (node_list local) a
+      ∙ ap (option_map (wires_at local)) h

@@ -129,7 +129,8 @@ module _ (d : Diagram) (delays : List Bool) (s : Option ℕ) (headers : List Sys
             steps-to g x c inside reached
             (inport-needs x c row.in_table row.is_own is (ap (λ y. (row_at d.rows y).inputs) same ∙ wire))
 
-        by : IsTakenAt d laws.wired e (laws.inports (Some e)) profile j c ⊎ Contains (row_at d.rows e).inputs c → (path : List ℕ) × Walk (needs_inside d s) g path c
+        by : IsTakenAt d laws.wired e (laws.inports (Some e)) profile j c ⊎ Contains (row_at d.rows e).inputs c →
+            (path : List ℕ) × Walk (needs_inside d s) g path c
         by (inl at) =
             let below : at.k < length (inports_of d.rows (Some e)) = at-below (inports_of d.rows (Some e)) at.k at.i at.place in
             let few : length (inports_of d.rows (Some e)) ≤ 32 = few-ports d.rows (Some e) is_inport (laws.inports (Some e)) in

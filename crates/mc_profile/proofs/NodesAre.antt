@@ -15,13 +15,18 @@ use Rattle.mc_profile.proofs.NodeLists.{wires_at, nodes-many, wires-at}
 use Rattle.mc_profile.proofs.PlaceSteps.{places-are, places-stand}
 
 module _ (local : LocalSystem) (is : IsLocal local) where
-  needs-from : (a b : ℕ) (x y : Node) → slice_get (node_list local) a ≡ Some x → slice_get (node_list local) b ≡ Some y → IsEdge (wires_of_nodes local) a b → NodeNeeds local y x
+  needs-from : (a b : ℕ) (x y : Node) → slice_get (node_list local) a ≡ Some x →
+      slice_get (node_list local) b ≡ Some y → IsEdge (wires_of_nodes local) a b → NodeNeeds local y x
   needs-from a b x y from to e =
       let giver : e.giver ≡ wires_at local x = same_Some e.giver (wires_at local x) (sym e.from ∙ wires-at local is a x from) in
-      let taker : e.taker ≡ wires_at local y = same_Some e.taker (wires_at local y) (sym e.to ∙ wires-at local is b y to) in
-      (e.wire, subst (λ (w : NodeWires). Contains w.needs e.wire) taker e.needed, subst (λ (w : NodeWires). Contains w.gives e.wire) giver e.given)
+      let taker : e.taker ≡ wires_at local y = same_Some e.taker (wires_at local y) (sym e.to ∙ wires-at local is b y to) in (
+        e.wire,
+        subst (λ (w : NodeWires). Contains w.needs e.wire) taker e.needed,
+        subst (λ (w : NodeWires). Contains w.gives e.wire) giver e.given,
+      )
 
-  edge-from : (a b : ℕ) (x y : Node) → slice_get (node_list local) a ≡ Some x → slice_get (node_list local) b ≡ Some y → NodeNeeds local y x → IsEdge (wires_of_nodes local) a b
+  edge-from : (a b : ℕ) (x y : Node) → slice_get (node_list local) a ≡ Some x → slice_get (node_list local) b ≡ Some y →
+      NodeNeeds local y x → IsEdge (wires_of_nodes local) a b
   edge-from a b x y from to (c, needed, given) = record {
     giver = wires_at local x;
     taker = wires_at local y;
@@ -32,8 +37,10 @@ module _ (local : LocalSystem) (is : IsLocal local) where
     needed = needed;
   }
 
-  pub nodes-are : (g : NeedsGraph) (list : List Node) (outputs : List ℕ) → g.n ≡ length (wires_of_nodes local) → IsGraph g → ((a b : ℕ) → Contains g.edges (a, b) ↔ IsEdge (wires_of_nodes local) a b) →
-      list ≡ node_list local → outputs ≡ places_by_port (ported_places is_outport local.rows) → AreNodesOf local (record { graph = g; list = list; outputs = outputs })
+  pub nodes-are : (g : NeedsGraph) (list : List Node) (outputs : List ℕ) → g.n ≡ length (wires_of_nodes local) →
+      IsGraph g → ((a b : ℕ) → Contains g.edges (a, b) ↔ IsEdge (wires_of_nodes local) a b) →
+      list ≡ node_list local → outputs ≡ places_by_port (ported_places is_outport local.rows) →
+      AreNodesOf local (record { graph = g; list = list; outputs = outputs })
   nodes-are g list outputs many inside edges listed placed = record {
     list = listed;
     count = many ∙ nodes-many local is;

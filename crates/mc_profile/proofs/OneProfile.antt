@@ -19,7 +19,9 @@ use Rattle.mc_profile.specs.NodeFacts.{ProfilesAreOne, HeadersAreOne}
 bits_equal : (w m n : ℕ) → m < 2 ^ w → n < 2 ^ w → ((k : ℕ) → k < w → bit_at m k ≡ bit_at n k) → m ≡ n
 bits_equal zero m n low other same = omega arith
 bits_equal (suc w) m n low other same =
-    let half : m / 2 ≡ n / 2 = bits_equal w (m / 2) (n / 2) (omega arith) (omega arith) (λ k below. sym (bit_at-suc m k) ∙ same (suc k) (omega arith) ∙ bit_at-suc n k) in
+    let half : m / 2 ≡ n / 2 =
+    bits_equal w (m / 2) (n / 2) (omega arith) (omega arith) (λ k below. sym (bit_at-suc m k)
+    ∙ same (suc k) (omega arith) ∙ bit_at-suc n k) in
     let lowest : m % 2 ≡ n % 2 = sym (bit_at_lowest m) ∙ same 0 (omega arith) ∙ bit_at_lowest n in
     omega (arith, half, lowest)
 
@@ -46,11 +48,16 @@ one_mask inputs m n a b = bits_equal 34 m n a.bounded b.bounded same
       | yes last ↦ subst (λ i. bit_at m i ≡ bit_at n i) last (through 33 a.trigger b.trigger)
       | no early ↦ elim (ℕ_discrete 32 k) [
         | yes control ↦ subst (λ i. bit_at m i ≡ bit_at n i) control (through 32 a.enable b.enable)
-        | no number ↦ let place : suc k - 1 ≡ k = omega arith in subst (λ i. bit_at m i ≡ bit_at n i) place (through (suc k - 1) (a.number (suc k) (omega arith) (omega arith)) (b.number (suc k) (omega arith) (omega arith)))
+        | no number ↦ let place : suc k - 1 ≡ k = omega arith in
+            subst (λ i. bit_at m i ≡ bit_at n i) place
+            (through (suc k - 1) (a.number (suc k) (omega arith) (omega arith))
+            (b.number (suc k) (omega arith) (omega arith)))
       ]
     ]
 
-pub one_needs : (d : Diagram) (s : Option ℕ) (outputs ms ns : List ℕ) → AllZip (λ o mask. IsMaskOf (TrueNeeds d s o) mask) outputs ms → AllZip (λ o mask. IsMaskOf (TrueNeeds d s o) mask) outputs ns → ms ≡ ns
+pub one_needs : (d : Diagram) (s : Option ℕ) (outputs ms ns : List ℕ) →
+    AllZip (λ o mask. IsMaskOf (TrueNeeds d s o) mask) outputs ms →
+    AllZip (λ o mask. IsMaskOf (TrueNeeds d s o) mask) outputs ns → ms ≡ ns
 one_needs d s [] [] [] a b = refl
 one_needs d s [] [] (n ∷ ns) a b = absurd b
 one_needs d s [] (m ∷ ms) ns a b = absurd a
@@ -68,7 +75,9 @@ IsHeader d h = (h ≡ header_of d h.row h.profile) × IsProfileOf d h.row h.prof
 
 one_header : (d : Diagram) (h g : SystemHeader) → IsHeader d h → IsHeader d g → h.row ≡ g.row → h ≡ g
 one_header d h g a b same =
-    a.0 ∙ ap₂ (header_of d) same (profiles_are_one d g.row h.profile g.profile (subst (λ (s : Option ℕ). IsProfileOf d s h.profile) same a.1) b.1) ∙ sym b.0
+    a.0 ∙ ap₂ (header_of d) same
+    (profiles_are_one d g.row h.profile g.profile (subst (λ (s : Option ℕ). IsProfileOf d s h.profile) same a.1)
+    b.1) ∙ sym b.0
 
 abbrev first_row : List (Option ℕ) → Option ℕ → Option ℕ
 first_row [] other = other
@@ -78,7 +87,8 @@ abbrev later_rows : List (Option ℕ) → List (Option ℕ)
 later_rows [] = []
 later_rows (row ∷ rows) = rows
 
-one_list : (d : Diagram) (hs gs : List SystemHeader) → ((h : SystemHeader) → Contains hs h → IsHeader d h) → ((h : SystemHeader) → Contains gs h → IsHeader d h) → map (λ h. h.row) hs ≡ map (λ h. h.row) gs → hs ≡ gs
+one_list : (d : Diagram) (hs gs : List SystemHeader) → ((h : SystemHeader) → Contains hs h → IsHeader d h) →
+    ((h : SystemHeader) → Contains gs h → IsHeader d h) → map (λ h. h.row) hs ≡ map (λ h. h.row) gs → hs ≡ gs
 one_list d [] [] a b rows = refl
 one_list d [] (g ∷ gs) a b rows = absurd (let wrong : ⊥ = cc rows in wrong)
 one_list d (h ∷ hs) [] a b rows = absurd (let wrong : ⊥ = cc rows in wrong)

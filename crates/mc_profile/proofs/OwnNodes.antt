@@ -30,12 +30,14 @@ left-false true b none holds = absurd (true≢false (sym holds ∙ none))
 left-false false b none holds = refl
 
 -- what is used stands among the inputs of a row that feeds through and is no Inport
-used-parts : (own feeds : Bool) (inputs : List ℕ) (c : ℕ) → Contains (if own then [] else (if feeds then inputs else [])) c → (own ≡ false) × (feeds ≡ true) × Contains inputs c
+used-parts : (own feeds : Bool) (inputs : List ℕ) (c : ℕ) →
+    Contains (if own then [] else (if feeds then inputs else [])) c → (own ≡ false) × (feeds ≡ true) × Contains inputs c
 used-parts true feeds inputs c h = absurd (in-none c h)
 used-parts false true inputs c h = (refl, refl, h)
 used-parts false false inputs c h = absurd (in-none c h)
 
-used-whole : (own feeds : Bool) (inputs : List ℕ) (c : ℕ) → own ≡ false → feeds ≡ true → Contains inputs c → Contains (if feeds then (if own then [] else inputs) else []) c
+used-whole : (own feeds : Bool) (inputs : List ℕ) (c : ℕ) → own ≡ false → feeds ≡ true → Contains inputs c →
+    Contains (if feeds then (if own then [] else inputs) else []) c
 used-whole true feeds inputs c e f h = absurd (true≢false e)
 used-whole false true inputs c e f h = h
 used-whole false false inputs c e f h = absurd (true≢false (sym f))

@@ -26,16 +26,22 @@ use Rattle.mc_profile.proofs.NodeWalks.{nodes_reach_as_rows}
 mask-same : (P Q : Port → Type 0) (m : ℕ) → ((p : Port) → P p ↔ Q p) → IsMaskOf P m → IsMaskOf Q m
 mask-same P Q m same mask = record {
   bounded = mask.bounded;
-  number = λ k above most. (λ set. (same (Number k)).0 ((mask.number k above most).0 set), λ q. (mask.number k above most).1 ((same (Number k)).1 q));
+  number =
+      λ k above most. (
+        λ set. (same (Number k)).0 ((mask.number k above most).0 set),
+        λ q. (mask.number k above most).1 ((same (Number k)).1 q),
+      );
   enable = (λ set. (same Enable).0 (mask.enable.0 set), λ q. mask.enable.1 ((same Enable).1 q));
   trigger = (λ set. (same Trigger).0 (mask.trigger.0 set), λ q. mask.trigger.1 ((same Trigger).1 q));
 }
 
-zip-mapped : (f : ℕ → LocalRow) (R : LocalRow → ℕ → Type 0) (Q : ℕ → ℕ → Type 0) (os ms : List ℕ) → ((o m : ℕ) → Contains os o → R (f o) m → Q o m) → AllZip R (map f os) ms → AllZip Q os ms
+zip-mapped : (f : ℕ → LocalRow) (R : LocalRow → ℕ → Type 0) (Q : ℕ → ℕ → Type 0) (os ms : List ℕ) →
+    ((o m : ℕ) → Contains os o → R (f o) m → Q o m) → AllZip R (map f os) ms → AllZip Q os ms
 zip-mapped f R Q [] [] each h = tt
 zip-mapped f R Q [] (m ∷ ms) each h = h
 zip-mapped f R Q (o ∷ os) [] each h = h
-zip-mapped f R Q (o ∷ os) (m ∷ ms) each h = (each o m (in-first o os) h.0, zip-mapped f R Q os ms (λ p n k. each p n (in-rest o p os k)) h.1)
+zip-mapped f R Q (o ∷ os) (m ∷ ms) each h =
+    (each o m (in-first o os) h.0, zip-mapped f R Q os ms (λ p n k. each p n (in-rest o p os k)) h.1)
 
 module _ (r : ResolvedTree) (s : Option ℕ) (resolved : IsResolvedTree r) where
   abbrev d : Diagram
@@ -48,21 +54,26 @@ module _ (r : ResolvedTree) (s : Option ℕ) (resolved : IsResolvedTree r) where
     is-local : IsLocalOf r s own
     is-local = record { headers = headers; are_headers = are; is_local = refl }
 
-    reaching-to : (o k : ℕ) → Contains (outports_of d.rows s) o → InputReaches own (local_row d r.times.delays o) k → TrueNeeds d s o (Number k)
+    reaching-to : (o k : ℕ) → Contains (outports_of d.rows s) o → InputReaches own (local_row d r.times.delays o) k →
+        TrueNeeds d s o (Number k)
     reaching-to o k out t =
         let m = of-map (local_row d r.times.delays) (rows_of d.rows s) t.inport t.is_own in
         let place = of-rows d.rows s m.0 m.1 in
         let number : t.inport.row ≡ m.0 = sym (ap (λ (q : LocalRow). q.row) m.2) in
-        let listed : Contains (map (λ (q : LocalRow). q.row) own.rows) t.inport.row = in-map (λ (q : LocalRow). q.row) own.rows t.inport t.is_own in (
+        let listed : Contains (map (λ (q : LocalRow). q.row) own.rows) t.inport.row =
+        in-map (λ (q : LocalRow). q.row) own.rows t.inport t.is_own in (
           m.0,
           record { in_table = place.0; is_inport = ap (λ (q : LocalRow). q.kind) m.2 ∙ t.is_inport; is_own = place.1 },
-          subst (λ i. Reaches (needs_inside d s) o i) number ((nodes_reach_as_rows r s own o t.inport.row resolved is-local out listed).1 t.reaches),
+          subst (λ i. Reaches (needs_inside d s) o i) number
+              ((nodes_reach_as_rows r s own o t.inport.row resolved is-local out listed).1 t.reaches),
         )
 
-    reaching-from : (o k : ℕ) → Contains (outports_of d.rows s) o → TrueNeeds d s o (Number k) → InputReaches own (local_row d r.times.delays o) k
+    reaching-from : (o k : ℕ) → Contains (outports_of d.rows s) o → TrueNeeds d s o (Number k) →
+        InputReaches own (local_row d r.times.delays o) k
     reaching-from o k out (i, input, reach) =
         let row : LocalRow = local_row d r.times.delays i in
-        let listed : Contains own.rows row = in-map (local_row d r.times.delays) (rows_of d.rows s) i (in-rows d.rows s i input.in_table input.is_own) in
+        let listed : Contains own.rows row =
+        in-map (local_row d r.times.delays) (rows_of d.rows s) i (in-rows d.rows s i input.in_table input.is_own) in
         record {
           inport = row;
           is_own = listed;
@@ -70,20 +81,25 @@ module _ (r : ResolvedTree) (s : Option ℕ) (resolved : IsResolvedTree r) where
           reaches = (nodes_reach_as_rows r s own o i resolved is-local out (in-map (λ (q : LocalRow). q.row) own.rows row listed)).0 reach;
         }
 
-    needed : (o : ℕ) → Contains (outports_of d.rows s) o → (p : Port) → inputs_of (InputReaches own (local_row d r.times.delays o)) own.control p ↔ TrueNeeds d s o p
+    needed : (o : ℕ) → Contains (outports_of d.rows s) o → (p : Port) →
+        inputs_of (InputReaches own (local_row d r.times.delays o)) own.control p ↔ TrueNeeds d s o p
     needed o out (Number k) = (reaching-to o k out, reaching-from o k out)
     needed o out Enable = (λ t. t, λ t. t)
     needed o out Trigger = (λ t. t, λ t. t)
 
     pub true-needs : (masks : List ℕ) → AreNodeInputs own masks → AreTrueNeeds d s masks
     true-needs masks h =
-        zip-mapped (local_row d r.times.delays) (λ o mask. IsMaskOf (inputs_of (InputReaches own o) own.control) mask) (λ o mask. IsMaskOf (TrueNeeds d s o) mask) (outports_of d.rows s) masks
-        (λ o m out mask. mask-same (inputs_of (InputReaches own (local_row d r.times.delays o)) own.control) (TrueNeeds d s o) m (needed o out) mask)
-        (subst (λ (os : List LocalRow). AllZip (λ o mask. IsMaskOf (inputs_of (InputReaches own o) own.control) mask) os masks) (by_port_mapped d r.times.delays s headers is_outport) h)
+        zip-mapped (local_row d r.times.delays) (λ o mask. IsMaskOf (inputs_of (InputReaches own o) own.control) mask)
+        (λ o mask. IsMaskOf (TrueNeeds d s o) mask) (outports_of d.rows s) masks
+        (λ o m out mask. mask-same (inputs_of (InputReaches own (local_row d r.times.delays o)) own.control)
+        (TrueNeeds d s o) m (needed o out) mask)
+        (subst (λ (os : List LocalRow). AllZip (λ o mask. IsMaskOf (inputs_of (InputReaches own o) own.control) mask) os
+        masks) (by_port_mapped d r.times.delays s headers is_outport) h)
 
   -- the same of any system of the model
   pub needs-of-nodes : (local : LocalSystem) (masks : List ℕ) → IsLocalOf r s local → AreNodeInputs local masks → AreTrueNeeds d s masks
-  needs-of-nodes local masks is h = true-needs is.headers is.are_headers masks (subst (λ (l : LocalSystem). AreNodeInputs l masks) is.is_local h)
+  needs-of-nodes local masks is h =
+      true-needs is.headers is.are_headers masks (subst (λ (l : LocalSystem). AreNodeInputs l masks) is.is_local h)
 
   pub few-needs : (masks : List ℕ) → AreTrueNeeds d s masks → length masks ≤ 32
   few-needs masks h =
@@ -92,10 +108,13 @@ module _ (r : ResolvedTree) (s : Option ℕ) (resolved : IsResolvedTree r) where
       omega (arith, long, few)
 
 -- the headers of children with these profiles are theirs
-pub profiles-are-headers : (d : Diagram) (s : Option ℕ) (profiles : List SystemProfile) → AreProfiles d s profiles → AreHeaders d s (headers_with d profiles)
+pub profiles-are-headers : (d : Diagram) (s : Option ℕ) (profiles : List SystemProfile) → AreProfiles d s profiles →
+    AreHeaders d s (headers_with d profiles)
 profiles-are-headers d s profiles are = record {
   rows = rows profiles ∙ are.rows;
-  each = λ h m. let n = of-map (λ (p : SystemProfile). header_of d p.row p) profiles h m in subst (λ (g : SystemHeader). (g ≡ header_of d g.row g.profile) × IsProfileOf d g.row g.profile) n.2 (refl, are.each n.0 n.1);
+  each = λ h m. let n = of-map (λ (p : SystemProfile). header_of d p.row p) profiles h m in
+      subst (λ (g : SystemHeader). (g ≡ header_of d g.row g.profile) × IsProfileOf d g.row g.profile) n.2
+      (refl, are.each n.0 n.1);
 }
   where
     rows : (ps : List SystemProfile) → map (λ (h : SystemHeader). h.row) (headers_with d ps) ≡ map (λ (p : SystemProfile). p.row) ps

@@ -24,7 +24,8 @@ module _ {A : Type 0} (m : A → ℕ) where
     rising-append xs ys up.1 other (λ z y left right. below z y (in-rest x z xs left) right),
   )
 
-  kept : (t : A → Bool) (x : A) (xs : List A) (b : Bool) → IsBelow x xs → Rising (filter t xs) → Rising (cond b (x ∷ filter t xs) (filter t xs))
+  kept : (t : A → Bool) (x : A) (xs : List A) (b : Bool) → IsBelow x xs → Rising (filter t xs) →
+      Rising (cond b (x ∷ filter t xs) (filter t xs))
   kept t x xs true low up = (λ y h. low y (of-filter t xs y h).0, up)
   kept t x xs false low up = up
 
@@ -47,7 +48,8 @@ module _ {A : Type 0} (m : A → ℕ) where
     | inr more ↦ more
   ]
 
-  pub one-list : (xs ys : List A) → Rising xs → Rising ys → ((x : A) → Contains xs x → Contains ys x) → ((y : A) → Contains ys y → Contains xs y) → xs ≡ ys
+  pub one-list : (xs ys : List A) → Rising xs → Rising ys → ((x : A) → Contains xs x → Contains ys x) →
+      ((y : A) → Contains ys y → Contains xs y) → xs ≡ ys
   one-list [] [] up other to from = refl
   one-list [] (y ∷ ys) up other to from = absurd (in-none y (from y (in-first y ys)))
   one-list (x ∷ xs) [] up other to from = absurd (in-none x (to x (in-first x xs)))

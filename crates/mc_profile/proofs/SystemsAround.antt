@@ -42,14 +42,16 @@ module _ (rows : List Row) (nested : IsNested rows) where
       let inside : e < length rows = omega (arith, low, below) in
       elim (above-cases x e inside h) [
         | inl same ↦ omega (arith, same, low)
-        | inr more ↦ let less = before k (owner e) e x (nested.owned e inside) inside (omega (arith, low, few)) more in omega (arith, less, low)
+        | inr more ↦ let less = before k (owner e) e x (nested.owned e inside) inside (omega (arith, low, few)) more in
+            omega (arith, less, low)
       ]
 
   -- a subsystem around a row stands before it
   pub is-before : (b x : ℕ) → b < length rows → Contains (above (owner b)) x → x < b
   is-before b x below h = before b (owner b) b x (nested.owned b below) below (omega arith) h
 
-  outer : (k : ℕ) (o : Option ℕ) (b x y : ℕ) → IsOwner rows b o → b < length rows → b ≤ k → Contains (above o) x → Contains (above (owner x)) y → Contains (above o) y
+  outer : (k : ℕ) (o : Option ℕ) (b x y : ℕ) → IsOwner rows b o → b < length rows → b ≤ k → Contains (above o) x →
+      Contains (above (owner x)) y → Contains (above o) y
   outer k None b x y owned below few h more = absurd (no-one x h)
   outer zero (Some e) b x y owned below few h more = absurd (let low = owned.0 in omega (arith, low, few))
   outer (suc k) (Some e) b x y owned below few h more =
@@ -89,4 +91,5 @@ module _ (rows : List Row) (nested : IsNested rows) where
   pub between : (k b x c : ℕ) → c + k ≡ b → b < length rows → x < c → Contains (above (owner b)) x → Contains (above (owner c)) x
   between zero b x c e below low h = subst (λ i. Contains (above (owner i)) x) (let same : b ≡ c = omega (arith, e) in same) h
   between (suc k) zero x c e below low h = absurd (omega (arith, e))
-  between (suc k) (suc b) x c e below low h = between k b x c (omega (arith, e)) (omega (arith, below)) low (one-back b x (omega (arith, e, low)) below h)
+  between (suc k) (suc b) x c e below low h =
+      between k b x c (omega (arith, e)) (omega (arith, below)) low (one-back b x (omega (arith, e, low)) below h)

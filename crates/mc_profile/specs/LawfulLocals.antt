@@ -9,7 +9,8 @@ use Rattle.mc_profile.specs.Ports.{control_ports}
 use Rattle.mc_profile.specs.Headers.{header_functions}
 use Rattle.mc_profile.specs.NodeWires.{wires_of_nodes, AreGivenOnce}
 
--- a child has a wire for each of its inputs and controls, and at most 32 inputs, outputs and functions
+-- a child has a wire for each of its inputs and controls, and at most 32 inputs, outputs and
+-- functions
 pub record IsChild (u : ChildUse) : Type 0 where
   pub inputs : length u.header.inputs ≤ 32
   pub outputs : length u.header.outputs ≤ 32
@@ -17,8 +18,8 @@ pub record IsChild (u : ChildUse) : Type 0 where
   pub wires : length u.wires ≡ length u.header.inputs
   pub controls : length u.controls ≡ length (control_ports u.header.control)
 
--- no two own rows have one number, the children are those of different subsystem rows, each wire is given by one node, and
--- nodes and ports are numbers that fit
+-- no two own rows have one number, the children are those of different subsystem rows, each wire is
+-- given by one node, and nodes and ports are numbers that fit
 pub record IsLocal (local : LocalSystem) : Type 0 where
   pub rows_differ : AreDifferent (map (λ r. r.row) local.rows)
   pub numbers : List ℕ
@@ -27,4 +28,5 @@ pub record IsLocal (local : LocalSystem) : Type 0 where
   pub are_children : All IsChild local.children
   pub few : length (wires_of_nodes local) < 2 ^ 32
   pub once : AreGivenOnce (wires_of_nodes local)
-  pub ports : (r : LocalRow) (k : ℕ) → Contains local.rows r → r.kind ≡ Inport k → (0 < k) × (k ≤ 32)
+  pub ports : (r : LocalRow) (k : ℕ) → Contains local.rows r → r.kind ≡ Inport k →
+      (0 < k) × (k ≤ 32)

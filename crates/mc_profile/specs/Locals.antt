@@ -28,7 +28,8 @@ local_row d delays b = record {
 abbrev pub ported : List Row → (Kind → Bool) → List ℕ → List ℕ
 ported rows test own =
     let inner = filter (λ b. test (row_at rows b).kind) own in
-    filter_map (λ k. find (λ b. port_of (row_at rows b).kind == k) inner) (range_with_len 1 (length inner))
+    filter_map (λ k. find (λ b. port_of (row_at rows b).kind == k) inner)
+    (range_with_len 1 (length inner))
 
 -- the child with this header: the wires that enter its Inports, and those of its controls
 abbrev pub child_use : Diagram → SystemHeader → ChildUse

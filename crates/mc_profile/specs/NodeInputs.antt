@@ -28,7 +28,9 @@ inputs_of numbers control Trigger = IsTrue (is_triggered control)
 
 -- the masks of what each output needs, by port
 abbrev pub AreNodeInputs : LocalSystem → List ℕ → Type 0
-AreNodeInputs local masks = AllZip (λ o mask. IsMaskOf (inputs_of (InputReaches local o) local.control) mask) (outports local) masks
+AreNodeInputs local masks =
+    AllZip (λ o mask. IsMaskOf (inputs_of (InputReaches local o) local.control) mask)
+    (outports local) masks
 
 -- the row at a place is the Inport with this port
 pub record IsInportAt (rows : List LocalRow) (a port : ℕ) : Type 0 where
@@ -39,4 +41,5 @@ pub record IsInportAt (rows : List LocalRow) (a port : ℕ) : Type 0 where
 -- of the first n nodes, that of input k + 1 has bit k
 pub record AreInputBits (rows : List LocalRow) (n : ℕ) (source : List ℕ) : Type 0 where
   pub len : length source ≡ n
-  pub bits : (a k : ℕ) → a < n → IsBitSet (slice_index source a) k ↔ ((k < 32) × IsInportAt rows a (suc k))
+  pub bits : (a k : ℕ) → a < n →
+      IsBitSet (slice_index source a) k ↔ ((k < 32) × IsInportAt rows a (suc k))

@@ -20,7 +20,11 @@ wires_of_row r = record { needs = used_inputs r; gives = r.row ∷ [] }
 
 -- what a call of a child's function needs and gives
 abbrev pub wires_of_call : ChildUse → Function → NodeWires
-wires_of_call u f = record { needs = taken_by_function f (ports_of_header u.header) (entering u); gives = given_by_function f (map (λ o. o.0) u.header.outputs) }
+wires_of_call u f =
+    record {
+      needs = taken_by_function f (ports_of_header u.header) (entering u);
+      gives = given_by_function f (map (λ o. o.0) u.header.outputs);
+    }
 
 -- the calls of a child's functions
 abbrev pub wires_of_calls : ChildUse → List NodeWires
@@ -59,10 +63,13 @@ pub record IsEdge (nodes : List NodeWires) (a b : ℕ) : Type 0 where
 
 -- no wire is given by two of the nodes
 abbrev pub AreGivenOnce : List NodeWires → Type 0
-AreGivenOnce nodes = (a b c : ℕ) (x y : NodeWires) → slice_get nodes a ≡ Some x → slice_get nodes b ≡ Some y →
+AreGivenOnce nodes =
+    (a b c : ℕ) (x y : NodeWires) → slice_get nodes a ≡ Some x → slice_get nodes b ≡ Some y →
     Contains x.gives c → Contains y.gives c → a ≡ b
 
 -- a table tells, of each wire that a node gives, a node that gives it, and of no other wire any
 pub record AreGivers (nodes : List NodeWires) (giver : ℕ → Option ℕ) : Type 0 where
-  pub each : (a c : ℕ) (x : NodeWires) → slice_get nodes a ≡ Some x → Contains x.gives c → (b : ℕ) × (giver c ≡ Some b)
-  pub right : (a c : ℕ) → giver c ≡ Some a → (x : NodeWires) × (slice_get nodes a ≡ Some x) × Contains x.gives c
+  pub each : (a c : ℕ) (x : NodeWires) → slice_get nodes a ≡ Some x → Contains x.gives c →
+      (b : ℕ) × (giver c ≡ Some b)
+  pub right : (a c : ℕ) → giver c ≡ Some a →
+      (x : NodeWires) × (slice_get nodes a ≡ Some x) × Contains x.gives c

@@ -7,7 +7,9 @@ use Rattle.mc_profile.specs.declared.local.LocalRow.{LocalRow}
 
 -- of the rows that pass a test on their kind, the place and the port
 abbrev pub ported_places : (Kind → Bool) → List LocalRow → List (ℕ × ℕ)
-ported_places test rows = map (λ (e : ℕ × LocalRow). (e.0, port_of e.1.kind)) (filter (λ (e : ℕ × LocalRow). test e.1.kind) (enumerate_from 0 rows))
+ported_places test rows =
+    map (λ (e : ℕ × LocalRow). (e.0, port_of e.1.kind))
+    (filter (λ (e : ℕ × LocalRow). test e.1.kind) (enumerate_from 0 rows))
 
 -- the place of the first of these with the port
 abbrev pub place_with : List (ℕ × ℕ) → ℕ → Option ℕ

@@ -24,7 +24,8 @@ pub(crate) fn child_uses(
     headers: &[Header],
 ) -> Result<Vec<ChildUse>, Memory>
     requires system { Agrees r.now.tree.table.rows (system_of s.now) }
-    requires headers { map (λ h. h.row) headers.now ≡ map Some (subsystems_of r.now.tree.table.rows (row_of (system_of s.now))) }
+    requires headers { map (λ h. h.row) headers.now
+        ≡ map Some (subsystems_of r.now.tree.table.rows (row_of (system_of s.now))) }
     ensures { IfOk result (λ v. v.items ≡ map (child_use_of (diagram_of r.now)) headers.now) }
 {
     let mut uses = Vec::new(alloc);

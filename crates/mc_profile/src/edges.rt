@@ -48,7 +48,8 @@ fn push_edges(
     b: u32,
     edges: &mut Vec<(u32, u32)>,
 ) -> Result<(), Memory>
-    ensures { OnOk result (edges.new.items ≡ edges.old.items ++ filter_map (edge_by (get nat_eq givers.now) b) needs.now) }
+    ensures { OnOk result (edges.new.items
+        ≡ edges.old.items ++ filter_map (edge_by (get nat_eq givers.now) b) needs.now) }
 {
     for wire in needs {
         if let Some(a) = givers.get(wire) {
@@ -72,7 +73,9 @@ fn givers(alloc: Global, nodes: &[NodeWires]) -> Result<Givers, Memory>
 
 // Node `a` gives these wires.
 fn insert_all(givers: &mut Givers, gives: &[u32], a: u32) -> Result<(), Memory>
-    ensures { OnOk result ((c : ℕ) → get nat_eq givers.new c ≡ (if list_any (λ d. d == c) gives.now then Some a else get nat_eq givers.old c)) }
+    ensures { OnOk result ((c : ℕ) →
+        get nat_eq givers.new c
+        ≡ (if list_any (λ d. d == c) gives.now then Some a else get nat_eq givers.old c)) }
 {
     for wire in gives {
         givers.insert(*wire, a)?;

@@ -42,7 +42,8 @@ fn push_controls(
     entries: &mut Vec<(u32, u32)>,
 ) -> Result<(), Memory>
     requires { length wires.now ≡ length (control_ports control) }
-    ensures { OnOk result (entries.new.items ≡ entries.old.items ++ zip (map bit_of (control_ports control)) wires.now) }
+    ensures { OnOk result (entries.new.items
+        ≡ entries.old.items ++ zip (map bit_of (control_ports control)) wires.now) }
 {
     match control {
         Control::Plain => {}
@@ -63,7 +64,8 @@ pub(crate) fn taken(
     entries: &[(u32, u32)],
 ) -> Result<Wires, Memory>
     requires { All (λ e. e.0 < 64) entries.now }
-    ensures { IfOk result (λ v. v ≡ map (λ e. e.1) (filter (λ e. has_bit_of function.now.inputs e.0) entries.now)) }
+    ensures { IfOk result (λ v. v
+        ≡ map (λ e. e.1) (filter (λ e. has_bit_of function.now.inputs e.0) entries.now)) }
 {
     let mut wires = Vec::new(alloc);
     for (bit, wire) in entries {

@@ -27,7 +27,8 @@ pub(crate) fn headers(
     profiles: &[Profile],
 ) -> Result<Vec<Header>, Memory>
     requires system { Agrees r.now.tree.table.rows (system_of s.now) }
-    requires profiles { map (λ p. p.row) profiles.now ≡ map Some (subsystems_of r.now.tree.table.rows (row_of (system_of s.now))) }
+    requires profiles { map (λ p. p.row) profiles.now
+        ≡ map Some (subsystems_of r.now.tree.table.rows (row_of (system_of s.now))) }
     ensures { IfOk result (λ v. v.items ≡ headers_with (diagram_of r.now) profiles.now) }
 {
     let mut headers = Vec::new(alloc);

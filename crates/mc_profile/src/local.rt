@@ -39,7 +39,14 @@ impl Model for Header {
 
     ghost Value = { SystemHeader };
 
-    ghost view = { λ h. record { row = h.row; control = h.control; inputs = h.inputs.items; controls = h.controls.items; outputs = h.outputs.items; profile = h.profile } };
+    ghost view = { λ h. record {
+      row = h.row;
+      control = h.control;
+      inputs = h.inputs.items;
+      controls = h.controls.items;
+      outputs = h.outputs.items;
+      profile = h.profile;
+    } };
 }
 
 /// A child with the wires that enter its ports and its controls.
@@ -92,7 +99,13 @@ impl Model for Local {
 
     ghost Value = { LocalSystem };
 
-    ghost view = { λ s. record { row = s.row; control = s.control; controls = s.controls.items; rows = s.rows.items; children = s.children.items } };
+    ghost view = { λ s. record {
+      row = s.row;
+      control = s.control;
+      controls = s.controls.items;
+      rows = s.rows.items;
+      children = s.children.items;
+    } };
 }
 
 /// The system `s` of a resolved tree by its own rows, where its children have these headers, in order.
@@ -105,9 +118,12 @@ pub fn local_of(
     headers: &[Header],
 ) -> Result<Local, Memory>
     requires system { Agrees r.now.tree.table.rows (system_of s.now) }
-    requires headers { map (λ h. h.row) headers.now ≡ map Some (subsystems_of r.now.tree.table.rows (row_of (system_of s.now))) }
+    requires headers { map (λ h. h.row) headers.now
+        ≡ map Some (subsystems_of r.now.tree.table.rows (row_of (system_of s.now))) }
     requires inside { IsInTable r.now.tree.table.rows (row_of (system_of s.now)) }
-    ensures { IfOk result (λ local. local ≡ local_of_system (diagram_of r.now) r.now.times.delays (row_of (system_of s.now)) headers.now) }
+    ensures { IfOk result (λ local. local
+        ≡ local_of_system (diagram_of r.now) r.now.times.delays
+        (row_of (system_of s.now)) headers.now) }
 {
     let control_row = control_wires(alloc, r, row(s))?;
     Ok(Local {

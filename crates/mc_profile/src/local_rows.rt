@@ -16,7 +16,8 @@ use std::alloc::Global;
 /// The rows of a system with all that their code is made from.
 pub(crate) fn local_rows(alloc: Global, r: &Resolved, own: &[u32]) -> Result<Vec<LocalRow>, Memory>
     requires { All (λ b. b < length r.now.tree.table.rows) own.now }
-    ensures { IfOk result (λ v. v.items ≡ map (local_row_of (diagram_of r.now) r.now.times.delays) own.now) }
+    ensures { IfOk result (λ v. v.items
+        ≡ map (local_row_of (diagram_of r.now) r.now.times.delays) own.now) }
 {
     let mut rows = Vec::new(alloc);
     for b in own {
@@ -43,7 +44,8 @@ fn local_row(alloc: Global, r: &Resolved, b: u32) -> Result<LocalRow, Memory>
 
 // The wires of a row inside its own system; an Inport has none there.
 fn own_wires(alloc: Global, row: &Row) -> Result<Wires, Memory>
-    ensures { IfOk result (λ wires. wires ≡ (if is_inport_kind row.now.kind then [] else row.now.inputs)) }
+    ensures { IfOk result (λ wires. wires
+        ≡ (if is_inport_kind row.now.kind then [] else row.now.inputs)) }
 {
     if is_inport(&row.kind) {
         Ok(Wires::new(Vec::new(alloc)))

@@ -38,7 +38,8 @@ fn masks_at(
     places: &[u32],
 ) -> Result<Vec<u64>, Memory>
     requires { All (λ b. b < length reached.now) places.now }
-    ensures { IfOk result (λ v. AllZip (λ b mask. (mask ≡ bit_or (slice_index reached.now b) control) × (mask < 2 ^ 64)) places.now v.items) }
+    ensures { IfOk result (λ v. AllZip (λ b mask. (mask ≡ bit_or (slice_index reached.now b) control)
+        × (mask < 2 ^ 64)) places.now v.items) }
 {
     let mut masks = Vec::new(alloc);
     for b in places {

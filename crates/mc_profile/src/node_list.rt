@@ -32,7 +32,8 @@ pub fn nodes_of(alloc: Global, local: &Local) -> Result<Nodes, Memory>
 // The nodes of a system with these rows and children, in their order.
 fn node_list(alloc: Global, rows: &[LocalRow], children: &[ChildUse]) -> Result<Vec<Node>, Memory>
     requires { All IsChild children.now }
-    ensures { IfOk result (λ v. v.items ≡ map (λ r. row_node r.row) rows.now ++ flat_map call_nodes children.now) }
+    ensures { IfOk result (λ v. v.items ≡ map (λ r. row_node r.row) rows.now
+        ++ flat_map call_nodes children.now) }
 {
     let mut list = own_nodes(alloc, rows)?;
     for child in children {

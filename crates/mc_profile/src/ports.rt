@@ -32,7 +32,8 @@ pub(crate) fn outports(alloc: Global, r: &Resolved, own: &[u32]) -> Result<Vec<u
 // The Inports in the order of the file.
 fn own_inports(alloc: Global, r: &Resolved, own: &[u32]) -> Result<Vec<u32>, Memory>
     requires { All (λ b. b < length r.now.tree.table.rows) own.now }
-    ensures inports { IfOk result (λ v. v.items ≡ filter (λ b. is_inport_kind (row_of_table r.now.tree.table.rows b).kind) own.now) }
+    ensures inports { IfOk result (λ v. v.items
+        ≡ filter (λ b. is_inport_kind (row_of_table r.now.tree.table.rows b).kind) own.now) }
     ensures rows { IfOk result (λ v. All (λ b. b < length r.now.tree.table.rows) v.items) }
 {
     let mut inports = Vec::new(alloc);
@@ -47,7 +48,8 @@ fn own_inports(alloc: Global, r: &Resolved, own: &[u32]) -> Result<Vec<u32>, Mem
 // The Outports in the order of the file.
 fn own_outports(alloc: Global, r: &Resolved, own: &[u32]) -> Result<Vec<u32>, Memory>
     requires { All (λ b. b < length r.now.tree.table.rows) own.now }
-    ensures outports { IfOk result (λ v. v.items ≡ filter (λ b. is_outport_kind (row_of_table r.now.tree.table.rows b).kind) own.now) }
+    ensures outports { IfOk result (λ v. v.items
+        ≡ filter (λ b. is_outport_kind (row_of_table r.now.tree.table.rows b).kind) own.now) }
     ensures rows { IfOk result (λ v. All (λ b. b < length r.now.tree.table.rows) v.items) }
 {
     let mut outports = Vec::new(alloc);
@@ -62,7 +64,10 @@ fn own_outports(alloc: Global, r: &Resolved, own: &[u32]) -> Result<Vec<u32>, Me
 // These rows by their ports.
 fn by_port(alloc: Global, r: &Resolved, rows: &[u32]) -> Result<Vec<u32>, Memory>
     requires { All (λ b. b < length r.now.tree.table.rows) rows.now }
-    ensures found { IfOk result (λ v. v.items ≡ filter_map (λ k. find (λ b. port_of_kind (row_of_table r.now.tree.table.rows b).kind == k) rows.now) (range_with_len 1 (length rows.now))) }
+    ensures found { IfOk result (λ v. v.items
+        ≡ filter_map
+        (λ k. find (λ b. port_of_kind (row_of_table r.now.tree.table.rows b).kind == k) rows.now)
+        (range_with_len 1 (length rows.now))) }
     ensures rows { IfOk result (λ v. All (λ b. b < length r.now.tree.table.rows) v.items) }
 {
     let mut found = Vec::new(alloc);
@@ -78,7 +83,8 @@ fn by_port(alloc: Global, r: &Resolved, rows: &[u32]) -> Result<Vec<u32>, Memory
 fn row_with_port(r: &Resolved, rows: &[u32], port: usize) -> Option<u32>
     requires { All (λ b. b < length r.now.tree.table.rows) rows.now }
     ensures rows { IfSome result (λ b. b < length r.now.tree.table.rows) }
-    ensures first { result ≡ find (λ b. port_of_kind (row_of_table r.now.tree.table.rows b).kind == port) rows.now }
+    ensures first { result
+        ≡ find (λ b. port_of_kind (row_of_table r.now.tree.table.rows b).kind == port) rows.now }
 {
     for b in rows {
         if port_of(&row_at(r, *b).kind) as usize == port {

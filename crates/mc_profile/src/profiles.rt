@@ -57,8 +57,12 @@ pub fn system_nodes(
     requires system { Agrees r.now.tree.table.rows (system_of s.now) }
     requires inside { IsInTable r.now.tree.table.rows (row_of (system_of s.now)) }
     requires children { AreProfiles (diagram_of r.now) (row_of (system_of s.now)) children.now }
-    ensures nodes { IfOk result (λ nodes. AreNodesOf (local_of_system (diagram_of r.now) r.now.times.delays (row_of (system_of s.now)) (headers_with (diagram_of r.now) children.now)) nodes) }
-    ensures no_cycle { HasNoLoop (needs_of (diagram_of r.now)) → IfOk result (λ nodes. HasNoCycle nodes.graph) }
+    ensures nodes { IfOk result
+        (λ nodes.
+        AreNodesOf (local_of_system (diagram_of r.now) r.now.times.delays (row_of (system_of s.now))
+        (headers_with (diagram_of r.now) children.now)) nodes) }
+    ensures no_cycle { HasNoLoop (needs_of (diagram_of r.now)) →
+        IfOk result (λ nodes. HasNoCycle nodes.graph) }
 {
     is_resolved(r);
     let local = local_with(alloc, r, s, children)?;
@@ -77,7 +81,9 @@ pub fn local_with(
     requires system { Agrees r.now.tree.table.rows (system_of s.now) }
     requires inside { IsInTable r.now.tree.table.rows (row_of (system_of s.now)) }
     requires children { AreProfiles (diagram_of r.now) (row_of (system_of s.now)) children.now }
-    ensures is { IfOk result (λ local. local ≡ local_of_system (diagram_of r.now) r.now.times.delays (row_of (system_of s.now)) (headers_with (diagram_of r.now) children.now)) }
+    ensures is { IfOk result (λ local. local
+        ≡ local_of_system (diagram_of r.now) r.now.times.delays (row_of (system_of s.now))
+        (headers_with (diagram_of r.now) children.now)) }
     ensures local { IfOk result (λ local. IsLocalOf r.now (row_of (system_of s.now)) local) }
     ensures lawful { IfOk result IsLocal }
 {

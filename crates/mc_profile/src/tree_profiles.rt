@@ -16,7 +16,8 @@ use std::alloc::Global;
 ///
 /// They are made from the innermost systems outward, each once.
 pub fn profiles_of(alloc: Global, r: &Resolved) -> Result<Vec<Profile>, Memory>
-    ensures { IfOk result (λ v. AreProfilesInside (diagram_of r.now) (system_of r.now.tree.root) v.items) }
+    ensures { IfOk result
+        (λ v. AreProfilesInside (diagram_of r.now) (system_of r.now.tree.root) v.items) }
 {
     is_resolved(r);
     profiles_inside(alloc, r, root(r))

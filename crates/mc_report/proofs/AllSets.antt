@@ -56,7 +56,10 @@ rises-distinct a (x ∷ xs) r = (others xs (rises-above (suc x) xs r.1), rises-d
 
 each-of-range : (P : ℕ → Type 0) (a n : ℕ) → ((k : ℕ) → a ≤ k → k < a + n → P k) → AllByRecursion P (range_with_len a n)
 each-of-range P a zero h = tt
-each-of-range P a (suc n) h = (h a (omega arith) (omega arith), each-of-range P (a + 1) n (λ k low high. h k (omega (arith, low)) (omega (arith, high))))
+each-of-range P a (suc n) h = (
+  h a (omega arith) (omega arith),
+  each-of-range P (a + 1) n (λ k low high. h k (omega (arith, low)) (omega (arith, high))),
+)
 
 or-right : (s t : Bool) → t ≡ true → (s || t) ≡ true
 or-right true t e = refl
@@ -75,7 +78,9 @@ in-range a (suc n) k low high = elim (cases_lt a k) [
 
 -- the sets of so many for the numbered inputs, each with each set of the controls
 abbrev pub all_sets : ℕ → Bool → Bool → List ℕ
-all_sets w true true = range_with_len 0 w ++ (range_with_len (2 ^ 32) w ++ (range_with_len (2 ^ 33) w ++ range_with_len (2 ^ 33 + 2 ^ 32) w))
+all_sets w true true =
+    range_with_len 0 w
+    ++ (range_with_len (2 ^ 32) w ++ (range_with_len (2 ^ 33) w ++ range_with_len (2 ^ 33 + 2 ^ 32) w))
 all_sets w true false = range_with_len 0 w ++ range_with_len (2 ^ 32) w
 all_sets w false true = range_with_len 0 w ++ range_with_len (2 ^ 33) w
 all_sets w false false = range_with_len 0 w
@@ -93,13 +98,16 @@ module _ (inputs : ℕ) (few : inputs ≤ 32) where
   pub sets-distinct : (s t : Bool) → IsDistinct eqb (all_sets w s t)
   sets-distinct true true = rises-distinct 0 (all_sets w true true)
       (rises-append 0 (2 ^ 32) (range_with_len 0 w) _ (rises-range 0 w) (low-range 0 (2 ^ 32) (omega arith)) (omega arith)
-      (rises-append (2 ^ 32) (2 ^ 33) (range_with_len (2 ^ 32) w) _ (rises-range (2 ^ 32) w) (low-range (2 ^ 32) (2 ^ 33) (omega arith)) (omega arith)
+      (rises-append (2 ^ 32) (2 ^ 33) (range_with_len (2 ^ 32) w) _ (rises-range (2 ^ 32) w)
+      (low-range (2 ^ 32) (2 ^ 33) (omega arith)) (omega arith)
       (rises-append (2 ^ 33) (2 ^ 33 + 2 ^ 32) (range_with_len (2 ^ 33) w) (range_with_len (2 ^ 33 + 2 ^ 32) w) (rises-range (2 ^ 33) w)
       (low-range (2 ^ 33) (2 ^ 33 + 2 ^ 32) (omega arith)) (omega arith) (rises-range (2 ^ 33 + 2 ^ 32) w))))
   sets-distinct true false = rises-distinct 0 (all_sets w true false)
-      (rises-append 0 (2 ^ 32) (range_with_len 0 w) (range_with_len (2 ^ 32) w) (rises-range 0 w) (low-range 0 (2 ^ 32) (omega arith)) (omega arith) (rises-range (2 ^ 32) w))
+      (rises-append 0 (2 ^ 32) (range_with_len 0 w) (range_with_len (2 ^ 32) w) (rises-range 0 w)
+      (low-range 0 (2 ^ 32) (omega arith)) (omega arith) (rises-range (2 ^ 32) w))
   sets-distinct false true = rises-distinct 0 (all_sets w false true)
-      (rises-append 0 (2 ^ 33) (range_with_len 0 w) (range_with_len (2 ^ 33) w) (rises-range 0 w) (low-range 0 (2 ^ 33) (omega arith)) (omega arith) (rises-range (2 ^ 33) w))
+      (rises-append 0 (2 ^ 33) (range_with_len 0 w) (range_with_len (2 ^ 33) w) (rises-range 0 w)
+      (low-range 0 (2 ^ 33) (omega arith)) (omega arith) (rises-range (2 ^ 33) w))
   sets-distinct false false = rises-distinct 0 (all_sets w false false) (rises-range 0 w)
 
   long : (a : ℕ) → length (range_with_len a w) ≡ w
@@ -115,12 +123,14 @@ module _ (inputs : ℕ) (few : inputs ≤ 32) where
       four-times : (x y : ℕ) → y ≡ x * 2 ^ 2 → x + (x + (x + x)) ≡ y
       four-times x y e = omega (arith, e)
   sets-length true false =
-      length-append (range_with_len 0 w) (range_with_len (2 ^ 32) w) ∙ ap₂ (λ x y. x + y) (long 0) (long (2 ^ 32)) ∙ twice w (2 ^ (inputs + 1)) (pow-add 2 inputs 1)
+      length-append (range_with_len 0 w) (range_with_len (2 ^ 32) w) ∙ ap₂ (λ x y. x + y) (long 0) (long (2 ^ 32))
+      ∙ twice w (2 ^ (inputs + 1)) (pow-add 2 inputs 1)
     where
       twice : (x y : ℕ) → y ≡ x * 2 ^ 1 → x + x ≡ y
       twice x y e = omega (arith, e)
   sets-length false true =
-      length-append (range_with_len 0 w) (range_with_len (2 ^ 33) w) ∙ ap₂ (λ x y. x + y) (long 0) (long (2 ^ 33)) ∙ twice w (2 ^ (inputs + 1)) (pow-add 2 inputs 1)
+      length-append (range_with_len 0 w) (range_with_len (2 ^ 33) w) ∙ ap₂ (λ x y. x + y) (long 0) (long (2 ^ 33))
+      ∙ twice w (2 ^ (inputs + 1)) (pow-add 2 inputs 1)
     where
       twice : (x y : ℕ) → y ≡ x * 2 ^ 1 → x + x ≡ y
       twice x y e = omega (arith, e)
@@ -130,14 +140,17 @@ module _ (inputs : ℕ) (few : inputs ≤ 32) where
 
   low-part : (mask low k : ℕ) → low < w → mask ≡ low + k * 2 ^ 32 → mask % w ≡ low
   low-part mask low k fits e =
-      ap (λ m. m % w) (e ∙ ap (λ y. low + k * y) (ap (λ j. 2 ^ j) (let f : 32 ≡ 32 - inputs + inputs = omega (arith, few) in f) ∙ pow-add 2 (32 - inputs) inputs)
+      ap (λ m. m % w)
+      (e ∙ ap (λ y. low + k * y) (ap (λ j. 2 ^ j) (let f : 32 ≡ 32 - inputs + inputs = omega (arith, few) in f)
+      ∙ pow-add 2 (32 - inputs) inputs)
       ∙ ap (λ y. low + y) (mul-assoc k (2 ^ (32 - inputs)) w))
       ∙ add-mul-mod_self_right low (k * 2 ^ (32 - inputs)) w ∙ mod-eq_of_lt fits
     where
       mul-assoc : (a b c : ℕ) → a * (b * c) ≡ a * b * c
       mul-assoc a b c = grind arith
 
-  own : (control : Bool) (mask bit : ℕ) (t : Bool) → bit_at mask bit ≡ cond t 1 0 → own_bit control mask bit ≡ cond (control && t) (2 ^ bit) 0
+  own : (control : Bool) (mask bit : ℕ) (t : Bool) → bit_at mask bit ≡ cond t 1 0 →
+      own_bit control mask bit ≡ cond (control && t) (2 ^ bit) 0
   own control mask bit t is = ap (λ (u : Bool). cond (control && u) (2 ^ bit) 0) (set-bit mask bit t is)
 
   is-set : (s t : Bool) (mask low : ℕ) (x y : Bool) → low < w → mask ≡ low + (cond x 1 0 + 2 * cond y 1 0) * 2 ^ 32 →
@@ -181,7 +194,8 @@ module _ (inputs : ℕ) (few : inputs ≤ 32) where
       let P : ℕ → Type 0 = IsSetOf (ports_with inputs (controls_with true true)) in
       all-append P (range_with_len 0 w) _ (range-sets true true false false 0 (omega arith) refl refl)
       (all-append P (range_with_len (2 ^ 32) w) _ (range-sets true true true false (2 ^ 32) (omega arith) refl refl)
-      (all-append P (range_with_len (2 ^ 33) w) (range_with_len (2 ^ 33 + 2 ^ 32) w) (range-sets true true false true (2 ^ 33) (omega arith) refl refl)
+      (all-append P (range_with_len (2 ^ 33) w) (range_with_len (2 ^ 33 + 2 ^ 32) w)
+      (range-sets true true false true (2 ^ 33) (omega arith) refl refl)
       (range-sets true true true true (2 ^ 33 + 2 ^ 32) (omega arith) refl refl)))
   sets-are true false =
       let P : ℕ → Type 0 = IsSetOf (ports_with inputs (controls_with true false)) in
@@ -215,11 +229,17 @@ module _ (inputs : ℕ) (few : inputs ≤ 32) where
 
       by : (s t x y : Bool) → mask ≡ low + cond (s && x) (2 ^ 32) 0 + cond (t && y) (2 ^ 33) 0 → among (all_sets w s t) mask ≡ true
       by true true true true e =
-          right-of (range_with_len 0 w) _ mask (right-of (range_with_len (2 ^ 32) w) _ mask (right-of (range_with_len (2 ^ 33) w) (range_with_len (2 ^ 33 + 2 ^ 32) w) mask
+          right-of (range_with_len 0 w) _ mask
+          (right-of (range_with_len (2 ^ 32) w) _ mask
+          (right-of (range_with_len (2 ^ 33) w) (range_with_len (2 ^ 33 + 2 ^ 32) w) mask
           (at (2 ^ 33 + 2 ^ 32) low mask fits (omega (arith, e)))))
-      by true true true false e = right-of (range_with_len 0 w) _ mask (left-of (range_with_len (2 ^ 32) w) _ mask (at (2 ^ 32) low mask fits (omega (arith, e))))
+      by true true true false e =
+          right-of (range_with_len 0 w) _ mask
+          (left-of (range_with_len (2 ^ 32) w) _ mask (at (2 ^ 32) low mask fits (omega (arith, e))))
       by true true false true e =
-          right-of (range_with_len 0 w) _ mask (right-of (range_with_len (2 ^ 32) w) _ mask (left-of (range_with_len (2 ^ 33) w) (range_with_len (2 ^ 33 + 2 ^ 32) w) mask
+          right-of (range_with_len 0 w) _ mask
+          (right-of (range_with_len (2 ^ 32) w) _ mask
+          (left-of (range_with_len (2 ^ 33) w) (range_with_len (2 ^ 33 + 2 ^ 32) w) mask
           (at (2 ^ 33) low mask fits (omega (arith, e)))))
       by true true false false e = left-of (range_with_len 0 w) _ mask (at 0 low mask fits (omega (arith, e)))
       by true false true y e = right-of (range_with_len 0 w) (range_with_len (2 ^ 32) w) mask (at (2 ^ 32) low mask fits (omega (arith, e)))
@@ -264,7 +284,8 @@ module _ (P : ℕ → Type 0) (sets : List ℕ) (distinct : IsDistinct eqb sets)
   look ys [] a = inr tt
   look ys (x ∷ xs) a = by (among ys x) refl (look ys xs a.1)
     where
-      by : (t : Bool) → among ys x ≡ t → New ys ⊎ AllByRecursion (λ x. among ys x ≡ true) xs → New ys ⊎ AllByRecursion (λ x. among ys x ≡ true) (x ∷ xs)
+      by : (t : Bool) → among ys x ≡ t → New ys ⊎ AllByRecursion (λ x. among ys x ≡ true) xs →
+          New ys ⊎ AllByRecursion (λ x. among ys x ≡ true) (x ∷ xs)
       by false is more = inl record { member = x; is = a.0; new = is }
       by true is (inl found) = inl found
       by true is (inr all) = inr (is, all)

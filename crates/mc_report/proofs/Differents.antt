@@ -76,10 +76,14 @@ twice p q r (x ∷ xs) same = by (q x) (p x) refl refl (twice p q r xs same)
   where
     by : (s t : Bool) → q x ≡ s → p x ≡ t → filter p (filter q xs) ≡ filter r xs → filter p (filter q (x ∷ xs)) ≡ filter r (x ∷ xs)
     by true true a b e =
-        ap (λ (u : Bool). filter p (cond u (x ∷ filter q xs) (filter q xs))) a ∙ ap (λ (u : Bool). cond u (x ∷ filter p (filter q xs)) (filter p (filter q xs))) b
-        ∙ ap (λ (t : List ℕ). x ∷ t) e ∙ sym (ap (λ (u : Bool). cond u (x ∷ filter r xs) (filter r xs)) (same x ∙ ap₂ (λ (u v : Bool). u && v) a b))
+        ap (λ (u : Bool). filter p (cond u (x ∷ filter q xs) (filter q xs))) a
+        ∙ ap (λ (u : Bool). cond u (x ∷ filter p (filter q xs)) (filter p (filter q xs))) b
+        ∙ ap (λ (t : List ℕ). x ∷ t) e
+        ∙ sym (ap (λ (u : Bool). cond u (x ∷ filter r xs) (filter r xs)) (same x
+        ∙ ap₂ (λ (u v : Bool). u && v) a b))
     by true false a b e =
-        ap (λ (u : Bool). filter p (cond u (x ∷ filter q xs) (filter q xs))) a ∙ ap (λ (u : Bool). cond u (x ∷ filter p (filter q xs)) (filter p (filter q xs))) b
+        ap (λ (u : Bool). filter p (cond u (x ∷ filter q xs) (filter q xs))) a
+        ∙ ap (λ (u : Bool). cond u (x ∷ filter p (filter q xs)) (filter p (filter q xs))) b
         ∙ e ∙ sym (ap (λ (u : Bool). cond u (x ∷ filter r xs) (filter r xs)) (same x ∙ ap₂ (λ (u v : Bool). u && v) a b))
     by false t a b e =
         ap (λ (u : Bool). filter p (cond u (x ∷ filter q xs) (filter q xs))) a
@@ -92,7 +96,8 @@ unseen-different p (n ∷ ns) = by (p n) refl (λ q. unseen-different q ns)
     rest : List ℕ
     rest = filter (λ y. not (y == n)) (different ns)
 
-    step : (t : Bool) → p n ≡ t → filter (λ m. not (p m)) (n ∷ rest) ≡ cond (not t) (n ∷ filter (λ m. not (p m)) rest) (filter (λ m. not (p m)) rest)
+    step : (t : Bool) → p n ≡ t → filter (λ m. not (p m)) (n ∷ rest) ≡ cond (not t) (n ∷ filter (λ m. not (p m)) rest)
+        (filter (λ m. not (p m)) rest)
     step t is = ap (λ (u : Bool). cond (not u) (n ∷ filter (λ m. not (p m)) rest) (filter (λ m. not (p m)) rest)) is
 
     dropped : p n ≡ true → (y : ℕ) → not (p y) ≡ (not (y == n) && not (p y))
@@ -113,7 +118,10 @@ unseen-different p (n ∷ ns) = by (p n) refl (λ q. unseen-different q ns)
         filter (λ m. not (p m)) (n ∷ rest) ≡ unseen p (n ∷ ns)
     by true is more = step true is ∙ twice (λ m. not (p m)) (λ y. not (y == n)) (λ m. not (p m)) (different ns) (dropped is)
         ∙ more p ∙ sym (unseen-skip p n ns is)
-    by false is more = step false is ∙ ap (λ (t : List ℕ). n ∷ t) (twice (λ m. not (p m)) (λ y. not (y == n)) (λ m. not (and-also p n m)) (different ns) kept
+    by false is more =
+        step false is
+        ∙ ap (λ (t : List ℕ). n ∷ t)
+        (twice (λ m. not (p m)) (λ y. not (y == n)) (λ m. not (and-also p n m)) (different ns) kept
         ∙ more (and-also p n)) ∙ sym (unseen-keep p n ns is)
 
 abbrev pub nothing : ℕ → Bool
@@ -207,7 +215,8 @@ apart p ns (d ∷ ds) es e =
     (none-seen b.seen (and-also nothing d) b.members (also-within nothing b.seen d (λ m h. absurd (false≢true h)) b.own))))
     (apart b.seen b.members ds es (sym b.is))
   where
-    last : (xs ys : List ℕ) → AllByRecursion (λ x. and-also nothing d x ≡ false) (xs ++ ys) → AllByRecursion (λ x. and-also nothing d x ≡ false) ys
+    last : (xs ys : List ℕ) → AllByRecursion (λ x. and-also nothing d x ≡ false) (xs ++ ys) →
+        AllByRecursion (λ x. and-also nothing d x ≡ false) ys
     last [] ys a = a
     last (x ∷ xs) ys a = last xs ys a.1
 

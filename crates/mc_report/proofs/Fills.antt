@@ -73,7 +73,8 @@ length-fill last us (n ∷ ns) = elim (is-hidden n) [
     at [] more more' = ap (λ (t : List ℕ). length t) (hidden-last ns last) ∙ ap suc more
     at (v ∷ vs) more more' = ap (λ (t : List ℕ). length t) (hidden-next ns last v vs) ∙ ap suc (more' v vs)
 
-pub all-filled : (P : ℕ → Type 0) (last : ℕ) (us ns : List ℕ) → P last → AllByRecursion P us → AllByRecursion (λ n. (n ≡ not_known) ⊎ P n) ns →
+pub all-filled : (P : ℕ → Type 0) (last : ℕ) (us ns : List ℕ) → P last → AllByRecursion P us →
+    AllByRecursion (λ n. (n ≡ not_known) ⊎ P n) ns →
     AllByRecursion P (fill last us ns)
 all-filled P last us [] own a b = subst (AllByRecursion P) (sym (no-fill last us)) tt
 all-filled P last us (n ∷ ns) own a b = elim (is-hidden n) [
@@ -87,7 +88,8 @@ all-filled P last us (n ∷ ns) own a b = elim (is-hidden n) [
     of other (inr is) = is
 
     at : (vs : List ℕ) → AllByRecursion P vs → AllByRecursion P (fill last [] ns) →
-        ((u : ℕ) (ws : List ℕ) → P u → AllByRecursion P ws → AllByRecursion P (fill u ws ns)) → AllByRecursion P (fill last vs (not_known ∷ ns))
+        ((u : ℕ) (ws : List ℕ) → P u → AllByRecursion P ws → AllByRecursion P (fill u ws ns)) →
+        AllByRecursion P (fill last vs (not_known ∷ ns))
     at [] c more more' = subst (AllByRecursion P) (sym (hidden-last ns last)) (own, more)
     at (v ∷ vs) c more more' = subst (AllByRecursion P) (sym (hidden-next ns last v vs)) (c.0, more' v vs c.0 c.1)
 
@@ -106,15 +108,19 @@ same-filled d last us (n ∷ ns) known own a = elim (is-hidden n) [
     away u other = ne_eqb u d other ∙ sym (ne_eqb not_known d (λ same. known (sym same)))
 
     at : (vs : List ℕ) → AllByRecursion (λ u. u ≡ d → ⊥) vs → map (λ n. n == d) (fill last [] ns) ≡ map (λ n. n == d) ns →
-        ((u : ℕ) (ws : List ℕ) → (u ≡ d → ⊥) → AllByRecursion (λ u. u ≡ d → ⊥) ws → map (λ n. n == d) (fill u ws ns) ≡ map (λ n. n == d) ns) →
+        ((u : ℕ) (ws : List ℕ) → (u ≡ d → ⊥) → AllByRecursion (λ u. u ≡ d → ⊥) ws →
+        map (λ n. n == d) (fill u ws ns) ≡ map (λ n. n == d) ns) →
         map (λ n. n == d) (fill last vs (not_known ∷ ns)) ≡ map (λ n. n == d) (not_known ∷ ns)
-    at [] c more more' = ap (λ (t : List ℕ). map (λ n. n == d) t) (hidden-last ns last) ∙ ap₂ (λ (t : Bool) (ts : List Bool). t ∷ ts) (away last own) more
-    at (v ∷ vs) c more more' = ap (λ (t : List ℕ). map (λ n. n == d) t) (hidden-next ns last v vs) ∙ ap₂ (λ (t : Bool) (ts : List Bool). t ∷ ts) (away v c.0) (more' v vs c.0 c.1)
+    at [] c more more' = ap (λ (t : List ℕ). map (λ n. n == d) t) (hidden-last ns last)
+        ∙ ap₂ (λ (t : Bool) (ts : List Bool). t ∷ ts) (away last own) more
+    at (v ∷ vs) c more more' = ap (λ (t : List ℕ). map (λ n. n == d) t) (hidden-next ns last v vs)
+        ∙ ap₂ (λ (t : Bool) (ts : List Bool). t ∷ ts) (away v c.0) (more' v vs c.0 c.1)
 
 -- ---- The different members of what is filled
 
 -- where all that is not hidden was seen, those are the new ones
-pub new-ones : (p : ℕ → Bool) (last : ℕ) (us ns : List ℕ) → p last ≡ true → AreNew p us → AllByRecursion (λ n. (n ≡ not_known) ⊎ (p n ≡ true)) ns →
+pub new-ones : (p : ℕ → Bool) (last : ℕ) (us ns : List ℕ) → p last ≡ true → AreNew p us →
+    AllByRecursion (λ n. (n ≡ not_known) ⊎ (p n ≡ true)) ns →
     length us ≤ hidden_of ns → unseen p (fill last us ns) ≡ us
 new-ones p last [] [] own a b few = ap (unseen p) (no-fill last []) ∙ unseen-none p
 new-ones p last (u ∷ us) [] own a b few = absurd (omega (arith, few))
@@ -129,16 +135,20 @@ new-ones p last us (n ∷ ns) own a b few = elim (is-hidden n) [
     of other (inl same) = absurd (other same)
     of other (inr is) = is
 
-    wider : (u : ℕ) (ms : List ℕ) → AllByRecursion (λ n. (n ≡ not_known) ⊎ (p n ≡ true)) ms → AllByRecursion (λ n. (n ≡ not_known) ⊎ (and-also p u n ≡ true)) ms
+    wider : (u : ℕ) (ms : List ℕ) → AllByRecursion (λ n. (n ≡ not_known) ⊎ (p n ≡ true)) ms →
+        AllByRecursion (λ n. (n ≡ not_known) ⊎ (and-also p u n ≡ true)) ms
     wider u [] c = tt
     wider u (m ∷ ms) c = (elim c.0 [ inl same ↦ inl same | inr is ↦ inr (also-before p u m is) ], wider u ms c.1)
 
     at : (vs : List ℕ) → AreNew p vs → length vs ≤ hidden_of (not_known ∷ ns) →
         ((q : ℕ → Bool) (l : ℕ) (ws : List ℕ) → q l ≡ true → AreNew q ws → AllByRecursion (λ n. (n ≡ not_known) ⊎ (q n ≡ true)) ns →
         length ws ≤ hidden_of ns → unseen q (fill l ws ns) ≡ ws) → unseen p (fill last vs (not_known ∷ ns)) ≡ vs
-    at [] c most more = ap (unseen p) (hidden-last ns last) ∙ unseen-skip p last (fill last [] ns) own ∙ more p last [] own tt b.1 (omega arith)
+    at [] c most more = ap (unseen p) (hidden-last ns last) ∙ unseen-skip p last (fill last [] ns) own
+        ∙ more p last [] own tt b.1 (omega arith)
     at (v ∷ vs) c most more = ap (unseen p) (hidden-next ns last v vs) ∙ unseen-keep p v (fill v vs ns) c.0
-        ∙ ap (λ (t : List ℕ). v ∷ t) (more (and-also p v) v vs (also-self p v) c.1 (wider v ns b.1) (let one = hidden-more ns in omega (arith, most, one)))
+        ∙ ap (λ (t : List ℕ). v ∷ t)
+        (more (and-also p v) v vs (also-self p v) c.1 (wider v ns b.1) (let one = hidden-more ns in
+        omega (arith, most, one)))
 
 -- Where the hidden ones come last among the different members, the new ones stand in their place.
 pub new-last : (p q : ℕ → Bool) (last u : ℕ) (us ns ds : List ℕ) (e : ℕ) → p not_known ≡ false → IsWithin p q → AreNew q (u ∷ us) →
@@ -160,7 +170,8 @@ new-last p q last u us (n ∷ ns) ds e hides within a b known few is = elim (is-
         at true seen = absurd (false≢true (sym a.0 ∙ within u seen))
         at false seen = seen
 
-    seen-now : (ms : List ℕ) → AllByRecursion (λ m. and-also p not_known m ≡ true) ms → AllByRecursion (λ m. (m ≡ not_known) ⊎ (and-also p u m ≡ true)) ms
+    seen-now : (ms : List ℕ) → AllByRecursion (λ m. and-also p not_known m ≡ true) ms →
+        AllByRecursion (λ m. (m ≡ not_known) ⊎ (and-also p u m ≡ true)) ms
     seen-now [] c = tt
     seen-now (m ∷ ms) c = (one (is-hidden m) (p m) refl, seen-now ms c.1)
       where
@@ -169,10 +180,13 @@ new-last p q last u us (n ∷ ns) ds e hides within a b known few is = elim (is-
         one (inr other) true i = inr (also-before p u m i)
         one (inr other) false i = absurd (false≢true (sym (also-other p not_known m other i) ∙ c.0))
 
-    here : (xs : List ℕ) → AllByRecursion (λ d. d ≡ not_known → ⊥) xs → length (u ∷ us) ≤ hidden_of (not_known ∷ ns) → unseen p (not_known ∷ ns) ≡ xs ++ e ∷ [] →
+    here : (xs : List ℕ) → AllByRecursion (λ d. d ≡ not_known → ⊥) xs → length (u ∷ us) ≤ hidden_of (not_known ∷ ns) →
+        unseen p (not_known ∷ ns) ≡ xs ++ e ∷ [] →
         unseen p (fill last (u ∷ us) (not_known ∷ ns)) ≡ xs ++ u ∷ us
     here (x ∷ xs) k most i =
-        absurd (k.0 (sym (same-first not_known x (unseen (and-also p not_known) ns) (xs ++ e ∷ []) (sym (unseen-keep p not_known ns hides) ∙ i))))
+        absurd (k.0
+        (sym (same-first not_known x (unseen (and-also p not_known) ns) (xs ++ e ∷ [])
+        (sym (unseen-keep p not_known ns hides) ∙ i))))
     here [] k most i =
         let rest = same-rest not_known e (unseen (and-also p not_known) ns) [] (sym (unseen-keep p not_known ns hides) ∙ i) in
         ap (unseen p) (hidden-next ns last u us) ∙ unseen-keep p u (fill u us ns) first-new
@@ -183,9 +197,11 @@ new-last p q last u us (n ∷ ns) ds e hides within a b known few is = elim (is-
     seen-too : (n ≡ not_known → ⊥) → q n ≡ true
     seen-too other = elim b.0 [ inl same ↦ absurd (other same) | inr own ↦ own ]
 
-    there : (n ≡ not_known → ⊥) → (t : Bool) → p n ≡ t → (xs : List ℕ) → AllByRecursion (λ d. d ≡ not_known → ⊥) xs → length (u ∷ us) ≤ hidden_of ns →
+    there : (n ≡ not_known → ⊥) → (t : Bool) → p n ≡ t → (xs : List ℕ) → AllByRecursion (λ d. d ≡ not_known → ⊥) xs →
+        length (u ∷ us) ≤ hidden_of ns →
         unseen p (n ∷ ns) ≡ xs ++ e ∷ [] →
-        ((r : ℕ → Bool) (ys : List ℕ) → r not_known ≡ false → IsWithin r q → AllByRecursion (λ d. d ≡ not_known → ⊥) ys → length (u ∷ us) ≤ hidden_of ns →
+        ((r : ℕ → Bool) (ys : List ℕ) → r not_known ≡ false → IsWithin r q →
+        AllByRecursion (λ d. d ≡ not_known → ⊥) ys → length (u ∷ us) ≤ hidden_of ns →
         unseen r ns ≡ ys ++ e ∷ [] → unseen r (fill last (u ∷ us) ns) ≡ ys ++ u ∷ us) →
         unseen p (n ∷ fill last (u ∷ us) ns) ≡ xs ++ u ∷ us
     there other true i xs k most f more =
@@ -194,9 +210,12 @@ new-last p q last u us (n ∷ ns) ds e hides within a b known few is = elim (is-
         let both = sym (unseen-keep p n ns i) ∙ f in
         unseen-keep p n (fill last (u ∷ us) ns) i
         ∙ ap₂ (λ (m : ℕ) (t : List ℕ). m ∷ t) (same-first n x (unseen (and-also p n) ns) (xs ++ e ∷ []) both)
-        (more (and-also p n) xs (also-other p n not_known (λ same. other (sym same)) hides) (also-within p q n within (seen-too other)) k.1 most
+        (more (and-also p n) xs (also-other p n not_known (λ same. other (sym same)) hides)
+        (also-within p q n within (seen-too other)) k.1 most
         (same-rest n x (unseen (and-also p n) ns) (xs ++ e ∷ []) both))
     there other false i [] k most f more =
         let rest = same-rest n e (unseen (and-also p n) ns) [] (sym (unseen-keep p n ns i) ∙ f) in
-        let none = none-hidden (and-also p n) ns (also-other p n not_known (λ same. other (sym same)) hides) (all-seen (and-also p n) ns rest) in
+        let none =
+        none-hidden (and-also p n) ns (also-other p n not_known (λ same. other (sym same)) hides)
+        (all-seen (and-also p n) ns rest) in
         absurd (omega (arith, most, none))

@@ -67,7 +67,8 @@ cut-map f (d ∷ D) (x ∷ xs) ys e =
       others = more.others;
     }
 
-pub same-each : (f g : ℕ → Function) (P : ℕ → Type 0) (ds : List ℕ) → ((d : ℕ) → P d → f d ≡ g d) → AllByRecursion P ds → map f ds ≡ map g ds
+pub same-each : (f g : ℕ → Function) (P : ℕ → Type 0) (ds : List ℕ) → ((d : ℕ) → P d → f d ≡ g d) →
+    AllByRecursion P ds → map f ds ≡ map g ds
 same-each f g P [] same a = refl
 same-each f g P (d ∷ ds) same a = ap₂ (λ (k : Function) (ks : List Function). k ∷ ks) (same d a.0) (same-each f g P ds same a.1)
 
@@ -75,7 +76,8 @@ inputs-of : (needs ds : List ℕ) → map (λ (f : Function). f.inputs) (map (fu
 inputs-of needs [] = refl
 inputs-of needs (d ∷ ds) = ap (λ (t : List ℕ). d ∷ t) (inputs-of needs ds)
 
-same-function : (needs others : List ℕ) (d : ℕ) → map (λ n. n == d) others ≡ map (λ n. n == d) needs → function_for others d ≡ function_for needs d
+same-function : (needs others : List ℕ) (d : ℕ) → map (λ n. n == d) others ≡ map (λ n. n == d) needs →
+    function_for others d ≡ function_for needs d
 same-function needs others d e = λ i. record { inputs = d; outputs = mask_of (e i) }
 
 -- the need of an output by functions for some of the needs
@@ -83,7 +85,8 @@ need-shown : (needs ds : List ℕ) (k : ℕ) → k < length needs →
     need_of (map (function_for needs) ds) k ≡ cond (among ds (get_or needs k 0)) (get_or needs k 0) not_known
 need-shown needs [] k within = refl
 need-shown needs (d ∷ ds) k within =
-    ap (λ (t : Bool). cond t d (need_of (map (function_for needs) ds) k)) (has-mask (map (λ n. n == d) needs) k ∙ get_or-map (λ n. n == d) needs k 0 false within)
+    ap (λ (t : Bool). cond t d (need_of (map (function_for needs) ds) k)) (has-mask (map (λ n. n == d) needs) k
+    ∙ get_or-map (λ n. n == d) needs k 0 false within)
     ∙ by (get_or needs k 0 == d) refl (need-shown needs ds k within)
   where
     n : ℕ
@@ -97,10 +100,12 @@ need-shown needs (d ∷ ds) k within =
         ∙ sym (ap (λ (t : Bool). cond (t || among ds n) n not_known) is)
 
 module _ (outputs : ℕ) (needs : List ℕ) (len : length needs ≡ outputs) where
-  shown-needs : (ds : List ℕ) (hides : among ds not_known ≡ false) → needs_of outputs (map (function_for needs) ds) ≡ map (hide (among ds) hides) needs
+  shown-needs : (ds : List ℕ) (hides : among ds not_known ≡ false) →
+      needs_of outputs (map (function_for needs) ds) ≡ map (hide (among ds) hides) needs
   shown-needs ds hides =
       ext_get_or 0 (needs_of outputs (map (function_for needs) ds)) (map (hide (among ds) hides) needs)
-      (length-map-range_with_len (need_of (map (function_for needs) ds)) 0 outputs ∙ sym len ∙ sym (length-map needs (hide (among ds) hides)))
+      (length-map-range_with_len (need_of (map (function_for needs) ds)) 0 outputs ∙ sym len
+      ∙ sym (length-map needs (hide (among ds) hides)))
       (λ k within.
       let all = length-map-range_with_len (need_of (map (function_for needs) ds)) 0 outputs in
       get_or-map-range_with_len (need_of (map (function_for needs) ds)) 0 outputs k k 0 (omega (arith, within, all)) (omega arith)
@@ -156,7 +161,8 @@ module _ (outputs : ℕ) (needs : List ℕ) (len : length needs ≡ outputs) whe
                     ∙ map-append (function_for (map (hide (among ds) hides) needs)) ds (not_known ∷ [])
                     ∙ ap (λ (t : List Function). t ++ function_for (map (hide (among ds) hides) needs) not_known ∷ [])
                     (same-each (function_for (map (hide (among ds) hides) needs)) (function_for needs) (λ d. among ds d ≡ true) ds
-                    (λ d own. same-function needs (map (hide (among ds) hides) needs) d (same-places (among ds) hides d needs own)) (all-among ds)),
+                    (λ d own. same-function needs (map (hide (among ds) hides) needs) d
+                    (same-places (among ds) hides d needs own)) (all-among ds)),
               );
             }
 
@@ -183,15 +189,18 @@ module _ (P : ℕ → Type 0) (real : (n : ℕ) → P n → n ≡ not_known → 
     number = ap (λ (gs : List Function). length gs) all.all ∙ all.number;
   }
 
-  each-known : (Q : ℕ → Type 0) → AllByRecursion (λ (f : Function). Q f.inputs) fs → (ks : List ℕ) → AllByRecursion (λ n. (n ≡ not_known) ⊎ Q n) (map (need_of fs) ks)
+  each-known : (Q : ℕ → Type 0) → AllByRecursion (λ (f : Function). Q f.inputs) fs → (ks : List ℕ) →
+      AllByRecursion (λ n. (n ≡ not_known) ⊎ Q n) (map (need_of fs) ks)
   each-known Q a [] = tt
   each-known Q a (k ∷ ks) = (known Q fs k a, each-known Q a ks)
 
-  input-each : (Q : ℕ → Type 0) (gs : List Function) → AllByRecursion Q (map (λ (f : Function). f.inputs) gs) → AllByRecursion (λ (f : Function). Q f.inputs) gs
+  input-each : (Q : ℕ → Type 0) (gs : List Function) → AllByRecursion Q (map (λ (f : Function). f.inputs) gs) →
+      AllByRecursion (λ (f : Function). Q f.inputs) gs
   input-each Q [] a = tt
   input-each Q (g ∷ gs) a = (a.0, input-each Q gs a.1)
 
-  each-input : (gs : List Function) → AllByRecursion (λ (f : Function). P f.inputs) gs → AllByRecursion P (map (λ (f : Function). f.inputs) gs)
+  each-input : (gs : List Function) → AllByRecursion (λ (f : Function). P f.inputs) gs →
+      AllByRecursion P (map (λ (f : Function). f.inputs) gs)
   each-input [] a = tt
   each-input (g ∷ gs) a = (a.0, each-input gs a.1)
 
@@ -231,7 +240,9 @@ module _ (P : ℕ → Type 0) (real : (n : ℕ) → P n → n ≡ not_known → 
       one-end : (es : List ℕ) → map (function_for needs) es ≡ first.first.0 ∷ [] → (e : ℕ) × (es ≡ e ∷ [])
       one-end [] e = absurd (let long : 0 ≡ 1 = ap (λ (t : List Function). length t) e in omega (arith, long))
       one-end (x ∷ []) e = (x, refl)
-      one-end (x ∷ y ∷ es) e = absurd (let long : suc (suc (length (map (function_for needs) es))) ≡ 1 = ap (λ (t : List Function). length t) e in omega (arith, long))
+      one-end (x ∷ y ∷ es) e =
+          absurd (let long : suc (suc (length (map (function_for needs) es)))
+          ≡ 1 = ap (λ (t : List Function). length t) e in omega (arith, long))
 
       last : (e : ℕ) × (parts.behind ≡ e ∷ [])
       last = one-end parts.behind parts.others
@@ -254,7 +265,8 @@ module _ (P : ℕ → Type 0) (real : (n : ℕ) → P n → n ≡ not_known → 
       others : (d : ℕ) → among ins d ≡ true → AllByRecursion (λ x. x ≡ d → ⊥) (u ∷ us)
       others d is = new-others (among ins) (u ∷ us) d new is
 
-      kept : (ds : List ℕ) → AllByRecursion (λ d. d ≡ not_known → ⊥) ds → AllByRecursion (λ n. among ins n ≡ true) ds → map (function_for filled) ds ≡ map (function_for needs) ds
+      kept : (ds : List ℕ) → AllByRecursion (λ d. d ≡ not_known → ⊥) ds → AllByRecursion (λ n. among ins n ≡ true) ds →
+          map (function_for filled) ds ≡ map (function_for needs) ds
       kept [] a b = refl
       kept (d ∷ ds) a b = ap₂ (λ (k : Function) (ks : List Function). k ∷ ks)
           (same-function needs filled d (same-filled d u (u ∷ us) needs a.0 (others d b.0).0 (others d b.0))) (kept ds a.1 b.1)

@@ -29,7 +29,8 @@ one-port mask p = by (has_bit mask (bit_of p))
 
 controls-weight : (enabled triggered : Bool) (mask : ℕ) →
     weight mask (controls_with enabled triggered) ≡ own_bit enabled mask 32 + own_bit triggered mask 33
-controls-weight true true mask = weight-append mask (Enable ∷ []) (Trigger ∷ []) ∙ ap₂ (λ x y. x + y) (one-port mask Enable) (one-port mask Trigger)
+controls-weight true true mask =
+    weight-append mask (Enable ∷ []) (Trigger ∷ []) ∙ ap₂ (λ x y. x + y) (one-port mask Enable) (one-port mask Trigger)
 controls-weight true false mask = one-port mask Enable ∙ (let e : own_bit true mask 32 ≡ own_bit true mask 32 + 0 = omega arith in e)
 controls-weight false true mask = one-port mask Trigger ∙ (let e : own_bit true mask 33 ≡ 0 + own_bit true mask 33 = omega arith in e)
 controls-weight false false mask = refl
@@ -40,12 +41,14 @@ pub ports_weight : (inputs : ℕ) (enabled triggered : Bool) (mask : ℕ) →
 ports_weight inputs enabled triggered mask =
     weight-append mask (map Number (range_with_len 1 inputs)) (controls_with enabled triggered)
     ∙ ap₂ (λ x y. x + y) (weight-numbers mask inputs) (controls-weight enabled triggered mask)
-    ∙ (let e : mask % 2 ^ inputs + (own_bit enabled mask 32 + own_bit triggered mask 33) ≡ mask % 2 ^ inputs + own_bit enabled mask 32 + own_bit triggered mask 33 = omega arith in e)
+    ∙ (let e : mask % 2 ^ inputs + (own_bit enabled mask 32 + own_bit triggered mask 33)
+    ≡ mask % 2 ^ inputs + own_bit enabled mask 32 + own_bit triggered mask 33 = omega arith in e)
 
 -- the test of a set
 pub has_inputs : (inputs mask enable trigger : ℕ) (enabled triggered : Bool) → inputs ≤ 32 →
     enable ≡ own_bit enabled mask 32 → trigger ≡ own_bit triggered mask 33 →
-    IsTrue (nat_eq (mask % (1 * 2 ^ inputs % 2 ^ 64) + enable + trigger) mask) ↔ IsSetOf (ports_with inputs (controls_with enabled triggered)) mask
+    IsTrue (nat_eq (mask % (1 * 2 ^ inputs % 2 ^ 64) + enable + trigger) mask)
+    ↔ IsSetOf (ports_with inputs (controls_with enabled triggered)) mask
 has_inputs inputs mask enable trigger enabled triggered few e t = (
   λ same. ports_weight inputs enabled triggered mask ∙ sym sums ∙ eqb-true (mask % (1 * 2 ^ inputs % 2 ^ 64) + enable + trigger) mask same,
   λ is. eq-eqb (mask % (1 * 2 ^ inputs % 2 ^ 64) + enable + trigger) mask (sums ∙ sym (ports_weight inputs enabled triggered mask) ∙ is),

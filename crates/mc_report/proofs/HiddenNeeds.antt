@@ -69,13 +69,16 @@ module _ (keep : ℕ → Bool) (hides : keep not_known ≡ false) where
           at false h = absurd (false≢true (sym (also-other p n m (λ same. false≢true (sym is ∙ ap keep (sym same) ∙ shows)) h) ∙ seen))
 
       by : (s t : Bool) → keep n ≡ s → p n ≡ t → (fs : List ℕ) → AllHidden fs → unseen p (n ∷ ns) ≡ fs →
-          ((r : ℕ → Bool) (gs : List ℕ) → ((m : ℕ) → r m ≡ true → keep m ≡ true → q m ≡ true) → AllHidden gs → unseen r ns ≡ gs → unseen q (map hide ns) ≡ []) →
+          ((r : ℕ → Bool) (gs : List ℕ) → ((m : ℕ) → r m ≡ true → keep m ≡ true → q m ≡ true) → AllHidden gs →
+          unseen r ns ≡ gs → unseen q (map hide ns) ≡ []) →
           unseen q (hide n ∷ map hide ns) ≡ []
-      by true true k i fs b f more = skip q n (hide n) (map hide ns) (shown n k) (within n i k) ∙ more p fs within b (sym (unseen-skip p n ns i) ∙ f)
+      by true true k i fs b f more = skip q n (hide n) (map hide ns) (shown n k) (within n i k)
+          ∙ more p fs within b (sym (unseen-skip p n ns i) ∙ f)
       by true false k i [] b f more = absurd (not-empty n (unseen (and-also p n) ns) (sym (unseen-keep p n ns i) ∙ f))
       by true false k i (g ∷ fs) b f more =
           absurd (false≢true (sym b.0 ∙ ap keep (sym (same-first n g (unseen (and-also p n) ns) fs (sym (unseen-keep p n ns i) ∙ f))) ∙ k))
-      by false true k i fs b f more = skip q not_known (hide n) (map hide ns) (hidden n k) own ∙ more p fs within b (sym (unseen-skip p n ns i) ∙ f)
+      by false true k i fs b f more =
+          skip q not_known (hide n) (map hide ns) (hidden n k) own ∙ more p fs within b (sym (unseen-skip p n ns i) ∙ f)
       by false false k i [] b f more = absurd (not-empty n (unseen (and-also p n) ns) (sym (unseen-keep p n ns i) ∙ f))
       by false false k i (g ∷ fs) b f more = skip q not_known (hide n) (map hide ns) (hidden n k) own
           ∙ more (and-also p n) fs (later k) b.1 (same-rest n g (unseen (and-also p n) ns) fs (sym (unseen-keep p n ns i) ∙ f))
@@ -96,7 +99,8 @@ module _ (keep : ℕ → Bool) (hides : keep not_known ≡ false) where
       unseen-hidden false is = is
 
       by : (t : Bool) → p n ≡ t → (xs ys : List ℕ) → AllShown xs → AllHidden ys → unseen p (n ∷ ns) ≡ xs ++ ys →
-          ((r : ℕ → Bool) (us vs : List ℕ) → IsWithin r keep → AllShown us → AllHidden vs → unseen r ns ≡ us ++ vs → unseen r (map hide ns) ≡ us ++ ends vs) →
+          ((r : ℕ → Bool) (us vs : List ℕ) → IsWithin r keep → AllShown us → AllHidden vs → unseen r ns ≡ us ++ vs →
+          unseen r (map hide ns) ≡ us ++ ends vs) →
           unseen p (hide n ∷ map hide ns) ≡ xs ++ ends ys
       by true is xs ys f g h more =
           skip p n (hide n) (map hide ns) (shown n (within n is)) is ∙ more p xs ys within f g (sym (unseen-skip p n ns is) ∙ h)
@@ -124,7 +128,9 @@ module _ (keep : ℕ → Bool) (hides : keep not_known ≡ false) where
             where
               at : (t : Bool) → p m ≡ t → and-also p not_known m ≡ true
               at true i = also-before p not_known m i
-              at false i = absurd (false≢true (sym (also-other p n m (λ same. false≢true (sym away ∙ ap keep (sym same) ∙ shows)) i) ∙ seen))
+              at false i =
+                  absurd (false≢true
+                  (sym (also-other p n m (λ same. false≢true (sym away ∙ ap keep (sym same) ∙ shows)) i) ∙ seen))
 
   -- each that isn't shown is hidden at one place at least
   pub enough-hidden : (p : ℕ → Bool) (ns ds es : List ℕ) → AllHidden es → unseen p ns ≡ ds ++ es → length es ≤ hidden_of (map hide ns)
@@ -139,7 +145,8 @@ module _ (keep : ℕ → Bool) (hides : keep not_known ≡ false) where
       by : (t : Bool) → p n ≡ t → (xs ys : List ℕ) → AllHidden ys → unseen p (n ∷ ns) ≡ xs ++ ys →
           ((r : ℕ → Bool) (us vs : List ℕ) → AllHidden vs → unseen r ns ≡ us ++ vs → length vs ≤ hidden_of (map hide ns)) →
           length ys ≤ hidden_of (hide n ∷ map hide ns)
-      by true is xs ys g h more = let few = more p xs ys g (sym (unseen-skip p n ns is) ∙ h) in let more' = longer in omega (arith, few, more')
+      by true is xs ys g h more =
+          let few = more p xs ys g (sym (unseen-skip p n ns is) ∙ h) in let more' = longer in omega (arith, few, more')
       by false is (x ∷ xs) ys g h more =
           let few = more (and-also p n) xs ys g (same-rest n x (unseen (and-also p n) ns) (xs ++ ys) (sym (unseen-keep p n ns is) ∙ h)) in
           let more' = longer in omega (arith, few, more')

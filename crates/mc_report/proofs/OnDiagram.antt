@@ -32,7 +32,8 @@ same-lengths R (x ∷ xs) (y ∷ ys) a = ap suc (same-lengths R xs ys a.1)
 
 module _ (d : Diagram) (s : Option ℕ) (r : PlainReport) (ins : HasPorts d.rows is_inport s) (on : IsReportOn d s r) where
   inputs-few : r.inputs ≤ 32
-  inputs-few = let most = ins.at_most in let count = ports-count d.rows is_inport s ins in let same = on.inputs in omega (arith, most, count, same)
+  inputs-few = let most = ins.at_most in let count = ports-count d.rows is_inport s ins in let same = on.inputs in
+      omega (arith, most, count, same)
 
   no-input : (o mask k : ℕ) → IsMaskOf (TrueNeeds d s o) mask → r.inputs < k → k ≤ 32 → IsBitSet mask (k - 1) → ⊥
   no-input o mask k is above high set =
@@ -44,7 +45,8 @@ module _ (d : Diagram) (s : Option ℕ) (r : PlainReport) (ins : HasPorts d.rows
   own : (o mask : ℕ) → IsMaskOf (TrueNeeds d s o) mask → AreInputs r mask
   own o mask is =
       ap (λ (controls : List Port). ports_mask (ports_in mask (map Number (range_with_len 1 r.inputs) ++ controls))) on.controls
-      ∙ own-mask mask is.bounded r.inputs inputs-few (λ k above high. no-input o mask k is above high) (system_control d.rows s) is.enable is.trigger
+      ∙ own-mask mask is.bounded r.inputs inputs-few (λ k above high. no-input o mask k is above high)
+      (system_control d.rows s) is.enable is.trigger
 
   all-own : (outputs masks : List ℕ) → AllZip (λ o mask. IsMaskOf (TrueNeeds d s o) mask) outputs masks → AllByRecursion (AreInputs r) masks
   all-own [] [] a = tt
@@ -56,7 +58,8 @@ pub reports_on_are_right : ReportsOnAreRight
 reports_on_are_right d s r ins outs on = record {
   inputs = inputs-few d s r ins on;
   controls = subst AreControls (sym on.controls) (are-controls (system_control d.rows s));
-  outputs = (let most = outs.at_most in let count = ports-count d.rows is_outport s outs in let same = on.outputs in omega (arith, most, count, same));
+  outputs = (let most = outs.at_most in let count = ports-count d.rows is_outport s outs in let same = on.outputs in
+      omega (arith, most, count, same));
   needs = on.needs;
   one_each = same-lengths _ (outports_of d.rows s) on.needs on.are_needs ∙ sym on.outputs;
   in_inputs = λ k e within. at-each (AreInputs r) on.needs k e (all-own d s r ins on (outports_of d.rows s) on.needs on.are_needs) within;

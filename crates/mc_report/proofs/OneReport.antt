@@ -35,7 +35,8 @@ few-different (x ∷ xs) =
 
 pub few-functions : (needs : List ℕ) → length (functions_for needs) ≤ length needs
 few-functions needs =
-    let few = few-different needs in let same : length (functions_for needs) ≡ length (different needs) = length-map (different needs) (function_for needs) in
+    let few = few-different needs in let same : length (functions_for needs) ≡ length (different needs) =
+    length-map (different needs) (function_for needs) in
     omega (arith, few, same)
 
 pub head-of-report : (r : PlainReport) → IsSystemReport r → IsHead r
@@ -45,7 +46,8 @@ head-of-report r h = record {
   outputs = h.report.outputs;
   controls = h.report.controls;
   functions = (let few = few-functions h.report.needs in let same : length r.profile.functions ≡ length (functions_for h.report.needs) =
-      ap (λ (fs : List Function). length fs) h.report.functions in let one = h.report.one_each in let most = h.report.outputs in omega (arith, few, same, one, most));
+      ap (λ (fs : List Function). length fs) h.report.functions in let one =
+      h.report.one_each in let most = h.report.outputs in omega (arith, few, same, one, most));
 }
 
 -- ---- The text of a system by its parts
@@ -62,7 +64,9 @@ unfolding system_text
 system-parts r x = three (system_line r) (out_lines (ports_of r) r.outputs 1 r.profile.functions) (differ_lines r) x
 
 pub all-small : (r : PlainReport) → IsHead r → AllByRecursion IsSmall (ports_of r)
-all-small r h = joined (map Number (range_with_len 1 r.inputs)) r.controls (ports-small r.inputs h.inputs) (small-controls r.controls h.controls)
+all-small r h =
+    joined (map Number (range_with_len 1 r.inputs)) r.controls (ports-small r.inputs h.inputs)
+    (small-controls r.controls h.controls)
   where
     joined : (ps qs : List Port) → AllByRecursion IsSmall ps → AllByRecursion IsSmall qs → AllByRecursion IsSmall (ps ++ qs)
     joined [] qs a b = b
@@ -72,11 +76,14 @@ all-small r h = joined (map Number (range_with_len 1 r.inputs)) r.controls (port
 
 -- what the lines of a system and of its functions tell is the whole system
 pub same-start : (r s : PlainReport) (x y : List ℕ) → IsSystemReport r → IsSystemReport s →
-    system_line r ++ (out_lines (ports_of r) r.outputs 1 r.profile.functions ++ x) ≡ system_line s ++ (out_lines (ports_of s) s.outputs 1 s.profile.functions ++ y) →
+    system_line r ++ (out_lines (ports_of r) r.outputs 1 r.profile.functions ++ x)
+    ≡ system_line s ++ (out_lines (ports_of s) s.outputs 1 s.profile.functions ++ y) →
     (r ≡ s) × (x ≡ y)
 same-start r s x y h k e = (same, outs.1)
   where
-    lines : AreAlike r s × (out_lines (ports_of r) r.outputs 1 r.profile.functions ++ x ≡ out_lines (ports_of s) s.outputs 1 s.profile.functions ++ y)
+    lines : AreAlike r s
+        × (out_lines (ports_of r) r.outputs 1 r.profile.functions ++ x
+        ≡ out_lines (ports_of s) s.outputs 1 s.profile.functions ++ y)
     lines = same-systems r s (out_lines (ports_of r) r.outputs 1 r.profile.functions ++ x)
         (out_lines (ports_of s) s.outputs 1 s.profile.functions ++ y) (head-of-report r h) (head-of-report s k) e
 
@@ -92,7 +99,8 @@ same-start r s x y h k e = (same, outs.1)
     needs : h.report.needs ≡ k.report.needs
     needs = same-needs (ports_of r) r.outputs h.report.needs k.report.needs h.report.one_each (k.report.one_each ∙ sym lines.0.outputs)
         (each-one (IsOwn (ports_of r) r.outputs) h.report.needs h.report.in_inputs)
-        (subst (λ (ps : List Port). AllByRecursion (IsOwn ps r.outputs) k.report.needs) (sym ports) (each-one (IsOwn (ports_of s) r.outputs) k.report.needs k.report.in_inputs))
+        (subst (λ (ps : List Port). AllByRecursion (IsOwn ps r.outputs) k.report.needs) (sym ports)
+        (each-one (IsOwn (ports_of s) r.outputs) k.report.needs k.report.in_inputs))
         (subst (λ (fs : List Function). AllZip (AreOne (ports_of r) r.outputs) fs (functions_for k.report.needs)) h.report.functions
         (subst (λ (gs : List Function). AllZip (AreOne (ports_of r) r.outputs) r.profile.functions gs) k.report.functions outs.0))
 
@@ -135,12 +143,15 @@ same-reports : (rs ss : List PlainReport) (n m : ℕ) → AllByRecursion IsSyste
     flat_map system_text rs ++ last_line n ≡ flat_map system_text ss ++ last_line m → rs ≡ ss
 same-reports [] [] n m a b e = refl
 same-reports [] (s ∷ ss) n m a b e =
-    absurd (no-system n [] (flat_map system_text ss ++ last_line m) s (append-nil (last_line n) ∙ e ∙ append_assoc (system_text s) (flat_map system_text ss) (last_line m)))
+    absurd (no-system n [] (flat_map system_text ss ++ last_line m) s (append-nil (last_line n) ∙ e
+    ∙ append_assoc (system_text s) (flat_map system_text ss) (last_line m)))
 same-reports (r ∷ rs) [] n m a b e =
-    absurd (no-system m [] (flat_map system_text rs ++ last_line n) r (append-nil (last_line m) ∙ sym e ∙ append_assoc (system_text r) (flat_map system_text rs) (last_line n)))
+    absurd (no-system m [] (flat_map system_text rs ++ last_line n) r (append-nil (last_line m) ∙ sym e
+    ∙ append_assoc (system_text r) (flat_map system_text rs) (last_line n)))
 same-reports (r ∷ rs) (s ∷ ss) n m a b e =
     let one = same-system r s (flat_map system_text rs ++ last_line n) (flat_map system_text ss ++ last_line m) a.0 b.0
-    (sym (append_assoc (system_text r) (flat_map system_text rs) (last_line n)) ∙ e ∙ append_assoc (system_text s) (flat_map system_text ss) (last_line m)) in
+    (sym (append_assoc (system_text r) (flat_map system_text rs) (last_line n)) ∙ e
+    ∙ append_assoc (system_text s) (flat_map system_text ss) (last_line m)) in
     ap₂ (λ (k : PlainReport) (ks : List PlainReport). k ∷ ks) one.0 (same-reports rs ss n m a.1 b.1 one.1)
 
 pub reports_are_one : ReportsAreOne

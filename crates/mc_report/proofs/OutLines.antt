@@ -32,18 +32,21 @@ out-shape : (j : List ℕ) (needs outputs : List (List ℕ)) (x : List ℕ) →
     codes "out " ++ j ++ codes " needs" ++ spaced needs ++ codes " outputs" ++ spaced outputs ++ codes "\n" ++ x
     ≡ codes "out" ++ spaced (listed_words j needs outputs) ++ 10 ∷ x
 out-shape j needs outputs x =
-    ap (λ (t : List ℕ). codes "out " ++ t) (six j (codes " needs") (spaced needs) (codes " outputs") (spaced outputs) (codes "\n") x ∙ sym right)
+    ap (λ (t : List ℕ). codes "out " ++ t)
+    (six j (codes " needs") (spaced needs) (codes " outputs") (spaced outputs) (codes "\n") x ∙ sym right)
   where
     right : j ++ (codes " needs" ++ spaced (needs ++ codes "outputs" ∷ outputs)) ++ 10 ∷ x
         ≡ j ++ (codes " needs" ++ (spaced needs ++ (codes " outputs" ++ (spaced outputs ++ 10 ∷ x))))
     right = append_assoc j (codes " needs" ++ spaced (needs ++ codes "outputs" ∷ outputs)) (10 ∷ x)
-        ∙ ap (λ (t : List ℕ). j ++ (codes " needs" ++ t)) (ap (λ (t : List ℕ). t ++ 10 ∷ x) (spaced-append needs (codes "outputs" ∷ outputs))
+        ∙ ap (λ (t : List ℕ). j ++ (codes " needs" ++ t))
+        (ap (λ (t : List ℕ). t ++ 10 ∷ x) (spaced-append needs (codes "outputs" ∷ outputs))
         ∙ append_assoc (spaced needs) (spaced (codes "outputs" ∷ outputs)) (10 ∷ x))
 
 -- the words behind the first one
 abbrev pub out_words : List Port → ℕ → ℕ → Function → List (List ℕ)
 out_words ports outputs j f =
-    listed_words (decimal j) (list_words (map port_word (ports_in f.inputs ports))) (list_words (map decimal (numbers_in f.outputs outputs)))
+    listed_words (decimal j) (list_words (map port_word (ports_in f.inputs ports)))
+    (list_words (map decimal (numbers_in f.outputs outputs)))
 
 abbrev behind : List Port → ℕ → Function → List (List ℕ)
 behind ports outputs f =
@@ -88,7 +91,8 @@ same-number j k h i e = decimal_injective j k (low j h) (low k i) e
 no-number : (w : List ℕ) (c : ℕ) (bytes : List ℕ) → 57 < c → w ≡ c ∷ bytes → (k : ℕ) → IsLow k → decimal k ≡ w → ⊥
 no-number w c bytes high is k h e = digit-first k c bytes (low k h) high (e ∙ is)
 
-no-port : (w : List ℕ) (c : ℕ) (bytes : List ℕ) → 57 < c → (c ≡ 101 → ⊥) → (c ≡ 116 → ⊥) → w ≡ c ∷ bytes → (p : Port) → IsSmall p → port_word p ≡ w → ⊥
+no-port : (w : List ℕ) (c : ℕ) (bytes : List ℕ) → 57 < c → (c ≡ 101 → ⊥) → (c ≡ 116 → ⊥) → w ≡ c ∷ bytes → (p : Port) →
+    IsSmall p → port_word p ≡ w → ⊥
 no-port w c bytes high e t is p s same = other-port p c bytes s high e t (same ∙ is)
 
 none-outputs : codes "none" ≡ codes "outputs" → ⊥
@@ -101,8 +105,10 @@ words-out ports outputs j f small few h = (
   word-decimal j h,
   (
     word (codes "needs") refl,
-    words-append (list_words (map port_word (ports_in f.inputs ports))) (codes "outputs" ∷ list_words (map decimal (numbers_in f.outputs outputs)))
-        (words-listed IsSmall port_word port_injective (no-port (codes "none") 110 _ (omega arith) (λ e. omega (arith, e)) (λ e. omega (arith, e)) refl)
+    words-append (list_words (map port_word (ports_in f.inputs ports)))
+        (codes "outputs" ∷ list_words (map decimal (numbers_in f.outputs outputs)))
+        (words-listed IsSmall port_word port_injective
+        (no-port (codes "none") 110 _ (omega arith) (λ e. omega (arith, e)) (λ e. omega (arith, e)) refl)
         word-port (ports_in f.inputs ports) (kept-are IsSmall _ ports small)) (
           word (codes "outputs") refl,
           words-listed IsLow decimal same-number (no-number (codes "none") 110 _ (omega arith) refl) (λ k l. word-decimal k (low k l))
@@ -112,17 +118,27 @@ words-out ports outputs j f small few h = (
 )
 
 -- two functions with one line take the same inputs and give the same outputs
-pub same-out : (ports : List Port) (outputs j : ℕ) (f g : Function) (x y : List ℕ) → AllByRecursion IsSmall ports → outputs ≤ 32 → j < 2 ^ 64 →
+pub same-out : (ports : List Port) (outputs j : ℕ) (f g : Function) (x y : List ℕ) → AllByRecursion IsSmall ports →
+    outputs ≤ 32 → j < 2 ^ 64 →
     out_line ports outputs j f ++ x ≡ out_line ports outputs j g ++ y →
     (ports_in f.inputs ports ≡ ports_in g.inputs ports) × (numbers_in f.outputs outputs ≡ numbers_in g.outputs outputs) × (x ≡ y)
 same-out ports outputs j f g x y small few h e =
-    let all = cut-words (out_words ports outputs j f) (out_words ports outputs j g) x y (words-out ports outputs j f small few h) (words-out ports outputs j g small few h)
+    let all =
+    cut-words (out_words ports outputs j f) (out_words ports outputs j g) x y
+    (words-out ports outputs j f small few h) (words-out ports outputs j g small few h)
     (append_cancel_left (codes "out") _ _ (sym (out-line-words ports outputs j f x) ∙ e ∙ out-line-words ports outputs j g y)) in
-    let lists = same-others (codes "needs") (codes "needs") (behind ports outputs f) (behind ports outputs g) (same-others (decimal j) (decimal j) (codes "needs" ∷ behind ports outputs f) (codes "needs" ∷ behind ports outputs g) all.0) in
-    let parts = until (codes "outputs") (list_words (map port_word (ports_in f.inputs ports))) (list_words (map port_word (ports_in g.inputs ports)))
-    (list_words (map decimal (numbers_in f.outputs outputs))) (list_words (map decimal (numbers_in g.outputs outputs))) (no-outputs f) (no-outputs g) lists in (
+    let lists =
+    same-others (codes "needs") (codes "needs") (behind ports outputs f) (behind ports outputs g)
+    (same-others (decimal j) (decimal j) (codes "needs" ∷ behind ports outputs f)
+    (codes "needs" ∷ behind ports outputs g) all.0) in
+    let parts =
+    until (codes "outputs") (list_words (map port_word (ports_in f.inputs ports)))
+    (list_words (map port_word (ports_in g.inputs ports)))
+    (list_words (map decimal (numbers_in f.outputs outputs))) (list_words (map decimal (numbers_in g.outputs outputs)))
+    (no-outputs f) (no-outputs g) lists in (
       same-listed IsSmall port_word port_injective none-port (ports_in f.inputs ports) (ports_in g.inputs ports) (of f) (of g) parts.0,
-      same-listed IsLow decimal same-number (no-number (codes "none") 110 _ (omega arith) refl) (numbers_in f.outputs outputs) (numbers_in g.outputs outputs)
+      same-listed IsLow decimal same-number (no-number (codes "none") 110 _ (omega arith) refl)
+          (numbers_in f.outputs outputs) (numbers_in g.outputs outputs)
           (numbers f) (numbers g) parts.1,
       all.1,
     )

@@ -81,7 +81,8 @@ own-controls (Trigger ∷ p ∷ ps) c = absurd c
 pub real-set : (h : Head) → h.inputs ≤ 32 → (n : ℕ) → IsSetOf (head_ports h) n → n ≡ not_known → ⊥
 real-set h few n is same = let small = set-bound h n few is in omega (arith, small, same)
 
-all-real : (h : Head) → h.inputs ≤ 32 → (ns : List ℕ) → AllByRecursion (IsSetOf (head_ports h)) ns → AllByRecursion (λ n. n ≡ not_known → ⊥) ns
+all-real : (h : Head) → h.inputs ≤ 32 → (ns : List ℕ) → AllByRecursion (IsSetOf (head_ports h)) ns →
+    AllByRecursion (λ n. n ≡ not_known → ⊥) ns
 all-real h few [] a = tt
 all-real h few (n ∷ ns) a = (real-set h few n a.0, all-real h few ns a.1)
 
@@ -93,9 +94,13 @@ own-head r h = record {
   possible = record {
     inputs = h.report.inputs;
     outputs = h.report.outputs;
-    sets = (let most = few-among (different needs) sets (subst (IsDistinct eqb) (sym (different-unseen needs)) (distinct-unseen nothing needs)) in-sets in
+    sets = (let most = few-among (different needs) sets
+        (subst (IsDistinct eqb) (sym (different-unseen needs)) (distinct-unseen nothing needs)) in-sets in
         let len = sets-length r.inputs h.report.inputs cs.enabled cs.triggered in omega (arith, most, len, number));
-    functions = subst (λ n. CanComeFirst r.outputs n []) (sym number) (front-can r.outputs needs h.report.one_each (all-real line h.report.inputs needs own) [] (different needs) refl);
+    functions =
+        subst (λ n. CanComeFirst r.outputs n []) (sym number)
+        (front-can r.outputs needs h.report.one_each (all-real line h.report.inputs needs own) []
+        (different needs) refl);
   };
 }
   where
@@ -116,7 +121,8 @@ own-head r h = record {
     }
 
     own : AllByRecursion (IsSetOf (head_ports line)) needs
-    own = subst (λ (ps : List Port). AllByRecursion (IsSetOf (ports_with r.inputs ps)) needs) (sym cs.are) (each-one (IsSetOf (ports_of r)) needs h.report.in_inputs)
+    own = subst (λ (ps : List Port). AllByRecursion (IsSetOf (ports_with r.inputs ps)) needs) (sym cs.are)
+        (each-one (IsSetOf (ports_of r)) needs h.report.in_inputs)
 
     sets : List ℕ
     sets = all_sets (2 ^ r.inputs) cs.enabled cs.triggered
@@ -143,7 +149,9 @@ pub functions-are : (ports : List Port) (outputs : ℕ) (needs : List ℕ) → l
 functions-are ports outputs needs len own = each (different needs) (to-different (IsSetOf ports) needs own)
   where
     bound : (d : ℕ) → mask_of (map (λ n. n == d) needs) < 2 ^ outputs
-    bound d = subst (λ k. mask_of (map (λ n. n == d) needs) < 2 ^ k) (length-map needs (λ n. n == d) ∙ len) (mask-bound (map (λ n. n == d) needs))
+    bound d =
+        subst (λ k. mask_of (map (λ n. n == d) needs) < 2 ^ k) (length-map needs (λ n. n == d) ∙ len)
+        (mask-bound (map (λ n. n == d) needs))
 
     each : (ds : List ℕ) → AllByRecursion (IsSetOf ports) ds → AllByRecursion (IsFunctionOf ports outputs) (map (function_for needs) ds)
     each [] a = tt
@@ -158,7 +166,8 @@ pub record Completed (h : Head) (fs : List Function) : Type 0 where
   pub behind : List Function
   pub functions : report.profile.functions ≡ fs ++ behind
 
-pub completed : (h : Head) (fs : List Function) → HasRow h.row → IsPossible h → AllByRecursion (λ (f : Function). IsSetOf (head_ports h) f.inputs) fs →
+pub completed : (h : Head) (fs : List Function) → HasRow h.row → IsPossible h →
+    AllByRecursion (λ (f : Function). IsSetOf (head_ports h) f.inputs) fs →
     CanComeFirst h.outputs h.functions fs → Completed h fs
 completed h fs row possible sets can = record {
   report = report;
@@ -194,11 +203,14 @@ completed h fs row possible sets can = record {
         by : CanComeFirst h.outputs h.functions fs → Completion (IsSetOf (head_ports h)) h.outputs h.functions fs
         by (inl all) = whole-completed (IsSetOf (head_ports h)) (real-set h possible.inputs) h.outputs h.functions fs sets all
         by (inr first) =
-            let new = news (IsSetOf (head_ports h)) (all_sets (2 ^ h.inputs) h.enabled h.triggered) (sets-distinct h.inputs possible.inputs h.enabled h.triggered)
+            let new =
+            news (IsSetOf (head_ports h)) (all_sets (2 ^ h.inputs) h.enabled h.triggered)
+            (sets-distinct h.inputs possible.inputs h.enabled h.triggered)
             (sets-are h.inputs possible.inputs h.enabled h.triggered) (h.functions - length fs) ins
             (let len = sets-length h.inputs possible.inputs h.enabled h.triggered in let most = possible.sets in
             let same = length-map fs (λ (f : Function). f.inputs) in let more = first.more in omega (arith, len, most, same, more)) in
-            first-completed (IsSetOf (head_ports h)) (real-set h possible.inputs) h.outputs h.functions fs sets first new.members new.number new.are_new new.each
+            first-completed (IsSetOf (head_ports h)) (real-set h possible.inputs) h.outputs h.functions fs sets first
+            new.members new.number new.are_new new.each
 
     report : PlainReport
     report = record {

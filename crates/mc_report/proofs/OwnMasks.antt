@@ -31,7 +31,9 @@ module _ (mask : ℕ) where
 
   unset : (k : ℕ) → (IsBitSet mask k → ⊥) → bit_at mask k ≡ 0
   unset k not_set = elim (is-one k) [
-    | inl one ↦ absurd (not_set (λ none. (let p = pow_pos k in let e : bit_and mask (2 ^ k) ≡ 1 * 2 ^ k = and_pow mask k ∙ ap (λ b. b * 2 ^ k) one in
+    | inl one ↦
+        absurd (not_set (λ none. (let p = pow_pos k in let e : bit_and mask (2 ^ k) ≡ 1 * 2 ^ k = and_pow mask k
+        ∙ ap (λ b. b * 2 ^ k) one in
         omega (arith, p, e, none))))
     | inr zero_bit ↦ zero_bit
   ]
@@ -66,8 +68,10 @@ module _ (mask : ℕ) where
       ap (λ (ks : List ℕ). weight (map Number ks)) (range-more 1 n (suc n) (omega arith))
       ∙ ap weight (map-append Number (range_with_len 1 n) (suc n ∷ []))
       ∙ weight-append (map Number (range_with_len 1 n)) (Number (suc n) ∷ [])
-      ∙ ap₂ (λ x y. x + y) (weight-numbers n) (weight-one (Number (suc n)) ∙ ap (λ k. bit_at mask k * 2 ^ k) (let e : suc n - 1 ≡ n = omega arith in e))
-      ∙ (let more = mod-pow-add mask 1 n in let e : 1 + n ≡ suc n = omega arith in add-swap (mask % 2 ^ n) (bit_at mask n * 2 ^ n) ∙ sym more
+      ∙ ap₂ (λ x y. x + y) (weight-numbers n) (weight-one (Number (suc n))
+      ∙ ap (λ k. bit_at mask k * 2 ^ k) (let e : suc n - 1 ≡ n = omega arith in e))
+      ∙ (let more = mod-pow-add mask 1 n in let e : 1 + n ≡ suc n = omega arith in
+      add-swap (mask % 2 ^ n) (bit_at mask n * 2 ^ n) ∙ sym more
       ∙ ap (λ k. mask % 2 ^ k) e)
     where
       add-swap : (x y : ℕ) → x + y ≡ y + x
@@ -88,13 +92,17 @@ module _ (mask : ℕ) where
   -- the weight of the numbered ports
   numbered : (inputs : ℕ) → inputs ≤ 32 → ((k : ℕ) → inputs < k → k ≤ 32 → IsBitSet mask (k - 1) → ⊥) →
       weight (map Number (range_with_len 1 inputs)) ≡ mask % 2 ^ 32
-  numbered inputs few none = weight-numbers inputs ∙ sym (gap inputs (32 - inputs) (λ j low high. unset j (λ set. none (suc j) (omega (arith, low)) (omega
-      (arith, high, few)) (subst (IsBitSet mask) (let e : j ≡ suc j - 1 = omega arith in e) set)))) ∙ ap (λ m. mask % 2 ^ m) (let e : inputs + (32 - inputs) ≡ 32 = omega (arith, few) in e)
+  numbered inputs few none =
+      weight-numbers inputs
+      ∙ sym (gap inputs (32 - inputs) (λ j low high. unset j (λ set. none (suc j) (omega (arith, low)) (omega
+      (arith, high, few)) (subst (IsBitSet mask) (let e : j ≡ suc j - 1 = omega arith in e) set))))
+      ∙ ap (λ m. mask % 2 ^ m) (let e : inputs + (32 - inputs) ≡ 32 = omega (arith, few) in e)
 
   controlled : (control : Control) → (IsBitSet mask 32 ↔ IsTrue (is_enabled control)) → (IsBitSet mask 33 ↔ IsTrue (is_triggered control)) →
       weight (control_ports control) ≡ bit_at mask 33 * 2 ^ 33 + bit_at mask 32 * 2 ^ 32
   controlled Plain enable trigger =
-      sym (ap₂ (λ x y. x * 2 ^ 33 + y * 2 ^ 32) (unset 33 (λ set. false≢true (trigger.0 set))) (unset 32 (λ set. false≢true (enable.0 set))))
+      sym (ap₂ (λ x y. x * 2 ^ 33 + y * 2 ^ 32) (unset 33 (λ set. false≢true (trigger.0 set)))
+      (unset 32 (λ set. false≢true (enable.0 set))))
   controlled (Enabled reset) enable trigger =
       weight-one Enable ∙ (let e : bit_at mask 32 * 2 ^ 32 ≡ 0 * 2 ^ 33 + bit_at mask 32 * 2 ^ 32 = omega arith in e)
       ∙ sym (ap (λ x. x * 2 ^ 33 + bit_at mask 32 * 2 ^ 32) (unset 33 (λ set. false≢true (trigger.0 set))))
@@ -111,5 +119,6 @@ module _ (mask : ℕ) where
   own-mask small inputs few none control enable trigger =
       weight-append (map Number (range_with_len 1 inputs)) (control_ports control)
       ∙ ap₂ (λ x y. x + y) (numbered inputs few none) (controlled control enable trigger)
-      ∙ (let all = whole small in let e : mask % 2 ^ 32 + (bit_at mask 33 * 2 ^ 33 + bit_at mask 32 * 2 ^ 32) ≡ bit_at mask 33 * 2 ^ 33 + (bit_at mask 32 * 2 ^ 32 + mask % 2 ^ 32) = omega arith in e)
+      ∙ (let all = whole small in let e : mask % 2 ^ 32 + (bit_at mask 33 * 2 ^ 33 + bit_at mask 32 * 2 ^ 32)
+      ≡ bit_at mask 33 * 2 ^ 33 + (bit_at mask 32 * 2 ^ 32 + mask % 2 ^ 32) = omega arith in e)
       ∙ sym (whole small)

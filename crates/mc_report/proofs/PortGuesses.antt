@@ -68,14 +68,16 @@ module _ {X : Type 0} (text : X → List ℕ) where
       map text xs ≡ list_words (map port_word ps) → 0 ≡ ports_mask ps
   none_told xs is [] a e = refl
   none_told xs is (p ∷ ps) a e =
-      absurd (false≢true (sym (none-among (p ∷ ps) (each-one IsPlaced (p ∷ ps) a)) ∙ ap (list_any (λ w. bytes_eq w (codes "none"))) (sym e) ∙ sym (any_words (codes "none") xs) ∙ is))
+      absurd (false≢true (sym (none-among (p ∷ ps) (each-one IsPlaced (p ∷ ps) a))
+      ∙ ap (list_any (λ w. bytes_eq w (codes "none"))) (sym e) ∙ sym (any_words (codes "none") xs) ∙ is))
 
   pub some_told : (xs : List X) → list_any (λ x. bytes_eq (text x) (codes "none")) xs ≡ false → (ps : List Port) →
       map text xs ≡ list_words (map port_word ps) → map text xs ≡ map port_word ps
   some_told xs is [] e = absurd (false≢true (sym is ∙ any_words (codes "none") xs ∙ ap (list_any (λ w. bytes_eq w (codes "none"))) e))
   some_told xs is (p ∷ ps) e = e
 
-  pub enabled_told : (xs : List X) (s t : Bool) → map text xs ≡ control_words (controls_with s t) → list_any (λ x. bytes_eq (text x) (codes "enable")) xs ≡ s
+  pub enabled_told : (xs : List X) (s t : Bool) → map text xs ≡ control_words (controls_with s t) →
+      list_any (λ x. bytes_eq (text x) (codes "enable")) xs ≡ s
   enabled_told xs s t e = any_words (codes "enable") xs ∙ ap (list_any (λ w. bytes_eq w (codes "enable"))) e ∙ by s t
     where
       by : (s t : Bool) → list_any (λ w. bytes_eq w (codes "enable")) (control_words (controls_with s t)) ≡ s
@@ -84,7 +86,8 @@ module _ {X : Type 0} (text : X → List ℕ) where
       by false true = refl
       by false false = refl
 
-  pub triggered_told : (xs : List X) (s t : Bool) → map text xs ≡ control_words (controls_with s t) → list_any (λ x. bytes_eq (text x) (codes "trigger")) xs ≡ t
+  pub triggered_told : (xs : List X) (s t : Bool) → map text xs ≡ control_words (controls_with s t) →
+      list_any (λ x. bytes_eq (text x) (codes "trigger")) xs ≡ t
   triggered_told xs s t e = any_words (codes "trigger") xs ∙ ap (list_any (λ w. bytes_eq w (codes "trigger"))) e ∙ by s t
     where
       by : (s t : Bool) → list_any (λ w. bytes_eq w (codes "trigger")) (control_words (controls_with s t)) ≡ t
@@ -100,8 +103,12 @@ module _ {X : Type 0} (text : X → List ℕ) where
   parts [] (b ∷ before) after word e = absurd (let long : 0 ≡ suc (length (before ++ word ∷ after)) = ap length e in omega (arith, long))
   parts (x ∷ xs) [] after word e = (refl, same-others (text x) word (map text xs) after e, omega arith)
   parts (x ∷ xs) (b ∷ before) after word e =
-      let more = parts xs before after word (same-others (text x) b (map text xs) (before ++ word ∷ after) e) in
-      (ap₂ (λ (k : List ℕ) (ks : List (List ℕ)). k ∷ ks) (same-first (text x) b (map text xs) (before ++ word ∷ after) e) more.0, more.1, (let h = more.2 in omega (arith, h)))
+      let more = parts xs before after word (same-others (text x) b (map text xs) (before ++ word ∷ after) e) in (
+        ap₂ (λ (k : List ℕ) (ks : List (List ℕ)). k ∷ ks)
+            (same-first (text x) b (map text xs) (before ++ word ∷ after) e) more.0,
+        more.1,
+        (let h = more.2 in omega (arith, h)),
+      )
 
   no-outputs : (ps : List Port) → AllByRecursion IsPlaced ps → AllByRecursion (λ w. w ≡ codes "outputs" → ⊥) (list_words (map port_word ps))
   no-outputs [] a = ((λ e. (let same = same-head 110 111 _ _ e in omega (arith, same))), tt)
@@ -115,9 +122,11 @@ module _ {X : Type 0} (text : X → List ℕ) where
       each (q ∷ qs) b = (other q b.0, each qs b.1)
 
   pub lists_parts : (xs : List X) (place : ℕ) (needs outputs : List Port) → All IsPlaced needs →
-      ((before after : List (List ℕ)) → All (λ w. w ≡ codes "outputs" → ⊥) before → map text xs ≡ before ++ codes "outputs" ∷ after → place ≡ length before) →
+      ((before after : List (List ℕ)) → All (λ w. w ≡ codes "outputs" → ⊥) before →
+      map text xs ≡ before ++ codes "outputs" ∷ after → place ≡ length before) →
       map text xs ≡ lists_words needs outputs →
-      (map text (take place xs) ≡ list_words (map port_word needs)) × (map text (drop (place + 1) xs) ≡ list_words (map port_word outputs)) × (place < length xs)
+      (map text (take place xs) ≡ list_words (map port_word needs))
+      × (map text (drop (place + 1) xs) ≡ list_words (map port_word outputs)) × (place < length xs)
   lists_parts xs place needs outputs a told e =
       let before : List (List ℕ) = list_words (map port_word needs) in
       let after : List (List ℕ) = list_words (map port_word outputs) in
@@ -134,7 +143,8 @@ module _ {X : Type 0} (text : X → List ℕ) where
   mask-first : (q : Port) (qs : List Port) → ports_mask (q ∷ qs) ≡ 2 ^ bit_of q + ports_mask qs
   mask-first q qs = sum_by-cons (λ x. x) (2 ^ bit_of q) (map (λ p. 2 ^ bit_of p) qs)
 
-  step : (d : X) (bit : ℕ) (ys : List X) (qs : List Port) (j : ℕ) → AllByRecursion IsPlaced qs → map text ys ≡ map port_word qs → j < length ys →
+  step : (d : X) (bit : ℕ) (ys : List X) (qs : List Port) (j : ℕ) → AllByRecursion IsPlaced qs →
+      map text ys ≡ map port_word qs → j < length ys →
       ((p : Port) → IsPlaced p → text (get_or ys j d) ≡ port_word p → bit ≡ 2 ^ bit_of p) →
       (ports_mask (take (suc j) qs) ≡ ports_mask (take j qs) + bit) × (ports_mask (take (suc j) qs) ≤ ports_mask qs)
   step d bit [] qs j b f h t = absurd (omega (arith, h))
@@ -149,7 +159,8 @@ module _ {X : Type 0} (text : X → List ℕ) where
       let first = mask-first q (take j qs) in let next = mask-first q (take (suc j) qs) in let all = mask-first q qs in
       (omega (arith, same, first, next), omega (arith, low, next, all))
 
-  pub mask_more : (xs : List X) (d : X) (ps : List Port) (i mask bit next : ℕ) → All IsPlaced ps → map text xs ≡ map port_word ps → ports_mask ps < 2 ^ 64 →
+  pub mask_more : (xs : List X) (d : X) (ps : List Port) (i mask bit next : ℕ) → All IsPlaced ps →
+      map text xs ≡ map port_word ps → ports_mask ps < 2 ^ 64 →
       i < length xs → mask ≡ ports_mask (take i ps) → ((p : Port) → IsPlaced p → text (get_or xs i d) ≡ port_word p → bit ≡ 2 ^ bit_of p) →
       next ≡ min (mask + bit) (2 ^ 64 - 1) → next ≡ ports_mask (take (i + 1) ps)
   mask_more xs d ps i mask bit next a e small within was told is =
@@ -159,7 +170,8 @@ module _ {X : Type 0} (text : X → List ℕ) where
       here ∙ ap (λ n. ports_mask (take n ps)) (let e : suc i ≡ i + 1 = omega arith in e)
 
   -- a word at a place, and those from a place on
-  pub word_at : (xs : List X) (ws : List (List ℕ)) (k : ℕ) (d : X) → map text xs ≡ ws → k < length xs → text (get_or xs k d) ≡ get_or ws k []
+  pub word_at : (xs : List X) (ws : List (List ℕ)) (k : ℕ) (d : X) → map text xs ≡ ws → k < length xs →
+      text (get_or xs k d) ≡ get_or ws k []
   word_at xs ws k d e within = sym (get_or-map text xs k d [] within) ∙ ap (λ (vs : List (List ℕ)). get_or vs k []) e
 
   all-taken : (ys : List X) (m : ℕ) → length ys ≤ m → take m ys ≡ ys

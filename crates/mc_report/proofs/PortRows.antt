@@ -54,7 +54,8 @@ one-gone s (x ∷ xs) d = by (x == s) refl (one-gone s xs d.1)
         suc (length xs) ≤ suc (length (cond (not t) (x ∷ without s xs) (without s xs)))
     by true is more =
         let same : x ≡ s = eqb-true x s is in
-        let all : length (without s xs) ≡ length xs = ap length (none-gone s xs (subst (λ z. AllByRecursion (λ y. y ≡ z → ⊥) xs) same d.0)) in
+        let all : length (without s xs) ≡ length xs =
+        ap length (none-gone s xs (subst (λ z. AllByRecursion (λ y. y ≡ z → ⊥) xs) same d.0)) in
         omega (arith, all)
     by false is more = omega (arith, more)
 
@@ -72,7 +73,8 @@ no-more : (ss xs : List ℕ) → Distinct xs → AllByRecursion (IsIn ss) xs →
 no-more [] [] d a = omega arith
 no-more [] (x ∷ xs) d a = absurd a.0
 no-more (s ∷ ss) xs d a =
-    let rest = no-more ss (without s xs) (kept-distinct _ xs d) (still-in s ss xs a) in let one = one-gone s xs d in omega (arith, rest, one)
+    let rest = no-more ss (without s xs) (kept-distinct _ xs d) (still-in s ss xs a) in let one = one-gone s xs d in
+    omega (arith, rest, one)
 
 fewer-without : (k : ℕ) (xs : List ℕ) → IsIn xs k → suc (length (without k xs)) ≤ length xs
 fewer-without k [] i = absurd i
@@ -176,7 +178,8 @@ module _ (rows : List Row) (test : Kind → Bool) (s : Option ℕ) (has : HasPor
         where
           by : (t : Bool) → same_system (row_at rows b).owner s ≡ t →
               AllByRecursion (λ b. (b < length rows) × ((row_at rows b).owner ≡ s)) (filter (λ b. same_system (row_at rows b).owner s) bs) →
-              AllByRecursion (λ b. (b < length rows) × ((row_at rows b).owner ≡ s)) (cond t (b ∷ filter (λ b. same_system (row_at rows b).owner s) bs) (filter (λ b.
+              AllByRecursion (λ b. (b < length rows) × ((row_at rows b).owner ≡ s))
+              (cond t (b ∷ filter (λ b. same_system (row_at rows b).owner s) bs) (filter (λ b.
               same_system (row_at rows b).owner s) bs))
           by true is more = ((a.0, same_system-equal (row_at rows b).owner s is), more)
           by false is more = more
@@ -198,7 +201,8 @@ module _ (rows : List Row) (test : Kind → Bool) (s : Option ℕ) (has : HasPor
   ports-distinct [] a d = tt
   ports-distinct (b ∷ bs) a d = (apart bs a.1 d.0, ports-distinct bs a.1 d.1)
     where
-      apart : (cs : List ℕ) → AllByRecursion IsOwn cs → AllByRecursion (λ c. c ≡ b → ⊥) cs → AllByRecursion (λ p. p ≡ port_at b → ⊥) (map port_at cs)
+      apart : (cs : List ℕ) → AllByRecursion IsOwn cs → AllByRecursion (λ c. c ≡ b → ⊥) cs →
+          AllByRecursion (λ p. p ≡ port_at b → ⊥) (map port_at cs)
       apart [] o n = tt
       apart (c ∷ cs) o n = (
         (λ same. n.0 (has.one_each c b o.0.within a.0.within o.0.owner a.0.owner o.0.passes a.0.passes same)),
@@ -219,16 +223,20 @@ module _ (rows : List Row) (test : Kind → Bool) (s : Option ℕ) (has : HasPor
           AllByRecursion (IsIn (without k (range_with_len 1 (length own)))) (map port_at bs)
       there [] a n = tt
       there (b ∷ bs) a n = (
-        in-without k (range_with_len 1 (length own)) (port_at b) (in-range 1 (length own) (port_at b) (has.in_range b a.0.within a.0.owner a.0.passes).0
+        in-without k (range_with_len 1 (length own)) (port_at b)
+            (in-range 1 (length own) (port_at b) (has.in_range b a.0.within a.0.owner a.0.passes).0
             (let top = (has.in_range b a.0.within a.0.owner a.0.passes).1 in omega (arith, top, count)))
             (λ same. false≢true (sym n.0 ∙ ap (λ p. p == k) same ∙ eq-self k)),
         there bs a.1 n.1,
       )
 
   pub ports-count : length (by_port rows s test) ≡ count_by (λ b. test (row_at rows b).kind) (rows_of rows s)
-  ports-count = all-found (λ k. find (λ b. port_at b == k) own) (range_with_len 1 (length own)) (each 1 (length own) (omega arith) (omega arith))
+  ports-count =
+      all-found (λ k. find (λ b. port_at b == k) own) (range_with_len 1 (length own))
+      (each 1 (length own) (omega arith) (omega arith))
       ∙ length-range_with_len 1 (length own) ∙ count
     where
-      each : (a n : ℕ) → 1 ≤ a → a + n ≤ 1 + length own → AllByRecursion (λ k. find (λ b. port_at b == k) own ≡ None → ⊥) (range_with_len a n)
+      each : (a n : ℕ) → 1 ≤ a → a + n ≤ 1 + length own →
+          AllByRecursion (λ k. find (λ b. port_at b == k) own ≡ None → ⊥) (range_with_len a n)
       each a zero low high = tt
       each a (suc n) low high = (found a low (omega (arith, high)), each (a + 1) n (omega (arith, low)) (omega (arith, high)))

@@ -25,7 +25,8 @@ use Rattle.mc_report.proofs.SameNeeds.{at-each}
 
 module _ (P : ℕ → Type 0) where
   -- needs that are known are those of a function
-  pub known : (fs : List Function) (k : ℕ) → AllByRecursion (λ (f : Function). P f.inputs) fs → (need_of fs k ≡ not_known) ⊎ P (need_of fs k)
+  pub known : (fs : List Function) (k : ℕ) → AllByRecursion (λ (f : Function). P f.inputs) fs →
+      (need_of fs k ≡ not_known) ⊎ P (need_of fs k)
   known [] k a = inl refl
   known (f ∷ fs) k a = by (has_bit f.outputs k) (known fs k a.1)
     where
@@ -83,7 +84,8 @@ module _ (r : PlainReport) (h : Head) (is : IsHeadOf r h) where
     };
   }
 
-  pub read-text : (fs : List Function) (ds : List Difference) (here one two three : List ℕ) → r.profile.functions ≡ fs → r.certificate.differ ≡ ds →
+  pub read-text : (fs : List Function) (ds : List Difference) (here one two three : List ℕ) → r.profile.functions ≡ fs →
+      r.certificate.differ ≡ ds →
       here ≡ head_text h ++ one → one ≡ out_lines (head_ports h) h.outputs 1 fs ++ two →
       two ≡ flat_map (differ_line (head_ports h)) ds ++ three → here ≡ system_text r ++ three
   read-text fs ds here one two three functions differ first second third =
@@ -105,7 +107,8 @@ systems_on bytes text next rs ss r more before is =
     before ∙ ap (λ (t : List ℕ). flat_map system_text rs ++ t) is ∙ sym (append_assoc (flat_map system_text rs) (system_text r) next)
     ∙ ap (λ (t : List ℕ). t ++ next) (flat_map_more system_text [] rs r ∙ ap (flat_map system_text) (sym more))
 
-pub read_whole : (bytes text end : List ℕ) (rs : List PlainReport) (n : ℕ) → All IsSystemReport rs → bytes ≡ flat_map system_text rs ++ text →
+pub read_whole : (bytes text end : List ℕ) (rs : List PlainReport) (n : ℕ) → All IsSystemReport rs →
+    bytes ≡ flat_map system_text rs ++ text →
     text ≡ last_line n ++ end → n ≡ length rs → length end ≡ 0 → IsTextOf bytes rs
 read_whole bytes text end rs n each before is len none = record {
   each = each;

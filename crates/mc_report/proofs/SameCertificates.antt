@@ -37,10 +37,12 @@ same-certificate needs c e a b = λ i. record { representatives = representative
         within' : k < length e.differ
         within' = omega (arith, within, lengths)
 
-        firsts : need_at needs c.representatives (get_or c.differ k none).first ≡ need_at needs e.representatives (get_or e.differ k none).first
+        firsts : need_at needs c.representatives (get_or c.differ k none).first
+            ≡ need_at needs e.representatives (get_or e.differ k none).first
         firsts = λ i. need_at needs (representatives i) (first i)
 
-        seconds : need_at needs c.representatives (get_or c.differ k none).second ≡ need_at needs e.representatives (get_or e.differ k none).second
+        seconds : need_at needs c.representatives (get_or c.differ k none).second
+            ≡ need_at needs e.representatives (get_or e.differ k none).second
         seconds = λ i. need_at needs (representatives i) (second i)
 
         bit : (get_or c.differ k none).bit ≡ (get_or e.differ k none).bit
@@ -48,12 +50,16 @@ same-certificate needs c e a b = λ i. record { representatives = representative
           | inl same ↦ same
           | inr apart ↦ elim apart [
             | inl less ↦ absurd (b.least k none within' (get_or c.differ k none).bit less
-                (subst (λ n. IsInJustOne (need_at needs e.representatives (get_or e.differ k none).first) n (get_or c.differ k none).bit) seconds
-                (subst (λ n. IsInJustOne n (need_at needs c.representatives (get_or c.differ k none).second) (get_or c.differ k none).bit) firsts
+                (subst (λ n. IsInJustOne (need_at needs e.representatives (get_or e.differ k none).first) n
+                (get_or c.differ k none).bit) seconds
+                (subst (λ n. IsInJustOne n (need_at needs c.representatives (get_or c.differ k none).second)
+                (get_or c.differ k none).bit) firsts
                 (a.sound.bits k none within))))
             | inr more ↦ absurd (a.least k none within (get_or e.differ k none).bit more
-                (subst (λ n. IsInJustOne (need_at needs c.representatives (get_or c.differ k none).first) n (get_or e.differ k none).bit) (sym seconds)
-                (subst (λ n. IsInJustOne n (need_at needs e.representatives (get_or e.differ k none).second) (get_or e.differ k none).bit) (sym firsts)
+                (subst (λ n. IsInJustOne (need_at needs c.representatives (get_or c.differ k none).first) n
+                (get_or e.differ k none).bit) (sym seconds)
+                (subst (λ n. IsInJustOne n (need_at needs e.representatives (get_or e.differ k none).second)
+                (get_or e.differ k none).bit) (sym firsts)
                 (b.sound.bits k none within'))))
           ]
         ]

@@ -140,7 +140,8 @@ module _ (ports : List Port) (outputs : ℕ) where
   abbrev AreGiven : List ℕ → List ℕ → ℕ → Type 0
   AreGiven ns ms d = numbers_in (mask_of (map (λ n. n == d) ns)) outputs ≡ numbers_in (mask_of (map (λ n. n == d) ms)) outputs
 
-  same-sets : (ns ms ds es : List ℕ) → AllByRecursion IsOwn ds → AllByRecursion IsOwn es → AllZip AreOne (map (function_for ns) ds) (map (function_for ms) es) →
+  same-sets : (ns ms ds es : List ℕ) → AllByRecursion IsOwn ds → AllByRecursion IsOwn es →
+      AllZip AreOne (map (function_for ns) ds) (map (function_for ms) es) →
       (ds ≡ es) × AllByRecursion (AreGiven ns ms) ds
   same-sets ns ms [] [] own own' are = (refl, tt)
   same-sets ns ms [] (e ∷ es) own own' are = absurd are
@@ -157,7 +158,8 @@ module _ (ports : List Port) (outputs : ℕ) where
   same-needs ns ms len len' own own' are = ext_get_or 0 ns ms (len ∙ sym len') at
     where
       given : AllByRecursion (AreGiven ns ms) ns
-      given = from-different (AreGiven ns ms) ns (same-sets ns ms (different ns) (different ms) (to-different IsOwn ns own) (to-different IsOwn ms own') are).1
+      given = from-different (AreGiven ns ms) ns
+          (same-sets ns ms (different ns) (different ms) (to-different IsOwn ns own) (to-different IsOwn ms own') are).1
 
       bit : (xs : List ℕ) (d o : ℕ) → o < length xs → has_bit (mask_of (map (λ n. n == d) xs)) o ≡ (get_or xs o 0 == d)
       bit xs d o within = has-mask (map (λ n. n == d) xs) o ∙ get_or-map (λ n. n == d) xs o 0 false within
@@ -166,7 +168,10 @@ module _ (ports : List Port) (outputs : ℕ) where
       at o within =
           let d : ℕ = get_or ns o 0 in
           let told : has_bit (mask_of (map (λ n. n == d) ns)) o ≡ has_bit (mask_of (map (λ n. n == d) ms)) o =
-          subst (λ k. has_bit (mask_of (map (λ n. n == d) ns)) k ≡ has_bit (mask_of (map (λ n. n == d) ms)) k) (let e : suc o - 1 ≡ o = omega arith in e)
-          (same-kept (λ k. has_bit (mask_of (map (λ n. n == d) ns)) (k - 1)) (λ k. has_bit (mask_of (map (λ n. n == d) ms)) (k - 1)) 1 outputs (suc o)
+          subst (λ k. has_bit (mask_of (map (λ n. n == d) ns)) k ≡ has_bit (mask_of (map (λ n. n == d) ms)) k)
+          (let e : suc o - 1 ≡ o = omega arith in e)
+          (same-kept (λ k. has_bit (mask_of (map (λ n. n == d) ns)) (k - 1))
+          (λ k. has_bit (mask_of (map (λ n. n == d) ms)) (k - 1)) 1 outputs (suc o)
           (at-each (AreGiven ns ms) ns o 0 given within) (omega arith) (omega (arith, within, len))) in
-          sym (eqb-true (get_or ms o 0) d (sym (bit ms d o (omega (arith, within, len, len'))) ∙ sym told ∙ bit ns d o within ∙ eq-eqb d d refl))
+          sym (eqb-true (get_or ms o 0) d (sym (bit ms d o (omega (arith, within, len, len'))) ∙ sym told
+          ∙ bit ns d o within ∙ eq-eqb d d refl))

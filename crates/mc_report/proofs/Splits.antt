@@ -52,7 +52,8 @@ words_split first (w ∷ words) f a =
     ∙ ap (λ (ws : List (List ℕ)). first ∷ ws) (words_split w words a.0 a.1)
 
 -- the words of the first line of a text that begins with words
-pub first_words : (first : List ℕ) (words : List (List ℕ)) (text x : List ℕ) → IsWord first → AreWords words → text ≡ first ++ spaced words ++ 10 ∷ x →
+pub first_words : (first : List ℕ) (words : List (List ℕ)) (text x : List ℕ) → IsWord first → AreWords words →
+    text ≡ first ++ spaced words ++ 10 ∷ x →
     slice_split (λ b. b == 32) (take_while (λ b. not (b == 10)) text) ≡ first ∷ words
 first_words first words text x f a e =
     ap (λ (t : List ℕ). slice_split (λ b. b == 32) (take_while (λ b. not (b == 10)) t)) e

@@ -58,8 +58,10 @@ split-at [] i d within = absurd (omega (arith, within))
 split-at (x ∷ ds) zero d within = refl
 split-at (x ∷ ds) (suc i) d within = ap (λ (t : List Difference). x ∷ t) (split-at ds i d (omega (arith, within)))
 
-pub stops-at-difference : (ports : List Port) (ds : List Difference) (i : ℕ) (d : Difference) (text rest : List ℕ) (left : ℕ) → i < length ds →
-    text ≡ flat_map (differ_line ports) (take i ds) ++ rest → left ≡ length rest → NoneBegins rest (differ_line ports (get_or ds i d)) → StopsAtDifference ports ds text left
+pub stops-at-difference : (ports : List Port) (ds : List Difference) (i : ℕ) (d : Difference) (text rest : List ℕ)
+    (left : ℕ) → i < length ds →
+    text ≡ flat_map (differ_line ports) (take i ds) ++ rest → left ≡ length rest →
+    NoneBegins rest (differ_line ports (get_or ds i d)) → StopsAtDifference ports ds text left
 stops-at-difference ports ds i d text rest left within before is none = record {
   before = take i ds;
   next = get_or ds i d;
@@ -93,7 +95,8 @@ no-bytes (b ∷ text) e = absurd (omega (arith, e))
 
 pub nothing-stands : (text : List ℕ) → length text ≡ 0 → (line : List ℕ) → 0 < length line → NoneBegins text line
 nothing-stands text none line some more e =
-    let all : length text ≡ length (line ++ more) = ap (λ (t : List ℕ). length t) e in let sum = length-append line more in omega (arith, none, all, sum, some)
+    let all : length text ≡ length (line ++ more) =
+    ap (λ (t : List ℕ). length t) e in let sum = length-append line more in omega (arith, none, all, sum, some)
 
 pub no-head-stands : (text : List ℕ) → length text ≡ 0 → NoHead text
 no-head-stands text none h row possible = nothing-stands text none (head_text h) (omega arith)
@@ -128,7 +131,8 @@ taken-first : (xs ys : List ℕ) → take (length xs) (xs ++ ys) ≡ xs
 taken-first [] ys = refl
 taken-first (x ∷ xs) ys = ap (λ (t : List ℕ). x ∷ t) (taken-first xs ys)
 
-pub form-fault : (bytes first : List ℕ) (left before number : ℕ) → StopsIn bytes left → before ≡ length bytes - left → first ≡ take before bytes →
+pub form-fault : (bytes first : List ℕ) (left before number : ℕ) → StopsIn bytes left → before ≡ length bytes - left →
+    first ≡ take before bytes →
     number ≡ min (suc (count_by (λ b. b == 10) first)) greatest_line → IsFormFault bytes number
 form-fault bytes first left before number stops is first-is told = record {
   none = stops.none;
@@ -138,7 +142,8 @@ form-fault bytes first left before number stops is first-is told = record {
   parts = stops.parts;
   before = stops.before;
   number_is = told ∙ ap (λ k. min (suc k) greatest_line)
-      (ap (count_by (λ b. b == 10)) (first-is ∙ ap₂ (λ (k : ℕ) (t : List ℕ). take k t) place stops.parts ∙ taken-first (joined stops.lines) stops.rest)
+      (ap (count_by (λ b. b == 10)) (first-is ∙ ap₂ (λ (k : ℕ) (t : List ℕ). take k t) place stops.parts
+      ∙ taken-first (joined stops.lines) stops.rest)
       ∙ lines-ends stops.lines (each-one IsWholeLine stops.lines stops.whole));
   stops = stops.stops;
 }

@@ -29,7 +29,9 @@ abbrev counts : List ℕ → List ℕ → List ℕ → List ℕ
 counts i o f = codes " inputs " ++ i ++ codes " outputs " ++ o ++ codes " functions " ++ f
 
 abbrev flat : List ℕ → List ℕ → List ℕ → List ℕ → List ℕ → List ℕ
-flat name i o f ends = codes "system " ++ (name ++ (codes " inputs " ++ (i ++ (codes " outputs " ++ (o ++ (codes " functions " ++ (f ++ ends)))))))
+flat name i o f ends =
+    codes "system "
+    ++ (name ++ (codes " inputs " ++ (i ++ (codes " outputs " ++ (o ++ (codes " functions " ++ (f ++ ends)))))))
 
 four : (a b c d e : List ℕ) → a ++ b ++ c ++ d ++ e ≡ a ++ (b ++ (c ++ (d ++ e)))
 four a b c d e = simp (append_assoc) refl
@@ -46,9 +48,11 @@ left-shape name i o f s x =
 right-shape : (name i o f : List ℕ) (more : List (List ℕ)) (x : List ℕ) →
     codes "system" ++ spaced (counted_words name i o f more) ++ 10 ∷ x ≡ flat name i o f (spaced more ++ 10 ∷ x)
 right-shape name i o f more x =
-    ap (λ (t : List ℕ). codes "system " ++ t) (append_assoc name (spaced (codes "inputs" ∷ i ∷ codes "outputs" ∷ o ∷ codes "functions" ∷ f ∷ more)) (10 ∷ x)
+    ap (λ (t : List ℕ). codes "system " ++ t)
+    (append_assoc name (spaced (codes "inputs" ∷ i ∷ codes "outputs" ∷ o ∷ codes "functions" ∷ f ∷ more)) (10 ∷ x)
     ∙ ap (λ (t : List ℕ). name ++ (codes " inputs " ++ t))
-    (append_assoc i (spaced (codes "outputs" ∷ o ∷ codes "functions" ∷ f ∷ more)) (10 ∷ x) ∙ ap (λ (t : List ℕ). i ++ (codes " outputs " ++ t))
+    (append_assoc i (spaced (codes "outputs" ∷ o ∷ codes "functions" ∷ f ∷ more)) (10 ∷ x)
+    ∙ ap (λ (t : List ℕ). i ++ (codes " outputs " ++ t))
     (append_assoc o (spaced (codes "functions" ∷ f ∷ more)) (10 ∷ x) ∙ ap (λ (t : List ℕ). o ++ (codes " functions " ++ t))
     (append_assoc f (spaced more) (10 ∷ x)))))
 
@@ -105,7 +109,9 @@ words-head row i o f controls has a b c are = (
 )
 
 pub words-system : (r : PlainReport) → IsHead r → AreWords (system_words r)
-words-system r h = words-head r.row r.inputs r.outputs (length r.profile.functions) r.controls h.row h.inputs h.outputs h.functions h.controls
+words-system r h =
+    words-head r.row r.inputs r.outputs (length r.profile.functions) r.controls h.row h.inputs h.outputs h.functions
+    h.controls
 
 same-row : (a b : Option ℕ) → HasRow a → HasRow b → system_name a ≡ system_name b → a ≡ b
 same-row None None h k e = refl
@@ -133,7 +139,8 @@ same-controls [] [] s t e = refl
 same-controls [] (q ∷ b) s t e = absurd (let long : 0 ≡ suc (length (map port_word (q ∷ b))) = ap length e in omega (arith, long))
 same-controls (p ∷ a) [] s t e = absurd (let long : suc (length (map port_word (p ∷ a))) ≡ 0 = ap length e in omega (arith, long))
 same-controls (p ∷ a) (q ∷ b) s t e =
-    same-members IsSmall port_word port_injective no-none (p ∷ a) (q ∷ b) s t (same-others _ _ (map port_word (p ∷ a)) (map port_word (q ∷ b)) e)
+    same-members IsSmall port_word port_injective no-none (p ∷ a) (q ∷ b) s t
+    (same-others _ _ (map port_word (p ∷ a)) (map port_word (q ∷ b)) e)
 
 -- what two equal lines of systems have in common
 pub record AreAlike (r s : PlainReport) : Type 0 where
@@ -143,7 +150,8 @@ pub record AreAlike (r s : PlainReport) : Type 0 where
   pub controls : r.controls ≡ s.controls
   pub functions : length r.profile.functions ≡ length s.profile.functions
 
-pub same-systems : (r s : PlainReport) (x y : List ℕ) → IsHead r → IsHead s → system_line r ++ x ≡ system_line s ++ y → AreAlike r s × (x ≡ y)
+pub same-systems : (r s : PlainReport) (x y : List ℕ) → IsHead r → IsHead s → system_line r ++ x ≡ system_line s ++ y →
+    AreAlike r s × (x ≡ y)
 same-systems r s x y h k e =
     let all = cut-words (system_words r) (system_words s) x y (words-system r h) (words-system s k)
     (append_cancel_left (codes "system") _ _ (sym (system-line-words r x) ∙ e ∙ system-line-words s y)) in

@@ -50,7 +50,8 @@ record SystemStop (text : List ℕ) (left : ℕ) : Type 0 where
   pub parts : text ≡ read ++ rest
   pub begun : (read ≡ []) ⊎ Begun read
   pub refuse : (y z : List ℕ) (s : PlainReport) → Follows rest y → IsSystemReport s → read ++ y ≡ system_text s ++ z → ⊥
-  pub not_last : (y : List ℕ) (n : ℕ) → n < 2 ^ 64 → Follows rest y → read ++ y ≡ last_line n → (more : List ℕ) × (text ≡ last_line n ++ more)
+  pub not_last : (y : List ℕ) (n : ℕ) → n < 2 ^ 64 → Follows rest y → read ++ y ≡ last_line n →
+      (more : List ℕ) × (text ≡ last_line n ++ more)
 
 -- ---- The lines of a report
 
@@ -62,9 +63,11 @@ same-ports r h is = λ i. ports_with (is.inputs i) (is.controls i)
 
 report-functions : (r : PlainReport) (k : IsSystemReport r) → AllByRecursion (IsFunctionOf (ports_of r) r.outputs) r.profile.functions
 report-functions r k = subst (AllByRecursion (IsFunctionOf (ports_of r) r.outputs)) (sym k.report.functions)
-    (functions-are (ports_of r) r.outputs k.report.needs k.report.one_each (each-one (IsSetOf (ports_of r)) k.report.needs k.report.in_inputs))
+    (functions-are (ports_of r) r.outputs k.report.needs k.report.one_each
+    (each-one (IsSetOf (ports_of r)) k.report.needs k.report.in_inputs))
 
-report-differ-lines : (r : PlainReport) → IsSystemReport r → AllByRecursion (λ (d : Difference). IsWholeLine (differ_line (ports_of r) d)) r.certificate.differ
+report-differ-lines : (r : PlainReport) → IsSystemReport r →
+    AllByRecursion (λ (d : Difference). IsWholeLine (differ_line (ports_of r) d)) r.certificate.differ
 report-differ-lines r k = each-one (λ (d : Difference). IsWholeLine (differ_line (ports_of r) d)) r.certificate.differ (λ i d within.
     let low = places-below r.certificate.differ (length r.certificate.representatives) i d k.report.certificate.sound.pairs within in
     let one = low.0 in let two = low.1 in
@@ -73,7 +76,8 @@ report-differ-lines r k = each-one (λ (d : Difference). IsWholeLine (differ_lin
     whole-differ (ports_of r) (get_or r.certificate.differ i d) (all-small r (head-of-report r k))
     (omega (arith, one, two, most, same, len, bound)) (omega (arith, two, most, same, len, bound)))
 
-report-differs : (r : PlainReport) → IsSystemReport r → AllByRecursion (λ (d : Difference). AreLines (differ_line (ports_of r) d)) r.certificate.differ
+report-differs : (r : PlainReport) → IsSystemReport r →
+    AllByRecursion (λ (d : Difference). AreLines (differ_line (ports_of r) d)) r.certificate.differ
 report-differs r k = each r.certificate.differ (report-differ-lines r k)
   where
     each : (ds : List Difference) → AllByRecursion (λ (d : Difference). IsWholeLine (differ_line (ports_of r) d)) ds →
@@ -127,7 +131,9 @@ module _ (ports : List Port) (outputs : ℕ) (small : AllByRecursion IsSmall por
         ∙ ap (λ k. out_line ports outputs k g ++ (out_lines ports outputs (j + 1) gs ++ u)) (let same : j ≡ 0 + j = omega arith in same);
   }
   front-outs (f ∷ fs) (g ∷ gs) j y u fewer fits e =
-      let one = same-out ports outputs j f g _ _ small few-outputs (omega (arith, fits)) (sym (append_assoc (out_line ports outputs j f) (out_lines ports outputs (j + 1) fs) y)
+      let one =
+      same-out ports outputs j f g _ _ small few-outputs (omega (arith, fits))
+      (sym (append_assoc (out_line ports outputs j f) (out_lines ports outputs (j + 1) fs) y)
       ∙ e ∙ append_assoc (out_line ports outputs j g) (out_lines ports outputs (j + 1) gs) u) in
       let more = front-outs fs gs (j + 1) y u (omega (arith, fewer)) (omega (arith, fits)) one.2 in record {
         before = g ∷ more.before;
@@ -136,27 +142,33 @@ module _ (ports : List Port) (outputs : ℕ) (small : AllByRecursion IsSmall por
         is = ap (λ (t : List Function). g ∷ t) more.is;
         ones = (record { takes = one.0; gives = one.1 }, more.ones);
         after = more.after;
-        text = more.text ∙ ap (λ k. out_line ports outputs k more.next ++ more.after) (let same : length fs + (j + 1) ≡ suc (length fs) + j = omega arith in same);
+        text = more.text ∙ ap (λ k. out_line ports outputs k more.next ++ more.after) (let same : length fs + (j + 1)
+            ≡ suc (length fs) + j = omega arith in same);
       }
 
-same-fronts : (ports : List Port) (outputs : ℕ) (fs gs : List Function) → AllByRecursion (IsFunctionOf ports outputs) fs → AllByRecursion (IsFunctionOf ports outputs) gs →
+same-fronts : (ports : List Port) (outputs : ℕ) (fs gs : List Function) →
+    AllByRecursion (IsFunctionOf ports outputs) fs → AllByRecursion (IsFunctionOf ports outputs) gs →
     AllZip (AreOne ports outputs) fs gs → fs ≡ gs
 same-fronts ports outputs [] [] a b ones = refl
 same-fronts ports outputs [] (g ∷ gs) a b ones = absurd ones
 same-fronts ports outputs (f ∷ fs) [] a b ones = absurd ones
 same-fronts ports outputs (f ∷ fs) (g ∷ gs) a b ones =
     let ins : f.inputs ≡ g.inputs = sym a.0.takes ∙ ap ports_mask ones.0.takes ∙ b.0.takes in
-    let outs : f.outputs ≡ g.outputs = sym (mask-of-numbers f.outputs outputs a.0.gives) ∙ ap (λ (ks : List ℕ). ports_mask (map Number ks)) ones.0.gives
+    let outs : f.outputs ≡ g.outputs = sym (mask-of-numbers f.outputs outputs a.0.gives)
+    ∙ ap (λ (ks : List ℕ). ports_mask (map Number ks)) ones.0.gives
     ∙ mask-of-numbers g.outputs outputs b.0.gives in
-    ap₂ (λ (k : Function) (ks : List Function). k ∷ ks) (λ i. record { inputs = ins i; outputs = outs i }) (same-fronts ports outputs fs gs a.1 b.1 ones.1)
+    ap₂ (λ (k : Function) (ks : List Function). k ∷ ks) (λ i. record { inputs = ins i; outputs = outs i })
+    (same-fronts ports outputs fs gs a.1 b.1 ones.1)
 
 out-lines-append : (ports : List Port) (outputs j : ℕ) (fs gs : List Function) →
     out_lines ports outputs j (fs ++ gs) ≡ out_lines ports outputs j fs ++ out_lines ports outputs (j + length fs) gs
 out-lines-append ports outputs j [] gs = ap (λ k. out_lines ports outputs k gs) (let same : j ≡ j + 0 = omega arith in same)
 out-lines-append ports outputs j (f ∷ fs) gs =
     ap (λ (t : List ℕ). out_line ports outputs j f ++ t) (out-lines-append ports outputs (j + 1) fs gs
-    ∙ ap (λ k. out_lines ports outputs (j + 1) fs ++ out_lines ports outputs k gs) (let same : j + 1 + length fs ≡ j + suc (length fs) = omega arith in same))
-    ∙ sym (append_assoc (out_line ports outputs j f) (out_lines ports outputs (j + 1) fs) (out_lines ports outputs (j + suc (length fs)) gs))
+    ∙ ap (λ k. out_lines ports outputs (j + 1) fs ++ out_lines ports outputs k gs) (let same : j + 1 + length fs
+    ≡ j + suc (length fs) = omega arith in same))
+    ∙ sym (append_assoc (out_line ports outputs j f) (out_lines ports outputs (j + 1) fs)
+    (out_lines ports outputs (j + suc (length fs)) gs))
 
 middle : (a b c d : List ℕ) → a ++ (b ++ c ++ d) ≡ a ++ b ++ (c ++ d)
 middle a b c d = simp (append_assoc) refl
@@ -166,28 +178,35 @@ last-part P [] ys a = a
 last-part P (x ∷ xs) ys a = last-part P xs ys a.1
 
 -- a text that begins with the line and functions of a report, and goes on with the functions of another
-module _ (r s : PlainReport) (own : IsSystemReport r) (own' : IsSystemReport s) (fs behind : List Function) (begins : r.profile.functions ≡ fs ++ behind)
+module _ (r s : PlainReport) (own : IsSystemReport r) (own' : IsSystemReport s) (fs behind : List Function)
+    (begins : r.profile.functions ≡ fs ++ behind)
     (fewer : length fs < length r.profile.functions) (y z : List ℕ)
     (e : system_line r ++ (out_lines (ports_of r) r.outputs 1 fs ++ y) ≡ system_text s ++ z) where
-  heads : AreAlike r s × (out_lines (ports_of r) r.outputs 1 fs ++ y ≡ out_lines (ports_of s) s.outputs 1 s.profile.functions ++ (differ_lines s ++ z))
+  heads : AreAlike r s
+      × (out_lines (ports_of r) r.outputs 1 fs ++ y ≡ out_lines (ports_of s) s.outputs 1 s.profile.functions
+      ++ (differ_lines s ++ z))
   heads = same-systems r s _ _ (head-of-report r own) (head-of-report s own') (e ∙ system-parts s z)
 
   both-ports : ports_of r ≡ ports_of s
   both-ports = λ i. map Number (range_with_len 1 (heads.0.inputs i)) ++ heads.0.controls i
 
   outs : FrontOuts (ports_of r) r.outputs 1 fs s.profile.functions y
-  outs = front-outs (ports_of r) r.outputs (all-small r (head-of-report r own)) own.report.outputs fs s.profile.functions 1 y (differ_lines s ++ z)
+  outs = front-outs (ports_of r) r.outputs (all-small r (head-of-report r own)) own.report.outputs fs
+      s.profile.functions 1 y (differ_lines s ++ z)
       (let same = heads.0.functions in omega (arith, same, fewer)) (let most = (head-of-report s own').functions in omega (arith, most))
-      (heads.1 ∙ ap₂ (λ (ps : List Port) (n : ℕ). out_lines ps n 1 s.profile.functions ++ (differ_lines s ++ z)) (sym both-ports) (sym heads.0.outputs))
+      (heads.1 ∙ ap₂ (λ (ps : List Port) (n : ℕ). out_lines ps n 1 s.profile.functions ++ (differ_lines s ++ z))
+      (sym both-ports) (sym heads.0.outputs))
 
   others : AllByRecursion (IsFunctionOf (ports_of r) r.outputs) (outs.before ++ outs.next ∷ outs.behind)
   others = subst (AllByRecursion (IsFunctionOf (ports_of r) r.outputs)) outs.is
       (subst (λ n. AllByRecursion (IsFunctionOf (ports_of r) n) s.profile.functions) (sym heads.0.outputs)
-      (subst (λ (ps : List Port). AllByRecursion (IsFunctionOf ps s.outputs) s.profile.functions) (sym both-ports) (report-functions s own')))
+      (subst (λ (ps : List Port). AllByRecursion (IsFunctionOf ps s.outputs) s.profile.functions) (sym both-ports)
+      (report-functions s own')))
 
   fronts : fs ≡ outs.before
   fronts = same-fronts (ports_of r) r.outputs fs outs.before
-      (first-part (IsFunctionOf (ports_of r) r.outputs) fs behind (subst (AllByRecursion (IsFunctionOf (ports_of r) r.outputs)) begins (report-functions r own)))
+      (first-part (IsFunctionOf (ports_of r) r.outputs) fs behind
+      (subst (AllByRecursion (IsFunctionOf (ports_of r) r.outputs)) begins (report-functions r own)))
       (first-part (IsFunctionOf (ports_of r) r.outputs) outs.before (outs.next ∷ outs.behind) others) outs.ones
 
   next-is : IsFunctionOf (ports_of r) r.outputs outs.next
@@ -198,7 +217,9 @@ module _ (r s : PlainReport) (own : IsSystemReport r) (own' : IsSystemReport s) 
       let parts = cut-map (function_for own'.report.needs) (different own'.report.needs) (outs.before ++ outs.next ∷ []) outs.behind
       (sym own'.report.functions ∙ outs.is ∙ sym (append_assoc outs.before (outs.next ∷ []) outs.behind)) in
       let len = own'.report.one_each ∙ sym heads.0.outputs in
-      let can = front-can r.outputs own'.report.needs len (real own'.report.needs (each-one (IsSetOf (ports_of s)) own'.report.needs own'.report.in_inputs))
+      let can =
+      front-can r.outputs own'.report.needs len
+      (real own'.report.needs (each-one (IsSetOf (ports_of s)) own'.report.needs own'.report.in_inputs))
       parts.before parts.behind parts.is in
       subst (λ (gs : List Function). CanComeFirst r.outputs (length r.profile.functions) (gs ++ outs.next ∷ [])) (sym fronts)
       (subst (λ (gs : List Function). CanComeFirst r.outputs (length r.profile.functions) gs) parts.firsts
@@ -208,13 +229,17 @@ module _ (r s : PlainReport) (own : IsSystemReport r) (own' : IsSystemReport s) 
       real [] a = tt
       real (n ∷ ns) a = (
         (λ same. let line = own-head s own' in
-            let low = set-bound line.head n line.possible.inputs (subst (λ (ps : List Port). IsSetOf ps n) (sym (same-ports s line.head line.is)) a.0) in omega (arith, low, same)),
+            let low =
+            set-bound line.head n line.possible.inputs
+            (subst (λ (ps : List Port). IsSetOf ps n) (sym (same-ports s line.head line.is)) a.0) in
+            omega (arith, low, same)),
         real ns a.1,
       )
 
       number : (parts : Cut (different own'.report.needs) (function_for own'.report.needs) (outs.before ++ outs.next ∷ []) outs.behind) →
           length (parts.before ++ parts.behind) ≡ length r.profile.functions
-      number parts = ap (λ (t : List ℕ). length t) (sym parts.is) ∙ sym (length-map-different own'.report.needs (different own'.report.needs))
+      number parts = ap (λ (t : List ℕ). length t) (sym parts.is)
+          ∙ sym (length-map-different own'.report.needs (different own'.report.needs))
           ∙ ap (λ (t : List Function). length t) (sym own'.report.functions) ∙ sym heads.0.functions
         where
           length-map-different : (ns ds : List ℕ) → length (map (function_for ns) ds) ≡ length ds
@@ -232,7 +257,8 @@ in-functions text left stops = record {
       (out-lines-whole (ports_of r) r.outputs 1 at.functions (all-small r (head-of-report r whole.is)) whole.is.report.outputs
       (let most = (head-of-report r whole.is).functions in omega (arith, most, fewer)));
   left_is = at.left_is;
-  parts = stops.text_is ∙ ap₂ (λ (x z : List ℕ). x ++ z) (same-head r stops.head whole.head) (at.text_is ∙ ap (λ (t : List ℕ). t ++ at.rest) same-outs-text)
+  parts = stops.text_is ∙ ap₂ (λ (x z : List ℕ). x ++ z) (same-head r stops.head whole.head) (at.text_is
+      ∙ ap (λ (t : List ℕ). t ++ at.rest) same-outs-text)
       ∙ sym (append_assoc (system_line r) lines at.rest);
   begun = inr record {
     report = r;
@@ -244,7 +270,9 @@ in-functions text left stops = record {
         ∙ middle (system_line r) lines (out_lines (ports_of r) r.outputs (1 + length at.functions) whole.behind) (differ_lines r ++ []);
   };
   refuse = λ y z s follows own e. refused y z s follows own (sym (append_assoc (system_line r) lines y) ∙ e);
-  not_last = λ y n fits follows e. absurd (no-line n [] (lines ++ y) r (append-nil (last_line n) ∙ sym e ∙ append_assoc (system_line r) lines y));
+  not_last =
+      λ y n fits follows e.
+      absurd (no-line n [] (lines ++ y) r (append-nil (last_line n) ∙ sym e ∙ append_assoc (system_line r) lines y));
 }
   where
     at : StopsAtFunction stops.head stops.more left
@@ -266,11 +294,13 @@ in-functions text left stops = record {
     fewer : length at.functions < length r.profile.functions
     fewer = let less = at.fewer in let same = whole.head.functions in omega (arith, less, same)
 
-    refused : (y z : List ℕ) (s : PlainReport) → Follows at.rest y → IsSystemReport s → system_line r ++ (lines ++ y) ≡ system_text s ++ z → ⊥
+    refused : (y z : List ℕ) (s : PlainReport) → Follows at.rest y → IsSystemReport s →
+        system_line r ++ (lines ++ y) ≡ system_text s ++ z → ⊥
     refused y z s follows own e =
         let there = outs r s whole.is own at.functions whole.behind whole.functions fewer y z e in
         let first = follows (out_line (ports_of r) r.outputs (length at.functions + 1) there.next) there.after
-        (whole-out (ports_of r) r.outputs (length at.functions + 1) there.next (all-small r (head-of-report r whole.is)) whole.is.report.outputs
+        (whole-out (ports_of r) r.outputs (length at.functions + 1) there.next
+        (all-small r (head-of-report r whole.is)) whole.is.report.outputs
         (let most = (head-of-report r whole.is).functions in let less = fewer in omega (arith, most, less))) there.text in
         at.none there.next
         (subst (λ n. IsFunctionOf (head_ports stops.head) n there.next) (sym whole.head.outputs)
@@ -280,17 +310,21 @@ in-functions text left stops = record {
         (subst (λ n. CanComeFirst r.outputs n (at.functions ++ there.next ∷ [])) (sym whole.head.functions)
         (next-can r s whole.is own at.functions whole.behind whole.functions fewer y z e)))
         first.0
-        (first.1 ∙ (λ i. out_line (sym (same-ports r stops.head whole.head) i) (sym whole.head.outputs i) (length at.functions + 1) there.next ++ first.0))
+        (first.1
+        ∙ (λ i. out_line (sym (same-ports r stops.head whole.head) i) (sym whole.head.outputs i)
+        (length at.functions + 1) there.next ++ first.0))
 
 -- ---- In the differences
 
 joined-differs : (ports : List Port) (ds es : List Difference) (d : Difference) (x : List ℕ) →
-    flat_map (differ_line ports) (ds ++ d ∷ es) ++ x ≡ flat_map (differ_line ports) ds ++ (differ_line ports d ++ (flat_map (differ_line ports) es ++ x))
+    flat_map (differ_line ports) (ds ++ d ∷ es) ++ x ≡ flat_map (differ_line ports) ds
+    ++ (differ_line ports d ++ (flat_map (differ_line ports) es ++ x))
 joined-differs ports [] es d x = append_assoc (differ_line ports d) (flat_map (differ_line ports) es) x
 joined-differs ports (a ∷ ds) es d x =
     append_assoc (differ_line ports a) (flat_map (differ_line ports) (ds ++ d ∷ es)) x
     ∙ ap (λ (t : List ℕ). differ_line ports a ++ t) (joined-differs ports ds es d x)
-    ∙ sym (append_assoc (differ_line ports a) (flat_map (differ_line ports) ds) (differ_line ports d ++ (flat_map (differ_line ports) es ++ x)))
+    ∙ sym (append_assoc (differ_line ports a) (flat_map (differ_line ports) ds)
+    (differ_line ports d ++ (flat_map (differ_line ports) es ++ x)))
 
 three-parts : (a b c d : List ℕ) → a ++ (b ++ (c ++ d)) ≡ a ++ (b ++ c) ++ d
 three-parts a b c d = simp (append_assoc) refl
@@ -303,20 +337,27 @@ in-differences text left stops = record {
       (more-lines outs-text done
       (out-lines-whole (ports_of r) r.outputs 1 r.profile.functions (all-small r (head-of-report r stops.is)) stops.is.report.outputs
       (let most = (head-of-report r stops.is).functions in omega (arith, most)))
-      (lines-each (differ_line (ports_of r)) at.before (first-part (λ (d : Difference). AreLines (differ_line (ports_of r) d)) at.before (at.next ∷ at.behind) all-differ)));
+      (lines-each (differ_line (ports_of r)) at.before
+      (first-part (λ (d : Difference). AreLines (differ_line (ports_of r) d)) at.before
+      (at.next ∷ at.behind) all-differ)));
   left_is = at.left_is;
-  parts = stops.text_is ∙ ap (λ (t : List ℕ). system_line r ++ (outs-text ++ t)) at.text_is ∙ three-parts (system_line r) outs-text done at.rest;
+  parts = stops.text_is ∙ ap (λ (t : List ℕ). system_line r ++ (outs-text ++ t)) at.text_is
+      ∙ three-parts (system_line r) outs-text done at.rest;
   begun = inr record {
     report = r;
     is = stops.is;
     behind = next-text ++ (flat_map (differ_line (ports_of r)) at.behind ++ []);
     text = sym (append-nil (system_text r)) ∙ system-parts r []
-        ∙ ap (λ (t : List ℕ). system_line r ++ (outs-text ++ t)) (ap (λ (ds : List Difference). flat_map (differ_line (ports_of r)) ds ++ []) at.differ_is
+        ∙ ap (λ (t : List ℕ). system_line r ++ (outs-text ++ t))
+        (ap (λ (ds : List Difference). flat_map (differ_line (ports_of r)) ds ++ []) at.differ_is
         ∙ joined-differs (ports_of r) at.before at.behind at.next [])
         ∙ three-parts (system_line r) outs-text done (next-text ++ (flat_map (differ_line (ports_of r)) at.behind ++ []));
   };
   refuse = λ y z s follows own e. refused y z s follows own (three-parts (system_line r) outs-text done y ∙ e);
-  not_last = λ y n fits follows e. absurd (no-line n [] ((outs-text ++ done) ++ y) r (append-nil (last_line n) ∙ sym e ∙ append_assoc (system_line r) (outs-text ++ done) y));
+  not_last =
+      λ y n fits follows e.
+      absurd (no-line n [] ((outs-text ++ done) ++ y) r (append-nil (last_line n) ∙ sym e
+      ∙ append_assoc (system_line r) (outs-text ++ done) y));
 }
   where
     r : PlainReport
@@ -339,15 +380,20 @@ in-differences text left stops = record {
 
     next-whole : IsWholeLine next-text
     next-whole = (last-part (λ (d : Difference). IsWholeLine (differ_line (ports_of r) d)) at.before (at.next ∷ at.behind)
-        (subst (AllByRecursion (λ (d : Difference). IsWholeLine (differ_line (ports_of r) d))) at.differ_is (report-differ-lines r stops.is))).0
+        (subst (AllByRecursion (λ (d : Difference). IsWholeLine (differ_line (ports_of r) d))) at.differ_is
+        (report-differ-lines r stops.is))).0
 
-    refused : (y z : List ℕ) (s : PlainReport) → Follows at.rest y → IsSystemReport s → system_line r ++ (outs-text ++ (done ++ y)) ≡ system_text s ++ z → ⊥
+    refused : (y z : List ℕ) (s : PlainReport) → Follows at.rest y → IsSystemReport s →
+        system_line r ++ (outs-text ++ (done ++ y)) ≡ system_text s ++ z → ⊥
     refused y z s follows own e =
         let same = same-start r s (done ++ y) (differ_lines s ++ z) stops.is own (e ∙ system-parts s z) in
         let text-is : done ++ y ≡ done ++ (next-text ++ (flat_map (differ_line (ports_of r)) at.behind ++ z)) =
         same.1 ∙ ap (λ (t : PlainReport). differ_lines t ++ z) (sym same.0)
-        ∙ ap (λ (ds : List Difference). flat_map (differ_line (ports_of r)) ds ++ z) at.differ_is ∙ joined-differs (ports_of r) at.before at.behind at.next z in
-        let first = follows next-text (flat_map (differ_line (ports_of r)) at.behind ++ z) next-whole (append_cancel_left done _ _ text-is) in
+        ∙ ap (λ (ds : List Difference). flat_map (differ_line (ports_of r)) ds ++ z) at.differ_is
+        ∙ joined-differs (ports_of r) at.before at.behind at.next z in
+        let first =
+        follows next-text (flat_map (differ_line (ports_of r)) at.behind ++ z) next-whole
+        (append_cancel_left done _ _ text-is) in
         at.none first.0 first.1
 
 system-stop : (text : List ℕ) (left : ℕ) → StopsInSystem text left → SystemStop text left
@@ -364,12 +410,21 @@ Goes rs ss x m = ((ss ≡ rs) × (x ≡ last_line m)) ⊎ ((s : PlainReport) × 
 goes : (rs ss : List PlainReport) (x : List ℕ) (m : ℕ) → AllByRecursion IsSystemReport rs → AllByRecursion IsSystemReport ss →
     flat_map system_text rs ++ x ≡ flat_map system_text ss ++ last_line m → Goes rs ss x m
 goes [] [] x m a b e = inl (refl, e)
-goes [] (s ∷ ss) x m a b e = inr (s, flat_map system_text ss ++ last_line m, b.0, e ∙ append_assoc (system_text s) (flat_map system_text ss) (last_line m))
+goes [] (s ∷ ss) x m a b e =
+    inr (
+      s,
+      flat_map system_text ss ++ last_line m,
+      b.0,
+      e
+          ∙ append_assoc (system_text s) (flat_map system_text ss) (last_line m),
+    )
 goes (r ∷ rs) [] x m a b e =
-    absurd (no-system m [] (flat_map system_text rs ++ x) r (append-nil (last_line m) ∙ sym e ∙ append_assoc (system_text r) (flat_map system_text rs) x))
+    absurd (no-system m [] (flat_map system_text rs ++ x) r (append-nil (last_line m) ∙ sym e
+    ∙ append_assoc (system_text r) (flat_map system_text rs) x))
 goes (r ∷ rs) (s ∷ ss) x m a b e =
     let one = same-system r s (flat_map system_text rs ++ x) (flat_map system_text ss ++ last_line m) a.0 b.0
-    (sym (append_assoc (system_text r) (flat_map system_text rs) x) ∙ e ∙ append_assoc (system_text s) (flat_map system_text ss) (last_line m)) in
+    (sym (append_assoc (system_text r) (flat_map system_text rs) x) ∙ e
+    ∙ append_assoc (system_text s) (flat_map system_text ss) (last_line m)) in
     elim (goes rs ss x m a.1 b.1 one.1) [
       | inl same ↦ inl (ap₂ (λ (k : PlainReport) (ks : List PlainReport). k ∷ ks) (sym one.0) same.0, same.1)
       | inr more ↦ inr more
@@ -400,13 +455,15 @@ follows-line rest line more m whole e l z w f =
 joined-one : (rs : List PlainReport) (r : PlainReport) → flat_map system_text (rs ++ r ∷ []) ≡ flat_map system_text rs ++ system_text r
 joined-one rs r = flat_map-append system_text rs (r ∷ []) ∙ ap (λ (t : List ℕ). flat_map system_text rs ++ t) (append-nil (system_text r))
 
-all-one : (rs : List PlainReport) (r : PlainReport) → AllByRecursion IsSystemReport rs → IsSystemReport r → AllByRecursion IsSystemReport (rs ++ r ∷ [])
+all-one : (rs : List PlainReport) (r : PlainReport) → AllByRecursion IsSystemReport rs → IsSystemReport r →
+    AllByRecursion IsSystemReport (rs ++ r ∷ [])
 all-one [] r a own = (own, tt)
 all-one (s ∷ rs) r a own = (a.0, all-one rs r a.1 own)
 
 -- the general case: what was read can begin, and no text of reports goes on as the rest does
 module _ (bytes read rest : List ℕ) (left : ℕ) (lines : AreLines read) (parts : bytes ≡ read ++ rest) (left_is : left ≡ length rest)
-    (begins : CanBegin read) (refuse : (y : List ℕ) (ss : List PlainReport) → Follows rest y → (y ≡ [] → rest ≡ []) → AllByRecursion IsSystemReport ss → read ++ y ≡ report_text ss → ⊥) where
+    (begins : CanBegin read) (refuse : (y : List ℕ) (ss : List PlainReport) → Follows rest y → (y ≡ [] → rest ≡ []) →
+    AllByRecursion IsSystemReport ss → read ++ y ≡ report_text ss → ⊥) where
   stops-there : StopsIn bytes left
   stops-there = record {
     none = λ ss is. refuse rest ss (follows-own rest) (λ e. e) (each-one IsSystemReport ss is.each) (sym parts ∙ is.text);
@@ -419,10 +476,12 @@ module _ (bytes read rest : List ℕ) (left : ℕ) (lines : AreLines read) (part
     stops = λ line more whole e begin.
         refuse (line ++ begin.more) begin.reports (follows-line rest line more begin.more whole e)
         (λ f. absurd (not-empty-line line begin.more whole (sym f))) (each-one IsSystemReport begin.reports begin.text.each)
-        (ap (λ (t : List ℕ). t ++ (line ++ begin.more)) lines.is ∙ sym (append_assoc (joined lines.lines) line begin.more) ∙ begin.text.text);
+        (ap (λ (t : List ℕ). t ++ (line ++ begin.more)) lines.is
+        ∙ sym (append_assoc (joined lines.lines) line begin.more) ∙ begin.text.text);
   }
 
-pub stops-in-system : (bytes text : List ℕ) (left n : ℕ) (rs : List PlainReport) → All IsSystemReport rs → bytes ≡ flat_map system_text rs ++ text →
+pub stops-in-system : (bytes text : List ℕ) (left n : ℕ) (rs : List PlainReport) → All IsSystemReport rs →
+    bytes ≡ flat_map system_text rs ++ text →
     n ≡ length rs → n < 2 ^ 64 → NoneBegins text (last_line n) → StopsInSystem text left → StopsIn bytes left
 stops-in-system bytes text left n rs each before len fits no_last stops =
     stops-there bytes (done ++ at.read) at.rest left (more-lines done at.read (systems-lines rs own) at.lines)
@@ -452,14 +511,16 @@ stops-in-system bytes text left n rs each before len fits no_last stops =
       text = record {
         each = all-of IsSystemReport (rs ++ b.report ∷ []) (all-one rs b.report own b.is);
         text = whole-text done at.read b.behind (last_line (length (rs ++ b.report ∷ [])))
-            ∙ ap (λ (t : List ℕ). t ++ last_line (length (rs ++ b.report ∷ []))) (ap (λ (t : List ℕ). done ++ t) (sym b.text) ∙ sym (joined-one rs b.report));
+            ∙ ap (λ (t : List ℕ). t ++ last_line (length (rs ++ b.report ∷ [])))
+            (ap (λ (t : List ℕ). done ++ t) (sym b.text) ∙ sym (joined-one rs b.report));
       };
     }
       where
         whole-text : (a b c d : List ℕ) → a ++ b ++ (c ++ d) ≡ a ++ (b ++ c) ++ d
         whole-text a b c d = simp (append_assoc) refl
 
-    refused : (y : List ℕ) (ss : List PlainReport) → Follows at.rest y → (y ≡ [] → at.rest ≡ []) → AllByRecursion IsSystemReport ss → done ++ at.read ++ y ≡ report_text ss → ⊥
+    refused : (y : List ℕ) (ss : List PlainReport) → Follows at.rest y → (y ≡ [] → at.rest ≡ []) →
+        AllByRecursion IsSystemReport ss → done ++ at.read ++ y ≡ report_text ss → ⊥
     refused y ss follows empty all e = elim (goes rs ss (at.read ++ y) (length ss) own all (sym (append_assoc done at.read y) ∙ e)) [
       | inl same ↦
           let number : length ss ≡ n = ap (λ (t : List PlainReport). length t) same.0 ∙ sym len in
@@ -468,10 +529,12 @@ stops-in-system bytes text left n rs each before len fits no_last stops =
     ]
 
 -- behind the last line there is something
-pub stops-behind : (bytes text end : List ℕ) (n : ℕ) (rs : List PlainReport) → All IsSystemReport rs → bytes ≡ flat_map system_text rs ++ text →
+pub stops-behind : (bytes text end : List ℕ) (n : ℕ) (rs : List PlainReport) → All IsSystemReport rs →
+    bytes ≡ flat_map system_text rs ++ text →
     n ≡ length rs → n < 2 ^ 64 → text ≡ last_line n ++ end → (length end ≡ 0 → ⊥) → StopsIn bytes (length end)
 stops-behind bytes text end n rs each before len fits is some =
-    stops-there bytes (done ++ last_line n) end (length end) (more-lines done (last_line n) (systems-lines rs own) (one-line (last_line n) (whole-last n fits)))
+    stops-there bytes (done ++ last_line n) end (length end)
+    (more-lines done (last_line n) (systems-lines rs own) (one-line (last_line n) (whole-last n fits)))
     (before ∙ ap (λ (t : List ℕ). done ++ t) is ∙ sym (append_assoc done (last_line n) end)) refl begins refused
   where
     done : List ℕ
@@ -487,10 +550,14 @@ stops-behind bytes text end n rs each before len fits is some =
       text = record { each = each; text = append-nil (done ++ last_line n) ∙ ap (λ k. done ++ last_line k) len };
     }
 
-    refused : (y : List ℕ) (ss : List PlainReport) → Follows end y → (y ≡ [] → end ≡ []) → AllByRecursion IsSystemReport ss → done ++ last_line n ++ y ≡ report_text ss → ⊥
-    refused y ss follows empty all e = elim (goes rs ss (last_line n ++ y) (length ss) own all (sym (append_assoc done (last_line n) y) ∙ e)) [
-      | inl same ↦
-          let number : n ≡ length ss = len ∙ ap (λ (t : List PlainReport). length t) (sym same.0) in
-          some (ap (λ (t : List ℕ). length t) (empty (append_cancel_left (last_line n) y [] (same.1 ∙ ap last_line (sym number) ∙ sym (append-nil (last_line n))))))
-      | inr more ↦ no-system n y more.1 more.0 more.3
-    ]
+    refused : (y : List ℕ) (ss : List PlainReport) → Follows end y → (y ≡ [] → end ≡ []) →
+        AllByRecursion IsSystemReport ss → done ++ last_line n ++ y ≡ report_text ss → ⊥
+    refused y ss follows empty all e =
+        elim (goes rs ss (last_line n ++ y) (length ss) own all (sym (append_assoc done (last_line n) y) ∙ e)) [
+          | inl same ↦
+              let number : n ≡ length ss = len ∙ ap (λ (t : List PlainReport). length t) (sym same.0) in
+              some (ap (λ (t : List ℕ). length t)
+              (empty (append_cancel_left (last_line n) y [] (same.1 ∙ ap last_line (sym number)
+              ∙ sym (append-nil (last_line n))))))
+          | inr more ↦ no-system n y more.1 more.0 more.3
+        ]

@@ -101,7 +101,8 @@ kept-numbers mask [] = refl
 kept-numbers mask (k ∷ ks) = by (has_bit mask (k - 1)) (kept-numbers mask ks)
   where
     by : (t : Bool) → map Number (filter (λ k. has_bit mask (k - 1)) ks) ≡ ports_in mask (map Number ks) →
-        map Number (cond t (k ∷ filter (λ k. has_bit mask (k - 1)) ks) (filter (λ k. has_bit mask (k - 1)) ks)) ≡ cond t (Number k ∷ ports_in mask (map Number ks)) (ports_in mask (map Number ks))
+        map Number (cond t (k ∷ filter (λ k. has_bit mask (k - 1)) ks) (filter (λ k. has_bit mask (k - 1)) ks))
+        ≡ cond t (Number k ∷ ports_in mask (map Number ks)) (ports_in mask (map Number ks))
     by true e = ap (λ (ps : List Port). Number k ∷ ps) e
     by false e = e
 
@@ -122,15 +123,18 @@ bit-bound control mask bit = by (control && has_bit mask bit)
 
 pub set-bound : (h : Head) (mask : ℕ) → h.inputs ≤ 32 → IsSetOf (head_ports h) mask → mask < 2 ^ 34
 set-bound h mask few is =
-    let sums : mask ≡ mask % 2 ^ h.inputs + own_bit h.enabled mask 32 + own_bit h.triggered mask 33 = sym is ∙ ports_weight h.inputs h.enabled h.triggered mask in
+    let sums : mask ≡ mask % 2 ^ h.inputs + own_bit h.enabled mask 32 + own_bit h.triggered mask 33 =
+    sym is ∙ ports_weight h.inputs h.enabled h.triggered mask in
     let low : mask % 2 ^ h.inputs < 2 ^ h.inputs = mod-lt mask (pow_pos h.inputs) in
     let most = pow_mono few in
     let one = bit-bound h.enabled mask 32 in let two = bit-bound h.triggered mask 33 in
     omega (arith, sums, low, most, one, two)
 
-pub function_told : (h : Head) (ports : List Port) (j : ℕ) (text : List ℕ) (words : List (List ℕ)) (r : Option Function) → h.inputs ≤ 32 → h.outputs ≤ 32 → j < 2 ^ 64 →
+pub function_told : (h : Head) (ports : List Port) (j : ℕ) (text : List ℕ) (words : List (List ℕ))
+    (r : Option Function) → h.inputs ≤ 32 → h.outputs ≤ 32 → j < 2 ^ 64 →
     ports ≡ head_ports h → words ≡ words-of text →
-    ((needs outputs : List Port) (first second third : List ℕ) → All IsPlaced needs → All IsPlaced outputs → ports_mask needs < 2 ^ 64 → ports_mask outputs < 2 ^ 32 →
+    ((needs outputs : List Port) (first second third : List ℕ) → All IsPlaced needs → All IsPlaced outputs →
+    ports_mask needs < 2 ^ 64 → ports_mask outputs < 2 ^ 32 →
     words ≡ first ∷ second ∷ third ∷ lists_words needs outputs → r ≡ Some (told_function needs outputs)) →
     (f : Function) (more : List ℕ) → IsFunctionOf ports h.outputs f → text ≡ out_line ports h.outputs j f ++ more → r ≡ Some f
 function_told h ports j text words r few few' fits are split told f more is e =
@@ -139,13 +143,17 @@ function_told h ports j text words r few few' fits are split told f more is e =
     (subst (AllByRecursion IsPlaced) (sym are) (placed-ports h few))) within)
     (λ k d within. at-each IsPlaced (map Number (numbers_in f.outputs h.outputs)) k d
     (subst (AllByRecursion IsPlaced) (sym (kept-numbers f.outputs (range_with_len 1 h.outputs)))
-    (kept-are IsPlaced (λ p. has_bit f.outputs (bit_of p)) (map Number (range_with_len 1 h.outputs)) (placed-range 1 h.outputs (omega arith) (omega (arith, few'))))) within)
-    (let same = is.takes in let small = set-bound h f.inputs few (subst (λ (ps : List Port). IsSetOf ps f.inputs) are is.takes) in omega (arith, same, small))
+    (kept-are IsPlaced (λ p. has_bit f.outputs (bit_of p)) (map Number (range_with_len 1 h.outputs))
+    (placed-range 1 h.outputs (omega arith) (omega (arith, few'))))) within)
+    (let same = is.takes in
+    let small = set-bound h f.inputs few (subst (λ (ps : List Port). IsSetOf ps f.inputs) are is.takes) in
+    omega (arith, same, small))
     (let same = mask-of-numbers f.outputs h.outputs is.gives in bound few' same is.gives)
     (split ∙ first_words (codes "out") (out_words ports h.outputs j f) text more (word (codes "out") refl)
     (words-out ports h.outputs j f (subst (AllByRecursion IsSmall) (sym are) (small-head h few)) few' fits)
     (e ∙ out-line-words ports h.outputs j f more)
-    ∙ ap (λ (ws : List (List ℕ)). codes "out" ∷ decimal j ∷ codes "needs" ∷ list_words (map port_word (ports_in f.inputs ports)) ++ codes "outputs" ∷ list_words ws)
+    ∙ ap (λ (ws : List (List ℕ)). codes "out" ∷ decimal j ∷ codes "needs"
+    ∷ list_words (map port_word (ports_in f.inputs ports)) ++ codes "outputs" ∷ list_words ws)
     (numbers-words (numbers_in f.outputs h.outputs)))
     ∙ ap Some (λ i. record { inputs = is.takes i; outputs = mask-of-numbers f.outputs h.outputs is.gives i })
   where

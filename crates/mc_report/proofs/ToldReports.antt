@@ -24,7 +24,8 @@ told_report h controls functions certificate = record {
 }
 
 pub told-head : (h : Head) (controls : List Port) (functions : List Function) (certificate : PlainCertificate) →
-    controls ≡ controls_with h.enabled h.triggered → length functions ≡ h.functions → IsHeadOf (told_report h controls functions certificate) h
+    controls ≡ controls_with h.enabled h.triggered → length functions ≡ h.functions →
+    IsHeadOf (told_report h controls functions certificate) h
 told-head h controls functions certificate are number = record {
   row = refl;
   inputs = refl;
@@ -35,10 +36,13 @@ told-head h controls functions certificate are number = record {
 
 pub stops-functions : (h : Head) (text more : List ℕ) (left : ℕ) → HasRow h.row → IsPossible h → text ≡ head_text h ++ more →
     StopsAtFunction h more left → StopsInFunctions text left
-stops-functions h text more left row possible e stops = record { head = h; row = row; possible = possible; more = more; text_is = e; stops = stops }
+stops-functions h text more left row possible e stops =
+    record { head = h; row = row; possible = possible; more = more; text_is = e; stops = stops }
 
-pub stops-differences : (r : PlainReport) (h : Head) → IsHeadOf r h → IsSystemReport r → (ports : List Port) (fs : List Function) (ds : List Difference)
-    (text rest more : List ℕ) (left : ℕ) → ports ≡ head_ports h → fs ≡ r.profile.functions → ds ≡ r.certificate.differ → text ≡ head_text h ++ rest →
+pub stops-differences : (r : PlainReport) (h : Head) → IsHeadOf r h → IsSystemReport r →
+    (ports : List Port) (fs : List Function) (ds : List Difference)
+    (text rest more : List ℕ) (left : ℕ) → ports ≡ head_ports h → fs ≡ r.profile.functions → ds ≡ r.certificate.differ →
+    text ≡ head_text h ++ rest →
     rest ≡ out_lines ports h.outputs 1 fs ++ more → StopsAtDifference ports ds more left → StopsInDifferences text left
 stops-differences r h is own ports fs ds text rest more left are fs-are ds-are e f stops = record {
   report = r;

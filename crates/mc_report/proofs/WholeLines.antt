@@ -33,12 +33,15 @@ whole-words : (line first : List ℕ) (words : List (List ℕ)) → IsWord first
 whole-words line first words f a e = whole-line line (first ++ spaced words) (plain-words first words f a) (sym (append-nil line) ∙ e)
 
 pub whole-head : (r : PlainReport) → IsHead r → IsWholeLine (system_line r)
-whole-head r h = whole-words (system_line r) (codes "system") (system_words r) (word (codes "system") refl) (words-system r h) (system-line-words r [])
+whole-head r h =
+    whole-words (system_line r) (codes "system") (system_words r) (word (codes "system") refl) (words-system r h)
+    (system-line-words r [])
 
 pub whole-out : (ports : List Port) (outputs j : ℕ) (f : Function) → AllByRecursion IsSmall ports → outputs ≤ 32 → j < 2 ^ 64 →
     IsWholeLine (out_line ports outputs j f)
 whole-out ports outputs j f small few fits =
-    whole-words (out_line ports outputs j f) (codes "out") (out_words ports outputs j f) (word (codes "out") refl) (words-out ports outputs j f small few fits)
+    whole-words (out_line ports outputs j f) (codes "out") (out_words ports outputs j f) (word (codes "out") refl)
+    (words-out ports outputs j f small few fits)
     (out-line-words ports outputs j f [])
 
 above-end : List ℕ → Bool
@@ -70,15 +73,19 @@ words-ports : (ps : List Port) → AllByRecursion IsSmall ps → AreWords (map p
 words-ports [] a = tt
 words-ports (p ∷ ps) a = (word-port p a.0, words-ports ps a.1)
 
-pub whole-differ : (ports : List Port) (d : Difference) → AllByRecursion IsSmall ports → d.first < 2 ^ 32 → d.second < 2 ^ 32 → IsWholeLine (differ_line ports d)
+pub whole-differ : (ports : List Port) (d : Difference) → AllByRecursion IsSmall ports → d.first < 2 ^ 32 →
+    d.second < 2 ^ 32 → IsWholeLine (differ_line ports d)
 unfolding above-end
 whole-differ ports d small low high = whole-line (differ_line ports d)
-    (codes "differ " ++ decimal (d.first + 1) ++ codes " " ++ decimal (d.second + 1) ++ codes " by" ++ spaced (map port_word (ports_at d.bit ports)))
-    (plain-append (codes "differ " ++ decimal (d.first + 1) ++ codes " " ++ decimal (d.second + 1) ++ codes " by") (spaced (map port_word (ports_at d.bit ports)))
+    (codes "differ " ++ decimal (d.first + 1) ++ codes " " ++ decimal (d.second + 1) ++ codes " by"
+    ++ spaced (map port_word (ports_at d.bit ports)))
+    (plain-append (codes "differ " ++ decimal (d.first + 1) ++ codes " " ++ decimal (d.second + 1) ++ codes " by")
+    (spaced (map port_word (ports_at d.bit ports)))
     (plain-append (codes "differ " ++ decimal (d.first + 1) ++ codes " " ++ decimal (d.second + 1)) (codes " by")
     (plain-append (codes "differ " ++ decimal (d.first + 1) ++ codes " ") (decimal (d.second + 1))
     (plain-append (codes "differ " ++ decimal (d.first + 1)) (codes " ")
-    (plain-append (codes "differ ") (decimal (d.first + 1)) (plain-text (codes "differ ") refl) (plain-decimal (d.first + 1) (omega (arith, low))))
+    (plain-append (codes "differ ") (decimal (d.first + 1)) (plain-text (codes "differ ") refl)
+    (plain-decimal (d.first + 1) (omega (arith, low))))
     (plain-text (codes " ") refl))
     (plain-decimal (d.second + 1) (omega (arith, high))))
     (plain-text (codes " by") refl))
@@ -95,7 +102,8 @@ abbrev rest-of : List ℕ → List ℕ
 rest-of [] = []
 rest-of (x ∷ xs) = xs
 
-cut-lines : (a b x y : List ℕ) → AllByRecursion (λ c. c ≡ 10 → ⊥) a → AllByRecursion (λ c. c ≡ 10 → ⊥) b → a ++ 10 ∷ x ≡ b ++ 10 ∷ y → (a ≡ b) × (x ≡ y)
+cut-lines : (a b x y : List ℕ) → AllByRecursion (λ c. c ≡ 10 → ⊥) a → AllByRecursion (λ c. c ≡ 10 → ⊥) b →
+    a ++ 10 ∷ x ≡ b ++ 10 ∷ y → (a ≡ b) × (x ≡ y)
 cut-lines [] [] x y p q e = (refl, ap rest-of e)
 cut-lines [] (c ∷ b) x y p q e = absurd (q.0 (sym (ap (first-or 0) e)))
 cut-lines (c ∷ a) [] x y p q e = absurd (p.0 (ap (first-or 0) e))
@@ -106,7 +114,8 @@ cut-lines (c ∷ a) (d ∷ b) x y p q e =
 pub same-lines : (a b x y : List ℕ) → IsWholeLine a → IsWholeLine b → a ++ x ≡ b ++ y → (a ≡ b) × (x ≡ y)
 same-lines a b x y p q e =
     let both = cut-lines p.bytes q.bytes x y (each-one (λ c. c ≡ 10 → ⊥) p.bytes p.plain) (each-one (λ c. c ≡ 10 → ⊥) q.bytes q.plain)
-    (sym (append_assoc p.bytes (10 ∷ []) x) ∙ ap (λ (t : List ℕ). t ++ x) (sym p.ended) ∙ e ∙ ap (λ (t : List ℕ). t ++ y) q.ended ∙ append_assoc q.bytes (10 ∷ []) y) in
+    (sym (append_assoc p.bytes (10 ∷ []) x) ∙ ap (λ (t : List ℕ). t ++ x) (sym p.ended) ∙ e
+    ∙ ap (λ (t : List ℕ). t ++ y) q.ended ∙ append_assoc q.bytes (10 ∷ []) y) in
     (p.ended ∙ ap (λ (t : List ℕ). t ++ 10 ∷ []) both.0 ∙ sym q.ended, both.1)
 
 pub not-empty-line : (line more : List ℕ) → IsWholeLine line → [] ≡ line ++ more → ⊥
@@ -133,7 +142,8 @@ pub joined-append : (ls ms : List (List ℕ)) → joined (ls ++ ms) ≡ joined l
 joined-append [] ms = refl
 joined-append (l ∷ ls) ms = ap (λ (t : List ℕ). l ++ t) (joined-append ls ms) ∙ sym (append_assoc l (joined ls) (joined ms))
 
-whole-append : (ls ms : List (List ℕ)) → AllByRecursion IsWholeLine ls → AllByRecursion IsWholeLine ms → AllByRecursion IsWholeLine (ls ++ ms)
+whole-append : (ls ms : List (List ℕ)) → AllByRecursion IsWholeLine ls → AllByRecursion IsWholeLine ms →
+    AllByRecursion IsWholeLine (ls ++ ms)
 whole-append [] ms p q = q
 whole-append (l ∷ ls) ms p q = (p.0, whole-append ls ms p.1 q)
 
@@ -148,7 +158,8 @@ pub lines-each : {X : Type 0} (line : X → List ℕ) (xs : List X) → AllByRec
 lines-each line [] a = no-lines
 lines-each line (x ∷ xs) a = more-lines (line x) (flat_map line xs) a.0 (lines-each line xs a.1)
 
-pub out-lines-whole : (ports : List Port) (outputs j : ℕ) (fs : List Function) → AllByRecursion IsSmall ports → outputs ≤ 32 → j + length fs < 2 ^ 64 →
+pub out-lines-whole : (ports : List Port) (outputs j : ℕ) (fs : List Function) → AllByRecursion IsSmall ports →
+    outputs ≤ 32 → j + length fs < 2 ^ 64 →
     AreLines (out_lines ports outputs j fs)
 out-lines-whole ports outputs j [] small few fits = no-lines
 out-lines-whole ports outputs j (f ∷ fs) small few fits =

@@ -28,10 +28,14 @@ has_word-more [] word = refl
 has_word-more (w ∷ words) word = refl
 
 -- a list that is told to be empty where it is
-pub listed : (words : List (List ℕ)) (any : Bool) (old now next : List ℕ) → any ≡ has_word words → now ≡ old ++ spaced words → next ≡ now ++ cond any [] (codes " none") →
+pub listed : (words : List (List ℕ)) (any : Bool) (old now next : List ℕ) → any ≡ has_word words →
+    now ≡ old ++ spaced words → next ≡ now ++ cond any [] (codes " none") →
     next ≡ old ++ spaced (list_words words)
-listed [] any old now next told before is = is ∙ ap₂ (λ (bytes : List ℕ) (t : Bool). bytes ++ cond t [] (codes " none")) (before ∙ append-nil old) told
-listed (word ∷ words) any old now next told before is = is ∙ ap₂ (λ (bytes : List ℕ) (t : Bool). bytes ++ cond t [] (codes " none")) before told ∙ append-nil (old ++ spaced (word ∷ words))
+listed [] any old now next told before is =
+    is ∙ ap₂ (λ (bytes : List ℕ) (t : Bool). bytes ++ cond t [] (codes " none")) (before ∙ append-nil old) told
+listed (word ∷ words) any old now next told before is =
+    is ∙ ap₂ (λ (bytes : List ℕ) (t : Bool). bytes ++ cond t [] (codes " none")) before told
+    ∙ append-nil (old ++ spaced (word ∷ words))
 
 -- ---- The words of the members that pass a test
 

@@ -34,7 +34,8 @@ pub record AreAllFunctions (outputs count : ℕ) (functions : List Function) : T
   pub number : length functions ≡ count
   pub all : functions_for (needs_of outputs functions) ≡ functions
 
--- further functions follow these, one or more for the outputs that are open, and each for one of them at least
+-- further functions follow these, one or more for the outputs that are open, and each for one of
+-- them at least
 pub record AreFirstFunctions (outputs count : ℕ) (functions : List Function) : Type 0 where
   pub some_open : 0 < open_outputs outputs functions
   pub more : length functions < count
@@ -43,7 +44,8 @@ pub record AreFirstFunctions (outputs count : ℕ) (functions : List Function) :
 
 -- so many functions for so many outputs can begin so
 abbrev pub CanComeFirst : ℕ → ℕ → List Function → Type 0
-CanComeFirst outputs count functions = AreAllFunctions outputs count functions ⊎ AreFirstFunctions outputs count functions
+CanComeFirst outputs count functions =
+    AreAllFunctions outputs count functions ⊎ AreFirstFunctions outputs count functions
 
 -- the controls of a system with an enable, with a trigger, with both, or with none
 abbrev pub controls_with : Bool → Bool → List Port

@@ -18,7 +18,8 @@ IsPlaced p = bit_of p < 34
 -- the words of the line of a system
 abbrev pub head_words : Head → List (List ℕ)
 head_words h =
-    codes "system" ∷ system_name h.row ∷ codes "inputs" ∷ decimal h.inputs ∷ codes "outputs" ∷ decimal h.outputs ∷ codes "functions" ∷ decimal h.functions
+    codes "system" ∷ system_name h.row ∷ codes "inputs" ∷ decimal h.inputs ∷ codes "outputs"
+    ∷ decimal h.outputs ∷ codes "functions" ∷ decimal h.functions
     ∷ control_words (controls_with h.enabled h.triggered)
 
 -- the words of two lists of ports

@@ -22,7 +22,8 @@ head_ports h = ports_with h.inputs (controls_with h.enabled h.triggered)
 abbrev pub own_bit : Bool → ℕ → ℕ → ℕ
 own_bit control mask bit = if control && has_bit mask bit then 2 ^ bit else 0
 
--- the system of a line has few inputs and outputs, and has functions that differ in their inputs and part its outputs
+-- the system of a line has few inputs and outputs, and has functions that differ in their inputs
+-- and part its outputs
 pub record IsPossible (h : Head) : Type 0 where
   pub inputs : h.inputs ≤ 32
   pub outputs : h.outputs ≤ 32

@@ -21,7 +21,8 @@ pub record IsTextOf (bytes : List ℕ) (reports : List PlainReport) : Type 0 whe
 
 -- the text of reports tells them: no other reports have it
 abbrev pub ReportsAreOne : Type 0
-ReportsAreOne = (bytes : List ℕ) (reports others : List PlainReport) → IsTextOf bytes reports → IsTextOf bytes others → reports ≡ others
+ReportsAreOne = (bytes : List ℕ) (reports others : List PlainReport) → IsTextOf bytes reports →
+    IsTextOf bytes others → reports ≡ others
 
 -- a line with its end, which is its only byte 10
 pub record IsWholeLine (line : List ℕ) : Type 0 where
@@ -43,8 +44,8 @@ joined lines = flat_map (λ line. line) lines
 abbrev pub greatest_line : ℕ
 greatest_line = 2 ^ 32 - 1
 
--- The bytes are the text of no reports. Some text of reports begins with their first lines, and the line with this
--- number isn't there, lacks its end or can't follow those.
+-- The bytes are the text of no reports. Some text of reports begins with their first lines, and the
+-- line with this number isn't there, lacks its end or can't follow those.
 pub record IsFormFault (bytes : List ℕ) (number : ℕ) : Type 0 where
   pub none : (reports : List PlainReport) → IsTextOf bytes reports → ⊥
   pub lines : List (List ℕ)
@@ -53,4 +54,5 @@ pub record IsFormFault (bytes : List ℕ) (number : ℕ) : Type 0 where
   pub parts : bytes ≡ joined lines ++ rest
   pub before : CanBegin (joined lines)
   pub number_is : number ≡ min (suc (length lines)) greatest_line
-  pub stops : (line more : List ℕ) → IsWholeLine line → rest ≡ line ++ more → CanBegin (joined lines ++ line) → ⊥
+  pub stops : (line more : List ℕ) → IsWholeLine line → rest ≡ line ++ more →
+      CanBegin (joined lines ++ line) → ⊥

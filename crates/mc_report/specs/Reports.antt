@@ -35,9 +35,9 @@ IsSetOf ports mask = ports_mask (ports_in mask ports) ≡ mask
 abbrev pub AreInputs : PlainReport → ℕ → Type 0
 AreInputs r mask = IsSetOf (ports_of r) mask
 
--- A report that is right for some needs of its outputs: its functions are those for them, which part the outputs and
--- stand by the least output of each, and its certificate has the least output of each function and, for each two of
--- them, the least bit that lies in just one of their needs.
+-- A report that is right for some needs of its outputs: its functions are those for them, which
+-- part the outputs and stand by the least output of each, and its certificate has the least output
+-- of each function and, for each two of them, the least bit that lies in just one of their needs.
 pub record IsReport (r : PlainReport) : Type 0 where
   pub inputs : r.inputs ≤ 32
   pub controls : AreControls r.controls
@@ -63,14 +63,16 @@ pub record IsReportOn (d : Diagram) (s : Option ℕ) (r : PlainReport) : Type 0 
   pub functions : r.profile.functions ≡ functions_for needs
   pub certificate : IsCertificateFor needs r.certificate
 
--- the text of the reports on all systems of a diagram: the root, and then the subsystem rows in order
+-- the text of the reports on all systems of a diagram: the root, and then the subsystem rows in
+-- order
 pub record IsReportText (d : Diagram) (text : List ℕ) : Type 0 where
   pub reports : List PlainReport
   pub each : AllZip (IsReportOn d) (systems d.rows) reports
   pub is : text ≡ report_text reports
 
--- Where the Inports of a system have its ports and so do its Outports, the report on it is right for what its outputs
--- need.
+-- Where the Inports of a system have its ports and so do its Outports, the report on it is right
+-- for what its outputs need.
 abbrev pub ReportsOnAreRight : Type 0
 ReportsOnAreRight =
-    (d : Diagram) (s : Option ℕ) (r : PlainReport) → HasPorts d.rows is_inport s → HasPorts d.rows is_outport s → IsReportOn d s r → IsReport r
+    (d : Diagram) (s : Option ℕ) (r : PlainReport) → HasPorts d.rows is_inport s →
+    HasPorts d.rows is_outport s → IsReportOn d s r → IsReport r

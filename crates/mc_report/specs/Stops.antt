@@ -40,12 +40,14 @@ pub record IsFunctionOf (ports : List Port) (outputs : ℕ) (f : Function) : Typ
 
 -- the line of no such function stands here
 abbrev pub NoFunction : List Port → ℕ → ℕ → List ℕ → Type 0
-NoFunction ports outputs j text = (f : Function) → IsFunctionOf ports outputs f → NoneBegins text (out_line ports outputs j f)
+NoFunction ports outputs j text =
+    (f : Function) → IsFunctionOf ports outputs f → NoneBegins text (out_line ports outputs j f)
 
 -- the line of no other function stands here
 abbrev pub IsOnlyFunction : List Port → ℕ → ℕ → List ℕ → Function → Type 0
 IsOnlyFunction ports outputs j text g =
-    (f : Function) (more : List ℕ) → IsFunctionOf ports outputs f → text ≡ out_line ports outputs j f ++ more → g ≡ f
+    (f : Function) (more : List ℕ) → IsFunctionOf ports outputs f →
+    text ≡ out_line ports outputs j f ++ more → g ≡ f
 
 -- the line at which the text begins is that of no system
 abbrev pub StopsAtHead : List ℕ → ℕ → Type 0
@@ -55,7 +57,8 @@ StopsAtHead text left = NoHead text × (left ≡ length text)
 abbrev pub StopsAtLine : List Port → ℕ → ℕ → List ℕ → ℕ → Type 0
 StopsAtLine ports outputs j text left = NoFunction ports outputs j text × (left ≡ length text)
 
--- Some functions of a system are read, and then, with so many bytes left, comes the line of none that can follow them.
+-- Some functions of a system are read, and then, with so many bytes left, comes the line of none
+-- that can follow them.
 pub record StopsAtFunction (h : Head) (text : List ℕ) (left : ℕ) : Type 0 where
   pub functions : List Function
   pub rest : List ℕ
@@ -64,11 +67,14 @@ pub record StopsAtFunction (h : Head) (text : List ℕ) (left : ℕ) : Type 0 wh
   pub sets : All (λ (f : Function). IsSetOf (head_ports h) f.inputs) functions
   pub first : CanComeFirst h.outputs h.functions functions
   pub fewer : length functions < h.functions
-  pub none : (f : Function) → IsFunctionOf (head_ports h) h.outputs f → CanComeFirst h.outputs h.functions (functions ++ f ∷ []) →
+  pub none : (f : Function) → IsFunctionOf (head_ports h) h.outputs f →
+      CanComeFirst h.outputs h.functions (functions ++ f ∷ []) →
       NoneBegins rest (out_line (head_ports h) h.outputs (length functions + 1) f)
 
--- The lines of some differences are read, and then, with so many bytes left, comes another than that of the next.
-pub record StopsAtDifference (ports : List Port) (differ : List Difference) (text : List ℕ) (left : ℕ) : Type 0 where
+-- The lines of some differences are read, and then, with so many bytes left, comes another than
+-- that of the next.
+pub record StopsAtDifference (ports : List Port) (differ : List Difference) (text : List ℕ)
+    (left : ℕ) : Type 0 where
   pub before : List Difference
   pub next : Difference
   pub behind : List Difference
@@ -92,15 +98,18 @@ pub record StopsInDifferences (text : List ℕ) (left : ℕ) : Type 0 where
   pub report : PlainReport
   pub is : IsSystemReport report
   pub more : List ℕ
-  pub text_is : text ≡ system_line report ++ (out_lines (ports_of report) report.outputs 1 report.profile.functions ++ more)
+  pub text_is : text
+      ≡ system_line report ++ (out_lines (ports_of report) report.outputs 1 report.profile.functions
+      ++ more)
   pub stops : StopsAtDifference (ports_of report) report.certificate.differ more left
 
 -- not all lines of a system are read
 abbrev pub StopsInSystem : List ℕ → ℕ → Type 0
-StopsInSystem text left = StopsAtHead text left ⊎ (StopsInFunctions text left ⊎ StopsInDifferences text left)
+StopsInSystem text left =
+    StopsAtHead text left ⊎ (StopsInFunctions text left ⊎ StopsInDifferences text left)
 
--- The bytes are the text of no reports. Some text of reports begins with their first lines, and the line at which so
--- many bytes are left isn't there, lacks its end or can't follow those.
+-- The bytes are the text of no reports. Some text of reports begins with their first lines, and the
+-- line at which so many bytes are left isn't there, lacks its end or can't follow those.
 pub record StopsIn (bytes : List ℕ) (left : ℕ) : Type 0 where
   pub none : (reports : List PlainReport) → IsTextOf bytes reports → ⊥
   pub lines : List (List ℕ)
@@ -109,11 +118,14 @@ pub record StopsIn (bytes : List ℕ) (left : ℕ) : Type 0 where
   pub parts : bytes ≡ joined lines ++ rest
   pub left_is : left ≡ length rest
   pub before : CanBegin (joined lines)
-  pub stops : (line more : List ℕ) → IsWholeLine line → rest ≡ line ++ more → CanBegin (joined lines ++ line) → ⊥
+  pub stops : (line more : List ℕ) → IsWholeLine line → rest ≡ line ++ more →
+      CanBegin (joined lines ++ line) → ⊥
 
--- Where systems are read, and what stands behind them is neither the last line nor can be read as a system, there the
--- text is one of no reports.
+-- Where systems are read, and what stands behind them is neither the last line nor can be read as a
+-- system, there the text is one of no reports.
 abbrev pub StopsAreFaults : Type 0
 StopsAreFaults =
-    (bytes text : List ℕ) (left : ℕ) (reports : List PlainReport) → All IsSystemReport reports → bytes ≡ flat_map system_text reports ++ text →
-    length reports < 2 ^ 64 → NoneBegins text (last_line (length reports)) → StopsInSystem text left → StopsIn bytes left
+    (bytes text : List ℕ) (left : ℕ) (reports : List PlainReport) → All IsSystemReport reports →
+    bytes ≡ flat_map system_text reports ++ text →
+    length reports < 2 ^ 64 → NoneBegins text (last_line (length reports)) →
+    StopsInSystem text left → StopsIn bytes left

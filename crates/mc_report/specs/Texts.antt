@@ -31,7 +31,9 @@ abbrev pub ports_text : List Port → ℕ → List ℕ
 ports_text ports mask = spaced (list_words (map port_word (ports_in mask ports)))
 
 abbrev pub outputs_text : ℕ → ℕ → List ℕ
-outputs_text outputs mask = spaced (list_words (map decimal (filter (λ k. has_bit mask (k - 1)) (range_with_len 1 outputs))))
+outputs_text outputs mask =
+    spaced (list_words
+    (map decimal (filter (λ k. has_bit mask (k - 1)) (range_with_len 1 outputs))))
 
 -- `control` and the controls, where there are any
 abbrev pub control_words : List Port → List (List ℕ)
@@ -41,12 +43,14 @@ control_words (control ∷ controls) = codes "control" ∷ port_word control ∷
 -- `inputs I outputs O functions F`
 unfoldable pub counts_text : ℕ → ℕ → ℕ → List ℕ
 counts_text inputs outputs functions =
-    codes " inputs " ++ decimal inputs ++ codes " outputs " ++ decimal outputs ++ codes " functions " ++ decimal functions
+    codes " inputs " ++ decimal inputs ++ codes " outputs " ++ decimal outputs
+    ++ codes " functions " ++ decimal functions
 
 -- the line of a system: its name and its counts, and its controls
 abbrev pub head_line : Option ℕ → ℕ → ℕ → ℕ → List Port → List ℕ
 head_line row inputs outputs functions controls =
-    codes "system " ++ system_name row ++ counts_text inputs outputs functions ++ spaced (control_words controls) ++ codes "\n"
+    codes "system " ++ system_name row ++ counts_text inputs outputs functions
+    ++ spaced (control_words controls) ++ codes "\n"
 
 abbrev pub system_line : PlainReport → List ℕ
 system_line r = head_line r.row r.inputs r.outputs (length r.profile.functions) r.controls
@@ -54,11 +58,13 @@ system_line r = head_line r.row r.inputs r.outputs (length r.profile.functions) 
 -- `out J needs LIST outputs LIST`
 abbrev pub out_line : List Port → ℕ → ℕ → Function → List ℕ
 out_line ports outputs j f =
-    codes "out " ++ decimal j ++ codes " needs" ++ ports_text ports f.inputs ++ codes " outputs" ++ outputs_text outputs f.outputs ++ codes "\n"
+    codes "out " ++ decimal j ++ codes " needs" ++ ports_text ports f.inputs ++ codes " outputs"
+    ++ outputs_text outputs f.outputs ++ codes "\n"
 
 -- the lines of functions from one with a number on
 abbrev pub out_lines : List Port → ℕ → ℕ → List Function → List ℕ
-out_lines ports outputs j functions = flat_map (λ (f : ℕ × Function). out_line ports outputs f.0 f.1) (enumerate_from j functions)
+out_lines ports outputs j functions =
+    flat_map (λ (f : ℕ × Function). out_line ports outputs f.0 f.1) (enumerate_from j functions)
 
 -- the port at a bit of a set
 abbrev pub ports_at : ℕ → List Port → List Port
@@ -67,7 +73,8 @@ ports_at bit ports = filter (λ p. bit_of p == bit) ports
 -- `differ J K by X`
 abbrev pub differ_line : List Port → Difference → List ℕ
 differ_line ports d =
-    codes "differ " ++ decimal (d.first + 1) ++ codes " " ++ decimal (d.second + 1) ++ codes " by" ++ spaced (map port_word (ports_at d.bit ports)) ++ codes "\n"
+    codes "differ " ++ decimal (d.first + 1) ++ codes " " ++ decimal (d.second + 1) ++ codes " by"
+    ++ spaced (map port_word (ports_at d.bit ports)) ++ codes "\n"
 
 -- the lines of a system: its own, one for each function, and one for each two of them
 unfoldable pub system_text : PlainReport → List ℕ

@@ -39,7 +39,8 @@ fn line_len(text: &[u8]) -> usize
 }
 
 fn words_of(alloc: Global, line: &[u8]) -> Result<Vec<&[u8]>, AllocError>
-    ensures { IfOk result (λ words. map (λ w. w.now) words.items ≡ slice_split (λ b. b == 32) line.now) }
+    ensures { IfOk result (λ words. map (λ w. w.now) words.items
+        ≡ slice_split (λ b. b == 32) line.now) }
 {
     line.split(|b| *b == b' ').collect(alloc)
 }

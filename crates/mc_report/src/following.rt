@@ -36,7 +36,8 @@ fn are_all(functions: &[Function], found: &[Function], left: usize, count: usize
     ensures none_open { IsTrue result → left ≡ 0 }
     ensures number { IsTrue result → length functions.now ≡ count }
     ensures all { IsTrue result → found.now ≡ functions.now }
-    ensures only { left ≡ 0 → length functions.now ≡ count → found.now ≡ functions.now → IsTrue result }
+    ensures only { left ≡ 0 → length functions.now ≡ count → found.now ≡ functions.now →
+        IsTrue result }
 {
     left == 0 && functions.len() == count && found == functions
 }

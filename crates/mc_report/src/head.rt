@@ -64,7 +64,8 @@ impl Head {
         requires inputs { self.inputs ≤ 32 }
         requires outputs { self.outputs ≤ 32 }
         ensures set { IfOk result (λ can. IsTrue can → IsSetOf (head_ports self) inputs) }
-        ensures first { IfOk result (λ can. IsTrue can → CanComeFirst self.outputs self.functions functions.now) }
+        ensures first { IfOk result (λ can. IsTrue can →
+            CanComeFirst self.outputs self.functions functions.now) }
         ensures only { IfOk result (λ can. IsSetOf (head_ports self) inputs
             → CanComeFirst self.outputs self.functions functions.now → IsTrue can) }
     {

@@ -20,7 +20,8 @@ use mc_profile::Function;
 
 /// What the words of a system's line tell.
 pub(crate) fn head_in(words: &[&[u8]]) -> Option<Head>
-    ensures { (h : Head) → HasRow h.row → h.inputs < 2 ^ 32 → h.outputs < 2 ^ 32 → h.functions < 2 ^ 32
+    ensures { (h : Head) → HasRow h.row → h.inputs < 2 ^ 32 → h.outputs < 2 ^ 32 →
+        h.functions < 2 ^ 32
         → map (λ w. w.now) words.now ≡ head_words h → result ≡ Some h }
 {
     let [_, name, _, inputs, _, outputs, _, functions, controls @ ..] = words else {
@@ -37,10 +38,13 @@ fn head_of(
     functions: &[u8],
     controls: &[&[u8]],
 ) -> Option<Head>
-    ensures { (h : Head) → HasRow h.row → h.inputs < 2 ^ 32 → h.outputs < 2 ^ 32 → h.functions < 2 ^ 32
-        → name.now ≡ system_name h.row → inputs.now ≡ decimal h.inputs → outputs.now ≡ decimal h.outputs
+    ensures { (h : Head) → HasRow h.row → h.inputs < 2 ^ 32 → h.outputs < 2 ^ 32 →
+        h.functions < 2 ^ 32
+        → name.now ≡ system_name h.row → inputs.now ≡ decimal h.inputs →
+        outputs.now ≡ decimal h.outputs
         → functions.now ≡ decimal h.functions
-        → map (λ w. w.now) controls.now ≡ control_words (controls_with h.enabled h.triggered) → result ≡ Some h }
+        → map (λ w. w.now) controls.now ≡ control_words (controls_with h.enabled h.triggered) →
+        result ≡ Some h }
 {
     Some(Head {
         row: row_in(name)?,
@@ -54,7 +58,8 @@ fn head_of(
 
 /// What the words of a function's line tell.
 pub(crate) fn function_in(words: &[&[u8]]) -> Option<Function>
-    ensures { (needs outputs : List Port) (first second third : List ℕ) → All IsPlaced needs → All IsPlaced outputs
+    ensures { (needs outputs : List Port) (first second third : List ℕ) → All IsPlaced needs →
+        All IsPlaced outputs
         → ports_mask needs < 2 ^ 64 → ports_mask outputs < 2 ^ 32
         → map (λ w. w.now) words.now ≡ first ∷ second ∷ third ∷ lists_words needs outputs
         → result ≡ Some (told_function needs outputs) }
@@ -69,7 +74,8 @@ pub(crate) fn function_in(words: &[&[u8]]) -> Option<Function>
 fn lists_in(lists: &[&[u8]]) -> Option<Function>
     ensures { (needs outputs : List Port) → All IsPlaced needs → All IsPlaced outputs
         → ports_mask needs < 2 ^ 64 → ports_mask outputs < 2 ^ 32
-        → map (λ w. w.now) lists.now ≡ lists_words needs outputs → result ≡ Some (told_function needs outputs) }
+        → map (λ w. w.now) lists.now ≡ lists_words needs outputs →
+        result ≡ Some (told_function needs outputs) }
 {
     let place = place_of(lists, b"outputs");
     if place == lists.len() {
@@ -116,7 +122,8 @@ fn has_word(words: &[&[u8]], word: &[u8]) -> bool
 
 // The set of the ports that a list tells.
 fn set_in(words: &[&[u8]]) -> u64
-    ensures { (ps : List Port) → All IsPlaced ps → map (λ w. w.now) words.now ≡ list_words (map port_word ps)
+    ensures { (ps : List Port) → All IsPlaced ps →
+        map (λ w. w.now) words.now ≡ list_words (map port_word ps)
         → ports_mask ps < 2 ^ 64 → result ≡ ports_mask ps }
 {
     if has_word(words, b"none") {

@@ -67,7 +67,8 @@ fn read_systems(alloc: Global, bytes: &[u8]) -> Result<Vec<SystemReport>, Stop>
 // What follows the line that ends a text with so many systems, if it stands here.
 fn past_last_line(alloc: Global, text: &[u8], systems: usize) -> Result<Option<&[u8]>, Stop>
     ensures text { IfOk result (λ end. IfSome end (λ next. text.now ≡ last_line systems ++ next.now)) }
-    ensures none { IfOk result (λ end. IfNone end ((more : List ℕ) → text.now ≡ last_line systems ++ more → ⊥)) }
+    ensures none { IfOk result (λ end. IfNone end ((more : List ℕ) → text.now ≡ last_line systems ++ more →
+        ⊥)) }
     ensures memory { IfErr result (λ stop. IsLeft stop → ⊥) }
 {
     let mut line = String::new(alloc);
@@ -135,7 +136,8 @@ fn read_functions<'a>(
     requires ports { ports.now ≡ head_ports head }
     ensures text { IfOk result (λ read.
         text.now ≡ out_lines ports.now head.outputs 1 read.0.items ++ read.1.now) }
-    ensures sets { IfOk result (λ read. All (λ (f : Function). IsSetOf (head_ports head) f.inputs) read.0.items) }
+    ensures sets { IfOk result
+        (λ read. All (λ (f : Function). IsSetOf (head_ports head) f.inputs) read.0.items) }
     ensures functions { IfOk result (λ read. AreAllFunctions head.outputs head.functions read.0.items) }
     ensures stops { IfErr result (λ stop. OfLeft stop (StopsAtFunction head text.now)) }
 {

@@ -23,5 +23,12 @@ impl Model for SystemReport {
 
     ghost Value = { PlainReport };
 
-    ghost view = { λ r. record { row = r.row; inputs = r.inputs; controls = r.controls.items; outputs = r.outputs; profile = r.profile; certificate = r.certificate } };
+    ghost view = { λ r. record {
+      row = r.row;
+      inputs = r.inputs;
+      controls = r.controls.items;
+      outputs = r.outputs;
+      profile = r.profile;
+      certificate = r.certificate;
+    } };
 }

@@ -34,9 +34,13 @@ rows_from-append p (x ∷ xs) ys cells unstuck =
     by_step (step_run p x cells) (rows_from-append p xs ys) unstuck
   where
     by_step : (o : Outcome) →
-        ((c : Cells) → (rows_from p xs c).stuck_place ≡ None → rows_from p (xs ++ ys) c ≡ behind_ticks (rows_from p xs c).ticks (rows_from p ys (rows_from p xs c).cells)) →
+        ((c : Cells) → (rows_from p xs c).stuck_place ≡ None →
+        rows_from p (xs ++ ys) c
+        ≡ behind_ticks (rows_from p xs c).ticks (rows_from p ys (rows_from p xs c).cells)) →
         (rows_after p o (rows_from p xs)).stuck_place ≡ None →
-        rows_after p o (rows_from p (xs ++ ys)) ≡ behind_ticks (rows_after p o (rows_from p xs)).ticks (rows_from p ys (rows_after p o (rows_from p xs)).cells)
+        rows_after p o (rows_from p (xs ++ ys))
+        ≡ behind_ticks (rows_after p o (rows_from p xs)).ticks
+        (rows_from p ys (rows_after p o (rows_from p xs)).cells)
     by_step (done a) more unstuck = ap (with_tick (tick_row p a)) (more a.cells unstuck)
     by_step (stuck at c) more unstuck = cc
 
@@ -44,12 +48,14 @@ one_row : (p : ProgramTree) (row : List ℤ) (cells : Cells) (a : After) → ste
     rows_from p (row ∷ []) cells ≡ record { ticks = tick_row p a ∷ []; cells = a.cells; stuck_place = None }
 one_row p row cells a is = ap (λ o. rows_after p o (rows_from p [])) is
 
-one_stuck : (p : ProgramTree) (row : List ℤ) (more : List (List ℤ)) (cells left : Cells) (at : Stuck) → step_run p row cells ≡ stuck at left →
+one_stuck : (p : ProgramTree) (row : List ℤ) (more : List (List ℤ)) (cells left : Cells) (at : Stuck) →
+    step_run p row cells ≡ stuck at left →
     rows_from p (row ∷ more) cells ≡ record { ticks = []; cells = left; stuck_place = Some at }
 one_stuck p row more cells left at is = ap (λ o. rows_after p o (rows_from p more)) is
 
 -- the ticks of some rows, and of more behind them
-pub ticks_behind : (s s' : Standing) (rows more : List (List ℤ)) → (ticks_over s rows).stuck_place ≡ None → HasTicked (ticks_over s rows) s s' →
+pub ticks_behind : (s s' : Standing) (rows more : List (List ℤ)) → (ticks_over s rows).stuck_place ≡ None →
+    HasTicked (ticks_over s rows) s s' →
     ticks_over s (rows ++ more) ≡ behind_ticks (ticks_over s rows).ticks (ticks_over s' more)
 ticks_behind s s' rows more unstuck ticked =
     let tree : tree_of s'.machine ≡ tree_of s.machine = ap (λ (p : CheckedProgram). program_tree p.program) ticked.program in
@@ -65,13 +71,17 @@ same_totals t u ticks steps calls = λ i. record { ticks = ticks i; steps = step
 pub added-none : (t : Totals) → t ≡ added t (totals_of [])
 added-none t = same_totals t (added t (totals_of [])) (omega arith) (omega arith) (omega arith)
 
-added-one : (t : Totals) (tick : TickRow) (cost : Cost) → cost.steps ≡ tick.steps → cost.calls ≡ interface_calls tick → counted t cost ≡ added t (totals_of (tick ∷ []))
-added-one t tick cost steps calls = same_totals (counted t cost) (added t (totals_of (tick ∷ []))) refl (omega (arith, steps)) (omega (arith, calls))
+added-one : (t : Totals) (tick : TickRow) (cost : Cost) → cost.steps ≡ tick.steps → cost.calls ≡ interface_calls tick →
+    counted t cost ≡ added t (totals_of (tick ∷ []))
+added-one t tick cost steps calls =
+    same_totals (counted t cost) (added t (totals_of (tick ∷ []))) refl (omega (arith, steps)) (omega (arith, calls))
 
-added-twice : (t : Totals) (ticks more : List TickRow) → added (added t (totals_of ticks)) (totals_of more) ≡ added t (totals_of (ticks ++ more))
+added-twice : (t : Totals) (ticks more : List TickRow) →
+    added (added t (totals_of ticks)) (totals_of more) ≡ added t (totals_of (ticks ++ more))
 added-twice t ticks more =
     same_totals (added (added t (totals_of ticks)) (totals_of more)) (added t (totals_of (ticks ++ more)))
-    (omega (arith, length-append ticks more)) (omega (arith, sum_by-append (λ (x : TickRow). x.steps) ticks more)) (omega (arith, sum_by-append interface_calls ticks more))
+    (omega (arith, length-append ticks more)) (omega (arith, sum_by-append (λ (x : TickRow). x.steps) ticks more))
+    (omega (arith, sum_by-append interface_calls ticks more))
 
 text-append : (ticks more : List TickRow) → ticks_text (ticks ++ more) ≡ ticks_text ticks ++ ticks_text more
 text-append ticks more = flat_map-append (λ (t : TickRow). outputs_line t.outputs) ticks more
@@ -89,7 +99,8 @@ pub none_run : (s : Standing) → Runs (ticks_over s []) s s
 none_run s = record { ticked = none_ticked s; lines = nothing s.waiting s.put }
 
 -- some rows have ticked, and then others
-pub both_ticked : (s s' s'' : Standing) (rows more : List (List ℤ)) → (ticks_over s rows).stuck_place ≡ None → HasTicked (ticks_over s rows) s s' →
+pub both_ticked : (s s' s'' : Standing) (rows more : List (List ℤ)) → (ticks_over s rows).stuck_place ≡ None →
+    HasTicked (ticks_over s rows) s s' →
     HasTicked (ticks_over s' more) s' s'' → HasTicked (ticks_over s (rows ++ more)) s s''
 both_ticked s s' s'' rows more unstuck first second =
     let whole = ticks_behind s s' rows more unstuck first in
@@ -98,14 +109,16 @@ both_ticked s s' s'' rows more unstuck first second =
       fields = second.fields ∙ sym (ap (λ (r : Rows). r.cells) whole);
       totals =
           second.totals ∙ ap (λ t. added t (totals_of (ticks_over s' more).ticks)) first.totals
-          ∙ added-twice s.totals (ticks_over s rows).ticks (ticks_over s' more).ticks ∙ ap (λ (r : Rows). added s.totals (totals_of r.ticks)) (sym whole);
+          ∙ added-twice s.totals (ticks_over s rows).ticks (ticks_over s' more).ticks
+          ∙ ap (λ (r : Rows). added s.totals (totals_of r.ticks)) (sym whole);
     }
 
 -- the text of some rows, and then that of others
 whole_text : (s s' : Standing) (rows more : List (List ℤ)) → (ticks_over s rows).stuck_place ≡ None → HasTicked (ticks_over s rows) s s' →
     ticks_text (ticks_over s rows).ticks ++ ticks_text (ticks_over s' more).ticks ≡ ticks_text (ticks_over s (rows ++ more)).ticks
 whole_text s s' rows more unstuck first =
-    sym (text-append (ticks_over s rows).ticks (ticks_over s' more).ticks) ∙ ap (λ (r : Rows). ticks_text r.ticks) (sym (ticks_behind s s' rows more unstuck first))
+    sym (text-append (ticks_over s rows).ticks (ticks_over s' more).ticks)
+    ∙ ap (λ (r : Rows). ticks_text r.ticks) (sym (ticks_behind s s' rows more unstuck first))
 
 pub both_run : (s s' s'' : Standing) (rows more : List (List ℤ)) → (ticks_over s rows).stuck_place ≡ None → Runs (ticks_over s rows) s s' →
     Runs (ticks_over s' more) s' s'' → Runs (ticks_over s (rows ++ more)) s s''
@@ -113,14 +126,17 @@ both_run s s' s'' rows more unstuck first second = record {
   ticked = both_ticked s s' s'' rows more unstuck first.ticked second.ticked;
   lines =
       subst (λ t. Takes t s s'') (whole_text s s' rows more unstuck first.ticked)
-      (both_texts s.waiting s'.waiting s''.waiting (ticks_text (ticks_over s rows).ticks) (ticks_text (ticks_over s' more).ticks) s.put s'.put s''.put first.lines second.lines);
+      (both_texts s.waiting s'.waiting s''.waiting (ticks_text (ticks_over s rows).ticks)
+      (ticks_text (ticks_over s' more).ticks) s.put s'.put s''.put first.lines second.lines);
 }
 
 pub both_cut : (s s' s'' : Standing) (rows more : List (List ℤ)) → (ticks_over s rows).stuck_place ≡ None → Runs (ticks_over s rows) s s' →
-    PutsFront s'.put s''.put (s'.waiting ++ ticks_text (ticks_over s' more).ticks) → PutsFront s.put s''.put (s.waiting ++ ticks_text (ticks_over s (rows ++ more)).ticks)
+    PutsFront s'.put s''.put (s'.waiting ++ ticks_text (ticks_over s' more).ticks) →
+    PutsFront s.put s''.put (s.waiting ++ ticks_text (ticks_over s (rows ++ more)).ticks)
 both_cut s s' s'' rows more unstuck first second =
     subst (λ t. PutsFront s.put s''.put (s.waiting ++ t)) (whole_text s s' rows more unstuck first.ticked)
-    (front_of_more s.waiting s'.waiting (ticks_text (ticks_over s rows).ticks) (ticks_text (ticks_over s' more).ticks) s.put s'.put s''.put first.lines second)
+    (front_of_more s.waiting s'.waiting (ticks_text (ticks_over s rows).ticks)
+    (ticks_text (ticks_over s' more).ticks) s.put s'.put s''.put first.lines second)
 
 -- ---- One row
 
@@ -141,11 +157,13 @@ one_ticked row outputs s s' next =
         fields = next.tick.cells ∙ sym (ap (λ (r : Rows). r.cells) whole);
         totals =
             next.totals
-            ∙ added-one s.totals (tick_row p next.tick.left) next.cost (ap (λ (c : Cost). c.steps) next.tick.cost_is) (ap (λ (c : Cost). c.calls) next.tick.cost_is)
+            ∙ added-one s.totals (tick_row p next.tick.left) next.cost (ap (λ (c : Cost). c.steps) next.tick.cost_is)
+            (ap (λ (c : Cost). c.calls) next.tick.cost_is)
             ∙ ap (λ (r : Rows). added s.totals (totals_of r.ticks)) (sym whole);
       };
       text =
-          ap outputs_line next.tick.outputs_are ∙ sym (text-one (tick_row p next.tick.left)) ∙ ap (λ (r : Rows). ticks_text r.ticks) (sym whole);
+          ap outputs_line next.tick.outputs_are ∙ sym (text-one (tick_row p next.tick.left))
+          ∙ ap (λ (r : Rows). ticks_text r.ticks) (sym whole);
     }
 
 -- rows of which the first is stuck

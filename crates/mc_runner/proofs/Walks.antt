@@ -45,10 +45,12 @@ both_written : (text more : List ℕ) (types : List FixType) (count : ℕ) (rows
 both_written text more types count rows others first second =
     let size : count + length rows + length others ≡ count + length (rows ++ others) = omega (arith, length-append rows others) in
     record {
-      all = λ behind. ap (rows_after count types) (append_assoc text more behind) ∙ first.all (more ++ behind) ∙ ap (with_rows rows) (second.all behind)
+      all = λ behind. ap (rows_after count types) (append_assoc text more behind) ∙ first.all (more ++ behind)
+          ∙ ap (with_rows rows) (second.all behind)
           ∙ with_both rows others (rows_after (count + length rows + length others) types behind)
           ∙ ap (λ n. with_rows (rows ++ others) (rows_after n types behind)) size;
-      whole = λ behind. ap (whole_rows_after count types) (append_assoc text more behind) ∙ first.whole (more ++ behind) ∙ ap (with_rows rows) (second.whole behind)
+      whole = λ behind. ap (whole_rows_after count types) (append_assoc text more behind) ∙ first.whole (more ++ behind)
+          ∙ ap (with_rows rows) (second.whole behind)
           ∙ with_both rows others (whole_rows_after (count + length rows + length others) types behind)
           ∙ ap (λ n. with_rows (rows ++ others) (whole_rows_after n types behind)) size;
     }
@@ -64,7 +66,8 @@ none_through types s = record {
   runs = none_run s;
 }
 
-pub both_through : (text more : List ℕ) (types : List FixType) (s s' s'' : Standing) → RunsThrough text types s s' → RunsThrough more types s' s'' →
+pub both_through : (text more : List ℕ) (types : List FixType) (s s' s'' : Standing) → RunsThrough text types s s' →
+    RunsThrough more types s' s'' →
     RunsThrough (text ++ more) types s s''
 both_through text more types s s' s'' first second = record {
   rows = first.rows ++ second.rows;
@@ -76,7 +79,8 @@ both_through text more types s s' s'' first second = record {
   runs = both_run s s' s'' first.rows second.rows first.unstuck first.runs second.runs;
 }
 
-pub one_through : (text : List ℕ) (types : List FixType) (row : List ℤ) (s s' : Standing) → WritesRows text types s.totals.ticks (row ∷ []) → TicksOn row s s' →
+pub one_through : (text : List ℕ) (types : List FixType) (row : List ℤ) (s s' : Standing) →
+    WritesRows text types s.totals.ticks (row ∷ []) → TicksOn row s s' →
     RunsThrough text types s s'
 one_through text types row s s' writes next =
     let one = one_ticked row next.outputs s s' next.ticked in
@@ -89,19 +93,23 @@ one_through text types row s s' writes next =
     }
 
 -- one line further in a text
-pub further : (text : List ℕ) (types : List FixType) (at after : ℕ) (row : List ℤ) (s s' s'' : Standing) → RunsThrough (take at text) types s s' →
+pub further : (text : List ℕ) (types : List FixType) (at after : ℕ) (row : List ℤ) (s s' s'' : Standing) →
+    RunsThrough (take at text) types s s' →
     IsNextRow text types s'.totals.ticks at after row → TicksOn row s' s'' → RunsThrough (take after text) types s s''
 further text types at after row s s' s'' so_far next tick =
     let on = next.goes_on in
     let sum : at + (after - at) ≡ after = omega (arith, on) in
-    let parts : take at text ++ take (after - at) (drop at text) ≡ take after text = sym (take-add at (after - at) text) ∙ ap (λ n. take n text) sum in
+    let parts : take at text ++ take (after - at) (drop at text) ≡ take after text =
+    sym (take-add at (after - at) text) ∙ ap (λ n. take n text) sum in
     subst (λ t. RunsThrough t types s s'') parts
-    (both_through (take at text) (take (after - at) (drop at text)) types s s' s'' so_far (one_through (take (after - at) (drop at text)) types row s' s'' next.writes tick))
+    (both_through (take at text) (take (after - at) (drop at text)) types s s' s'' so_far
+    (one_through (take (after - at) (drop at text)) types row s' s'' next.writes tick))
 
 -- ---- What ends a run
 
 -- behind some rows
-stops_behind : (fault : RunFault) (trace : Trace) (rows : List (List ℤ)) (s s' s'' : Standing) → (ticks_over s rows).stuck_place ≡ None → Runs (ticks_over s rows) s s' →
+stops_behind : (fault : RunFault) (trace : Trace) (rows : List (List ℤ)) (s s' s'' : Standing) →
+    (ticks_over s rows).stuck_place ≡ None → Runs (ticks_over s rows) s s' →
     RunsTo fault trace s' s'' → RunsTo fault (with_rows rows trace) s s''
 stops_behind Read trace rows s s' s'' unstuck runs stop = absurd stop
 stops_behind Out trace rows s s' s'' unstuck runs stop = record {
@@ -124,7 +132,8 @@ stops_behind (StuckFault at) trace rows s s' s'' unstuck runs stop = record {
 }
 stops_behind Memory trace rows s s' s'' unstuck runs stop = absurd stop
 
-ends_behind : (trace : Trace) (rows : List (List ℤ)) (s s' s'' : Standing) → (ticks_over s rows).stuck_place ≡ None → Runs (ticks_over s rows) s s' →
+ends_behind : (trace : Trace) (rows : List (List ℤ)) (s s' s'' : Standing) → (ticks_over s rows).stuck_place ≡ None →
+    Runs (ticks_over s rows) s s' →
     RunsToEnd trace s' s'' → RunsToEnd (with_rows rows trace) s s''
 ends_behind trace rows s s' s'' unstuck runs end = record {
   rows_only = end.rows_only;
@@ -161,7 +170,8 @@ bad_stop bad trace s is =
     }
 
 -- a first row whose tick ends the run
-tick_stop : (fault : RunFault) (row : List ℤ) (rest trace : Trace) (s s' : Standing) → trace ≡ with_rows (row ∷ []) rest → StopsOn fault row s s' → RunsTo fault trace s s'
+tick_stop : (fault : RunFault) (row : List ℤ) (rest trace : Trace) (s s' : Standing) →
+    trace ≡ with_rows (row ∷ []) rest → StopsOn fault row s s' → RunsTo fault trace s s'
 tick_stop Read row rest trace s s' is stop = absurd stop
 tick_stop Out row rest trace s s' is stop =
     let one = one_ticked row stop.outputs s s' stop.ticked in
@@ -196,21 +206,26 @@ tick_stop Memory row rest trace s s' is stop = absurd stop
 parted : (text behind : List ℕ) (at : ℕ) → take at text ++ (drop at text ++ behind) ≡ text ++ behind
 parted text behind at = sym (append_assoc (take at text) (drop at text) behind) ∙ ap (λ t. t ++ behind) (take-append-drop at text)
 
-pub bad_in : (bad : BadLine) (text behind : List ℕ) (types : List FixType) (at : ℕ) (s s' : Standing) → RunsThrough (take at text) types s s' →
+pub bad_in : (bad : BadLine) (text behind : List ℕ) (types : List FixType) (at : ℕ) (s s' : Standing) →
+    RunsThrough (take at text) types s s' →
     BeginsBadly bad (drop at text) types s'.totals.ticks → RunsTo (BadTrace bad) (rows_after s.totals.ticks types (text ++ behind)) s s'
 bad_in bad text behind types at s s' through begins =
     subst (λ t. RunsTo (BadTrace bad) (rows_after s.totals.ticks types t) s s') (parted text behind at)
     (stops_in (BadTrace bad) (take at text) (drop at text ++ behind) types s s' s' through (bad_stop bad _ s' (begins behind)))
 
-pub tick_in : (fault : RunFault) (text behind : List ℕ) (types : List FixType) (at after : ℕ) (row : List ℤ) (s s' s'' : Standing) → RunsThrough (take at text) types s s' →
-    IsNextRow text types s'.totals.ticks at after row → StopsOn fault row s' s'' → RunsTo fault (rows_after s.totals.ticks types (text ++ behind)) s s''
+pub tick_in : (fault : RunFault) (text behind : List ℕ) (types : List FixType) (at after : ℕ) (row : List ℤ)
+    (s s' s'' : Standing) → RunsThrough (take at text) types s s' →
+    IsNextRow text types s'.totals.ticks at after row → StopsOn fault row s' s'' →
+    RunsTo fault (rows_after s.totals.ticks types (text ++ behind)) s s''
 tick_in fault text behind types at after row s s' s'' through next stop =
     let line = take (after - at) (drop at text) in
     let rest = drop (after - at) (drop at text) ++ behind in
-    let whole : rows_after s'.totals.ticks types (drop at text ++ behind) ≡ with_rows (row ∷ []) (rows_after (s'.totals.ticks + 1) types rest) =
+    let whole : rows_after s'.totals.ticks types (drop at text ++ behind)
+    ≡ with_rows (row ∷ []) (rows_after (s'.totals.ticks + 1) types rest) =
     ap (rows_after s'.totals.ticks types) (sym (parted (drop at text) behind (after - at))) ∙ next.writes.all rest in
     subst (λ t. RunsTo fault (rows_after s.totals.ticks types t) s s'') (parted text behind at)
-    (stops_in fault (take at text) (drop at text ++ behind) types s s' s'' through (tick_stop fault row (rows_after (s'.totals.ticks + 1) types rest) _ s' s'' whole stop))
+    (stops_in fault (take at text) (drop at text ++ behind) types s s' s'' through
+    (tick_stop fault row (rows_after (s'.totals.ticks + 1) types rest) _ s' s'' whole stop))
 
 -- ---- A last line
 
@@ -223,26 +238,31 @@ nothing_last trace s is =
       runs = subst (λ xs. Runs (ticks_over s xs) s s) none (none_run s);
     }
 
-pub bad_last : (bad : BadLine) (trace : Trace) (s : Standing) → trace ≡ record { rows = []; bad = Some bad } → RunsTo (BadTrace bad) trace s s
+pub bad_last : (bad : BadLine) (trace : Trace) (s : Standing) → trace ≡ record { rows = []; bad = Some bad } →
+    RunsTo (BadTrace bad) trace s s
 bad_last bad trace s is = bad_stop bad trace s is
 
-pub ticks_last : (text : List ℕ) (types : List FixType) (row : List ℤ) (s s' : Standing) (result : Result (Unit {0}) RunFault) → IsLastRow text types s.totals.ticks row →
+pub ticks_last : (text : List ℕ) (types : List FixType) (row : List ℤ) (s s' : Standing)
+    (result : Result (Unit {0}) RunFault) → IsLastRow text types s.totals.ticks row →
     MatchResult result (λ _. TicksOn row s s') (λ fault. StopsOn fault row s s') →
-    MatchResult result (λ _. RunsToEnd (rows_after s.totals.ticks types text) s s') (λ fault. RunsTo fault (rows_after s.totals.ticks types text) s s')
+    MatchResult result (λ _. RunsToEnd (rows_after s.totals.ticks types text) s s')
+    (λ fault. RunsTo fault (rows_after s.totals.ticks types text) s s')
 ticks_last text types row s s' (Ok value) last tick =
     let one = one_ticked row tick.outputs s s' tick.ticked in
     let rows : row ∷ [] ≡ (rows_after s.totals.ticks types text).rows = sym (ap (λ (t : Trace). t.rows) last.rows) in
     record {
       rows_only = ap (λ (t : Trace). t.bad) last.rows;
       unstuck = subst (λ xs. (ticks_over s xs).stuck_place ≡ None) rows one.unstuck;
-      runs = subst (λ xs. Runs (ticks_over s xs) s s') rows (record { ticked = one.ticked; lines = subst (λ t. Takes t s s') one.text tick.line });
+      runs = subst (λ xs. Runs (ticks_over s xs) s s') rows
+          (record { ticked = one.ticked; lines = subst (λ t. Takes t s s') one.text tick.line });
     }
 ticks_last text types row s s' (Err fault) last stop =
     tick_stop fault row (record { rows = []; bad = None }) (rows_after s.totals.ticks types text) s s' last.rows stop
 
 -- ---- What waits is put at the end
 
-pub flushed_runs : (rows : Rows) (s s' : Standing) (put : Option (List ℕ)) (waiting : List ℕ) → put ≡ append_known s'.put s'.waiting → waiting ≡ [] → Runs rows s s' →
+pub flushed_runs : (rows : Rows) (s s' : Standing) (put : Option (List ℕ)) (waiting : List ℕ) →
+    put ≡ append_known s'.put s'.waiting → waiting ≡ [] → Runs rows s s' →
     Runs rows s (record { machine = s'.machine; totals = s'.totals; put = put; waiting = waiting })
 flushed_runs rows s s' put waiting is none runs = record {
   ticked = record { program = runs.ticked.program; fields = runs.ticked.fields; totals = runs.ticked.totals };
@@ -250,7 +270,8 @@ flushed_runs rows s s' put waiting is none runs = record {
 }
 
 -- a front of what waited was put, behind a run of all rows of a trace
-cut_whole : (trace : Trace) (s s' : Standing) (put : Option (List ℕ)) (waiting : List ℕ) → PutsFront s'.put put s'.waiting → Runs (ticks_over s trace.rows) s s' →
+cut_whole : (trace : Trace) (s s' : Standing) (put : Option (List ℕ)) (waiting : List ℕ) →
+    PutsFront s'.put put s'.waiting → Runs (ticks_over s trace.rows) s s' →
     RunsToOut trace s (record { machine = s'.machine; totals = s'.totals; put = put; waiting = waiting })
 cut_whole trace s s' put waiting front runs = record {
   front = record { rows = trace.rows; behind = []; parts = sym (append-nil trace.rows) };
@@ -261,9 +282,11 @@ cut_whole trace s s' put waiting front runs = record {
 -- how the whole lines of a text end, whatever follows it
 abbrev pub EndsLines : Result ℕ RunFault → (text : List ℕ) (types : List FixType) (s s' : Standing) → Type 0
 EndsLines ran text types s s' =
-    MatchResult ran (λ done. RunsLines done text types s s') (λ fault. (behind : List ℕ) → RunsTo fault (rows_after s.totals.ticks types (text ++ behind)) s s')
+    MatchResult ran (λ done. RunsLines done text types s s') (λ fault. (behind : List ℕ) →
+    RunsTo fault (rows_after s.totals.ticks types (text ++ behind)) s s')
 
-pub lines_flushed : (ran : Result ℕ RunFault) (text : List ℕ) (types : List FixType) (s s' : Standing) (put : Option (List ℕ)) (waiting : List ℕ) →
+pub lines_flushed : (ran : Result ℕ RunFault) (text : List ℕ) (types : List FixType) (s s' : Standing)
+    (put : Option (List ℕ)) (waiting : List ℕ) →
     put ≡ append_known s'.put s'.waiting → waiting ≡ [] → ran ≢ Err Out → EndsLines ran text types s s' →
     EndsLines ran text types s (record { machine = s'.machine; totals = s'.totals; put = put; waiting = waiting })
 lines_flushed (Ok done) text types s s' put waiting is none other ends = record {
@@ -288,9 +311,11 @@ lines_flushed (Err (StuckFault at)) text types s s' put waiting is none other en
     record { stuck = stop.stuck; runs = flushed_runs _ s s' put waiting is none stop.runs }
 lines_flushed (Err Memory) text types s s' put waiting is none other ends = λ behind. absurd (ends behind)
 
-pub lines_cut : (ran : Result ℕ RunFault) (text behind : List ℕ) (types : List FixType) (s s' : Standing) (put : Option (List ℕ)) (waiting : List ℕ) →
+pub lines_cut : (ran : Result ℕ RunFault) (text behind : List ℕ) (types : List FixType) (s s' : Standing)
+    (put : Option (List ℕ)) (waiting : List ℕ) →
     PutsFront s'.put put s'.waiting → ran ≢ Err Out → EndsLines ran text types s s' →
-    RunsToOut (rows_after s.totals.ticks types (text ++ behind)) s (record { machine = s'.machine; totals = s'.totals; put = put; waiting = waiting })
+    RunsToOut (rows_after s.totals.ticks types (text ++ behind)) s
+    (record { machine = s'.machine; totals = s'.totals; put = put; waiting = waiting })
 lines_cut (Ok done) text behind types s s' put waiting front other ends =
     let rows = ends.through.rows in
     let runs = ends.through.runs in
@@ -321,11 +346,19 @@ pub last_flushed : (ran : Result (Unit {0}) RunFault) (trace : Trace) (s s' : St
     put ≡ append_known s'.put s'.waiting → waiting ≡ [] → ran ≢ Err Out → EndsLast ran trace s s' →
     EndsLast ran trace s (record { machine = s'.machine; totals = s'.totals; put = put; waiting = waiting })
 last_flushed (Ok value) trace s s' put waiting is none other ends =
-    record { rows_only = ends.rows_only; unstuck = ends.unstuck; runs = flushed_runs (ticks_over s trace.rows) s s' put waiting is none ends.runs }
+    record {
+      rows_only = ends.rows_only;
+      unstuck = ends.unstuck;
+      runs = flushed_runs (ticks_over s trace.rows) s s' put waiting is none ends.runs;
+    }
 last_flushed (Err Read) trace s s' put waiting is none other ends = absurd ends
 last_flushed (Err Out) trace s s' put waiting is none other ends = absurd (other refl)
 last_flushed (Err (BadTrace bad)) trace s s' put waiting is none other ends =
-    record { first_bad = ends.first_bad; unstuck = ends.unstuck; runs = flushed_runs (ticks_over s trace.rows) s s' put waiting is none ends.runs }
+    record {
+      first_bad = ends.first_bad;
+      unstuck = ends.unstuck;
+      runs = flushed_runs (ticks_over s trace.rows) s s' put waiting is none ends.runs;
+    }
 last_flushed (Err (StuckFault at)) trace s s' put waiting is none other ends =
     record { stuck = ends.stuck; runs = flushed_runs (ticks_over s trace.rows) s s' put waiting is none ends.runs }
 last_flushed (Err Memory) trace s s' put waiting is none other ends = absurd ends
@@ -352,7 +385,8 @@ runs_clear rows s s' none none' runs = record {
   put = all_put s.waiting s'.waiting (ticks_text rows.ticks) s.put s'.put none none' runs.lines;
 }
 
-pub stops_clear : (fault : RunFault) (trace : Trace) (s s' : Standing) → s.waiting ≡ [] → (fault ≢ Out → s'.waiting ≡ []) → RunsTo fault trace s s' →
+pub stops_clear : (fault : RunFault) (trace : Trace) (s s' : Standing) → s.waiting ≡ [] →
+    (fault ≢ Out → s'.waiting ≡ []) → RunsTo fault trace s s' →
     StoppedBy fault trace (clear s) (clear s')
 stops_clear Read trace s s' none none' stop = absurd stop
 stops_clear Out trace s s' none none' stop = record {
@@ -366,21 +400,24 @@ stops_clear (StuckFault at) trace s s' none none' stop =
     record { stuck = stop.stuck; run = runs_clear _ s s' none (none' (λ e. cc)) stop.runs }
 stops_clear Memory trace s s' none none' stop = absurd stop
 
-pub ends_clear : (trace : Trace) (s s' : Standing) → s.waiting ≡ [] → s'.waiting ≡ [] → RunsToEnd trace s s' → RanWhole trace (clear s) (clear s')
+pub ends_clear : (trace : Trace) (s s' : Standing) → s.waiting ≡ [] → s'.waiting ≡ [] → RunsToEnd trace s s' →
+    RanWhole trace (clear s) (clear s')
 ends_clear trace s s' none none' end =
     record { rows_only = end.rows_only; unstuck = end.unstuck; run = runs_clear (ticks_over s trace.rows) s s' none none' end.runs }
 
 -- ---- Rows for the machine
 
 -- a row whose numbers are in their types is one for the machine
-row_fits : (types inputs : List FixType) (row : List ℤ) → AllZip IsNarrower types inputs → AllZip InType types row → AllZip InType inputs row
+row_fits : (types inputs : List FixType) (row : List ℤ) → AllZip IsNarrower types inputs → AllZip InType types row →
+    AllZip InType inputs row
 row_fits [] [] row narrow in_types = in_types
 row_fits [] (u ∷ inputs) row narrow in_types = absurd narrow
 row_fits (t ∷ types) [] row narrow in_types = absurd narrow
 row_fits (t ∷ types) (u ∷ inputs) [] narrow in_types = absurd in_types
 row_fits (t ∷ types) (u ∷ inputs) (x ∷ row) narrow in_types = (narrow.0 x in_types.0, row_fits types inputs row narrow.1 in_types.1)
 
-pub row_for : (m m' : MachineState) (types : List FixType) (row : List ℤ) → m'.program ≡ m.program → AllZip IsNarrower types m.program.inputs → AllZip InType types row → IsRow m' row
+pub row_for : (m m' : MachineState) (types : List FixType) (row : List ℤ) → m'.program ≡ m.program →
+    AllZip IsNarrower types m.program.inputs → AllZip InType types row → IsRow m' row
 row_for m m' types row same narrow in_types =
     subst (λ (p : CheckedProgram). AllZip InType p.inputs row) (sym same) (row_fits types m.program.inputs row narrow in_types)
 
@@ -392,15 +429,19 @@ handed ran fault text types s s' is stop = subst (λ (r : Result ℕ RunFault). 
 -- ---- A row that was read into its room
 
 -- the run stands where it stood
-pub same_place : (machine : MachineState) (run run' : Run) (put : Option (List ℕ)) → IsFilled run run' → inside machine run put ≡ inside machine run' put
-same_place machine run run' put filled = λ i. record { machine = machine; totals = sym filled.totals i; put = put; waiting = sym filled.lines i }
+pub same_place : (machine : MachineState) (run run' : Run) (put : Option (List ℕ)) → IsFilled run run' →
+    inside machine run put ≡ inside machine run' put
+same_place machine run run' put filled =
+    λ i. record { machine = machine; totals = sym filled.totals i; put = put; waiting = sym filled.lines i }
 
 pub same_count : (run run' : Run) → IsFilled run run' → run.totals.ticks ≡ run'.totals.ticks
 same_count run run' filled = ap (λ (t : Totals). t.ticks) (sym filled.totals)
 
-pub last_ticked : (text : List ℕ) (types : List FixType) (machine : MachineState) (run run' : Run) (put : Option (List ℕ)) (s' : Standing) (result : Result (Unit {0}) RunFault) →
+pub last_ticked : (text : List ℕ) (types : List FixType) (machine : MachineState) (run run' : Run)
+    (put : Option (List ℕ)) (s' : Standing) (result : Result (Unit {0}) RunFault) →
     IsFilled run run' → IsLastRow text types run.totals.ticks run'.row.items →
-    MatchResult result (λ _. TicksOn run'.row.items (inside machine run' put) s') (λ fault. StopsOn fault run'.row.items (inside machine run' put) s') →
+    MatchResult result (λ _. TicksOn run'.row.items (inside machine run' put) s')
+    (λ fault. StopsOn fault run'.row.items (inside machine run' put) s') →
     EndsLast result (rows_after run.totals.ticks types text) (inside machine run put) s'
 last_ticked text types machine run run' put s' result filled last tick =
     subst (λ s. EndsLast result (rows_after s.totals.ticks types text) s s') (sym (same_place machine run run' put filled))

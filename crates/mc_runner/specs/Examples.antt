@@ -14,9 +14,12 @@ two-outputs = refl
 no-outputs : outputs_line [] ≡ codes "\n"
 no-outputs = refl
 
-three-ticks : ticks_text (c_rows one_program ((pos 5 ∷ []) ∷ (negsuc 6 ∷ []) ∷ (pos 2147483647 ∷ []) ∷ [])).ticks ≡ codes "5\n-7\n2147483647\n"
+three-ticks : ticks_text
+    (c_rows one_program ((pos 5 ∷ []) ∷ (negsuc 6 ∷ []) ∷ (pos 2147483647 ∷ []) ∷ [])).ticks
+    ≡ codes "5\n-7\n2147483647\n"
 unfolding digits
 three-ticks = refl
 
-three-totals : totals_of (one_tick (pos 5) ∷ one_tick (negsuc 6) ∷ one_tick (pos 2147483647) ∷ []) ≡ record { ticks = 3; steps = 18; calls = 6 }
+three-totals : totals_of (one_tick (pos 5) ∷ one_tick (negsuc 6) ∷ one_tick (pos 2147483647) ∷ [])
+    ≡ record { ticks = 3; steps = 18; calls = 6 }
 three-totals = refl

@@ -21,11 +21,21 @@ no_totals = record { ticks = 0; steps = 0; calls = 0 }
 
 -- what these ticks took together
 abbrev pub totals_of : List TickRow → Totals
-totals_of ticks = record { ticks = length ticks; steps = sum_by (λ tick. tick.steps) ticks; calls = sum_by interface_calls ticks }
+totals_of ticks =
+    record {
+      ticks = length ticks;
+      steps = sum_by (λ tick. tick.steps) ticks;
+      calls = sum_by interface_calls ticks;
+    }
 
 -- totals, and what these took behind them
 abbrev pub added : Totals → Totals → Totals
-added t more = record { ticks = t.ticks + more.ticks; steps = t.steps + more.steps; calls = t.calls + more.calls }
+added t more =
+    record {
+      ticks = t.ticks + more.ticks;
+      steps = t.steps + more.steps;
+      calls = t.calls + more.calls;
+    }
 
 -- the ticks of these rows, on the machine as it stands
 abbrev pub ticks_over : Standing → List (List ℤ) → Rows
@@ -54,7 +64,8 @@ pub record StoppedAtLine (bad : BadLine) (trace : Trace) (s s' : Standing) : Typ
   pub unstuck : (ticks_over s trace.rows).stuck_place ≡ None
   pub run : HasRun (ticks_over s trace.rows) s s'
 
--- the rows have ticked up to one whose tick is stuck; that one is not counted, and the fields are as it left them
+-- the rows have ticked up to one whose tick is stuck; that one is not counted, and the fields are
+-- as it left them
 pub record StoppedStuck (at : Stuck) (trace : Trace) (s s' : Standing) : Type 0 where
   pub stuck : (ticks_over s trace.rows).stuck_place ≡ Some at
   pub run : HasRun (ticks_over s trace.rows) s s'
@@ -73,7 +84,8 @@ pub record StoppedByOut (trace : Trace) (s s' : Standing) : Type 0 where
 
 -- ---- Over bytes
 
--- What a run over bytes is stopped by. Memory is taken before the first row, so that nothing has changed without it.
+-- What a run over bytes is stopped by. Memory is taken before the first row, so that nothing has
+-- changed without it.
 abbrev pub StoppedBy : RunFault → Trace → Standing → Standing → Type 0
 StoppedBy fault.Read trace s s' = ⊥
 StoppedBy fault.Out trace s s' = StoppedByOut trace s s'
@@ -83,7 +95,8 @@ StoppedBy fault.Memory trace s s' = s' ≡ s
 
 -- what a run over a trace comes to, by its result
 abbrev pub Ends : Result (Unit {0}) RunFault → Trace → Standing → Standing → Type 0
-Ends result trace s s' = MatchResult result (λ _. RanWhole trace s s') (λ fault. StoppedBy fault trace s s')
+Ends result trace s s' =
+    MatchResult result (λ _. RanWhole trace s s') (λ fault. StoppedBy fault trace s s')
 
 -- ---- Over a file
 
@@ -99,8 +112,8 @@ file_rows parts types = rows_of (parts.taken ++ parts.left) types
 abbrev pub taken_rows : Parts → List FixType → Trace
 taken_rows parts types = whole_rows_of parts.taken types
 
--- What a run over a file is stopped by. Where it can't be read on, each whole line among what was taken is a row that has ticked
--- and whose line was put. Memory is taken before the first byte.
+-- What a run over a file is stopped by. Where it can't be read on, each whole line among what was
+-- taken is a row that has ticked and whose line was put. Memory is taken before the first byte.
 abbrev pub StoppedReading : RunFault → Parts → List FixType → Standing → Standing → Type 0
 StoppedReading fault.Read parts types s s' = RanWhole (taken_rows parts types) s s'
 StoppedReading fault.Out parts types s s' = StoppedByOut (file_rows parts types) s s'
@@ -108,9 +121,12 @@ StoppedReading (fault.Trace bad) parts types s s' = StoppedAtLine bad (file_rows
 StoppedReading (fault.Stuck at) parts types s s' = StoppedStuck at (file_rows parts types) s s'
 StoppedReading fault.Memory parts types s s' = (s' ≡ s) × (parts.taken ≡ [])
 
--- it was a run over a file that is told to be such where the host tells it: what was taken of it in the call, and what is left
-pub record RunsOver (result : Result (Unit {0}) RunFault) (rest rest' : Option (List ℕ)) (types : List FixType) (s s' : Standing) : Type 0 where
+-- it was a run over a file that is told to be such where the host tells it: what was taken of it in
+-- the call, and what is left
+pub record RunsOver (result : Result (Unit {0}) RunFault) (rest rest' : Option (List ℕ))
+    (types : List FixType) (s s' : Standing) : Type 0 where
   pub parts : Parts
   pub took : rest ≡ prepend_known parts.taken rest'
   pub left : IfSome rest' (λ told. told ≡ parts.left)
-  pub ends : MatchResult result (λ _. RanWhole (file_rows parts types) s s') (λ fault. StoppedReading fault parts types s s')
+  pub ends : MatchResult result (λ _. RanWhole (file_rows parts types) s s')
+      (λ fault. StoppedReading fault parts types s s')

@@ -13,7 +13,8 @@ use Rattle.mc_runner.specs.declared.outcome.RunFault.{RunFault}
 use Rattle.mc_runner.specs.declared.outcome.RunFault.TheVariants as fault
 use Rattle.mc_runner.specs.Texts.{outputs_line}
 
--- a machine, what its ticks took so far, what was put, where the sink tells it, and the lines that wait to be put
+-- a machine, what its ticks took so far, what was put, where the sink tells it, and the lines that
+-- wait to be put
 pub record Standing : Type 0 where
   pub machine : MachineState
   pub totals : Totals
@@ -30,9 +31,11 @@ IsNarrower t wide = (v : ℤ) → InType t v → InType wide v
 
 -- the totals with one more tick, which took this
 abbrev pub counted : Totals → Cost → Totals
-counted t cost = record { ticks = t.ticks + 1; steps = t.steps + cost.steps; calls = t.calls + cost.calls }
+counted t cost =
+    record { ticks = t.ticks + 1; steps = t.steps + cost.steps; calls = t.calls + cost.calls }
 
--- no more ticks than a trace has lines, and none took more than 2 ^ 32 steps, nor more than one call besides a call for each step
+-- no more ticks than a trace has lines, and none took more than 2 ^ 32 steps, nor more than one
+-- call besides a call for each step
 pub record StaysWithin (t : Totals) : Type 0 where
   pub ticks : t.ticks ≤ 4294967295
   pub steps : t.steps ≤ t.ticks * 2 ^ 32

@@ -17,9 +17,11 @@ use Rattle.mc_runner.specs.Runs.{ticks_over, HasTicked, Front}
 
 -- where a run stands, with the lines that wait in it
 abbrev pub inside : MachineState → Run → Option (List ℕ) → Standing
-inside machine run put = record { machine = machine; totals = run.totals; put = put; waiting = run.lines }
+inside machine run put =
+    record { machine = machine; totals = run.totals; put = put; waiting = run.lines }
 
--- there is room for the numbers of a row and of its outputs, and the totals are no more than those of a trace
+-- there is room for the numbers of a row and of its outputs, and the totals are no more than those
+-- of a trace
 pub record HasRoom (run : Run) (types : List FixType) (machine : MachineState) : Type 0 where
   pub row : length run.row.items ≡ length types
   pub outputs : length run.outputs.items ≡ machine.program.outputs
@@ -46,7 +48,8 @@ pub record RunsThrough (text : List ℕ) (types : List FixType) (s s' : Standing
   pub runs : Runs (ticks_over s rows) s s'
 
 -- so many bytes of a text are its whole lines, whose rows were run
-pub record RunsLines (done : ℕ) (text : List ℕ) (types : List FixType) (s s' : Standing) : Type 0 where
+pub record RunsLines (done : ℕ) (text : List ℕ) (types : List FixType)
+    (s s' : Standing) : Type 0 where
   pub within : done ≤ length text
   pub through : RunsThrough (take done text) types s s'
   pub none : s'.totals.ticks ≡ s.totals.ticks → done ≡ 0
@@ -69,7 +72,8 @@ pub record RunsToStuck (at : Stuck) (trace : Trace) (s s' : Standing) : Type 0 w
   pub stuck : (ticks_over s trace.rows).stuck_place ≡ Some at
   pub runs : Runs (ticks_over s trace.rows) s s'
 
--- some first rows have ticked, of which the last may be stuck, and a front was put of what waited and of their lines
+-- some first rows have ticked, of which the last may be stuck, and a front was put of what waited
+-- and of their lines
 pub record RunsToOut (trace : Trace) (s s' : Standing) : Type 0 where
   pub front : Front trace
   pub ticked : HasTicked (ticks_over s front.rows) s s'

@@ -12,8 +12,10 @@ use mc_edge::{Failed, PutBuffer, Sink};
 
 // Puts the decimal text of a number.
 fn put_number<S: Sink>(lines: &mut PutBuffer, sink: &mut S, number: i64) -> Result<(), Failed>
-    ensures taken { OnOk result (PutsAllBut lines.new (lines.old ++ signed_decimal number) (S.bytes sink.old) (S.bytes sink.new)) }
-    ensures front { OnErr result (PutsFront (S.bytes sink.old) (S.bytes sink.new) (lines.old ++ signed_decimal number)) }
+    ensures taken { OnOk result (PutsAllBut lines.new (lines.old ++ signed_decimal number) (S.bytes sink.old)
+        (S.bytes sink.new)) }
+    ensures front { OnErr result
+        (PutsFront (S.bytes sink.old) (S.bytes sink.new) (lines.old ++ signed_decimal number)) }
     ensures cause { HasCause (S.faults sink.old) (S.faults sink.new) result }
 {
     let mut digits = Buffer::new();
@@ -22,8 +24,11 @@ fn put_number<S: Sink>(lines: &mut PutBuffer, sink: &mut S, number: i64) -> Resu
 
 // Puts the decimal text of a number behind a space.
 fn put_behind<S: Sink>(lines: &mut PutBuffer, sink: &mut S, number: i64) -> Result<(), Failed>
-    ensures taken { OnOk result (PutsAllBut lines.new (lines.old ++ 32 ∷ signed_decimal number) (S.bytes sink.old) (S.bytes sink.new)) }
-    ensures front { OnErr result (PutsFront (S.bytes sink.old) (S.bytes sink.new) (lines.old ++ 32 ∷ signed_decimal number)) }
+    ensures taken { OnOk result (PutsAllBut lines.new (lines.old ++ 32 ∷ signed_decimal number)
+        (S.bytes sink.old) (S.bytes sink.new)) }
+    ensures front { OnErr result
+        (PutsFront (S.bytes sink.old) (S.bytes sink.new)
+        (lines.old ++ 32 ∷ signed_decimal number)) }
     ensures cause { HasCause (S.faults sink.old) (S.faults sink.new) result }
 {
     lines.put(sink, b" ")?;
@@ -32,8 +37,12 @@ fn put_behind<S: Sink>(lines: &mut PutBuffer, sink: &mut S, number: i64) -> Resu
 
 // Puts the decimal texts of numbers, each behind a space.
 fn put_others<S: Sink>(lines: &mut PutBuffer, sink: &mut S, numbers: &[i64]) -> Result<(), Failed>
-    ensures taken { OnOk result (PutsAllBut lines.new (lines.old ++ flat_map (λ n. 32 ∷ signed_decimal n) numbers.now) (S.bytes sink.old) (S.bytes sink.new)) }
-    ensures front { OnErr result (PutsFront (S.bytes sink.old) (S.bytes sink.new) (lines.old ++ flat_map (λ n. 32 ∷ signed_decimal n) numbers.now)) }
+    ensures taken { OnOk result
+        (PutsAllBut lines.new (lines.old ++ flat_map (λ n. 32 ∷ signed_decimal n) numbers.now)
+        (S.bytes sink.old) (S.bytes sink.new)) }
+    ensures front { OnErr result
+        (PutsFront (S.bytes sink.old) (S.bytes sink.new)
+        (lines.old ++ flat_map (λ n. 32 ∷ signed_decimal n) numbers.now)) }
     ensures cause { HasCause (S.faults sink.old) (S.faults sink.new) result }
 {
     for number in numbers {
@@ -44,8 +53,12 @@ fn put_others<S: Sink>(lines: &mut PutBuffer, sink: &mut S, numbers: &[i64]) -> 
 
 // Puts the decimal texts of numbers, with a space between each two.
 fn put_numbers<S: Sink>(lines: &mut PutBuffer, sink: &mut S, numbers: &[i64]) -> Result<(), Failed>
-    ensures taken { OnOk result (PutsAllBut lines.new (lines.old ++ join_with_byte 32 (map signed_decimal numbers.now)) (S.bytes sink.old) (S.bytes sink.new)) }
-    ensures front { OnErr result (PutsFront (S.bytes sink.old) (S.bytes sink.new) (lines.old ++ join_with_byte 32 (map signed_decimal numbers.now))) }
+    ensures taken { OnOk result
+        (PutsAllBut lines.new (lines.old ++ join_with_byte 32 (map signed_decimal numbers.now))
+        (S.bytes sink.old) (S.bytes sink.new)) }
+    ensures front { OnErr result
+        (PutsFront (S.bytes sink.old) (S.bytes sink.new)
+        (lines.old ++ join_with_byte 32 (map signed_decimal numbers.now))) }
     ensures cause { HasCause (S.faults sink.old) (S.faults sink.new) result }
 {
     if numbers.is_empty() {
@@ -59,8 +72,10 @@ fn put_numbers<S: Sink>(lines: &mut PutBuffer, sink: &mut S, numbers: &[i64]) ->
 ///
 /// Fails only where the sink counted a fault. Then a front of what waited and of the line was put, and the rest is lost.
 pub fn put_line<S: Sink>(lines: &mut PutBuffer, sink: &mut S, outputs: &[i64]) -> Result<(), Failed>
-    ensures taken { OnOk result (PutsAllBut lines.new (lines.old ++ outputs_line outputs.now) (S.bytes sink.old) (S.bytes sink.new)) }
-    ensures front { OnErr result (PutsFront (S.bytes sink.old) (S.bytes sink.new) (lines.old ++ outputs_line outputs.now)) }
+    ensures taken { OnOk result (PutsAllBut lines.new (lines.old ++ outputs_line outputs.now)
+        (S.bytes sink.old) (S.bytes sink.new)) }
+    ensures front { OnErr result
+        (PutsFront (S.bytes sink.old) (S.bytes sink.new) (lines.old ++ outputs_line outputs.now)) }
     ensures cause { HasCause (S.faults sink.old) (S.faults sink.new) result }
 {
     put_numbers(lines, sink, outputs)?;

@@ -26,9 +26,12 @@ fn tick_lines<S: Sink>(
     requires types { AllZip IsNarrower types.now machine.old.program.inputs }
     requires room { HasRoom run.old types.now machine.old }
     ensures ran { MatchResult result
-        (λ done. RunsLines done text.now types.now (inside machine.old run.old (S.bytes sink.old)) (inside machine.new run.new (S.bytes sink.new)))
-        (λ fault. (behind : List ℕ) → RunsTo fault (rows_after run.old.totals.ticks types.now (text.now ++ behind))
-        (inside machine.old run.old (S.bytes sink.old)) (inside machine.new run.new (S.bytes sink.new))) }
+        (λ done. RunsLines done text.now types.now (inside machine.old run.old (S.bytes sink.old))
+        (inside machine.new run.new (S.bytes sink.new)))
+        (λ fault. (behind : List ℕ) →
+        RunsTo fault (rows_after run.old.totals.ticks types.now (text.now ++ behind))
+        (inside machine.old run.old (S.bytes sink.old))
+        (inside machine.new run.new (S.bytes sink.new))) }
     ensures room { HasRoom run.new types.now machine.new }
     ensures program { machine.new.program ≡ machine.old.program }
     ensures cause { IsErrOf result RunFault.Out → Rose (S.faults sink.old) (S.faults sink.new) }
@@ -60,9 +63,11 @@ fn tick_last<S: Sink>(
     requires unended { whole_lines text.now ≡ [] }
     ensures ran { MatchResult result
         (λ _. RunsToEnd (rows_after run.old.totals.ticks types.now text.now)
-        (inside machine.old run.old (S.bytes sink.old)) (inside machine.new run.new (S.bytes sink.new)))
+        (inside machine.old run.old (S.bytes sink.old))
+        (inside machine.new run.new (S.bytes sink.new)))
         (λ fault. RunsTo fault (rows_after run.old.totals.ticks types.now text.now)
-        (inside machine.old run.old (S.bytes sink.old)) (inside machine.new run.new (S.bytes sink.new))) }
+        (inside machine.old run.old (S.bytes sink.old))
+        (inside machine.new run.new (S.bytes sink.new))) }
     ensures cause { IsErrOf result RunFault.Out → Rose (S.faults sink.old) (S.faults sink.new) }
     ensures calm { result ≢ Err RunFault.Out → S.faults sink.new ≡ S.faults sink.old }
     ensures later { S.faults sink.old ≤ S.faults sink.new }
@@ -85,9 +90,12 @@ pub(crate) fn run_lines<S: Sink>(
     requires types { AllZip IsNarrower types.now machine.old.program.inputs }
     requires room { HasRoom run.old types.now machine.old }
     ensures ran { MatchResult result
-        (λ done. RunsLines done text.now types.now (inside machine.old run.old (S.bytes sink.old)) (inside machine.new run.new (S.bytes sink.new)))
-        (λ fault. (behind : List ℕ) → RunsTo fault (rows_after run.old.totals.ticks types.now (text.now ++ behind))
-        (inside machine.old run.old (S.bytes sink.old)) (inside machine.new run.new (S.bytes sink.new))) }
+        (λ done. RunsLines done text.now types.now (inside machine.old run.old (S.bytes sink.old))
+        (inside machine.new run.new (S.bytes sink.new)))
+        (λ fault. (behind : List ℕ) →
+        RunsTo fault (rows_after run.old.totals.ticks types.now (text.now ++ behind))
+        (inside machine.old run.old (S.bytes sink.old))
+        (inside machine.new run.new (S.bytes sink.new))) }
     ensures empty { result ≢ Err RunFault.Out → run.new.lines ≡ [] }
     ensures room { HasRoom run.new types.now machine.new }
     ensures program { machine.new.program ≡ machine.old.program }
@@ -118,9 +126,11 @@ pub(crate) fn run_last<S: Sink>(
     requires unended { whole_lines text.now ≡ [] }
     ensures ran { MatchResult result
         (λ _. RunsToEnd (rows_after run.old.totals.ticks types.now text.now)
-        (inside machine.old run.old (S.bytes sink.old)) (inside machine.new run.new (S.bytes sink.new)))
+        (inside machine.old run.old (S.bytes sink.old))
+        (inside machine.new run.new (S.bytes sink.new)))
         (λ fault. RunsTo fault (rows_after run.old.totals.ticks types.now text.now)
-        (inside machine.old run.old (S.bytes sink.old)) (inside machine.new run.new (S.bytes sink.new))) }
+        (inside machine.old run.old (S.bytes sink.old))
+        (inside machine.new run.new (S.bytes sink.new))) }
     ensures empty { result ≢ Err RunFault.Out → run.new.lines ≡ [] }
     ensures cause { IsErrOf result RunFault.Out → Rose (S.faults sink.old) (S.faults sink.new) }
     ensures calm { result ≢ Err RunFault.Out → S.faults sink.new ≡ S.faults sink.old }

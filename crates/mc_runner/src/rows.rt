@@ -33,8 +33,10 @@ pub(crate) fn fill_last(run: &mut Run, types: &[FixType], text: &[u8]) -> Result
     requires unended { whole_lines text.now ≡ [] }
     requires room { length run.old.row.items ≡ length types.now }
     requires few { run.old.totals.ticks ≤ 4294967295 }
-    ensures last { MatchResult result (λ there. EndsTrace there text.now types.now run.old.totals.ticks run.new.row.items)
-        (λ bad. rows_after run.old.totals.ticks types.now text.now ≡ record { rows = []; bad = Some bad }) }
+    ensures last { MatchResult result
+        (λ there. EndsTrace there text.now types.now run.old.totals.ticks run.new.row.items)
+        (λ bad. rows_after run.old.totals.ticks types.now text.now
+        ≡ record { rows = []; bad = Some bad }) }
     ensures filled { IsFilled run.old run.new }
 {
     let lines = run.totals.ticks as u32;

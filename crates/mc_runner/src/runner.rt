@@ -28,7 +28,8 @@ fn run_text<S: Sink>(
     requires start { run.old.totals ≡ no_totals }
     requires empty { run.old.lines ≡ [] }
     ensures ran { Ends result (rows_of trace.now types.now)
-        (standing machine.old run.old.totals (S.bytes sink.old)) (standing machine.new run.new.totals (S.bytes sink.new)) }
+        (standing machine.old run.old.totals (S.bytes sink.old))
+        (standing machine.new run.new.totals (S.bytes sink.new)) }
     ensures unread { result ≢ Err RunFault.Read }
     ensures cause { IsErrOf result RunFault.Out → Rose (S.faults sink.old) (S.faults sink.new) }
     ensures calm { result ≢ Err RunFault.Out → S.faults sink.new ≡ S.faults sink.old }
@@ -60,7 +61,8 @@ pub fn run_bytes<S: Sink>(
     requires types { AllZip IsNarrower types.now machine.old.program.inputs }
     requires start { totals.old ≡ no_totals }
     ensures ran { Ends result (rows_of trace.now types.now)
-        (standing machine.old totals.old (S.bytes sink.old)) (standing machine.new totals.new (S.bytes sink.new)) }
+        (standing machine.old totals.old (S.bytes sink.old))
+        (standing machine.new totals.new (S.bytes sink.new)) }
     ensures unread { result ≢ Err RunFault.Read }
     ensures cause { IsErrOf result RunFault.Out → Rose (S.faults sink.old) (S.faults sink.new) }
     ensures calm { result ≢ Err RunFault.Out → S.faults sink.new ≡ S.faults sink.old }

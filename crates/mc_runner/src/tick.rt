@@ -37,8 +37,10 @@ pub(crate) fn tick<S: Sink>(
     requires within { StaysWithin run.old.totals }
     requires more { run.old.totals.ticks < 4294967295 }
     ensures ticked { MatchResult result
-        (λ _. TicksOn run.old.row.items (inside machine.old run.old (S.bytes sink.old)) (inside machine.new run.new (S.bytes sink.new)))
-        (λ fault. StopsOn fault run.old.row.items (inside machine.old run.old (S.bytes sink.old)) (inside machine.new run.new (S.bytes sink.new))) }
+        (λ _. TicksOn run.old.row.items (inside machine.old run.old (S.bytes sink.old))
+        (inside machine.new run.new (S.bytes sink.new)))
+        (λ fault. StopsOn fault run.old.row.items (inside machine.old run.old (S.bytes sink.old))
+        (inside machine.new run.new (S.bytes sink.new))) }
     ensures within { StaysWithin run.new.totals }
     ensures row { length run.new.row.items ≡ length run.old.row.items }
     ensures outputs { length run.new.outputs.items ≡ length run.old.outputs.items }

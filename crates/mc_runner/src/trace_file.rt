@@ -30,12 +30,15 @@ fn run_pieces<H: Host, S: Sink>(
     requires empty { run.old.lines ≡ [] }
     requires unread { read.old.bytes ≡ [] }
     ensures ran { RunsOver result (H.rest host.old) (H.rest host.new) types.now
-        (standing machine.old run.old.totals (S.bytes sink.old)) (standing machine.new run.new.totals (S.bytes sink.new)) }
+        (standing machine.old run.old.totals (S.bytes sink.old))
+        (standing machine.new run.new.totals (S.bytes sink.new)) }
     ensures end { OnOk result (IsAtEnd (H.rest host.new)) }
 
-    ensures read_cause { IsErrOf result RunFault.Read → Rose (H.read_faults host.old) (H.read_faults host.new) }
+    ensures read_cause { IsErrOf result RunFault.Read →
+        Rose (H.read_faults host.old) (H.read_faults host.new) }
     ensures unsure { IsErrOf result RunFault.Read → H.sure_rest host.old ≡ false }
-    ensures read_calm { result ≢ Err RunFault.Read → H.read_faults host.new ≡ H.read_faults host.old }
+    ensures read_calm { result ≢ Err RunFault.Read →
+        H.read_faults host.new ≡ H.read_faults host.old }
     ensures read_later { H.read_faults host.old ≤ H.read_faults host.new }
 
     ensures out_cause { IsErrOf result RunFault.Out → Rose (S.faults sink.old) (S.faults sink.new) }
@@ -76,13 +79,16 @@ pub fn run_trace<H: Host, S: Sink>(
     requires types { AllZip IsNarrower types.now machine.old.program.inputs }
     requires start { totals.old ≡ no_totals }
     ensures ran { RunsOver result (H.rest host.old) (H.rest host.new) types.now
-        (standing machine.old totals.old (S.bytes sink.old)) (standing machine.new totals.new (S.bytes sink.new)) }
+        (standing machine.old totals.old (S.bytes sink.old))
+        (standing machine.new totals.new (S.bytes sink.new)) }
     ensures end { OnOk result (IsAtEnd (H.rest host.new)) }
     ensures untouched { IsErrOf result RunFault.Memory → H.rest host.new ≡ H.rest host.old }
 
-    ensures read_cause { IsErrOf result RunFault.Read → Rose (H.read_faults host.old) (H.read_faults host.new) }
+    ensures read_cause { IsErrOf result RunFault.Read →
+        Rose (H.read_faults host.old) (H.read_faults host.new) }
     ensures unsure { IsErrOf result RunFault.Read → H.sure_rest host.old ≡ false }
-    ensures read_calm { result ≢ Err RunFault.Read → H.read_faults host.new ≡ H.read_faults host.old }
+    ensures read_calm { result ≢ Err RunFault.Read →
+        H.read_faults host.new ≡ H.read_faults host.old }
     ensures read_later { H.read_faults host.old ≤ H.read_faults host.new }
 
     ensures out_cause { IsErrOf result RunFault.Out → Rose (S.faults sink.old) (S.faults sink.new) }

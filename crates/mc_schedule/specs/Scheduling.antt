@@ -10,11 +10,14 @@ is_unheld groups g = slice_index groups.holds g == 0
 
 -- the nodes of group g in the order, none where no function holds them
 abbrev pub nodes_of_group : List ℕ → NodeGroups → ℕ → List ℕ
-nodes_of_group order groups g = filter (λ k. (slice_index groups.of k == g) && not (is_unheld groups g)) order
+nodes_of_group order groups g =
+    filter (λ k. (slice_index groups.of k == g) && not (is_unheld groups g)) order
 
--- the groups that function j, from 0, holds, by number, where these are the sets of functions that hold each group
+-- the groups that function j, from 0, holds, by number, where these are the sets of functions that
+-- hold each group
 abbrev pub groups_holding : List ℕ → ℕ → List ℕ
-groups_holding holds j = filter (λ g. not (bit_and (slice_index holds g) (2 ^ j) == 0)) (range_with_len 0 (length holds))
+groups_holding holds j =
+    filter (λ g. not (bit_and (slice_index holds g) (2 ^ j) == 0)) (range_with_len 0 (length holds))
 
 -- the schedule for so many functions
 abbrev pub schedule_for : List ℕ → NodeGroups → ℕ → SystemSchedule

@@ -15,7 +15,8 @@ pub(crate) fn nodes_by_group(
 ) -> Result<Vec<NodeList>, Memory>
     requires nodes { All (λ k. k < length g.now.of) order.now }
     requires groups { All (λ group. group < length g.now.holds) g.now.of }
-    ensures { IfOk result (λ v. v.items ≡ map (nodes_of_group order.now g.now) (range_with_len 0 (length g.now.holds))) }
+    ensures { IfOk result (λ v. v.items
+        ≡ map (nodes_of_group order.now g.now) (range_with_len 0 (length g.now.holds))) }
 {
     let mut lists = empty_lists(alloc, g.holds.len())?;
     for k in order {
@@ -74,7 +75,8 @@ fn groups_of_function(alloc: Global, holds: &[u64], j: u32) -> Result<NodeList, 
 pub(crate) fn unheld_nodes(alloc: Global, order: &[u32], g: &Groups) -> Result<NodeList, Memory>
     requires nodes { All (λ k. k < length g.now.of) order.now }
     requires groups { All (λ group. group < length g.now.holds) g.now.of }
-    ensures { IfOk result (λ list. list ≡ filter (λ k. is_unheld_group g.now (slice_index g.now.of k)) order.now) }
+    ensures { IfOk result (λ list. list
+        ≡ filter (λ k. is_unheld_group g.now (slice_index g.now.of k)) order.now) }
 {
     let mut list = NodeList::new(alloc);
     for k in order {

@@ -24,7 +24,11 @@ impl Model for Schedule {
 
     ghost Value = { SystemSchedule };
 
-    ghost view = { λ s. record { groups = s.groups.items; functions = s.functions.items; update = s.update } };
+    ghost view = { λ s. record {
+      groups = s.groups.items;
+      functions = s.functions.items;
+      update = s.update;
+    } };
 }
 
 /// The schedule of so many functions: each group has its nodes in the order that is given, each function the groups that

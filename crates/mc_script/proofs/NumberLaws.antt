@@ -18,14 +18,16 @@ moved front number (Some xs) = ap (λ ys. Some ys) (sym (append_assoc front (num
 
 -- one number more was read, into the item behind the others or into none
 further : (all left more : Option (List ℤ)) (found : ℕ) (into into' : List ℤ) (number : ℤ) → left ≡ with_number (Some number) more →
-    (so : ReadSoFar all left found into) → take (found + 1) into' ≡ take (length into') (so.front ++ number ∷ []) → ReadSoFar all more (found + 1) into'
+    (so : ReadSoFar all left found into) → take (found + 1) into' ≡ take (length into') (so.front ++ number ∷ []) →
+    ReadSoFar all more (found + 1) into'
 further all left more found into into' number first so items = record {
   front = so.front ++ number ∷ [];
   read = (length-append so.front (number ∷ []) ∙ ap (λ n. n + 1) so.read.0, items);
   parts = so.parts ∙ ap (option_map (λ xs. so.front ++ xs)) first ∙ moved so.front number more;
 }
 
-pub read_into : (all left more : Option (List ℤ)) (found : ℕ) (into : List ℤ) (number : ℤ) → found < length into → left ≡ with_number (Some number) more →
+pub read_into : (all left more : Option (List ℤ)) (found : ℕ) (into : List ℤ) (number : ℤ) → found < length into →
+    left ≡ with_number (Some number) more →
     ReadSoFar all left found into → ReadSoFar all more (found + 1) (set into found number)
 read_into all left more found into number there first so =
     let short : length so.front ≤ length into = omega (arith, so.read.0) in
@@ -35,7 +37,8 @@ read_into all left more found into number there first so =
     (take_more_set into found number there ∙ ap (λ xs. xs ++ number ∷ []) (so.read.1 ∙ take_all (length into) so.front short)
     ∙ sym (take_all (length (set into found number)) (so.front ++ number ∷ []) size))
 
-pub read_past : (all left more : Option (List ℤ)) (found : ℕ) (into : List ℤ) (number : ℤ) → length into ≤ found → left ≡ with_number (Some number) more →
+pub read_past : (all left more : Option (List ℤ)) (found : ℕ) (into : List ℤ) (number : ℤ) → length into ≤ found →
+    left ≡ with_number (Some number) more →
     ReadSoFar all left found into → ReadSoFar all more (found + 1) into
 read_past all left more found into number none first so =
     further all left more found into into number first so

@@ -27,13 +27,15 @@ counted count values call = if length values == count then Ok call else Err (Cou
 -- the call of a function, which a number named
 abbrev pub call_of_function : List ℕ → ℤ → List ℤ → Option ℕ → Result Call ScriptWhy
 call_of_function counts number values None = Err (NoFunction number)
-call_of_function counts number values (Some j) = counted (count_of counts j) values (out_with j values)
+call_of_function counts number values (Some j) =
+    counted (count_of counts j) values (out_with j values)
 
 -- the call of the numbers behind the word `out`: a function's, and values
 abbrev pub out_of_numbers : List ℕ → Option (List ℤ) → Result Call ScriptWhy
 out_of_numbers counts None = Err Form
 out_of_numbers counts (Some []) = Err Form
-out_of_numbers counts (Some (number ∷ values)) = call_of_function counts number values (function_numbered (length counts) number)
+out_of_numbers counts (Some (number ∷ values)) =
+    call_of_function counts number values (function_numbered (length counts) number)
 
 -- the call of the numbers behind the word `update`, of which there have to be so many
 abbrev pub update_of_numbers : ℕ → Option (List ℤ) → Result Call ScriptWhy
@@ -48,14 +50,16 @@ call_of_fields counts all (word ∷ behind) =
     else if bytes_eq word (codes "update") then update_of_numbers all (numbers_of behind)
     else Err Form
 
--- The call that a line writes, or why it writes none, by the counts of the values that each function takes, and that of all
--- inputs.
+-- The call that a line writes, or why it writes none, by the counts of the values that each
+-- function takes, and that of all inputs.
 abbrev pub call_of_line : (counts : List ℕ) (all : ℕ) → List ℕ → Result Call ScriptWhy
-call_of_line counts all text = if nat_le (length text) longest then call_of_fields counts all (fields text) else Err Long
+call_of_line counts all text =
+    if nat_le (length text) longest then call_of_fields counts all (fields text) else Err Long
 
 -- a call of a function that there is, or of the update, with as many values as it takes
 abbrev pub HasItsValues : (counts : List ℕ) (all : ℕ) → Call → Type 0
-HasItsValues counts all (out_with j values) = (0 < j) × (j ≤ length counts) × (length values ≡ count_of counts j)
+HasItsValues counts all (out_with j values) =
+    (0 < j) × (j ≤ length counts) × (length values ≡ count_of counts j)
 HasItsValues counts all (update_with values) = length values ≡ all
 
 -- the call that a line asks for, with these values

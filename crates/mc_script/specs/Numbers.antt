@@ -16,4 +16,5 @@ numbers_of (field ∷ fields) = with_number (field_number field) (numbers_of fie
 -- there are so many numbers, and these items hold the first of them, as many as they can
 abbrev pub HasRead : Option (List ℤ) → (found : ℕ) (into : List ℤ) → Type 0
 HasRead None found into = ⊥
-HasRead (Some numbers) found into = (length numbers ≡ found) × (take found into ≡ take (length into) numbers)
+HasRead (Some numbers) found into =
+    (length numbers ≡ found) × (take found into ≡ take (length into) numbers)

@@ -19,17 +19,25 @@ whole_calls_after count counts all text = calls_behind count counts all (whole_l
 abbrev pub with_calls : List Call → Script → Script
 with_calls calls script = record { calls = calls ++ script.calls; bad = script.bad }
 
--- the text is whole lines that write these calls, so that whatever follows is read as though it began there
-pub record WritesCalls (text : List ℕ) (counts : List ℕ) (all : ℕ) (count : ℕ) (calls : List Call) : Type 0 where
-  pub every : (behind : List ℕ) → calls_after count counts all (text ++ behind) ≡ with_calls calls (calls_after (count + length calls) counts all behind)
-  pub whole : (behind : List ℕ) → whole_calls_after count counts all (text ++ behind) ≡ with_calls calls (whole_calls_after (count + length calls) counts all behind)
+-- the text is whole lines that write these calls, so that whatever follows is read as though it
+-- began there
+pub record WritesCalls (text : List ℕ) (counts : List ℕ) (all : ℕ) (count : ℕ)
+    (calls : List Call) : Type 0 where
+  pub every : (behind : List ℕ) →
+      calls_after count counts all (text ++ behind)
+      ≡ with_calls calls (calls_after (count + length calls) counts all behind)
+  pub whole : (behind : List ℕ) →
+      whole_calls_after count counts all (text ++ behind)
+      ≡ with_calls calls (whole_calls_after (count + length calls) counts all behind)
 
 -- the text begins with a line that is no call, whatever follows
 abbrev pub BeginsBadly : BadCall → (text : List ℕ) (counts : List ℕ) (all : ℕ) (count : ℕ) → Type 0
-BeginsBadly bad text counts all count = (behind : List ℕ) → calls_after count counts all (text ++ behind) ≡ record { calls = []; bad = Some bad }
+BeginsBadly bad text counts all count = (behind : List ℕ) →
+    calls_after count counts all (text ++ behind) ≡ record { calls = []; bad = Some bad }
 
 -- a line with its end stands from a place on, and is this call
-pub record IsNextCall (text : List ℕ) (counts : List ℕ) (all : ℕ) (count from after : ℕ) (call : Call) : Type 0 where
+pub record IsNextCall (text : List ℕ) (counts : List ℕ) (all : ℕ) (count from after : ℕ)
+    (call : Call) : Type 0 where
   pub goes_on : from < after
   pub within : after ≤ length text
   pub fewer : count < most_lines
@@ -37,7 +45,8 @@ pub record IsNextCall (text : List ℕ) (counts : List ℕ) (all : ℕ) (count f
   pub writes : WritesCalls (take (after - from) (drop from text)) counts all count (call ∷ [])
 
 -- the text is one line, which is this call
-pub record IsLastCall (text : List ℕ) (counts : List ℕ) (all : ℕ) (count : ℕ) (call : Call) : Type 0 where
+pub record IsLastCall (text : List ℕ) (counts : List ℕ) (all : ℕ) (count : ℕ)
+    (call : Call) : Type 0 where
   pub fewer : count < most_lines
   pub values : HasItsValues counts all call
   pub calls : calls_after count counts all text ≡ record { calls = call ∷ []; bad = None }

@@ -17,14 +17,17 @@ pub record Script : Type 0 where
 -- a line's call in front of the calls of the lines behind it
 abbrev pub with_call : ℕ → Result Call ScriptWhy → Script → Script
 with_call line (Ok call) script = record { calls = call ∷ script.calls; bad = script.bad }
-with_call line (Err why) script = record { calls = []; bad = Some (record { line = line; why = why }) }
+with_call line (Err why) script =
+    record { calls = []; bad = Some (record { line = line; why = why }) }
 
 -- the calls of the lines behind so many others
 abbrev pub calls_behind : ℕ → (counts : List ℕ) (all : ℕ) → List (List ℕ) → Script
 calls_behind line counts all [] = record { calls = []; bad = None }
 calls_behind line counts all (text ∷ texts) =
-    if line == most_lines then record { calls = []; bad = Some (record { line = most_lines; why = Many }) }
-    else with_call (line + 1) (call_of_line counts all text) (calls_behind (line + 1) counts all texts)
+    if line == most_lines
+    then record { calls = []; bad = Some (record { line = most_lines; why = Many }) }
+    else with_call (line + 1) (call_of_line counts all text)
+    (calls_behind (line + 1) counts all texts)
 
 -- the calls of a script's bytes
 abbrev pub calls_of : (counts : List ℕ) (all : ℕ) → List ℕ → Script

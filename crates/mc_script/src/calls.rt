@@ -79,7 +79,8 @@ fn read_out(text: &[u8], counts: &[u32], into: &mut [i64]) -> Result<ReadCall, S
     requires most { All (λ count. count ≤ length into.old) counts.now }
     requires short { length text.now ≤ 4096 }
     ensures call { MatchResult result
-        (λ read. out_of_numbers counts.now (numbers_of (fields text.now)) ≡ Ok (read_as read into.new))
+        (λ read. out_of_numbers counts.now (numbers_of (fields text.now))
+        ≡ Ok (read_as read into.new))
         (λ why. out_of_numbers counts.now (numbers_of (fields text.now)) ≡ Err why) }
     ensures within { IfOk result (λ read. read.count ≤ length into.old) }
     ensures room { length into.new ≡ length into.old }
@@ -107,7 +108,8 @@ fn read_out(text: &[u8], counts: &[u32], into: &mut [i64]) -> Result<ReadCall, S
 fn read_update(text: &[u8], into: &mut [i64]) -> Result<ReadCall, ScriptWhy>
     requires short { length text.now ≤ 4096 }
     ensures call { MatchResult result
-        (λ read. update_of_numbers (length into.old) (numbers_of (fields text.now)) ≡ Ok (read_as read into.new))
+        (λ read. update_of_numbers (length into.old) (numbers_of (fields text.now))
+        ≡ Ok (read_as read into.new))
         (λ why. update_of_numbers (length into.old) (numbers_of (fields text.now)) ≡ Err why) }
     ensures within { IfOk result (λ read. read.count ≤ length into.old) }
     ensures room { length into.new ≡ length into.old }

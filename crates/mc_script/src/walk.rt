@@ -36,7 +36,8 @@ pub fn next_call(
     requires most { All (λ count. count ≤ length into.old) counts.now }
     ensures next { MatchResult result
         (λ next. MatchOption next (BeginsLine (drop from bytes.now))
-        (λ there. IsNextCall bytes.now counts.now (length into.old) lines from there.1 (read_as there.0 into.new)))
+        (λ there. IsNextCall bytes.now counts.now (length into.old) lines from there.1
+        (read_as there.0 into.new)))
         (λ bad. BeginsBadly bad (drop from bytes.now) counts.now (length into.old) lines) }
     ensures within { IfOk result (λ next. IfSome next (λ there. there.0.count ≤ length into.old)) }
     ensures room { length into.new ≡ length into.old }
@@ -77,9 +78,11 @@ pub fn last_call(
     requires few { length counts.now < 2 ^ 32 }
     requires most { All (λ count. count ≤ length into.old) counts.now }
     ensures last { MatchResult result
-        (λ last. MatchOption last (calls_after lines counts.now (length into.old) bytes.now ≡ record { calls = []; bad = None })
+        (λ last. MatchOption last (calls_after lines counts.now (length into.old) bytes.now
+        ≡ record { calls = []; bad = None })
         (λ read. IsLastCall bytes.now counts.now (length into.old) lines (read_as read into.new)))
-        (λ bad. calls_after lines counts.now (length into.old) bytes.now ≡ record { calls = []; bad = Some bad }) }
+        (λ bad. calls_after lines counts.now (length into.old) bytes.now
+        ≡ record { calls = []; bad = Some bad }) }
     ensures within { IfOk result (λ last. IfSome last (λ read. read.count ≤ length into.old)) }
     ensures room { length into.new ≡ length into.old }
 {

@@ -1,4 +1,5 @@
--- What a script comes to where the driver is one of right code: the calls up to the script's end are answered by the system.
+-- What a script comes to where the driver is one of right code: the calls up to the script's end
+-- are answered by the system.
 use Rattle.std.specs.Prelude.{◌≡◌, ℕ, List, [], ◌++◌, Option, IfSome, Result, Ok, Err, ℤ}
 use Rattle.std.specs.Io.KnownBytes.{append_known, prepend_known}
 use Rattle.mc_edge.specs.Files.{PutsFront}
@@ -16,8 +17,8 @@ use Rattle.mc_script_runner.specs.ScriptEnds.{Whole, AtLine, AtCall, script_end,
 use Rattle.mc_script_runner.specs.Standings.{Standing, totals_of}
 use Rattle.mc_script_runner.specs.Texts.{answers_text}
 
--- The calls are a lawful script of the system. Each told what the system gives over every trace that fits the script, of which
--- there is one, and took what it takes in the program.
+-- The calls are a lawful script of the system. Each told what the system gives over every trace
+-- that fits the script, of which there is one, and took what it takes in the program.
 pub record AreAnswered (w : Driven) (answers : List Answered) : Type 0 where
   pub lawful : IsLawfulScript w.diagram w.system (functions_of w) (calls_in answers)
   pub given : (xs : List (List ℤ)) (run : Run) → RunsOver w (calls_in answers) xs run →
@@ -42,7 +43,8 @@ pub record AnswersSome (w : Driven) (script : List ℕ) (put put' : Option (List
   pub right : AreAnswered w answers
   pub front : PutsFront put put' (answers_text answers)
 
--- each whole line among the bytes that were taken is a call that was answered, and whose line was put
+-- each whole line among the bytes that were taken is a call that was answered, and whose line was
+-- put
 pub record AnswersTaken (w : Driven) (taken : List ℕ) (put put' : Option (List ℕ)) : Type 0 where
   pub end : end_of (shape_of w) (whole_script_of (shape_of w) taken) ≡ Whole
   pub answers : List Answered

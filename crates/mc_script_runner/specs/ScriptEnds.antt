@@ -1,4 +1,5 @@
--- Where a script ends, by what the system takes alone: at its first line that is no call, or whose call is refused.
+-- Where a script ends, by what the system takes alone: at its first line that is no call, or whose
+-- call is refused.
 use Rattle.std.specs.Prelude.{ℕ, ◌+◌, ◌-◌, Bool, true, false, List, [], ◌∷◌, length, zip, take, replicate, slice_set, Option, Some, None, ℤ}
 use Rattle.std.specs.Option.{option_or}
 use Rattle.c_right.specs.Scripts.{Call, out_with, update_with}
@@ -11,7 +12,8 @@ use Rattle.mc_script.specs.declared.walk.BadCall.{BadCall}
 use Rattle.mc_script.specs.Scripts.{Script, calls_of, whole_calls_of}
 use Rattle.mc_script_runner.specs.declared.outcome.RefusedCall.{RefusedCall}
 
--- what was done in the present tick: of each function whether it was called, and for each input the value that it was given
+-- what was done in the present tick: of each function whether it was called, and for each input the
+-- value that it was given
 pub record Turn : Type 0 where
   pub called : List Bool
   pub given : List (Option ℤ)

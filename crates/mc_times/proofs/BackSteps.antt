@@ -24,15 +24,18 @@ rows-from : (n b : ℕ) → b < n → range_with_len b (n - b) ≡ b ∷ range_w
 rows-from n b h = ap (range_with_len b) (let e : n - b ≡ suc (n - (b + 1)) = omega arith in e)
 
 -- one row more, before those that were looked at
-pub back-more : (f : ℕ → List PlainRefusal) (n b m : ℕ) (found least later : Option PlainRefusal) → m ≡ b + 1 → b < n → length (f b) ≤ 1 → found ≡ least_line (f b) →
-    least ≡ least_line (flat_map f (range_with_len m (n - m))) → later ≡ earlier_of found least → later ≡ least_line (flat_map f (range_with_len b (n - b)))
+pub back-more : (f : ℕ → List PlainRefusal) (n b m : ℕ) (found least later : Option PlainRefusal) → m ≡ b + 1 → b < n →
+    length (f b) ≤ 1 → found ≡ least_line (f b) →
+    least ≡ least_line (flat_map f (range_with_len m (n - m))) → later ≡ earlier_of found least →
+    later ≡ least_line (flat_map f (range_with_len b (n - b)))
 back-more f n b m found least later next inside short e rest step =
     step ∙ ap₂ earlier_of e (rest ∙ ap (λ k. least_line (flat_map f (range_with_len k (n - k)))) next)
     ∙ sym (one-or-none (f b) (flat_map f (range_with_len (b + 1) (n - (b + 1)))) short)
     ∙ ap (λ xs. least_line (flat_map f xs)) (sym (rows-from n b inside))
 
 -- all are looked at
-pub back-end : (f : ℕ → List PlainRefusal) (n b : ℕ) (least : Option PlainRefusal) → b ≤ 0 → least ≡ least_line (flat_map f (range_with_len b (n - b))) →
+pub back-end : (f : ℕ → List PlainRefusal) (n b : ℕ) (least : Option PlainRefusal) → b ≤ 0 →
+    least ≡ least_line (flat_map f (range_with_len b (n - b))) →
     least ≡ least_line (flat_map f (range_with_len 0 n))
 back-end f n b least none e =
     e ∙ ap₂ (λ k m. least_line (flat_map f (range_with_len k m))) (let q : b ≡ 0 = omega arith in q) (let q : n - b ≡ n = omega arith in q)
@@ -48,19 +51,22 @@ listed-short test refusal b = by (test b)
     by true = omega arith
     by false = omega arith
 
-pub found-listed : (test : ℕ → Bool) (refusal : ℕ → PlainRefusal) (b : ℕ) → found_where test refusal b ≡ least_line (listed_where test refusal b)
+pub found-listed : (test : ℕ → Bool) (refusal : ℕ → PlainRefusal) (b : ℕ) →
+    found_where test refusal b ≡ least_line (listed_where test refusal b)
 found-listed test refusal b = by (test b)
   where
     by : (r : Bool) → (if r then Some (refusal b) else None) ≡ least_line (if r then refusal b ∷ [] else [])
     by true = refl
     by false = refl
 
-pub listed-all : (test : ℕ → Bool) (refusal : ℕ → PlainRefusal) (xs : List ℕ) → flat_map (listed_where test refusal) xs ≡ map refusal (filter test xs)
+pub listed-all : (test : ℕ → Bool) (refusal : ℕ → PlainRefusal) (xs : List ℕ) →
+    flat_map (listed_where test refusal) xs ≡ map refusal (filter test xs)
 listed-all test refusal [] = refl
 listed-all test refusal (x ∷ xs) = by (test x) (listed-all test refusal xs)
   where
     by : (r : Bool) → flat_map (listed_where test refusal) xs ≡ map refusal (filter test xs) →
-        (if r then refusal x ∷ [] else []) ++ flat_map (listed_where test refusal) xs ≡ map refusal (if r then x ∷ filter test xs else filter test xs)
+        (if r then refusal x ∷ [] else []) ++ flat_map (listed_where test refusal) xs
+        ≡ map refusal (if r then x ∷ filter test xs else filter test xs)
     by true e = ap (λ l. refusal x ∷ l) e
     by false e = e
 

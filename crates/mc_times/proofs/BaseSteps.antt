@@ -23,7 +23,8 @@ pub gcd-step : (denominator : ℕ) (step : Frac) (fs : List Frac) →
     gcd_over denominator (numerator_over denominator step) fs ≡ gcd_over denominator 0 (step ∷ fs)
 gcd-step denominator step fs = ap (λ n. gcd_over denominator n fs) (sym (gcd-first (numerator_over denominator step)))
 
-gcd-parts : (denominator n : ℕ) (fs gs : List Frac) → gcd_over denominator n (fs ++ gs) ≡ gcd_over denominator (gcd_over denominator n fs) gs
+gcd-parts : (denominator n : ℕ) (fs gs : List Frac) →
+    gcd_over denominator n (fs ++ gs) ≡ gcd_over denominator (gcd_over denominator n fs) gs
 gcd-parts denominator n [] gs = refl
 gcd-parts denominator n (f ∷ fs) gs = gcd-parts denominator (gcd n (numerator_over denominator f)) fs gs
 

@@ -63,13 +63,19 @@ module _ (found : List (Option Time)) (xs : List ℕ) (c : ℕ) where
   same u e is = (
     (is.0.0, further is.0.0 is.0.1),
     record {
-      includes = λ t a. elim (one-of t a) [ inl before ↦ is.1.includes t before | inr last ↦ absurd (let wrong : ⊥ = cc (e, last) in wrong) ];
+      includes =
+          λ t a. elim (one-of t a) [
+            | inl before ↦ is.1.includes t before
+            | inr last ↦
+                absurd (let wrong : ⊥ = cc (e, last) in wrong)
+          ];
       smallest = λ other all. is.1.smallest other (λ t a. all t (further t a));
     },
   )
 
   -- both are there
-  both : (u v hull : Time) → found_at found c ≡ Some v → IsHull u v hull → IsFound (Among found xs) (Some u) → IsFound (Among found (xs ++ c ∷ [])) (Some hull)
+  both : (u v hull : Time) → found_at found c ≡ Some v → IsHull u v hull → IsFound (Among found xs) (Some u) →
+      IsFound (Among found (xs ++ c ∷ [])) (Some hull)
   both u v hull e h is = (
     (v, now v e),
     record {
@@ -81,7 +87,8 @@ module _ (found : List (Option Time)) (xs : List ℕ) (c : ℕ) where
     },
   )
 
-  pub among-more : (all o joined : Option Time) → found_at found c ≡ o → IsJoined all o joined → IsFound (Among found xs) all → IsFound (Among found (xs ++ c ∷ [])) joined
+  pub among-more : (all o joined : Option Time) → found_at found c ≡ o → IsJoined all o joined →
+      IsFound (Among found xs) all → IsFound (Among found (xs ++ c ∷ [])) joined
   among-more None o joined e j is = subst (IsFound (Among found (xs ++ c ∷ []))) (sym j) (first o e is)
   among-more (Some u) None joined e j is = subst (IsFound (Among found (xs ++ c ∷ []))) (sym j) (same u e is)
   among-more (Some u) (Some v) None e j is = absurd j
@@ -95,24 +102,33 @@ among-none found t (c, h, e) = let l = h.1 in omega arith
 pub collected-none : (rows : List Row) (found : List (Option Time)) (inside : List Time) → inside ≡ [] → AreCollected rows found 0 inside
 collected-none rows found inside e = record { len = ap length e; each = λ b below. absurd (omega arith) }
 
-pub collected-more : (rows : List Row) (found : List (Option Time)) (n : ℕ) (inside later : List Time) (time : Time) → IsCollected rows found n time →
+pub collected-more : (rows : List Row) (found : List (Option Time)) (n : ℕ) (inside later : List Time) (time : Time) →
+    IsCollected rows found n time →
     later ≡ inside ++ time ∷ [] → AreCollected rows found n inside → AreCollected rows found (n + 1) later
 collected-more rows found n inside later time is e are = subst (AreCollected rows found (n + 1)) (sym e) (record {
   len = length-append inside (time ∷ []) ∙ (let l = are.len in omega arith);
   each = λ b below. elim (cases_lt b n) [
-    | inl before ↦ subst (IsCollected rows found b) (sym (get_or_append_left inside (time ∷ []) every_tick b (let l = are.len in omega arith))) (are.each b before)
+    | inl before ↦
+        subst (IsCollected rows found b)
+        (sym (get_or_append_left inside (time ∷ []) every_tick b (let l = are.len in omega arith))) (are.each b before)
     | inr last ↦
         let same : n ≡ b = omega arith in
         subst (λ k. IsCollected rows found k (get_or (inside ++ time ∷ []) k every_tick)) same
         (subst (IsCollected rows found n)
-        (sym (get_or-append_right inside (time ∷ []) n n every_tick are.len (omega arith) ∙ ap (λ k. get_or (time ∷ []) k every_tick) (let z : n - n ≡ 0 = omega arith in z))) is)
+        (sym (get_or-append_right inside (time ∷ []) n n every_tick are.len (omega arith)
+        ∙ ap (λ k. get_or (time ∷ []) k every_tick) (let z : n - n ≡ 0 = omega arith in z))) is)
   ];
 })
 
 -- ---- What is found in the search
 
 pub time-equal : (a b : Time) → a.period ≡ b.period → a.offset ≡ b.offset → a ≡ b
-time-equal a b p o = λ i. record { period = p i; offset = o i; in_period = is_prop→PathP (λ j. suc (o j) ≤ p j) (λ j. le_prop) a.in_period b.in_period i }
+time-equal a b p o =
+    λ i. record {
+      period = p i;
+      offset = o i;
+      in_period = is_prop→PathP (λ j. suc (o j) ≤ p j) (λ j. le_prop) a.in_period b.in_period i;
+    }
 
 module _ (table : RowTable) (base : BaseTick) (is_base : IsBaseOf table base) where
   pub ticks-same : (f : Frac) → ticks_of base f ≡ ticks table f
@@ -131,12 +147,14 @@ module _ (table : RowTable) (base : BaseTick) (is_base : IsBaseOf table base) wh
   time-written (Each period offset) o time (t, f, p, q) w =
       f ∙ ap Some (time-equal t time (p ∙ ticks-same period ∙ sym w.0) (q ∙ ticks-same offset ∙ sym w.1))
 
-  fed-inherits : (text : TimeText) (inputs : List ℕ) (a : ℕ) → Contains (where_inherited text inputs) a → (text ≡ Inherit) × Contains inputs a
+  fed-inherits : (text : TimeText) (inputs : List ℕ) (a : ℕ) → Contains (where_inherited text inputs) a →
+      (text ≡ Inherit) × Contains inputs a
   fed-inherits Inherit inputs a h = (refl, h)
   fed-inherits Constant inputs a h = absurd (let l = h.1 in omega arith)
   fed-inherits (Each period offset) inputs a h = absurd (let l = h.1 in omega arith)
 
-  module _ (g : NeedsGraph) (feeding : IsFeeding table.rows g) (inside : AreInputsInside table.rows) (given : List (Option Time)) (are : AreGiven table.rows base (length table.rows) given) where
+  module _ (g : NeedsGraph) (feeding : IsFeeding table.rows g) (inside : AreInputsInside table.rows)
+      (given : List (Option Time)) (are : AreGiven table.rows base (length table.rows) given) where
     along-edge : (b a : ℕ) (time : Time) → Needs g b a → Finds table a time → Finds table b time
     along-edge b a time needs f =
         let r = (feeding.edges b a).0 needs in
@@ -158,8 +176,12 @@ module _ (table : RowTable) (base : BaseTick) (is_base : IsBaseOf table base) wh
         by (inr (path, walk)) = along-walk b path a time walk start
 
     pub finds-comes : (b : ℕ) (time : Time) → Finds table b time → b < length table.rows → Comes g given b time
-    finds-comes b time (here w) below =
-        (b, (let e = feeding.size in omega arith), inl refl, time-written (search_time table.rows b) (found_at given b) time (are.each b below) w)
+    finds-comes b time (here w) below = (
+      b,
+      (let e = feeding.size in omega arith),
+      inl refl,
+      time-written (search_time table.rows b) (found_at given b) time (are.each b below) w,
+    )
     finds-comes b time (through {c = next} e h f) below =
         comes-on g given next b time
         ((feeding.edges b next).1 (below, subst (λ text. Contains (where_inherited text (search_inputs table.rows b)) next) (sym e) h))
@@ -174,36 +196,48 @@ module _ (table : RowTable) (base : BaseTick) (is_base : IsBaseOf table base) wh
           by None none = λ t f. none t (finds-comes c t f below)
           by (Some t) is = (
             (is.0.0, comes-finds c is.0.0 is.0.1),
-            record { includes = λ u f. is.1.includes u (finds-comes c u f below); smallest = λ other all. is.1.smallest other (λ u k. all u (comes-finds c u k)) },
+            record {
+              includes = λ u f. is.1.includes u (finds-comes c u f below);
+              smallest = λ other all. is.1.smallest other (λ u k. all u (comes-finds c u k));
+            },
           )
 
       -- what the inputs of a row give
       before : (b : ℕ) (o : Option Time) → IsFound (Among found (search_inputs table.rows b)) o → IsFound (FindsBefore table b) o
       before b None none = λ t (c, h, f). by c h t f (found_at found c) refl
         where
-          by : (c : ℕ) → Contains (search_inputs table.rows b) c → (t : Time) → Finds table c t → (o : Option Time) → found_at found c ≡ o → ⊥
+          by : (c : ℕ) → Contains (search_inputs table.rows b) c → (t : Time) → Finds table c t → (o : Option Time) →
+              found_at found c ≡ o → ⊥
           by c h t f None e = at-row c None (search-inside table.rows inside b c h) e t f
           by c h t f (Some u) e = none u (c, h, e)
       before b (Some time) is = (
         some is.0.1,
-        record { includes = λ t (c, h, f). by c h t f (found_at found c) refl; smallest = λ other all. is.1.smallest other (λ u (c, h, e). least other all u c h e) },
+        record {
+          includes = λ t (c, h, f). by c h t f (found_at found c) refl;
+          smallest = λ other all. is.1.smallest other (λ u (c, h, e). least other all u c h e);
+        },
       )
         where
           some : {u : Time} → Among found (search_inputs table.rows b) u → (t : Time) × FindsBefore table b t
           some {u} (c, h, e) = let r = at-row c (Some u) (search-inside table.rows inside b c h) e in (r.0.0, (c, h, r.0.1))
 
-          by : (c : ℕ) → Contains (search_inputs table.rows b) c → (t : Time) → Finds table c t → (o : Option Time) → found_at found c ≡ o → Includes time t
+          by : (c : ℕ) → Contains (search_inputs table.rows b) c → (t : Time) → Finds table c t → (o : Option Time) →
+              found_at found c ≡ o → Includes time t
           by c h t f None e = absurd (at-row c None (search-inside table.rows inside b c h) e t f)
-          by c h t f (Some u) e = Includes-trans time u t (is.1.includes u (c, h, e)) ((at-row c (Some u) (search-inside table.rows inside b c h) e).1.includes t f)
+          by c h t f (Some u) e =
+              Includes-trans time u t (is.1.includes u (c, h, e))
+              ((at-row c (Some u) (search-inside table.rows inside b c h) e).1.includes t f)
 
-          least : (other : Time) → ((t : Time) → FindsBefore table b t → Includes other t) → (u : Time) (c : ℕ) → Contains (search_inputs table.rows b) c → found_at found c ≡ Some u → Includes other u
+          least : (other : Time) → ((t : Time) → FindsBefore table b t → Includes other t) → (u : Time) (c : ℕ) →
+              Contains (search_inputs table.rows b) c → found_at found c ≡ Some u → Includes other u
           least other all u c h e = (at-row c (Some u) (search-inside table.rows inside b c h) e).1.smallest other (λ t f. all t (c, h, f))
 
       inferred : (F : Time → Type 0) (o : Option Time) → IsFound F o → IsInferred F (unwrap_or o every_tick)
       inferred F None none = record { none = λ _. refl; some = λ t f. absurd (none t f) }
       inferred F (Some t) is = record { none = λ none. absurd (none is.0.0 is.0.1); some = λ u f. is.1 }
 
-      pub input-times : (inside_times : List Time) → AreCollected table.rows found (length table.rows) inside_times → AreInputTimes table inside_times
+      pub input-times : (inside_times : List Time) → AreCollected table.rows found (length table.rows) inside_times →
+          AreInputTimes table inside_times
       input-times inside_times collected = record {
         one_each = collected.len;
         are_input_times = λ b below.

@@ -47,7 +47,8 @@ denominators-first period offset = (map den_of (if offset.num == 0 then [] else 
 
 -- ---- All of them
 
-of_fractions : (rows : List Row) → flat_map (λ (row : Row). denominators_in (written_by row.kind row.time_text)) rows ≡ map den_of (written_fractions rows)
+of_fractions : (rows : List Row) → flat_map (λ (row : Row). denominators_in (written_by row.kind row.time_text)) rows
+    ≡ map den_of (written_fractions rows)
 of_fractions [] = refl
 of_fractions (row ∷ rows) =
     ap (λ ns. denominators_in (written_by row.kind row.time_text) ++ ns) (of_fractions rows)

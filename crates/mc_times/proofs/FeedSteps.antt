@@ -48,18 +48,21 @@ feeds-none rows edges e b a = (
   λ h. absurd (let l = h.0 in omega arith),
 )
 
-pub feeds-more : (rows : List Row) (n : ℕ) (edges later : List (ℕ × ℕ)) (fed : List ℕ) → fed ≡ fed_by rows n → later ≡ edges ++ edges_to n fed →
+pub feeds-more : (rows : List Row) (n : ℕ) (edges later : List (ℕ × ℕ)) (fed : List ℕ) → fed ≡ fed_by rows n →
+    later ≡ edges ++ edges_to n fed →
     AreFeedsBelow rows n edges → AreFeedsBelow rows (n + 1) later
 feeds-more rows n edges later fed e f are b a =
     let all : edges ++ edges_to n (fed_by rows n) ≡ later = ap (λ l. edges ++ edges_to n l) (sym e) ∙ sym f in (
       λ h. elim (Contains-append_cases edges (edges_to n (fed_by rows n)) (a, b) (subst (λ l. Contains l (a, b)) (sym all) h)) [
         | inl l ↦ let r = (are b a).0 l in ((let q = r.0 in omega arith), r.1)
-        | inr k ↦ let r = edge-from n (fed_by rows n) a b k in ((let q = r.0 in omega arith), subst (λ m. Contains (fed_by rows m) a) (sym r.0) r.1)
+        | inr k ↦ let r = edge-from n (fed_by rows n) a b k in
+            ((let q = r.0 in omega arith), subst (λ m. Contains (fed_by rows m) a) (sym r.0) r.1)
       ],
       λ h. subst (λ l. Contains l (a, b)) all (elim (cases_eq b n) [
         | inl same ↦
             Contains-append_right edges (edges_to n (fed_by rows n)) (a, b)
-            (subst (λ m. Contains (edges_to n (fed_by rows n)) (a, m)) (sym same) (edge-to n (fed_by rows n) a (subst (λ m. Contains (fed_by rows m) a) same h.1)))
+            (subst (λ m. Contains (edges_to n (fed_by rows n)) (a, m)) (sym same)
+            (edge-to n (fed_by rows n) a (subst (λ m. Contains (fed_by rows m) a) same h.1)))
         | inr differ ↦ Contains-append_left edges (edges_to n (fed_by rows n)) (a, b) ((are b a).1 ((let q = h.0 in omega arith), h.1))
       ]),
     )
@@ -96,13 +99,20 @@ fed-inside rows inside b a h = by (search_time rows b) h
     by Constant k = absurd (let l = k.1 in omega arith)
     by (Each period offset) k = absurd (let l = k.1 in omega arith)
 
-all-edges : (n : ℕ) (edges : List (ℕ × ℕ)) → ((b a : ℕ) → Contains edges (a, b) → (a < n) × (b < n)) → AllByRecursion (λ (edge : ℕ × ℕ). (edge.0 < n) × (edge.1 < n)) edges
+all-edges : (n : ℕ) (edges : List (ℕ × ℕ)) → ((b a : ℕ) → Contains edges (a, b) → (a < n) × (b < n)) →
+    AllByRecursion (λ (edge : ℕ × ℕ). (edge.0 < n) × (edge.1 < n)) edges
 all-edges n [] h = tt
-all-edges n (edge ∷ edges) h = (h edge.1 edge.0 (contains-front edge edges), all-edges n edges (λ b a k. h b a (contains-behind edge edges (a, b) k)))
+all-edges n (edge ∷ edges) h = (
+  h edge.1 edge.0 (contains-front edge edges),
+  all-edges n edges (λ b a k. h b a (contains-behind edge edges (a, b) k)),
+)
 
-pub feeds-graph : (rows : List Row) (edges : List (ℕ × ℕ)) (n : ℕ) → AreInputsInside rows → n ≡ length rows → AreFeedsBelow rows (length rows) edges → IsGraph (record { n = n; edges = edges })
+pub feeds-graph : (rows : List Row) (edges : List (ℕ × ℕ)) (n : ℕ) → AreInputsInside rows → n ≡ length rows →
+    AreFeedsBelow rows (length rows) edges → IsGraph (record { n = n; edges = edges })
 feeds-graph rows edges n inside e are =
-    all-edges n edges (λ b a k. let r = (are b a).0 k in let l = fed-inside rows inside b a r.1 in ((let q = l in omega arith), (let q = r.0 in omega arith)))
+    all-edges n edges (λ b a k. let r = (are b a).0 k in let l = fed-inside rows inside b a r.1 in
+    ((let q = l in omega arith), (let q = r.0 in omega arith)))
 
-pub feeds-done : (rows : List Row) (edges : List (ℕ × ℕ)) (n : ℕ) → n ≡ length rows → AreFeedsBelow rows (length rows) edges → IsFeeding rows (record { n = n; edges = edges })
+pub feeds-done : (rows : List Row) (edges : List (ℕ × ℕ)) (n : ℕ) → n ≡ length rows →
+    AreFeedsBelow rows (length rows) edges → IsFeeding rows (record { n = n; edges = edges })
 feeds-done rows edges n e are = record { size = e; edges = are }

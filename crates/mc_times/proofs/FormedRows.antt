@@ -72,7 +72,8 @@ module _ (table : RowTable) (formed : IsWellFormed table) where
   inputs-inside b a holds = elim (cases_lt b (length table.rows)) [
     | inl below ↦
         let row = row_at table.rows b in
-        (all-contained (IsWireIn table.rows (reading_system table.rows row.kind row.owner)) row.inputs a (formed.wired.wires b below) holds).0
+        (all-contained (IsWireIn table.rows (reading_system table.rows row.kind row.owner)) row.inputs a
+        (formed.wired.wires b below) holds).0
     | inr past ↦
         let h : Contains no_row.inputs a = subst (λ (r : Row). Contains r.inputs a) (get_or_past table.rows b no_row past) holds in
         absurd (let low = h.1 in omega (arith, low))

@@ -11,7 +11,8 @@ use Rattle.mc_times.specs.declared.cycles.Multiple.{Multiple}
 use Rattle.mc_times.proofs.LineNumbers.{IsRunning, running-grown, running-over}
 
 -- the multiple of the numbers up to here, within its limit
-pub record IsGrowing (limit : ℕ) (what : CycleWhat) (start : ℕ) (all : List AtLine) (multiple : Multiple) (left : List AtLine) : Type 0 where
+pub record IsGrowing (limit : ℕ) (what : CycleWhat) (start : ℕ) (all : List AtLine) (multiple : Multiple)
+    (left : List AtLine) : Type 0 where
   pub limit_is : multiple.limit ≡ limit
   pub what_is : multiple.what ≡ what
   pub within : multiple.so_far ≤ limit
@@ -22,7 +23,8 @@ abbrev pub too_long : CycleWhat → Option AtLine → Option PlainRefusal
 too_long what over = option_map (λ (over : AtLine). LongCycle over.line what over.number) over
 
 module _ (limit : ℕ) (what : CycleWhat) (start : ℕ) (all : List AtLine) (before : Multiple) (left : List AtLine) where
-  pub grown : (later : Multiple) (line number : ℕ) → IsGrowing limit what start all before (record { line = line; number = number } ∷ left) →
+  pub grown : (later : Multiple) (line number : ℕ) →
+      IsGrowing limit what start all before (record { line = line; number = number } ∷ left) →
       0 < number → later.so_far ≡ lcm before.so_far number → later.so_far ≤ before.limit →
       (later.limit ≡ before.limit) × (later.what ≡ before.what) → IsGrowing limit what start all later left
   grown later line number is above e within same =
@@ -34,7 +36,8 @@ module _ (limit : ℕ) (what : CycleWhat) (start : ℕ) (all : List AtLine) (bef
         running = running-grown limit start all before.so_far line number later.so_far left is.running above e low;
       }
 
-  pub grown-over : (line number : ℕ) (refused : PlainRefusal) → IsGrowing limit what start all before (record { line = line; number = number } ∷ left) →
+  pub grown-over : (line number : ℕ) (refused : PlainRefusal) →
+      IsGrowing limit what start all before (record { line = line; number = number } ∷ left) →
       refused ≡ LongCycle line before.what (lcm before.so_far number) → before.limit < lcm before.so_far number →
       too_long what (first_over limit start all) ≡ Some refused
   grown-over line number refused is e above =
@@ -50,10 +53,12 @@ module _ (limit : ℕ) (what : CycleWhat) (start : ℕ) (all : List AtLine) (bef
   pub grown-all : left ≡ [] → IsGrowing limit what start all before left → first_over limit start all ≡ None
   grown-all e is = sym is.running.over ∙ ap (first_over limit before.so_far) e
 
-  pub grown-value : left ≡ [] → IsGrowing limit what start all before left → before.so_far ≡ fold lcm start (map (λ (a : AtLine). a.number) all)
+  pub grown-value : left ≡ [] → IsGrowing limit what start all before left →
+      before.so_far ≡ fold lcm start (map (λ (a : AtLine). a.number) all)
   grown-value e is = ap (λ rest. fold lcm before.so_far (map (λ (a : AtLine). a.number) rest)) (sym e) ∙ is.running.product
 
 -- what `?` returns
-pub refused-same : {V : Type 0} (r : Result V Refusal) (e : Refusal) (P : Refusal → Type 0) → IsErrAnd r (λ given. given ≡ e) → P e → IfErr r P
+pub refused-same : {V : Type 0} (r : Result V Refusal) (e : Refusal) (P : Refusal → Type 0) →
+    IsErrAnd r (λ given. given ≡ e) → P e → IfErr r P
 refused-same (Ok v) e P given h = absurd given
 refused-same (Err given) e P is h = subst P (sym is) h

@@ -28,7 +28,8 @@ back : (n x y : ℕ) → x ≤ y → x % n ≡ y % n → n ∣ y - x
 back n x y le same =
     let p = div-add-mod x n in
     let q = div-add-mod y n in
-    subst (λ d. n ∣ d) (let e : n * (y / n) - n * (x / n) ≡ y - x = omega arith in e) (dvd-sub n (dvd-mul_right n (y / n)) (dvd-mul_right n (x / n)))
+    subst (λ d. n ∣ d) (let e : n * (y / n) - n * (x / n) ≡ y - x = omega arith in
+    e) (dvd-sub n (dvd-mul_right n (y / n)) (dvd-mul_right n (x / n)))
 
 distance-divided : (n x y : ℕ) → x % n ≡ y % n → n ∣ abs_diff x y
 distance-divided n x y same = elim (dec_le x y) [
@@ -41,7 +42,8 @@ divisor-positive : (g n : ℕ) → 0 < n → g ∣ n → 0 < g
 divisor-positive zero n above h = absurd (let none = eq-zero_of_zero-dvd h in omega arith)
 divisor-positive (suc g) n above h = omega arith
 
-pub common-period : (a b : Time) (x y d r g : ℕ) → x ≡ a.period → y ≡ b.period → d ≡ abs_diff a.offset b.offset → IsGcd x y r → IsGcd r d g → IsCommonPeriod a b g
+pub common-period : (a b : Time) (x y d r g : ℕ) → x ≡ a.period → y ≡ b.period → d ≡ abs_diff a.offset b.offset →
+    IsGcd x y r → IsGcd r d g → IsCommonPeriod a b g
 common-period a b x y d r g e f k one two =
     let first : g ∣ a.period = subst (λ n. g ∣ n) e (dvd_trans g two.0 one.0) in
     record {
@@ -64,7 +66,9 @@ is-hull a b g is hull e f = record {
   );
   smallest = λ other p q.
       let n : ℕ = other.period in
-      let divides : n ∣ g = is.greatest n (dvd_of_mod-eq-zero n p.0) (dvd_of_mod-eq-zero n q.0) (distance-divided n a.offset b.offset (p.1 ∙ sym q.1)) in (
+      let divides : n ∣ g =
+      is.greatest n (dvd_of_mod-eq-zero n p.0) (dvd_of_mod-eq-zero n q.0)
+      (distance-divided n a.offset b.offset (p.1 ∙ sym q.1)) in (
         ap (λ m. m % n) e ∙ mod-eq-zero_of_dvd n divides,
         ap (λ m. m % n) f ∙ mod-mod_of_dvd n a.offset divides ∙ p.1,
       );
@@ -80,7 +84,11 @@ Includes-trans a b c p q =
     )
 
 pub Includes-self : (a : Time) → Includes a a
-Includes-self a = (mod-eq-zero_of_dvd a.period (subst (λ n. a.period ∣ n) (let e : a.period * 1 ≡ a.period = omega arith in e) (dvd-mul_right a.period 1)), mod-eq_of_lt a.in_period)
+Includes-self a = (
+  mod-eq-zero_of_dvd a.period (subst (λ n. a.period ∣ n) (let e : a.period * 1 ≡ a.period = omega arith in
+      e) (dvd-mul_right a.period 1)),
+  mod-eq_of_lt a.in_period,
+)
 
 -- a time that is widened by one that it does not include gets a lesser period
 pub widened-some : (found time wider : Time) → IsHull found time wider → (Includes found time → ⊥) → IsWidened (Some found) time wider
@@ -93,7 +101,8 @@ widened-some found time wider is fails = (is, lesser)
     lesser = elim (ℕ_discrete wider.period found.period) [
       | yes same ↦ absurd (fails (
         ap (λ n. time.period % n) (sym same) ∙ is.second.0,
-        ap (λ n. time.offset % n) (sym same) ∙ is.second.1 ∙ sym is.first.1 ∙ ap (λ n. found.offset % n) same ∙ mod-eq_of_lt found.in_period,
+        ap (λ n. time.offset % n) (sym same) ∙ is.second.1 ∙ sym is.first.1 ∙ ap (λ n. found.offset % n) same
+            ∙ mod-eq_of_lt found.in_period,
       ))
       | no differ ↦ let l = low in omega arith
     ]

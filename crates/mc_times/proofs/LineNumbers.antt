@@ -49,7 +49,8 @@ pub numbers-rows : (f : TimeText → List ℕ) (rows : List Row) →
 numbers-rows f [] = refl
 numbers-rows f (row ∷ rows) =
     map-append (λ (a : AtLine). a.number) (of_row f row) (of_rows f rows)
-    ∙ ap (λ ns. ns ++ map (λ (a : AtLine). a.number) (of_rows f rows)) (numbers-at_line row.place.line (f (written_by row.kind row.time_text)))
+    ∙ ap (λ ns. ns ++ map (λ (a : AtLine). a.number) (of_rows f rows))
+    (numbers-at_line row.place.line (f (written_by row.kind row.time_text)))
     ∙ ap (λ ns. f (written_by row.kind row.time_text) ++ ns) (numbers-rows f rows)
 
 -- two functions of written times that agree
@@ -62,7 +63,8 @@ same-rows f g same (row ∷ rows) =
 -- one row of those that are left
 pub left-more : (f : TimeText → List ℕ) (rows : List Row) (i : ℕ) (row : Row) → i < length rows → row ≡ row_at rows i →
     of_rows f (drop i rows) ≡ of_row f row ++ of_rows f (drop (i + 1) rows)
-left-more f rows i row below read = ap (of_rows f) (drop_more rows i no_row below) ∙ ap (λ r. of_row f r ++ of_rows f (drop (i + 1) rows)) (sym read)
+left-more f rows i row below read =
+    ap (of_rows f) (drop_more rows i no_row below) ∙ ap (λ r. of_row f r ++ of_rows f (drop (i + 1) rows)) (sym read)
 
 pub left-none : (f : TimeText → List ℕ) (rows : List Row) (i : ℕ) → length rows ≤ i → of_rows f (drop i rows) ≡ []
 left-none f rows i end = ap (of_rows f) (drop_all i rows end)
@@ -86,7 +88,9 @@ module _ (limit start : ℕ) (all : List AtLine) where
       let test : nat_lt limit (lcm so_far number) ≡ false = le-ltb limit (lcm so_far number) (subst (λ n. n ≤ limit) e within) in
       subst (λ n. IsRunning limit start all n left) (sym e) (record {
         some = lcm-positive so_far number before.some above;
-        over = sym (ap (λ (r : Bool). if r then Some (record { line = line; number = lcm so_far number }) else first_over limit (lcm so_far number) left) test)
+        over = sym
+            (ap (λ (r : Bool). if r then Some (record { line = line; number = lcm so_far number })
+            else first_over limit (lcm so_far number) left) test)
             ∙ before.over;
         product = before.product;
       })
@@ -96,7 +100,8 @@ module _ (limit start : ℕ) (all : List AtLine) where
       limit < lcm so_far number → first_over limit start all ≡ Some (record { line = line; number = lcm so_far number })
   running-over so_far line number left before above =
       sym before.over
-      ∙ ap (λ (r : Bool). if r then Some (record { line = line; number = lcm so_far number }) else first_over limit (lcm so_far number) left)
+      ∙ ap (λ (r : Bool). if r then Some (record { line = line; number = lcm so_far number })
+      else first_over limit (lcm so_far number) left)
       (lt-ltb limit (lcm so_far number) above)
 
 -- a row that writes no number, and one that writes some

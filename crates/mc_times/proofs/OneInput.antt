@@ -30,12 +30,18 @@ both-ways a b p q =
 
 inferred-one : (Found : Time → Type 0) (a b : Time) → IsInferred Found a → IsInferred Found b → a ≡ b
 inferred-one Found a b p q = elim (ℕ_discrete a.period b.period) [
-  | yes e ↦ elim (ℕ_discrete a.offset b.offset) [ yes f ↦ time-equal a b e f | no differ ↦ absurd (apart (λ r. differ (ap (λ t. t.offset) r))) ]
+  | yes e ↦ elim (ℕ_discrete a.offset b.offset) [
+    | yes f ↦ time-equal a b e f
+    | no differ ↦
+        absurd (apart (λ r. differ (ap (λ t. t.offset) r)))
+  ]
   | no differ ↦ absurd (apart (λ r. differ (ap (λ t. t.period) r)))
 ]
   where
     same : (found : Time) → Found found → a ≡ b
-    same found f = both-ways a b ((q.some found f).smallest a (p.some found f).includes) ((p.some found f).smallest b (q.some found f).includes)
+    same found f =
+        both-ways a b ((q.some found f).smallest a (p.some found f).includes)
+        ((p.some found f).smallest b (q.some found f).includes)
 
     apart : (a ≡ b → ⊥) → ⊥
     apart differ = differ (p.none (λ found f. differ (same found f)) ∙ sym (q.none (λ found f. differ (same found f))))
@@ -44,14 +50,16 @@ pub input-one : (table : RowTable) (b : ℕ) (p q : Time) → IsInputTime table 
 input-one table b p q = inferred-one (FindsBefore table b) p q
 
 -- a row that writes no period
-pub has-none : (table : RowTable) (base : BaseTick) (b : ℕ) (kind : Kind) (text : TimeText) (o : Option Time) → (text ≡ Inherit → ⊥) → IsTimeOf base text o → o ≡ None →
+pub has-none : (table : RowTable) (base : BaseTick) (b : ℕ) (kind : Kind) (text : TimeText) (o : Option Time) →
+    (text ≡ Inherit → ⊥) → IsTimeOf base text o → o ≡ None →
     HasTimeBy table b kind text every_tick
 has-none table base b kind Inherit o written is e = absurd (written refl)
 has-none table base b kind Constant o written is e = refl
 has-none table base b kind (Each period offset) o written is e = absurd (let f = is.1 in let wrong : ⊥ = cc (e, f) in wrong)
 
 -- a row that writes a period
-pub has-written : (table : RowTable) (b : ℕ) (kind : Kind) (text : TimeText) (inside outside : Time) → IsInputTime table b inside → Writes table text outside →
+pub has-written : (table : RowTable) (b : ℕ) (kind : Kind) (text : TimeText) (inside outside : Time) →
+    IsInputTime table b inside → Writes table text outside →
     HasTimeBy table b kind text (time_by_kind kind inside outside)
 has-written table b kind Inherit inside outside given w = absurd w
 has-written table b kind Constant inside outside given w = absurd w
@@ -74,7 +82,8 @@ lesser-told : (a b : ℕ) → a < b → IsTrue (nat_lt a b)
 lesser-told a b h = grind (arith, nat_tests)
 
 -- whether the written time has a lesser period
-pub faster : (table : RowTable) (base : BaseTick) (is_base : IsBaseOf table base) (text : TimeText) (o : Option Time) (outside : Time) (period : ℕ) → IsTimeOf base text o → o ≡ Some outside →
+pub faster : (table : RowTable) (base : BaseTick) (is_base : IsBaseOf table base) (text : TimeText) (o : Option Time)
+    (outside : Time) (period : ℕ) → IsTimeOf base text o → o ≡ Some outside →
     IsTrue (nat_lt outside.period period) ↔ ((time : Time) × Writes table text time × (time.period < period))
 faster table base is_base text o outside period is e = (
   λ h. (outside, writes-of table base is_base text o outside is e, lesser outside.period period h),

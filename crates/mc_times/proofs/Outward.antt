@@ -12,13 +12,16 @@ pub outward-ends : (rows : List Row) (found : Option ℕ) (left : ℕ) → last_
 outward-ends rows found zero = refl
 outward-ends rows found (suc left) = refl
 
-one-more : (found : Option ℕ) (e : ℕ) (r : Bool) (rest : List ℕ) → last_or found (cond r (e ∷ rest) rest) ≡ last_or (cond r (Some e) found) rest
+one-more : (found : Option ℕ) (e : ℕ) (r : Bool) (rest : List ℕ) →
+    last_or found (cond r (e ∷ rest) rest) ≡ last_or (cond r (Some e) found) rest
 one-more found e true rest = refl
 one-more found e false rest = refl
 
 pub outward-step : (rows : List Row) (found : Option ℕ) (left e : ℕ) → 0 < left →
-    last_trigger rows found left (Some e) ≡ last_trigger rows (cond (is_triggered (control_at rows e)) (Some e) found) (left - 1) (row_at rows e).owner
+    last_trigger rows found left (Some e) ≡ last_trigger rows (cond (is_triggered (control_at rows e)) (Some e) found)
+    (left - 1) (row_at rows e).owner
 outward-step rows found zero e h = absurd (omega arith)
 outward-step rows found (suc left) e h =
     one-more found e (is_triggered (control_at rows e)) _
-    ∙ ap (λ n. last_trigger rows (cond (is_triggered (control_at rows e)) (Some e) found) n (row_at rows e).owner) (let q : left ≡ suc left - 1 = omega arith in q)
+    ∙ ap (λ n. last_trigger rows (cond (is_triggered (control_at rows e)) (Some e) found) n (row_at rows e).owner)
+    (let q : left ≡ suc left - 1 = omega arith in q)

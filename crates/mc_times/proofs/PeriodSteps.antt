@@ -35,7 +35,8 @@ by_line-periods table rows base same is =
 pub hyperperiod-is : (table : RowTable) (rows : List Row) (base : BaseTick) → table.rows ≡ rows → IsBaseOf table base →
     fold lcm 1 (map (λ (a : AtLine). a.number) (of_rows (periods_by base) rows)) ≡ hyperperiod table
 hyperperiod-is table rows base same is =
-    ap (λ left. fold lcm 1 (map (λ (a : AtLine). a.number) left)) (sym (by_line-periods table rows base same is) ∙ by_line-rows (periods_in table) table.rows)
+    ap (λ left. fold lcm 1 (map (λ (a : AtLine). a.number) left)) (sym (by_line-periods table rows base same is)
+    ∙ by_line-rows (periods_in table) table.rows)
     ∙ ap (fold lcm 1) (numbers-rows (periods_in table) table.rows)
 
 -- whether a period is above a million ticks
@@ -53,7 +54,8 @@ long-found line number left long =
     ap (λ (r : Bool). if r then Some (record { line = line; number = number }) else find is_long left) (lt-ltb 1_000_000 number long)
 
 -- a text that writes no period
-pub periods-none : (base : BaseTick) (text : TimeText) → ((period offset : Frac) → text ≡ Each period offset → ⊥) → periods_by base text ≡ []
+pub periods-none : (base : BaseTick) (text : TimeText) → ((period offset : Frac) → text ≡ Each period offset → ⊥) →
+    periods_by base text ≡ []
 periods-none base Inherit none = refl
 periods-none base Constant none = refl
 periods-none base (Each period offset) none = absurd (none period offset refl)

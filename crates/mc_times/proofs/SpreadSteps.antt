@@ -45,20 +45,23 @@ wider-room None time wider w = w.1
 wider-room (Some found) time wider w = w.1
 
 -- what comes to a node comes to those that it feeds
-pub comes-on : (g : NeedsGraph) (given : List (Option Time)) (a b : ℕ) (time : Time) → Needs g b a → Comes g given a time → Comes g given b time
+pub comes-on : (g : NeedsGraph) (given : List (Option Time)) (a b : ℕ) (time : Time) → Needs g b a →
+    Comes g given a time → Comes g given b time
 comes-on g given a b time needs (z, below, reach, is) = (z, below, on reach, is)
   where
     on : Reaches g z a → Reaches g z b
     on (inl same) = inr ([], subst (λ x. Needs g b x) (sym same) needs)
     on (inr (path, walk)) = inr (a ∷ path, (needs, walk))
 
-within-on : (g : NeedsGraph) (given : List (Option Time)) (a b : ℕ) (time : Time) → Needs g b a → IsWithin (Comes g given a) time → IsWithin (Comes g given b) time
+within-on : (g : NeedsGraph) (given : List (Option Time)) (a b : ℕ) (time : Time) → Needs g b a →
+    IsWithin (Comes g given a) time → IsWithin (Comes g given b) time
 within-on g given a b time needs is = record {
   some = (is.some.0, comes-on g given a b is.some.0 needs is.some.1);
   smaller = λ other all. is.smaller other (λ found c. all found (comes-on g given a b found needs c));
 }
 
-within-wider : (Found : Time → Type 0) (o : Option Time) (time wider : Time) → ((t : Time) → o ≡ Some t → IsWithin Found t) → IsWithin Found time → IsWidened o time wider →
+within-wider : (Found : Time → Type 0) (o : Option Time) (time wider : Time) →
+    ((t : Time) → o ≡ Some t → IsWithin Found t) → IsWithin Found time → IsWidened o time wider →
     IsWithin Found wider
 within-wider Found None time wider old is w = subst (IsWithin Found) (sym w.0) is
 within-wider Found (Some found) time wider old is w = record {
@@ -71,7 +74,8 @@ within-wider Found (Some found) time wider old is w = record {
 edge-inside : (g : NeedsGraph) (e : ℕ) → IsGraph g → e < length g.edges → (from g.edges e < g.n) × (to g.edges e < g.n)
 edge-inside g e inside below = at g.edges e inside below
   where
-    at : (edges : List (ℕ × ℕ)) (e : ℕ) → IsGraph (record { n = g.n; edges = edges }) → e < length edges → (from edges e < g.n) × (to edges e < g.n)
+    at : (edges : List (ℕ × ℕ)) (e : ℕ) → IsGraph (record { n = g.n; edges = edges }) → e < length edges →
+        (from edges e < g.n) × (to edges e < g.n)
     at [] e inside below = absurd (omega arith)
     at (edge ∷ edges) zero inside below = inside.0
     at (edge ∷ edges) (suc e) inside below = at edges e inside.1 (omega arith)
@@ -104,7 +108,8 @@ take-up g given found waiting last before a chains within s = record {
 }
   where
     All-front : (P : ℕ → Type 0) (xs : List ℕ) (x : ℕ) → All P (xs ++ x ∷ []) → All P xs
-    All-front P xs x all k d below = subst P (get_or_append_left xs (x ∷ []) d k below) (all k d (let e = length-append xs (x ∷ []) in omega arith))
+    All-front P xs x all k d below =
+        subst P (get_or_append_left xs (x ∷ []) d k below) (all k d (let e = length-append xs (x ∷ []) in omega arith))
 
     low-end : (e : ℕ) → e < length g.edges → from g.edges e ≡ a → e < get_or last a 0
     low-end e below same = elim (cases_lt e (get_or last a 0)) [
@@ -126,9 +131,12 @@ pub record IsEdgeStep (g : NeedsGraph) (a b place h : ℕ) : Type 0 where
 
 -- an edge by its place
 needs-at : (g : NeedsGraph) (e a b : ℕ) → e < length g.edges → a ≡ from g.edges e → b ≡ to g.edges e → Needs g b a
-needs-at g e a b below p q = subst (λ x. Needs g b x) (sym p) (subst (λ y. Needs g y (from g.edges e)) (sym q) (Contains-get_or g.edges e (0, 0) below))
+needs-at g e a b below p q =
+    subst (λ x. Needs g b x) (sym p)
+    (subst (λ y. Needs g y (from g.edges e)) (sym q) (Contains-get_or g.edges e (0, 0) below))
 
-module _ (g : NeedsGraph) (given found : List (Option Time)) (waiting : List ℕ) (a b place h : ℕ) (d : IsEdgeStep g a b place h) (s : IsSpread g given found waiting a place) where
+module _ (g : NeedsGraph) (given found : List (Option Time)) (waiting : List ℕ) (a b place h : ℕ)
+    (d : IsEdgeStep g a b place h) (s : IsSpread g given found waiting a place) where
   needs : Needs g b a
   needs = needs-at g (place - 1) a b (let l = d.below in let p = d.above in omega arith) d.from_is d.to_is
 
@@ -151,7 +159,9 @@ module _ (g : NeedsGraph) (given found : List (Option Time)) (waiting : List ℕ
     comes = s.comes;
     settled = λ i below. elim (s.settled i below) [
       | inl (same, low) ↦ elim (done-or-here i same low) [
-        | inl here ↦ inr (inr (subst (λ x. CoversAll (found_at found x) (found_at found (from g.edges i))) (d.to_is ∙ ap (to g.edges) (sym here))
+        | inl here ↦
+            inr (inr (subst (λ x. CoversAll (found_at found x) (found_at found (from g.edges i))) (d.to_is
+            ∙ ap (to g.edges) (sym here))
             (subst (λ x. CoversAll (found_at found b) (found_at found x)) (sym same) full)))
         | inr before ↦ inl (same, before)
       ]
@@ -180,7 +190,9 @@ module _ (g : NeedsGraph) (given found : List (Option Time)) (waiting : List ℕ
     -- b now includes what was found at a
     takes : CoversAll (found_at (set found b (Some wider)) b) (found_at (set found b (Some wider)) a)
     takes = elim (cases_eq a b) [
-      | inl same ↦ subst (λ n. CoversAll (found_at (set found b (Some wider)) b) (found_at (set found b (Some wider)) n)) (sym same) (covers-self (found_at (set found b (Some wider)) b))
+      | inl same ↦
+          subst (λ n. CoversAll (found_at (set found b (Some wider)) b) (found_at (set found b (Some wider)) n))
+          (sym same) (covers-self (found_at (set found b (Some wider)) b))
       | inr differ ↦ subst (λ o. CoversAll o (found_at (set found b (Some wider)) a)) (sym (here-at b refl))
           (subst (λ o. CoversAll (Some wider) o) (sym (there-at a (λ e. differ e) ∙ is)) (wider-time (found_at found b) time wider w))
     ]
@@ -191,21 +203,35 @@ module _ (g : NeedsGraph) (given found : List (Option Time)) (waiting : List ℕ
       are_nodes = subst (λ xs. All (λ c. c < g.n) xs) (sym pushed) (All-push (λ c. c < g.n) waiting b s.are_nodes d.inside);
       begins = λ c t below e. covers-all (found_at (set found b (Some wider)) c) (found_at found c) t (grows c) (s.begins c t below e);
       comes = λ c t below e. elim (cases_eq c b) [
-        | inl same ↦ subst (IsWithin (Comes g given c)) (let q = sym (here-at c same) ∙ e in cc) (subst (λ n. IsWithin (Comes g given n) wider) (sym same)
-            (within-wider (Comes g given b) (found_at found b) time wider (λ u k. s.comes b u d.inside k) (within-on g given a b time needs (s.comes a time d.from_inside is)) w))
+        | inl same ↦ subst (IsWithin (Comes g given c)) (let q = sym (here-at c same) ∙ e in
+            cc) (subst (λ n. IsWithin (Comes g given n) wider) (sym same)
+            (within-wider (Comes g given b) (found_at found b) time wider (λ u k. s.comes b u d.inside k)
+            (within-on g given a b time needs (s.comes a time d.from_inside is)) w))
         | inr differ ↦ s.comes c t below (sym (there-at c (λ k. differ k)) ∙ e)
       ];
       settled = λ i below. elim (s.settled i below) [
         | inl (same, low) ↦ elim (done-or-here i same low) [
-          | inl here ↦ inr (inr (subst (λ x. CoversAll (found_at (set found b (Some wider)) x) (found_at (set found b (Some wider)) (from g.edges i))) (d.to_is ∙ ap (to g.edges) (sym here))
+          | inl here ↦
+              inr (inr
+              (subst (λ x. CoversAll (found_at (set found b (Some wider)) x)
+              (found_at (set found b (Some wider)) (from g.edges i))) (d.to_is ∙ ap (to g.edges) (sym here))
               (subst (λ x. CoversAll (found_at (set found b (Some wider)) b) (found_at (set found b (Some wider)) x)) (sym same) takes)))
           | inr before ↦ inl (same, before)
         ]
-        | inr (inl waits) ↦ inr (inl (subst (λ xs. Contains xs (from g.edges i)) (sym pushed) (Contains-append_left waiting (b ∷ []) (from g.edges i) waits)))
+        | inr (inl waits) ↦
+            inr (inl
+            (subst (λ xs. Contains xs (from g.edges i)) (sym pushed)
+            (Contains-append_left waiting (b ∷ []) (from g.edges i) waits)))
         | inr (inr covers) ↦ elim (cases_eq (from g.edges i) b) [
-          | inl here ↦ inr (inl (subst (λ xs. Contains xs (from g.edges i)) (sym pushed) (subst (Contains (waiting ++ b ∷ [])) (sym here) (Contains-push waiting b))))
-          | inr differ ↦ inr (inr (subst (λ o. CoversAll (found_at (set found b (Some wider)) (to g.edges i)) o) (sym (there-at (from g.edges i) (λ k. differ k)))
-              (covers-all-trans (found_at (set found b (Some wider)) (to g.edges i)) (found_at found (to g.edges i)) (found_at found (from g.edges i)) (grows (to g.edges i)) covers)))
+          | inl here ↦
+              inr (inl
+              (subst (λ xs. Contains xs (from g.edges i)) (sym pushed)
+              (subst (Contains (waiting ++ b ∷ [])) (sym here) (Contains-push waiting b))))
+          | inr differ ↦
+              inr (inr (subst (λ o. CoversAll (found_at (set found b (Some wider)) (to g.edges i)) o)
+              (sym (there-at (from g.edges i) (λ k. differ k)))
+              (covers-all-trans (found_at (set found b (Some wider)) (to g.edges i)) (found_at found (to g.edges i))
+              (found_at found (from g.edges i)) (grows (to g.edges i)) covers)))
         ]
       ];
     }
@@ -213,35 +239,45 @@ module _ (g : NeedsGraph) (given found : List (Option Time)) (waiting : List ℕ
 -- what was found shrinks where it is widened
 room-falls : (found : List (Option Time)) (b : ℕ) (time wider : Time) → b < length found → IsWidened (found_at found b) time wider →
     sum_by room (set found b (Some wider)) + 1 ≤ sum_by room found
-room-falls found b time wider inside w = let e = sum_by-set room found b (Some wider) None inside in let l = wider-room (found_at found b) time wider w in omega arith
+room-falls found b time wider inside w = let e = sum_by-set room found b (Some wider) None inside in let l =
+    wider-room (found_at found b) time wider w in omega arith
 
 -- what the loop along the edges from node a keeps
-pub record SpreadLoop (g : NeedsGraph) (a place : ℕ) (old : List (Option Time)) (waited : List ℕ) (found : List (Option Time)) (waiting : List ℕ) : Type 0 where
+pub record SpreadLoop (g : NeedsGraph) (a place : ℕ) (old : List (Option Time)) (waited : List ℕ)
+    (found : List (Option Time)) (waiting : List ℕ) : Type 0 where
   pub below : place ≤ length g.edges
   pub from_is : 0 < place → from g.edges (place - 1) ≡ a
   pub spread : (given : List (Option Time)) → IsSpread g given old (waited ++ a ∷ []) 0 0 → IsSpread g given found waiting a place
   pub shrunk : length waiting + sum_by room found ≤ length waited + sum_by room old
 
-pub spread_begins : (g : NeedsGraph) (a place : ℕ) (found : List (Option Time)) (waiting last before : List ℕ) → AreChains g last before → a < g.n → place ≡ get_or last a place →
+pub spread_begins : (g : NeedsGraph) (a place : ℕ) (found : List (Option Time)) (waiting last before : List ℕ) →
+    AreChains g last before → a < g.n → place ≡ get_or last a place →
     SpreadLoop g a place found waiting found waiting
 spread_begins g a place found waiting last before chains within read = record {
   below = subst (λ h. h ≤ length g.edges) (sym same) (chains.is_last a within).bound;
   from_is = subst (λ h. 0 < h → from g.edges (h - 1) ≡ a) (sym same) (chains.is_last a within).leads;
-  spread = λ given s. subst (λ h. IsSpread g given found waiting a h) (sym same) (take-up g given found waiting last before a chains within s);
+  spread =
+      λ given s. subst (λ h. IsSpread g given found waiting a h) (sym same)
+      (take-up g given found waiting last before a chains within s);
   shrunk = omega arith;
 }
   where
     same : place ≡ get_or last a 0
     same = read ∙ get_or_default last a place 0 (let e = chains.last_len in omega arith)
 
-module _ (g : NeedsGraph) (inside : IsGraph g) (last before : List ℕ) (chains : AreChains g last before) (a b place h : ℕ) (old : List (Option Time)) (waited : List ℕ) (found later : List (Option Time)) (waiting more : List ℕ) (within : a < g.n) (len : length found ≡ g.n) (above : 0 < place) (to_is : b ≡ to g.edges (place - 1)) (read : h ≡ get_or before (place - 1) h) (l : SpreadLoop g a place old waited found waiting) where
+module _ (g : NeedsGraph) (inside : IsGraph g) (last before : List ℕ) (chains : AreChains g last before)
+    (a b place h : ℕ) (old : List (Option Time)) (waited : List ℕ) (found later : List (Option Time))
+    (waiting more : List ℕ) (within : a < g.n) (len : length found ≡ g.n) (above : 0 < place) (to_is : b
+    ≡ to g.edges (place - 1)) (read : h ≡ get_or before (place - 1) h)
+    (l : SpreadLoop g a place old waited found waiting) where
   below : place - 1 < length g.edges
   below = let b = l.below in omega arith
 
   last-is : IsLast g.edges a (place - 1) h
   last-is = subst (λ x. IsLast g.edges x (place - 1) h) (l.from_is above)
       (subst (λ x. IsLast g.edges (from g.edges (place - 1)) (place - 1) x)
-      (sym (read ∙ get_or_default before (place - 1) h 0 (let e = chains.before_len in let b = below in omega arith))) (chains.is_before (place - 1) below))
+      (sym (read ∙ get_or_default before (place - 1) h 0 (let e = chains.before_len in let b = below in omega arith)))
+      (chains.is_before (place - 1) below))
 
   edge : IsEdgeStep g a b place h
   edge = record {
@@ -260,7 +296,8 @@ module _ (g : NeedsGraph) (inside : IsGraph g) (last before : List ℕ) (chains 
     from_is = last-is.leads;
     spread = λ given s. subst (λ xs. IsSpread g given xs more a h) (sym takes.0) (subst (λ ys. IsSpread g given found ys a h) (sym same)
         (step-same g given found waiting a b place h edge (l.spread given s) takes.1));
-    shrunk = let k = l.shrunk in let m : length more ≡ length waiting = ap length same in let f : sum_by room later ≡ sum_by room found = ap (sum_by room) takes.0 in omega arith;
+    shrunk = let k = l.shrunk in let m : length more ≡ length waiting = ap length same in let f : sum_by room later
+        ≡ sum_by room found = ap (sum_by room) takes.0 in omega arith;
   }
 
   pub spread_wider : TakesUp found later a b true → more ≡ waiting ++ b ∷ [] → SpreadLoop g a h old waited later more
@@ -278,7 +315,8 @@ module _ (g : NeedsGraph) (inside : IsGraph g) (last before : List ℕ) (chains 
   }
 
 -- where no edge from a is left
-pub all_done : (g : NeedsGraph) (given found : List (Option Time)) (waiting : List ℕ) (a place : ℕ) → place ≤ 0 → IsSpread g given found waiting a place → IsSpread g given found waiting 0 0
+pub all_done : (g : NeedsGraph) (given found : List (Option Time)) (waiting : List ℕ) (a place : ℕ) → place ≤ 0 →
+    IsSpread g given found waiting a place → IsSpread g given found waiting 0 0
 all_done g given found waiting a place none s = record {
   len = s.len;
   are_nodes = s.are_nodes;
@@ -292,7 +330,8 @@ all_done g given found waiting a place none s = record {
 
 -- ---- The end: with no node waiting, times have come along every walk
 
-module _ (g : NeedsGraph) (given found : List (Option Time)) (waiting : List ℕ) (s : IsSpread g given found waiting 0 0) (empty : length waiting ≡ 0) where
+module _ (g : NeedsGraph) (given found : List (Option Time)) (waiting : List ℕ) (s : IsSpread g given found waiting 0 0)
+    (empty : length waiting ≡ 0) where
   came : (b a : ℕ) → Needs g b a → CoversAll (found_at found b) (found_at found a)
   came b a (e, below, same) = elim (s.settled e below) [
     | inl (here, low) ↦ absurd (omega arith)
@@ -306,11 +345,14 @@ module _ (g : NeedsGraph) (given found : List (Option Time)) (waiting : List ℕ
 
   along : (b : ℕ) (path : List ℕ) (a : ℕ) → Walk g b path a → CoversAll (found_at found b) (found_at found a)
   along b [] a needs = came b a needs
-  along b (c ∷ path) a walk = covers-all-trans (found_at found b) (found_at found c) (found_at found a) (came b c walk.0) (along c path a walk.1)
+  along b (c ∷ path) a walk =
+      covers-all-trans (found_at found b) (found_at found c) (found_at found a) (came b c walk.0)
+      (along c path a walk.1)
 
   covered : (b : ℕ) (time : Time) → Comes g given b time → Covers (found_at found b) time
   covered b time (a, below, inl same, is) = subst (λ x. Covers (found_at found x) time) same (s.begins a time below is)
-  covered b time (a, below, inr (path, walk), is) = covers-all (found_at found b) (found_at found a) time (along b path a walk) (s.begins a time below is)
+  covered b time (a, below, inr (path, walk), is) =
+      covers-all (found_at found b) (found_at found a) time (along b path a walk) (s.begins a time below is)
 
   each : (b : ℕ) (o : Option Time) → b < g.n → found_at found b ≡ o → IsFound (Comes g given b) o
   each b None inside e = λ time c. subst (λ o. Covers o time) e (covered b time c)
@@ -321,7 +363,8 @@ module _ (g : NeedsGraph) (given found : List (Option Time)) (waiting : List ℕ
   pub finish : AreFound g given found
   finish = record { len = s.len; each = λ b below. each b (found_at found b) below refl }
 
-pub nodes_step : (n a : ℕ) (nodes more : List ℕ) → a < n → more ≡ nodes ++ a ∷ [] → All (λ b. b < n) nodes × ((b : ℕ) → b < a → Contains nodes b) →
+pub nodes_step : (n a : ℕ) (nodes more : List ℕ) → a < n → more ≡ nodes ++ a ∷ [] →
+    All (λ b. b < n) nodes × ((b : ℕ) → b < a → Contains nodes b) →
     All (λ b. b < n) more × ((b : ℕ) → b < a + 1 → Contains more b)
 nodes_step n a nodes more below pushed h = (
   subst (λ xs. All (λ b. b < n) xs) (sym pushed) (All-push (λ b. b < n) nodes a h.0 below),
@@ -332,5 +375,6 @@ nodes_step n a nodes more below pushed h = (
 )
 
 -- the last node that waits is a node
-pub last-node : (g : NeedsGraph) (given found : List (Option Time)) (waiting : List ℕ) (a : ℕ) → IsSpread g given found (waiting ++ a ∷ []) 0 0 → a < g.n
+pub last-node : (g : NeedsGraph) (given found : List (Option Time)) (waiting : List ℕ) (a : ℕ) →
+    IsSpread g given found (waiting ++ a ∷ []) 0 0 → a < g.n
 last-node g given found waiting a s = let k = Contains-push waiting a in subst (λ n. n < g.n) k.2 (s.are_nodes k.0 a k.1)

@@ -81,7 +81,8 @@ module _ (table : RowTable) (base : BaseTick) (is_base : IsBaseOf table base) (l
     offset-countable : IsCountable base offset
     offset-countable = record { some = base-positive; denominator = low; low = is.offset_limits.0 }
 
-    numerators : (offset.num ≡ 0) ⊎ Member offset (fractions table) → numerator_over base.denominator offset < numerator_over base.denominator period
+    numerators : (offset.num ≡ 0) ⊎ Member offset (fractions table) → numerator_over base.denominator offset
+        < numerator_over base.denominator period
     numerators (inl nothing) =
         let over = period-positive in
         let none : offset.num * (base.denominator / offset.den) ≡ 0 = ap (λ n. n * (base.denominator / offset.den)) nothing ∙ omega arith in
@@ -104,7 +105,8 @@ offset-member period offset = by (offset.num == 0) refl
     by true e = inl (true-eqb offset.num 0 (sym e))
     by false e = inr (inr (inl refl))
 
-row-member : (f : Frac) (rows : List Row) (b : ℕ) → b < length rows → Member f (fractions_in (written_time rows b)) → Member f (written_fractions rows)
+row-member : (f : Frac) (rows : List Row) (b : ℕ) → b < length rows → Member f (fractions_in (written_time rows b)) →
+    Member f (written_fractions rows)
 row-member f [] b inside h = absurd (omega arith)
 row-member f (row ∷ rows) zero inside h = member-left f (fractions_in (written_by row.kind row.time_text)) _ h
 row-member f (row ∷ rows) (suc b) inside h = member-right f (fractions_in (written_by row.kind row.time_text)) _
@@ -131,25 +133,32 @@ short-one line number e =
     by one true test e = absurd (some-none one e)
     by one false test e = ltb-false 1_000_000 one.number test
 
-short-rows : (base : BaseTick) (rows : List Row) (b : ℕ) (period offset : Frac) → find is_long (of_rows (periods_by base) rows) ≡ None → b < length rows →
+short-rows : (base : BaseTick) (rows : List Row) (b : ℕ) (period offset : Frac) →
+    find is_long (of_rows (periods_by base) rows) ≡ None → b < length rows →
     written_time rows b ≡ Each period offset → ticks_of base period ≤ 1_000_000
 short-rows base [] b period offset e below writes = absurd (omega arith)
 short-rows base (row ∷ rows) zero period offset e below writes =
-    let none = none-both (find is_long (of_row (periods_by base) row)) _ (sym (find-append is_long (of_row (periods_by base) row) (of_rows (periods_by base) rows)) ∙ e) in
+    let none =
+    none-both (find is_long (of_row (periods_by base) row)) _
+    (sym (find-append is_long (of_row (periods_by base) row) (of_rows (periods_by base) rows)) ∙ e) in
     short-one row.place.line (ticks_of base period)
     (ap (λ text. find is_long (at_line row.place.line (periods_by base text))) (sym writes) ∙ none.0)
 short-rows base (row ∷ rows) (suc b) period offset e below writes =
-    let none = none-both (find is_long (of_row (periods_by base) row)) _ (sym (find-append is_long (of_row (periods_by base) row) (of_rows (periods_by base) rows)) ∙ e) in
+    let none =
+    none-both (find is_long (of_row (periods_by base) row)) _
+    (sym (find-append is_long (of_row (periods_by base) row) (of_rows (periods_by base) rows)) ∙ e) in
     short-rows base rows b period offset none.1 (omega (arith, below)) writes
 
 -- ---- All that rows write
 
 module _ (table : RowTable) (base : BaseTick) (is_base : IsBaseOf table base) (low : base.denominator ≤ 10 ^ 9)
     (lawful : (b : ℕ) → b < length table.rows → IsLawfulText (written_time table.rows b)) where
-  in-fractions : (f : Frac) (b : ℕ) (text : TimeText) → b < length table.rows → written_time table.rows b ≡ text → Member f (fractions_in text) →
+  in-fractions : (f : Frac) (b : ℕ) (text : TimeText) → b < length table.rows → written_time table.rows b ≡ text →
+      Member f (fractions_in text) →
       Member f (fractions table)
   in-fractions f b text inside e h =
-      member-right f (step_in table.fixed_step) _ (row-member f table.rows b inside (subst (λ text. Member f (fractions_in text)) (sym e) h))
+      member-right f (step_in table.fixed_step) _
+      (row-member f table.rows b inside (subst (λ text. Member f (fractions_in text)) (sym e) h))
 
   pub are-countable : ArePeriodsCountable table.rows base
   are-countable b inside = by (written_time table.rows b) refl
@@ -217,7 +226,8 @@ module _ {X : Type 0} (inside denominator period cycle : Option X) (refused : X)
       ap₂ (λ a b. option_or a (option_or b (option_or period (option_or cycle None)))) e f
       ∙ ap₂ (λ c d. option_or c (option_or d None)) g h
 
-pub at-none : {X : Type 0} (inside denominator period cycle : Option X) → inside ≡ None → denominator ≡ None → period ≡ None → cycle ≡ None →
+pub at-none : {X : Type 0} (inside denominator period cycle : Option X) → inside ≡ None → denominator ≡ None →
+    period ≡ None → cycle ≡ None →
     option_or inside (option_or denominator (option_or period (option_or cycle None))) ≡ None
 at-none inside denominator period cycle e f g h =
     ap₂ (λ a b. option_or a (option_or b (option_or period (option_or cycle None)))) e f

@@ -47,9 +47,11 @@ abbrev pub IsTimeOf : BaseTick → TimeText → Option Time → Type 0
 IsTimeOf base Inherit found = found ≡ None
 IsTimeOf base Constant found = found ≡ None
 IsTimeOf base (Each period offset) found =
-    (time : Time) × (found ≡ Some time) × (time.period ≡ ticks_of base period) × (time.offset ≡ ticks_of base offset)
+    (time : Time) × (found ≡ Some time) × (time.period ≡ ticks_of base period)
+    × (time.offset ≡ ticks_of base offset)
 
 -- the times that rows give by themselves in the search
-pub record AreGiven (rows : List Row) (base : BaseTick) (n : ℕ) (given : List (Option Time)) : Type 0 where
+pub record AreGiven (rows : List Row) (base : BaseTick) (n : ℕ)
+    (given : List (Option Time)) : Type 0 where
   pub len : length given ≡ n
   pub each : (b : ℕ) → b < n → IsTimeOf base (search_time rows b) (found_at given b)

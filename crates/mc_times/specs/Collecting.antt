@@ -7,9 +7,11 @@ use Rattle.mc_times.specs.Searching.{IsFound, Among}
 
 -- the smallest time that includes those that were found at the inputs of row b, or every tick
 abbrev pub IsCollected : List Row → List (Option Time) → ℕ → Time → Type 0
-IsCollected rows found b time = (o : Option Time) × IsFound (Among found (search_inputs rows b)) o × (time ≡ unwrap_or o every_tick)
+IsCollected rows found b time = (o : Option Time) × IsFound (Among found (search_inputs rows b)) o
+    × (time ≡ unwrap_or o every_tick)
 
 -- the same for the first n rows
-pub record AreCollected (rows : List Row) (found : List (Option Time)) (n : ℕ) (inside : List Time) : Type 0 where
+pub record AreCollected (rows : List Row) (found : List (Option Time)) (n : ℕ)
+    (inside : List Time) : Type 0 where
   pub len : length inside ≡ n
   pub each : (b : ℕ) → b < n → IsCollected rows found b (slice_index_or inside b every_tick)

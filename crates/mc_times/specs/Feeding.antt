@@ -19,7 +19,8 @@ fed_by rows b = where_inherited (search_time rows b) (search_inputs rows b)
 
 -- an edge to each row below n from each row that feeds it, and no other
 abbrev pub AreFeedsBelow : List Row → ℕ → List (ℕ × ℕ) → Type 0
-AreFeedsBelow rows n edges = (b a : ℕ) → Contains edges (a, b) ↔ ((b < n) × Contains (fed_by rows b) a)
+AreFeedsBelow rows n edges =
+    (b a : ℕ) → Contains edges (a, b) ↔ ((b < n) × Contains (fed_by rows b) a)
 
 -- the rows, with an edge to each from each that feeds it
 pub record IsFeeding (rows : List Row) (g : NeedsGraph) : Type 0 where

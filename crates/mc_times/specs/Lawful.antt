@@ -28,4 +28,5 @@ IsPeriodCountable base (Each period offset) = IsCountable base period
 
 -- the ticks of all periods can be counted
 abbrev pub ArePeriodsCountable : List Row → BaseTick → Type 0
-ArePeriodsCountable rows base = (b : ℕ) → b < length rows → IsPeriodCountable base (written_time rows b)
+ArePeriodsCountable rows base =
+    (b : ℕ) → b < length rows → IsPeriodCountable base (written_time rows b)

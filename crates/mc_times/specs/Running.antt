@@ -6,7 +6,8 @@ use Rattle.mc_diagram.specs.declared.times.Time.{Time}
 use Rattle.mc_diagram.specs.RowTable.{RowTable}
 use Rattle.mc_diagram.specs.SampleTimes.{slower, every_tick, HasTime, Delays}
 
--- the time of a row that writes one: of a rate transition the slower of that of its input and the written one
+-- the time of a row that writes one: of a rate transition the slower of that of its input and the
+-- written one
 abbrev pub time_by_kind : Kind → Time → Time → Time
 time_by_kind (RateTransition initial out) inside outside = slower inside outside
 time_by_kind (Inport port) inside outside = outside

@@ -28,21 +28,28 @@ pub record AreFound (g : NeedsGraph) (given found : List (Option Time)) : Type 0
 -- a time that each one includes which includes all that come, of which there are some
 pub record IsWithin (Found : Time → Type 0) (time : Time) : Type 0 where
   pub some : (found : Time) × Found found
-  pub smaller : (other : Time) → ((found : Time) → Found found → Includes other found) → Includes other time
+  pub smaller : (other : Time) → ((found : Time) → Found found → Includes other found) →
+      Includes other time
 
 -- node b takes up what was found at node a: it includes it already, or is widened by it
 abbrev pub TakesUp : (old new : List (Option Time)) (a b : ℕ) → Bool → Type 0
 TakesUp old new a b false = (new ≡ old) × CoversAll (found_at old b) (found_at old a)
-TakesUp old new a b true = (time wider : Time) × (found_at old a ≡ Some time) × (new ≡ slice_set old b (Some wider)) × IsWidened (found_at old b) time wider
+TakesUp old new a b true = (time wider : Time) × (found_at old a ≡ Some time)
+    × (new ≡ slice_set old b (Some wider)) × IsWidened (found_at old b) time wider
 
 -- on the way: some nodes wait to be looked at, and of one node the edges from a place on are done
-pub record IsSpread (g : NeedsGraph) (given found : List (Option Time)) (waiting : List ℕ) (a place : ℕ) : Type 0 where
+pub record IsSpread (g : NeedsGraph) (given found : List (Option Time)) (waiting : List ℕ)
+    (a place : ℕ) : Type 0 where
   pub len : length found ≡ g.n
   pub are_nodes : All (λ b. b < g.n) waiting
-  pub begins : (b : ℕ) (time : Time) → b < g.n → found_at given b ≡ Some time → Covers (found_at found b) time
-  pub comes : (b : ℕ) (time : Time) → b < g.n → found_at found b ≡ Some time → IsWithin (Comes g given b) time
+  pub begins : (b : ℕ) (time : Time) → b < g.n → found_at given b ≡ Some time →
+      Covers (found_at found b) time
+  pub comes : (b : ℕ) (time : Time) → b < g.n → found_at found b ≡ Some time →
+      IsWithin (Comes g given b) time
   pub settled : (e : ℕ) → e < length g.edges →
-      ((from g.edges e ≡ a) × (e < place)) ⊎ (Contains waiting (from g.edges e) ⊎ CoversAll (found_at found (to g.edges e)) (found_at found (from g.edges e)))
+      ((from g.edges e ≡ a) × (e < place))
+      ⊎ (Contains waiting (from g.edges e)
+      ⊎ CoversAll (found_at found (to g.edges e)) (found_at found (from g.edges e)))
 
 -- at one of these nodes this time was found
 abbrev pub Among : List (Option Time) → List ℕ → Time → Type 0

@@ -15,7 +15,8 @@ use mc_diagram::Row;
 pub(crate) fn base_tick(rows: &[Row], step: Option<Frac>, denominator: u64) -> BaseTick
     requires lawful { AreLawful rows.now step }
     requires low { denominator ≤ 10 ^ 9 }
-    ensures { (table : RowTable) → table.rows ≡ rows.now → table.fixed_step ≡ step → denominator ≡ common_denominator (fractions table) → IsBaseOf table result }
+    ensures { (table : RowTable) → table.rows ≡ rows.now → table.fixed_step ≡ step →
+        denominator ≡ common_denominator (fractions table) → IsBaseOf table result }
 {
     let mut numerator = match step {
         Some(step) => numerator_over(denominator, step),
@@ -34,7 +35,9 @@ pub(crate) fn base_tick(rows: &[Row], step: Option<Frac>, denominator: u64) -> B
 fn refined(numerator: u64, denominator: u64, text: TimeText) -> u64
     requires lawful { IsLawfulText text }
     requires low { denominator ≤ 10 ^ 9 }
-    ensures { result ≡ fold divisor.gcd numerator (map (written.numerator_over denominator) (fractions_in text)) }
+    ensures { result
+        ≡ fold divisor.gcd numerator
+        (map (written.numerator_over denominator) (fractions_in text)) }
 {
     match text {
         TimeText::Inherit | TimeText::Constant => numerator,

@@ -38,7 +38,8 @@ impl Multiple {
         ensures grown { OnOk result (self.new.so_far ≡ multiples.lcm self.old.so_far number) }
         ensures within { OnOk result (self.new.so_far ≤ self.old.limit) }
         ensures same { (self.new.limit ≡ self.old.limit) × (self.new.what ≡ self.old.what) }
-        ensures refused { IfErr result (λ r. plain.plain_refusal r ≡ plain.LongCycle line self.old.what (multiples.lcm self.old.so_far number)) }
+        ensures refused { IfErr result (λ r. plain.plain_refusal r
+            ≡ plain.LongCycle line self.old.what (multiples.lcm self.old.so_far number)) }
         ensures above { IfErr result (λ r. self.old.limit < multiples.lcm self.old.so_far number) }
     {
         let multiple = lcm(self.so_far, number);
@@ -57,10 +58,13 @@ impl Multiple {
 /// The common denominator of the written step and of all periods and offsets, row by row.
 pub(crate) fn common_denominator(rows: &[Row], step: Option<Frac>) -> Result<u64, Refusal>
     requires { AreLawful rows.now step }
-    ensures accepted { OnOk result ((table : RowTable) → table.rows ≡ rows.now → table.fixed_step ≡ step → refusal.long_denominator table ≡ None) }
-    ensures denominator { IfOk result (λ d. (table : RowTable) → table.rows ≡ rows.now → table.fixed_step ≡ step → d ≡ sample.common_denominator (sample.fractions table)) }
+    ensures accepted { OnOk result ((table : RowTable) → table.rows ≡ rows.now → table.fixed_step ≡ step →
+        refusal.long_denominator table ≡ None) }
+    ensures denominator { IfOk result (λ d. (table : RowTable) → table.rows ≡ rows.now →
+        table.fixed_step ≡ step → d ≡ sample.common_denominator (sample.fractions table)) }
     ensures low { IfOk result (λ d. d ≤ 10 ^ 9) }
-    ensures refused { IfErr result (λ r. (table : RowTable) → table.rows ≡ rows.now → table.fixed_step ≡ step → refusal.long_denominator table ≡ Some (plain.plain_refusal r)) }
+    ensures refused { IfErr result (λ r. (table : RowTable) → table.rows ≡ rows.now →
+        table.fixed_step ≡ step → refusal.long_denominator table ≡ Some (plain.plain_refusal r)) }
 {
     let mut denominator = Multiple {
         so_far: step.map_or(1, |step| step.den),
@@ -81,7 +85,8 @@ pub(crate) fn common_denominator(rows: &[Row], step: Option<Frac>) -> Result<u64
 /// The first row whose period is above a million base ticks.
 pub(crate) fn long_period(rows: &[Row], base: BaseTick) -> Option<Refusal>
     requires { ArePeriodsCountable rows.now base }
-    ensures { (table : RowTable) → table.rows ≡ rows.now → IsBaseOf table base → as_plain result ≡ refusal.long_period table }
+    ensures { (table : RowTable) → table.rows ≡ rows.now → IsBaseOf table base →
+        as_plain result ≡ refusal.long_period table }
 {
     for row in rows {
         if let TimeText::Each { period, .. } = written_time(row) {
@@ -99,10 +104,13 @@ pub(crate) fn long_period(rows: &[Row], base: BaseTick) -> Option<Refusal>
 /// The cycle after which all hits repeat: the least common multiple of all periods, row by row.
 pub(crate) fn hyperperiod(rows: &[Row], base: BaseTick) -> Result<u64, Refusal>
     requires { AreCounted rows.now base }
-    ensures accepted { OnOk result ((table : RowTable) → table.rows ≡ rows.now → IsBaseOf table base → refusal.long_cycle table ≡ None) }
-    ensures cycle { IfOk result (λ h. (table : RowTable) → table.rows ≡ rows.now → IsBaseOf table base → h ≡ sample.hyperperiod table) }
+    ensures accepted { OnOk result ((table : RowTable) → table.rows ≡ rows.now → IsBaseOf table base →
+        refusal.long_cycle table ≡ None) }
+    ensures cycle { IfOk result (λ h. (table : RowTable) → table.rows ≡ rows.now →
+        IsBaseOf table base → h ≡ sample.hyperperiod table) }
     ensures low { IfOk result (λ h. h ≤ 2 ^ 30) }
-    ensures refused { IfErr result (λ r. (table : RowTable) → table.rows ≡ rows.now → IsBaseOf table base → refusal.long_cycle table ≡ Some (plain.plain_refusal r)) }
+    ensures refused { IfErr result (λ r. (table : RowTable) → table.rows ≡ rows.now →
+        IsBaseOf table base → refusal.long_cycle table ≡ Some (plain.plain_refusal r)) }
 {
     let mut cycle = Multiple {
         so_far: 1,

@@ -32,11 +32,13 @@ struct Ticks {
 fn ticks_of(rows: &[Row], step: Option<Frac>, triggers: &[Option<u32>]) -> Result<Ticks, Refusal>
     requires triggers { triggers.now ≡ by_row rows.now (outermost_trigger rows.now) }
     requires lawful { AreLawful rows.now step }
-    ensures accepted { OnOk result (written_time_refusal (record { rows = rows.now; fixed_step = step }) ≡ None) }
+    ensures accepted { OnOk result (written_time_refusal (record { rows = rows.now; fixed_step = step })
+        ≡ None) }
     ensures base { IfOk result (λ t. IsBaseOf (record { rows = rows.now; fixed_step = step }) t.base) }
     ensures counted { IfOk result (λ t. AreCounted rows.now t.base) }
     ensures hyper { IfOk result (λ t. t.hyper ≡ hyperperiod (record { rows = rows.now; fixed_step = step })) }
-    ensures refused { IfErr result (λ r. written_time_refusal (record { rows = rows.now; fixed_step = step }) ≡ Some (plain_refusal r)) }
+    ensures refused { IfErr result (λ r. written_time_refusal (record { rows = rows.now; fixed_step = step })
+        ≡ Some (plain_refusal r)) }
 {
     if let Some(refused) = least_time_inside(rows, triggers) {
         return Err(refused);

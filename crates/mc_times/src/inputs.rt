@@ -29,7 +29,8 @@ pub(crate) fn input_times(
     requires inside { AreInputsInside rows.now }
     requires few { length rows.now < 2 ^ 32 }
     requires counted { AreCounted rows.now base }
-    ensures { IfOk result (λ v. (table : RowTable) → table.rows ≡ rows.now → IsBaseOf table base → AreInputTimes table v.items) }
+    ensures { IfOk result (λ v. (table : RowTable) → table.rows ≡ rows.now → IsBaseOf table base →
+        AreInputTimes table v.items) }
 {
     let graph = feeds(alloc, rows, triggers)?;
     let given = given_times(alloc, rows, triggers, base)?;

@@ -30,7 +30,9 @@ pub(crate) fn least_time_inside(rows: &[Row], triggers: &[Option<u32>]) -> Optio
 fn inside_fault(rows: &[Row], triggers: &[Option<u32>], b: usize) -> Option<Refusal>
     requires triggers { triggers.now ≡ by_row rows.now (outermost_trigger rows.now) }
     requires row { b < length rows.now }
-    ensures { as_plain result ≡ found_where (λ b. is_some (outermost_trigger rows.now b) && writes_period (written_time rows.now b))
+    ensures { as_plain result
+        ≡ found_where (λ b. is_some (outermost_trigger rows.now b)
+        && writes_period (written_time rows.now b))
         (λ b. plain.TimeInside (line_at rows.now b)) b }
 {
     let row = &rows[b];

@@ -16,7 +16,8 @@ use mc_diagram::{Row, Time, earlier};
 pub(crate) fn least_bad_rate(rows: &[Row], inside: &[Time], base: BaseTick) -> Option<Refusal>
     requires len { length inside.now ≡ length rows.now }
     requires counted { AreCounted rows.now base }
-    ensures { (table : RowTable) → table.rows ≡ rows.now → IsBaseOf table base → as_plain result ≡ rate_refusal table inside.now }
+    ensures { (table : RowTable) → table.rows ≡ rows.now → IsBaseOf table base →
+        as_plain result ≡ rate_refusal table inside.now }
 {
     let mut least = None;
     let mut b = rows.len();
@@ -30,7 +31,8 @@ pub(crate) fn least_bad_rate(rows: &[Row], inside: &[Time], base: BaseTick) -> O
 /// What is wrong with a row, if it is a rate transition between times without a whole ratio.
 fn rate_fault(row: &Row, inside: Time, base: BaseTick) -> Option<Refusal>
     requires { IsCountedText base (written_by row.now.kind row.now.time_text) }
-    ensures { (table : RowTable) → IsBaseOf table base → as_plain result ≡ least_line (rate_faults table row.now.place.line inside row.now.kind) }
+    ensures { (table : RowTable) → IsBaseOf table base →
+        as_plain result ≡ least_line (rate_faults table row.now.place.line inside row.now.kind) }
 {
     match &row.kind {
         Kind::RateTransition { out, .. } => ratio_fault(row.place.line, inside, *out, base),
@@ -41,7 +43,8 @@ fn rate_fault(row: &Row, inside: Time, base: BaseTick) -> Option<Refusal>
 /// What is wrong with a rate transition at this line from one time to the written one.
 fn ratio_fault(line: u32, inside: Time, out: TimeText, base: BaseTick) -> Option<Refusal>
     requires { IsCountedText base out }
-    ensures { (table : RowTable) → IsBaseOf table base → as_plain result ≡ least_line (ratio_faults table line inside out) }
+    ensures { (table : RowTable) → IsBaseOf table base →
+        as_plain result ≡ least_line (ratio_faults table line inside out) }
 {
     let outside = time_of(out, base)?;
     if are_related(inside, outside) {

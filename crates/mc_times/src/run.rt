@@ -23,7 +23,8 @@ pub(crate) fn run_times(
     requires triggers { triggers.now ≡ by_row rows.now (outermost_trigger rows.now) }
     requires counted { AreCounted rows.now base }
     requires len { length inside.now ≡ length rows.now }
-    ensures { IfOk result (λ v. (table : RowTable) → table.rows ≡ rows.now → IsBaseOf table base → AreInputTimes table inside.now → AreRunTimes table (length rows.now) v.items) }
+    ensures { IfOk result (λ v. (table : RowTable) → table.rows ≡ rows.now → IsBaseOf table base →
+        AreInputTimes table inside.now → AreRunTimes table (length rows.now) v.items) }
 {
     let mut run = Vec::new(alloc);
     for b in 0..rows.len() {
@@ -43,7 +44,8 @@ pub(crate) fn delay_marks(
     requires triggers { triggers.now ≡ by_row rows.now (outermost_trigger rows.now) }
     requires counted { AreCounted rows.now base }
     requires len { length inside.now ≡ length rows.now }
-    ensures { IfOk result (λ v. (table : RowTable) → table.rows ≡ rows.now → IsBaseOf table base → AreInputTimes table inside.now → AreDelays table (length rows.now) v.items) }
+    ensures { IfOk result (λ v. (table : RowTable) → table.rows ≡ rows.now → IsBaseOf table base →
+        AreInputTimes table inside.now → AreDelays table (length rows.now) v.items) }
 {
     let mut marks = Vec::new(alloc);
     for b in 0..rows.len() {

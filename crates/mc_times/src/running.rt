@@ -25,7 +25,8 @@ pub(crate) fn time_of_row(
     requires triggers { triggers.now ≡ by_row rows.now (outermost_trigger rows.now) }
     requires counted { AreCounted rows.now base }
     requires row { b < length rows.now }
-    ensures { (table : RowTable) → table.rows ≡ rows.now → IsBaseOf table base → IsInputTime table b inside → HasTime table b result }
+    ensures { (table : RowTable) → table.rows ≡ rows.now → IsBaseOf table base →
+        IsInputTime table b inside → HasTime table b result }
 {
     if trigger_at(rows, triggers, b).is_some() {
         return every_tick();
@@ -36,7 +37,8 @@ pub(crate) fn time_of_row(
 /// The sample time of a row of this kind that writes this time, outside subsystems with triggers.
 fn time_by_text(kind: &Kind, text: TimeText, inside: Time, base: BaseTick) -> Time
     requires { IsCountedText base text }
-    ensures { (table : RowTable) (b : ℕ) → IsBaseOf table base → IsInputTime table b inside → HasTimeBy table b kind.now text result }
+    ensures { (table : RowTable) (b : ℕ) → IsBaseOf table base → IsInputTime table b inside →
+        HasTimeBy table b kind.now text result }
 {
     if text == TimeText::Inherit {
         return inside;
@@ -68,7 +70,8 @@ pub(crate) fn delays(
     requires triggers { triggers.now ≡ by_row rows.now (outermost_trigger rows.now) }
     requires counted { AreCounted rows.now base }
     requires row { b < length rows.now }
-    ensures { (table : RowTable) → table.rows ≡ rows.now → IsBaseOf table base → IsInputTime table b inside → IsTrue result ↔ Delays table b }
+    ensures { (table : RowTable) → table.rows ≡ rows.now → IsBaseOf table base →
+        IsInputTime table b inside → IsTrue result ↔ Delays table b }
 {
     trigger_at(rows, triggers, b).is_none() && is_slow_to_fast(&rows[b], inside, base)
 }
@@ -76,7 +79,8 @@ pub(crate) fn delays(
 /// Whether a row is a rate transition from a slower to a faster rate.
 fn is_slow_to_fast(row: &Row, inside: Time, base: BaseTick) -> bool
     requires { IsCountedText base (written_by row.now.kind row.now.time_text) }
-    ensures { (table : RowTable) (b : ℕ) → IsBaseOf table base → IsInputTime table b inside → IsTrue result ↔ IsSlowToFast table b row.now.kind }
+    ensures { (table : RowTable) (b : ℕ) → IsBaseOf table base → IsInputTime table b inside →
+        IsTrue result ↔ IsSlowToFast table b row.now.kind }
 {
     match &row.kind {
         Kind::RateTransition { out, .. } => is_faster(*out, inside, base),
@@ -87,7 +91,9 @@ fn is_slow_to_fast(row: &Row, inside: Time, base: BaseTick) -> bool
 /// Whether a text writes a time with a lesser period.
 fn is_faster(text: TimeText, inside: Time, base: BaseTick) -> bool
     requires { IsCountedText base text }
-    ensures { (table : RowTable) → IsBaseOf table base → IsTrue result ↔ ((outside : Time) × Writes table text outside × (outside.period < inside.period)) }
+    ensures { (table : RowTable) → IsBaseOf table base →
+        IsTrue result
+        ↔ ((outside : Time) × Writes table text outside × (outside.period < inside.period)) }
 {
     match time_of(text, base) {
         Some(outside) => outside.period < inside.period,

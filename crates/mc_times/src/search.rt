@@ -64,8 +64,11 @@ fn spread(
     requires node { a < g.now.n }
     requires chained { AreChains g.now chains.now.last.items chains.now.before.items }
     requires len { length found.old ≡ g.now.n }
-    ensures spread { OnOk result ((given : List (Option Time)) → IsSpread g.now given found.old (waiting.old.items ++ a ∷ []) 0 0 → IsSpread g.now given found.new waiting.new.items 0 0) }
-    ensures shrunk { OnOk result (length waiting.new.items + sum_by room found.new ≤ length waiting.old.items + sum_by room found.old) }
+    ensures spread { OnOk result ((given : List (Option Time)) →
+        IsSpread g.now given found.old (waiting.old.items ++ a ∷ []) 0 0 →
+        IsSpread g.now given found.new waiting.new.items 0 0) }
+    ensures shrunk { OnOk result (length waiting.new.items + sum_by room found.new ≤ length waiting.old.items
+        + sum_by room found.old) }
 {
     let mut place = chains.last[a as usize];
     while place > 0 {

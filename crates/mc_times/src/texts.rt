@@ -18,7 +18,8 @@ pub(crate) fn written_time(row: &Row) -> TimeText
 
 /// The time that a row gives to those that it feeds, by the outermost subsystem with a trigger around it.
 pub(crate) fn search_time(row: &Row, trigger: Option<u32>) -> TimeText
-    ensures { result ≡ time.search_time_in trigger (time.written_by row.now.kind row.now.time_text) }
+    ensures { result
+        ≡ time.search_time_in trigger (time.written_by row.now.kind row.now.time_text) }
 {
     match trigger {
         Some(_) => TimeText::Inherit,

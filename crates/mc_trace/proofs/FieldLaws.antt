@@ -67,7 +67,8 @@ fields_behind (c ∷ cs) = by_test (fields_behind cs) (is_blank c) refl
 some_test : (n : ℕ) → (suc n == 0) ≡ false
 some_test n = grind arith
 
-kept_part : (part : List ℕ) (parts : List (List ℕ)) → 0 < length part → filter is_some_text (part ∷ parts) ≡ part ∷ filter is_some_text parts
+kept_part : (part : List ℕ) (parts : List (List ℕ)) → 0 < length part → filter is_some_text (part ∷ parts) ≡ part
+    ∷ filter is_some_text parts
 kept_part [] parts some = absurd (omega arith)
 kept_part (c ∷ cs) parts some =
     ap (λ t. cond (not t) ((c ∷ cs) ∷ filter is_some_text parts) (filter is_some_text parts)) (some_test (length cs))
@@ -82,7 +83,8 @@ first_plain text some plain =
     let within = prefix_len-le-length (λ c. not (is_blank c)) text in
     let len : length (take (plain_len text) text) ≡ plain_len text = length-take-le (plain_len text) text within in
     let some_part : 0 < length (take (plain_len text) text) = omega (arith, len, plain_some text some plain) in
-    ap (filter is_some_text) (first_part text) ∙ kept_part (take (plain_len text) text) (parts_behind (drop (plain_len text) text)) some_part
+    ap (filter is_some_text) (first_part text)
+    ∙ kept_part (take (plain_len text) text) (parts_behind (drop (plain_len text) text)) some_part
     ∙ ap (λ fs. take (plain_len text) text ∷ fs) (fields_behind text)
 
 plain_front : (text : List ℕ) → 0 < length (drop_while is_blank text) → is_blank (get_or (drop_while is_blank text) 0 0) ≡ false
@@ -99,7 +101,8 @@ first_field text rest is some =
     sym (blanks_in_front text) ∙ ap fields (sym is)
     ∙ first_plain rest some (subst (λ r. is_blank (get_or r 0 0) ≡ false) (sym is) (plain_front text here))
 
-pub shorter_behind : (text rest : List ℕ) → rest ≡ drop_while is_blank text → 0 < length rest → length (drop (plain_len rest) rest) < length text
+pub shorter_behind : (text rest : List ℕ) → rest ≡ drop_while is_blank text → 0 < length rest →
+    length (drop (plain_len rest) rest) < length text
 shorter_behind text rest is some =
     let here : 0 < length (drop_while is_blank text) = subst (λ r. 0 < length r) is some in
     let plain : is_blank (get_or rest 0 0) ≡ false = subst (λ r. is_blank (get_or r 0 0) ≡ false) (sym is) (plain_front text here) in

@@ -146,11 +146,14 @@ kept_same text behind (suc n) within =
 
 pub len_same : (text behind : List ℕ) → line_len text < length text → line_len (text ++ behind) ≡ line_len text
 len_same text behind part =
-    prefix_len-append not_feed text behind ∙ ap (λ t. cond t (length text + line_len behind) (line_len text)) (ne_eqb (line_len text) (length text) (omega arith))
+    prefix_len-append not_feed text behind
+    ∙ ap (λ t. cond t (length text + line_len behind) (line_len text))
+    (ne_eqb (line_len text) (length text) (omega arith))
 
 pub len_longer : (text behind : List ℕ) → line_len text ≡ length text → line_len (text ++ behind) ≡ length text + line_len behind
 len_longer text behind whole =
-    prefix_len-append not_feed text behind ∙ ap (λ t. cond t (length text + line_len behind) (line_len text)) (eq-eqb (line_len text) (length text) whole)
+    prefix_len-append not_feed text behind
+    ∙ ap (λ t. cond t (length text + line_len behind) (line_len text)) (eq-eqb (line_len text) (length text) whole)
 
 -- the first line of a text with its end
 abbrev pub head_of : List ℕ → List ℕ
@@ -171,7 +174,13 @@ is_head text part = record { size = size; len = by_test (line_len (head_of text)
 
     by_test : (t : Bool) → (line_len (head_of text) == length (head_of text)) ≡ t → line_len (head_of text) ≡ line_len text
     by_test true whole =
-        absurd (omega (arith, size, parted, len_longer (head_of text) (drop (line_len text + 1) text) (eqb-true (line_len (head_of text)) (length (head_of text)) whole)))
+        absurd (omega (
+          arith,
+          size,
+          parted,
+          len_longer (head_of text) (drop (line_len text + 1) text)
+              (eqb-true (line_len (head_of text)) (length (head_of text)) whole),
+        ))
     by_test false part =
         let apart : line_len (head_of text) ≢ length (head_of text) = eqb-false (line_len (head_of text)) (length (head_of text)) part in
         sym (parted ∙ len_same (head_of text) (drop (line_len text + 1) text) (omega (arith, len-le (head_of text))))
@@ -179,7 +188,8 @@ is_head text part = record { size = size; len = by_test (line_len (head_of text)
 -- what a first line with its end keeps, and where it ends, whatever stands behind it
 record HeadBefore (text behind : List ℕ) : Type 0 where
   part : line_len (head_of text ++ behind) < length (head_of text ++ behind)
-  line : take (kept_len (head_of text ++ behind) (line_len (head_of text ++ behind))) (head_of text ++ behind) ≡ take (kept_len text (line_len text)) text
+  line : take (kept_len (head_of text ++ behind) (line_len (head_of text ++ behind))) (head_of text ++ behind)
+      ≡ take (kept_len text (line_len text)) text
   rest : drop (line_len (head_of text ++ behind) + 1) (head_of text ++ behind) ≡ behind
 
 head_before : (text behind : List ℕ) → line_len text < length text → HeadBefore text behind
@@ -196,7 +206,8 @@ head_before text behind part =
       part = omega (arith, len, is.size, length-append head behind);
       line =
           ap (λ k. take (kept_len (head ++ behind) k) (head ++ behind)) len ∙ ap (λ k. take k (head ++ behind)) same
-          ∙ take-append-le (kept_len text n) head behind (omega (arith, few, is.size)) ∙ take-take (kept_len text n) (n + 1) text (omega (arith, few));
+          ∙ take-append-le (kept_len text n) head behind (omega (arith, few, is.size))
+          ∙ take-take (kept_len text n) (n + 1) text (omega (arith, few));
       rest = ap (λ k. drop (k + 1) (head ++ behind)) len ∙ ap (λ k. drop k (head ++ behind)) (sym is.size) ∙ drop-append_seam head behind;
     }
 
@@ -204,14 +215,16 @@ pub lines_of_head : (text behind : List ℕ) → line_len text < length text →
     lines (head_of text ++ behind) ≡ take (kept_len text (line_len text)) text ∷ lines behind
 lines_of_head text behind part =
     let b = head_before text behind part in
-    first_line (head_of text ++ behind) b.part ∙ ap (λ l. l ∷ lines (drop (line_len (head_of text ++ behind) + 1) (head_of text ++ behind))) b.line
+    first_line (head_of text ++ behind) b.part
+    ∙ ap (λ l. l ∷ lines (drop (line_len (head_of text ++ behind) + 1) (head_of text ++ behind))) b.line
     ∙ ap (λ rest. take (kept_len text (line_len text)) text ∷ lines rest) b.rest
 
 pub whole_lines_of_head : (text behind : List ℕ) → line_len text < length text →
     whole_lines (head_of text ++ behind) ≡ take (kept_len text (line_len text)) text ∷ whole_lines behind
 whole_lines_of_head text behind part =
     let b = head_before text behind part in
-    first_whole_line (head_of text ++ behind) b.part ∙ ap (λ l. l ∷ whole_lines (drop (line_len (head_of text ++ behind) + 1) (head_of text ++ behind))) b.line
+    first_whole_line (head_of text ++ behind) b.part
+    ∙ ap (λ l. l ∷ whole_lines (drop (line_len (head_of text ++ behind) + 1) (head_of text ++ behind))) b.line
     ∙ ap (λ rest. take (kept_len text (line_len text)) text ∷ whole_lines rest) b.rest
 
 -- the first line, where there is one
@@ -233,7 +246,15 @@ long_ended text behind part long =
       behind = lines (drop (line_len (text ++ behind) + 1) (text ++ behind));
       is = first_line (text ++ behind) within;
       has =
-          omega (arith, long, kept, ap (λ n. kept_len (text ++ behind) n) len, kept-le (text ++ behind) (line_len (text ++ behind)), length-take-le (kept_len (text ++ behind) (line_len (text ++ behind))) (text ++ behind) (omega (arith, within, kept-le (text ++ behind) (line_len (text ++ behind)))));
+          omega (
+            arith,
+            long,
+            kept,
+            ap (λ n. kept_len (text ++ behind) n) len,
+            kept-le (text ++ behind) (line_len (text ++ behind)),
+            length-take-le (kept_len (text ++ behind) (line_len (text ++ behind))) (text ++ behind)
+                (omega (arith, within, kept-le (text ++ behind) (line_len (text ++ behind)))),
+          );
     }
 
 pub long_unended : (text behind : List ℕ) → line_len text ≡ length text → 4096 < length text →
@@ -243,23 +264,32 @@ long_unended text behind whole long plain = by_test (line_len (text ++ behind) =
     longer : line_len (text ++ behind) ≡ length text + line_len behind
     longer = len_longer text behind whole
 
-    by_test : (t : Bool) → (line_len (text ++ behind) == length (text ++ behind)) ≡ t → FirstLine (text ++ behind) (λ line. 4096 < length line)
+    by_test : (t : Bool) → (line_len (text ++ behind) == length (text ++ behind)) ≡ t →
+        FirstLine (text ++ behind) (λ line. 4096 < length line)
     by_test true same = record {
       line = text ++ behind;
       behind = [];
-      is = last_line (text ++ behind) (eqb-true (line_len (text ++ behind)) (length (text ++ behind)) same) (ne_eqb (length (text ++ behind)) 0 (omega (arith, length-append text behind)));
+      is = last_line (text ++ behind) (eqb-true (line_len (text ++ behind)) (length (text ++ behind)) same)
+          (ne_eqb (length (text ++ behind)) 0 (omega (arith, length-append text behind)));
       has = omega (arith, length-append text behind);
     }
     by_test false part =
-        let apart : line_len (text ++ behind) ≢ length (text ++ behind) = eqb-false (line_len (text ++ behind)) (length (text ++ behind)) part in
+        let apart : line_len (text ++ behind) ≢ length (text ++ behind) =
+        eqb-false (line_len (text ++ behind)) (length (text ++ behind)) part in
         let within : line_len (text ++ behind) < length (text ++ behind) = omega (arith, len-le (text ++ behind)) in
         let here : 4096 < length text = long in
         let byte : get_or (text ++ behind) 4096 0 ≡ get_or text 4096 0 = get_or_append_left text behind 0 4096 here in
         let kept : 4096 < kept_len (text ++ behind) (line_len (text ++ behind)) =
-        kept-long (text ++ behind) (line_len (text ++ behind)) (omega (arith, longer)) (λ is. ap (λ b. b == 13) byte ∙ plain (omega (arith, is, longer, long))) in
+        kept-long (text ++ behind) (line_len (text ++ behind)) (omega (arith, longer)) (λ is. ap (λ b. b == 13) byte
+        ∙ plain (omega (arith, is, longer, long))) in
         record {
           line = take (kept_len (text ++ behind) (line_len (text ++ behind))) (text ++ behind);
           behind = lines (drop (line_len (text ++ behind) + 1) (text ++ behind));
           is = first_line (text ++ behind) within;
-          has = omega (arith, kept, length-take-le (kept_len (text ++ behind) (line_len (text ++ behind))) (text ++ behind) (omega (arith, within, kept-le (text ++ behind) (line_len (text ++ behind)))));
+          has = omega (
+            arith,
+            kept,
+            length-take-le (kept_len (text ++ behind) (line_len (text ++ behind)))
+                (text ++ behind) (omega (arith, within, kept-le (text ++ behind) (line_len (text ++ behind)))),
+          );
         }

@@ -6,10 +6,15 @@ use Rattle.mc_trace.specs.declared.lines.Next.TheVariants.{Line, More, Long, End
 use Rattle.mc_trace.specs.Lines.{next_line_of, whole_lines}
 use Rattle.mc_trace.specs.Rows.{rows_of, row_of}
 
-trace-three : rows_of (codes "5\n-7\n2147483647") (int32 ∷ []) ≡ record { rows = (pos 5 ∷ []) ∷ (negsuc 6 ∷ []) ∷ (pos 2147483647 ∷ []) ∷ []; bad = None }
+trace-three : rows_of (codes "5\n-7\n2147483647") (int32 ∷ [])
+    ≡ record { rows = (pos 5 ∷ []) ∷ (negsuc 6 ∷ []) ∷ (pos 2147483647 ∷ []) ∷ []; bad = None }
 trace-three = refl
 
-trace-range : rows_of (codes "1\n2\n200\n") (int8 ∷ []) ≡ record { rows = (pos 1 ∷ []) ∷ (pos 2 ∷ []) ∷ []; bad = Some (record { line = 3; why = Range 1 }) }
+trace-range : rows_of (codes "1\n2\n200\n") (int8 ∷ [])
+    ≡ record {
+      rows = (pos 1 ∷ []) ∷ (pos 2 ∷ []) ∷ [];
+      bad = Some (record { line = 3; why = Range 1 });
+    }
 trace-range = refl
 
 trace-empty : rows_of [] (int8 ∷ []) ≡ record { rows = []; bad = None }

@@ -12,9 +12,11 @@ fields text = filter (λ field. not (length field == 0)) (slice_split is_blank t
 -- the number of 1 to 18 digits, with a sign
 abbrev pub digits_number : Bool → List ℕ → Option ℤ
 digits_number negative digits =
-    if is_numeral digits && nat_le (length digits) 18 then Some (with_sign negative (digits_value 10 digits)) else None
+    if is_numeral digits && nat_le (length digits) 18
+    then Some (with_sign negative (digits_value 10 digits)) else None
 
 -- the number that a field writes: perhaps a `-`, and 1 to 18 digits
 abbrev pub field_number : List ℕ → Option ℤ
 field_number [] = None
-field_number (c ∷ rest) = if c == 45 then digits_number true rest else digits_number false (c ∷ rest)
+field_number (c ∷ rest) =
+    if c == 45 then digits_number true rest else digits_number false (c ∷ rest)

@@ -16,7 +16,8 @@ kept_len text len = if nat_lt 0 len && slice_index text (len - 1) == 13 then len
 -- the line from a place on, with the text there, which has so many bytes before its first byte 10
 abbrev pub ended_line : ℕ → List ℕ → ℕ → Next
 ended_line from text len =
-    if nat_le (kept_len text len) longest then Line from (from + kept_len text len) (from + len + 1) else Long
+    if nat_le (kept_len text len) longest then Line from (from + kept_len text len) (from + len + 1)
+    else Long
 
 -- the same where the text there has no byte 10, and the whole text is at its end or not
 abbrev pub unended_line : ℕ → List ℕ → Bool → Next
@@ -25,7 +26,8 @@ unended_line from text true =
     else if nat_le (length text) longest then Line from (from + length text) (from + length text)
     else Long
 unended_line from text false =
-    if nat_le (length text) longest || (length text == suc longest && slice_index text longest == 13) then More else Long
+    if nat_le (length text) longest
+    || (length text == suc longest && slice_index text longest == 13) then More else Long
 
 -- the line from a place on, with the text there
 abbrev pub line_at : ℕ → List ℕ → Bool → Next

@@ -19,17 +19,25 @@ whole_rows_after count types text = rows_behind count types (whole_lines text)
 abbrev pub with_rows : List (List ℤ) → Trace → Trace
 with_rows rows trace = record { rows = rows ++ trace.rows; bad = trace.bad }
 
--- the text is whole lines that write these rows, so that whatever follows is read as though it began there
-pub record WritesRows (text : List ℕ) (types : List FixType) (count : ℕ) (rows : List (List ℤ)) : Type 0 where
-  pub all : (behind : List ℕ) → rows_after count types (text ++ behind) ≡ with_rows rows (rows_after (count + length rows) types behind)
-  pub whole : (behind : List ℕ) → whole_rows_after count types (text ++ behind) ≡ with_rows rows (whole_rows_after (count + length rows) types behind)
+-- the text is whole lines that write these rows, so that whatever follows is read as though it
+-- began there
+pub record WritesRows (text : List ℕ) (types : List FixType) (count : ℕ)
+    (rows : List (List ℤ)) : Type 0 where
+  pub all : (behind : List ℕ) →
+      rows_after count types (text ++ behind)
+      ≡ with_rows rows (rows_after (count + length rows) types behind)
+  pub whole : (behind : List ℕ) →
+      whole_rows_after count types (text ++ behind)
+      ≡ with_rows rows (whole_rows_after (count + length rows) types behind)
 
 -- the text begins with a line that is no row, whatever follows
 abbrev pub BeginsBadly : BadLine → (text : List ℕ) (types : List FixType) (count : ℕ) → Type 0
-BeginsBadly bad text types count = (behind : List ℕ) → rows_after count types (text ++ behind) ≡ record { rows = []; bad = Some bad }
+BeginsBadly bad text types count = (behind : List ℕ) →
+    rows_after count types (text ++ behind) ≡ record { rows = []; bad = Some bad }
 
 -- a line with its end stands from a place on, and is this row
-pub record IsNextRow (text : List ℕ) (types : List FixType) (count from after : ℕ) (row : List ℤ) : Type 0 where
+pub record IsNextRow (text : List ℕ) (types : List FixType) (count from after : ℕ)
+    (row : List ℤ) : Type 0 where
   pub goes_on : from < after
   pub within : after ≤ length text
   pub fewer : count < most_lines
@@ -42,12 +50,15 @@ pub record BeginsLine (text : List ℕ) : Type 0 where
   pub short : length text ≤ 4097
 
 -- the text is one line, which is this row
-pub record IsLastRow (text : List ℕ) (types : List FixType) (count : ℕ) (row : List ℤ) : Type 0 where
+pub record IsLastRow (text : List ℕ) (types : List FixType) (count : ℕ)
+    (row : List ℤ) : Type 0 where
   pub fewer : count < most_lines
   pub in_types : AllZip InType types row
   pub rows : rows_after count types text ≡ record { rows = row ∷ []; bad = None }
 
 -- the text is a last line, which is this row, or there is none
-abbrev pub EndsTrace : Bool → (text : List ℕ) (types : List FixType) (count : ℕ) (row : List ℤ) → Type 0
+abbrev pub EndsTrace : Bool → (text : List ℕ) (types : List FixType) (count : ℕ) (row : List ℤ) →
+    Type 0
 EndsTrace true text types count row = IsLastRow text types count row
-EndsTrace false text types count row = rows_after count types text ≡ record { rows = []; bad = None }
+EndsTrace false text types count row =
+    rows_after count types text ≡ record { rows = []; bad = None }

@@ -12,7 +12,8 @@ use Rattle.mc_trace.specs.Fields.{fields, field_number}
 -- the value of the field with this number, by what it writes: a number of the type
 abbrev pub checked_value : ℕ → FixType → Option ℤ → Result ℤ BadWhy
 checked_value field t None = Err (Form field)
-checked_value field t (Some v) = if int_le (least_of t) v && int_le v (greatest_of t) then Ok v else Err (Range field)
+checked_value field t (Some v) =
+    if int_le (least_of t) v && int_le v (greatest_of t) then Ok v else Err (Range field)
 
 -- a value in front of those behind it; a fault of the value comes first
 abbrev pub with_value : Result ℤ BadWhy → Result (List ℤ) BadWhy → Result (List ℤ) BadWhy
@@ -31,7 +32,8 @@ values_from field (t ∷ types) (text ∷ texts) =
 abbrev pub row_of : List FixType → List ℕ → Result (List ℤ) BadWhy
 row_of types text =
     if nat_le (length text) longest
-    then (if length (fields text) == length types then values_from 1 types (fields text) else Err (Count (length (fields text))))
+    then (if length (fields text) == length types then values_from 1 types (fields text)
+    else Err (Count (length (fields text))))
     else Err Long
 
 -- The rows before the first bad line, and that line, if there is one.
@@ -52,7 +54,8 @@ most_lines = 4294967295
 abbrev pub rows_behind : ℕ → List FixType → List (List ℕ) → Trace
 rows_behind line types [] = record { rows = []; bad = None }
 rows_behind line types (text ∷ texts) =
-    if line == most_lines then record { rows = []; bad = Some (record { line = most_lines; why = Many }) }
+    if line == most_lines
+    then record { rows = []; bad = Some (record { line = most_lines; why = Many }) }
     else with_row (line + 1) (row_of types text) (rows_behind (line + 1) types texts)
 
 -- the rows of a trace's bytes

@@ -36,7 +36,8 @@ pub struct BadLine {
 /// leftmost bad field. `into` may hold anything then.
 pub fn read_row(text: &[u8], types: &[FixType], into: &mut [i64]) -> Result<(), BadWhy>
     requires { length into.old ≡ length types.now }
-    ensures row { MatchResult result (λ _. row_of types.now text.now ≡ Ok into.new) (λ why. row_of types.now text.now ≡ Err why) }
+    ensures row { MatchResult result (λ _. row_of types.now text.now ≡ Ok into.new)
+        (λ why. row_of types.now text.now ≡ Err why) }
     ensures room { length into.new ≡ length into.old }
 {
     if text.len() > LONGEST_LINE {
@@ -54,7 +55,8 @@ fn read_values(text: &[u8], types: &[FixType], into: &mut [i64]) -> Result<(), B
     requires room { length into.old ≡ length types.now }
     requires count { length (field.fields text.now) ≡ length types.now }
     requires short { length text.now ≤ 4096 }
-    ensures values { MatchResult result (λ _. row.values_from 1 types.now (field.fields text.now) ≡ Ok into.new)
+    ensures values { MatchResult result (λ _. row.values_from 1 types.now (field.fields text.now)
+        ≡ Ok into.new)
         (λ why. row.values_from 1 types.now (field.fields text.now) ≡ Err why) }
     ensures kept { length into.new ≡ length into.old }
 {

@@ -17,7 +17,9 @@ pub one_input-well_formed : (rows : List Row) (text : TypeText) → rows ≡ inp
 one_input-well_formed rows text e = subst (λ rows. IsWellFormed (one_input rows)) (sym e)
     (well_formed-from (one_input (inport_row text ∷ [])) refl refl refl refl refl (record { kind = tt; type = tt; time = tt }, tt) tt)
 
-pub one_input-systems : (rows : List Row) (text : TypeText) (root : System) → rows ≡ inport_row text ∷ [] → root ≡ system None 2 Plain (0 ∷ []) no_more →
+pub one_input-systems : (rows : List Row) (text : TypeText) (root : System) → rows ≡ inport_row text ∷ [] →
+    root ≡ system None 2 Plain (0 ∷ []) no_more →
     AreSystemsOf rows root
 one_input-systems rows text root e same = subst (λ root. AreSystemsOf rows root) (sym same)
-    (subst (λ rows. AreSystemsOf rows (system None 2 Plain (0 ∷ []) no_more)) (sym e) (record { is_root = refl; agrees = (refl, refl, refl, tt) }))
+    (subst (λ rows. AreSystemsOf rows (system None 2 Plain (0 ∷ []) no_more)) (sym e)
+    (record { is_root = refl; agrees = (refl, refl, refl, tt) }))

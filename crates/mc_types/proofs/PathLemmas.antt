@@ -88,7 +88,8 @@ start-more rows start b c e same = same ∙ same-followed rows b (SameAs c) e
 -- ---- The end of a path
 
 -- the rule of the last row gives a type, or none
-pub path-rule : (rows : List Row) (path : List ℕ) (b : ℕ) (met : Option FixType) → b < length rows → followed_type rows b ≡ met → IsPath rows path b →
+pub path-rule : (rows : List Row) (path : List ℕ) (b : ℕ) (met : Option FixType) → b < length rows →
+    followed_type rows b ≡ met → IsPath rows path b →
     AllMeet rows (path ++ b ∷ []) met
 path-rule rows path b met inside e is = record {
   inside = longer (λ a. a < length rows) path b is.inside inside;
@@ -99,7 +100,8 @@ pub known-followed : (rows : List Row) (b : ℕ) (t : FixType) → type_rule row
 known-followed rows b t e = same-followed rows b (Known t) e
 
 -- the last row is known already, or on the path itself
-pub mark-followed : (rows : List Row) (marks : List Mark) (path : List ℕ) (b : ℕ) → is_new (mark_at marks b) ≡ false → AreMarks rows marks path →
+pub mark-followed : (rows : List Row) (marks : List Mark) (path : List ℕ) (b : ℕ) → is_new (mark_at marks b) ≡ false →
+    AreMarks rows marks path →
     IsPath rows path b → met_by (mark_at marks b) ≡ followed_type rows b
 mark-followed rows marks path b old are is = by (mark_at marks b) refl old
   where
@@ -111,7 +113,8 @@ mark-followed rows marks path b old are is = by (mark_at marks b) refl old
     by OnPath e old = sym (round-followed rows b (round (are.listed b e)))
     by (Settled met) e old = are.right b met e
 
-pub path-mark : (rows : List Row) (path : List ℕ) (b : ℕ) (met : Option FixType) → met ≡ followed_type rows b → IsPath rows path b → AllMeet rows path met
+pub path-mark : (rows : List Row) (path : List ℕ) (b : ℕ) (met : Option FixType) → met ≡ followed_type rows b →
+    IsPath rows path b → AllMeet rows path met
 path-mark rows path b met e is = record { inside = is.inside; same_type = λ i h. is.same_type i h ∙ sym e }
 
 -- ---- All rows

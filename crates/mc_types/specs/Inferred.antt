@@ -21,7 +21,10 @@ abbrev pub IsTypeFault : List Row → BuildFault → Type 0
 IsTypeFault rows (Refused refusal) = type_refusal rows ≡ Some (plain_refusal refusal)
 IsTypeFault rows Memory = ⊤
 
--- the bits of each row can be counted: it has the inputs that its kind asks for, and is within the limits of its kind
+-- the bits of each row can be counted: it has the inputs that its kind asks for, and is within the
+-- limits of its kind
 abbrev pub AreCountable : List Row → Type 0
 AreCountable rows = (b : ℕ) → b < length rows →
-    ((types : List FixType) → HasInputTypes (row_at rows b).kind (map (type_at types) (row_at rows b).inputs)) × IsWithinLimits (row_at rows b).kind
+    ((types : List FixType) →
+    HasInputTypes (row_at rows b).kind (map (type_at types) (row_at rows b).inputs))
+    × IsWithinLimits (row_at rows b).kind

@@ -7,4 +7,12 @@ use Rattle.mc_diagram.specs.declared.table.Row.{Row}
 
 -- an input with this text of its type, as the first row of the root
 abbrev pub inport_row : TypeText → Row
-inport_row text = record { place = record { row = 0; line = 3 }; owner = None; kind = Inport 1; inputs = []; type_text = text; time_text = NoTime }
+inport_row text =
+    record {
+      place = record { row = 0; line = 3 };
+      owner = None;
+      kind = Inport 1;
+      inputs = [];
+      type_text = text;
+      time_text = NoTime;
+    }

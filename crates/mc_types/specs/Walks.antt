@@ -16,14 +16,16 @@ pub record LeadsTo (rows : List Row) (b c : ℕ) : Type 0 where
 -- one mark a row: what is settled is right, and rows that count as on the path stand there
 pub record AreMarks (rows : List Row) (marks : List Mark) (path : List ℕ) : Type 0 where
   pub one_each : length marks ≡ length rows
-  pub right : (b : ℕ) (met : Option FixType) → mark_at marks b ≡ Settled met → met ≡ followed_type rows b
+  pub right : (b : ℕ) (met : Option FixType) → mark_at marks b ≡ Settled met →
+      met ≡ followed_type rows b
   pub listed : (b : ℕ) → mark_at marks b ≡ OnPath → Contains path b
 
 -- rules lead from each row of the path to row c
 pub record IsPath (rows : List Row) (path : List ℕ) (c : ℕ) : Type 0 where
   pub inside : (i : ℕ) → i < length path → slice_index path i < length rows
   pub leads : (i : ℕ) → i < length path → LeadsTo rows (slice_index path i) c
-  pub same_type : (i : ℕ) → i < length path → followed_type rows (slice_index path i) ≡ followed_type rows c
+  pub same_type : (i : ℕ) → i < length path →
+      followed_type rows (slice_index path i) ≡ followed_type rows c
 
 -- from each row of the path this is met
 pub record AllMeet (rows : List Row) (path : List ℕ) (met : Option FixType) : Type 0 where
@@ -31,7 +33,9 @@ pub record AllMeet (rows : List Row) (path : List ℕ) (met : Option FixType) : 
   pub same_type : (i : ℕ) → i < length path → followed_type rows (slice_index path i) ≡ met
 
 -- the first n rows of the path are settled so, and no other row
-pub record AreSettled (before after : List Mark) (path : List ℕ) (n : ℕ) (met : Option FixType) : Type 0 where
+pub record AreSettled (before after : List Mark) (path : List ℕ) (n : ℕ)
+    (met : Option FixType) : Type 0 where
   pub one_each : length after ≡ length before
   pub settled : (i : ℕ) → i < n → mark_at after (slice_index path i) ≡ Settled met
-  pub others : (b : ℕ) → (mark_at after b ≡ mark_at before b) ⊎ (Contains path b × (mark_at after b ≡ Settled met))
+  pub others : (b : ℕ) →
+      (mark_at after b ≡ mark_at before b) ⊎ (Contains path b × (mark_at after b ≡ Settled met))

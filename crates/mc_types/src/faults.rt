@@ -42,7 +42,8 @@ pub(crate) fn type_of_row(rows: &[Row], met: &[Option<FixType>], b: usize) -> Op
 fn input_met(rows: &[Row], met: &[Option<FixType>], b: usize) -> Option<FixType>
     requires met { met.now ≡ by_row rows.now (followed_type rows.now) }
     requires row { b < length rows.now }
-    ensures { result ≡ option_and_then (followed_type rows.now) (slice_get (row_at rows.now b).inputs 0) }
+    ensures { result
+        ≡ option_and_then (followed_type rows.now) (slice_get (row_at rows.now b).inputs 0) }
 {
     match first_wire(row_at(rows, b)) {
         Some(input) => met_at(met, input as usize),
@@ -114,7 +115,9 @@ fn is_signed(t: Option<FixType>) -> bool
 pub(crate) fn trigger_fault(rows: &[Row], met: &[Option<FixType>], b: usize) -> Option<Refusal>
     requires met { met.now ≡ by_row rows.now (followed_type rows.now) }
     requires row { b < length rows.now }
-    ensures { as_plain result ≡ found_where (refusal.has_signed_trigger rows.now) (λ e. plain.TriggerSigned (line_at rows.now e)) b }
+    ensures { as_plain result
+        ≡ found_where (refusal.has_signed_trigger rows.now)
+        (λ e. plain.TriggerSigned (line_at rows.now e)) b }
 {
     if is_signed(trigger_type(rows, met, b)) {
         let line = row_at(rows, b).place.line;
@@ -144,7 +147,8 @@ pub(crate) fn bits_of_row(
 ) -> Result<u32, Memory>
     requires has_types { HasInputTypes row.now.kind (map (type.type_at types.now) row.now.inputs) }
     requires within_limits { IsWithinLimits row.now.kind }
-    ensures { IfOk result (λ bits. bits ≡ width.wide_bits row.now.kind (map (type.type_at types.now) row.now.inputs) out) }
+    ensures { IfOk result (λ bits. bits
+        ≡ width.wide_bits row.now.kind (map (type.type_at types.now) row.now.inputs) out) }
 {
     let inputs = input_types(alloc, row, types)?;
     Ok(wide_bits(&row.kind, inputs.as_slice(), out))
@@ -159,7 +163,8 @@ pub(crate) fn wide_fault(
 ) -> Result<Option<Refusal>, Memory>
     requires countable { AreCountable rows.now }
     requires row { b < length rows.now }
-    ensures { IfOk result (λ fault. as_plain fault ≡ found_where (λ b. nat_lt 62 (refusal.bits_of_row rows.now types.now b))
+    ensures { IfOk result (λ fault. as_plain fault
+        ≡ found_where (λ b. nat_lt 62 (refusal.bits_of_row rows.now types.now b))
         (λ b. plain.TooWide (line_at rows.now b) (refusal.bits_of_row rows.now types.now b)) b) }
 {
     let row = row_at(rows, b);

@@ -39,7 +39,8 @@ fn narrow_types(
 ) -> Result<Vec<FixType>, BuildFault>
     requires countable { AreCountable rows.now }
     requires met { met.now ≡ by_row rows.now (followed_type rows.now) }
-    requires accepted { option_or (least_line (bad_types rows.now)) (least_line (signed_triggers rows.now)) ≡ None }
+    requires accepted { option_or (least_line (bad_types rows.now)) (least_line (signed_triggers rows.now))
+        ≡ None }
     ensures types { IfOk result (λ types. AreTypes rows.now types.items) }
     ensures refused { IfErr result (IsTypeFault rows.now) }
 {

@@ -39,7 +39,8 @@ fn least_signed_trigger(rows: &[Row], met: &[Option<FixType>]) -> Option<Refusal
 /// The first refusal of rows for what is met by following rules.
 pub(crate) fn refusal_of_rules(rows: &[Row], met: &[Option<FixType>]) -> Option<Refusal>
     requires { met.now ≡ by_row rows.now (followed_type rows.now) }
-    ensures { as_plain result ≡ option_or (least_line (bad_types rows.now)) (least_line (signed_triggers rows.now)) }
+    ensures { as_plain result
+        ≡ option_or (least_line (bad_types rows.now)) (least_line (signed_triggers rows.now)) }
 {
     match least_bad_type(rows, met) {
         Some(refusal) => Some(refusal),
@@ -54,7 +55,9 @@ pub(crate) fn least_wide_row(
     types: &[FixType],
 ) -> Result<Option<Refusal>, Memory>
     requires { AreCountable rows.now }
-    ensures { IfOk result (λ found. as_plain found ≡ least_line (map (λ b. plain.TooWide (line_at rows.now b) (bits_of_row rows.now types.now b))
+    ensures { IfOk result (λ found. as_plain found
+        ≡ least_line
+        (map (λ b. plain.TooWide (line_at rows.now b) (bits_of_row rows.now types.now b))
         (filter (λ b. nat_lt 62 (bits_of_row rows.now types.now b)) (row_numbers rows.now)))) }
 {
     let mut least = None;

@@ -18,7 +18,8 @@ pub(crate) enum Rule {
 
 /// The rule of a row.
 pub(crate) fn type_rule(row: &Row) -> Rule
-    ensures { rule_held result ≡ type.rule_of row.now.type_text (type.inherited_rule row.now.kind row.now.inputs) }
+    ensures { rule_held result
+        ≡ type.rule_of row.now.type_text (type.inherited_rule row.now.kind row.now.inputs) }
 {
     match row.type_text {
         TypeText::Inherit => inherited_rule(row),

@@ -50,8 +50,11 @@ pub delays-by_row : (rows : List Row) → refusal_from 1_000_000 0 rows ≡ dela
 delays-by_row rows = ap (λ lengths. as_refusal (first_sum_over 1_000_000 0 lengths)) (sym (lengths-by_row rows))
 
 -- one row more
-row-more : (most so_far : ℕ) (rows : List Row) (i : ℕ) (row : Row) (n : Option ℕ) → i < length rows → row ≡ slice_index_or rows i row → one_length row.place.line n ≡ length_of_row row →
-    refusal_from most so_far (drop i rows) ≡ as_refusal (first_sum_over most so_far (one_length row.place.line n ++ flat_map length_of_row (drop (i + 1) rows)))
+row-more : (most so_far : ℕ) (rows : List Row) (i : ℕ) (row : Row) (n : Option ℕ) → i < length rows →
+    row ≡ slice_index_or rows i row → one_length row.place.line n ≡ length_of_row row →
+    refusal_from most so_far (drop i rows)
+    ≡ as_refusal
+    (first_sum_over most so_far (one_length row.place.line n ++ flat_map length_of_row (drop (i + 1) rows)))
 row-more most so_far rows i row n below is own =
     at_drop_more (refusal_from most so_far) rows i row below ∙ ap (λ (r : Row). refusal_from most so_far (r ∷ drop (i + 1) rows)) (sym is)
     ∙ ap (λ lengths. as_refusal (first_sum_over most so_far (lengths ++ flat_map length_of_row (drop (i + 1) rows)))) (sym own)
@@ -63,24 +66,33 @@ is_over : (a b : ℕ) → a < b → nat_lt a b ≡ true
 is_over a b h = grind (arith, nat_tests)
 
 -- a row that remembers no samples
-pub none-more : (most so_far : ℕ) (rows : List Row) (i : ℕ) (row : Row) → i < length rows → row ≡ slice_index_or rows i row → one_length row.place.line None ≡ length_of_row row →
+pub none-more : (most so_far : ℕ) (rows : List Row) (i : ℕ) (row : Row) → i < length rows →
+    row ≡ slice_index_or rows i row → one_length row.place.line None ≡ length_of_row row →
     refusal_from most so_far (drop i rows) ≡ refusal_from most so_far (drop (i + 1) rows)
 none-more most so_far rows i row below is own = row-more most so_far rows i row None below is own
 
 -- a delay with which the sum is within the limit
-pub sum-within : (most so_far : ℕ) (rows : List Row) (i : ℕ) (row : Row) (n : ℕ) → i < length rows → row ≡ slice_index_or rows i row → one_length row.place.line (Some n) ≡ length_of_row row →
+pub sum-within : (most so_far : ℕ) (rows : List Row) (i : ℕ) (row : Row) (n : ℕ) → i < length rows →
+    row ≡ slice_index_or rows i row → one_length row.place.line (Some n) ≡ length_of_row row →
     so_far + n ≤ most → refusal_from most so_far (drop i rows) ≡ refusal_from most (so_far + n) (drop (i + 1) rows)
 sum-within most so_far rows i row n below is own within =
     row-more most so_far rows i row (Some n) below is own
-    ∙ ap (λ t. as_refusal (cond t (Some (record { line = row.place.line; number = so_far + n })) (first_sum_over most (so_far + n) (flat_map length_of_row (drop (i + 1) rows)))))
+    ∙ ap (λ t.
+    as_refusal
+    (cond t (Some (record { line = row.place.line; number = so_far + n }))
+    (first_sum_over most (so_far + n) (flat_map length_of_row (drop (i + 1) rows)))))
     (not_over most (so_far + n) within)
 
 -- one with which it is over the limit
-pub sum-over : (most so_far : ℕ) (rows : List Row) (i : ℕ) (row : Row) (n : ℕ) → i < length rows → row ≡ slice_index_or rows i row → one_length row.place.line (Some n) ≡ length_of_row row →
+pub sum-over : (most so_far : ℕ) (rows : List Row) (i : ℕ) (row : Row) (n : ℕ) → i < length rows →
+    row ≡ slice_index_or rows i row → one_length row.place.line (Some n) ≡ length_of_row row →
     most < so_far + n → refusal_from most so_far (drop i rows) ≡ Some (LongDelays row.place.line (so_far + n))
 sum-over most so_far rows i row n below is own over =
     row-more most so_far rows i row (Some n) below is own
-    ∙ ap (λ t. as_refusal (cond t (Some (record { line = row.place.line; number = so_far + n })) (first_sum_over most (so_far + n) (flat_map length_of_row (drop (i + 1) rows)))))
+    ∙ ap (λ t.
+    as_refusal
+    (cond t (Some (record { line = row.place.line; number = so_far + n }))
+    (first_sum_over most (so_far + n) (flat_map length_of_row (drop (i + 1) rows)))))
     (is_over most (so_far + n) over)
 
 -- no row is left
@@ -88,5 +100,6 @@ pub sum-end : (most so_far : ℕ) (rows : List Row) (i : ℕ) → length rows �
 sum-end most so_far rows i past = ap (refusal_from most so_far) (drop_of_length-le rows past)
 
 -- each of the rows is lawful
-pub row-lawful : (rows : List Row) (i : ℕ) (row : Row) → AllByRecursion IsRow rows → i < length rows → row ≡ slice_index_or rows i row → IsRow row
+pub row-lawful : (rows : List Row) (i : ℕ) (row : Row) → AllByRecursion IsRow rows → i < length rows →
+    row ≡ slice_index_or rows i row → IsRow row
 row-lawful rows i row all below is = subst IsRow (sym is) (place-of IsRow rows row i all below)

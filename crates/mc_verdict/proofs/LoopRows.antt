@@ -15,7 +15,8 @@ use Rattle.mc_depend.proofs.lemmas.LoopRows.{loop-rows}
 use Rattle.mc_verdict.proofs.lemmas.PlaceLists.{place-of}
 
 -- a row past the end of the table has no wires
-no-wires : (rows : List Row) (n c : ℕ) (feeds : Bool) → Contains ((if feeds then [] else []) ++ control_wires rows (outward rows None n None)) c → ⊥
+no-wires : (rows : List Row) (n c : ℕ) (feeds : Bool) →
+    Contains ((if feeds then [] else []) ++ control_wires rows (outward rows None n None)) c → ⊥
 no-wires rows zero c true h = Contains-nil c h
 no-wires rows (suc n) c true h = Contains-nil c h
 no-wires rows zero c false h = Contains-nil c h

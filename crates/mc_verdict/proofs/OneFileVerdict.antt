@@ -21,11 +21,13 @@ data View (bytes : List ℕ) : FileVerdict → Type 0 where
   long : file_limit < length bytes → View bytes (Refused TooLong)
   faulty : (line : ℕ) (kind : SyntaxKind) → length bytes ≤ file_limit → Fault bytes line kind → View bytes (Refused (Syntax line kind))
   wrong : (refusal : PlainRefusal) (file : Items) → IsFile bytes file → tree_refusal file ≡ Some refusal → View bytes (Refused refusal)
-  right : (table : RowTable) (file : Items) → IsFile bytes file → tree_refusal file ≡ None → TableOf file table → View bytes (Accepted table)
+  right : (table : RowTable) (file : Items) → IsFile bytes file → tree_refusal file ≡ None → TableOf file table →
+      View bytes (Accepted table)
 
 view : (bytes : List ℕ) (v : FileVerdict) → HasFileVerdict bytes v → View bytes v
 view bytes (Refused refusal) (inl (many, is)) = subst (λ r. View bytes (Refused r)) (sym is) (long many)
-view bytes (Refused refusal) (inr (inl (fits, (line, kind, fault, is)))) = subst (λ r. View bytes (Refused r)) (sym is) (faulty line kind fits fault)
+view bytes (Refused refusal) (inr (inl (fits, (line, kind, fault, is)))) =
+    subst (λ r. View bytes (Refused r)) (sym is) (faulty line kind fits fault)
 view bytes (Refused refusal) (inr (inr (file, is_file, is))) = wrong refusal file is_file is
 view bytes (Accepted table) (file, is_file, is, of) = right table file is_file is of
 
@@ -33,11 +35,13 @@ view bytes (Accepted table) (file, is_file, is, of) = right table file is_file i
 
 abbrev Trees : List ℕ → Option (ℕ × SyntaxKind) → Type 0
 Trees bytes fault =
-    MatchOption fault ((items : Items) × LinesSpell (lines bytes) items × ((third : Items) → LinesSpell (lines bytes) third → third ≡ items))
+    MatchOption fault ((items : Items) × LinesSpell (lines bytes) items
+    × ((third : Items) → LinesSpell (lines bytes) third → third ≡ items))
     (λ fault. (items : Items) → ¬ (LinesSpell (lines bytes) items))
 
 -- a text has one tree
-same_file : TreesAndFaults → (bytes : List ℕ) (file other : Items) → LinesSpell (lines bytes) file → LinesSpell (lines bytes) other → file ≡ other
+same_file : TreesAndFaults → (bytes : List ℕ) (file other : Items) → LinesSpell (lines bytes) file →
+    LinesSpell (lines bytes) other → file ≡ other
 same_file law bytes file other h g = by_law (lines_fault (lines bytes)) (law (lines bytes))
   where
     by_law : (fault : Option (ℕ × SyntaxKind)) → Trees bytes fault → file ≡ other
@@ -45,7 +49,8 @@ same_file law bytes file other h g = by_law (lines_fault (lines bytes)) (law (li
     by_law (Some fault) none = absurd (none file h)
 
 -- a text with a fault has none
-no_file : TreesAndFaults → (bytes : List ℕ) (line : ℕ) (kind : SyntaxKind) (file : Items) → Fault bytes line kind → LinesSpell (lines bytes) file → ⊥
+no_file : TreesAndFaults → (bytes : List ℕ) (line : ℕ) (kind : SyntaxKind) (file : Items) → Fault bytes line kind →
+    LinesSpell (lines bytes) file → ⊥
 no_file law bytes line kind file is h = by_law (lines_fault (lines bytes)) is (law (lines bytes))
   where
     by_law : (fault : Option (ℕ × SyntaxKind)) → fault ≡ Some (line, kind) → Trees bytes fault → ⊥
@@ -67,10 +72,13 @@ same law one bytes _ _ (faulty line kind fits fault) (long g) = absurd (omega (a
 same law one bytes _ _ (faulty line kind fits fault) (faulty line' kind' fits' fault') =
     let e : (line, kind) ≡ (line', kind') = some-equal (line, kind) (line', kind') (sym fault ∙ fault') in
     λ i. Refused (Syntax (e i).0 (e i).1)
-same law one bytes _ _ (faulty line kind fits fault) (wrong refusal file (fits', spells) is) = absurd (no_file law bytes line kind file fault spells)
-same law one bytes _ _ (faulty line kind fits fault) (right table file (fits', spells) is of) = absurd (no_file law bytes line kind file fault spells)
+same law one bytes _ _ (faulty line kind fits fault) (wrong refusal file (fits', spells) is) =
+    absurd (no_file law bytes line kind file fault spells)
+same law one bytes _ _ (faulty line kind fits fault) (right table file (fits', spells) is of) =
+    absurd (no_file law bytes line kind file fault spells)
 same law one bytes _ _ (wrong refusal file (fits, spells) is) (long g) = absurd (omega (arith, g, fits))
-same law one bytes _ _ (wrong refusal file (fits, spells) is) (faulty line kind fits' fault) = absurd (no_file law bytes line kind file fault spells)
+same law one bytes _ _ (wrong refusal file (fits, spells) is) (faulty line kind fits' fault) =
+    absurd (no_file law bytes line kind file fault spells)
 same law one bytes _ _ (wrong refusal file (fits, spells) is) (wrong refusal' file' (fits', spells') is') =
     let e = same_file law bytes file file' spells spells' in
     ap Refused (some-equal refusal refusal' (sym is ∙ ap tree_refusal e ∙ is'))
@@ -78,7 +86,8 @@ same law one bytes _ _ (wrong refusal file (fits, spells) is) (right table file'
     let e = same_file law bytes file file' spells spells' in
     absurd (none-some refusal (sym is' ∙ sym (ap tree_refusal e) ∙ is))
 same law one bytes _ _ (right table file (fits, spells) is of) (long g) = absurd (omega (arith, g, fits))
-same law one bytes _ _ (right table file (fits, spells) is of) (faulty line kind fits' fault) = absurd (no_file law bytes line kind file fault spells)
+same law one bytes _ _ (right table file (fits, spells) is of) (faulty line kind fits' fault) =
+    absurd (no_file law bytes line kind file fault spells)
 same law one bytes _ _ (right table file (fits, spells) is of) (wrong refusal file' (fits', spells') is') =
     let e = same_file law bytes file file' spells spells' in
     absurd (none-some refusal (sym is ∙ ap tree_refusal e ∙ is'))

@@ -30,14 +30,17 @@ module _ (one : TimesAreOne) (table : RowTable) (types others : List FixType) (o
   same-types : types ≡ others
   same-types =
       same_at types others boolean (is.one_type_each ∙ sym also.one_type_each)
-      (λ b below. let inside = subst (λ n. b < n) is.one_type_each below in HasType-one table.rows b _ _ (is.are_types b inside) (also.are_types b inside))
+      (λ b below. let inside = subst (λ n. b < n) is.one_type_each below in
+      HasType-one table.rows b _ _ (is.are_types b inside) (also.are_types b inside))
 
   same-times : times ≡ later
   same-times = one table times later is.are_times also.are_times
 
   same-ops : ops ≡ more
   same-ops =
-      is.are_ops ∙ ap₂ (λ (types : List FixType) (delays : List Bool). by_row table.rows (op_in table.rows types delays)) same-types (ap (λ (t : RowTimes). t.delays) same-times)
+      is.are_ops
+      ∙ ap₂ (λ (types : List FixType) (delays : List Bool). by_row table.rows (op_in table.rows types delays))
+      same-types (ap (λ (t : RowTimes). t.delays) same-times)
       ∙ sym also.are_ops
 
 pub resolution-is-one : TimesAreOne → (table : RowTable) (r other : ResolvedTable) → IsOf table r → IsOf table other → r ≡ other
@@ -50,7 +53,8 @@ resolution-is-one one table r other is also =
     λ i. record { table = tables i; types = types i; ops = ops i; times = times i }
 
 -- and there is a resolution of each table that a model file can have
-pub resolution-is-there : TablesHaveTimes → (table : RowTable) → IsWellFormed table → type_refusal table.rows ≡ None → HasTimeRefusal table None →
+pub resolution-is-there : TablesHaveTimes → (table : RowTable) → IsWellFormed table → type_refusal table.rows ≡ None →
+    HasTimeRefusal table None →
     (r : ResolvedTable) × IsOf table r
 resolution-is-there times table formed typed timed =
     let rows = table.rows in

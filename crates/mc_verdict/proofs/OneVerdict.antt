@@ -39,7 +39,8 @@ behind_loops r = settled (delay_refusal r.table.rows) r
 -- what the verdicts on a table are
 data OfTable (table : RowTable) : Verdict → Type 0 where
   ill_typed : (refusal : PlainRefusal) → type_refusal table.rows ≡ Some refusal → OfTable table (Refused refusal)
-  ill_timed : (refusal : PlainRefusal) → type_refusal table.rows ≡ None → HasTimeRefusal table (Some refusal) → OfTable table (Refused refusal)
+  ill_timed : (refusal : PlainRefusal) → type_refusal table.rows ≡ None → HasTimeRefusal table (Some refusal) →
+      OfTable table (Refused refusal)
   looping : (r : ResolvedTable) (loop : List ℕ) → IsOf table r → IsLeastLoop (needs_of (diagram_of_table r)) loop →
       OfTable table (Refused (Loop (places_of r.table.rows loop)))
   loop_free : (r : ResolvedTable) → IsOf table r → HasNoLoop (needs_of (diagram_of_table r)) → OfTable table (behind_loops r)
@@ -66,18 +67,23 @@ module _ (laws : Laws) (table : RowTable) where
 
   well-timed : (r : ResolvedTable) (refusal : PlainRefusal) → IsOf table r → HasTimeRefusal table (Some refusal) → ⊥
   well-timed r refusal is h =
-      some-none refusal (laws.refusal table (Some refusal) None h (subst (λ t. HasTimeRefusal t None) is.of_table is.resolved.times_accepted))
+      some-none refusal
+      (laws.refusal table (Some refusal) None h
+      (subst (λ t. HasTimeRefusal t None) is.of_table is.resolved.times_accepted))
 
-  only-ill_typed : (refusal : PlainRefusal) → type_refusal table.rows ≡ Some refusal → (other : Verdict) → OfTable table other → other ≡ Refused refusal
+  only-ill_typed : (refusal : PlainRefusal) → type_refusal table.rows ≡ Some refusal → (other : Verdict) →
+      OfTable table other → other ≡ Refused refusal
   only-ill_typed refusal e _ (ill_typed also f) = ap Refused (some-equal also refusal (sym f ∙ e))
   only-ill_typed refusal e _ (ill_timed also right h) = absurd (some-none refusal (sym e ∙ right))
   only-ill_typed refusal e _ (looping r loop is told) = absurd (some-none refusal (sym e ∙ well-typed r is))
   only-ill_typed refusal e _ (loop_free r is none) = absurd (some-none refusal (sym e ∙ well-typed r is))
 
-  only-ill_timed : (refusal : PlainRefusal) → type_refusal table.rows ≡ None → HasTimeRefusal table (Some refusal) → (other : Verdict) → OfTable table other →
+  only-ill_timed : (refusal : PlainRefusal) → type_refusal table.rows ≡ None → HasTimeRefusal table (Some refusal) →
+      (other : Verdict) → OfTable table other →
       other ≡ Refused refusal
   only-ill_timed refusal right h _ (ill_typed also f) = absurd (some-none also (sym f ∙ right))
-  only-ill_timed refusal right h _ (ill_timed also right' h') = ap Refused (some-equal also refusal (laws.refusal table (Some also) (Some refusal) h' h))
+  only-ill_timed refusal right h _ (ill_timed also right' h') =
+      ap Refused (some-equal also refusal (laws.refusal table (Some also) (Some refusal) h' h))
   only-ill_timed refusal right h _ (looping r loop is told) = absurd (well-timed r refusal is h)
   only-ill_timed refusal right h _ (loop_free r is none) = absurd (well-timed r refusal is h)
 
@@ -95,13 +101,17 @@ module _ (laws : Laws) (table : RowTable) where
         let one = laws.one_loop (needs_of (diagram_of_table r)) more loop here told in
         λ i. Refused (Loop (places_of (sym (same other also) i).table.rows (one i)))
     only-looping loop told _ (loop_free other also none) =
-        absurd (looped (needs_of (diagram_of_table r)) loop (subst (λ (x : ResolvedTable). HasNoLoop (needs_of (diagram_of_table x))) (sym (same other also)) none) told)
+        absurd (looped (needs_of (diagram_of_table r)) loop
+        (subst (λ (x : ResolvedTable). HasNoLoop (needs_of (diagram_of_table x))) (sym (same other also)) none)
+        told)
 
     only-loop_free : HasNoLoop (needs_of (diagram_of_table r)) → (other : Verdict) → OfTable table other → other ≡ behind_loops r
     only-loop_free none _ (ill_typed also f) = absurd (some-none also (sym f ∙ well-typed r is))
     only-loop_free none _ (ill_timed also right h) = absurd (well-timed r also is h)
     only-loop_free none _ (looping other loop also found) =
-        absurd (looped (needs_of (diagram_of_table r)) loop none (subst (λ (x : ResolvedTable). IsLeastLoop (needs_of (diagram_of_table x)) loop) (sym (same other also)) found))
+        absurd (looped (needs_of (diagram_of_table r)) loop none
+        (subst (λ (x : ResolvedTable). IsLeastLoop (needs_of (diagram_of_table x)) loop)
+        (sym (same other also)) found))
     only-loop_free none _ (loop_free other also no_loop) = ap behind_loops (sym (same other also))
 
     of-resolution : OneOfTable table
@@ -110,7 +120,8 @@ module _ (laws : Laws) (table : RowTable) where
       | inr (loop, told) ↦ (Refused (Loop (places_of r.table.rows loop)), looping r loop is told, only-looping loop told)
     ]
 
-  of-times : IsWellFormed table → type_refusal table.rows ≡ None → (found : Option PlainRefusal) → HasTimeRefusal table found → OneOfTable table
+  of-times : IsWellFormed table → type_refusal table.rows ≡ None → (found : Option PlainRefusal) →
+      HasTimeRefusal table found → OneOfTable table
   of-times formed right (Some refusal) h = (Refused refusal, ill_timed refusal right h, only-ill_timed refusal right h)
   of-times formed right None h = let some = resolution-is-there laws.have_times table formed right h in of-resolution some.0 some.1
 
@@ -136,13 +147,15 @@ view bytes (Refused refusal) (inl h) = of_file refusal h
 view bytes (Refused refusal) (inr (inl (table, with, e))) = of_model table (Refused refusal) with (ill_typed refusal e)
 view bytes (Refused refusal) (inr (inr (inl (table, with, right, h)))) = of_model table (Refused refusal) with (ill_timed refusal right h)
 view bytes (Refused refusal) (inr (inr (inr (inl (r, (with, is), (loop, told, e)))))) =
-    of_model r.table (Refused refusal) with (subst (λ (x : PlainRefusal). OfTable r.table (Refused x)) (sym e) (looping r loop (own r is) told))
+    of_model r.table (Refused refusal) with
+    (subst (λ (x : PlainRefusal). OfTable r.table (Refused x)) (sym e) (looping r loop (own r is) told))
 view bytes (Refused refusal) (inr (inr (inr (inr (r, ((with, is), none), e))))) =
     of_model r.table (Refused refusal) with
     (subst (OfTable r.table) (ap (λ (long : Option PlainRefusal). settled long r) e) (loop_free r (own r is) none))
 view bytes (Accepted r) accepted =
     of_model r.table (Accepted r) accepted.model.0
-    (subst (OfTable r.table) (ap (λ (long : Option PlainRefusal). settled long r) accepted.short_delays) (loop_free r (own r accepted.model.1) accepted.no_loop))
+    (subst (OfTable r.table) (ap (λ (long : Option PlainRefusal). settled long r) accepted.short_delays)
+    (loop_free r (own r accepted.model.1) accepted.no_loop))
 
 has : (bytes : List ℕ) (table : RowTable) (verdict : Verdict) → IsModelWith bytes table → OfTable table verdict → HasVerdict bytes verdict
 has bytes table _ with (ill_typed refusal e) = inr (inl (table, with, e))
@@ -168,12 +181,14 @@ table-equal a b e = cc
 not-both : (refusal : PlainRefusal) (table : RowTable) → file.Accepted table ≡ file.Refused refusal → ⊥
 not-both refusal table e = absurd (cc)
 
-only-file : (bytes : List ℕ) (refusal : PlainRefusal) → ((other : FileVerdict) → HasFileVerdict bytes other → other ≡ file.Refused refusal) →
+only-file : (bytes : List ℕ) (refusal : PlainRefusal) →
+    ((other : FileVerdict) → HasFileVerdict bytes other → other ≡ file.Refused refusal) →
     (other : Verdict) → View bytes other → other ≡ Refused refusal
 only-file bytes refusal only _ (of_file more h) = ap Refused (refused-equal more refusal (only (file.Refused more) h))
 only-file bytes refusal only _ (of_model table verdict with of) = absurd (not-both refusal table (only (file.Accepted table) with))
 
-only-model : (bytes : List ℕ) (table : RowTable) (verdict : Verdict) → ((other : FileVerdict) → HasFileVerdict bytes other → other ≡ file.Accepted table) →
+only-model : (bytes : List ℕ) (table : RowTable) (verdict : Verdict) →
+    ((other : FileVerdict) → HasFileVerdict bytes other → other ≡ file.Accepted table) →
     ((other : Verdict) → OfTable table other → other ≡ verdict) → (other : Verdict) → View bytes other → other ≡ verdict
 only-model bytes table verdict only one _ (of_file more h) = absurd (not-both more table (sym (only (file.Refused more) h)))
 only-model bytes table verdict only one _ (of_model also other with of) =

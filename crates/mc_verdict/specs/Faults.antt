@@ -26,7 +26,8 @@ as_built_fault build.Memory = Memory
 
 -- the loop of the diagram is told so, if it has one
 abbrev pub TellsLoopOf : Diagram → Option Refusal → Type 0
-TellsLoopOf d found = MatchOption found (HasNoLoop (needs_of d)) (λ refusal. TellsLoop d (plain_refusal refusal))
+TellsLoopOf d found =
+    MatchOption found (HasNoLoop (needs_of d)) (λ refusal. TellsLoop d (plain_refusal refusal))
 
 -- the file is refused so; of want of memory nothing is said
 abbrev pub IsFaultOf : List ℕ → ModelFault → Type 0

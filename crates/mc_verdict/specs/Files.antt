@@ -28,7 +28,8 @@ IsLong bytes refusal = (file_limit < length bytes) × (refusal ≡ TooLong)
 -- they are not, and this is the first fault of their text
 abbrev pub IsFaulty : List ℕ → PlainRefusal → Type 0
 IsFaulty bytes refusal =
-    (length bytes ≤ file_limit) × ((line : ℕ) × (kind : SyntaxKind) × Fault bytes line kind × (refusal ≡ Syntax line kind))
+    (length bytes ≤ file_limit)
+    × ((line : ℕ) × (kind : SyntaxKind) × Fault bytes line kind × (refusal ≡ Syntax line kind))
 
 -- they are the text of a tree, and this is what is first wrong with that
 abbrev pub IsWrongTree : List ℕ → PlainRefusal → Type 0
@@ -36,18 +37,22 @@ IsWrongTree bytes refusal = (file : Items) × IsFile bytes file × (tree_refusal
 
 -- they are the text of a tree with nothing wrong, and this is its table
 abbrev pub IsModelWith : List ℕ → RowTable → Type 0
-IsModelWith bytes table = (file : Items) × IsFile bytes file × (tree_refusal file ≡ None) × TableOf file table
+IsModelWith bytes table =
+    (file : Items) × IsFile bytes file × (tree_refusal file ≡ None) × TableOf file table
 
 -- the verdict on a file, the length of the file before its text, and its text before its tree
 abbrev pub HasFileVerdict : List ℕ → FileVerdict → Type 0
-HasFileVerdict bytes (Refused refusal) = IsLong bytes refusal ⊎ IsFaulty bytes refusal ⊎ IsWrongTree bytes refusal
+HasFileVerdict bytes (Refused refusal) =
+    IsLong bytes refusal ⊎ IsFaulty bytes refusal ⊎ IsWrongTree bytes refusal
 HasFileVerdict bytes (Accepted table) = IsModelWith bytes table
 
 -- there is one and no other
 abbrev pub HasOneFileVerdict : List ℕ → Type 0
 HasOneFileVerdict bytes =
-    (verdict : FileVerdict) × HasFileVerdict bytes verdict × ((other : FileVerdict) → HasFileVerdict bytes other → other ≡ verdict)
+    (verdict : FileVerdict) × HasFileVerdict bytes verdict
+    × ((other : FileVerdict) → HasFileVerdict bytes other → other ≡ verdict)
 
 -- the table of a model with nothing wrong in its tree is well formed
 abbrev pub AcceptedTablesAreWellFormed : Type 0
-AcceptedTablesAreWellFormed = (bytes : List ℕ) (table : RowTable) → IsModelWith bytes table → IsWellFormed table
+AcceptedTablesAreWellFormed =
+    (bytes : List ℕ) (table : RowTable) → IsModelWith bytes table → IsWellFormed table

@@ -15,7 +15,8 @@ const MOST_SAMPLES: u32 = 1_000_000;
 /// How many samples a row remembers that is a delay of several.
 fn length_of(row: &Row) -> Option<u32>
     requires { IsRow row.now }
-    ensures length { one_length row.now.place.line result ≡ length_at row.now.place.line row.now.kind }
+    ensures length { one_length row.now.place.line result
+        ≡ length_at row.now.place.line row.now.kind }
     ensures bound { IfSome result (λ n. n ≤ 65_535) }
 {
     match row.kind {

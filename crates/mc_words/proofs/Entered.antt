@@ -71,7 +71,8 @@ drive = shape (codes "drive")
     true
 
 abbrev pub gen : Shape
-gen = shape (codes "gen") (argument_at 1 (codes "START") ∷ argument_at 2 (codes "SIZE") ∷ argument_at 3 (codes "MODEL") ∷ argument_at 4 (codes "CODE") ∷ []) true
+gen = shape (codes "gen") (argument_at 1 (codes "START") ∷ argument_at 2 (codes "SIZE") ∷ argument_at 3 (codes "MODEL")
+    ∷ argument_at 4 (codes "CODE") ∷ []) true
 
 abbrev pub top : Shape
 top = record (shape (codes "mdlc") [] false) { subcommand_required = true }
@@ -121,7 +122,8 @@ module _ (name : Text) (s : Shape) (meets : Meets name s) (rest : List Text) whe
       && (list_all default_passes [] && is_valid top (finished [] w.held) (is_some (entered ready w.stopped)))))
 
   abbrev level_by : Option Shape → Bool
-  level_by o = option_map_or (λ x. level_passes x [] nothing_held rest false) o true && is_valid top [] (is_some (option_map (λ x. rows_at x rest) o))
+  level_by o = option_map_or (λ x. level_passes x [] nothing_held rest false) o true
+      && is_valid top [] (is_some (option_map (λ x. rows_at x rest) o))
 
   built_level : built_takes ready nothing_held (name ∷ rest) ≡ level_by (Some s)
   built_level = ap₂ level_of pass_is walk_is ∙ ap level_by meets.found

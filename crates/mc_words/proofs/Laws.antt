@@ -89,7 +89,8 @@ serves_drive model code subsystem script m c b s =
     )
 
 serves_gen : (start size model code : Text) → is_word start ≡ true → is_word size ≡ true → is_word model ≡ true → is_word code ≡ true
-    → Serves (codes "gen" ∷ start ∷ size ∷ model ∷ code ∷ []) (gen_by (number_up_to greatest_start start) (number_up_to greatest_size size) model code)
+    → Serves (codes "gen" ∷ start ∷ size ∷ model ∷ code ∷ [])
+    (gen_by (number_up_to greatest_start start) (number_up_to greatest_size size) model code)
 serves_gen start size model code s z m c =
     let words = start ∷ size ∷ model ∷ code ∷ [] in
     let first = held [] (codes "START") start in
@@ -174,7 +175,8 @@ with_words command (a ∷ b ∷ c ∷ d ∷ []) e =
     let rest = second_of_both (is_word a) _ e in
     let more = second_of_both (is_word b) _ rest in
     let last = second_of_both (is_word c) _ more in
-    four_words command a b c d (first_of_both (is_word a) _ e) (first_of_both (is_word b) _ rest) (first_of_both (is_word c) _ more) (first_of_both (is_word d) _ last)
+    four_words command a b c d (first_of_both (is_word a) _ e) (first_of_both (is_word b) _ rest)
+    (first_of_both (is_word c) _ more) (first_of_both (is_word d) _ last)
 with_words command (a ∷ b ∷ c ∷ d ∷ f ∷ more) e = asks_nothing (command ∷ a ∷ b ∷ c ∷ d ∷ f ∷ more)
 
 pub all_words : (words : List Text) → Right words (asked_by words)

@@ -23,7 +23,8 @@ plain_positive (b ∷ bs) e =
     counts true f = absurd (true≢false f)
     counts false f = refl
 
-module _ (greatest : ℕ) (word : List ℕ) (n : ℕ) (plain : is_plain_number word ≡ true) (capped : n ≡ min (digits_value 10 word) (greatest + 1)) where
+module _ (greatest : ℕ) (word : List ℕ) (n : ℕ) (plain : is_plain_number word ≡ true) (capped : n
+    ≡ min (digits_value 10 word) (greatest + 1)) where
   pub number_up_to_within : n ≤ greatest → number_up_to greatest word ≡ Some n
   number_up_to_within le = grind (arith, nat_tests)
 

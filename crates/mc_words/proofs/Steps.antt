@@ -88,7 +88,9 @@ module _ (s : Shape) where
 
   pub goes_level : (words : List Text) (end : Held) → Goes nothing_held 1 words end → end_passes end ≡ true
       → level_passes s [] nothing_held words false ≡ true
-  goes_level words end goes ends = ap₂ (λ b h. b && end_passes h) (goes_pass nothing_held 1 words end goes) (goes_held nothing_held 1 words end goes) ∙ ends
+  goes_level words end goes ends =
+      ap₂ (λ b h. b && end_passes h) (goes_pass nothing_held 1 words end goes) (goes_held nothing_held 1 words end goes)
+      ∙ ends
 
   pub goes_rows : (words : List Text) (end : Held) → Goes nothing_held 1 words end → rows_after s.rules [] words ≡ finished s.rules end
   goes_rows words end goes = ap (finished s.rules) (goes_held nothing_held 1 words end goes)

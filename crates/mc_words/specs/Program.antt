@@ -30,7 +30,8 @@ drive = with_arguments (codes "drive")
     (codes "MODEL" ∷ codes "CODE" ∷ codes "SUBSYSTEM" ∷ codes "SCRIPT" ∷ [])
 
 abbrev pub gen : Shape
-gen = with_arguments (codes "gen") (codes "START" ∷ codes "SIZE" ∷ codes "MODEL" ∷ codes "CODE" ∷ [])
+gen =
+    with_arguments (codes "gen") (codes "START" ∷ codes "SIZE" ∷ codes "MODEL" ∷ codes "CODE" ∷ [])
 
 -- the program without its commands
 abbrev pub bare : App
@@ -96,15 +97,18 @@ gen_of (Some start) (Some size) (Some model) None = None
 -- what a command of this name asks for, with the values of its arguments
 abbrev pub asked_of : Text → (Text → Option Text) → Option Asked
 asked_of name value =
-    if bytes_eq name (codes "compile") then compile_of (value (codes "MODEL")) (value (codes "CODE"))
-    else if bytes_eq name (codes "run") then run_of (value (codes "MODEL")) (value (codes "CODE")) (value (codes "TRACE"))
+    if bytes_eq name (codes "compile")
+    then compile_of (value (codes "MODEL")) (value (codes "CODE"))
+    else if bytes_eq name (codes "run") then run_of (value (codes "MODEL")) (value (codes "CODE"))
+    (value (codes "TRACE"))
     else if bytes_eq name (codes "exec") then exec_of (value (codes "CODE")) (value (codes "TRACE"))
     else if bytes_eq name (codes "profile") then profile_of (value (codes "MODEL"))
     else if bytes_eq name (codes "drive")
     then drive_of (value (codes "MODEL")) (value (codes "CODE")) (value (codes "SUBSYSTEM"))
     (value (codes "SCRIPT"))
     else if bytes_eq name (codes "gen")
-    then gen_of (value (codes "START")) (value (codes "SIZE")) (value (codes "MODEL")) (value (codes "CODE"))
+    then gen_of (value (codes "START")) (value (codes "SIZE")) (value (codes "MODEL"))
+    (value (codes "CODE"))
     else None
 
 -- what the subcommand that was met asks for

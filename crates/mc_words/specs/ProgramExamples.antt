@@ -9,19 +9,23 @@ takes-compile : takes program (codes "compile" ∷ codes "a" ∷ codes "b" ∷ [
 unfolding clap_on_literals
 takes-compile = refl
 
-asked-compile : asked_in (subcommand_of program (codes "compile" ∷ codes "a" ∷ codes "b" ∷ [])) ≡ Some (Compile (codes "a") (codes "b"))
+asked-compile : asked_in (subcommand_of program (codes "compile" ∷ codes "a" ∷ codes "b" ∷ []))
+    ≡ Some (Compile (codes "a") (codes "b"))
 unfolding clap_on_literals
 asked-compile = refl
 
-asked-run : asked_in (subcommand_of program (codes "run" ∷ codes "a" ∷ codes "b" ∷ codes "a" ∷ [])) ≡ Some (Run (codes "a") (codes "b") (codes "a"))
+asked-run : asked_in (subcommand_of program (codes "run" ∷ codes "a" ∷ codes "b" ∷ codes "a" ∷ []))
+    ≡ Some (Run (codes "a") (codes "b") (codes "a"))
 unfolding clap_on_literals
 asked-run = refl
 
-asked-exec : asked_in (subcommand_of program (codes "exec" ∷ codes "run" ∷ codes "help" ∷ [])) ≡ Some (Exec (codes "run") (codes "help"))
+asked-exec : asked_in (subcommand_of program (codes "exec" ∷ codes "run" ∷ codes "help" ∷ []))
+    ≡ Some (Exec (codes "run") (codes "help"))
 unfolding clap_on_literals
 asked-exec = refl
 
-asked-profile : asked_in (subcommand_of program (codes "profile" ∷ codes "a" ∷ [])) ≡ Some (Profile (codes "a"))
+asked-profile : asked_in (subcommand_of program (codes "profile" ∷ codes "a" ∷ []))
+    ≡ Some (Profile (codes "a"))
 unfolding clap_on_literals
 asked-profile = refl
 
@@ -37,7 +41,9 @@ asked-drive_named_so : asked_in (subcommand_of program
 unfolding clap_on_literals
 asked-drive_named_so = refl
 
-asked-gen : asked_in (subcommand_of program (codes "gen" ∷ codes "2147483646" ∷ codes "2499" ∷ codes "a" ∷ codes "b" ∷ [])) ≡ Some (Gen 2_147_483_646 2_499 (codes "a") (codes "b"))
+asked-gen : asked_in
+    (subcommand_of program (codes "gen" ∷ codes "2147483646" ∷ codes "2499" ∷ codes "a" ∷ codes "b"
+    ∷ [])) ≡ Some (Gen 2_147_483_646 2_499 (codes "a") (codes "b"))
 unfolding clap_on_literals
 asked-gen = refl
 
@@ -92,15 +98,19 @@ takes-drive_dash : takes program
 unfolding clap_on_literals
 takes-drive_dash = refl
 
-takes-gen_same : takes program (codes "gen" ∷ codes "1" ∷ codes "1" ∷ codes "a" ∷ codes "a" ∷ []) ≡ true
+takes-gen_same : takes program (codes "gen" ∷ codes "1" ∷ codes "1" ∷ codes "a" ∷ codes "a" ∷ [])
+    ≡ true
 unfolding clap_on_literals
 takes-gen_same = refl
 
-takes-gen_no_number : takes program (codes "gen" ∷ codes "x" ∷ codes "01" ∷ codes "a" ∷ codes "b" ∷ []) ≡ true
+takes-gen_no_number : takes program (codes "gen" ∷ codes "x" ∷ codes "01" ∷ codes "a" ∷ codes "b"
+    ∷ []) ≡ true
 unfolding clap_on_literals
 takes-gen_no_number = refl
 
-asked-gen_no_number : asked_in (subcommand_of program (codes "gen" ∷ codes "x" ∷ codes "1" ∷ codes "a" ∷ codes "b" ∷ [])) ≡ None
+asked-gen_no_number : asked_in
+    (subcommand_of program (codes "gen" ∷ codes "x" ∷ codes "1" ∷ codes "a" ∷ codes "b" ∷ []))
+    ≡ None
 unfolding clap_on_literals
 asked-gen_no_number = refl
 

@@ -35,7 +35,8 @@ is_plain_number (b ∷ bs) = is_numeral (b ∷ bs) && not (b == 48)
 -- the number from 1 to the greatest that a word writes
 abbrev pub number_up_to : ℕ → List ℕ → Option ℕ
 number_up_to greatest word =
-    if is_plain_number word && nat_le (digits_value 10 word) greatest then Some (digits_value 10 word) else None
+    if is_plain_number word && nat_le (digits_value 10 word) greatest
+    then Some (digits_value 10 word) else None
 
 -- the greatest START, which has ten digits, and the greatest SIZE, which has four
 abbrev pub greatest_start : ℕ
@@ -55,7 +56,8 @@ gen_by (Some start) (Some size) model code = Some (Gen start size model code)
 gen_by None _ model code = None
 gen_by (Some start) None model code = None
 
--- what a command asks for by its number of further words; the code that is written is no other file that is named
+-- what a command asks for by its number of further words; the code that is written is no other file
+-- that is named
 abbrev pub with_one : List ℕ → (model : List ℕ) → Option Asked
 with_one command model = if bytes_eq command (codes "profile") then Some (Profile model) else None
 
@@ -67,7 +69,8 @@ with_two command first second =
 
 abbrev pub with_three : List ℕ → (model code trace : List ℕ) → Option Asked
 with_three command model code trace =
-    if bytes_eq command (codes "run") && differ code model && differ code trace then Some (Run model code trace) else None
+    if bytes_eq command (codes "run") && differ code model && differ code trace
+    then Some (Run model code trace) else None
 
 abbrev pub with_four : List ℕ → (first second third fourth : List ℕ) → Option Asked
 with_four command first second third fourth =
@@ -83,13 +86,15 @@ command_with command [] = None
 command_with command (first ∷ []) = with_one command first
 command_with command (first ∷ second ∷ []) = with_two command first second
 command_with command (first ∷ second ∷ third ∷ []) = with_three command first second third
-command_with command (first ∷ second ∷ third ∷ fourth ∷ []) = with_four command first second third fourth
+command_with command (first ∷ second ∷ third ∷ fourth ∷ []) =
+    with_four command first second third fourth
 command_with command (first ∷ second ∷ third ∷ fourth ∷ fifth ∷ more) = None
 
 -- what the words ask for, if they are lawful
 abbrev pub asked_by : List (List ℕ) → Option Asked
 asked_by [] = None
-asked_by (command ∷ words) = if list_all is_word (command ∷ words) then command_with command words else None
+asked_by (command ∷ words) =
+    if list_all is_word (command ∷ words) then command_with command words else None
 
 -- a command of the program, without where its words lie
 abbrev pub asked : Command → Asked
@@ -108,4 +113,5 @@ HasBounds (command.Run model code trace) = ⊤
 HasBounds (command.Exec code trace) = ⊤
 HasBounds (command.Profile model) = ⊤
 HasBounds (command.Drive model code subsystem script) = ⊤
-HasBounds (command.Gen start size model code) = (0 < start) × (start ≤ greatest_start) × (0 < size) × (size ≤ greatest_size)
+HasBounds (command.Gen start size model code) =
+    (0 < start) × (start ≤ greatest_start) × (0 < size) × (size ≤ greatest_size)

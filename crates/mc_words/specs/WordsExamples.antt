@@ -29,10 +29,12 @@ words-ends = refl
 words-empty : asked_by (codes "compile" ∷ codes "a" ∷ [] ∷ []) ≡ None
 words-empty = refl
 
-words-compile : asked_by (codes "compile" ∷ codes "a" ∷ codes "b" ∷ []) ≡ Some (Compile (codes "a") (codes "b"))
+words-compile : asked_by (codes "compile" ∷ codes "a" ∷ codes "b" ∷ [])
+    ≡ Some (Compile (codes "a") (codes "b"))
 words-compile = refl
 
-words-run : asked_by (codes "run" ∷ codes "a" ∷ codes "b" ∷ codes "a" ∷ []) ≡ Some (Run (codes "a") (codes "b") (codes "a"))
+words-run : asked_by (codes "run" ∷ codes "a" ∷ codes "b" ∷ codes "a" ∷ [])
+    ≡ Some (Run (codes "a") (codes "b") (codes "a"))
 words-run = refl
 
 words-run_over_model : asked_by (codes "run" ∷ codes "a" ∷ codes "a" ∷ codes "b" ∷ []) ≡ None
@@ -41,10 +43,12 @@ words-run_over_model = refl
 words-run_over_trace : asked_by (codes "run" ∷ codes "a" ∷ codes "b" ∷ codes "b" ∷ []) ≡ None
 words-run_over_trace = refl
 
-words-exec : asked_by (codes "exec" ∷ codes "a" ∷ codes "a" ∷ []) ≡ Some (Exec (codes "a") (codes "a"))
+words-exec : asked_by (codes "exec" ∷ codes "a" ∷ codes "a" ∷ [])
+    ≡ Some (Exec (codes "a") (codes "a"))
 words-exec = refl
 
-words-named_run : asked_by (codes "compile" ∷ codes "run" ∷ codes "help" ∷ []) ≡ Some (Compile (codes "run") (codes "help"))
+words-named_run : asked_by (codes "compile" ∷ codes "run" ∷ codes "help" ∷ [])
+    ≡ Some (Compile (codes "run") (codes "help"))
 words-named_run = refl
 
 words-profile : asked_by (codes "profile" ∷ codes "a" ∷ []) ≡ Some (Profile (codes "a"))
@@ -109,10 +113,12 @@ gen start size code = asked_by (codes "gen" ∷ start ∷ size ∷ codes "a" ∷
 words-gen : gen (codes "1") (codes "1") (codes "b") ≡ Some (Gen 1 1 (codes "a") (codes "b"))
 words-gen = refl
 
-words-gen_greatest : gen (codes "2147483646") (codes "2499") (codes "b") ≡ Some (Gen 2_147_483_646 2_499 (codes "a") (codes "b"))
+words-gen_greatest : gen (codes "2147483646") (codes "2499") (codes "b")
+    ≡ Some (Gen 2_147_483_646 2_499 (codes "a") (codes "b"))
 words-gen_greatest = refl
 
-words-gen_named_so : gen (codes "10") (codes "200") (codes "gen") ≡ Some (Gen 10 200 (codes "a") (codes "gen"))
+words-gen_named_so : gen (codes "10") (codes "200") (codes "gen")
+    ≡ Some (Gen 10 200 (codes "a") (codes "gen"))
 words-gen_named_so = refl
 
 words-gen_same : gen (codes "1") (codes "1") (codes "a") ≡ None
@@ -148,7 +154,8 @@ words-gen_sign = refl
 words-gen_short : asked_by (codes "gen" ∷ codes "1" ∷ codes "1" ∷ codes "a" ∷ []) ≡ None
 words-gen_short = refl
 
-words-gen_long : asked_by (codes "gen" ∷ codes "1" ∷ codes "1" ∷ codes "a" ∷ codes "b" ∷ codes "c" ∷ []) ≡ None
+words-gen_long : asked_by (codes "gen" ∷ codes "1" ∷ codes "1" ∷ codes "a" ∷ codes "b" ∷ codes "c"
+    ∷ []) ≡ None
 words-gen_long = refl
 
 -- ---- Numbers

@@ -37,7 +37,8 @@ fn exec<'a>(values: &ArgMatches<'a>) -> Option<Command<'a>>
 }
 
 fn profile<'a>(values: &ArgMatches<'a>) -> Option<Command<'a>>
-    ensures { option_map asked result ≡ profile_of (first_value (found_of values.now) (codes "MODEL")) }
+    ensures { option_map asked result
+        ≡ profile_of (first_value (found_of values.now) (codes "MODEL")) }
 {
     let model = values.get_str("MODEL")?;
     Some(Command::Profile { model })
@@ -64,7 +65,8 @@ fn drive<'a>(values: &ArgMatches<'a>) -> Option<Command<'a>>
 fn generate<'a>(values: &ArgMatches<'a>) -> Option<Command<'a>>
     ensures asked { let value = first_value (found_of values.now) in
         option_map asked result
-        ≡ gen_of (value (codes "START")) (value (codes "SIZE")) (value (codes "MODEL")) (value (codes "CODE")) }
+        ≡ gen_of (value (codes "START")) (value (codes "SIZE")) (value (codes "MODEL"))
+        (value (codes "CODE")) }
     ensures bounds { IfSome result HasBounds }
 {
     let start = values.get_str("START")?;
@@ -83,7 +85,8 @@ fn generate<'a>(values: &ArgMatches<'a>) -> Option<Command<'a>>
 
 // What a command of this name asks for, if it has all its values.
 fn asked_of<'a>(name: &str, values: &ArgMatches<'a>) -> Option<Command<'a>>
-    ensures asked { option_map asked result ≡ asked_of name.now (first_value (found_of values.now)) }
+    ensures asked { option_map asked result
+        ≡ asked_of name.now (first_value (found_of values.now)) }
     ensures bounds { IfSome result HasBounds }
 {
     match name {

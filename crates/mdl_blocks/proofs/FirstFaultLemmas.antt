@@ -38,17 +38,20 @@ IsOwn (Err fault) parameter = fault ≡ Parameter parameter
 abbrev first_of : Bool → ParamName → Option ParamName → Option Fault
 first_of ok name rest = option_map Parameter (cond (not ok) (Some name) rest)
 
-bind : {A B : Type 0} (r : Result A Fault) (go : A → Result B Fault) (ok : Bool) (name : ParamName) (rest : Option ParamName) → Tells r ok name →
+bind : {A B : Type 0} (r : Result A Fault) (go : A → Result B Fault) (ok : Bool) (name : ParamName)
+    (rest : Option ParamName) → Tells r ok name →
     ((v : A) → r ≡ Ok v → result_err (go v) ≡ option_map Parameter rest) → result_err (r >>= go) ≡ first_of ok name rest
 bind (Ok v) go ok name rest tells more = more v refl ∙ ap (λ t. first_of t name rest) (sym tells)
 bind (Err f) go ok name rest tells more = ap Some tells.1 ∙ ap (λ t. first_of t name rest) (sym tells.0)
 
-next : {A B : Type 0} (r : Result A Fault) (go : Result B Fault) (ok : Bool) (name : ParamName) (rest : Option ParamName) → Tells r ok name →
+next : {A B : Type 0} (r : Result A Fault) (go : Result B Fault) (ok : Bool) (name : ParamName)
+    (rest : Option ParamName) → Tells r ok name →
     result_err go ≡ option_map Parameter rest → result_err (r >> go) ≡ first_of ok name rest
 next (Ok v) go ok name rest tells more = more ∙ ap (λ t. first_of t name rest) (sym tells)
 next (Err f) go ok name rest tells more = ap Some tells.1 ∙ ap (λ t. first_of t name rest) (sym tells.0)
 
-how-bind : {B : Type 0} (r : Result Round Fault) (o : Result Over Fault) (go : How → Result B Fault) (round_ok over_ok : Bool) (rest : Option ParamName) →
+how-bind : {B : Type 0} (r : Result Round Fault) (o : Result Over Fault) (go : How → Result B Fault)
+    (round_ok over_ok : Bool) (rest : Option ParamName) →
     Tells r round_ok RndMeth → Tells o over_ok SaturateOnIntegerOverflow → ((how : How) → result_err (go how) ≡ option_map Parameter rest) →
     result_err ((r >>= λ round. o >>= λ over. Ok (let how : How = record { round = round; over = over } in how)) >>= go)
     ≡ first_of round_ok RndMeth (cond (not over_ok) (Some SaturateOnIntegerOverflow) rest)
@@ -61,7 +64,8 @@ how-bind (Ok r) (Err f) go round_ok over_ok rest tells told more =
 how-bind (Err f) o go round_ok over_ok rest tells told more =
     ap Some tells.1 ∙ ap (λ t. first_of t RndMeth (cond (not over_ok) (Some SaturateOnIntegerOverflow) rest)) (sym tells.0)
 
-required-by : {A : Type 0} (meaning : List ℕ → Option A) (test : List ℕ → Bool) (text : Result (List ℕ) Fault) (name : ParamName) → IsOwn text name →
+required-by : {A : Type 0} (meaning : List ℕ → Option A) (test : List ℕ → Bool) (text : Result (List ℕ) Fault)
+    (name : ParamName) → IsOwn text name →
     ((t : List ℕ) → is_some (meaning t) ≡ test t) → Tells (text >>= λ t. ok_or (meaning t) (Parameter name)) (passes test text) name
 required-by meaning test (Ok t) parameter own same = by (meaning t) (same t)
   where
@@ -80,10 +84,12 @@ checked-by test (Ok t) parameter own = by (test t)
 checked-by test (Err f) parameter own = (refl, own)
 
 module _ (peers : Peers) (texts : Texts) (own : (name : ParamName) → IsOwn (texts name) name) where
-  must : {A : Type 0} (meaning : List ℕ → Option A) (name : ParamName) → Tells (required meaning texts name) (passes (λ t. is_some (meaning t)) (texts name)) name
+  must : {A : Type 0} (meaning : List ℕ → Option A) (name : ParamName) →
+      Tells (required meaning texts name) (passes (λ t. is_some (meaning t)) (texts name)) name
   must meaning name = required-by meaning (λ t. is_some (meaning t)) (texts name) name (own name) (λ t. refl)
 
-  word : {A : Type 0} (words : List (List ℕ × A)) (name : ParamName) → Tells (named words texts name) (passes (λ t. is_some (beside t words)) (texts name)) name
+  word : {A : Type 0} (words : List (List ℕ × A)) (name : ParamName) →
+      Tells (named words texts name) (passes (λ t. is_some (beside t words)) (texts name)) name
   word words name = must (λ t. beside t words) name
 
   ask : (test : List ℕ → Bool) (name : ParamName) → Tells (checked test texts name) (passes test (texts name)) name
@@ -111,7 +117,8 @@ module _ (peers : Peers) (texts : Texts) (own : (name : ParamName) → IsOwn (te
   body-told Outport system h =
       bind _ _ _ _ _ (must (number_up_to peers.outports) param.Port) (λ port e. bind _ _ _ _ _ (must type_in OutDataTypeStr)
       (λ type e. bind _ _ _ _ _ (must time_in SampleTime) (λ time e. next _ _ _ _ _ (ask is_single PortDimensions)
-      (bind _ _ _ _ _ (word resets OutputWhenDisabled) (λ reset e. bind _ _ _ _ _ (must initial_output_in InitialOutput) (λ initial e. refl))))))
+      (bind _ _ _ _ _ (word resets OutputWhenDisabled)
+      (λ reset e. bind _ _ _ _ _ (must initial_output_in InitialOutput) (λ initial e. refl))))))
   body-told SubSystem None h = absurd (let wrong : ⊥ = cc h in wrong)
   body-told SubSystem (Some system) h = next _ _ _ _ _ (ask writes_minus_one SystemSampleTime) refl
   body-told Constant system h =
@@ -136,7 +143,8 @@ module _ (peers : Peers) (texts : Texts) (own : (name : ParamName) → IsOwn (te
       bind _ _ _ _ _ (must number_in InitialCondition) (λ initial e. bind _ _ _ _ _ (must time_in SampleTime) (λ time e. refl))
   body-told Delay system h =
       bind _ _ _ _ _ (must samples_in DelayLength) (λ length e. next _ _ _ _ _ (ask (bytes_eq (codes "Dialog")) DelayLengthSource)
-      (bind _ _ _ _ _ (must number_in InitialCondition) (λ initial e. next _ _ _ _ _ (ask (bytes_eq (codes "Dialog")) InitialConditionSource)
+      (bind _ _ _ _ _ (must number_in InitialCondition)
+      (λ initial e. next _ _ _ _ _ (ask (bytes_eq (codes "Dialog")) InitialConditionSource)
       (next _ _ _ _ _ (ask (bytes_eq (codes "None")) ExternalReset) (bind _ _ _ _ _ (must time_in SampleTime) (λ time e. refl))))))
   body-told ZeroOrderHold system h = bind _ _ _ _ _ (must time_in SampleTime) (λ time e. refl)
   body-told Switch system h =
@@ -174,10 +182,13 @@ module _ (peers : Peers) (texts : Texts) (own : (name : ParamName) → IsOwn (te
   kept (Err fault) block = refl
 
   pub named-told : (type : BlockType) (system : Option SectionTree) (line : ℕ) → unless_hollow system type ≡ Ok type →
-      result_err (texts Name >>= λ name. body_of peers system texts type >>= λ body. Ok (let b : BlockText = record { name = name; line = line; body = body } in b))
+      result_err (texts Name >>= λ name. body_of peers system texts type
+      >>= λ body. Ok (let b : BlockText = record { name = name; line = line; body = body } in b))
       ≡ option_map Parameter (first_bad peers texts type)
   named-told type system line h =
-      bind _ _ _ _ _ name-told (λ name e. kept (body_of peers system texts type) (λ body. record { name = name; line = line; body = body }) ∙ body-told type system h)
+      bind _ _ _ _ _ name-told
+      (λ name e. kept (body_of peers system texts type) (λ body. record { name = name; line = line; body = body })
+      ∙ body-told type system h)
 
 own-text : (o : Option (List ℕ)) (name : ParamName) → IsOwn (ok_or o (Parameter name)) name
 own-text (Some text) parameter = tt
@@ -195,7 +206,8 @@ first_told defaults peers section type_name type typed whole =
     system = first_section (codes "System") section.items
 
     from : BlockType → Result BlockText Fault
-    from type = texts Name >>= λ name. body_of peers system texts type >>= λ body. Ok (record { name = name; line = section.line; body = body })
+    from type = texts Name >>= λ name. body_of peers system texts type
+        >>= λ body. Ok (record { name = name; line = section.line; body = body })
 
     behind : BlockType → Result BlockText Fault
     behind known = unless_hollow system known >>= from

@@ -23,11 +23,14 @@ count-section type name line items rest = by (bytes_eq name (codes "Block"))
     others : List SectionTree
     others = sections_named (codes "Block") rest
 
-    among : (t : Bool) → length (cond t (section ∷ filter is_typed others) (filter is_typed others)) ≡ cond t 1 0 + length (filter is_typed others)
+    among : (t : Bool) → length (cond t (section ∷ filter is_typed others) (filter is_typed others)) ≡ cond t 1 0
+        + length (filter is_typed others)
     among true = omega arith
     among false = omega arith
 
-    by : (t : Bool) → length (filter is_typed (cond t (section ∷ others) others)) ≡ cond (t && writes_type type items) 1 0 + length (filter is_typed others)
+    by : (t : Bool) →
+        length (filter is_typed (cond t (section ∷ others) others)) ≡ cond (t && writes_type type items) 1 0
+        + length (filter is_typed others)
     by true = among (writes_type type items)
     by false = omega arith
 
@@ -38,14 +41,18 @@ count-item type (Param name value line) rest = omega arith
 count-item type (Section' name line shape items) rest = count-section type name line (with_row items) rest
 
 -- one item more is counted
-pub count-more : (type : BlockType) (items : List Item) (i : ℕ) (item : Item) (t : Bool) (count whole : ℕ) → i < length items → item ≡ slice_index_or items i item →
+pub count-more : (type : BlockType) (items : List Item) (i : ℕ) (item : Item) (t : Bool) (count whole : ℕ) →
+    i < length items → item ≡ slice_index_or items i item →
     is_block_of type (with_item item End) ≡ t → count + count_in type (items_of (drop i items)) ≡ whole →
     cond t (count + 1) count + count_in type (items_of (drop (i + 1) items)) ≡ whole
-count-more type items i item t count whole h e test all = by t (ap (count_in type) (items_from items i item h e) ∙ count-item type item rest ∙ ap (λ t. cond t 1 0 + count_in type rest) test)
+count-more type items i item t count whole h e test all =
+    by t (ap (count_in type) (items_from items i item h e) ∙ count-item type item rest
+    ∙ ap (λ t. cond t 1 0 + count_in type rest) test)
   where
     rest : Items
     rest = items_of (drop (i + 1) items)
 
-    by : (t : Bool) → count_in type (items_of (drop i items)) ≡ cond t 1 0 + count_in type rest → cond t (count + 1) count + count_in type rest ≡ whole
+    by : (t : Bool) → count_in type (items_of (drop i items)) ≡ cond t 1 0 + count_in type rest →
+        cond t (count + 1) count + count_in type rest ≡ whole
     by true split = omega (arith, split, all)
     by false split = omega (arith, split, all)

@@ -92,7 +92,8 @@ Texts = ParamName → Result (List ℕ) Fault
 
 -- the texts of a block of this type with these items, by the model's defaults
 abbrev pub texts_by : DefaultTexts → Items → (type_name : List ℕ) → Texts
-texts_by defaults items type_name name = ok_or (parameter_text defaults items type_name name) (Parameter name)
+texts_by defaults items type_name name =
+    ok_or (parameter_text defaults items type_name name) (Parameter name)
 
 -- what a parameter's text means, or the fault of that parameter
 abbrev pub required : {A : Type 0} → (List ℕ → Option A) → Texts → ParamName → Result A Fault
@@ -264,7 +265,8 @@ trigger_body texts = do
   edge ← named edges texts TriggerType
   Ok (bare (trigger_port edge))
 
--- what a block of this type is, in a system with so many Inports and Outports, with this System inside it if there is one
+-- what a block of this type is, in a system with so many Inports and Outports, with this System
+-- inside it if there is one
 abbrev pub body_of : Peers → Option SectionTree → Texts → BlockType → Result BodyText Fault
 body_of peers system texts Inport = inport_body peers.inports texts
 body_of peers system texts Outport = outport_body peers.outports texts
@@ -294,10 +296,12 @@ is_same_type = sameb the_type
 
 -- the type of a block with this System inside it: a subsystem without one isn't read
 abbrev pub unless_hollow : Option SectionTree → BlockType → Result BlockType Fault
-unless_hollow system type = if is_same_type type SubSystem && is_none system then Err Unsupported else Ok type
+unless_hollow system type =
+    if is_same_type type SubSystem && is_none system then Err Unsupported else Ok type
 
 -- what a block with these items says, whose BlockType has this text
-abbrev pub block_typed : DefaultTexts → Peers → SectionTree → (type_name : List ℕ) → Result BlockText Fault
+abbrev pub block_typed : DefaultTexts → Peers → SectionTree → (type_name : List ℕ) →
+    Result BlockText Fault
 block_typed defaults peers section type_name =
     let texts : Texts = texts_by defaults section.items type_name in
     let system : Option SectionTree = first_section (codes "System") section.items in do
@@ -307,8 +311,9 @@ block_typed defaults peers section type_name =
       body ← body_of peers system texts type
       Ok (record { name = name; line = section.line; body = body })
 
--- what a block's section says, by the model's defaults, in a system with so many Inports and Outports; or what is wrong
--- with the block: that it isn't read, or else its first parameter without a text of its form
+-- what a block's section says, by the model's defaults, in a system with so many Inports and
+-- Outports; or what is wrong with the block: that it isn't read, or else its first parameter
+-- without a text of its form
 abbrev pub block_of : DefaultTexts → Peers → SectionTree → Result BlockText Fault
 block_of defaults peers section = do
   type_name ← ok_or (first_value (codes "BlockType") section.items) Unsupported

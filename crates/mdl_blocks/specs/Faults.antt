@@ -5,7 +5,8 @@ use Rattle.mc_base.specs.Refusals as refusal
 use Rattle.mdl_blocks.specs.declared.fault.Fault.{Fault}
 use Rattle.mdl_blocks.specs.declared.fault.Fault.TheVariants.{Unsupported, Parameter, Continuous, FloatType}
 
--- the number of the refusal for a fault: of two faults in a file that with the lesser number is told
+-- the number of the refusal for a fault: of two faults in a file that with the lesser number is
+-- told
 abbrev pub refusal_number : Fault → ℕ
 refusal_number Unsupported = 7
 refusal_number (Parameter parameter) = 8

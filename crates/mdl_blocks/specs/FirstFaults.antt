@@ -1,4 +1,5 @@
--- The first parameter of a block whose text isn't of its form, in the order of the table of the parameters of its type.
+-- The first parameter of a block whose text isn't of its form, in the order of the table of the
+-- parameters of its type.
 use Rattle.std.specs.Prelude.{◌≡◌, ℕ, Bool, true, false, not, ◌||◌, if◌then◌else◌, List, ◌∷◌, map, find, Option, Some, is_some, option_map, option_and_then, Result, Ok, Err, bytes_eq, codes}
 use Rattle.std.specs.Result.{result_ok, result_err}
 use Rattle.mc_base.specs.declared.ParamName.{ParamName}
@@ -32,21 +33,25 @@ abbrev pub is_inputs_form : Texts → BlockType → List ℕ → Bool
 is_inputs_form texts type text =
     if is_same_type type Sum then is_some (sum_signs text)
     else if is_same_type type Product then is_some (product_count text)
-    else is_some (option_and_then (λ op. logic_count op text) (result_ok (named logics texts Operator)))
+    else is_some
+    (option_and_then (λ op. logic_count op text) (result_ok (named logics texts Operator)))
 
 -- whether the text of a block's output type has its form, by its type
 abbrev pub is_output_form : BlockType → List ℕ → Bool
 is_output_form type text =
-    if is_same_type type RelationalOperator || is_same_type type block.Logic then is_some (whole_type_in text) else is_some (type_in text)
+    if is_same_type type RelationalOperator || is_same_type type block.Logic
+    then is_some (whole_type_in text) else is_some (type_in text)
 
 -- whether the text of a block's sample time has its form, by its type
 abbrev pub is_time_form : BlockType → List ℕ → Bool
-is_time_form type text = if is_same_type type Constant then is_some (any_time_in text) else is_some (time_in text)
+is_time_form type text =
+    if is_same_type type Constant then is_some (any_time_in text) else is_some (time_in text)
 
 -- whether the text of a block's operator has its form, by its type
 abbrev pub is_operator_form : BlockType → List ℕ → Bool
 is_operator_form type text =
-    if is_same_type type block.Logic then is_some (beside text logics) else is_some (beside text comparisons)
+    if is_same_type type block.Logic then is_some (beside text logics)
+    else is_some (beside text comparisons)
 
 -- whether a text is of the form of this parameter of a block of this type
 abbrev pub is_form : Peers → Texts → BlockType → ParamName → List ℕ → Bool
@@ -91,12 +96,16 @@ has_form peers texts type name = passes (is_form peers texts type name) (texts n
 
 -- the first parameter of a block of this type that has none
 abbrev pub first_bad : Peers → Texts → BlockType → Option ParamName
-first_bad peers texts type = find (λ name. not (has_form peers texts type name)) (checked_parameters type)
+first_bad peers texts type =
+    find (λ name. not (has_form peers texts type name)) (checked_parameters type)
 
--- of a block of a type that is read the first parameter out of form is told, and there is no other fault
+-- of a block of a type that is read the first parameter out of form is told, and there is no other
+-- fault
 abbrev pub TellsFirstParameter : Type 0
 TellsFirstParameter =
-    (defaults : DefaultTexts) (peers : Peers) (section : SectionTree) (type_name : List ℕ) (type : BlockType) →
-    block_type_of type_name ≡ Some type → unless_hollow (first_section (codes "System") section.items) type ≡ Ok type →
+    (defaults : DefaultTexts) (peers : Peers) (section : SectionTree) (type_name : List ℕ)
+    (type : BlockType) →
+    block_type_of type_name ≡ Some type →
+    unless_hollow (first_section (codes "System") section.items) type ≡ Ok type →
     result_err (block_typed defaults peers section type_name)
     ≡ option_map Parameter (first_bad peers (texts_by defaults section.items type_name) type)

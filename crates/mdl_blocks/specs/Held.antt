@@ -58,7 +58,12 @@ kind_text (held.TriggerPort edge) = trigger_port edge
 
 -- the same with its type and its time
 abbrev pub body_text : Body → BodyText
-body_text b = record { kind = kind_text b.kind; type_text = type_said b.type_text; time_text = time_said b.time_text }
+body_text b =
+    record {
+      kind = kind_text b.kind;
+      type_text = type_said b.type_text;
+      time_text = time_said b.time_text;
+    }
 
 -- a block
 abbrev pub block_text : Block → BlockText

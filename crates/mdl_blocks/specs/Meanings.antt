@@ -33,7 +33,8 @@ abbrev pub unless_fractional : TypeSaid → Option TypeSaid
 unless_fractional (known_type Inherit) = Some (known_type Inherit)
 unless_fractional (known_type Logical) = Some (known_type Logical)
 unless_fractional (known_type Back) = Some (known_type Back)
-unless_fractional (known_type (Fixed type)) = if type.frac == 0 then Some (known_type (Fixed type)) else None
+unless_fractional (known_type (Fixed type)) =
+    if type.frac == 0 then Some (known_type (Fixed type)) else None
 unless_fractional float_type = Some float_type
 
 -- what is written for a type that has no bits after the point
@@ -69,7 +70,8 @@ unless_constant zero_time = Some zero_time
 abbrev pub time_in : List ℕ → Option TimeSaid
 time_in text = option_and_then unless_constant (any_time_in text)
 
--- the time of a rate transition's output, by whether it is inherited; a period 0 counts all the same
+-- the time of a rate transition's output, by whether it is inherited; a period 0 counts all the
+-- same
 abbrev pub out_time : (inherits : Bool) → TimeSaid → TimeSaid
 out_time false said = said
 out_time true (known_time meaning) = known_time time.Inherit
@@ -88,4 +90,5 @@ is_truth text = bytes_eq (trim text) (codes "true") || bytes_eq (trim text) (cod
 
 -- what is written for a constant
 abbrev pub constant_in : List ℕ → Option ConstantSaid
-constant_in text = option_map (λ value. record { value = value; is_truth = is_truth text }) (number_in text)
+constant_in text =
+    option_map (λ value. record { value = value; is_truth = is_truth text }) (number_in text)

@@ -52,9 +52,11 @@ is_inherited a_type.Float = false
 
 -- the kind of a constant, whose type must not be that of a number
 abbrev pub constant_kind : WrittenConstant → WrittenType → Result Kind Fault
-constant_kind c type = if is_inherited type && not c.is_truth then Err FloatType else Ok (row.Constant c.value)
+constant_kind c type =
+    if is_inherited type && not c.is_truth then Err FloatType else Ok (row.Constant c.value)
 
--- the kind of a gain by its factor, the type of that, and how its result is brought into its own type
+-- the kind of a gain by its factor, the type of that, and how its result is brought into its own
+-- type
 abbrev pub gain_kind : Decimal → WrittenType → How → Result Kind Fault
 gain_kind factor factor_type how = do
   known ← known_type factor_type
@@ -84,7 +86,8 @@ row_kind (held.Product count how) type control = Ok (row.Product count how)
 row_kind (held.UnitDelay initial) type control = Ok (row.UnitDelay initial)
 row_kind (held.Delay length initial) type control = Ok (row.Delay length initial)
 row_kind held.ZeroOrderHold type control = Ok row.ZeroOrderHold
-row_kind (held.Switch criterion threshold how) type control = Ok (row.Switch criterion threshold how)
+row_kind (held.Switch criterion threshold how) type control =
+    Ok (row.Switch criterion threshold how)
 row_kind (held.Relational comparison) type control = Ok (row.Relational comparison)
 row_kind (held.Logic op count) type control = Ok (row.Logic op count)
 row_kind (held.Convert how) type control = Ok (row.Convert how)
@@ -92,8 +95,8 @@ row_kind (held.RateTransition initial out) type control = rate_transition_kind i
 row_kind (held.EnablePort reset) type control = Ok row.EnablePort
 row_kind (held.TriggerPort edge) type control = Ok row.TriggerPort
 
--- what the row of a block says, with this control where it is a subsystem; or that it has a period 0, or else a
--- floating-point type
+-- what the row of a block says, with this control where it is a subsystem; or that it has a period
+-- 0, or else a floating-point type
 abbrev pub row_of : Body → Control → Result RowText Fault
 row_of b control = do
   time ← known_time b.time_text

@@ -50,12 +50,14 @@ is_minus_one (negsuc n) den = n == 0 && den == 1
 
 -- whether a text is the number -1
 abbrev pub writes_minus_one : List ℕ → Bool
-writes_minus_one text = option_map_or (λ (r : Ratio). is_minus_one r.num r.den) (number_in text) false
+writes_minus_one text =
+    option_map_or (λ (r : Ratio). is_minus_one r.num r.den) (number_in text) false
 
 -- the factor of a gain: a number whose nearest whole one fits 32 bits with a sign
 abbrev pub factor_in : List ℕ → Option Ratio
 factor_in text =
-    option_and_then (λ (r : Ratio). if fits_32 (nearest r.num r.den) then Some r else None) (number_in text)
+    option_and_then (λ (r : Ratio). if fits_32 (nearest r.num r.den) then Some r else None)
+    (number_in text)
 
 -- an initial output: a number, or `[]`, which is 0
 abbrev pub initial_output_in : List ℕ → Option Ratio
@@ -67,8 +69,10 @@ initial_output_in text =
 -- how a result is rounded
 abbrev pub rounds : List (List ℕ × Round)
 rounds =
-    (codes "Ceiling", round.Ceiling) ∷ (codes "Convergent", round.Convergent) ∷ (codes "Floor", round.Floor)
-    ∷ (codes "Nearest", round.Nearest) ∷ (codes "Round", round.Round) ∷ (codes "Zero", round.Zero) ∷ []
+    (codes "Ceiling", round.Ceiling) ∷ (codes "Convergent", round.Convergent)
+    ∷ (codes "Floor", round.Floor)
+    ∷ (codes "Nearest", round.Nearest) ∷ (codes "Round", round.Round) ∷ (codes "Zero", round.Zero)
+    ∷ []
 
 -- what becomes of a result that doesn't fit
 abbrev pub overs : List (List ℕ × Over)
@@ -89,15 +93,18 @@ inheritances = (codes "Specify", false) ∷ (codes "Inherit", true) ∷ []
 -- how two inputs are compared
 abbrev pub comparisons : List (List ℕ × Compare)
 comparisons =
-    (codes "==", compare.Eq) ∷ (codes "~=", compare.Ne) ∷ (codes "<", compare.Lt) ∷ (codes "<=", compare.Le)
+    (codes "==", compare.Eq) ∷ (codes "~=", compare.Ne) ∷ (codes "<", compare.Lt)
+    ∷ (codes "<=", compare.Le)
     ∷ (codes ">=", compare.Ge) ∷ (codes ">", compare.Gt) ∷ []
 
 -- the operators over truth values
 abbrev pub logics : List (List ℕ × Logic)
 logics =
-    (codes "AND", logic.And) ∷ (codes "OR", logic.Or) ∷ (codes "NAND", logic.Nand) ∷ (codes "NOR", logic.Nor)
+    (codes "AND", logic.And) ∷ (codes "OR", logic.Or) ∷ (codes "NAND", logic.Nand)
+    ∷ (codes "NOR", logic.Nor)
     ∷ (codes "XOR", logic.Xor) ∷ (codes "NXOR", logic.Nxor) ∷ (codes "NOT", logic.Not) ∷ []
 
 -- when a switch passes its first input
 abbrev pub criteria : List (List ℕ × Criterion)
-criteria = (codes "u2 >= Threshold", Ge) ∷ (codes "u2 > Threshold", Gt) ∷ (codes "u2 ~= 0", NotZero) ∷ []
+criteria =
+    (codes "u2 >= Threshold", Ge) ∷ (codes "u2 > Threshold", Gt) ∷ (codes "u2 ~= 0", NotZero) ∷ []

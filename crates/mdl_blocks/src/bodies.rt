@@ -69,7 +69,8 @@ impl<'a> BlockTexts<'a> {
     }
 
     fn subsystem(self, system: Option<&'a Section>) -> Result<Body<'a>, Fault>
-        ensures { Gives body_text result (blocks.subsystem_body (system_tree system.entry) (texts_of self.entry)) }
+        ensures { Gives body_text result
+            (blocks.subsystem_body (system_tree system.entry) (texts_of self.entry)) }
     {
         let system = system.ok_or(Fault::Unsupported)?;
         self.inherited_time()?;
@@ -259,7 +260,8 @@ impl<'a> BlockTexts<'a> {
         peers: Peers,
         system: Option<&'a Section>,
     ) -> Result<Body<'a>, Fault>
-        ensures { Gives body_text result (blocks.body_of peers (system_tree system.entry) (texts_of self.entry) block_type) }
+        ensures { Gives body_text result
+            (blocks.body_of peers (system_tree system.entry) (texts_of self.entry) block_type) }
     {
         match block_type {
             BlockType::Inport => self.inport(peers.inports),

@@ -58,7 +58,8 @@ impl<'a> BlockTexts<'a> {
 
     /// The number of a constant.
     pub(crate) fn constant(self) -> Result<WrittenConstant, Fault>
-        ensures { Gives constant_said result (required constant_in (texts_of self.entry) param.Value) }
+        ensures { Gives constant_said result
+            (required constant_in (texts_of self.entry) param.Value) }
     {
         constant_in(self.text(ParamName::Value)?).ok_or(Fault::Parameter(ParamName::Value))
     }

@@ -30,7 +30,8 @@ fn read_typed<'a>(
     section: &'a Section,
     type_name: &'a [u8],
 ) -> Result<Block<'a>, Fault>
-    ensures { Gives block_text result (block_typed defaults.now peers (section_tree section.now) type_name.now) }
+    ensures { Gives block_text result
+        (block_typed defaults.now peers (section_tree section.now) type_name.now) }
 {
     let texts = BlockTexts {
         defaults,

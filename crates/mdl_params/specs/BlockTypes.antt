@@ -8,7 +8,8 @@ abbrev pub block_types : List BlockType
 block_types =
     Inport ∷ Outport ∷ SubSystem ∷ Constant ∷ Ground ∷ Terminator
     ∷ Gain ∷ Sum ∷ Product ∷ UnitDelay ∷ Delay ∷ ZeroOrderHold ∷ Switch
-    ∷ RelationalOperator ∷ Logic ∷ DataTypeConversion ∷ RateTransition ∷ EnablePort ∷ TriggerPort ∷ []
+    ∷ RelationalOperator ∷ Logic ∷ DataTypeConversion ∷ RateTransition ∷ EnablePort ∷ TriggerPort
+    ∷ []
 
 -- the name that a model writes as the BlockType
 abbrev pub block_type_name : BlockType → List ℕ

@@ -30,31 +30,42 @@ with_kind (Some kind) items texts = (kind, values_of items) ∷ texts
 -- the types that the blocks of these sections name, each with its parameters, in order
 abbrev pub kinds_of : List SectionTree → DefaultTexts
 kinds_of [] = []
-kinds_of (block ∷ blocks) = with_kind (first_value (codes "BlockType") block.items) block.items (kinds_of blocks)
+kinds_of (block ∷ blocks) =
+    with_kind (first_value (codes "BlockType") block.items) block.items (kinds_of blocks)
 
 -- the blocks of the first section of defaults in a model
 abbrev pub default_blocks : Items → List SectionTree
-default_blocks model = unwrap_or (option_map (λ section. sections_named (codes "Block") section.items)
+default_blocks model =
+    unwrap_or (option_map (λ section. sections_named (codes "Block") section.items)
     (first_section (codes "BlockParameterDefaults") model)) []
 
--- the texts give for each type what the first block of that type says in the model's first section of defaults
+-- the texts give for each type what the first block of that type says in the model's first section
+-- of defaults
 abbrev pub IsDefaults : DefaultTexts → Items → Type 0
-IsDefaults texts model = (kind : List ℕ) → beside kind texts ≡ beside kind (kinds_of (default_blocks model))
+IsDefaults texts model =
+    (kind : List ℕ) → beside kind texts ≡ beside kind (kinds_of (default_blocks model))
 
 -- the texts have the block's type and its parameters, if it is a new one
 abbrev pub AddsKind : DefaultTexts → DefaultTexts → Items → Type 0
 AddsKind old new block =
-    (kind : List ℕ) → beside kind new ≡ option_or (beside kind old) (beside kind (with_kind (first_value (codes "BlockType") block) block []))
+    (kind : List ℕ) →
+    beside kind new
+    ≡ option_or (beside kind old)
+    (beside kind (with_kind (first_value (codes "BlockType") block) block []))
 
 -- ---- The text that stands for a parameter
 
--- whether a parameter of a block of this type has the second name `X0`: an initial condition, but that of a Delay
+-- whether a parameter of a block of this type has the second name `X0`: an initial condition, but
+-- that of a Delay
 abbrev pub has_second_name : (kind : List ℕ) → ParamName → Bool
-has_second_name kind name = is_same_param name InitialCondition && not (bytes_eq kind (block_type_name Delay))
+has_second_name kind name =
+    is_same_param name InitialCondition && not (bytes_eq kind (block_type_name Delay))
 
 -- a parameter of a block of this type by its name, and where it has a second name also by that
 abbrev pub by_names : (List ℕ → Option (List ℕ)) → (kind : List ℕ) → ParamName → Option (List ℕ)
-by_names value kind name = option_or (value (param_word name)) (if has_second_name kind name then value (codes "X0") else None)
+by_names value kind name =
+    option_or (value (param_word name)) (if has_second_name kind name then value (codes "X0")
+    else None)
 
 -- the text that a file gives: the block's own, else that of its type among the model's defaults
 abbrev pub written_text : DefaultTexts → Items → List ℕ → ParamName → Option (List ℕ)
@@ -64,4 +75,5 @@ written_text texts block kind name =
 
 -- the same, else the default of its type
 abbrev pub parameter_text : DefaultTexts → Items → List ℕ → ParamName → Option (List ℕ)
-parameter_text texts block kind name = option_or (written_text texts block kind name) (default_text kind name)
+parameter_text texts block kind name =
+    option_or (written_text texts block kind name) (default_text kind name)

@@ -55,13 +55,17 @@ time-small = refl
 time-beyond : time_form (codes "1e10") ≡ Err Parameter
 time-beyond = refl
 
-text-own_second_name : parameter_text ((codes "UnitDelay", (codes "InitialCondition", codes "3") ∷ []) ∷ []) (Param (codes "X0") (codes "7") 4 End) (codes "UnitDelay") InitialCondition ≡ Some (codes "7")
+text-own_second_name : parameter_text
+    ((codes "UnitDelay", (codes "InitialCondition", codes "3") ∷ []) ∷ [])
+    (Param (codes "X0") (codes "7") 4 End) (codes "UnitDelay") InitialCondition ≡ Some (codes "7")
 text-own_second_name = refl
 
-text-of_type : parameter_text ((codes "UnitDelay", (codes "X0", codes "3") ∷ []) ∷ []) End (codes "UnitDelay") InitialCondition ≡ Some (codes "3")
+text-of_type : parameter_text ((codes "UnitDelay", (codes "X0", codes "3") ∷ []) ∷ []) End
+    (codes "UnitDelay") InitialCondition ≡ Some (codes "3")
 text-of_type = refl
 
-text-no_second_name : parameter_text [] (Param (codes "X0") (codes "7") 4 End) (codes "Delay") InitialCondition ≡ Some (codes "0")
+text-no_second_name : parameter_text [] (Param (codes "X0") (codes "7") 4 End)
+    (codes "Delay") InitialCondition ≡ Some (codes "0")
 text-no_second_name = refl
 
 text-delay_length : parameter_text [] End (codes "Delay") DelayLength ≡ Some (codes "2")
@@ -73,7 +77,11 @@ text-default = refl
 text-no_name : parameter_text [] End (codes "Gain") Name ≡ None
 text-no_name = refl
 
-kinds : kinds_of (default_blocks (Section (codes "BlockParameterDefaults") 2 (Section (codes "Block") 3 (Param (codes "BlockType") (codes "Gain") 4 End) End) End)) ≡ (codes "Gain", (codes "BlockType", codes "Gain") ∷ []) ∷ []
+kinds : kinds_of
+    (default_blocks
+    (Section (codes "BlockParameterDefaults") 2
+    (Section (codes "Block") 3 (Param (codes "BlockType") (codes "Gain") 4 End) End) End))
+    ≡ (codes "Gain", (codes "BlockType", codes "Gain") ∷ []) ∷ []
 kinds = refl
 
 -- the special texts are those listed and no others

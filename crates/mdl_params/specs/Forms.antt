@@ -10,7 +10,8 @@ use Rattle.mc_fixed.specs.TypeTexts.{Meaning, meaning_of, type_meaning}
 use Rattle.mdl_params.specs.declared.fault.ParamFault.{ParamFault}
 use Rattle.mdl_params.specs.declared.fault.ParamFault.TheVariants.{Parameter, Float}
 
--- the value of a number's text; a text that is none, or beyond the limits, is a fault of the parameter
+-- the value of a number's text; a text that is none, or beyond the limits, is a fault of the
+-- parameter
 abbrev pub number_form : List ℕ → Result Ratio ParamFault
 number_form text = result_map_both (λ value. value) (λ fault. Parameter) (number_value text)
 
@@ -20,7 +21,8 @@ fault_of_type type_fault.Float = Float
 fault_of_type type_fault.Form = Parameter
 fault_of_type type_fault.Range = Parameter
 
--- what a type's text means; a text that means none is a fault of the parameter, and a floating-point type one of its own
+-- what a type's text means; a text that means none is a fault of the parameter, and a
+-- floating-point type one of its own
 abbrev pub type_form : List ℕ → Result Meaning ParamFault
 type_form text = result_map_both (λ meaning. meaning) fault_of_type (type_meaning text)
 

@@ -10,4 +10,6 @@ plain_texts texts = map (λ (text : ParamText). (text.name, text.value)) texts
 
 -- the parameters of each type of block
 abbrev pub plain_kinds : List (Vec ℕ Global × Vec ParamText Global) → DefaultTexts
-plain_kinds kinds = map (λ (kind : Vec ℕ Global × Vec ParamText Global). (kind.0.items, plain_texts kind.1.items)) kinds
+plain_kinds kinds =
+    map (λ (kind : Vec ℕ Global × Vec ParamText Global). (kind.0.items, plain_texts kind.1.items))
+    kinds

@@ -10,7 +10,8 @@ use Rattle.mc_base.specs.Literals.{Ratio, number_value, plain_value, frac_parts,
 use Rattle.mdl_params.specs.declared.fault.ParamFault.{ParamFault}
 use Rattle.mdl_params.specs.declared.fault.ParamFault.TheVariants.{Parameter, Continuous}
 
--- A sample time: inherited, constant, or a period and an offset, each a numerator and a denominator.
+-- A sample time: inherited, constant, or a period and an offset, each a numerator and a
+-- denominator.
 pub data TimeMeaning : Type 0 where
   Inherit : TimeMeaning
   Constant : TimeMeaning
@@ -27,10 +28,12 @@ abbrev pub is_below : ℕ × ℕ → ℕ × ℕ → Bool
 is_below a b = nat_lt (a.0 * b.1) (b.0 * a.1)
 
 -- a period and an offset that are fractions within the limits, where the offset is below the period
-abbrev pub each_time : Result (ℕ × ℕ) NumFault → Result (ℕ × ℕ) NumFault → Result TimeMeaning ParamFault
+abbrev pub each_time : Result (ℕ × ℕ) NumFault → Result (ℕ × ℕ) NumFault →
+    Result TimeMeaning ParamFault
 each_time (Err fault) offset = Err Parameter
 each_time (Ok period) (Err fault) = Err Parameter
-each_time (Ok period) (Ok offset) = if is_below offset period then Ok (Each period offset) else Err Parameter
+each_time (Ok period) (Ok offset) =
+    if is_below offset period then Ok (Each period offset) else Err Parameter
 
 -- the sample time of two numbers; a period 0 frees the offset
 abbrev pub time_by_values : Ratio → Ratio → Result TimeMeaning ParamFault
@@ -39,7 +42,8 @@ time_by_values period offset =
     else each_time (frac_parts period.num period.den) (frac_parts offset.num offset.den)
 
 -- the sample time of two texts of numbers, by what they read as
-abbrev pub time_by_numbers : Result Ratio NumFault → Result Ratio NumFault → Result TimeMeaning ParamFault
+abbrev pub time_by_numbers : Result Ratio NumFault → Result Ratio NumFault →
+    Result TimeMeaning ParamFault
 time_by_numbers (Err fault) offset = Err Parameter
 time_by_numbers (Ok period) (Err fault) = Err Parameter
 time_by_numbers (Ok period) (Ok offset) = time_by_values period offset
@@ -67,13 +71,15 @@ time_by_texts period (Some offset) = time_by_numbers (plain_value period) (plain
 -- the sample time of a pair, by the text between its brackets
 abbrev pub pair_time : List ℕ → Result TimeMeaning ParamFault
 pair_time text =
-    time_by_texts (take_while (λ c. not (is_separator c)) text) (behind_separator (drop_while (λ c. not (is_separator c)) text))
+    time_by_texts (take_while (λ c. not (is_separator c)) text)
+    (behind_separator (drop_while (λ c. not (is_separator c)) text))
 
 -- the text between `[` and `]`
 abbrev pub between_brackets : List ℕ → Option (List ℕ)
 between_brackets [] = None
 between_brackets (c ∷ rest) =
-    if c == 91 && slice_index rest (length rest - 1) == 93 then Some (take (length rest - 1) rest) else None
+    if c == 91 && slice_index rest (length rest - 1) == 93 then Some (take (length rest - 1) rest)
+    else None
 
 -- a text in which a separator stands
 abbrev pub if_separated : Option (List ℕ) → Option (List ℕ)
@@ -91,11 +97,13 @@ time_by_pair text (Some inside) = pair_time inside
 
 -- whether a text is one of those for an inherited sample time
 abbrev pub is_inherited : List ℕ → Bool
-is_inherited text = bytes_eq text (codes "-1") || bytes_eq text (codes "[-1 0]") || bytes_eq text (codes "[-1, 0]")
+is_inherited text =
+    bytes_eq text (codes "-1") || bytes_eq text (codes "[-1 0]") || bytes_eq text (codes "[-1, 0]")
 
 -- whether a text is one of those for a constant one
 abbrev pub is_constant : List ℕ → Bool
-is_constant text = bytes_eq text (codes "inf") || bytes_eq text (codes "Inf") || bytes_eq text (codes "[inf 0]")
+is_constant text =
+    bytes_eq text (codes "inf") || bytes_eq text (codes "Inf") || bytes_eq text (codes "[inf 0]")
 
 -- the sample time that a text without blanks at its ends writes
 abbrev pub trimmed_time : List ℕ → Result TimeMeaning ParamFault

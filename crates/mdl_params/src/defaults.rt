@@ -39,7 +39,8 @@ impl Model for Defaults {
 
 /// Takes the type of a block with its parameters, where it is a new one.
 fn add_kind(alloc: Global, kinds: &mut Kinds, block: &Section) -> Result<(), Memory>
-    ensures { OnOk result (AddsKind (plain_kinds kinds.old.entries) (plain_kinds kinds.new.entries) (section_tree block.now).items) }
+    ensures { OnOk result (AddsKind (plain_kinds kinds.old.entries) (plain_kinds kinds.new.entries)
+        (section_tree block.now).items) }
 {
     let Some(kind) = block.param(b"BlockType") else {
         return Ok(());
@@ -66,7 +67,8 @@ impl Defaults {
     /// The text that the file gives for a parameter of a block of this type: the block's own, else that of
     /// its type.
     fn written<'a>(&'a self, block: &'a Section, kind: &[u8], name: ParamName) -> Option<&'a [u8]>
-        ensures { option_copied result ≡ written_text self.now (section_tree block.now).items kind.now name }
+        ensures { option_copied result
+            ≡ written_text self.now (section_tree block.now).items kind.now name }
     {
         match own_value(block, kind, name) {
             Some(value) => Some(value.bytes()),
@@ -79,7 +81,8 @@ impl Defaults {
     /// The text that stands for a parameter of a block of this type: what the file gives, else the default
     /// of the type. None exactly where the file gives none, and no type of this name has the parameter.
     pub fn found<'a>(&'a self, block: &'a Section, kind: &[u8], name: ParamName) -> Option<&'a [u8]>
-        ensures { option_copied result ≡ parameter_text self.now (section_tree block.now).items kind.now name }
+        ensures { option_copied result
+            ≡ parameter_text self.now (section_tree block.now).items kind.now name }
     {
         match self.written(block, kind, name) {
             Some(text) => Some(text),
@@ -90,14 +93,16 @@ impl Defaults {
     /// The same of a parameter that the block's type is to have.
     pub fn param<'a>(&'a self, block: &'a Section, kind: &[u8], name: ParamName) -> &'a [u8]
         requires { IsSome (default_text kind.now name) }
-        ensures { parameter_text self.now (section_tree block.now).items kind.now name ≡ Some result.now }
+        ensures { parameter_text self.now (section_tree block.now).items kind.now name
+            ≡ Some result.now }
     {
         self.found(block, kind, name).unwrap()
     }
 }
 
 fn read_kinds(alloc: Global, model: &Section) -> Result<Kinds, Memory>
-    ensures { IfOk result (λ kinds. IsDefaults (plain_kinds kinds.entries) (section_tree model.now).items) }
+    ensures { IfOk result
+        (λ kinds. IsDefaults (plain_kinds kinds.entries) (section_tree model.now).items) }
 {
     let mut kinds = IndexMap::new(alloc);
     let Some(section) = model.section(b"BlockParameterDefaults") else {
@@ -122,7 +127,8 @@ fn has_second_name(kind: &[u8], name: ParamName) -> bool
 
 /// The value of a block's own parameter.
 fn own_value<'a>(block: &'a Section, kind: &[u8], name: ParamName) -> Option<&'a Text>
-    ensures { option_copied result ≡ by_names (λ wanted. first_value wanted (section_tree block.now).items) kind.now name }
+    ensures { option_copied result
+        ≡ by_names (λ wanted. first_value wanted (section_tree block.now).items) kind.now name }
 {
     match block.param(name.as_str().as_bytes()) {
         None if has_second_name(kind, name) => block.param(SECOND_NAME),
@@ -132,7 +138,8 @@ fn own_value<'a>(block: &'a Section, kind: &[u8], name: ParamName) -> Option<&'a
 
 /// The parameters of a type of block, if it is among these.
 fn texts_for<'a>(kinds: &'a Kinds, kind: &[u8]) -> &'a [ParamText]
-    ensures { plain_texts result.now ≡ unwrap_or (beside kind.now (plain_kinds kinds.now.entries)) [] }
+    ensures { plain_texts result.now ≡ unwrap_or (beside kind.now (plain_kinds kinds.now.entries))
+        [] }
 {
     match kinds.get(kind) {
         Some(texts) => texts.as_slice(),
@@ -142,7 +149,8 @@ fn texts_for<'a>(kinds: &'a Kinds, kind: &[u8]) -> &'a [ParamText]
 
 /// The value of a parameter of a type of block among others.
 fn value_among<'a>(texts: &'a [ParamText], kind: &[u8], name: ParamName) -> Option<&'a Text>
-    ensures { option_copied result ≡ by_names (λ wanted. beside wanted (plain_texts texts.now)) kind.now name }
+    ensures { option_copied result
+        ≡ by_names (λ wanted. beside wanted (plain_texts texts.now)) kind.now name }
 {
     match value_of(texts, name.as_str().as_bytes()) {
         None if has_second_name(kind, name) => value_of(texts, SECOND_NAME),

@@ -18,7 +18,8 @@ pub(crate) struct ParamText {
 
 /// The parameters directly inside a section, in order.
 pub(crate) fn texts_of(alloc: Global, section: &Section) -> Result<Vec<ParamText>, Memory>
-    ensures { IfOk result (λ texts. plain_texts texts.items ≡ values_of (section_tree section.now).items) }
+    ensures { IfOk result (λ texts. plain_texts texts.items
+        ≡ values_of (section_tree section.now).items) }
 {
     let mut texts = Vec::new(alloc);
     for item in section.items.as_slice() {

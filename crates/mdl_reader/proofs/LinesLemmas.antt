@@ -108,7 +108,8 @@ parts-clean : (bytes : List ℕ) → IsClean (slice_split is_feed bytes)
 parts-clean [] = refl
 parts-clean (b ∷ rest) = by_test (parts-clean rest) (is_feed b) refl
   where
-    by_test : IsClean (slice_split is_feed rest) → (t : Bool) → is_feed b ≡ t → IsClean (cond t ([] ∷ slice_split is_feed rest) (onto_first b (slice_split is_feed rest)))
+    by_test : IsClean (slice_split is_feed rest) → (t : Bool) → is_feed b ≡ t →
+        IsClean (cond t ([] ∷ slice_split is_feed rest) (onto_first b (slice_split is_feed rest)))
     by_test clean true feed = clean-feed (slice_split is_feed rest) clean
     by_test clean false other = clean-other b (slice_split is_feed rest) other clean
 
@@ -126,9 +127,12 @@ all_but_last x = omega (arith, length-append x (10 ∷ []))
 
 without_terminator-feed : (x : List ℕ) → without_terminator (x ++ 10 ∷ []) ≡ strip_carriage_return x
 without_terminator-feed x =
-    ap (λ n. cond (nat_lt 0 (length (x ++ 10 ∷ [])) && slice_index (x ++ 10 ∷ []) n == 10) (no_cr (take n (x ++ 10 ∷ []))) (x ++ 10 ∷ [])) (all_but_last x)
-    ∙ ap (λ n. cond (nat_lt 0 n && slice_index (x ++ 10 ∷ []) (length x) == 10) (no_cr (take (length x) (x ++ 10 ∷ []))) (x ++ 10 ∷ [])) (one_more x)
-    ∙ ap (λ c. cond (nat_lt 0 (suc (length x)) && c == 10) (no_cr (take (length x) (x ++ 10 ∷ []))) (x ++ 10 ∷ [])) (get_or_at x 10 [] 0 (length x) refl)
+    ap (λ n. cond (nat_lt 0 (length (x ++ 10 ∷ [])) && slice_index (x ++ 10 ∷ []) n == 10)
+    (no_cr (take n (x ++ 10 ∷ []))) (x ++ 10 ∷ [])) (all_but_last x)
+    ∙ ap (λ n. cond (nat_lt 0 n && slice_index (x ++ 10 ∷ []) (length x) == 10) (no_cr (take (length x) (x ++ 10 ∷ [])))
+    (x ++ 10 ∷ [])) (one_more x)
+    ∙ ap (λ c. cond (nat_lt 0 (suc (length x)) && c == 10) (no_cr (take (length x) (x ++ 10 ∷ []))) (x ++ 10 ∷ []))
+    (get_or_at x 10 [] 0 (length x) refl)
     ∙ ap (λ t. cond (t && true) (no_cr (take (length x) (x ++ 10 ∷ []))) (x ++ 10 ∷ [])) (lt-ltb 0 (suc (length x)) (omega arith))
     ∙ ap no_cr (take_at x (10 ∷ []) (length x) refl)
     ∙ no_cr-is x
@@ -136,16 +140,19 @@ without_terminator-feed x =
     one_more : (x : List ℕ) → length (x ++ 10 ∷ []) ≡ suc (length x)
     one_more x = omega (arith, length-append x (10 ∷ []))
 
-without_terminator-clean : (c : ℕ) (x : List ℕ) → is_feed (slice_index (c ∷ x) (length (c ∷ x) - 1)) ≡ false → without_terminator (c ∷ x) ≡ c ∷ x
+without_terminator-clean : (c : ℕ) (x : List ℕ) → is_feed (slice_index (c ∷ x) (length (c ∷ x) - 1)) ≡ false →
+    without_terminator (c ∷ x) ≡ c ∷ x
 without_terminator-clean c x clean =
-    ap (λ t. cond (t && is_feed (slice_index (c ∷ x) (length (c ∷ x) - 1))) (no_cr (take (length (c ∷ x) - 1) (c ∷ x))) (c ∷ x)) (has_some c x)
+    ap (λ t. cond (t && is_feed (slice_index (c ∷ x) (length (c ∷ x) - 1))) (no_cr (take (length (c ∷ x) - 1) (c ∷ x)))
+    (c ∷ x)) (has_some c x)
     ∙ ap (λ t. cond t (no_cr (take (length (c ∷ x) - 1) (c ∷ x))) (c ∷ x)) clean
 
 parts-lines : (parts : List (List ℕ)) → IsClean parts → map without_terminator (ended parts) ≡ lines_of_parts parts
 parts-lines [] clean = refl
 parts-lines ([] ∷ []) clean = refl
 parts-lines ((c ∷ x) ∷ []) clean =
-    ap (λ l. l ∷ []) (without_terminator-clean c x clean) ∙ sym (ap (λ t. cond t [] ((c ∷ x) ∷ [])) (ne_eqb (length (c ∷ x)) 0 (λ e. omega (arith, e))))
+    ap (λ l. l ∷ []) (without_terminator-clean c x clean)
+    ∙ sym (ap (λ t. cond t [] ((c ∷ x) ∷ [])) (ne_eqb (length (c ∷ x)) 0 (λ e. omega (arith, e))))
 parts-lines (x ∷ y ∷ more) clean =
     ap (λ l. l ∷ map without_terminator (ended (y ∷ more))) (without_terminator-feed x)
     ∙ ap (λ ls. strip_carriage_return x ∷ ls) (parts-lines (y ∷ more) clean)

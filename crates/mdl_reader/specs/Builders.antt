@@ -22,7 +22,8 @@ with_quoted None section = section
 with_quoted (Some parameter) section =
     with_items section (Param parameter.name parameter.value.items parameter.line End)
 
--- the statements behind the quoted parameter, if there is one, which takes the strings that they begin with
+-- the statements behind the quoted parameter, if there is one, which takes the strings that they
+-- begin with
 abbrev pub continuing : Option Parameter → List Statement → List Statement
 continuing None statements = statements
 continuing (Some parameter) statements = joined_with (statement_of parameter true) statements
@@ -34,7 +35,8 @@ around_of builder = map section_tree (reverse builder.around.items)
 -- what the builder comes to with these statements of the lines that follow
 abbrev pub outcome : ℕ → Builder → List Statement → Result Items (ℕ × SyntaxKind)
 outcome last builder statements =
-    tree_from last (section_tree builder.current) (around_of builder) (continuing builder.quoted (joined statements))
+    tree_from last (section_tree builder.current) (around_of builder)
+    (continuing builder.quoted (joined statements))
 
 -- where the next line stands
 abbrev pub within_begun : Option Parameter → Within
@@ -50,24 +52,28 @@ pub record IsNew (builder : Builder) : Type 0 where
 
 -- the builder has read these statements
 abbrev pub Reads : Builder → Builder → List Statement → Type 0
-Reads old new statements = (last : ℕ) (rest : List Statement) → outcome last new rest ≡ outcome last old (statements ++ rest)
+Reads old new statements = (last : ℕ) (rest : List Statement) →
+    outcome last new rest ≡ outcome last old (statements ++ rest)
 
 -- with these statements the builder comes to this fault
 abbrev pub FailsAt : Builder → List Statement → ℕ → SyntaxKind → Type 0
 FailsAt builder statements line kind =
-    (last : ℕ) (rest : List Statement) → outcome last builder (statements ++ rest) ≡ Err (line, kind)
+    (last : ℕ) (rest : List Statement) →
+    outcome last builder (statements ++ rest) ≡ Err (line, kind)
 
 -- a step over one statement
 abbrev pub Steps : Builder → Builder → Result (Unit {0}) ReadFault → Statement → Type 0
 Steps old new result statement =
-    Answers result (λ _. Reads old new (statement ∷ []) × (new.begun ≡ old.begun)) (FailsAt old (statement ∷ []))
+    Answers result (λ _. Reads old new (statement ∷ []) × (new.begun ≡ old.begun))
+    (FailsAt old (statement ∷ []))
 
 -- the builder has read the statements of a line, and stands behind it
 abbrev pub HasRead : Builder → Builder → Within × List Statement → Type 0
 HasRead old new found = (within_begun new.begun ≡ found.0) × Reads old new found.1
 
 -- a step over a line, by where the next one stands and what statements this one makes or ends
-abbrev pub StepsOver : Builder → Builder → Result (Unit {0}) ReadFault → Within × List Statement → Type 0
+abbrev pub StepsOver : Builder → Builder → Result (Unit {0}) ReadFault → Within × List Statement →
+    Type 0
 StepsOver old new result found = Answers result (λ _. HasRead old new found) (FailsAt old found.1)
 
 -- the end of the text, whose last line has this number
@@ -75,5 +81,6 @@ abbrev pub Finishes : ℕ → Builder → Result Section ReadFault → Type 0
 Finishes last builder result =
     let outcome_at_end = outcome last builder (at_end (within_begun builder.begun)) in
     Answers result
-    (λ section. (section_tree section ≡ file_of (section_tree section).items) × (outcome_at_end ≡ Ok (section_tree section).items))
+    (λ section. (section_tree section ≡ file_of (section_tree section).items)
+    × (outcome_at_end ≡ Ok (section_tree section).items))
     (λ line kind. outcome_at_end ≡ Err (line, kind))

@@ -18,9 +18,11 @@ section_item section = Section section.name section.line section.items End
 abbrev pub with_items : SectionTree → Items → SectionTree
 with_items section more = record section { items = append_items section.items more }
 
--- The items of the whole text, or its first fault: from the innermost section that is open, those around it
--- from the inside out, and the statements that follow, in a text whose last line has the number `last`.
-abbrev pub tree_from : ℕ → SectionTree → List SectionTree → List Statement → Result Items (ℕ × SyntaxKind)
+-- The items of the whole text, or its first fault: from the innermost section that is open, those
+-- around it from the inside out, and the statements that follow, in a text whose last line has the
+-- number `last`.
+abbrev pub tree_from : ℕ → SectionTree → List SectionTree → List Statement →
+    Result Items (ℕ × SyntaxKind)
 tree_from last current [] [] = Ok current.items
 tree_from last current (outer ∷ around) [] = Err (last, Brace)
 tree_from last current around (Opens line name ∷ rest) =

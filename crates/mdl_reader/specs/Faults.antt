@@ -5,7 +5,8 @@ use Rattle.mdl_reader.specs.declared.fault.ReadFault.{ReadFault}
 use Rattle.mdl_reader.specs.declared.fault.ReadFault.TheVariants.{Syntax, Memory}
 
 -- this holds of the value, or that of the fault's line and kind; of want of memory nothing is said
-abbrev pub Answers : {X : Type 0} → Result X ReadFault → (X → Type 0) → (ℕ → SyntaxKind → Type 0) → Type 0
+abbrev pub Answers : {X : Type 0} → Result X ReadFault → (X → Type 0) → (ℕ → SyntaxKind → Type 0) →
+    Type 0
 Answers (Ok value) OfValue OfFault = OfValue value
 Answers (Err (Syntax line kind)) OfValue OfFault = OfFault line kind
 Answers (Err Memory) OfValue OfFault = ⊤

@@ -26,7 +26,8 @@ pub(crate) struct Parameter {
 
 impl Parameter {
     fn new(alloc: Global, line: u32, name: &[u8], value: Vec<u8>) -> Result<Parameter, Memory>
-        ensures { IfOk result (λ made. (made.name ≡ name.now) × (made.line ≡ line) × (made.value.items ≡ value.items)) }
+        ensures { IfOk result (λ made. (made.name ≡ name.now) × (made.line ≡ line)
+            × (made.value.items ≡ value.items)) }
     {
         let name = Text::copy_of(alloc, name)?;
         Ok(Parameter { name, line, value })
@@ -45,7 +46,8 @@ impl Parameter {
 
 /// Adds an item to a section, behind those that it has.
 fn push_item(section: &mut Section, item: Item) -> Result<(), AllocError>
-    ensures { OnOk result (section_tree section.new ≡ with_items (section_tree section.old) (with_item item End)) }
+    ensures { OnOk result (section_tree section.new
+        ≡ with_items (section_tree section.old) (with_item item End)) }
 {
     section.items.push(item)?;
     Ok(())
@@ -53,7 +55,8 @@ fn push_item(section: &mut Section, item: Item) -> Result<(), AllocError>
 
 /// Adds a section to the one around it.
 fn push_section(outer: &mut Section, section: Section) -> Result<(), AllocError>
-    ensures { OnOk result (section_tree outer.new ≡ with_items (section_tree outer.old) (section_item (section_tree section))) }
+    ensures { OnOk result (section_tree outer.new
+        ≡ with_items (section_tree outer.old) (section_item (section_tree section))) }
 {
     push_item(outer, Item::Section(section))
 }
@@ -92,7 +95,8 @@ impl Builder {
     /// Moves the quoted parameter to the items.
     fn settle(&mut self) -> Result<(), AllocError>
         ensures quoted { OnOk result (self.new.quoted ≡ None) }
-        ensures current { OnOk result (section_tree self.new.current ≡ with_quoted self.old.quoted (section_tree self.old.current)) }
+        ensures current { OnOk result (section_tree self.new.current
+            ≡ with_quoted self.old.quoted (section_tree self.old.current)) }
         ensures around { self.new.around.items ≡ self.old.around.items }
         ensures begun { self.new.begun ≡ self.old.begun }
     {
@@ -167,7 +171,8 @@ impl Builder {
     /// Takes a further line of a value in brackets.
     fn continue_value(&mut self, mut parameter: Parameter, text: &[u8]) -> Result<(), ReadFault>
         requires { self.old.begun ≡ None }
-        ensures { StepsOver self.old self.new result (after_line (within_begun (Some parameter)) 0 text.now) }
+        ensures { StepsOver self.old self.new result
+            (after_line (within_begun (Some parameter)) 0 text.now) }
     {
         parameter.value.push(b' ')?;
         parameter.value.extend_from_slice(text)?;
@@ -211,7 +216,8 @@ impl Builder {
         line: u32,
         text: &[u8],
     ) -> Result<(), ReadFault>
-        ensures { StepsOver self.old self.new result (after_line (within_begun self.old.begun) line text.now) }
+        ensures { StepsOver self.old self.new result
+            (after_line (within_begun self.old.begun) line text.now) }
     {
         if let Some(parameter) = self.begun.take() {
             return self.continue_value(parameter, text);

@@ -27,7 +27,8 @@ fn push_escaped(value: &mut Vec<u8>, byte: u8) -> Result<(), AllocError>
 pub(crate) fn read_string(alloc: Global, line: u32, bytes: &[u8]) -> Result<Vec<u8>, ReadFault>
     ensures { Answers result
         (λ value. string_from false bytes.now ≡ Some (value.items, []))
-        (λ told kind. (says : List ℕ → Statement) → whole_string line says (string_from false bytes.now) ≡ Faulty told kind) }
+        (λ told kind. (says : List ℕ → Statement) →
+        whole_string line says (string_from false bytes.now) ≡ Faulty told kind) }
 {
     let mut value = Vec::new(alloc);
     let mut escaped = false;

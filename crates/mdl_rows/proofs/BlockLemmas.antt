@@ -23,7 +23,8 @@ get-at (x ∷ xs) zero d h = refl
 get-at (x ∷ xs) (suc k) d h = get-at xs k d (omega arith)
 
 -- each block is among them
-pub is-among : (blocks : List Block) (k : ℕ) (d : Block) → AreNumbered 0 blocks → k < length blocks → IsAmong blocks (slice_index_or blocks k d)
+pub is-among : (blocks : List Block) (k : ℕ) (d : Block) → AreNumbered 0 blocks → k < length blocks →
+    IsAmong blocks (slice_index_or blocks k d)
 is-among blocks k d are h = ap (slice_get blocks) (among-at 0 blocks k d are h ∙ omega arith) ∙ get-at blocks k d h
 
 -- one that is among them has a number below their count
@@ -59,24 +60,28 @@ owner-fits bs k d are short h =
     let below : k < length (numbered_from 0 bs) = subst (λ n. k < n) (sym (numbered-length 0 bs)) h in
     there-more (length bs) (2 ^ 32) (slice_index_or bs k d).owner
     (subst (λ o. IsThere (length bs) o) (numbered-owner 0 bs k d e h)
-    (subst (λ n. IsThere n (slice_index_or (numbered_from 0 bs) k e).owner) (numbered-length 0 bs) (are.owners k e below))) (omega (arith, short))
+    (subst (λ n. IsThere n (slice_index_or (numbered_from 0 bs) k e).owner) (numbered-length 0 bs)
+    (are.owners k e below))) (omega (arith, short))
 
 -- ---- In memory
 
 -- a block in memory stands at its number
-pub number-is : (xs : List NumberedBlock) (i : ℕ) (b : NumberedBlock) → AreNumbered 0 (all_seen xs) → i < length xs → b ≡ slice_index_or xs i b → b.number ≡ i
+pub number-is : (xs : List NumberedBlock) (i : ℕ) (b : NumberedBlock) → AreNumbered 0 (all_seen xs) → i < length xs →
+    b ≡ slice_index_or xs i b → b.number ≡ i
 number-is xs i b are h at =
     let there : i < length (all_seen xs) = subst (λ n. i < n) (sym (length-map xs seen)) h in
     ap (λ (x : NumberedBlock). (seen x).number) at ∙ ap (λ (x : Block). x.number) (sym (get_or-map seen xs i b (seen b) h))
     ∙ among-at 0 (all_seen xs) i (seen b) are there ∙ omega arith
 
-pub number-there : (xs : List NumberedBlock) (i : ℕ) (b : NumberedBlock) (n : ℕ) → AreNumbered 0 (all_seen xs) → i < length xs → b ≡ slice_index_or xs i b →
+pub number-there : (xs : List NumberedBlock) (i : ℕ) (b : NumberedBlock) (n : ℕ) → AreNumbered 0 (all_seen xs) →
+    i < length xs → b ≡ slice_index_or xs i b →
     n ≡ length (all_seen xs) → b.number < n
 number-there xs i b n are h at count =
     subst (λ k. k < n) (sym (number-is xs i b are h at)) (subst (λ m. i < m) (sym (count ∙ length-map xs seen)) h)
 
 -- and is one of them
-pub item-among : (xs : List NumberedBlock) (i : ℕ) (b : NumberedBlock) → AreNumbered 0 (all_seen xs) → i < length xs → b ≡ slice_index_or xs i b →
+pub item-among : (xs : List NumberedBlock) (i : ℕ) (b : NumberedBlock) → AreNumbered 0 (all_seen xs) → i < length xs →
+    b ≡ slice_index_or xs i b →
     IsAmong (all_seen xs) (seen b)
 item-among xs i b are h at =
     let there : i < length (all_seen xs) = subst (λ n. i < n) (sym (length-map xs seen)) h in
@@ -87,19 +92,22 @@ some-length : (blocks : List Block) (o : Option ℕ) → length (blocks_of block
 some-length [] o = omega arith
 some-length (b ∷ rest) o = by (same_system b.owner o) (some-length rest o)
   where
-    by : (t : Bool) → length (blocks_of rest o) ≤ length rest → length (cond t (b ∷ blocks_of rest o) (blocks_of rest o)) ≤ suc (length rest)
+    by : (t : Bool) → length (blocks_of rest o) ≤ length rest →
+        length (cond t (b ∷ blocks_of rest o) (blocks_of rest o)) ≤ suc (length rest)
     by true h = omega (arith, h)
     by false h = omega (arith, h)
 
 -- the blocks of a system are not more than all
-pub group-short : (own xs : List NumberedBlock) (o : Option ℕ) → all_seen own ≡ blocks_of (all_seen xs) o → length xs < 2 ^ 32 → length own < 2 ^ 32
+pub group-short : (own xs : List NumberedBlock) (o : Option ℕ) → all_seen own ≡ blocks_of (all_seen xs) o →
+    length xs < 2 ^ 32 → length own < 2 ^ 32
 group-short own xs o are short =
     let count = sym (length-map own seen) ∙ ap length are in
     let most = some-length (all_seen xs) o in
     let long = length-map xs seen in omega (arith, count, most, long, short)
 
 -- what holds of all holds of one
-pub of-all : (P : Block → Type 0) (own : List NumberedBlock) (i : ℕ) (b : NumberedBlock) → All P (all_seen own) → i < length own → b ≡ slice_index_or own i b →
+pub of-all : (P : Block → Type 0) (own : List NumberedBlock) (i : ℕ) (b : NumberedBlock) → All P (all_seen own) →
+    i < length own → b ≡ slice_index_or own i b →
     P (seen b)
 of-all P own i b all h at =
     let there : i < length (all_seen own) = subst (λ n. i < n) (sym (length-map own seen)) h in

@@ -42,7 +42,8 @@ first_assoc a b c = by (is_before b a) (is_before c b) refl refl
   where
     by : (t u : Bool) → is_before b a ≡ t → is_before c b ≡ u → first (first a b) c ≡ first a (first b c)
     by true true p q =
-        ap (λ m. first m c) (first_is a b true p) ∙ first_is b c true q ∙ sym (ap (first a) (first_is b c true q) ∙ first_is a c true (trans c b a q p))
+        ap (λ m. first m c) (first_is a b true p) ∙ first_is b c true q
+        ∙ sym (ap (first a) (first_is b c true q) ∙ first_is a c true (trans c b a q p))
     by true false p q =
         ap (λ m. first m c) (first_is a b true p) ∙ first_is b c false q ∙ sym (ap (first a) (first_is b c false q) ∙ first_is a b true p)
     by false true p q = ap (λ m. first m c) (first_is a b false p) ∙ sym (ap (first a) (first_is b c true q))
@@ -94,7 +95,8 @@ items-from show xs i d h =
     ap (map show) (drop-cons xs i d h) ∙ ap (λ k. show (slice_index_or xs i d) ∷ map show (drop k xs)) (one_more i)
 
 -- one item more is looked at
-pub first-at : {A B : Type 0} (found : B → Option PlainRefusal) (show : A → B) (xs : List A) (i : ℕ) (d : A) (before now whole : Option PlainRefusal) → i < length xs →
+pub first-at : {A B : Type 0} (found : B → Option PlainRefusal) (show : A → B) (xs : List A) (i : ℕ) (d : A)
+    (before now whole : Option PlainRefusal) → i < length xs →
     now ≡ first_of before (found (show (slice_index_or xs i d))) →
     first_of before (first_in found (map show (drop i xs))) ≡ whole → first_of now (first_in found (map show (drop (i + 1) xs))) ≡ whole
 first-at found show xs i d before now whole h e all =
@@ -103,7 +105,8 @@ first-at found show xs i d before now whole h e all =
     ∙ ap (λ ys. first_of before (first_in found ys)) (sym (items-from show xs i d h)) ∙ all
 
 -- all are looked at
-pub first-end : {A B : Type 0} (found : B → Option PlainRefusal) (show : A → B) (xs : List A) (i : ℕ) (before whole : Option PlainRefusal) → length xs ≤ i →
+pub first-end : {A B : Type 0} (found : B → Option PlainRefusal) (show : A → B) (xs : List A) (i : ℕ)
+    (before whole : Option PlainRefusal) → length xs ≤ i →
     first_of before (first_in found (map show (drop i xs))) ≡ whole → before ≡ whole
 first-end found show xs i before whole h all =
     sym (first_of-none before) ∙ ap (λ ys. first_of before (first_in found (map show ys))) (sym (drop_of_length-le xs h)) ∙ all

@@ -49,10 +49,13 @@ no_groups g (Some e) root inner = empty-at g.inner.items e inner
 
 same-root : (b : NumberedBlock) (o : Option ℕ) (own : List NumberedBlock) → b.owner ≡ None → o ≡ None →
     all_seen (own ++ b ∷ []) ≡ with_block (seen b) o (all_seen own)
-same-root b o own is e = map-append seen own (b ∷ []) ∙ sym (ap (λ t. cond t (all_seen own ++ seen b ∷ []) (all_seen own)) (ap (λ w. same_system w o) is ∙ ap (same_system None) e))
+same-root b o own is e = map-append seen own (b ∷ [])
+    ∙ sym (ap (λ t. cond t (all_seen own ++ seen b ∷ []) (all_seen own)) (ap (λ w. same_system w o) is
+    ∙ ap (same_system None) e))
 
 -- into the root
-pub takes_root : (old new : Groups) (b : NumberedBlock) → b.owner ≡ None → new.root.items ≡ old.root.items ++ b ∷ [] → new.inner ≡ old.inner →
+pub takes_root : (old new : Groups) (b : NumberedBlock) → b.owner ≡ None → new.root.items ≡ old.root.items ++ b ∷ [] →
+    new.inner ≡ old.inner →
     new.places.items ≡ old.places.items ++ length old.root.items ∷ [] → Takes old new (seen b)
 takes_root old new b is root inner places = record {
   groups = λ o. by o;
@@ -64,7 +67,8 @@ takes_root old new b is root inner places = record {
     by None = ap all_seen root ∙ same-root b None old.root.items is refl
     by (Some e) =
         ap (λ v. all_seen (option_map_or (λ own. own.items) (slice_get v.items e) [])) inner
-        ∙ sym (ap (λ t. cond t (all_seen (group_of old (Some e)) ++ seen b ∷ []) (all_seen (group_of old (Some e)))) (ap (λ w. same_system w (Some e)) is))
+        ∙ sym (ap (λ t. cond t (all_seen (group_of old (Some e)) ++ seen b ∷ []) (all_seen (group_of old (Some e))))
+        (ap (λ w. same_system w (Some e)) is))
 
 list-same : (lists : List (Vec NumberedBlock)) (e : ℕ) (own : Vec NumberedBlock) → e < length lists →
     option_map_or (λ own. own.items) (slice_get (slice_set lists e own) e) [] ≡ own.items
@@ -87,7 +91,8 @@ list-at (x ∷ xs) zero d h = refl
 list-at (x ∷ xs) (suc e) d h = list-at xs e d (omega arith)
 
 -- into the group of a block
-pub takes_inner : (old new : Groups) (b : NumberedBlock) (e : ℕ) (own now : Vec NumberedBlock) → b.owner ≡ Some e → e < length old.inner.items →
+pub takes_inner : (old new : Groups) (b : NumberedBlock) (e : ℕ) (own now : Vec NumberedBlock) → b.owner ≡ Some e →
+    e < length old.inner.items →
     own ≡ slice_index_or old.inner.items e own → now.items ≡ own.items ++ b ∷ [] →
     new.root ≡ old.root → new.inner.items ≡ slice_set old.inner.items e now →
     new.places.items ≡ old.places.items ++ length own.items ∷ [] → Takes old new (seen b)
@@ -100,7 +105,8 @@ takes_inner old new b e own now is h at more root inner places = record {
     group : group_of old (Some e) ≡ own.items
     group = list-at old.inner.items e own h ∙ ap (λ v. v.items) (sym at)
 
-    other : (k : ℕ) (t : Bool) → nat_eq k e ≡ t → all_seen (group_of new (Some k)) ≡ with_block (seen b) (Some k) (all_seen (group_of old (Some k)))
+    other : (k : ℕ) (t : Bool) → nat_eq k e ≡ t →
+        all_seen (group_of new (Some k)) ≡ with_block (seen b) (Some k) (all_seen (group_of old (Some k)))
     other k true same =
         let one : k ≡ e = grind (arith, nat_tests) in
         let g = group_of old (Some k) in
@@ -130,14 +136,16 @@ pub owner-there : (blocks : List Block) (i : ℕ) (b : Block) (n : ℕ) → AreB
 owner-there blocks i b n are h at count =
     subst (λ n. IsThere n b.owner) (sym count) (subst (λ (x : Block). IsThere (length blocks) x.owner) (sym at) (are.owners i b h))
 
-pub groups-step : (blocks : List Block) (i : ℕ) (b : Block) (old new : Groups) → i < length blocks → b ≡ slice_index_or blocks i b → Takes old new b →
+pub groups-step : (blocks : List Block) (i : ℕ) (b : Block) (old new : Groups) → i < length blocks →
+    b ≡ slice_index_or blocks i b → Takes old new b →
     ((o : Option ℕ) → IsThere (length blocks) o → all_seen (group_of old o) ≡ blocks_of (take i blocks) o) →
     (o : Option ℕ) → IsThere (length blocks) o → all_seen (group_of new o) ≡ blocks_of (take (i + 1) blocks) o
 groups-step blocks i b old new h at takes all o there =
     takes.groups o ∙ ap (λ own. with_block b o own) (all o there) ∙ ap (λ x. with_block x o (blocks_of (take i blocks) o)) at
     ∙ sym (blocks-more blocks i b o h)
 
-pub places-step : (blocks : List Block) (i : ℕ) (b : Block) (old new : Groups) → AreBlocks blocks → i < length blocks → b ≡ slice_index_or blocks i b →
+pub places-step : (blocks : List Block) (i : ℕ) (b : Block) (old new : Groups) → AreBlocks blocks → i < length blocks →
+    b ≡ slice_index_or blocks i b →
     Takes old new b → ((o : Option ℕ) → IsThere (length blocks) o → all_seen (group_of old o) ≡ blocks_of (take i blocks) o) →
     old.places.items ≡ map (place_of blocks) (take i blocks) → new.places.items ≡ map (place_of blocks) (take (i + 1) blocks)
 places-step blocks i b old new are h at takes all places =

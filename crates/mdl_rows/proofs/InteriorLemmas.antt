@@ -18,7 +18,8 @@ count-at-most what [] = omega arith
 count-at-most what (b ∷ rest) = by (is_some (what (kind_of b))) (count-at-most what rest)
   where
     by : (t : Bool) → count_that what rest ≤ length rest →
-        length (cond t (b ∷ filter (λ b. is_some (what (kind_of b))) rest) (filter (λ b. is_some (what (kind_of b))) rest)) ≤ suc (length rest)
+        length (cond t (b ∷ filter (λ b. is_some (what (kind_of b))) rest)
+        (filter (λ b. is_some (what (kind_of b))) rest)) ≤ suc (length rest)
     by true h = omega (arith, h)
     by false h = omega (arith, h)
 
@@ -29,11 +30,13 @@ count-cons what b rest is =
     ap (λ t. length (cond t (b ∷ filter (λ b. is_some (what (kind_of b))) rest) (filter (λ b. is_some (what (kind_of b))) rest))) is
 
 -- the count of one more fits
-pub count-fits : {A : Type 0} (what : KindText → Option A) (xs : List NumberedBlock) (i : ℕ) (d : NumberedBlock) (count : ℕ) → i < length xs →
+pub count-fits : {A : Type 0} (what : KindText → Option A) (xs : List NumberedBlock) (i : ℕ) (d : NumberedBlock)
+    (count : ℕ) → i < length xs →
     is_some (what (kind_of (seen (slice_index_or xs i d)))) ≡ true → length xs < 2 ^ 32 →
     count + count_that what (all_seen (drop i xs)) ≡ count_that what (all_seen xs) → count + 1 < 2 ^ 32
 count-fits what xs i d count h is short all =
-    let here = ap (count_that what) (items-from seen xs i d h) ∙ count-cons what (seen (slice_index_or xs i d)) (all_seen (drop (i + 1) xs)) is in
+    let here = ap (count_that what) (items-from seen xs i d h)
+    ∙ count-cons what (seen (slice_index_or xs i d)) (all_seen (drop (i + 1) xs)) is in
     let most = count-at-most what (all_seen xs) in
     let long = length-map xs seen in omega (arith, here, most, long, short, all)
 
@@ -44,7 +47,8 @@ outports-counted (b ∷ rest) = by (outport_number (kind_of b)) (outports-counte
   where
     by : (o : Option ℕ) → length (outports_among rest) ≡ count_that outport_number rest →
         length (cons_option (option_map (λ port. record { port = port; number = b.number }) o) (outports_among rest))
-        ≡ length (cond (is_some o) (b ∷ filter (λ b. is_some (outport_number (kind_of b))) rest) (filter (λ b. is_some (outport_number (kind_of b))) rest))
+        ≡ length (cond (is_some o) (b ∷ filter (λ b. is_some (outport_number (kind_of b))) rest)
+        (filter (λ b. is_some (outport_number (kind_of b))) rest))
     by None same = same
     by (Some port) same = ap suc same
 
@@ -61,7 +65,8 @@ port-found port (b ∷ rest) = by (outport_number (kind_of b)) (port-found port 
 
     by : (o : Option ℕ) → port_among port (outports_among rest) ≡ outport_among rest port →
         port_among port (cons_option (option_map (λ own. record { port = own; number = b.number }) o) (outports_among rest))
-        ≡ option_map (λ (b : Block). b.number) (cond (option_map_or (λ own. nat_eq own port) o false) (Some b) (find (is_outport_at port) rest))
+        ≡ option_map (λ (b : Block). b.number)
+        (cond (option_map_or (λ own. nat_eq own port) o false) (Some b) (find (is_outport_at port) rest))
     by None same = same
     by (Some own) same = found (nat_eq own port) same
 
@@ -79,7 +84,8 @@ interior-from blocks d n (b ∷ bs) (x ∷ is) (suc k) are all h =
     )
 
 -- what is inside the block with a number
-pub interior-at : (blocks : List Block) (interiors : List Interior) (i : ℕ) (d : Interior) → AreNumbered 0 blocks → AreInteriorsOf blocks interiors →
+pub interior-at : (blocks : List Block) (interiors : List Interior) (i : ℕ) (d : Interior) → AreNumbered 0 blocks →
+    AreInteriorsOf blocks interiors →
     i < length blocks → (i < length interiors) × IsInteriorOf (blocks_of blocks (Some i)) (slice_index_or interiors i d)
 interior-at blocks interiors i d are all h =
     let at = interior-from blocks d 0 blocks interiors i are all h in

@@ -104,14 +104,18 @@ place-is (x ∷ xs) zero b d e =
 place-is (x ∷ xs) (suc k) b d e = by (same_system x.owner b.owner) (place-is xs k b d e)
   where
     by : (t : Bool) →
-        (length (blocks_of (take k xs) b.owner) < length (blocks_of xs b.owner)) × (slice_index_or (blocks_of xs b.owner) (length (blocks_of (take k xs) b.owner)) d ≡ b) →
-        (length (cond t (x ∷ blocks_of (take k xs) b.owner) (blocks_of (take k xs) b.owner)) < length (cond t (x ∷ blocks_of xs b.owner) (blocks_of xs b.owner)))
-        × (slice_index_or (cond t (x ∷ blocks_of xs b.owner) (blocks_of xs b.owner)) (length (cond t (x ∷ blocks_of (take k xs) b.owner) (blocks_of (take k xs) b.owner))) d ≡ b)
+        (length (blocks_of (take k xs) b.owner) < length (blocks_of xs b.owner))
+        × (slice_index_or (blocks_of xs b.owner) (length (blocks_of (take k xs) b.owner)) d ≡ b) →
+        (length (cond t (x ∷ blocks_of (take k xs) b.owner) (blocks_of (take k xs) b.owner))
+        < length (cond t (x ∷ blocks_of xs b.owner) (blocks_of xs b.owner)))
+        × (slice_index_or (cond t (x ∷ blocks_of xs b.owner) (blocks_of xs b.owner))
+        (length (cond t (x ∷ blocks_of (take k xs) b.owner) (blocks_of (take k xs) b.owner))) d ≡ b)
     by true rest = (let h = rest.0 in omega (arith, h), rest.1)
     by false rest = rest
 
 -- where the inputs of a block read from, by the sources of its system
-pub sources-of-block : (m : Model) (b : Block) (ends : List LineEnd) (rows : List (List Source)) → IsAmong m.blocks b → ends ≡ ends_in (members_of m.blocks b.owner) (items_of m b.owner) →
+pub sources-of-block : (m : Model) (b : Block) (ends : List LineEnd) (rows : List (List Source)) → IsAmong m.blocks b →
+    ends ≡ ends_in (members_of m.blocks b.owner) (items_of m b.owner) →
     rows ≡ sources_from ends 0 (members_of m.blocks b.owner) → slice_index_or rows (place_of m.blocks b) [] ≡ block_sources m b
 sources-of-block m b ends rows among is all =
     let own = blocks_of m.blocks b.owner in

@@ -14,7 +14,8 @@ map-option f None = refl
 map-option f (Some x) = refl
 
 -- one item more is taken, where what is taken is shown
-pub shown-at : {A B C H : Type 0} (f : B → Option C) (show : A → B) (shown : H → C) (xs : List A) (i : ℕ) (d : A) (olds news : List H) (o : Option H) (whole : List C) →
+pub shown-at : {A B C H : Type 0} (f : B → Option C) (show : A → B) (shown : H → C) (xs : List A) (i : ℕ) (d : A)
+    (olds news : List H) (o : Option H) (whole : List C) →
     i < length xs → option_map shown o ≡ f (show (slice_index_or xs i d)) → news ≡ olds ++ option_to_list o →
     map shown olds ++ filter_map f (map show (drop i xs)) ≡ whole → map shown news ++ filter_map f (map show (drop (i + 1) xs)) ≡ whole
 shown-at f show shown xs i d olds news o whole h is pushed all =
@@ -27,14 +28,16 @@ shown-at f show shown xs i d olds news o whole h is pushed all =
     ∙ all
 
 -- the same where it is taken as it is
-pub taken-at : {A B C : Type 0} (f : B → Option C) (show : A → B) (xs : List A) (i : ℕ) (d : A) (olds news : List C) (o : Option C) (whole : List C) →
+pub taken-at : {A B C : Type 0} (f : B → Option C) (show : A → B) (xs : List A) (i : ℕ) (d : A) (olds news : List C)
+    (o : Option C) (whole : List C) →
     i < length xs → o ≡ f (show (slice_index_or xs i d)) → news ≡ olds ++ option_to_list o →
     olds ++ filter_map f (map show (drop i xs)) ≡ whole → news ++ filter_map f (map show (drop (i + 1) xs)) ≡ whole
 taken-at f show xs i d olds news o whole h is pushed all =
     let rest = filter_map f (map show (drop (i + 1) xs)) in
     ap (λ ns. ns ++ rest) pushed ∙ append_assoc olds (option_to_list o) rest
     ∙ ap (λ ys. olds ++ ys)
-    (ap (λ ys. ys ++ rest) (ap option_to_list is) ∙ sym (cons-option (f (show (slice_index_or xs i d))) rest) ∙ ap (filter_map f) (sym (items-from show xs i d h)))
+    (ap (λ ys. ys ++ rest) (ap option_to_list is) ∙ sym (cons-option (f (show (slice_index_or xs i d))) rest)
+    ∙ ap (filter_map f) (sym (items-from show xs i d h)))
     ∙ all
 
 -- what is taken of all
@@ -44,7 +47,8 @@ taken-end f show xs i olds whole h all =
     sym (append-nil olds) ∙ ap (λ ys. olds ++ filter_map f (map show ys)) (sym (drop_of_length-le xs h)) ∙ all
 
 -- one item more is paired
-pub zip-at : {A B C : Type 0} (R : B → C → Type 0) (show : A → B) (xs : List A) (i : ℕ) (d : A) (olds news : List C) (y : C) (front : List B) → i < length xs →
+pub zip-at : {A B C : Type 0} (R : B → C → Type 0) (show : A → B) (xs : List A) (i : ℕ) (d : A) (olds news : List C)
+    (y : C) (front : List B) → i < length xs →
     R (show (slice_index_or xs i d)) y → news ≡ olds ++ y ∷ [] →
     ((rest : List C) → AllZip R (map show (drop i xs)) rest → AllZip R front (olds ++ rest)) →
     (rest : List C) → AllZip R (map show (drop (i + 1) xs)) rest → AllZip R front (news ++ rest)

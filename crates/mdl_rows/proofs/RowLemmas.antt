@@ -138,7 +138,8 @@ has-kind (held.TriggerPort edge) type control = refl
 
 -- what a row says that a block has
 abbrev HasRow : BlockKind → WrittenType → WrittenTime → Control → Result RowText Fault → Type 0
-HasRow k type time control (Ok t) = IsBodyRow (record { kind = kind_text k; type_text = type_said type; time_text = time_said time }) control t
+HasRow k type time control (Ok t) =
+    IsBodyRow (record { kind = kind_text k; type_text = type_said type; time_text = time_said time }) control t
 HasRow k type time control (Err fault) = ⊤
 
 kind-row : (k : BlockKind) (type : WrittenType) (time : TimeText) (control : Control) (r : Result Kind Fault) → HasKind k type control r →
@@ -163,10 +164,12 @@ pub text-told : (b : Body) (control : Control) (r : Result RowText Fault) → r 
 text-told b control (Ok t) e = is-row b control t (sym e)
 text-told b control (Err fault) e = tt
 
-pub lawful-told : (b : Body) (control : Control) (r : Result RowText Fault) → r ≡ row_of b control → IfOk r (λ t. row_fault (body_text b) ≡ None)
+pub lawful-told : (b : Body) (control : Control) (r : Result RowText Fault) → r ≡ row_of b control →
+    IfOk r (λ t. row_fault (body_text b) ≡ None)
 lawful-told b control (Ok t) e = sym (row-fault b control) ∙ ap result_err (sym e)
 lawful-told b control (Err fault) e = tt
 
-pub fault-told : (b : Body) (control : Control) (r : Result RowText Fault) → r ≡ row_of b control → IfErr r (λ f. row_fault (body_text b) ≡ Some f)
+pub fault-told : (b : Body) (control : Control) (r : Result RowText Fault) → r ≡ row_of b control →
+    IfErr r (λ f. row_fault (body_text b) ≡ Some f)
 fault-told b control (Ok t) e = tt
 fault-told b control (Err fault) e = sym (row-fault b control) ∙ ap result_err (sym e)

@@ -38,16 +38,19 @@ all-get P (x ∷ bs) zero b all e = let same : x ≡ b = cc in subst P same (all
 all-get P (x ∷ bs) (suc k) b all e = all-get P bs k b (λ j d h. all (suc j) d (omega (arith, h))) e
 
 -- what holds of all of a group holds of what is found
-pub holds-at : (P : Block → Type 0) (bs : List Block) (k : ℕ) (r : Option (Bor NumberedBlock)) → All P bs → option_map (λ b. seen b.now) r ≡ slice_get bs k →
+pub holds-at : (P : Block → Type 0) (bs : List Block) (k : ℕ) (r : Option (Bor NumberedBlock)) → All P bs →
+    option_map (λ b. seen b.now) r ≡ slice_get bs k →
     MatchOption r ⊤ (λ b. P (seen b.now))
 holds-at P bs k None all e = tt
 holds-at P bs k (Some b) all e = all-get P bs k (seen b.now) all (sym e)
 
 -- the row of an output, with a system inside or without
-pub with-system : (blocks : List Block) (b : Block) (o : Option SectionTree) (output : ℕ) → is_some o ≡ true → outport_of blocks b.number output ≡ output_row blocks b o output
+pub with-system : (blocks : List Block) (b : Block) (o : Option SectionTree) (output : ℕ) → is_some o ≡ true →
+    outport_of blocks b.number output ≡ output_row blocks b o output
 with-system blocks b None output is = absurd cc
 with-system blocks b (Some s) output is = refl
 
-pub without-system : (blocks : List Block) (b : Block) (o : Option SectionTree) (output : ℕ) → is_some o ≡ false → Some b.number ≡ output_row blocks b o output
+pub without-system : (blocks : List Block) (b : Block) (o : Option SectionTree) (output : ℕ) → is_some o ≡ false →
+    Some b.number ≡ output_row blocks b o output
 without-system blocks b None output is = refl
 without-system blocks b (Some s) output is = absurd cc

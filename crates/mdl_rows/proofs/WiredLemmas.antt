@@ -35,7 +35,8 @@ system-wired m s None is none = absurd (some-none (system_refusal m s) is none)
     some-none None is none = cc
     some-none (Some r) is none = cc
 
-inner-wired : (m : Model) (b : Block) (o : Option SectionTree) (w : Option Wiring) → system_in (kind_of b) ≡ o → IsInnerWired m b w → inner_refusal m b ≡ None →
+inner-wired : (m : Model) (b : Block) (o : Option SectionTree) (w : Option Wiring) → system_in (kind_of b) ≡ o →
+    IsInnerWired m b w → inner_refusal m b ≡ None →
     IsWired m (Some b.number) (items_inside b) w
 inner-wired m b None w e is none =
     let inner = ap (option_map (λ (section : SectionTree). record { row = Some b.number; items = section.items })) e in
@@ -43,7 +44,8 @@ inner-wired m b None w e is none =
     subst (IsWired m (Some b.number) (items_inside b)) (sym no) (ap (λ s. option_map_or (λ (section : SectionTree). section.items) s End) e)
 inner-wired m b (Some section) w e is none =
     let s : System = record { row = Some b.number; items = section.items } in
-    let inner : inner_system b ≡ Some s = ap (option_map (λ (section : SectionTree). record { row = Some b.number; items = section.items })) e in
+    let inner : inner_system b ≡ Some s =
+    ap (option_map (λ (section : SectionTree). record { row = Some b.number; items = section.items })) e in
     let items : items_inside b ≡ section.items = ap (λ s. option_map_or (λ (section : SectionTree). section.items) s End) e in
     subst (λ is. IsWired m (Some b.number) is w) (sym items)
     (system-wired m s w (subst (λ s. MatchOption s (w ≡ None) (λ s. IsSystemWired m s w)) inner is)
@@ -57,7 +59,8 @@ zip-index R (x ∷ xs) (y ∷ ys) zero d all h = (y, refl, all.0)
 zip-index R (x ∷ xs) (y ∷ ys) (suc k) d all h = zip-index R xs ys k d all.1 (omega arith)
 
 -- the wiring of a system that is there
-pub wired : (m : Model) (w : Wirings) (o : Option ℕ) → AreBlocks m.blocks → AreWiringsOf m w → systems_refusal m ≡ None → IsThere (length m.blocks) o → Block →
+pub wired : (m : Model) (w : Wirings) (o : Option ℕ) → AreBlocks m.blocks → AreWiringsOf m w →
+    systems_refusal m ≡ None → IsThere (length m.blocks) o → Block →
     IsWired m o (items_of m o) (wiring_of w o)
 wired m w None blocks are none there d = system-wired m (root_system m) w.root are.root (none-left _ _ none)
 wired m w (Some e) blocks are none there d =
@@ -88,17 +91,21 @@ owner-of blocks b are among =
     subst (λ (x : Block). IsThere (length blocks) x.owner) (index-is blocks b.number b among) (are.owners b.number b h)
 
 -- a block reads from what its system's wiring says
-pub sources-some : (m : Model) (w : Wirings) (b : Block) (wiring : Wiring) → AreBlocks m.blocks → AreWiringsOf m w → systems_refusal m ≡ None → IsAmong m.blocks b →
+pub sources-some : (m : Model) (w : Wirings) (b : Block) (wiring : Wiring) → AreBlocks m.blocks → AreWiringsOf m w →
+    systems_refusal m ≡ None → IsAmong m.blocks b →
     wiring_of w b.owner ≡ Some wiring → slice_index_or (wiring_seen wiring) (place_of m.blocks b) [] ≡ block_sources m b
 sources-some m w b wiring blocks are none among e =
     let is = subst (IsWired m b.owner (items_of m b.owner)) e (wired m w b.owner blocks are none (owner-of m.blocks b blocks among) b) in
     sources-of-block m b (ends_in (members_of m.blocks b.owner) (items_of m b.owner)) (wiring_seen wiring) among refl is
 
 -- and from nothing where it has none
-pub sources-none : (m : Model) (w : Wirings) (b : Block) → AreBlocks m.blocks → AreWiringsOf m w → systems_refusal m ≡ None → IsAmong m.blocks b →
+pub sources-none : (m : Model) (w : Wirings) (b : Block) → AreBlocks m.blocks → AreWiringsOf m w →
+    systems_refusal m ≡ None → IsAmong m.blocks b →
     wiring_of w b.owner ≡ None → block_sources m b ≡ []
 sources-none m w b blocks are none among e =
-    let items : items_of m b.owner ≡ End = subst (IsWired m b.owner (items_of m b.owner)) e (wired m w b.owner blocks are none (owner-of m.blocks b blocks among) b) in
+    let items : items_of m b.owner ≡ End =
+    subst (IsWired m b.owner (items_of m b.owner)) e
+    (wired m w b.owner blocks are none (owner-of m.blocks b blocks among) b) in
     ap (λ is. sources_of (ends_in (members_of m.blocks b.owner) is) (place_of m.blocks b) (member_of m.blocks b)) items
     ∙ no-sources (place_of m.blocks b) (member_of m.blocks b)
 
@@ -111,4 +118,6 @@ place-at blocks places b d is among =
 
 -- the system of a block is there
 pub owner-there : (m : ModelBlocks) (b : Block) → IsModel m → IsAmong (all_seen m.blocks.items) b → IsThere (block_count m) b.owner
-owner-there m b is among = subst (λ n. IsThere n b.owner) (length-map m.blocks.items seen) (owner-of (all_seen m.blocks.items) b is.blocks among)
+owner-there m b is among =
+    subst (λ n. IsThere n b.owner) (length-map m.blocks.items seen)
+    (owner-of (all_seen m.blocks.items) b is.blocks among)

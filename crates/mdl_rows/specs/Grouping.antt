@@ -17,6 +17,7 @@ with_block b o own = if same_system b.owner o then own ++ b ∷ [] else own
 
 -- one block is taken
 pub record Takes (old new : Groups) (b : Block) : Type 0 where
-  pub groups : (o : Option ℕ) → all_seen (group_of new o) ≡ with_block b o (all_seen (group_of old o))
+  pub groups : (o : Option ℕ) →
+      all_seen (group_of new o) ≡ with_block b o (all_seen (group_of old o))
   pub count : length new.inner.items ≡ length old.inner.items
   pub places : new.places.items ≡ old.places.items ++ length (group_of old b.owner) ∷ []

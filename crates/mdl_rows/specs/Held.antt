@@ -27,7 +27,8 @@ use Rattle.mdl_rows.specs.Refusals.{system_refusal}
 -- blocks as they were read, numbered from n on
 abbrev pub numbered_from : (n : ℕ) → List PlacedBlock → List Block
 numbered_from n [] = []
-numbered_from n (b ∷ rest) = record { number = n; owner = b.owner; text = block_text b.block } ∷ numbered_from (suc n) rest
+numbered_from n (b ∷ rest) =
+    record { number = n; owner = b.owner; text = block_text b.block } ∷ numbered_from (suc n) rest
 
 -- the model of this System with these blocks
 abbrev pub model_seen : SectionTree → List PlacedBlock → Model
@@ -69,7 +70,8 @@ group_of g (Some e) = option_map_or (λ own. own.items) (slice_get g.inner.items
 
 -- the blocks of each system
 pub record AreGroupsOf (blocks : List Block) (g : Groups) : Type 0 where
-  pub groups : (o : Option ℕ) → IsThere (length blocks) o → all_seen (group_of g o) ≡ blocks_of blocks o
+  pub groups : (o : Option ℕ) → IsThere (length blocks) o →
+      all_seen (group_of g o) ≡ blocks_of blocks o
   pub count : length g.inner.items ≡ length blocks
   pub places : g.places.items ≡ map (place_of blocks) blocks
 
@@ -82,7 +84,8 @@ pub record Port : Type 0 where
 
 -- a block as an Outport, if it is one
 abbrev pub port_of : Block → Option Port
-port_of b = option_map (λ port. record { port = port; number = b.number }) (outport_number (kind_of b))
+port_of b =
+    option_map (λ port. record { port = port; number = b.number }) (outport_number (kind_of b))
 
 -- the Outports among these blocks
 abbrev pub outports_among : List Block → List Port
@@ -105,14 +108,17 @@ pub record IsInteriorOf (own : List Block) (i : Interior) : Type 0 where
 
 -- the same of each block
 abbrev pub AreInteriorsOf : List Block → List Interior → Type 0
-AreInteriorsOf blocks interiors = AllZip (λ (b : Block). IsInteriorOf (blocks_of blocks (Some b.number))) blocks interiors
+AreInteriorsOf blocks interiors =
+    AllZip (λ (b : Block). IsInteriorOf (blocks_of blocks (Some b.number))) blocks interiors
 
 -- ---- Wirings
 
 -- where the inputs of a system's blocks read from; nothing is said of a system that is refused
 abbrev pub IsSystemWired : Model → System → Option Wiring → Type 0
 IsSystemWired m s None = is_some (system_refusal m s) ≡ true
-IsSystemWired m s (Some w) = wiring_seen w ≡ sources_from (ends_in (members_of m.blocks s.row) s.items) 0 (members_of m.blocks s.row)
+IsSystemWired m s (Some w) =
+    wiring_seen w ≡ sources_from (ends_in (members_of m.blocks s.row) s.items) 0
+    (members_of m.blocks s.row)
 
 -- the same of the system inside a block
 abbrev pub IsInnerWired : Model → Block → Option Wiring → Type 0

@@ -117,14 +117,16 @@ inside_among own = record {
   trigger = is_some (first_that edge_waited own);
 }
 
--- a control by whether an enable resets the states, if there is one, and what a trigger waits for, if there is one
+-- a control by whether an enable resets the states, if there is one, and what a trigger waits for,
+-- if there is one
 abbrev pub control_by : Option Bool → Option Edge → Control
 control_by None None = Plain
 control_by (Some reset) None = Enabled reset
 control_by None (Some edge) = Triggered edge
 control_by (Some reset) (Some edge) = Both reset edge
 
--- how a subsystem with these blocks is controlled, by the first EnablePort and the first TriggerPort among them
+-- how a subsystem with these blocks is controlled, by the first EnablePort and the first
+-- TriggerPort among them
 abbrev pub control_among : List Block → Control
 control_among own = control_by (first_that states_reset own) (first_that edge_waited own)
 

@@ -10,8 +10,8 @@ use Rattle.mc_diagram.specs.Rows.{same_system}
 use Rattle.mdl_systems.specs.Outlines.{Outline, outlines_of}
 use Rattle.mdl_systems.specs.Refusals.{read}
 
--- A block: its number in the order of the file, from 0; the number of the subsystem block around it, none in the root; and
--- what it says.
+-- A block: its number in the order of the file, from 0; the number of the subsystem block around
+-- it, none in the root; and what it says.
 pub record Block : Type 0 where
   pub number : ℕ
   pub owner : Option ℕ
@@ -28,11 +28,15 @@ kind_of b = b.text.body.kind
 
 -- a block that can be read
 abbrev pub block_read : DefaultTexts → Outline → Option Block
-block_read defaults b = option_map (λ text. record { number = b.number; owner = b.owner; text = text }) (result_ok (read defaults b))
+block_read defaults b =
+    option_map (λ text. record { number = b.number; owner = b.owner; text = text })
+    (result_ok (read defaults b))
 
--- a model with these defaults and this System; of one whose blocks are refused those that can be read
+-- a model with these defaults and this System; of one whose blocks are refused those that can be
+-- read
 abbrev pub model_with : DefaultTexts → SectionTree → Model
-model_with defaults system = record { root = system; blocks = filter_map (block_read defaults) (outlines_of system) }
+model_with defaults system =
+    record { root = system; blocks = filter_map (block_read defaults) (outlines_of system) }
 
 -- the blocks of a system, in the order of the file: of the subsystem block e, or of the root
 abbrev pub blocks_of : List Block → Option ℕ → List Block
@@ -73,7 +77,9 @@ root_system m = record { row = None; items = m.root.items }
 
 -- the system inside a block, if it is a subsystem
 abbrev pub inner_system : Block → Option System
-inner_system b = option_map (λ (section : SectionTree). record { row = Some b.number; items = section.items }) (system_in (kind_of b))
+inner_system b =
+    option_map (λ (section : SectionTree). record { row = Some b.number; items = section.items })
+    (system_in (kind_of b))
 
 -- the systems of a model: the root, then those inside its blocks
 abbrev pub systems_of : Model → List System
@@ -81,7 +87,8 @@ systems_of m = root_system m ∷ filter_map inner_system m.blocks
 
 -- the items of the System inside a block, none where it is no subsystem
 abbrev pub items_inside : Block → Items
-items_inside b = option_map_or (λ (section : SectionTree). section.items) (system_in (kind_of b)) End
+items_inside b =
+    option_map_or (λ (section : SectionTree). section.items) (system_in (kind_of b)) End
 
 -- the items of a system's System
 abbrev pub items_of : Model → Option ℕ → Items

@@ -14,7 +14,8 @@ use Rattle.mdl_rows.specs.Models.{Block, Model, System, systems_of, model_with}
 use Rattle.mdl_rows.specs.Wires.{members_of}
 use Rattle.mdl_rows.specs.RowTexts.{row_fault}
 
--- the first refusal that is found in some items: that of the least number, and of these that with the least line
+-- the first refusal that is found in some items: that of the least number, and of these that with
+-- the least line
 abbrev pub first_in : {A : Type 0} → (A → Option PlainRefusal) → List A → Option PlainRefusal
 first_in found [] = None
 first_in found (a ∷ rest) = first_of (found a) (first_in found rest)
@@ -44,7 +45,8 @@ defaults_of model = kinds_of (default_blocks model.section.items)
 -- the first refusal of a model of a file
 abbrev pub found_refusal : found.Model → Option PlainRefusal
 found_refusal model =
-    first_there (model_refusal (defaults_of model) model.system ∷ rows_refusal (model_with (defaults_of model) model.system) ∷ [])
+    first_there (model_refusal (defaults_of model) model.system
+    ∷ rows_refusal (model_with (defaults_of model) model.system) ∷ [])
 
 -- the first refusal of a file, given what model it has
 abbrev pub refusal_by : Result found.Model PlainRefusal → Option PlainRefusal

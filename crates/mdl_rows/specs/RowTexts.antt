@@ -31,24 +31,30 @@ IsTime zero_time time = ⊥
 -- a block of this kind, with this control where it is a subsystem, has a row of this kind
 abbrev pub IsKind : KindText → Control → Kind → Type 0
 IsKind (inport port) control k = k ≡ row.Inport port
-IsKind (outport port reset initial) control k = (d : Decimal) × (ratio_of d ≡ initial) × (k ≡ row.Outport port reset d)
+IsKind (outport port reset initial) control k =
+    (d : Decimal) × (ratio_of d ≡ initial) × (k ≡ row.Outport port reset d)
 IsKind (subsystem system) control k = k ≡ row.SubSystem control
 IsKind (constant said) control k = (d : Decimal) × (ratio_of d ≡ said.value) × (k ≡ row.Constant d)
 IsKind ground control k = k ≡ row.Ground
 IsKind terminator control k = k ≡ row.Terminator
 IsKind (gain factor factor_type how) control k =
-    (d : Decimal) × (type : TypeText) × (ratio_of d ≡ factor) × IsType factor_type type × (k ≡ row.Gain (gain_with d type) how)
+    (d : Decimal) × (type : TypeText) × (ratio_of d ≡ factor) × IsType factor_type type
+    × (k ≡ row.Gain (gain_with d type) how)
 IsKind (sum count minus how) control k = k ≡ row.Sum count minus how
 IsKind (product count how) control k = k ≡ row.Product count how
-IsKind (unit_delay initial) control k = (d : Decimal) × (ratio_of d ≡ initial) × (k ≡ row.UnitDelay d)
-IsKind (delay length initial) control k = (d : Decimal) × (ratio_of d ≡ initial) × (k ≡ row.Delay length d)
+IsKind (unit_delay initial) control k =
+    (d : Decimal) × (ratio_of d ≡ initial) × (k ≡ row.UnitDelay d)
+IsKind (delay length initial) control k =
+    (d : Decimal) × (ratio_of d ≡ initial) × (k ≡ row.Delay length d)
 IsKind zero_order_hold control k = k ≡ row.ZeroOrderHold
-IsKind (switch criterion threshold how) control k = (d : Decimal) × (ratio_of d ≡ threshold) × (k ≡ row.Switch criterion d how)
+IsKind (switch criterion threshold how) control k =
+    (d : Decimal) × (ratio_of d ≡ threshold) × (k ≡ row.Switch criterion d how)
 IsKind (relational comparison) control k = k ≡ row.Relational comparison
 IsKind (logic op count) control k = k ≡ row.Logic op count
 IsKind (convert how) control k = k ≡ row.Convert how
 IsKind (rate_transition initial out) control k =
-    (d : Decimal) × (time : TimeText) × (ratio_of d ≡ initial) × IsTime out time × (k ≡ row.RateTransition d time)
+    (d : Decimal) × (time : TimeText) × (ratio_of d ≡ initial) × IsTime out time
+    × (k ≡ row.RateTransition d time)
 IsKind (enable_port reset) control k = k ≡ row.EnablePort
 IsKind (trigger_port edge) control k = k ≡ row.TriggerPort
 
@@ -94,7 +100,8 @@ has_zero_output (convert how) = false
 has_zero_output (enable_port reset) = false
 has_zero_output (trigger_port edge) = false
 
--- whether a block of this kind, for whose output this type is written, has a factor or a value of a floating-point type
+-- whether a block of this kind, for whose output this type is written, has a factor or a value of a
+-- floating-point type
 abbrev pub has_float_parameter : TypeSaid → KindText → Bool
 has_float_parameter type (constant said) = is_inherited type && not said.is_truth
 has_float_parameter type (gain factor factor_type how) = is_float factor_type

@@ -92,7 +92,8 @@ impl<'m, 'a> ModelBlocks<'m, 'a> {
     ) -> Result<Vec<Member<'a>>, Memory>
         requires model { IsModel self.now }
         requires among { All (IsAmong (model_of self.now).blocks) (all_seen own.now) }
-        ensures { IfOk result (λ v. members_seen v.items ≡ map (member_of (model_of self.now).blocks) (all_seen own.now)) }
+        ensures { IfOk result (λ v. members_seen v.items
+            ≡ map (member_of (model_of self.now).blocks) (all_seen own.now)) }
     {
         let mut members = Vec::with_capacity(alloc, own.len())?;
         for block in own {

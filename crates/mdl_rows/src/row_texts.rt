@@ -43,7 +43,8 @@ struct RowFound {
 /// The row of a block, with this control where it is a subsystem.
 fn row_found(block: &NumberedBlock, control: Control) -> RowFound
     ensures refusal { as_plain result.refusal ≡ row_refusal (seen block.now) }
-    ensures text { MatchOption result.text (is_some (row_refusal (seen block.now)) ≡ true) (IsRowText control (seen block.now)) }
+    ensures text { MatchOption result.text (is_some (row_refusal (seen block.now)) ≡ true)
+        (IsRowText control (seen block.now)) }
 {
     match row_text(&block.block.body, control) {
         Ok(text) => RowFound {
@@ -61,7 +62,9 @@ fn row_found(block: &NumberedBlock, control: Control) -> RowFound
 pub(crate) fn row_texts(alloc: Global, model: &ModelBlocks) -> Result<RowTexts, Memory>
     requires { IsModel model.now }
     ensures refusal { IfOk result (λ r. as_plain r.refusal ≡ first_in row_refusal (model_of model.now).blocks) }
-    ensures texts { IfOk result (λ r. as_plain r.refusal ≡ None → AllZip (λ (b : Block). IsRowText (control_of (model_of model.now).blocks b.number) b) (model_of model.now).blocks r.texts.items) }
+    ensures texts { IfOk result (λ r. as_plain r.refusal ≡ None →
+        AllZip (λ (b : Block). IsRowText (control_of (model_of model.now).blocks b.number) b)
+        (model_of model.now).blocks r.texts.items) }
 {
     let mut refusal = None;
     let mut texts = Vec::with_capacity(alloc, model.blocks.len())?;

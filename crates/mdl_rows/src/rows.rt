@@ -28,7 +28,8 @@ fn row_of(
     requires among { IsAmong (model_of model.now).blocks (seen block.now) }
     requires wirings { AreWiringsOf (model_of model.now) wirings.now }
     requires accepted { systems_refusal (model_of model.now) ≡ None }
-    requires text { IsRowText (control_of (model_of model.now).blocks block.now.number) (seen block.now) text }
+    requires text { IsRowText (control_of (model_of model.now).blocks block.now.number)
+        (seen block.now) text }
     ensures { IfOk result (IsRowOf (model_of model.now) (seen block.now)) }
 {
     Ok(Row {
@@ -54,7 +55,8 @@ pub(crate) fn rows_with(
     requires model { IsModel model.now }
     requires wirings { AreWiringsOf (model_of model.now) wirings.now }
     requires accepted { systems_refusal (model_of model.now) ≡ None }
-    requires texts { AllZip (λ (b : Block). IsRowText (control_of (model_of model.now).blocks b.number) b) (model_of model.now).blocks texts.now }
+    requires texts { AllZip (λ (b : Block). IsRowText (control_of (model_of model.now).blocks b.number) b)
+        (model_of model.now).blocks texts.now }
     ensures { IfOk result (λ v. AreRowsOf (model_of model.now) v.items) }
 {
     let mut rows = Vec::with_capacity(alloc, model.blocks.len())?;

@@ -27,9 +27,11 @@ pub fn rows_of(
 ) -> Result<Vec<Row>, BuildFault>
     requires blocks { AreBlocks (numbered_from 0 blocks.now) }
     requires at_most { length blocks.now < 2 ^ 32 }
-    ensures accepted { OnOk result (rows_refusal (model_seen (section_tree system.now) blocks.now) ≡ None) }
+    ensures accepted { OnOk result (rows_refusal (model_seen (section_tree system.now) blocks.now)
+        ≡ None) }
     ensures rows { IfOk result (λ v. AreRowsOf (model_seen (section_tree system.now) blocks.now) v.items) }
-    ensures fault { IfErr result (IsFaultBy (rows_refusal (model_seen (section_tree system.now) blocks.now))) }
+    ensures fault { IfErr result
+        (IsFaultBy (rows_refusal (model_seen (section_tree system.now) blocks.now))) }
 {
     let model = model_of(alloc, system, blocks)?;
     let SystemsWired { refusal, wirings } = systems_wired(alloc, &model)?;

@@ -38,7 +38,8 @@ fn own_block<'b, 'a>(
 ) -> Option<&'b NumberedBlock<'a>>
     requires model { IsModel model.now }
     requires owner { IsThere (block_count model.now) owner }
-    ensures block { option_map (λ b. seen b.now) result ≡ slice_get (blocks_of (model_of model.now).blocks owner) member }
+    ensures block { option_map (λ b. seen b.now) result
+        ≡ slice_get (blocks_of (model_of model.now).blocks owner) member }
     ensures among { MatchOption result ⊤ (λ b. IsAmong (model_of model.now).blocks (seen b.now)) }
 {
     model.groups.of(owner).get(member)
@@ -55,7 +56,8 @@ fn has_system(kind: &BlockKind) -> bool
 fn output_row(model: &ModelBlocks, block: &NumberedBlock, output: u32) -> Option<u32>
     requires model { IsModel model.now }
     requires among { IsAmong (model_of model.now).blocks (seen block.now) }
-    ensures { result ≡ wires.output_row (model_of model.now).blocks (seen block.now) (system_in (kind_of (seen block.now))) output }
+    ensures { result ≡ wires.output_row (model_of model.now).blocks (seen block.now)
+        (system_in (kind_of (seen block.now))) output }
 {
     if has_system(&block.block.body.kind) {
         model.outport(block.number, output)
@@ -83,7 +85,8 @@ fn source_rows(
 ) -> Result<Vec<u32>, Memory>
     requires model { IsModel model.now }
     requires owner { IsThere (block_count model.now) owner }
-    ensures { IfOk result (λ v. v.items ≡ wires.source_rows (model_of model.now).blocks owner sources.now) }
+    ensures { IfOk result (λ v. v.items
+        ≡ wires.source_rows (model_of model.now).blocks owner sources.now) }
 {
     let mut rows = Vec::new(alloc);
     for source in sources {

@@ -60,7 +60,9 @@ fn system_wired(
 ) -> Result<SystemWired, Memory>
     requires model { IsModel model.now }
     requires row { IsThere (wired.block_count model.now) row }
-    ensures { IfOk result (λ found. wired.IsFound (model_of model.now) (record { row = row; items = (section_tree section.now).items }) found) }
+    ensures { IfOk result
+        (λ found. wired.IsFound (model_of model.now)
+        (record { row = row; items = (section_tree section.now).items }) found) }
 {
     let members = model.members(alloc, model.groups.of(row))?;
     match wire(alloc, members.as_slice(), section, row.is_none()) {

@@ -64,12 +64,15 @@ held-none z from false xs none out = refl
 pub count-block : (start : ℕ) (owner : Option ℕ) (depth : ℕ) (peers : Peers) (section : SectionTree) (rest : Items) →
     bytes_eq section.name (codes "Block") ≡ true →
     length (outlines_in start owner depth peers (Section section.name section.line section.items rest))
-    ≡ suc (length (blocks_held start depth section.items) + length (outlines_in (start + suc (length (blocks_held start depth section.items))) owner depth peers rest))
+    ≡ suc (length (blocks_held start depth section.items)
+    + length (outlines_in (start + suc (length (blocks_held start depth section.items))) owner depth peers rest))
 count-block start owner depth peers section rest e =
     ap length (outlines-block start owner depth peers section.name section.line section.items rest e)
-    ∙ ap suc (length-append (blocks_held start depth section.items) (outlines_in (start + suc (length (blocks_held start depth section.items))) owner depth peers rest))
+    ∙ ap suc (length-append (blocks_held start depth section.items)
+    (outlines_in (start + suc (length (blocks_held start depth section.items))) owner depth peers rest))
 
-none-section : (z : Option ℕ) (start : ℕ) (owner : Option ℕ) (depth : ℕ) (peers : Peers) (section : SectionTree) (rest : Items) (t : Bool) → bytes_eq section.name (codes "Block") ≡ t →
+none-section : (z : Option ℕ) (start : ℕ) (owner : Option ℕ) (depth : ℕ) (peers : Peers) (section : SectionTree)
+    (rest : Items) (t : Bool) → bytes_eq section.name (codes "Block") ≡ t →
     same_system owner z ≡ false →
     (same_system (Some start) z ≡ false → IsOut z (start + 1) (length (outlines_inside start (depth + 1) section.items)) →
     of_owner z (outlines_inside start (depth + 1) section.items) ≡ []) →
@@ -81,7 +84,8 @@ none-section z start owner depth peers section rest true e apart inside after ou
     let more = outlines_in (start + suc (length held)) owner depth peers rest in
     let block : Outline = record { number = start; owner = owner; depth = depth; peers = peers; section = section } in
     let counted = count-block start owner depth peers section rest e in
-    let here : same_system (Some start) z ≡ false = not-here start z (λ same. let h = out start same (omega arith) in omega (arith, h, counted)) in
+    let here : same_system (Some start) z ≡ false =
+    not-here start z (λ same. let h = out start same (omega arith) in omega (arith, h, counted)) in
     ap (of_owner z) (outlines-block start owner depth peers section.name section.line section.items rest e)
     ∙ skip z block (held ++ more) apart ∙ of-append z held more
     ∙ ap₂ (λ xs ys. xs ++ ys)
@@ -111,7 +115,8 @@ mutual
   none-owned z start owner depth peers End apart out = refl
   none-owned z start owner depth peers (Param name value line rest) apart out = none-owned z start owner depth peers rest apart out
   none-owned z start owner depth peers (Section name line items rest) apart out =
-      none-section z start owner depth peers (record { name = name; line = line; items = items }) rest (bytes_eq name (codes "Block")) refl apart
+      none-section z start owner depth peers (record { name = name; line = line; items = items }) rest
+      (bytes_eq name (codes "Block")) refl apart
       (none-inside z start (depth + 1) items) (λ n. none-owned z n owner depth peers rest apart) out
 
   none-inside : (z : Option ℕ) (e depth : ℕ) (items : Items) → same_system (Some e) z ≡ false →
@@ -126,7 +131,8 @@ mutual
 pub none-held : (z : Option ℕ) (start depth : ℕ) (items : Items) → same_system (Some start) z ≡ false →
     IsOut z (start + 1) (length (blocks_held start depth items)) → of_owner z (blocks_held start depth items) ≡ []
 none-held z start depth items apart out =
-    held-none z (start + 1) (writes_type SubSystem items) (outlines_inside start (depth + 1) items) (none-inside z start (depth + 1) items apart) out
+    held-none z (start + 1) (writes_type SubSystem items) (outlines_inside start (depth + 1) items)
+    (none-inside z start (depth + 1) items apart) out
 
 -- ---- The blocks of a System's items whose owner is that system
 

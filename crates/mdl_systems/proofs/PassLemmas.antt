@@ -15,7 +15,8 @@ items-from show xs i d h =
     ap (map show) (drop-cons xs i d h) ∙ ap (λ k. show (slice_index_or xs i d) ∷ map show (drop k xs)) (one_more i)
 
 -- one item more is looked at
-pub least-at : {A B : Type 0} (found : B → Option PlainRefusal) (show : A → B) (xs : List A) (i : ℕ) (d : A) (before now whole : Option PlainRefusal) → i < length xs →
+pub least-at : {A B : Type 0} (found : B → Option PlainRefusal) (show : A → B) (xs : List A) (i : ℕ) (d : A)
+    (before now whole : Option PlainRefusal) → i < length xs →
     now ≡ earlier_of before (found (show (slice_index_or xs i d))) →
     earlier_of before (least_in found (map show (drop i xs))) ≡ whole → earlier_of now (least_in found (map show (drop (i + 1) xs))) ≡ whole
 least-at found show xs i d before now whole h e all =
@@ -24,7 +25,8 @@ least-at found show xs i d before now whole h e all =
     ∙ ap (λ ys. earlier_of before (least_in found ys)) (sym (items-from show xs i d h)) ∙ all
 
 -- all are looked at
-pub least-end : {A B : Type 0} (found : B → Option PlainRefusal) (show : A → B) (xs : List A) (i : ℕ) (before whole : Option PlainRefusal) → length xs ≤ i →
+pub least-end : {A B : Type 0} (found : B → Option PlainRefusal) (show : A → B) (xs : List A) (i : ℕ)
+    (before whole : Option PlainRefusal) → length xs ≤ i →
     earlier_of before (least_in found (map show (drop i xs))) ≡ whole → before ≡ whole
 least-end found show xs i before whole h all =
     sym (earlier-none before) ∙ ap (λ ys. earlier_of before (least_in found (map show ys))) (sym (drop_of_length-le xs h)) ∙ all

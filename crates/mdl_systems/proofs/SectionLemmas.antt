@@ -20,13 +20,15 @@ named-item wanted (Section' name line shape items) rest = by (bytes_eq name want
     section : SectionTree
     section = record { name = name; line = line; items = with_row items }
 
-    by : (t : Bool) → cond t (section ∷ sections_named wanted rest) (sections_named wanted rest) ≡ cond t (section ∷ []) [] ++ sections_named wanted rest
+    by : (t : Bool) → cond t (section ∷ sections_named wanted rest) (sections_named wanted rest) ≡ cond t (section ∷ [])
+        [] ++ sections_named wanted rest
     by true = refl
     by false = refl
 
 -- the sections from one place on
 pub named-from : (wanted : List ℕ) (items : List Item) (i : ℕ) (item : Item) → i < length items → item ≡ slice_index_or items i item →
-    sections_named wanted (items_of (drop i items)) ≡ sections_named wanted (item_alone item) ++ sections_named wanted (items_of (drop (i + 1) items))
+    sections_named wanted (items_of (drop i items)) ≡ sections_named wanted (item_alone item)
+    ++ sections_named wanted (items_of (drop (i + 1) items))
 named-from wanted items i item h e =
     ap (sections_named wanted) (items_from items i item h e) ∙ named-item wanted item (items_of (drop (i + 1) items))
 

@@ -12,4 +12,5 @@ GiveTheSame defaults other = (kind : List ℕ) → beside kind defaults ≡ besi
 -- a block says the same by defaults that give the same
 abbrev pub ReadingIsByDefaults : Type 0
 ReadingIsByDefaults =
-    (defaults other : DefaultTexts) → GiveTheSame defaults other → (b : Outline) → read defaults b ≡ read other b
+    (defaults other : DefaultTexts) → GiveTheSame defaults other → (b : Outline) →
+    read defaults b ≡ read other b

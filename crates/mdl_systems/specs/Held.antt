@@ -14,7 +14,14 @@ use Rattle.mdl_systems.specs.Outlines.{Outline, outlines_inside}
 
 -- a block in memory as a plain one
 abbrev pub seen : held.Outline → Outline
-seen b = record { number = b.number; owner = b.owner; depth = b.depth; peers = b.peers; section = section_tree b.section.now }
+seen b =
+    record {
+      number = b.number;
+      owner = b.owner;
+      depth = b.depth;
+      peers = b.peers;
+      section = section_tree b.section.now;
+    }
 
 -- the same of all in a list
 abbrev pub all_seen : List held.Outline → List Outline
@@ -30,7 +37,8 @@ blocks_held number depth items = elim (writes_type SubSystem items) [
 -- a block and those inside it
 abbrev pub taken : (number : ℕ) (owner : Option ℕ) (depth : ℕ) → Peers → SectionTree → List Outline
 taken number owner depth peers section =
-    record { number = number; owner = owner; depth = depth; peers = peers; section = section } ∷ blocks_held number depth section.items
+    record { number = number; owner = owner; depth = depth; peers = peers; section = section }
+    ∷ blocks_held number depth section.items
 
 -- the sections that these references lead to
 abbrev pub trees_of : List (Bor Section) → List SectionTree

@@ -8,15 +8,18 @@ use Rattle.mdl_systems.specs.Outlines.{Outline, outlines_of, is_subsystem}
 -- the number of a block is its place in the order of the file
 abbrev pub OutlinesAreNumbered : Type 0
 OutlinesAreNumbered =
-    (section : SectionTree) (k : ℕ) (b : Outline) → slice_get (outlines_of section) k ≡ Some b → b.number ≡ k
+    (section : SectionTree) (k : ℕ) (b : Outline) → slice_get (outlines_of section) k ≡ Some b →
+    b.number ≡ k
 
 -- ---- Owners
 
--- where block k with this depth and this owner stands: in the root, at depth 0, or in a subsystem before it, one level deeper
+-- where block k with this depth and this owner stands: in the root, at depth 0, or in a subsystem
+-- before it, one level deeper
 abbrev pub StandsIn : List Outline → (k depth : ℕ) → (owner : Option ℕ) → Type 0
 StandsIn blocks k depth None = depth ≡ 0
 StandsIn blocks k depth (Some e) =
-    (e < k) × ((c : Outline) × (slice_get blocks e ≡ Some c) × (is_subsystem c ≡ true) × (depth ≡ c.depth + 1))
+    (e < k) × ((c : Outline) × (slice_get blocks e ≡ Some c) × (is_subsystem c ≡ true)
+    × (depth ≡ c.depth + 1))
 
 -- so it is with each block of a model
 abbrev pub OwnersAreBefore : Type 0
@@ -48,8 +51,10 @@ FollowsBlock blocks b (Some e) = Contains (b.number ∷ owners_around blocks b) 
 -- behind a block come the blocks inside it, or the next block of a system around it
 abbrev pub OutlinesAreInPreorder : Type 0
 OutlinesAreInPreorder =
-    (section : SectionTree) (k : ℕ) (b next : Outline) → slice_get (outlines_of section) k ≡ Some b →
-    slice_get (outlines_of section) (suc k) ≡ Some next → FollowsBlock (outlines_of section) b next.owner
+    (section : SectionTree) (k : ℕ) (b next : Outline) →
+    slice_get (outlines_of section) k ≡ Some b →
+    slice_get (outlines_of section) (suc k) ≡ Some next →
+    FollowsBlock (outlines_of section) b next.owner
 
 -- the depth of a block is the number of subsystems around it
 abbrev pub DepthsAreOwnersAround : Type 0

@@ -8,8 +8,9 @@ use Rattle.mdl_blocks.specs.Peers.{writes_type, peers_in}
 
 -- ---- Blocks
 
--- A block where it stands: its number in the order of the file, the number of the subsystem block around it, how many of
--- these are around it, how many Inports and Outports its system has, and its section.
+-- A block where it stands: its number in the order of the file, the number of the subsystem block
+-- around it, how many of these are around it, how many Inports and Outports its system has, and its
+-- section.
 pub record Outline : Type 0 where
   pub number : ℕ
   pub owner : Option ℕ
@@ -21,18 +22,27 @@ abbrev mutual
   -- the blocks of a System's items, numbered from next on, each before the blocks inside it
   pub outlines_in : (next : ℕ) (owner : Option ℕ) (depth : ℕ) → Peers → Items → List Outline
   outlines_in next owner depth peers End = []
-  outlines_in next owner depth peers (Param name value line rest) = outlines_in next owner depth peers rest
-  outlines_in next owner depth peers (Section name line items rest) = elim (bytes_eq name (codes "Block")) [
-    | true ↦
-        let section : SectionTree = record { name = name; line = line; items = items } in
-        let block : Outline = record { number = next; owner = owner; depth = depth; peers = peers; section = section } in
-        let inside : List Outline = elim (writes_type SubSystem items) [
-          | true ↦ outlines_inside next (depth + 1) items
-          | false ↦ []
-        ] in
-        block ∷ inside ++ outlines_in (next + 1 + length inside) owner depth peers rest
-    | false ↦ outlines_in next owner depth peers rest
-  ]
+  outlines_in next owner depth peers (Param name value line rest) =
+      outlines_in next owner depth peers rest
+  outlines_in next owner depth peers (Section name line items rest) =
+      elim (bytes_eq name (codes "Block")) [
+        | true ↦
+            let section : SectionTree = record { name = name; line = line; items = items } in
+            let block : Outline =
+            record {
+              number = next;
+              owner = owner;
+              depth = depth;
+              peers = peers;
+              section = section;
+            } in
+            let inside : List Outline = elim (writes_type SubSystem items) [
+              | true ↦ outlines_inside next (depth + 1) items
+              | false ↦ []
+            ] in
+            block ∷ inside ++ outlines_in (next + 1 + length inside) owner depth peers rest
+        | false ↦ outlines_in next owner depth peers rest
+      ]
 
   -- the blocks inside the subsystem block e with these items: those of its first System
   pub outlines_inside : (e : ℕ) (depth : ℕ) → Items → List Outline
@@ -53,8 +63,8 @@ is_subsystem b = writes_type SubSystem b.section.items
 
 -- ---- Systems
 
--- A system: the number of its subsystem block, none for the root; the line of that block, or of the root's System; and its
--- items.
+-- A system: the number of its subsystem block, none for the root; the line of that block, or of the
+-- root's System; and its items.
 pub record SystemText : Type 0 where
   pub row : Option ℕ
   pub line : ℕ
@@ -71,7 +81,9 @@ inner_system b system = record { row = Some b.number; line = b.section.line; ite
 -- the system inside a block, if it is a subsystem and has one
 abbrev pub systems_inside : Outline → List SystemText
 systems_inside b =
-    if is_subsystem b then map (inner_system b) (option_to_list (first_section (codes "System") b.section.items)) else []
+    if is_subsystem b
+    then map (inner_system b) (option_to_list (first_section (codes "System") b.section.items))
+    else []
 
 -- all systems of a model with this System: the root, then those inside its blocks
 abbrev pub systems_of : SectionTree → List SystemText

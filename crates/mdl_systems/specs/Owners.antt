@@ -16,7 +16,8 @@ owned_by row blocks = map (λ (b : Outline). b.number) (of_owner row blocks)
 -- in a system and in all inside it the own blocks are those of these blocks whose owner is its row
 abbrev mutual
   pub OwnByOwner : List Outline → SystemTree → Type 0
-  OwnByOwner blocks (system row line section own children) = (own ≡ owned_by row blocks) × AllOwnByOwner blocks children
+  OwnByOwner blocks (system row line section own children) =
+      (own ≡ owned_by row blocks) × AllOwnByOwner blocks children
 
   pub AllOwnByOwner : List Outline → SystemTrees → Type 0
   AllOwnByOwner blocks no_more = ⊤

@@ -22,10 +22,12 @@ use Rattle.mdl_systems.specs.Outlines.{Outline, SystemText, is_subsystem, outlin
 abbrev pub deep : Outline → Option PlainRefusal
 deep b = found_where (λ b. is_subsystem b && nat_le 32 b.depth) (λ b. TooDeep b.section.line) b
 
--- more than 20,000 blocks, at the first one too many; a count is reported as a line's number is, at most 4,294,967,295
+-- more than 20,000 blocks, at the first one too many; a count is reported as a line's number is, at
+-- most 4,294,967,295
 abbrev pub too_many_blocks : List Outline → Option PlainRefusal
 too_many_blocks blocks =
-    option_map (λ (b : Outline). TooMany b.section.line Blocks (reported_number (length blocks))) (slice_get blocks 20_000)
+    option_map (λ (b : Outline). TooMany b.section.line Blocks (reported_number (length blocks)))
+    (slice_get blocks 20_000)
 
 -- more than 32 ports of one kind in a system at this line
 abbrev pub crowd_at : (line : ℕ) → Many → (count : ℕ) → Option PlainRefusal
@@ -33,7 +35,8 @@ crowd_at line what count = if nat_lt 32 count then Some (TooMany line what count
 
 -- more than 32 Inports or Outports in a system at this line
 abbrev pub crowd_of : (line : ℕ) → Peers → Option PlainRefusal
-crowd_of line peers = earlier_of (crowd_at line Inports peers.inports) (crowd_at line Outports peers.outports)
+crowd_of line peers =
+    earlier_of (crowd_at line Inports peers.inports) (crowd_at line Outports peers.outports)
 
 -- the same of a system
 abbrev pub crowd : SystemText → Option PlainRefusal
@@ -42,7 +45,8 @@ crowd s = crowd_of s.line (peers_in s.items)
 -- the first refusal of a model with this System for how many blocks there are, and where
 abbrev pub numbers_refusal : SectionTree → Option PlainRefusal
 numbers_refusal system =
-    first_there (least_in deep (outlines_of system) ∷ too_many_blocks (outlines_of system) ∷ least_in crowd (systems_of system) ∷ [])
+    first_there (least_in deep (outlines_of system) ∷ too_many_blocks (outlines_of system)
+    ∷ least_in crowd (systems_of system) ∷ [])
 
 -- ---- Blocks
 
@@ -58,7 +62,8 @@ unread_at line (Err (fault.Parameter parameter)) = None
 unread_at line (Err fault.Continuous) = None
 unread_at line (Err fault.FloatType) = None
 
--- the refusal of a block at a line for a parameter out of form; a time or a type that may not be is told of its row, not here
+-- the refusal of a block at a line for a parameter out of form; a time or a type that may not be is
+-- told of its row, not here
 abbrev pub misformed_at : (line : ℕ) → Result BlockText Fault → Option PlainRefusal
 misformed_at line (Ok block) = None
 misformed_at line (Err fault.Unsupported) = None
@@ -81,11 +86,14 @@ newer s = newer_lines s.items
 -- the first refusal of a model with this System for its blocks and the form of its lines
 abbrev pub blocks_refusal : DefaultTexts → SectionTree → Option PlainRefusal
 blocks_refusal defaults system =
-    first_there (earlier_of (least_in (unread defaults) (outlines_of system)) (least_in newer (systems_of system))
+    first_there
+    (earlier_of (least_in (unread defaults) (outlines_of system))
+    (least_in newer (systems_of system))
     ∷ least_in (misformed defaults) (outlines_of system) ∷ [])
 
 -- ---- The first refusal
 
 -- the first refusal of a model with these defaults and this System
 abbrev pub model_refusal : DefaultTexts → SectionTree → Option PlainRefusal
-model_refusal defaults system = first_there (numbers_refusal system ∷ blocks_refusal defaults system ∷ [])
+model_refusal defaults system =
+    first_there (numbers_refusal system ∷ blocks_refusal defaults system ∷ [])

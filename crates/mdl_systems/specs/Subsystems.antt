@@ -10,7 +10,8 @@ use Rattle.mdl_systems.specs.Owners.{of_owner}
 
 -- the row of a system, its line and its items
 abbrev pub text_of : SystemTree → SystemText
-text_of (system row line section own children) = record { row = row; line = line; items = section.items }
+text_of (system row line section own children) =
+    record { row = row; line = line; items = section.items }
 
 -- the same of each system of a list
 abbrev pub texts_of : SystemTrees → List SystemText
@@ -21,7 +22,8 @@ texts_of (next child rest) = text_of child ∷ texts_of rest
 abbrev pub systems_owned : Option ℕ → List Outline → List SystemText
 systems_owned row blocks = flat_map systems_inside (of_owner row blocks)
 
--- in a system and in all inside it, the systems directly inside are those inside these blocks whose owner is its row
+-- in a system and in all inside it, the systems directly inside are those inside these blocks whose
+-- owner is its row
 abbrev mutual
   pub ChildrenByOwner : List Outline → SystemTree → Type 0
   ChildrenByOwner blocks (system row line section own children) =
@@ -29,11 +31,13 @@ abbrev mutual
 
   pub AllChildrenByOwner : List Outline → SystemTrees → Type 0
   AllChildrenByOwner blocks no_more = ⊤
-  AllChildrenByOwner blocks (next child rest) = ChildrenByOwner blocks child × AllChildrenByOwner blocks rest
+  AllChildrenByOwner blocks (next child rest) =
+      ChildrenByOwner blocks child × AllChildrenByOwner blocks rest
 
 -- so it is in each model
 abbrev pub ChildrenAreBySubsystems : Type 0
-ChildrenAreBySubsystems = (section : SectionTree) → ChildrenByOwner (outlines_of section) (tree_of_model section)
+ChildrenAreBySubsystems =
+    (section : SectionTree) → ChildrenByOwner (outlines_of section) (tree_of_model section)
 
 -- ---- Among all systems
 
@@ -48,7 +52,8 @@ RootIsFound section = system_at None (systems_of section) ≡ Some (root_system 
 -- the system with the number of a subsystem block that has one is that inside this block
 abbrev pub InnerAreFound : SectionTree → Type 0
 InnerAreFound section =
-    (k : ℕ) (b : Outline) (inside : SectionTree) → slice_get (outlines_of section) k ≡ Some b → is_subsystem b ≡ true →
+    (k : ℕ) (b : Outline) (inside : SectionTree) → slice_get (outlines_of section) k ≡ Some b →
+    is_subsystem b ≡ true →
     first_section (codes "System") b.section.items ≡ Some inside →
     system_at (Some b.number) (systems_of section) ≡ Some (inner_system b inside)
 

@@ -29,8 +29,10 @@ pub(crate) struct BlockFaults {
 impl BlockFaults {
     /// The same with the fault of one more block, at this line.
     fn with(self, line: u32, fault: Fault) -> BlockFaults
-        ensures unread { as_plain result.unread ≡ earlier_of (as_plain self.unread) (refused.unread_at line (Err fault)) }
-        ensures misformed { as_plain result.misformed ≡ earlier_of (as_plain self.misformed) (refused.misformed_at line (Err fault)) }
+        ensures unread { as_plain result.unread
+            ≡ earlier_of (as_plain self.unread) (refused.unread_at line (Err fault)) }
+        ensures misformed { as_plain result.misformed
+            ≡ earlier_of (as_plain self.misformed) (refused.misformed_at line (Err fault)) }
     {
         let refusal = Some(fault.refusal_at(line));
         match fault {
@@ -59,9 +61,12 @@ fn read_outlines<'a>(
     defaults: &'a Defaults,
     outlines: &[Outline<'a>],
 ) -> Result<BlocksRead<'a>, Memory>
-    ensures unread { IfOk result (λ r. as_plain r.faults.unread ≡ least_in (refused.unread defaults.now) (all_seen outlines.now)) }
-    ensures misformed { IfOk result (λ r. as_plain r.faults.misformed ≡ least_in (refused.misformed defaults.now) (all_seen outlines.now)) }
-    ensures blocks { IfOk result (λ r. IsFaultless r.faults → AllZip (IsRead defaults.now) (all_seen outlines.now) r.blocks.items) }
+    ensures unread { IfOk result (λ r. as_plain r.faults.unread
+        ≡ least_in (refused.unread defaults.now) (all_seen outlines.now)) }
+    ensures misformed { IfOk result (λ r. as_plain r.faults.misformed
+        ≡ least_in (refused.misformed defaults.now) (all_seen outlines.now)) }
+    ensures blocks { IfOk result (λ r. IsFaultless r.faults →
+        AllZip (IsRead defaults.now) (all_seen outlines.now) r.blocks.items) }
 {
     let mut faults = BlockFaults {
         unread: None,
@@ -91,7 +96,8 @@ pub fn read_model<'a>(
     defaults: &'a Defaults,
     system: &'a Section,
 ) -> Result<ReadModel<'a>, BuildFault>
-    ensures accepted { OnOk result (refused.model_refusal defaults.now (section_tree system.now) ≡ None) }
+    ensures accepted { OnOk result (refused.model_refusal defaults.now (section_tree system.now)
+        ≡ None) }
     ensures blocks { IfOk result (λ m. AreBlocksOf defaults.now (section_tree system.now) m.blocks.items) }
     ensures root { IfOk result (λ m. system_of m.root ≡ tree_of_model (section_tree system.now)) }
     ensures fault { IfErr result (IsFaultBy (refused.model_refusal defaults.now (section_tree system.now))) }

@@ -35,8 +35,10 @@ fn model_among<'a>(
     models: &[&'a Section],
     library: Option<Refusal>,
 ) -> Result<ModelSections<'a>, Refusal>
-    ensures model { IfOk result (λ m. models_of.model_among (trees_of models.now) (as_plain library) ≡ Ok (model_seen m)) }
-    ensures refusal { IfErr result (λ r. models_of.model_among (trees_of models.now) (as_plain library) ≡ Err (plain_refusal r)) }
+    ensures model { IfOk result (λ m. models_of.model_among (trees_of models.now) (as_plain library)
+        ≡ Ok (model_seen m)) }
+    ensures refusal { IfErr result (λ r. models_of.model_among (trees_of models.now) (as_plain library)
+        ≡ Err (plain_refusal r)) }
 {
     let Some(model) = models.first() else {
         return Err(library.unwrap_or(Refusal::NoModel { line: 0 }));

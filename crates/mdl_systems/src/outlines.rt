@@ -26,7 +26,8 @@ pub(crate) fn is_subsystem(section: &Section) -> bool
 
 /// The System inside a block, if it is a subsystem and has one.
 pub(crate) fn system_inside<'a>(block: &Outline<'a>) -> Option<&'a Section>
-    ensures { map (written.inner_system (seen block.now)) (option_to_list (tree_at result)) ≡ written.systems_inside (seen block.now) }
+    ensures { map (written.inner_system (seen block.now)) (option_to_list (tree_at result))
+        ≡ written.systems_inside (seen block.now) }
 {
     if is_subsystem(block.section) {
         block.section.section(b"System")
@@ -40,7 +41,8 @@ pub(crate) fn outlines_of<'a>(
     alloc: Global,
     system: &'a Section,
 ) -> Result<ModelOutlines<'a>, Memory>
-    ensures blocks { IfOk result (λ m. all_seen m.blocks.items ≡ written.outlines_of (section_tree system.now)) }
+    ensures blocks { IfOk result (λ m. all_seen m.blocks.items
+        ≡ written.outlines_of (section_tree system.now)) }
     ensures root { IfOk result (λ m. system_of m.root ≡ tree_of_model (section_tree system.now)) }
 {
     let mut blocks = Vec::new(alloc);
@@ -69,8 +71,11 @@ fn take_system<'a>(
     system: &'a Section,
 ) -> Result<SystemText<'a>, Memory>
     requires { depth ≤ length blocks.old.items }
-    ensures blocks { OnOk result (all_seen blocks.new.items ≡ all_seen blocks.old.items ++ written.outlines_in (length blocks.old.items) row depth (peers.peers_in (section_tree system.now).items) (section_tree system.now).items) }
-    ensures system { IfOk result (λ s. system_of s ≡ tree_of_system row line depth (length blocks.old.items) (section_tree system.now)) }
+    ensures blocks { OnOk result (all_seen blocks.new.items ≡ all_seen blocks.old.items
+        ++ written.outlines_in (length blocks.old.items) row depth
+        (peers.peers_in (section_tree system.now).items) (section_tree system.now).items) }
+    ensures system { IfOk result (λ s. system_of s ≡ tree_of_system row line depth (length blocks.old.items)
+        (section_tree system.now)) }
 {
     let peers = Peers::of(system);
     let mut own = Vec::new(alloc);
@@ -104,8 +109,10 @@ fn take_block<'a>(
     section: &'a Section,
 ) -> Result<Option<SystemText<'a>>, Memory>
     requires { depth ≤ length blocks.old.items }
-    ensures blocks { OnOk result (all_seen blocks.new.items ≡ all_seen blocks.old.items ++ taken (length blocks.old.items) owner depth peers (section_tree section.now)) }
-    ensures system { IfOk result (λ s. option_map system_of s ≡ system_held (length blocks.old.items) depth (section_tree section.now)) }
+    ensures blocks { OnOk result (all_seen blocks.new.items ≡ all_seen blocks.old.items
+        ++ taken (length blocks.old.items) owner depth peers (section_tree section.now)) }
+    ensures system { IfOk result (λ s. option_map system_of s
+        ≡ system_held (length blocks.old.items) depth (section_tree section.now)) }
 {
     let number = blocks.len();
     blocks.push(Outline {
@@ -133,8 +140,11 @@ fn take_inside<'a>(
 ) -> Result<Option<SystemText<'a>>, Memory>
     requires last { length blocks.old.items ≡ number + 1 }
     requires depth { depth ≤ length blocks.old.items }
-    ensures blocks { OnOk result (all_seen blocks.new.items ≡ all_seen blocks.old.items ++ written.outlines_inside number depth (section_tree section.now).items) }
-    ensures system { IfOk result (λ s. option_map system_of s ≡ system_inside number (section_tree section.now).line depth (section_tree section.now).items) }
+    ensures blocks { OnOk result (all_seen blocks.new.items ≡ all_seen blocks.old.items
+        ++ written.outlines_inside number depth (section_tree section.now).items) }
+    ensures system { IfOk result (λ s. option_map system_of s
+        ≡ system_inside number (section_tree section.now).line depth
+        (section_tree section.now).items) }
 {
     for item in section.items.as_slice() {
         if let Item::Section(system) = item {

@@ -9,7 +9,8 @@ use std::alloc::Global;
 
 /// An item, if it is a section of this name.
 fn named_in<'a>(item: &'a Item, name: &[u8]) -> Option<&'a Section>
-    ensures { option_to_list (option_map (λ r. section_tree r.now) result) ≡ sections_named name.now (item_alone item.now) }
+    ensures { option_to_list (option_map (λ r. section_tree r.now) result)
+        ≡ sections_named name.now (item_alone item.now) }
 {
     match item {
         Item::Param { .. } => None,
@@ -29,7 +30,8 @@ pub(crate) fn sections_named<'a>(
     section: &'a Section,
     name: &[u8],
 ) -> Result<Vec<&'a Section>, Memory>
-    ensures { IfOk result (λ v. trees_of v.items ≡ sections_named name.now (section_tree section.now).items) }
+    ensures { IfOk result (λ v. trees_of v.items
+        ≡ sections_named name.now (section_tree section.now).items) }
 {
     let mut sections = Vec::new(alloc);
     for item in section.items.as_slice() {

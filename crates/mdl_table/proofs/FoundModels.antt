@@ -55,7 +55,8 @@ found-first file m e =
     ∙ among-first (sections_named (codes "Model") file) (least_in library (sections_named (codes "Library") file)) m e
 
 -- its step is that of the file
-pub found-step : (file : Items) (m : Model) (step : Option Frac) → model_of file ≡ Ok m → IsStepOf m.section.items step → IsFixedStep file step
+pub found-step : (file : Items) (m : Model) (step : Option Frac) → model_of file ≡ Ok m →
+    IsStepOf m.section.items step → IsFixedStep file step
 found-step file m step e is =
     let HasStep : Option SectionTree → Type 0 = λ o. elim o [ Some model ↦ IsStepOf model.items step | None ↦ step ≡ None ] in
     subst HasStep (sym (found-first file m e)) is

@@ -97,7 +97,8 @@ same-blocks defaults n (o ∷ os) (b ∷ bs) zip h =
     later k = omega arith
 
 -- the model with the blocks that were read is that of the text
-pub same-model : OutlinesAreNumbered → (defaults : DefaultTexts) (section : SectionTree) (bs : List PlacedBlock) → AreBlocksOf defaults section bs →
+pub same-model : OutlinesAreNumbered → (defaults : DefaultTexts) (section : SectionTree) (bs : List PlacedBlock) →
+    AreBlocksOf defaults section bs →
     model_seen section bs ≡ model_with defaults section
 same-model numbered defaults section bs zip =
     ap (λ (blocks : List Block). record { root = section; blocks = blocks })
@@ -116,12 +117,14 @@ filter_map-same : {A B : Type 0} (f g : A → Option B) (xs : List A) → ((x : 
 filter_map-same f g [] h = refl
 filter_map-same f g (x ∷ xs) h = ap₂ cons_option (h x) (filter_map-same f g xs h)
 
-module _ (by_defaults : ReadingIsByDefaults) (defaults other : DefaultTexts) (same : GiveTheSame defaults other) (section : SectionTree) where
+module _ (by_defaults : ReadingIsByDefaults) (defaults other : DefaultTexts) (same : GiveTheSame defaults other)
+    (section : SectionTree) where
   -- the model is the same
   pub model-by : model_with defaults section ≡ model_with other section
   model-by =
       ap (λ (blocks : List Block). record { root = section; blocks = blocks })
-      (filter_map-same (block_read defaults) (block_read other) (outlines_of section) (λ o. ap (seen o) (by_defaults defaults other same o)))
+      (filter_map-same (block_read defaults) (block_read other) (outlines_of section)
+      (λ o. ap (seen o) (by_defaults defaults other same o)))
     where
       seen : Outline → Result BlockText Fault → Option Block
       seen o r = option_map (λ text. record { number = o.number; owner = o.owner; text = text }) (result_ok r)
@@ -129,8 +132,10 @@ module _ (by_defaults : ReadingIsByDefaults) (defaults other : DefaultTexts) (sa
   refused-by : model_refusal defaults section ≡ model_refusal other section
   refused-by =
       ap₂ (λ a b. first_there (numbers_refusal section ∷ first_there (earlier_of a (least_in newer (systems_of section)) ∷ b ∷ []) ∷ []))
-      (least-same (unread defaults) (unread other) (outlines_of section) (λ o. ap (unread_at o.section.line) (by_defaults defaults other same o)))
-      (least-same (misformed defaults) (misformed other) (outlines_of section) (λ o. ap (misformed_at o.section.line) (by_defaults defaults other same o)))
+      (least-same (unread defaults) (unread other) (outlines_of section)
+      (λ o. ap (unread_at o.section.line) (by_defaults defaults other same o)))
+      (least-same (misformed defaults) (misformed other) (outlines_of section)
+      (λ o. ap (misformed_at o.section.line) (by_defaults defaults other same o)))
 
   -- the first refusal is the same
   pub refusal-by : refusal_with defaults section ≡ refusal_with other section

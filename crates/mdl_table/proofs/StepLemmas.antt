@@ -46,7 +46,8 @@ outside-system : (wanted : List ℕ) (item : Item) (rest : Items) → is_system_
     first_outside_system wanted (with_item item rest) ≡ first_at_any_depth wanted rest
 outside-system wanted (Param name value line) rest system = absurd (true≢false (sym system))
 outside-system wanted (Section' name line shape items) rest system =
-    ap (λ t. cond t (first_at_any_depth wanted rest) (option_or (first_at_any_depth wanted (with_row items)) (first_outside_system wanted rest))) system
+    ap (λ t. cond t (first_at_any_depth wanted rest)
+    (option_or (first_at_any_depth wanted (with_row items)) (first_outside_system wanted rest))) system
 
 -- another item in front
 outside-item : (wanted : List ℕ) (item : Item) (rest : Items) → is_system_first (item_alone item) ≡ false →
@@ -59,11 +60,13 @@ outside-item wanted (Param name value line) rest other = by (bytes_eq name wante
     by true = refl
     by false = refl
 outside-item wanted (Section' name line shape items) rest other =
-    ap (λ t. cond t (first_at_any_depth wanted rest) (option_or (first_at_any_depth wanted (with_row items)) (first_outside_system wanted rest))) other
+    ap (λ t. cond t (first_at_any_depth wanted rest)
+    (option_or (first_at_any_depth wanted (with_row items)) (first_outside_system wanted rest))) other
     ∙ ap (λ o. option_or o (first_outside_system wanted rest)) (sym (or_none (first_at_any_depth wanted (with_row items))))
 
 -- the search goes on behind the System
-pub behind-system : (wanted : List ℕ) (items : List Item) (i : ℕ) (item : Item) (b : Bool) → i < length items → item ≡ slice_index_or items i item →
+pub behind-system : (wanted : List ℕ) (items : List Item) (i : ℕ) (item : Item) (b : Bool) → i < length items →
+    item ≡ slice_index_or items i item →
     (not b && is_system_first (item_alone item)) ≡ true →
     first_behind true wanted (items_of (drop (i + 1) items)) ≡ first_behind b wanted (items_of (drop i items))
 behind-system wanted items i item true h e system = absurd (true≢false (sym system))
@@ -71,7 +74,8 @@ behind-system wanted items i item false h e system =
     sym (ap (first_outside_system wanted) (items_from items i item h e) ∙ outside-system wanted item (items_of (drop (i + 1) items)) system)
 
 -- the search goes on behind another item
-pub behind-item : (wanted : List ℕ) (items : List Item) (i : ℕ) (item : Item) (b : Bool) → i < length items → item ≡ slice_index_or items i item →
+pub behind-item : (wanted : List ℕ) (items : List Item) (i : ℕ) (item : Item) (b : Bool) → i < length items →
+    item ≡ slice_index_or items i item →
     (not b && is_system_first (item_alone item)) ≡ false →
     first_behind b wanted (items_of (drop i items))
     ≡ option_or (first_at_any_depth wanted (item_alone item)) (first_behind b wanted (items_of (drop (i + 1) items)))
@@ -80,7 +84,8 @@ behind-item wanted items i item false h e other =
     ap (first_outside_system wanted) (items_from items i item h e) ∙ outside-item wanted item (items_of (drop (i + 1) items)) other
 
 -- a found value is the whole value
-pub found-here : {A : Type 0} (value : A) (here rest now whole : Option A) → Some value ≡ here → now ≡ option_or here rest → now ≡ whole → Some value ≡ whole
+pub found-here : {A : Type 0} (value : A) (here rest now whole : Option A) → Some value ≡ here →
+    now ≡ option_or here rest → now ≡ whole → Some value ≡ whole
 found-here value here rest now whole found step same = ap (λ o. option_or o rest) found ∙ sym step ∙ same
 
 -- where none is found the rest has it

@@ -32,7 +32,8 @@ all-nested rows [] = refl
 all-nested rows (x ∷ xs) = ap (nested.next (nested_of rows x)) (all-nested rows xs)
 
 -- a system is made of those inside it
-pub made : (rows : List Row) (s : SystemText) (x : Subsystem-F Subsystem) → x.row ≡ (out-SystemText s).row → x.line ≡ (out-SystemText s).line →
+pub made : (rows : List Row) (s : SystemText) (x : Subsystem-F Subsystem) → x.row ≡ (out-SystemText s).row →
+    x.line ≡ (out-SystemText s).line →
     x.control ≡ system_control rows (out-SystemText s).row → x.own ≡ (out-SystemText s).own.items →
     map nested.system_of x.children.items ≡ map (nested_of rows) (out-SystemText s).children.items →
     nested.system_of (roll-Subsystem x) ≡ nested_of rows s
@@ -49,7 +50,8 @@ made rows s x row line control own children =
     ∙ sym (ap (nested_by rows) (text-is s))
 
 -- one child more is made
-pub more-made : (rows : List Row) (made news : List Subsystem) (xs : List SystemText) (i : ℕ) (x : SystemText) (own : Subsystem) (whole : List nested.System) →
+pub more-made : (rows : List Row) (made news : List Subsystem) (xs : List SystemText) (i : ℕ) (x : SystemText)
+    (own : Subsystem) (whole : List nested.System) →
     i < length xs → x ≡ slice_index_or xs i x → nested.system_of own ≡ nested_of rows x → news ≡ made ++ own ∷ [] →
     map nested.system_of made ++ map (nested_of rows) (drop i xs) ≡ whole →
     map nested.system_of news ++ map (nested_of rows) (drop (i + 1) xs) ≡ whole
@@ -85,7 +87,9 @@ abbrev pub EachIsShort : List SystemText → Type 0
 EachIsShort xs = (i : ℕ) (x : SystemText) → i < length xs → x ≡ slice_index_or xs i x → SystemIsShort (text.system_of x)
 
 -- what fits of a system fits of those inside it
-pub short-children : (s : SystemText) (xs : List SystemText) → xs ≡ (out-SystemText s).children.items → SystemIsShort (text.system_of s) → EachIsShort xs
+pub short-children : (s : SystemText) (xs : List SystemText) → xs ≡ (out-SystemText s).children.items →
+    SystemIsShort (text.system_of s) → EachIsShort xs
 short-children s xs e short i x h is =
     subst (λ y. SystemIsShort (text.system_of y)) (sym is)
-    (short-at xs i x h (subst (λ ys. AllAreShort (text.systems_from (map text.system_of ys))) (sym e) (subst SystemIsShort (text-is s) short).2))
+    (short-at xs i x h (subst (λ ys. AllAreShort (text.systems_from (map text.system_of ys))) (sym e)
+    (subst SystemIsShort (text-is s) short).2))

@@ -57,7 +57,9 @@ read-line defaults peers section b e =
     behind HasLine (ok_or (block_type_of text) Unsupported) _ (λ known.
     behind HasLine (unless_hollow (first_section (codes "System") section.items) known) _ (λ type.
     behind HasLine (texts_by defaults section.items text Name) _ (λ name.
-    behind HasLine (body_of peers (first_section (codes "System") section.items) (texts_by defaults section.items text) type) _ (λ body. refl)))))) e
+    behind HasLine
+    (body_of peers (first_section (codes "System") section.items) (texts_by defaults section.items text) type) _
+    (λ body. refl)))))) e
   where
     HasLine : BlockText → Type 0
     HasLine b = b.line ≡ section.line
@@ -71,7 +73,8 @@ hollow defaults peers section named none =
   where
     typed : Option SectionTree → Result BlockText Fault
     typed inside = unless_hollow inside SubSystem >>= λ type. texts_by defaults section.items (block_type_name SubSystem) Name >>= λ name.
-        body_of peers (first_section (codes "System") section.items) (texts_by defaults section.items (block_type_name SubSystem)) type >>= λ body.
+        body_of peers (first_section (codes "System") section.items)
+        (texts_by defaults section.items (block_type_name SubSystem)) type >>= λ body.
         Ok (record { name = name; line = section.line; body = body })
 
 -- the type that a subsystem writes
@@ -92,7 +95,9 @@ system-there defaults peers section b e is = by (first_section (codes "System") 
     by : (o : Option SectionTree) → first_section (codes "System") section.items ≡ o →
         (inside : SectionTree) × (first_section (codes "System") section.items ≡ Some inside)
     by (Some inside) p = (inside, p)
-    by None p = absurd (err-ok Unsupported b (sym (hollow defaults peers section (type-written (first_value (codes "BlockType") section.items) is) p) ∙ e))
+    by None p =
+        absurd (err-ok Unsupported b
+        (sym (hollow defaults peers section (type-written (first_value (codes "BlockType") section.items) is) p) ∙ e))
 
 -- ---- Lists
 
@@ -211,12 +216,14 @@ nested-heads : (rs : List Row) (ts : SystemTrees) → heads (all_nested rs ts) �
 nested-heads rs no_more = refl
 nested-heads rs (next t ts) = ap₂ ◌∷◌ (nested-row rs t) (nested-heads rs ts)
 
-module _ (rs : List Row) (os : List Outline) (numbers : map (λ (b : Outline). b.number) os ≡ range_with_len 0 (length rs)) (all : AllByRecursion (IsOwn rs) os) where
+module _ (rs : List Row) (os : List Outline) (numbers : map (λ (b : Outline). b.number) os
+    ≡ range_with_len 0 (length rs)) (all : AllByRecursion (IsOwn rs) os) where
   own-rows : (o : Option ℕ) → rows_of rs o ≡ owned_by o os
   own-rows o =
       ap (filter (λ b. same_system (row_at rs b).owner o)) (sym numbers)
       ∙ filter-map (λ (b : Outline). b.number) (λ b. same_system (row_at rs b).owner o) (λ (b : Outline). same_system b.owner o) os
-      (all-by (IsOwn rs) (λ (b : Outline). same_system (row_at rs b.number).owner o ≡ same_system b.owner o) os (λ b is. ap (λ owner. same_system owner o) is.owner) all)
+      (all-by (IsOwn rs) (λ (b : Outline). same_system (row_at rs b.number).owner o ≡ same_system b.owner o) os
+      (λ b is. ap (λ owner. same_system owner o) is.owner) all)
 
   owned : (o : Option ℕ) → AllByRecursion (IsOwn rs) (of_owner o os)
   owned o = all-filter (IsOwn rs) (λ (b : Outline). same_system b.owner o) os all
@@ -225,12 +232,14 @@ module _ (rs : List Row) (os : List Outline) (numbers : map (λ (b : Outline). b
   own-subsystems o =
       ap (filter (λ b. rows.is_subsystem (row_at rs b).kind)) (own-rows o)
       ∙ filter-map (λ (b : Outline). b.number) (λ b. rows.is_subsystem (row_at rs b).kind) is_subsystem (of_owner o os)
-      (all-by (IsOwn rs) (λ (b : Outline). rows.is_subsystem (row_at rs b.number).kind ≡ is_subsystem b) (of_owner o os) (λ b is. is.kind) (owned o))
+      (all-by (IsOwn rs) (λ (b : Outline). rows.is_subsystem (row_at rs b.number).kind ≡ is_subsystem b) (of_owner o os)
+      (λ b is. is.kind) (owned o))
 
   have-inside : (o : Option ℕ) → AllByRecursion HasInside (of_owner o os)
   have-inside o = all-by (IsOwn rs) HasInside (of_owner o os) (λ b is. is.inside) (owned o)
 
-  own-heads : (o : Option ℕ) (ts : SystemTrees) → texts_of ts ≡ systems_owned o os → heads (all_nested rs ts) ≡ map Some (subsystems_of rs o)
+  own-heads : (o : Option ℕ) (ts : SystemTrees) → texts_of ts ≡ systems_owned o os →
+      heads (all_nested rs ts) ≡ map Some (subsystems_of rs o)
   own-heads o ts e =
       nested-heads rs ts ∙ ap (map (λ (s : SystemText). s.row)) e ∙ inside-rows (of_owner o os) (have-inside o)
       ∙ ap (map Some) (sym (own-subsystems o))
@@ -238,16 +247,19 @@ module _ (rs : List Row) (os : List Outline) (numbers : map (λ (b : Outline). b
   own-lines : (o : Option ℕ) → AllByRecursion (λ (s : SystemText). HasRowLine rs s.row s.line) (systems_owned o os)
   own-lines o =
       all-inside (λ (s : SystemText). HasRowLine rs s.row s.line) (of_owner o os)
-      (all-by (IsOwn rs) (λ (b : Outline). (s : SectionTree) → b.section.line ≡ (row_at rs b.number).place.line) (of_owner o os) (λ b is s. is.line) (owned o))
+      (all-by (IsOwn rs) (λ (b : Outline). (s : SectionTree) → b.section.line ≡ (row_at rs b.number).place.line)
+      (of_owner o os) (λ b is s. is.line) (owned o))
       (have-inside o)
 
   mutual
-    pub agrees : (t : SystemTree) → OwnByOwner os t → ChildrenByOwner os t → HasRowLine rs (text_of t).row (text_of t).line → Agrees rs (nested_by rs t)
+    pub agrees : (t : SystemTree) → OwnByOwner os t → ChildrenByOwner os t →
+        HasRowLine rs (text_of t).row (text_of t).line → Agrees rs (nested_by rs t)
     agrees (system row line section own children) by_owner kids place = (
       place-by rs row line place,
       by_owner.0 ∙ sym (own-rows row),
       own-heads row children kids.0,
-      all-agree children by_owner.1 kids.1 (subst (AllByRecursion (λ (s : SystemText). HasRowLine rs s.row s.line)) (sym kids.0) (own-lines row)),
+      all-agree children by_owner.1 kids.1
+          (subst (AllByRecursion (λ (s : SystemText). HasRowLine rs s.row s.line)) (sym kids.0) (own-lines row)),
     )
 
     all-agree : (ts : SystemTrees) → AllOwnByOwner os ts → AllChildrenByOwner os ts →
@@ -270,7 +282,8 @@ module _ (os : List Outline) (fit : AllByRecursion Fits os) (has : AllByRecursio
   heads-short : (o : Option ℕ) → AllByRecursion (λ (s : SystemText). IsShort s.row) (systems_owned o os)
   heads-short o =
       all-inside (λ (s : SystemText). IsShort s.row) (of_owner o os)
-      (all-by Fits (λ (b : Outline). (s : SectionTree) → b.number < 2 ^ 32) (of_owner o os) (λ b h s. h) (all-filter Fits (λ (b : Outline). same_system b.owner o) os fit))
+      (all-by Fits (λ (b : Outline). (s : SectionTree) → b.number < 2 ^ 32) (of_owner o os) (λ b h s. h)
+      (all-filter Fits (λ (b : Outline). same_system b.owner o) os fit))
       (all-filter HasInside (λ (b : Outline). same_system b.owner o) os has)
 
   mutual
@@ -297,7 +310,8 @@ own-row defaults m os rs zip numbered k b at =
     row-there defaults m os rs k zip (subst (λ n. k < n) (sym (zip-length (IsOutlineRow defaults m) os rs zip)) (get-below os k b at)) in
     let same : found.outline ≡ b = some-same (sym found.at ∙ at) in
     let is : IsOutlineRow defaults m b (row_at rs b.number) =
-    subst (λ n. IsOutlineRow defaults m b (row_at rs n)) (sym (numbered k b at)) (subst (λ o. IsOutlineRow defaults m o (row_at rs k)) same found.row) in
+    subst (λ n. IsOutlineRow defaults m b (row_at rs n)) (sym (numbered k b at))
+    (subst (λ o. IsOutlineRow defaults m o (row_at rs k)) same found.row) in
     record {
       owner = is.has.owner;
       kind = same-kind defaults m b (row_at rs b.number) is;
@@ -310,13 +324,16 @@ own-row defaults m os rs zip numbered k b at =
 
 -- the nested systems of a model are those of its rows
 pub are-systems : OutlinesAreNumbered → OwnIsByOwner → ChildrenAreBySubsystems →
-    (defaults : DefaultTexts) (m : Model) (section : SectionTree) (rs : List Row) → AllZip (IsOutlineRow defaults m) (outlines_of section) rs →
+    (defaults : DefaultTexts) (m : Model) (section : SectionTree) (rs : List Row) →
+    AllZip (IsOutlineRow defaults m) (outlines_of section) rs →
     AreSystemsOf rs (nested_by rs (tree_of_model section))
 are-systems numbered by_owner kids defaults m section rs zip =
     let os : List Outline = outlines_of section in
     record {
       is_root = refl;
-      agrees = agrees rs os (places 0 os (λ k b at. numbered section k b at ∙ from_start k) ∙ ap (range_with_len 0) (sym (zip-length (IsOutlineRow defaults m) os rs zip)))
+      agrees =
+          agrees rs os (places 0 os (λ k b at. numbered section k b at ∙ from_start k)
+          ∙ ap (range_with_len 0) (sym (zip-length (IsOutlineRow defaults m) os rs zip)))
           (all-places (IsOwn rs) os (own-row defaults m os rs zip (numbered section)))
           (tree_of_model section) (by_owner section) (kids section) tt;
     }

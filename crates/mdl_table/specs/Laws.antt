@@ -10,7 +10,8 @@ use Rattle.mdl_table.specs.Tables.{TableOf}
 -- a tree has at most one table
 abbrev pub TreeHasOneTable : Type 0
 TreeHasOneTable =
-    (file : Items) (table other : RowTable) → TableOf file table → TableOf file other → table ≡ other
+    (file : Items) (table other : RowTable) → TableOf file table → TableOf file other →
+    table ≡ other
 
 -- a tree that isn't refused has a table
 abbrev pub TreeHasTable : Type 0
@@ -19,7 +20,8 @@ TreeHasTable = (file : Items) → tree_refusal file ≡ None → (table : RowTab
 -- its rows are nested in preorder, within the limits on rows and depth
 abbrev pub TreeIsNested : Type 0
 TreeIsNested =
-    (file : Items) (table : RowTable) → tree_refusal file ≡ None → TableOf file table → IsNested table.rows
+    (file : Items) (table : RowTable) → tree_refusal file ≡ None → TableOf file table →
+    IsNested table.rows
 
 -- each of its rows is lawful, and so is its step
 abbrev pub TreeRowsAreLawful : Type 0
@@ -30,4 +32,5 @@ TreeRowsAreLawful =
 -- it is well formed
 abbrev pub TreeTableIsWellFormed : Type 0
 TreeTableIsWellFormed =
-    (file : Items) (table : RowTable) → tree_refusal file ≡ None → TableOf file table → IsWellFormed table
+    (file : Items) (table : RowTable) → tree_refusal file ≡ None → TableOf file table →
+    IsWellFormed table

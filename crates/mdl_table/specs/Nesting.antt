@@ -9,7 +9,8 @@ use Rattle.mdl_systems.specs.Systems.{SystemTree, SystemTrees, system, no_more, 
 -- the systems of a text, each controlled as its row is
 abbrev mutual
   pub nested_by : List Row → SystemTree → nested.System
-  nested_by rows (system row line section own children) = nested.system row line (system_control rows row) own (all_nested rows children)
+  nested_by rows (system row line section own children) =
+      nested.system row line (system_control rows row) own (all_nested rows children)
 
   pub all_nested : List Row → SystemTrees → nested.Systems
   all_nested rows no_more = nested.no_more
@@ -27,7 +28,8 @@ IsShort (Some row) = row < 2 ^ 32
 -- the numbers of a system and of all inside it do
 abbrev mutual
   pub SystemIsShort : SystemTree → Type 0
-  SystemIsShort (system row line section own children) = IsShort row × AreShort own × AllAreShort children
+  SystemIsShort (system row line section own children) =
+      IsShort row × AreShort own × AllAreShort children
 
   pub AllAreShort : SystemTrees → Type 0
   AllAreShort no_more = ⊤

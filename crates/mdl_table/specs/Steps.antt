@@ -28,13 +28,15 @@ first_outside_system wanted (Section name line items rest) =
 -- a fraction that is above 0 and within the limits
 abbrev pub positive_parts : Ratio → Option (ℕ × ℕ)
 positive_parts r =
-    option_and_then (λ (parts : ℕ × ℕ). if parts.0 == 0 then None else Some parts) (result_ok (frac_parts r.num r.den))
+    option_and_then (λ (parts : ℕ × ℕ). if parts.0 == 0 then None else Some parts)
+    (result_ok (frac_parts r.num r.den))
 
 -- the step that a model's items write, if it is a positive fraction
 abbrev pub step_parts : Items → Option (ℕ × ℕ)
 step_parts items =
     option_and_then positive_parts
-    (option_and_then (λ text. result_ok (number_form text)) (first_outside_system (codes "FixedStep") items))
+    (option_and_then (λ text. result_ok (number_form text))
+    (first_outside_system (codes "FixedStep") items))
 
 -- the written step of a model's items
 abbrev pub IsStepOf : Items → Option Frac → Type 0

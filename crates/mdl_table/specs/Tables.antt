@@ -30,6 +30,7 @@ abbrev pub HasRootLine : Result Model PlainRefusal → (line : ℕ) → Type 0
 HasRootLine (Ok model) line = line ≡ model.system.line
 HasRootLine (Err refusal) line = ⊥
 
--- the root of a tree opens where the System of the file's model does; the rest of its systems the table tells
+-- the root of a tree opens where the System of the file's model does; the rest of its systems the
+-- table tells
 abbrev pub IsRootOf : Items → DiagramTree → Type 0
 IsRootOf file tree = HasRootLine (model_of file) (out-Subsystem tree.root).line

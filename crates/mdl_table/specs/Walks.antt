@@ -15,6 +15,8 @@ is_system_first (Section name line items rest) = bytes_eq name (codes "System")
 abbrev pub item_alone : Item → Items
 item_alone item = with_item item End
 
--- the first value of a parameter at any depth, where the System was passed, and else outside the first System
+-- the first value of a parameter at any depth, where the System was passed, and else outside the
+-- first System
 abbrev pub first_behind : (is_behind : Bool) → List ℕ → Items → Option (List ℕ)
-first_behind is_behind wanted items = if is_behind then first_at_any_depth wanted items else first_outside_system wanted items
+first_behind is_behind wanted items =
+    if is_behind then first_at_any_depth wanted items else first_outside_system wanted items

@@ -47,9 +47,11 @@ fn rows_by(
 ) -> Result<Vec<Row>, BuildFault>
     requires accepted { model_refusal defaults.now (section_tree system.now) ≡ None }
     requires blocks { AreBlocksOf defaults.now (section_tree system.now) blocks.now }
-    ensures accepted { OnOk result (rows_refusal (model_with defaults.now (section_tree system.now)) ≡ None) }
+    ensures accepted { OnOk result (rows_refusal (model_with defaults.now (section_tree system.now))
+        ≡ None) }
     ensures rows { IfOk result (λ v. AreRowsOf (model_with defaults.now (section_tree system.now)) v.items) }
-    ensures fault { IfErr result (IsFaultBy (rows_refusal (model_with defaults.now (section_tree system.now)))) }
+    ensures fault { IfErr result
+        (IsFaultBy (rows_refusal (model_with defaults.now (section_tree system.now)))) }
 {
     outlines_are_numbered();
     owners_are_before();
@@ -79,7 +81,8 @@ fn root_by(
 /// The rows of a model with these defaults and this System, and the system of its root.
 fn model_rows(alloc: Global, defaults: &Defaults, system: &Section) -> Result<ModelRows, BuildFault>
     ensures accepted { OnOk result (refusal_with defaults.now (section_tree system.now) ≡ None) }
-    ensures rows { IfOk result (λ m. AreRowsOf (model_with defaults.now (section_tree system.now)) m.rows.items) }
+    ensures rows { IfOk result
+        (λ m. AreRowsOf (model_with defaults.now (section_tree system.now)) m.rows.items) }
     ensures root { IfOk result (λ m. nested.system_of m.root ≡ root_of m.rows.items system.now) }
     ensures systems { IfOk result (λ m. nested.AreSystemsOf m.rows.items (nested.system_of m.root)) }
     ensures fault { IfErr result (IsFaultBy (refusal_with defaults.now (section_tree system.now))) }

@@ -56,7 +56,8 @@ pub(crate) fn subsystem_of(
     system: &SystemText,
 ) -> Result<Subsystem, Memory>
     requires { SystemIsShort (text.system_of system.now) }
-    ensures { IfOk result (λ s. nested.system_of s ≡ nested_by rows.now (text.system_of system.now)) }
+    ensures { IfOk result (λ s. nested.system_of s
+        ≡ nested_by rows.now (text.system_of system.now)) }
 {
     let mut children = Vec::with_capacity(alloc, system.children.len())?;
     for child in system.children.as_slice() {

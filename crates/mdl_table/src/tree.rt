@@ -28,7 +28,8 @@ fn parts_in(alloc: Global, file: &Section, found: ModelSections) -> Result<Model
     ensures accepted { OnOk result (tree_refusal (section_tree file.now).items ≡ None) }
     ensures table { IfOk result (λ m. TableOf (section_tree file.now).items m.table) }
     ensures step { IfOk result (λ m. IsFixedStep (section_tree file.now).items m.table.fixed_step) }
-    ensures root { IfOk result (λ m. IsRootOf (section_tree file.now).items (record { table = m.table; root = m.root })) }
+    ensures root { IfOk result
+        (λ m. IsRootOf (section_tree file.now).items (record { table = m.table; root = m.root })) }
     ensures systems { IfOk result (λ m. AreSystemsOf m.table.rows (system_of m.root)) }
     ensures fault { IfErr result (IsFaultBy (tree_refusal (section_tree file.now).items)) }
 {

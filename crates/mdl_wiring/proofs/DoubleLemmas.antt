@@ -43,4 +43,5 @@ pub ports-next : {S : Type 0} (side : Side) (ms : List held.Member) (i : ℕ) (d
     Takes ports wider (port_on side (slice_index_or ms i d).shape) → ArePortsOf side (take (i + 1) (members_seen ms)) wider
 ports-next side ms i d ports wider h are takes =
     subst (λ xs. ArePortsOf side xs wider) (items-more member_seen ms i d h ∙ sym (take-map member_seen (i + 1) ms))
-    (ports-more side (member_seen (slice_index_or ms i d)) (members_seen (take i ms)) ports wider (subst (λ xs. ArePortsOf side xs ports) (take-map member_seen i ms) are) takes)
+    (ports-more side (member_seen (slice_index_or ms i d)) (members_seen (take i ms)) ports wider
+    (subst (λ xs. ArePortsOf side xs ports) (take-map member_seen i ms) are) takes)

@@ -99,7 +99,9 @@ pub inputs-known : {S : Type 0} (ends : List LineEnd) (e : LineEnd) (inputs : In
 inputs-known ends e inputs key h own known input = h input ∙ sym (by_test (are_one input key) refl)
   where
     by_test : (t : Bool) → are_one input key ≡ t → first_end input (ends ++ e ∷ []) ≡ first_end input ends
-    by_test true f = end-again ends e input (ap is_some (sym (h input)) ∙ ap (λ n. is_some (end_at inputs n)) (one-equal input key f) ∙ known)
+    by_test true f =
+        end-again ends e input (ap is_some (sym (h input)) ∙ ap (λ n. is_some (end_at inputs n)) (one-equal input key f)
+        ∙ known)
     by_test false f = end-other ends e input (ap (is_input input) (sym own) ∙ f)
 
 pub inputs-new : {S : Type 0} (ends : List LineEnd) (e : LineEnd) (inputs wider : IndexMap Input ℕ S) (key : Input) (place : ℕ) →

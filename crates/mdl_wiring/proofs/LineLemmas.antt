@@ -75,7 +75,8 @@ pub some-line : (ends : List LineEnd) (ms : List Member) → unconnected_ports e
 some-line ends ms none at m number here low high =
     not-false (list_any (leads_to (record { member = at; number = number })) ends)
     (find-none (is_loose ends at) 1 (port_count m.shape)
-    (mapped-none _ (find (is_loose ends at) (numbers_of m)) (ap (λ n. unconnected ends n m) (zero_plus at) ∙ from-none (unconnected ends) 0 ms none at m here))
+    (mapped-none _ (find (is_loose ends at) (numbers_of m)) (ap (λ n. unconnected ends n m) (zero_plus at)
+    ∙ from-none (unconnected ends) 0 ms none at m here))
     number low (omega (arith, high)))
   where
     zero_plus : (n : ℕ) → n ≡ 0 + n
@@ -108,9 +109,13 @@ no-second : (all before rest : List LineEnd) → before ++ rest ≡ all → leas
 no-second all before [] split none = tt
 no-second all before (e ∷ rest) split none = (
   ap (λ xs. is_led_among xs e) (sym (ap (take (length before)) (sym split) ∙ taken-before before (e ∷ rest)))
-      ∙ led-none (is_led_among (take (length before) all) e) e.target.line (none-first (second_source all (length before) e) (least_from (second_source all) (length before + 1) rest) none),
+      ∙ led-none (is_led_among (take (length before) all) e) e.target.line
+      (none-first (second_source all (length before) e) (least_from (second_source all) (length before + 1) rest)
+      none),
   no-second all (before ++ e ∷ []) rest (append_assoc before (e ∷ []) rest ∙ split)
-      (ap (λ n. least_from (second_source all) n rest) (sym (length-push before e)) ∙ none-later (second_source all (length before) e) (least_from (second_source all) (length before + 1) rest) none),
+      (ap (λ n. least_from (second_source all) n rest) (sym (length-push before e))
+      ∙ none-later (second_source all (length before) e) (least_from (second_source all) (length before + 1) rest)
+      none),
 )
 
 -- a line end that leads to an input, where no earlier one leads there
@@ -177,5 +182,7 @@ one_line is_root ms items none at m number here low high =
     let doubles = or-later (missing_ports sources ends) _ ports in
     let loose = or-later (double_sources ends) _ doubles in
     let most = few-lines input [] ends (no-second ends [] ends refl (or-first (double_sources ends) _ doubles)) false refl in
-    let least = counted (leads_to input) ends (some-line ends ms (or-first (unconnected_ports ends ms) _ loose) at m number here low high) in
+    let least =
+    counted (leads_to input) ends
+    (some-line ends ms (or-first (unconnected_ports ends ms) _ loose) at m number here low high) in
     omega (arith, most, least)

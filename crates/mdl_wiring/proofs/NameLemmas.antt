@@ -160,7 +160,8 @@ pub place-before : {X : Type 0} (test : X → Bool) (k i : ℕ) (xs : List X) �
     is_before (position_from test k xs) (k + i) ≡ list_any test (take i xs)
 place-before test k zero xs = ap (is_before (position_from test k xs)) (plus_zero k) ∙ from_above test k k xs (omega arith)
 place-before test k (suc i) [] = refl
-place-before test k (suc i) (x ∷ xs) = by (test x) (ap (is_before (position_from test (k + 1) xs)) (plus_suc k i) ∙ place-before test (k + 1) i xs)
+place-before test k (suc i) (x ∷ xs) =
+    by (test x) (ap (is_before (position_from test (k + 1) xs)) (plus_suc k i) ∙ place-before test (k + 1) i xs)
   where
     by : (t : Bool) → is_before (position_from test (k + 1) xs) (k + suc i) ≡ list_any test (take i xs) →
         is_before (cond t (Some k) (position_from test (k + 1) xs)) (k + suc i) ≡ (t || list_any test (take i xs))

@@ -16,7 +16,8 @@ items-from show xs i d h =
     ap (map show) (drop-cons xs i d h) ∙ ap (λ k. show (slice_index_or xs i d) ∷ map show (drop k xs)) (one_more i)
 
 -- one item more is looked at
-pub least-at : {A B : Type 0} (found : B → Option PlainRefusal) (show : A → B) (xs : List A) (i : ℕ) (d : A) (before now whole : Option PlainRefusal) → i < length xs →
+pub least-at : {A B : Type 0} (found : B → Option PlainRefusal) (show : A → B) (xs : List A) (i : ℕ) (d : A)
+    (before now whole : Option PlainRefusal) → i < length xs →
     now ≡ earlier_of before (found (show (slice_index_or xs i d))) →
     earlier_of before (least_in found (map show (drop i xs))) ≡ whole → earlier_of now (least_in found (map show (drop (i + 1) xs))) ≡ whole
 least-at found show xs i d before now whole h e all =
@@ -25,13 +26,15 @@ least-at found show xs i d before now whole h e all =
     ∙ ap (λ ys. earlier_of before (least_in found ys)) (sym (items-from show xs i d h)) ∙ all
 
 -- all are looked at
-pub least-end : {A B : Type 0} (found : B → Option PlainRefusal) (show : A → B) (xs : List A) (i : ℕ) (before whole : Option PlainRefusal) → length xs ≤ i →
+pub least-end : {A B : Type 0} (found : B → Option PlainRefusal) (show : A → B) (xs : List A) (i : ℕ)
+    (before whole : Option PlainRefusal) → length xs ≤ i →
     earlier_of before (least_in found (map show (drop i xs))) ≡ whole → before ≡ whole
 least-end found show xs i before whole h all =
     sym (earlier-none before) ∙ ap (λ ys. earlier_of before (least_in found (map show ys))) (sym (drop_of_length-le xs h)) ∙ all
 
 -- one item more is looked at, with its place
-pub from-at : {A B : Type 0} (found : ℕ → B → Option PlainRefusal) (show : A → B) (xs : List A) (i : ℕ) (d : A) (before now whole : Option PlainRefusal) → i < length xs →
+pub from-at : {A B : Type 0} (found : ℕ → B → Option PlainRefusal) (show : A → B) (xs : List A) (i : ℕ) (d : A)
+    (before now whole : Option PlainRefusal) → i < length xs →
     now ≡ earlier_of before (found i (show (slice_index_or xs i d))) →
     earlier_of before (least_from found i (map show (drop i xs))) ≡ whole →
     earlier_of now (least_from found (i + 1) (map show (drop (i + 1) xs))) ≡ whole
@@ -41,7 +44,8 @@ from-at found show xs i d before now whole h e all =
     ∙ ap (λ ys. earlier_of before (least_from found i ys)) (sym (items-from show xs i d h)) ∙ all
 
 -- all are looked at
-pub from-end : {A B : Type 0} (found : ℕ → B → Option PlainRefusal) (show : A → B) (xs : List A) (i : ℕ) (before whole : Option PlainRefusal) → length xs ≤ i →
+pub from-end : {A B : Type 0} (found : ℕ → B → Option PlainRefusal) (show : A → B) (xs : List A) (i : ℕ)
+    (before whole : Option PlainRefusal) → length xs ≤ i →
     earlier_of before (least_from found i (map show (drop i xs))) ≡ whole → before ≡ whole
 from-end found show xs i before whole h all =
     sym (earlier-none before) ∙ ap (λ ys. earlier_of before (least_from found i (map show ys))) (sym (drop_of_length-le xs h)) ∙ all

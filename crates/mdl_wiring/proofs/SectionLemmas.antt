@@ -60,7 +60,10 @@ named-pass olds here rest now whole none split all =
 branches-item : (item : Item) (rest : Items) → branches_in (with_item item rest) ≡ branches_in (with_item item End) ++ branches_in rest
 branches-item (Param name value line) rest = refl
 branches-item (Section' name line shape items) rest =
-    ap (λ xs. xs ++ branches_in rest) (sym (append-nil (cond (bytes_eq name (codes "Branch")) (record { name = name; line = line; items = with_row items } ∷ branches_in (with_row items)) [])))
+    ap (λ xs. xs ++ branches_in rest)
+    (sym (append-nil
+    (cond (bytes_eq name (codes "Branch")) (record { name = name; line = line; items = with_row items }
+    ∷ branches_in (with_row items)) [])))
 
 -- the branches from one place on
 pub branches-from : (items : List Item) (i : ℕ) (item : Item) → i < length items → item ≡ slice_index_or items i item →

@@ -39,7 +39,9 @@ there (Some s) line e = refl
 of-line : (ms : List Member) (line : SectionTree) (source : Option Place) → least_in no_output (option_to_list source) ≡ None →
     HaveOutputs (ends_from ms source line)
 of-line ms line None none = tt
-of-line ms line (Some source) none = of-source source (filter_map (target_of ms) (parts_of_line line)) (there (output_at source) source.line (none-first (no_output source) None none))
+of-line ms line (Some source) none =
+    of-source source (filter_map (target_of ms) (parts_of_line line))
+    (there (output_at source) source.line (none-first (no_output source) None none))
 
 -- of all lines
 of-lines : (ms : List Member) (lines : List SectionTree) →
@@ -70,7 +72,9 @@ found-source input (x ∷ ends) h e = by (leads_to input x) e (found-source inpu
 all-found : (source : ℕ → Option Source) (a n : ℕ) → ((k : ℕ) → a ≤ k → k < a + n → is_some (source k) ≡ true) →
     length (filter_map source (range_with_len a n)) ≡ n
 all-found source a zero all = refl
-all-found source a (suc n) all = by (source a) refl (all a (omega arith) (omega arith)) (all-found source (a + 1) n (λ k low high. all k (omega (arith, low)) (omega (arith, high))))
+all-found source a (suc n) all =
+    by (source a) refl (all a (omega arith) (omega arith))
+    (all-found source (a + 1) n (λ k low high. all k (omega (arith, low)) (omega (arith, high))))
   where
     rest : List Source
     rest = filter_map source (range_with_len (a + 1) n)
@@ -91,7 +95,9 @@ one_source is_root ms items none at m here =
     let ports = or-later (missing_blocks sources ends) _ lines in
     let doubles = or-later (missing_ports sources ends) _ ports in
     let loose = or-later (double_sources ends) _ doubles in
-    let outputs = of-lines ms (lines_in items) (none-first (least_in no_output sources) _ (or-first (missing_ports sources ends) _ ports)) in
+    let outputs =
+    of-lines ms (lines_in items)
+    (none-first (least_in no_output sources) _ (or-first (missing_ports sources ends) _ ports)) in
     all-found (λ number. source_into ends (record { member = at; number = number })) 1 (port_count m.shape)
     (λ number low high. found-source (record { member = at; number = number }) ends outputs
     (some-line ends ms (or-first (unconnected_ports ends ms) _ loose) at m number here low (omega (arith, high))))

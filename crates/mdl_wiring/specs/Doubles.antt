@@ -14,7 +14,8 @@ is_port port wanted = option_map_or (λ own. wanted == own) port false
 
 -- a set has the ports of these blocks on one side
 abbrev pub ArePortsOf : {S : Type 0} → Side → List Member → IndexSet ℕ S → Type 0
-ArePortsOf side ms ports = (port : ℕ) → contains nat_eq ports port ≡ list_any (has_port side port) ms
+ArePortsOf side ms ports =
+    (port : ℕ) → contains nat_eq ports port ≡ list_any (has_port side port) ms
 
 -- whether a port is there and in a set
 abbrev pub is_taken : {S : Type 0} → IndexSet ℕ S → Option ℕ → Bool
@@ -22,11 +23,13 @@ is_taken ports port = option_map_or (contains nat_eq ports) port false
 
 -- a set has the ports of another one, and this one
 abbrev pub Takes : {S : Type 0} → IndexSet ℕ S → IndexSet ℕ S → Option ℕ → Type 0
-Takes ports wider port = (other : ℕ) → contains nat_eq wider other ≡ (contains nat_eq ports other || is_port port other)
+Takes ports wider port =
+    (other : ℕ) → contains nat_eq wider other ≡ (contains nat_eq ports other || is_port port other)
 
 -- what is told of a block's port, where a set has the ports of those before it
 abbrev pub IsToldOf : {S : Type 0} → Side → IndexSet ℕ S → Member → Option PlainRefusal → Type 0
-IsToldOf side ports m found = (before : List Member) → ArePortsOf side before ports → found ≡ double_among (same_port side) before m
+IsToldOf side ports m found = (before : List Member) → ArePortsOf side before ports →
+    found ≡ double_among (same_port side) before m
 
 -- the refusal of a block that may be like an earlier one
 abbrev pub double_found : Member → (is_double : Bool) → Option PlainRefusal

@@ -16,11 +16,13 @@ ends_into ends input = length (filter (leads_to input) ends)
 abbrev pub EachInputHasOneLine : Type 0
 EachInputHasOneLine =
     (is_root : Bool) (ms : List Member) (items : Items) → wiring_refusal is_root ms items ≡ None →
-    (at : ℕ) (m : Member) (number : ℕ) → slice_get ms at ≡ Some m → 1 ≤ number → number ≤ port_count m.shape →
+    (at : ℕ) (m : Member) (number : ℕ) → slice_get ms at ≡ Some m → 1 ≤ number →
+    number ≤ port_count m.shape →
     ends_into (ends_in ms items) (record { member = at; number = number }) ≡ 1
 
 -- each input of each block of such a system has a source
 abbrev pub EachInputHasOneSource : Type 0
 EachInputHasOneSource =
     (is_root : Bool) (ms : List Member) (items : Items) → wiring_refusal is_root ms items ≡ None →
-    (at : ℕ) (m : Member) → slice_get ms at ≡ Some m → length (sources_of (ends_in ms items) at m) ≡ port_count m.shape
+    (at : ℕ) (m : Member) → slice_get ms at ≡ Some m →
+    length (sources_of (ends_in ms items) at m) ≡ port_count m.shape

@@ -10,7 +10,8 @@ abbrev pub branches_in : Items → List SectionTree
 branches_in End = []
 branches_in (Param name value line rest) = branches_in rest
 branches_in (Section name line items rest) =
-    (if bytes_eq name (codes "Branch") then record { name = name; line = line; items = items } ∷ branches_in items else [])
+    (if bytes_eq name (codes "Branch") then record { name = name; line = line; items = items }
+    ∷ branches_in items else [])
     ++ branches_in rest
 
 -- a line's own section and those of its branches
@@ -21,8 +22,8 @@ parts_of_line line = line ∷ branches_in line.items
 abbrev pub lines_in : Items → List SectionTree
 lines_in items = sections_named (codes "Line") items
 
--- A place that a line names: the line of the section that names it, the block, if there is one of that name, and the text of
--- the port, if there is one.
+-- A place that a line names: the line of the section that names it, the block, if there is one of
+-- that name, and the text of the port, if there is one.
 pub record Place : Type 0 where
   pub line : ℕ
   pub named : Option Named
@@ -31,12 +32,17 @@ pub record Place : Type 0 where
 -- the first block of this name, with its place and its ports
 abbrev pub member_named : List Member → List ℕ → Option Named
 member_named ms name =
-    option_and_then (λ at. option_map (λ (m : Member). record { at = at; shape = m.shape }) (slice_get ms at)) (place_of name ms)
+    option_and_then (λ at. option_map (λ (m : Member). record { at = at; shape = m.shape })
+    (slice_get ms at)) (place_of name ms)
 
 -- the place that a section names by these two parameters, if it names a block
 abbrev pub named_by : List Member → (block port : List ℕ) → SectionTree → Option Place
 named_by ms block port section =
-    option_map (λ name. record { line = section.line; named = member_named ms name; port = first_value port section.items })
+    option_map (λ name. record {
+      line = section.line;
+      named = member_named ms name;
+      port = first_value port section.items;
+    })
     (first_value block section.items)
 
 -- the place from which a line leads, if it has one
@@ -54,7 +60,8 @@ pub record LineEnd : Type 0 where
 
 -- the ends from a source to the places that the parts of a line name
 abbrev pub ends_to : List Member → Place → List SectionTree → List LineEnd
-ends_to ms source parts = map (λ target. record { source = source; target = target }) (filter_map (target_of ms) parts)
+ends_to ms source parts =
+    map (λ target. record { source = source; target = target }) (filter_map (target_of ms) parts)
 
 -- the ends of a line from this source; a line without a source is passed over
 abbrev pub ends_from : List Member → Option Place → SectionTree → List LineEnd

@@ -74,7 +74,8 @@ has_trigger EnablePort = false
 has_trigger TriggerPort = false
 has_trigger (Plain inputs output) = false
 
--- how many inputs a block has: they are numbered from 1, first the data inputs, then the enable, then the trigger
+-- how many inputs a block has: they are numbered from 1, first the data inputs, then the enable,
+-- then the trigger
 abbrev pub port_count : Shape → ℕ
 port_count shape = input_count shape + one_if (has_enable shape) + one_if (has_trigger shape)
 

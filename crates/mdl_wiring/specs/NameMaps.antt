@@ -15,8 +15,10 @@ abbrev pub first_taken : Option ℕ → (place : ℕ) → ℕ
 first_taken before place = unwrap_or before place
 
 -- the place that a map gives to a name, once this one is taken at a place
-abbrev pub place_with : {S : Type 0} → (taken : List ℕ) (place : ℕ) → IndexMap (Bor (List ℕ)) ℕ S → List ℕ → Option ℕ
-place_with taken place map name = if bytes_eq taken name then Some (first_taken (place_in map taken) place) else place_in map name
+abbrev pub place_with : {S : Type 0} → (taken : List ℕ) (place : ℕ) → IndexMap (Bor (List ℕ)) ℕ S →
+    List ℕ → Option ℕ
+place_with taken place map name =
+    if bytes_eq taken name then Some (first_taken (place_in map taken) place) else place_in map name
 
 -- a map gives each name the place of the first block that has it
 abbrev pub AreNamesOf : {S : Type 0} → List Member → IndexMap (Bor (List ℕ)) ℕ S → Type 0

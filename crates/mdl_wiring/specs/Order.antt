@@ -34,7 +34,8 @@ number_of (LongDelays line total) = 24
 abbrev pub is_before : PlainRefusal → PlainRefusal → Bool
 is_before refusal other =
     nat_lt (number_of refusal) (number_of other)
-    || (number_of refusal == number_of other && nat_lt (line_of_refusal refusal) (line_of_refusal other))
+    || (number_of refusal == number_of other
+    && nat_lt (line_of_refusal refusal) (line_of_refusal other))
 
 -- the first of two refusals that may be there
 abbrev pub first_of : Option PlainRefusal → Option PlainRefusal → Option PlainRefusal

@@ -9,7 +9,8 @@ use Rattle.mdl_wiring.specs.declared.ports.Input.{Input}
 use Rattle.mdl_wiring.specs.Members.{input_count, output_count, enable_number, trigger_number}
 use Rattle.mdl_wiring.specs.Lines.{Place, LineEnd}
 
--- the number of the input that a text at the end of a line names, if a block with these ports has it
+-- the number of the input that a text at the end of a line names, if a block with these ports has
+-- it
 abbrev pub input_named : Shape → List ℕ → Option ℕ
 input_named shape text =
     if bytes_eq text (codes "enable") then enable_number shape
@@ -23,12 +24,14 @@ output_named shape text = number_up_to (output_count shape) text
 -- the input that a place names, if its block is there and has it
 abbrev pub input_at : Place → Option Input
 input_at p =
-    option_and_then (λ (b : Named). option_map (λ n. record { member = b.at; number = n }) (option_and_then (input_named b.shape) p.port)) p.named
+    option_and_then (λ (b : Named). option_map (λ n. record { member = b.at; number = n })
+    (option_and_then (input_named b.shape) p.port)) p.named
 
 -- the output that a place names, if its block is there and has it
 abbrev pub output_at : Place → Option Source
 output_at p =
-    option_and_then (λ (b : Named). option_map (λ k. record { member = b.at; output = k }) (option_and_then (output_named b.shape) p.port)) p.named
+    option_and_then (λ (b : Named). option_map (λ k. record { member = b.at; output = k })
+    (option_and_then (output_named b.shape) p.port)) p.named
 
 -- whether two inputs are one
 abbrev pub are_one : Input → Input → Bool

@@ -9,7 +9,8 @@ use Rattle.mdl_wiring.specs.declared.shape.Inside.{Inside}
 abbrev pub shape_of : Inside → KindText → Shape
 shape_of inside (inport port) = Inport port
 shape_of inside (outport port reset initial) = Outport port
-shape_of inside (subsystem system) = SubSystem inside.inports inside.outports inside.enable inside.trigger
+shape_of inside (subsystem system) =
+    SubSystem inside.inports inside.outports inside.enable inside.trigger
 shape_of inside (constant value) = Plain 0 true
 shape_of inside ground = Plain 0 true
 shape_of inside terminator = Plain 1 false

@@ -16,11 +16,14 @@ use Rattle.mdl_wiring.specs.Refusals.{numbers_of, lines_refusal, wiring_refusal}
 
 -- the output from which the first line end leads to an input
 abbrev pub source_into : List LineEnd → Input → Option Source
-source_into ends input = option_and_then (λ (e : LineEnd). output_at e.source) (find (leads_to input) ends)
+source_into ends input =
+    option_and_then (λ (e : LineEnd). output_at e.source) (find (leads_to input) ends)
 
--- the outputs that the inputs of the block at a place read: its data inputs by port, then its enable, then its trigger
+-- the outputs that the inputs of the block at a place read: its data inputs by port, then its
+-- enable, then its trigger
 abbrev pub sources_of : List LineEnd → (at : ℕ) → Member → List Source
-sources_of ends at m = filter_map (λ number. source_into ends (record { member = at; number = number })) (numbers_of m)
+sources_of ends at m =
+    filter_map (λ number. source_into ends (record { member = at; number = number })) (numbers_of m)
 
 -- the same of all blocks, from this place on
 abbrev pub sources_from : List LineEnd → (at : ℕ) → List Member → List (List Source)
@@ -33,14 +36,16 @@ wiring_seen wiring = map (λ sources. sources.items) wiring.rows.items
 
 -- the first refusal of a system for how the lines with these places in memory lead
 abbrev pub named_refusal : (is_root : Bool) → List Member → LinePlaces → Option PlainRefusal
-named_refusal is_root ms named = lines_refusal is_root ms (places_seen named.sources.items) (ends_seen named.ends.items)
+named_refusal is_root ms named =
+    lines_refusal is_root ms (places_seen named.sources.items) (ends_seen named.ends.items)
 
 -- the outputs that the inputs of all blocks read by these places
 abbrev pub named_sources : List Member → LinePlaces → List (List Source)
 named_sources ms named = sources_from (ends_seen named.ends.items) 0 ms
 
 -- how the lines of a system lead in which nothing is refused
-pub record IsWiringOf (is_root : Bool) (ms : List Member) (items : Items) (wiring : Wiring) : Type 0 where
+pub record IsWiringOf (is_root : Bool) (ms : List Member) (items : Items)
+    (wiring : Wiring) : Type 0 where
   pub lawful : wiring_refusal is_root ms items ≡ None
   pub sources : wiring_seen wiring ≡ sources_from (ends_in ms items) 0 ms
 

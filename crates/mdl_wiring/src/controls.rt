@@ -42,7 +42,8 @@ fn second_control(control: Control, members: &[Member]) -> Option<Refusal>
 
 /// The refusal of a control port in the root.
 fn control_found(member: &Member) -> Option<Refusal>
-    ensures { as_plain result ≡ found_where refusals.is_control refusals.control_port (member_seen member.now) }
+    ensures { as_plain result
+        ≡ found_where refusals.is_control refusals.control_port (member_seen member.now) }
 {
     let shape = member.shape;
     if is_port_of(Control::Enable, shape) || is_port_of(Control::Trigger, shape) {
@@ -54,7 +55,8 @@ fn control_found(member: &Member) -> Option<Refusal>
 
 /// The first control port.
 fn least_control(members: &[Member]) -> Option<Refusal>
-    ensures { as_plain result ≡ least_in (found_where refusals.is_control refusals.control_port) (members_seen members.now) }
+    ensures { as_plain result ≡ least_in (found_where refusals.is_control refusals.control_port)
+        (members_seen members.now) }
 {
     let mut least = None;
     for member in members {

@@ -44,7 +44,8 @@ fn double_found(member: &Member, is_double: bool) -> Option<Refusal>
 /// The refusal of the block at a place, where an earlier one has its name.
 fn double_name(members: &[Member], names: &Names, member: &Member, at: usize) -> Option<Refusal>
     requires { AreNamesOf (members_seen members.now) names.now }
-    ensures { as_plain result ≡ refusals.double refusals.same_name (members_seen members.now) at (member_seen member.now) }
+    ensures { as_plain result ≡ refusals.double refusals.same_name (members_seen members.now) at
+        (member_seen member.now) }
 {
     let is_double = is_before(place_of(names, member.name), at);
     double_found(member, is_double)
@@ -53,7 +54,8 @@ fn double_name(members: &[Member], names: &Names, member: &Member, at: usize) ->
 /// The first block with the name of an earlier one.
 fn least_double_name(members: &[Member], names: &Names) -> Option<Refusal>
     requires { AreNamesOf (members_seen members.now) names.now }
-    ensures { as_plain result ≡ refusals.first_double refusals.same_name (members_seen members.now) }
+    ensures { as_plain result
+        ≡ refusals.first_double refusals.same_name (members_seen members.now) }
 {
     let mut least = None;
     for (at, member) in members.iter().enumerate() {
@@ -92,7 +94,8 @@ fn least_double_port(
     members: &[Member],
     side: Side,
 ) -> Result<Option<Refusal>, Memory>
-    ensures { IfOk result (λ r. as_plain r ≡ refusals.first_double (refusals.same_port side) (members_seen members.now)) }
+    ensures { IfOk result (λ r. as_plain r
+        ≡ refusals.first_double (refusals.same_port side) (members_seen members.now)) }
 {
     let mut ports = IndexSet::new(alloc);
     let mut least = None;

@@ -69,7 +69,9 @@ fn named_by<'a>(
     port: &[u8],
 ) -> Option<Place<'a>>
     requires { AreNamesOf (members_seen members.now) names.now }
-    ensures { option_map place_seen result ≡ written.named_by (members_seen members.now) block.now port.now (section_tree section.now) }
+    ensures { option_map place_seen result
+        ≡ written.named_by (members_seen members.now) block.now port.now
+        (section_tree section.now) }
 {
     let name = text_named(section, block)?;
     Some(Place {
@@ -82,7 +84,8 @@ fn named_by<'a>(
 /// The place from which a line leads, if it has one.
 fn source_of<'a>(members: &[Member], names: &Names, line: &'a Section) -> Option<Place<'a>>
     requires { AreNamesOf (members_seen members.now) names.now }
-    ensures { option_map place_seen result ≡ written.source_of (members_seen members.now) (section_tree line.now) }
+    ensures { option_map place_seen result
+        ≡ written.source_of (members_seen members.now) (section_tree line.now) }
 {
     named_by(members, names, line, b"SrcBlock", b"SrcPort")
 }
@@ -90,7 +93,8 @@ fn source_of<'a>(members: &[Member], names: &Names, line: &'a Section) -> Option
 /// The place to which a part of a line leads, if it names one.
 fn target_of<'a>(members: &[Member], names: &Names, part: &'a Section) -> Option<Place<'a>>
     requires { AreNamesOf (members_seen members.now) names.now }
-    ensures { option_map place_seen result ≡ written.target_of (members_seen members.now) (section_tree part.now) }
+    ensures { option_map place_seen result
+        ≡ written.target_of (members_seen members.now) (section_tree part.now) }
 {
     named_by(members, names, part, b"DstBlock", b"DstPort")
 }
@@ -104,7 +108,9 @@ fn take_targets<'a>(
     parts: &[&'a Section],
 ) -> Result<(), Memory>
     requires { AreNamesOf (members_seen members.now) names.now }
-    ensures { OnOk result (ends_seen ends.new.items ≡ ends_seen ends.old.items ++ written.ends_to (members_seen members.now) (place_seen source.entry) (trees_of parts.now)) }
+    ensures { OnOk result (ends_seen ends.new.items ≡ ends_seen ends.old.items
+        ++ written.ends_to (members_seen members.now) (place_seen source.entry)
+        (trees_of parts.now)) }
 {
     for part in parts {
         if let Some(target) = target_of(members, names, *part) {
@@ -131,8 +137,10 @@ fn take_line<'a>(
     line: &'a Section,
 ) -> Result<(), Memory>
     requires { AreNamesOf (members_seen members.now) names.now }
-    ensures sources { OnOk result (places_seen sources.new.items ≡ places_seen sources.old.items ++ option_to_list (written.source_of (members_seen members.now) (section_tree line.now))) }
-    ensures ends { OnOk result (ends_seen ends.new.items ≡ ends_seen ends.old.items ++ written.ends_of_line (members_seen members.now) (section_tree line.now)) }
+    ensures sources { OnOk result (places_seen sources.new.items ≡ places_seen sources.old.items
+        ++ option_to_list (written.source_of (members_seen members.now) (section_tree line.now))) }
+    ensures ends { OnOk result (ends_seen ends.new.items ≡ ends_seen ends.old.items
+        ++ written.ends_of_line (members_seen members.now) (section_tree line.now)) }
 {
     let Some(source) = source_of(members, names, line) else {
         return Ok(());
@@ -151,8 +159,10 @@ pub(crate) fn places_of<'a>(
     lines: &[&'a Section],
 ) -> Result<LinePlaces<'a>, Memory>
     requires { AreNamesOf (members_seen members.now) names.now }
-    ensures sources { IfOk result (λ named. places_seen named.sources.items ≡ written.sources_among (members_seen members.now) (trees_of lines.now)) }
-    ensures ends { IfOk result (λ named. ends_seen named.ends.items ≡ written.ends_among (members_seen members.now) (trees_of lines.now)) }
+    ensures sources { IfOk result (λ named. places_seen named.sources.items
+        ≡ written.sources_among (members_seen members.now) (trees_of lines.now)) }
+    ensures ends { IfOk result (λ named. ends_seen named.ends.items
+        ≡ written.ends_among (members_seen members.now) (trees_of lines.now)) }
 {
     let mut sources = Vec::new(alloc);
     let mut ends = Vec::new(alloc);

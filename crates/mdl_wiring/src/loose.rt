@@ -13,7 +13,8 @@ use mc_diagram::earlier;
 
 /// The number of the first input of the block at a place to which no line leads.
 fn loose_input(inputs: &Inputs, member: &Member, at: usize) -> Option<u64>
-    ensures { (ends : List lines.LineEnd) → AreInputsOf ends inputs.now → result ≡ find (refusals.is_loose ends at) (refusals.numbers_of (member_seen member.now)) }
+    ensures { (ends : List lines.LineEnd) → AreInputsOf ends inputs.now →
+        result ≡ find (refusals.is_loose ends at) (refusals.numbers_of (member_seen member.now)) }
 {
     for index in 0..member.shape.port_count() {
         let input = Input {
@@ -29,7 +30,8 @@ fn loose_input(inputs: &Inputs, member: &Member, at: usize) -> Option<u64>
 
 /// The refusal of the block at a place for the first of its inputs to which no line leads.
 fn unconnected(inputs: &Inputs, member: &Member, at: usize) -> Option<Refusal>
-    ensures { (ends : List lines.LineEnd) → AreInputsOf ends inputs.now → as_plain result ≡ refusals.unconnected ends at (member_seen member.now) }
+    ensures { (ends : List lines.LineEnd) → AreInputsOf ends inputs.now →
+        as_plain result ≡ refusals.unconnected ends at (member_seen member.now) }
 {
     match loose_input(inputs, member, at) {
         Some(number) => Some(Refusal::Unconnected {
@@ -42,7 +44,8 @@ fn unconnected(inputs: &Inputs, member: &Member, at: usize) -> Option<Refusal>
 
 /// The first input to which no line leads.
 pub(crate) fn least_unconnected(inputs: &Inputs, members: &[Member]) -> Option<Refusal>
-    ensures { (ends : List lines.LineEnd) → AreInputsOf ends inputs.now → as_plain result ≡ refusals.unconnected_ports ends (members_seen members.now) }
+    ensures { (ends : List lines.LineEnd) → AreInputsOf ends inputs.now →
+        as_plain result ≡ refusals.unconnected_ports ends (members_seen members.now) }
 {
     let mut least = None;
     for (at, member) in members.iter().enumerate() {

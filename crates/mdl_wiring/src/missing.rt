@@ -32,7 +32,8 @@ fn least_source_without_block(sources: &[Place]) -> Option<Refusal>
 
 /// The first target whose block isn't there.
 fn least_target_without_block(ends: &[LineEnd]) -> Option<Refusal>
-    ensures { as_plain result ≡ least_in (λ (e : lines.LineEnd). refusals.no_block e.target) (ends_seen ends.now) }
+    ensures { as_plain result ≡ least_in (λ (e : lines.LineEnd). refusals.no_block e.target)
+        (ends_seen ends.now) }
 {
     let mut least = None;
     for end in ends {
@@ -43,7 +44,8 @@ fn least_target_without_block(ends: &[LineEnd]) -> Option<Refusal>
 
 /// The first place whose block isn't there.
 pub(crate) fn least_without_block(sources: &[Place], ends: &[LineEnd]) -> Option<Refusal>
-    ensures { as_plain result ≡ refusals.missing_blocks (places_seen sources.now) (ends_seen ends.now) }
+    ensures { as_plain result
+        ≡ refusals.missing_blocks (places_seen sources.now) (ends_seen ends.now) }
 {
     earlier(
         least_source_without_block(sources),
@@ -84,7 +86,8 @@ fn least_source_without_port(sources: &[Place]) -> Option<Refusal>
 
 /// The first target whose block hasn't the port.
 fn least_target_without_port(ends: &[LineEnd]) -> Option<Refusal>
-    ensures { as_plain result ≡ least_in (λ (e : lines.LineEnd). refusals.no_input e.target) (ends_seen ends.now) }
+    ensures { as_plain result ≡ least_in (λ (e : lines.LineEnd). refusals.no_input e.target)
+        (ends_seen ends.now) }
 {
     let mut least = None;
     for end in ends {
@@ -95,7 +98,8 @@ fn least_target_without_port(ends: &[LineEnd]) -> Option<Refusal>
 
 /// The first place whose block hasn't the port.
 pub(crate) fn least_without_port(sources: &[Place], ends: &[LineEnd]) -> Option<Refusal>
-    ensures { as_plain result ≡ refusals.missing_ports (places_seen sources.now) (ends_seen ends.now) }
+    ensures { as_plain result
+        ≡ refusals.missing_ports (places_seen sources.now) (ends_seen ends.now) }
 {
     earlier(
         least_source_without_port(sources),

@@ -12,7 +12,8 @@ pub(crate) type Names<'a> = IndexMap<&'a [u8], usize>;
 
 /// Takes a name at a place, unless it was taken before.
 fn take_name<'a>(places: &mut Names<'a>, name: &'a [u8], place: usize) -> Result<(), Memory>
-    ensures { OnOk result ((other : List ℕ) → place_in places.new other ≡ place_with name.now place places.old other) }
+    ensures { OnOk result ((other : List ℕ) →
+        place_in places.new other ≡ place_with name.now place places.old other) }
 {
     match places.insert(name, place)? {
         Some(first) => {

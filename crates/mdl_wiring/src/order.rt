@@ -40,7 +40,8 @@ fn number_of(refusal: &Refusal) -> u32
 
 /// The first of two refusals: that of the lesser number, of one number that of the lesser line, and of one line `found`.
 fn first_one(found: Refusal, other: Refusal) -> Option<Refusal>
-    ensures { as_plain result ≡ order.first_of (Some (plain_refusal found)) (Some (plain_refusal other)) }
+    ensures { as_plain result
+        ≡ order.first_of (Some (plain_refusal found)) (Some (plain_refusal other)) }
 {
     let number = number_of(&found);
     let other_number = number_of(&other);

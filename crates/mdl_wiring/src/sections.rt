@@ -11,7 +11,8 @@ use std::alloc::Global;
 
 /// An item, if it is a section of this name.
 pub(crate) fn named_in<'a>(item: &'a Item, name: &[u8]) -> Option<&'a Section>
-    ensures { option_to_list (option_map (λ r. section_tree r.now) result) ≡ sections_named name.now (with_item item.now End) }
+    ensures { option_to_list (option_map (λ r. section_tree r.now) result)
+        ≡ sections_named name.now (with_item item.now End) }
 {
     match item {
         Item::Param { .. } => None,
@@ -31,7 +32,8 @@ pub(crate) fn sections_named<'a>(
     section: &'a Section,
     name: &[u8],
 ) -> Result<Vec<&'a Section>, Memory>
-    ensures { IfOk result (λ v. trees_of v.items ≡ sections_named name.now (section_tree section.now).items) }
+    ensures { IfOk result (λ v. trees_of v.items
+        ≡ sections_named name.now (section_tree section.now).items) }
 {
     let mut sections = Vec::new(alloc);
     for item in section.items.as_slice() {
@@ -44,7 +46,8 @@ pub(crate) fn sections_named<'a>(
 
 /// Takes a line's own section and those of its branches behind the parts taken before.
 pub(crate) fn take_parts<'a>(parts: &mut Vec<&'a Section>, line: &'a Section) -> Result<(), Memory>
-    ensures { OnOk result (trees_of parts.new.items ≡ trees_of parts.old.items ++ parts_of_line (section_tree line.now)) }
+    ensures { OnOk result (trees_of parts.new.items ≡ trees_of parts.old.items
+        ++ parts_of_line (section_tree line.now)) }
 {
     parts.push(line)?;
     for item in line.items.as_slice() {

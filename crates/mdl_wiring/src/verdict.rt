@@ -26,7 +26,8 @@ use std::alloc::Global;
 /// The first refusal of places that lines name, or else of inputs to which two lines lead.
 fn refusal_of_ends(sources: &[Place], ends: &[LineEnd], inputs: &Inputs) -> Option<Refusal>
     requires { AreInputsOf (ends_seen ends.now) inputs.now }
-    ensures { as_plain result ≡ refusals.ends_refusal (places_seen sources.now) (ends_seen ends.now) }
+    ensures { as_plain result
+        ≡ refusals.ends_refusal (places_seen sources.now) (ends_seen ends.now) }
 {
     if let Some(refusal) = least_without_block(sources, ends) {
         return Some(refusal);
@@ -45,7 +46,8 @@ fn refusal_of_ports(
     is_root: bool,
 ) -> Option<Refusal>
     requires { AreInputsOf (ends_seen ends.now) inputs.now }
-    ensures { as_plain result ≡ refusals.ports_refusal is_root (members_seen members.now) (ends_seen ends.now) }
+    ensures { as_plain result ≡ refusals.ports_refusal is_root (members_seen members.now)
+        (ends_seen ends.now) }
 {
     match least_unconnected(inputs, members) {
         Some(refusal) => Some(refusal),
@@ -62,7 +64,8 @@ fn refusal_of_lines(
     is_root: bool,
 ) -> Option<Refusal>
     requires { AreInputsOf (ends_seen ends.now) inputs.now }
-    ensures { as_plain result ≡ refusals.lines_refusal is_root (members_seen members.now) (places_seen sources.now) (ends_seen ends.now) }
+    ensures { as_plain result ≡ refusals.lines_refusal is_root (members_seen members.now)
+        (places_seen sources.now) (ends_seen ends.now) }
 {
     match refusal_of_ends(sources, ends, inputs) {
         Some(refusal) => Some(refusal),
@@ -77,7 +80,8 @@ fn wire_ends(
     named: &LinePlaces,
     is_root: bool,
 ) -> Result<Wiring, WiringFault>
-    ensures lawful { OnOk result (named_refusal is_root (members_seen members.now) named.now ≡ None) }
+    ensures lawful { OnOk result (named_refusal is_root (members_seen members.now) named.now
+        ≡ None) }
     ensures sources { IfOk result (λ w. wiring_seen w ≡ named_sources (members_seen members.now) named.now) }
     ensures fault { IfErr result (IsFaultBy (named_refusal is_root (members_seen members.now) named.now)) }
 {
@@ -98,8 +102,10 @@ fn places_in<'a>(
     system: &'a Section,
 ) -> Result<LinePlaces<'a>, Memory>
     requires { AreNamesOf (members_seen members.now) names.now }
-    ensures sources { IfOk result (λ named. places_seen named.sources.items ≡ written.sources_in (members_seen members.now) (section_tree system.now).items) }
-    ensures ends { IfOk result (λ named. ends_seen named.ends.items ≡ written.ends_in (members_seen members.now) (section_tree system.now).items) }
+    ensures sources { IfOk result (λ named. places_seen named.sources.items
+        ≡ written.sources_in (members_seen members.now) (section_tree system.now).items) }
+    ensures ends { IfOk result (λ named. ends_seen named.ends.items
+        ≡ written.ends_in (members_seen members.now) (section_tree system.now).items) }
 {
     let lines = sections_named(alloc, system, b"Line")?;
     let named = places_of(alloc, members, names, lines.as_slice())?;
@@ -120,8 +126,12 @@ pub fn wire(
     system: &Section,
     is_root: bool,
 ) -> Result<Wiring, WiringFault>
-    ensures wiring { IfOk result (IsWiringOf is_root (members_seen members.now) (section_tree system.now).items) }
-    ensures fault { IfErr result (IsFaultBy (refusals.wiring_refusal is_root (members_seen members.now) (section_tree system.now).items)) }
+    ensures wiring { IfOk result
+        (IsWiringOf is_root (members_seen members.now) (section_tree system.now).items) }
+    ensures fault { IfErr result
+        (IsFaultBy
+        (refusals.wiring_refusal is_root (members_seen members.now)
+        (section_tree system.now).items)) }
 {
     let names = names_of(alloc, members)?;
     if let Some(refusal) = least_double(alloc, members, &names)? {

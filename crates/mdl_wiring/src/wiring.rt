@@ -34,7 +34,8 @@ impl Wiring {
 
 /// The output from which the line end at a place leads.
 fn source_at(ends: &[LineEnd], at: usize) -> Option<Source>
-    ensures { result ≡ option_and_then (λ (e : lines.LineEnd). ports.output_at e.source) (slice_get (ends_seen ends.now) at) }
+    ensures { result ≡ option_and_then (λ (e : lines.LineEnd). ports.output_at e.source)
+        (slice_get (ends_seen ends.now) at) }
 {
     match ends.get(at) {
         Some(end) => output_at(&end.source),
@@ -72,7 +73,8 @@ fn sources_of(
     at: usize,
 ) -> Result<Vec<Source>, Memory>
     requires { AreInputsOf (ends_seen ends.now) inputs.now }
-    ensures { IfOk result (λ sources. sources.items ≡ wired.sources_of (ends_seen ends.now) at (member_seen member.now)) }
+    ensures { IfOk result (λ sources. sources.items
+        ≡ wired.sources_of (ends_seen ends.now) at (member_seen member.now)) }
 {
     let mut sources = Vec::new(alloc);
     for index in 0..member.shape.port_count() {
@@ -93,7 +95,8 @@ pub(crate) fn wiring_of(
     inputs: &Inputs,
 ) -> Result<Wiring, Memory>
     requires { AreInputsOf (ends_seen ends.now) inputs.now }
-    ensures { IfOk result (λ w. wired.wiring_seen w ≡ wired.sources_from (ends_seen ends.now) 0 (members_seen members.now)) }
+    ensures { IfOk result (λ w. wired.wiring_seen w
+        ≡ wired.sources_from (ends_seen ends.now) 0 (members_seen members.now)) }
 {
     let mut rows = Vec::new(alloc);
     for (at, member) in members.iter().enumerate() {

@@ -30,14 +30,16 @@ can-drive r (Some system) script (shape, is, whole) = (shape, is, at_there scrip
 can-comes : (a : Asked) (fs : List File) → CanDo a fs → Comes a fs 0
 can-comes (Compile model code) fs can = at_there (lookup model fs) can (λ bytes x. inr (x.0, x.1, refl))
 can-comes (Run model code trace) fs can =
-    at_there (lookup model fs) can (λ bytes x. inr (x.0, x.1, at_there (lookup trace fs) x.2 (λ lines good. sym (ap (run_status None) good))))
+    at_there (lookup model fs) can
+    (λ bytes x. inr (x.0, x.1, at_there (lookup trace fs) x.2 (λ lines good. sym (ap (run_status None) good))))
 can-comes (Exec code trace) fs can =
     at_there (lookup code fs) can (λ bytes x. inr (inr (
       x.fits,
       (
         x.program,
         x.reading,
-        comes-over x.program x.types (lookup trace fs) 0 (start_run x.program) refl x.inputs (at_there (lookup trace fs) x.runs (λ lines run. over x.program x.types lines None None run.free run.good)),
+        comes-over x.program x.types (lookup trace fs) 0 (start_run x.program) refl x.inputs
+            (at_there (lookup trace fs) x.runs (λ lines run. over x.program x.types lines None None run.free run.good)),
       ),
     )))
 can-comes (Profile model) fs can = at_there (lookup model fs) can (λ bytes x. inr (x.0, x.1, refl))
@@ -50,7 +52,9 @@ done-by s a fs comes reads writes puts can = by (eqb_tells s 10)
   where
     by : {A B : Type 0} → (A × (s ≡ 10)) ⊎ (B × (s ≢ 10)) → IsDone s
     by (inl ten) = inr ten.1
-    by (inr other) = inl (comes.wherever 0 (can-comes a fs can) (record { no_read_fault = reads; no_write_fault = writes; no_put_fault = puts; no_want_of_memory = other.1 }))
+    by (inr other) =
+        inl (comes.wherever 0 (can-comes a fs can)
+        (record { no_read_fault = reads; no_write_fault = writes; no_put_fault = puts; no_want_of_memory = other.1 }))
 
 -- ---- Where no count rises
 
@@ -59,14 +63,16 @@ pub complete : OneVerdict → ReadingsAgree → ShapesAreOne → (s : ℕ) (a : 
 complete one agree shapes s None h h' b b' ends = λ calm. tt
 complete one agree shapes s (Some a) h h' b b' ends = λ calm.
     told-map h.files h.rest (comes_exactly one agree shapes s (Some a) h h' b b' ends) (λ fs comes.
-    done-by s a fs comes (no_read s (Some a) h h' b b' ends calm.reads) (no_write s (Some a) h h' b b' ends calm.writes) (no_put s (Some a) h h' b b' ends calm.puts))
+    done-by s a fs comes (no_read s (Some a) h h' b b' ends calm.reads) (no_write s (Some a) h h' b b' ends calm.writes)
+    (no_put s (Some a) h h' b b' ends calm.puts))
 
 -- ---- A host that is sure of its files
 
 apart : (b : Bool) → b ≡ true → b ≡ false → ⊥
 apart b holds fails = cc (sym holds ∙ fails)
 
-sure-not-unsure : {H : Type 0} (files : H → Option (List File)) (sure : H → List ℕ → Bool) (x : H) (a : Asked) → IsSureOf files sure x a → IsUnsureOf files sure x a → ⊥
+sure-not-unsure : {H : Type 0} (files : H → Option (List File)) (sure : H → List ℕ → Bool) (x : H) (a : Asked) →
+    IsSureOf files sure x a → IsUnsureOf files sure x a → ⊥
 sure-not-unsure {H = H} files sure x a of (inl unsure) = by (first_file a) of.first unsure
   where
     by : (o : Option (List ℕ)) → IfSome o (λ name. sure x name ≡ true) → IsSomeAnd o (λ name. sure x name ≡ false) → ⊥
@@ -74,7 +80,8 @@ sure-not-unsure {H = H} files sure x a of (inl unsure) = by (first_file a) of.fi
     by (Some name) surely unsure = apart (sure x name) surely unsure
 sure-not-unsure {H = H} files sure x a of (inr later) = by (second_file a) of.second later
   where
-    by : (o : Option (List ℕ)) → IfSome o (λ name. (y : H) → files y ≡ files x → sure y name ≡ true) → IsSomeAnd o (BecomesUnsureOf files sure x) → ⊥
+    by : (o : Option (List ℕ)) → IfSome o (λ name. (y : H) → files y ≡ files x → sure y name ≡ true) →
+        IsSomeAnd o (BecomesUnsureOf files sure x) → ⊥
     by None surely later = absurd later
     by (Some name) surely later = apart (sure later.later name) (surely later.later later.same) later.unsure
 
@@ -85,7 +92,8 @@ pub surely_done : {H : Type 0} (files : H → Option (List File)) (sure : H → 
 surely_done files sure x one agree shapes s None h h' b b' ends unsure = tt
 surely_done files sure x one agree shapes s (Some a) h h' b b' ends unsure =
     told-map h.files h.rest (comes_exactly one agree shapes s (Some a) h h' b b' ends) (λ fs comes of writes puts.
-    done-by s a fs comes (λ five. sure-not-unsure files sure x a of (unsure five)) (no_write s (Some a) h h' b b' ends writes) (no_put s (Some a) h h' b b' ends puts))
+    done-by s a fs comes (λ five. sure-not-unsure files sure x a of (unsure five))
+    (no_write s (Some a) h h' b b' ends writes) (no_put s (Some a) h h' b b' ends puts))
 
 -- ---- The host that doesn't fail
 
@@ -131,19 +139,24 @@ sure-of h a can = record { first = first-there a h.files can; second = by (secon
     same : (later : SureHostState) → Some later.files ≡ Some h.files → later.files ≡ h.files
     same later e = cc
 
-    by : (o : Option (List ℕ)) → IfSome o (λ name. is_some (lookup name h.files) ≡ true) → IfSome o (λ name. (later : SureHostState) → Some later.files ≡ Some h.files → is_some (lookup name later.files) ≡ true)
+    by : (o : Option (List ℕ)) → IfSome o (λ name. is_some (lookup name h.files) ≡ true) →
+        IfSome o (λ name. (later : SureHostState) → Some later.files ≡ Some h.files →
+        is_some (lookup name later.files) ≡ true)
     by None there = tt
     by (Some name) there = λ later e. ap (λ (fs : List File). is_some (lookup name fs)) (same later e) ∙ there
 
 calm : IsCalm 0 0
 calm = record { same = refl; below = omega arith }
 
-pub surely : (a : Option Asked) (h : SureHostState) (fs : List File) (s : ℕ) → h.files ≡ fs → IfSome a (λ a. IsSureOf told-files has-file h a → IsCalm 0 0 → IsCalm 0 0 → CanDo a h.files → IsDone s) → IfSome a (λ a. CanDo a fs → IsDone s)
+pub surely : (a : Option Asked) (h : SureHostState) (fs : List File) (s : ℕ) → h.files ≡ fs →
+    IfSome a (λ a. IsSureOf told-files has-file h a → IsCalm 0 0 → IsCalm 0 0 → CanDo a h.files → IsDone s) →
+    IfSome a (λ a. CanDo a fs → IsDone s)
 surely None h fs s same done = tt
 surely (Some a) h fs s same done = λ can.
     let there : CanDo a h.files = subst (CanDo a) (sym same) can in done (sure-of h a there) calm calm there
 
-pub surely_comes : (a : Option Asked) (h : SureHostState) (fs : List File) (s : ℕ) → h.files ≡ fs → IfSome a (λ a. ComesExactly s a h.files) → IfSome a (λ a. ComesExactly s a fs)
+pub surely_comes : (a : Option Asked) (h : SureHostState) (fs : List File) (s : ℕ) → h.files ≡ fs →
+    IfSome a (λ a. ComesExactly s a h.files) → IfSome a (λ a. ComesExactly s a fs)
 surely_comes a h fs s same comes = subst (λ (x : List File). IfSome a (λ a. ComesExactly s a x)) same comes
 
 -- a count that stands still below its greatest value has not risen

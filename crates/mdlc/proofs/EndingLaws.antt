@@ -22,7 +22,8 @@ use Rattle.mdlc.proofs.Unsure.{only_read, only_write, only_put}
 -- ---- Code that was written
 
 -- code that is written whole is a front of itself
-front-of : (code model : List ℕ) (h h' : HostTold) (c : Compilation) → IsCompiledFrom model c → h'.written ≡ add_file h.written code c.code → WritesCodeFront code model h h'
+front-of : (code model : List ℕ) (h h' : HostTold) (c : Compilation) → IsCompiledFrom model c →
+    h'.written ≡ add_file h.written code c.code → WritesCodeFront code model h h'
 front-of code model h h' c from written =
     (c, from, inr (length c.code, written ∙ ap (λ (bytes : List ℕ). add_file h.written code bytes) (sym (take-length c.code))))
 
@@ -32,14 +33,20 @@ whole-front code model h h' w =
 
 -- ---- The ending whose text was put
 
-pub ended : (found said : Ending) (s : ℕ) (a : Option Asked) (h h' : HostTold) (b before b' : SinkTold) → Ends found a h h' b before → IsSaidOf said found → Puts said s before b' → EndsAt s a h h' b b'
+pub ended : (found said : Ending) (s : ℕ) (a : Option Asked) (h h' : HostTold) (b before b' : SinkTold) →
+    Ends found a h h' b before → IsSaidOf said found → Puts said s before b' → EndsAt s a h h' b b'
 ended found said s a h h' b before b' ends says puts =
     record { found = found; said = said; before = before; ends = ends; says = says; puts = puts }
 
 -- the text for want of memory was put in the place of another
-pub said_no_memory : (found : Ending) (status s : ℕ) (text : List ℕ) (b b' : SinkTold) → found ≢ PutFault → status ≡ 10 → text ≡ no_memory_line → PutsText status text s b b' → (e : Ending) × IsSaidOf e found × Puts e s b b'
-said_no_memory found status s text b b' other is same puts =
-    (NoMemory, inr (refl, other), subst (λ (n : ℕ). PutsText n no_memory_line s b b') is (subst (λ (x : List ℕ). PutsText status x s b b') same puts))
+pub said_no_memory : (found : Ending) (status s : ℕ) (text : List ℕ) (b b' : SinkTold) → found ≢ PutFault →
+    status ≡ 10 → text ≡ no_memory_line → PutsText status text s b b' → (e : Ending) × IsSaidOf e found × Puts e s b b'
+said_no_memory found status s text b b' other is same puts = (
+  NoMemory,
+  inr (refl, other),
+  subst (λ (n : ℕ). PutsText n no_memory_line s b b') is
+      (subst (λ (x : List ℕ). PutsText status x s b b') same puts),
+)
 
 -- an ending that was found, and whose text was put whole
 pub record SaysFound (s : ℕ) (a : Option Asked) (h h' : HostTold) (b b' : SinkTold) : Type 0 where
@@ -50,10 +57,12 @@ pub record SaysFound (s : ℕ) (a : Option Asked) (h h' : HostTold) (b b' : Sink
   pub whole : PutsWhole (text_of found) before b'
 
 -- so a call ends, but where memory runs out or something isn't put
-pub says_found : (s : ℕ) (a : Option Asked) (h h' : HostTold) (b b' : SinkTold) → EndsAt s a h h' b b' → s ≢ 7 → s ≢ 10 → SaysFound s a h h' b b'
+pub says_found : (s : ℕ) (a : Option Asked) (h h' : HostTold) (b b' : SinkTold) → EndsAt s a h h' b b' → s ≢ 7 →
+    s ≢ 10 → SaysFound s a h h' b b'
 says_found s a h h' b b' e put fed = by e.found e.said e.before e.ends e.says e.puts
   where
-    by : (found said : Ending) (before : SinkTold) → Ends found a h h' b before → IsSaidOf said found → Puts said s before b' → SaysFound s a h h' b b'
+    by : (found said : Ending) (before : SinkTold) → Ends found a h h' b before → IsSaidOf said found →
+        Puts said s before b' → SaysFound s a h h' b b'
     by found said before ends (inl same) (inl (is, whole)) = record {
       found = found;
       before = before;
@@ -166,7 +175,8 @@ same-puts NoMemory b b' other counts = counts
 plain-end : (e : Ending) → IsPlain (status_of e) → e ≢ PutFault
 plain-end e plain same = plain.no_put_fault (ap status_of same)
 
-pub no_count : (s : ℕ) (a : Option Asked) (h h' : HostTold) (b b' : SinkTold) → EndsAt s a h h' b b' → IsPlain s → (h'.read_faults ≡ h.read_faults) × (h'.write_faults ≡ h.write_faults) × (b'.faults ≡ b.faults)
+pub no_count : (s : ℕ) (a : Option Asked) (h h' : HostTold) (b b' : SinkTold) → EndsAt s a h h' b b' → IsPlain s →
+    (h'.read_faults ≡ h.read_faults) × (h'.write_faults ≡ h.write_faults) × (b'.faults ≡ b.faults)
 no_count s a h h' b b' e plain =
     let f : SaysFound s a h h' b b' = says_found s a h h' b b' e plain.no_put_fault plain.no_want_of_memory in
     let calm : IsPlain (status_of f.found) = subst IsPlain f.status plain in
@@ -222,12 +232,14 @@ rises ReadFault b before now counts rose = omega (arith, counts, rose)
 rises WriteFault b before now counts rose = omega (arith, counts, rose)
 rises NoMemory b before now counts rose = omega (arith, counts, rose)
 
-pub read_fault : (s : ℕ) (a : Option Asked) (h h' : HostTold) (b b' : SinkTold) → EndsAt s a h h' b b' → s ≡ 5 → Rose h.read_faults h'.read_faults
+pub read_fault : (s : ℕ) (a : Option Asked) (h h' : HostTold) (b b' : SinkTold) → EndsAt s a h h' b b' → s ≡ 5 →
+    Rose h.read_faults h'.read_faults
 read_fault s a h h' b b' e five =
     let f : SaysFound s a h h' b b' = says_found s a h h' b b' e (λ seven. omega (arith, five, seven)) (λ ten. omega (arith, five, ten)) in
     read-rose a h h' b f.before (subst (λ (x : Ending). Finds x a h h' b f.before) (only_read f.found (sym f.status ∙ five)) f.ends.finds)
 
-pub write_fault : (s : ℕ) (a : Option Asked) (h h' : HostTold) (b b' : SinkTold) → EndsAt s a h h' b b' → s ≡ 6 → Rose h.write_faults h'.write_faults
+pub write_fault : (s : ℕ) (a : Option Asked) (h h' : HostTold) (b b' : SinkTold) → EndsAt s a h h' b b' → s ≡ 6 →
+    Rose h.write_faults h'.write_faults
 write_fault s a h h' b b' e six =
     let f : SaysFound s a h h' b b' = says_found s a h h' b b' e (λ seven. omega (arith, six, seven)) (λ ten. omega (arith, six, ten)) in
     write-rose a h h' b f.before (subst (λ (x : Ending). Finds x a h h' b f.before) (only_write f.found (sym f.status ∙ six)) f.ends.finds)
@@ -235,9 +247,11 @@ write_fault s a h h' b b' e six =
 pub put_fault : (s : ℕ) (a : Option Asked) (h h' : HostTold) (b b' : SinkTold) → EndsAt s a h h' b b' → s ≡ 7 → Rose b.faults b'.faults
 put_fault s a h h' b b' e seven = by e.found e.said e.before e.ends.counts e.says e.puts
   where
-    by : (found said : Ending) (before : SinkTold) → CountsPuts found b before → IsSaidOf said found → Puts said s before b' → Rose b.faults b'.faults
+    by : (found said : Ending) (before : SinkTold) → CountsPuts found b before → IsSaidOf said found →
+        Puts said s before b' → Rose b.faults b'.faults
     by found said before counts (inl same) (inl (is, whole)) =
-        let rose : Rose b.faults before.faults = subst (λ (x : Ending). CountsPuts x b before) (sym same ∙ only_put said (sym is ∙ seven)) counts in
+        let rose : Rose b.faults before.faults =
+        subst (λ (x : Ending). CountsPuts x b before) (sym same ∙ only_put said (sym is ∙ seven)) counts in
         subst (λ (n : ℕ). Rose b.faults n) (sym whole.no_fault) rose
     by found said before counts (inr none) (inl (is, whole)) =
         let ten : status_of said ≡ 10 = ap status_of none.0 in absurd (omega arith)
@@ -249,10 +263,12 @@ put_fault s a h h' b b' e seven = by e.found e.said e.before e.ends.counts e.say
 not-calm : (before now : ℕ) → Rose before now → IsCalm before now → ⊥
 not-calm before now rose calm = let same = calm.same in let below = calm.below in omega arith
 
-pub no_read : (s : ℕ) (a : Option Asked) (h h' : HostTold) (b b' : SinkTold) → EndsAt s a h h' b b' → IsCalm h.read_faults h'.read_faults → s ≢ 5
+pub no_read : (s : ℕ) (a : Option Asked) (h h' : HostTold) (b b' : SinkTold) → EndsAt s a h h' b b' →
+    IsCalm h.read_faults h'.read_faults → s ≢ 5
 no_read s a h h' b b' e calm five = not-calm h.read_faults h'.read_faults (read_fault s a h h' b b' e five) calm
 
-pub no_write : (s : ℕ) (a : Option Asked) (h h' : HostTold) (b b' : SinkTold) → EndsAt s a h h' b b' → IsCalm h.write_faults h'.write_faults → s ≢ 6
+pub no_write : (s : ℕ) (a : Option Asked) (h h' : HostTold) (b b' : SinkTold) → EndsAt s a h h' b b' →
+    IsCalm h.write_faults h'.write_faults → s ≢ 6
 no_write s a h h' b b' e calm six = not-calm h.write_faults h'.write_faults (write_fault s a h h' b b' e six) calm
 
 pub no_put : (s : ℕ) (a : Option Asked) (h h' : HostTold) (b b' : SinkTold) → EndsAt s a h h' b b' → IsCalm b.faults b'.faults → s ≢ 7

@@ -33,15 +33,18 @@ OneVerdict = (bytes : List ℕ) → HasOneVerdict bytes
 one_only : OneVerdict → (model : List ℕ) (v w : Verdict) → HasVerdict model v → HasVerdict model w → v ≡ w
 one_only one model v w is_v is_w = let only = (one model).2 in only v is_v ∙ sym (only w is_w)
 
-pub accepted_only : OneVerdict → (model : List ℕ) (d : ResolvedTable) (refusal : PlainRefusal) → HasVerdict model (Accepted d) → HasVerdict model (IsRefused refusal) → ⊥
+pub accepted_only : OneVerdict → (model : List ℕ) (d : ResolvedTable) (refusal : PlainRefusal) →
+    HasVerdict model (Accepted d) → HasVerdict model (IsRefused refusal) → ⊥
 accepted_only one model d refusal a r =
     let e : Accepted d ≡ IsRefused refusal = one_only one model (Accepted d) (IsRefused refusal) a r in cc
 
-pub same_resolution : OneVerdict → (model : List ℕ) (d other : ResolvedTable) → HasVerdict model (Accepted d) → HasVerdict model (Accepted other) → d ≡ other
+pub same_resolution : OneVerdict → (model : List ℕ) (d other : ResolvedTable) → HasVerdict model (Accepted d) →
+    HasVerdict model (Accepted other) → d ≡ other
 same_resolution one model d other a b =
     let e : Accepted d ≡ Accepted other = one_only one model (Accepted d) (Accepted other) a b in cc
 
-pub same_refusal : OneVerdict → (model : List ℕ) (r q : PlainRefusal) → HasVerdict model (IsRefused r) → HasVerdict model (IsRefused q) → r ≡ q
+pub same_refusal : OneVerdict → (model : List ℕ) (r q : PlainRefusal) → HasVerdict model (IsRefused r) →
+    HasVerdict model (IsRefused q) → r ≡ q
 same_refusal one model r q a b =
     let e : IsRefused r ≡ IsRefused q = one_only one model (IsRefused r) (IsRefused q) a b in cc
 
@@ -51,16 +54,21 @@ some-same : (x y : ProcedureTree) → Some x ≡ Some y → x ≡ y
 some-same x y e = ap (λ (o : Option ProcedureTree). unwrap_or o x) e
 
 -- procedures with distinct names are one where their names are
-pub one_place : (qs : List ProcedureTree) (i j : ℕ) (a b : ProcedureTree) → AreDistinct (procedure_names qs) → slice_get qs i ≡ Some a → slice_get qs j ≡ Some b → a.name ≡ b.name → a ≡ b
+pub one_place : (qs : List ProcedureTree) (i j : ℕ) (a b : ProcedureTree) → AreDistinct (procedure_names qs) →
+    slice_get qs i ≡ Some a → slice_get qs j ≡ Some b → a.name ≡ b.name → a ≡ b
 one_place [] i j a b distinct at_i at_j named = cc
 one_place (q ∷ qs) zero zero a b distinct at_i at_j named = cc
 one_place (q ∷ qs) zero (suc j) a b distinct at_i at_j named =
     let first : q ≡ a = some-same q a at_i in
-    let later : has_name (procedure_names qs) q.name ≡ true = has_name-there (λ (x : ProcedureTree). x.name) qs j b q.name at_j (sym named ∙ ap (λ (x : ProcedureTree). x.name) (sym first)) in
+    let later : has_name (procedure_names qs) q.name ≡ true =
+    has_name-there (λ (x : ProcedureTree). x.name) qs j b q.name at_j (sym named
+    ∙ ap (λ (x : ProcedureTree). x.name) (sym first)) in
     absurd (cc (sym distinct.1 ∙ later))
 one_place (q ∷ qs) (suc i) zero a b distinct at_i at_j named =
     let first : q ≡ b = some-same q b at_j in
-    let later : has_name (procedure_names qs) q.name ≡ true = has_name-there (λ (x : ProcedureTree). x.name) qs i a q.name at_i (named ∙ ap (λ (x : ProcedureTree). x.name) (sym first)) in
+    let later : has_name (procedure_names qs) q.name ≡ true =
+    has_name-there (λ (x : ProcedureTree). x.name) qs i a q.name at_i (named
+    ∙ ap (λ (x : ProcedureTree). x.name) (sym first)) in
     absurd (cc (sym distinct.1 ∙ later))
 one_place (q ∷ qs) (suc i) (suc j) a b distinct at_i at_j named = one_place qs i j a b distinct.2 at_i at_j named
 
@@ -77,27 +85,32 @@ somes-same (x ∷ xs) (y ∷ ys) e =
 
 pub same_types : (p : ProgramTree) (a b : List FixType) → IsLawful p → HasStepTypes p a → HasStepTypes p b → a ≡ b
 same_types p a b lawful h k =
-    let distinct : AreDistinct (procedure_names p.procedures) = AreDistinct-back (pure_names p.pures) (procedure_names p.procedures) lawful.functions in
+    let distinct : AreDistinct (procedure_names p.procedures) =
+    AreDistinct-back (pure_names p.pures) (procedure_names p.procedures) lawful.functions in
     let same : h.step ≡ k.step = one_place p.procedures h.place k.place h.step k.step distinct h.there k.there (h.named ∙ sym k.named) in
     somes-same a b (sym h.inputs ∙ ap (λ (q : ProcedureTree). map (λ (x : ParamTree). fix_type x.type) q.params) same ∙ k.inputs)
 
 -- ---- Statuses
 
-model-one : OneVerdict → (model : List ℕ) (n m : ℕ) {P Q : Diagram → Type 0} → ((d : Diagram) → P d → Q d → n ≡ m) → ModelComes model n P → ModelComes model m Q → n ≡ m
+model-one : OneVerdict → (model : List ℕ) (n m : ℕ) {P Q : Diagram → Type 0} → ((d : Diagram) → P d → Q d → n ≡ m) →
+    ModelComes model n P → ModelComes model m Q → n ≡ m
 model-one one model n m both (inl (r, is, n-is)) (inl (q, also, m-is)) = n-is ∙ sym m-is
 model-one one model n m both (inl (r, is, n-is)) (inr (d, also, m-is)) = absurd (accepted_only one model d r also is)
 model-one one model n m both (inr (d, is, n-is)) (inl (r, also, m-is)) = absurd (accepted_only one model d r is also)
 model-one one model n m {P} {Q} both (inr (d, is, n-is)) (inr (other, also, m-is)) =
     both (diagram_of_table d) n-is (subst (λ (x : ResolvedTable). Q (diagram_of_table x)) (same_resolution one model other d also is) m-is)
 
-some-one : (o : Option (List ℕ)) (n m : ℕ) {P Q : List ℕ → Type 0} → IsSomeAnd o P → IsSomeAnd o Q → ((bytes : List ℕ) → P bytes → Q bytes → n ≡ m) → n ≡ m
+some-one : (o : Option (List ℕ)) (n m : ℕ) {P Q : List ℕ → Type 0} → IsSomeAnd o P → IsSomeAnd o Q →
+    ((bytes : List ℕ) → P bytes → Q bytes → n ≡ m) → n ≡ m
 some-one None n m h k both = absurd h
 some-one (Some bytes) n m h k both = both bytes h k
 
-outcome-one : (p : ProgramTree) (o : Outcome) (trace : Option (List ℕ)) (n m : ℕ) → IsLawful p → ProgramComes p o trace n → ProgramComes p o trace m → n ≡ m
+outcome-one : (p : ProgramTree) (o : Outcome) (trace : Option (List ℕ)) (n m : ℕ) → IsLawful p →
+    ProgramComes p o trace n → ProgramComes p o trace m → n ≡ m
 outcome-one p (stuck at cells) trace n m lawful h k = h ∙ sym k
 outcome-one p (done after) trace n m lawful (a, is, h) (b, also, k) =
-    some-one trace n m h k (λ bytes x y. x ∙ ap (λ (types : List FixType). status_over p types bytes) (same_types p a b lawful is also) ∙ sym y)
+    some-one trace n m h k (λ bytes x y. x
+    ∙ ap (λ (types : List FixType). status_over p types bytes) (same_types p a b lawful is also) ∙ sym y)
 
 code-one : ReadingsAgree → (code : List ℕ) (trace : Option (List ℕ)) (n m : ℕ) → CodeComes code trace n → CodeComes code trace m → n ≡ m
 code-one agree code trace n m (inl (long, h)) (inl (also, k)) = h ∙ sym k
@@ -110,7 +123,8 @@ code-one agree code trace n m (inr (inl (fits, (f, is, h)))) (inr (inr (also, (p
 code-one agree code trace n m (inr (inr (fits, (p, text, h)))) (inr (inl (also, (f, is, k)))) = absurd (agree.apart code p f text is)
 code-one agree code trace n m (inr (inr (fits, (p, text, h)))) (inr (inr (also, (q, too, k)))) =
     let same : q ≡ p = agree.one code q p too text in
-    outcome-one p (start_run p) trace n m (agree.lawful code p text) h (subst (λ (x : ProgramTree). ProgramComes x (start_run x) trace m) same k)
+    outcome-one p (start_run p) trace n m (agree.lawful code p text) h
+    (subst (λ (x : ProgramTree). ProgramComes x (start_run x) trace m) same k)
 
 system-one : ShapesAreOne → (r : ResolvedTable) (system : Option (Option ℕ)) (script : Option (List ℕ)) (n m : ℕ) →
     SystemComes r system script n → SystemComes r system script m → n ≡ m
@@ -137,7 +151,9 @@ pub comes-one : OneVerdict → ReadingsAgree → ShapesAreOne → (a : Asked) (f
 comes-one one agree shapes (Compile model code) fs n m h k =
     some-one (lookup model fs) n m h k (λ bytes x y. model-one one bytes n m {P = λ d. n ≡ 0} {Q = λ d. m ≡ 0} (λ d p q. p ∙ sym q) x y)
 comes-one one agree shapes (Run model code trace) fs n m h k =
-    some-one (lookup model fs) n m h k (λ bytes x y. model-one one bytes n m {P = RunComes trace fs n} {Q = RunComes trace fs m} (λ d p q. some-one (lookup trace fs) n m p q (λ lines u v. u ∙ sym v)) x y)
+    some-one (lookup model fs) n m h k
+    (λ bytes x y. model-one one bytes n m {P = RunComes trace fs n} {Q = RunComes trace fs m}
+    (λ d p q. some-one (lookup trace fs) n m p q (λ lines u v. u ∙ sym v)) x y)
 comes-one one agree shapes (Exec code trace) fs n m h k =
     some-one (lookup code fs) n m h k (λ bytes x y. code-one agree bytes (lookup trace fs) n m x y)
 comes-one one agree shapes (Profile model) fs n m h k =

@@ -80,7 +80,8 @@ all-filter test P (x ∷ xs) h = by (test x) (all-filter test P xs h.1)
     by false later = later
 
 -- what is made of the second of two lists side by side
-of-second : {A B C : Type 0} (f : B → C) (xs : List A) (ys : List B) → length xs ≡ length ys → map (λ (e : A × B). f e.1) (zip xs ys) ≡ map f ys
+of-second : {A B C : Type 0} (f : B → C) (xs : List A) (ys : List B) → length xs ≡ length ys →
+    map (λ (e : A × B). f e.1) (zip xs ys) ≡ map f ys
 of-second f [] [] e = refl
 of-second f [] (y ∷ ys) e = absurd (omega (arith, e))
 of-second f (x ∷ xs) [] e = absurd (omega (arith, e))
@@ -93,8 +94,11 @@ Stands p q = (i : ℕ) × (slice_get p.procedures i ≡ Some q)
 
 all-there : (qs : List ProcedureTree) → AllByRecursion (λ q. (i : ℕ) × (slice_get qs i ≡ Some q)) qs
 all-there [] = tt
-all-there (q ∷ qs) =
-    ((0, refl), all-map (λ x. (i : ℕ) × (slice_get qs i ≡ Some x)) (λ x. (i : ℕ) × (slice_get (q ∷ qs) i ≡ Some x)) qs (λ x at. (suc at.0, at.1)) (all-there qs))
+all-there (q ∷ qs) = (
+  (0, refl),
+  all-map (λ x. (i : ℕ) × (slice_get qs i ≡ Some x)) (λ x. (i : ℕ) × (slice_get (q ∷ qs) i ≡ Some x)) qs
+      (λ x at. (suc at.0, at.1)) (all-there qs),
+)
 
 found : (p : ProgramTree) (qs : List ProcedureTree) (q : ProcedureTree) → AllByRecursion (Stands p) qs → Contains qs q → Stands p q
 found p qs q all (k, below, is) = subst (Stands p) is (place-of (Stands p) qs q k all below)
@@ -103,30 +107,41 @@ found p qs q all (k, below, is) = subst (Stands p) is (place-of (Stands p) qs q 
 step-stands : (p : ProgramTree) (d : Diagram) (hyper : ℕ) (root : HasRootCode p d hyper) → Stands p root.step
 step-stands p d hyper root =
     let listed : Contains (root.start ∷ root.step ∷ []) root.step = (1, omega arith, refl) in
-    let there : Contains (procedures_of p (root_struct p)) root.step = Contains-permutation (root.start ∷ root.step ∷ []) (procedures_of p (root_struct p)) root.step root.only listed in
+    let there : Contains (procedures_of p (root_struct p)) root.step =
+    Contains-permutation (root.start ∷ root.step ∷ []) (procedures_of p (root_struct p)) root.step root.only
+    listed in
     found p (procedures_of p (root_struct p)) root.step
     (all-filter (λ (q : ProcedureTree). q.of == root_struct p) (Stands p) p.procedures (all-there p.procedures)) there
 
 -- the types of the root's inputs by their ports, one for each parameter
 params-typed : (d : Diagram) (profile : SystemProfile) →
-    map (λ (q : ParamTree). fix_type q.type) (input_params (header_of d None profile)) ≡ map (λ t. fix_type (container t)) (map (type_at d.types) (inports_of d.rows None))
+    map (λ (q : ParamTree). fix_type q.type) (input_params (header_of d None profile))
+    ≡ map (λ t. fix_type (container t)) (map (type_at d.types) (inports_of d.rows None))
 params-typed d profile =
     let inputs : List FixType = map (type_at d.types) (inports_of d.rows None) in
     let ports : List Port = map Number (range_with_len 1 (length inputs)) in
     let many : length (ports ++ []) ≡ length (inputs ++ []) =
     ap length (nothing-behind ports) ∙ length-map-range_with_len Number 1 (length inputs) ∙ sym (ap length (nothing-behind inputs)) in
-    map-twice (λ (q : ParamTree). fix_type q.type) (λ (e : Port × FixType). record { name = port_name (header_of d None profile).control e.0; type = container e.1 }) (zip (ports ++ []) (inputs ++ []))
+    map-twice (λ (q : ParamTree). fix_type q.type)
+    (λ (e : Port × FixType). record {
+      name = port_name (header_of d None profile).control e.0;
+      type = container e.1;
+    }) (zip (ports ++ []) (inputs ++ []))
     ∙ of-second (λ t. fix_type (container t)) (ports ++ []) (inputs ++ []) many
     ∙ ap (map (λ t. fix_type (container t))) (nothing-behind inputs)
 
 -- each number of an input of the root is one of the type that right code's `root_step` takes for it
-pub step-types : (d : Diagram) (p : ProgramTree) (hyper : ℕ) (types : List FixType) → IsLawful p → HasRootCode p d hyper → HasStepTypes p types → AllZip IsNarrower (root_types d) types
+pub step-types : (d : Diagram) (p : ProgramTree) (hyper : ℕ) (types : List FixType) → IsLawful p →
+    HasRootCode p d hyper → HasStepTypes p types → AllZip IsNarrower (root_types d) types
 step-types d p hyper types lawful root has =
     let inputs : List FixType = map (type_at d.types) (inports_of d.rows None) in
     let stands : Stands p root.step = step-stands p d hyper root in
-    let distinct : AreDistinct (procedure_names p.procedures) = AreDistinct-back (pure_names p.pures) (procedure_names p.procedures) lawful.functions in
+    let distinct : AreDistinct (procedure_names p.procedures) =
+    AreDistinct-back (pure_names p.pures) (procedure_names p.procedures) lawful.functions in
     let named : has.step.name ≡ root.step.name = has.named ∙ sym (ap (λ (h : Head). h.name) root.step_head) in
     let same : has.step ≡ root.step = one_place p.procedures has.place stands.0 has.step root.step distinct has.there stands.1 named in
-    let params : has.step.params ≡ input_params (header_of d None root.profile) = ap (λ (q : ProcedureTree). q.params) same ∙ ap (λ (h : Head). h.params) root.step_head in
+    let params : has.step.params ≡ input_params (header_of d None root.profile) =
+    ap (λ (q : ProcedureTree). q.params) same ∙ ap (λ (h : Head). h.params) root.step_head in
     subst (λ (ts : List FixType). AllZip IsNarrower ts types) (inputs-are d boolean)
-    (all-narrower inputs types (sym (params-typed d root.profile) ∙ sym (ap (map (λ (q : ParamTree). fix_type q.type)) params) ∙ has.inputs))
+    (all-narrower inputs types (sym (params-typed d root.profile)
+    ∙ sym (ap (map (λ (q : ParamTree). fix_type q.type)) params) ∙ has.inputs))

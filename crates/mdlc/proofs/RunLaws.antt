@@ -32,7 +32,8 @@ narrow [] = tt
 narrow (t ∷ ts) = ((λ v is. is), narrow ts)
 
 -- the ticks of a machine behind its start are those of the program
-same-rows : (m : MachineState) (totals : Totals) (put : Option (List ℕ)) (rows : List (List ℤ)) → IsBehindStart m → ticks_over (standing m totals put) rows ≡ c_rows (tree_of m) rows
+same-rows : (m : MachineState) (totals : Totals) (put : Option (List ℕ)) (rows : List (List ℤ)) → IsBehindStart m →
+    ticks_over (standing m totals put) rows ≡ c_rows (tree_of m) rows
 same-rows m totals put rows (after, start, fields) =
     ap (rows_from (tree_of m) rows) fields ∙ sym (ap (λ (o : Outcome). rows_of_start (tree_of m) o rows) start)
 
@@ -40,7 +41,8 @@ some-bytes : (x y : List ℕ) → Some x ≡ Some y → x ≡ y
 some-bytes x y e = ap (λ (o : Option (List ℕ)). unwrap_or o x) e
 
 -- what was taken of a file that is told, and what is left of it, are its bytes
-both-parts : (rest rest' : Option (List ℕ)) (told : List ℕ) (parts : Parts) → rest ≡ Some told → rest ≡ prepend_known parts.taken rest' → IfSome rest' (λ x. x ≡ parts.left) → told ≡ parts.taken ++ parts.left
+both-parts : (rest rest' : Option (List ℕ)) (told : List ℕ) (parts : Parts) → rest ≡ Some told →
+    rest ≡ prepend_known parts.taken rest' → IfSome rest' (λ x. x ≡ parts.left) → told ≡ parts.taken ++ parts.left
 both-parts rest None told parts is took left =
     let none : Some told ≡ None = sym is ∙ took in cc
 both-parts rest (Some x) told parts is took left =
@@ -73,13 +75,19 @@ module _ (m m' : MachineState) (types : List FixType) (taken : Totals) (b b' : S
   rows-are : (rows : List (List ℤ)) → ticks_over (standing m no_totals b.bytes) rows ≡ c_rows (tree_of m) rows
   rows-are rows = same-rows m no_totals b.bytes rows start
 
-  unstuck : (rows : List (List ℤ)) (place : Option Stuck) → (ticks_over (standing m no_totals b.bytes) rows).stuck_place ≡ place → (c_rows (tree_of m) rows).stuck_place ≡ place
+  unstuck : (rows : List (List ℤ)) (place : Option Stuck) →
+      (ticks_over (standing m no_totals b.bytes) rows).stuck_place ≡ place →
+      (c_rows (tree_of m) rows).stuck_place ≡ place
   unstuck rows place is = ap (λ (r : Rows). r.stuck_place) (sym (rows-are rows)) ∙ is
 
-  puts : (rows : List (List ℤ)) → b'.bytes ≡ append_known b.bytes (ticks_text (ticks_over (standing m no_totals b.bytes) rows).ticks) → b'.bytes ≡ append_known b.bytes (ticks_text (c_rows (tree_of m) rows).ticks)
+  puts : (rows : List (List ℤ)) →
+      b'.bytes ≡ append_known b.bytes (ticks_text (ticks_over (standing m no_totals b.bytes) rows).ticks) →
+      b'.bytes ≡ append_known b.bytes (ticks_text (c_rows (tree_of m) rows).ticks)
   puts rows put = put ∙ ap (λ (r : Rows). append_known b.bytes (ticks_text r.ticks)) (rows-are rows)
 
-  pub whole_rows : (bytes : List ℕ) → RanWhole (trace.rows_of bytes types) (standing m no_totals b.bytes) (standing m' taken b'.bytes) → RunsWhole taken (tree_of m) types bytes b b'
+  pub whole_rows : (bytes : List ℕ) →
+      RanWhole (trace.rows_of bytes types) (standing m no_totals b.bytes) (standing m' taken b'.bytes) →
+      RunsWhole taken (tree_of m) types bytes b b'
   whole_rows bytes ends =
       let rows : List (List ℤ) = (trace.rows_of bytes types).rows in record {
         good = ends.rows_only;
@@ -88,31 +96,44 @@ module _ (m m' : MachineState) (types : List FixType) (taken : Totals) (b b' : S
         lines = puts rows ends.run.put;
       }
 
-  pub bad_rows : (line : BadLine) (bytes : List ℕ) → StoppedAtLine line (trace.rows_of bytes types) (standing m no_totals b.bytes) (standing m' taken b'.bytes) → RunsToBadLine line (tree_of m) types bytes b b'
+  pub bad_rows : (line : BadLine) (bytes : List ℕ) →
+      StoppedAtLine line (trace.rows_of bytes types) (standing m no_totals b.bytes) (standing m' taken b'.bytes) →
+      RunsToBadLine line (tree_of m) types bytes b b'
   bad_rows line bytes ends =
-      let rows : List (List ℤ) = (trace.rows_of bytes types).rows in record { bad = ends.first_bad; free = unstuck rows None ends.unstuck; lines = puts rows ends.run.put }
+      let rows : List (List ℤ) = (trace.rows_of bytes types).rows in
+      record { bad = ends.first_bad; free = unstuck rows None ends.unstuck; lines = puts rows ends.run.put }
 
-  pub stuck_rows : (at : Stuck) (bytes : List ℕ) → StoppedStuck at (trace.rows_of bytes types) (standing m no_totals b.bytes) (standing m' taken b'.bytes) → RunsToStuck at (tree_of m) types bytes b b'
+  pub stuck_rows : (at : Stuck) (bytes : List ℕ) →
+      StoppedStuck at (trace.rows_of bytes types) (standing m no_totals b.bytes) (standing m' taken b'.bytes) →
+      RunsToStuck at (tree_of m) types bytes b b'
   stuck_rows at bytes ends =
-      let rows : List (List ℤ) = (trace.rows_of bytes types).rows in record { stuck = unstuck rows (Some at) ends.stuck; lines = puts rows ends.run.put }
+      let rows : List (List ℤ) = (trace.rows_of bytes types).rows in
+      record { stuck = unstuck rows (Some at) ends.stuck; lines = puts rows ends.run.put }
 
-  pub cut_rows : (bytes : List ℕ) → StoppedByOut (trace.rows_of bytes types) (standing m no_totals b.bytes) (standing m' taken b'.bytes) → RunsToPutFault (tree_of m) types bytes b b'
+  pub cut_rows : (bytes : List ℕ) →
+      StoppedByOut (trace.rows_of bytes types) (standing m no_totals b.bytes) (standing m' taken b'.bytes) →
+      RunsToPutFault (tree_of m) types bytes b b'
   cut_rows bytes ends = record {
     first = record { rows = ends.front.rows; behind = ends.front.behind; parts = ends.front.parts };
     front = subst (λ (r : Rows). PutsFront b.bytes b'.bytes (ticks_text r.ticks)) (rows-are ends.front.rows) ends.put;
   }
 
   -- each whole line of what was taken is a row that was run
-  pub taken_rows : (bytes : List ℕ) → RanWhole (trace.whole_rows_of bytes types) (standing m no_totals b.bytes) (standing m' taken b'.bytes) → RunsTaken (tree_of m) types bytes b b'
+  pub taken_rows : (bytes : List ℕ) →
+      RanWhole (trace.whole_rows_of bytes types) (standing m no_totals b.bytes) (standing m' taken b'.bytes) →
+      RunsTaken (tree_of m) types bytes b b'
   taken_rows bytes ends =
-      let rows : List (List ℤ) = (trace.whole_rows_of bytes types).rows in record { good = ends.rows_only; free = unstuck rows None ends.unstuck; lines = puts rows ends.run.put }
+      let rows : List (List ℤ) = (trace.whole_rows_of bytes types).rows in
+      record { good = ends.rows_only; free = unstuck rows None ends.unstuck; lines = puts rows ends.run.put }
 
   pub forget_rows : b'.faults ≡ b.faults → standing m' taken b'.bytes ≡ standing m no_totals b.bytes → b' ≡ b
   forget_rows faults same = same-sink b b' (ap (λ (s : Standing). s.put) same) faults
 
 -- ---- Over a file
 
-module _ (m m' : MachineState) (types : List FixType) (taken : Totals) (rest : Option (List ℕ)) (name : List ℕ) (h h' : HostTold) (b b' : SinkTold) (start : IsBehindStart m) (opened : OnNamed h name (λ bytes. rest ≡ Some bytes)) where
+module _ (m m' : MachineState) (types : List FixType) (taken : Totals) (rest : Option (List ℕ)) (name : List ℕ)
+    (h h' : HostTold) (b b' : SinkTold) (start : IsBehindStart m)
+    (opened : OnNamed h name (λ bytes. rest ≡ Some bytes)) where
   abbrev Over : Result (Unit {0}) RunFault → Type 0
   Over result = RunsOver result rest h'.rest types (standing m no_totals b.bytes) (standing m' taken b'.bytes)
 
@@ -121,28 +142,33 @@ module _ (m m' : MachineState) (types : List FixType) (taken : Totals) (rest : O
 
   pub whole-file : LeavesHost h h' → IsAtEnd h'.rest → Over (Ok tt) → RunsFile (Ran taken) (tree_of m) types name h h' b b'
   whole-file left end over = record {
-    lines = on-file rest name h h' opened over.parts (λ bytes. RunsWhole taken (tree_of m) types bytes b b') over.took over.left (whole_rows m m' types taken b b' start (bytes-of over.parts) over.ends);
+    lines = on-file rest name h h' opened over.parts (λ bytes. RunsWhole taken (tree_of m) types bytes b b') over.took
+        over.left (whole_rows m m' types taken b b' start (bytes-of over.parts) over.ends);
     end = end;
     left = left;
   }
 
-  pub bad-file : (line : BadLine) → LeavesHost h h' → Over (Err (fault.Trace line)) → RunsFile (BadTrace line) (tree_of m) types name h h' b b'
+  pub bad-file : (line : BadLine) → LeavesHost h h' → Over (Err (fault.Trace line)) →
+      RunsFile (BadTrace line) (tree_of m) types name h h' b b'
   bad-file line left over = record {
-    lines = on-file rest name h h' opened over.parts (λ bytes. RunsToBadLine line (tree_of m) types bytes b b') over.took over.left (bad_rows m m' types taken b b' start line (bytes-of over.parts) over.ends);
+    lines = on-file rest name h h' opened over.parts (λ bytes. RunsToBadLine line (tree_of m) types bytes b b')
+        over.took over.left (bad_rows m m' types taken b b' start line (bytes-of over.parts) over.ends);
     end = tt;
     left = left;
   }
 
   pub stuck-file : (at : Stuck) → LeavesHost h h' → Over (Err (fault.Stuck at)) → RunsFile (IsStuck at) (tree_of m) types name h h' b b'
   stuck-file at left over = record {
-    lines = on-file rest name h h' opened over.parts (λ bytes. RunsToStuck at (tree_of m) types bytes b b') over.took over.left (stuck_rows m m' types taken b b' start at (bytes-of over.parts) over.ends);
+    lines = on-file rest name h h' opened over.parts (λ bytes. RunsToStuck at (tree_of m) types bytes b b') over.took
+        over.left (stuck_rows m m' types taken b b' start at (bytes-of over.parts) over.ends);
     end = tt;
     left = left;
   }
 
   pub cut-file : LeavesHost h h' → Over (Err fault.Out) → RunsFile PutFault (tree_of m) types name h h' b b'
   cut-file left over = record {
-    lines = on-file rest name h h' opened over.parts (λ bytes. RunsToPutFault (tree_of m) types bytes b b') over.took over.left (cut_rows m m' types taken b b' start (bytes-of over.parts) over.ends);
+    lines = on-file rest name h h' opened over.parts (λ bytes. RunsToPutFault (tree_of m) types bytes b b') over.took
+        over.left (cut_rows m m' types taken b b' start (bytes-of over.parts) over.ends);
     end = tt;
     left = left;
   }
@@ -155,7 +181,8 @@ module _ (m m' : MachineState) (types : List FixType) (taken : Totals) (rest : O
     lines = taken_rows m m' types taken b b' start over.parts.taken over.ends;
   }
 
-  pub lost-file : Rose h.read_faults h'.read_faults → h'.written ≡ h.written → Over (Err fault.Read) → MissesFile (tree_of m) types name h h' b b'
+  pub lost-file : Rose h.read_faults h'.read_faults → h'.written ≡ h.written → Over (Err fault.Read) →
+      MissesFile (tree_of m) types name h h' b b'
   lost-file rose written over = record { rose = rose; written = written; lines = inr (takes-file over) }
 
   pub forget-file : h'.written ≡ h.written → b'.faults ≡ b.faults → Over (Err fault.Memory) → ForgetsFile h h' b b'

@@ -19,7 +19,8 @@ step-types_of checked right = record {
   inputs = right.inputs;
 }
 
-pub starts : (bytes : List ℕ) (checked : CheckedProgram) (m : MachineState) → IsChecked checked → IsRead bytes checked → IsStarted checked m → StartsFrom bytes m
+pub starts : (bytes : List ℕ) (checked : CheckedProgram) (m : MachineState) → IsChecked checked → IsRead bytes checked →
+    IsStarted checked m → StartsFrom bytes m
 starts bytes checked m right read started = record {
   reading = subst (λ (c : CheckedProgram). CText bytes (program_tree c.program)) (sym started.same) read;
   started = (started.after, started.run, started.cells);

@@ -42,24 +42,57 @@ not-plain n a h fault = told_any h.files h.rest (λ fs plain. absurd (fault plai
 
 -- ---- A run of a model's code
 
-run-comes : (e : Ending) (model code trace : List ℕ) (h h' : HostTold) (b b' : SinkTold) → ((types : List FixType) (p : ProgramTree) (lines : List ℕ) → RunsTo e p types lines b b' → status_of e ≡ run_status None (bad_line types lines)) → OnBytes h model (λ bytes. RunsModel e trace code bytes h h' b b') → ComesTo (status_of e) (Run model code trace) h
+run-comes : (e : Ending) (model code trace : List ℕ) (h h' : HostTold) (b b' : SinkTold) →
+    ((types : List FixType) (p : ProgramTree) (lines : List ℕ) → RunsTo e p types lines b b' →
+    status_of e ≡ run_status None (bad_line types lines)) →
+    OnBytes h model (λ bytes. RunsModel e trace code bytes h h' b b') → ComesTo (status_of e) (Run model code trace) h
 run-comes e model code trace h h' b b' by_run found =
-    told_two h.files h.rest model trace {X = λ bytes. WritesWhole code bytes h h'} {P = λ bytes (w : WritesWhole code bytes h h') lines. RunsTo e w.right.code.program (root_types (diagram_of_table w.resolved)) lines b b'} (there h.files h.rest model (named h model found) (λ bytes m. (m.whole, named h trace m.runs))) (λ fs known plain.
-    at_there (lookup model fs) known (λ bytes k. inr (k.0.resolved, k.0.verdict, at_there (lookup trace fs) k.1 (λ lines run. by_run (root_types (diagram_of_table k.0.resolved)) k.0.right.code.program lines run))))
+    told_two h.files h.rest model trace {X = λ bytes. WritesWhole code bytes h h'}
+    {P = λ bytes (w : WritesWhole code bytes h h') lines.
+    RunsTo e w.right.code.program (root_types (diagram_of_table w.resolved)) lines b b'}
+    (there h.files h.rest model (named h model found) (λ bytes m. (m.whole, named h trace m.runs)))
+    (λ fs known plain.
+    at_there (lookup model fs) known
+    (λ bytes k.
+    inr (
+      k.0.resolved,
+      k.0.verdict,
+      at_there (lookup trace fs) k.1
+          (λ lines run. by_run (root_types (diagram_of_table k.0.resolved)) k.0.right.code.program lines run),
+    )))
 
 -- ---- A run of code
 
 -- a program that is stuck in its start is stuck over each trace
-pub comes-over : (p : ProgramTree) (types : List FixType) (trace : Option (List ℕ)) (n : ℕ) (o : Outcome) → start_run p ≡ o → HasStepTypes p types → IsSomeAnd trace (λ lines. n ≡ status_over p types lines) → ProgramComes p o trace n
+pub comes-over : (p : ProgramTree) (types : List FixType) (trace : Option (List ℕ)) (n : ℕ) (o : Outcome) →
+    start_run p ≡ o → HasStepTypes p types → IsSomeAnd trace (λ lines. n ≡ status_over p types lines) →
+    ProgramComes p o trace n
 comes-over p types trace n (done after) e k h = (types, k, h)
 comes-over p types None n (stuck at cells) e k h = absurd h
 comes-over p types (Some lines) n (stuck at cells) e k h =
     h ∙ ap (λ (o : Outcome). run_status (rows_of_start p o (rows_in types lines)).stuck_place (bad_line types lines)) e
 
-exec-comes : (e : Ending) (code trace : List ℕ) (h h' : HostTold) (b b' : SinkTold) → ((types : List FixType) (p : ProgramTree) (lines : List ℕ) → RunsTo e p types lines b b' → status_of e ≡ status_over p types lines) → OnBytes h code (λ bytes. ExecutesCode e trace bytes h h' b b') → ComesTo (status_of e) (Exec code trace) h
+exec-comes : (e : Ending) (code trace : List ℕ) (h h' : HostTold) (b b' : SinkTold) →
+    ((types : List FixType) (p : ProgramTree) (lines : List ℕ) → RunsTo e p types lines b b' →
+    status_of e ≡ status_over p types lines) → OnBytes h code (λ bytes. ExecutesCode e trace bytes h h' b b') →
+    ComesTo (status_of e) (Exec code trace) h
 exec-comes e code trace h h' b b' by_run found =
-    told_two h.files h.rest code trace {X = StartsCode} {P = λ bytes (x : StartsCode bytes) lines. RunsTo e x.program x.types lines b b'} (there h.files h.rest code (named h code found) (λ bytes x. (x.starts, named h trace x.runs))) (λ fs known plain.
-    at_there (lookup code fs) known (λ bytes k. inr (inr (k.0.fits, (k.0.program, k.0.reading, comes-over k.0.program k.0.types (lookup trace fs) (status_of e) (start_run k.0.program) refl k.0.inputs (at_there (lookup trace fs) k.1 (λ lines run. by_run k.0.types k.0.program lines run)))))))
+    told_two h.files h.rest code trace {X = StartsCode}
+    {P = λ bytes (x : StartsCode bytes) lines. RunsTo e x.program x.types lines b b'}
+    (there h.files h.rest code (named h code found) (λ bytes x. (x.starts, named h trace x.runs)))
+    (λ fs known plain.
+    at_there (lookup code fs) known
+    (λ bytes k.
+    inr (inr (
+      k.0.fits,
+      (
+        k.0.program,
+        k.0.reading,
+        comes-over k.0.program k.0.types (lookup trace fs) (status_of e)
+            (start_run k.0.program) refl k.0.inputs
+            (at_there (lookup trace fs) k.1 (λ lines run. by_run k.0.types k.0.program lines run)),
+      ),
+    ))))
 
 -- ---- A script on a system of a model
 
@@ -89,15 +122,20 @@ drive-comes shapes e model code word script h h' b b' by_end found =
 
 -- ---- Each ending
 
-pub over : (p : ProgramTree) (types : List FixType) (lines : List ℕ) (place : Option Stuck) (bad : Option BadLine) → (rows_over p types lines).stuck_place ≡ place → bad_line types lines ≡ bad → run_status place bad ≡ status_over p types lines
+pub over : (p : ProgramTree) (types : List FixType) (lines : List ℕ) (place : Option Stuck) (bad : Option BadLine) →
+    (rows_over p types lines).stuck_place ≡ place → bad_line types lines ≡ bad →
+    run_status place bad ≡ status_over p types lines
 over p types lines place bad free good =
     sym (ap (λ (x : Option Stuck). run_status x (bad_line types lines)) free ∙ ap (run_status place) good)
 
-compile-comes : (e : Ending) (model code : List ℕ) (h h' : HostTold) (b b' : SinkTold) → Finds e (Some (Compile model code)) h h' b b' → ComesTo (status_of e) (Compile model code) h
+compile-comes : (e : Ending) (model code : List ℕ) (h h' : HostTold) (b b' : SinkTold) →
+    Finds e (Some (Compile model code)) h h' b b' → ComesTo (status_of e) (Compile model code) h
 compile-comes (Compiled rows systems functions) model code h h' b b' ends =
-    told_one h.files h.rest model (named h model ends.0.model) (λ fs known plain. at_there (lookup model fs) known (λ bytes w. inr (w.1.resolved, w.1.verdict, refl)))
+    told_one h.files h.rest model (named h model ends.0.model)
+    (λ fs known plain. at_there (lookup model fs) known (λ bytes w. inr (w.1.resolved, w.1.verdict, refl)))
 compile-comes (Refused refusal) model code h h' b b' ends =
-    told_one h.files h.rest model (named h model ends.0.model) (λ fs known plain. at_there (lookup model fs) known (λ bytes v. inl (plain_refusal refusal, v, refl)))
+    told_one h.files h.rest model (named h model ends.0.model)
+    (λ fs known plain. at_there (lookup model fs) known (λ bytes v. inl (plain_refusal refusal, v, refl)))
 compile-comes ReadFault model code h h' b b' ends = not-plain 5 (Compile model code) h (λ plain. plain.no_read_fault refl)
 compile-comes WriteFault model code h h' b b' ends = not-plain 6 (Compile model code) h (λ plain. plain.no_write_fault refl)
 compile-comes NoMemory model code h h' b b' ends = not-plain 10 (Compile model code) h (λ plain. plain.no_want_of_memory refl)
@@ -111,14 +149,16 @@ compile-comes CodeTooLong model code h h' b b' ends = absurd ends.0
 compile-comes (IsStuck at) model code h h' b b' ends = absurd ends.0
 compile-comes PutFault model code h h' b b' ends = absurd ends.0
 
-running-comes : (e : Ending) (model code trace : List ℕ) (h h' : HostTold) (b b' : SinkTold) → Finds e (Some (Run model code trace)) h h' b b' → ComesTo (status_of e) (Run model code trace) h
+running-comes : (e : Ending) (model code trace : List ℕ) (h h' : HostTold) (b b' : SinkTold) →
+    Finds e (Some (Run model code trace)) h h' b b' → ComesTo (status_of e) (Run model code trace) h
 running-comes (Ran totals) model code trace h h' b b' ends =
     run-comes (Ran totals) model code trace h h' b b' (λ types p lines run. sym (ap (run_status None) run.good)) ends.model
 running-comes (BadTrace line) model code trace h h' b b' ends =
     run-comes (BadTrace line) model code trace h h' b b' (λ types p lines run. sym (ap (run_status None) run.bad)) ends.model
 running-comes (BadScript stop) model code trace h h' b b' ends = absurd ends
 running-comes (Refused refusal) model code trace h h' b b' ends =
-    told_one h.files h.rest model (named h model ends.0.model) (λ fs known plain. at_there (lookup model fs) known (λ bytes v. inl (plain_refusal refusal, v, refl)))
+    told_one h.files h.rest model (named h model ends.0.model)
+    (λ fs known plain. at_there (lookup model fs) known (λ bytes v. inl (plain_refusal refusal, v, refl)))
 running-comes ReadFault model code trace h h' b b' ends = not-plain 5 (Run model code trace) h (λ plain. plain.no_read_fault refl)
 running-comes WriteFault model code trace h h' b b' ends = not-plain 6 (Run model code trace) h (λ plain. plain.no_write_fault refl)
 running-comes PutFault model code trace h h' b b' ends = not-plain 7 (Run model code trace) h (λ plain. plain.no_put_fault refl)
@@ -130,14 +170,17 @@ running-comes (CodeRefused fault) model code trace h h' b b' ends = absurd ends
 running-comes CodeTooLong model code trace h h' b b' ends = absurd ends
 running-comes (IsStuck at) model code trace h h' b b' ends = absurd ends
 
-stuck-comes : (at : Stuck) (code trace : List ℕ) (h h' : HostTold) (b b' : SinkTold) → Finds (IsStuck at) (Some (Exec code trace)) h h' b b' → ComesTo 9 (Exec code trace) h
+stuck-comes : (at : Stuck) (code trace : List ℕ) (h h' : HostTold) (b b' : SinkTold) →
+    Finds (IsStuck at) (Some (Exec code trace)) h h' b b' → ComesTo 9 (Exec code trace) h
 stuck-comes at code trace h h' b b' (inl ends) =
     told_one h.files h.rest code (named h code ends.code) (λ fs known plain. at_there (lookup code fs) known (λ bytes x.
     inr (inr (x.fits, (x.program, x.reading, subst (λ (o : Outcome). ProgramComes x.program o (lookup trace fs) 9) (sym x.start) refl)))))
 stuck-comes at code trace h h' b b' (inr ends) =
-    exec-comes (IsStuck at) code trace h h' b b' (λ types p lines run. sym (ap (λ (x : Option Stuck). run_status x (bad_line types lines)) run.stuck)) ends.code
+    exec-comes (IsStuck at) code trace h h' b b'
+    (λ types p lines run. sym (ap (λ (x : Option Stuck). run_status x (bad_line types lines)) run.stuck)) ends.code
 
-executing-comes : (e : Ending) (code trace : List ℕ) (h h' : HostTold) (b b' : SinkTold) → Finds e (Some (Exec code trace)) h h' b b' → ComesTo (status_of e) (Exec code trace) h
+executing-comes : (e : Ending) (code trace : List ℕ) (h h' : HostTold) (b b' : SinkTold) →
+    Finds e (Some (Exec code trace)) h h' b b' → ComesTo (status_of e) (Exec code trace) h
 executing-comes (Ran totals) code trace h h' b b' ends =
     exec-comes (Ran totals) code trace h h' b b' (λ types p lines run. over p types lines None None run.free run.good) ends.code
 executing-comes (BadTrace line) code trace h h' b b' ends =
@@ -145,9 +188,11 @@ executing-comes (BadTrace line) code trace h h' b b' ends =
 executing-comes (BadScript stop) code trace h h' b b' ends = absurd ends
 executing-comes (IsStuck at) code trace h h' b b' ends = stuck-comes at code trace h h' b b' ends
 executing-comes (CodeRefused fault) code trace h h' b b' ends =
-    told_one h.files h.rest code (named h code ends.code) (λ fs known plain. at_there (lookup code fs) known (λ bytes x. inr (inl (x.0, (fault, x.1, refl)))))
+    told_one h.files h.rest code (named h code ends.code)
+    (λ fs known plain. at_there (lookup code fs) known (λ bytes x. inr (inl (x.0, (fault, x.1, refl)))))
 executing-comes CodeTooLong code trace h h' b b' ends =
-    told_one h.files h.rest code (named h code ends.code) (λ fs known plain. at_there (lookup code fs) known (λ bytes long. inl (long, refl)))
+    told_one h.files h.rest code (named h code ends.code)
+    (λ fs known plain. at_there (lookup code fs) known (λ bytes long. inl (long, refl)))
 executing-comes ReadFault code trace h h' b b' ends = not-plain 5 (Exec code trace) h (λ plain. plain.no_read_fault refl)
 executing-comes PutFault code trace h h' b b' ends = not-plain 7 (Exec code trace) h (λ plain. plain.no_put_fault refl)
 executing-comes NoMemory code trace h h' b b' ends = not-plain 10 (Exec code trace) h (λ plain. plain.no_want_of_memory refl)
@@ -157,11 +202,14 @@ executing-comes (Reported text) code trace h h' b b' ends = absurd ends
 executing-comes (Refused refusal) code trace h h' b b' ends = absurd ends
 executing-comes WriteFault code trace h h' b b' ends = absurd ends
 
-profiling-comes : (e : Ending) (model : List ℕ) (h h' : HostTold) (b b' : SinkTold) → Finds e (Some (Profile model)) h h' b b' → ComesTo (status_of e) (Profile model) h
+profiling-comes : (e : Ending) (model : List ℕ) (h h' : HostTold) (b b' : SinkTold) →
+    Finds e (Some (Profile model)) h h' b b' → ComesTo (status_of e) (Profile model) h
 profiling-comes (Reported text) model h h' b b' ends =
-    told_one h.files h.rest model (named h model ends.0.model) (λ fs known plain. at_there (lookup model fs) known (λ bytes w. inr (w.resolved, w.verdict, refl)))
+    told_one h.files h.rest model (named h model ends.0.model)
+    (λ fs known plain. at_there (lookup model fs) known (λ bytes w. inr (w.resolved, w.verdict, refl)))
 profiling-comes (Refused refusal) model h h' b b' ends =
-    told_one h.files h.rest model (named h model ends.0.model) (λ fs known plain. at_there (lookup model fs) known (λ bytes v. inl (plain_refusal refusal, v, refl)))
+    told_one h.files h.rest model (named h model ends.0.model)
+    (λ fs known plain. at_there (lookup model fs) known (λ bytes v. inl (plain_refusal refusal, v, refl)))
 profiling-comes ReadFault model h h' b b' ends = not-plain 5 (Profile model) h (λ plain. plain.no_read_fault refl)
 profiling-comes NoMemory model h h' b b' ends = not-plain 10 (Profile model) h (λ plain. plain.no_want_of_memory refl)
 profiling-comes (Compiled rows systems functions) model h h' b b' ends = absurd ends.0
@@ -207,16 +255,20 @@ driving-comes shapes (CodeRefused fault) model code word script h h' b b' ends =
 driving-comes shapes CodeTooLong model code word script h h' b b' ends = absurd ends
 driving-comes shapes (IsStuck at) model code word script h h' b b' ends = absurd ends
 
-generating-comes : (e : Ending) (start size : ℕ) (model code : List ℕ) (h h' : HostTold) (b b' : SinkTold) → Finds e (Some (Gen start size model code)) h h' b b' → ComesTo (status_of e) (Gen start size model code) h
+generating-comes : (e : Ending) (start size : ℕ) (model code : List ℕ) (h h' : HostTold) (b b' : SinkTold) →
+    Finds e (Some (Gen start size model code)) h h' b b' → ComesTo (status_of e) (Gen start size model code) h
 generating-comes (Ran totals) start size model code h h' b b' ends =
     told_any h.files h.rest (λ fs plain. inr (ends.both.resolved, ends.both.verdict, refl))
 generating-comes (BadTrace line) start size model code h h' b b' ends = absurd ends
 generating-comes (BadScript stop) start size model code h h' b b' ends = absurd ends
 generating-comes (Refused refusal) start size model code h h' b b' ends =
     told_any h.files h.rest (λ fs plain. inl (plain_refusal refusal, ends.0.verdict, refl))
-generating-comes WriteFault start size model code h h' b b' ends = not-plain 6 (Gen start size model code) h (λ plain. plain.no_write_fault refl)
-generating-comes PutFault start size model code h h' b b' ends = not-plain 7 (Gen start size model code) h (λ plain. plain.no_put_fault refl)
-generating-comes NoMemory start size model code h h' b b' ends = not-plain 10 (Gen start size model code) h (λ plain. plain.no_want_of_memory refl)
+generating-comes WriteFault start size model code h h' b b' ends =
+    not-plain 6 (Gen start size model code) h (λ plain. plain.no_write_fault refl)
+generating-comes PutFault start size model code h h' b b' ends =
+    not-plain 7 (Gen start size model code) h (λ plain. plain.no_put_fault refl)
+generating-comes NoMemory start size model code h h' b b' ends =
+    not-plain 10 (Gen start size model code) h (λ plain. plain.no_want_of_memory refl)
 generating-comes (Compiled rows systems functions) start size model code h h' b b' ends = absurd ends
 generating-comes (Reported text) start size model code h h' b b' ends = absurd ends
 generating-comes Usage start size model code h h' b b' ends = absurd ends
@@ -236,7 +288,8 @@ comes-to shapes e (Gen start size model code) h h' b b' ends = generating-comes 
 
 -- ---- Exactly
 
-pub told-map : (files : Option (List File)) (rest : Option (List ℕ)) {P Q : List File → Type 0} → IfTold files rest P → ((fs : List File) → P fs → Q fs) → IfTold files rest Q
+pub told-map : (files : Option (List File)) (rest : Option (List ℕ)) {P Q : List File → Type 0} → IfTold files rest P →
+    ((fs : List File) → P fs → Q fs) → IfTold files rest Q
 told-map None rest h q = tt
 told-map (Some fs) None h q = tt
 told-map (Some fs) (Some xs) h q = q fs h
@@ -251,7 +304,8 @@ pub comes_exactly : OneVerdict → ReadingsAgree → ShapesAreOne → (s : ℕ) 
 comes_exactly one agree shapes s None h h' b b' e = tt
 comes_exactly one agree shapes s (Some a) h h' b b' e = by e.found e.said e.before e.ends.finds e.says e.puts
   where
-    by : (found said : Ending) (before : SinkTold) → Finds found (Some a) h h' b before → IsSaidOf said found → Puts said s before b' → OnTold (Some a) h (ComesExactly s)
+    by : (found said : Ending) (before : SinkTold) → Finds found (Some a) h h' b before → IsSaidOf said found →
+        Puts said s before b' → OnTold (Some a) h (ComesExactly s)
     by found said before finds (inl same) (inl (is, whole)) =
         let status : s ≡ status_of found = is ∙ ap status_of same in
         told-map h.files h.rest (comes-to shapes found a h h' b before finds) (λ fs comes. record {
@@ -263,7 +317,8 @@ comes_exactly one agree shapes s (Some a) h h' b b' e = by e.found e.said e.befo
     by found said before finds says (inr (seven, part)) = unplain s a h (λ plain. plain.no_put_fault seven)
 
 -- the same of one status that no fault gives
-exactly-by : (n s : ℕ) (a : Option Asked) (h : HostTold) → IsPlain n → OnTold a h (ComesExactly s) → OnTold a h (λ a fs. IsExactly n s (Comes a fs n))
+exactly-by : (n s : ℕ) (a : Option Asked) (h : HostTold) → IsPlain n → OnTold a h (ComesExactly s) →
+    OnTold a h (λ a fs. IsExactly n s (Comes a fs n))
 exactly-by n s None h plain all = tt
 exactly-by n s (Some a) h plain all = told-map h.files h.rest all (λ fs x. record {
   only = λ is. subst (Comes a fs) is (x.only (subst IsPlain (sym is) plain));
@@ -275,16 +330,40 @@ pub exactly : OneVerdict → ReadingsAgree → ShapesAreOne → (n : ℕ) → Is
 exactly one agree shapes n plain s a h h' b b' ends = exactly-by n s a h plain (comes_exactly one agree shapes s a h h' b b' ends)
 
 pub plain_three : IsPlain 3
-plain_three = record { no_read_fault = omega arith; no_write_fault = omega arith; no_put_fault = omega arith; no_want_of_memory = omega arith }
+plain_three =
+    record {
+      no_read_fault = omega arith;
+      no_write_fault = omega arith;
+      no_put_fault = omega arith;
+      no_want_of_memory = omega arith;
+    }
 
 pub plain_four : IsPlain 4
-plain_four = record { no_read_fault = omega arith; no_write_fault = omega arith; no_put_fault = omega arith; no_want_of_memory = omega arith }
+plain_four =
+    record {
+      no_read_fault = omega arith;
+      no_write_fault = omega arith;
+      no_put_fault = omega arith;
+      no_want_of_memory = omega arith;
+    }
 
 pub plain_eight : IsPlain 8
-plain_eight = record { no_read_fault = omega arith; no_write_fault = omega arith; no_put_fault = omega arith; no_want_of_memory = omega arith }
+plain_eight =
+    record {
+      no_read_fault = omega arith;
+      no_write_fault = omega arith;
+      no_put_fault = omega arith;
+      no_want_of_memory = omega arith;
+    }
 
 pub plain_nine : IsPlain 9
-plain_nine = record { no_read_fault = omega arith; no_write_fault = omega arith; no_put_fault = omega arith; no_want_of_memory = omega arith }
+plain_nine =
+    record {
+      no_read_fault = omega arith;
+      no_write_fault = omega arith;
+      no_put_fault = omega arith;
+      no_want_of_memory = omega arith;
+    }
 
 -- ---- Words that ask for nothing
 
@@ -333,8 +412,12 @@ pub usage : (s : ℕ) (a : Option Asked) (h h' : HostTold) (b b' : SinkTold) →
 usage s a h h' b b' e = record {
   only = λ two.
       let f : SaysFound s a h h' b b' = says_found s a h h' b b' e (λ seven. omega (arith, two, seven)) (λ ten. omega (arith, two, ten)) in
-      nothing-asked a h h' b f.before (subst (λ (x : Ending). Finds x a h h' b f.before) (only-usage f.found (sym f.status ∙ two)) f.ends.finds);
+      nothing-asked a h h' b f.before
+      (subst (λ (x : Ending). Finds x a h h' b f.before) (only-usage f.found (sym f.status ∙ two)) f.ends.finds);
   wherever = λ none plain.
       let f : SaysFound s a h h' b b' = says_found s a h h' b b' e plain.no_put_fault plain.no_want_of_memory in
-      f.status ∙ unasked f.found h h' b f.before (subst (λ (x : Option Asked). Finds f.found x h h' b f.before) none f.ends.finds) (subst IsPlain f.status plain);
+      f.status
+      ∙ unasked f.found h h' b f.before
+      (subst (λ (x : Option Asked). Finds f.found x h h' b f.before) none f.ends.finds)
+      (subst IsPlain f.status plain);
 }

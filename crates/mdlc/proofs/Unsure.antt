@@ -62,7 +62,8 @@ only_put PutFault is = refl
 only_put NoMemory is = absurd (omega (arith, is))
 
 -- a model that was not compiled, since it can't be read
-pub unsure_model : (e : Ending) (model code : List ℕ) (h h' : HostTold) → NotCompiled e model code h h' → IfReadFault e (h.sure model ≡ false)
+pub unsure_model : (e : Ending) (model code : List ℕ) (h h' : HostTold) → NotCompiled e model code h h' →
+    IfReadFault e (h.sure model ≡ false)
 unsure_model (Compiled rows systems functions) model code h h' ends = tt
 unsure_model (Ran totals) model code h h' ends = tt
 unsure_model Usage model code h h' ends = tt
@@ -96,7 +97,8 @@ unread_start PutFault bytes P ends = tt
 unread_start NoMemory bytes P ends = tt
 
 -- a model that is made is not read
-pub unread_made : (e : Ending) (start size : ℕ) (model code : List ℕ) (h h' : HostTold) (b b' : SinkTold) (P : Type 0) → Ends e (Some (Gen start size model code)) h h' b b' → IfReadFault e P
+pub unread_made : (e : Ending) (start size : ℕ) (model code : List ℕ) (h h' : HostTold) (b b' : SinkTold) (P : Type 0) →
+    Ends e (Some (Gen start size model code)) h h' b b' → IfReadFault e P
 unread_made (Compiled rows systems functions) start size model code h h' b b' P ends = tt
 unread_made (Ran totals) start size model code h h' b b' P ends = tt
 unread_made (Reported text) start size model code h h' b b' P ends = tt
@@ -130,7 +132,8 @@ if_fault PutFault f h = tt
 if_fault NoMemory f h = tt
 
 -- status 5 is given only where the ending was a fault of reading
-pub unsure_at : (found said : Ending) (s : ℕ) (b b' : SinkTold) {P : Type 0} → IfReadFault found P → IsSaidOf said found → Puts said s b b' → s ≡ 5 → P
+pub unsure_at : (found said : Ending) (s : ℕ) (b b' : SinkTold) {P : Type 0} → IfReadFault found P →
+    IsSaidOf said found → Puts said s b b' → s ≡ 5 → P
 unsure_at found said s b b' {P = P} unsure (inl same) (inl (is, whole)) five =
     subst (λ (e : Ending). IfReadFault e P) (sym same ∙ only_read said (sym is ∙ five)) unsure
 unsure_at found said s b b' unsure (inr none) (inl (is, whole)) five =
@@ -139,12 +142,16 @@ unsure_at found said s b b' unsure (inl same) (inr (seven, part)) five = absurd 
 unsure_at found said s b b' unsure (inr none) (inr (seven, part)) five = absurd (omega arith)
 
 -- the same for what is asked for, if anything is
-pub unsure_asked : (P : Asked → Type 0) (a : Option Asked) (found said : Ending) (s : ℕ) (b b' : SinkTold) → IfSome a (λ a. IfReadFault found (P a)) → IsSaidOf said found → Puts said s b b' → IfSome a (λ a. s ≡ 5 → P a)
+pub unsure_asked : (P : Asked → Type 0) (a : Option Asked) (found said : Ending) (s : ℕ) (b b' : SinkTold) →
+    IfSome a (λ a. IfReadFault found (P a)) → IsSaidOf said found → Puts said s b b' → IfSome a (λ a. s ≡ 5 → P a)
 unsure_asked P None found said s b b' unsure of puts = tt
 unsure_asked P (Some a) found said s b b' unsure of puts = λ five. unsure_at found said s b b' unsure of puts five
 
 -- a fault of reading the second file, as the host became with its files
-pub unsure_second : {H : Type 0} (files : H → Option (List File)) (sure : H → List ℕ → Bool) (h later : H) (e : Ending) (a : Asked) (name : List ℕ) → second_file a ≡ Some name → files later ≡ files h → IfReadFault e (sure later name ≡ false) → IfReadFault e (IsUnsureOf files sure h a)
+pub unsure_second : {H : Type 0} (files : H → Option (List File)) (sure : H → List ℕ → Bool) (h later : H) (e : Ending)
+    (a : Asked) (name : List ℕ) → second_file a ≡ Some name → files later ≡ files h →
+    IfReadFault e (sure later name ≡ false) → IfReadFault e (IsUnsureOf files sure h a)
 unsure_second files sure h later e a name second same fault =
     if_fault e {P = sure later name ≡ false} {Q = IsUnsureOf files sure h a} (λ unsure.
-    inr (subst (λ (o : Option (List ℕ)). IsSomeAnd o (BecomesUnsureOf files sure h)) (sym second) (record { later = later; same = same; unsure = unsure }))) fault
+    inr (subst (λ (o : Option (List ℕ)). IsSomeAnd o (BecomesUnsureOf files sure h)) (sym second)
+    (record { later = later; same = same; unsure = unsure }))) fault

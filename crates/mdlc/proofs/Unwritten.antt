@@ -11,7 +11,8 @@ use Rattle.mdlc.specs.Headline.{IsReadOnly, WritesNothing}
 use Rattle.mdlc.proofs.EndingLaws.{SaysFound, says_found}
 
 -- `exec` writes nothing
-pub exec_unwritten : (e : Ending) (code trace : List ℕ) (h h' : HostTold) (b b' : SinkTold) → Finds e (Some (Exec code trace)) h h' b b' → h'.written ≡ h.written
+pub exec_unwritten : (e : Ending) (code trace : List ℕ) (h h' : HostTold) (b b' : SinkTold) →
+    Finds e (Some (Exec code trace)) h h' b b' → h'.written ≡ h.written
 exec_unwritten (Ran totals) code trace h h' b b' ends = ends.left.written
 exec_unwritten (BadTrace line) code trace h h' b b' ends = ends.left.written
 exec_unwritten (BadScript stop) code trace h h' b b' ends = absurd ends
@@ -29,7 +30,8 @@ exec_unwritten (Reported text) code trace h h' b b' ends = absurd ends
 exec_unwritten (Refused refusal) code trace h h' b b' ends = absurd ends
 exec_unwritten WriteFault code trace h h' b b' ends = absurd ends
 
-pub profile_unwritten : (e : Ending) (model : List ℕ) (h h' : HostTold) (b b' : SinkTold) → Finds e (Some (Profile model)) h h' b b' → h'.written ≡ h.written
+pub profile_unwritten : (e : Ending) (model : List ℕ) (h h' : HostTold) (b b' : SinkTold) →
+    Finds e (Some (Profile model)) h h' b b' → h'.written ≡ h.written
 profile_unwritten (Compiled rows systems functions) model h h' b b' ends = absurd ends.0
 profile_unwritten (Ran totals) model h h' b b' ends = absurd ends.0
 profile_unwritten (Reported text) model h h' b b' ends = ends.0.left.written
@@ -61,7 +63,8 @@ unasked-unwritten WriteFault h h' ends = absurd ends
 unasked-unwritten PutFault h h' ends = absurd ends
 unasked-unwritten NoMemory h h' ends = ends
 
-read-only : (e : Ending) (a : Option Asked) (h h' : HostTold) (b b' : SinkTold) → IsReadOnly a → Finds e a h h' b b' → h'.written ≡ h.written
+read-only : (e : Ending) (a : Option Asked) (h h' : HostTold) (b b' : SinkTold) → IsReadOnly a → Finds e a h h' b b' →
+    h'.written ≡ h.written
 read-only e None h h' b b' only ends = unasked-unwritten e h h' ends.0
 read-only e (Some (Compile model code)) h h' b b' only ends = absurd only
 read-only e (Some (Run model code trace)) h h' b b' only ends = absurd only
@@ -71,7 +74,8 @@ read-only e (Some (Drive model code word script)) h h' b b' only ends = absurd o
 read-only e (Some (Gen start size model code)) h h' b b' only ends = absurd only
 
 -- a model is refused
-of-refused : (a : Option Asked) (h h' : HostTold) (b b' : SinkTold) (refusal : Refusal) → Finds (Refused refusal) a h h' b b' → h'.written ≡ h.written
+of-refused : (a : Option Asked) (h h' : HostTold) (b b' : SinkTold) (refusal : Refusal) →
+    Finds (Refused refusal) a h h' b b' → h'.written ≡ h.written
 of-refused None h h' b b' refusal ends = absurd ends.0
 of-refused (Some (Compile model code)) h h' b b' refusal ends = ends.0.written
 of-refused (Some (Run model code trace)) h h' b b' refusal ends = ends.0.written
@@ -80,7 +84,8 @@ of-refused (Some (Profile model)) h h' b b' refusal ends = ends.0.written
 of-refused (Some (Drive model code word script)) h h' b b' refusal ends = ends.0.written
 of-refused (Some (Gen start size model code)) h h' b b' refusal ends = ends.0.left.written
 
-with-three : (e : Ending) (a : Option Asked) (h h' : HostTold) (b b' : SinkTold) → status_of e ≡ 3 → Finds e a h h' b b' → h'.written ≡ h.written
+with-three : (e : Ending) (a : Option Asked) (h h' : HostTold) (b b' : SinkTold) → status_of e ≡ 3 →
+    Finds e a h h' b b' → h'.written ≡ h.written
 with-three (Compiled rows systems functions) a h h' b b' is ends = absurd (omega (arith, is))
 with-three (Ran totals) a h h' b b' is ends = absurd (omega (arith, is))
 with-three (Reported text) a h h' b b' is ends = absurd (omega (arith, is))
@@ -96,8 +101,10 @@ with-three WriteFault a h h' b b' is ends = absurd (omega (arith, is))
 with-three PutFault a h h' b b' is ends = absurd (omega (arith, is))
 with-three NoMemory a h h' b b' is ends = absurd (omega (arith, is))
 
-pub unwritten : (s : ℕ) (a : Option Asked) (h h' : HostTold) (b b' : SinkTold) → EndsAt s a h h' b b' → WritesNothing s a → h'.written ≡ h.written
+pub unwritten : (s : ℕ) (a : Option Asked) (h h' : HostTold) (b b' : SinkTold) → EndsAt s a h h' b b' →
+    WritesNothing s a → h'.written ≡ h.written
 unwritten s a h h' b b' e (inl only) = read-only e.found a h h' b e.before only e.ends.finds
 unwritten s a h h' b b' e (inr three) =
-    let f : SaysFound s a h h' b b' = says_found s a h h' b b' e (λ seven. omega (arith, three, seven)) (λ ten. omega (arith, three, ten)) in
+    let f : SaysFound s a h h' b b' =
+    says_found s a h h' b b' e (λ seven. omega (arith, three, seven)) (λ ten. omega (arith, three, ten)) in
     with-three f.found a h h' b f.before (sym f.status ∙ three) f.ends.finds

@@ -29,8 +29,10 @@ use Rattle.mdlc.specs.Endings.{PutsPart, Ends}
 
 -- ---- Compiling a model into a file
 
--- the model of this name was compiled, and its code written whole; of what the host tells to read, nothing is left
-pub record WritesCompiled (c : Compilation) (model_name code_name : List ℕ) (h h' : HostTold) : Type 0 where
+-- the model of this name was compiled, and its code written whole; of what the host tells to read,
+-- nothing is left
+pub record WritesCompiled (c : Compilation) (model_name code_name : List ℕ)
+    (h h' : HostTold) : Type 0 where
   pub model : OnBytes h model_name (λ bytes. IsCompiledFrom bytes c)
   pub written : h'.written ≡ add_file h.written code_name c.code
   pub files : h'.files ≡ h.files
@@ -59,7 +61,8 @@ NotAccepted NoMemory name h h' = h'.written ≡ h.written
 NotAccepted _ name h h' = ⊥
 
 -- right code for the table was written whole, and nothing read
-pub record WritesCodeOf (r : ResolvedTable) (c : Compilation) (code : List ℕ) (h h' : HostTold) : Type 0 where
+pub record WritesCodeOf (r : ResolvedTable) (c : Compilation) (code : List ℕ)
+    (h h' : HostTold) : Type 0 where
   pub right : IsCompilationOf r c
   pub written : h'.written ≡ add_file h.written code c.code
   pub files : h'.files ≡ h.files
@@ -83,7 +86,8 @@ NotWritten _ r code h h' = ⊥
 
 -- a machine behind its `root_start`
 abbrev pub IsBehindStart : MachineState → Type 0
-IsBehindStart m = (after : After) × (start_run (tree_of m) ≡ done after) × (fields_of m ≡ after.cells)
+IsBehindStart m =
+    (after : After) × (start_run (tree_of m) ≡ done after) × (fields_of m ≡ after.cells)
 
 -- a machine of the program that bytes of C are
 pub record StartsFrom (bytes : List ℕ) (m : MachineState) : Type 0 where
@@ -94,21 +98,25 @@ pub record StartsFrom (bytes : List ℕ) (m : MachineState) : Type 0 where
 -- why there is no machine of bytes of C
 abbrev pub NotStarted : List ℕ → Ending → Type 0
 NotStarted bytes (CodeRefused fault) = CFaultOf bytes fault
-NotStarted bytes (IsStuck at) = (p : ProgramTree) × CText bytes p × ((cells : Cells) × (start_run p ≡ stuck at cells))
+NotStarted bytes (IsStuck at) =
+    (p : ProgramTree) × CText bytes p × ((cells : Cells) × (start_run p ≡ stuck at cells))
 NotStarted bytes NoMemory = ⊤
 NotStarted bytes _ = ⊥
 
 -- ---- Making a model
 
 -- the model was compiled, its text written whole, and then its code
-pub record WritesMade (c : Compilation) (start size : ℕ) (model code : List ℕ) (h h' : HostTold) : Type 0 where
+pub record WritesMade (c : Compilation) (start size : ℕ) (model code : List ℕ)
+    (h h' : HostTold) : Type 0 where
   pub from : IsCompiledFrom (model_text start size) c
   pub written : h'.written ≡ add_file (add_file h.written model (model_text start size)) code c.code
   pub no_fault : NoFault h h'
 
 -- it wasn't, and the call ends with nothing put
-abbrev pub NotMade : Ending → (start size : ℕ) → (model code : List ℕ) → HostTold → HostTold → Type 0
-NotMade e start size model code h h' = (b : SinkTold) → Ends e (Some (Gen start size model code)) h h' b b
+abbrev pub NotMade : Ending → (start size : ℕ) → (model code : List ℕ) → HostTold → HostTold →
+    Type 0
+NotMade e start size model code h h' =
+    (b : SinkTold) → Ends e (Some (Gen start size model code)) h h' b b
 
 -- why the line of a compilation wasn't put whole
 abbrev pub NotPut : Ending → Compilation → SinkTold → SinkTold → Type 0
@@ -124,13 +132,16 @@ RowsEnd NoMemory p types bytes b b' = PutsNothing b b'
 RowsEnd e p types bytes b b' = RunsTo e p types bytes b b'
 
 -- the trace of this name was run, up to an ending
-pub record RunsFile (e : Ending) (p : ProgramTree) (types : List FixType) (trace : List ℕ) (h h' : HostTold) (b b' : SinkTold) : Type 0 where
+pub record RunsFile (e : Ending) (p : ProgramTree) (types : List FixType) (trace : List ℕ)
+    (h h' : HostTold) (b b' : SinkTold) : Type 0 where
   pub lines : OnBytes h trace (λ bytes. RunsTo e p types bytes b b')
   pub end : ReadsToEnd e h'
   pub left : LeavesHost h h'
 
--- a fault of reading the trace: it isn't opened, and nothing was put, or the lines of all whole lines among what was taken were
-pub record MissesFile (p : ProgramTree) (types : List FixType) (trace : List ℕ) (h h' : HostTold) (b b' : SinkTold) : Type 0 where
+-- a fault of reading the trace: it isn't opened, and nothing was put, or the lines of all whole
+-- lines among what was taken were
+pub record MissesFile (p : ProgramTree) (types : List FixType) (trace : List ℕ) (h h' : HostTold)
+    (b b' : SinkTold) : Type 0 where
   pub rose : Rose h.read_faults h'.read_faults
   pub written : h'.written ≡ h.written
   pub lines : PutsNothing b b' ⊎ TakesFile p types trace h h' b b'
@@ -141,7 +152,8 @@ pub record ForgetsFile (h h' : HostTold) (b b' : SinkTold) : Type 0 where
   pub silent : PutsNothing b b'
 
 -- how a run of a program over the trace of this name ends
-abbrev pub RunEnds : Ending → ProgramTree → List FixType → List ℕ → HostTold → HostTold → SinkTold → SinkTold → Type 0
+abbrev pub RunEnds : Ending → ProgramTree → List FixType → List ℕ → HostTold → HostTold → SinkTold →
+    SinkTold → Type 0
 RunEnds (Ran totals) p types trace h h' b b' = RunsFile (Ran totals) p types trace h h' b b'
 RunEnds (BadTrace line) p types trace h h' b b' = RunsFile (BadTrace line) p types trace h h' b b'
 RunEnds (IsStuck at) p types trace h h' b b' = RunsFile (IsStuck at) p types trace h h' b b'
@@ -153,19 +165,23 @@ RunEnds _ p types trace h h' b b' = ⊥
 -- ---- Running a script
 
 -- the script of this name was run on a system, up to an ending
-pub record DrivesFile (e : Ending) (w : Driven) (script : List ℕ) (h h' : HostTold) (b b' : SinkTold) : Type 0 where
+pub record DrivesFile (e : Ending) (w : Driven) (script : List ℕ) (h h' : HostTold)
+    (b b' : SinkTold) : Type 0 where
   pub lines : OnBytes h script (λ bytes. DrivesTo e w bytes b b')
   pub end : ReadsToEnd e h'
   pub left : LeavesHost h h'
 
--- a fault of reading the script: it isn't opened, and nothing was put, or the lines of all whole lines among what was taken were
-pub record MissesScript (w : Driven) (script : List ℕ) (h h' : HostTold) (b b' : SinkTold) : Type 0 where
+-- a fault of reading the script: it isn't opened, and nothing was put, or the lines of all whole
+-- lines among what was taken were
+pub record MissesScript (w : Driven) (script : List ℕ) (h h' : HostTold)
+    (b b' : SinkTold) : Type 0 where
   pub rose : Rose h.read_faults h'.read_faults
   pub written : h'.written ≡ h.written
   pub lines : PutsNothing b b' ⊎ TakesScript w script h h' b b'
 
 -- how a run of the script of this name on a system ends
-abbrev pub DriveEnds : Ending → Driven → (script : List ℕ) → HostTold → HostTold → SinkTold → SinkTold → Type 0
+abbrev pub DriveEnds : Ending → Driven → (script : List ℕ) → HostTold → HostTold → SinkTold →
+    SinkTold → Type 0
 DriveEnds (Ran totals) w script h h' b b' = DrivesFile (Ran totals) w script h h' b b'
 DriveEnds (BadScript stop) w script h h' b b' = DrivesFile (BadScript stop) w script h h' b b'
 DriveEnds PutFault w script h h' b b' = DrivesFile PutFault w script h h' b b'

@@ -46,22 +46,29 @@ pub record CanExecute (code : List ℕ) (trace : Option (List ℕ)) : Type 0 whe
 abbrev pub CanDrive : ResolvedTable → Option (Option ℕ) → Option (List ℕ) → Type 0
 CanDrive r None script = ⊥
 CanDrive r (Some system) script =
-    (shape : Shape) × IsShapeOf r system shape × IsSomeAnd script (λ lines. script_end shape lines ≡ Whole)
+    (shape : Shape) × IsShapeOf r system shape
+    × IsSomeAnd script (λ lines. script_end shape lines ≡ Whole)
 
--- with these files what is asked for can be done: the model is accepted, also one that is made, the code runs, no line of the
--- trace is bad, and the system is there and its script lawful
+-- with these files what is asked for can be done: the model is accepted, also one that is made, the
+-- code runs, no line of the trace is bad, and the system is there and its script lawful
 abbrev pub CanDo : Asked → List File → Type 0
 CanDo (Compile model code) fs = IsSomeAnd (lookup model fs) (λ bytes. OnAccepted bytes (λ d. ⊤))
 CanDo (Run model code trace) fs =
-    IsSomeAnd (lookup model fs) (λ bytes. OnAccepted bytes (λ d. IsSomeAnd (lookup trace fs) (λ lines. bad_line (root_types d) lines ≡ None)))
-CanDo (Exec code trace) fs = IsSomeAnd (lookup code fs) (λ bytes. CanExecute bytes (lookup trace fs))
+    IsSomeAnd (lookup model fs)
+    (λ bytes.
+    OnAccepted bytes (λ d. IsSomeAnd (lookup trace fs) (λ lines. bad_line (root_types d) lines
+    ≡ None)))
+CanDo (Exec code trace) fs =
+    IsSomeAnd (lookup code fs) (λ bytes. CanExecute bytes (lookup trace fs))
 CanDo (Profile model) fs = IsSomeAnd (lookup model fs) (λ bytes. OnAccepted bytes (λ d. ⊤))
 CanDo (Drive model code word script) fs =
     IsSomeAnd (lookup model fs) (λ bytes.
-    (r : ResolvedTable) × HasVerdict bytes (Accepted r) × CanDrive r (system_named r.table.rows word) (lookup script fs))
+    (r : ResolvedTable) × HasVerdict bytes (Accepted r)
+    × CanDrive r (system_named r.table.rows word) (lookup script fs))
 CanDo (Gen start size model code) fs = OnAccepted (model_text start size) (λ d. ⊤)
 
--- What can be done is done, unless memory runs out, where no count of faults rises or stands at its greatest value.
+-- What can be done is done, unless memory runs out, where no count of faults rises or stands at its
+-- greatest value.
 abbrev pub IsComplete : ℕ → Option Asked → (h h' : HostTold) (b b' : SinkTold) → Type 0
 IsComplete s a h h' b b' = Calm h h' b b' → OnTold a h (λ a fs. CanDo a fs → IsDone s)
 
@@ -84,21 +91,27 @@ second_file (Profile model) = None
 second_file (Drive model code word script) = Some script
 second_file (Gen start size model code) = None
 
--- the host is sure of the first file, and whatever it becomes with the files that it tells, of the second
-pub record IsSureOf {H : Type 0} (files : H → Option (List File)) (sure : H → List ℕ → Bool) (h : H) (a : Asked) : Type 0 where
+-- the host is sure of the first file, and whatever it becomes with the files that it tells, of the
+-- second
+pub record IsSureOf {H : Type 0} (files : H → Option (List File)) (sure : H → List ℕ → Bool) (h : H)
+    (a : Asked) : Type 0 where
   pub first : IfSome (first_file a) (λ name. sure h name ≡ true)
-  pub second : IfSome (second_file a) (λ name. (later : H) → files later ≡ files h → sure later name ≡ true)
+  pub second : IfSome (second_file a) (λ name. (later : H) → files later ≡ files h →
+      sure later name ≡ true)
 
 -- as it may become with the files that it tells, the host is not sure of the file of this name
-pub record BecomesUnsureOf {H : Type 0} (files : H → Option (List File)) (sure : H → List ℕ → Bool) (h : H) (name : List ℕ) : Type 0 where
+pub record BecomesUnsureOf {H : Type 0} (files : H → Option (List File)) (sure : H → List ℕ → Bool)
+    (h : H) (name : List ℕ) : Type 0 where
   pub later : H
   pub same : files later ≡ files h
   pub unsure : sure later name ≡ false
 
 -- the host is not sure of the first file, or may come to be not sure of the second
-abbrev pub IsUnsureOf : {H : Type 0} (files : H → Option (List File)) (sure : H → List ℕ → Bool) → H → Asked → Type 0
+abbrev pub IsUnsureOf : {H : Type 0} (files : H → Option (List File)) (sure : H → List ℕ → Bool) →
+    H → Asked → Type 0
 IsUnsureOf files sure h a =
-    IsSomeAnd (first_file a) (λ name. sure h name ≡ false) ⊎ IsSomeAnd (second_file a) (BecomesUnsureOf files sure h)
+    IsSomeAnd (first_file a) (λ name. sure h name ≡ false)
+    ⊎ IsSomeAnd (second_file a) (BecomesUnsureOf files sure h)
 
 -- P holds where the ending is a fault of reading
 abbrev pub IfReadFault : Ending → Type 0 → Type 0

@@ -67,8 +67,10 @@ Finds e (Some (Compile model code)) h h' b b' = EndsCompile e model code h h' ×
 Finds e (Some (Run model code trace)) h h' b b' = EndsRunning e model code trace h h' b b'
 Finds e (Some (Exec code trace)) h h' b b' = EndsExecuting e code trace h h' b b'
 Finds e (Some (Profile model)) h h' b b' = EndsProfiling e model h h' × PutsNothing b b'
-Finds e (Some (Drive model code word script)) h h' b b' = EndsDriving e model code word script h h' b b'
-Finds e (Some (Gen start size model code)) h h' b b' = EndsGenerating e start size model code h h' b b'
+Finds e (Some (Drive model code word script)) h h' b b' =
+    EndsDriving e model code word script h h' b b'
+Finds e (Some (Gen start size model code)) h h' b b' =
+    EndsGenerating e start size model code h h' b b'
 
 -- a fault of putting was counted where a line wasn't put, and else none
 abbrev pub CountsPuts : Ending → SinkTold → SinkTold → Type 0
@@ -90,7 +92,8 @@ pub record PutsPart (bytes : List ℕ) (b b' : SinkTold) : Type 0 where
   pub text : PutsFront b.bytes b'.bytes bytes
   pub rose : Rose b.faults b'.faults
 
--- the ending whose text is put is the one that was found, or want of memory, but where a line couldn't be put
+-- the ending whose text is put is the one that was found, or want of memory, but where a line
+-- couldn't be put
 abbrev pub IsSaidOf : Ending → Ending → Type 0
 IsSaidOf said found = (said ≡ found) ⊎ ((said ≡ NoMemory) × (found ≢ PutFault))
 
@@ -102,8 +105,9 @@ PutsText status text s b b' = ((s ≡ status) × PutsWhole text b b') ⊎ ((s �
 abbrev pub Puts : Ending → ℕ → SinkTold → SinkTold → Type 0
 Puts e s b b' = PutsText (status_of e) (text_of e) s b b'
 
--- A call that gave this status ended in some way: what the words ask for, what was found and written, and what was put up to
--- `before`, the sink with the lines that come before the ending's text. Behind them that text was put, or that for want of memory.
+-- A call that gave this status ended in some way: what the words ask for, what was found and
+-- written, and what was put up to `before`, the sink with the lines that come before the ending's
+-- text. Behind them that text was put, or that for want of memory.
 pub record EndsAt (s : ℕ) (a : Option Asked) (h h' : HostTold) (b b' : SinkTold) : Type 0 where
   pub found : Ending
   pub said : Ending

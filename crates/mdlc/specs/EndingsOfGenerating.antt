@@ -24,7 +24,8 @@ WritesBoth start size model code h h' =
     let text = model_text start size in WritesWhole code text (with_file h model text) h'
 
 -- a front of the first file was written, or it whole and a front of the second
-abbrev pub WritesFrontOfTwo : (old new : Option (List File)) (first text second code : List ℕ) → Type 0
+abbrev pub WritesFrontOfTwo : (old new : Option (List File)) (first text second code : List ℕ) →
+    Type 0
 WritesFrontOfTwo old new first text second code =
     WritesFront old new first text ⊎ WritesFront (add_file old first text) new second code
 
@@ -32,7 +33,8 @@ WritesFrontOfTwo old new first text second code =
 pub record WritesFronts (start size : ℕ) (model code : List ℕ) (h h' : HostTold) : Type 0 where
   pub compilation : Compilation
   pub right : IsCompiledFrom (model_text start size) compilation
-  pub front : WritesFrontOfTwo h.written h'.written model (model_text start size) code compilation.code
+  pub front : WritesFrontOfTwo h.written h'.written model
+      (model_text start size) code compilation.code
 
 -- the line of a compilation's counts
 abbrev pub line_of : Compilation → List ℕ
@@ -44,15 +46,19 @@ with_line b c = record b { bytes = append_known b.bytes (line_of c) }
 
 -- ---- Endings
 
--- both files were written whole, and behind the compiled line the code was run over the trace that is made with the model
-pub record RunsMade (e : Ending) (start size : ℕ) (model code : List ℕ) (h h' : HostTold) (b b' : SinkTold) : Type 0 where
+-- both files were written whole, and behind the compiled line the code was run over the trace that
+-- is made with the model
+pub record RunsMade (e : Ending) (start size : ℕ) (model code : List ℕ) (h h' : HostTold)
+    (b b' : SinkTold) : Type 0 where
   pub both : WritesBoth start size model code h h'
   pub runs : let types = root_types (diagram_of_table both.resolved) in
-      RunsTo e both.right.code.program types (trace_text start size) (with_line b both.compilation) b'
+      RunsTo e both.right.code.program types (trace_text start size)
+      (with_line b both.compilation) b'
   pub no_fault : NoFault h h'
 
 -- both files were written whole, and a front of the compiled line put
-pub record CutsLine (start size : ℕ) (model code : List ℕ) (h h' : HostTold) (b b' : SinkTold) : Type 0 where
+pub record CutsLine (start size : ℕ) (model code : List ℕ) (h h' : HostTold)
+    (b b' : SinkTold) : Type 0 where
   pub both : WritesBoth start size model code h h'
   pub front : PutsFront b.bytes b'.bytes (line_of both.compilation)
   pub no_fault : NoFault h h'
@@ -66,18 +72,25 @@ pub record FailsWriting (start size : ℕ) (model code : List ℕ) (h h' : HostT
   pub rose : Rose h.write_faults h'.write_faults
   pub fronts : WritesFronts start size model code h h'
 
--- memory ran out before anything was written, or behind both files, with nothing put or the compiled line
-abbrev pub StopsMaking : (start size : ℕ) → (model code : List ℕ) → HostTold → HostTold → SinkTold → SinkTold → Type 0
+-- memory ran out before anything was written, or behind both files, with nothing put or the
+-- compiled line
+abbrev pub StopsMaking : (start size : ℕ) → (model code : List ℕ) → HostTold → HostTold → SinkTold →
+    SinkTold → Type 0
 StopsMaking start size model code h h' b b' =
     ((h'.written ≡ h.written) × PutsNothing b b')
-    ⊎ ((both : WritesBoth start size model code h h') × (PutsNothing b b' ⊎ (b' ≡ with_line b both.compilation)))
+    ⊎ ((both : WritesBoth start size model code h h')
+    × (PutsNothing b b' ⊎ (b' ≡ with_line b both.compilation)))
 
-abbrev pub EndsGenerating : Ending → (start size : ℕ) → (model code : List ℕ) → HostTold → HostTold → SinkTold → SinkTold → Type 0
-EndsGenerating (Ran totals) start size model code h h' b b' = RunsMade (Ran totals) start size model code h h' b b'
+abbrev pub EndsGenerating : Ending → (start size : ℕ) → (model code : List ℕ) → HostTold →
+    HostTold → SinkTold → SinkTold → Type 0
+EndsGenerating (Ran totals) start size model code h h' b b' =
+    RunsMade (Ran totals) start size model code h h' b b'
 EndsGenerating PutFault start size model code h h' b b' =
     CutsLine start size model code h h' b b' ⊎ RunsMade PutFault start size model code h h' b b'
 EndsGenerating (Refused refusal) start size model code h h' b b' =
     RefusesMade (plain_refusal refusal) start size h h' × PutsNothing b b'
-EndsGenerating WriteFault start size model code h h' b b' = FailsWriting start size model code h h' × PutsNothing b b'
-EndsGenerating NoMemory start size model code h h' b b' = StopsMaking start size model code h h' b b'
+EndsGenerating WriteFault start size model code h h' b b' =
+    FailsWriting start size model code h h' × PutsNothing b b'
+EndsGenerating NoMemory start size model code h h' b b' =
+    StopsMaking start size model code h h' b b'
 EndsGenerating _ start size model code h h' b b' = ⊥

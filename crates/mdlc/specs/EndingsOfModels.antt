@@ -23,9 +23,11 @@ pub record OnBytes (h : HostTold) (name : List ℕ) (P : List ℕ → Type 0) : 
   pub holds : P bytes
 
 -- the model was compiled, with these counts, and the code written whole
-abbrev pub WritesCode : (rows systems functions : ℕ) → (code model : List ℕ) → HostTold → HostTold → Type 0
+abbrev pub WritesCode : (rows systems functions : ℕ) → (code model : List ℕ) → HostTold → HostTold →
+    Type 0
 WritesCode rows systems functions code model h h' =
-    (c : Compilation) × IsCompiledFrom model c × (c.rows ≡ rows) × (c.systems ≡ systems) × (c.functions ≡ functions)
+    (c : Compilation) × IsCompiledFrom model c × (c.rows ≡ rows) × (c.systems ≡ systems)
+    × (c.functions ≡ functions)
     × (h'.written ≡ add_file h.written code c.code)
 
 -- the model was compiled, and a front of the code written, or no file
@@ -42,7 +44,8 @@ pub record LeavesHost (h h' : HostTold) : Type 0 where
   pub written : h'.written ≡ h.written
   pub no_fault : NoFault h h'
 
-pub record EndsCompiled (rows systems functions : ℕ) (model_name code_name : List ℕ) (h h' : HostTold) : Type 0 where
+pub record EndsCompiled (rows systems functions : ℕ) (model_name code_name : List ℕ)
+    (h h' : HostTold) : Type 0 where
   pub model : OnBytes h model_name (λ bytes. WritesCode rows systems functions code_name bytes h h')
   pub no_fault : NoFault h h'
 
@@ -69,7 +72,8 @@ EndsNoMemory model code h h' =
 -- ---- Compiling
 
 abbrev pub EndsCompile : Ending → (model code : List ℕ) → HostTold → HostTold → Type 0
-EndsCompile (Compiled rows systems functions) model code h h' = EndsCompiled rows systems functions model code h h'
+EndsCompile (Compiled rows systems functions) model code h h' =
+    EndsCompiled rows systems functions model code h h'
 EndsCompile (Refused refusal) model code h h' = EndsRefused (plain_refusal refusal) model h h'
 EndsCompile ReadFault model code h h' = EndsReadFault model h h'
 EndsCompile WriteFault model code h h' = EndsWriteFault model code h h'

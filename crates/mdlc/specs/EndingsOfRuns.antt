@@ -1,4 +1,5 @@
--- How a call may end that runs code over a trace: what was found, what was written and what was put.
+-- How a call may end that runs code over a trace: what was found, what was written and what was
+-- put.
 use Rattle.std.specs.Prelude.{◌≡◌, ℕ, ◌<◌, ◌≤◌, ◌⊎◌, List, length, Some, ⊤}
 use Rattle.std.specs.Io.KnownBytes.{prepend_known, IsAtEnd}
 use Rattle.mc_base.specs.Refusals.{plain_refusal}
@@ -41,7 +42,8 @@ ReadsToEnd PutFault h' = ⊤
 ReadsToEnd NoMemory h' = ⊤
 
 -- bytes were taken of the trace of this name, and the lines of all whole lines among them put
-pub record TakesFile (p : ProgramTree) (types : List FixType) (trace : List ℕ) (h h' : HostTold) (b b' : SinkTold) : Type 0 where
+pub record TakesFile (p : ProgramTree) (types : List FixType) (trace : List ℕ) (h h' : HostTold)
+    (b b' : SinkTold) : Type 0 where
   pub taken : List ℕ
   pub file : OnNamed h trace (λ told. Some told ≡ prepend_known taken h'.rest)
   pub lines : RunsTaken p types taken b b'
@@ -57,34 +59,49 @@ pub record WritesWhole (code model : List ℕ) (h h' : HostTold) : Type 0 where
   pub written : h'.written ≡ add_file h.written code compilation.code
 
 -- the model was compiled, its code written whole, and the program that it is run over the trace
-pub record RunsModel (e : Ending) (trace code model : List ℕ) (h h' : HostTold) (b b' : SinkTold) : Type 0 where
+pub record RunsModel (e : Ending) (trace code model : List ℕ) (h h' : HostTold)
+    (b b' : SinkTold) : Type 0 where
   pub whole : WritesWhole code model h h'
-  pub runs : OnBytes h trace (λ bytes. RunsTo e whole.right.code.program (root_types (diagram_of_table whole.resolved)) bytes b b')
+  pub runs : OnBytes h trace
+      (λ bytes. RunsTo e whole.right.code.program (root_types (diagram_of_table whole.resolved))
+      bytes b b')
   pub end : ReadsToEnd e h'
 
 -- the same where nothing failed, and where no fault of reading or writing was counted
-pub record EndsRun (e : Ending) (model_name code_name trace_name : List ℕ) (h h' : HostTold) (b b' : SinkTold) : Type 0 where
+pub record EndsRun (e : Ending) (model_name code_name trace_name : List ℕ) (h h' : HostTold)
+    (b b' : SinkTold) : Type 0 where
   pub model : OnBytes h model_name (λ bytes. RunsModel e trace_name code_name bytes h h' b b')
   pub no_fault : NoFault h h'
 
--- the model was compiled, its code written whole, and the trace couldn't be opened, or not read to its end
+-- the model was compiled, its code written whole, and the trace couldn't be opened, or not read to
+-- its end
 pub record LosesTrace (trace code model : List ℕ) (h h' : HostTold) (b b' : SinkTold) : Type 0 where
   pub whole : WritesWhole code model h h'
-  pub lines : PutsNothing b b' ⊎ TakesFile whole.right.code.program (root_types (diagram_of_table whole.resolved)) trace h h' b b'
+  pub lines : PutsNothing b b'
+      ⊎ TakesFile whole.right.code.program (root_types (diagram_of_table whole.resolved)) trace h h'
+      b b'
 
 -- a fault of reading the model, or the trace behind the code
-abbrev pub EndsRunUnread : (model code trace : List ℕ) → HostTold → HostTold → SinkTold → SinkTold → Type 0
+abbrev pub EndsRunUnread : (model code trace : List ℕ) → HostTold → HostTold → SinkTold → SinkTold →
+    Type 0
 EndsRunUnread model code trace h h' b b' =
     (EndsReadFault model h h' × PutsNothing b b')
-    ⊎ (Rose h.read_faults h'.read_faults × OnBytes h model (λ bytes. LosesTrace trace code bytes h h' b b'))
+    ⊎ (Rose h.read_faults h'.read_faults
+    × OnBytes h model (λ bytes. LosesTrace trace code bytes h h' b b'))
 
-abbrev pub EndsRunning : Ending → (model code trace : List ℕ) → HostTold → HostTold → SinkTold → SinkTold → Type 0
-EndsRunning (Ran totals) model code trace h h' b b' = EndsRun (Ran totals) model code trace h h' b b'
-EndsRunning (BadTrace line) model code trace h h' b b' = EndsRun (BadTrace line) model code trace h h' b b'
-EndsRunning PutFault model code trace h h' b b' = OnBytes h model (λ bytes. RunsModel PutFault trace code bytes h h' b b')
-EndsRunning (Refused refusal) model code trace h h' b b' = EndsRefused (plain_refusal refusal) model h h' × PutsNothing b b'
+abbrev pub EndsRunning : Ending → (model code trace : List ℕ) → HostTold → HostTold → SinkTold →
+    SinkTold → Type 0
+EndsRunning (Ran totals) model code trace h h' b b' =
+    EndsRun (Ran totals) model code trace h h' b b'
+EndsRunning (BadTrace line) model code trace h h' b b' =
+    EndsRun (BadTrace line) model code trace h h' b b'
+EndsRunning PutFault model code trace h h' b b' =
+    OnBytes h model (λ bytes. RunsModel PutFault trace code bytes h h' b b')
+EndsRunning (Refused refusal) model code trace h h' b b' =
+    EndsRefused (plain_refusal refusal) model h h' × PutsNothing b b'
 EndsRunning ReadFault model code trace h h' b b' = EndsRunUnread model code trace h h' b b'
-EndsRunning WriteFault model code trace h h' b b' = EndsWriteFault model code h h' × PutsNothing b b'
+EndsRunning WriteFault model code trace h h' b b' =
+    EndsWriteFault model code h h' × PutsNothing b b'
 EndsRunning NoMemory model code trace h h' b b' = EndsNoMemory model code h h' × PutsNothing b b'
 EndsRunning _ model code trace h h' b b' = ⊥
 
@@ -105,7 +122,8 @@ pub record StartsCode (code : List ℕ) : Type 0 where
   pub inputs : HasStepTypes program types
 
 -- and is run over the trace
-pub record ExecutesCode (e : Ending) (trace code : List ℕ) (h h' : HostTold) (b b' : SinkTold) : Type 0 where
+pub record ExecutesCode (e : Ending) (trace code : List ℕ) (h h' : HostTold)
+    (b b' : SinkTold) : Type 0 where
   pub starts : StartsCode code
   pub runs : OnBytes h trace (λ bytes. RunsTo e starts.program starts.types bytes b b')
   pub end : ReadsToEnd e h'
@@ -127,32 +145,41 @@ pub record IsStuckAtStart (at : Stuck) (code : List ℕ) : Type 0 where
   pub cells : Cells
   pub start : start_run program ≡ stuck at cells
 
-pub record EndsExec (e : Ending) (code_name trace_name : List ℕ) (h h' : HostTold) (b b' : SinkTold) : Type 0 where
+pub record EndsExec (e : Ending) (code_name trace_name : List ℕ) (h h' : HostTold)
+    (b b' : SinkTold) : Type 0 where
   pub code : OnBytes h code_name (λ bytes. ExecutesCode e trace_name bytes h h' b b')
   pub left : LeavesHost h h'
 
 -- the code is such, and nothing was put
-pub record EndsAtCode (name : List ℕ) (P : List ℕ → Type 0) (h h' : HostTold) (b b' : SinkTold) : Type 0 where
+pub record EndsAtCode (name : List ℕ) (P : List ℕ → Type 0) (h h' : HostTold)
+    (b b' : SinkTold) : Type 0 where
   pub code : OnBytes h name P
   pub left : LeavesHost h h'
   pub silent : PutsNothing b b'
 
-abbrev pub EndsExecStuck : Stuck → (code trace : List ℕ) → HostTold → HostTold → SinkTold → SinkTold → Type 0
+abbrev pub EndsExecStuck : Stuck → (code trace : List ℕ) → HostTold → HostTold → SinkTold →
+    SinkTold → Type 0
 EndsExecStuck at code trace h h' b b' =
     EndsAtCode code (IsStuckAtStart at) h h' b b' ⊎ EndsExec (IsStuck at) code trace h h' b b'
 
--- A fault of reading the code, or of the trace behind it: the trace isn't looked for before the code was read and started.
-abbrev pub EndsExecUnread : (code trace : List ℕ) → HostTold → HostTold → SinkTold → SinkTold → Type 0
+-- A fault of reading the code, or of the trace behind it: the trace isn't looked for before the
+-- code was read and started.
+abbrev pub EndsExecUnread : (code trace : List ℕ) → HostTold → HostTold → SinkTold → SinkTold →
+    Type 0
 EndsExecUnread code trace h h' b b' =
     (EndsReadFault code h h' × PutsNothing b b')
-    ⊎ (Rose h.read_faults h'.read_faults × (h'.written ≡ h.written) × OnBytes h code (λ bytes. LosesTraceOf trace bytes h h' b b'))
+    ⊎ (Rose h.read_faults h'.read_faults × (h'.written ≡ h.written)
+    × OnBytes h code (λ bytes. LosesTraceOf trace bytes h h' b b'))
 
-abbrev pub EndsExecuting : Ending → (code trace : List ℕ) → HostTold → HostTold → SinkTold → SinkTold → Type 0
+abbrev pub EndsExecuting : Ending → (code trace : List ℕ) → HostTold → HostTold → SinkTold →
+    SinkTold → Type 0
 EndsExecuting (Ran totals) code trace h h' b b' = EndsExec (Ran totals) code trace h h' b b'
 EndsExecuting (BadTrace line) code trace h h' b b' = EndsExec (BadTrace line) code trace h h' b b'
-EndsExecuting PutFault code trace h h' b b' = (h'.written ≡ h.written) × OnBytes h code (λ bytes. ExecutesCode PutFault trace bytes h h' b b')
+EndsExecuting PutFault code trace h h' b b' =
+    (h'.written ≡ h.written) × OnBytes h code (λ bytes. ExecutesCode PutFault trace bytes h h' b b')
 EndsExecuting (CodeRefused fault) code trace h h' b b' = EndsAtCode code (IsUnread fault) h h' b b'
-EndsExecuting CodeTooLong code trace h h' b b' = EndsAtCode code (λ bytes. code_limit < length bytes) h h' b b'
+EndsExecuting CodeTooLong code trace h h' b b' =
+    EndsAtCode code (λ bytes. code_limit < length bytes) h h' b b'
 EndsExecuting (IsStuck at) code trace h h' b b' = EndsExecStuck at code trace h h' b b'
 EndsExecuting ReadFault code trace h h' b b' = EndsExecUnread code trace h h' b b'
 EndsExecuting NoMemory code trace h h' b b' = (h'.written ≡ h.written) × PutsNothing b b'

@@ -50,30 +50,39 @@ pub record Tells (n : ℕ) (text : List ℕ) (s : ℕ) (b b' : SinkTold) : Type 
   pub status : (s ≡ n) ⊎ (s ≡ 10)
   pub put : s ≡ n → b'.bytes ≡ append_known b.bytes text
 
--- a model that the rules refuse is refused, unless memory runs out: nothing is written, and the refusal put
-pub record TellsRefusal (refusal : PlainRefusal) (s : ℕ) (h h' : HostTold) (b b' : SinkTold) : Type 0 where
+-- a model that the rules refuse is refused, unless memory runs out: nothing is written, and the
+-- refusal put
+pub record TellsRefusal (refusal : PlainRefusal) (s : ℕ) (h h' : HostTold)
+    (b b' : SinkTold) : Type 0 where
   pub tells : Tells 3 (refusal_line refusal) s b b'
   pub unwritten : s ≡ 3 → h'.written ≡ h.written
 
 -- ---- `compile`
 
--- Right code for the model is written as the one new file: its bytes have one reading, and that is code for the diagram, in all
--- parts. The compiled line is put.
-pub record WritesRightCode (r : ResolvedTable) (code : List ℕ) (h h' : HostTold) (b b' : SinkTold) : Type 0 where
+-- Right code for the model is written as the one new file: its bytes have one reading, and that is
+-- code for the diagram, in all parts. The compiled line is put.
+pub record WritesRightCode (r : ResolvedTable) (code : List ℕ) (h h' : HostTold)
+    (b b' : SinkTold) : Type 0 where
   pub compilation : Compilation
   pub right : IsCompilationOf r compilation
   pub written : h'.written ≡ add_file h.written code compilation.code
-  pub line : b'.bytes ≡ append_known b.bytes (compiled_line compilation.rows compilation.systems compilation.functions)
+  pub line : b'.bytes
+      ≡ append_known b.bytes
+      (compiled_line compilation.rows compilation.systems compilation.functions)
 
 -- a model that the rules accept is compiled, unless memory runs out
-pub record CompilesAccepted (r : ResolvedTable) (s : ℕ) (code : List ℕ) (h h' : HostTold) (b b' : SinkTold) : Type 0 where
+pub record CompilesAccepted (r : ResolvedTable) (s : ℕ) (code : List ℕ) (h h' : HostTold)
+    (b b' : SinkTold) : Type 0 where
   pub status : IsDone s
   pub done : s ≡ 0 → WritesRightCode r code h h' b b'
 
 -- what a call does with the bytes of its model
-pub record Compiles (model : List ℕ) (s : ℕ) (code : List ℕ) (h h' : HostTold) (b b' : SinkTold) : Type 0 where
-  pub accepted : (r : ResolvedTable) → HasVerdict model (Accepted r) → CompilesAccepted r s code h h' b b'
-  pub refused : (refusal : PlainRefusal) → HasVerdict model (Refused refusal) → TellsRefusal refusal s h h' b b'
+pub record Compiles (model : List ℕ) (s : ℕ) (code : List ℕ) (h h' : HostTold)
+    (b b' : SinkTold) : Type 0 where
+  pub accepted : (r : ResolvedTable) → HasVerdict model (Accepted r) →
+      CompilesAccepted r s code h h' b b'
+  pub refused : (refusal : PlainRefusal) → HasVerdict model (Refused refusal) →
+      TellsRefusal refusal s h h' b b'
 
 -- ---- `run`
 
@@ -86,26 +95,35 @@ last_line ticks None None = let t = totals_of ticks in totals_line t.ticks t.ste
 -- what a run of a program over a trace puts: a line for each tick, and the last line
 abbrev pub run_text : ProgramTree → List FixType → List ℕ → List ℕ
 run_text p types trace =
-    let rows = rows_over p types trace in ticks_text rows.ticks ++ last_line rows.ticks rows.stuck_place (bad_line types trace)
+    let rows = rows_over p types trace in
+    ticks_text rows.ticks ++ last_line rows.ticks rows.stuck_place (bad_line types trace)
 
--- Right code for the model is written as the one new file. What is put is what its one reading gives over the trace, up to
--- its first bad line, and those are the outputs of the diagram's one run.
-pub record RunsRightCode (r : ResolvedTable) (trace code : List ℕ) (h h' : HostTold) (b b' : SinkTold) : Type 0 where
+-- Right code for the model is written as the one new file. What is put is what its one reading
+-- gives over the trace, up to its first bad line, and those are the outputs of the diagram's one
+-- run.
+pub record RunsRightCode (r : ResolvedTable) (trace code : List ℕ) (h h' : HostTold)
+    (b b' : SinkTold) : Type 0 where
   pub compilation : Compilation
   pub right : IsCompilationOf r compilation
   pub written : h'.written ≡ add_file h.written code compilation.code
-  pub outputs : GivesOutputs right.code.program (diagram_of_table r) (rows_in (root_types (diagram_of_table r)) trace)
-  pub lines : b'.bytes ≡ append_known b.bytes (run_text right.code.program (root_types (diagram_of_table r)) trace)
+  pub outputs : GivesOutputs right.code.program (diagram_of_table r)
+      (rows_in (root_types (diagram_of_table r)) trace)
+  pub lines : b'.bytes
+      ≡ append_known b.bytes (run_text right.code.program (root_types (diagram_of_table r)) trace)
 
 -- the code of a model that the rules accept is run over the trace, unless memory runs out
-pub record RunsAccepted (r : ResolvedTable) (trace : List ℕ) (s : ℕ) (code : List ℕ) (h h' : HostTold) (b b' : SinkTold) : Type 0 where
+pub record RunsAccepted (r : ResolvedTable) (trace : List ℕ) (s : ℕ) (code : List ℕ)
+    (h h' : HostTold) (b b' : SinkTold) : Type 0 where
   pub status : (s ≡ run_status None (bad_line (root_types (diagram_of_table r)) trace)) ⊎ (s ≡ 10)
   pub done : s ≢ 10 → RunsRightCode r trace code h h' b b'
 
 -- what a call does with the bytes of its model
-pub record Runs (model trace : List ℕ) (s : ℕ) (code : List ℕ) (h h' : HostTold) (b b' : SinkTold) : Type 0 where
-  pub accepted : (r : ResolvedTable) → HasVerdict model (Accepted r) → IfFile h trace (λ lines. RunsAccepted r lines s code h h' b b')
-  pub refused : (refusal : PlainRefusal) → HasVerdict model (Refused refusal) → TellsRefusal refusal s h h' b b'
+pub record Runs (model trace : List ℕ) (s : ℕ) (code : List ℕ) (h h' : HostTold)
+    (b b' : SinkTold) : Type 0 where
+  pub accepted : (r : ResolvedTable) → HasVerdict model (Accepted r) →
+      IfFile h trace (λ lines. RunsAccepted r lines s code h h' b b')
+  pub refused : (refusal : PlainRefusal) → HasVerdict model (Refused refusal) →
+      TellsRefusal refusal s h h' b b'
 
 -- ---- `exec`
 
@@ -113,23 +131,32 @@ pub record Runs (model trace : List ℕ) (s : ℕ) (code : List ℕ) (h h' : Hos
 pub record Executes (code trace : List ℕ) (s : ℕ) (h h' : HostTold) (b b' : SinkTold) : Type 0 where
   pub unwritten : h'.written ≡ h.written
   pub long : code_limit < length code → Tells 8 long_code_line s b b'
-  pub unread : length code ≤ code_limit → (fault : CFault) → CFaultOf code fault → Tells 8 (code_refused_line fault) s b b'
-  pub stuck : length code ≤ code_limit → (p : ProgramTree) → CText code p → (at : Stuck) (cells : Cells) → start_run p ≡ stuck at cells → Tells 9 (stuck_line at) s b b'
-  pub runs : length code ≤ code_limit → (p : ProgramTree) → CText code p → (after : After) → start_run p ≡ done after →
-      (types : List FixType) → HasStepTypes p types → IfFile h trace (λ lines. Tells (status_over p types lines) (run_text p types lines) s b b')
+  pub unread : length code ≤ code_limit → (fault : CFault) → CFaultOf code fault →
+      Tells 8 (code_refused_line fault) s b b'
+  pub stuck : length code ≤ code_limit → (p : ProgramTree) → CText code p →
+      (at : Stuck) (cells : Cells) → start_run p ≡ stuck at cells → Tells 9 (stuck_line at) s b b'
+  pub runs : length code ≤ code_limit → (p : ProgramTree) → CText code p → (after : After) →
+      start_run p ≡ done after →
+      (types : List FixType) → HasStepTypes p types →
+      IfFile h trace
+      (λ lines. Tells (status_over p types lines) (run_text p types lines) s b b')
 
 -- ---- `profile`
 
--- a model that the rules accept is reported on, unless memory runs out: the report tells all systems of its diagram
+-- a model that the rules accept is reported on, unless memory runs out: the report tells all
+-- systems of its diagram
 pub record ProfilesAccepted (r : ResolvedTable) (s : ℕ) (b b' : SinkTold) : Type 0 where
   pub status : IsDone s
-  pub done : s ≡ 0 → (text : List ℕ) × IsReportText (diagram_of_table r) text × (b'.bytes ≡ append_known b.bytes text)
+  pub done : s ≡ 0 →
+      (text : List ℕ) × IsReportText (diagram_of_table r) text
+      × (b'.bytes ≡ append_known b.bytes text)
 
 -- what a call does with the bytes of its model; it writes nothing
 pub record Profiles (model : List ℕ) (s : ℕ) (h h' : HostTold) (b b' : SinkTold) : Type 0 where
   pub unwritten : h'.written ≡ h.written
   pub accepted : (r : ResolvedTable) → HasVerdict model (Accepted r) → ProfilesAccepted r s b b'
-  pub refused : (refusal : PlainRefusal) → HasVerdict model (Refused refusal) → TellsRefusal refusal s h h' b b'
+  pub refused : (refusal : PlainRefusal) → HasVerdict model (Refused refusal) →
+      TellsRefusal refusal s h h' b b'
 
 -- ---- `drive`
 
@@ -139,9 +166,11 @@ last_script_line taken Whole = totals_line taken.ticks taken.steps taken.calls
 last_script_line taken (AtLine bad) = bad_call_line bad
 last_script_line taken (AtCall refused) = refused_call_line refused
 
--- Right code for the model is written as the one new file. The calls up to the script's end are answered by its one reading as
--- the system's run has it over every trace that fits them. Their lines are put, and then the last line.
-pub record DrivesRightCode (r : ResolvedTable) (system : Option ℕ) (script code : List ℕ) (h h' : HostTold) (b b' : SinkTold) : Type 0 where
+-- Right code for the model is written as the one new file. The calls up to the script's end are
+-- answered by its one reading as the system's run has it over every trace that fits them. Their
+-- lines are put, and then the last line.
+pub record DrivesRightCode (r : ResolvedTable) (system : Option ℕ) (script code : List ℕ)
+    (h h' : HostTold) (b b' : SinkTold) : Type 0 where
   pub compilation : Compilation
   pub right : IsCompilationOf r compilation
   pub written : h'.written ≡ add_file h.written code compilation.code
@@ -156,55 +185,74 @@ pub record DrivesRightCode (r : ResolvedTable) (system : Option ℕ) (script cod
       ++ last_script_line (totals_of_calls answers) (script_end (shape_of driven) script))
 
 -- a system of a model that the rules accept is driven by the script, unless memory runs out
-pub record DrivesSystem (r : ResolvedTable) (system : Option ℕ) (script : List ℕ) (s : ℕ) (code : List ℕ) (h h' : HostTold) (b b' : SinkTold) : Type 0 where
-  pub status : (shape : Shape) → IsShapeOf r system shape → (s ≡ status_at (script_end shape script)) ⊎ (s ≡ 10)
+pub record DrivesSystem (r : ResolvedTable) (system : Option ℕ) (script : List ℕ) (s : ℕ)
+    (code : List ℕ) (h h' : HostTold) (b b' : SinkTold) : Type 0 where
+  pub status : (shape : Shape) → IsShapeOf r system shape →
+      (s ≡ status_at (script_end shape script)) ⊎ (s ≡ 10)
   pub done : s ≢ 10 → DrivesRightCode r system script code h h' b b'
 
 -- what a call does by the system that its word names; where there is none, nothing is written
-abbrev pub DrivesNamed : ResolvedTable → Option (Option ℕ) → (script : List ℕ) (s : ℕ) (code : List ℕ) (h h' : HostTold) (b b' : SinkTold) → Type 0
-DrivesNamed r None script s code h h' b b' = Tells 4 no_subsystem_line s b b' × (s ≡ 4 → h'.written ≡ h.written)
+abbrev pub DrivesNamed : ResolvedTable → Option (Option ℕ) →
+    (script : List ℕ) (s : ℕ) (code : List ℕ) (h h' : HostTold) (b b' : SinkTold) → Type 0
+DrivesNamed r None script s code h h' b b' =
+    Tells 4 no_subsystem_line s b b' × (s ≡ 4 → h'.written ≡ h.written)
 DrivesNamed r (Some system) script s code h h' b b' =
     IfFile h script (λ lines. DrivesSystem r system lines s code h h' b b')
 
 -- what a call does with the bytes of its model
-pub record Drives (model word script : List ℕ) (s : ℕ) (code : List ℕ) (h h' : HostTold) (b b' : SinkTold) : Type 0 where
+pub record Drives (model word script : List ℕ) (s : ℕ) (code : List ℕ) (h h' : HostTold)
+    (b b' : SinkTold) : Type 0 where
   pub accepted : (r : ResolvedTable) → HasVerdict model (Accepted r) →
       DrivesNamed r (system_named r.table.rows word) script s code h h' b b'
-  pub refused : (refusal : PlainRefusal) → HasVerdict model (Refused refusal) → TellsRefusal refusal s h h' b b'
+  pub refused : (refusal : PlainRefusal) → HasVerdict model (Refused refusal) →
+      TellsRefusal refusal s h h' b b'
 
 -- ---- `gen`
 
--- The text of the model is written, and right code for it behind that. What is put is the compiled line, and then what the code's
--- one reading gives over the trace that is made with the model; those are the outputs of the diagram's one run.
-pub record MakesRightCode (r : ResolvedTable) (start size : ℕ) (model code : List ℕ) (h h' : HostTold) (b b' : SinkTold) : Type 0 where
+-- The text of the model is written, and right code for it behind that. What is put is the compiled
+-- line, and then what the code's one reading gives over the trace that is made with the model;
+-- those are the outputs of the diagram's one run.
+pub record MakesRightCode (r : ResolvedTable) (start size : ℕ) (model code : List ℕ)
+    (h h' : HostTold) (b b' : SinkTold) : Type 0 where
   pub compilation : Compilation
   pub right : IsCompilationOf r compilation
-  pub written : h'.written ≡ add_file (add_file h.written model (model_text start size)) code compilation.code
-  pub outputs : GivesOutputs right.code.program (diagram_of_table r) (rows_in (root_types (diagram_of_table r)) (trace_text start size))
+  pub written : h'.written
+      ≡ add_file (add_file h.written model (model_text start size)) code compilation.code
+  pub outputs : GivesOutputs right.code.program (diagram_of_table r)
+      (rows_in (root_types (diagram_of_table r)) (trace_text start size))
   pub lines : b'.bytes
-      ≡ append_known b.bytes (compiled_line compilation.rows compilation.systems compilation.functions
+      ≡ append_known b.bytes
+      (compiled_line compilation.rows compilation.systems compilation.functions
       ++ run_text right.code.program (root_types (diagram_of_table r)) (trace_text start size))
 
 -- a model that the rules accept is made, compiled and run, unless memory runs out
-pub record MakesAccepted (r : ResolvedTable) (start size : ℕ) (s : ℕ) (model code : List ℕ) (h h' : HostTold) (b b' : SinkTold) : Type 0 where
+pub record MakesAccepted (r : ResolvedTable) (start size : ℕ) (s : ℕ) (model code : List ℕ)
+    (h h' : HostTold) (b b' : SinkTold) : Type 0 where
   pub status : IsDone s
   pub done : s ≡ 0 → MakesRightCode r start size model code h h' b b'
 
 -- what a call does with the model of these two numbers
-pub record Makes (start size : ℕ) (s : ℕ) (model code : List ℕ) (h h' : HostTold) (b b' : SinkTold) : Type 0 where
-  pub accepted : (r : ResolvedTable) → HasVerdict (model_text start size) (Accepted r) → MakesAccepted r start size s model code h h' b b'
-  pub refused : (refusal : PlainRefusal) → HasVerdict (model_text start size) (Refused refusal) → TellsRefusal refusal s h h' b b'
+pub record Makes (start size : ℕ) (s : ℕ) (model code : List ℕ) (h h' : HostTold)
+    (b b' : SinkTold) : Type 0 where
+  pub accepted : (r : ResolvedTable) → HasVerdict (model_text start size) (Accepted r) →
+      MakesAccepted r start size s model code h h' b b'
+  pub refused : (refusal : PlainRefusal) → HasVerdict (model_text start size) (Refused refusal) →
+      TellsRefusal refusal s h h' b b'
 
 -- ---- All commands
 
 -- what is done with what is asked for, where the host tells the files that it names
 abbrev pub Does : ℕ → Option Asked → (h h' : HostTold) (b b' : SinkTold) → Type 0
 Does s None h h' b b' = ⊤
-Does s (Some (Compile model code)) h h' b b' = IfFile h model (λ bytes. Compiles bytes s code h h' b b')
-Does s (Some (Run model code trace)) h h' b b' = IfFile h model (λ bytes. Runs bytes trace s code h h' b b')
-Does s (Some (Exec code trace)) h h' b b' = IfFile h code (λ bytes. Executes bytes trace s h h' b b')
+Does s (Some (Compile model code)) h h' b b' =
+    IfFile h model (λ bytes. Compiles bytes s code h h' b b')
+Does s (Some (Run model code trace)) h h' b b' =
+    IfFile h model (λ bytes. Runs bytes trace s code h h' b b')
+Does s (Some (Exec code trace)) h h' b b' =
+    IfFile h code (λ bytes. Executes bytes trace s h h' b b')
 Does s (Some (Profile model)) h h' b b' = IfFile h model (λ bytes. Profiles bytes s h h' b b')
-Does s (Some (Drive model code word script)) h h' b b' = IfFile h model (λ bytes. Drives bytes word script s code h h' b b')
+Does s (Some (Drive model code word script)) h h' b b' =
+    IfFile h model (λ bytes. Drives bytes word script s code h h' b b')
 Does s (Some (Gen start size model code)) h h' b b' = Makes start size s model code h h' b b'
 
 -- the command writes no file, whatever comes of it
@@ -221,8 +269,9 @@ IsReadOnly (Some (Gen start size model code)) = ⊥
 abbrev pub WritesNothing : ℕ → Option Asked → Type 0
 WritesNothing s a = IsReadOnly a ⊎ (s ≡ 3)
 
--- Where no count of faults rises or stands at its greatest value: right code is written for a model that the rules accept, and
--- run by `run` and `gen` and driven by `drive`; nothing is written for one that they refuse; `exec` runs the code that it is given,
--- and `profile` puts the report on a model that they accept.
+-- Where no count of faults rises or stands at its greatest value: right code is written for a model
+-- that the rules accept, and run by `run` and `gen` and driven by `drive`; nothing is written for
+-- one that they refuse; `exec` runs the code that it is given, and `profile` puts the report on a
+-- model that they accept.
 abbrev pub DoesRight : ℕ → Option Asked → (h h' : HostTold) (b b' : SinkTold) → Type 0
 DoesRight s a h h' b b' = Calm h h' b b' → Does s a h h' b b'

@@ -40,20 +40,23 @@ abbrev pub PutsTicks : List TickRow → (b b' : SinkTold) → Type 0
 PutsTicks ticks b b' = b'.bytes ≡ append_known b.bytes (ticks_text ticks)
 
 -- all rows were run, and took this
-pub record RunsWhole (taken : Totals) (p : ProgramTree) (types : List FixType) (bytes : List ℕ) (b b' : SinkTold) : Type 0 where
+pub record RunsWhole (taken : Totals) (p : ProgramTree) (types : List FixType) (bytes : List ℕ)
+    (b b' : SinkTold) : Type 0 where
   pub good : bad_line types bytes ≡ None
   pub free : (rows_over p types bytes).stuck_place ≡ None
   pub totals : taken ≡ totals_of (rows_over p types bytes).ticks
   pub lines : PutsTicks (rows_over p types bytes).ticks b b'
 
 -- all rows before the first bad line were run
-pub record RunsToBadLine (line : BadLine) (p : ProgramTree) (types : List FixType) (bytes : List ℕ) (b b' : SinkTold) : Type 0 where
+pub record RunsToBadLine (line : BadLine) (p : ProgramTree) (types : List FixType) (bytes : List ℕ)
+    (b b' : SinkTold) : Type 0 where
   pub bad : bad_line types bytes ≡ Some line
   pub free : (rows_over p types bytes).stuck_place ≡ None
   pub lines : PutsTicks (rows_over p types bytes).ticks b b'
 
 -- the rows were run up to one whose tick is stuck
-pub record RunsToStuck (at : Stuck) (p : ProgramTree) (types : List FixType) (bytes : List ℕ) (b b' : SinkTold) : Type 0 where
+pub record RunsToStuck (at : Stuck) (p : ProgramTree) (types : List FixType) (bytes : List ℕ)
+    (b b' : SinkTold) : Type 0 where
   pub stuck : (rows_over p types bytes).stuck_place ≡ Some at
   pub lines : PutsTicks (rows_over p types bytes).ticks b b'
 
@@ -64,12 +67,14 @@ pub record FirstRows (types : List FixType) (bytes : List ℕ) : Type 0 where
   pub parts : rows_in types bytes ≡ rows ++ behind
 
 -- some first rows were run, and a front of their lines put
-pub record RunsToPutFault (p : ProgramTree) (types : List FixType) (bytes : List ℕ) (b b' : SinkTold) : Type 0 where
+pub record RunsToPutFault (p : ProgramTree) (types : List FixType) (bytes : List ℕ)
+    (b b' : SinkTold) : Type 0 where
   pub first : FirstRows types bytes
   pub front : PutsFront b.bytes b'.bytes (ticks_text (c_rows p first.rows).ticks)
 
 -- each whole line among the bytes that were taken is a row that was run
-pub record RunsTaken (p : ProgramTree) (types : List FixType) (taken : List ℕ) (b b' : SinkTold) : Type 0 where
+pub record RunsTaken (p : ProgramTree) (types : List FixType) (taken : List ℕ)
+    (b b' : SinkTold) : Type 0 where
   pub good : (trace.whole_rows_of taken types).bad ≡ None
   pub free : (c_rows p (trace.whole_rows_of taken types).rows).stuck_place ≡ None
   pub lines : PutsTicks (c_rows p (trace.whole_rows_of taken types).rows).ticks b b'

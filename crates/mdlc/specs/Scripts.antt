@@ -11,12 +11,14 @@ use Rattle.mdlc.specs.declared.tool.ScriptStop.TheVariants.{NoSubsystem, Line, C
 use Rattle.mdlc.specs.Told.{SinkTold}
 
 -- all calls of the script were answered, and took this; their lines were put
-pub record DrivesWhole (taken : Totals) (w : Driven) (script : List ℕ) (b b' : SinkTold) : Type 0 where
+pub record DrivesWhole (taken : Totals) (w : Driven) (script : List ℕ)
+    (b b' : SinkTold) : Type 0 where
   pub end : script_end (shape_of w) script ≡ Whole
   pub answers : AnswersAll w script taken b.bytes b'.bytes
 
 -- the calls before this end of the script were answered, and their lines put
-pub record DrivesUpTo (end : ScriptEnd) (w : Driven) (script : List ℕ) (b b' : SinkTold) : Type 0 where
+pub record DrivesUpTo (end : ScriptEnd) (w : Driven) (script : List ℕ)
+    (b b' : SinkTold) : Type 0 where
   pub stops : script_end (shape_of w) script ≡ end
   pub taken : Totals
   pub answers : AnswersAll w script taken b.bytes b'.bytes

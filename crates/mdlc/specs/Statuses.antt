@@ -58,14 +58,16 @@ status_over p types trace = run_status (rows_over p types trace).stuck_place (ba
 abbrev pub ProgramComes : ProgramTree → Outcome → Option (List ℕ) → ℕ → Type 0
 ProgramComes p (stuck at cells) trace n = n ≡ 9
 ProgramComes p (done after) trace n =
-    (types : List FixType) × HasStepTypes p types × IsSomeAnd trace (λ bytes. n ≡ status_over p types bytes)
+    (types : List FixType) × HasStepTypes p types
+    × IsSomeAnd trace (λ bytes. n ≡ status_over p types bytes)
 
 -- bytes that are too many or no text of a program give status 8
 abbrev pub CodeComes : List ℕ → Option (List ℕ) → ℕ → Type 0
 CodeComes code trace n =
     ((code_limit < length code) × (n ≡ 8))
     ⊎ ((length code ≤ code_limit) × ((fault : CFault) × CFaultOf code fault × (n ≡ 8)))
-    ⊎ ((length code ≤ code_limit) × ((p : ProgramTree) × CText code p × ProgramComes p (start_run p) trace n))
+    ⊎ ((length code ≤ code_limit)
+    × ((p : ProgramTree) × CText code p × ProgramComes p (start_run p) trace n))
 
 -- the status of a script with this end
 abbrev pub status_at : ScriptEnd → ℕ
@@ -73,27 +75,34 @@ status_at Whole = 0
 status_at (AtLine bad) = 4
 status_at (AtCall refused) = 4
 
--- a word that names no system gives status 4, and one that does what the script comes to on that system
+-- a word that names no system gives status 4, and one that does what the script comes to on that
+-- system
 abbrev pub SystemComes : ResolvedTable → Option (Option ℕ) → Option (List ℕ) → ℕ → Type 0
 SystemComes r None script n = n ≡ 4
 SystemComes r (Some system) script n =
-    (shape : Shape) × IsShapeOf r system shape × IsSomeAnd script (λ lines. n ≡ status_at (script_end shape lines))
+    (shape : Shape) × IsShapeOf r system shape
+    × IsSomeAnd script (λ lines. n ≡ status_at (script_end shape lines))
 
--- a model that is refused gives status 3, and one that is accepted what the word and the script come to
+-- a model that is refused gives status 3, and one that is accepted what the word and the script
+-- come to
 abbrev pub DriveComes : (model word : List ℕ) → Option (List ℕ) → ℕ → Type 0
 DriveComes model word script n =
     ((refusal : PlainRefusal) × HasVerdict model (Refused refusal) × (n ≡ 3))
-    ⊎ ((r : ResolvedTable) × HasVerdict model (Accepted r) × SystemComes r (system_named r.table.rows word) script n)
+    ⊎ ((r : ResolvedTable) × HasVerdict model (Accepted r)
+    × SystemComes r (system_named r.table.rows word) script n)
 
 -- with these files, what is asked for comes to this status where nothing fails
 abbrev pub Comes : Asked → List File → ℕ → Type 0
-Comes (Compile model code) fs n = IsSomeAnd (lookup model fs) (λ bytes. ModelComes bytes n (λ d. n ≡ 0))
+Comes (Compile model code) fs n =
+    IsSomeAnd (lookup model fs) (λ bytes. ModelComes bytes n (λ d. n ≡ 0))
 Comes (Run model code trace) fs n =
     IsSomeAnd (lookup model fs) (λ bytes. ModelComes bytes n (λ d.
     IsSomeAnd (lookup trace fs) (λ lines. n ≡ run_status None (bad_line (root_types d) lines))))
-Comes (Exec code trace) fs n = IsSomeAnd (lookup code fs) (λ bytes. CodeComes bytes (lookup trace fs) n)
+Comes (Exec code trace) fs n =
+    IsSomeAnd (lookup code fs) (λ bytes. CodeComes bytes (lookup trace fs) n)
 Comes (Profile model) fs n = IsSomeAnd (lookup model fs) (λ bytes. ModelComes bytes n (λ d. n ≡ 0))
-Comes (Drive model code word script) fs n = IsSomeAnd (lookup model fs) (λ bytes. DriveComes bytes word (lookup script fs) n)
+Comes (Drive model code word script) fs n =
+    IsSomeAnd (lookup model fs) (λ bytes. DriveComes bytes word (lookup script fs) n)
 Comes (Gen start size model code) fs n = ModelComes (model_text start size) n (λ d. n ≡ 0)
 
 -- but for faults and want of memory, the status is n exactly where what is asked for comes to n

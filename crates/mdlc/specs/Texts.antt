@@ -18,12 +18,14 @@ use Rattle.mdlc.specs.declared.tool.ScriptStop.TheVariants.{NoSubsystem, Line, C
 -- `compiled rows R systems S functions F`
 abbrev pub compiled_line : (rows systems functions : ℕ) → List ℕ
 compiled_line rows systems functions =
-    codes "compiled rows " ++ decimal rows ++ codes " systems " ++ decimal systems ++ codes " functions " ++ decimal functions ++ 10 ∷ []
+    codes "compiled rows " ++ decimal rows ++ codes " systems " ++ decimal systems
+    ++ codes " functions " ++ decimal functions ++ 10 ∷ []
 
 -- `ticks T steps N calls C`
 abbrev pub totals_line : (ticks steps calls : ℕ) → List ℕ
 totals_line ticks steps calls =
-    codes "ticks " ++ decimal ticks ++ codes " steps " ++ decimal steps ++ codes " calls " ++ decimal calls ++ 10 ∷ []
+    codes "ticks " ++ decimal ticks ++ codes " steps " ++ decimal steps ++ codes " calls "
+    ++ decimal calls ++ 10 ∷ []
 
 -- how each command is written
 abbrev pub usage_line : List ℕ
@@ -51,7 +53,8 @@ kind_word TypeRule = codes "Type"
 
 -- bytes that are no program, and too many
 abbrev pub code_refused_line : CFault → List ℕ
-code_refused_line fault = line_of_words (codes "code" ∷ codes "refused" ∷ at_line fault.line (kind_word fault.kind ∷ []))
+code_refused_line fault =
+    line_of_words (codes "code" ∷ codes "refused" ∷ at_line fault.line (kind_word fault.kind ∷ []))
 
 abbrev pub long_code_line : List ℕ
 long_code_line = codes "code refused TooLong" ++ 10 ∷ []

@@ -4,7 +4,8 @@ use Rattle.mc_edge.specs.Files.{File, add_file}
 
 -- what a host tells
 pub record HostTold : Type 0 where
-  -- the files that can be read, what is unread of the one that is being read, and the files that were written
+  -- the files that can be read, what is unread of the one that is being read, and the files that
+  -- were written
   pub files : Option (List File)
   pub rest : Option (List ℕ)
   pub written : Option (List File)
@@ -19,9 +20,18 @@ pub record SinkTold : Type 0 where
   pub faults : ℕ
 
 -- by the meanings of a host, and of a sink
-abbrev pub told : {H : Type 0} (files : H → Option (List File)) (rest : H → Option (List ℕ)) (written : H → Option (List File)) (sure : H → List ℕ → Bool) (read_faults write_faults : H → ℕ) → H → HostTold
+abbrev pub told : {H : Type 0} (files : H → Option (List File)) (rest : H → Option (List ℕ))
+    (written : H → Option (List File)) (sure : H → List ℕ → Bool) (read_faults write_faults : H →
+    ℕ) → H → HostTold
 told files rest written sure read_faults write_faults h =
-    record { files = files h; rest = rest h; written = written h; sure = sure h; read_faults = read_faults h; write_faults = write_faults h }
+    record {
+      files = files h;
+      rest = rest h;
+      written = written h;
+      sure = sure h;
+      read_faults = read_faults h;
+      write_faults = write_faults h;
+    }
 
 abbrev pub sink_told : {S : Type 0} (bytes : S → Option (List ℕ)) (faults : S → ℕ) → S → SinkTold
 sink_told bytes faults s = record { bytes = bytes s; faults = faults s }

@@ -40,11 +40,11 @@ fn files_of(alloc: Global, model: &[u8]) -> Result<Vec<(String, Vec<u8>)>, Alloc
     Ok(files)
 }
 
-// Over a host with the one file `a.mdl`, of which these calls fail, and that moves so many bytes at once.
-fn called(
+// Over a host with these files, of which these calls fail, and that moves so many bytes at once.
+fn called_on(
     alloc: Global,
     line: &str,
-    model: &[u8],
+    files: Vec<(String, Vec<u8>)>,
     fails: &[u64],
     put_fails: &[u64],
     piece: usize,
@@ -52,7 +52,7 @@ fn called(
     requires { 0 < piece }
 {
     let words = words_of(alloc, line)?;
-    let mut host = MemHost::new(alloc, files_of(alloc, model)?, fails.to_vec(alloc)?, piece);
+    let mut host = MemHost::new(alloc, files, fails.to_vec(alloc)?, piece);
     let mut out = MemSink::new(alloc, put_fails.to_vec(alloc)?, piece);
     let status = run_tool(alloc, &words, &mut host, &mut out);
     let mut code = Vec::new(alloc);
@@ -66,6 +66,21 @@ fn called(
         files: host.written().len(),
         refused: host.refused().saturating_add(out.refused()),
     })
+}
+
+// Over a host with the one file `a.mdl`.
+fn called(
+    alloc: Global,
+    line: &str,
+    model: &[u8],
+    fails: &[u64],
+    put_fails: &[u64],
+    piece: usize,
+) -> Result<Answer, AllocError>
+    requires { 0 < piece }
+{
+    let files = files_of(alloc, model)?;
+    called_on(alloc, line, files, fails, put_fails, piece)
 }
 
 fn compiled(alloc: Global, model: &[u8]) -> Result<Answer, AllocError> {

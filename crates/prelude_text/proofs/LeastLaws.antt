@@ -16,16 +16,40 @@ abbrev least : List PureTree → ProgramTree
 least ps = record { pures = ps; structs = root_struct ∷ []; procedures = root_procedures }
 
 names-distinct : AreDistinct (names ++ procedure_names root_procedures)
-names-distinct =
-    (refl, refl, (refl, refl, (refl, refl, (refl, refl, (refl, refl, (refl, refl, (refl, refl, (refl, refl, (refl, refl, (refl, refl, tt))))))))))
+names-distinct = (
+  refl,
+  refl,
+  (
+    refl,
+    refl,
+    (
+      refl,
+      refl,
+      (refl, refl, (refl, refl, (refl, refl, (refl, refl, (refl, refl, (refl, refl, (refl, refl, tt))))))),
+    ),
+  ),
+)
 
 root-structs : AreStructs 0 (root_struct ∷ [])
 root-structs = (record { fields = (refl, refl, tt); some = lit≤ tt; kinds = (tt, tt); outputs = λ e. (refl, tt) }, tt)
 
 store-lawful : (ps : List PureTree) → AreProcedures ps (root_struct ∷ []) [] root_procedures
 store-lawful ps = (
-  record { of = lit≤ tt; params = tt; apart = tt; body = (((record { name = codes "now"; kind = Number I32 }, refl, refl), (0, refl, lit≤ tt)), tt) },
-  (record { of = lit≤ tt; params = tt; apart = tt; body = (((record { name = codes "now"; kind = Number I32 }, refl, refl), (0, refl, lit≤ tt)), tt) }, tt),
+  record {
+    of = lit≤ tt;
+    params = tt;
+    apart = tt;
+    body = (((record { name = codes "now"; kind = Number I32 }, refl, refl), (0, refl, lit≤ tt)), tt);
+  },
+  (
+    record {
+      of = lit≤ tt;
+      params = tt;
+      apart = tt;
+      body = (((record { name = codes "now"; kind = Number I32 }, refl, refl), (0, refl, lit≤ tt)), tt);
+    },
+    tt,
+  ),
 )
 
 least-root : (ps : List PureTree) → HasRoot (least ps)
@@ -71,7 +95,8 @@ least-is-lawful ps is = record {
 }
 
 -- what is made of these parts
-pub parts-lawful : (ps : List PureTree) (ds : List StructTree) (d : StructTree) (qs : List ProcedureTree) → IsPrelude ps → ds ≡ d ∷ [] → d ≡ root_struct → qs ≡ root_procedures →
+pub parts-lawful : (ps : List PureTree) (ds : List StructTree) (d : StructTree) (qs : List ProcedureTree) →
+    IsPrelude ps → ds ≡ d ∷ [] → d ≡ root_struct → qs ≡ root_procedures →
     IsLawful (record { pures = ps; structs = ds; procedures = qs })
 parts-lawful ps ds d qs is e f g =
     subst (λ xs. IsLawful (record { pures = ps; structs = xs; procedures = qs })) (sym (e ∙ ap (λ x. x ∷ []) f))

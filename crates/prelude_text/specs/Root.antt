@@ -6,9 +6,16 @@ use Rattle.c_syntax.specs.Tree.{literal, assign, no_stmts, more_stmts, StructTre
 
 -- struct root { int32_t now; };
 abbrev pub root_struct : StructTree
-root_struct = record { name = codes "root"; fields = record { name = codes "now"; kind = Number I32 } ∷ [] }
+root_struct =
+    record { name = codes "root"; fields = record { name = codes "now"; kind = Number I32 } ∷ [] }
 
 -- s->now = 0, in a procedure of the root without parameters
 abbrev pub root_procedure : List ℕ → ProcedureTree
 root_procedure name =
-    record { name = name; private = false; of = 0; params = []; body = more_stmts (assign 0 0 (literal (pos 0))) no_stmts }
+    record {
+      name = name;
+      private = false;
+      of = 0;
+      params = [];
+      body = more_stmts (assign 0 0 (literal (pos 0))) no_stmts;
+    }

@@ -48,12 +48,15 @@ aligned_depth e f F d h some = by (f == F)
 rounded_depth : (e : ExprTree) (f g : ℕ) (how : How) (d : ℕ) → expr_depth e ≤ d → 1 ≤ d → expr_depth (rounded_code e f g how) ≤ d + 1
 rounded_depth e f g how d h some = by (nat_le f g)
   where
-    by : (b : Bool) → expr_depth (if b then aligned e f g else pure (rounding_position how.round) (exprs_of_list (e ∷ power (f - g) ∷ []))) ≤ d + 1
+    by : (b : Bool) →
+        expr_depth (if b then aligned e f g
+        else pure (rounding_position how.round) (exprs_of_list (e ∷ power (f - g) ∷ []))) ≤ d + 1
     by true = aligned_depth e f g d h some
     by false = omega (arith, h, some)
 
 cast_depth : (over : Over) (t : FixType) (e : ExprTree) (d : ℕ) → expr_depth e ≤ d → 2 ≤ d → expr_depth (cast over t e) ≤ d + 1
-cast_depth Saturate t e d h some = let low = written_depth (least_of t) in let high = written_depth (greatest_of t) in omega (arith, h, some, low, high)
+cast_depth Saturate t e d h some = let low = written_depth (least_of t) in let high = written_depth (greatest_of t) in
+    omega (arith, h, some, low, high)
 cast_depth Wrap t e d h some = let low = written_depth (least_of t) in omega (arith, h, some, low)
 
 converted_depth : (e : ExprTree) (f : ℕ) (range : Option Range) (to : FixType) (how : How) (d : ℕ) → expr_depth e ≤ d → 1 ≤ d →
@@ -75,31 +78,44 @@ signed_depth false e d h = omega (arith, h)
 terms_depth : (minus F i : ℕ) (fs : List ℕ) (leaves : List Leaf) → AllByRecursion (λ e. expr_depth e ≤ 3) (term_codes minus F i fs leaves)
 terms_depth minus F i [] leaves = tt
 terms_depth minus F i (f ∷ fs) [] = tt
-terms_depth minus F i (f ∷ fs) (l ∷ leaves) =
-    (signed_depth (bit_at minus i == 1) (aligned (read l) f F) 2 (aligned_depth (read l) f F 1 (omega arith) (omega arith)), terms_depth minus F (suc i) fs leaves)
+terms_depth minus F i (f ∷ fs) (l ∷ leaves) = (
+  signed_depth (bit_at minus i == 1) (aligned (read l) f F) 2
+      (aligned_depth (read l) f F 1 (omega arith) (omega arith)),
+  terms_depth minus F (suc i) fs leaves,
+)
 
 sum_depth : (minus F : ℕ) (fs : List ℕ) (leaves : List Leaf) → expr_depth (sum_code minus F fs leaves) ≤ 7
-sum_depth minus F fs leaves = balanced_size (binary Add) expr_depth 1 (λ a b d some p q. omega (arith, some, p, q)) 3 nought (term_codes minus F 0 fs leaves) (omega arith) (omega arith) (terms_depth minus F 0 fs leaves)
+sum_depth minus F fs leaves =
+    balanced_size (binary Add) expr_depth 1 (λ a b d some p q. omega (arith, some, p, q)) 3 nought
+    (term_codes minus F 0 fs leaves) (omega arith) (omega arith) (terms_depth minus F 0 fs leaves)
 
 reads_depth : (leaves : List Leaf) → AllByRecursion (λ e. expr_depth e ≤ 1) (map read leaves)
 reads_depth [] = tt
 reads_depth (l ∷ leaves) = (omega arith, reads_depth leaves)
 
 product_depth : (leaves : List Leaf) → expr_depth (product_code leaves) ≤ 5
-product_depth leaves = balanced_size (binary Mul) expr_depth 1 (λ a b d some p q. omega (arith, some, p, q)) 1 (literal (pos 1)) (map read leaves) (omega arith) (omega arith) (reads_depth leaves)
+product_depth leaves =
+    balanced_size (binary Mul) expr_depth 1 (λ a b d some p q. omega (arith, some, p, q)) 1 (literal (pos 1))
+    (map read leaves) (omega arith) (omega arith) (reads_depth leaves)
 
 truths_depth : (leaves : List Leaf) → AllByRecursion (λ t. cond_depth t ≤ 2) (truths leaves)
 truths_depth [] = tt
 truths_depth (l ∷ leaves) = (omega arith, truths_depth leaves)
 
 all_depth : (leaves : List Leaf) → cond_depth (all_hold (truths leaves)) ≤ 6
-all_depth leaves = balanced_size both cond_depth 1 (λ a b d some p q. omega (arith, some, p, q)) 2 always (truths leaves) (omega arith) (omega arith) (truths_depth leaves)
+all_depth leaves =
+    balanced_size both cond_depth 1 (λ a b d some p q. omega (arith, some, p, q)) 2 always (truths leaves) (omega arith)
+    (omega arith) (truths_depth leaves)
 
 some_depth : (leaves : List Leaf) → cond_depth (some_holds (truths leaves)) ≤ 6
-some_depth leaves = balanced_size either cond_depth 1 (λ a b d some p q. omega (arith, some, p, q)) 2 never (truths leaves) (omega arith) (omega arith) (truths_depth leaves)
+some_depth leaves =
+    balanced_size either cond_depth 1 (λ a b d some p q. omega (arith, some, p, q)) 2 never (truths leaves)
+    (omega arith) (omega arith) (truths_depth leaves)
 
 odd_depth : (leaves : List Leaf) → cond_depth (odd_hold (truths leaves)) ≤ 10
-odd_depth leaves = balanced_size differ cond_depth 2 (λ a b d some p q. omega (arith, some, p, q)) 2 never (truths leaves) (omega arith) (omega arith) (truths_depth leaves)
+odd_depth leaves =
+    balanced_size differ cond_depth 2 (λ a b d some p q. omega (arith, some, p, q)) 2 never (truths leaves)
+    (omega arith) (omega arith) (truths_depth leaves)
 
 logic_depth : (op : Logic) (leaves : List Leaf) → cond_depth (logic_code op (truths leaves)) ≤ 11
 logic_depth And leaves = let h = all_depth leaves in omega (arith, h)
@@ -110,7 +126,8 @@ logic_depth Xor leaves = let h = odd_depth leaves in omega (arith, h)
 logic_depth Nxor leaves = let h = odd_depth leaves in omega (arith, h)
 logic_depth Not leaves = let h = some_depth leaves in omega (arith, h)
 
-passes_depth : (criterion : Criterion) (leaves : List Leaf) (threshold : ℤ) → cond_depth (passes_code criterion (input_code leaves 1) threshold) ≤ 3
+passes_depth : (criterion : Criterion) (leaves : List Leaf) (threshold : ℤ) →
+    cond_depth (passes_code criterion (input_code leaves 1) threshold) ≤ 3
 passes_depth Ge leaves threshold = let h = input_depth leaves 1 in let k = written_depth threshold in omega (arith, h, k)
 passes_depth Gt leaves threshold = let h = input_depth leaves 1 in let k = written_depth threshold in omega (arith, h, k)
 passes_depth NotZero leaves threshold = let h = input_depth leaves 1 in omega (arith, h)

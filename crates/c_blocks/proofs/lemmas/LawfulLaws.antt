@@ -40,7 +40,8 @@ use Rattle.c_blocks.proofs.Conversions.{least_small, greatest_small}
 abbrev IsThere : List PureTree → ℕ → ℕ → Type 0
 IsThere ps k many = (p : PureTree) × (slice_get ps k ≡ Some p) × (length p.params ≡ many)
 
-found : (ps : List PureTree) (k : ℕ) → k < length (map (λ (p : PureTree). p.params) ps) → (p : PureTree) × (slice_get ps k ≡ Some p) × (p.params ≡ get_or (map (λ (p : PureTree). p.params) ps) k [])
+found : (ps : List PureTree) (k : ℕ) → k < length (map (λ (p : PureTree). p.params) ps) →
+    (p : PureTree) × (slice_get ps k ≡ Some p) × (p.params ≡ get_or (map (λ (p : PureTree). p.params) ps) k [])
 found [] k h = absurd (omega (arith, h))
 found (p ∷ ps) zero h = (p, refl, refl)
 found (p ∷ ps) (suc k) h = found ps k (omega (arith, h))
@@ -110,15 +111,30 @@ module _ (reach : Reach) (prelude : IsPrelude reach.pures) where
     where
       by : (b : Bool) → Lawful (if b then aligned e f g else pure (rounding_position how.round) (exprs_of_list (e ∷ power (f - g) ∷ [])))
       by true = aligned_lawful e f g few h
-      by false = let there = rounding_there reach.pures prelude how.round in (there.0, there.1, there.2, (h, (power_lawful (f - g) low, tt)))
+      by false = let there = rounding_there reach.pures prelude how.round in
+          (there.0, there.1, there.2, (h, (power_lawful (f - g) low, tt)))
 
   cast_lawful : (over : Over) (t : FixType) (e : ExprTree) → Lawful e → Lawful (cast over t e)
   cast_lawful Saturate t e h =
-      let there = by_params reach.pures 6 3 prelude (omega arith) refl in
-      (there.0, there.1, there.2, (h, (written_lawful (least_of t) (least_small t), (written_lawful (greatest_of t) (greatest_small t), tt))))
+      let there = by_params reach.pures 6 3 prelude (omega arith) refl in (
+        there.0,
+        there.1,
+        there.2,
+        (h, (written_lawful (least_of t) (least_small t), (written_lawful (greatest_of t) (greatest_small t), tt))),
+      )
   cast_lawful Wrap t e h =
-      let there = by_params reach.pures 7 3 prelude (omega arith) refl in
-      (there.0, there.1, there.2, (h, (written_lawful (least_of t) (least_small t), (power_lawful t.bits (let few = t.in_profile.1 in omega (arith, few)), tt))))
+      let there = by_params reach.pures 7 3 prelude (omega arith) refl in (
+        there.0,
+        there.1,
+        there.2,
+        (
+          h,
+          (
+            written_lawful (least_of t) (least_small t),
+            (power_lawful t.bits (let few = t.in_profile.1 in omega (arith, few)), tt),
+          ),
+        ),
+      )
 
   converted_lawful : (e : ExprTree) (f : ℕ) (range : Option Range) (to : FixType) (how : How) → f - to.frac ≤ 62 → Lawful e →
       Lawful (converted e f range to how)
@@ -151,12 +167,19 @@ module _ (reach : Reach) (prelude : IsPrelude reach.pures) where
         by (l ∷ ls) (suc i) h = by ls i h.1
 
     sum_lawful : (minus F : ℕ) (fs : List ℕ) → F ≤ 31 → Lawful (sum_code minus F fs leaves)
-    sum_lawful minus F fs few = balanced_all (binary Add) Lawful (λ a b p q. (p, q)) nought (term_codes minus F 0 fs leaves) nought_lawful (by 0 fs leaves given)
+    sum_lawful minus F fs few =
+        balanced_all (binary Add) Lawful (λ a b p q. (p, q)) nought (term_codes minus F 0 fs leaves) nought_lawful
+        (by 0 fs leaves given)
       where
-        by : (i : ℕ) (fs : List ℕ) (ls : List Leaf) → AllByRecursion (IsLawfulLeaf reach) ls → AllByRecursion Lawful (term_codes minus F i fs ls)
+        by : (i : ℕ) (fs : List ℕ) (ls : List Leaf) → AllByRecursion (IsLawfulLeaf reach) ls →
+            AllByRecursion Lawful (term_codes minus F i fs ls)
         by i [] ls h = tt
         by i (f ∷ fs) [] h = tt
-        by i (f ∷ fs) (l ∷ ls) h = (signed_lawful (bit_at minus i == 1) (aligned (read l) f F) (aligned_lawful (read l) f F (omega (arith, few)) h.0), by (suc i) fs ls h.1)
+        by i (f ∷ fs) (l ∷ ls) h = (
+          signed_lawful (bit_at minus i == 1) (aligned (read l) f F)
+              (aligned_lawful (read l) f F (omega (arith, few)) h.0),
+          by (suc i) fs ls h.1,
+        )
 
     product_lawful : Lawful (product_code leaves)
     product_lawful = balanced_all (binary Mul) Lawful (λ a b p q. (p, q)) (literal (pos 1)) (map read leaves) one_lawful (by leaves given)
@@ -179,7 +202,9 @@ module _ (reach : Reach) (prelude : IsPrelude reach.pures) where
     some_lawful = balanced_all either LawfulTest (λ a b p q. (p, q)) never (truths leaves) (nought_lawful, nought_lawful) truths_lawful
 
     odd_lawful : LawfulTest (odd_hold (truths leaves))
-    odd_lawful = balanced_all differ LawfulTest (λ a b p q. ((p, one_lawful, nought_lawful), (q, one_lawful, nought_lawful))) never (truths leaves) (nought_lawful, nought_lawful) truths_lawful
+    odd_lawful =
+        balanced_all differ LawfulTest (λ a b p q. ((p, one_lawful, nought_lawful), (q, one_lawful, nought_lawful)))
+        never (truths leaves) (nought_lawful, nought_lawful) truths_lawful
 
     logic_lawful : (op : Logic) → LawfulTest (logic_code op (truths leaves))
     logic_lawful And = all_lawful
@@ -190,7 +215,8 @@ module _ (reach : Reach) (prelude : IsPrelude reach.pures) where
     logic_lawful Nxor = odd_lawful
     logic_lawful Not = some_lawful
 
-    passes_lawful : (criterion : Criterion) (threshold : ℤ) → unsigned_abs threshold < 2 ^ 63 → LawfulTest (passes_code criterion (input_code leaves 1) threshold)
+    passes_lawful : (criterion : Criterion) (threshold : ℤ) → unsigned_abs threshold < 2 ^ 63 →
+        LawfulTest (passes_code criterion (input_code leaves 1) threshold)
     passes_lawful Ge threshold small = (input_lawful 1, written_lawful threshold small)
     passes_lawful Gt threshold small = (input_lawful 1, written_lawful threshold small)
     passes_lawful NotZero threshold small = (input_lawful 1, nought_lawful)
@@ -200,7 +226,8 @@ module _ (reach : Reach) (prelude : IsPrelude reach.pures) where
     converted_input_lawful types i f to how few =
         converted_lawful (input_code leaves i) f (input_range types i) to how (omega (arith, few)) (input_lawful i)
 
-    row_lawful : (op : Op) (types : List FixType) (memory : ExprTree) → IsWritable op → Lawful memory → Lawful (rhs_code op leaves types memory)
+    row_lawful : (op : Op) (types : List FixType) (memory : ExprTree) → IsWritable op → Lawful memory →
+        Lawful (rhs_code op leaves types memory)
     row_lawful Copy types memory can has = input_lawful 0
     row_lawful (Value v) types memory can has = written_lawful v can
     row_lawful (Delay initial) types memory can has = has
@@ -220,8 +247,16 @@ module _ (reach : Reach) (prelude : IsPrelude reach.pures) where
         (passes_code criterion (input_code leaves 1) threshold) (converted_input leaves types 0 (get_or fracs 0 0) to how)
         (converted_input leaves types 2 (get_or fracs 1 0) to how) (passes_lawful criterion threshold can.0)
         (converted_input_lawful types 0 (get_or fracs 0 0) to how can.1) (converted_input_lawful types 2 (get_or fracs 1 0) to how can.2)
-    row_lawful (Relational how fracs) types memory can has =
-        ((aligned_lawful (input_code leaves 0) (get_or fracs 0 0) (greatest_in fracs) (omega (arith, can)) (input_lawful 0), aligned_lawful (input_code leaves 1) (get_or fracs 1 0) (greatest_in fracs) (omega (arith, can)) (input_lawful 1)), one_lawful, nought_lawful)
+    row_lawful (Relational how fracs) types memory can has = (
+      (
+        aligned_lawful (input_code leaves 0) (get_or fracs 0 0) (greatest_in fracs) (omega (arith, can))
+            (input_lawful 0),
+        aligned_lawful (input_code leaves 1) (get_or fracs 1 0) (greatest_in fracs)
+            (omega (arith, can)) (input_lawful 1),
+      ),
+      one_lawful,
+      nought_lawful,
+    )
     row_lawful (Logical o count) types memory can has = (logic_lawful o, one_lawful, nought_lawful)
     row_lawful (Convert frac to how) types memory can has = converted_input_lawful types 0 frac to how can
     row_lawful Nothing types memory can has = nought_lawful

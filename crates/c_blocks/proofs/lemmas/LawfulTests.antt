@@ -23,10 +23,14 @@ module _ (reach : Reach) (leaves : ControlLeaves) where
   high_lawful : (l : Leaf) → IsLawfulLeaf reach l → IsLawfulCond reach (is_high_code l)
   high_lawful l h = (h, (0, refl, omega arith))
 
-  event_lawful : (e : Edge) → IsLawfulLeaf reach leaves.trigger → IsLawfulLeaf reach leaves.remembers → IsLawfulCond reach (event_test e leaves)
+  event_lawful : (e : Edge) → IsLawfulLeaf reach leaves.trigger → IsLawfulLeaf reach leaves.remembers →
+      IsLawfulCond reach (event_test e leaves)
   event_lawful Rising h k = ((k, (1, refl, omega arith)), high_lawful leaves.trigger h)
   event_lawful Falling h k = ((k, (2, refl, omega arith)), high_lawful leaves.trigger h)
-  event_lawful Either h k = (((k, (1, refl, omega arith)), high_lawful leaves.trigger h), ((k, (2, refl, omega arith)), high_lawful leaves.trigger h))
+  event_lawful Either h k = (
+    ((k, (1, refl, omega arith)), high_lawful leaves.trigger h),
+    ((k, (2, refl, omega arith)), high_lawful leaves.trigger h),
+  )
 
   active_lawful : (control : Control) → Given control → OnTest (IsLawfulCond reach) (active_by control leaves)
   active_lawful Plain given = tt
@@ -48,10 +52,14 @@ module _ (reach : Reach) (leaves : ControlLeaves) where
   off_lawful (Both true e) given = high_lawful leaves.enable given.0
   off_lawful (Both false e) given = tt
 
-hit_lawful : (reach : Reach) (time : Time) (now : Leaf) → IsLawfulLeaf reach now → time.period < 2 ^ 63 → OnTest (IsLawfulCond reach) (hit_test time now)
+hit_lawful : (reach : Reach) (time : Time) (now : Leaf) → IsLawfulLeaf reach now → time.period < 2 ^ 63 →
+    OnTest (IsLawfulCond reach) (hit_test time now)
 hit_lawful reach time now h small = by (time.period == 1)
   where
-    by : (b : Bool) → OnTest (IsLawfulCond reach) (if b then None else Some (compare Eq (binary Rem (read now) (literal (pos time.period))) (literal (pos time.offset))))
+    by : (b : Bool) →
+        OnTest (IsLawfulCond reach)
+        (if b then None
+        else Some (compare Eq (binary Rem (read now) (literal (pos time.period))) (literal (pos time.offset))))
     by true = tt
     by false = ((h, (time.period, refl, small)), (time.offset, refl, (let less = time.in_period in omega (arith, less, small))))
 

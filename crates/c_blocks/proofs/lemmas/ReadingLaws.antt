@@ -87,12 +87,17 @@ module _ (IsGiven : Leaf → Type 0) where
         by (l ∷ ls) (suc i) h = by ls i h.1
 
     sum_reads : (minus F : ℕ) (fs : List ℕ) → Only (sum_code minus F fs leaves)
-    sum_reads minus F fs = balanced_all (binary Add) Only (λ a b p q. (p, q)) nought (term_codes minus F 0 fs leaves) tt (by 0 fs leaves given)
+    sum_reads minus F fs =
+        balanced_all (binary Add) Only (λ a b p q. (p, q)) nought (term_codes minus F 0 fs leaves) tt
+        (by 0 fs leaves given)
       where
         by : (i : ℕ) (fs : List ℕ) (ls : List Leaf) → AllByRecursion IsGiven ls → AllByRecursion Only (term_codes minus F i fs ls)
         by i [] ls h = tt
         by i (f ∷ fs) [] h = tt
-        by i (f ∷ fs) (l ∷ ls) h = (signed_reads (bit_at minus i == 1) (aligned (read l) f F) (aligned_reads (read l) f F h.0), by (suc i) fs ls h.1)
+        by i (f ∷ fs) (l ∷ ls) h = (
+          signed_reads (bit_at minus i == 1) (aligned (read l) f F) (aligned_reads (read l) f F h.0),
+          by (suc i) fs ls h.1,
+        )
 
     product_reads : Only (product_code leaves)
     product_reads = balanced_all (binary Mul) Only (λ a b p q. (p, q)) (literal (pos 1)) (map read leaves) tt (by leaves given)
@@ -152,8 +157,14 @@ module _ (IsGiven : Leaf → Type 0) where
         (passes_code criterion (input_code leaves 1) threshold) (converted_input leaves types 0 (get_or fracs 0 0) to how)
         (converted_input leaves types 2 (get_or fracs 1 0) to how) (passes_read criterion threshold)
         (converted_input_reads types 0 (get_or fracs 0 0) to how) (converted_input_reads types 2 (get_or fracs 1 0) to how)
-    row_reads (Relational how fracs) types memory known =
-        ((aligned_reads (input_code leaves 0) (get_or fracs 0 0) (greatest_in fracs) (input_reads 0), aligned_reads (input_code leaves 1) (get_or fracs 1 0) (greatest_in fracs) (input_reads 1)), tt, tt)
+    row_reads (Relational how fracs) types memory known = (
+      (
+        aligned_reads (input_code leaves 0) (get_or fracs 0 0) (greatest_in fracs) (input_reads 0),
+        aligned_reads (input_code leaves 1) (get_or fracs 1 0) (greatest_in fracs) (input_reads 1),
+      ),
+      tt,
+      tt,
+    )
     row_reads (Logical o count) types memory known = (logic_reads o, tt, tt)
     row_reads (Convert frac to how) types memory known = converted_input_reads types 0 frac to how
     row_reads Nothing types memory known = tt
@@ -169,8 +180,11 @@ contains_behind y xs x h = (suc h.0, omega (arith, h.1), h.2)
 
 all_contained : {A : Type 0} (xs ys : List A) → AllByRecursion (Contains (xs ++ ys)) xs
 all_contained [] ys = tt
-all_contained (x ∷ xs) ys =
-    ((0, omega arith, refl), all_map (Contains (xs ++ ys)) (Contains (x ∷ (xs ++ ys))) (contains_behind x (xs ++ ys)) xs (all_contained xs ys))
+all_contained (x ∷ xs) ys = (
+  (0, omega arith, refl),
+  all_map (Contains (xs ++ ys)) (Contains (x ∷ (xs ++ ys))) (contains_behind x (xs ++ ys)) xs
+      (all_contained xs ys),
+)
 
 behind : {A : Type 0} (xs ys : List A) (y : A) → Contains ys y → Contains (xs ++ ys) y
 behind [] ys y h = h

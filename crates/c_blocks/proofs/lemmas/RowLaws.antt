@@ -60,7 +60,8 @@ whole_list xs n e = subst (λ k. take k xs ≡ xs) e (take-length xs)
 
 -- ---- Rows
 
-no_step : (functions : List Function) (reads : Reads) (line : ℕ) (e : ExprTree) (x : ℤ) → Gives functions reads line e x → (steps : ℕ) → eval functions reads line e steps ≡ gives x (steps + 0)
+no_step : (functions : List Function) (reads : Reads) (line : ℕ) (e : ExprTree) (x : ℤ) →
+    Gives functions reads line e x → (steps : ℕ) → eval functions reads line e steps ≡ gives x (steps + 0)
 no_step functions reads line e x h steps = h steps ∙ ap (gives x) (let same : steps ≡ steps + 0 = omega arith in same)
 
 module _ (ps : List PureTree) (prelude : IsPrelude ps) (stay : WholeNumbersStay) (one : RoundingIsOne) (reads : Reads) (line : ℕ) where
@@ -108,7 +109,8 @@ module _ (ps : List PureTree) (prelude : IsPrelude ps) (stay : WholeNumbersStay)
       let same = unsigned_abs-mul v m in
       let bound : unsigned_abs (v *ℤ m) < 2 ^ 63 = omega (arith, same, small_number (unsigned_abs v * unsigned_abs m) f to fits) in
       converted_comes (binary Mul (input_code leaves 0) (written m)) (v *ℤ m) f (gain_range m types) to how
-      (gives_mul functions reads line (input_code leaves 0) (written m) v m (input_gives leaves 0) (gives_written functions reads line m small) bound)
+      (gives_mul functions reads line (input_code leaves 0) (written m) v m (input_gives leaves 0)
+      (gives_written functions reads line m small) bound)
       (lesser_fits (unsigned_abs (v *ℤ m)) (unsigned_abs v * unsigned_abs m) f to (omega (arith, same)) fits)
       (gain_in m types vs of_type)
 
@@ -155,14 +157,17 @@ module _ (ps : List PureTree) (prelude : IsPrelude ps) (stay : WholeNumbersStay)
   either_comes (Some false) test b d e x y j k same h p q =
       subst (λ b. Comes e (if b then x else y) (if b then j else k)) (sym (same false refl)) q
 
-  comparison_gives : (how : Compare) (d e : ExprTree) (v w : ℤ) (f g F : ℕ) → Is d v → Is e w → unsigned_abs (aligned_number v f F) ≤ 2 ^ 62 → unsigned_abs (aligned_number w g F) ≤ 2 ^ 62 →
-      Is (truth (compare how (aligned d f F) (aligned e g F))) (number_of_bool (value.compares how (aligned_number v f F) (aligned_number w g F)))
+  comparison_gives : (how : Compare) (d e : ExprTree) (v w : ℤ) (f g F : ℕ) → Is d v → Is e w →
+      unsigned_abs (aligned_number v f F) ≤ 2 ^ 62 → unsigned_abs (aligned_number w g F) ≤ 2 ^ 62 →
+      Is (truth (compare how (aligned d f F) (aligned e g F)))
+      (number_of_bool (value.compares how (aligned_number v f F) (aligned_number w g F)))
   comparison_gives how d e v w f g F h k small low =
       let x = aligned_number v f F in
       let y = aligned_number w g F in
       truth_gives functions reads line (compare how (aligned d f F) (aligned e g F)) (value.compares how x y)
       (subst (Holds functions reads line (compare how (aligned d f F) (aligned e g F))) (same_compare how x y)
-      (holds_compare functions reads line how (aligned d f F) (aligned e g F) x y (aligned_gives functions reads line d v f F h small) (aligned_gives functions reads line e w g F k low)))
+      (holds_compare functions reads line how (aligned d f F) (aligned e g F) x y
+      (aligned_gives functions reads line d v f F h small) (aligned_gives functions reads line e w g F k low)))
 
   -- ---- All kinds
 
@@ -177,13 +182,22 @@ module _ (ps : List PureTree) (prelude : IsPrelude ps) (stay : WholeNumbersStay)
     abbrev RowComes : Op → Type 0
     RowComes o = Comes (rhs_code o leaves types memory) (rhs o vs m) (returns o types vs)
 
-    by_kind : (k : Kind) (ts : List FixType) (out : FixType) (delays : Bool) → IsWithinLimits k → HasInputTypes k ts → wide_bits k ts out ≤ 62 → ReadsInTypes k ts vs → AreTypesOf (op_of k ts out delays) types vs → RowComes (op_of k ts out delays)
-    by_kind (kind.Inport port) ts out delays limits has narrow reads_in of_types = comes_at_once (input_code leaves 0) (input vs 0) (input_gives leaves 0)
-    by_kind (kind.Outport port reset initial) ts out delays limits has narrow reads_in of_types = comes_at_once (input_code leaves 0) (input vs 0) (input_gives leaves 0)
-    by_kind (kind.SubSystem control) ts out delays limits has narrow reads_in of_types = comes_at_once nought (pos 0) (gives_literal functions reads line (pos 0))
-    by_kind (kind.Constant value) ts out delays limits has narrow reads_in of_types = comes_at_once (written (quantize value out)) (quantize value out) (gives_written functions reads line (quantize value out) (constant_small stays narrow_fit value out))
-    by_kind kind.Ground ts out delays limits has narrow reads_in of_types = comes_at_once nought (pos 0) (gives_literal functions reads line (pos 0))
-    by_kind kind.Terminator ts out delays limits has narrow reads_in of_types = comes_at_once nought (pos 0) (gives_literal functions reads line (pos 0))
+    by_kind : (k : Kind) (ts : List FixType) (out : FixType) (delays : Bool) → IsWithinLimits k → HasInputTypes k ts →
+        wide_bits k ts out ≤ 62 → ReadsInTypes k ts vs → AreTypesOf (op_of k ts out delays) types vs →
+        RowComes (op_of k ts out delays)
+    by_kind (kind.Inport port) ts out delays limits has narrow reads_in of_types =
+        comes_at_once (input_code leaves 0) (input vs 0) (input_gives leaves 0)
+    by_kind (kind.Outport port reset initial) ts out delays limits has narrow reads_in of_types =
+        comes_at_once (input_code leaves 0) (input vs 0) (input_gives leaves 0)
+    by_kind (kind.SubSystem control) ts out delays limits has narrow reads_in of_types =
+        comes_at_once nought (pos 0) (gives_literal functions reads line (pos 0))
+    by_kind (kind.Constant value) ts out delays limits has narrow reads_in of_types =
+        comes_at_once (written (quantize value out)) (quantize value out)
+        (gives_written functions reads line (quantize value out) (constant_small stays narrow_fit value out))
+    by_kind kind.Ground ts out delays limits has narrow reads_in of_types =
+        comes_at_once nought (pos 0) (gives_literal functions reads line (pos 0))
+    by_kind kind.Terminator ts out delays limits has narrow reads_in of_types =
+        comes_at_once nought (pos 0) (gives_literal functions reads line (pos 0))
     by_kind (kind.Gain gain how) ts out delays limits has narrow reads_in of_types =
         gain_comes leaves types (gain_of gain).0 ((input_type ts 0).frac + (gain_of gain).1) out how
         (gain_small_of stays narrow_fit gain how ts out has narrow) of_types
@@ -208,7 +222,8 @@ module _ (ps : List PureTree) (prelude : IsPrelude ps) (stay : WholeNumbersStay)
         (subst (λ us. ConversionFits (product_magnitude us) f out) whole fits))
     by_kind (kind.UnitDelay initial) ts out delays limits has narrow reads_in of_types = comes_at_once memory m known
     by_kind (kind.Delay samples initial) ts out delays limits has narrow reads_in of_types = comes_at_once memory m known
-    by_kind kind.ZeroOrderHold ts out delays limits has narrow reads_in of_types = comes_at_once (input_code leaves 0) (input vs 0) (input_gives leaves 0)
+    by_kind kind.ZeroOrderHold ts out delays limits has narrow reads_in of_types =
+        comes_at_once (input_code leaves 0) (input vs 0) (input_gives leaves 0)
     by_kind (kind.Switch criterion threshold how) ts out delays limits has narrow reads_in of_types =
         let level = quantize threshold (input_type ts 1) in
         let f = (input_type ts 0).frac in
@@ -219,7 +234,8 @@ module _ (ps : List PureTree) (prelude : IsPrelude ps) (stay : WholeNumbersStay)
         (converted_input leaves types 0 f out how) (converted_input leaves types 2 g out how)
         (conversion (input vs 0) f out how) (conversion (input vs 2) g out how) (input_returns types 0 f out) (input_returns types 2 g out)
         (passes_alike criterion level (input_range types 1) (input vs 1) (input_in types vs 1 (of_types 1)))
-        (passes_holds functions reads line criterion (input_code leaves 1) (input vs 1) level (input_gives leaves 1) (constant_small stays narrow_fit threshold (input_type ts 1)))
+        (passes_holds functions reads line criterion (input_code leaves 1) (input vs 1) level (input_gives leaves 1)
+        (constant_small stays narrow_fit threshold (input_type ts 1)))
         (converted_input_comes leaves types 0 f out how (of_types 0) fits.0)
         (converted_input_comes leaves types 2 g out how (of_types 2) fits.1)
     by_kind (kind.Relational how) ts out delays limits has narrow reads_in of_types =
@@ -227,21 +243,27 @@ module _ (ps : List PureTree) (prelude : IsPrelude ps) (stay : WholeNumbersStay)
         let g = (input_type ts 1).frac in
         let F = greatest_in (f ∷ g ∷ []) in
         let fits = narrow_fit (kind.Relational how) ts out delays vs has reads_in narrow in
-        comes_at_once (truth (compare how (aligned (input_code leaves 0) f F) (aligned (input_code leaves 1) g F))) (number_of_bool (value.compares how (aligned_number (input vs 0) f F) (aligned_number (input vs 1) g F)))
-        (comparison_gives how (input_code leaves 0) (input_code leaves 1) (input vs 0) (input vs 1) f g F (input_gives leaves 0) (input_gives leaves 1) fits.0 fits.1)
+        comes_at_once (truth (compare how (aligned (input_code leaves 0) f F) (aligned (input_code leaves 1) g F)))
+        (number_of_bool (value.compares how (aligned_number (input vs 0) f F) (aligned_number (input vs 1) g F)))
+        (comparison_gives how (input_code leaves 0) (input_code leaves 1) (input vs 0) (input vs 1) f g F
+        (input_gives leaves 0) (input_gives leaves 1) fits.0 fits.1)
     by_kind (kind.Logic o count) ts out delays limits has narrow reads_in of_types =
         let many = count_is ts count has reads_in in
         let whole : take count vs ≡ vs = whole_list vs count (length_read reads leaves ∙ many) in
         subst (λ us. Comes (truth (logic_code o (truths leaves))) (number_of_bool (logic_of o (map is_true us))) 0) (sym whole)
         (comes_at_once (truth (logic_code o (truths leaves))) (number_of_bool (logic_of o (map is_true vs)))
-        (truth_gives functions reads line (logic_code o (truths leaves)) (logic_of o (map is_true vs)) (logic_holds functions reads line o leaves (omega (arith, many, limits.1)))))
+        (truth_gives functions reads line (logic_code o (truths leaves)) (logic_of o (map is_true vs))
+        (logic_holds functions reads line o leaves (omega (arith, many, limits.1)))))
     by_kind (kind.Convert how) ts out delays limits has narrow reads_in of_types =
         converted_input_comes leaves types 0 (input_type ts 0).frac out how of_types
         (narrow_fit (kind.Convert how) ts out delays vs has reads_in narrow)
     by_kind (kind.RateTransition initial time) ts out true limits has narrow reads_in of_types = comes_at_once memory m known
-    by_kind (kind.RateTransition initial time) ts out false limits has narrow reads_in of_types = comes_at_once (input_code leaves 0) (input vs 0) (input_gives leaves 0)
-    by_kind kind.EnablePort ts out delays limits has narrow reads_in of_types = comes_at_once nought (pos 0) (gives_literal functions reads line (pos 0))
-    by_kind kind.TriggerPort ts out delays limits has narrow reads_in of_types = comes_at_once nought (pos 0) (gives_literal functions reads line (pos 0))
+    by_kind (kind.RateTransition initial time) ts out false limits has narrow reads_in of_types =
+        comes_at_once (input_code leaves 0) (input vs 0) (input_gives leaves 0)
+    by_kind kind.EnablePort ts out delays limits has narrow reads_in of_types =
+        comes_at_once nought (pos 0) (gives_literal functions reads line (pos 0))
+    by_kind kind.TriggerPort ts out delays limits has narrow reads_in of_types =
+        comes_at_once nought (pos 0) (gives_literal functions reads line (pos 0))
 
 -- ---- The laws
 

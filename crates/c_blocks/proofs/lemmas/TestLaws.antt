@@ -47,7 +47,8 @@ module _ (functions : List Function) (reads : Reads) (line : ℕ) (l : Leaf) whe
       by true = refl
       by false = refl
 
-module _ (leaves : ControlLeaves) (memory : TrigMem) (functions : List Function) (reads : Reads) (line : ℕ) (remembers : reads.leaf leaves.remembers ≡ memory_number memory) where
+module _ (leaves : ControlLeaves) (memory : TrigMem) (functions : List Function) (reads : Reads) (line : ℕ)
+    (remembers : reads.leaf leaves.remembers ≡ memory_number memory) where
   abbrev Has : CondTree → Bool → Type 0
   Has t b = Holds functions reads line t b
 
@@ -55,22 +56,31 @@ module _ (leaves : ControlLeaves) (memory : TrigMem) (functions : List Function)
   trigger = reads.leaf leaves.trigger
 
   low_enable : Has (negated (is_high_code leaves.enable)) (not (is_high (reads.leaf leaves.enable)))
-  low_enable = holds_negated functions reads line (is_high_code leaves.enable) (is_high (reads.leaf leaves.enable)) (high_holds functions reads line leaves.enable)
+  low_enable = holds_negated functions reads line (is_high_code leaves.enable) (is_high (reads.leaf leaves.enable))
+      (high_holds functions reads line leaves.enable)
 
   was_holds : (level : ℕ) → Has (was leaves level) (int_eq (memory_number memory) (pos level))
-  was_holds level = subst (λ v. Has (was leaves level) (int_eq v (pos level))) remembers (read_holds functions reads line leaves.remembers Eq level)
+  was_holds level =
+      subst (λ v. Has (was leaves level) (int_eq v (pos level))) remembers
+      (read_holds functions reads line leaves.remembers Eq level)
 
   rises_hold : Has (rises leaves) (int_eq (memory_number memory) (pos 1) && is_high trigger)
-  rises_hold = holds_both functions reads line (was leaves 1) (is_high_code leaves.trigger) (int_eq (memory_number memory) (pos 1)) (is_high trigger) (was_holds 1) (high_holds functions reads line leaves.trigger)
+  rises_hold =
+      holds_both functions reads line (was leaves 1) (is_high_code leaves.trigger)
+      (int_eq (memory_number memory) (pos 1)) (is_high trigger) (was_holds 1)
+      (high_holds functions reads line leaves.trigger)
 
   falls_hold : Has (falls leaves) (int_eq (memory_number memory) (pos 2) && not (is_high trigger))
   falls_hold =
-      holds_both functions reads line (was leaves 2) (negated (is_high_code leaves.trigger)) (int_eq (memory_number memory) (pos 2)) (not (is_high trigger)) (was_holds 2)
+      holds_both functions reads line (was leaves 2) (negated (is_high_code leaves.trigger))
+      (int_eq (memory_number memory) (pos 2)) (not (is_high trigger)) (was_holds 2)
       (holds_negated functions reads line (is_high_code leaves.trigger) (is_high trigger) (high_holds functions reads line leaves.trigger))
 
-  either_holds : Has (event_test Either leaves) ((int_eq (memory_number memory) (pos 1) && is_high trigger) || (int_eq (memory_number memory) (pos 2) && not (is_high trigger)))
+  either_holds : Has (event_test Either leaves) ((int_eq (memory_number memory) (pos 1) && is_high trigger)
+      || (int_eq (memory_number memory) (pos 2) && not (is_high trigger)))
   either_holds =
-      holds_either functions reads line (rises leaves) (falls leaves) (int_eq (memory_number memory) (pos 1) && is_high trigger) (int_eq (memory_number memory) (pos 2) && not (is_high trigger)) rises_hold falls_hold
+      holds_either functions reads line (rises leaves) (falls leaves) (int_eq (memory_number memory) (pos 1)
+      && is_high trigger) (int_eq (memory_number memory) (pos 2) && not (is_high trigger)) rises_hold falls_hold
 
 -- what the three tests come to is an event
 rise_is : (memory : TrigMem) (v : ℤ) → (int_eq (memory_number memory) (pos 1) && is_high v) ≡ edge Rising memory v
@@ -87,26 +97,39 @@ or_false : (b : Bool) → (b || false) ≡ b
 or_false true = refl
 or_false false = refl
 
-either_is : (memory : TrigMem) (v : ℤ) → ((int_eq (memory_number memory) (pos 1) && is_high v) || (int_eq (memory_number memory) (pos 2) && not (is_high v))) ≡ edge Either memory v
+either_is : (memory : TrigMem) (v : ℤ) →
+    ((int_eq (memory_number memory) (pos 1) && is_high v) || (int_eq (memory_number memory) (pos 2) && not (is_high v)))
+    ≡ edge Either memory v
 either_is NotYet v = refl
 either_is Low v = or_false (is_high v)
 either_is High v = refl
 
-module _ (leaves : ControlLeaves) (memory : TrigMem) (functions : List Function) (reads : Reads) (line : ℕ) (remembers : reads.leaf leaves.remembers ≡ memory_number memory) where
+module _ (leaves : ControlLeaves) (memory : TrigMem) (functions : List Function) (reads : Reads) (line : ℕ)
+    (remembers : reads.leaf leaves.remembers ≡ memory_number memory) where
   event_holds : (e : Edge) → Holds functions reads line (event_test e leaves) (edge e memory (reads.leaf leaves.trigger))
-  event_holds Rising = subst (Holds functions reads line (event_test Rising leaves)) (rise_is memory (reads.leaf leaves.trigger)) (rises_hold leaves memory functions reads line remembers)
-  event_holds Falling = subst (Holds functions reads line (event_test Falling leaves)) (fall_is memory (reads.leaf leaves.trigger)) (falls_hold leaves memory functions reads line remembers)
-  event_holds Either = subst (Holds functions reads line (event_test Either leaves)) (either_is memory (reads.leaf leaves.trigger)) (either_holds leaves memory functions reads line remembers)
+  event_holds Rising =
+      subst (Holds functions reads line (event_test Rising leaves)) (rise_is memory (reads.leaf leaves.trigger))
+      (rises_hold leaves memory functions reads line remembers)
+  event_holds Falling =
+      subst (Holds functions reads line (event_test Falling leaves)) (fall_is memory (reads.leaf leaves.trigger))
+      (falls_hold leaves memory functions reads line remembers)
+  event_holds Either =
+      subst (Holds functions reads line (event_test Either leaves)) (either_is memory (reads.leaf leaves.trigger))
+      (either_holds leaves memory functions reads line remembers)
 
-  active_is : (control : Control) → TestIs functions reads line true (active_by control leaves) (active true control memory (reads.leaf leaves.enable) (reads.leaf leaves.trigger))
+  active_is : (control : Control) →
+      TestIs functions reads line true (active_by control leaves)
+      (active true control memory (reads.leaf leaves.enable) (reads.leaf leaves.trigger))
   active_is Plain = refl
   active_is (Enabled reset) = high_holds functions reads line leaves.enable
   active_is (Triggered e) = event_holds e
   active_is (Both reset e) =
-      holds_both functions reads line (is_high_code leaves.enable) (event_test e leaves) (is_high (reads.leaf leaves.enable)) (edge e memory (reads.leaf leaves.trigger))
+      holds_both functions reads line (is_high_code leaves.enable) (event_test e leaves)
+      (is_high (reads.leaf leaves.enable)) (edge e memory (reads.leaf leaves.trigger))
       (high_holds functions reads line leaves.enable) (event_holds e)
 
-  disabled_is : (control : Control) → TestIs functions reads line false (disabled_by control leaves) (disabled control (reads.leaf leaves.enable))
+  disabled_is : (control : Control) →
+      TestIs functions reads line false (disabled_by control leaves) (disabled control (reads.leaf leaves.enable))
   disabled_is Plain = refl
   disabled_is (Enabled reset) = low_enable leaves memory functions reads line remembers
   disabled_is (Triggered e) = refl
@@ -150,12 +173,19 @@ hits_are_tested time now t functions reads line is small = by (time.period == 1)
     some = omega (arith, time.in_period)
 
     by : (b : Bool) → (time.period == 1) ≡ b →
-        TestIs functions reads line true (if b then None else Some (compare Eq (binary Rem (read now) (literal (pos time.period))) (literal (pos time.offset)))) (t % time.period == time.offset)
+        TestIs functions reads line true
+        (if b then None
+        else Some (compare Eq (binary Rem (read now) (literal (pos time.period))) (literal (pos time.offset))))
+        (t % time.period == time.offset)
     by true one = each_tick t time.period time.offset one time.in_period
     by false other =
-        subst (Holds functions reads line (compare Eq (binary Rem (read now) (literal (pos time.period))) (literal (pos time.offset)))) (rest_is t time.period time.offset)
-        (holds_compare functions reads line Eq (binary Rem (read now) (literal (pos time.period))) (literal (pos time.offset)) (int_rem (pos t) (pos time.period)) (pos time.offset)
-        (gives_rem functions reads line (read now) (literal (pos time.period)) (pos t) time.period (subst (Gives functions reads line (read now)) is (gives_read functions reads line now))
+        subst (Holds functions reads line
+        (compare Eq (binary Rem (read now) (literal (pos time.period))) (literal (pos time.offset))))
+        (rest_is t time.period time.offset)
+        (holds_compare functions reads line Eq (binary Rem (read now) (literal (pos time.period)))
+        (literal (pos time.offset)) (int_rem (pos t) (pos time.period)) (pos time.offset)
+        (gives_rem functions reads line (read now) (literal (pos time.period)) (pos t) time.period
+        (subst (Gives functions reads line (read now)) is (gives_read functions reads line now))
         (gives_literal functions reads line (pos time.period)) some (omega (arith, div-le_self t time.period, small)))
         (gives_literal functions reads line (pos time.offset)))
 
@@ -182,20 +212,26 @@ module _ (leaves : ControlLeaves) where
   third_of : (j k l : Leaf) (ls : List Leaf) → Contains (j ∷ k ∷ l ∷ ls) l
   third_of j k l ls = (2, omega arith, refl)
 
-  event_plain : (e : Edge) (given : List Leaf) → Contains given leaves.trigger → Contains given leaves.remembers → TestsOnly (Contains given) (event_test e leaves) × (cond_depth (event_test e leaves) ≤ 9)
+  event_plain : (e : Edge) (given : List Leaf) → Contains given leaves.trigger → Contains given leaves.remembers →
+      TestsOnly (Contains given) (event_test e leaves) × (cond_depth (event_test e leaves) ≤ 9)
   event_plain Rising given h k = (((k, tt), (h, tt)), omega arith)
   event_plain Falling given h k = (((k, tt), (h, tt)), omega arith)
   event_plain Either given h k = ((((k, tt), (h, tt)), ((k, tt), (h, tt))), omega arith)
 
   trigger_plain : (e : Edge) → IsPlainTest (leaves.trigger ∷ leaves.remembers ∷ []) (active_by (Triggered e) leaves)
   trigger_plain e =
-      let event = event_plain e (leaves.trigger ∷ leaves.remembers ∷ []) (first_of leaves.trigger (leaves.remembers ∷ [])) (second_of leaves.trigger leaves.remembers []) in
+      let event =
+      event_plain e (leaves.trigger ∷ leaves.remembers ∷ []) (first_of leaves.trigger (leaves.remembers ∷ []))
+      (second_of leaves.trigger leaves.remembers []) in
       (event.0, omega (arith, event.1))
 
-  both_plain : (reset : Bool) (e : Edge) → IsPlainTest (leaves.enable ∷ leaves.trigger ∷ leaves.remembers ∷ []) (active_by (Both reset e) leaves)
+  both_plain : (reset : Bool) (e : Edge) →
+      IsPlainTest (leaves.enable ∷ leaves.trigger ∷ leaves.remembers ∷ []) (active_by (Both reset e) leaves)
   both_plain reset e =
       let given = leaves.enable ∷ leaves.trigger ∷ leaves.remembers ∷ [] in
-      let event = event_plain e given (second_of leaves.enable leaves.trigger (leaves.remembers ∷ [])) (third_of leaves.enable leaves.trigger leaves.remembers []) in
+      let event =
+      event_plain e given (second_of leaves.enable leaves.trigger (leaves.remembers ∷ []))
+      (third_of leaves.enable leaves.trigger leaves.remembers []) in
       (((first_of leaves.enable (leaves.trigger ∷ leaves.remembers ∷ []), tt), event.0), omega (arith, event.1))
 
   active_plain : (control : Control) → IsPlainTest (control_leaves control leaves) (active_by control leaves)
@@ -221,7 +257,10 @@ module _ (leaves : ControlLeaves) where
 hit_plain : (time : Time) (now : Leaf) → IsPlainTest (now ∷ []) (hit_test time now)
 hit_plain time now = by (time.period == 1)
   where
-    by : (b : Bool) → IsPlainTest (now ∷ []) (if b then None else Some (compare Eq (binary Rem (read now) (literal (pos time.period))) (literal (pos time.offset))))
+    by : (b : Bool) →
+        IsPlainTest (now ∷ [])
+        (if b then None
+        else Some (compare Eq (binary Rem (read now) (literal (pos time.period))) (literal (pos time.offset))))
     by true = tt
     by false = ((((0, omega arith, refl), tt), tt), omega arith)
 

@@ -30,13 +30,15 @@ module _ (stays : ValuesStayInType) (narrow_fit : NarrowRowsFit) where
   one_in : (t : FixType) → InType t (pos 1)
   one_in t = stays (kind.Logic Nor 0) [] t false [] (pos 0) tt
 
-  gain_small : (gain : GainText) (how : How) (t : FixType) (ts : List FixType) (out : FixType) → length (t ∷ ts) ≡ 1 → wide_bits (kind.Gain gain how) (t ∷ ts) out ≤ 62 → unsigned_abs (gain_of gain).0 < 2 ^ 63
+  gain_small : (gain : GainText) (how : How) (t : FixType) (ts : List FixType) (out : FixType) → length (t ∷ ts) ≡ 1 →
+      wide_bits (kind.Gain gain how) (t ∷ ts) out ≤ 62 → unsigned_abs (gain_of gain).0 < 2 ^ 63
   gain_small gain how t [] out has narrow =
       let fits = narrow_fit (kind.Gain gain how) (t ∷ []) out false (pos 1 ∷ []) refl (one_in t, tt) narrow in
       omega (arith, small_number (1 * unsigned_abs (gain_of gain).0) (t.frac + (gain_of gain).1) out fits)
   gain_small gain how t (u ∷ ts) out has narrow = absurd (omega (arith, has))
 
-  pub gain_small_of : (gain : GainText) (how : How) (ts : List FixType) (out : FixType) → length ts ≡ 1 → wide_bits (kind.Gain gain how) ts out ≤ 62 → unsigned_abs (gain_of gain).0 < 2 ^ 63
+  pub gain_small_of : (gain : GainText) (how : How) (ts : List FixType) (out : FixType) → length ts ≡ 1 →
+      wide_bits (kind.Gain gain how) ts out ≤ 62 → unsigned_abs (gain_of gain).0 < 2 ^ 63
   gain_small_of gain how [] out has narrow = absurd (omega (arith, has))
   gain_small_of gain how (t ∷ ts) out has narrow = gain_small gain how t ts out has narrow
 
@@ -75,22 +77,33 @@ few_bits bits F out h = let part = le-max_right (bits + (out.frac - F)) (F - out
 
 -- ---- All kinds
 
-by_kind : ValuesStayInType → NarrowRowsFit → (k : Kind) (ts : List FixType) (out : FixType) (delays : Bool) → IsWithinLimits k → HasInputTypes k ts → wide_bits k ts out ≤ 62 → IsWritable (op_of k ts out delays)
+by_kind : ValuesStayInType → NarrowRowsFit → (k : Kind) (ts : List FixType) (out : FixType) (delays : Bool) →
+    IsWithinLimits k → HasInputTypes k ts → wide_bits k ts out ≤ 62 → IsWritable (op_of k ts out delays)
 by_kind stays narrow_fit (kind.Inport port) ts out delays limits has narrow = tt
 by_kind stays narrow_fit (kind.Outport port reset initial) ts out delays limits has narrow = tt
 by_kind stays narrow_fit (kind.SubSystem control) ts out delays limits has narrow = tt
 by_kind stays narrow_fit (kind.Constant value) ts out delays limits has narrow = constant_small stays narrow_fit value out
 by_kind stays narrow_fit kind.Ground ts out delays limits has narrow = omega arith
 by_kind stays narrow_fit kind.Terminator ts out delays limits has narrow = tt
-by_kind stays narrow_fit (kind.Gain gain how) ts out delays limits has narrow =
-    (gain_small_of stays narrow_fit gain how ts out has narrow, few_bits (magnitude_bits (input_type ts 0) + power_bits (unsigned_abs (gain_of gain).0)) ((input_type ts 0).frac + (gain_of gain).1) out narrow)
-by_kind stays narrow_fit (kind.Sum count minus how) ts out delays limits has narrow = (limits.1, subst (λ fs. greatest_in fs ≤ 31) (sym (first_fracs ts count has)) (fracs-le ts 0 (omega arith)))
-by_kind stays narrow_fit (kind.Product count how) ts out delays limits has narrow = few_bits (sum (map magnitude_bits ts)) (sum (map (λ t. t.frac) ts)) out narrow
+by_kind stays narrow_fit (kind.Gain gain how) ts out delays limits has narrow = (
+  gain_small_of stays narrow_fit gain how ts out has narrow,
+  few_bits (magnitude_bits (input_type ts 0) + power_bits (unsigned_abs (gain_of gain).0))
+      ((input_type ts 0).frac + (gain_of gain).1) out narrow,
+)
+by_kind stays narrow_fit (kind.Sum count minus how) ts out delays limits has narrow =
+    (limits.1, subst (λ fs. greatest_in fs ≤ 31) (sym (first_fracs ts count has)) (fracs-le ts 0 (omega arith)))
+by_kind stays narrow_fit (kind.Product count how) ts out delays limits has narrow =
+    few_bits (sum (map magnitude_bits ts)) (sum (map (λ t. t.frac) ts)) out narrow
 by_kind stays narrow_fit (kind.UnitDelay initial) ts out delays limits has narrow = tt
 by_kind stays narrow_fit (kind.Delay samples initial) ts out delays limits has narrow = constant_small stays narrow_fit initial out
 by_kind stays narrow_fit kind.ZeroOrderHold ts out delays limits has narrow = tt
-by_kind stays narrow_fit (kind.Switch criterion threshold how) ts out delays limits has narrow = (constant_small stays narrow_fit threshold (input_type ts 1), (input_type ts 0).in_profile.2, (input_type ts 2).in_profile.2)
-by_kind stays narrow_fit (kind.Relational how) ts out delays limits has narrow = max-le (max-le (omega arith) (input_type ts 0).in_profile.2) (input_type ts 1).in_profile.2
+by_kind stays narrow_fit (kind.Switch criterion threshold how) ts out delays limits has narrow = (
+  constant_small stays narrow_fit threshold (input_type ts 1),
+  (input_type ts 0).in_profile.2,
+  (input_type ts 2).in_profile.2,
+)
+by_kind stays narrow_fit (kind.Relational how) ts out delays limits has narrow =
+    max-le (max-le (omega arith) (input_type ts 0).in_profile.2) (input_type ts 1).in_profile.2
 by_kind stays narrow_fit (kind.Logic o count) ts out delays limits has narrow = tt
 by_kind stays narrow_fit (kind.Convert how) ts out delays limits has narrow = (input_type ts 0).in_profile.2
 by_kind stays narrow_fit (kind.RateTransition initial time) ts out true limits has narrow = tt

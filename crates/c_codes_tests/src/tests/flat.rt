@@ -32,7 +32,8 @@ fn root_of(r: &Resolved) -> &Subsystem
 fn flat_root(r: &Resolved) -> Result<&Subsystem, Fail>
     ensures system { IfOk result (λ s. Agrees r.now.tree.table.rows (system_of s.now)) }
     ensures root { IfOk result (λ s. row_of (system_of s.now) ≡ None) }
-    ensures leaf { IfOk result (λ s. map Some (subsystems_of r.now.tree.table.rows (row_of (system_of s.now))) ≡ []) }
+    ensures leaf { IfOk result
+        (λ s. map Some (subsystems_of r.now.tree.table.rows (row_of (system_of s.now))) ≡ []) }
 {
     let root = root_of(r);
     if !root.children.is_empty() {

@@ -24,13 +24,18 @@ pub and_second : (a b : Bool) → (a && b) ≡ true → b ≡ true
 and_second true b e = e
 and_second false b e = cc
 
-all-append : (d : ℕ) (ds : List ℕ) → list_all is_ascii_digit ds ≡ true → is_ascii_digit d ≡ true → list_all is_ascii_digit (ds ++ d ∷ []) ≡ true
+all-append : (d : ℕ) (ds : List ℕ) → list_all is_ascii_digit ds ≡ true → is_ascii_digit d ≡ true →
+    list_all is_ascii_digit (ds ++ d ∷ []) ≡ true
 all-append d [] h k = and_both (is_ascii_digit d) true k refl
 all-append d (c ∷ ds) h k =
-    and_both (is_ascii_digit c) (list_all is_ascii_digit (ds ++ d ∷ [])) (and_first (is_ascii_digit c) (list_all is_ascii_digit ds) h) (all-append d ds (and_second (is_ascii_digit c) (list_all is_ascii_digit ds) h) k)
+    and_both (is_ascii_digit c) (list_all is_ascii_digit (ds ++ d ∷ []))
+    (and_first (is_ascii_digit c) (list_all is_ascii_digit ds) h)
+    (all-append d ds (and_second (is_ascii_digit c) (list_all is_ascii_digit ds) h) k)
 
 digit-true : (n : ℕ) → n < 10 → is_ascii_digit (48 + n) ≡ true
-digit-true n h = and_both (nat_le 48 (48 + n)) (nat_le (48 + n) 57) (le-leb 48 (48 + n) (omega arith)) (le-leb (48 + n) 57 (omega (arith, h)))
+digit-true n h =
+    and_both (nat_le 48 (48 + n)) (nat_le (48 + n) 57) (le-leb 48 (48 + n) (omega arith))
+    (le-leb (48 + n) 57 (omega (arith, h)))
 
 -- no digit 0 stands first
 pub no_zero : List ℕ → Bool
@@ -51,7 +56,12 @@ not-eq a b h = by (a == b) refl
 
 one : (n : ℕ) → n < 10 → IsNumeralOf n ((48 + n) ∷ [])
 unfolding no_zero
-one n h = record { all = and_both (is_ascii_digit (48 + n)) true (digit-true n h) refl; value = omega arith; first = λ some. not-eq (48 + n) 48 (omega (arith, some)) }
+one n h =
+    record {
+      all = and_both (is_ascii_digit (48 + n)) true (digit-true n h) refl;
+      value = omega arith;
+      first = λ some. not-eq (48 + n) 48 (omega (arith, some));
+    }
 
 no_zero-append : (ds es : List ℕ) → no_zero ds ≡ true → no_zero (ds ++ es) ≡ true
 unfolding no_zero
@@ -78,7 +88,9 @@ or_second false b e = e
 
 zero_or : (n d : ℕ) (ds : List ℕ) → (d ∷ ds) ≡ decimal n → IsNumeralOf n (d ∷ ds) → (bytes_eq (d ∷ ds) (codes "0") || not (d == 48)) ≡ true
 unfolding no_zero
-zero_or zero d ds e k = or_first (bytes_eq (d ∷ ds) (codes "0")) (not (d == 48)) ((bytes_eq-Decides (d ∷ ds) (codes "0")).1 (e ∙ decimal_digit 0 (omega arith)))
+zero_or zero d ds e k =
+    or_first (bytes_eq (d ∷ ds) (codes "0")) (not (d == 48))
+    ((bytes_eq-Decides (d ∷ ds) (codes "0")).1 (e ∙ decimal_digit 0 (omega arith)))
 zero_or (suc n) d ds e k = or_second (bytes_eq (d ∷ ds) (codes "0")) (not (d == 48)) (k.first (omega arith))
 
 literal : (n : ℕ) (ds : List ℕ) → n < 2 ^ 63 → ds ≡ decimal n → IsNumeralOf n ds → is_literal ds ≡ true
@@ -87,7 +99,10 @@ literal n [] small e k = nothing (e ∙ ap decimal (sym k.value) ∙ decimal_dig
     nothing : ◌≡◌ {A = List ℕ} [] (48 ∷ []) → false ≡ true
     nothing d = cc
 literal n (d ∷ ds) small e k =
-    and_both (list_all is_ascii_digit (d ∷ ds) && (bytes_eq (d ∷ ds) (codes "0") || not (d == 48))) (nat_lt (digits_value 0 (d ∷ ds)) (2 ^ 63)) (and_both (list_all is_ascii_digit (d ∷ ds)) (bytes_eq (d ∷ ds) (codes "0") || not (d == 48)) k.all (zero_or n d ds e k)) (ap (λ v. nat_lt v (2 ^ 63)) k.value ∙ le-leb (suc n) (2 ^ 63) small)
+    and_both (list_all is_ascii_digit (d ∷ ds) && (bytes_eq (d ∷ ds) (codes "0") || not (d == 48)))
+    (nat_lt (digits_value 0 (d ∷ ds)) (2 ^ 63))
+    (and_both (list_all is_ascii_digit (d ∷ ds)) (bytes_eq (d ∷ ds) (codes "0") || not (d == 48)) k.all
+    (zero_or n d ds e k)) (ap (λ v. nat_lt v (2 ^ 63)) k.value ∙ le-leb (suc n) (2 ^ 63) small)
 
 -- what the grammar takes as a literal, the needs take as one
 pub literals-agree : LiteralsAgree

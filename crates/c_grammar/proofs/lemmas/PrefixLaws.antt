@@ -35,10 +35,12 @@ word-front text (t ∷ tokens) rest h = by (bytes_eq t.text text) refl h
     by false e k = cc
 
 -- the two parts of one spelling and then another
-pub seq-parts : (a b : Spelling) (tokens rest : List Token) → (a ⨾ b) tokens ≡ Some rest → (mid : List Token) × (a tokens ≡ Some mid) × (b mid ≡ Some rest)
+pub seq-parts : (a b : Spelling) (tokens rest : List Token) → (a ⨾ b) tokens ≡ Some rest →
+    (mid : List Token) × (a tokens ≡ Some mid) × (b mid ≡ Some rest)
 seq-parts a b tokens rest h = by (a tokens) refl h
   where
-    by : (o : Option (List Token)) → a tokens ≡ o → option_and_then b o ≡ Some rest → (mid : List Token) × (a tokens ≡ Some mid) × (b mid ≡ Some rest)
+    by : (o : Option (List Token)) → a tokens ≡ o → option_and_then b o ≡ Some rest →
+        (mid : List Token) × (a tokens ≡ Some mid) × (b mid ≡ Some rest)
     by (Some mid) e k = (mid, e, k)
     by None e k = cc
 
@@ -50,10 +52,12 @@ at_line-inner line a (t ∷ tokens) rest h = by (t.line == line) h
     by true k = k
     by false k = cc
 
-pub name_word-inner : (name : List ℕ) (tokens rest : List Token) → name_word name tokens ≡ Some rest → (is_name name ≡ true) × (word name tokens ≡ Some rest)
+pub name_word-inner : (name : List ℕ) (tokens rest : List Token) → name_word name tokens ≡ Some rest →
+    (is_name name ≡ true) × (word name tokens ≡ Some rest)
 name_word-inner name tokens rest h = by (is_name name) refl h
   where
-    by : (b : Bool) → is_name name ≡ b → (if b then word name else never) tokens ≡ Some rest → (is_name name ≡ true) × (word name tokens ≡ Some rest)
+    by : (b : Bool) → is_name name ≡ b → (if b then word name else never) tokens ≡ Some rest →
+        (is_name name ≡ true) × (word name tokens ≡ Some rest)
     by true e k = (e, k)
     by false e k = cc
 
@@ -67,24 +71,44 @@ not_word name other h k = by (bytes_eq name other) refl
         let same : is_name name ≡ is_name other = ap is_name ((bytes_eq-Decides name other).0 e) in
         cc (sym h ∙ same ∙ k)
 
-pub limited : (b : Bool) (needs more : List Need) → with_needs (if b then leaves needs else too_deep) more ≡ (if b then leaves (needs ++ more) else too_deep)
+pub limited : (b : Bool) (needs more : List Need) →
+    with_needs (if b then leaves needs else too_deep) more ≡ (if b then leaves (needs ++ more) else too_deep)
 limited true needs more = refl
 limited false needs more = refl
 
-pub operand-number : (role : Role) (d : ℕ) (more : List Need) → allows role expression ≡ true → step_needs (operand_need role d ∷ more) (codes "INT64_C") ≡ (if nat_le d expr_limit then leaves (text_need (codes "(") ∷ literal_need ∷ text_need (codes ")") ∷ (follow expression role d ++ more)) else too_deep)
-operand-number (as_kind expression) d more h = limited (nat_le d expr_limit) (text_need (codes "(") ∷ literal_need ∷ text_need (codes ")") ∷ []) more
+pub operand-number : (role : Role) (d : ℕ) (more : List Need) → allows role expression ≡ true →
+    step_needs (operand_need role d ∷ more) (codes "INT64_C")
+    ≡ (if nat_le d expr_limit
+    then leaves (text_need (codes "(") ∷ literal_need ∷ text_need (codes ")") ∷ (follow expression role d ++ more))
+    else too_deep)
+operand-number (as_kind expression) d more h =
+    limited (nat_le d expr_limit) (text_need (codes "(") ∷ literal_need ∷ text_need (codes ")") ∷ []) more
 operand-number (as_kind condition) d more h = cc
-operand-number (as_first outer) d more h = limited (nat_le d expr_limit) (text_need (codes "(") ∷ literal_need ∷ text_need (codes ")") ∷ joint_need expression outer d ∷ []) more
+operand-number (as_first outer) d more h =
+    limited (nat_le d expr_limit) (text_need (codes "(") ∷ literal_need ∷ text_need (codes ")")
+    ∷ joint_need expression outer d ∷ []) more
 
-pub operand-paren : (role : Role) (d : ℕ) (more : List Need) → step_needs (operand_need role d ∷ more) (codes "(") ≡ (if nat_le d expr_limit then leaves (inside_need role d ∷ more) else too_deep)
+pub operand-paren : (role : Role) (d : ℕ) (more : List Need) →
+    step_needs (operand_need role d ∷ more) (codes "(")
+    ≡ (if nat_le d expr_limit then leaves (inside_need role d ∷ more) else too_deep)
 operand-paren (as_kind expression) d more = limited (nat_le d expr_limit) (inside_need (as_kind expression) d ∷ []) more
 operand-paren (as_kind condition) d more = limited (nat_le d expr_limit) (inside_need (as_kind condition) d ∷ []) more
 operand-paren (as_first outer) d more = limited (nat_le d expr_limit) (inside_need (as_first outer) d ∷ []) more
 
-pub operand-name : (role : Role) (d : ℕ) (more : List Need) (name : List ℕ) → is_name name ≡ true → allows role expression ≡ true → step_needs (operand_need role d ∷ more) name ≡ (if nat_le d expr_limit then leaves (text_need (codes "(") ∷ expr_need (d + 1) ∷ values_need (d + 1) ∷ (follow expression role d ++ more)) else too_deep)
-operand-name (as_kind expression) d more name n h = rw (not_word name (codes "INT64_C") n refl, n) (limited (nat_le d expr_limit) (text_need (codes "(") ∷ expr_need (d + 1) ∷ values_need (d + 1) ∷ []) more)
+pub operand-name : (role : Role) (d : ℕ) (more : List Need) (name : List ℕ) → is_name name ≡ true →
+    allows role expression ≡ true →
+    step_needs (operand_need role d ∷ more) name
+    ≡ (if nat_le d expr_limit
+    then leaves (text_need (codes "(") ∷ expr_need (d + 1) ∷ values_need (d + 1) ∷ (follow expression role d ++ more))
+    else too_deep)
+operand-name (as_kind expression) d more name n h =
+    rw (not_word name (codes "INT64_C") n refl, n)
+    (limited (nat_le d expr_limit) (text_need (codes "(") ∷ expr_need (d + 1) ∷ values_need (d + 1) ∷ []) more)
 operand-name (as_kind condition) d more name n h = cc
-operand-name (as_first outer) d more name n h = rw (not_word name (codes "INT64_C") n refl, n) (limited (nat_le d expr_limit) (text_need (codes "(") ∷ expr_need (d + 1) ∷ values_need (d + 1) ∷ joint_need expression outer d ∷ []) more)
+operand-name (as_first outer) d more name n h =
+    rw (not_word name (codes "INT64_C") n refl, n)
+    (limited (nat_le d expr_limit) (text_need (codes "(") ∷ expr_need (d + 1) ∷ values_need (d + 1)
+    ∷ joint_need expression outer d ∷ []) more)
 
 -- a text that opens an expression or a condition
 pub data Opener (text : List ℕ) : Type 0 where
@@ -92,14 +116,21 @@ pub data Opener (text : List ℕ) : Type 0 where
   by_paren : text ≡ codes "(" → Opener text
   by_name : is_name text ≡ true → Opener text
 
-pub inside-opener : (role : Role) (d : ℕ) (more : List Need) (text : List ℕ) → Opener text → step_needs (inside_need role d ∷ more) text ≡ step_needs (operand_need (as_first role) (d + 1) ∷ more) text
-inside-opener role d more text (by_number e) = subst (λ x. step_needs (inside_need role d ∷ more) x ≡ step_needs (operand_need (as_first role) (d + 1) ∷ more) x) (sym e) (number role)
+pub inside-opener : (role : Role) (d : ℕ) (more : List Need) (text : List ℕ) → Opener text →
+    step_needs (inside_need role d ∷ more) text ≡ step_needs (operand_need (as_first role) (d + 1) ∷ more) text
+inside-opener role d more text (by_number e) =
+    subst (λ x. step_needs (inside_need role d ∷ more) x ≡ step_needs (operand_need (as_first role) (d + 1) ∷ more) x)
+    (sym e) (number role)
   where
-    number : (r : Role) → step_needs (inside_need r d ∷ more) (codes "INT64_C") ≡ step_needs (operand_need (as_first r) (d + 1) ∷ more) (codes "INT64_C")
+    number : (r : Role) →
+        step_needs (inside_need r d ∷ more) (codes "INT64_C")
+        ≡ step_needs (operand_need (as_first r) (d + 1) ∷ more) (codes "INT64_C")
     number (as_kind expression) = refl
     number (as_kind condition) = refl
     number (as_first outer) = refl
-inside-opener role d more text (by_paren e) = subst (λ x. step_needs (inside_need role d ∷ more) x ≡ step_needs (operand_need (as_first role) (d + 1) ∷ more) x) (sym e) (paren role)
+inside-opener role d more text (by_paren e) =
+    subst (λ x. step_needs (inside_need role d ∷ more) x ≡ step_needs (operand_need (as_first role) (d + 1) ∷ more) x)
+    (sym e) (paren role)
   where
     paren : (r : Role) → step_needs (inside_need r d ∷ more) (codes "(") ≡ step_needs (operand_need (as_first r) (d + 1) ∷ more) (codes "(")
     paren (as_kind expression) = refl
@@ -110,7 +141,9 @@ inside-opener role d more text (by_name n) = name role
     name : (r : Role) → step_needs (inside_need r d ∷ more) text ≡ step_needs (operand_need (as_first r) (d + 1) ∷ more) text
     name (as_kind expression) = rw (not_word text (codes "-") n refl, not_word text (codes "int64_t") n refl) refl
     name (as_kind condition) = rw (not_word text (codes "!") n refl) refl
-    name (as_first outer) = rw (not_word text (codes "-") n refl, not_word text (codes "!") n refl, not_word text (codes "int64_t") n refl) refl
+    name (as_first outer) =
+        rw (not_word text (codes "-") n refl, not_word text (codes "!") n refl, not_word text (codes "int64_t") n refl)
+        refl
 
 -- the first token of an expression or a condition
 pub record Opens (tokens : List Token) : Type 0 where
@@ -138,7 +171,9 @@ expr-opens (read line leaf) tokens rest h =
     let p : _ = seq-parts (in_parens (word (codes "int64_t"))) (at_line line (leaf_spelling leaf)) tokens rest h in
     parens-opens (word (codes "int64_t")) tokens p.0 p.1
 expr-opens (binary op a b) tokens rest h = parens-opens (expr_spelling a ⨾ word (op_text op) ⨾ expr_spelling b) tokens rest h
-expr-opens (pick test a b) tokens rest h = parens-opens (cond_spelling test ⨾ word (codes "?") ⨾ expr_spelling a ⨾ word (codes ":") ⨾ expr_spelling b) tokens rest h
+expr-opens (pick test a b) tokens rest h =
+    parens-opens (cond_spelling test ⨾ word (codes "?") ⨾ expr_spelling a ⨾ word (codes ":") ⨾ expr_spelling b) tokens
+    rest h
 expr-opens (pure line function values) tokens rest h =
     let p : _ = seq-parts (at_line line (name_word function)) (in_parens (exprs_spelling values)) tokens rest h in
     let n : _ = name_word-inner function tokens p.0 (at_line-inner line (name_word function) tokens p.0 p.1) in
@@ -154,7 +189,9 @@ cond-opens (both a b) tokens rest h = parens-opens (cond_spelling a ⨾ word (co
 cond-opens (either a b) tokens rest h = parens-opens (cond_spelling a ⨾ word (codes "||") ⨾ cond_spelling b) tokens rest h
 cond-opens (negated a) tokens rest h = parens-opens (word (codes "!") ⨾ cond_spelling a) tokens rest h
 
-pub joint-op : (op : BinOp) (role : Role) (d : ℕ) (more : List Need) → allows role expression ≡ true → step_needs (joint_need expression role d ∷ more) (op_text op) ≡ leaves (expr_need d ∷ text_need (codes ")") ∷ (follow expression role (d - 1) ++ more))
+pub joint-op : (op : BinOp) (role : Role) (d : ℕ) (more : List Need) → allows role expression ≡ true →
+    step_needs (joint_need expression role d ∷ more) (op_text op)
+    ≡ leaves (expr_need d ∷ text_need (codes ")") ∷ (follow expression role (d - 1) ++ more))
 joint-op op (as_kind condition) d more h = cc
 joint-op Add (as_kind expression) d more h = refl
 joint-op Sub (as_kind expression) d more h = refl
@@ -167,7 +204,9 @@ joint-op Mul (as_first outer) d more h = refl
 joint-op Div (as_first outer) d more h = refl
 joint-op Rem (as_first outer) d more h = refl
 
-pub joint-compare : (how : Compare) (role : Role) (d : ℕ) (more : List Need) → allows role condition ≡ true → step_needs (joint_need expression role d ∷ more) (compare_text how) ≡ leaves (expr_need d ∷ text_need (codes ")") ∷ (follow condition role (d - 1) ++ more))
+pub joint-compare : (how : Compare) (role : Role) (d : ℕ) (more : List Need) → allows role condition ≡ true →
+    step_needs (joint_need expression role d ∷ more) (compare_text how)
+    ≡ leaves (expr_need d ∷ text_need (codes ")") ∷ (follow condition role (d - 1) ++ more))
 joint-compare how (as_kind expression) d more h = cc
 joint-compare Eq (as_kind condition) d more h = refl
 joint-compare Ne (as_kind condition) d more h = refl
@@ -182,22 +221,32 @@ joint-compare Le (as_first outer) d more h = refl
 joint-compare Ge (as_first outer) d more h = refl
 joint-compare Gt (as_first outer) d more h = refl
 
-pub joint-connective : (text : List ℕ) → is_connective text ≡ true → (role : Role) (d : ℕ) (more : List Need) → allows role condition ≡ true → step_needs (joint_need condition role d ∷ more) text ≡ leaves (cond_need d ∷ text_need (codes ")") ∷ (follow condition role (d - 1) ++ more))
+pub joint-connective : (text : List ℕ) → is_connective text ≡ true → (role : Role) (d : ℕ) (more : List Need) →
+    allows role condition ≡ true →
+    step_needs (joint_need condition role d ∷ more) text
+    ≡ leaves (cond_need d ∷ text_need (codes ")") ∷ (follow condition role (d - 1) ++ more))
 joint-connective text c (as_kind expression) d more h = cc
 joint-connective text c (as_kind condition) d more h = rw c refl
 joint-connective text c (as_first outer) d more h = rw c refl
 
-pub joint-question : (role : Role) (d : ℕ) (more : List Need) → allows role expression ≡ true → step_needs (joint_need condition role d ∷ more) (codes "?") ≡ leaves (expr_need d ∷ text_need (codes ":") ∷ expr_need d ∷ text_need (codes ")") ∷ (follow expression role (d - 1) ++ more))
+pub joint-question : (role : Role) (d : ℕ) (more : List Need) → allows role expression ≡ true →
+    step_needs (joint_need condition role d ∷ more) (codes "?")
+    ≡ leaves (expr_need d ∷ text_need (codes ":") ∷ expr_need d ∷ text_need (codes ")")
+    ∷ (follow expression role (d - 1) ++ more))
 joint-question (as_kind expression) d more h = refl
 joint-question (as_kind condition) d more h = cc
 joint-question (as_first outer) d more h = refl
 
-pub inside-minus : (role : Role) (d : ℕ) (more : List Need) → allows role expression ≡ true → step_needs (inside_need role d ∷ more) (codes "-") ≡ leaves (expr_need (d + 1) ∷ text_need (codes ")") ∷ (follow expression role d ++ more))
+pub inside-minus : (role : Role) (d : ℕ) (more : List Need) → allows role expression ≡ true →
+    step_needs (inside_need role d ∷ more) (codes "-")
+    ≡ leaves (expr_need (d + 1) ∷ text_need (codes ")") ∷ (follow expression role d ++ more))
 inside-minus (as_kind expression) d more h = refl
 inside-minus (as_kind condition) d more h = cc
 inside-minus (as_first outer) d more h = refl
 
-pub inside-not : (role : Role) (d : ℕ) (more : List Need) → allows role condition ≡ true → step_needs (inside_need role d ∷ more) (codes "!") ≡ leaves (cond_need (d + 1) ∷ text_need (codes ")") ∷ (follow condition role d ++ more))
+pub inside-not : (role : Role) (d : ℕ) (more : List Need) → allows role condition ≡ true →
+    step_needs (inside_need role d ∷ more) (codes "!")
+    ≡ leaves (cond_need (d + 1) ∷ text_need (codes ")") ∷ (follow condition role d ++ more))
 inside-not (as_kind expression) d more h = cc
 inside-not (as_kind condition) d more h = refl
 inside-not (as_first outer) d more h = refl
@@ -278,7 +327,8 @@ pub one_less : (d : ℕ) → d + 1 - 1 ≡ d
 one_less d = omega arith
 
 -- further arguments are followed by `,` or `)`
-pub values-firm : (es : WrittenExprs) (tokens mid rest : List Token) → more_exprs_spelling es tokens ≡ Some mid → word (codes ")") mid ≡ Some rest → Firm tokens
+pub values-firm : (es : WrittenExprs) (tokens mid rest : List Token) → more_exprs_spelling es tokens ≡ Some mid →
+    word (codes ")") mid ≡ Some rest → Firm tokens
 values-firm no_exprs tokens mid rest h k = subst Firm (sym (some_same tokens mid h)) (word-firm (codes ")") mid rest refl k)
 values-firm (more_exprs e es) tokens mid rest h k =
     let p : _ = seq-parts (word (codes ",")) (expr_spelling e ⨾ more_exprs_spelling es) tokens mid h in

@@ -14,11 +14,15 @@ pub record Shrinks (a : Spelling) : Type 0 where
 infixr 25 ◌▹◌
 pub ◌▹◌ : {a b : Spelling} → Shrinks a → Shrinks b → Shrinks (a ⨾ b)
 ◌▹◌ {a} {b} first second = record {
-  by = λ tokens rest h. let p : _ = seq-parts a b tokens rest h in let one : length p.0 ≤ length tokens = first.by tokens p.0 p.1 in let two : length rest ≤ length p.0 = second.by p.0 rest p.2 in omega arith;
+  by = λ tokens rest h. let p : _ = seq-parts a b tokens rest h in let one : length p.0 ≤ length tokens =
+      first.by tokens p.0 p.1 in let two : length rest ≤ length p.0 = second.by p.0 rest p.2 in omega arith;
 }
 
 pub word-shrinks : (text : List ℕ) → Shrinks (word text)
-word-shrinks text = record { by = λ tokens rest h. let f : Front text tokens rest = word-front text tokens rest h in rw f.list (omega arith) }
+word-shrinks text = record {
+  by = λ tokens rest h. let f : Front text tokens rest = word-front text tokens rest h in
+      rw f.list (omega arith);
+}
 
 pub line-shrinks : {a : Spelling} (line : ℕ) → Shrinks a → Shrinks (at_line line a)
 line-shrinks {a} line inner = record { by = λ tokens rest h. inner.by tokens rest (at_line-inner line a tokens rest h) }
@@ -61,7 +65,9 @@ own-shrinks field = word-shrinks (codes "s") ▹ word-shrinks (codes "->") ▹ n
 pub leaf-shrinks : (leaf : WrittenLeaf) → Shrinks (leaf_spelling leaf)
 leaf-shrinks (param name) = name-shrinks name
 leaf-shrinks (own field) = own-shrinks field
-leaf-shrinks (child field inner) = word-shrinks (codes "s") ▹ word-shrinks (codes "->") ▹ name-shrinks field ▹ word-shrinks (codes ".") ▹ name-shrinks inner
+leaf-shrinks (child field inner) =
+    word-shrinks (codes "s") ▹ word-shrinks (codes "->") ▹ name-shrinks field ▹ word-shrinks
+    (codes ".") ▹ name-shrinks inner
 
 mutual
   pub expr-shrinks : (e : WrittenExpr) → Shrinks (expr_spelling e)
@@ -69,7 +75,9 @@ mutual
   expr-shrinks (neg e) = parens-shrink (word-shrinks (codes "-") ▹ expr-shrinks e)
   expr-shrinks (read line leaf) = parens-shrink (word-shrinks (codes "int64_t")) ▹ line-shrinks line (leaf-shrinks leaf)
   expr-shrinks (binary op a b) = parens-shrink (expr-shrinks a ▹ word-shrinks (op_text op) ▹ expr-shrinks b)
-  expr-shrinks (pick c a b) = parens-shrink (cond-shrinks c ▹ word-shrinks (codes "?") ▹ expr-shrinks a ▹ word-shrinks (codes ":") ▹ expr-shrinks b)
+  expr-shrinks (pick c a b) =
+      parens-shrink
+      (cond-shrinks c ▹ word-shrinks (codes "?") ▹ expr-shrinks a ▹ word-shrinks (codes ":") ▹ expr-shrinks b)
   expr-shrinks (pure line name es) = line-shrinks line (name-shrinks name) ▹ parens-shrink (exprs-shrink es)
   expr-shrinks (item line field index) = parens-shrink (word-shrinks (codes "int64_t")) ▹ line-shrinks line (own-shrinks field)
       ▹ brackets-shrink (expr-shrinks index)
@@ -101,12 +109,19 @@ arguments-shrink (more_arguments cast e rest) = word-shrinks (codes ",") ▹ cas
 
 mutual
   pub stmt-shrinks : (s : WrittenStmt) → Shrinks (stmt_spelling s)
-  stmt-shrinks (assign line field cast value) = line-shrinks line (word-shrinks (codes "s")) ▹ word-shrinks (codes "->") ▹ name-shrinks field ▹ word-shrinks (codes "=") ▹ cast-shrinks cast ▹ expr-shrinks value ▹ word-shrinks (codes ";")
+  stmt-shrinks (assign line field cast value) =
+      line-shrinks line (word-shrinks (codes "s")) ▹ word-shrinks (codes "->") ▹ name-shrinks field ▹ word-shrinks
+      (codes "=") ▹ cast-shrinks cast ▹ expr-shrinks value ▹ word-shrinks (codes ";")
   stmt-shrinks (assign_at line field index cast value) = line-shrinks line (own-shrinks field) ▹ brackets-shrink (expr-shrinks index)
       ▹ word-shrinks (codes "=") ▹ cast-shrinks cast ▹ expr-shrinks value ▹ word-shrinks (codes ";")
-  stmt-shrinks (branch line test on_true) = line-shrinks line (word-shrinks (codes "if")) ▹ cond-shrinks test ▹ braces-shrink (stmts-shrink on_true)
-  stmt-shrinks (branch_else line test on_true on_false) = line-shrinks line (word-shrinks (codes "if")) ▹ cond-shrinks test ▹ braces-shrink (stmts-shrink on_true) ▹ word-shrinks (codes "else") ▹ braces-shrink (stmts-shrink on_false)
-  stmt-shrinks (call line procedure target values) = line-shrinks line (name-shrinks procedure) ▹ parens-shrink (target-shrinks target ▹ arguments-shrink values) ▹ word-shrinks (codes ";")
+  stmt-shrinks (branch line test on_true) =
+      line-shrinks line (word-shrinks (codes "if")) ▹ cond-shrinks test ▹ braces-shrink (stmts-shrink on_true)
+  stmt-shrinks (branch_else line test on_true on_false) =
+      line-shrinks line (word-shrinks (codes "if")) ▹ cond-shrinks test ▹ braces-shrink
+      (stmts-shrink on_true) ▹ word-shrinks (codes "else") ▹ braces-shrink (stmts-shrink on_false)
+  stmt-shrinks (call line procedure target values) =
+      line-shrinks line (name-shrinks procedure) ▹ parens-shrink (target-shrinks target ▹ arguments-shrink values) ▹
+      word-shrinks (codes ";")
 
   pub stmts-shrink : (ss : WrittenStmts) → Shrinks (stmts_spelling ss)
   stmts-shrink no_stmts = nothing-shrinks
@@ -131,7 +146,10 @@ pure_params-shrink [] = never-shrinks
 pure_params-shrink (p ∷ ps) = pure_param-shrinks p ▹ more_pure_params-shrink ps
 
 pub pure-shrinks : (p : WrittenPure) → Shrinks (pure_spelling p)
-pure-shrinks p = line-shrinks p.line (word-shrinks (codes "static")) ▹ word-shrinks (codes "int64_t") ▹ name-shrinks p.name ▹ parens-shrink (pure_params-shrink p.params) ▹ braces-shrink (line-shrinks p.return_line (word-shrinks (codes "return")) ▹ expr-shrinks p.body ▹ word-shrinks (codes ";"))
+pure-shrinks p =
+    line-shrinks p.line (word-shrinks (codes "static")) ▹ word-shrinks
+    (codes "int64_t") ▹ name-shrinks p.name ▹ parens-shrink (pure_params-shrink p.params) ▹ braces-shrink
+    (line-shrinks p.return_line (word-shrinks (codes "return")) ▹ expr-shrinks p.body ▹ word-shrinks (codes ";"))
 
 pub kind-shrinks : (kind : WrittenKind) → Shrinks (kind_spelling kind)
 kind-shrinks (number_kind type) = word-shrinks (type_text type)
@@ -146,23 +164,30 @@ length-shrinks (struct_kind name) = nothing-shrinks
 pub field-shrinks : (f : WrittenField) → Shrinks (field_spelling f)
 field-shrinks f = line-shrinks f.line (kind-shrinks f.kind) ▹ name-shrinks f.name ▹ length-shrinks f.kind ▹ word-shrinks (codes ";")
 
-pub all-shrink : {A : Type 0} {spelling : A → Spelling} → ((x : A) → Shrinks (spelling x)) → (xs : List A) → Shrinks (all_spelling spelling xs)
+pub all-shrink : {A : Type 0} {spelling : A → Spelling} → ((x : A) → Shrinks (spelling x)) → (xs : List A) →
+    Shrinks (all_spelling spelling xs)
 all-shrink each [] = nothing-shrinks
 all-shrink each (x ∷ xs) = each x ▹ all-shrink each xs
 
-pub some-shrink : {A : Type 0} {spelling : A → Spelling} → ((x : A) → Shrinks (spelling x)) → (xs : List A) → Shrinks (some_spelling spelling xs)
+pub some-shrink : {A : Type 0} {spelling : A → Spelling} → ((x : A) → Shrinks (spelling x)) → (xs : List A) →
+    Shrinks (some_spelling spelling xs)
 some-shrink each [] = never-shrinks
 some-shrink each (x ∷ xs) = each x ▹ all-shrink each xs
 
 pub struct-shrinks : (d : WrittenStruct) → Shrinks (struct_spelling d)
-struct-shrinks d = line-shrinks d.line (word-shrinks (codes "struct")) ▹ name-shrinks d.name ▹ braces-shrink (some-shrink field-shrinks d.fields) ▹ word-shrinks (codes ";")
+struct-shrinks d =
+    line-shrinks d.line (word-shrinks (codes "struct")) ▹ name-shrinks d.name ▹ braces-shrink
+    (some-shrink field-shrinks d.fields) ▹ word-shrinks (codes ";")
 
 pub private-shrinks : (private : Bool) → Shrinks (private_spelling private)
 private-shrinks true = word-shrinks (codes "static") ▹ word-shrinks (codes "void")
 private-shrinks false = word-shrinks (codes "void")
 
 pub procedure-shrinks : (p : WrittenProcedure) → Shrinks (procedure_spelling p)
-procedure-shrinks p = line-shrinks p.line (private-shrinks p.private) ▹ name-shrinks p.name ▹ parens-shrink (word-shrinks (codes "struct") ▹ name-shrinks p.of ▹ word-shrinks (codes "*") ▹ word-shrinks (codes "s") ▹ more_params-shrink p.params) ▹ braces-shrink (stmts-shrink p.body)
+procedure-shrinks p =
+    line-shrinks p.line (private-shrinks p.private) ▹ name-shrinks p.name ▹ parens-shrink
+    (word-shrinks (codes "struct") ▹ name-shrinks p.of ▹ word-shrinks (codes "*") ▹ word-shrinks
+    (codes "s") ▹ more_params-shrink p.params) ▹ braces-shrink (stmts-shrink p.body)
 
 -- it takes a token at least
 pub record Takes (a : Spelling) : Type 0 where
@@ -171,7 +196,8 @@ pub record Takes (a : Spelling) : Type 0 where
 infixr 25 ◌▸◌
 pub ◌▸◌ : {a b : Spelling} → Takes a → Shrinks b → Takes (a ⨾ b)
 ◌▸◌ {a} {b} first second = record {
-  by = λ tokens rest h. let p : _ = seq-parts a b tokens rest h in let one : length p.0 < length tokens = first.by tokens p.0 p.1 in let two : length rest ≤ length p.0 = second.by p.0 rest p.2 in omega arith;
+  by = λ tokens rest h. let p : _ = seq-parts a b tokens rest h in let one : length p.0 < length tokens =
+      first.by tokens p.0 p.1 in let two : length rest ≤ length p.0 = second.by p.0 rest p.2 in omega arith;
 }
 
 pub word-takes : (text : List ℕ) → Takes (word text)
@@ -189,20 +215,30 @@ pub field-takes : (f : WrittenField) → Takes (field_spelling f)
 field-takes f = line-takes f.line (kind-takes f.kind) ▸ name-shrinks f.name ▹ length-shrinks f.kind ▹ word-shrinks (codes ";")
 
 pub pure-takes : (p : WrittenPure) → Takes (pure_spelling p)
-pure-takes p = line-takes p.line (word-takes (codes "static")) ▸ word-shrinks (codes "int64_t") ▹ name-shrinks p.name ▹ parens-shrink (pure_params-shrink p.params) ▹ braces-shrink (line-shrinks p.return_line (word-shrinks (codes "return")) ▹ expr-shrinks p.body ▹ word-shrinks (codes ";"))
+pure-takes p =
+    line-takes p.line (word-takes (codes "static")) ▸ word-shrinks
+    (codes "int64_t") ▹ name-shrinks p.name ▹ parens-shrink (pure_params-shrink p.params) ▹ braces-shrink
+    (line-shrinks p.return_line (word-shrinks (codes "return")) ▹ expr-shrinks p.body ▹ word-shrinks (codes ";"))
 
 pub struct-takes : (d : WrittenStruct) → Takes (struct_spelling d)
-struct-takes d = line-takes d.line (word-takes (codes "struct")) ▸ name-shrinks d.name ▹ braces-shrink (some-shrink field-shrinks d.fields) ▹ word-shrinks (codes ";")
+struct-takes d =
+    line-takes d.line (word-takes (codes "struct")) ▸ name-shrinks d.name ▹ braces-shrink
+    (some-shrink field-shrinks d.fields) ▹ word-shrinks (codes ";")
 
 pub private-takes : (private : Bool) → Takes (private_spelling private)
 private-takes true = word-takes (codes "static") ▸ word-shrinks (codes "void")
 private-takes false = word-takes (codes "void")
 
 pub procedure-takes : (p : WrittenProcedure) → Takes (procedure_spelling p)
-procedure-takes p = line-takes p.line (private-takes p.private) ▸ name-shrinks p.name ▹ parens-shrink (word-shrinks (codes "struct") ▹ name-shrinks p.of ▹ word-shrinks (codes "*") ▹ word-shrinks (codes "s") ▹ more_params-shrink p.params) ▹ braces-shrink (stmts-shrink p.body)
+procedure-takes p =
+    line-takes p.line (private-takes p.private) ▸ name-shrinks p.name ▹ parens-shrink
+    (word-shrinks (codes "struct") ▹ name-shrinks p.of ▹ word-shrinks (codes "*") ▹ word-shrinks
+    (codes "s") ▹ more_params-shrink p.params) ▹ braces-shrink (stmts-shrink p.body)
 
 -- so there are no more of such things than tokens
-pub all-few : {A : Type 0} (spelling : A → Spelling) → ((x : A) → Takes (spelling x)) → (xs : List A) (tokens rest : List Token) → all_spelling spelling xs tokens ≡ Some rest → length xs + length rest ≤ length tokens
+pub all-few : {A : Type 0} (spelling : A → Spelling) → ((x : A) → Takes (spelling x)) →
+    (xs : List A) (tokens rest : List Token) → all_spelling spelling xs tokens ≡ Some rest →
+    length xs + length rest ≤ length tokens
 all-few spelling each [] tokens rest h = rw (some_same tokens rest h) (omega arith)
 all-few spelling each (x ∷ xs) tokens rest h =
     let p : _ = seq-parts (spelling x) (all_spelling spelling xs) tokens rest h in
@@ -210,7 +246,8 @@ all-few spelling each (x ∷ xs) tokens rest h =
     let two : length xs + length rest ≤ length p.0 = all-few spelling each xs p.0 rest p.2 in
     omega arith
 
-pub more_params-few : (ps : List WrittenParam) (tokens rest : List Token) → more_params_spelling ps tokens ≡ Some rest → length ps + length rest ≤ length tokens
+pub more_params-few : (ps : List WrittenParam) (tokens rest : List Token) → more_params_spelling ps tokens ≡ Some rest →
+    length ps + length rest ≤ length tokens
 more_params-few [] tokens rest h = rw (some_same tokens rest h) (omega arith)
 more_params-few (p ∷ ps) tokens rest h =
     let q : _ = seq-parts (word (codes ",")) (param_spelling p ⨾ more_params_spelling ps) tokens rest h in
@@ -220,7 +257,8 @@ more_params-few (p ∷ ps) tokens rest h =
     let three : length ps + length rest ≤ length r.0 = more_params-few ps r.0 rest r.2 in
     omega arith
 
-pub more_pure_params-few : (ps : List WrittenPureParam) (tokens rest : List Token) → more_pure_params_spelling ps tokens ≡ Some rest → length ps + length rest ≤ length tokens
+pub more_pure_params-few : (ps : List WrittenPureParam) (tokens rest : List Token) →
+    more_pure_params_spelling ps tokens ≡ Some rest → length ps + length rest ≤ length tokens
 more_pure_params-few [] tokens rest h = rw (some_same tokens rest h) (omega arith)
 more_pure_params-few (p ∷ ps) tokens rest h =
     let q : _ = seq-parts (word (codes ",")) (pure_param_spelling p ⨾ more_pure_params_spelling ps) tokens rest h in

@@ -20,7 +20,8 @@ found : {A : Type 0} (f : A → List ℕ) (xs : List A) (text : List ℕ) → is
 found f [] text e = cc
 found f (x ∷ xs) text e = by (bytes_eq text (f x)) refl e (λ k. found f xs text k)
   where
-    by : (b : Bool) → bytes_eq text (f x) ≡ b → (b || is_one_of (map f xs) text) ≡ true → (is_one_of (map f xs) text ≡ true → (y : _) × (text ≡ f y)) → (y : _) × (text ≡ f y)
+    by : (b : Bool) → bytes_eq text (f x) ≡ b → (b || is_one_of (map f xs) text) ≡ true →
+        (is_one_of (map f xs) text ≡ true → (y : _) × (text ≡ f y)) → (y : _) × (text ≡ f y)
     by true is k later = (x, (bytes_eq-Decides text (f x)).0 is)
     by false is k later = later k
 
@@ -51,8 +52,10 @@ join false b e d = e
 digits_test : IsDigitsTest (λ ds. list_all is_ascii_digit ds ≡ true)
 digits_test = record {
   empty = refl;
-  parts = λ c cs e. let k : _ = split (is_ascii_digit c) (list_all is_ascii_digit cs) e in let m : _ = split (nat_le 48 c) (nat_le c 57) k.0 in ((leb-true 48 c m.0, leb-true c 57 m.1), k.1);
-  more = λ c cs k e. join (is_ascii_digit c) (list_all is_ascii_digit cs) (join (nat_le 48 c) (nat_le c 57) (le-leb 48 c k.0) (le-leb c 57 k.1)) e;
+  parts = λ c cs e. let k : _ = split (is_ascii_digit c) (list_all is_ascii_digit cs) e in let m : _ =
+      split (nat_le 48 c) (nat_le c 57) k.0 in ((leb-true 48 c m.0, leb-true c 57 m.1), k.1);
+  more = λ c cs k e. join (is_ascii_digit c) (list_all is_ascii_digit cs)
+      (join (nat_le 48 c) (nat_le c 57) (le-leb 48 c k.0) (le-leb c 57 k.1)) e;
 }
 
 digits_fold : FoldsDigits digits_value
@@ -62,10 +65,17 @@ digits_fold = record { empty = λ n. refl; more = λ n c cs k. ap (λ m. digits_
 pub is_literal-text : (text : List ℕ) → is_literal text ≡ true → (value : ℕ) × (nat_lt value (2 ^ 63) ≡ true) × (decimal value ≡ text)
 is_literal-text [] e = cc
 is_literal-text (d ∷ ds) e =
-    let k : _ = split (list_all is_ascii_digit (d ∷ ds) && (bytes_eq (d ∷ ds) (codes "0") || not (d == 48))) (nat_lt (digits_value 0 (d ∷ ds)) (2 ^ 63)) e in
+    let k : _ =
+    split (list_all is_ascii_digit (d ∷ ds) && (bytes_eq (d ∷ ds) (codes "0") || not (d == 48)))
+    (nat_lt (digits_value 0 (d ∷ ds)) (2 ^ 63)) e in
     let m : _ = split (list_all is_ascii_digit (d ∷ ds)) (bytes_eq (d ∷ ds) (codes "0") || not (d == 48)) k.0 in
-    let small : digits_value 0 (d ∷ ds) < 2 ^ 63 = leb-true (suc (digits_value 0 (d ∷ ds))) (2 ^ 63) k.1 in
-    (digits_value 0 (d ∷ ds), k.1, decimal-digits_value (numerals_by_fold (λ xs. list_all is_ascii_digit xs ≡ true) digits_test digits_value digits_fold) (d ∷ ds) m.0 (omega arith) (λ zero. alone (bytes_eq (d ∷ ds) (codes "0")) refl zero m.1) (omega (arith, small)))
+    let small : digits_value 0 (d ∷ ds) < 2 ^ 63 = leb-true (suc (digits_value 0 (d ∷ ds))) (2 ^ 63) k.1 in (
+      digits_value 0 (d ∷ ds),
+      k.1,
+      decimal-digits_value
+          (numerals_by_fold (λ xs. list_all is_ascii_digit xs ≡ true) digits_test digits_value digits_fold) (d ∷ ds) m.0
+          (omega arith) (λ zero. alone (bytes_eq (d ∷ ds) (codes "0")) refl zero m.1) (omega (arith, small)),
+    )
   where
     alone : (b : Bool) → bytes_eq (d ∷ ds) (codes "0") ≡ b → d ≡ 48 → (b || not (d == 48)) ≡ true → length (d ∷ ds) ≡ 1
     alone true is zero h = ap length ((bytes_eq-Decides (d ∷ ds) (codes "0")).0 is)

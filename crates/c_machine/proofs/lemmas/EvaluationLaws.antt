@@ -42,7 +42,8 @@ module _ (functions : List Function) (leaf : Reads) (line steps : ℕ) where
     abbrev right : BinOp → ℤ → ℕ → Answer ℤ
     right op x count = and_then (eval functions leaf line b count) (λ y end. operate op line x y end)
 
-    module _ (x y : ℤ) (mid end : ℕ) (is : ComesTo functions leaf line a steps x mid) (others : ComesTo functions leaf line b mid y end) where
+    module _ (x y : ℤ) (mid end : ℕ) (is : ComesTo functions leaf line a steps x mid)
+        (others : ComesTo functions leaf line b mid y end) where
       both_sides : (op : BinOp) → and_then (eval functions leaf line a steps) (right op) ≡ operate op line x y end
       both_sides op = ap (λ r. and_then r (right op)) is ∙ ap (λ r. and_then r (λ w last. operate op line x w last)) others
 
@@ -135,7 +136,8 @@ module _ (functions : List Function) (leaf : Reads) (line steps : ℕ) where
 
   comparison_is : (how : Compare) (a b : ExprTree) → EvaluatesComparison functions leaf line how a b steps
   comparison_is how a b = record {
-    compared = λ x y mid end is others. ap (λ r. and_then r other) is ∙ ap (λ r. and_then r (λ w last. gives (compares how x w) last)) others;
+    compared = λ x y mid end is others. ap (λ r. and_then r other) is
+        ∙ ap (λ r. and_then r (λ w last. gives (compares how x w) last)) others;
     left_sticks = λ at is. ap (λ r. and_then r other) is;
     right_sticks = λ x mid at is others. ap (λ r. and_then r other) is
         ∙ ap (λ r. and_then r (λ w last. gives (compares how x w) last)) others;

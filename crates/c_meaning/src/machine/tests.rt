@@ -51,7 +51,9 @@ fn stuck(line: u32, why: Why) -> Option<Result<Cost, Stuck>> {
 
 // A procedure without further parameters, of a struct.
 fn is_plain(program: &Program, procedure: u32, of: u32) -> bool
-    ensures { IsTrue result → (q : ProcedureTree) × (slice_get (program_tree program.now).procedures procedure ≡ Some q) × (q.of ≡ of) × (q.params ≡ []) }
+    ensures { IsTrue result →
+        (q : ProcedureTree) × (slice_get (program_tree program.now).procedures procedure ≡ Some q)
+        × (q.of ≡ of) × (q.params ≡ []) }
 {
     let at = procedure as usize;
     if at >= program.procedures.len() {

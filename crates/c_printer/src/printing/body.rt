@@ -87,7 +87,8 @@ pub(super) fn put_expr(
     scope: &Scope,
     e: &Expr,
 ) -> Result<(), AllocError>
-    ensures { OnOk result (out.new.items ≡ out.old.items ++ expr_bytes (vocabulary_of scope.now) (expr_tree e.now)) }
+    ensures { OnOk result (out.new.items
+        ≡ out.old.items ++ expr_bytes (vocabulary_of scope.now) (expr_tree e.now)) }
 {
     match e {
         Expr::Literal(value) => put_literal(alloc, out, *value),
@@ -138,7 +139,8 @@ fn put_pure_call(
     values: &[Expr],
 ) -> Result<(), AllocError>
     ensures { OnOk result (out.new.items
-        ≡ out.old.items ++ expr_bytes (vocabulary_of scope.now) (pure k (exprs_of_list (map expr_tree values.now)))) }
+        ≡ out.old.items ++ expr_bytes (vocabulary_of scope.now)
+        (pure k (exprs_of_list (map expr_tree values.now)))) }
 {
     put(out, pure_name(scope.program, k))?;
     put(out, b"(")?;
@@ -150,7 +152,8 @@ fn put_pure_call(
 #[cycle(expression)]
 fn put_exprs(alloc: Global, out: &mut Vec<u8>, scope: &Scope, es: &[Expr]) -> Result<(), AllocError>
     ensures { OnOk result (out.new.items
-        ≡ out.old.items ++ exprs_bytes (vocabulary_of scope.now) (exprs_of_list (map expr_tree es.now))) }
+        ≡ out.old.items ++ exprs_bytes (vocabulary_of scope.now)
+        (exprs_of_list (map expr_tree es.now))) }
 {
     let Some((first, later)) = es.split_first() else {
         return Ok(());
@@ -165,7 +168,8 @@ fn put_exprs(alloc: Global, out: &mut Vec<u8>, scope: &Scope, es: &[Expr]) -> Re
 
 #[cycle(expression)]
 fn put_cond(alloc: Global, out: &mut Vec<u8>, scope: &Scope, test: &Cond) -> Result<(), AllocError>
-    ensures { OnOk result (out.new.items ≡ out.old.items ++ cond_bytes (vocabulary_of scope.now) (cond_tree test.now)) }
+    ensures { OnOk result (out.new.items
+        ≡ out.old.items ++ cond_bytes (vocabulary_of scope.now) (cond_tree test.now)) }
 {
     match test {
         Cond::Compare(how, left, right) => {
@@ -217,7 +221,8 @@ fn deeper(margin: usize) -> usize
 }
 
 fn put_target(out: &mut Vec<u8>, scope: &Scope, target: Target) -> Result<(), AllocError>
-    ensures { OnOk result (out.new.items ≡ out.old.items ++ target_bytes (vocabulary_of scope.now) target) }
+    ensures { OnOk result (out.new.items
+        ≡ out.old.items ++ target_bytes (vocabulary_of scope.now) target) }
 {
     match target {
         Target::Own => put(out, b"s"),
@@ -237,7 +242,8 @@ fn put_arguments(
     values: &[Expr],
 ) -> Result<(), AllocError>
     ensures { OnOk result (out.new.items
-        ≡ out.old.items ++ arguments_bytes (vocabulary_of scope.now) (map (λ q. q.1) params.now) (exprs_of_list (map expr_tree values.now))) }
+        ≡ out.old.items ++ arguments_bytes (vocabulary_of scope.now) (map (λ q. q.1) params.now)
+        (exprs_of_list (map expr_tree values.now))) }
 {
     for (param, value) in params.iter().zip(values) {
         put(out, b", (")?;
@@ -258,7 +264,8 @@ fn put_call(
     values: &[Expr],
 ) -> Result<(), AllocError>
     ensures { OnOk result (out.new.items ≡ out.old.items
-        ++ stmt_bytes (vocabulary_of scope.now) margin (call 0 procedure target (exprs_of_list (map expr_tree values.now)))) }
+        ++ stmt_bytes (vocabulary_of scope.now) margin
+        (call 0 procedure target (exprs_of_list (map expr_tree values.now)))) }
 {
     put_margin(out, margin)?;
     put(out, procedure_name(scope.program, procedure))?;
@@ -302,7 +309,8 @@ fn put_set_at(
     value: &Expr,
 ) -> Result<(), AllocError>
     ensures { OnOk result (out.new.items ≡ out.old.items
-        ++ stmt_bytes (vocabulary_of scope.now) margin (assign_at 0 field (expr_tree index.now) (expr_tree value.now))) }
+        ++ stmt_bytes (vocabulary_of scope.now) margin
+        (assign_at 0 field (expr_tree index.now) (expr_tree value.now))) }
 {
     put_margin(out, margin)?;
     put(out, b"s->")?;
@@ -322,7 +330,8 @@ fn put_stored(
     value: &Expr,
 ) -> Result<(), AllocError>
     ensures { let v = vocabulary_of scope.now in OnOk result (out.new.items ≡ out.old.items
-        ++ (type_text (type_at (field_types v.fields) field) ++ codes ")" ++ expr_bytes v (expr_tree value.now) ++ ended (codes ";"))) }
+        ++ (type_text (type_at (field_types v.fields) field) ++ codes ")"
+        ++ expr_bytes v (expr_tree value.now) ++ ended (codes ";"))) }
 {
     put(out, type_text(field_type(scope.fields, field)))?;
     put(out, b")")?;
@@ -338,7 +347,8 @@ fn put_test(
     test: &Cond,
 ) -> Result<(), AllocError>
     ensures { OnOk result (out.new.items ≡ out.old.items
-        ++ (margin_bytes margin ++ codes "if " ++ cond_bytes (vocabulary_of scope.now) (cond_tree test.now) ++ ended (codes " {"))) }
+        ++ (margin_bytes margin ++ codes "if " ++ cond_bytes (vocabulary_of scope.now)
+        (cond_tree test.now) ++ ended (codes " {"))) }
 {
     put_margin(out, margin)?;
     put(out, b"if ")?;
@@ -361,7 +371,8 @@ fn put_stmt(
     margin: usize,
     s: &Stmt,
 ) -> Result<(), AllocError>
-    ensures { OnOk result (out.new.items ≡ out.old.items ++ stmt_bytes (vocabulary_of scope.now) margin (stmt_tree s.now)) }
+    ensures { OnOk result (out.new.items ≡ out.old.items ++ stmt_bytes (vocabulary_of scope.now) margin
+        (stmt_tree s.now)) }
 {
     match s {
         Stmt::Set { field, value, .. } => put_set(alloc, out, scope, margin, *field, value),
@@ -396,7 +407,8 @@ fn put_else(
     no: &[Stmt],
 ) -> Result<(), AllocError>
     ensures { OnOk result (out.new.items
-        ≡ out.old.items ++ else_bytes (vocabulary_of scope.now) margin (stmts_of_list (map stmt_tree no.now))) }
+        ≡ out.old.items ++ else_bytes (vocabulary_of scope.now) margin
+        (stmts_of_list (map stmt_tree no.now))) }
 {
     if no.is_empty() {
         return Ok(());
@@ -415,7 +427,8 @@ pub(super) fn put_stmts(
     stmts: &[Stmt],
 ) -> Result<(), AllocError>
     ensures { OnOk result (out.new.items
-        ≡ out.old.items ++ stmts_bytes (vocabulary_of scope.now) margin (stmts_of_list (map stmt_tree stmts.now))) }
+        ≡ out.old.items ++ stmts_bytes (vocabulary_of scope.now) margin
+        (stmts_of_list (map stmt_tree stmts.now))) }
 {
     for s in stmts {
         put_stmt(alloc, out, scope, margin, s)?;

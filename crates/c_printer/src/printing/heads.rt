@@ -18,7 +18,8 @@ pub(super) fn put_pure(
     program: &Program,
     pure: &Pure,
 ) -> Result<(), AllocError>
-    ensures { OnOk result (out.new.items ≡ out.old.items ++ pure_bytes (program_tree program.now) (pure_tree pure.now)) }
+    ensures { OnOk result (out.new.items ≡ out.old.items ++ pure_bytes (program_tree program.now)
+        (pure_tree pure.now)) }
 {
     put_pure_head(out, pure)?;
     put(out, b"    return ")?;
@@ -62,7 +63,8 @@ pub(super) fn put_struct(
     program: &Program,
     def: &StructDef,
 ) -> Result<(), AllocError>
-    ensures { OnOk result (out.new.items ≡ out.old.items ++ struct_bytes (program_tree program.now) def.now) }
+    ensures { OnOk result (out.new.items
+        ≡ out.old.items ++ struct_bytes (program_tree program.now) def.now) }
 {
     put(out, b"\nstruct ")?;
     put(out, def.name.bytes())?;
@@ -78,7 +80,8 @@ fn put_fields(
     fields: &[Field],
 ) -> Result<(), AllocError>
     ensures { OnOk result (out.new.items
-        ≡ out.old.items ++ flat_map (field_bytes (program_tree program.now)) (field_trees fields.now)) }
+        ≡ out.old.items ++ flat_map (field_bytes (program_tree program.now))
+        (field_trees fields.now)) }
 {
     for field in fields {
         put_field(alloc, out, program, field)?;
@@ -137,7 +140,8 @@ pub(super) fn put_procedure(
     procedure: &Procedure,
 ) -> Result<(), AllocError>
     ensures { OnOk result (out.new.items
-        ≡ out.old.items ++ procedure_bytes (program_tree program.now) (procedure_tree procedure.now)) }
+        ≡ out.old.items ++ procedure_bytes (program_tree program.now)
+        (procedure_tree procedure.now)) }
 {
     put_procedure_head(out, program, procedure)?;
     let scope = Scope {
@@ -155,7 +159,8 @@ fn put_procedure_head(
     procedure: &Procedure,
 ) -> Result<(), AllocError>
     ensures { OnOk result (out.new.items
-        ≡ out.old.items ++ procedure_head_bytes (program_tree program.now) (procedure_tree procedure.now)) }
+        ≡ out.old.items ++ procedure_head_bytes (program_tree program.now)
+        (procedure_tree procedure.now)) }
 {
     put(out, b"\n")?;
     put(out, private_text(procedure.private))?;
@@ -174,7 +179,9 @@ fn private_text(private: bool) -> &'static [u8]
 }
 
 fn put_params(out: &mut Vec<u8>, params: &[(Text, CType)]) -> Result<(), AllocError>
-    ensures { OnOk result (out.new.items ≡ out.old.items ++ flat_map param_bytes (map (λ q. record { name = q.0; type = q.1 }) params.now)) }
+    ensures { OnOk result (out.new.items
+        ≡ out.old.items
+        ++ flat_map param_bytes (map (λ q. record { name = q.0; type = q.1 }) params.now)) }
 {
     for (name, of) in params {
         put(out, b", ")?;

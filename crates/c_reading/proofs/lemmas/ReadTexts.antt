@@ -23,7 +23,8 @@ module _ (parsing : ParsingAgrees) where
   read : (bytes : List ℕ) (p : ProgramTree) → read_text bytes ≡ Ok p → CText bytes p
   read bytes p h = by (has_header bytes) refl h
     where
-      by_parse : (r : Result WrittenProgram CFault) → parse_file (last_line bytes) the_limits (tokens_of bytes) ≡ r → has_header bytes ≡ true → (r >>= resolve_program (last_line bytes)) ≡ Ok p → CText bytes p
+      by_parse : (r : Result WrittenProgram CFault) → parse_file (last_line bytes) the_limits (tokens_of bytes) ≡ r →
+          has_header bytes ≡ true → (r >>= resolve_program (last_line bytes)) ≡ Ok p → CText bytes p
       by_parse (Ok w) e header k =
           let parsed : _ = parsing.read (last_line bytes) (tokens_of bytes) w e in
           text-read bytes w p header parsed.0 parsed.1 k
@@ -36,17 +37,26 @@ module _ (parsing : ParsingAgrees) where
   refused : (bytes : List ℕ) (fault : CFault) → read_text bytes ≡ Err fault → CFaultOf bytes fault
   refused bytes fault h = by (has_header bytes) refl h
     where
-      by_parse : (r : Result WrittenProgram CFault) → parse_file (last_line bytes) the_limits (tokens_of bytes) ≡ r → (r >>= resolve_program (last_line bytes)) ≡ Err fault → IsFaultBehind true bytes fault
+      by_parse : (r : Result WrittenProgram CFault) → parse_file (last_line bytes) the_limits (tokens_of bytes) ≡ r →
+          (r >>= resolve_program (last_line bytes)) ≡ Err fault → IsFaultBehind true bytes fault
       by_parse (Ok w) e k =
           let parsed : _ = parsing.read (last_line bytes) (tokens_of bytes) w e in
           subst (λ o. IsRuleFault o bytes fault) (sym parsed.1) (w, parsed.0, k)
       by_parse (Err first) e k =
-          subst (λ o. IsRuleFault o bytes fault) (sym (parsing.refused (last_line bytes) (tokens_of bytes) first e)) (err_same fault first (sym k))
+          subst (λ o. IsRuleFault o bytes fault) (sym (parsing.refused (last_line bytes) (tokens_of bytes) first e))
+          (err_same fault first (sym k))
 
-      by : (b : Bool) → has_header bytes ≡ b → (parse_behind b bytes >>= resolve_program (last_line bytes)) ≡ Err fault → CFaultOf bytes fault
-      by true e k = subst (λ b. IsFaultBehind b bytes fault) (sym e) (by_parse (parse_file (last_line bytes) the_limits (tokens_of bytes)) refl k)
+      by : (b : Bool) → has_header bytes ≡ b →
+          (parse_behind b bytes >>= resolve_program (last_line bytes)) ≡ Err fault → CFaultOf bytes fault
+      by true e k =
+          subst (λ b. IsFaultBehind b bytes fault) (sym e)
+          (by_parse (parse_file (last_line bytes) the_limits (tokens_of bytes)) refl k)
       by false e k = subst (λ b. IsFaultBehind b bytes fault) (sym e) (err_same fault (fault_at 1 Syntax) (sym k))
 
 pub texts_agree : TextsAgree
 texts_agree =
-    record { read = read parsing_agrees; refused = refused parsing_agrees; lawful = λ bytes p h. text-lawful bytes p (read parsing_agrees bytes p h) }
+    record {
+      read = read parsing_agrees;
+      refused = refused parsing_agrees;
+      lawful = λ bytes p h. text-lawful bytes p (read parsing_agrees bytes p h);
+    }

@@ -25,20 +25,37 @@ pub file-there : (bytes : List ℕ) → first_of bytes ≡ None → IsFile (toke
 file-there bytes e = (faults_agree (tokens_of bytes) (last_line bytes) None).0 e
 
 -- a program that a text without such a fault spells, and what it stands for
-pub text-read : (bytes : List ℕ) (written : WrittenProgram) (p : ProgramTree) → has_header bytes ≡ true → Spells (tokens_of bytes) written → first_of bytes ≡ None → resolve_program (last_line bytes) written ≡ Ok p → CText bytes p
+pub text-read : (bytes : List ℕ) (written : WrittenProgram) (p : ProgramTree) → has_header bytes ≡ true →
+    Spells (tokens_of bytes) written → first_of bytes ≡ None → resolve_program (last_line bytes) written ≡ Ok p →
+    CText bytes p
 text-read bytes written p header spelled none resolved =
-    record { header = header; written = written; spelled = spelled; resolved = resolved; limits = (program-limits (last_line bytes) written p resolved).0 (no_fault-within (tokens_of bytes) (last_line bytes) written spelled none) }
+    record {
+      header = header;
+      written = written;
+      spelled = spelled;
+      resolved = resolved;
+      limits =
+          (program-limits (last_line bytes) written p resolved).0
+          (no_fault-within (tokens_of bytes) (last_line bytes) written spelled none);
+    }
 
 pub some-answer : (bytes : List ℕ) → ((p : ProgramTree) × CText bytes p) ⊎ ((fault : CFault) × CFaultOf bytes fault)
 some-answer bytes = by_header (has_header bytes) refl
   where
-    by_rules : (file : IsFile (tokens_of bytes)) (r : Result ProgramTree CFault) → resolve_program (last_line bytes) file.program ≡ r → has_header bytes ≡ true → first_of bytes ≡ None → ((p : ProgramTree) × CText bytes p) ⊎ ((fault : CFault) × CFaultOf bytes fault)
+    by_rules : (file : IsFile (tokens_of bytes)) (r : Result ProgramTree CFault) →
+        resolve_program (last_line bytes) file.program ≡ r → has_header bytes ≡ true → first_of bytes ≡ None →
+        ((p : ProgramTree) × CText bytes p) ⊎ ((fault : CFault) × CFaultOf bytes fault)
     by_rules file (Ok p) e header none =
         inl (p, text-read bytes file.program p header file.spelled none e)
     by_rules file (Err fault) e header none =
-        inr (fault, subst (λ b. IsFaultBehind b bytes fault) (sym header) (subst (λ o. IsRuleFault o bytes fault) (sym none) (file.program, file.spelled, e)))
+        inr (
+          fault,
+          subst (λ b. IsFaultBehind b bytes fault) (sym header)
+              (subst (λ o. IsRuleFault o bytes fault) (sym none) (file.program, file.spelled, e)),
+        )
 
-    by_tokens : (o : Option CFault) → first_of bytes ≡ o → has_header bytes ≡ true → ((p : ProgramTree) × CText bytes p) ⊎ ((fault : CFault) × CFaultOf bytes fault)
+    by_tokens : (o : Option CFault) → first_of bytes ≡ o → has_header bytes ≡ true →
+        ((p : ProgramTree) × CText bytes p) ⊎ ((fault : CFault) × CFaultOf bytes fault)
     by_tokens (Some fault) e header =
         inr (fault, subst (λ b. IsFaultBehind b bytes fault) (sym header) (subst (λ o. IsRuleFault o bytes fault) (sym e) refl))
     by_tokens None e header =
@@ -49,20 +66,42 @@ some-answer bytes = by_header (has_header bytes) refl
     by_header false e = inr (fault_at 1 Syntax, subst (λ b. IsFaultBehind b bytes (fault_at 1 Syntax)) (sym e) refl)
     by_header true e = by_tokens (first_of bytes) refl e
 
-refusal-said : (bytes : List ℕ) (fault : CFault) (header : Bool) → has_header bytes ≡ header → IsFaultBehind header bytes fault → LacksHeader bytes fault ⊎ StopsAmongTokens bytes fault ⊎ BreaksRule bytes fault
+refusal-said : (bytes : List ℕ) (fault : CFault) (header : Bool) → has_header bytes ≡ header →
+    IsFaultBehind header bytes fault → LacksHeader bytes fault ⊎ StopsAmongTokens bytes fault ⊎ BreaksRule bytes fault
 refusal-said bytes fault false header f = inl (record { lacks = header; is = f })
 refusal-said bytes fault true header f = by (first_of bytes) refl f
   where
-    by : (o : Option CFault) → first_of bytes ≡ o → IsRuleFault o bytes fault → LacksHeader bytes fault ⊎ StopsAmongTokens bytes fault ⊎ BreaksRule bytes fault
-    by (Some first) e k = inr (inl (record { header = header; first = (faults_agree (tokens_of bytes) (last_line bytes) (Some fault)).0 (e ∙ ap Some (sym k)) }))
-    by None e k = inr (inr (record { header = header; file = record { program = k.0; spelled = k.1; within = no_fault-within (tokens_of bytes) (last_line bytes) k.0 k.1 e }; broken = k.2 }))
+    by : (o : Option CFault) → first_of bytes ≡ o → IsRuleFault o bytes fault →
+        LacksHeader bytes fault ⊎ StopsAmongTokens bytes fault ⊎ BreaksRule bytes fault
+    by (Some first) e k =
+        inr (inl
+        (record {
+          header = header;
+          first = (faults_agree (tokens_of bytes) (last_line bytes) (Some fault)).0 (e ∙ ap Some (sym k));
+        }))
+    by None e k =
+        inr (inr
+        (record {
+          header = header;
+          file = record {
+            program = k.0;
+            spelled = k.1;
+            within = no_fault-within (tokens_of bytes) (last_line bytes) k.0 k.1 e;
+          };
+          broken = k.2;
+        }))
 
-refusal-is : (bytes : List ℕ) (fault : CFault) → LacksHeader bytes fault ⊎ StopsAmongTokens bytes fault ⊎ BreaksRule bytes fault → CFaultOf bytes fault
+refusal-is : (bytes : List ℕ) (fault : CFault) →
+    LacksHeader bytes fault ⊎ StopsAmongTokens bytes fault ⊎ BreaksRule bytes fault → CFaultOf bytes fault
 refusal-is bytes fault (inl l) = subst (λ b. IsFaultBehind b bytes fault) (sym l.lacks) l.is
 refusal-is bytes fault (inr (inl s)) =
-    subst (λ b. IsFaultBehind b bytes fault) (sym s.header) (subst (λ o. IsRuleFault o bytes fault) (sym ((faults_agree (tokens_of bytes) (last_line bytes) (Some fault)).1 s.first)) refl)
+    subst (λ b. IsFaultBehind b bytes fault) (sym s.header)
+    (subst (λ o. IsRuleFault o bytes fault)
+    (sym ((faults_agree (tokens_of bytes) (last_line bytes) (Some fault)).1 s.first)) refl)
 refusal-is bytes fault (inr (inr b)) =
-    subst (λ c. IsFaultBehind c bytes fault) (sym b.header) (subst (λ o. IsRuleFault o bytes fault) (sym ((faults_agree (tokens_of bytes) (last_line bytes) None).1 b.file)) (b.file.program, b.file.spelled, b.broken))
+    subst (λ c. IsFaultBehind c bytes fault) (sym b.header)
+    (subst (λ o. IsRuleFault o bytes fault) (sym ((faults_agree (tokens_of bytes) (last_line bytes) None).1 b.file))
+    (b.file.program, b.file.spelled, b.broken))
 
 pub refusals_agree : RefusalsAgree
 refusals_agree bytes fault = (λ f. refusal-said bytes fault (has_header bytes) refl f, λ r. refusal-is bytes fault r)
@@ -70,7 +109,12 @@ refusals_agree bytes fault = (λ f. refusal-said bytes fault (has_header bytes) 
 -- what is read has no fault among its tokens
 pub read-no_fault : (bytes : List ℕ) (p : ProgramTree) → CText bytes p → first_of bytes ≡ None
 read-no_fault bytes p text =
-    (faults_agree (tokens_of bytes) (last_line bytes) None).1 (record { program = text.written; spelled = text.spelled; within = (program-limits (last_line bytes) text.written p text.resolved).1 text.limits })
+    (faults_agree (tokens_of bytes) (last_line bytes) None).1
+    (record {
+      program = text.written;
+      spelled = text.spelled;
+      within = (program-limits (last_line bytes) text.written p text.resolved).1 text.limits;
+    })
 
 err-same : {A E : Type 0} (x y : E) → ◌≡◌ {A = Result A E} (Err x) (Err y) → x ≡ y
 err-same {A} {E} x y e = ap by e
@@ -94,7 +138,9 @@ module _ (one_written : OneWritten) where
     where
       by_tokens : (o : Option CFault) → IsRuleFault o bytes f → IsRuleFault o bytes g → f ≡ g
       by_tokens (Some fault) h k = h ∙ sym k
-      by_tokens None h k = err-same f g (sym h.2 ∙ ap (resolve_program (last_line bytes)) (one_written (tokens_of bytes) h.0 k.0 h.1 k.1) ∙ k.2)
+      by_tokens None h k =
+          err-same f g (sym h.2 ∙ ap (resolve_program (last_line bytes)) (one_written (tokens_of bytes) h.0 k.0 h.1 k.1)
+          ∙ k.2)
 
       by_header : (c : Bool) → IsFaultBehind c bytes f → IsFaultBehind c bytes g → f ≡ g
       by_header false h k = h ∙ sym k
@@ -102,9 +148,19 @@ module _ (one_written : OneWritten) where
 
   pub apart : (bytes : List ℕ) (p : ProgramTree) (fault : CFault) → CText bytes p → CFaultOf bytes fault → ⊥
   apart bytes p fault text f =
-      let rule : IsRuleFault None bytes fault = subst (λ o. IsRuleFault o bytes fault) (read-no_fault bytes p text) (subst (λ b. IsFaultBehind b bytes fault) text.header f) in
-      cc (sym text.resolved ∙ ap (resolve_program (last_line bytes)) (one_written (tokens_of bytes) text.written rule.0 text.spelled rule.1) ∙ rule.2)
+      let rule : IsRuleFault None bytes fault =
+      subst (λ o. IsRuleFault o bytes fault) (read-no_fault bytes p text)
+      (subst (λ b. IsFaultBehind b bytes fault) text.header f) in
+      cc (sym text.resolved
+      ∙ ap (resolve_program (last_line bytes))
+      (one_written (tokens_of bytes) text.written rule.0 text.spelled rule.1) ∙ rule.2)
 
 pub readings_agree : ReadingsAgree
 readings_agree =
-    record { some = some-answer; one = one-reading one_written; one_fault = one-fault one_written; apart = apart one_written; lawful = text-lawful }
+    record {
+      some = some-answer;
+      one = one-reading one_written;
+      one_fault = one-fault one_written;
+      apart = apart one_written;
+      lawful = text-lawful;
+    }

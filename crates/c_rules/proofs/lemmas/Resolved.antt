@@ -59,13 +59,15 @@ position-at : {A : Type 0} (test : A → Bool) (i : ℕ) (xs : List A) (k : ℕ)
 position-at test i [] k e = cc
 position-at test i (x ∷ xs) k e = by (test x) refl e (λ h. position-at test (i + 1) xs k h)
   where
-    by : (b : Bool) → test x ≡ b → cond b (Some i) (position_from test (i + 1) xs) ≡ Some k → (position_from test (i + 1) xs ≡ Some k → At test xs (i + 1) k) → At test (x ∷ xs) i k
+    by : (b : Bool) → test x ≡ b → cond b (Some i) (position_from test (i + 1) xs) ≡ Some k →
+        (position_from test (i + 1) xs ≡ Some k → At test xs (i + 1) k) → At test (x ∷ xs) i k
     by true is h later = record { item = x; offset = 0; place = omega (arith, some_same i k h); there = refl; passes = is }
     by false is h later =
         let a : At test xs (i + 1) k = later h in
         record { item = a.item; offset = suc a.offset; place = omega (arith, a.place); there = a.there; passes = a.passes }
 
-pub position-there : {A : Type 0} (test : A → Bool) (xs : List A) (k : ℕ) → position_from test 0 xs ≡ Some k → (x : A) × (slice_get xs k ≡ Some x) × (test x ≡ true)
+pub position-there : {A : Type 0} (test : A → Bool) (xs : List A) (k : ℕ) → position_from test 0 xs ≡ Some k →
+    (x : A) × (slice_get xs k ≡ Some x) × (test x ≡ true)
 position-there test xs k e =
     let a : At test xs 0 k = position-at test 0 xs k e in
     let same : a.offset ≡ k = omega (arith, a.place) in
@@ -78,11 +80,13 @@ record FieldAt (fields : List FieldTree) (i : ℕ) (found : ℕ × FieldKind) : 
   there : slice_get fields offset ≡ Some item
   kind : item.kind ≡ found.1
 
-field-at : (i : ℕ) (fields : List FieldTree) (name : List ℕ) (found : ℕ × FieldKind) → field_from i fields name ≡ Some found → FieldAt fields i found
+field-at : (i : ℕ) (fields : List FieldTree) (name : List ℕ) (found : ℕ × FieldKind) →
+    field_from i fields name ≡ Some found → FieldAt fields i found
 field-at i [] name found e = cc
 field-at i (f ∷ fields) name found e = by (bytes_eq f.name name) e (λ h. field-at (i + 1) fields name found h)
   where
-    by : (b : Bool) → (if b then Some (i, f.kind) else field_from (i + 1) fields name) ≡ Some found → (field_from (i + 1) fields name ≡ Some found → FieldAt fields (i + 1) found) → FieldAt (f ∷ fields) i found
+    by : (b : Bool) → (if b then Some (i, f.kind) else field_from (i + 1) fields name) ≡ Some found →
+        (field_from (i + 1) fields name ≡ Some found → FieldAt fields (i + 1) found) → FieldAt (f ∷ fields) i found
     by true h later =
         let same : (i, f.kind) ≡ found = some_same (i, f.kind) found h in
         record { item = f; offset = 0; place = omega (arith, ap (λ x. x.0) same); there = refl; kind = ap (λ x. x.1) same }
@@ -91,7 +95,8 @@ field-at i (f ∷ fields) name found e = by (bytes_eq f.name name) e (λ h. fiel
         record { item = a.item; offset = suc a.offset; place = omega (arith, a.place); there = a.there; kind = a.kind }
 
 -- the field of a name, and its kind
-pub field-there : (fields : List FieldTree) (name : List ℕ) (found : ℕ × FieldKind) → field_named fields name ≡ Ok found → (f : FieldTree) × (slice_get fields found.0 ≡ Some f) × (f.kind ≡ found.1)
+pub field-there : (fields : List FieldTree) (name : List ℕ) (found : ℕ × FieldKind) →
+    field_named fields name ≡ Ok found → (f : FieldTree) × (slice_get fields found.0 ≡ Some f) × (f.kind ≡ found.1)
 field-there fields name found e =
     let a : FieldAt fields 0 found = field-at 0 fields name found (named-ok (field_from 0 fields name) found e) in
     let same : a.offset ≡ found.0 = omega (arith, a.place) in
@@ -113,9 +118,17 @@ struct-kind (Struct j) k e = ap Struct (ok-same j k e)
 -- what a body's names reach
 abbrev pub reach_of : Names → ℕ → Reach
 reach_of names of =
-    record { pures = names.known.pures; structs = names.known.structs; procedures = names.known.procedures; fields = names.fields; params = length names.params; of = of }
+    record {
+      pures = names.known.pures;
+      structs = names.known.structs;
+      procedures = names.known.procedures;
+      fields = names.fields;
+      params = length names.params;
+      of = of;
+    }
 
-pub leaf-lawful : (names : Names) (of : ℕ) (w : WrittenLeaf) (leaf : Leaf) → resolve_leaf names w ≡ Ok leaf → IsLawfulLeaf (reach_of names of) leaf
+pub leaf-lawful : (names : Names) (of : ℕ) (w : WrittenLeaf) (leaf : Leaf) → resolve_leaf names w ≡ Ok leaf →
+    IsLawfulLeaf (reach_of names of) leaf
 leaf-lawful names of (WrittenLeaf.param name) leaf e =
     let b : _ = bind-parts (or_unnamed (position_from (bytes_eq name) 0 names.params)) (λ k. Ok (Param k)) leaf e in
     let p : _ = position-there (bytes_eq name) names.params b.0 (named-ok (position_from (bytes_eq name) 0 names.params) b.0 b.1) in
@@ -126,13 +139,21 @@ leaf-lawful names of (WrittenLeaf.own name) leaf e =
     let f : _ = field-there names.fields name b.0 b.1 in
     subst (λ l. IsLawfulLeaf (reach_of names of) l) (ok-same (Own b.0.0) leaf c.2) (f.0, f.1, number-kind f.0 b.0.1 c.0 f.2 c.1)
 leaf-lawful names of (WrittenLeaf.child name inner) leaf e =
-    let b : _ = bind-parts (field_named names.fields name) (λ field. as_struct field.1 >>= λ k. field_named (struct_fields names.known.structs k) inner >>= λ inner_field. as_number inner_field.1 >>= λ type. Ok (Child field.0 inner_field.0)) leaf e in
-    let c : _ = bind-parts (as_struct b.0.1) (λ k. field_named (struct_fields names.known.structs k) inner >>= λ inner_field. as_number inner_field.1 >>= λ type. Ok (Child b.0.0 inner_field.0)) leaf b.2 in
-    let d : _ = bind-parts (field_named (struct_fields names.known.structs c.0) inner) (λ inner_field. as_number inner_field.1 >>= λ type. Ok (Child b.0.0 inner_field.0)) leaf c.2 in
+    let b : _ =
+    bind-parts (field_named names.fields name)
+    (λ field. as_struct field.1 >>= λ k. field_named (struct_fields names.known.structs k) inner >>= λ inner_field.
+    as_number inner_field.1 >>= λ type. Ok (Child field.0 inner_field.0)) leaf e in
+    let c : _ =
+    bind-parts (as_struct b.0.1) (λ k. field_named (struct_fields names.known.structs k) inner >>= λ inner_field.
+    as_number inner_field.1 >>= λ type. Ok (Child b.0.0 inner_field.0)) leaf b.2 in
+    let d : _ =
+    bind-parts (field_named (struct_fields names.known.structs c.0) inner) (λ inner_field. as_number inner_field.1
+    >>= λ type. Ok (Child b.0.0 inner_field.0)) leaf c.2 in
     let t : _ = bind-parts (as_number d.0.1) (λ type. Ok (Child b.0.0 d.0.0)) leaf d.2 in
     let f : _ = field-there names.fields name b.0 b.1 in
     let g : _ = field-there (struct_fields names.known.structs c.0) inner d.0 d.1 in
-    subst (λ l. IsLawfulLeaf (reach_of names of) l) (ok-same (Child b.0.0 d.0.0) leaf t.2) (c.0, (f.0, f.1, f.2 ∙ struct-kind b.0.1 c.0 c.1), (g.0, g.1, number-kind g.0 d.0.1 t.0 g.2 t.1))
+    subst (λ l. IsLawfulLeaf (reach_of names of) l) (ok-same (Child b.0.0 d.0.0) leaf t.2)
+    (c.0, (f.0, f.1, f.2 ∙ struct-kind b.0.1 c.0 c.1), (g.0, g.1, number-kind g.0 d.0.1 t.0 g.2 t.1))
 
 pub kind-same : (j k : ℕ) → Struct j ≡ Struct k → j ≡ k
 kind-same j k e = ap by e
@@ -148,7 +169,8 @@ array-kind (Number t) type e = cc
 array-kind (Array t count) type e = (count, ap (λ u. Array u count) (ok-same t type e))
 array-kind (Struct k) type e = cc
 
-array-at : (fields : List FieldTree) (name : List ℕ) (found : ℕ × FieldKind) (type : CType) → field_named fields name ≡ Ok found → as_array found.1 ≡ Ok type → IsArrayAt fields found.0
+array-at : (fields : List FieldTree) (name : List ℕ) (found : ℕ × FieldKind) (type : CType) →
+    field_named fields name ≡ Ok found → as_array found.1 ≡ Ok type → IsArrayAt fields found.0
 array-at fields name found type named array =
     let f : _ = field-there fields name found named in
     let a : _ = array-kind found.1 type array in
@@ -161,9 +183,12 @@ array-lawful names name k e =
     subst (IsArrayAt names.fields) (ok-same b.0.0 k c.2) (array-at names.fields name b.0 c.0 b.1 c.1)
 
 -- a store behind an index goes to an array
-pub item_store-lawful : (names : Names) (name : List ℕ) (cast : CType) (k : ℕ) → resolve_item_store names name cast ≡ Ok k → IsArrayAt names.fields k
+pub item_store-lawful : (names : Names) (name : List ℕ) (cast : CType) (k : ℕ) →
+    resolve_item_store names name cast ≡ Ok k → IsArrayAt names.fields k
 item_store-lawful names name cast k e =
-    let b : _ = bind-parts (field_named names.fields name) (λ field. as_array field.1 >>= λ type. unless_fault (same_type type cast) TypeRule >> Ok field.0) k e in
+    let b : _ =
+    bind-parts (field_named names.fields name)
+    (λ field. as_array field.1 >>= λ type. unless_fault (same_type type cast) TypeRule >> Ok field.0) k e in
     let c : _ = bind-parts (as_array b.0.1) (λ type. unless_fault (same_type type cast) TypeRule >> Ok b.0.0) k b.2 in
     let d : _ = then-parts (unless_fault (same_type c.0 cast) TypeRule) (Ok b.0.0) k c.2 in
     subst (IsArrayAt names.fields) (ok-same b.0.0 k d.2) (array-at names.fields name b.0 c.0 b.1 c.1)

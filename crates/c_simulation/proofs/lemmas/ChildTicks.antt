@@ -31,20 +31,25 @@ pub record IsChildHeader (d : Diagram) (n : Option ℕ) (h : SystemHeader) : Typ
   pub subsystem : is_subsystem (row_at d.rows row).kind ≡ true
   pub is_header : h ≡ header_of d h.row h.profile
 
-pub child-header : (d : Diagram) (n : Option ℕ) (headers : List SystemHeader) → AreHeaders d n headers → (h : SystemHeader) → Contains headers h → IsChildHeader d n h
+pub child-header : (d : Diagram) (n : Option ℕ) (headers : List SystemHeader) → AreHeaders d n headers →
+    (h : SystemHeader) → Contains headers h → IsChildHeader d n h
 child-header d n headers are h inside =
-    let at = of-map Some (subsystems_of d.rows n) h.row (subst (λ rows. Contains rows h.row) are.rows (in-map (λ (g : SystemHeader). g.row) headers h inside)) in
+    let at =
+    of-map Some (subsystems_of d.rows n) h.row
+    (subst (λ rows. Contains rows h.row) are.rows (in-map (λ (g : SystemHeader). g.row) headers h inside)) in
     let passes = of-filter (λ b. is_subsystem (row_at d.rows b).kind) (rows_of d.rows n) at.0 at.1 in
     record { row = at.0; is_row = sym at.2; own = of-rows d.rows n at.0 passes.0; subsystem = passes.1; is_header = (are.each h inside).0 }
 
 -- what a child's outputs are by its header they are by its own rows
-outputs-are : HeaderIsOfOwnRows → (d : Diagram) (h : SystemHeader) (delays : List Bool) (headers : List SystemHeader) → h ≡ header_of d h.row h.profile → (f : ℕ → ℤ) →
+outputs-are : HeaderIsOfOwnRows → (d : Diagram) (h : SystemHeader) (delays : List Bool) (headers : List SystemHeader) →
+    h ≡ header_of d h.row h.profile → (f : ℕ → ℤ) →
     map (λ (o : ℕ × FixType). f o.0) h.outputs ≡ map (λ (o : LocalRow). f o.row) (outports (local_of d delays h.row headers))
 outputs-are own d h delays headers is f =
     ap (λ (g : SystemHeader). map (λ (o : ℕ × FixType). f o.0) g.outputs) (is ∙ sym (own d delays h.row headers h.profile))
     ∙ map-map (λ (o : ℕ × FixType). f o.0) (λ (o : LocalRow). (o.row, o.out)) (outports (local_of d delays h.row headers))
 
-module _ (own : HeaderIsOfOwnRows) (r : ResolvedTree) (s n : Option ℕ) (xs : List (List ℤ)) (run : Run) (items others : ℕ → List ℤ) (t : ℕ) (resolved : IsResolvedTree r)
+module _ (own : HeaderIsOfOwnRows) (r : ResolvedTree) (s n : Option ℕ) (xs : List (List ℤ)) (run : Run)
+    (items others : ℕ → List ℤ) (t : ℕ) (resolved : IsResolvedTree r)
     (within : IsSystemWithin (diagram_of r).rows s n) (is : IsRunOver (diagram_of r) s xs run) where
   abbrev d : Diagram
   d = diagram_of r
@@ -58,13 +63,16 @@ module _ (own : HeaderIsOfOwnRows) (r : ResolvedTree) (s n : Option ℕ) (xs : L
   meets h headers inner are inside =
       let child = child-header d n headers are h inside in
       let met = children_meet_parents r s n xs run t child.row resolved within is child.own in
-      let same : (λ (o : Option ℕ). system_tick d s xs run o t) (Some child.row) ≡ system_tick d s xs run h.row t = ap (λ o. system_tick d s xs run o t) (sym child.is_row) in
+      let same : (λ (o : Option ℕ). system_tick d s xs run o t) (Some child.row) ≡ system_tick d s xs run h.row t =
+      ap (λ o. system_tick d s xs run o t) (sym child.is_row) in
       λ i. record {
         t = t;
         parent = (sym met.parent ∙ ap (λ tick. tick.parent) same) i;
         is_off_around = (sym met.is_off_around ∙ ap (λ tick. tick.is_off_around) same) i;
         inputs = (ap (λ o. map m.tick.value (entering_wires d.rows o)) child.is_row ∙ sym met.inputs ∙ ap (λ tick. tick.inputs) same) i;
-        controls = (ap (λ o. map m.tick.value (control_wires_of d.rows o)) child.is_row ∙ sym met.controls ∙ ap (λ tick. tick.controls) same) i;
+        controls =
+            (ap (λ o. map m.tick.value (control_wires_of d.rows o)) child.is_row ∙ sym met.controls
+            ∙ ap (λ tick. tick.controls) same) i;
         before = outputs-are own d h r.times.delays inner child.is_header m.tick.before i;
         outputs = outputs-are own d h r.times.delays inner child.is_header m.tick.value i;
       }

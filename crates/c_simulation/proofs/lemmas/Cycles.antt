@@ -17,6 +17,9 @@ cycle_is_of_locals divide some short r s local resolved is_local =
     subst (λ (system : LocalSystem). IsCycleOf system r.times.hyper) (sym is_local.is_local) (record {
       some = some r.tree.table r.types r.ops r.times resolved.resolved;
       short = short r.tree.table r.types r.ops r.times resolved.resolved;
-      repeats = each-row (λ (row : LocalRow). r.times.hyper % row.time.period ≡ 0) (local_row (diagram_of r) r.times.delays) r.tree.table.rows s
-          (λ b own. mod-eq-zero_of_dvd (slice_index_or r.times.run b every_tick).period (divide r.tree.table r.times b resolved.resolved.are_times own.in_table));
+      repeats =
+          each-row (λ (row : LocalRow). r.times.hyper % row.time.period ≡ 0)
+          (local_row (diagram_of r) r.times.delays) r.tree.table.rows s
+          (λ b own. mod-eq-zero_of_dvd (slice_index_or r.times.run b every_tick).period
+          (divide r.tree.table r.times b resolved.resolved.are_times own.in_table));
     })

@@ -29,7 +29,8 @@ use Rattle.c_simulation.proofs.lemmas.RingLaws.{begun_is_ring, emptied_is_ring, 
 use Rattle.c_simulation.proofs.DelayLengths.{delays-are-some}
 
 -- an Inport has no wires of its own system
-inport-aside : (value : ℕ → ℤ) (q : Bool) (first : List ℤ) (wires : List ℕ) → (if q then first else map value (if q then [] else wires)) ≡ (if q then first else map value wires)
+inport-aside : (value : ℕ → ℤ) (q : Bool) (first : List ℤ) (wires : List ℕ) →
+    (if q then first else map value (if q then [] else wires)) ≡ (if q then first else map value wires)
 inport-aside value true first wires = refl
 inport-aside value false first wires = refl
 
@@ -41,7 +42,9 @@ module _ (d : Diagram) (delays : List Bool) (n : Option ℕ) (headers : List Sys
   row b = local_row d delays b
 
   pub inputs-are : (b : ℕ) → own_inputs d n m.tick b ≡ row_inputs local m (row b)
-  inputs-are b = sym (inport-aside m.tick.value (is_inport (row_at d.rows b).kind) (number_of m.tick.inputs (port_of (row_at d.rows b).kind - 1) ∷ []) (row_at d.rows b).inputs)
+  inputs-are b =
+      sym (inport-aside m.tick.value (is_inport (row_at d.rows b).kind)
+      (number_of m.tick.inputs (port_of (row_at d.rows b).kind - 1) ∷ []) (row_at d.rows b).inputs)
 
   pub start-is : (b : ℕ) → IsRowOf d.rows n b → start_of d b ≡ row_start local (row b)
   start-is b own = ap (λ o. start_by (op_at d b) (row_at d.rows b).kind (system_control d.rows o) (type_at d.types b)) own.own
@@ -87,7 +90,8 @@ line-is_delay (Convert frac to how) h = absurd (true≢false (sym h))
 line-is_delay Nothing h = absurd (true≢false (sym h))
 
 module _ (r : ResolvedTree) (s n : Option ℕ) (xs : List (List ℤ)) (run : Run) (items : ℕ → List ℤ) (resolved : IsResolvedTree r)
-    (within : IsSystemWithin (diagram_of r).rows s n) (is : IsRunOver (diagram_of r) s xs run) (filled : AreItems (diagram_of r) items) where
+    (within : IsSystemWithin (diagram_of r).rows s n) (is : IsRunOver (diagram_of r) s xs run)
+    (filled : AreItems (diagram_of r) items) where
   abbrev d : Diagram
   d = diagram_of r
 
@@ -102,7 +106,8 @@ module _ (r : ResolvedTree) (s n : Option ℕ) (xs : List (List ℤ)) (run : Run
       IsRing (delay_length (op_at d b)) (start_of d b) (ring_at d s xs run n items t b) ((at t).memory b) →
       IsRing (delay_length (op_at d b)) (start_of d b) (ring_at d s xs run n items (suc t) b) ((at t).memory_after b)
   step b t own delay below so_far =
-      subst (IsRing (delay_length (op_at d b)) (start_of d b) (ring_at d s xs run n items (suc t) b)) (sym ((is_run.each t below).memories b own delay))
+      subst (IsRing (delay_length (op_at d b)) (start_of d b) (ring_at d s xs run n items (suc t) b))
+      (sym ((is_run.each t below).memories b own delay))
       (by ((at t).is_off_around || system_is_off d n (at t)) (own_runs d n (at t) b))
     where
       ring : Ring
@@ -112,7 +117,8 @@ module _ (r : ResolvedTree) (s n : Option ℕ) (xs : List (List ℤ)) (run : Run
       taken = input (own_inputs d n (at t) b) 0
 
       by : (off moves : Bool) →
-          IsRing (delay_length (op_at d b)) (start_of d b) (if off then emptied_ring ring else (if moves then moved_ring (delay_length (op_at d b)) ring taken else ring))
+          IsRing (delay_length (op_at d b)) (start_of d b) (if off then emptied_ring ring
+          else (if moves then moved_ring (delay_length (op_at d b)) ring taken else ring))
           (if off then initial_memory d b else (if moves then moved_on ((at t).memory b) taken else (at t).memory b))
       by true moves = emptied_is_ring (delay_length (op_at d b)) (start_of d b) ring ((at t).memory b) so_far
       by false true = moved_is_ring (delay_length (op_at d b)) (start_of d b) taken ring ((at t).memory b) so_far
@@ -135,17 +141,28 @@ ticks_are_local r s n local xs run items t resolved within is_local is filled be
     subst (λ (l : LocalSystem). IsLocalTick l m) (sym is_local.is_local) (record {
       values = each-row (λ q. m.tick.value q.row ≡ value_of (local_of d delays n headers) m q) (local_row d delays) d.rows n
           (λ b own. tick.values b own ∙ value-is d delays n headers m b own);
-      memories = each-kept (λ q. m.tick.memory_after q.row ≡ memory_of (local_of d delays n headers) m q) (λ q. is_delay q.op) (local_of d delays n headers).rows
-          (each-row (λ q. is_delay q.op ≡ true → m.tick.memory_after q.row ≡ memory_of (local_of d delays n headers) m q) (local_row d delays) d.rows n
+      memories =
+          each-kept (λ q. m.tick.memory_after q.row ≡ memory_of (local_of d delays n headers) m q) (λ q. is_delay q.op)
+          (local_of d delays n headers).rows
+          (each-row (λ q. is_delay q.op ≡ true →
+          m.tick.memory_after q.row ≡ memory_of (local_of d delays n headers) m q) (local_row d delays) d.rows n
           (λ b own delay. tick.memories b own delay ∙ memory-is d delays n headers m b own));
       lengths = each-kept (λ q. length (m.tick.memory q.row) ≡ delay_length q.op) (λ q. is_delay q.op) (local_of d delays n headers).rows
-          (each-row (λ q. is_delay q.op ≡ true → length (m.tick.memory q.row) ≡ delay_length q.op) (local_row d delays) d.rows n tick.lengths);
-      ring_holds = each-kept (λ q. IsRing (delay_length q.op) (row_start (local_of d delays n headers) q) (m.ring q.row) (m.tick.memory q.row)) (λ q. is_line q.op) (local_of d delays n headers).rows
-          (each-row (λ q. is_line q.op ≡ true → IsRing (delay_length q.op) (row_start (local_of d delays n headers) q) (m.ring q.row) (m.tick.memory q.row)) (local_row d delays) d.rows n
-          (λ b own line. subst (λ start. IsRing (delay_length (op_at d b)) start (m.ring b) (m.tick.memory b)) (start-is d delays n headers m b own)
+          (each-row (λ q. is_delay q.op ≡ true → length (m.tick.memory q.row) ≡ delay_length q.op)
+          (local_row d delays) d.rows n tick.lengths);
+      ring_holds =
+          each-kept (λ q. IsRing (delay_length q.op) (row_start (local_of d delays n headers) q) (m.ring q.row)
+          (m.tick.memory q.row)) (λ q. is_line q.op) (local_of d delays n headers).rows
+          (each-row (λ q. is_line q.op ≡ true →
+          IsRing (delay_length q.op) (row_start (local_of d delays n headers) q) (m.ring q.row)
+          (m.tick.memory q.row)) (local_row d delays) d.rows n
+          (λ b own line. subst (λ start. IsRing (delay_length (op_at d b)) start (m.ring b) (m.tick.memory b))
+          (start-is d delays n headers m b own)
           (holds r s n xs run items resolved within is filled b t own (line-is_delay (op_at d b) line) below)));
-      rings = each-kept (λ q. m.ring_after q.row ≡ ring_of (local_of d delays n headers) m q) (λ q. is_line q.op) (local_of d delays n headers).rows
-          (each-row (λ q. is_line q.op ≡ true → m.ring_after q.row ≡ ring_of (local_of d delays n headers) m q) (local_row d delays) d.rows n
+      rings = each-kept (λ q. m.ring_after q.row ≡ ring_of (local_of d delays n headers) m q) (λ q. is_line q.op)
+          (local_of d delays n headers).rows
+          (each-row (λ q. is_line q.op ≡ true → m.ring_after q.row ≡ ring_of (local_of d delays n headers) m q)
+          (local_row d delays) d.rows n
           (λ b own line. ring-is d delays n headers m b));
       trigger = λ h. tick.trigger h;
       at_rest = λ h. tick.at_rest h;

@@ -8,7 +8,8 @@ use Rattle.mc_profile.specs.LocalNodes.{NodeNeeds, NodeWalk, NodeReaches}
 use Rattle.c_simulation.specs.StandingLaws.{NeededIsHeld}
 
 -- a walk with one step more
-longer : (local : LocalSystem) (a x y : Node) (path : List Node) → NodeWalk local a path y → NodeNeeds local y x → NodeWalk local a (path ++ y ∷ []) x
+longer : (local : LocalSystem) (a x y : Node) (path : List Node) → NodeWalk local a path y → NodeNeeds local y x →
+    NodeWalk local a (path ++ y ∷ []) x
 longer local a x y [] walk needs = (walk, needs)
 longer local a x y (z ∷ path) walk needs = (walk.0, longer local z x y path walk.1 needs)
 

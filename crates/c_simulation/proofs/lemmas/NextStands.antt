@@ -20,7 +20,8 @@ nothing true (Some e) j = refl
 nothing false row j = refl
 
 module _ (local : LocalSystem) (m next : LocalTick) (children nexts : List InstanceTick) (counted : List ℕ → ℤ) (follows : Follows m next)
-    (zero : (name : List ℕ) → counted name ≡ pos 0) (linked : (k : ℕ) → (instance_at children k).after ≡ (instance_at nexts k).standing none_called) where
+    (zero : (name : List ℕ) → counted name ≡ pos 0) (linked : (k : ℕ) →
+    (instance_at children k).after ≡ (instance_at nexts k).standing none_called) where
   slot : (s : Slot) → after_cell local m children s ≡ standing_cell local next nexts (λ x. false) counted s
   slot (value r) = ap number (sym (follows.before r.row))
   slot (memory r) = ap (λ v. number (first_of v)) (sym (follows.memory r.row))
@@ -37,10 +38,13 @@ module _ (local : LocalSystem) (m next : LocalTick) (children nexts : List Insta
   all (s ∷ slots) = ap₂ more_cells (slot s) (all slots)
 
 pub next_stands : NextStands
-next_stands local slots m next children nexts counted follows zero linked = all local m next children nexts counted follows zero linked slots
+next_stands local slots m next children nexts counted follows zero linked =
+    all local m next children nexts counted follows zero linked slots
 
-module _ (local : LocalSystem) (m : LocalTick) (renewals : List Renewal) (children : List InstanceTick) (counted : List ℕ → ℤ) (zero : (name : List ℕ) → counted name ≡ pos 0) where
-  first_slot : (s : Slot) (b c : Cell) → IsStarted local renewals s b c → BeginsFrom local m renewals children s b → c ≡ standing_cell local m children (λ x. false) counted s
+module _ (local : LocalSystem) (m : LocalTick) (renewals : List Renewal) (children : List InstanceTick)
+    (counted : List ℕ → ℤ) (zero : (name : List ℕ) → counted name ≡ pos 0) where
+  first_slot : (s : Slot) (b c : Cell) → IsStarted local renewals s b c → BeginsFrom local m renewals children s b →
+      c ≡ standing_cell local m children (λ x. false) counted s
   first_slot (value r) b c is begins = is ∙ ap number (sym begins)
   first_slot (memory r) b c is begins = is ∙ ap number (sym begins)
   first_slot (ring_items r) b c is begins = is ∙ begins
@@ -48,20 +52,25 @@ module _ (local : LocalSystem) (m : LocalTick) (renewals : List Renewal) (childr
   first_slot (ring_taken r) b c is begins = is ∙ ap (λ k. number (pos k)) (sym begins)
   first_slot trigger b c is begins = is ∙ ap (λ g. number (trigger_number g)) (sym begins)
   first_slot (counter name type) b c is begins = is ∙ ap number (sym (zero name))
-  first_slot (instance k u) b c is begins = is ∙ ap object (begins ∙ ap (instance_at children k).standing (λ i j. nothing (is_active local m) u.header.row j i))
+  first_slot (instance k u) b c is begins =
+      is ∙ ap object (begins
+      ∙ ap (instance_at children k).standing (λ i j. nothing (is_active local m) u.header.row j i))
   first_slot filler b c is begins = is ∙ begins
 
-  first_all : (slots : List Slot) (before after : Cells) → AllSlots (IsStarted local renewals) slots before after → BeginsFromAll local m renewals children slots before →
+  first_all : (slots : List Slot) (before after : Cells) → AllSlots (IsStarted local renewals) slots before after →
+      BeginsFromAll local m renewals children slots before →
       after ≡ standing_cells local m children slots (λ x. false) counted
   first_all [] no_cells no_cells is begins = refl
   first_all [] no_cells (more_cells c after) is begins = absurd is
   first_all [] (more_cells b before) after is begins = absurd is
   first_all (s ∷ slots) no_cells after is begins = absurd is
   first_all (s ∷ slots) (more_cells b before) no_cells is begins = absurd is
-  first_all (s ∷ slots) (more_cells b before) (more_cells c after) is begins = ap₂ more_cells (first_slot s b c is.0 begins.0) (first_all slots before after is.1 begins.1)
+  first_all (s ∷ slots) (more_cells b before) (more_cells c after) is begins =
+      ap₂ more_cells (first_slot s b c is.0 begins.0) (first_all slots before after is.1 begins.1)
 
 pub first_stands : FirstStands
-first_stands local slots m renewals children counted before after is begins zero = first_all local m renewals children counted zero slots before after is begins
+first_stands local slots m renewals children counted before after is begins zero =
+    first_all local m renewals children counted zero slots before after is begins
 
 -- ticks of a run follow each other by definition
 pub ticks_follow : TicksFollow

@@ -53,16 +53,19 @@ item_start : (n : ℕ) (start : ℤ) (ring : Ring) (k : ℕ) → k < n - ring.ta
 item_start n start ring k below =
     ap (λ b. if b then start else slice_index_or ring.items ((ring.place + k) % n) (pos 0)) (lt-ltb k (n - ring.taken) below)
 
-item_taken : (n : ℕ) (start : ℤ) (ring : Ring) (k : ℕ) → n - ring.taken ≤ k → ring_item n start ring k ≡ slice_index_or ring.items ((ring.place + k) % n) (pos 0)
+item_taken : (n : ℕ) (start : ℤ) (ring : Ring) (k : ℕ) → n - ring.taken ≤ k →
+    ring_item n start ring k ≡ slice_index_or ring.items ((ring.place + k) % n) (pos 0)
 item_taken n start ring k above =
     ap (λ b. if b then start else slice_index_or ring.items ((ring.place + k) % n) (pos 0)) (le-ltb k (n - ring.taken) above)
 
 none_taken : (n : ℕ) (start : ℤ) (ring : Ring) → ring.taken ≡ 0 → replicate n start ≡ ring_list n start ring
 none_taken n start ring none =
-    sym (same_map (ring_item n start ring) (λ k. start) 0 0 n (λ k below. item_start n start ring (0 + k) (omega arith)) ∙ all_start start 0 n)
+    sym (same_map (ring_item n start ring) (λ k. start) 0 0 n (λ k below. item_start n start ring (0 + k) (omega arith))
+    ∙ all_start start 0 n)
 
 pub begun_is_ring : BegunIsRing
-begun_is_ring n start items some long = record { place = some; taken = omega arith; long = long; holds = none_taken n start (begun_ring items) refl }
+begun_is_ring n start items some long =
+    record { place = some; taken = omega arith; long = long; holds = none_taken n start (begun_ring items) refl }
 
 pub emptied_is_ring : EmptiedIsRing
 emptied_is_ring n start ring memory h =
@@ -94,7 +97,8 @@ taken_within n taken within = by (nat_lt taken n) refl
     by true is = let room = ltb-true taken n is in omega arith
     by false is = within
 
-module _ (m : ℕ) (start v : ℤ) (ring : Ring) (place : ring.place < suc m) (within : ring.taken ≤ suc m) (long : length ring.items ≡ suc m) where
+module _ (m : ℕ) (start v : ℤ) (ring : Ring) (place : ring.place < suc m) (within : ring.taken ≤ suc m)
+    (long : length ring.items ≡ suc m) where
   abbrev moved : Ring
   moved = moved_ring (suc m) ring v
 
@@ -104,7 +108,8 @@ module _ (m : ℕ) (start v : ℤ) (ring : Ring) (place : ring.place < suc m) (w
   point : (k : ℕ) → k < m → ring_item (suc m) start ring (1 + k) ≡ ring_item (suc m) start moved (0 + k)
   point k below = by (nat_lt (1 + k) (suc m - ring.taken)) refl
     where
-      by : (b : Bool) → nat_lt (1 + k) (suc m - ring.taken) ≡ b → ring_item (suc m) start ring (1 + k) ≡ ring_item (suc m) start moved (0 + k)
+      by : (b : Bool) → nat_lt (1 + k) (suc m - ring.taken) ≡ b →
+          ring_item (suc m) start ring (1 + k) ≡ ring_item (suc m) start moved (0 + k)
       by true is =
           let early = ltb-true (1 + k) (suc m - ring.taken) is in
           let fewer = one_fewer (suc m) ring.taken within in
@@ -113,19 +118,24 @@ module _ (m : ℕ) (start v : ℤ) (ring : Ring) (place : ring.place < suc m) (w
           let late = ltb-false (1 + k) (suc m - ring.taken) is in
           let fewer = one_fewer (suc m) ring.taken within in
           item_taken (suc m) start ring (1 + k) late
-          ∙ sym (item_taken (suc m) start moved (0 + k) (omega arith) ∙ ap (λ i. slice_index_or moved.items i (pos 0)) (ap (λ i. (moved.place + i) % suc m) (omega arith) ∙ at_place k)
-          ∙ set_elsewhere ring.items ring.place ((ring.place + (1 + k)) % suc m) v (pos 0) (moves_away (suc m) ring.place (1 + k) place (omega arith) (omega arith)))
+          ∙ sym (item_taken (suc m) start moved (0 + k) (omega arith)
+          ∙ ap (λ i. slice_index_or moved.items i (pos 0)) (ap (λ i. (moved.place + i) % suc m) (omega arith)
+          ∙ at_place k)
+          ∙ set_elsewhere ring.items ring.place ((ring.place + (1 + k)) % suc m) v (pos 0)
+          (moves_away (suc m) ring.place (1 + k) place (omega arith) (omega arith)))
 
   newest : ring_item (suc m) start moved (0 + m) ≡ v
   newest =
       let fewer = one_fewer (suc m) ring.taken within in
       item_taken (suc m) start moved (0 + m) (omega arith)
-      ∙ ap (λ i. slice_index_or moved.items i (pos 0)) (ap (λ i. (moved.place + i) % suc m) (omega arith) ∙ at_place m ∙ ap (λ i. i % suc m) (omega arith) ∙ add-mod_right ring.place (suc m) ∙ mod-eq_of_lt place)
+      ∙ ap (λ i. slice_index_or moved.items i (pos 0)) (ap (λ i. (moved.place + i) % suc m) (omega arith) ∙ at_place m
+      ∙ ap (λ i. i % suc m) (omega arith) ∙ add-mod_right ring.place (suc m) ∙ mod-eq_of_lt place)
       ∙ set_there ring.items ring.place v (pos 0) (omega arith)
 
   holds : moved_on (ring_list (suc m) start ring) v ≡ ring_list (suc m) start moved
   holds =
-      ap₂ (λ xs y. xs ++ y ∷ []) (same_map (ring_item (suc m) start ring) (ring_item (suc m) start moved) (0 + 1) 0 m (λ k below. ap (ring_item (suc m) start ring) (omega arith) ∙ point k below)) (sym newest)
+      ap₂ (λ xs y. xs ++ y ∷ []) (same_map (ring_item (suc m) start ring) (ring_item (suc m) start moved) (0 + 1) 0 m
+      (λ k below. ap (ring_item (suc m) start ring) (omega arith) ∙ point k below)) (sym newest)
       ∙ sym (last_apart (ring_item (suc m) start moved) 0 m)
 
 pub moved_is_ring : MovedIsRing

@@ -18,9 +18,19 @@ pub stmts_tree-items : {m : _} (row : Row_of-Stmt m) → stmts_tree row ≡ stmt
 stmts_tree-items end_of-Stmt = refl
 stmts_tree-items (more_of-Stmt first rest) = ap (more_stmts (stmt_tree first)) (stmts_tree-items rest)
 
-pub expr_tree-Pure : (k : ℕ) (values : Vec Expr Global) → expr_tree (views.Pure k values) ≡ pure k (exprs_of_list (map expr_tree values.items))
+pub expr_tree-Pure : (k : ℕ) (values : Vec Expr Global) →
+    expr_tree (views.Pure k values) ≡ pure k (exprs_of_list (map expr_tree values.items))
 expr_tree-Pure k values =
-    ap (pure k) (exprs_tree-items (Rattle.c_syntax.specs.declared.code.Cond.TheBlock.hidden-the_row-Expr-0 values) ∙ ap (λ xs. exprs_of_list (map expr_tree xs)) (items_hidden-the_row-Expr-0 values))
+    ap (pure k) (exprs_tree-items (Rattle.c_syntax.specs.declared.code.Cond.TheBlock.hidden-the_row-Expr-0 values)
+    ∙ ap (λ xs. exprs_of_list (map expr_tree xs)) (items_hidden-the_row-Expr-0 values))
 
-pub stmt_tree-If : (line : ℕ) (test : Cond) (on_true on_false : Vec Stmt Global) → stmt_tree (stmt_views.If line test on_true on_false) ≡ branch line (cond_tree test) (stmts_of_list (map stmt_tree on_true.items)) (stmts_of_list (map stmt_tree on_false.items))
-stmt_tree-If line test on_true on_false = λ i. branch line (cond_tree test) ((stmts_tree-items (Rattle.c_syntax.specs.declared.code.Stmt.TheBlock.hidden-the_row-Stmt-0 on_true) ∙ ap (λ xs. stmts_of_list (map stmt_tree xs)) (items_hidden-the_row-Stmt-0 on_true)) i) ((stmts_tree-items (Rattle.c_syntax.specs.declared.code.Stmt.TheBlock.hidden-the_row-Stmt-0 on_false) ∙ ap (λ xs. stmts_of_list (map stmt_tree xs)) (items_hidden-the_row-Stmt-0 on_false)) i)
+pub stmt_tree-If : (line : ℕ) (test : Cond) (on_true on_false : Vec Stmt Global) →
+    stmt_tree (stmt_views.If line test on_true on_false)
+    ≡ branch line (cond_tree test) (stmts_of_list (map stmt_tree on_true.items))
+    (stmts_of_list (map stmt_tree on_false.items))
+stmt_tree-If line test on_true on_false =
+    λ i. branch line (cond_tree test)
+    ((stmts_tree-items (Rattle.c_syntax.specs.declared.code.Stmt.TheBlock.hidden-the_row-Stmt-0 on_true)
+    ∙ ap (λ xs. stmts_of_list (map stmt_tree xs)) (items_hidden-the_row-Stmt-0 on_true)) i)
+    ((stmts_tree-items (Rattle.c_syntax.specs.declared.code.Stmt.TheBlock.hidden-the_row-Stmt-0 on_false)
+    ∙ ap (λ xs. stmts_of_list (map stmt_tree xs)) (items_hidden-the_row-Stmt-0 on_false)) i)

@@ -115,7 +115,14 @@ fn procedure(
     params: Vec<(Text, CType)>,
     body: Vec<Stmt>,
 ) -> Result<Procedure, Memory>
-    ensures { IfOk result (λ p. procedure_tree p ≡ record { name = name.now; private = private; of = of; params = param_trees params.items; body = stmts_of_list (map stmt_tree body.items) }) }
+    ensures { IfOk result (λ p. procedure_tree p
+        ≡ record {
+          name = name.now;
+          private = private;
+          of = of;
+          params = param_trees params.items;
+          body = stmts_of_list (map stmt_tree body.items);
+        }) }
 {
     Ok(Procedure {
         name: Text::copy_of(alloc, name)?,

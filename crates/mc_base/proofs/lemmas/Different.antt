@@ -23,7 +23,9 @@ eqb-sym x y = elim (eqb_tells x y) [
 pub has-different : (xs : List ℕ) (m : ℕ) → has (different xs) m ≡ has xs m
 has-different [] m = refl
 has-different (x ∷ xs) m =
-    ap (λ r. eqb x m || r) (any-filter_same (λ y. eqb y m) (λ y. not (eqb y x)) (not (eqb m x)) (λ k same. ap (λ y. not (eqb y x)) (eqb-true k m same)) (different xs))
+    ap (λ r. eqb x m || r)
+    (any-filter_same (λ y. eqb y m) (λ y. not (eqb y x)) (not (eqb m x))
+    (λ k same. ap (λ y. not (eqb y x)) (eqb-true k m same)) (different xs))
     ∙ by (eqb x m) (eqb m x) (eqb-sym x m) ∙ ap (λ r. eqb x m || r) (has-different xs m)
   where
     by : (r q : Bool) → r ≡ q → (r || (not q && has (different xs) m)) ≡ (r || has (different xs) m)

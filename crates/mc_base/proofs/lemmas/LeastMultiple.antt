@@ -23,7 +23,9 @@ times_gcd m zero a b k h = absurd (omega (arith, h))
 times_gcd m (suc turns) a zero k h = IsGcd-from_zero (m * a) (m * 0) (omega arith)
 times_gcd m (suc turns) a (suc b) k h =
     let rest = times_gcd m turns (suc b) (a % suc b) k (omega (arith, h, mod-lt a (some b))) in
-    IsGcd-from_mod (m * a) (m * suc b) _ (subst (λ r. IsGcd (m * suc b) r (m * gcd_within turns (suc b) (a % suc b))) (sym (times_mod m a (suc b) k (some b))) rest)
+    IsGcd-from_mod (m * a) (m * suc b) _
+    (subst (λ r. IsGcd (m * suc b) r (m * gcd_within turns (suc b) (a % suc b)))
+    (sym (times_mod m a (suc b) k (some b))) rest)
 
 swapped : (x y : ℕ) → x * y ≡ y * x
 swapped x y = omega arith

@@ -22,7 +22,8 @@ zeros_in_front (c ∷ cs) = by_test (zeros_in_front cs) (c == 48) refl
 
     by_test : digits_value 10 (drop_while (λ b. b == 48) cs) ≡ digits_value 10 cs → (t : Bool) → (c == 48) ≡ t →
         digits_value 10 (drop (cond t (1 + prefix_len (λ b. b == 48) cs) 0) (c ∷ cs)) ≡ digits_value 10 (c ∷ cs)
-    by_test more true e = ap (λ k. digits_value 10 (drop k (c ∷ cs))) (one_more (prefix_len (λ b. b == 48) cs)) ∙ more ∙ ap (λ b. digits_value_after 10 (0 * 10 + digit_value b) cs) (sym (eqb-true c 48 e))
+    by_test more true e = ap (λ k. digits_value 10 (drop k (c ∷ cs))) (one_more (prefix_len (λ b. b == 48) cs)) ∙ more
+        ∙ ap (λ b. digits_value_after 10 (0 * 10 + digit_value b) cs) (sym (eqb-true c 48 e))
     by_test more false e = refl
 
 -- a part of digits is one of digits
@@ -42,7 +43,8 @@ short_bound ds h l =
     subst (λ n. n < 10 ^ 18) (zeros_in_front ds) (le_trans below (powers (length rest) l))
 
 -- parts don't grow
-pub in_lowest_terms-le : (num : ℤ) (den : ℕ) → (unsigned_abs (in_lowest_terms num den).num ≤ unsigned_abs num) × ((in_lowest_terms num den).den ≤ den)
+pub in_lowest_terms-le : (num : ℤ) (den : ℕ) →
+    (unsigned_abs (in_lowest_terms num den).num ≤ unsigned_abs num) × ((in_lowest_terms num den).den ≤ den)
 in_lowest_terms-le (pos n) den = (div-le_self n _, div-le_self den _)
 in_lowest_terms-le (negsuc n) den = (le_of_neg _ _ (div-le_self (suc n) _), div-le_self den _)
   where
@@ -73,8 +75,10 @@ both_digits : (a b : List ℕ) → are_digits a ≡ true → are_digits b ≡ tr
 both_digits a b d e = list_all-append is_ascii_digit a b ∙ cc
 
 -- the same of digits in two parts
-pub short_behind : (a b : List ℕ) → are_digits a ≡ true → are_digits b ≡ true → significant_len (a ++ b) ≤ 18 → digits_value_after 10 (digits_value_after 10 0 a) b < 10 ^ 18
+pub short_behind : (a b : List ℕ) → are_digits a ≡ true → are_digits b ≡ true → significant_len (a ++ b) ≤ 18 →
+    digits_value_after 10 (digits_value_after 10 0 a) b < 10 ^ 18
 short_behind a b d e h = subst (λ n. n < 10 ^ 18) (digits_value-append 0 a b) (short_value (a ++ b) (both_digits a b d e) h)
 
-pub short_front : (a b : List ℕ) → are_digits a ≡ true → are_digits b ≡ true → significant_len (a ++ b) ≤ 18 → digits_value_after 10 0 a < 10 ^ 18
+pub short_front : (a b : List ℕ) → are_digits a ≡ true → are_digits b ≡ true → significant_len (a ++ b) ≤ 18 →
+    digits_value_after 10 0 a < 10 ^ 18
 short_front a b d e h = omega (arith, short_behind a b d e h, le-digits_value_after (digits_value_after 10 0 a) b)

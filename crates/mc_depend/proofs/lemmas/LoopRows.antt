@@ -11,7 +11,8 @@ use Rattle.mc_depend.proofs.Comparing.{le-or-above}
 
 module _ (needs : ℕ → List ℕ) where
   -- two walks, one after the other
-  pub walk-append : (a : ℕ) (path : List ℕ) (b : ℕ) (more : List ℕ) (c : ℕ) → Walk needs a path b → Walk needs b more c → Walk needs a (path ++ b ∷ more) c
+  pub walk-append : (a : ℕ) (path : List ℕ) (b : ℕ) (more : List ℕ) (c : ℕ) → Walk needs a path b →
+      Walk needs b more c → Walk needs a (path ++ b ∷ more) c
   walk-append a [] b more c w v = (w, v)
   walk-append a (d ∷ path) b more c w v = (w.0, walk-append d path b more c w.1 v)
 
@@ -28,7 +29,8 @@ module _ (needs : ℕ → List ℕ) where
   loop-rows (a ∷ b ∷ path) w =
       ((b ∷ path, w), ((path ++ a ∷ [], walk-append b path a [] b w.1 w.0), rows-on_loops a b [] path w.0 w.1))
 
-  pub all-above : (a : ℕ) → ((b : ℕ) → IsOnLoop needs b → a ≤ b) → (rows : List ℕ) → AllByRecursion (IsOnLoop needs) rows → AllByRecursion (λ b. a ≤ b) rows
+  pub all-above : (a : ℕ) → ((b : ℕ) → IsOnLoop needs b → a ≤ b) → (rows : List ℕ) →
+      AllByRecursion (IsOnLoop needs) rows → AllByRecursion (λ b. a ≤ b) rows
   all-above a least [] all = tt
   all-above a least (b ∷ rows) all = (least b all.0, all-above a least rows all.1)
 
@@ -38,7 +40,8 @@ module _ (needs : ℕ → List ℕ) where
   none-on_loop none (a ∷ path) w = none a (path, w)
 
   -- a least path from the least row on a loop back to it makes the loop that is told
-  pub least-loop : (a : ℕ) (steps path : List ℕ) → IsLeastOf (IsOnLoop needs) (Some a) → AreLevelsTo needs a steps → IsLeastPath needs a steps a path → IsLeastLoop needs (a ∷ path)
+  pub least-loop : (a : ℕ) (steps path : List ℕ) → IsLeastOf (IsOnLoop needs) (Some a) → AreLevelsTo needs a steps →
+      IsLeastPath needs a steps a path → IsLeastLoop needs (a ∷ path)
   least-loop a steps path row levels way = record {
     is_loop = way.walk;
     least_row = λ loop w. all-above a row.1 loop (loop-rows loop w);

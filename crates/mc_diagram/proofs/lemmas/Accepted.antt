@@ -38,11 +38,13 @@ nothing_listed [] e = refl
 nothing_listed (refusal ∷ rest) e = absurd (let wrong : ⊥ = cc e in wrong)
 
 -- where a filter keeps none of the numbers from a on, none of them passes
-pub none_pass : {X : Type 0} (test : ℕ → Bool) (f : ℕ → X) (n a b : ℕ) → map f (filter test (range_with_len a n)) ≡ [] → a ≤ b → b < a + n → test b ≡ false
+pub none_pass : {X : Type 0} (test : ℕ → Bool) (f : ℕ → X) (n a b : ℕ) → map f (filter test (range_with_len a n)) ≡ [] →
+    a ≤ b → b < a + n → test b ≡ false
 none_pass test f zero a b e low high = absurd (omega arith)
 none_pass test f (suc n) a b e low high = by (test a) refl e (none_pass test f n (a + 1) b)
   where
-    by : (r : Bool) → test a ≡ r → map f (if r then a ∷ filter test (range_with_len (a + 1) n) else filter test (range_with_len (a + 1) n)) ≡ [] →
+    by : (r : Bool) → test a ≡ r →
+        map f (if r then a ∷ filter test (range_with_len (a + 1) n) else filter test (range_with_len (a + 1) n)) ≡ [] →
         (map f (filter test (range_with_len (a + 1) n)) ≡ [] → a + 1 ≤ b → b < a + 1 + n → test b ≡ false) → test b ≡ false
     by true q e rest = absurd (let wrong : ⊥ = cc e in wrong)
     by false q e rest = elim (ℕ_discrete a b) [
@@ -87,25 +89,30 @@ rows_are_narrow table types ops times b resolved inside =
 abbrev numbers_of : List AtLine → List ℕ
 numbers_of = map (λ (p : AtLine). p.number)
 
-within_limit : (limit so_far : ℕ) (xs : List AtLine) → so_far ≤ limit → first_over limit so_far xs ≡ None → fold lcm so_far (numbers_of xs) ≤ limit
+within_limit : (limit so_far : ℕ) (xs : List AtLine) → so_far ≤ limit → first_over limit so_far xs ≡ None →
+    fold lcm so_far (numbers_of xs) ≤ limit
 within_limit limit so_far [] h e = h
 within_limit limit so_far (x ∷ xs) h e = by (nat_lt limit (lcm so_far x.number)) refl e (within_limit limit (lcm so_far x.number) xs)
   where
     by : (r : Bool) → nat_lt limit (lcm so_far x.number) ≡ r →
         (if r then Some (record { line = x.line; number = lcm so_far x.number }) else first_over limit (lcm so_far x.number) xs) ≡ None →
-        (lcm so_far x.number ≤ limit → first_over limit (lcm so_far x.number) xs ≡ None → fold lcm (lcm so_far x.number) (numbers_of xs) ≤ limit) →
+        (lcm so_far x.number ≤ limit → first_over limit (lcm so_far x.number) xs ≡ None →
+        fold lcm (lcm so_far x.number) (numbers_of xs) ≤ limit) →
         fold lcm (lcm so_far x.number) (numbers_of xs) ≤ limit
     by true q e rest = absurd (let wrong : ⊥ = cc e in wrong)
     by false q e rest = rest (grind (arith, nat_tests)) e
 
 -- a line beside each number changes none of them
-numbers-append : (line : ℕ) (ns : List ℕ) (ys : List AtLine) → numbers_of (map (λ n. record { line = line; number = n }) ns ++ ys) ≡ ns ++ numbers_of ys
+numbers-append : (line : ℕ) (ns : List ℕ) (ys : List AtLine) →
+    numbers_of (map (λ n. record { line = line; number = n }) ns ++ ys) ≡ ns ++ numbers_of ys
 numbers-append line [] ys = refl
 numbers-append line (n ∷ ns) ys = ap (λ l. n ∷ l) (numbers-append line ns ys)
 
 -- what a function of the written times gives for these rows of all, which are numbered from a on
-numbers-by_line : (f : TimeText → List ℕ) (all rest : List Row) (a : ℕ) → ((b i : ℕ) → b ≡ a + i → row_at all b ≡ slice_index_or rest i no_row) →
-    numbers_of (flat_map (λ b. map (λ n. record { line = line_at all b; number = n }) (f (written_time all b))) (range_with_len a (length rest)))
+numbers-by_line : (f : TimeText → List ℕ) (all rest : List Row) (a : ℕ) →
+    ((b i : ℕ) → b ≡ a + i → row_at all b ≡ slice_index_or rest i no_row) →
+    numbers_of (flat_map (λ b. map (λ n. record { line = line_at all b; number = n }) (f (written_time all b)))
+    (range_with_len a (length rest)))
     ≡ flat_map (λ (row : Row). f (written_by row.kind row.time_text)) rest
 numbers-by_line f all [] a e = refl
 numbers-by_line f all (row ∷ rest) a e =
@@ -115,9 +122,13 @@ numbers-by_line f all (row ∷ rest) a e =
     (numbers-by_line f all rest (a + 1) (λ b i q. e b (suc i) (omega arith)))
 
 cycle_is : (table : RowTable) → fold lcm 1 (numbers_of (by_line table.rows (periods_in table))) ≡ hyperperiod table
-cycle_is table = ap (fold lcm 1) (numbers-by_line (periods_in table) table.rows table.rows 0 (λ b i e. ap (row_at table.rows) (let same : b ≡ i = omega arith in same)))
+cycle_is table =
+    ap (fold lcm 1)
+    (numbers-by_line (periods_in table) table.rows table.rows 0
+    (λ b i e. ap (row_at table.rows) (let same : b ≡ i = omega arith in same)))
 
-no_long_cycle : (table : RowTable) (found : Option AtLine) → option_map (λ (over : AtLine). LongCycle over.line Hyper over.number) found ≡ None → found ≡ None
+no_long_cycle : (table : RowTable) (found : Option AtLine) →
+    option_map (λ (over : AtLine). LongCycle over.line Hyper over.number) found ≡ None → found ≡ None
 no_long_cycle table None e = refl
 no_long_cycle table (Some over) e = absurd (let wrong : ⊥ = cc e in wrong)
 
@@ -125,7 +136,8 @@ pub nothing_written : (table : RowTable) → HasTimeRefusal table None → writt
 nothing_written table h = by (written_time_refusal table) h
   where
     by : (found : Option PlainRefusal) →
-        MatchOption found ((inside : List Time) × AreInputTimes table inside × (None ≡ rate_refusal table inside)) (λ refusal. None ≡ Some refusal) → found ≡ None
+        MatchOption found ((inside : List Time) × AreInputTimes table inside × (None ≡ rate_refusal table inside))
+        (λ refusal. None ≡ Some refusal) → found ≡ None
     by None h = refl
     by (Some refusal) h = absurd (let wrong : ⊥ = cc h in wrong)
 

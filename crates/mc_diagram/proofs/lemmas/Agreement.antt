@@ -25,7 +25,8 @@ All-append_right P [] ys a = a
 All-append_right P (x ∷ xs) ys a = All-append_right P xs ys a.1
 
 -- a guard gives the same where each control is not read, or is the same
-active-same : (p q : Bool) (c : Control) (m : TrigMem) (i j k l : ℤ) → p ≡ q → (is_enabled c ≡ false) ⊎ (i ≡ j) → (is_triggered c ≡ false) ⊎ (k ≡ l) → active p c m i k ≡ active q c m j l
+active-same : (p q : Bool) (c : Control) (m : TrigMem) (i j k l : ℤ) → p ≡ q → (is_enabled c ≡ false) ⊎ (i ≡ j) →
+    (is_triggered c ≡ false) ⊎ (k ≡ l) → active p c m i k ≡ active q c m j l
 active-same p q Plain m i j k l e en tr = e
 active-same p q (Enabled reset) m i j k l e (inl not_read) tr = absurd (true≢false not_read)
 active-same p q (Enabled reset) m i j k l e (inr same) tr = rw (e, same) refl
@@ -43,7 +44,8 @@ off-same p q (Triggered edge) i j e en = refl
 off-same p q (Both reset edge) i j e (inl not_read) = absurd (true≢false not_read)
 off-same p q (Both reset edge) i j e (inr same) = rw (e, same) refl
 
-disabled-same : (p q : Bool) (c : Control) (i j : ℤ) → p ≡ q → (is_enabled c ≡ false) ⊎ (i ≡ j) → (is_enabled c && (p && not (is_high i))) ≡ (is_enabled c && (q && not (is_high j)))
+disabled-same : (p q : Bool) (c : Control) (i j : ℤ) → p ≡ q → (is_enabled c ≡ false) ⊎ (i ≡ j) →
+    (is_enabled c && (p && not (is_high i))) ≡ (is_enabled c && (q && not (is_high j)))
 disabled-same p q c i j e (inl not_read) = rw not_read refl
 disabled-same p q c i j e (inr same) = rw (e, same) refl
 
@@ -67,13 +69,15 @@ module _ (v w : List ℤ) (x y : List ℤ) (d : Diagram) (s : Option ℕ) (g : L
   second-agree (c ∷ []) a = refl
   second-agree (c ∷ b ∷ cs) a = a.1.0
 
-  pub enable-agree : (control : Control) (cs : List ℕ) → AllByRecursion Agree cs → wire_value d s x v g (enable_among control cs) ≡ wire_value d s y w g (enable_among control cs)
+  pub enable-agree : (control : Control) (cs : List ℕ) → AllByRecursion Agree cs →
+      wire_value d s x v g (enable_among control cs) ≡ wire_value d s y w g (enable_among control cs)
   enable-agree Plain cs a = refl
   enable-agree (Enabled reset) cs a = first-agree cs a
   enable-agree (Triggered edge) cs a = refl
   enable-agree (Both reset edge) cs a = first-agree cs a
 
-  pub trigger-agree : (control : Control) (cs : List ℕ) → AllByRecursion Agree cs → wire_value d s x v g (trigger_among control cs) ≡ wire_value d s y w g (trigger_among control cs)
+  pub trigger-agree : (control : Control) (cs : List ℕ) → AllByRecursion Agree cs →
+      wire_value d s x v g (trigger_among control cs) ≡ wire_value d s y w g (trigger_among control cs)
   trigger-agree Plain cs a = refl
   trigger-agree (Enabled reset) cs a = refl
   trigger-agree (Triggered edge) cs a = first-agree cs a
@@ -101,22 +105,29 @@ module _ (d : Diagram) (s : Option ℕ) (x y v w : List ℤ) (g : List TrigMem) 
   -- what the values and the trace have to share for row b
   pub record AgreeFor (b : ℕ) : Type 0 where
     pub controls : AllByRecursion SameControl (around d.rows s b)
-    pub inport : is_inport_of d.rows s b ≡ true → value_at x (column d.rows s (Number (port_of (row_at d.rows b).kind))) ≡ value_at y (column d.rows s (Number (port_of (row_at d.rows b).kind)))
-    pub inputs : is_inport_of d.rows s b ≡ false → feeds_through (op_at d b) ≡ true → AllByRecursion (λ c. value_at v c ≡ value_at w c) (row_at d.rows b).inputs
+    pub inport : is_inport_of d.rows s b ≡ true →
+        value_at x (column d.rows s (Number (port_of (row_at d.rows b).kind)))
+        ≡ value_at y (column d.rows s (Number (port_of (row_at d.rows b).kind)))
+    pub inputs : is_inport_of d.rows s b ≡ false → feeds_through (op_at d b) ≡ true →
+        AllByRecursion (λ c. value_at v c ≡ value_at w c) (row_at d.rows b).inputs
 
   inputs-agree : (b : ℕ) → AgreeFor b → feeds_through (op_at d b) ≡ true → input_values d s x v g b ≡ input_values d s y w g b
   inputs-agree b a feeds = by (is_inport_of d.rows s b) refl
     where
       by : (own : Bool) → is_inport_of d.rows s b ≡ own →
-          (if own then value_at x (column d.rows s (Number (port_of (row_at d.rows b).kind))) ∷ [] else map (value_at v) (row_at d.rows b).inputs)
-          ≡ (if own then value_at y (column d.rows s (Number (port_of (row_at d.rows b).kind))) ∷ [] else map (value_at w) (row_at d.rows b).inputs)
+          (if own then value_at x (column d.rows s (Number (port_of (row_at d.rows b).kind))) ∷ []
+          else map (value_at v) (row_at d.rows b).inputs)
+          ≡ (if own then value_at y (column d.rows s (Number (port_of (row_at d.rows b).kind))) ∷ []
+          else map (value_at w) (row_at d.rows b).inputs)
       by true e = ap (λ z. z ∷ []) (a.inport e)
       by false e = map-agree (value_at v) (value_at w) (row_at d.rows b).inputs (a.inputs e feeds)
 
   -- the value of a row is then the same
-  pub row_value-agree : (t : ℕ) (before : List ℤ) (m : List (List ℤ)) (b : ℕ) → AgreeFor b → row_value d s t x before m g v b ≡ row_value d s t y before m g w b
+  pub row_value-agree : (t : ℕ) (before : List ℤ) (m : List (List ℤ)) (b : ℕ) → AgreeFor b →
+      row_value d s t x before m g v b ≡ row_value d s t y before m g w b
   row_value-agree t before m b a =
       let active = active-agree (around d.rows s b) a.controls in
       let disabled = disabled-agree (around d.rows s b) a.controls in
-      let same = rhs-agree (op_at d b) (input_values d s x v g b) (input_values d s y w g b) (first_of (memory_at m b)) (inputs-agree b a) in
+      let same = rhs-agree (op_at d b) (input_values d s x v g b) (input_values d s y w g b) (first_of (memory_at m b))
+      (inputs-agree b a) in
       rw (active, disabled, same) refl

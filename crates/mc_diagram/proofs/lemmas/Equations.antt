@@ -8,7 +8,9 @@ use Rattle.mc_diagram.specs.Diagram.{Diagram}
 use Rattle.mc_diagram.specs.Run.{value_at, memory_at, trigger_at, row_value, row_memory, row_trigger, has_memory, has_trigger, IsTick}
 use Rattle.mc_diagram.proofs.lemmas.ByRow.{by_row-at}
 
-module _ (d : Diagram) (s : Option ℕ) (t : ℕ) (x before : List ℤ) (m : List (List ℤ)) (g : List TrigMem) (v : List ℤ) (m' : List (List ℤ)) (g' : List TrigMem) (tick : IsTick d s t x before m g v m' g') (b : ℕ) (h : b < length d.rows) where
+module _ (d : Diagram) (s : Option ℕ) (t : ℕ) (x before : List ℤ) (m : List (List ℤ)) (g : List TrigMem) (v : List ℤ)
+    (m' : List (List ℤ)) (g' : List TrigMem) (tick : IsTick d s t x before m g v m' g') (b : ℕ)
+    (h : b < length d.rows) where
   pub value-of_row : is_inside d.rows s b ≡ true → value_at v b ≡ row_value d s t x before m g v b
   value-of_row inside =
       ap (λ l. value_at l b) tick.values

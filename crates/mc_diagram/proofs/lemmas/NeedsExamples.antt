@@ -25,7 +25,8 @@ of_two a b c (suc (suc k), below, e) = absurd (omega arith)
 
 -- a sum and a gain that go round
 abbrev round : Diagram
-round = simple (row None (Inport 1) [] ∷ row None (Sum 2 2 how) (0 ∷ 2 ∷ []) ∷ row None (Gain (Own zero_initial) how) (1 ∷ []) ∷ row None (Outport 1 false zero_initial) (1 ∷ []) ∷ [])
+round = simple (row None (Inport 1) [] ∷ row None (Sum 2 2 how) (0 ∷ 2 ∷ [])
+    ∷ row None (Gain (Own zero_initial) how) (1 ∷ []) ∷ row None (Outport 1 false zero_initial) (1 ∷ []) ∷ [])
 
 not-first : (a c : ℕ) → Contains (needs_of round a) c → 1 ≤ a
 not-first zero c h = absurd (Contains-nil c h)
@@ -52,7 +53,13 @@ first-of_two (b ∷ []) w e = elim (of_two 0 2 b w.0) [
 ]
 
 pub round_loop : IsLeastLoop (needs_of round) (1 ∷ 2 ∷ [])
-round_loop = record { is_loop = ((1, lit< tt, refl), (0, lit< tt, refl)); least_row = rows-of_loop; shortest = not-alone; least = first-of_two }
+round_loop =
+    record {
+      is_loop = ((1, lit< tt, refl), (0, lit< tt, refl));
+      least_row = rows-of_loop;
+      shortest = not-alone;
+      least = first-of_two;
+    }
 
 -- The first output of a system that passes its inputs through needs the first input, and not the second.
 pub first_needs_first : TrueNeeds passing (Some 1) 4 (Number 1)

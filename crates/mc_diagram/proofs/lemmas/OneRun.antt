@@ -47,7 +47,9 @@ module _ (d : Diagram) (s : Option ℕ) where
         )
 
     -- after the same first tick
-    one-more : (t : ℕ) (before : List ℤ) (m : List (List ℤ)) (g : List TrigMem) (x : List ℤ) (xs : List (List ℤ)) (v : List ℤ) (m' : List (List ℤ)) (g' : List TrigMem) (vs : List (List ℤ)) (ms : List (List (List ℤ))) (gs : List (List TrigMem)) →
+    one-more : (t : ℕ) (before : List ℤ) (m : List (List ℤ)) (g : List TrigMem) (x : List ℤ) (xs : List (List ℤ))
+        (v : List ℤ) (m' : List (List ℤ)) (g' : List TrigMem) (vs : List (List ℤ)) (ms : List (List (List ℤ)))
+        (gs : List (List TrigMem)) →
         IsTick d s t x before m g v m' g' →
         (let rest : Run = record { values = vs; memories = ms; triggers = gs } in rest ≡ solved (suc t) v m' g' xs) →
         (let whole : Run = record { values = v ∷ vs; memories = m' ∷ ms; triggers = g' ∷ gs } in whole ≡ solved t before m g (x ∷ xs))
@@ -57,23 +59,38 @@ module _ (d : Diagram) (s : Option ℕ) where
         let eg : g' ≡ triggers_after x g (solution d s t x before m g) = tick.triggers ∙ ap (triggers_after x g) ev in
         ap (with_tick v m' g') e ∙ λ i. with_tick (ev i) (em i) (eg i) (solved (suc t) (ev i) (em i) (eg i) xs)
 
-    pub solved-only : (t : ℕ) (before : List ℤ) (m : List (List ℤ)) (g : List TrigMem) (xs vs : List (List ℤ)) (ms : List (List (List ℤ))) (gs : List (List TrigMem)) →
-        RunFrom d s t before m g xs vs ms gs → (let run : Run = record { values = vs; memories = ms; triggers = gs } in run ≡ solved t before m g xs)
+    pub solved-only : (t : ℕ) (before : List ℤ) (m : List (List ℤ)) (g : List TrigMem) (xs vs : List (List ℤ))
+        (ms : List (List (List ℤ))) (gs : List (List TrigMem)) →
+        RunFrom d s t before m g xs vs ms gs → (let run : Run = record { values = vs; memories = ms; triggers = gs } in
+        run ≡ solved t before m g xs)
     solved-only t before m g [] [] [] [] r = refl
     solved-only t before m g (x ∷ xs) (v ∷ vs) (m' ∷ ms) (g' ∷ gs) r =
         one-more t before m g x xs v m' g' vs ms gs r.0 (solved-only (suc t) v m' g' xs vs ms gs r.1)
     solved-only t before m g _ _ _ _ r = absurd r
 
-    pub whole-only : (xs vs : List (List ℤ)) (ms : List (List (List ℤ))) (gs : List (List TrigMem)) → IsRun d s xs vs ms gs → (let run : Run = record { values = vs; memories = ms; triggers = gs } in run ≡ whole_run xs)
+    pub whole-only : (xs vs : List (List ℤ)) (ms : List (List (List ℤ))) (gs : List (List TrigMem)) →
+        IsRun d s xs vs ms gs → (let run : Run = record { values = vs; memories = ms; triggers = gs } in
+        run ≡ whole_run xs)
     whole-only xs vs [] gs r = absurd r
     whole-only xs vs (m ∷ ms) [] r = absurd r
     whole-only xs vs (m ∷ ms) (g ∷ gs) r =
-        ap (λ (rest : Run). record { values = rest.values; memories = m ∷ rest.memories; triggers = g ∷ rest.triggers }) (solved-only 0 (values_by d s (start_of d)) m g xs vs ms gs r.2)
-        ∙ λ i. record { values = (solved 0 (values_by d s (start_of d)) (r.0 i) (r.1 i) xs).values; memories = r.0 i ∷ (solved 0 (values_by d s (start_of d)) (r.0 i) (r.1 i) xs).memories; triggers = r.1 i ∷ (solved 0 (values_by d s (start_of d)) (r.0 i) (r.1 i) xs).triggers }
+        ap (λ (rest : Run). record { values = rest.values; memories = m ∷ rest.memories; triggers = g ∷ rest.triggers })
+        (solved-only 0 (values_by d s (start_of d)) m g xs vs ms gs r.2)
+        ∙ λ i. record {
+          values = (solved 0 (values_by d s (start_of d)) (r.0 i) (r.1 i) xs).values;
+          memories = r.0 i ∷ (solved 0 (values_by d s (start_of d)) (r.0 i) (r.1 i) xs).memories;
+          triggers =
+              r.1 i ∷ (solved 0 (values_by d s (start_of d)) (r.0 i) (r.1 i) xs).triggers;
+        }
 
 pub one_run : LoopFreeHasOneRun
 one_run d s xs none = record {
   run = whole_run d s xs;
-  is_run = (refl, refl, solved-runs d s none 0 (values_by d s (start_of d)) (memories_by d s (initial_memory d)) (triggers_by d s (λ e. NotYet)) xs);
+  is_run = (
+    refl,
+    refl,
+    solved-runs d s none 0 (values_by d s (start_of d)) (memories_by d s (initial_memory d))
+        (triggers_by d s (λ e. NotYet)) xs,
+  );
   only = λ other r. whole-only d s none xs other.values other.memories other.triggers r;
 }

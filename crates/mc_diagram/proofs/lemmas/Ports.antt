@@ -39,7 +39,8 @@ in-filter : {A : Type 0} (p : A → Bool) (xs : List A) (x : A) → Contains xs 
 in-filter p [] x h passes = h
 in-filter p (y ∷ ys) x h passes = by (p y) refl (in-cases y x ys h) (λ more. in-filter p ys x more passes)
   where
-    by : (t : Bool) → p y ≡ t → (y ≡ x) ⊎ Contains ys x → (Contains ys x → Contains (filter p ys) x) → Contains (cond t (y ∷ filter p ys) (filter p ys)) x
+    by : (t : Bool) → p y ≡ t → (y ≡ x) ⊎ Contains ys x → (Contains ys x → Contains (filter p ys) x) →
+        Contains (cond t (y ∷ filter p ys) (filter p ys)) x
     by true e (inl same) later = subst (Contains (y ∷ filter p ys)) same (in-first y (filter p ys))
     by true e (inr more) later = in-rest y x (filter p ys) (later more)
     by false e (inl same) later = absurd (true≢false (sym passes ∙ sym (ap p same) ∙ e))
@@ -52,7 +53,8 @@ of-filter p (y ∷ ys) x h = by (p y) refl h (λ more. of-filter p ys x more)
     kept : Contains ys x × (p x ≡ true) → Contains (y ∷ ys) x × (p x ≡ true)
     kept (more, passes) = (in-rest y x ys more, passes)
 
-    by : (t : Bool) → p y ≡ t → Contains (cond t (y ∷ filter p ys) (filter p ys)) x → (Contains (filter p ys) x → Contains ys x × (p x ≡ true)) → Contains (y ∷ ys) x × (p x ≡ true)
+    by : (t : Bool) → p y ≡ t → Contains (cond t (y ∷ filter p ys) (filter p ys)) x →
+        (Contains (filter p ys) x → Contains ys x × (p x ≡ true)) → Contains (y ∷ ys) x × (p x ≡ true)
     by true e h later = elim (in-cases y x (filter p ys) h) [
       | inl same ↦ (subst (Contains (y ∷ ys)) same (in-first y ys), ap p (sym same) ∙ e)
       | inr more ↦ kept (later more)
@@ -63,7 +65,8 @@ found-in : {A : Type 0} (p : A → Bool) (xs : List A) (x : A) → find p xs ≡
 found-in p [] x e = absurd (let wrong : ⊥ = cc e in wrong)
 found-in p (y ∷ ys) x e = by (p y) refl e (λ later. found-in p ys x later)
   where
-    by : (t : Bool) → p y ≡ t → cond t (Some y) (find p ys) ≡ Some x → (find p ys ≡ Some x → Contains ys x × (p x ≡ true)) → Contains (y ∷ ys) x × (p x ≡ true)
+    by : (t : Bool) → p y ≡ t → cond t (Some y) (find p ys) ≡ Some x →
+        (find p ys ≡ Some x → Contains ys x × (p x ≡ true)) → Contains (y ∷ ys) x × (p x ≡ true)
     by true q e later = let same : y ≡ x = cc e in (subst (Contains (y ∷ ys)) same (in-first y ys), ap p (sym same) ∙ q)
     by false q e later = let more = later e in (in-rest y x ys more.0, more.1)
 
@@ -72,7 +75,8 @@ module _ {A : Type 0} where
   finds p [] x h passes = absurd (in-none x h)
   finds p (y ∷ ys) x h passes = by (p y) refl (in-cases y x ys h) (λ more. finds p ys x more passes)
     where
-      by : (t : Bool) → p y ≡ t → (y ≡ x) ⊎ Contains ys x → (Contains ys x → (z : A) × (find p ys ≡ Some z)) → (z : A) × (cond t (Some y) (find p ys) ≡ Some z)
+      by : (t : Bool) → p y ≡ t → (y ≡ x) ⊎ Contains ys x → (Contains ys x → (z : A) × (find p ys ≡ Some z)) →
+          (z : A) × (cond t (Some y) (find p ys) ≡ Some z)
       by true q h later = (y, refl)
       by false q (inl same) later = absurd (true≢false (sym passes ∙ sym (ap p same) ∙ q))
       by false q (inr more) later = later more
@@ -136,18 +140,24 @@ at-most : (xs : List ℕ) (n : ℕ) → Apart xs → ((q : ℕ) → Contains xs 
 at-most xs n h below = length-le_from_distinct_below xs n (distinct xs h) (λ q m. below q (member q xs m))
 
 -- where each number is found, what is found stands in order
-place-found : (f : ℕ → Option ℕ) (a n i : ℕ) → ((k : ℕ) → a ≤ k → k < a + n → (b : ℕ) × (f k ≡ Some b)) → i < n → slice_get (filter_map f (range_with_len a n)) i ≡ f (a + i)
+place-found : (f : ℕ → Option ℕ) (a n i : ℕ) → ((k : ℕ) → a ≤ k → k < a + n → (b : ℕ) × (f k ≡ Some b)) → i < n →
+    slice_get (filter_map f (range_with_len a n)) i ≡ f (a + i)
 place-found f a zero i found h = absurd (omega arith)
-place-found f a (suc n) i found h = by i h (found a (omega arith) (omega arith)) (λ k. place-found f (a + 1) n k (λ j low high. found j (omega arith) (omega arith)))
+place-found f a (suc n) i found h =
+    by i h (found a (omega arith) (omega arith))
+    (λ k. place-found f (a + 1) n k (λ j low high. found j (omega arith) (omega arith)))
   where
-    by : (i : ℕ) → i < suc n → (b : ℕ) × (f a ≡ Some b) → ((k : ℕ) → k < n → slice_get (filter_map f (range_with_len (a + 1) n)) k ≡ f (a + 1 + k)) →
+    by : (i : ℕ) → i < suc n → (b : ℕ) × (f a ≡ Some b) →
+        ((k : ℕ) → k < n → slice_get (filter_map f (range_with_len (a + 1) n)) k ≡ f (a + 1 + k)) →
         slice_get (cons_option (f a) (filter_map f (range_with_len (a + 1) n))) i ≡ f (a + i)
-    by zero h (b, is) rest = ap (λ o. slice_get (cons_option o (filter_map f (range_with_len (a + 1) n))) 0) is ∙ sym is ∙ (let same : a ≡ a + 0 = omega arith in ap f same)
+    by zero h (b, is) rest = ap (λ o. slice_get (cons_option o (filter_map f (range_with_len (a + 1) n))) 0) is ∙ sym is
+        ∙ (let same : a ≡ a + 0 = omega arith in ap f same)
     by (suc k) h (b, is) rest =
         ap (λ o. slice_get (cons_option o (filter_map f (range_with_len (a + 1) n))) (suc k)) is ∙ rest k (omega arith)
         ∙ (let same : a + 1 + k ≡ a + suc k = omega arith in ap f same)
 
-length-found : (f : ℕ → Option ℕ) (a n : ℕ) → ((k : ℕ) → a ≤ k → k < a + n → (b : ℕ) × (f k ≡ Some b)) → length (filter_map f (range_with_len a n)) ≡ n
+length-found : (f : ℕ → Option ℕ) (a n : ℕ) → ((k : ℕ) → a ≤ k → k < a + n → (b : ℕ) × (f k ≡ Some b)) →
+    length (filter_map f (range_with_len a n)) ≡ n
 length-found f a zero found = refl
 length-found f a (suc n) found =
     ap (λ o. length (cons_option o (filter_map f (range_with_len (a + 1) n)))) (found a (omega arith) (omega arith)).1
@@ -165,12 +175,14 @@ module _ (port : ℕ → ℕ) (own : List ℕ) (apart : Apart own)
   none-missing k low high none =
       let less : ℕ → ℕ = λ b. port b - 1 in
       let different : Apart ((k - 1) ∷ map less own) = (
-        λ y m same. (let z = of-map less own y m in let r = range z.0 z.1 in let above : 0 < port z.0 = r.0 in let is : port z.0 - 1 ≡ y = z.2 in none z.0 z.1 (omega arith)),
+        λ y m same. (let z = of-map less own y m in let r = range z.0 z.1 in let above : 0 < port z.0 = r.0 in
+            let is : port z.0 - 1 ≡ y = z.2 in none z.0 z.1 (omega arith)),
         apart-map less own (λ b c mb mc same. one b c mb mc (let rb = (range b mb).0 in let rc = (range c mc).0 in omega arith)) apart,
       ) in
       let below : (q : ℕ) → Contains ((k - 1) ∷ map less own) q → q < length own = λ q m. elim (in-cases (k - 1) q (map less own) m) [
         | inl same ↦ omega arith
-        | inr more ↦ let z = of-map less own q more in let r = range z.0 z.1 in let above : 0 < port z.0 = r.0 in let low_enough : port z.0 ≤ length own = r.1 in let is : port z.0 - 1 ≡ q = z.2 in omega arith
+        | inr more ↦ let z = of-map less own q more in let r = range z.0 z.1 in let above : 0 < port z.0 = r.0 in
+            let low_enough : port z.0 ≤ length own = r.1 in let is : port z.0 - 1 ≡ q = z.2 in omega arith
       ] in
       let few : suc (length (map less own)) ≤ length own = at-most ((k - 1) ∷ map less own) (length own) different below in
       omega (arith, length-map own less)
@@ -241,7 +253,9 @@ module _ (rows : List Row) (test : Kind → Bool) (o : Option ℕ) (ports : HasP
       }
 
   own-apart : Apart own
-  own-apart = apart-filter passes (rows_of rows o) (apart-filter (λ c. same_system (row_at rows c).owner o) (row_numbers rows) (apart-range 0 (length rows)))
+  own-apart =
+      apart-filter passes (rows_of rows o)
+      (apart-filter (λ c. same_system (row_at rows c).owner o) (row_numbers rows) (apart-range 0 (length rows)))
 
   range : (b : ℕ) → Contains own b → (0 < port b) × (port b ≤ length own)
   range b h =
@@ -272,7 +286,8 @@ module _ (rows : List Row) (test : Kind → Bool) (o : Option ℕ) (ports : HasP
   length-by_port = length-numbered port own own-apart range one
 
   -- what stands by port is such a row, at its port
-  pub ported-at : (k : ℕ) → k < length (by_port rows o test) → (b : ℕ) × (slice_get (by_port rows o test) k ≡ Some b) × IsPorted b × (port b ≡ suc k)
+  pub ported-at : (k : ℕ) → k < length (by_port rows o test) →
+      (b : ℕ) × (slice_get (by_port rows o test) k ≡ Some b) × IsPorted b × (port b ≡ suc k)
   ported-at k below =
       let within : k < length own = omega (arith, below, length-by_port) in
       let found = each-port port own own-apart range one (suc k) (omega arith) (omega arith) in

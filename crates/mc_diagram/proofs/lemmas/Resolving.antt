@@ -35,7 +35,8 @@ all-at P (x ∷ xs) (suc k) d h inside = all-at P xs k d h.1 (omega arith)
 pub wires_inside : (table : RowTable) (b k : ℕ) → IsWellFormed table → b < length table.rows → k < length (row_at table.rows b).inputs →
     slice_index_or (row_at table.rows b).inputs k 0 < length table.rows
 wires_inside table b k formed inside h =
-    (all-at (IsWireIn table.rows (reading_system table.rows (row_at table.rows b).kind (row_at table.rows b).owner)) (row_at table.rows b).inputs k 0
+    (all-at (IsWireIn table.rows (reading_system table.rows (row_at table.rows b).kind (row_at table.rows b).owner))
+    (row_at table.rows b).inputs k 0
     (formed.wired.wires b inside) h).0
 
 -- a row that is computed has the inputs that its kind asks for

@@ -45,20 +45,27 @@ input-row : (rows : List Row) (s : Option ℕ) (b : ℕ) → is_inport_of rows s
 input-row rows s b e =
     let parts = both (is_inport (row_at rows b).kind) (same_system (row_at rows b).owner s) e in
     record {
-      in_table = elim (row_at-past rows b) [ inl below ↦ below | inr past ↦ absurd (true≢false (sym (let h : is_inport (row_at rows b).kind ≡ true = parts.0 in rw past at h))) ];
+      in_table =
+          elim (row_at-past rows b) [
+            | inl below ↦ below
+            | inr past ↦
+                absurd (true≢false (sym (let h : is_inport (row_at rows b).kind ≡ true = parts.0 in rw past at h)))
+          ];
       is_inport = is_inport-equal (row_at rows b).kind parts.0;
       is_own = same_system-equal (row_at rows b).owner s parts.1;
     }
 
 -- the trace's enable and trigger of s are not read, or are the same
-own-enable : (d : Diagram) (s : Option ℕ) (x y : List ℤ) (o : ℕ) (c : Control) → c ≡ system_control d.rows s → AgreeOn d s (TrueNeeds d s o) x y →
+own-enable : (d : Diagram) (s : Option ℕ) (x y : List ℤ) (o : ℕ) (c : Control) → c ≡ system_control d.rows s →
+    AgreeOn d s (TrueNeeds d s o) x y →
     (is_enabled c ≡ false) ⊎ (value_at x (column d.rows s Enable) ≡ value_at y (column d.rows s Enable))
 own-enable d s x y o Plain q a = inl refl
 own-enable d s x y o (Enabled reset) q a = inr (a Enable (subst (λ c. IsTrue (is_enabled c)) q refl))
 own-enable d s x y o (Triggered edge) q a = inl refl
 own-enable d s x y o (Both reset edge) q a = inr (a Enable (subst (λ c. IsTrue (is_enabled c)) q refl))
 
-own-trigger : (d : Diagram) (s : Option ℕ) (x y : List ℤ) (o : ℕ) (c : Control) → c ≡ system_control d.rows s → AgreeOn d s (TrueNeeds d s o) x y →
+own-trigger : (d : Diagram) (s : Option ℕ) (x y : List ℤ) (o : ℕ) (c : Control) → c ≡ system_control d.rows s →
+    AgreeOn d s (TrueNeeds d s o) x y →
     (is_triggered c ≡ false) ⊎ (value_at x (column d.rows s Trigger) ≡ value_at y (column d.rows s Trigger))
 own-trigger d s x y o Plain q a = inl refl
 own-trigger d s x y o (Enabled reset) q a = inl refl
@@ -83,7 +90,12 @@ module _ (d : Diagram) (s : Option ℕ) (none : HasNoLoop (needs_of d)) (o : ℕ
         let c = slice_index_or (needs_inside d s b) k z in
         let member = Contains-get_or (needs_inside d s b) k z below in
         same-from n c (h c member) (reaches-on (needs_inside d s) o b c r member)) in
-        let agree = agree-for d s x y v w g b (λ e q. (own-enable d s x y o (control_at d.rows e) (control_at-own d s e q) a, own-trigger d s x y o (control_at d.rows e) (control_at-own d s e q) a))
+        let agree =
+        agree-for d s x y v w g b
+        (λ e q. (
+          own-enable d s x y o (control_at d.rows e) (control_at-own d s e q) a,
+          own-trigger d s x y o (control_at d.rows e) (control_at-own d s e q) a,
+        ))
         (λ q. a (Number (port_of (row_at d.rows b).kind)) (b, input-row d.rows s b q, r)) needed in
         ap (λ l. value_at l b) (solution-solves d s t x before m g none)
         ∙ by_row-agree d.rows (guarded d s t x before m g v) (guarded d s t y before m g w) b
@@ -99,22 +111,27 @@ module _ (d : Diagram) (s : Option ℕ) (none : HasNoLoop (needs_of d)) (o : ℕ
   tail-same : (x y : List ℤ) (xs ys : List (List ℤ)) → x ∷ xs ≡ y ∷ ys → xs ≡ ys
   tail-same x y xs ys e = cc e
 
-  later-same : (t k : ℕ) (before : List ℤ) (m : List (List ℤ)) (g : List TrigMem) (xs ys : List (List ℤ)) → t < length xs → t < length ys → take t xs ≡ take t ys →
+  later-same : (t k : ℕ) (before : List ℤ) (m : List (List ℤ)) (g : List TrigMem) (xs ys : List (List ℤ)) →
+      t < length xs → t < length ys → take t xs ≡ take t ys →
       AgreeOn d s (TrueNeeds d s o) (slice_index_or xs t []) (slice_index_or ys t []) →
-      value_at (slice_index_or (solved d s k before m g xs).values t []) o ≡ value_at (slice_index_or (solved d s k before m g ys).values t []) o
+      value_at (slice_index_or (solved d s k before m g xs).values t []) o
+      ≡ value_at (slice_index_or (solved d s k before m g ys).values t []) o
   later-same t k before m g [] ys lx ly e a = absurd (omega arith)
   later-same t k before m g (x ∷ xs) [] lx ly e a = absurd (omega arith)
   later-same zero k before m g (x ∷ xs) (y ∷ ys) lx ly e a = output-same k x y before m g a
   later-same (suc t) k before m g (x ∷ xs) (y ∷ ys) lx ly e a =
       let v = solution d s k x before m g in
-      subst (λ z. value_at (slice_index_or (solved d s k before m g (x ∷ xs)).values (suc t) []) o ≡ value_at (slice_index_or (solved d s k before m g (z ∷ ys)).values (suc t) []) o)
+      subst (λ z. value_at (slice_index_or (solved d s k before m g (x ∷ xs)).values (suc t) []) o
+      ≡ value_at (slice_index_or (solved d s k before m g (z ∷ ys)).values (suc t) []) o)
       (head-same x y (take t xs) (take t ys) e)
-      (later-same t (suc k) v (memories_after d s k x m g v) (triggers_after d s x g v) xs ys (omega arith) (omega arith) (tail-same x y (take t xs) (take t ys) e) a)
+      (later-same t (suc k) v (memories_after d s k x m g v) (triggers_after d s x g v) xs ys (omega arith)
+      (omega arith) (tail-same x y (take t xs) (take t ys) e) a)
 
 pub output_rests : OutputRestsOnNeeds
 output_rests d s xs ys run other t o none r q lx ly e a =
     let one = ap (λ (z : Run). z.values) (whole-only d s none xs run.values run.memories run.triggers r) in
     let two = ap (λ (z : Run). z.values) (whole-only d s none ys other.values other.memories other.triggers q) in
     ap (λ l. value_at (slice_index_or l t []) o) one
-    ∙ later-same d s none o t 0 (values_by d s (start_of d)) (memories_by d s (initial_memory d)) (triggers_by d s (λ z. NotYet)) xs ys lx ly e a
+    ∙ later-same d s none o t 0 (values_by d s (start_of d)) (memories_by d s (initial_memory d))
+    (triggers_by d s (λ z. NotYet)) xs ys lx ly e a
     ∙ sym (ap (λ l. value_at (slice_index_or l t []) o) two)

@@ -45,13 +45,15 @@ module _ (d : Diagram) (s : Option ℕ) (x v : List ℤ) (g : List TrigMem) (e :
   abbrev by_wires : List ℤ
   by_wires = map (value_at v) (row_at d.rows e).inputs
 
-  enable-by-wires : (c : Control) → is_enabled c ≡ true → wire_value d s x v g (enable_among c (row_at d.rows e).inputs) ≡ enable_in c by_wires
+  enable-by-wires : (c : Control) → is_enabled c ≡ true →
+      wire_value d s x v g (enable_among c (row_at d.rows e).inputs) ≡ enable_in c by_wires
   enable-by-wires Plain h = absurd (true≢false (sym h))
   enable-by-wires (Enabled reset) h = wire-at d s x v g (row_at d.rows e).inputs 0
   enable-by-wires (Triggered edge) h = absurd (true≢false (sym h))
   enable-by-wires (Both reset edge) h = wire-at d s x v g (row_at d.rows e).inputs 0
 
-  trigger-by-wires : (c : Control) → is_triggered c ≡ true → wire_value d s x v g (trigger_among c (row_at d.rows e).inputs) ≡ trigger_in c by_wires
+  trigger-by-wires : (c : Control) → is_triggered c ≡ true →
+      wire_value d s x v g (trigger_among c (row_at d.rows e).inputs) ≡ trigger_in c by_wires
   trigger-by-wires Plain h = absurd (true≢false (sym h))
   trigger-by-wires (Enabled reset) h = absurd (true≢false (sym h))
   trigger-by-wires (Triggered edge) h = wire-at d s x v g (row_at d.rows e).inputs 0
@@ -75,7 +77,8 @@ module _ (d : Diagram) (s : Option ℕ) (x v : List ℤ) (g : List TrigMem) (e :
 -- ---- Activity by controls that agree where they are there
 
 module _ (outside : Bool) (memory : TrigMem) (enable trigger : ℤ) (controls : List ℤ) where
-  active-by : (c : Control) → (is_enabled c ≡ true → enable ≡ enable_in c controls) → (is_triggered c ≡ true → trigger ≡ trigger_in c controls) →
+  active-by : (c : Control) → (is_enabled c ≡ true → enable ≡ enable_in c controls) →
+      (is_triggered c ≡ true → trigger ≡ trigger_in c controls) →
       active outside c memory enable trigger ≡ is_active_by outside c memory controls
   active-by Plain en tr = refl
   active-by (Enabled reset) en tr = ap (λ z. active outside (Enabled reset) memory z trigger) (en refl)
@@ -165,30 +168,38 @@ module _ (r : ResolvedTree) (resolved : IsResolvedTree r) (s : Option ℕ) (xs :
           ap (λ (o : Option ℕ). controls_at d s xs run o t) is_e
           ∙ ap (λ q. if q then by_trace d s x v g e (control_at rows e) else by_wires d s x v g e) (ap (same_system s) (sym is_e) ∙ h)
 
-      enable-is : is_enabled (control_at rows e) ≡ true → enable_value d s x v g e ≡ enable_in (control_at rows e) (controls_at d s xs run n t)
+      enable-is : is_enabled (control_at rows e) ≡ true →
+          enable_value d s x v g e ≡ enable_in (control_at rows e) (controls_at d s xs run n t)
       enable-is en = by (same_system s n) refl
         where
-          by : (here : Bool) → same_system s n ≡ here → enable_value d s x v g e ≡ enable_in (control_at rows e) (controls_at d s xs run n t)
+          by : (here : Bool) → same_system s n ≡ here →
+              enable_value d s x v g e ≡ enable_in (control_at rows e) (controls_at d s xs run n t)
           by true h =
               let same : s ≡ Some e = same_system-equal s n h ∙ is_e in
-              ap (λ q. if q then value_at x (column rows s Enable) else wire_value d s x v g (enable_wire rows e)) (is-same s e true (ap (same_system s) (sym is_e) ∙ h))
+              ap (λ q. if q then value_at x (column rows s Enable) else wire_value d s x v g (enable_wire rows e))
+              (is-same s e true (ap (same_system s) (sym is_e) ∙ h))
               ∙ ap (λ o. value_at x (column rows o Enable)) same ∙ enable-by-trace d s x v g e (control_at rows e) en
               ∙ ap (enable_in (control_at rows e)) (sym (controls-are true h))
           by false h =
-              ap (λ q. if q then value_at x (column rows s Enable) else wire_value d s x v g (enable_wire rows e)) (is-same s e false (ap (same_system s) (sym is_e) ∙ h))
+              ap (λ q. if q then value_at x (column rows s Enable) else wire_value d s x v g (enable_wire rows e))
+              (is-same s e false (ap (same_system s) (sym is_e) ∙ h))
               ∙ enable-by-wires d s x v g e (control_at rows e) en ∙ ap (enable_in (control_at rows e)) (sym (controls-are false h))
 
-      trigger-is : is_triggered (control_at rows e) ≡ true → trigger_value d s x v g e ≡ trigger_in (control_at rows e) (controls_at d s xs run n t)
+      trigger-is : is_triggered (control_at rows e) ≡ true →
+          trigger_value d s x v g e ≡ trigger_in (control_at rows e) (controls_at d s xs run n t)
       trigger-is tr = by (same_system s n) refl
         where
-          by : (here : Bool) → same_system s n ≡ here → trigger_value d s x v g e ≡ trigger_in (control_at rows e) (controls_at d s xs run n t)
+          by : (here : Bool) → same_system s n ≡ here →
+              trigger_value d s x v g e ≡ trigger_in (control_at rows e) (controls_at d s xs run n t)
           by true h =
               let same : s ≡ Some e = same_system-equal s n h ∙ is_e in
-              ap (λ q. if q then value_at x (column rows s Trigger) else wire_value d s x v g (trigger_wire rows e)) (is-same s e true (ap (same_system s) (sym is_e) ∙ h))
+              ap (λ q. if q then value_at x (column rows s Trigger) else wire_value d s x v g (trigger_wire rows e))
+              (is-same s e true (ap (same_system s) (sym is_e) ∙ h))
               ∙ ap (λ o. value_at x (column rows o Trigger)) same ∙ trigger-by-trace d s x v g e (control_at rows e) tr
               ∙ ap (trigger_in (control_at rows e)) (sym (controls-are true h))
           by false h =
-              ap (λ q. if q then value_at x (column rows s Trigger) else wire_value d s x v g (trigger_wire rows e)) (is-same s e false (ap (same_system s) (sym is_e) ∙ h))
+              ap (λ q. if q then value_at x (column rows s Trigger) else wire_value d s x v g (trigger_wire rows e))
+              (is-same s e false (ap (same_system s) (sym is_e) ∙ h))
               ∙ trigger-by-wires d s x v g e (control_at rows e) tr ∙ ap (trigger_in (control_at rows e)) (sym (controls-are false h))
 
     -- ---- Activity around the own rows
@@ -196,7 +207,8 @@ module _ (r : ResolvedTree) (resolved : IsResolvedTree r) (s : Option ℕ) (xs :
     abbrev IsActivity : Option ℕ → Type 0
     IsActivity o =
         (active_in d s x v g (around_rows_of rows s o) ≡ system_is_active d o (system_tick d s xs run o t))
-        × (any_off d s x v g (around_rows_of rows s o) ≡ ((system_tick d s xs run o t).is_off_around || system_is_off d o (system_tick d s xs run o t)))
+        × (any_off d s x v g (around_rows_of rows s o)
+        ≡ ((system_tick d s xs run o t).is_off_around || system_is_off d o (system_tick d s xs run o t)))
         × (is_disabled d s x v g (around_rows_of rows s o) ≡ system_is_disabled d o (system_tick d s xs run o t))
 
     activity : IsActivity n
@@ -209,11 +221,14 @@ module _ (r : ResolvedTree) (resolved : IsResolvedTree r) (s : Option ℕ) (xs :
             let outer = around rows s e in
             let controls = controls_at d s xs run (Some e) t in
             let same : controls_at d s xs run n t ≡ controls = ap (λ (o : Option ℕ). controls_at d s xs run o t) is_e in
-            let en : (is_enabled c ≡ true → enable_value d s x v g e ≡ enable_in c controls) = λ h. enable-is e is_e h ∙ ap (enable_in c) same in
-            let tr : (is_triggered c ≡ true → trigger_value d s x v g e ≡ trigger_in c controls) = λ h. trigger-is e is_e h ∙ ap (trigger_in c) same in
+            let en : (is_enabled c ≡ true → enable_value d s x v g e ≡ enable_in c controls) =
+            λ h. enable-is e is_e h ∙ ap (enable_in c) same in
+            let tr : (is_triggered c ≡ true → trigger_value d s x v g e ≡ trigger_in c controls) =
+            λ h. trigger-is e is_e h ∙ ap (trigger_in c) same in
             let parent = active_in d s x v g outer in (
               active-by parent (trigger_at g e) (enable_value d s x v g e) (trigger_value d s x v g e) controls c en tr,
-              ap (λ q. q || any_off d s x v g outer) (off-by parent (trigger_at g e) (enable_value d s x v g e) (trigger_value d s x v g e) controls c en)
+              ap (λ q. q || any_off d s x v g outer)
+                  (off-by parent (trigger_at g e) (enable_value d s x v g e) (trigger_value d s x v g e) controls c en)
                   ∙ or-turned (is_off_by parent c controls) (any_off d s x v g outer),
               disabled-by parent (trigger_at g e) (enable_value d s x v g e) (trigger_value d s x v g e) controls c en,
             )
@@ -230,17 +245,25 @@ module _ (r : ResolvedTree) (resolved : IsResolvedTree r) (s : Option ℕ) (xs :
       pub inputs-are : input_values d s x v g b ≡ own_inputs d n tick b
       inputs-are = by (is_inport kind) refl
         where
-          port-is : is_inport kind ≡ true → (0 < port_of kind) × (port_of kind - 1 < length (inports_of rows n)) × (slice_get (inports_of rows n) (port_of kind - 1) ≡ Some b)
+          port-is : is_inport kind ≡ true →
+              (0 < port_of kind) × (port_of kind - 1 < length (inports_of rows n))
+              × (slice_get (inports_of rows n) (port_of kind - 1) ≡ Some b)
           port-is inport = inport-at d n (resolved.tree.table.inports n) (port_of kind) b
               (record { in_table = row.in_table; is_inport = is_inport-equal kind inport; is_own = row.own })
 
           by_system : Bool → List ℤ
-          by_system q = if q then map (λ k. value_at x (column rows n (Number k))) (range_with_len 1 (length (inports_of rows n))) else map (value_at v) (entering_wires rows n)
+          by_system q =
+              if q then map (λ k. value_at x (column rows n (Number k))) (range_with_len 1 (length (inports_of rows n)))
+              else map (value_at v) (entering_wires rows n)
 
-          from-wires : is_inport kind ≡ true → same_system s n ≡ false → (o : Option ℕ) → n ≡ o → wires ≡ number_of (inputs_at d s xs run n t) (port_of kind - 1) ∷ []
-          from-wires inport h None e = absurd (true≢false (sym (ap (same_system s) e ∙ ap (λ q. same_system q None) (subst (IsSystemWithin rows s) e within)) ∙ h))
+          from-wires : is_inport kind ≡ true → same_system s n ≡ false → (o : Option ℕ) → n ≡ o →
+              wires ≡ number_of (inputs_at d s xs run n t) (port_of kind - 1) ∷ []
+          from-wires inport h None e =
+              absurd (true≢false
+              (sym (ap (same_system s) e ∙ ap (λ q. same_system q None) (subst (IsSystemWithin rows s) e within)) ∙ h))
           from-wires inport h (Some e) q =
-              let place : slice_get (inports_of rows (Some e)) (port_of kind - 1) ≡ Some b = ap (λ o. slice_get (inports_of rows o) (port_of kind - 1)) (sym q) ∙ (port-is inport).2 in
+              let place : slice_get (inports_of rows (Some e)) (port_of kind - 1) ≡ Some b =
+              ap (λ o. slice_get (inports_of rows o) (port_of kind - 1)) (sym q) ∙ (port-is inport).2 in
               let wire = entering-at rows resolved.tree.table.wired e (resolved.tree.table.inports (Some e)) (port_of kind - 1) b place in
               ap (map (value_at v)) wire.1
               ∙ ap (λ z. z ∷ []) (sym
@@ -249,14 +272,16 @@ module _ (r : ResolvedTree) (resolved : IsResolvedTree r) (s : Option ℕ) (xs :
               ∙ number-map (value_at v) (entering_wires rows (Some e)) (port_of kind - 1) wire.0 wire.2))
 
           from-system : is_inport kind ≡ true → (here : Bool) → same_system s n ≡ here →
-              (if (true && here) then value_at x (column rows s (Number (port_of kind))) ∷ [] else wires) ≡ number_of (inputs_at d s xs run n t) (port_of kind - 1) ∷ []
+              (if (true && here) then value_at x (column rows s (Number (port_of kind))) ∷ [] else wires)
+              ≡ number_of (inputs_at d s xs run n t) (port_of kind - 1) ∷ []
           from-system inport true h =
               let at = port-is inport in
               let low = at.0 in
               let number : 1 + (port_of kind - 1) ≡ port_of kind = omega (arith, low) in
               ap (λ z. z ∷ []) (sym
               (ap (λ q. number_of (by_system q) (port_of kind - 1)) h
-              ∙ get_or-map-range_with_len (λ k. value_at x (column rows n (Number k))) 1 (length (inports_of rows n)) (port_of kind - 1) (port_of kind) (pos 0) at.1 number))
+              ∙ get_or-map-range_with_len (λ k. value_at x (column rows n (Number k))) 1 (length (inports_of rows n))
+              (port_of kind - 1) (port_of kind) (pos 0) at.1 number))
           from-system inport false h = from-wires inport h n refl
 
           turned : (o : Option ℕ) (here : Bool) → same_system s o ≡ here → same_system o s ≡ here
@@ -269,19 +294,23 @@ module _ (r : ResolvedTree) (resolved : IsResolvedTree r) (s : Option ℕ) (xs :
 
           by : (inport : Bool) → is_inport kind ≡ inport → input_values d s x v g b ≡ own_inputs d n tick b
           by true h =
-              ap (λ q. if (q && same_system (row_at rows b).owner s) then value_at x (column rows s (Number (port_of kind))) ∷ [] else wires) h
+              ap (λ q. if (q && same_system (row_at rows b).owner s)
+              then value_at x (column rows s (Number (port_of kind))) ∷ [] else wires) h
               ∙ ap (λ o. if (true && same_system o s) then value_at x (column rows s (Number (port_of kind))) ∷ [] else wires) row.own
-              ∙ ap (λ q. if (true && q) then value_at x (column rows s (Number (port_of kind))) ∷ [] else wires) (turned n (same_system s n) refl)
+              ∙ ap (λ q. if (true && q) then value_at x (column rows s (Number (port_of kind))) ∷ [] else wires)
+              (turned n (same_system s n) refl)
               ∙ from-system h (same_system s n) refl
               ∙ ap (λ q. if q then number_of (inputs_at d s xs run n t) (port_of kind - 1) ∷ [] else wires) (sym h)
           by false h =
-              ap (λ q. if (q && same_system (row_at rows b).owner s) then value_at x (column rows s (Number (port_of kind))) ∷ [] else wires) h
+              ap (λ q. if (q && same_system (row_at rows b).owner s)
+              then value_at x (column rows s (Number (port_of kind))) ∷ [] else wires) h
               ∙ ap (λ q. if q then number_of (inputs_at d s xs run n t) (port_of kind - 1) ∷ [] else wires) (sym h)
 
     -- ---- The equations
 
     module _ (below : t < length xs) where
-      equations : HasRowEquations d s t x (values_before d s run t) m g v (slice_index_or run.memories (suc t) []) (slice_index_or run.triggers (suc t) [])
+      equations : HasRowEquations d s t x (values_before d s run t) m g v (slice_index_or run.memories (suc t) [])
+          (slice_index_or run.triggers (suc t) [])
       equations = ticks_have_rows d s t x (values_before d s run t) m g v _ _ (runs_have_ticks d s xs run t is below)
 
       values-are : (b : ℕ) → IsRowOf rows n b → value_at v b ≡ own_value d n tick b
@@ -299,7 +328,8 @@ module _ (r : ResolvedTree) (resolved : IsResolvedTree r) (s : Option ℕ) (xs :
           else (if running i then rhs (op_at d b) (read i) (first_of (memory_at m b))
           else value_at (values_before d s run t) b))
 
-      memories-are : (b : ℕ) → IsRowOf rows n b → is_delay (op_at d b) ≡ true → memory_at (slice_index_or run.memories (suc t) []) b ≡ own_memory d n tick b
+      memories-are : (b : ℕ) → IsRowOf rows n b → is_delay (op_at d b) ≡ true →
+          memory_at (slice_index_or run.memories (suc t) []) b ≡ own_memory d n tick b
       memories-are b row delay =
           let stands = own_rows_stand_in rows s n b resolved.tree.table.nested (own-row b row) in
           let running : runs d s x v g t b ≡ own_runs d n tick b =
@@ -315,7 +345,8 @@ module _ (r : ResolvedTree) (resolved : IsResolvedTree r) (s : Option ℕ) (xs :
       lengths-are : (b : ℕ) → IsRowOf rows n b → is_delay (op_at d b) ≡ true → length (memory_at m b) ≡ delay_length (op_at d b)
       lengths-are b row delay =
           let stands = own_rows_stand_in rows s n b resolved.tree.table.nested (own-row b row) in
-          memories_are_full r s xs run t b resolved is (omega arith) row.in_table (and-true (is_inside rows s b) stands.is_inside (is_delay (op_at d b)) delay)
+          memories_are_full r s xs run t b resolved is (omega arith) row.in_table
+          (and-true (is_inside rows s b) stands.is_inside (is_delay (op_at d b)) delay)
 
       trigger-after-is : is_triggered (system_control rows n) ≡ true → tick.trigger_after ≡ own_trigger d n tick
       trigger-after-is = by n refl
@@ -326,12 +357,15 @@ module _ (r : ResolvedTree) (resolved : IsResolvedTree r) (s : Option ℕ) (xs :
           by (Some e) is_e h =
               let inside = controlled-inside rows e h in
               let here : (is_system s e || is_inside rows s e) ≡ true = subst (IsSystemWithin rows s) is_e within in
-              let has : has_trigger d s e ≡ true = and-true (is_inside rows s e || is_system s e) (or-turned (is_inside rows s e) (is_system s e) ∙ here) (is_triggered (control_at rows e)) h in
+              let has : has_trigger d s e ≡ true =
+              and-true (is_inside rows s e || is_system s e) (or-turned (is_inside rows s e) (is_system s e) ∙ here)
+              (is_triggered (control_at rows e)) h in
               let controls = controls_at d s xs run (Some e) t in
               let read : trigger_value d s x v g e ≡ trigger_in (control_at rows e) controls =
               trigger-is e is_e h ∙ ap (λ (o : Option ℕ). trigger_in (control_at rows e) (controls_at d s xs run o t)) is_e in
               equations.triggers e inside has
-              ∙ ap (λ z. if any_off d s x v g (around rows s e) then NotYet else next_memory (active_in d s x v g (around rows s e)) (trigger_at g e) z) read
+              ∙ ap (λ z. if any_off d s x v g (around rows s e) then NotYet
+              else next_memory (active_in d s x v g (around rows s e)) (trigger_at g e) z) read
 
       pub tick-is : IsSystemTick d n tick
       tick-is = record {
@@ -355,11 +389,15 @@ module _ (r : ResolvedTree) (resolved : IsResolvedTree r) (s : Option ℕ) (xs :
     first-is = record {
       at_zero = refl;
       starts = λ b row.
-          let stands = own_rows_stand_in rows s n b resolved.tree.table.nested (record { in_table = row.in_table; own = row.own; within = within }) in
+          let stands =
+          own_rows_stand_in rows s n b resolved.tree.table.nested
+          (record { in_table = row.in_table; own = row.own; within = within }) in
           by_row-at rows (λ c. if is_inside rows s c then start_of d c else pos 0) b (pos 0) row.in_table
           ∙ ap (λ q. if q then start_of d b else pos 0) stands.is_inside;
       memories = λ b row delay.
-          let stands = own_rows_stand_in rows s n b resolved.tree.table.nested (record { in_table = row.in_table; own = row.own; within = within }) in
+          let stands =
+          own_rows_stand_in rows s n b resolved.tree.table.nested
+          (record { in_table = row.in_table; own = row.own; within = within }) in
           ap (λ l. memory_at l b) (first-memories d s xs run.values run.memories run.triggers is)
           ∙ by_row-at rows (λ c. if has_memory d s c then initial_memory d c else []) b [] row.in_table
           ∙ ap (λ q. if q then initial_memory d b else []) (and-true (is_inside rows s b) stands.is_inside (is_delay (op_at d b)) delay);
@@ -401,7 +439,9 @@ children_meet_parents r s n xs run t e resolved within is row =
     let x = slice_index_or xs t [] in
     let v = slice_index_or run.values t [] in
     let g = slice_index_or run.triggers t [] in
-    let stands = own_rows_stand_in rows s n e resolved.tree.table.nested (record { in_table = row.in_table; own = row.own; within = within }) in
+    let stands =
+    own_rows_stand_in rows s n e resolved.tree.table.nested
+    (record { in_table = row.in_table; own = row.own; within = within }) in
     let apart = other-system s e stands.is_other in
     let around_is = activity r resolved s xs run is n within t in record {
       parent = ap (active_in d s x v g) stands.around ∙ around_is.0;

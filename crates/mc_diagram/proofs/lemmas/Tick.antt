@@ -23,7 +23,9 @@ row_at-past (r ∷ rows) zero = inl (omega arith)
 row_at-past (r ∷ rows) (suc b) = elim (row_at-past rows b) [ inl below ↦ inl (omega arith) | inr e ↦ inr e ]
 
 no-wires : (rows : List Row) (s : Option ℕ) (n c : ℕ) (f i : Bool) →
-    Contains ((if f then [] else []) ++ control_wires rows (filter (λ e. not (is_system s e)) (if i then [] else outward rows s n None))) c → ⊥
+    Contains
+    ((if f then [] else [])
+    ++ control_wires rows (filter (λ e. not (is_system s e)) (if i then [] else outward rows s n None))) c → ⊥
 no-wires rows s n c true true h = Contains-nil c h
 no-wires rows s n c false true h = Contains-nil c h
 no-wires rows s zero c true false h = Contains-nil c h
@@ -49,29 +51,43 @@ module _ (d : Diagram) (s : Option ℕ) (x y v w : List ℤ) (g : List TrigMem) 
       × ((is_triggered (control_at d.rows e) ≡ false) ⊎ (value_at x (column d.rows s Trigger) ≡ value_at y (column d.rows s Trigger)))
 
   control-from : SameOwnControl → (e : ℕ) (rest : List ℕ) (b : Bool) → is_system s e ≡ b →
-      AllByRecursion Agree (control_wires d.rows (cond (not b) (e ∷ rest) rest)) → SameControl d s x y v w g e × AllByRecursion Agree (control_wires d.rows rest)
-  control-from own e rest true q a =
-      ((elim (own e q).0 [ inl not_read ↦ inl not_read | inr same ↦ inr (rw q same) ], elim (own e q).1 [ inl not_read ↦ inl not_read | inr same ↦ inr (rw q same) ]), a)
+      AllByRecursion Agree (control_wires d.rows (cond (not b) (e ∷ rest) rest)) →
+      SameControl d s x y v w g e × AllByRecursion Agree (control_wires d.rows rest)
+  control-from own e rest true q a = (
+    (
+      elim (own e q).0 [ inl not_read ↦ inl not_read | inr same ↦ inr (rw q same) ],
+      elim (own e q).1 [ inl not_read ↦ inl not_read | inr same ↦ inr (rw q same) ],
+    ),
+    a,
+  )
   control-from own e rest false q a = (
     (
-      inr (rw q (enable-agree v w x y d s g (control_at d.rows e) (row_at d.rows e).inputs (All-append_left Agree (row_at d.rows e).inputs (control_wires d.rows rest) a))),
-      inr (rw q (trigger-agree v w x y d s g (control_at d.rows e) (row_at d.rows e).inputs (All-append_left Agree (row_at d.rows e).inputs (control_wires d.rows rest) a))),
+      inr (rw q
+          (enable-agree v w x y d s g (control_at d.rows e) (row_at d.rows e).inputs
+          (All-append_left Agree (row_at d.rows e).inputs (control_wires d.rows rest) a))),
+      inr (rw q (trigger-agree v w x y d s g (control_at d.rows e) (row_at d.rows e).inputs
+          (All-append_left Agree (row_at d.rows e).inputs (control_wires d.rows rest) a))),
     ),
     All-append_right Agree (row_at d.rows e).inputs (control_wires d.rows rest) a,
   )
 
-  controls-from : SameOwnControl → (es : List ℕ) → AllByRecursion Agree (control_wires d.rows (filter (λ e. not (is_system s e)) es)) → AllByRecursion (SameControl d s x y v w g) es
+  controls-from : SameOwnControl → (es : List ℕ) →
+      AllByRecursion Agree (control_wires d.rows (filter (λ e. not (is_system s e)) es)) →
+      AllByRecursion (SameControl d s x y v w g) es
   controls-from own [] a = tt
   controls-from own (e ∷ es) a =
       let p = control-from own e (filter (λ k. not (is_system s k)) es) (is_system s e) refl a in
       (p.0, controls-from own es p.1)
 
-  inputs-from : (b : ℕ) (wires : List ℕ) (own feeds : Bool) → own ≡ false → feeds ≡ true → AllByRecursion Agree (if own then [] else (if feeds then wires else [])) → AllByRecursion Agree wires
+  inputs-from : (b : ℕ) (wires : List ℕ) (own feeds : Bool) → own ≡ false → feeds ≡ true →
+      AllByRecursion Agree (if own then [] else (if feeds then wires else [])) → AllByRecursion Agree wires
   inputs-from b wires own feeds e f a = rw (e, f) at a
 
   -- where the rows that b needs agree, all that b reads does
   pub agree-for : (b : ℕ) → SameOwnControl →
-      (is_inport_of d.rows s b ≡ true → value_at x (column d.rows s (Number (port_of (row_at d.rows b).kind))) ≡ value_at y (column d.rows s (Number (port_of (row_at d.rows b).kind)))) →
+      (is_inport_of d.rows s b ≡ true →
+      value_at x (column d.rows s (Number (port_of (row_at d.rows b).kind)))
+      ≡ value_at y (column d.rows s (Number (port_of (row_at d.rows b).kind)))) →
       AllByRecursion (λ c. value_at v c ≡ value_at w c) (needs_inside d s b) → AgreeFor d s x y v w g b
   agree-for b own inport a =
       let used : List ℕ = if is_inport_of d.rows s b then [] else inputs_used d b in
@@ -79,7 +95,8 @@ module _ (d : Diagram) (s : Option ℕ) (x y v w : List ℤ) (g : List TrigMem) 
       record {
         controls = controls-from own (around d.rows s b) (All-append_right Agree used wires a);
         inport = inport;
-        inputs = λ e f. inputs-from b (row_at d.rows b).inputs (is_inport_of d.rows s b) (feeds_through (op_at d b)) e f (All-append_left Agree used wires a);
+        inputs = λ e f. inputs-from b (row_at d.rows b).inputs (is_inport_of d.rows s b) (feeds_through (op_at d b)) e f
+            (All-append_left Agree used wires a);
       }
 
 -- over one tick's givens
@@ -92,19 +109,26 @@ module _ (d : Diagram) (s : Option ℕ) (t : ℕ) (x before : List ℤ) (m : Lis
   abbrev pub next_round : List ℤ → List ℤ
   next_round v = values_by d s (row_value d s t x before m g v)
 
-  guarded-agree : (v w : List ℤ) (b : ℕ) → AllByRecursion (λ c. value_at v c ≡ value_at w c) (needs_inside d s b) → guarded v b ≡ guarded w b
+  guarded-agree : (v w : List ℤ) (b : ℕ) → AllByRecursion (λ c. value_at v c ≡ value_at w c) (needs_inside d s b) →
+      guarded v b ≡ guarded w b
   guarded-agree v w b a =
       ap (λ z. if is_inside d.rows s b then z else pos 0)
       (row_value-agree d s x x v w g t before m b (agree-for d s x x v w g b (λ e q. (inr refl, inr refl)) (λ q. refl) a))
 
-  pub from-members : (v w : List ℤ) (cs : List ℕ) → ((c : ℕ) → Contains cs c → value_at v c ≡ value_at w c) → AllByRecursion (λ c. value_at v c ≡ value_at w c) cs
-  from-members v w cs h = recursion_from_All (λ c. value_at v c ≡ value_at w c) cs (λ k e below. h (slice_index_or cs k e) (Contains-get_or cs k e below))
+  pub from-members : (v w : List ℤ) (cs : List ℕ) → ((c : ℕ) → Contains cs c → value_at v c ≡ value_at w c) →
+      AllByRecursion (λ c. value_at v c ≡ value_at w c) cs
+  from-members v w cs h =
+      recursion_from_All (λ c. value_at v c ≡ value_at w c) cs
+      (λ k e below. h (slice_index_or cs k e) (Contains-get_or cs k e below))
 
-  round-agree : (v w : List ℤ) (b : ℕ) → ((c : ℕ) → Contains (needs_inside d s b) c → value_at v c ≡ value_at w c) → value_at (next_round v) b ≡ value_at (next_round w) b
+  round-agree : (v w : List ℤ) (b : ℕ) → ((c : ℕ) → Contains (needs_inside d s b) c → value_at v c ≡ value_at w c) →
+      value_at (next_round v) b ≡ value_at (next_round w) b
   round-agree v w b h = by_row-agree d.rows (guarded v) (guarded w) b (guarded-agree v w b (from-members v w (needs_inside d s b) h))
 
   round-equal : (v w : List ℤ) → ((c : ℕ) → value_at v c ≡ value_at w c) → next_round v ≡ next_round w
-  round-equal v w h = by_row-equal d.rows (guarded v) (guarded w) (λ b. guarded-agree v w b (from-members v w (needs_inside d s b) (λ c k. h c)))
+  round-equal v w h =
+      by_row-equal d.rows (guarded v) (guarded w)
+      (λ b. guarded-agree v w b (from-members v w (needs_inside d s b) (λ c k. h c)))
 
   -- two solutions agree at a row, by how far its walks go
   same-at : (v w : List ℤ) → v ≡ next_round v → w ≡ next_round w → (n b : ℕ) → Within (needs_inside d s) n b → value_at v b ≡ value_at w b
@@ -139,7 +163,11 @@ module _ (d : Diagram) (s : Option ℕ) (t : ℕ) (x before : List ℤ) (m : Lis
     short b = within (needs_inside d s) (length d.rows) (needs-bounded d s) (HasNoLoop-inside d s none) b
 
     pub solution-solves : solution ≡ next_round solution
-    solution-solves = round-equal (rounds (suc (length d.rows))) solution (λ c. settled (suc (length d.rows)) (suc (length d.rows)) c (short c) (omega arith))
+    solution-solves =
+        round-equal (rounds (suc (length d.rows))) solution
+        (λ c. settled (suc (length d.rows)) (suc (length d.rows)) c (short c) (omega arith))
 
     pub solution-only : (v : List ℤ) → v ≡ next_round v → v ≡ solution
-    solution-only v e = e ∙ round-equal v solution (λ c. same-at v solution e solution-solves (suc (length d.rows)) c (short c)) ∙ sym solution-solves
+    solution-only v e =
+        e ∙ round-equal v solution (λ c. same-at v solution e solution-solves (suc (length d.rows)) c (short c))
+        ∙ sym solution-solves

@@ -42,7 +42,9 @@ module _ (table : RowTable) where
   module _ (quiet : timeless ≡ true) where
     no_period : (b : ℕ) → is_each (written_time table.rows b) ≡ false
     no_period b = elim (dec_lt b (length table.rows)) [
-      | yes inside ↦ by (is_each (written_time table.rows b)) (below-at (λ b. not (is_each (written_time table.rows b))) (length table.rows) b quiet inside)
+      | yes inside ↦
+          by (is_each (written_time table.rows b))
+          (below-at (λ b. not (is_each (written_time table.rows b))) (length table.rows) b quiet inside)
       | no past ↦ ap (λ (r : Row). is_each (written_by r.kind r.time_text)) (get_or_past table.rows b no_row (omega arith))
     ]
       where
@@ -121,7 +123,8 @@ module _ (table : RowTable) where
       hyper = sym h;
     }
 
-    times_right : written_time_refusal table ≡ None → rate_refusal table (replicate (length table.rows) every_tick) ≡ None → HasTimeRefusal table None
+    times_right : written_time_refusal table ≡ None →
+        rate_refusal table (replicate (length table.rows) every_tick) ≡ None → HasTimeRefusal table None
     times_right e f = rw e (
       replicate (length table.rows) every_tick,
       record {
@@ -131,13 +134,19 @@ module _ (table : RowTable) where
       sym f,
     )
 
-    have_types : all_below (λ b. is_some (type_of_row table.rows b)) (length table.rows) ≡ true → (b : ℕ) → b < length table.rows → HasType table.rows b (type_at (types_of_rows table.rows) b)
-    have_types h b below = by (type_of_row table.rows b) refl (below-at (λ b. is_some (type_of_row table.rows b)) (length table.rows) b h below)
+    have_types : all_below (λ b. is_some (type_of_row table.rows b)) (length table.rows) ≡ true → (b : ℕ) →
+        b < length table.rows → HasType table.rows b (type_at (types_of_rows table.rows) b)
+    have_types h b below =
+        by (type_of_row table.rows b) refl
+        (below-at (λ b. is_some (type_of_row table.rows b)) (length table.rows) b h below)
       where
-        by : (found : Option FixType) → type_of_row table.rows b ≡ found → is_some found ≡ true → HasType table.rows b (type_at (types_of_rows table.rows) b)
+        by : (found : Option FixType) → type_of_row table.rows b ≡ found → is_some found ≡ true →
+            HasType table.rows b (type_at (types_of_rows table.rows) b)
         by None e s = absurd (true≢false (sym s))
         by (Some t) e s =
-            let at : type_at (types_of_rows table.rows) b ≡ t = by_row-at table.rows (λ c. unwrap_or (type_of_row table.rows c) boolean) b boolean below ∙ ap (λ (o : Option FixType). unwrap_or o boolean) e in
+            let at : type_at (types_of_rows table.rows) b ≡ t =
+            by_row-at table.rows (λ c. unwrap_or (type_of_row table.rows c) boolean) b boolean below
+            ∙ ap (λ (o : Option FixType). unwrap_or o boolean) e in
             subst (HasType table.rows b) (sym at) ((type_followed table.rows b t).1 e)
 
     -- the operations of such a table
@@ -145,7 +154,8 @@ module _ (table : RowTable) where
     timeless_ops = by_row table.rows (op_in table.rows (types_of_rows table.rows) (replicate (length table.rows) false))
 
     -- a table with nothing wrong and no period is resolved by its types, at every tick
-    pub resolved-from : type_refusal table.rows ≡ None → written_time_refusal table ≡ None → rate_refusal table (replicate (length table.rows) every_tick) ≡ None →
+    pub resolved-from : type_refusal table.rows ≡ None → written_time_refusal table ≡ None →
+        rate_refusal table (replicate (length table.rows) every_tick) ≡ None →
         hyperperiod table ≡ 1 → all_below (λ b. is_some (type_of_row table.rows b)) (length table.rows) ≡ true →
         IsResolved table (types_of_rows table.rows) timeless_ops at_every_tick
     resolved-from t w r h typed = record {

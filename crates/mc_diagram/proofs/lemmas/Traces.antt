@@ -74,7 +74,8 @@ module _ (d : Diagram) (s : Option ℕ) (ports : HasPorts d.rows is_inport s) wh
 
 -- and where it has just as many as the root has Inports it is a row of a trace
 pub row-from : (d : Diagram) (ports : HasPorts d.rows is_inport None) (x : List ℤ) → length x ≡ length (inports_of d.rows None) →
-    ((port b : ℕ) → IsInputRow d.rows None port b → (port - 1 < length x) × InType (type_at d.types b) (value_at x (port - 1))) → IsTraceRow d None x
+    ((port b : ℕ) → IsInputRow d.rows None port b →
+    (port - 1 < length x) × InType (type_at d.types b) (value_at x (port - 1))) → IsTraceRow d None x
 row-from d ports x long each = zip-from (λ p v. InType (input_type_of d None p) v) 1 (length (inports_of d.rows None)) x long at
   where
     at : (k : ℕ) → k < length (inports_of d.rows None) → InType (input_type_of d None (Number (1 + k))) (value_at x k)

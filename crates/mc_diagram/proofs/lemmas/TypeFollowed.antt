@@ -49,7 +49,8 @@ unfolding count
 count-le p q sub zero = omega arith
 count-le p q sub (suc n) = omega (arith, bit-le (p n) (q n) (sub n), count-le p q sub n)
 
-count-same : (p q : ℕ → Bool) → ((b : ℕ) → p b ≡ true → q b ≡ true) → (n : ℕ) → count q n ≤ count p n → (b : ℕ) → b < n → q b ≡ true → p b ≡ true
+count-same : (p q : ℕ → Bool) → ((b : ℕ) → p b ≡ true → q b ≡ true) → (n : ℕ) → count q n ≤ count p n → (b : ℕ) →
+    b < n → q b ≡ true → p b ≡ true
 unfolding count
 count-same p q sub zero h b less e = absurd (omega arith)
 count-same p q sub (suc n) h b less e =
@@ -124,8 +125,11 @@ module _ (rows : List Row) where
   past-end : (k b : ℕ) → length rows ≤ b → met k b ≡ true → ⊥
   past-end zero b h e = cc e
   past-end (suc k) b h e =
-      let none : type_rule rows b ≡ NoRule = ap (λ (row : Row). rule_of row.type_text (inherited_rule row.kind row.inputs)) (get_or_past rows b no_row h) in
-      let wrong : is_some (type_by NoRule (type_within rows k)) ≡ true = subst (λ r. is_some (type_by r (type_within rows k)) ≡ true) none e in
+      let none : type_rule rows b ≡ NoRule =
+      ap (λ (row : Row). rule_of row.type_text (inherited_rule row.kind row.inputs))
+      (get_or_past rows b no_row h) in
+      let wrong : is_some (type_by NoRule (type_within rows k)) ≡ true =
+      subst (λ r. is_some (type_by r (type_within rows k)) ≡ true) none e in
       cc wrong
 
   -- either no more are met, or each rule more has met a row more
@@ -168,6 +172,8 @@ module _ (rows : List Row) where
 pub type_followed : TypeIsFollowed
 type_followed rows b t = by (is_boolean_by_kind (row_at rows b).kind)
   where
-    by : (counts : Bool) → MatchBool counts (t ≡ boolean) (MeetsType rows b t) ↔ ((if counts then Some boolean else followed_type rows b) ≡ Some t)
+    by : (counts : Bool) →
+        MatchBool counts (t ≡ boolean) (MeetsType rows b t)
+        ↔ ((if counts then Some boolean else followed_type rows b) ≡ Some t)
     by true = (λ e. ap Some (sym e), λ e. sym (ap (λ o. elim o [ Some x ↦ x | None ↦ boolean ]) e))
     by false = (followed-met rows b t, λ e. (length rows, e))

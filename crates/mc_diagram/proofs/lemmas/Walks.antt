@@ -33,7 +33,8 @@ module _ (needs : ℕ → List ℕ) where
       by false e = e
       by true e = absurd (none (a ∷ l.0.0) (subst (λ z. Walk needs a l.0.0 z) (true-eqb b a (sym e)) l.0.1))
 
-  below-cons : (n b : ℕ) (seen : List ℕ) → b < n → ((q : ℕ) → list_any (eqb q) seen ≡ true → q < n) → (q : ℕ) → list_any (eqb q) (b ∷ seen) ≡ true → q < n
+  below-cons : (n b : ℕ) (seen : List ℕ) → b < n → ((q : ℕ) → list_any (eqb q) seen ≡ true → q < n) → (q : ℕ) →
+      list_any (eqb q) (b ∷ seen) ≡ true → q < n
   below-cons n b seen h all q m = by (eqb q b) refl m
     where
       by : (r : Bool) → eqb q b ≡ r → (r || list_any (eqb q) seen) ≡ true → q < n
@@ -42,13 +43,17 @@ module _ (needs : ℕ → List ℕ) where
 
   -- rows from n on need nothing
   module _ (n : ℕ) (bounded : (b c : ℕ) → Contains (needs b) c → b < n) (none : HasNoLoop needs) where
-    within_from : (k : ℕ) (seen : List ℕ) (b : ℕ) → length seen + k ≡ n → IsDistinct eqb seen → ((q : ℕ) → list_any (eqb q) seen ≡ true → q < n) → AllLead seen b → Within (suc k) b
+    within_from : (k : ℕ) (seen : List ℕ) (b : ℕ) → length seen + k ≡ n → IsDistinct eqb seen →
+        ((q : ℕ) → list_any (eqb q) seen ≡ true → q < n) → AllLead seen b → Within (suc k) b
     unfolding IsDistinct
     within_from zero seen b e distinct below lead c h =
-        let more = length-le_from_distinct_below (b ∷ seen) n (apart none seen b lead, distinct) (below-cons n b seen (bounded b c h) below) in
+        let more =
+        length-le_from_distinct_below (b ∷ seen) n (apart none seen b lead, distinct)
+        (below-cons n b seen (bounded b c h) below) in
         absurd (omega arith)
     within_from (suc k) seen b e distinct below lead c h =
-        within_from k (b ∷ seen) c (omega arith) (apart none seen b lead, distinct) (below-cons n b seen (bounded b c h) below) (([], h), lead-on seen b c lead h)
+        within_from k (b ∷ seen) c (omega arith) (apart none seen b lead, distinct)
+        (below-cons n b seen (bounded b c h) below) (([], h), lead-on seen b c lead h)
 
     -- each row's walks have at most n steps
     pub within : (b : ℕ) → Within (suc n) b

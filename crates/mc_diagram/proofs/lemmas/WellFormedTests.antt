@@ -17,7 +17,9 @@ use Rattle.mc_diagram.proofs.lemmas.Tests.{and-left, and-right, or-cases, eq-fro
 -- where no number passes, a filter keeps none
 filter_none : (test : ℕ → Bool) (n a : ℕ) → ((b : ℕ) → a ≤ b → b < a + n → test b ≡ false) → filter test (range_with_len a n) ≡ []
 filter_none test zero a none = refl
-filter_none test (suc n) a none = rw (none a (omega arith) (omega arith)) (filter_none test n (a + 1) (λ b low high. none b (omega arith) (omega arith)))
+filter_none test (suc n) a none =
+    rw (none a (omega arith) (omega arith))
+    (filter_none test n (a + 1) (λ b low high. none b (omega arith) (omega arith)))
 
 module _ (rows : List Row) where
   -- ---- Nesting
@@ -64,10 +66,15 @@ module _ (rows : List Row) where
       record {
         numbered = λ b below. eq-from _ b (below-at (λ b. (row_at rows b).place.row == b) (length rows) b (and-left _ _ h) below);
         owned = λ b below. owner-from b _ (below-at (λ b. is_owner b (row_at rows b).owner) (length rows) b (and-left _ _ one) below);
-        in_order = λ b below. follows-from b _ (below-at (λ b. follows b (row_at rows (suc b)).owner) (length rows) b (and-left _ _ two) (omega arith));
+        in_order =
+            λ b below.
+            follows-from b _ (below-at (λ b. follows b (row_at rows (suc b)).owner) (length rows) b (and-left _ _ two)
+            (omega arith));
         at_most = omega (arith, few);
         not_deep = λ b k. elim (dec_lt b (length rows)) [
-          | yes inside ↦ lt-from _ 32 (below-at (λ b. nat_lt (length (around rows None b)) 32) (length rows) b (and-right (nat_le (length rows) 32) _ three) inside)
+          | yes inside ↦
+              lt-from _ 32 (below-at (λ b. nat_lt (length (around rows None b)) 32) (length rows) b
+              (and-right (nat_le (length rows) 32) _ three) inside)
           | no past ↦ absurd (past-subsystem b (omega arith) k)
         ];
       }
@@ -109,12 +116,19 @@ module _ (rows : List Row) where
 
   wired-from : wired ≡ true → IsWired rows
   wired-from h =
-      let counted = all_below (λ b. length (row_at rows b).inputs == wires_wanted (row_at rows b).kind (row_at rows b).owner) (length rows) in
+      let counted =
+      all_below (λ b. length (row_at rows b).inputs == wires_wanted (row_at rows b).kind (row_at rows b).owner)
+      (length rows) in
       record {
-        counts = λ b below. eq-from _ _ (below-at (λ b. length (row_at rows b).inputs == wires_wanted (row_at rows b).kind (row_at rows b).owner) (length rows) b (and-left _ _ h) below);
+        counts =
+            λ b below.
+            eq-from _ _
+            (below-at (λ b. length (row_at rows b).inputs == wires_wanted (row_at rows b).kind (row_at rows b).owner)
+            (length rows) b (and-left _ _ h) below);
         wires = λ b below.
             let o = reading_system rows (row_at rows b).kind (row_at rows b).owner in
-            all-from (is_wire o) (IsWireIn rows o) (wire-from o) (row_at rows b).inputs (below-at wires_of_row (length rows) b (and-right counted _ h) below);
+            all-from (is_wire o) (IsWireIn rows o) (wire-from o) (row_at rows b).inputs
+            (below-at wires_of_row (length rows) b (and-right counted _ h) below);
       }
 
   -- ---- Ports
@@ -122,7 +136,14 @@ module _ (rows : List Row) where
   count-few : (test : ℕ → Bool) (o : Option ℕ) → length rows ≤ 32 → count_by test (rows_of rows o) ≤ 32
   count-few test o few =
       let in_all = count_by-le-length (λ b. same_system (row_at rows b).owner o) (row_numbers rows) in
-      omega (arith, few, count_by-le-length test (rows_of rows o), length-filter (λ b. same_system (row_at rows b).owner o) (row_numbers rows), in_all, length-range_with_len 0 (length rows))
+      omega (
+        arith,
+        few,
+        count_by-le-length test (rows_of rows o),
+        length-filter (λ b. same_system (row_at rows b).owner o) (row_numbers rows),
+        in_all,
+        length-range_with_len 0 (length rows),
+      )
 
   module _ (test : Kind → Bool) where
     abbrev port_fits : ℕ → Bool
@@ -137,7 +158,8 @@ module _ (rows : List Row) where
         (b == c)
         || (not (test (row_at rows b).kind)
         || (not (test (row_at rows c).kind)
-        || (not (same_system (row_at rows b).owner (row_at rows c).owner) || not (port_of (row_at rows b).kind == port_of (row_at rows c).kind))))
+        || (not (same_system (row_at rows b).owner (row_at rows c).owner)
+        || not (port_of (row_at rows b).kind == port_of (row_at rows c).kind))))
 
     abbrev pub ports : Bool
     ports = all_below port_fits (length rows) && all_below (λ b. all_below (are_apart b) (length rows)) (length rows)
@@ -169,16 +191,22 @@ module _ (rows : List Row) where
         ]
 
         one_each : (b c : ℕ) → b < length rows → c < length rows → (row_at rows b).owner ≡ o → (row_at rows c).owner ≡ o →
-            IsTrue (test (row_at rows b).kind) → IsTrue (test (row_at rows c).kind) → port_of (row_at rows b).kind ≡ port_of (row_at rows c).kind → b ≡ c
+            IsTrue (test (row_at rows b).kind) → IsTrue (test (row_at rows c).kind) →
+            port_of (row_at rows b).kind ≡ port_of (row_at rows c).kind → b ≡ c
         one_each b c below_b below_c own_b own_c k l e =
-            elim (or-cases _ _ (below-at (are_apart b) (length rows) c (below-at (λ b. all_below (are_apart b) (length rows)) (length rows) b (and-right (all_below port_fits (length rows)) _ h) below_b) below_c)) [
+            elim (or-cases _ _
+            (below-at (are_apart b) (length rows) c
+            (below-at (λ b. all_below (are_apart b) (length rows)) (length rows) b
+            (and-right (all_below port_fits (length rows)) _ h) below_b) below_c)) [
               | inl same ↦ eq-from b c same
               | inr p ↦ elim (or-cases _ _ p) [
                 | inl q ↦ absurd (not-true (test (row_at rows b).kind) k q)
                 | inr q ↦ elim (or-cases _ _ q) [
                   | inl r ↦ absurd (not-true (test (row_at rows c).kind) l r)
                   | inr r ↦ elim (or-cases _ _ r) [
-                    | inl apart ↦ absurd (not-true _ (subst (λ s. same_system (row_at rows b).owner s ≡ true) (own_b ∙ sym own_c) (same_system-self (row_at rows b).owner)) apart)
+                    | inl apart ↦
+                        absurd (not-true _ (subst (λ s. same_system (row_at rows b).owner s ≡ true) (own_b ∙ sym own_c)
+                        (same_system-self (row_at rows b).owner)) apart)
                     | inr apart ↦ absurd (not-true _ (eq-eqb _ _ e) apart)
                   ]
                 ]
@@ -198,12 +226,18 @@ module _ (rows : List Row) where
   has-from : (o : Option ℕ) → has_controls o ≡ true → HasControlPorts rows o
   has-from o h = record {
     enables = eq-from _ _ (and-left _ _ h);
-    triggers = eq-from _ _ (and-right (count_by (λ b. is_enable_port (row_at rows b).kind) (rows_of rows o) == (if is_enabled (system_control rows o) then 1 else 0)) _ h);
+    triggers =
+        eq-from _ _
+        (and-right
+        (count_by (λ b. is_enable_port (row_at rows b).kind) (rows_of rows o) == (if is_enabled (system_control rows o)
+        then 1 else 0)) _ h);
   }
 
   -- a row past the end owns none
   owns-none : IsNested rows → (e : ℕ) → length rows ≤ e → rows_of rows (Some e) ≡ []
-  owns-none n e past = filter_none (λ b. same_system (row_at rows b).owner (Some e)) (length rows) 0 (λ b low high. by b (omega arith) (row_at rows b).owner (n.owned b (omega arith)))
+  owns-none n e past =
+      filter_none (λ b. same_system (row_at rows b).owner (Some e)) (length rows) 0
+      (λ b low high. by b (omega arith) (row_at rows b).owner (n.owned b (omega arith)))
     where
       differ : (b k : ℕ) → b < length rows → k < b → (r : Bool) → (e == k) ≡ r → r ≡ false
       differ b k below less false q = refl
@@ -227,7 +261,8 @@ module _ (rows : List Row) where
   ]
 
 -- a table whose tests pass, and whose rows and step are lawful, is well formed
-pub well_formed-from : (table : RowTable) → nested table.rows ≡ true → wired table.rows ≡ true → ports table.rows is_inport ≡ true → ports table.rows is_outport ≡ true → controls table.rows ≡ true →
+pub well_formed-from : (table : RowTable) → nested table.rows ≡ true → wired table.rows ≡ true →
+    ports table.rows is_inport ≡ true → ports table.rows is_outport ≡ true → controls table.rows ≡ true →
     AllByRecursion IsRow table.rows → IsStep table.fixed_step → IsWellFormed table
 well_formed-from table n w i o c rows step =
     let is_nested = nested-from table.rows n in

@@ -26,7 +26,9 @@ clamped_in t q = by_least (int_lt q (least_of t)) refl
     by_least false e = by_greatest (int_lt (greatest_of t) q) refl (omega (arith, ints, e))
 
 -- a number that is cast is the one that the mode asks for, and lies in the range
-pub cast_into_is : (o : Over) (t : FixType) (q : ℤ) → IsCastInto o t q (cast_into o t q) × ((x : ℤ) → IsCastInto o t q x → x ≡ cast_into o t q) × InType t (cast_into o t q)
+pub cast_into_is : (o : Over) (t : FixType) (q : ℤ) →
+    IsCastInto o t q (cast_into o t q) × ((x : ℤ) → IsCastInto o t q x → x ≡ cast_into o t q)
+    × InType t (cast_into o t q)
 cast_into_is Saturate t q = (refl, λ x e. e, clamped_in t q)
 cast_into_is Wrap t q = let w = wrapping_is_one t q in (w.0, w.1, w.0.0)
 
@@ -49,16 +51,29 @@ pub record RangeBounds (t : FixType) : Type 0 where
   pub high : greatest_of t ≤ℤ pos (2 ^ 32 - 1)
   pub values : 2 ^ t.bits ≤ 2 ^ 32
 
-range_bounds_by : (signed : Bool) (bits frac : ℕ) → (p : InProfile signed bits frac) → RangeBounds (record { signed = signed; bits = bits; frac = frac; in_profile = p })
+range_bounds_by : (signed : Bool) (bits frac : ℕ) → (p : InProfile signed bits frac) →
+    RangeBounds (record { signed = signed; bits = bits; frac = frac; in_profile = p })
 range_bounds_by true bits frac p =
     let half : 2 ^ (bits - 1) ≤ 2 ^ 31 = pow-le-pow_right {n = 2} (omega arith) {i = bits - 1} {j = 31} (omega (arith, p.1)) in
     let all : 2 ^ bits ≤ 2 ^ 32 = pow-le-pow_right {n = 2} (omega arith) {i = bits} {j = 32} p.1 in
     let some : 1 ≤ 2 ^ (bits - 1) = pow_pos (bits - 1) in
-    record { low = omega (arith, ints, half); least = omega (arith, ints); greatest = omega (arith, ints, some); high = omega (arith, ints, half); values = all }
+    record {
+      low = omega (arith, ints, half);
+      least = omega (arith, ints);
+      greatest = omega (arith, ints, some);
+      high = omega (arith, ints, half);
+      values = all;
+    }
 range_bounds_by false bits frac p =
     let all : 2 ^ bits ≤ 2 ^ 32 = pow-le-pow_right {n = 2} (omega arith) {i = bits} {j = 32} p.1 in
     let some : 1 ≤ 2 ^ bits = pow_pos bits in
-    record { low = omega (arith, ints); least = omega (arith, ints); greatest = omega (arith, ints, some); high = omega (arith, ints, all); values = all }
+    record {
+      low = omega (arith, ints);
+      least = omega (arith, ints);
+      greatest = omega (arith, ints, some);
+      high = omega (arith, ints, all);
+      values = all;
+    }
 
 pub range_bounds : (t : FixType) → RangeBounds t
 range_bounds t = range_bounds_by t.signed t.bits t.frac t.in_profile

@@ -26,22 +26,27 @@ pub capped-fits : (q : ℤ) → fits_32 q ≡ true → capped q ≡ q
 capped-fits q e = grind (arith, ints)
 
 -- a number that fits is the one, and one that doesn't is passed over
-pub constant_below-fits : (f : ℕ) (d : Decimal) → fits_32 (nearest_at d f) ≡ true → constant_below (suc f) d ≡ Ok (reduced_constant f (nearest_at d f))
+pub constant_below-fits : (f : ℕ) (d : Decimal) → fits_32 (nearest_at d f) ≡ true →
+    constant_below (suc f) d ≡ Ok (reduced_constant f (nearest_at d f))
 constant_below-fits f d e = ap (λ b. cond b (Ok (reduced_constant f (nearest_at d f))) (constant_below f d)) e
 
 pub constant_below-passes : (f : ℕ) (d : Decimal) → fits_32 (nearest_at d f) ≡ false → constant_below (suc f) d ≡ constant_below f d
 constant_below-passes f d e = ap (λ b. cond b (Ok (reduced_constant f (nearest_at d f))) (constant_below f d)) e
 
 -- the same at one less than a positive number
-pub constant_below-fits_at : (k : ℕ) (d : Decimal) → 0 < k → fits_32 (nearest_at d (k - 1)) ≡ true → constant_below k d ≡ Ok (reduced_constant (k - 1) (nearest_at d (k - 1)))
+pub constant_below-fits_at : (k : ℕ) (d : Decimal) → 0 < k → fits_32 (nearest_at d (k - 1)) ≡ true →
+    constant_below k d ≡ Ok (reduced_constant (k - 1) (nearest_at d (k - 1)))
 constant_below-fits_at zero d h e = absurd (omega (arith, h))
 constant_below-fits_at (suc f) d h e =
-    subst (λ i. fits_32 (nearest_at d i) ≡ true → constant_below (suc f) d ≡ Ok (reduced_constant i (nearest_at d i))) (sym (less_one f)) (constant_below-fits f d) e
+    subst (λ i. fits_32 (nearest_at d i) ≡ true → constant_below (suc f) d ≡ Ok (reduced_constant i (nearest_at d i)))
+    (sym (less_one f)) (constant_below-fits f d) e
 
-pub constant_below-passes_at : (k : ℕ) (d : Decimal) → 0 < k → fits_32 (nearest_at d (k - 1)) ≡ false → constant_below (k - 1) d ≡ constant_below k d
+pub constant_below-passes_at : (k : ℕ) (d : Decimal) → 0 < k → fits_32 (nearest_at d (k - 1)) ≡ false →
+    constant_below (k - 1) d ≡ constant_below k d
 constant_below-passes_at zero d h e = absurd (omega (arith, h))
 constant_below-passes_at (suc f) d h e =
-    subst (λ i. fits_32 (nearest_at d i) ≡ false → constant_below i d ≡ constant_below (suc f) d) (sym (less_one f)) (λ t. sym (constant_below-passes f d t)) e
+    subst (λ i. fits_32 (nearest_at d i) ≡ false → constant_below i d ≡ constant_below (suc f) d) (sym (less_one f))
+    (λ t. sym (constant_below-passes f d t)) e
 
 Fits32-from_test : (m : ℤ) → fits_32 m ≡ true → Fits32 m
 Fits32-from_test m e =
@@ -71,8 +76,10 @@ pub reduced_is : (f : ℕ) (n : ℤ) → IsReduced n f (reduced_constant f n).0 
 reduced_is zero n = record { same = (0, omega arith, omega (arith, ints)); least = inl refl }
 reduced_is (suc f) n = by_test (reduced_is f (floor_div n 2)) (is_even n) refl
   where
-    by_test : IsReduced (floor_div n 2) f (reduced_constant f (floor_div n 2)).0 (reduced_constant f (floor_div n 2)).1 → (t : Bool) → is_even n ≡ t →
-        IsReduced n (suc f) (cond t (reduced_constant f (floor_div n 2)) (n, suc f)).0 (cond t (reduced_constant f (floor_div n 2)) (n, suc f)).1
+    by_test : IsReduced (floor_div n 2) f (reduced_constant f (floor_div n 2)).0
+        (reduced_constant f (floor_div n 2)).1 → (t : Bool) → is_even n ≡ t →
+        IsReduced n (suc f) (cond t (reduced_constant f (floor_div n 2)) (n, suc f)).0
+        (cond t (reduced_constant f (floor_div n 2)) (n, suc f)).1
     by_test half true e =
         let m = (reduced_constant f (floor_div n 2)).0 in
         let k = half.same.0 in
@@ -84,7 +91,8 @@ reduced_is (suc f) n = by_test (reduced_is f (floor_div n 2)) (is_even n) refl
     by_test half false e = record { same = (0, omega arith, omega (arith, ints)); least = inr (eqb-false (unsigned_abs n % 2) 0 e) }
 
 -- the constant below k is the gain constant, where none fits from there on
-pub constant_is : (k : ℕ) (d : Decimal) (c : ℤ × ℕ) → k ≤ 32 → constant_below k d ≡ Ok c → ((g : ℕ) → k ≤ g → g ≤ 31 → ¬ Fits32 (nearest_at d g)) → IsGainConstant d c.0 c.1
+pub constant_is : (k : ℕ) (d : Decimal) (c : ℤ × ℕ) → k ≤ 32 → constant_below k d ≡ Ok c →
+    ((g : ℕ) → k ≤ g → g ≤ 31 → ¬ Fits32 (nearest_at d g)) → IsGainConstant d c.0 c.1
 constant_is zero d c h e none = cc
 constant_is (suc f) d c h e none = by_test (constant_is f d c (omega (arith, h))) (fits_32 (nearest_at d f)) refl
   where
@@ -95,7 +103,8 @@ constant_is (suc f) d c h e none = by_test (constant_is f d c (omega (arith, h))
         by_order true s = subst (λ i. ¬ Fits32 (nearest_at d i)) (sym (eqb-true g f s)) (misfit_from_test (nearest_at d f) t)
         by_order false s = let other = eqb-false g f s in none g (omega (arith, l, other)) m
 
-    by_test : (constant_below f d ≡ Ok c → ((g : ℕ) → f ≤ g → g ≤ 31 → ¬ Fits32 (nearest_at d g)) → IsGainConstant d c.0 c.1) → (t : Bool) → fits_32 (nearest_at d f) ≡ t → IsGainConstant d c.0 c.1
+    by_test : (constant_below f d ≡ Ok c → ((g : ℕ) → f ≤ g → g ≤ 31 → ¬ Fits32 (nearest_at d g)) →
+        IsGainConstant d c.0 c.1) → (t : Bool) → fits_32 (nearest_at d f) ≡ t → IsGainConstant d c.0 c.1
     by_test rest true t =
         let here = constant_below-fits f d t in
         let same : c ≡ reduced_constant f (nearest_at d f) = cc in
@@ -114,7 +123,8 @@ pub constant_none : (k : ℕ) (d : Decimal) (fault : NumFault) → constant_belo
 constant_none zero d fault e g h = absurd (omega (arith, h))
 constant_none (suc f) d fault e g h = by_test (constant_none f d fault) (fits_32 (nearest_at d f)) refl
   where
-    by_test : (constant_below f d ≡ Err fault → (i : ℕ) → i < f → ¬ Fits32 (nearest_at d i)) → (t : Bool) → fits_32 (nearest_at d f) ≡ t → ¬ Fits32 (nearest_at d g)
+    by_test : (constant_below f d ≡ Err fault → (i : ℕ) → i < f → ¬ Fits32 (nearest_at d i)) → (t : Bool) →
+        fits_32 (nearest_at d f) ≡ t → ¬ Fits32 (nearest_at d g)
     by_test rest true t = let here = constant_below-fits f d t in cc
     by_test rest false t = by_order (g == f) refl
       where

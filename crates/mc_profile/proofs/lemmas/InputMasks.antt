@@ -25,7 +25,9 @@ no-bit k set = set (and_zero_l (2 ^ k))
 pub bits-none : (rows : List LocalRow) → AreInputBits rows 0 []
 bits-none rows = record { len = refl; bits = λ a k below. absurd (omega arith) }
 
-pub bits-more : (rows : List LocalRow) (n m x : ℕ) (xs : List ℕ) → m ≡ n + 1 → ((k : ℕ) → IsBitSet x k ↔ ((k < 32) × IsInportAt rows n (suc k))) → AreInputBits rows n xs → AreInputBits rows m (xs ++ x ∷ [])
+pub bits-more : (rows : List LocalRow) (n m x : ℕ) (xs : List ℕ) → m ≡ n + 1 →
+    ((k : ℕ) → IsBitSet x k ↔ ((k < 32) × IsInportAt rows n (suc k))) → AreInputBits rows n xs →
+    AreInputBits rows m (xs ++ x ∷ [])
 bits-more rows n m x xs e bit are = record {
   len = let l = are.len in length-append xs (x ∷ []) ∙ omega arith;
   bits = λ a k below. elim (cases_lt a n) [
@@ -34,7 +36,8 @@ bits-more rows n m x xs e bit are = record {
         subst (λ y. IsBitSet y k ↔ ((k < 32) × IsInportAt rows a (suc k))) (sym at) (are.bits a k before)
     | inr last ↦
         let same : n ≡ a = omega arith in
-        let at : get_or (xs ++ x ∷ []) n 0 ≡ x = get_or-append_right xs (x ∷ []) n n 0 are.len (omega arith) ∙ ap (λ q. get_or (x ∷ []) q 0) (let z : n - n ≡ 0 = omega arith in z) in
+        let at : get_or (xs ++ x ∷ []) n 0 ≡ x = get_or-append_right xs (x ∷ []) n n 0 are.len (omega arith)
+        ∙ ap (λ q. get_or (x ∷ []) q 0) (let z : n - n ≡ 0 = omega arith in z) in
         subst (λ q. IsBitSet (get_or (xs ++ x ∷ []) q 0) k ↔ ((k < 32) × IsInportAt rows q (suc k))) same
         (subst (λ y. IsBitSet y k ↔ ((k < 32) × IsInportAt rows n (suc k))) (sym at) (bit k))
   ];
@@ -88,20 +91,24 @@ control-trigger (Both reset edge) = (λ b. refl, λ t e. let no : 2 ^ 33 ≡ 0 =
 
 -- ---- Inputs by number with the controls
 
-pub mask-with : (numbers : ℕ → Type 0) (control : Control) (m : ℕ) → ((k : ℕ) → IsBitSet m k ↔ ((k < 32) × numbers (suc k))) → bit_or m (ports_mask (control_ports control)) < 2 ^ 64 →
+pub mask-with : (numbers : ℕ → Type 0) (control : Control) (m : ℕ) →
+    ((k : ℕ) → IsBitSet m k ↔ ((k < 32) × numbers (suc k))) → bit_or m (ports_mask (control_ports control)) < 2 ^ 64 →
     IsMaskOf (inputs_of numbers control) (bit_or m (ports_mask (control_ports control)))
 mask-with numbers control m bits fits = record {
-  bounded = all-low 30 (bit_or m (ports_mask (control_ports control))) fits (λ k high bit. elim (or-cases m (ports_mask (control_ports control)) k bit) [
-    | inl own ↦ let low = ((bits k).0 own).0 in omega (arith, low, high)
-    | inr theirs ↦ let low = (control-bits control k theirs).1 in omega (arith, low, high)
-  ]);
+  bounded =
+      all-low 30 (bit_or m (ports_mask (control_ports control))) fits
+      (λ k high bit. elim (or-cases m (ports_mask (control_ports control)) k bit) [
+        | inl own ↦ let low = ((bits k).0 own).0 in omega (arith, low, high)
+        | inr theirs ↦ let low = (control-bits control k theirs).1 in omega (arith, low, high)
+      ]);
   number = λ k above most.
       let same : suc (k - 1) ≡ k = omega arith in (
         λ bit. elim (or-cases m (ports_mask (control_ports control)) (k - 1) bit) [
           | inl own ↦ subst numbers same ((bits (k - 1)).0 own).1
           | inr theirs ↦ absurd (let high = (control-bits control (k - 1) theirs).0 in omega (arith, high, above, most))
         ],
-        λ t. or-left m (ports_mask (control_ports control)) (k - 1) ((bits (k - 1)).1 ((let q = most in omega arith), subst numbers (sym same) t)),
+        λ t. or-left m (ports_mask (control_ports control)) (k - 1)
+            ((bits (k - 1)).1 ((let q = most in omega arith), subst numbers (sym same) t)),
       );
   enable = (
     λ bit. elim (or-cases m (ports_mask (control_ports control)) 32 bit) [
@@ -124,10 +131,13 @@ mask-with numbers control m bits fits = record {
 abbrev pub AreMasksAt : List ℕ → ℕ → List ℕ → List ℕ → Type 0
 AreMasksAt reached control places masks = AllZip (λ b mask. (mask ≡ bit_or (get_or reached b 0) control) × (mask < 2 ^ 64)) places masks
 
-pub masks-more : (reached : List ℕ) (control : ℕ) (places masks more : List ℕ) (i : ℕ) → i < length places → ((b : ℕ) → bit_or (get_or reached b 0) control < 2 ^ 64) →
-    more ≡ masks ++ bit_or (get_or reached (get_or places i 0) 0) control ∷ [] → AreMasksAt reached control (take i places) masks → AreMasksAt reached control (take (i + 1) places) more
+pub masks-more : (reached : List ℕ) (control : ℕ) (places masks more : List ℕ) (i : ℕ) → i < length places →
+    ((b : ℕ) → bit_or (get_or reached b 0) control < 2 ^ 64) →
+    more ≡ masks ++ bit_or (get_or reached (get_or places i 0) 0) control ∷ [] →
+    AreMasksAt reached control (take i places) masks → AreMasksAt reached control (take (i + 1) places) more
 masks-more reached control places masks more i inside fits e h =
     let mask : ℕ = bit_or (get_or reached (get_or places i 0) 0) control in
     subst (AreMasksAt reached control (take (i + 1) places)) (sym e)
     (subst (λ l. AreMasksAt reached control l (masks ++ mask ∷ [])) (sym (take_more places i 0 inside))
-    (AllZip-push (λ b mask. (mask ≡ bit_or (get_or reached b 0) control) × (mask < 2 ^ 64)) (take i places) masks (get_or places i 0) mask h (refl, fits (get_or places i 0))))
+    (AllZip-push (λ b mask. (mask ≡ bit_or (get_or reached b 0) control) × (mask < 2 ^ 64)) (take i places) masks
+    (get_or places i 0) mask h (refl, fits (get_or places i 0))))

@@ -31,7 +31,8 @@ apart-differ xs h i j less below same =
 
 pub differ-at : (xs : List ℕ) (i j x : ℕ) → AreDifferent xs → slice_get xs i ≡ Some x → slice_get xs j ≡ Some x → i ≡ j
 differ-at xs i j x differ a b =
-    let x_is : (k : ℕ) → slice_get xs k ≡ Some x → get_or xs k 0 ≡ x = λ k e. same_Some (get_or xs k 0) x (sym (slice_get-get_or xs k 0 (at-below xs k x e)) ∙ e) in
+    let x_is : (k : ℕ) → slice_get xs k ≡ Some x → get_or xs k 0 ≡ x =
+    λ k e. same_Some (get_or xs k 0) x (sym (slice_get-get_or xs k 0 (at-below xs k x e)) ∙ e) in
     elim (cases_order i j) [
       | inl same ↦ same
       | inr apart ↦ elim apart [
@@ -56,7 +57,8 @@ pub apart-found : (port : ℕ → ℕ) (own : List ℕ) (a n : ℕ) → Apart (f
 apart-found port own a zero = tt
 apart-found port own a (suc n) = by (find (λ b. port b == a) own) refl (apart-found port own (a + 1) n)
   where
-    by : (o : Option ℕ) → find (λ b. port b == a) own ≡ o → Apart (filter_map (λ k. find (λ b. port b == k) own) (range_with_len (a + 1) n)) →
+    by : (o : Option ℕ) → find (λ b. port b == a) own ≡ o →
+        Apart (filter_map (λ k. find (λ b. port b == k) own) (range_with_len (a + 1) n)) →
         Apart (cons_option o (filter_map (λ k. find (λ b. port b == k) own) (range_with_len (a + 1) n)))
     by None e rest = rest
     by (Some b) e rest = (
@@ -72,7 +74,9 @@ apart-found port own a (suc n) = by (find (λ b. port b == a) own) refl (apart-f
 
 -- ---- Wires that are given once
 
-pub once-append : (xs ys : List NodeWires) → AreGivenOnce xs → AreGivenOnce ys → ((x y : NodeWires) (c : ℕ) → Contains xs x → Contains ys y → Contains x.gives c → Contains y.gives c → ⊥) → AreGivenOnce (xs ++ ys)
+pub once-append : (xs ys : List NodeWires) → AreGivenOnce xs → AreGivenOnce ys →
+    ((x y : NodeWires) (c : ℕ) → Contains xs x → Contains ys y → Contains x.gives c → Contains y.gives c → ⊥) →
+    AreGivenOnce (xs ++ ys)
 once-append xs ys first second apart a b c x y at to given other = elim (at-append xs ys a x at) [
   | inl here ↦ elim (at-append xs ys b y to) [
     | inl there ↦ first a b c x y here there given other
@@ -88,14 +92,16 @@ once-append xs ys first second apart a b c x y at to given other = elim (at-appe
   ]
 ]
 
-pub of-flat_map : {A B : Type 0} (f : A → List B) (xs : List A) (y : B) → Contains (flat_map f xs) y → (x : A) × Contains xs x × Contains (f x) y
+pub of-flat_map : {A B : Type 0} (f : A → List B) (xs : List A) (y : B) → Contains (flat_map f xs) y →
+    (x : A) × Contains xs x × Contains (f x) y
 of-flat_map f [] y h = absurd (in-none y h)
 of-flat_map f (x ∷ xs) y h = elim (Contains-append_cases (f x) (flat_map f xs) y h) [
   | inl here ↦ (x, in-first x xs, here)
   | inr more ↦ let rest = of-flat_map f xs y more in (rest.0, in-rest x rest.0 xs rest.1, rest.2)
 ]
 
-pub long-flat_map : {A B : Type 0} (f : A → List B) (xs : List A) → ((x : A) → Contains xs x → length (f x) ≤ 32) → length (flat_map f xs) ≤ 32 * length xs
+pub long-flat_map : {A B : Type 0} (f : A → List B) (xs : List A) → ((x : A) → Contains xs x → length (f x) ≤ 32) →
+    length (flat_map f xs) ≤ 32 * length xs
 long-flat_map f [] few = omega arith
 long-flat_map f (x ∷ xs) few =
     let here = few x (in-first x xs) in
@@ -113,7 +119,8 @@ short-filter p (x ∷ xs) = by (p x) (short-filter p xs)
 
 pub short-different : (xs : List ℕ) → length (different xs) ≤ length xs
 short-different [] = omega arith
-short-different (x ∷ xs) = let rest = short-different xs in let kept = short-filter (λ y. not (y == x)) (different xs) in omega (arith, rest, kept)
+short-different (x ∷ xs) = let rest = short-different xs in let kept =
+    short-filter (λ y. not (y == x)) (different xs) in omega (arith, rest, kept)
 
 -- a part for each member, where a wire that is given tells whose it is
 pub once-flat_map : {A : Type 0} (key : A → Option ℕ) (owner : ℕ → Option ℕ) (f : A → List NodeWires) (xs : List A) (ns : List ℕ) →

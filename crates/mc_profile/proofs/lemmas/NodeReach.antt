@@ -42,13 +42,15 @@ module _ (local : LocalSystem) where
   stands-in : (z : Node) → Contains (node_list local) z → Stands z
   stands-in z h = let a = at-in (node_list local) z h in record { place = a.0; node = z; at = a.1; needs = refl; gives = refl }
 
-  row-stands : (b c : ℕ) (o : Option LocalRow) → row_of local b ≡ o → Contains (option_map_or (λ (r : LocalRow). r.row ∷ []) o []) c → Stands (Row b)
+  row-stands : (b c : ℕ) (o : Option LocalRow) → row_of local b ≡ o →
+      Contains (option_map_or (λ (r : LocalRow). r.row ∷ []) o []) c → Stands (Row b)
   row-stands b c None e h = absurd (in-none c h)
   row-stands b c (Some r) e h =
       let found = found-in (λ (q : LocalRow). eqb q.row b) local.rows r e in
       let same : r.row ≡ b = eqb-true r.row b found.1 in
       stands-in (Row b) (Contains-append_left (map (λ (q : LocalRow). Row q.row) local.rows) (flat_map call_nodes local.children) (Row b)
-      (subst (λ k. Contains (map (λ (q : LocalRow). Row q.row) local.rows) (Row k)) same (in-map (λ (q : LocalRow). Row q.row) local.rows r found.0)))
+      (subst (λ k. Contains (map (λ (q : LocalRow). Row q.row) local.rows) (Row k)) same
+      (in-map (λ (q : LocalRow). Row q.row) local.rows r found.0)))
 
   -- past the end a function gives nothing
   inside-functions : (u : ChildUse) (k c : ℕ) → Contains (given_rows u.header (suc k)) c → k < length (header_functions u.header)
@@ -87,10 +89,13 @@ module _ (local : LocalSystem) where
   module _ (nodes : SystemNodes) (are : AreNodesOf local nodes) where
     -- ---- From nodes to places
 
-    edge-to : (a b : ℕ) (x y z : Node) → slice_get (node_list local) a ≡ Some x → slice_get (node_list local) b ≡ Some y → node_needs local y ≡ node_needs local z → NodeNeeds local z x → Needs nodes.graph b a
+    edge-to : (a b : ℕ) (x y z : Node) → slice_get (node_list local) a ≡ Some x →
+        slice_get (node_list local) b ≡ Some y → node_needs local y ≡ node_needs local z → NodeNeeds local z x →
+        Needs nodes.graph b a
     edge-to a b x y z from to same n = (are.edges a b x y from to).1 (n.0, subst (λ ws. Contains ws n.0) (sym same) n.1, n.2)
 
-    pub walk-to-places : (a b : ℕ) (x y z : Node) (path : List Node) → slice_get (node_list local) a ≡ Some x → slice_get (node_list local) b ≡ Some y → node_needs local y ≡ node_needs local z →
+    pub walk-to-places : (a b : ℕ) (x y z : Node) (path : List Node) → slice_get (node_list local) a ≡ Some x →
+        slice_get (node_list local) b ≡ Some y → node_needs local y ≡ node_needs local z →
         NodeWalk local z path x → (places : List ℕ) × graph.Walk nodes.graph b places a
     walk-to-places a b x y z [] from to same n = ([], edge-to a b x y z from to same n)
     walk-to-places a b x y z (w ∷ path) from to same (n, rest) =
@@ -106,7 +111,8 @@ module _ (local : LocalSystem) where
         (All-from_recursion (λ (edge : ℕ × ℕ). (edge.0 < nodes.graph.n) × (edge.1 < nodes.graph.n)) nodes.graph.edges are.inside) e).0 in
         below-at (node_list local) a (let c = are.count in omega (arith, low, c))
 
-    pub walk-to-nodes : (a b : ℕ) (x y : Node) (path : List ℕ) → slice_get (node_list local) a ≡ Some x → slice_get (node_list local) b ≡ Some y → graph.Walk nodes.graph b path a →
+    pub walk-to-nodes : (a b : ℕ) (x y : Node) (path : List ℕ) → slice_get (node_list local) a ≡ Some x →
+        slice_get (node_list local) b ≡ Some y → graph.Walk nodes.graph b path a →
         (between : List Node) × NodeWalk local y between x
     walk-to-nodes a b x y [] from to e = ([], (are.edges a b x y from to).0 e)
     walk-to-nodes a b x y (c ∷ path) from to (e, rest) =

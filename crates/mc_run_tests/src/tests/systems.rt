@@ -29,8 +29,10 @@ fn root_of(r: &Resolved) -> &Subsystem
 fn only_child(r: &Resolved) -> Result<&Subsystem, Fail>
     ensures system { IfOk result (λ s. Agrees r.now.tree.table.rows (system_of s.now)) }
     ensures inside { IfOk result (λ s. IsInTable r.now.tree.table.rows (row_of (system_of s.now))) }
-    ensures leaf { IfOk result (λ s. map Some (subsystems_of r.now.tree.table.rows (row_of (system_of s.now))) ≡ []) }
-    ensures only { IfOk result (λ s. map Some (subsystems_of r.now.tree.table.rows None) ≡ row_of (system_of s.now) ∷ []) }
+    ensures leaf { IfOk result
+        (λ s. map Some (subsystems_of r.now.tree.table.rows (row_of (system_of s.now))) ≡ []) }
+    ensures only { IfOk result (λ s. map Some (subsystems_of r.now.tree.table.rows None)
+        ≡ row_of (system_of s.now) ∷ []) }
 {
     let root = root_of(r);
     if root.children.len() != 1 {

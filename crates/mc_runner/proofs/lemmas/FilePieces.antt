@@ -6,7 +6,8 @@ use Rattle.std.proofs.lemmas.List.{append-nil}
 use Rattle.mc_edge.specs.Buffers.{ReadsOn}
 use Rattle.mc_trace.specs.Pieces.{BeginsLine}
 
-pub prepend_known-twice : (front more : List ℕ) (k : Option (List ℕ)) → prepend_known front (prepend_known more k) ≡ prepend_known (front ++ more) k
+pub prepend_known-twice : (front more : List ℕ) (k : Option (List ℕ)) →
+    prepend_known front (prepend_known more k) ≡ prepend_known (front ++ more) k
 prepend_known-twice front more None = refl
 prepend_known-twice front more (Some xs) = ap (λ ys. Some ys) (sym (append_assoc front more xs))
 
@@ -22,7 +23,8 @@ no_bytes [] none = refl
 no_bytes (c ∷ cs) none = absurd (omega arith)
 
 -- at the end of the file the bytes are those that were there
-pub same_bytes : (count : ℕ) (bytes bytes' : List ℕ) (rest rest' : Option (List ℕ)) → ReadsOn count bytes bytes' rest rest' → count ≡ 0 → bytes' ≡ bytes
+pub same_bytes : (count : ℕ) (bytes bytes' : List ℕ) (rest rest' : Option (List ℕ)) →
+    ReadsOn count bytes bytes' rest rest' → count ≡ 0 → bytes' ≡ bytes
 same_bytes count bytes bytes' rest rest' more none =
     more.bytes ∙ ap (λ p. bytes ++ p) (no_bytes more.piece (more.size ∙ none)) ∙ append-nil bytes
 

@@ -31,10 +31,12 @@ pub both_written : (text more counts : List ℕ) (all count : ℕ) (calls others
 both_written text more counts all count calls others first second =
     let size : count + length calls + length others ≡ count + length (calls ++ others) = omega (arith, length-append calls others) in
     record {
-      every = λ behind. ap (calls_after count counts all) (append_assoc text more behind) ∙ first.every (more ++ behind) ∙ ap (with_calls calls) (second.every behind)
+      every = λ behind. ap (calls_after count counts all) (append_assoc text more behind) ∙ first.every (more ++ behind)
+          ∙ ap (with_calls calls) (second.every behind)
           ∙ with_both calls others (calls_after (count + length calls + length others) counts all behind)
           ∙ ap (λ n. with_calls (calls ++ others) (calls_after n counts all behind)) size;
-      whole = λ behind. ap (whole_calls_after count counts all) (append_assoc text more behind) ∙ first.whole (more ++ behind) ∙ ap (with_calls calls) (second.whole behind)
+      whole = λ behind. ap (whole_calls_after count counts all) (append_assoc text more behind)
+          ∙ first.whole (more ++ behind) ∙ ap (with_calls calls) (second.whole behind)
           ∙ with_both calls others (whole_calls_after (count + length calls + length others) counts all behind)
           ∙ ap (λ n. with_calls (calls ++ others) (whole_calls_after n counts all behind)) size;
     }
@@ -47,18 +49,22 @@ whole_calls_are text begun counts all calls written begins =
     ∙ ap (λ cs. record { calls = cs; bad = None }) (append-nil calls)
 
 -- each call of a script has as many values as it takes
-with_values : (counts : List ℕ) (all line : ℕ) (call : Result Call ScriptWhy) (rest : Script) → ((c : Call) → call ≡ Ok c → HasItsValues counts all c) →
+with_values : (counts : List ℕ) (all line : ℕ) (call : Result Call ScriptWhy) (rest : Script) →
+    ((c : Call) → call ≡ Ok c → HasItsValues counts all c) →
     AllByRecursion (HasItsValues counts all) rest.calls → AllByRecursion (HasItsValues counts all) (with_call line call rest).calls
 with_values counts all line (Ok c) rest first later = (first c refl, later)
 with_values counts all line (Err why) rest first later = tt
 
-pub calls_have_values : (line : ℕ) (counts : List ℕ) (all : ℕ) (texts : List (List ℕ)) → AllByRecursion (HasItsValues counts all) (calls_behind line counts all texts).calls
+pub calls_have_values : (line : ℕ) (counts : List ℕ) (all : ℕ) (texts : List (List ℕ)) →
+    AllByRecursion (HasItsValues counts all) (calls_behind line counts all texts).calls
 calls_have_values line counts all [] = tt
 calls_have_values line counts all (text ∷ texts) = by_line (line == most_lines) (calls_have_values (line + 1) counts all texts)
   where
     by_line : (last : Bool) → AllByRecursion (HasItsValues counts all) (calls_behind (line + 1) counts all texts).calls →
         AllByRecursion (HasItsValues counts all)
-        (if last then record { calls = []; bad = Some (record { line = most_lines; why = Many }) } else with_call (line + 1) (call_of_line counts all text) (calls_behind (line + 1) counts all texts)).calls
+        (if last then record { calls = []; bad = Some (record { line = most_lines; why = Many }) }
+        else with_call (line + 1) (call_of_line counts all text) (calls_behind (line + 1) counts all texts)).calls
     by_line true later = tt
     by_line false later =
-        with_values counts all (line + 1) (call_of_line counts all text) (calls_behind (line + 1) counts all texts) (call_has_values counts all text) later
+        with_values counts all (line + 1) (call_of_line counts all text) (calls_behind (line + 1) counts all texts)
+        (call_has_values counts all text) later

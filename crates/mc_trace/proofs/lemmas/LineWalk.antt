@@ -43,7 +43,8 @@ unended_says : (text : List ℕ) (from : ℕ) → line_len text ≡ length text 
 unended_says text from whole =
     by_size (nat_le (length text) 4096) (length text == 4097) (get_or text 4096 0 == 13) refl refl refl
   where
-    by_size : (few one_more carriage : Bool) → nat_le (length text) 4096 ≡ few → (length text == 4097) ≡ one_more → (get_or text 4096 0 == 13) ≡ carriage →
+    by_size : (few one_more carriage : Bool) → nat_le (length text) 4096 ≡ few → (length text == 4097) ≡ one_more →
+        (get_or text 4096 0 == 13) ≡ carriage →
         Says text from (if few || (one_more && carriage) then More else Long)
     by_size true one_more carriage few size byte = (whole, omega (arith, leb-true (length text) 4096 few))
     by_size false true true few size byte = (whole, omega (arith, eqb-true (length text) 4097 size))
@@ -72,7 +73,8 @@ between_is : (bytes : List ℕ) (from start end after : ℕ) → Ended (drop fro
     take (end - start) (drop start bytes) ≡ take (kept_len (drop from bytes) (line_len (drop from bytes))) (drop from bytes)
 between_is bytes from start end after line =
     let size : end - start ≡ kept_len (drop from bytes) (line_len (drop from bytes)) = omega (arith, line.starts, line.ends) in
-    ap (λ k. take k (drop start bytes)) size ∙ ap (λ k. take (kept_len (drop from bytes) (line_len (drop from bytes))) (drop k bytes)) line.starts
+    ap (λ k. take k (drop start bytes)) size
+    ∙ ap (λ k. take (kept_len (drop from bytes) (line_len (drop from bytes))) (drop k bytes)) line.starts
 
 -- a first line that ends, whatever follows
 first_kept : (text behind : List ℕ) → line_len text < length text →
@@ -94,8 +96,10 @@ pub record StandsAt (bytes : List ℕ) (from start end after : ℕ) : Type 0 whe
   pub within : after ≤ length bytes
   pub ordered : start ≤ end
   pub inside : end ≤ length bytes
-  pub all : (behind : List ℕ) → lines (take (after - from) (drop from bytes) ++ behind) ≡ take (end - start) (drop start bytes) ∷ lines behind
-  pub whole : (behind : List ℕ) → whole_lines (take (after - from) (drop from bytes) ++ behind) ≡ take (end - start) (drop start bytes) ∷ whole_lines behind
+  pub all : (behind : List ℕ) →
+      lines (take (after - from) (drop from bytes) ++ behind) ≡ take (end - start) (drop start bytes) ∷ lines behind
+  pub whole : (behind : List ℕ) → whole_lines (take (after - from) (drop from bytes) ++ behind) ≡ take (end - start)
+      (drop start bytes) ∷ whole_lines behind
   pub first : (behind : List ℕ) → FirstLine (drop from bytes ++ behind) (λ line. line ≡ take (end - start) (drop start bytes))
 
 stands_at : (bytes : List ℕ) (from start end after : ℕ) → Ended (drop from bytes) from start end after → StandsAt bytes from start end after
@@ -110,8 +114,10 @@ stands_at bytes from start end after line =
       ordered = omega (arith, line.starts, line.ends);
       inside = omega (arith, line.ends, line.part, length-drop from bytes, kept-le text (line_len text));
       all = λ behind. ap (λ h. lines (h ++ behind)) head ∙ lines_of_head text behind line.part ∙ ap (λ l. l ∷ lines behind) (sym between);
-      whole = λ behind. ap (λ h. whole_lines (h ++ behind)) head ∙ whole_lines_of_head text behind line.part ∙ ap (λ l. l ∷ whole_lines behind) (sym between);
-      first = λ behind. let kept = first_kept text behind line.part in record { line = kept.line; behind = kept.behind; is = kept.is; has = kept.has ∙ sym between };
+      whole = λ behind. ap (λ h. whole_lines (h ++ behind)) head ∙ whole_lines_of_head text behind line.part
+          ∙ ap (λ l. l ∷ whole_lines behind) (sym between);
+      first = λ behind. let kept = first_kept text behind line.part in
+          record { line = kept.line; behind = kept.behind; is = kept.is; has = kept.has ∙ sym between };
     }
 
 -- ---- What the next line shows
@@ -132,7 +138,8 @@ shows bytes from Long is = what_is bytes from Long is
 shows bytes from End is = what_is bytes from End is
 
 -- the line's end isn't there
-pub nothing_whole : (bytes : List ℕ) (from : ℕ) (next : Next) → next ≡ next_line_of bytes from false → (next ≡ End) ⊎ (next ≡ More) → BeginsLine (drop from bytes)
+pub nothing_whole : (bytes : List ℕ) (from : ℕ) (next : Next) → next ≡ next_line_of bytes from false →
+    (next ≡ End) ⊎ (next ≡ More) → BeginsLine (drop from bytes)
 nothing_whole bytes from End is which = absurd (shows bytes from End is)
 nothing_whole bytes from More is which = shows bytes from More is
 nothing_whole bytes from Long is which = elim which [ inl e ↦ cc | inr e ↦ cc ]

@@ -24,14 +24,16 @@ value_in : (number : ℕ) (t : FixType) (value : Option ℤ) (x : ℤ) → check
 value_in number t None x is = cc
 value_in number t (Some v) x is = by_least (int_le (least_of t) v) (int_le v (greatest_of t)) refl refl is
   where
-    by_least : (low high : Bool) → int_le (least_of t) v ≡ low → int_le v (greatest_of t) ≡ high → (if low && high then Ok v else Err (Range number)) ≡ Ok x → InType t x
+    by_least : (low high : Bool) → int_le (least_of t) v ≡ low → int_le v (greatest_of t) ≡ high →
+        (if low && high then Ok v else Err (Range number)) ≡ Ok x → InType t x
     by_least true true low high is =
         let same : v ≡ x = cc in
         subst (InType t) same (le_z_yes (T_from_true _ low), le_z_yes (T_from_true _ high))
     by_least true false low high is = cc
     by_least false high_test low high is = cc
 
-values_in : (number : ℕ) (types : List FixType) (texts : List (List ℕ)) (row : List ℤ) → length texts ≡ length types → values_from number types texts ≡ Ok row → AllZip InType types row
+values_in : (number : ℕ) (types : List FixType) (texts : List (List ℕ)) (row : List ℤ) → length texts ≡ length types →
+    values_from number types texts ≡ Ok row → AllZip InType types row
 values_in number [] texts [] count is = tt
 values_in number [] texts (x ∷ row) count is = cc
 values_in number (t ∷ types) [] row count is = absurd (omega arith)
@@ -53,7 +55,8 @@ pub row_in_types : (types : List FixType) (text : List ℕ) (row : List ℤ) →
 row_in_types types text row is = by_tests (nat_le (length text) longest) (length (fields text) == length types) refl is
   where
     by_tests : (short same : Bool) → (length (fields text) == length types) ≡ same →
-        (if short then (if same then values_from 1 types (fields text) else Err (Count (length (fields text)))) else Err Long) ≡ Ok row → AllZip InType types row
+        (if short then (if same then values_from 1 types (fields text) else Err (Count (length (fields text))))
+        else Err Long) ≡ Ok row → AllZip InType types row
     by_tests true true same is = values_in 1 types (fields text) row (eqb-true (length (fields text)) (length types) same) is
     by_tests true false same is = cc
     by_tests false count same is = cc
@@ -62,12 +65,15 @@ row_in_types types text row is = by_tests (nat_le (length text) longest) (length
 
 pub long_row : (types : List FixType) (text : List ℕ) → 4096 < length text → row_of types text ≡ Err Long
 long_row types text long =
-    ap (λ b. if b then (if length (fields text) == length types then values_from 1 types (fields text) else Err (Count (length (fields text)))) else Err Long) (lt-leb (length text) longest long)
+    ap (λ b. if b then (if length (fields text) == length types then values_from 1 types (fields text)
+    else Err (Count (length (fields text)))) else Err Long) (lt-leb (length text) longest long)
 
 pub one_line : (count : ℕ) (types : List FixType) (text : List ℕ) (behind : List (List ℕ)) → count ≢ most_lines →
     rows_behind count types (text ∷ behind) ≡ with_row (count + 1) (row_of types text) (rows_behind (count + 1) types behind)
 one_line count types text behind fewer =
-    ap (λ b. if b then record { rows = []; bad = Some (record { line = most_lines; why = Many }) } else with_row (count + 1) (row_of types text) (rows_behind (count + 1) types behind)) (ne_eqb count most_lines fewer)
+    ap (λ b. if b then record { rows = []; bad = Some (record { line = most_lines; why = Many }) }
+    else with_row (count + 1) (row_of types text) (rows_behind (count + 1) types behind))
+    (ne_eqb count most_lines fewer)
 
 pub one_line_too_many : (count : ℕ) (types : List FixType) (text : List ℕ) (behind : List (List ℕ)) → count ≡ most_lines →
     rows_behind count types (text ∷ behind) ≡ record { rows = []; bad = Some (record { line = count; why = Many }) }
@@ -75,20 +81,23 @@ one_line_too_many count types text behind is =
     ap (λ n. rows_behind n types (text ∷ behind)) is ∙ ap (λ n. record { rows = []; bad = Some (record { line = n; why = Many }) }) (sym is)
 
 -- a line that is a row, in front of others
-good_line : (count : ℕ) (types : List FixType) (text : List ℕ) (row : List ℤ) (behind : List (List ℕ)) → count < most_lines → row_of types text ≡ Ok row →
+good_line : (count : ℕ) (types : List FixType) (text : List ℕ) (row : List ℤ) (behind : List (List ℕ)) →
+    count < most_lines → row_of types text ≡ Ok row →
     rows_behind count types (text ∷ behind) ≡ with_rows (row ∷ []) (rows_behind (count + 1) types behind)
 good_line count types text row behind fewer good =
     one_line count types text behind (omega arith) ∙ ap (λ r. with_row (count + 1) r (rows_behind (count + 1) types behind)) good
 
 -- a line that is none
-pub bad_line : (count : ℕ) (types : List FixType) (text : List ℕ) (why : BadWhy) (behind : List (List ℕ)) → count ≢ most_lines → row_of types text ≡ Err why →
+pub bad_line : (count : ℕ) (types : List FixType) (text : List ℕ) (why : BadWhy) (behind : List (List ℕ)) →
+    count ≢ most_lines → row_of types text ≡ Err why →
     rows_behind count types (text ∷ behind) ≡ record { rows = []; bad = Some (record { line = count + 1; why = why }) }
 bad_line count types text why behind fewer bad =
     one_line count types text behind fewer ∙ ap (λ r. with_row (count + 1) r (rows_behind (count + 1) types behind)) bad
 
 -- ---- The next row
 
-pub line_places : (bytes : List ℕ) (from start end after : ℕ) → Line start end after ≡ next_line_of bytes from false → (start ≤ end) × (end ≤ length bytes)
+pub line_places : (bytes : List ℕ) (from start end after : ℕ) → Line start end after ≡ next_line_of bytes from false →
+    (start ≤ end) × (end ≤ length bytes)
 line_places bytes from start end after is = let line = shows bytes from (Line start end after) is in (line.ordered, line.inside)
 
 pub long_next : (bytes : List ℕ) (types : List FixType) (count from : ℕ) → LongNext ≡ next_line_of bytes from false → count ≢ most_lines →
@@ -97,7 +106,8 @@ long_next bytes types count from is fewer = λ behind.
     let first = shows bytes from LongNext is behind in
     ap (rows_behind count types) first.is ∙ bad_line count types first.line Long first.behind fewer (long_row types first.line first.has)
 
-pub row_next : (bytes : List ℕ) (types : List FixType) (count from start end after : ℕ) (row : List ℤ) → Line start end after ≡ next_line_of bytes from false → count < most_lines →
+pub row_next : (bytes : List ℕ) (types : List FixType) (count from start end after : ℕ) (row : List ℤ) →
+    Line start end after ≡ next_line_of bytes from false → count < most_lines →
     row_of types (take (end - start) (drop start bytes)) ≡ Ok row → IsNextRow bytes types count from after row
 row_next bytes types count from start end after row is fewer good =
     let text = take (end - start) (drop start bytes) in
@@ -113,13 +123,16 @@ row_next bytes types count from start end after row is fewer good =
       };
     }
 
-pub bad_next : (bytes : List ℕ) (types : List FixType) (count from start end after : ℕ) (why : BadWhy) → Line start end after ≡ next_line_of bytes from false → count ≢ most_lines →
-    row_of types (take (end - start) (drop start bytes)) ≡ Err why → BeginsBadly (record { line = count + 1; why = why }) (drop from bytes) types count
+pub bad_next : (bytes : List ℕ) (types : List FixType) (count from start end after : ℕ) (why : BadWhy) →
+    Line start end after ≡ next_line_of bytes from false → count ≢ most_lines →
+    row_of types (take (end - start) (drop start bytes)) ≡ Err why →
+    BeginsBadly (record { line = count + 1; why = why }) (drop from bytes) types count
 bad_next bytes types count from start end after why is fewer bad = λ behind.
     let first = (shows bytes from (Line start end after) is).first behind in
     ap (rows_behind count types) first.is ∙ bad_line count types first.line why first.behind fewer (ap (row_of types) first.has ∙ bad)
 
-pub too_many : (bytes : List ℕ) (types : List FixType) (count from : ℕ) (next : Next) → next ≡ next_line_of bytes from false → next ≢ End → next ≢ More → count ≡ most_lines →
+pub too_many : (bytes : List ℕ) (types : List FixType) (count from : ℕ) (next : Next) →
+    next ≡ next_line_of bytes from false → next ≢ End → next ≢ More → count ≡ most_lines →
     BeginsBadly (record { line = count; why = Many }) (drop from bytes) types count
 too_many bytes types count from next is some unended full = λ behind.
     let first = some_line bytes from next is some unended behind in
@@ -127,11 +140,13 @@ too_many bytes types count from next is some unended full = λ behind.
 
 -- ---- The last row
 
-pub empty_last : (text : List ℕ) (types : List FixType) (count : ℕ) → length text ≡ 0 → rows_after count types text ≡ record { rows = []; bad = None }
+pub empty_last : (text : List ℕ) (types : List FixType) (count : ℕ) → length text ≡ 0 →
+    rows_after count types text ≡ record { rows = []; bad = None }
 empty_last [] types count none = refl
 empty_last (c ∷ cs) types count none = absurd (omega arith)
 
-pub row_last : (text : List ℕ) (types : List FixType) (count : ℕ) (row : List ℤ) → whole_lines text ≡ [] → length text ≢ 0 → count < most_lines → row_of types text ≡ Ok row →
+pub row_last : (text : List ℕ) (types : List FixType) (count : ℕ) (row : List ℤ) → whole_lines text ≡ [] →
+    length text ≢ 0 → count < most_lines → row_of types text ≡ Ok row →
     IsLastRow text types count row
 row_last text types count row none some fewer good = record {
   fewer = fewer;
@@ -139,10 +154,13 @@ row_last text types count row none some fewer good = record {
   rows = ap (rows_behind count types) (last_is text none some) ∙ good_line count types text row [] fewer good;
 }
 
-pub bad_last : (text : List ℕ) (types : List FixType) (count : ℕ) (why : BadWhy) → whole_lines text ≡ [] → length text ≢ 0 → count ≢ most_lines → row_of types text ≡ Err why →
+pub bad_last : (text : List ℕ) (types : List FixType) (count : ℕ) (why : BadWhy) → whole_lines text ≡ [] →
+    length text ≢ 0 → count ≢ most_lines → row_of types text ≡ Err why →
     rows_after count types text ≡ record { rows = []; bad = Some (record { line = count + 1; why = why }) }
-bad_last text types count why none some fewer bad = ap (rows_behind count types) (last_is text none some) ∙ bad_line count types text why [] fewer bad
+bad_last text types count why none some fewer bad =
+    ap (rows_behind count types) (last_is text none some) ∙ bad_line count types text why [] fewer bad
 
 pub too_many_last : (text : List ℕ) (types : List FixType) (count : ℕ) → whole_lines text ≡ [] → length text ≢ 0 → count ≡ most_lines →
     rows_after count types text ≡ record { rows = []; bad = Some (record { line = count; why = Many }) }
-too_many_last text types count none some full = ap (rows_behind count types) (last_is text none some) ∙ one_line_too_many count types text [] full
+too_many_last text types count none some full =
+    ap (rows_behind count types) (last_is text none some) ∙ one_line_too_many count types text [] full

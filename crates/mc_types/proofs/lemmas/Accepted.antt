@@ -20,15 +20,19 @@ use Rattle.mc_types.proofs.lemmas.PassLemmas.{none-found}
 
 -- a row without a fault has a type
 typed : (rows : List Row) (b : ℕ) (o : Option FixType) (unlike : Bool) →
-    least_line (if is_some o then (if unlike then NoType (line_at rows b) Unlike ∷ [] else []) else NoType (line_at rows b) Missing ∷ []) ≡ None →
+    least_line (if is_some o then (if unlike then NoType (line_at rows b) Unlike ∷ [] else [])
+    else NoType (line_at rows b) Missing ∷ []) ≡ None →
     o ≡ Some (unwrap_or o boolean)
 typed rows b None unlike e = absurd (let wrong : ⊥ = cc e in wrong)
 typed rows b (Some t) unlike e = refl
 
 -- where no type is bad each row has its type
-pub each-typed : (rows : List Row) → least_line (bad_types rows) ≡ None → (b : ℕ) → b < length rows → HasType rows b (type_at (types_of_rows rows) b)
+pub each-typed : (rows : List Row) → least_line (bad_types rows) ≡ None → (b : ℕ) → b < length rows →
+    HasType rows b (type_at (types_of_rows rows) b)
 each-typed rows e b h =
-    let none = none-found (λ b. least_line (type_faults rows b)) (length rows) 0 b (least-each (type_faults rows) (row_numbers rows) ∙ e) (omega arith) (omega arith) in
+    let none =
+    none-found (λ b. least_line (type_faults rows b)) (length rows) 0 b
+    (least-each (type_faults rows) (row_numbers rows) ∙ e) (omega arith) (omega arith) in
     let there = typed rows b (type_of_row rows b) (is_unlike rows b) none in
     subst (HasType rows b) (sym (by_row-at rows (λ b. unwrap_or (type_of_row rows b) boolean) b boolean h))
     ((type_followed rows b (unwrap_or (type_of_row rows b) boolean)).1 there)
@@ -40,7 +44,10 @@ either-none (Some a) b e = absurd (let wrong : ⊥ = cc e in wrong)
 -- nothing is found, so these are the types
 pub types-accepted : (rows : List Row) (types : List FixType) (found : Option Refusal) → types ≡ types_of_rows rows →
     option_or (least_line (bad_types rows)) (least_line (signed_triggers rows)) ≡ None → found ≡ None →
-    as_plain found ≡ least_line (map (λ b. TooWide (line_at rows b) (bits_of_row rows types b)) (filter (λ b. nat_lt 62 (bits_of_row rows types b)) (row_numbers rows))) →
+    as_plain found
+    ≡ least_line
+    (map (λ b. TooWide (line_at rows b) (bits_of_row rows types b))
+    (filter (λ b. nat_lt 62 (bits_of_row rows types b)) (row_numbers rows))) →
     AreTypes rows types
 types-accepted rows types found e rules nothing wide = subst (AreTypes rows) (sym e) (record {
   accepted = accepted;
@@ -60,13 +67,15 @@ types-accepted rows types found e rules nothing wide = subst (AreTypes rows) (sy
         ∙ ap (λ o. option_or o (option_or (least_line (wide_rows rows)) None)) none.1
         ∙ ap (λ (o : Option PlainRefusal). option_or o None) no_wide
 
-or_assoc : (a b c : Option PlainRefusal) (refusal : PlainRefusal) → option_or a b ≡ Some refusal → option_or a (option_or b c) ≡ Some refusal
+or_assoc : (a b c : Option PlainRefusal) (refusal : PlainRefusal) → option_or a b ≡ Some refusal →
+    option_or a (option_or b c) ≡ Some refusal
 or_assoc None None c refusal e = absurd (let wrong : ⊥ = cc e in wrong)
 or_assoc None (Some b) c refusal e = e
 or_assoc (Some a) b c refusal e = e
 
 -- the rules refuse
-pub rules-refused : (rows : List Row) (refused : Refusal) → as_plain (Some refused) ≡ option_or (least_line (bad_types rows)) (least_line (signed_triggers rows)) →
+pub rules-refused : (rows : List Row) (refused : Refusal) →
+    as_plain (Some refused) ≡ option_or (least_line (bad_types rows)) (least_line (signed_triggers rows)) →
     type_refusal rows ≡ Some (plain_refusal refused)
 rules-refused rows refused e = or_assoc (least_line (bad_types rows)) (least_line (signed_triggers rows)) _ (plain_refusal refused) (sym e)
 
@@ -77,7 +86,10 @@ or_last (Some a) refusal e = e
 -- the widths refuse
 pub widths-refused : (rows : List Row) (types : List FixType) (refused : Refusal) → types ≡ types_of_rows rows →
     option_or (least_line (bad_types rows)) (least_line (signed_triggers rows)) ≡ None →
-    as_plain (Some refused) ≡ least_line (map (λ b. TooWide (line_at rows b) (bits_of_row rows types b)) (filter (λ b. nat_lt 62 (bits_of_row rows types b)) (row_numbers rows))) →
+    as_plain (Some refused)
+    ≡ least_line
+    (map (λ b. TooWide (line_at rows b) (bits_of_row rows types b))
+    (filter (λ b. nat_lt 62 (bits_of_row rows types b)) (row_numbers rows))) →
     type_refusal rows ≡ Some (plain_refusal refused)
 widths-refused rows types refused e rules wide =
     let none = either-none (least_line (bad_types rows)) (least_line (signed_triggers rows)) rules in

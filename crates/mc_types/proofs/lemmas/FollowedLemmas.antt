@@ -34,7 +34,8 @@ more-within rows zero k b t h e = absurd (let wrong : ⊥ = cc e in wrong)
 more-within rows (suc n) zero b t h e = absurd (omega arith)
 more-within rows (suc n) (suc k) b t h e = by (type_rule rows b) e (λ c. more-within rows n k c t (omega arith))
   where
-    by : (r : TypeRule) → type_by r (type_within rows n) ≡ Some t → ((c : ℕ) → type_within rows n c ≡ Some t → type_within rows k c ≡ Some t) →
+    by : (r : TypeRule) → type_by r (type_within rows n) ≡ Some t →
+        ((c : ℕ) → type_within rows n c ≡ Some t → type_within rows k c ≡ Some t) →
         type_by r (type_within rows k) ≡ Some t
     by (Known u) e next = e
     by (SameAs c) e next = next c e
@@ -69,14 +70,16 @@ one_step Logical f g = refl
 one_step Back f g = refl
 one_step (Fixed type) f g = refl
 
-within-one : (rows : List Row) (n k b : ℕ) → is_boolean_by_kind (row_at rows b).kind ≡ true → type_within rows (suc n) b ≡ type_within rows (suc k) b
+within-one : (rows : List Row) (n k b : ℕ) → is_boolean_by_kind (row_at rows b).kind ≡ true →
+    type_within rows (suc n) b ≡ type_within rows (suc k) b
 within-one rows n k b e =
     let none = no_rule-by_kind (row_at rows b).kind (row_at rows b).inputs e in
     ap (λ r. type_by (rule_of (row_at rows b).type_text r) (type_within rows n)) none
     ∙ one_step (row_at rows b).type_text (type_within rows n) (type_within rows k)
     ∙ sym (ap (λ r. type_by (rule_of (row_at rows b).type_text r) (type_within rows k)) none)
 
-within-boolean : (rows : List Row) (n k b : ℕ) (t : FixType) → is_boolean_by_kind (row_at rows b).kind ≡ true → b < k → type_within rows n b ≡ Some t →
+within-boolean : (rows : List Row) (n k b : ℕ) (t : FixType) → is_boolean_by_kind (row_at rows b).kind ≡ true → b < k →
+    type_within rows n b ≡ Some t →
     type_within rows k b ≡ Some t
 within-boolean rows zero k b t boolean h e = absurd (let wrong : ⊥ = cc e in wrong)
 within-boolean rows (suc n) zero b t boolean h e = absurd (omega arith)
@@ -88,7 +91,9 @@ meets-followed rows n b t e = by (is_boolean_by_kind (row_at rows b).kind) refl
   where
     law : (r : Bool) → is_boolean_by_kind (row_at rows b).kind ≡ r →
         MatchBool r (t ≡ boolean) (MeetsType rows b t) ↔ ((if r then Some boolean else followed_type rows b) ≡ Some t)
-    law r q = subst (λ r. MatchBool r (t ≡ boolean) (MeetsType rows b t) ↔ ((if r then Some boolean else followed_type rows b) ≡ Some t)) q (type_followed rows b t)
+    law r q =
+        subst (λ r. MatchBool r (t ≡ boolean) (MeetsType rows b t)
+        ↔ ((if r then Some boolean else followed_type rows b) ≡ Some t)) q (type_followed rows b t)
 
     by : (r : Bool) → is_boolean_by_kind (row_at rows b).kind ≡ r → followed_type rows b ≡ Some t
     by true q = elim (dec_le (length rows) b) [

@@ -11,8 +11,10 @@ rows_from : (n b : ℕ) → b < n → range_with_len b (n - b) ≡ b ∷ range_w
 rows_from n b h = ap (range_with_len b) (let e : n - b ≡ suc (n - (b + 1)) = omega arith in e)
 
 -- one row more is looked at
-pub least-more : (found : ℕ → Option PlainRefusal) (n b : ℕ) (before after whole : Option PlainRefusal) → b < n → after ≡ earlier_of before (found b) →
-    earlier_of before (least_in found (range_with_len b (n - b))) ≡ whole → earlier_of after (least_in found (range_with_len (b + 1) (n - (b + 1)))) ≡ whole
+pub least-more : (found : ℕ → Option PlainRefusal) (n b : ℕ) (before after whole : Option PlainRefusal) → b < n →
+    after ≡ earlier_of before (found b) →
+    earlier_of before (least_in found (range_with_len b (n - b))) ≡ whole →
+    earlier_of after (least_in found (range_with_len (b + 1) (n - (b + 1)))) ≡ whole
 least-more found n b before after whole h e all =
     ap (λ o. earlier_of o (least_in found (range_with_len (b + 1) (n - (b + 1))))) e
     ∙ earlier_assoc before (found b) (least_in found (range_with_len (b + 1) (n - (b + 1))))
@@ -26,7 +28,8 @@ least-end found n b before whole h all =
     ∙ ap (λ k. earlier_of before (least_in found (range_with_len b k))) (let e : 0 ≡ n - b = omega arith in e) ∙ all
 
 -- where a pass finds nothing it finds nothing at any row
-pub none-found : (found : ℕ → Option PlainRefusal) (n a b : ℕ) → least_in found (range_with_len a n) ≡ None → a ≤ b → b < a + n → found b ≡ None
+pub none-found : (found : ℕ → Option PlainRefusal) (n a b : ℕ) → least_in found (range_with_len a n) ≡ None → a ≤ b →
+    b < a + n → found b ≡ None
 none-found found zero a b e low high = absurd (omega arith)
 none-found found (suc n) a b e low high = by (none-found found n (a + 1) b (none-later (found a) _ e))
   where

@@ -45,7 +45,8 @@ signs_of-drop (suc i) [] = omega arith
 signs_of-drop (suc i) (c ∷ text) = omega (arith, signs_of-drop i text, signs_of-more c text)
 
 -- the mask behind a place fits
-pub minus_mask-fits : (i : ℕ) (text : List ℕ) (mask : ℕ) → length (signs_of text) ≤ 16 → mask ≡ minus_mask (signs_of (drop i text)) → mask < 2 ^ 20
+pub minus_mask-fits : (i : ℕ) (text : List ℕ) (mask : ℕ) → length (signs_of text) ≤ 16 →
+    mask ≡ minus_mask (signs_of (drop i text)) → mask < 2 ^ 20
 minus_mask-fits i text mask h e = omega (arith, e, minus_mask-bound (signs_of (drop i text)) 16 (omega (arith, h, signs_of-drop i text)))
 
 -- the signs are what isn't a bar

@@ -44,7 +44,8 @@ beside-known wanted known xs x some = by_test (bytes_eq wanted known) refl
 
 -- a look-up in memory
 pub lookup-plain : (kind : List ℕ) (entries : List (Vec ℕ Global × Vec ParamText Global)) →
-    option_map (λ (texts : Vec ParamText Global). plain_texts texts.items) (lookup (λ (key : Vec ℕ Global). bytes_eq kind key.items) entries)
+    option_map (λ (texts : Vec ParamText Global). plain_texts texts.items)
+    (lookup (λ (key : Vec ℕ Global). bytes_eq kind key.items) entries)
     ≡ beside kind (plain_kinds entries)
 lookup-plain kind [] = refl
 lookup-plain kind (e ∷ es) = by_test (bytes_eq kind e.0.items) (lookup-plain kind es)
@@ -74,12 +75,15 @@ pub AddsKind-known : (entries : List (Vec ℕ Global × Vec ParamText Global)) (
     first_value (codes "BlockType") block ≡ Some kind → is_some (lookup (named kind) entries) ≡ true →
     AddsKind (plain_kinds entries) (plain_kinds entries) block
 AddsKind-known entries kind block own known = λ wanted.
-    beside-known wanted kind (plain_kinds entries) (values_of block) (ap is_some (sym (lookup-plain kind entries)) ∙ is_some-map _ _ ∙ known)
+    beside-known wanted kind (plain_kinds entries) (values_of block) (ap is_some (sym (lookup-plain kind entries))
+    ∙ is_some-map _ _ ∙ known)
     ∙ ap (λ o. option_or (beside wanted (plain_kinds entries)) (beside wanted (with_kind o block []))) (sym own)
 
 -- a block of a new type adds it behind the others
-pub AddsKind-new : (entries new : List (Vec ℕ Global × Vec ParamText Global)) (key : Vec ℕ Global) (texts : Vec ParamText Global) (block : Items) →
-    first_value (codes "BlockType") block ≡ Some key.items → plain_texts texts.items ≡ values_of block → new ≡ entries ++ (key, texts) ∷ [] →
+pub AddsKind-new : (entries new : List (Vec ℕ Global × Vec ParamText Global)) (key : Vec ℕ Global)
+    (texts : Vec ParamText Global) (block : Items) →
+    first_value (codes "BlockType") block ≡ Some key.items → plain_texts texts.items ≡ values_of block →
+    new ≡ entries ++ (key, texts) ∷ [] →
     AddsKind (plain_kinds entries) (plain_kinds new) block
 AddsKind-new entries new key texts block own values added = λ wanted.
     ap (λ es. beside wanted (plain_kinds es)) added
@@ -98,8 +102,10 @@ beside-with_kind wanted None block rest = refl
 beside-with_kind wanted (Some kind) block rest = beside-append wanted ((kind, values_of block) ∷ []) rest
 
 -- a block whose type was added
-pub kinds_of-more : (wanted : List ℕ) (old new : DefaultTexts) (block : SectionTree) (blocks : List SectionTree) → AddsKind old new block.items →
-    option_or (beside wanted new) (beside wanted (kinds_of blocks)) ≡ option_or (beside wanted old) (beside wanted (kinds_of (block ∷ blocks)))
+pub kinds_of-more : (wanted : List ℕ) (old new : DefaultTexts) (block : SectionTree) (blocks : List SectionTree) →
+    AddsKind old new block.items →
+    option_or (beside wanted new) (beside wanted (kinds_of blocks))
+    ≡ option_or (beside wanted old) (beside wanted (kinds_of (block ∷ blocks)))
 kinds_of-more wanted old new block blocks adds =
     let own = first_value (codes "BlockType") block.items in
     ap (λ o. option_or o (beside wanted (kinds_of blocks))) (adds wanted)

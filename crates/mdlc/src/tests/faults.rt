@@ -1,8 +1,6 @@
 ghost use Rattle.std.specs.Prelude.{◌<◌};
 
-use super::{Answer, compiled, models, words_of};
-use crate::tool::run_tool;
-use mc_edge::{MemHost, MemSink};
+use super::{Answer, called_on, compiled, models};
 use mdl_texts::model_of;
 use std::alloc::{AllocError, Global};
 use std::test::Fail;
@@ -38,21 +36,8 @@ fn answered(
 ) -> Result<Answer, AllocError>
     requires { 0 < piece }
 {
-    let words = words_of(alloc, line)?;
-    let mut host = MemHost::new(alloc, files_of(alloc, texts)?, fails.to_vec(alloc)?, piece);
-    let mut out = MemSink::new(alloc, put_fails.to_vec(alloc)?, piece);
-    let status = run_tool(alloc, &words, &mut host, &mut out);
-    let mut code = Vec::new(alloc);
-    for file in host.written() {
-        code.extend_from_slice(&file.1)?;
-    }
-    Ok(Answer {
-        status,
-        put: out.bytes().to_vec(alloc)?,
-        code,
-        files: host.written().len(),
-        refused: host.refused().saturating_add(out.refused()),
-    })
+    let files = files_of(alloc, texts)?;
+    called_on(alloc, line, files, fails, put_fails, piece)
 }
 
 /// How a command ends of which one call fails: its status, the lines that are put before the last, and how many files are written.

@@ -49,8 +49,10 @@ fn run_model<H: Host, S: Sink>(
 ) -> Ending
     ensures ends { let at = told H.files H.rest H.written H.sure H.read_faults H.write_faults in
         let sink = sink_told S.bytes S.faults in
-        Ends result (Some (Run model.now code.now trace.now)) (at host.old) (at host.new) (sink out.old) (sink out.new) }
-    ensures unsure { IfReadFault result (IsUnsureOf H.files H.sure host.old (Run model.now code.now trace.now)) }
+        Ends result (Some (Run model.now code.now trace.now)) (at host.old) (at host.new)
+        (sink out.old) (sink out.new) }
+    ensures unsure { IfReadFault result
+        (IsUnsureOf H.files H.sure host.old (Run model.now code.now trace.now)) }
 {
     let compiled = match compile_into(alloc, host, model, code) {
         Ok(compiled) => compiled,
@@ -74,7 +76,8 @@ fn exec_code<H: Host, S: Sink>(
 ) -> Ending
     ensures ends { let at = told H.files H.rest H.written H.sure H.read_faults H.write_faults in
         let sink = sink_told S.bytes S.faults in
-        Ends result (Some (Exec code.now trace.now)) (at host.old) (at host.new) (sink out.old) (sink out.new) }
+        Ends result (Some (Exec code.now trace.now)) (at host.old) (at host.new) (sink out.old)
+        (sink out.new) }
     ensures unsure { IfReadFault result (IsUnsureOf H.files H.sure host.old (Exec code.now trace.now)) }
 {
     let bytes = match read_all(alloc, host, code, MOST_CODE) {
@@ -98,7 +101,8 @@ fn perform<H: Host, S: Sink>(alloc: Global, command: Command, host: &mut H, out:
     requires { HasBounds command }
     ensures ends { let at = told H.files H.rest H.written H.sure H.read_faults H.write_faults in
         let sink = sink_told S.bytes S.faults in
-        Ends result (Some (asked command.entry)) (at host.old) (at host.new) (sink out.old) (sink out.new) }
+        Ends result (Some (asked command.entry)) (at host.old) (at host.new) (sink out.old)
+        (sink out.new) }
     ensures unsure { IfReadFault result (IsUnsureOf H.files H.sure host.old (asked command.entry)) }
 {
     match command {
@@ -125,8 +129,10 @@ fn perform<H: Host, S: Sink>(alloc: Global, command: Command, host: &mut H, out:
 pub fn act<H: Host, S: Sink>(alloc: Global, words: &[String], host: &mut H, out: &mut S) -> Ending
     ensures ends { let at = told H.files H.rest H.written H.sure H.read_faults H.write_faults in
         let sink = sink_told S.bytes S.faults in
-        Ends result (asked_by (word_bytes words.now)) (at host.old) (at host.new) (sink out.old) (sink out.new) }
-    ensures unsure { IfSome (asked_by (word_bytes words.now)) (λ asked. IfReadFault result (IsUnsureOf H.files H.sure host.old asked)) }
+        Ends result (asked_by (word_bytes words.now)) (at host.old) (at host.new) (sink out.old)
+        (sink out.new) }
+    ensures unsure { IfSome (asked_by (word_bytes words.now))
+        (λ asked. IfReadFault result (IsUnsureOf H.files H.sure host.old asked)) }
 {
     match command(alloc, words) {
         Ok(Some(command)) => perform(alloc, command, host, out),

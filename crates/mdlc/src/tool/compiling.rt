@@ -45,9 +45,11 @@ pub fn write_code<H: Host>(
 ) -> Result<Compiled, Ending>
     requires { HasNoLoop (needs_of (diagram_of r.now)) }
     ensures written { let at = told H.files H.rest H.written H.sure H.read_faults H.write_faults in
-        IfOk result (λ c. WritesCodeOf (table_of_tree r.now) c code.now (at host.old) (at host.new)) }
+        IfOk result (λ c. WritesCodeOf (table_of_tree r.now) c code.now (at host.old)
+        (at host.new)) }
     ensures ended { let at = told H.files H.rest H.written H.sure H.read_faults H.write_faults in
-        IfErr result (λ ending. NotWritten ending (table_of_tree r.now) code.now (at host.old) (at host.new)) }
+        IfErr result (λ ending. NotWritten ending (table_of_tree r.now) code.now (at host.old)
+        (at host.new)) }
 {
     let compiled = match compiled_from(alloc, r) {
         Ok(compiled) => compiled,
@@ -67,7 +69,8 @@ pub fn compile_into<H: Host>(
     code: &str,
 ) -> Result<Compiled, Ending>
     ensures compiled { let at = told H.files H.rest H.written H.sure H.read_faults H.write_faults in
-        IfOk result (λ compiled. WritesCompiled compiled model.now code.now (at host.old) (at host.new)) }
+        IfOk result (λ compiled. WritesCompiled compiled model.now code.now (at host.old)
+        (at host.new)) }
     ensures ended { let at = told H.files H.rest H.written H.sure H.read_faults H.write_faults in
         IfErr result (λ ending. NotCompiled ending model.now code.now (at host.old) (at host.new)) }
 {

@@ -87,7 +87,8 @@ fn status(ending: &Ending) -> u8
 
 // Puts the text of an ending with this status, and says the status.
 fn put_text<S: Sink>(out: &mut S, status: u8, text: &[u8]) -> u8
-    ensures { let at = sink_told S.bytes S.faults in PutsText status text.now result (at out.old) (at out.new) }
+    ensures { let at = sink_told S.bytes S.faults in
+        PutsText status text.now result (at out.old) (at out.new) }
 {
     match put_all(out, text) {
         Ok(()) => status,

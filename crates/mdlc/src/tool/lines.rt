@@ -27,7 +27,8 @@ pub fn compiled_line(
 
 /// The line of what a run took.
 pub fn totals_line(alloc: Global, totals: Totals) -> Result<String, AllocError>
-    ensures { IfOk result (λ line. string_bytes line ≡ text.totals_line totals.ticks totals.steps totals.calls) }
+    ensures { IfOk result (λ line. string_bytes line
+        ≡ text.totals_line totals.ticks totals.steps totals.calls) }
 {
     let Totals {
         ticks,
@@ -39,14 +40,16 @@ pub fn totals_line(alloc: Global, totals: Totals) -> Result<String, AllocError>
 
 // The line for a line of a trace, with a word on it.
 fn trace_line(alloc: Global, line: u32, word: &str) -> Result<String, AllocError>
-    ensures { IfOk result (λ text. string_bytes text ≡ line_of_words (codes "trace" ∷ at_line line (word.now ∷ []))) }
+    ensures { IfOk result (λ text. string_bytes text
+        ≡ line_of_words (codes "trace" ∷ at_line line (word.now ∷ []))) }
 {
     format!(in alloc; "trace line {line} {word}\n")
 }
 
 // The same with a number behind the word.
 fn trace_line_with(alloc: Global, line: u32, word: &str, number: u32) -> Result<String, AllocError>
-    ensures { IfOk result (λ text. string_bytes text ≡ line_of_words (codes "trace" ∷ at_line line (word.now ∷ decimal number ∷ []))) }
+    ensures { IfOk result (λ text. string_bytes text
+        ≡ line_of_words (codes "trace" ∷ at_line line (word.now ∷ decimal number ∷ []))) }
 {
     format!(in alloc; "trace line {line} {word} {number}\n")
 }

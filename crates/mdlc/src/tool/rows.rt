@@ -24,7 +24,8 @@ pub fn run_rows<S: Sink>(
     requires types { AllZip IsNarrower types.now machine.old.program.inputs }
     ensures ends { let sink = sink_told S.bytes S.faults in
         RowsEnd result (tree_of machine.old) types.now trace.now (sink out.old) (sink out.new) }
-    ensures counts { let sink = sink_told S.bytes S.faults in CountsPuts result (sink out.old) (sink out.new) }
+    ensures counts { let sink = sink_told S.bytes S.faults in
+        CountsPuts result (sink out.old) (sink out.new) }
 {
     let mut totals = Totals {
         ticks: 0,

@@ -24,7 +24,8 @@ pub fn drive_file<H: Host, S: Sink>(
         let sink = sink_told S.bytes S.faults in
         (w : Driven) → StandsFor w driver.old [] →
         DriveEnds result w script.now (at host.old) (at host.new) (sink out.old) (sink out.new) }
-    ensures counts { let sink = sink_told S.bytes S.faults in CountsPuts result (sink out.old) (sink out.new) }
+    ensures counts { let sink = sink_told S.bytes S.faults in
+        CountsPuts result (sink out.old) (sink out.new) }
     ensures unsure { IfReadFault result (H.sure host.old script.now ≡ false) }
 {
     scripts_are_driven();

@@ -27,8 +27,10 @@ pub fn run_file<H: Host, S: Sink>(
     requires types { AllZip IsNarrower types.now machine.old.program.inputs }
     ensures ends { let at = told H.files H.rest H.written H.sure H.read_faults H.write_faults in
         let sink = sink_told S.bytes S.faults in
-        RunEnds result (tree_of machine.old) types.now trace.now (at host.old) (at host.new) (sink out.old) (sink out.new) }
-    ensures counts { let sink = sink_told S.bytes S.faults in CountsPuts result (sink out.old) (sink out.new) }
+        RunEnds result (tree_of machine.old) types.now trace.now (at host.old) (at host.new)
+        (sink out.old) (sink out.new) }
+    ensures counts { let sink = sink_told S.bytes S.faults in
+        CountsPuts result (sink out.old) (sink out.new) }
     ensures unsure { IfReadFault result (H.sure host.old trace.now ≡ false) }
 {
     if host.open_read(trace).is_err() {

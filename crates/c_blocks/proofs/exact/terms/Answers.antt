@@ -10,7 +10,8 @@ returns-in_default c =
     let a = c.args in
     let i = c.loop-i.i in
     let over : length a.inputs.now ≤ i = search rules in
-    terms_end (map expr_tree c.loop-i.terms.items) (code.term_codes a.minus a.common 0 a.fracs.now a.inputs.now) a.minus a.common i (drop i a.fracs.now) a.inputs.now over c.loop-i.invariant
+    terms_end (map expr_tree c.loop-i.terms.items) (code.term_codes a.minus a.common 0 a.fracs.now a.inputs.now) a.minus
+    a.common i (drop i a.fracs.now) a.inputs.now over c.loop-i.invariant
 
 pub aligned-requires-clause-finer : goal.aligned-requires-clause-finer
 aligned-requires-clause-finer c =

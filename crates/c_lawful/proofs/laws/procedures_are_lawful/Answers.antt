@@ -3,7 +3,8 @@ use Rattle.c_lawful.proofs.laws.procedures_are_lawful.Goals as goal
 
 pub returns : goal.returns
 returns c =
-    proof.procedures_are_lawful c.locals_are_lawful.ensures c.resolved_rows_are_narrow.ensures c.row_ops_are_writable.ensures c.cycle_is_of_locals.ensures
+    proof.procedures_are_lawful c.locals_are_lawful.ensures c.resolved_rows_are_narrow.ensures
+    c.row_ops_are_writable.ensures c.cycle_is_of_locals.ensures
     (record {
       statements = c.statements_are_lawful.ensures;
       shallow = c.all_statements_are_shallow.ensures;

@@ -12,4 +12,5 @@ groups_with_nodes-requires c =
 pub returns : goal.returns
 returns c =
     let groups = c.as_slice.ensures.value ∙ ap (λ (s : SystemSchedule). s.groups) c.schedule.view_is in
-    subst (λ (gs : List (List ℕ)). IfOk c.groups_with_nodes.result (λ v. v.items ≡ filter (λ g. has_some (get_or gs g [])) (range_with_len 0 (length gs)))) groups c.groups_with_nodes.ensures
+    subst (λ (gs : List (List ℕ)). IfOk c.groups_with_nodes.result (λ v. v.items
+    ≡ filter (λ g. has_some (get_or gs g [])) (range_with_len 0 (length gs)))) groups c.groups_with_nodes.ensures

@@ -14,7 +14,8 @@ loop-group-preserved c =
     let long = ap length c.deref-count-items.ensures.value ∙ c.in_ok-calls.ensures.length in
     let inside : g < length schedule.groups = let test = c.loop-group-test.true in omega (arith, test, long) in
     let told : ltb 1 n ≡ ltb 1 (call_count schedule g) =
-    more-than-one n (call_count schedule g) (ap (λ xs. min (get_or xs g 0) 2) c.deref-count-items.ensures.value ∙ c.in_ok-calls.ensures.counts g inside) in
+    more-than-one n (call_count schedule g) (ap (λ xs. min (get_or xs g 0) 2) c.deref-count-items.ensures.value
+    ∙ c.in_ok-calls.ensures.counts g inside) in
     elim c.if-count-gt1.branch [
       | then-count-gt1+in_ok-push w ↦
           let above = w.if-count-gt1.true in

@@ -7,4 +7,5 @@ pub loop-k-preserved : goal.loop-k-preserved
 loop-k-preserved c =
     let k = c.loop-k.k in
     let p = c.index-inports-k.result in
-    c.in_ok-push.ensures.items ∙ ap (λ es. es ++ (Number (k + 1), p.out) ∷ []) c.loop-k.invariant ∙ sym (inputs-more c.args.inports.now k p c.loop-k-test.true c.index-inports-k.is)
+    c.in_ok-push.ensures.items ∙ ap (λ es. es ++ (Number (k + 1), p.out) ∷ []) c.loop-k.invariant
+    ∙ sym (inputs-more c.args.inports.now k p c.loop-k-test.true c.index-inports-k.is)

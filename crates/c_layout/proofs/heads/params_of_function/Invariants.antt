@@ -5,4 +5,6 @@ use Rattle.c_system.specs.Heads.{params_where}
 use Rattle.c_layout.proofs.heads.params_of_function.Given as goal
 
 abbrev pub invariant-loop-port : goal.invariant-loop-port
-invariant-loop-port l = l.params ≡ now_param ∷ params_where l.control (λ port. has_bit l.function.inputs (bit_of port)) (take l.port-index l.ports)
+invariant-loop-port l =
+    l.params ≡ now_param ∷ params_where l.control (λ port. has_bit l.function.inputs (bit_of port))
+    (take l.port-index l.ports)

@@ -13,8 +13,12 @@ loop-node-preserved c =
     let i = c.loop-node.node-index in
     let port : ℕ → Option ℕ = λ n. option_and_then (inport_at c.args.local.now) (slice_get c.args.places.now n) in
     let step =
-    ap (λ (l : List ℕ). l ++ option_to_list c.inport_at.result) c.loop-node.invariant ∙ ap (λ (o : Option ℕ). filter_map port (take i nodes) ++ option_to_list o) c.inport_at.ensures ∙ sym (kept-more port nodes i 0 c.loop-node-test.true) in
+    ap (λ (l : List ℕ). l ++ option_to_list c.inport_at.result) c.loop-node.invariant
+    ∙ ap (λ (o : Option ℕ). filter_map port (take i nodes) ++ option_to_list o) c.inport_at.ensures
+    ∙ sym (kept-more port nodes i 0 c.loop-node-test.true) in
     elim c.match-inport_at.branch [
-      | in-Some+in_ok-push w ↦ ap (λ v. v.items) w.ports-is ∙ w.in_ok-push.ensures.items ∙ ap (λ (o : Option ℕ). c.loop-node.ports.items ++ option_to_list o) (sym w.in-Some.is) ∙ step
-      | in_default w ↦ ap (λ v. v.items) w.ports-is ∙ sym (append-nil c.loop-node.ports.items) ∙ ap (λ (o : Option ℕ). c.loop-node.ports.items ++ option_to_list o) (sym w.in_default.is) ∙ step
+      | in-Some+in_ok-push w ↦ ap (λ v. v.items) w.ports-is ∙ w.in_ok-push.ensures.items
+          ∙ ap (λ (o : Option ℕ). c.loop-node.ports.items ++ option_to_list o) (sym w.in-Some.is) ∙ step
+      | in_default w ↦ ap (λ v. v.items) w.ports-is ∙ sym (append-nil c.loop-node.ports.items)
+          ∙ ap (λ (o : Option ℕ). c.loop-node.ports.items ++ option_to_list o) (sym w.in_default.is) ∙ step
     ]

@@ -5,4 +5,6 @@ use Rattle.c_system.specs.Heads.{inport_at}
 use Rattle.c_layout.proofs.inports.inports_among.Given as goal
 
 abbrev pub invariant-loop-node : goal.invariant-loop-node
-invariant-loop-node l = l.ports.items ≡ filter_map (λ n. option_and_then (inport_at l.local) (slice_get l.places n)) (take l.node-index l.nodes)
+invariant-loop-node l =
+    l.ports.items ≡ filter_map (λ n. option_and_then (inport_at l.local) (slice_get l.places n))
+    (take l.node-index l.nodes)

@@ -7,4 +7,5 @@ use Rattle.c_layout.proofs.places.row_places.Goals as goal
 pub loop-place-preserved : goal.loop-place-preserved
 loop-place-preserved c =
     let p = c.loop-place.place in
-    c.in_ok-push.ensures.items ∙ ap (λ (l : List Place). l ++ Row p ∷ []) c.loop-place.invariant ∙ sym (map-range_with_len_more Row 0 p p (omega arith))
+    c.in_ok-push.ensures.items ∙ ap (λ (l : List Place). l ++ Row p ∷ []) c.loop-place.invariant
+    ∙ sym (map-range_with_len_more Row 0 p p (omega arith))

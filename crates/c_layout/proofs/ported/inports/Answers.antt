@@ -10,4 +10,5 @@ pub returns : goal.returns
 returns c =
     let rows = c.as_slice.ensures.value ∙ ap (λ (s : LocalSystem). s.rows) c.local.view_is in
     let among = c.deref.ensures.value ∙ c.in_ok-among.ensures ∙ ap (ported_among is_inport) rows in
-    subst (λ (l : List Ported). IfOk c.by_port.result (λ v. v.items ≡ l)) (ap by_port among ∙ by-port-is c.args.local.now is_inport) c.by_port.ensures
+    subst (λ (l : List Ported). IfOk c.by_port.result (λ v. v.items ≡ l)) (ap by_port among
+    ∙ by-port-is c.args.local.now is_inport) c.by_port.ensures

@@ -25,8 +25,10 @@ loop-place-preserved c =
     let outputs = c.as_slice.ensures.value ∙ ap (λ (u : ChildUse). u.header.outputs) c.child.view_is in
     let front = flat_map (child_sources local) (enumerate_from 0 (take i children)) in
     c.in_ok-push_outputs.ensures
-    ∙ ap₂ (λ (f : ℕ) (os : List (ℕ × FixType)). c.loop-place.list.items ++ map (output_source f) (enumerate_from 0 os)) c.child-in-loop-place.ensures outputs
+    ∙ ap₂ (λ (f : ℕ) (os : List (ℕ × FixType)). c.loop-place.list.items ++ map (output_source f) (enumerate_from 0 os))
+    c.child-in-loop-place.ensures outputs
     ∙ ap (λ (l : List Source). l ++ child_sources local (i, x)) c.loop-place.invariant
     ∙ append_assoc c.args.list.now.items front (child_sources local (i, x))
     ∙ ap (λ (y : ChildUse). c.args.list.now.items ++ (front ++ child_sources local (i, y))) c.index-children-place.is
-    ∙ ap (λ (l : List Source). c.args.list.now.items ++ l) (sym (flat-enumerate-more (child_sources local) children i x c.loop-place-test.true))
+    ∙ ap (λ (l : List Source). c.args.list.now.items ++ l)
+    (sym (flat-enumerate-more (child_sources local) children i x c.loop-place-test.true))

@@ -4,4 +4,6 @@ use Rattle.c_system.specs.Sources.{child_sources}
 use Rattle.c_layout.proofs.sources.push_children.Given as goal
 
 abbrev pub invariant-loop-place : goal.invariant-loop-place
-invariant-loop-place l = l.list.items ≡ l.initial.list.items ++ flat_map (child_sources l.fields.local) (enumerate_from 0 (take l.place l.children))
+invariant-loop-place l =
+    l.list.items
+    ≡ l.initial.list.items ++ flat_map (child_sources l.fields.local) (enumerate_from 0 (take l.place l.children))

@@ -4,4 +4,7 @@ use Rattle.c_system.specs.Sources.{value_source}
 use Rattle.c_layout.proofs.sources.push_values.Given as goal
 
 abbrev pub invariant-loop-row : goal.invariant-loop-row
-invariant-loop-row l = l.list.items ≡ l.initial.list.items ++ map (value_source l.fields.local) (filter (λ r. has_value r.kind) (take l.row-index l.rows))
+invariant-loop-row l =
+    l.list.items
+    ≡ l.initial.list.items
+    ++ map (value_source l.fields.local) (filter (λ r. has_value r.kind) (take l.row-index l.rows))

@@ -5,4 +5,5 @@ use Rattle.c_system.specs.Fields.{counter_slot}
 use Rattle.c_layout.proofs.structure.push_counters.Given as goal
 
 abbrev pub invariant-loop-group : goal.invariant-loop-group
-invariant-loop-group l = field_trees l.list.items ≡ field_trees l.initial.list.items ++ map (λ g. slot_field (counter_slot g)) (take l.group-index l.groups)
+invariant-loop-group l = field_trees l.list.items ≡ field_trees l.initial.list.items
+    ++ map (λ g. slot_field (counter_slot g)) (take l.group-index l.groups)

@@ -6,4 +6,5 @@ use Rattle.c_shape.specs.Slots.{slot_field, ring_slots}
 use Rattle.c_layout.proofs.structure.push_lines.Given as goal
 
 abbrev pub invariant-loop-row : goal.invariant-loop-row
-invariant-loop-row l = field_trees l.list.items ≡ field_trees l.initial.list.items ++ flat_map (λ r. map slot_field (ring_slots r)) (filter (λ r. is_line r.op) (take l.row-index l.rows))
+invariant-loop-row l = field_trees l.list.items ≡ field_trees l.initial.list.items
+    ++ flat_map (λ r. map slot_field (ring_slots r)) (filter (λ r. is_line r.op) (take l.row-index l.rows))

@@ -17,7 +17,9 @@ own_fields-requires c =
 pub returns : goal.returns
 returns c =
     let own = c.in_ok-list.ensures ∙ ap (λ (s : LocalSystem). map slot_field (own_slots s)) c.local-system.ensures in
-    let counted = c.in_ok-push_counters.ensures ∙ ap₂ (λ (l : List FieldTree) (gs : List ℕ). l ++ map (λ (g : ℕ). slot_field (counter_slot g)) gs) own c.counted.ensures in
+    let counted = c.in_ok-push_counters.ensures
+    ∙ ap₂ (λ (l : List FieldTree) (gs : List ℕ). l ++ map (λ (g : ℕ). slot_field (counter_slot g)) gs) own
+    c.counted.ensures in
     let all = c.in_ok-push_filler.ensures ∙ ap filled counted ∙ all-slots-are c.args.fields.now.local c.args.fields.now.schedule in
     let name = c.in_ok-system_name.ensures ∙ ap (λ (s : LocalSystem). system_name s.row) (c.system.view_is ∙ c.local-system.ensures) in
     let make : List ℕ → List FieldTree → StructTree = λ n fs. record { name = n; fields = fs } in

@@ -15,5 +15,8 @@ invariant-loop-i l =
     record {
       narrow : AreNarrowExprs (exprs_of_list (map expr_tree (drop l.i l.values)));
       later : IsLater l.initial.steps l.steps;
-      value : arguments (functions_of [] p.pures) leaf l.line (map (λ q. q.1) l.params) (exprs_of_list (map expr_tree l.values)) l.initial.steps ≡ and_then (arguments (functions_of [] p.pures) leaf l.line (map (λ q. q.1) (drop l.i l.params)) (exprs_of_list (map expr_tree (drop l.i l.values))) l.steps) (λ vs end. gives (take l.i l.out ++ vs) end);
+      value : arguments (functions_of [] p.pures) leaf l.line (map (λ q. q.1) l.params)
+          (exprs_of_list (map expr_tree l.values)) l.initial.steps
+          ≡ and_then (arguments (functions_of [] p.pures) leaf l.line (map (λ q. q.1) (drop l.i l.params))
+          (exprs_of_list (map expr_tree (drop l.i l.values))) l.steps) (λ vs end. gives (take l.i l.out ++ vs) end);
     }

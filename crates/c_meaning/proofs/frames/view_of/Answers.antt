@@ -5,4 +5,13 @@ use Rattle.c_meaning.proofs.frames.view_of.Goals as goal
 
 pub returns-clause-reads : goal.returns-clause-reads
 returns-clause-reads c =
-    frame_reads (tree_in c.args.frame.now) _ _ (record { pures = c.deref.result; layouts = c.layouts.result; slots = c.slots.result; numbers = c.args.numbers; values = c.args.frame.now.values; line = c.args.line }) c.args.frame.now.of _ _ c.slots.ensures.ready c.layouts.ensures c.slots.ensures.slots refl refl
+    frame_reads (tree_in c.args.frame.now) _ _
+    (record {
+      pures = c.deref.result;
+      layouts = c.layouts.result;
+      slots = c.slots.result;
+      numbers = c.args.numbers;
+      values = c.args.frame.now.values;
+      line = c.args.line;
+    }) c.args.frame.now.of _ _ c.slots.ensures.ready
+    c.layouts.ensures c.slots.ensures.slots refl refl

@@ -17,4 +17,9 @@ returns-then-left-count-clause-found c =
 pub loop-i-preserved : goal.loop-i-preserved
 loop-i-preserved c =
     let more = count_more c.args.counts.now c.args.fields.now c.loop-i.i c.index-fields-i.result (omega arith) c.index-fields-i.is in
-    omega (arith, c.kind_count-count.ensures, c.loop-i.invariant, ap (λ (f : Field). kind_count c.args.counts.now f.kind) c.index-fields-i.is)
+    omega (
+      arith,
+      c.kind_count-count.ensures,
+      c.loop-i.invariant,
+      ap (λ (f : Field). kind_count c.args.counts.now f.kind) c.index-fields-i.is,
+    )

@@ -3,7 +3,9 @@ use Rattle.c_meaning.specs.Numbering.{IsOnWay}
 use Rattle.c_meaning.proofs.instances.place_of.Given as goal
 
 abbrev pub invariant-loop-left : goal.invariant-loop-left
-invariant-loop-left l = IsOnWay (program_tree l.numbering.code.program) l.numbering.code.layouts l.numbering.root l.instance l.left l.place.of l.place.at
+invariant-loop-left l =
+    IsOnWay (program_tree l.numbering.code.program) l.numbering.code.layouts l.numbering.root l.instance l.left
+    l.place.of l.place.at
 
 abbrev pub decreases-loop-left : goal.decreases-loop-left
 decreases-loop-left l = l.left

@@ -5,4 +5,8 @@ use Rattle.c_meaning.proofs.RootLaws.{procedure_position_is}
 use Rattle.c_meaning.proofs.roots.procedure_position.Goals as goal
 
 pub returns : goal.returns
-returns c = c.unwrap_or.ensures ∙ ap (λ o. unwrap_or o 0) (c.procedure_named.ensures ∙ ap (λ (xs : List Procedure). position_from (λ q. bytes_eq q.name c.args.name.now) 0 xs) c.deref.ensures.value ∙ procedure_position_is c.args.program.now.procedures.items c.args.name.now)
+returns c =
+    c.unwrap_or.ensures
+    ∙ ap (λ o. unwrap_or o 0) (c.procedure_named.ensures
+    ∙ ap (λ (xs : List Procedure). position_from (λ q. bytes_eq q.name c.args.name.now) 0 xs) c.deref.ensures.value
+    ∙ procedure_position_is c.args.program.now.procedures.items c.args.name.now)

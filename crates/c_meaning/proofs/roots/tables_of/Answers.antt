@@ -12,14 +12,32 @@ use Rattle.c_meaning.proofs.roots.tables_of.Goals as goal
 
 pub index-requires : goal.index-requires
 index-requires c =
-    let h : c.procedure_position-start.result < length c.args.program.now.procedures.items = start_below (program_tree c.args.program.now) c.args.program.now.procedures.items _ c.requires.lawful refl c.procedure_position-start.ensures in
+    let h : c.procedure_position-start.result < length c.args.program.now.procedures.items =
+    start_below (program_tree c.args.program.now) c.args.program.now.procedures.items _ c.requires.lawful refl
+    c.procedure_position-start.ensures in
     omega (arith, c.args.program.now.procedures.ok.0)
 
 pub returns-clause-tables : goal.returns-clause-tables
 returns-clause-tables c =
-    tables_are (program_tree c.args.program.now) c.args.program.now.procedures.items _ _ _ _ _ c.args.count _ c.index.result.now c.requires.lawful refl (c.in_ok-layouts.ensures ∙ ap (layouts_of _) c.deref.ensures.value) (c.in_ok-logged.ensures ∙ ap (λ (xs : List Procedure). map (λ q. is_interface q.name) xs) c.deref-2.ensures.value) c.procedure_position-start.ensures c.procedure_position-step.ensures c.index.ensures refl (c.in_ok-outputs.ensures ∙ ap (λ fs. map (field_position fs) (map output_name (numbers_from 1 c.args.count))) c.fields_of.ensures) c.requires.count
+    tables_are (program_tree c.args.program.now) c.args.program.now.procedures.items _ _ _ _ _ c.args.count _
+    c.index.result.now c.requires.lawful refl (c.in_ok-layouts.ensures ∙ ap (layouts_of _) c.deref.ensures.value)
+    (c.in_ok-logged.ensures
+    ∙ ap (λ (xs : List Procedure). map (λ q. is_interface q.name) xs) c.deref-2.ensures.value)
+    c.procedure_position-start.ensures c.procedure_position-step.ensures c.index.ensures refl
+    (c.in_ok-outputs.ensures
+    ∙ ap (λ fs. map (field_position fs) (map output_name (numbers_from 1 c.args.count))) c.fields_of.ensures)
+    c.requires.count
 
 pub returns-clause-counts : goal.returns-clause-counts
 returns-clause-counts c =
-    let tables = tables_are (program_tree c.args.program.now) c.args.program.now.procedures.items _ _ _ _ _ c.args.count _ c.index.result.now c.requires.lawful refl (c.in_ok-layouts.ensures ∙ ap (layouts_of _) c.deref.ensures.value) (c.in_ok-logged.ensures ∙ ap (λ (xs : List Procedure). map (λ q. is_interface q.name) xs) c.deref-2.ensures.value) c.procedure_position-start.ensures c.procedure_position-step.ensures c.index.ensures refl (c.in_ok-outputs.ensures ∙ ap (λ fs. map (field_position fs) (map output_name (numbers_from 1 c.args.count))) c.fields_of.ensures) c.requires.count in
-    counts_are (program_tree c.args.program.now) _ _ c.requires.lawful (c.in_ok-counts.ensures ∙ ap (counts_of _) c.deref-3.ensures.value) tables.root_is
+    let tables =
+    tables_are (program_tree c.args.program.now) c.args.program.now.procedures.items _ _ _ _ _ c.args.count _
+    c.index.result.now c.requires.lawful refl (c.in_ok-layouts.ensures ∙ ap (layouts_of _) c.deref.ensures.value)
+    (c.in_ok-logged.ensures
+    ∙ ap (λ (xs : List Procedure). map (λ q. is_interface q.name) xs) c.deref-2.ensures.value)
+    c.procedure_position-start.ensures c.procedure_position-step.ensures c.index.ensures refl
+    (c.in_ok-outputs.ensures
+    ∙ ap (λ fs. map (field_position fs) (map output_name (numbers_from 1 c.args.count))) c.fields_of.ensures)
+    c.requires.count in
+    counts_are (program_tree c.args.program.now) _ _ c.requires.lawful (c.in_ok-counts.ensures
+    ∙ ap (counts_of _) c.deref-3.ensures.value) tables.root_is

@@ -32,7 +32,10 @@ abbrev pub decreases-run_call : goal.decreases-run_call
 decreases-run_call l = before l.frame.now + 5
 
 abbrev pub decreases-run_if : goal.decreases-run_if
-decreases-run_if l = before l.frame.now + 4 * (max (stmts_depth (stmts_of_list (map stmt_tree l.on_true.now))) (stmts_depth (stmts_of_list (map stmt_tree l.on_false.now))) + 1) + 1
+decreases-run_if l =
+    before l.frame.now
+    + 4 * (max (stmts_depth (stmts_of_list (map stmt_tree l.on_true.now)))
+    (stmts_depth (stmts_of_list (map stmt_tree l.on_false.now))) + 1) + 1
 
 abbrev pub decreases-run_procedure : goal.decreases-run_procedure
 decreases-run_procedure l = before l.frame.now + 1
@@ -43,5 +46,9 @@ invariant-run_all-loop-i l =
     record {
       sound : AreSoundStmts p l.frame.level l.frame.of (stmts_of_list (map stmt_tree (drop l.i l.stmts)));
       counted : IsCounted l.cost;
-      value : seen l.initial.cost.calls (run_stmts (scope_in l.frame) (stmts_of_list (map stmt_tree l.stmts)) (cells_in l.frame l.initial.numbers) l.initial.cost.steps) ≡ seen l.cost.calls (run_stmts (scope_in l.frame) (stmts_of_list (map stmt_tree (drop l.i l.stmts))) (cells_in l.frame l.numbers) l.cost.steps);
+      value : seen l.initial.cost.calls
+          (run_stmts (scope_in l.frame) (stmts_of_list (map stmt_tree l.stmts))
+          (cells_in l.frame l.initial.numbers) l.initial.cost.steps)
+          ≡ seen l.cost.calls (run_stmts (scope_in l.frame) (stmts_of_list (map stmt_tree (drop l.i l.stmts)))
+          (cells_in l.frame l.numbers) l.cost.steps);
     }

@@ -43,5 +43,9 @@ invariant-eval_all-loop-i l =
     record {
       narrow : AreNarrowExprs (exprs_of_list (map expr_tree (drop l.i l.values)));
       later : IsLater l.initial.steps l.steps;
-      value : eval_all (view_functions l.view) (view_reads l.view) l.view.line (exprs_of_list (map expr_tree l.values)) l.initial.steps ≡ and_then (eval_all (view_functions l.view) (view_reads l.view) l.view.line (exprs_of_list (map expr_tree (drop l.i l.values))) l.steps) (λ vs end. gives (take l.i l.out ++ vs) end);
+      value : eval_all (view_functions l.view) (view_reads l.view) l.view.line
+          (exprs_of_list (map expr_tree l.values)) l.initial.steps
+          ≡ and_then
+          (eval_all (view_functions l.view) (view_reads l.view) l.view.line
+          (exprs_of_list (map expr_tree (drop l.i l.values))) l.steps) (λ vs end. gives (take l.i l.out ++ vs) end);
     }

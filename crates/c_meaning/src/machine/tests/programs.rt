@@ -42,7 +42,8 @@ fn array(alloc: Global, name: &[u8], count: u32) -> Result<Field, Memory>
 
 // A procedure without parameters.
 fn plain(alloc: Global, name: &[u8], of: u32, body: Vec<Stmt>) -> Result<Procedure, Memory>
-    ensures { IfOk result (λ p. procedure_tree p ≡ examples.plain name.now of (map stmt_tree body.items)) }
+    ensures { IfOk result (λ p. procedure_tree p
+        ≡ examples.plain name.now of (map stmt_tree body.items)) }
 {
     Ok(Procedure {
         name: Text::copy_of(alloc, name)?,
@@ -85,7 +86,8 @@ fn operation(alloc: Global, op: BinOp, left: Expr, right: Expr) -> Result<Expr, 
 
 // A field of the instance and one more number.
 fn binary(alloc: Global, op: BinOp, field: u32, right: Expr) -> Result<Expr, Memory>
-    ensures { IfOk result (λ e. expr_tree e ≡ tree.binary op (tree.read (leaf.Own field)) (expr_tree right)) }
+    ensures { IfOk result (λ e. expr_tree e
+        ≡ tree.binary op (tree.read (leaf.Own field)) (expr_tree right)) }
 {
     let left = Box::new(alloc, Expr::Read(Leaf::Own(field)))?;
     Ok(Expr::Binary(op, left, Box::new(alloc, right)?))
@@ -93,7 +95,9 @@ fn binary(alloc: Global, op: BinOp, field: u32, right: Expr) -> Result<Expr, Mem
 
 // A choice without an `else`.
 fn choice(alloc: Global, line: u32, test: Cond, yes: Vec<Stmt>) -> Stmt
-    ensures { stmt_tree result ≡ tree.branch line (cond_tree test) (tree.stmts_of_list (map stmt_tree yes.items)) tree.no_stmts }
+    ensures { stmt_tree result
+        ≡ tree.branch line (cond_tree test) (tree.stmts_of_list (map stmt_tree yes.items))
+        tree.no_stmts }
 {
     Stmt::If {
         line,

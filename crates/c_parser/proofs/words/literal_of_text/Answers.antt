@@ -6,7 +6,8 @@ use Rattle.c_parser.proofs.words.literal_of_text.Goals as goal
 pub returns-then-value : goal.returns-then-value
 returns-then-value c =
     let plain : is_plain_numeral c.args.text.now ≡ true = sym c.is_plain_numeral.ensures ∙ c.if-not-is_plain_numeral.false in
-    wide-no_literal c.args.text.now ((capped c.args.text.now c.capped_number-value.result plain c.capped_number-value.ensures).1 c.if-value.true)
+    wide-no_literal c.args.text.now
+    ((capped c.args.text.now c.capped_number-value.result plain c.capped_number-value.ensures).1 c.if-value.true)
 
 pub returns : goal.returns
 returns c =

@@ -9,7 +9,9 @@ use Rattle.c_printer.proofs.printing.put_pures.Goals as goal
 pub loop-pure-preserved : goal.loop-pure-preserved
 loop-pure-preserved c =
     let p = c.args.program.now in
-    flat_map-put (λ q. pure_bytes (program_tree p) (pure_tree q)) p.pure.items c.loop-pure.pure-index c.pure-item.result c.args.out.now.items c.loop-pure.out.items c.put_pure.new.out.items (search rules) (search rules) c.loop-pure.invariant c.in_ok-put_pure.ensures
+    flat_map-put (λ q. pure_bytes (program_tree p) (pure_tree q)) p.pure.items c.loop-pure.pure-index c.pure-item.result
+    c.args.out.now.items c.loop-pure.out.items c.put_pure.new.out.items (search rules)
+    (search rules) c.loop-pure.invariant c.in_ok-put_pure.ensures
 
 pub returns : goal.returns
 returns c = grind (arith, common_steps, flat_map-map)

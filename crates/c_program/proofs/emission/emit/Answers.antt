@@ -26,7 +26,8 @@ function_count-requires c =
     let r = c.args.r.now in
     let is = c.is_resolved.ensures in
     let rows = c.in_ok-profiles.ensures.rows ∙ c.tree_has_all_systems.ensures r is in
-    subst (λ (ps : List SystemProfile). sum_by (λ (p : SystemProfile). length p.functions) ps < 2 ^ 32) (sym c.as_slice-profiles.ensures.value)
+    subst (λ (ps : List SystemProfile). sum_by (λ (p : SystemProfile). length p.functions) ps < 2 ^ 32)
+    (sym c.as_slice-profiles.ensures.value)
     (functions-fit r is c.in_ok-profiles.profiles.items rows c.in_ok-profiles.ensures.each)
 
 pub returns : goal.returns

@@ -14,9 +14,11 @@ returns-in_err-program-clause-refused c =
     refused-same c.from_residual.result e (IsReadFault bytes) c.from_residual.ensures.1 (refused-text bytes e c.in_err-program.ensures.read)
 
 pub check_root-requires-clause-lawful : goal.check_root-requires-clause-lawful
-check_root-requires-clause-lawful c = texts_agree.lawful c.args.bytes.now (program_tree c.in_ok-program.program) c.in_ok-program.ensures.read
+check_root-requires-clause-lawful c =
+    texts_agree.lawful c.args.bytes.now (program_tree c.in_ok-program.program) c.in_ok-program.ensures.read
 
 pub returns-clause-read : goal.returns-clause-read
 returns-clause-read c =
     let bytes = c.args.bytes.now in
-    subst (λ (p : Program). CText bytes (program_tree p)) (sym c.in_ok-check_root.ensures) (texts_agree.read bytes (program_tree c.in_ok-program.program) c.in_ok-program.ensures.read)
+    subst (λ (p : Program). CText bytes (program_tree p)) (sym c.in_ok-check_root.ensures)
+    (texts_agree.read bytes (program_tree c.in_ok-program.program) c.in_ok-program.ensures.read)

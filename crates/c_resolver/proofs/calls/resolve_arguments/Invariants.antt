@@ -7,4 +7,5 @@ use Rattle.c_resolver.proofs.Each.{each}
 use Rattle.c_resolver.proofs.calls.resolve_arguments.Given as goal
 
 abbrev pub invariant-loop-value : goal.invariant-loop-value
-invariant-loop-value l = each (λ a. resolve_expr (names_of l.scope) (expr_of a.value)) (take l.value-index l.values) ≡ Ok (map expr_tree l.resolved.items)
+invariant-loop-value l = each (λ a. resolve_expr (names_of l.scope) (expr_of a.value)) (take l.value-index l.values)
+    ≡ Ok (map expr_tree l.resolved.items)

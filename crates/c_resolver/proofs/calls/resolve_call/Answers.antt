@@ -6,4 +6,7 @@ use Rattle.c_resolver.proofs.Rows.{casts_of_arguments}
 use Rattle.c_resolver.proofs.calls.resolve_call.Goals as goal
 
 pub returns : goal.returns
-returns c = c.resolve_callee.ensures ∙ ap (λ casts. resolve_call (names_of c.args.scope.now) c.args.name.now (target_of c.args.target) casts) (sym (casts_of_arguments c.args.values.now))
+returns c =
+    c.resolve_callee.ensures
+    ∙ ap (λ casts. resolve_call (names_of c.args.scope.now) c.args.name.now (target_of c.args.target) casts)
+    (sym (casts_of_arguments c.args.values.now))

@@ -7,4 +7,5 @@ use Rattle.c_resolver.proofs.Each.{each}
 use Rattle.c_resolver.proofs.exprs.+expression.Given as goal
 
 abbrev pub invariant-resolve_exprs-loop-e : goal.invariant-resolve_exprs-loop-e
-invariant-resolve_exprs-loop-e l = each (λ e. resolve_expr (names_of l.scope) (expr_of e)) (take l.e-index l.es) ≡ Ok (map expr_tree l.resolved.items)
+invariant-resolve_exprs-loop-e l =
+    each (λ e. resolve_expr (names_of l.scope) (expr_of e)) (take l.e-index l.es) ≡ Ok (map expr_tree l.resolved.items)

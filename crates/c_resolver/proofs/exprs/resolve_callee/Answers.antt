@@ -5,4 +5,5 @@ use Rattle.c_resolver.proofs.Rows.{count_of_exprs}
 use Rattle.c_resolver.proofs.exprs.resolve_callee.Goals as goal
 
 pub returns : goal.returns
-returns c = c.resolve_pure_call.ensures ∙ ap (λ n. resolve_pure_call (known_of c.args.known.now) c.args.name.now n) (sym (count_of_exprs c.args.values.now))
+returns c = c.resolve_pure_call.ensures ∙ ap (λ n. resolve_pure_call (known_of c.args.known.now) c.args.name.now n)
+    (sym (count_of_exprs c.args.values.now))

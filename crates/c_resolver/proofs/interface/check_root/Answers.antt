@@ -14,11 +14,16 @@ new-requires c =
     let found = c.in-Some-get.ensures.lookup in
     let procedures = c.deref.result.now in
     let reflexive : k ≤ k = omega arith in
-    let there : slice_get (map procedure_tree procedures) k ≡ Some (procedure_tree step) = slice_get-map_at procedure_tree procedures k step (found.3).0 (found.4 reflexive step) in
-    let same = step-found (program_tree p) c.requires.lawful k (procedure_tree step) (sym c.procedure_named.ensures ∙ c.in-Some.is) (ap (λ items. slice_get (map procedure_tree items) k) (sym c.deref.ensures.value) ∙ there) in
+    let there : slice_get (map procedure_tree procedures) k ≡ Some (procedure_tree step) =
+    slice_get-map_at procedure_tree procedures k step (found.3).0 (found.4 reflexive step) in
+    let same =
+    step-found (program_tree p) c.requires.lawful k (procedure_tree step) (sym c.procedure_named.ensures
+    ∙ c.in-Some.is) (ap (λ items. slice_get (map procedure_tree items) k) (sym c.deref.ensures.value) ∙ there) in
     record {
       lawful = c.requires.lawful;
       few = c.requires.few;
-      inputs = ap (λ (q : ProcedureTree). map (λ (x : ParamTree). fix_type x.type) q.params) same ∙ ap (λ items. map (λ (x : ParamTree). fix_type x.type) (param_trees items)) (sym c.as_slice.ensures.value) ∙ c.in_ok-inputs.ensures;
+      inputs = ap (λ (q : ProcedureTree). map (λ (x : ParamTree). fix_type x.type) q.params) same
+          ∙ ap (λ items. map (λ (x : ParamTree). fix_type x.type) (param_trees items)) (sym c.as_slice.ensures.value)
+          ∙ c.in_ok-inputs.ensures;
       outputs = c.in_ok-outputs.ensures;
     }

@@ -6,4 +6,7 @@ use Rattle.c_resolver.proofs.interface.number_names.Goals as goal
 
 pub loop-field-preserved : goal.loop-field-preserved
 loop-field-preserved c =
-    c.in_ok-push_number.ensures ∙ ap (λ (ns : List (List ℕ)). ns ++ number_names (field_tree c.field-item.result ∷ [])) c.loop-field.invariant ∙ number_names-up_to c.args.fields.now c.loop-field.field-index c.field-item.result c.loop-field-test.true c.field-item.is
+    c.in_ok-push_number.ensures
+    ∙ ap (λ (ns : List (List ℕ)). ns ++ number_names (field_tree c.field-item.result ∷ [])) c.loop-field.invariant
+    ∙ number_names-up_to c.args.fields.now c.loop-field.field-index c.field-item.result c.loop-field-test.true
+    c.field-item.is

@@ -9,4 +9,6 @@ pub loop-field-preserved : goal.loop-field-preserved
 loop-field-preserved c =
     let i = c.loop-field.field-index in
     let field = c.field-item.result in
-    c.in_ok-push_number.ensures ∙ ap (λ (xs : List (List ℕ)). xs ++ cons_option (number_name (field_of field)) []) c.loop-field.invariant ∙ filter_map-up_to number_name field_of c.args.fields.now i field c.loop-field-test.true c.field-item.is
+    c.in_ok-push_number.ensures
+    ∙ ap (λ (xs : List (List ℕ)). xs ++ cons_option (number_name (field_of field)) []) c.loop-field.invariant
+    ∙ filter_map-up_to number_name field_of c.args.fields.now i field c.loop-field-test.true c.field-item.is

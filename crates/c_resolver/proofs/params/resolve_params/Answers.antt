@@ -16,7 +16,11 @@ returns-then-is_taken-clause-checked c =
     let functions = function_names (known_of c.args.known.now) in
     let i = c.loop-param.param-index in
     let p = line_and_name (get_or c.args.params.now i no_param) in
-    c.loop-param.invariant.checked ∙ ap (check_params functions (flipped c.loop-param.names)) (from_place_or line_and_name c.args.params.now i no_param c.loop-param-test.true) ∙ param-fails functions c.loop-param.names p (map line_and_name (drop (i + 1) c.args.params.now)) (sym c.is_taken.ensures ∙ c.if-is_taken.true) ∙ ap Err (sym c.fault_at.ensures)
+    c.loop-param.invariant.checked
+    ∙ ap (check_params functions (flipped c.loop-param.names))
+    (from_place_or line_and_name c.args.params.now i no_param c.loop-param-test.true)
+    ∙ param-fails functions c.loop-param.names p (map line_and_name (drop (i + 1) c.args.params.now))
+    (sym c.is_taken.ensures ∙ c.if-is_taken.true) ∙ ap Err (sym c.fault_at.ensures)
 
 pub loop-param-preserved : goal.loop-param-preserved
 loop-param-preserved c =
@@ -29,12 +33,20 @@ loop-param-preserved c =
     let more = c.in_ok-push.ensures.new new in
     let rest = map line_and_name (drop (i + 1) c.args.params.now) in
     record {
-      named = more ∙ ap (λ (ns : List (List ℕ)). ns ++ p.1 ∷ []) c.loop-param.invariant.named ∙ up_to_or (λ (q : WrittenPureParam). q.name.now) c.args.params.now i no_param c.loop-param-test.true;
-      checked = c.loop-param.invariant.checked ∙ ap (check_params functions (flipped c.loop-param.names)) (from_place_or line_and_name c.args.params.now i no_param c.loop-param-test.true) ∙ param-passes functions c.loop-param.names p rest apart new ∙ ap (λ names. check_params functions (flipped names) rest) (sym more);
+      named = more ∙ ap (λ (ns : List (List ℕ)). ns ++ p.1 ∷ []) c.loop-param.invariant.named
+          ∙ up_to_or (λ (q : WrittenPureParam). q.name.now) c.args.params.now i no_param c.loop-param-test.true;
+      checked = c.loop-param.invariant.checked
+          ∙ ap (check_params functions (flipped c.loop-param.names))
+          (from_place_or line_and_name c.args.params.now i no_param c.loop-param-test.true)
+          ∙ param-passes functions c.loop-param.names p rest apart new
+          ∙ ap (λ names. check_params functions (flipped names) rest) (sym more);
     }
 
 pub returns-clause-checked : goal.returns-clause-checked
 returns-clause-checked c =
     let functions = function_names (known_of c.args.known.now) in
-    let all : length c.args.params.now ≡ c.loop-param.param-index = omega (arith, c.loop-param-test.false, c.loop-param.auto.param-index-end) in
-    c.loop-param.invariant.checked ∙ ap (check_params functions (flipped c.loop-param.names)) (from_end line_and_name c.args.params.now c.loop-param.param-index all)
+    let all : length c.args.params.now ≡ c.loop-param.param-index =
+    omega (arith, c.loop-param-test.false, c.loop-param.auto.param-index-end) in
+    c.loop-param.invariant.checked
+    ∙ ap (check_params functions (flipped c.loop-param.names))
+    (from_end line_and_name c.args.params.now c.loop-param.param-index all)

@@ -8,5 +8,7 @@ use Rattle.c_resolver.proofs.params.resolve_params.Given as goal
 abbrev pub invariant-loop-param : goal.invariant-loop-param
 invariant-loop-param l = record {
   named : l.names ≡ map (λ q. q.name.now) (take l.param-index l.params);
-  checked : check_params (function_names (known_of l.known)) [] (map line_and_name l.params) ≡ check_params (function_names (known_of l.known)) (flipped l.names) (map line_and_name (drop l.param-index l.params));
+  checked : check_params (function_names (known_of l.known)) [] (map line_and_name l.params)
+      ≡ check_params (function_names (known_of l.known)) (flipped l.names)
+      (map line_and_name (drop l.param-index l.params));
 }

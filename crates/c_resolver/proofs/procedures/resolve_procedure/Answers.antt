@@ -23,9 +23,14 @@ returns-in_err-names-clause-resolved c =
     let items = c.args.p.now.params.items in
     let head = ap (on_line p.line) (sym c.resolve_head.ensures) ∙ sym c.on_line.ensures ∙ c.in_ok-of.was in
     let plain = c.as_slice-2.ensures.value ∙ c.in_ok-plain.ensures ∙ ap (map plain_param) c.as_slice.ensures.value in
-    let lines = ap (map line_and_name) plain ∙ map-map line_and_name plain_param items ∙ sym (map-map (λ (q : WrittenParam). (q.line, q.name)) param_of items) in
+    let lines = ap (map line_and_name) plain ∙ map-map line_and_name plain_param items
+    ∙ sym (map-map (λ (q : WrittenParam). (q.line, q.name)) param_of items) in
     let e = c.in_err-names.field-0.0 in
-    gives-same procedure_tree c.from_residual-in_err-names.result e (resolve_procedure known p) c.from_residual-in_err-names.ensures.1 (fails_params known p c.in_ok-of.of head e (subst (λ (ps : List (ℕ × List ℕ)). Fails e (check_params (function_names known) [] ps)) lines c.in_err-names.ensures.checked))
+    gives-same procedure_tree c.from_residual-in_err-names.result e
+    (resolve_procedure known p) c.from_residual-in_err-names.ensures.1
+    (fails_params known p c.in_ok-of.of head e
+    (subst (λ (ps : List (ℕ × List ℕ)). Fails e (check_params (function_names known) [] ps)) lines
+    c.in_err-names.ensures.checked))
 
 pub returns-in_err-body-clause-resolved : goal.returns-in_err-body-clause-resolved
 returns-in_err-body-clause-resolved c =
@@ -34,13 +39,22 @@ returns-in_err-body-clause-resolved c =
     let items = c.args.p.now.params.items in
     let head = ap (on_line p.line) (sym c.resolve_head.ensures) ∙ sym c.on_line.ensures ∙ c.in_ok-of.was in
     let plain = c.as_slice-2.ensures.value ∙ c.in_ok-plain.ensures ∙ ap (map plain_param) c.as_slice.ensures.value in
-    let lines = ap (map line_and_name) plain ∙ map-map line_and_name plain_param items ∙ sym (map-map (λ (q : WrittenParam). (q.line, q.name)) param_of items) in
-    let names = c.in_ok-names.ensures.names ∙ ap (map (λ (q : PlainParam). q.name.now)) plain ∙ map-map (λ (q : PlainParam). q.name.now) plain_param items ∙ sym (map-map (λ (q : WrittenParam). q.name) param_of items) in
+    let lines = ap (map line_and_name) plain ∙ map-map line_and_name plain_param items
+    ∙ sym (map-map (λ (q : WrittenParam). (q.line, q.name)) param_of items) in
+    let names = c.in_ok-names.ensures.names ∙ ap (map (λ (q : PlainParam). q.name.now)) plain
+    ∙ map-map (λ (q : PlainParam). q.name.now) plain_param items
+    ∙ sym (map-map (λ (q : WrittenParam). q.name) param_of items) in
     let checked = ap (check_params (function_names known) []) (sym lines) ∙ c.in_ok-names.ensures.checked in
     let body = ap (λ ss. stmts_from (map stmt_of ss)) c.as_slice-3.ensures.value in
     let e = c.in_err-body.field-0.0 in
-    let fails = subst (λ (ss : WrittenStmts). Fails e (resolve_stmts (procedure_scope known c.in_ok-of.of c.in_ok-names.names) ss)) body c.in_err-body.ensures in
-    gives-same procedure_tree c.from_residual-in_err-body.result e (resolve_procedure known p) c.from_residual-in_err-body.ensures.1 (fails_body known p c.in_ok-of.of head checked e (subst (λ (ns : List (List ℕ)). Fails e (resolve_stmts (procedure_scope known c.in_ok-of.of ns) p.body)) names fails))
+    let fails =
+    subst (λ (ss : WrittenStmts). Fails e
+    (resolve_stmts (procedure_scope known c.in_ok-of.of c.in_ok-names.names) ss)) body c.in_err-body.ensures in
+    gives-same procedure_tree c.from_residual-in_err-body.result e
+    (resolve_procedure known p) c.from_residual-in_err-body.ensures.1
+    (fails_body known p c.in_ok-of.of head checked e
+    (subst (λ (ns : List (List ℕ)). Fails e (resolve_stmts (procedure_scope known c.in_ok-of.of ns) p.body)) names
+    fails))
 
 pub returns-clause-resolved : goal.returns-clause-resolved
 returns-clause-resolved c =
@@ -49,15 +63,28 @@ returns-clause-resolved c =
     let items = c.args.p.now.params.items in
     let head = ap (on_line p.line) (sym c.resolve_head.ensures) ∙ sym c.on_line.ensures ∙ c.in_ok-of.was in
     let plain = c.as_slice-2.ensures.value ∙ c.in_ok-plain.ensures ∙ ap (map plain_param) c.as_slice.ensures.value in
-    let lines = ap (map line_and_name) plain ∙ map-map line_and_name plain_param items ∙ sym (map-map (λ (q : WrittenParam). (q.line, q.name)) param_of items) in
-    let names = c.in_ok-names.ensures.names ∙ ap (map (λ (q : PlainParam). q.name.now)) plain ∙ map-map (λ (q : PlainParam). q.name.now) plain_param items ∙ sym (map-map (λ (q : WrittenParam). q.name) param_of items) in
+    let lines = ap (map line_and_name) plain ∙ map-map line_and_name plain_param items
+    ∙ sym (map-map (λ (q : WrittenParam). (q.line, q.name)) param_of items) in
+    let names = c.in_ok-names.ensures.names ∙ ap (map (λ (q : PlainParam). q.name.now)) plain
+    ∙ map-map (λ (q : PlainParam). q.name.now) plain_param items
+    ∙ sym (map-map (λ (q : WrittenParam). q.name) param_of items) in
     let checked = ap (check_params (function_names known) []) (sym lines) ∙ c.in_ok-names.ensures.checked in
     let body = ap (λ ss. stmts_from (map stmt_of ss)) c.as_slice-3.ensures.value in
     let typed = c.in_ok-typed_texts_of.ensures ∙ ap (map (λ (q : TypedParam). (q.name.now, q.ty))) c.as_slice-4.ensures.value in
-    let params = ap param_trees typed ∙ map-map (λ (q : List ℕ × CType). record { name = q.0; type = q.1 }) (λ (q : TypedParam). (q.name.now, q.ty)) items ∙ sym (map-map (λ (q : WrittenParam). record { name = q.name; type = q.type }) param_of items) in
+    let params =
+    ap param_trees typed ∙ map-map (λ (q : List ℕ × CType). record { name = q.0; type = q.1 })
+    (λ (q : TypedParam). (q.name.now, q.ty)) items
+    ∙ sym (map-map (λ (q : WrittenParam). record { name = q.name; type = q.type }) param_of items) in
     let xs = stmts_of_list (map stmt_tree c.in_ok-body.body.items) in
     let resolved = (λ j. resolve_stmts (procedure_scope known c.in_ok-of.of (sym names j)) (sym body j)) ∙ c.in_ok-body.ensures in
-    gives_procedure known p c.in_ok-of.of head checked xs resolved ∙ (λ j. Ok (record { name = sym c.in_ok-copy_of.ensures j; private = p.private; of = c.in_ok-of.of; params = sym params j; body = xs }))
+    gives_procedure known p c.in_ok-of.of head checked xs resolved
+    ∙ (λ j. Ok (record {
+      name = sym c.in_ok-copy_of.ensures j;
+      private = p.private;
+      of = c.in_ok-of.of;
+      params = sym params j;
+      body = xs;
+    }))
 
 pub returns-clause-new : goal.returns-clause-new
 returns-clause-new c =

@@ -13,4 +13,14 @@ returns-in_err-procedure c =
     let i = c.loop-p.p-index in
     let e = c.in_err-procedure.field-0.0 in
     let whole = resolve_procedures (known_of c.args.known) (map procedure_of c.args.procedures.now) in
-    gives-same known_of c.from_residual.result e whole c.from_residual.ensures.1 (fails-bind e (resolve_procedure known (procedure_of c.p-item.result)) (λ x. resolve_procedures (record known { procedures = known.procedures ++ x ∷ []; chains = known.chains ++ (stmts_chain known.chains x.body + 1) ∷ [] }) (map procedure_of (drop (i + 1) c.args.procedures.now))) whole (c.loop-p.invariant ∙ ap (resolve_procedures known) (from_place procedure_of c.args.procedures.now i c.p-item.result c.loop-p-test.true c.p-item.is)) c.in_err-procedure.ensures.resolved)
+    gives-same known_of c.from_residual.result e whole c.from_residual.ensures.1
+    (fails-bind e (resolve_procedure known (procedure_of c.p-item.result))
+    (λ x. resolve_procedures
+    (record known {
+      procedures = known.procedures ++ x ∷ [];
+      chains = known.chains ++ (stmts_chain known.chains x.body + 1) ∷ [];
+    })
+    (map procedure_of (drop (i + 1) c.args.procedures.now))) whole (c.loop-p.invariant
+    ∙ ap (resolve_procedures known)
+    (from_place procedure_of c.args.procedures.now i c.p-item.result c.loop-p-test.true c.p-item.is))
+    c.in_err-procedure.ensures.resolved)

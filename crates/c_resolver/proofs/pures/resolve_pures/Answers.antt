@@ -12,4 +12,10 @@ returns-in_err-pure c =
     let i = c.loop-p.p-index in
     let e = c.in_err-pure.field-0.0 in
     let whole = resolve_pures (known_of c.args.known) (map pure_of c.args.pures.now) in
-    gives-same known_of c.from_residual.result e whole c.from_residual.ensures.1 (fails-bind e (resolve_pure known (pure_of c.p-item.result)) (λ x. resolve_pures (record known { pures = known.pures ++ x ∷ [] }) (map pure_of (drop (i + 1) c.args.pures.now))) whole (c.loop-p.invariant ∙ ap (resolve_pures known) (from_place pure_of c.args.pures.now i c.p-item.result c.loop-p-test.true c.p-item.is)) c.in_err-pure.ensures.resolved)
+    gives-same known_of c.from_residual.result e whole c.from_residual.ensures.1
+    (fails-bind e (resolve_pure known (pure_of c.p-item.result))
+    (λ x. resolve_pures (record known { pures = known.pures ++ x ∷ [] })
+    (map pure_of (drop (i + 1) c.args.pures.now))) whole (c.loop-p.invariant
+    ∙ ap (resolve_pures known)
+    (from_place pure_of c.args.pures.now i c.p-item.result c.loop-p-test.true c.p-item.is))
+    c.in_err-pure.ensures.resolved)

@@ -7,4 +7,5 @@ use Rattle.c_resolver.proofs.Each.{each}
 use Rattle.c_resolver.proofs.stmts.+statement.Given as goal
 
 abbrev pub invariant-resolve_stmts-loop-s : goal.invariant-resolve_stmts-loop-s
-invariant-resolve_stmts-loop-s l = each (λ s. resolve_stmt (names_of l.scope) (stmt_of s)) (take l.s-index l.ss) ≡ Ok (map stmt_tree l.resolved.items)
+invariant-resolve_stmts-loop-s l =
+    each (λ s. resolve_stmt (names_of l.scope) (stmt_of s)) (take l.s-index l.ss) ≡ Ok (map stmt_tree l.resolved.items)

@@ -12,4 +12,10 @@ returns-in_err-def c =
     let i = c.loop-d.d-index in
     let e = c.in_err-def.field-0.0 in
     let whole = resolve_structs (known_of c.args.known) (map struct_of c.args.structs.now) in
-    gives-same known_of c.from_residual.result e whole c.from_residual.ensures.1 (fails-bind e (resolve_struct known (struct_of c.d-item.result)) (λ x. resolve_structs (record known { structs = known.structs ++ x ∷ [] }) (map struct_of (drop (i + 1) c.args.structs.now))) whole (c.loop-d.invariant ∙ ap (resolve_structs known) (from_place struct_of c.args.structs.now i c.d-item.result c.loop-d-test.true c.d-item.is)) c.in_err-def.ensures.resolved)
+    gives-same known_of c.from_residual.result e whole c.from_residual.ensures.1
+    (fails-bind e (resolve_struct known (struct_of c.d-item.result))
+    (λ x. resolve_structs (record known { structs = known.structs ++ x ∷ [] })
+    (map struct_of (drop (i + 1) c.args.structs.now))) whole (c.loop-d.invariant
+    ∙ ap (resolve_structs known)
+    (from_place struct_of c.args.structs.now i c.d-item.result c.loop-d-test.true c.d-item.is))
+    c.in_err-def.ensures.resolved)

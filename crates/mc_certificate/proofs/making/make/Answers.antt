@@ -19,7 +19,8 @@ differences-requires-clause-outputs c =
 pub returns : goal.returns
 returns c =
     let needs : List ℕ = c.args.needs.now in
-    let fits : All (λ n. n < 2 ^ 64) needs = λ k d within. let h = c.type_inv.needs k in let e = get_or_default needs k d 0 within in omega (arith, e, h) in
+    let fits : All (λ n. n < 2 ^ 64) needs =
+    λ k d within. let h = c.type_inv.needs k in let e = get_or_default needs k d 0 within in omega (arith, e, h) in
     let same : c.deref.result.now ≡ first_outputs needs = c.deref.ensures.value ∙ c.in_ok-representatives.ensures in
     let differ : c.in_ok-differ.differ.items ≡ differences_from needs (first_outputs needs) 0 (length (first_outputs needs)) =
     c.in_ok-differ.ensures ∙ ap (λ (xs : List ℕ). differences_from needs xs 0 (length xs)) same

@@ -33,6 +33,10 @@ loop-k-preserved c = elim c.match-first_equal.branch [
       (earlier c.args.masks.now c.loop-k.k w.in-Some.j c.loop-k-test.true w.in-Some.ensures) (sym w.in-Some.ensures) in
       (ap (take (c.loop-k.k + 1)) w.into-is ∙ kept.0, w.count-is ∙ c.loop-k.invariant.1 ∙ kept.1)
   | in-None w ↦
-      let new = new_class c.args.masks.now c.loop-k.into c.loop-k.k c.loop-k-test.true (omega arith) c.loop-k.invariant.0 (sym w.in-None.ensures) in
-      (ap (take (c.loop-k.k + 1)) (w.into-is ∙ ap (set c.loop-k.into c.loop-k.k) c.loop-k.invariant.1) ∙ new.0, w.count-is ∙ ap (λ n. n + 1) c.loop-k.invariant.1 ∙ new.1)
+      let new =
+      new_class c.args.masks.now c.loop-k.into c.loop-k.k c.loop-k-test.true (omega arith) c.loop-k.invariant.0
+      (sym w.in-None.ensures) in (
+        ap (take (c.loop-k.k + 1)) (w.into-is ∙ ap (set c.loop-k.into c.loop-k.k) c.loop-k.invariant.1) ∙ new.0,
+        w.count-is ∙ ap (λ n. n + 1) c.loop-k.invariant.1 ∙ new.1,
+      )
 ]

@@ -6,6 +6,8 @@ use Rattle.mc_cluster.proofs.groups.groups_of.Goals as goal
 
 pub places-requires-clause-few : goal.places-requires-clause-few
 places-requires-clause-few c =
-    let same = length_permutation (different c.args.holds.now) c.in_ok-holds_of_groups.holds_of_groups.items c.in_ok-holds_of_groups.ensures.sets in
+    let same =
+    length_permutation (different c.args.holds.now) c.in_ok-holds_of_groups.holds_of_groups.items
+    c.in_ok-holds_of_groups.ensures.sets in
     let few = length-different c.args.holds.now in
     omega (arith, c.deref.ensures.len)

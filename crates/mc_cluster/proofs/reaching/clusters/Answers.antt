@@ -9,8 +9,13 @@ use Rattle.mc_cluster.proofs.reaching.clusters.Goals as goal
 
 pub returns : goal.returns
 returns c =
-    let bits = subst (λ n. AreClassBits n c.args.outputs.now c.args.class.now (length c.args.outputs.now) c.in_ok-bits.bits.items) (ap (λ (g : NeedsGraph). g.n) c.g.view_is) c.in_ok-bits.ensures in
-    IfOk-weaker c.masks.result (λ v. AreMasks c.in_ok-turned.turned c.deref.result.now v.items) (λ v. AreClusters c.args.g.now c.args.outputs.now c.args.class.now v.items)
+    let bits =
+    subst (λ n. AreClassBits n c.args.outputs.now c.args.class.now
+    (length c.args.outputs.now) c.in_ok-bits.bits.items)
+    (ap (λ (g : NeedsGraph). g.n) c.g.view_is) c.in_ok-bits.ensures in
+    IfOk-weaker c.masks.result (λ v. AreMasks c.in_ok-turned.turned c.deref.result.now v.items)
+    (λ v. AreClusters c.args.g.now c.args.outputs.now c.args.class.now v.items)
     (λ v masks. are_clusters c.args.g.now c.args.outputs.now c.args.class.now c.in_ok-bits.bits.items v.items c.requires.nodes bits
-    (subst (λ g. AreMasks g c.in_ok-bits.bits.items v.items) c.in_ok-turned.ensures (subst (λ xs. AreMasks c.in_ok-turned.turned xs v.items) c.deref.ensures.value masks)))
+    (subst (λ g. AreMasks g c.in_ok-bits.bits.items v.items) c.in_ok-turned.ensures
+    (subst (λ xs. AreMasks c.in_ok-turned.turned xs v.items) c.deref.ensures.value masks)))
     c.masks.ensures

@@ -16,7 +16,8 @@ pub returns : goal.returns
 returns c =
     let d = diagram_of c.args.r.now in
     let rows : c.as_slice-rows.result.now ≡ d.rows =
-    c.as_slice-rows.ensures.value ∙ ap (λ (t : RowTable). t.rows) (c.behind-r.view_is ∙ c.table.ensures.table) ∙ ap (λ (r : ResolvedTree). r.tree.table.rows) c.r.view_is in
+    c.as_slice-rows.ensures.value ∙ ap (λ (t : RowTable). t.rows) (c.behind-r.view_is ∙ c.table.ensures.table)
+    ∙ ap (λ (r : ResolvedTree). r.tree.table.rows) c.r.view_is in
     let types : c.as_slice.result.now ≡ d.types = c.as_slice.ensures.value ∙ ap (λ (r : ResolvedTree). r.types) c.r.view_is in
     let right = c.in_ok-code.ensures.right (table_of_tree c.args.r.now) c.in_ok-emitted.ensures.program.code in
     record {

@@ -4,7 +4,8 @@ use Rattle.mc_compile.proofs.text.needed_text.Goals as goal
 
 pub print-requires : goal.print-requires
 print-requires c =
-    lawful-needed c.pruned_is_lawful.ensures (program_tree c.args.program) (program_tree c.in_ok-needed.needed) c.in_ok-needed.ensures c.requires
+    lawful-needed c.pruned_is_lawful.ensures (program_tree c.args.program)
+    (program_tree c.in_ok-needed.needed) c.in_ok-needed.ensures c.requires
 
 pub returns : goal.returns
 returns c =

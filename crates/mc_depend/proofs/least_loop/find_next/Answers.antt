@@ -20,7 +20,9 @@ loop-edge-preserved c =
     let to_is : edge.1 ≡ to edges i = ap (λ (es : List (ℕ × ℕ)). (get_or es i (0, 0)).1) same in
     let more : i + 1 ≡ suc i = omega arith in
     let inside : i < length edges = let t = c.loop-edge-test.true in let l = ap length same in omega arith in
-    let below = (edge-inside c.args.g.now.n edges (subst IsGraph c.g.view_is c.g.invariant) (from edges i) (to edges i) (edge-at edges i inside)).1 in
+    let below =
+    (edge-inside c.args.g.now.n edges (subst IsGraph c.g.view_is c.g.invariant) (from edges i) (to edges i)
+    (edge-at edges i inside)).1 in
     let in_list : edge.1 < length c.args.steps.now = let n = c.requires.len in omega arith in
     elim c.if-is_nearer.branch [
       | then-is_nearer w ↦

@@ -13,6 +13,9 @@ on-ok P Q f (Err e) h = h
 pub returns : goal.returns
 returns c =
     let levels = subst (AreLevelsTo (needed c.args.g.now) c.args.row) (sym c.deref.ensures.value) c.in_ok-steps.ensures.levels in
-    on-ok (λ v. (path : List ℕ) × (v.items ≡ c.args.row ∷ path) × IsLeastPath (needed c.args.g.now) c.args.row c.deref.result.now c.args.row path) (λ v. IsLeastLoop (needed c.args.g.now) v.items)
-    (λ v h. subst (IsLeastLoop (needed c.args.g.now)) (sym h.1) (least-loop (needed c.args.g.now) c.args.row c.deref.result.now h.0 c.requires levels h.2))
+    on-ok (λ v. (path : List ℕ) × (v.items ≡ c.args.row ∷ path)
+    × IsLeastPath (needed c.args.g.now) c.args.row c.deref.result.now c.args.row path)
+    (λ v. IsLeastLoop (needed c.args.g.now) v.items)
+    (λ v h. subst (IsLeastLoop (needed c.args.g.now)) (sym h.1)
+    (least-loop (needed c.args.g.now) c.args.row c.deref.result.now h.0 c.requires levels h.2))
     c.follow.result c.follow.ensures

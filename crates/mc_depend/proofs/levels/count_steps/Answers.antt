@@ -5,7 +5,8 @@ use Rattle.mc_depend.proofs.levels.count_steps.Goals as goal
 
 pub advance-requires-clause-inside : goal.advance-requires-clause-inside
 advance-requires-clause-inside c a is =
-    front-inside c.args.g.now.n c.args.z c.levels.k c.levels.steps c.levels.front.items c.requires.row c.levels.invariant.len c.levels.invariant.front a
+    front-inside c.args.g.now.n c.args.z c.levels.k c.levels.steps c.levels.front.items c.requires.row
+    c.levels.invariant.len c.levels.invariant.front a
     (subst (λ xs. Contains xs a) c.deref.ensures.value is)
 
 pub levels-smaller : goal.levels-smaller

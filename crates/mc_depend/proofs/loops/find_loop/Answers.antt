@@ -12,6 +12,8 @@ on-ok P Q f (Err e) h = h
 pub returns : goal.returns
 returns c =
     let needs : ℕ → List ℕ = needs_of (diagram_of c.args.r.now) in
-    on-ok (λ found. MatchOption found (HasNoLoop (needed c.in_ok-g.g)) (λ loop. IsLeastLoop (needed c.in_ok-g.g) loop.items)) (λ found. MatchOption found (HasNoLoop needs) (λ loop. IsLeastLoop needs loop.items))
+    on-ok (λ found. MatchOption found (HasNoLoop (needed c.in_ok-g.g))
+    (λ loop. IsLeastLoop (needed c.in_ok-g.g) loop.items))
+    (λ found. MatchOption found (HasNoLoop needs) (λ loop. IsLeastLoop needs loop.items))
     (found-to c.args.r.now.tree.table.rows needs c.in_ok-g.g (c.in_ok-g.ensures.whole refl) (λ v. v.items))
     c.find_in.result c.find_in.ensures

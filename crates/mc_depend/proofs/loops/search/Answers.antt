@@ -5,4 +5,6 @@ use Rattle.mc_depend.proofs.lemmas.LoopRows.{none-on_loop}
 use Rattle.mc_depend.proofs.loops.search.Goals as goal
 
 pub returns-in-None : goal.returns-in-None
-returns-in-None c = none-on_loop (needed c.args.g.now) (subst (IsLeastOf (IsOnLoop (needed c.args.g.now))) c.in-None.is c.in_ok-least_on_loop.ensures)
+returns-in-None c =
+    none-on_loop (needed c.args.g.now)
+    (subst (IsLeastOf (IsOnLoop (needed c.args.g.now))) c.in-None.is c.in_ok-least_on_loop.ensures)

@@ -7,7 +7,8 @@ use Rattle.mc_depend.proofs.needs_graph.push_controls.Given as goal
 abbrev pub invariant-loop-outer : goal.invariant-loop-outer
 invariant-loop-outer l = record {
   below : IsBelow (length l.rows) l.outer;
-  total : l.edges.items ++ edges_to l.b (inside_wires l.rows l.system (enclosing l.rows l.system l.outer)) ≡ l.fn.edges.items ++ edges_to l.b (control_wires l.rows (around_inside l.rows l.system l.b));
+  total : l.edges.items ++ edges_to l.b (inside_wires l.rows l.system (enclosing l.rows l.system l.outer))
+      ≡ l.fn.edges.items ++ edges_to l.b (control_wires l.rows (around_inside l.rows l.system l.b));
 }
 
 abbrev pub decreases-loop-outer : goal.decreases-loop-outer

@@ -8,7 +8,9 @@ use Rattle.mc_depend.proofs.outports.outports.Goals as goal
 use Rattle.mc_depend.proofs.outports.outports.Goals.{in-Some+in_ok-push, in_default}
 
 pub row_with_port-requires : goal.row_with_port-requires
-row_with_port-requires c = subst (All (λ b. b < length c.args.rows.now)) (sym (c.deref.ensures.value ∙ c.in_ok-own.ensures)) (own-inside c.args.rows.now c.args.system)
+row_with_port-requires c =
+    subst (All (λ b. b < length c.args.rows.now)) (sym (c.deref.ensures.value ∙ c.in_ok-own.ensures))
+    (own-inside c.args.rows.now c.args.system)
 
 pub loop-k-preserved : goal.loop-k-preserved
 loop-k-preserved c =
@@ -19,7 +21,8 @@ loop-k-preserved c =
     ∙ ap (λ o. filter_map (with c.in_ok-own.own.items) (range_with_len 1 c.loop-k.k) ++ option_to_list o) told
     ∙ sym (found-more (with c.in_ok-own.own.items) c.loop-k.k) in
     elim c.match-row_with_port.branch [
-      | in-Some+in_ok-push w ↦ ap (λ v. v.items) w.found-is ∙ w.in_ok-push.ensures.items ∙ ap (λ o. c.loop-k.found.items ++ option_to_list o) (sym w.in-Some.is) ∙ step
+      | in-Some+in_ok-push w ↦ ap (λ v. v.items) w.found-is ∙ w.in_ok-push.ensures.items
+          ∙ ap (λ o. c.loop-k.found.items ++ option_to_list o) (sym w.in-Some.is) ∙ step
       | in_default w ↦
           ap (λ v. v.items) w.found-is ∙ sym (append-nil c.loop-k.found.items)
           ∙ ap (λ o. c.loop-k.found.items ++ option_to_list o) (sym (none-from c.row_with_port.result w.in_default.not-Some)) ∙ step

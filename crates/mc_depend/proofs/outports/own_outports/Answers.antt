@@ -12,10 +12,13 @@ loop-b-preserved c =
     elim c.if-is_outport_of.branch [
       | then-is_outport_of+in_ok-push w ↦
           ap (λ v. v.items) w.own-is ∙ w.in_ok-push.ensures.items ∙ ap (λ l. l ++ c.loop-b.b ∷ []) c.loop-b.invariant
-          ∙ sym (own-more c.args.rows.now c.args.system c.loop-b.b c.index-rows-b.result true read (sym w.if-is_outport_of.true ∙ c.is_outport_of.ensures))
+          ∙ sym (own-more c.args.rows.now c.args.system c.loop-b.b c.index-rows-b.result true read
+          (sym w.if-is_outport_of.true ∙ c.is_outport_of.ensures))
       | else-is_outport_of w ↦
           ap (λ v. v.items) w.own-is ∙ c.loop-b.invariant
-          ∙ sym (own-more c.args.rows.now c.args.system c.loop-b.b c.index-rows-b.result false read (sym w.if-is_outport_of.false ∙ c.is_outport_of.ensures) ∙ append-nil (own_below c.args.rows.now c.args.system c.loop-b.b))
+          ∙ sym (own-more c.args.rows.now c.args.system c.loop-b.b c.index-rows-b.result false read
+          (sym w.if-is_outport_of.false ∙ c.is_outport_of.ensures)
+          ∙ append-nil (own_below c.args.rows.now c.args.system c.loop-b.b))
     ]
 
 pub returns : goal.returns

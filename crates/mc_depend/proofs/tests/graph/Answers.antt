@@ -5,5 +5,6 @@ use Rattle.mc_depend.proofs.tests.graph.Goals as goal
 pub invariant_of-result : goal.invariant_of-result
 invariant_of-result c = recursion_from_All (λ (edge : ℕ × ℕ). (edge.0 < c.args.n) × (edge.1 < c.args.n)) c.args.edges.items
     (All-from_get_or (λ (edge : ℕ × ℕ). (edge.0 < c.args.n) × (edge.1 < c.args.n)) c.args.edges.items (0, 0)
-    (subst (λ (xs : List (ℕ × ℕ)). (k : ℕ) → k < length xs → ((get_or xs k (0, 0)).0 < c.args.n) × ((get_or xs k (0, 0)).1 < c.args.n)) c.deref.ensures.value
+    (subst (λ (xs : List (ℕ × ℕ)). (k : ℕ) → k < length xs →
+    ((get_or xs k (0, 0)).0 < c.args.n) × ((get_or xs k (0, 0)).1 < c.args.n)) c.deref.ensures.value
     (c.if-are_inside.ensures refl)))

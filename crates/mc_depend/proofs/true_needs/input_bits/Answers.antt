@@ -6,14 +6,18 @@ use Rattle.mc_depend.proofs.InputSteps.{inputs-none, inputs-more}
 use Rattle.mc_depend.proofs.true_needs.input_bits.Goals as goal
 
 pub loop-b-init : goal.loop-b-init
-loop-b-init c = subst (AreInputBits c.args.rows.now c.args.system 0) (sym c.new-bits.ensures.items) (inputs-none c.args.rows.now c.args.system)
+loop-b-init c =
+    subst (AreInputBits c.args.rows.now c.args.system 0) (sym c.new-bits.ensures.items)
+    (inputs-none c.args.rows.now c.args.system)
 
 pub loop-b-preserved : goal.loop-b-preserved
 loop-b-preserved c =
     let inside : c.loop-b.b < length c.args.rows.now = c.loop-b-test.true in
     subst (AreInputBits c.args.rows.now c.args.system (c.loop-b.b + 1)) (sym c.in_ok-push.ensures.items)
-    (inputs-more c.args.rows.now c.args.system c.loop-b.b (c.loop-b.b + 1) c.input_bit.result c.loop-b.bits.items c.index-rows-b.result (omega arith) inside
-    (c.index-rows-b.is ∙ get_or_default c.args.rows.now c.loop-b.b c.index-rows-b.result no_row inside) c.input_bit.ensures c.loop-b.invariant)
+    (inputs-more c.args.rows.now c.args.system c.loop-b.b (c.loop-b.b + 1) c.input_bit.result c.loop-b.bits.items
+    c.index-rows-b.result (omega arith) inside
+    (c.index-rows-b.is ∙ get_or_default c.args.rows.now c.loop-b.b c.index-rows-b.result no_row inside)
+    c.input_bit.ensures c.loop-b.invariant)
 
 pub returns : goal.returns
 returns c =

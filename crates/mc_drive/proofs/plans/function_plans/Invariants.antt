@@ -5,4 +5,6 @@ use Rattle.mc_drive.specs.Shapes.{function_plan}
 use Rattle.mc_drive.proofs.plans.function_plans.Given as goal
 
 abbrev pub invariant-loop-at : goal.invariant-loop-at
-invariant-loop-at l = (length l.plans.items ≡ l.at) × ((k : ℕ) → k < l.at → slice_get l.plans.items k ≡ Some (function_plan (program_tree l.program.program) l.shape (suc k)))
+invariant-loop-at l = (length l.plans.items ≡ l.at)
+    × ((k : ℕ) → k < l.at →
+    slice_get l.plans.items k ≡ Some (function_plan (program_tree l.program.program) l.shape (suc k)))

@@ -18,8 +18,14 @@ returns-in-Some t c x =
     let enable_fits : FitsSigned w64 c.enable_value-enable.result = search rules in
     let trigger_fits : FitsSigned w64 c.trigger_value-trigger.result = search rules in
     c.active.ensures
-    ∙ active-here d c.row-subsystem.ensures.resolved.tree.table.nested c.args.values.now c.args.triggers.now c.args.system c.in-Some.e c.in-Some.is inside x _ _ _ _ _
-    (c.is_active-outside.ensures x ∙ ap (λ (r : Row). active_in d None x c.args.values.now c.args.triggers.now (enclosing d.rows None r.owner)) read)
-    (get_or_default c.args.triggers.now c.in-Some.e _ NotYet in_triggers)
-    (c.control.ensures ∙ ap (λ (r : Row). control_of r.kind) read, to_z-of_z w64 _ enable_fits ∙ c.enable_value-enable.ensures x c.args.triggers.now)
+    ∙ active-here d c.row-subsystem.ensures.resolved.tree.table.nested c.args.values.now c.args.triggers.now
+    c.args.system c.in-Some.e c.in-Some.is inside x _ _ _ _ _
+    (c.is_active-outside.ensures x
+    ∙ ap (λ (r : Row). active_in d None x c.args.values.now c.args.triggers.now (enclosing d.rows None r.owner))
+    read)
+    (get_or_default c.args.triggers.now c.in-Some.e _ NotYet in_triggers) (
+      c.control.ensures ∙ ap (λ (r : Row). control_of r.kind) read,
+      to_z-of_z w64 _ enable_fits
+          ∙ c.enable_value-enable.ensures x c.args.triggers.now,
+    )
     (to_z-of_z w64 _ trigger_fits ∙ c.trigger_value-trigger.ensures x c.args.triggers.now)

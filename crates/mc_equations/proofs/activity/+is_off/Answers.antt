@@ -14,10 +14,17 @@ returns-then-off t c x =
     let read = c.row-subsystem.ensures.row in
     let enable_fits : FitsSigned w64 c.enable_value-enable.result = search rules in
     c.if-off.true ∙ ap (λ b. b || c.is_off-is_off_outside.result) (sym c.if-off.true ∙ c.off.ensures)
-    ∙ off-here d c.row-subsystem.ensures.resolved.tree.table.nested c.args.values.now c.args.triggers.now c.args.system c.in-Some.e c.in-Some.is inside x _ _ _ _
-    (c.is_active-outside.ensures x ∙ ap (λ (r : Row). active_in d None x c.args.values.now c.args.triggers.now (enclosing d.rows None r.owner)) read)
-    (c.is_off-is_off_outside.ensures x ∙ ap (λ (r : Row). any_off d None x c.args.values.now c.args.triggers.now (enclosing d.rows None r.owner)) read)
-    (c.control.ensures ∙ ap (λ (r : Row). control_of r.kind) read, to_z-of_z w64 _ enable_fits ∙ c.enable_value-enable.ensures x c.args.triggers.now)
+    ∙ off-here d c.row-subsystem.ensures.resolved.tree.table.nested c.args.values.now c.args.triggers.now c.args.system
+    c.in-Some.e c.in-Some.is inside x _ _ _ _
+    (c.is_active-outside.ensures x
+    ∙ ap (λ (r : Row). active_in d None x c.args.values.now c.args.triggers.now (enclosing d.rows None r.owner))
+    read)
+    (c.is_off-is_off_outside.ensures x
+    ∙ ap (λ (r : Row). any_off d None x c.args.values.now c.args.triggers.now (enclosing d.rows None r.owner)) read) (
+      c.control.ensures ∙ ap (λ (r : Row). control_of r.kind) read,
+      to_z-of_z w64 _ enable_fits
+          ∙ c.enable_value-enable.ensures x c.args.triggers.now,
+    )
 
 pub returns-else-off : goal.returns-else-off
 returns-else-off t c x =
@@ -26,7 +33,14 @@ returns-else-off t c x =
     let read = c.row-subsystem.ensures.row in
     let enable_fits : FitsSigned w64 c.enable_value-enable.result = search rules in
     ap (λ b. b || c.is_off-is_off_outside.result) (sym c.if-off.false ∙ c.off.ensures)
-    ∙ off-here d c.row-subsystem.ensures.resolved.tree.table.nested c.args.values.now c.args.triggers.now c.args.system c.in-Some.e c.in-Some.is inside x _ _ _ _
-    (c.is_active-outside.ensures x ∙ ap (λ (r : Row). active_in d None x c.args.values.now c.args.triggers.now (enclosing d.rows None r.owner)) read)
-    (c.is_off-is_off_outside.ensures x ∙ ap (λ (r : Row). any_off d None x c.args.values.now c.args.triggers.now (enclosing d.rows None r.owner)) read)
-    (c.control.ensures ∙ ap (λ (r : Row). control_of r.kind) read, to_z-of_z w64 _ enable_fits ∙ c.enable_value-enable.ensures x c.args.triggers.now)
+    ∙ off-here d c.row-subsystem.ensures.resolved.tree.table.nested c.args.values.now c.args.triggers.now c.args.system
+    c.in-Some.e c.in-Some.is inside x _ _ _ _
+    (c.is_active-outside.ensures x
+    ∙ ap (λ (r : Row). active_in d None x c.args.values.now c.args.triggers.now (enclosing d.rows None r.owner))
+    read)
+    (c.is_off-is_off_outside.ensures x
+    ∙ ap (λ (r : Row). any_off d None x c.args.values.now c.args.triggers.now (enclosing d.rows None r.owner)) read) (
+      c.control.ensures ∙ ap (λ (r : Row). control_of r.kind) read,
+      to_z-of_z w64 _ enable_fits
+          ∙ c.enable_value-enable.ensures x c.args.triggers.now,
+    )

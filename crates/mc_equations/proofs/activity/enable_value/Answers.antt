@@ -16,4 +16,5 @@ returns-in-Enabled c x g =
       | inr both ↦ sym (ap (λ (control : Control). enable_among control wires) both.2)
     ] in
     to_z-of_z w64 _ value_fits ∙ c.value_of_wire.ensures (diagram_of c.args.r.now) x g
-    ∙ enable-at (diagram_of c.args.r.now) c.args.e _ _ _ c.row-subsystem.ensures.row c.control.ensures c.wires.ensures x c.args.values.now g 0 first
+    ∙ enable-at (diagram_of c.args.r.now) c.args.e _ _ _ c.row-subsystem.ensures.row c.control.ensures c.wires.ensures x
+    c.args.values.now g 0 first

@@ -14,6 +14,12 @@ returns-in-Some c x =
     let read = c.row-subsystem.ensures.row in
     let enable_fits : FitsSigned w64 c.enable_value-enable.result = search rules in
     c.disables.ensures
-    ∙ disabled-here d c.row-subsystem.ensures.resolved.tree.table.nested c.args.values.now c.args.triggers.now c.args.system c.in-Some.e c.in-Some.is inside x _ _ _
-    (c.is_active-outside.ensures x ∙ ap (λ (r : Row). active_in d None x c.args.values.now c.args.triggers.now (enclosing d.rows None r.owner)) read)
-    (c.control.ensures ∙ ap (λ (r : Row). control_of r.kind) read, to_z-of_z w64 _ enable_fits ∙ c.enable_value-enable.ensures x c.args.triggers.now)
+    ∙ disabled-here d c.row-subsystem.ensures.resolved.tree.table.nested c.args.values.now c.args.triggers.now
+    c.args.system c.in-Some.e c.in-Some.is inside x _ _ _
+    (c.is_active-outside.ensures x
+    ∙ ap (λ (r : Row). active_in d None x c.args.values.now c.args.triggers.now (enclosing d.rows None r.owner))
+    read) (
+      c.control.ensures ∙ ap (λ (r : Row). control_of r.kind) read,
+      to_z-of_z w64 _ enable_fits
+          ∙ c.enable_value-enable.ensures x c.args.triggers.now,
+    )

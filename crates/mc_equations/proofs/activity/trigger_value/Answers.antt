@@ -13,7 +13,8 @@ returns-in-Triggered c x g =
     let at : slice_get wires 0 ≡ trigger_among c.control.result wires =
     sym (ap (λ (control : Control). trigger_among control wires) c.in-Triggered.is) in
     to_z-of_z w64 _ value_fits ∙ c.value_of_wire.ensures (diagram_of c.args.r.now) x g
-    ∙ trigger-at (diagram_of c.args.r.now) c.args.e _ _ _ c.row-subsystem.ensures.row c.control.ensures c.wires-wires.ensures x c.args.values.now g 0 at
+    ∙ trigger-at (diagram_of c.args.r.now) c.args.e _ _ _ c.row-subsystem.ensures.row c.control.ensures
+    c.wires-wires.ensures x c.args.values.now g 0 at
 
 pub returns-in-Both : goal.returns-in-Both
 returns-in-Both c x g =
@@ -22,4 +23,5 @@ returns-in-Both c x g =
     let at : slice_get wires 1 ≡ trigger_among c.control.result wires =
     sym (ap (λ (control : Control). trigger_among control wires) c.in-Both.is) in
     to_z-of_z w64 _ value_fits ∙ c.value_of_wire-in-Both.ensures (diagram_of c.args.r.now) x g
-    ∙ trigger-at (diagram_of c.args.r.now) c.args.e _ _ _ c.row-subsystem.ensures.row c.control.ensures c.wires-wires.ensures x c.args.values.now g 1 at
+    ∙ trigger-at (diagram_of c.args.r.now) c.args.e _ _ _ c.row-subsystem.ensures.row c.control.ensures
+    c.wires-wires.ensures x c.args.values.now g 1 at

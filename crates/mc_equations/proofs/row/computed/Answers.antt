@@ -17,4 +17,5 @@ rhs-requires c =
     subst (λ (op : Op). IsEvaluable op c.as_slice.result.now (to_z w64 (of_z w64 c.args.memory))) (sym c.op.ensures.op)
     (subst (λ (vs : List ℤ). IsEvaluable (op_at d c.args.b) vs (to_z w64 (of_z w64 c.args.memory))) (sym read)
     (subst (λ (memory : ℤ). IsEvaluable (op_at d c.args.b) own memory) (sym (to_z-of_z w64 c.args.memory memory_fits))
-    (computable c.args.r.now c.op.ensures.resolved c.args.b c.requires.row None refl c.args.inputs.now c.args.values.now c.requires.inputs c.requires.values.each c.args.memory c.requires.memory)))
+    (computable c.args.r.now c.op.ensures.resolved c.args.b c.requires.row None refl c.args.inputs.now c.args.values.now
+    c.requires.inputs c.requires.values.each c.args.memory c.requires.memory)))

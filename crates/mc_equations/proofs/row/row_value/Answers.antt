@@ -17,4 +17,5 @@ computed-requires-clause-memory c =
     let in_memories : b < length memories = omega (arith, c.requires.before.memories.one_each, c.requires.row) in
     let first : c.first.result ≡ first_of (memory_at memories b) =
     c.first.ensures ∙ ap first_of (c.index-2.ensures ∙ get_or_default memories b c.index-2.result.now [] in_memories) in
-    subst (InType type) (sym (to_z-of_z w64 c.first.result first_fits ∙ first)) (oldest-in type (memory_at memories b) (c.requires.before.memories.each b))
+    subst (InType type) (sym (to_z-of_z w64 c.first.result first_fits ∙ first))
+    (oldest-in type (memory_at memories b) (c.requires.before.memories.each b))

@@ -15,9 +15,16 @@ pub loop-b-preserved : goal.loop-b-preserved
 loop-b-preserved c =
     let d = diagram_of c.args.r.now in
     let value_fits : FitsSigned w64 c.start.result = search rules in record {
-      values = row-more (start_of d) c.loop-b.b c.loop-b.values.items _ _ c.loop-b.invariant.values c.in_ok-push.ensures.items (to_z-of_z w64 _ value_fits ∙ c.start.ensures);
-      memories = row-more (λ b. if has_memory d None b then initial_memory d b else []) c.loop-b.b c.loop-b.memories.items _ _ c.loop-b.invariant.memories c.in_ok-push-2.ensures.items (c.in_ok-first_memory.ensures ∙ sym (first-or-none d c.loop-b.b));
-      triggers = row-more (λ b. NotYet) c.loop-b.b c.loop-b.triggers.items _ NotYet c.loop-b.invariant.triggers c.in_ok-push-3.ensures.items refl;
+      values =
+          row-more (start_of d) c.loop-b.b c.loop-b.values.items _ _ c.loop-b.invariant.values
+          c.in_ok-push.ensures.items (to_z-of_z w64 _ value_fits ∙ c.start.ensures);
+      memories =
+          row-more (λ b. if has_memory d None b then initial_memory d b else []) c.loop-b.b c.loop-b.memories.items _ _
+          c.loop-b.invariant.memories c.in_ok-push-2.ensures.items (c.in_ok-first_memory.ensures
+          ∙ sym (first-or-none d c.loop-b.b));
+      triggers =
+          row-more (λ b. NotYet) c.loop-b.b c.loop-b.triggers.items _ NotYet c.loop-b.invariant.triggers
+          c.in_ok-push-3.ensures.items refl;
     }
 
 pub returns-clause-fit : goal.returns-clause-fit
@@ -27,8 +34,11 @@ returns-clause-fit c =
     let high = c.loop-b.auto.b-end in
     let all : c.loop-b.b ≡ length c.args.r.now.tree.table.rows = omega (arith, c.row_count-b-end.ensures.count, low, high) in
     let values = c.loop-b.invariant.values ∙ ap (λ n. map (start_of d) (range_with_len 0 n)) all in
-    let memories = c.loop-b.invariant.memories ∙ ap (λ n. map (λ b. if has_memory d None b then initial_memory d b else []) (range_with_len 0 n)) all in
-    let triggers = ap (λ (l : List TrigMem). length l) (c.loop-b.invariant.triggers ∙ ap (λ n. map (λ b. NotYet) (range_with_len 0 n)) all) in
+    let memories = c.loop-b.invariant.memories
+    ∙ ap (λ n. map (λ b. if has_memory d None b then initial_memory d b else []) (range_with_len 0 n)) all in
+    let triggers =
+    ap (λ (l : List TrigMem). length l) (c.loop-b.invariant.triggers
+    ∙ ap (λ n. map (λ b. NotYet) (range_with_len 0 n)) all) in
     let first = first-fit c.args.r.now c.row_count-b-end.ensures.resolved None in record {
       values = subst (AreFit d) (sym values) first.values;
       memories = subst (AreInTypes d) (sym memories) first.memories;

@@ -8,6 +8,8 @@ use Rattle.mc_equations.proofs.run.first_state.Given as goal
 abbrev pub invariant-loop-b : goal.invariant-loop-b
 invariant-loop-b l = record {
   values : l.values.items ≡ map (start_of (diagram_of l.fn.r)) (range_with_len 0 l.b);
-  memories : l.memories.items ≡ map (λ b. if has_memory (diagram_of l.fn.r) None b then initial_memory (diagram_of l.fn.r) b else []) (range_with_len 0 l.b);
+  memories : l.memories.items
+      ≡ map (λ b. if has_memory (diagram_of l.fn.r) None b then initial_memory (diagram_of l.fn.r) b else [])
+      (range_with_len 0 l.b);
   triggers : l.triggers.items ≡ map (λ b. NotYet) (range_with_len 0 l.b);
 }

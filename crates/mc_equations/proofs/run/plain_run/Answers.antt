@@ -31,7 +31,9 @@ next_state-requires-clause-inputs c =
     let t = c.loop-tick.tick in
     let below : t < length c.args.inputs.now = c.loop-tick-test.true in
     let in_trace : t < length xs = omega (arith, length-map c.args.inputs.now items) in
-    subst (HasInputs d None) (row-of items c.args.inputs.now t c.index-inputs-tick.result c.as_slice.result.now c.index-inputs-tick.is c.as_slice.ensures.value below)
+    subst (HasInputs d None)
+    (row-of items c.args.inputs.now t c.index-inputs-tick.result c.as_slice.result.now c.index-inputs-tick.is
+    c.as_slice.ensures.value below)
     (row-inputs c.args.r.now c.in_ok-state.ensures.resolved (slice_index_or xs t []) (trace-at d None xs c.requires.inputs t in_trace))
 
 pub loop-tick-preserved : goal.loop-tick-preserved
@@ -46,15 +48,24 @@ loop-tick-preserved c =
     let below : t < length c.args.inputs.now = c.loop-tick-test.true in
     let in_trace : t < length xs = omega (arith, length-map c.args.inputs.now items) in
     let in_values : t < length run.values = omega (arith, in_trace, values-each d xs run.values run.memories run.triggers is) in
-    let row = row-of items c.args.inputs.now t c.index-inputs-tick.result c.as_slice.result.now c.index-inputs-tick.is c.as_slice.ensures.value below in
-    let v = run-values d c.requires.no_loop xs t in_trace c.as_slice.result.now state.values.items state.memories.items state.triggers.items after.values.items after.memories.items after.triggers.items
+    let row =
+    row-of items c.args.inputs.now t c.index-inputs-tick.result c.as_slice.result.now c.index-inputs-tick.is
+    c.as_slice.ensures.value below in
+    let v = run-values d c.requires.no_loop xs t in_trace c.as_slice.result.now state.values.items state.memories.items
+    state.triggers.items after.values.items after.memories.items after.triggers.items
     row c.loop-tick.invariant.before c.loop-tick.invariant.memories c.loop-tick.invariant.triggers c.in_ok-state-2.ensures.tick in record {
-      values = values-more items c.loop-tick.values.items c.push.new.self.items t c.in_ok-from_slice.field-0 after.values.items run.values c.loop-tick.invariant.values c.in_ok-push.ensures.items
+      values =
+          values-more items c.loop-tick.values.items c.push.new.self.items t c.in_ok-from_slice.field-0
+          after.values.items run.values c.loop-tick.invariant.values c.in_ok-push.ensures.items
           (c.in_ok-from_slice.ensures.items ∙ c.as_slice-in-loop-tick.ensures.value) v in_values;
       before = rw add-one v;
-      memories = run-memories d c.requires.no_loop xs t in_trace c.as_slice.result.now state.values.items state.memories.items state.triggers.items after.values.items after.memories.items after.triggers.items
+      memories =
+          run-memories d c.requires.no_loop xs t in_trace c.as_slice.result.now state.values.items state.memories.items
+          state.triggers.items after.values.items after.memories.items after.triggers.items
           row c.loop-tick.invariant.before c.loop-tick.invariant.memories c.loop-tick.invariant.triggers c.in_ok-state-2.ensures.tick;
-      triggers = run-triggers d c.requires.no_loop xs t in_trace c.as_slice.result.now state.values.items state.memories.items state.triggers.items after.values.items after.memories.items after.triggers.items
+      triggers =
+          run-triggers d c.requires.no_loop xs t in_trace c.as_slice.result.now state.values.items state.memories.items
+          state.triggers.items after.values.items after.memories.items after.triggers.items
           row c.loop-tick.invariant.before c.loop-tick.invariant.memories c.loop-tick.invariant.triggers c.in_ok-state-2.ensures.tick;
       fit = c.in_ok-state-2.ensures.fit;
     }
@@ -66,7 +77,13 @@ returns c =
     let run = run_of d xs in
     let is = run_of-is d xs c.requires.no_loop in
     let low = c.loop-tick-test.false in
-    let most : length run.values ≤ c.loop-tick.tick = omega (arith, low, values-each d xs run.values run.memories run.triggers is, length-map c.args.inputs.now items) in
+    let most : length run.values ≤ c.loop-tick.tick =
+    omega (
+      arith,
+      low,
+      values-each d xs run.values run.memories run.triggers is,
+      length-map c.args.inputs.now items,
+    ) in
     let all = values-all items c.loop-tick.values.items c.loop-tick.tick run.values c.loop-tick.invariant.values most in record {
       run = run;
       is_run = is;

@@ -6,4 +6,7 @@ use Rattle.mc_equations.proofs.tick.memories_after.Given as goal
 
 abbrev pub invariant-loop-b : goal.invariant-loop-b
 invariant-loop-b l =
-    l.next.items ≡ map (λ b. if has_memory (diagram_of l.fn.r) None b then row_memory (diagram_of l.fn.r) None l.tick l.inputs l.before.memories.items l.before.triggers.items l.values b else []) (range_with_len 0 l.b)
+    l.next.items
+    ≡ map (λ b. if has_memory (diagram_of l.fn.r) None b
+    then row_memory (diagram_of l.fn.r) None l.tick l.inputs l.before.memories.items l.before.triggers.items
+    l.values b else []) (range_with_len 0 l.b)

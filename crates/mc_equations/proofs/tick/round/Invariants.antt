@@ -6,4 +6,6 @@ use Rattle.mc_equations.proofs.tick.round.Given as goal
 
 abbrev pub invariant-loop-b : goal.invariant-loop-b
 invariant-loop-b l =
-    l.next.items ≡ map (row_value (diagram_of l.fn.r) None l.tick l.inputs l.before.values.items l.before.memories.items l.before.triggers.items l.values) (range_with_len 0 l.b)
+    l.next.items
+    ≡ map (row_value (diagram_of l.fn.r) None l.tick l.inputs l.before.values.items l.before.memories.items
+    l.before.triggers.items l.values) (range_with_len 0 l.b)

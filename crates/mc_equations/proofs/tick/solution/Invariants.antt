@@ -6,6 +6,8 @@ use Rattle.mc_equations.proofs.tick.solution.Given as goal
 
 abbrev pub invariant-loop-turn : goal.invariant-loop-turn
 invariant-loop-turn l = record {
-  made : l.values.items ≡ rounds (diagram_of l.fn.r) l.tick l.inputs l.before.values.items l.before.memories.items l.before.triggers.items l.before.values.items l._turn;
+  made : l.values.items
+      ≡ rounds (diagram_of l.fn.r) l.tick l.inputs l.before.values.items l.before.memories.items l.before.triggers.items
+      l.before.values.items l._turn;
   fit : AreFit (diagram_of l.fn.r) l.values.items;
 }

@@ -18,4 +18,6 @@ returns c x =
     let low = c.loop-e-test.false in
     let high = c.loop-e.auto.e-end in
     let all : c.loop-e.e ≡ length c.args.r.now.tree.table.rows = omega (arith, c.row_count-e-end.ensures.count, low, high) in
-    c.loop-e.invariant x ∙ ap (λ n. map (λ e. if has_trigger d None e then row_trigger d None x c.args.before.now c.args.values.now e else NotYet) (range_with_len 0 n)) all
+    c.loop-e.invariant x
+    ∙ ap (λ n. map (λ e. if has_trigger d None e then row_trigger d None x c.args.before.now c.args.values.now e
+    else NotYet) (range_with_len 0 n)) all

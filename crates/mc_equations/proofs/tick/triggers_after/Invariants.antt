@@ -7,4 +7,7 @@ use Rattle.mc_equations.proofs.tick.triggers_after.Given as goal
 
 abbrev pub invariant-loop-e : goal.invariant-loop-e
 invariant-loop-e l =
-    (x : List ℤ) → l.next.items ≡ map (λ e. if has_trigger (diagram_of l.fn.r) None e then row_trigger (diagram_of l.fn.r) None x l.before l.values e else NotYet) (range_with_len 0 l.e)
+    (x : List ℤ) →
+    l.next.items
+    ≡ map (λ e. if has_trigger (diagram_of l.fn.r) None e
+    then row_trigger (diagram_of l.fn.r) None x l.before l.values e else NotYet) (range_with_len 0 l.e)

@@ -21,7 +21,10 @@ returns-then-not-is_trace_row c = (
       let below : t < length c.args.inputs.now = c.loop-row-test.true in
       let row = row-of items c.args.inputs.now t c.row-item.result c.as_slice.result.now c.row-item.is c.as_slice.ensures.value below in
       let in_trace : t < length (map items c.args.inputs.now) = omega (arith, length-map c.args.inputs.now items) in
-      let is = c.is_trace_row.ensures.1 (subst (IsTraceRow (diagram_of c.args.r.now) None) row (trace-at (diagram_of c.args.r.now) None (map items c.args.inputs.now) all t in_trace)) in
+      let is =
+      c.is_trace_row.ensures.1
+      (subst (IsTraceRow (diagram_of c.args.r.now) None) row
+      (trace-at (diagram_of c.args.r.now) None (map items c.args.inputs.now) all t in_trace)) in
       grind (arith, common_steps, is, c.if-not-is_trace_row.true),
 )
 

@@ -15,7 +15,8 @@ returns-then-inputs-input_count c = (
 pub returns : goal.returns
 returns c = (
   λ is.
-      let long : length c.args.inputs.now ≡ length (inports_of c.args.r.now.tree.table.rows None) = grind (arith, common_steps, c.input_count.ensures.count, c.if-inputs-input_count.false) in
+      let long : length c.args.inputs.now ≡ length (inports_of c.args.r.now.tree.table.rows None) =
+      grind (arith, common_steps, c.input_count.ensures.count, c.if-inputs-input_count.false) in
       inputs-row c.args.r.now c.input_count.ensures.resolved c.args.inputs.now long (c.has_inputs.ensures.0 is),
   λ row. c.has_inputs.ensures.1 (row-inputs c.args.r.now c.input_count.ensures.resolved c.args.inputs.now row),
 )

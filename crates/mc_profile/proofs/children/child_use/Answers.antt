@@ -5,5 +5,6 @@ use Rattle.mc_profile.proofs.children.child_use.Goals as goal
 
 pub inports-requires : goal.inports-requires
 inports-requires c =
-    subst (All (λ b. b < length c.args.r.now.tree.table.rows)) (sym (c.own.ensures ∙ agreed-own c.args.r.now.tree.table.rows (system_of c.args.child.now) c.requires.system))
+    subst (All (λ b. b < length c.args.r.now.tree.table.rows))
+    (sym (c.own.ensures ∙ agreed-own c.args.r.now.tree.table.rows (system_of c.args.child.now) c.requires.system))
     (rows-inside c.args.r.now.tree.table.rows (row_of (system_of c.args.child.now)))

@@ -19,9 +19,12 @@ module _ (needs : List ℕ) (inputs k : ℕ) (within : k < length needs) where
   next b e = ap mask_of (map_more (λ m. eqb m inputs) needs k 0 within) ∙ mask-more (bits k) (eqb (get_or needs k 0) inputs)
       ∙ ap (λ r. mask_of (bits k) + cond r (2 ^ length (bits k)) 0) e ∙ ap (λ n. mask_of (bits k) + cond b (2 ^ n) 0) len
 
-  with : k < 32 → (outputs : ℕ) → outputs ≡ mask_of (bits k) → eqb (get_or needs k 0) inputs ≡ true → bit_or outputs (1 * 2 ^ k % 2 ^ 32) ≡ mask_of (bits (k + 1))
+  with : k < 32 → (outputs : ℕ) → outputs ≡ mask_of (bits k) → eqb (get_or needs k 0) inputs ≡ true →
+      bit_or outputs (1 * 2 ^ k % 2 ^ 32) ≡ mask_of (bits (k + 1))
   with few outputs so_far e =
-      ap (bit_or outputs) (one_shifted k 4294967295 refl few).0 ∙ or_next outputs k (subst (λ m. m < 2 ^ k) (sym so_far) (subst (λ n. mask_of (bits k) < 2 ^ n) len (mask-bound (bits k))))
+      ap (bit_or outputs) (one_shifted k 4294967295 refl few).0
+      ∙ or_next outputs k
+      (subst (λ m. m < 2 ^ k) (sym so_far) (subst (λ n. mask_of (bits k) < 2 ^ n) len (mask-bound (bits k))))
       ∙ ap (λ m. m + 2 ^ k) so_far ∙ sym (next true e)
 
   apart : (outputs : ℕ) → outputs ≡ mask_of (bits k) → eqb (get_or needs k 0) inputs ≡ false → outputs ≡ mask_of (bits (k + 1))
@@ -29,8 +32,11 @@ module _ (needs : List ℕ) (inputs k : ℕ) (within : k < length needs) where
 
 pub loop-k-preserved : goal.loop-k-preserved
 loop-k-preserved c = elim c.if-mask-inputs.branch [
-  | then-mask-inputs w ↦ w.outputs-is ∙ with c.args.needs.now c.args.inputs c.loop-k.k c.loop-k-test.true (let few = c.requires in let t = c.loop-k-test.true in omega arith) c.loop-k.outputs c.loop-k.invariant
+  | then-mask-inputs w ↦ w.outputs-is
+      ∙ with c.args.needs.now c.args.inputs c.loop-k.k c.loop-k-test.true (let few = c.requires in
+      let t = c.loop-k-test.true in omega arith) c.loop-k.outputs c.loop-k.invariant
       (eq-eqb (get_or c.args.needs.now c.loop-k.k 0) c.args.inputs w.if-mask-inputs.true)
-  | else-mask-inputs w ↦ w.outputs-is ∙ apart c.args.needs.now c.args.inputs c.loop-k.k c.loop-k-test.true c.loop-k.outputs c.loop-k.invariant
+  | else-mask-inputs w ↦ w.outputs-is
+      ∙ apart c.args.needs.now c.args.inputs c.loop-k.k c.loop-k-test.true c.loop-k.outputs c.loop-k.invariant
       (ne_eqb (get_or c.args.needs.now c.loop-k.k 0) c.args.inputs w.if-mask-inputs.false)
 ]

@@ -11,12 +11,14 @@ use Rattle.mc_profile.proofs.headers.header.Goals as goal
 
 pub inports-requires : goal.inports-requires
 inports-requires c =
-    subst (All (λ b. b < length c.args.r.now.tree.table.rows)) (sym (c.own.ensures ∙ agreed-own c.args.r.now.tree.table.rows (system_of c.args.s.now) c.requires.system))
+    subst (All (λ b. b < length c.args.r.now.tree.table.rows))
+    (sym (c.own.ensures ∙ agreed-own c.args.r.now.tree.table.rows (system_of c.args.s.now) c.requires.system))
     (rows-inside c.args.r.now.tree.table.rows (row_of (system_of c.args.s.now)))
 
 pub outports-requires : goal.outports-requires
 outports-requires c =
-    subst (All (λ b. b < length c.args.r.now.tree.table.rows)) (sym (c.own-2.ensures ∙ agreed-own c.args.r.now.tree.table.rows (system_of c.args.s.now) c.requires.system))
+    subst (All (λ b. b < length c.args.r.now.tree.table.rows))
+    (sym (c.own-2.ensures ∙ agreed-own c.args.r.now.tree.table.rows (system_of c.args.s.now) c.requires.system))
     (rows-inside c.args.r.now.tree.table.rows (row_of (system_of c.args.s.now)))
 
 pub returns : goal.returns
@@ -28,8 +30,12 @@ returns c =
     let control = c.control.ensures ∙ agreed-control rows s c.requires.system ∙ ap (system_control rows) (sym c.requires.row) in
     let inputs = c.in_ok-types_of.ensures ∙ ap (map (type_at types)) (c.deref.ensures.value ∙ c.in_ok-inports.ensures.inports
     ∙ ap (ported rows is_inport) (c.own.ensures ∙ agreed-own rows s c.requires.system) ∙ ap (inports_of rows) (sym c.requires.row)) in
-    let controls = c.in_ok-types_of-2.ensures ∙ ap (map (type_at types)) (c.wires.ensures ∙ c.in_ok-controls.ensures.wires ∙ ap (control_wires_of rows) row) in
-    let outputs = c.in_ok-outputs.ensures ∙ ap (map {B = ℕ × FixType} (λ o. (o, type_at types o))) (c.deref-2.ensures.value ∙ c.in_ok-outports.ensures.outports
+    let controls = c.in_ok-types_of-2.ensures
+    ∙ ap (map (type_at types)) (c.wires.ensures ∙ c.in_ok-controls.ensures.wires
+    ∙ ap (control_wires_of rows) row) in
+    let outputs =
+    c.in_ok-outputs.ensures ∙ ap (map {B = ℕ × FixType} (λ o. (o, type_at types o))) (c.deref-2.ensures.value
+    ∙ c.in_ok-outports.ensures.outports
     ∙ ap (ported rows is_outport) (c.own-2.ensures ∙ agreed-own rows s c.requires.system) ∙ ap (outports_of rows) (sym c.requires.row)) in
     let profile = c.in_ok-copy_profile.ensures in
     λ i. record { row = row i; control = control i; inputs = inputs i; controls = controls i; outputs = outputs i; profile = profile i }

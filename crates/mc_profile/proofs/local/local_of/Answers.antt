@@ -8,5 +8,6 @@ types_of-requires c = subst (All (λ b. b < length c.args.r.now.tree.table.rows)
 
 pub local_rows-requires : goal.local_rows-requires
 local_rows-requires c =
-    subst (All (λ b. b < length c.args.r.now.tree.table.rows)) (sym (c.own.ensures ∙ agreed-own c.args.r.now.tree.table.rows (system_of c.args.s.now) c.requires.system))
+    subst (All (λ b. b < length c.args.r.now.tree.table.rows))
+    (sym (c.own.ensures ∙ agreed-own c.args.r.now.tree.table.rows (system_of c.args.s.now) c.requires.system))
     (rows-inside c.args.r.now.tree.table.rows (row_of (system_of c.args.s.now)))

@@ -9,7 +9,8 @@ loop-a-init c = subst (AreInputBits c.args.rows.now 0) (sym c.new-bits.ensures.i
 pub loop-a-preserved : goal.loop-a-preserved
 loop-a-preserved c =
     subst (AreInputBits c.args.rows.now (c.loop-a.a + 1)) (sym c.in_ok-push.ensures.items)
-    (bits-more c.args.rows.now c.loop-a.a (c.loop-a.a + 1) c.place_bit.result c.loop-a.bits.items (omega arith) c.place_bit.ensures c.loop-a.invariant)
+    (bits-more c.args.rows.now c.loop-a.a (c.loop-a.a + 1) c.place_bit.result c.loop-a.bits.items
+    (omega arith) c.place_bit.ensures c.loop-a.invariant)
 
 pub returns : goal.returns
 returns c =

@@ -28,5 +28,7 @@ returns c =
     (c.in_ok-node_graph.ensures.count ∙ ap (λ (ws : List NodeWires). length ws) wires_is)
     c.in_ok-node_graph.ensures.inside
     (subst (λ (ws : List NodeWires). (a b : ℕ) → Contains g.edges (a, b) ↔ IsEdge ws a b) wires_is c.in_ok-node_graph.ensures.edges)
-    (c.in_ok-node_list.ensures ∙ ap₂ (λ (rows : List LocalRow) (children : List ChildUse). map (λ (r : LocalRow). Row r.row) rows ++ flat_map call_nodes children) rows_is children_is)
+    (c.in_ok-node_list.ensures
+    ∙ ap₂ (λ (rows : List LocalRow) (children : List ChildUse). map (λ (r : LocalRow). Row r.row) rows
+    ++ flat_map call_nodes children) rows_is children_is)
     (c.in_ok-outport_places.ensures ∙ ap (λ (rows : List LocalRow). places_by_port (ported_places is_outport rows)) rows_is)

@@ -13,6 +13,8 @@ loop-function-preserved c =
     let i = c.loop-function.function-index in
     let f : Function = get_or fs i (record { inputs = 0; outputs = 0 }) in
     c.in_ok-push.ensures.items
-    ∙ call-more c.args.child.now fs i f c.in_ok-taken.field-0 c.in_ok-given.field-0 c.deref.result.now c.outputs-outputs.result.now c.args.nodes.now.items c.loop-function.nodes.items
-    c.loop-function-test.true (get_or_default fs i (record { inputs = 0; outputs = 0 }) f c.loop-function-test.true) c.in_ok-taken.ensures (c.deref.ensures.value ∙ c.in_ok-entries.ensures)
+    ∙ call-more c.args.child.now fs i f c.in_ok-taken.field-0 c.in_ok-given.field-0 c.deref.result.now
+    c.outputs-outputs.result.now c.args.nodes.now.items c.loop-function.nodes.items
+    c.loop-function-test.true (get_or_default fs i (record { inputs = 0; outputs = 0 }) f c.loop-function-test.true)
+    c.in_ok-taken.ensures (c.deref.ensures.value ∙ c.in_ok-entries.ensures)
     c.in_ok-given.ensures c.outputs-outputs.ensures c.functions-functions.ensures c.loop-function.invariant

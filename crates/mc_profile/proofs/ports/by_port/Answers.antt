@@ -18,13 +18,19 @@ loop-k-preserved c =
     ∙ sym (found-more (with c.args.rows.now) c.loop-k.k) in
     elim c.match-row_with_port.branch [
       | in-Some+in_ok-push w ↦ record {
-        found_is = ap (λ v. v.items) w.found-is ∙ w.in_ok-push.ensures.items ∙ ap (λ o. c.loop-k.found.items ++ option_to_list o) (sym w.in-Some.is) ∙ step;
-        are_rows = subst (All (λ b. b < length c.args.r.now.tree.table.rows)) (sym (ap (λ v. v.items) w.found-is ∙ w.in_ok-push.ensures.items))
-            (All-push (λ b. b < length c.args.r.now.tree.table.rows) c.loop-k.found.items w.in-Some.b c.loop-k.invariant.are_rows w.in-Some.ensures.rows);
+        found_is = ap (λ v. v.items) w.found-is ∙ w.in_ok-push.ensures.items
+            ∙ ap (λ o. c.loop-k.found.items ++ option_to_list o) (sym w.in-Some.is) ∙ step;
+        are_rows =
+            subst (All (λ b. b < length c.args.r.now.tree.table.rows))
+            (sym (ap (λ v. v.items) w.found-is ∙ w.in_ok-push.ensures.items))
+            (All-push (λ b. b < length c.args.r.now.tree.table.rows) c.loop-k.found.items w.in-Some.b
+            c.loop-k.invariant.are_rows w.in-Some.ensures.rows);
       }
       | in_default w ↦ record {
         found_is = ap (λ v. v.items) w.found-is ∙ sym (append-nil c.loop-k.found.items)
             ∙ ap (λ o. c.loop-k.found.items ++ option_to_list o) (sym (none-from c.row_with_port.result w.in_default.not-Some)) ∙ step;
-        are_rows = subst (All (λ b. b < length c.args.r.now.tree.table.rows)) (sym (ap (λ v. v.items) w.found-is)) c.loop-k.invariant.are_rows;
+        are_rows =
+            subst (All (λ b. b < length c.args.r.now.tree.table.rows))
+            (sym (ap (λ v. v.items) w.found-is)) c.loop-k.invariant.are_rows;
       }
     ]

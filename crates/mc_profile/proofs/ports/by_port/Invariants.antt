@@ -5,6 +5,7 @@ use Rattle.mc_profile.proofs.ports.by_port.Given as goal
 
 abbrev pub invariant-loop-k : goal.invariant-loop-k
 invariant-loop-k l = record {
-  found_is : l.found.items ≡ filter_map (λ q. find (λ b. eqb (port_of (row_at l.r.tree.table.rows b).kind) q) l.rows) (range_with_len 1 l.k);
+  found_is : l.found.items ≡ filter_map (λ q. find (λ b. eqb (port_of (row_at l.r.tree.table.rows b).kind) q) l.rows)
+      (range_with_len 1 l.k);
   are_rows : All (λ b. b < length l.r.tree.table.rows) l.found.items;
 }

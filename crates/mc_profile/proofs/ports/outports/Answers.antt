@@ -6,5 +6,7 @@ use Rattle.mc_profile.proofs.ports.outports.Goals as goal
 
 pub returns-clause-outports : goal.returns-clause-outports
 returns-clause-outports c =
-    subst (λ (own : List ℕ). IfOk c.by_port.result (λ v. v.items ≡ filter_map (λ k. find (λ b. eqb (port_of (row_at c.args.r.now.tree.table.rows b).kind) k) own) (range_with_len 1 (length own))))
+    subst (λ (own : List ℕ). IfOk c.by_port.result (λ v. v.items
+    ≡ filter_map (λ k. find (λ b. eqb (port_of (row_at c.args.r.now.tree.table.rows b).kind) k) own)
+    (range_with_len 1 (length own))))
     (c.deref.ensures.value ∙ c.in_ok-outports.ensures.outports) c.by_port.ensures.found

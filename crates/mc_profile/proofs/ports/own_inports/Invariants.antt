@@ -4,4 +4,5 @@ use Rattle.mc_profile.proofs.ports.own_inports.Given as goal
 
 abbrev pub invariant-loop-b : goal.invariant-loop-b
 invariant-loop-b l =
-    (l.inports.items ≡ filter (λ b. is_inport (row_at l.r.tree.table.rows b).kind) (take l.b-index l.own)) × All (λ b. b < length l.r.tree.table.rows) l.inports.items
+    (l.inports.items ≡ filter (λ b. is_inport (row_at l.r.tree.table.rows b).kind) (take l.b-index l.own))
+    × All (λ b. b < length l.r.tree.table.rows) l.inports.items

@@ -23,7 +23,8 @@ returns-clause-is c =
     let d = diagram_of c.args.r.now in
     let s = row_of (system_of c.args.s.now) in
     let same = c.deref.ensures.value ∙ c.in_ok-headers.ensures in
-    IfOk-weaker c.local_of.result (λ l. l ≡ local_of d c.args.r.now.times.delays s c.deref.result.now) (λ l. l ≡ local_of d c.args.r.now.times.delays s (headers_with d c.args.children.now))
+    IfOk-weaker c.local_of.result (λ l. l ≡ local_of d c.args.r.now.times.delays s c.deref.result.now) (λ l. l
+    ≡ local_of d c.args.r.now.times.delays s (headers_with d c.args.children.now))
     (λ l e. e ∙ ap (local_of d c.args.r.now.times.delays s) same) c.local_of.ensures
 
 pub returns-clause-local : goal.returns-clause-local
@@ -32,7 +33,12 @@ returns-clause-local c =
     let s = row_of (system_of c.args.s.now) in
     let same = c.deref.ensures.value ∙ c.in_ok-headers.ensures in
     IfOk-weaker c.local_of.result (λ l. l ≡ local_of d c.args.r.now.times.delays s c.deref.result.now) (λ l. IsLocalOf c.args.r.now s l)
-    (λ l e. record { headers = headers_with d c.args.children.now; are_headers = profiles-are-headers d s c.args.children.now c.requires.children; is_local = e ∙ ap (local_of d c.args.r.now.times.delays s) same })
+    (λ l e. record {
+      headers = headers_with d c.args.children.now;
+      are_headers = profiles-are-headers d s c.args.children.now c.requires.children;
+      is_local =
+          e ∙ ap (local_of d c.args.r.now.times.delays s) same;
+    })
     c.local_of.ensures
 
 pub returns-clause-lawful : goal.returns-clause-lawful
@@ -42,5 +48,10 @@ returns-clause-lawful c =
     let same = c.deref.ensures.value ∙ c.in_ok-headers.ensures in
     IfOk-weaker c.local_of.result (λ l. l ≡ local_of d c.args.r.now.times.delays s c.deref.result.now) IsLocal
     (λ l e. locals_are_lawful c.args.r.now s l c.is_resolved.ensures
-    (record { headers = headers_with d c.args.children.now; are_headers = profiles-are-headers d s c.args.children.now c.requires.children; is_local = e ∙ ap (local_of d c.args.r.now.times.delays s) same }))
+    (record {
+      headers = headers_with d c.args.children.now;
+      are_headers = profiles-are-headers d s c.args.children.now c.requires.children;
+      is_local =
+          e ∙ ap (local_of d c.args.r.now.times.delays s) same;
+    }))
     c.local_of.ensures

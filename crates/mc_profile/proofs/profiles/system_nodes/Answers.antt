@@ -10,11 +10,15 @@ use Rattle.mc_profile.proofs.NodeWalks.{nodes_have_no_loop}
 use Rattle.mc_profile.proofs.profiles.system_nodes.Goals as goal
 
 pub returns-clause-nodes : goal.returns-clause-nodes
-returns-clause-nodes c = subst (λ (l : LocalSystem). IfOk c.nodes_of.result (λ n. AreNodesOf l n)) c.in_ok-local.ensures.is c.nodes_of.ensures
+returns-clause-nodes c =
+    subst (λ (l : LocalSystem). IfOk c.nodes_of.result (λ n. AreNodesOf l n)) c.in_ok-local.ensures.is
+    c.nodes_of.ensures
 
 pub returns-clause-no_cycle : goal.returns-clause-no_cycle
 returns-clause-no_cycle c = λ none.
     let local = c.in_ok-local.local in
     IfOk-weaker c.nodes_of.result (λ n. AreNodesOf local n) (λ n. HasNoCycle n.graph)
-    (λ n h. no-cycle local n h (nodes_have_no_loop c.args.r.now (row_of (system_of c.args.s.now)) local c.is_resolved.ensures c.in_ok-local.ensures.local none))
+    (λ n h. no-cycle local n h
+    (nodes_have_no_loop c.args.r.now (row_of (system_of c.args.s.now)) local c.is_resolved.ensures
+    c.in_ok-local.ensures.local none))
     c.nodes_of.ensures

@@ -8,7 +8,8 @@ use Rattle.mc_profile.proofs.reading.op_at.Goals as goal
 
 -- one operation for each row
 ops-len : (r : ResolvedTree) → IsResolvedTree r → length r.ops ≡ length r.tree.table.rows
-ops-len r is = ap length is.resolved.are_ops ∙ length-map-range_with_len (op_in r.tree.table.rows r.types r.times.delays) 0 (length r.tree.table.rows)
+ops-len r is = ap length is.resolved.are_ops
+    ∙ length-map-range_with_len (op_in r.tree.table.rows r.types r.times.delays) 0 (length r.tree.table.rows)
 
 pub index-requires : goal.index-requires
 index-requires c =

@@ -8,11 +8,14 @@ use Rattle.mc_profile.proofs.system.child.Goals as goal
 
 pub index-requires : goal.index-requires
 index-requires c =
-    let many : length (children_of (system_of c.args.s.now)) ≡ length (out-Subsystem c.args.s.now).children.items = ap length (children-are c.args.s.now) ∙ length-map (out-Subsystem c.args.s.now).children.items system_of in
+    let many : length (children_of (system_of c.args.s.now)) ≡ length (out-Subsystem c.args.s.now).children.items =
+    ap length (children-are c.args.s.now) ∙ length-map (out-Subsystem c.args.s.now).children.items system_of in
     omega (arith, many, c.requires, (out-Subsystem c.args.s.now).children.ok.0)
 
 pub returns : goal.returns
 returns c =
-    let many : length (children_of (system_of c.args.s.now)) ≡ length (out-Subsystem c.args.s.now).children.items = ap length (children-are c.args.s.now) ∙ length-map (out-Subsystem c.args.s.now).children.items system_of in
+    let many : length (children_of (system_of c.args.s.now)) ≡ length (out-Subsystem c.args.s.now).children.items =
+    ap length (children-are c.args.s.now) ∙ length-map (out-Subsystem c.args.s.now).children.items system_of in
     ap (λ xs. slice_get xs c.args.i) (children-are c.args.s.now)
-    ∙ got-mapped system_of (out-Subsystem c.args.s.now).children.items c.args.i c.index.result.now (omega (arith, many, c.requires)) c.index.ensures
+    ∙ got-mapped system_of (out-Subsystem c.args.s.now).children.items c.args.i c.index.result.now
+    (omega (arith, many, c.requires)) c.index.ensures

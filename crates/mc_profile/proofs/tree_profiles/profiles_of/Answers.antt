@@ -9,7 +9,8 @@ use Rattle.mc_profile.proofs.tree_profiles.profiles_of.Goals as goal
 
 pub profiles_inside-requires-clause-system : goal.profiles_inside-requires-clause-system
 profiles_inside-requires-clause-system c =
-    subst (λ (s : Subsystem). Agrees c.args.r.now.tree.table.rows (system_of s)) (sym c.root.ensures) c.is_resolved.ensures.tree.systems.agrees
+    subst (λ (s : Subsystem). Agrees c.args.r.now.tree.table.rows (system_of s))
+    (sym c.root.ensures) c.is_resolved.ensures.tree.systems.agrees
 
 pub profiles_inside-requires-clause-inside : goal.profiles_inside-requires-clause-inside
 profiles_inside-requires-clause-inside c =
@@ -17,4 +18,6 @@ profiles_inside-requires-clause-inside c =
     (subst (IsInTable c.args.r.now.tree.table.rows) (sym c.is_resolved.ensures.tree.systems.is_root) tt)
 
 pub returns : goal.returns
-returns c = subst (λ (s : Subsystem). IfOk c.profiles_inside.result (λ v. AreProfilesInside (diagram_of c.args.r.now) (system_of s) v.items)) c.root.ensures c.profiles_inside.ensures
+returns c =
+    subst (λ (s : Subsystem). IfOk c.profiles_inside.result
+    (λ v. AreProfilesInside (diagram_of c.args.r.now) (system_of s) v.items)) c.root.ensures c.profiles_inside.ensures

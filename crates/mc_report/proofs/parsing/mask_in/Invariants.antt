@@ -7,4 +7,5 @@ use Rattle.mc_report.proofs.parsing.mask_in.Given as goal
 
 abbrev pub invariant-loop-word : goal.invariant-loop-word
 invariant-loop-word l =
-    (ps : List Port) → All IsPlaced ps → map (λ w. w.now) l.words ≡ map port_word ps → ports_mask ps < 2 ^ 64 → l.mask ≡ ports_mask (take l.word-index ps)
+    (ps : List Port) → All IsPlaced ps → map (λ w. w.now) l.words ≡ map port_word ps → ports_mask ps < 2 ^ 64 →
+    l.mask ≡ ports_mask (take l.word-index ps)

@@ -9,4 +9,6 @@ pub returns-then-is-2 : goal.returns-then-is-2
 returns-then-is-2 c = λ p placed e. ap Some (trigger_told c.args.word.now (sym c.is-else-is.ensures ∙ c.if-is-2.true) p placed e)
 
 pub returns-else-is-2 : goal.returns-else-is-2
-returns-else-is-2 c = number_told c.args.word.now c.number_port.result c.number_port.ensures (sym c.is.ensures ∙ c.if-is.false) (sym c.is-else-is.ensures ∙ c.if-is-2.false)
+returns-else-is-2 c =
+    number_told c.args.word.now c.number_port.result c.number_port.ensures (sym c.is.ensures ∙ c.if-is.false)
+    (sym c.is-else-is.ensures ∙ c.if-is-2.false)

@@ -14,13 +14,17 @@ use Rattle.mc_report.proofs.reading.read_functions.Goals as goal
 pub loop-k-preserved : goal.loop-k-preserved
 loop-k-preserved c = record {
   text = one-more c.args.ports.now c.args.head.outputs 1 c.loop-k.k c.loop-k.functions.items c.push.new.self.items c.in_ok-function.function
-      c.args.text.now c.loop-k.rest.now c.in_ok-function.next.now c.loop-k.invariant.len c.in_ok-push.ensures.items c.loop-k.invariant.text c.in_ok-function.ensures.text;
+      c.args.text.now c.loop-k.rest.now c.in_ok-function.next.now c.loop-k.invariant.len c.in_ok-push.ensures.items
+      c.loop-k.invariant.text c.in_ok-function.ensures.text;
   len = (let e : length c.push.new.self.items ≡ length c.loop-k.functions.items + 1 =
-      ap (λ (fs : List Function). length fs) c.in_ok-push.ensures.items ∙ length-append c.loop-k.functions.items (c.in_ok-function.function ∷ []) in
+      ap (λ (fs : List Function). length fs) c.in_ok-push.ensures.items
+      ∙ length-append c.loop-k.functions.items (c.in_ok-function.function ∷ []) in
       let before = c.loop-k.invariant.len in omega (arith, e, before));
-  sets = all-more (λ (f : Function). IsSetOf (head_ports c.args.head) f.inputs) c.loop-k.functions.items c.push.new.self.items c.in_ok-function.function
+  sets = all-more (λ (f : Function). IsSetOf (head_ports c.args.head) f.inputs) c.loop-k.functions.items
+      c.push.new.self.items c.in_ok-function.function
       c.in_ok-push.ensures.items c.loop-k.invariant.sets (c.in_ok-can_have.ensures.set (search rules));
-  first = subst (CanComeFirst c.args.head.outputs c.args.head.functions) c.deref.ensures.value (c.in_ok-can_have.ensures.first (search rules));
+  first = subst (CanComeFirst c.args.head.outputs c.args.head.functions) c.deref.ensures.value
+      (c.in_ok-can_have.ensures.first (search rules));
 }
 
 pub returns-clause-functions : goal.returns-clause-functions
@@ -28,9 +32,11 @@ returns-clause-functions c = all-of-them _ _ _ c.loop-k.invariant.first (grind (
 
 pub returns-in_err-function-clause-stops : goal.returns-in_err-function-clause-stops
 returns-in_err-function-clause-stops c =
-    handed c.from_residual.result c.in_err-function.field-0.0 (StopsAtLine c.args.ports.now c.args.head.outputs (c.loop-k.k + 1) c.loop-k.rest.now)
+    handed c.from_residual.result c.in_err-function.field-0.0
+    (StopsAtLine c.args.ports.now c.args.head.outputs (c.loop-k.k + 1) c.loop-k.rest.now)
     (StopsAtFunction c.args.head c.args.text.now) c.from_residual.ensures.1
-    (λ left at. stops-unread c.args.head c.args.ports.now c.requires.ports c.args.text.now c.loop-k.rest.now c.loop-k.functions.items c.loop-k.k left
+    (λ left at. stops-unread c.args.head c.args.ports.now c.requires.ports c.args.text.now c.loop-k.rest.now
+    c.loop-k.functions.items c.loop-k.k left
     c.loop-k.invariant.text c.loop-k.invariant.len c.loop-k.invariant.sets c.loop-k.invariant.first c.loop-k-test.true at.1 at.0)
     c.in_err-function.ensures.stops
 
@@ -39,5 +45,6 @@ returns-then-not-branch-clause-stops c =
     stops-at-other c.args.head c.args.ports.now c.requires.ports c.args.text.now c.loop-k.rest.now c.loop-k.functions.items c.loop-k.k _
     c.loop-k.invariant.text c.loop-k.invariant.len c.loop-k.invariant.sets c.loop-k.invariant.first c.loop-k-test.true refl
     c.in_ok-function.function c.push.new.self.items c.in_ok-push.ensures.items c.in_ok-function.ensures.only
-    (λ own can. let yes = c.in_ok-can_have.ensures.only own (subst (CanComeFirst c.args.head.outputs c.args.head.functions) (sym c.deref.ensures.value) can) in
+    (λ own can. let yes = c.in_ok-can_have.ensures.only own
+    (subst (CanComeFirst c.args.head.outputs c.args.head.functions) (sym c.deref.ensures.value) can) in
     search (rules, yes))

@@ -37,7 +37,8 @@ is-head c = record {
 }
 
 ports : (c : goal.After-drop-ports-2) → c.in_ok-ports.ports.items ≡ head_ports c.in_ok-head.head
-ports c = c.in_ok-ports.ensures ∙ ap (λ (ps : List Port). ports_with c.in_ok-head.head.inputs ps) (c.deref.ensures.value ∙ c.in_ok-controls.ensures)
+ports c = c.in_ok-ports.ensures ∙ ap (λ (ps : List Port). ports_with c.in_ok-head.head.inputs ps) (c.deref.ensures.value
+    ∙ c.in_ok-controls.ensures)
 
 needs : (c : goal.After-drop-ports-2) → c.deref-4.result.now ≡ needs_of c.in_ok-head.head.outputs c.in_ok-functions.functions.items
 needs c = c.deref-4.ensures.value ∙ c.in_ok-needs.ensures.needs
@@ -48,15 +49,19 @@ returns-clause-text c =
     read-text (report c) c.in_ok-head.head (is-head c) c.in_ok-functions.functions.items c.in_ok-certificate.certificate.differ
     c.args.text.now c.in_ok-head.rest.now c.in_ok-functions.rest.now c.in_ok-rest.rest.now refl refl c.in_ok-head.ensures.text
     (c.in_ok-functions.ensures.text
-    ∙ ap (λ (ps : List Port). out_lines ps c.in_ok-head.head.outputs 1 c.in_ok-functions.functions.items ++ c.in_ok-functions.rest.now) (c.deref-2.ensures.value ∙ ports c))
+    ∙ ap (λ (ps : List Port). out_lines ps c.in_ok-head.head.outputs 1 c.in_ok-functions.functions.items
+    ++ c.in_ok-functions.rest.now) (c.deref-2.ensures.value ∙ ports c))
     (c.in_ok-rest.ensures.text
-    ∙ ap₂ (λ (ps : List Port) (ds : List Difference). flat_map (differ_line ps) ds ++ c.in_ok-rest.rest.now) (c.deref-5.ensures.value ∙ ports c)
+    ∙ ap₂ (λ (ps : List Port) (ds : List Difference). flat_map (differ_line ps) ds ++ c.in_ok-rest.rest.now)
+    (c.deref-5.ensures.value ∙ ports c)
     (c.deref-6.ensures.value ∙ ap (λ (k : PlainCertificate). k.differ) c.certificate.view_is))
 
 pub returns-clause-report : goal.returns-clause-report
 returns-clause-report c =
-    read-report (report c) c.in_ok-head.head (is-head c) c.in_ok-functions.functions.items c.in_ok-head.ensures.head c.in_ok-head.ensures.row refl refl
-    (each-one (λ (f : Function). IsSetOf (head_ports c.in_ok-head.head) f.inputs) c.in_ok-functions.functions.items c.in_ok-functions.ensures.sets)
+    read-report (report c) c.in_ok-head.head (is-head c) c.in_ok-functions.functions.items c.in_ok-head.ensures.head
+    c.in_ok-head.ensures.row refl refl
+    (each-one (λ (f : Function). IsSetOf (head_ports c.in_ok-head.head) f.inputs) c.in_ok-functions.functions.items
+    c.in_ok-functions.ensures.sets)
     c.in_ok-functions.ensures.functions
     (subst (λ (ns : List ℕ). IsCertificateFor ns c.in_ok-certificate.certificate) (needs c) c.in_ok-certificate.ensures)
 
@@ -66,14 +71,18 @@ read_functions-requires-clause-ports c = c.deref-2.ensures.value ∙ c.in_ok-por
 
 pub returns-in_err-head-clause-stops : goal.returns-in_err-head-clause-stops
 returns-in_err-head-clause-stops c =
-    handed c.from_residual.result c.in_err-head.field-0.0 (StopsAtHead c.args.text.now) (StopsInSystem c.args.text.now) c.from_residual.ensures.1
+    handed c.from_residual.result c.in_err-head.field-0.0 (StopsAtHead c.args.text.now)
+    (StopsInSystem c.args.text.now) c.from_residual.ensures.1
     (λ left at. inl at) c.in_err-head.ensures.stops
 
 pub returns-in_err-functions-clause-stops : goal.returns-in_err-functions-clause-stops
 returns-in_err-functions-clause-stops c =
     handed c.from_residual-in_err-functions.result c.in_err-functions.field-0.0 (StopsAtFunction c.in_ok-head.head c.in_ok-head.rest.now)
     (StopsInSystem c.args.text.now) c.from_residual-in_err-functions.ensures.1
-    (λ left at. inr (inl (stops-functions c.in_ok-head.head c.args.text.now c.in_ok-head.rest.now left c.in_ok-head.ensures.row c.in_ok-head.ensures.head
+    (λ left at.
+    inr (inl
+    (stops-functions c.in_ok-head.head c.args.text.now c.in_ok-head.rest.now left c.in_ok-head.ensures.row
+    c.in_ok-head.ensures.head
     c.in_ok-head.ensures.text at)))
     c.in_err-functions.ensures.stops
 
@@ -81,7 +90,8 @@ pub returns-in_err-rest-clause-stops : goal.returns-in_err-rest-clause-stops
 returns-in_err-rest-clause-stops c =
     let h = c.in_ok-head.head in let fs = c.in_ok-functions.functions.items in
     let is : IsHeadOf (told_report h c.in_ok-controls.controls.items fs c.in_ok-certificate.certificate) h =
-    told-head h c.in_ok-controls.controls.items fs c.in_ok-certificate.certificate c.in_ok-controls.ensures c.in_ok-functions.ensures.functions.number in
+    told-head h c.in_ok-controls.controls.items fs c.in_ok-certificate.certificate c.in_ok-controls.ensures
+    c.in_ok-functions.ensures.functions.number in
     let are : c.in_ok-ports.ports.items ≡ head_ports h = c.in_ok-ports.ensures
     ∙ ap (λ (ps : List Port). ports_with h.inputs ps) (c.deref.ensures.value ∙ c.in_ok-controls.ensures) in
     let needs-are : c.deref-4.result.now ≡ needs_of h.outputs fs = c.deref-4.ensures.value ∙ c.in_ok-needs.ensures.needs
@@ -96,7 +106,8 @@ returns-in_err-rest-clause-stops c =
     c.from_residual-in_err-rest.ensures.1
     (λ left at. inr (inr (stops-differences (told_report h c.in_ok-controls.controls.items fs c.in_ok-certificate.certificate) h is own
     c.deref-5.result.now fs c.deref-6.result.now c.args.text.now c.in_ok-head.rest.now c.in_ok-functions.rest.now left
-    (c.deref-5.ensures.value ∙ are) refl (c.deref-6.ensures.value ∙ ap (λ (k : PlainCertificate). k.differ) c.certificate.view_is) c.in_ok-head.ensures.text
+    (c.deref-5.ensures.value ∙ are) refl (c.deref-6.ensures.value
+    ∙ ap (λ (k : PlainCertificate). k.differ) c.certificate.view_is) c.in_ok-head.ensures.text
     (c.in_ok-functions.ensures.text
     ∙ ap (λ (ps : List Port). out_lines ps h.outputs 1 fs ++ c.in_ok-functions.rest.now) (c.deref-2.ensures.value ∙ are)
     ∙ ap (λ (ps : List Port). out_lines ps h.outputs 1 fs ++ c.in_ok-functions.rest.now) (sym (c.deref-5.ensures.value ∙ are))) at)))

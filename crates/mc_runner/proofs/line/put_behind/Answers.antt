@@ -15,10 +15,15 @@ pub returns-clause-taken : goal.returns-clause-taken
 returns-clause-taken g c =
     let fits : FitsSigned w64 c.args.number = search rules in
     text_then c.put_number.result c.args.lines.now c.put.new.self _ (32 ∷ []) (signed_decimal c.args.number) _ _ _ c.in_ok-put.ensures.taken
-    (subst (λ n. OnOk c.put_number.result (PutsAllBut c.put_number.new.lines (c.put.new.self ++ signed_decimal n) (g.S.Sink.bytes c.put.new.sink) (g.S.Sink.bytes c.put_number.new.sink))) (to_z-of_z fits) c.put_number.ensures.taken)
+    (subst (λ n.
+    OnOk c.put_number.result
+    (PutsAllBut c.put_number.new.lines (c.put.new.self ++ signed_decimal n) (g.S.Sink.bytes c.put.new.sink)
+    (g.S.Sink.bytes c.put_number.new.sink))) (to_z-of_z fits) c.put_number.ensures.taken)
 
 pub returns-clause-front : goal.returns-clause-front
 returns-clause-front g c =
     let fits : FitsSigned w64 c.args.number = search rules in
     front_then c.put_number.result c.args.lines.now c.put.new.self (32 ∷ []) (signed_decimal c.args.number) _ _ _ c.in_ok-put.ensures.taken
-    (subst (λ n. OnErr c.put_number.result (PutsFront (g.S.Sink.bytes c.put.new.sink) (g.S.Sink.bytes c.put_number.new.sink) (c.put.new.self ++ signed_decimal n))) (to_z-of_z fits) c.put_number.ensures.front)
+    (subst (λ n.
+    OnErr c.put_number.result (PutsFront (g.S.Sink.bytes c.put.new.sink) (g.S.Sink.bytes c.put_number.new.sink)
+    (c.put.new.self ++ signed_decimal n))) (to_z-of_z fits) c.put_number.ensures.front)

@@ -10,5 +10,6 @@ tick-requires-clause-row g c =
 pub returns-in-Ok-true-clause-ran : goal.returns-in-Ok-true-clause-ran
 returns-in-Ok-true-clause-ran g c =
     let last = rw c.in-Ok-true.field-0-test at c.in-Ok-true.ensures.last in
-    last_ticked c.args.text.now c.args.types.now c.args.machine.now c.args.run.now c.fill_last.new.run (g.S.Sink.bytes c.args.sink.now) _ c.tick.result
+    last_ticked c.args.text.now c.args.types.now c.args.machine.now c.args.run.now c.fill_last.new.run
+    (g.S.Sink.bytes c.args.sink.now) _ c.tick.result
     c.fill_last.ensures.filled last c.tick.ensures.ticked

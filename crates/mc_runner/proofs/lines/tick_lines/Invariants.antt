@@ -6,7 +6,8 @@ use Rattle.mc_runner.proofs.lines.tick_lines.Given as goal
 abbrev pub invariant-loop-after : goal.invariant-loop-after
 invariant-loop-after g l = record {
   within : l.at ≤ length l.text;
-  through : RunsThrough (take l.at l.text) l.types (inside l.fn.machine l.fn.run (g.S.Sink.bytes l.fn.sink)) (inside l.machine l.run (g.S.Sink.bytes l.sink));
+  through : RunsThrough (take l.at l.text) l.types (inside l.fn.machine l.fn.run (g.S.Sink.bytes l.fn.sink))
+      (inside l.machine l.run (g.S.Sink.bytes l.sink));
   none : l.run.totals.ticks ≡ l.fn.run.totals.ticks → l.at ≡ 0;
   room : HasRoom l.run l.types l.machine;
   program : l.machine.program ≡ l.fn.machine.program;

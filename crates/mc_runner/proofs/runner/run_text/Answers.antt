@@ -27,6 +27,8 @@ pub returns-clause-ran : goal.returns-clause-ran
 returns-clause-ran g c =
     let s' = inside c.run_lines.new.machine c.run_lines.new.run (g.S.Sink.bytes c.run_lines.new.sink) in
     let s'' = inside c.run_last.new.machine c.run_last.new.run (g.S.Sink.bytes c.run_last.new.sink) in
-    text_ends c.run_last.result c.in_ok-done.done c.args.trace.now c.args.types.now (inside c.args.machine.now c.args.run.now (g.S.Sink.bytes c.args.sink.now)) s' s''
+    text_ends c.run_last.result c.in_ok-done.done c.args.trace.now c.args.types.now
+    (inside c.args.machine.now c.args.run.now (g.S.Sink.bytes c.args.sink.now)) s' s''
     c.requires.start c.requires.empty c.run_last.ensures.empty c.in_ok-done.ensures.ran
-    (subst (λ t. EndsLast c.run_last.result (rows_after c.run_lines.new.run.totals.ticks c.args.types.now t) s' s'') (take_rest c.args.trace.now c.in_ok-done.done) c.run_last.ensures.ran)
+    (subst (λ t. EndsLast c.run_last.result (rows_after c.run_lines.new.run.totals.ticks c.args.types.now t) s' s'')
+    (take_rest c.args.trace.now c.in_ok-done.done) c.run_last.ensures.ran)

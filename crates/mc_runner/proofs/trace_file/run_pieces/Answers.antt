@@ -13,7 +13,8 @@ use Rattle.mc_runner.proofs.trace_file.run_pieces.Goals as goal
 
 pub loop-count-init : goal.loop-count-init
 loop-count-init g c = record {
-  reads = reads_none c.args.types.now c.args.read.now.bytes _ (inside c.args.machine.now c.args.run.now (g.S.Sink.bytes c.args.sink.now)) c.requires.unread;
+  reads = reads_none c.args.types.now c.args.read.now.bytes _
+      (inside c.args.machine.now c.args.run.now (g.S.Sink.bytes c.args.sink.now)) c.requires.unread;
   begins = begins_none c.args.read.now.bytes c.requires.unread;
   room = c.requires.room;
   empty = c.requires.empty;
@@ -31,9 +32,11 @@ returns-in_default-clause-ran g c =
     let s = inside c.args.machine.now c.args.run.now (g.S.Sink.bytes c.args.sink.now) in
     let s' = inside c.loop-count.machine c.loop-count.run (g.S.Sink.bytes c.loop-count.sink) in
     subst (λ r. RunsOver (Err Read) (g.H.Host.rest c.args.host.now) r c.args.types.now
-    (standing c.args.machine.now c.args.run.now.totals (g.S.Sink.bytes c.args.sink.now)) (standing c.loop-count.machine c.loop-count.run.totals (g.S.Sink.bytes c.loop-count.sink)))
+    (standing c.args.machine.now c.args.run.now.totals (g.S.Sink.bytes c.args.sink.now))
+    (standing c.loop-count.machine c.loop-count.run.totals (g.S.Sink.bytes c.loop-count.sink)))
     (sym c.in_default.ensures.unread)
-    (read_stops c.args.types.now c.loop-count.read.bytes (g.H.Host.rest c.args.host.now) (g.H.Host.rest c.loop-count.host) s s' c.requires.start c.requires.empty c.loop-count.invariant.empty
+    (read_stops c.args.types.now c.loop-count.read.bytes (g.H.Host.rest c.args.host.now)
+    (g.H.Host.rest c.loop-count.host) s s' c.requires.start c.requires.empty c.loop-count.invariant.empty
     c.loop-count.invariant.begins c.loop-count.invariant.reads)
 
 pub returns-then-count-eq0-clause-ran : goal.returns-then-count-eq0-clause-ran
@@ -41,10 +44,14 @@ returns-then-count-eq0-clause-ran g c =
     let s = inside c.args.machine.now c.args.run.now (g.S.Sink.bytes c.args.sink.now) in
     let s' = inside c.loop-count.machine c.loop-count.run (g.S.Sink.bytes c.loop-count.sink) in
     let s'' = inside c.run_last.new.machine c.run_last.new.run (g.S.Sink.bytes c.run_last.new.sink) in
-    let reads = reads_on c.args.types.now c.in-Ok.count c.loop-count.read.bytes c.fill.new.self.bytes _ _ _ s s' c.loop-count.invariant.reads c.in-Ok.ensures.more in
-    file_ends c.run_last.result c.args.types.now c.fill.new.self.bytes (g.H.Host.rest c.args.host.now) (g.H.Host.rest c.fill.new.host) s s' s'' c.requires.start c.requires.empty
+    let reads =
+    reads_on c.args.types.now c.in-Ok.count c.loop-count.read.bytes c.fill.new.self.bytes _ _ _ s s'
+    c.loop-count.invariant.reads c.in-Ok.ensures.more in
+    file_ends c.run_last.result c.args.types.now c.fill.new.self.bytes (g.H.Host.rest c.args.host.now)
+    (g.H.Host.rest c.fill.new.host) s s' s'' c.requires.start c.requires.empty
     c.run_last.ensures.empty (c.in-Ok.ensures.end c.if-count-eq0.true) reads
-    (subst (λ t. EndsLast c.run_last.result (rows_after c.loop-count.run.totals.ticks c.args.types.now t) s' s'') c.bytes.ensures c.run_last.ensures.ran)
+    (subst (λ t. EndsLast c.run_last.result (rows_after c.loop-count.run.totals.ticks c.args.types.now t) s' s'')
+    c.bytes.ensures c.run_last.ensures.ran)
 
 pub returns-in_err-done-clause-ran : goal.returns-in_err-done-clause-ran
 returns-in_err-done-clause-ran g c =
@@ -53,11 +60,16 @@ returns-in_err-done-clause-ran g c =
     let s = inside c.args.machine.now c.args.run.now (g.S.Sink.bytes c.args.sink.now) in
     let s' = inside c.loop-count.machine c.loop-count.run (g.S.Sink.bytes c.loop-count.sink) in
     let s'' = inside c.run_lines.new.machine c.run_lines.new.run (g.S.Sink.bytes c.run_lines.new.sink) in
-    let reads = reads_on c.args.types.now c.in-Ok.count c.loop-count.read.bytes c.fill.new.self.bytes _ _ _ s s' c.loop-count.invariant.reads c.in-Ok.ensures.more in
-    lines_stop c.from_residual.result fault c.args.types.now c.fill.new.self.bytes (g.H.Host.rest c.args.host.now) (g.H.Host.rest c.fill.new.host) s s' s''
+    let reads =
+    reads_on c.args.types.now c.in-Ok.count c.loop-count.read.bytes c.fill.new.self.bytes _ _ _ s s'
+    c.loop-count.invariant.reads c.in-Ok.ensures.more in
+    lines_stop c.from_residual.result fault c.args.types.now c.fill.new.self.bytes (g.H.Host.rest c.args.host.now)
+    (g.H.Host.rest c.fill.new.host) s s' s''
     (p.1 ∙ ap (λ f. Err f) p.2) c.requires.start c.requires.empty
     (λ other. c.in_err-done.ensures.empty (λ e. let same : fault ≡ Out = cc in other same)) reads
-    (λ behind. subst (λ t. RunsTo fault (rows_after c.loop-count.run.totals.ticks c.args.types.now (t ++ behind)) s' s'') c.bytes-in-loop-count.ensures (c.in_err-done.ensures.ran behind))
+    (λ behind.
+    subst (λ t. RunsTo fault (rows_after c.loop-count.run.totals.ticks c.args.types.now (t ++ behind)) s' s'')
+    c.bytes-in-loop-count.ensures (c.in_err-done.ensures.ran behind))
 
 pub returns-in_err-done-clause-read_cause : goal.returns-in_err-done-clause-read_cause
 returns-in_err-done-clause-read_cause g c = λ read.
@@ -76,12 +88,15 @@ loop-count-preserved g c =
     let s'' = inside c.run_lines.new.machine c.run_lines.new.run (g.S.Sink.bytes c.run_lines.new.sink) in
     let i = c.loop-count.invariant in
     let done = c.in_ok-done.done in
-    let reads = reads_on c.args.types.now c.in-Ok.count c.loop-count.read.bytes c.fill.new.self.bytes _ _ _ s s' i.reads c.in-Ok.ensures.more in
+    let reads =
+    reads_on c.args.types.now c.in-Ok.count c.loop-count.read.bytes c.fill.new.self.bytes _ _ _ s s' i.reads
+    c.in-Ok.ensures.more in
     let lines = subst (λ t. RunsLines done t c.args.types.now s' s'') c.bytes-in-loop-count.ensures c.in_ok-done.ensures.ran in
     record {
       reads =
           subst (λ b. Reads c.args.types.now b (g.H.Host.rest c.args.host.now) (g.H.Host.rest c.fill.new.host) s s'') (sym c.take.ensures)
-          (lines_read c.args.types.now done c.fill.new.self.bytes (g.H.Host.rest c.args.host.now) (g.H.Host.rest c.fill.new.host) s s' s'' reads lines);
+          (lines_read c.args.types.now done c.fill.new.self.bytes (g.H.Host.rest c.args.host.now)
+          (g.H.Host.rest c.fill.new.host) s s' s'' reads lines);
       begins = subst BeginsLine (sym c.take.ensures) lines.rest;
       room = c.run_lines.ensures.room;
       empty = c.in_ok-done.ensures.empty (λ e. cc);

@@ -4,4 +4,5 @@ use Rattle.mc_runner.proofs.trace_file.run_trace.Goals as goal
 
 pub returns-in_default-clause-ran : goal.returns-in_default-clause-ran
 returns-in_default-clause-ran g c =
-    nothing_read (g.H.Host.rest c.args.host.now) c.args.types.now (standing c.args.machine.now c.args.totals.now (g.S.Sink.bytes c.args.sink.now))
+    nothing_read (g.H.Host.rest c.args.host.now) c.args.types.now
+    (standing c.args.machine.now c.args.totals.now (g.S.Sink.bytes c.args.sink.now))

@@ -16,7 +16,9 @@ returns-clause-call c =
     let j = c.in-Some-function_numbered.function in
     let is = c.in-Some-function_numbered.ensures in
     let function = is.function ∙ ap (function_numbered (length c.args.counts.now)) (to_z-of_z w64 c.in-Some-field_number.number kept) in
-    let within : get_or c.args.counts.now (j - 1) 0 ≤ length c.args.into.now = c.requires.most (j - 1) 0 (omega (arith, is.first, is.last)) in
+    let within : get_or c.args.counts.now (j - 1) 0 ≤ length c.args.into.now =
+    c.requires.most (j - 1) 0 (omega (arith, is.first, is.last)) in
     let room : get_or c.args.counts.now (j - 1) 0 ≤ length c.read_numbers.new.into = omega (arith, within, c.read_numbers.ensures.room) in
-    out_counted c.args.counts.now (numbers_of (fields c.args.text.now)) numbers c.in-Some-field_number.number c.in-Some-read_numbers.found j c.read_numbers.new.into c.counted.result
+    out_counted c.args.counts.now (numbers_of (fields c.args.text.now)) numbers c.in-Some-field_number.number
+    c.in-Some-read_numbers.found j c.read_numbers.new.into c.counted.result
     whole c.in-Some-read_numbers.ensures.numbers function is.first room c.counted.ensures

@@ -20,7 +20,8 @@ loop-field-preserved c =
       few = omega (arith, so.few, c.in-Some.ensures.shorter);
       read = elim c.if-found-into.branch [
         | then-found-into w ↦
-            subst (ReadSoFar all more (c.loop-field.found + 1)) (sym (w.into-is ∙ ap (set c.loop-field.into c.loop-field.found) (to_z-of_z w64 number kept)))
+            subst (ReadSoFar all more (c.loop-field.found + 1))
+            (sym (w.into-is ∙ ap (set c.loop-field.into c.loop-field.found) (to_z-of_z w64 number kept)))
             (read_into all _ more c.loop-field.found c.loop-field.into number w.if-found-into.true first so.read)
         | else-found-into w ↦
             subst (ReadSoFar all more (c.loop-field.found + 1)) (sym w.into-is)

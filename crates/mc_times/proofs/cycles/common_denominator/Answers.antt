@@ -65,7 +65,9 @@ returns-in_err-grow-2-clause-refused c =
     let all = of_rows denominators_in rows in
     let rest = of_rows denominators_in (drop (i + 1) rows) in
     let read : row ≡ row_at rows i = c.row-item.is ∙ get_or_default rows i row no_row c.loop-row-test.true in
-    let left = left-same denominators_in rows i row c.written_time.result (c.in-Each.period.den ∷ c.in-Each.offset.den ∷ []) c.loop-row-test.true read
+    let left =
+    left-same denominators_in rows i row c.written_time.result (c.in-Each.period.den ∷ c.in-Each.offset.den
+    ∷ []) c.loop-row-test.true read
     c.written_time.ensures (ap denominators_in c.in-Each.is ∙ denominators-two c.in-Each.period c.in-Each.offset c.if-offset-ne0.true) in
     let once = grown (10 ^ 9) Denominator start all c.loop-row.denominator _ c.grow.new.self row.place.line c.in-Each.period.den
     (left-to (10 ^ 9) Denominator start all c.loop-row.denominator _ _ left c.loop-row.invariant) c.in-Each.period.lowest.0
@@ -121,11 +123,13 @@ returns-clause-accepted c table same is_step =
     let none = left-none denominators_in rows c.loop-row.row-index c.loop-row-test.false in
     long_denominator-is table rows c.args.step same is_step
     ∙ ap (too_long Denominator)
-    (grown-all (10 ^ 9) Denominator (step_den c.args.step) (of_rows denominators_in rows) c.loop-row.denominator _ none c.loop-row.invariant)
+    (grown-all (10 ^ 9) Denominator (step_den c.args.step) (of_rows denominators_in rows) c.loop-row.denominator _ none
+    c.loop-row.invariant)
 
 pub returns-clause-denominator : goal.returns-clause-denominator
 returns-clause-denominator c table same is_step =
     let rows = c.args.rows.now in
     let none = left-none denominators_in rows c.loop-row.row-index c.loop-row-test.false in
-    grown-value (10 ^ 9) Denominator (step_den c.args.step) (of_rows denominators_in rows) c.loop-row.denominator _ none c.loop-row.invariant
+    grown-value (10 ^ 9) Denominator (step_den c.args.step) (of_rows denominators_in rows) c.loop-row.denominator _ none
+    c.loop-row.invariant
     ∙ common_denominator-is table rows c.args.step same is_step

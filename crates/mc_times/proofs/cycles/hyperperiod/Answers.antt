@@ -76,7 +76,8 @@ returns-in_err-grow-clause-refused c =
     c.from_residual.ensures.1
     (λ table same is.
     ap (λ all. too_long Hyper (first_over (2 ^ 30) 1 all)) (by_line-periods table rows c.args.base same is)
-    ∙ grown-over (2 ^ 30) Hyper 1 (of_rows f rows) c.loop-row.cycle (of_rows f (drop (i + 1) rows)) row.place.line c.ticks.result (plain_refusal e)
+    ∙ grown-over (2 ^ 30) Hyper 1 (of_rows f rows) c.loop-row.cycle (of_rows f (drop (i + 1) rows)) row.place.line
+    c.ticks.result (plain_refusal e)
     (left-to (2 ^ 30) Hyper 1 (of_rows f rows) c.loop-row.cycle _ _ left c.loop-row.invariant)
     c.in_err-grow.ensures.refused c.in_err-grow.ensures.above)
 

@@ -7,7 +7,9 @@ pub loop-b-init : goal.loop-b-init
 loop-b-init c = given-none c.args.rows.now c.args.base c.new-given.result.items c.new-given.ensures.items
 
 pub loop-b-preserved : goal.loop-b-preserved
-loop-b-preserved c = given-more c.args.rows.now c.args.base c.loop-b.b c.loop-b.given.items _ c.given_time.result c.given_time.ensures c.in_ok-push.ensures.items c.loop-b.invariant
+loop-b-preserved c =
+    given-more c.args.rows.now c.args.base c.loop-b.b c.loop-b.given.items _ c.given_time.result c.given_time.ensures
+    c.in_ok-push.ensures.items c.loop-b.invariant
 
 pub returns : goal.returns
 returns c =

@@ -8,10 +8,12 @@ use Rattle.mc_diagram.specs.TimeRefusals.{AreInputTimes, HasTimeRefusal, rate_re
 use Rattle.mc_times.proofs.infer.infer.Goals as goal
 
 -- the first refusal, where nothing is wrong with what is written
-by-rates : (table : RowTable) (inside : List Time) (found : Option PlainRefusal) → written_time_refusal table ≡ None → AreInputTimes table inside →
+by-rates : (table : RowTable) (inside : List Time) (found : Option PlainRefusal) → written_time_refusal table ≡ None →
+    AreInputTimes table inside →
     found ≡ rate_refusal table inside → HasTimeRefusal table found
 by-rates table inside found none input e =
-    subst (λ written. MatchOption written ((inside : List Time) × AreInputTimes table inside × (found ≡ rate_refusal table inside)) (λ refusal. found ≡ Some refusal))
+    subst (λ written. MatchOption written ((inside : List Time) × AreInputTimes table inside
+    × (found ≡ rate_refusal table inside)) (λ refusal. found ≡ Some refusal))
     (sym none) (inside, input, e)
 
 pub least_bad_rate-requires-clause-len : goal.least_bad_rate-requires-clause-len

@@ -56,7 +56,8 @@ returns-in_err-hyper-clause-refused c =
     let low = base-low table base c.in_ok-denominator.denominator is common c.in_ok-denominator.ensures.low in
     let short : long_period table ≡ None = sym (c.in_default-long_period.ensures table refl is) in
     let e = c.in_err-hyper.field-0.0 in
-    refused-same c.from_residual-in_err-hyper.result e (λ r. written_time_refusal table ≡ Some (plain_refusal r)) c.from_residual-in_err-hyper.ensures.1
+    refused-same c.from_residual-in_err-hyper.result e (λ r. written_time_refusal table
+    ≡ Some (plain_refusal r)) c.from_residual-in_err-hyper.ensures.1
     (at-cycle (least_line (times_inside table.rows)) (long_denominator table) (long_period table) (long_cycle table) (plain_refusal e)
     (sym c.in_default.ensures) (c.in_ok-denominator.ensures.accepted table refl refl) short (c.in_err-hyper.ensures.refused table refl is))
 

@@ -8,7 +8,8 @@ loop-b-init c = collected-none c.args.rows.now c.args.found.now c.new-inside.res
 
 pub loop-b-preserved : goal.loop-b-preserved
 loop-b-preserved c =
-    collected-more c.args.rows.now c.args.found.now c.loop-b.b c.loop-b.inside.items c.push.new.self.items c.in_ok-input_time.field-0 c.in_ok-input_time.ensures
+    collected-more c.args.rows.now c.args.found.now c.loop-b.b c.loop-b.inside.items c.push.new.self.items
+    c.in_ok-input_time.field-0 c.in_ok-input_time.ensures
     c.in_ok-push.ensures.items c.loop-b.invariant
 
 pub returns : goal.returns

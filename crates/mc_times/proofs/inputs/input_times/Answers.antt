@@ -19,9 +19,12 @@ returns c =
     let g = c.in_ok-graph.graph in
     let given = subst (AreGiven rows c.args.base (length rows)) (sym c.deref.ensures.value) c.in_ok-given.ensures in
     let found = subst (AreFound g c.deref.result.now) (sym c.deref-2.ensures.value) c.in_ok-found.ensures in
-    on-ok (λ v. AreCollected rows c.deref-2.result.now (length rows) v.items) (λ v. (table : RowTable) → table.rows ≡ rows → IsBaseOf table c.args.base → AreInputTimes table v.items)
+    on-ok (λ v. AreCollected rows c.deref-2.result.now (length rows) v.items) (λ v. (table : RowTable) →
+    table.rows ≡ rows → IsBaseOf table c.args.base → AreInputTimes table v.items)
     (λ v collected table e is_base.
-    input-times table c.args.base is_base g (subst (λ (r : List Row). IsFeeding r g) (sym e) c.in_ok-graph.ensures) (subst AreInputsInside (sym e) c.requires.inside)
-    c.deref.result.now (subst (λ (r : List Row). AreGiven r c.args.base (length r) c.deref.result.now) (sym e) given) c.deref-2.result.now found
+    input-times table c.args.base is_base g (subst (λ (r : List Row). IsFeeding r g) (sym e) c.in_ok-graph.ensures)
+    (subst AreInputsInside (sym e) c.requires.inside)
+    c.deref.result.now (subst (λ (r : List Row). AreGiven r c.args.base (length r) c.deref.result.now) (sym e) given)
+    c.deref-2.result.now found
     v.items (subst (λ (r : List Row). AreCollected r c.deref-2.result.now (length r) v.items) (sym e) collected))
     c.collect.result c.collect.ensures

@@ -18,8 +18,10 @@ back-preserved c =
     let h = c.back.invariant.below in
     record {
       below = omega arith;
-      least = back-more (listed_where test refusal) (length rows) (c.back.b - 1) c.back.b (as_plain c.inside_fault.result) (as_plain c.back.least) (as_plain c.earlier-least.result)
-          (omega arith) (omega arith) (listed-short test refusal (c.back.b - 1)) (c.inside_fault.ensures ∙ found-listed test refusal (c.back.b - 1))
+      least = back-more (listed_where test refusal) (length rows) (c.back.b - 1) c.back.b
+          (as_plain c.inside_fault.result) (as_plain c.back.least) (as_plain c.earlier-least.result)
+          (omega arith) (omega arith) (listed-short test refusal (c.back.b - 1)) (c.inside_fault.ensures
+          ∙ found-listed test refusal (c.back.b - 1))
           c.back.invariant.least c.earlier-least.ensures;
     }
 

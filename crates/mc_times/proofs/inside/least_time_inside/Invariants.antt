@@ -12,7 +12,10 @@ use Rattle.mc_times.proofs.inside.least_time_inside.Given as goal
 abbrev pub invariant-back : goal.invariant-back
 invariant-back l = record {
   below : l.b ≤ length l.rows;
-  least : as_plain l.least ≡ least_line (flat_map (listed_where (λ b. is_some (outermost_trigger l.rows b) && is_each (written_time l.rows b)) (λ b. TimeInside (line_at l.rows b)))
+  least : as_plain l.least
+      ≡ least_line
+      (flat_map (listed_where (λ b. is_some (outermost_trigger l.rows b) && is_each (written_time l.rows b))
+      (λ b. TimeInside (line_at l.rows b)))
       (range_with_len l.b (length l.rows - l.b)));
 }
 

@@ -14,7 +14,10 @@ abbrev pub invariant-back : goal.invariant-back
 invariant-back l = record {
   below : l.b ≤ length l.rows;
   least : (table : RowTable) → table.rows ≡ l.rows → IsBaseOf table l.base →
-      as_plain l.least ≡ least_line (flat_map (λ b. rate_faults table (line_at l.rows b) (get_or l.inside b every_tick) (row_at l.rows b).kind) (range_with_len l.b (length l.rows - l.b)));
+      as_plain l.least
+      ≡ least_line
+      (flat_map (λ b. rate_faults table (line_at l.rows b) (get_or l.inside b every_tick) (row_at l.rows b).kind)
+      (range_with_len l.b (length l.rows - l.b)));
 }
 
 abbrev pub decreases-back : goal.decreases-back

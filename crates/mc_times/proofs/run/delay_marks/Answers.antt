@@ -23,7 +23,8 @@ loop-b-preserved c table e is_base given =
     subst (IsInputTime table c.loop-b.b) (sym read) (given.are_input_times c.loop-b.b (let l = ap length e in omega arith)) in
     record {
       len = len-more c.loop-b.b c.loop-b.marks.items c.push.new.self.items c.delays.result before.len c.in_ok-push.ensures.items;
-      each = each-more (λ (b : ℕ) (mark : Bool). (mark ≡ true) ↔ Delays table b) false c.loop-b.b c.loop-b.marks.items c.push.new.self.items c.delays.result before.len
+      each = each-more (λ (b : ℕ) (mark : Bool). (mark ≡ true) ↔ Delays table b) false c.loop-b.b c.loop-b.marks.items
+          c.push.new.self.items c.delays.result before.len
           (c.delays.ensures table e is_base input) c.in_ok-push.ensures.items before.each;
     }
 

@@ -6,4 +6,5 @@ use Rattle.mc_times.specs.Running.{AreDelays}
 use Rattle.mc_times.proofs.run.delay_marks.Given as goal
 
 abbrev pub invariant-loop-b : goal.invariant-loop-b
-invariant-loop-b l = (table : RowTable) → table.rows ≡ l.rows → IsBaseOf table l.base → AreInputTimes table l.inside → AreDelays table l.b l.marks.items
+invariant-loop-b l = (table : RowTable) → table.rows ≡ l.rows → IsBaseOf table l.base → AreInputTimes table l.inside →
+    AreDelays table l.b l.marks.items

@@ -6,4 +6,5 @@ use Rattle.mc_times.specs.Running.{AreRunTimes}
 use Rattle.mc_times.proofs.run.run_times.Given as goal
 
 abbrev pub invariant-loop-b : goal.invariant-loop-b
-invariant-loop-b l = (table : RowTable) → table.rows ≡ l.rows → IsBaseOf table l.base → AreInputTimes table l.inside → AreRunTimes table l.b l.run.items
+invariant-loop-b l = (table : RowTable) → table.rows ≡ l.rows → IsBaseOf table l.base → AreInputTimes table l.inside →
+    AreRunTimes table l.b l.run.items

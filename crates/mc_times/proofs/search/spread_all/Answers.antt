@@ -6,7 +6,10 @@ use Rattle.mc_times.proofs.search.spread_all.Goals as goal
 
 pub loop-a-init : goal.loop-a-init
 loop-a-init c =
-    let all = subst (λ n. All (λ b. b < n) c.in_ok-waiting.waiting.items × ((a : ℕ) → a < n → Contains c.in_ok-waiting.waiting.items a)) (ap (λ v. v.n) c.g.view_is) c.in_ok-waiting.ensures in
+    let all =
+    subst (λ n. All (λ b. b < n) c.in_ok-waiting.waiting.items
+    × ((a : ℕ) → a < n → Contains c.in_ok-waiting.waiting.items a))
+    (ap (λ v. v.n) c.g.view_is) c.in_ok-waiting.ensures in
     begin c.args.g.now c.args.found.now c.in_ok-waiting.waiting.items (subst IsGraph c.g.view_is c.g.invariant) c.requires all.0 all.1
 
 pub spread-requires-clause-node : goal.spread-requires-clause-node

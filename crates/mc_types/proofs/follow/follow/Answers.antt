@@ -39,7 +39,8 @@ returns-in-Known-clause-path c =
     let rule : type_rule rows c.walk.at ≡ Known c.in-Known.t =
     sym (c.in-Known.ensures ∙ ap (λ (row : Row). rule_of row.type_text (inherited_rule row.kind row.inputs)) c.row_at.ensures) in
     subst (λ path. AllMeet rows path (Some c.in-Known.t)) (sym c.in_ok-push.ensures.items)
-    (path-rule rows c.walk.path.items c.walk.at (Some c.in-Known.t) row_inside (known-followed rows c.walk.at c.in-Known.t rule) c.walk.invariant.path)
+    (path-rule rows c.walk.path.items c.walk.at (Some c.in-Known.t) row_inside
+    (known-followed rows c.walk.at c.in-Known.t rule) c.walk.invariant.path)
 
 pub returns-in-Known-clause-marks : goal.returns-in-Known-clause-marks
 returns-in-Known-clause-marks c =
@@ -57,7 +58,8 @@ pub returns-clause-met : goal.returns-clause-met
 returns-clause-met c =
     let old = ap is_new (sym c.mark_at.ensures) ∙ sym c.is_new.ensures ∙ c.walk-test.false in
     c.met_by-met.ensures ∙ ap met_by c.mark_at-2.ensures
-    ∙ mark-followed c.args.rows.now c.walk.marks c.walk.path.items c.walk.at old c.walk.invariant.marks c.walk.invariant.path ∙ sym c.walk.invariant.same_type
+    ∙ mark-followed c.args.rows.now c.walk.marks c.walk.path.items c.walk.at old c.walk.invariant.marks
+    c.walk.invariant.path ∙ sym c.walk.invariant.same_type
 
 pub returns-clause-path : goal.returns-clause-path
 returns-clause-path c =

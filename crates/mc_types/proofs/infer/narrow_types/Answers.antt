@@ -10,4 +10,5 @@ returns-in-Some-clause-refused c =
 
 pub returns-in-None-clause-types : goal.returns-in-None-clause-types
 returns-in-None-clause-types c =
-    types-accepted c.args.rows.now c.in_ok-types.types.items c.in_ok-refused.field-0 c.in_ok-types.ensures c.requires.accepted c.in-None.is (search rules)
+    types-accepted c.args.rows.now c.in_ok-types.types.items c.in_ok-refused.field-0 c.in_ok-types.ensures
+    c.requires.accepted c.in-None.is (search rules)

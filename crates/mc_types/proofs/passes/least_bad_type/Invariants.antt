@@ -8,4 +8,5 @@ abbrev pub invariant-loop-b : goal.invariant-loop-b
 invariant-loop-b l =
     let rows = l.rows in
     let found = (λ (b : ℕ). least_line (type_faults rows b)) in
-    earlier_of (as_plain l.least) (least_in found (range_with_len l.b (length rows - l.b))) ≡ least_in found (range_with_len 0 (length rows))
+    earlier_of (as_plain l.least) (least_in found (range_with_len l.b (length rows - l.b)))
+    ≡ least_in found (range_with_len 0 (length rows))

@@ -9,4 +9,5 @@ abbrev pub invariant-loop-b : goal.invariant-loop-b
 invariant-loop-b l =
     let rows = l.rows in
     let found = (found_where (has_signed_trigger rows) (λ e. TriggerSigned (line_at rows e))) in
-    earlier_of (as_plain l.least) (least_in found (range_with_len l.b (length rows - l.b))) ≡ least_in found (range_with_len 0 (length rows))
+    earlier_of (as_plain l.least) (least_in found (range_with_len l.b (length rows - l.b)))
+    ≡ least_in found (range_with_len 0 (length rows))

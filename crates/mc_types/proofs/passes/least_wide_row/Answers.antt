@@ -14,7 +14,8 @@ loop-b-preserved c =
     let rows = c.args.rows.now in
     let types = c.args.types.now in
     let found = (found_where (λ b. nat_lt 62 (bits_of_row rows types b)) (λ b. TooWide (line_at rows b) (bits_of_row rows types b))) in
-    least-more found (length rows) c.loop-b.b (as_plain c.loop-b.least) (as_plain c.earlier-least.result) (least_in found (range_with_len 0 (length rows)))
+    least-more found (length rows) c.loop-b.b (as_plain c.loop-b.least) (as_plain c.earlier-least.result)
+    (least_in found (range_with_len 0 (length rows)))
     c.loop-b-test.true (c.earlier-least.ensures ∙ ap (earlier_of (as_plain c.loop-b.least)) c.in_ok-wide_fault.ensures) c.loop-b.invariant
 
 pub returns : goal.returns
@@ -22,5 +23,6 @@ returns c =
     let rows = c.args.rows.now in
     let types = c.args.types.now in
     let found = (found_where (λ b. nat_lt 62 (bits_of_row rows types b)) (λ b. TooWide (line_at rows b) (bits_of_row rows types b))) in
-    least-end found (length rows) c.loop-b.b (as_plain c.loop-b.least) (least_in found (range_with_len 0 (length rows))) c.loop-b-test.false c.loop-b.invariant
+    least-end found (length rows) c.loop-b.b (as_plain c.loop-b.least) (least_in found (range_with_len 0 (length rows)))
+    c.loop-b-test.false c.loop-b.invariant
     ∙ least-where (λ b. nat_lt 62 (bits_of_row rows types b)) (λ b. TooWide (line_at rows b) (bits_of_row rows types b)) (row_numbers rows)

@@ -11,4 +11,5 @@ invariant-loop-b l =
     let rows = l.rows in
     let types = l.types in
     let found = (found_where (λ b. nat_lt 62 (bits_of_row rows types b)) (λ b. TooWide (line_at rows b) (bits_of_row rows types b))) in
-    earlier_of (as_plain l.least) (least_in found (range_with_len l.b (length rows - l.b))) ≡ least_in found (range_with_len 0 (length rows))
+    earlier_of (as_plain l.least) (least_in found (range_with_len l.b (length rows - l.b)))
+    ≡ least_in found (range_with_len 0 (length rows))

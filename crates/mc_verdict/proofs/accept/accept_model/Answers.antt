@@ -13,8 +13,11 @@ use Rattle.mc_verdict.proofs.accept.accept_model.Goals as goal
 
 pub refusal_of_delays-requires : goal.refusal_of_delays-requires
 refusal_of_delays-requires c =
-    let rows : c.deref.result.now ≡ c.table.result.now.rows = c.deref.ensures.value ∙ ap (λ (t : RowTable). t.rows) c.behind-resolved.view_is in
-    subst (AllByRecursion IsRow) (sym rows) (subst (λ (t : RowTable). AllByRecursion IsRow t.rows) (sym c.table.ensures.table) c.table.ensures.diagram.table.each)
+    let rows : c.deref.result.now ≡ c.table.result.now.rows =
+    c.deref.ensures.value ∙ ap (λ (t : RowTable). t.rows) c.behind-resolved.view_is in
+    subst (AllByRecursion IsRow) (sym rows)
+    (subst (λ (t : RowTable). AllByRecursion IsRow t.rows)
+    (sym c.table.ensures.table) c.table.ensures.diagram.table.each)
 
 pub returns-in-Some-clause-refused : goal.returns-in-Some-clause-refused
 returns-in-Some-clause-refused c =
@@ -29,7 +32,8 @@ returns-in-Some-refusal_of_delays-clause-refused c =
     let d = diagram_of c.in_ok-resolved.resolved in
     let none : HasNoLoop (needs_of d) = subst (TellsLoopOf d) c.in_default.is c.in_ok-refusal.ensures in
     let rows : c.deref.result.now ≡ r.table.rows =
-    c.deref.ensures.value ∙ ap (λ (t : RowTable). t.rows) (c.behind-resolved.view_is ∙ c.table.ensures.table) ∙ ap (λ (r : ResolvedTree). r.tree.table.rows) c.resolved.view_is in
+    c.deref.ensures.value ∙ ap (λ (t : RowTable). t.rows) (c.behind-resolved.view_is ∙ c.table.ensures.table)
+    ∙ ap (λ (r : ResolvedTree). r.tree.table.rows) c.resolved.view_is in
     inr (inr (inr (inr (r, (c.in_ok-resolved.ensures.model, none), ap delay_refusal (sym rows) ∙ sym c.in-Some-refusal_of_delays.ensures))))
 
 pub returns-clause-accepted : goal.returns-clause-accepted
@@ -38,7 +42,8 @@ returns-clause-accepted c =
     let d = diagram_of c.in_ok-resolved.resolved in
     let none : HasNoLoop (needs_of d) = subst (TellsLoopOf d) c.in_default.is c.in_ok-refusal.ensures in
     let rows : c.deref.result.now ≡ r.table.rows =
-    c.deref.ensures.value ∙ ap (λ (t : RowTable). t.rows) (c.behind-resolved.view_is ∙ c.table.ensures.table) ∙ ap (λ (r : ResolvedTree). r.tree.table.rows) c.resolved.view_is in
+    c.deref.ensures.value ∙ ap (λ (t : RowTable). t.rows) (c.behind-resolved.view_is ∙ c.table.ensures.table)
+    ∙ ap (λ (r : ResolvedTree). r.tree.table.rows) c.resolved.view_is in
     record {
       model = c.in_ok-resolved.ensures.model;
       no_loop = none;

@@ -13,6 +13,9 @@ returns c =
     let serves = all_words texts c.requires in
     let parse = c.try_get_matches_from in
     record {
-      values = IfOk-weaker parse.result _ _ (λ m h. ap asked_in ((h (ap is_simple app_is)).1 ∙ ap (λ a. subcommand_of a texts) app_is) ∙ serves.1) parse.ensures.matches;
+      values =
+          IfOk-weaker parse.result _ _
+          (λ m h. ap asked_in ((h (ap is_simple app_is)).1 ∙ ap (λ a. subcommand_of a texts) app_is)
+          ∙ serves.1) parse.ensures.matches;
       memory = IfErr-weaker parse.result _ _ (λ e h. h (ap (λ a. takes a texts) app_is ∙ serves.0)) parse.ensures.passes;
     }

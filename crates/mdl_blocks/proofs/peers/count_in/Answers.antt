@@ -18,11 +18,13 @@ loop-item-preserved c =
       | then-is_block_of w ↦ (
         omega (arith, w.count-is, c.loop-item.invariant.0),
         ap (λ n. n + rest) w.count-is
-            ∙ count-more type items i item true count whole c.loop-item-test.true c.item-item.is (sym c.is_block_of.ensures ∙ w.if-is_block_of.true) c.loop-item.invariant.1,
+            ∙ count-more type items i item true count whole c.loop-item-test.true c.item-item.is
+            (sym c.is_block_of.ensures ∙ w.if-is_block_of.true) c.loop-item.invariant.1,
       )
       | else-is_block_of w ↦ (
         omega (arith, w.count-is, c.loop-item.invariant.0),
         ap (λ n. n + rest) w.count-is
-            ∙ count-more type items i item false count whole c.loop-item-test.true c.item-item.is (sym c.is_block_of.ensures ∙ w.if-is_block_of.false) c.loop-item.invariant.1,
+            ∙ count-more type items i item false count whole c.loop-item-test.true c.item-item.is
+            (sym c.is_block_of.ensures ∙ w.if-is_block_of.false) c.loop-item.invariant.1,
       )
     ]

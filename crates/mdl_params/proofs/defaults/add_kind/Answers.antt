@@ -7,7 +7,8 @@ use Rattle.mdl_params.proofs.defaults.add_kind.Goals as goal
 
 pub returns-then-contains_key : goal.returns-then-contains_key
 returns-then-contains_key c =
-    AddsKind-known c.args.kinds.now.entries c.bytes.result.now (items_of c.args.block.now.items.items) (sym c.in-Some.ensures ∙ ap Some (sym c.bytes.ensures))
+    AddsKind-known c.args.kinds.now.entries c.bytes.result.now (items_of c.args.block.now.items.items)
+    (sym c.in-Some.ensures ∙ ap Some (sym c.bytes.ensures))
     (sym c.contains_key.ensures ∙ c.if-contains_key.true)
 
 pub returns : goal.returns
@@ -19,5 +20,6 @@ returns c =
     let copied = c.in_ok-name.ensures.items ∙ c.bytes-2.ensures in
     let none = is_none (lookup (named key.items) entries)
     (ap (λ n. is_some (lookup (named n) entries)) (copied ∙ sym c.bytes.ensures) ∙ sym c.contains_key.ensures ∙ c.if-contains_key.false) in
-    AddsKind-new entries _ key texts (items_of c.args.block.now.items.items) (sym c.in-Some.ensures ∙ ap Some (sym copied)) c.in_ok-texts.ensures
+    AddsKind-new entries _ key texts (items_of c.args.block.now.items.items) (sym c.in-Some.ensures
+    ∙ ap Some (sym copied)) c.in_ok-texts.ensures
     (c.in_ok-insert.ensures.entries ∙ insert_entry-new same c.args.kinds.now key texts none)

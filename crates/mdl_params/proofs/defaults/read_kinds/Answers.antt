@@ -29,7 +29,8 @@ loop-item-preserved c = λ kind.
     elim c.match-item.branch [
       | in-Section+then-eq+in_ok-add_kind w ↦
           let block = w.in-Section.block in
-          let name = ap (λ n. bytes_eq n (codes "Block")) (sym w.bytes.ensures) ∙ ap (bytes_eq w.bytes.result.now) (sym w.as_slice.ensures) ∙ sym w.eq.ensures ∙ w.if-eq.true in
+          let name = ap (λ n. bytes_eq n (codes "Block")) (sym w.bytes.ensures)
+          ∙ ap (bytes_eq w.bytes.result.now) (sym w.as_slice.ensures) ∙ sym w.eq.ensures ∙ w.if-eq.true in
           let step = ap blocks_in (first ∙ ap (λ x. with_item x rest) w.in-Section.is ∙ section_in block rest)
           ∙ sections_named-yes (codes "Block") block.name block.line (items_of block.items.items) rest name in
           ap (λ m. with_rest kind (plain_kinds m.entries) (blocks_in rest)) w.kinds-is
@@ -38,7 +39,8 @@ loop-item-preserved c = λ kind.
           ∙ c.loop-item.invariant kind
       | in-Section+else-eq w ↦
           let block = w.in-Section.block in
-          let name = ap (λ n. bytes_eq n (codes "Block")) (sym w.bytes.ensures) ∙ ap (bytes_eq w.bytes.result.now) (sym w.as_slice.ensures) ∙ sym w.eq.ensures ∙ w.if-eq.false in
+          let name = ap (λ n. bytes_eq n (codes "Block")) (sym w.bytes.ensures)
+          ∙ ap (bytes_eq w.bytes.result.now) (sym w.as_slice.ensures) ∙ sym w.eq.ensures ∙ w.if-eq.false in
           let step = ap blocks_in (first ∙ ap (λ x. with_item x rest) w.in-Section.is ∙ section_in block rest)
           ∙ sections_named-no (codes "Block") block.name block.line (items_of block.items.items) rest name in
           ap (λ m. with_rest kind (plain_kinds m.entries) (blocks_in rest)) w.kinds-is

@@ -9,5 +9,6 @@ use Rattle.mdl_params.proofs.defaults.read_kinds.Given as goal
 
 abbrev pub invariant-loop-item : goal.invariant-loop-item
 invariant-loop-item l = (kind : List ℕ) →
-    option_or (beside kind (plain_kinds l.kinds.entries)) (beside kind (kinds_of (sections_named (codes "Block") (items_of (drop l.item-index l.item-items)))))
+    option_or (beside kind (plain_kinds l.kinds.entries))
+    (beside kind (kinds_of (sections_named (codes "Block") (items_of (drop l.item-index l.item-items)))))
     ≡ beside kind (kinds_of (sections_named (codes "Block") (items_of l.item-items)))

@@ -7,5 +7,7 @@ use Rattle.mdl_reader.proofs.builder.push_section.Goals as goal
 
 pub returns : goal.returns
 returns c =
-    let Grows : Items → Type 0 = λ items. OnOk c.push_item.result (section_tree c.push_item.new.section ≡ with_items (section_tree c.args.outer.now) items) in
+    let Grows : Items → Type 0 =
+    λ items. OnOk c.push_item.result (section_tree c.push_item.new.section
+    ≡ with_items (section_tree c.args.outer.now) items) in
     subst Grows (section_in c.args.section End) c.push_item.ensures

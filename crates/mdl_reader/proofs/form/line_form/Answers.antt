@@ -12,7 +12,8 @@ returns-in-len1-up c =
     let name = c.split_at.ensures.front ∙ ap (λ n. take n text) c.name_len.ensures.value in
     let behind = c.split_at.ensures.back ∙ ap (λ n. drop n text) c.name_len.ensures.value in
     let same = ap (λ n. named_form line n c.split_at.result.1.now) name ∙ ap (named_form line _) behind
-    ∙ sym (line_form-named line text (sym c.is_name_byte.ensures ∙ c.if-is_name_byte.true) (sym c.is_ascii_digit.ensures.value ∙ c.if-not-is_ascii_digit.true)) in
+    ∙ sym (line_form-named line text (sym c.is_name_byte.ensures ∙ c.if-is_name_byte.true)
+    (sym c.is_ascii_digit.ensures.value ∙ c.if-not-is_ascii_digit.true)) in
     let Reads : LineForm → Type 0 = λ form.
     Answers c.named_form.result (λ found. form_of line found ≡ form) (λ told kind. form ≡ Whole (Faulty told kind)) in
     subst Reads same c.named_form.ensures

@@ -10,5 +10,7 @@ abbrev pub invariant-loop-text : goal.invariant-loop-text
 invariant-loop-text l = record {
   number : l.line ≡ reported_number (length l.yielded);
   count : length l.yielded + length l.text-iterator ≡ length (lines l.fn.bytes);
-  read : outcome (reported_number (length (lines l.fn.bytes))) l.builder (statements_from (within_begun l.builder.begun) (length l.yielded + 1) l.text-iterator) ≡ text_outcome (lines l.fn.bytes);
+  read : outcome (reported_number (length (lines l.fn.bytes))) l.builder
+      (statements_from (within_begun l.builder.begun) (length l.yielded + 1) l.text-iterator)
+      ≡ text_outcome (lines l.fn.bytes);
 }

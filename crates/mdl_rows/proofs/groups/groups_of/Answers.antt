@@ -22,7 +22,9 @@ loop-block-preserved c =
     let at = ap seen c.block-item.is ∙ sym (get_or-map seen c.args.blocks.now i b (seen b) c.loop-block-test.true) in record {
       groups = groups-step blocks i (seen b) c.loop-block.groups c.take.new.self h at c.in_ok-take.ensures c.loop-block.invariant.groups;
       count = c.in_ok-take.ensures.count ∙ c.loop-block.invariant.count;
-      places = places-step blocks i (seen b) c.loop-block.groups c.take.new.self c.requires h at c.in_ok-take.ensures c.loop-block.invariant.groups
+      places =
+          places-step blocks i (seen b) c.loop-block.groups c.take.new.self c.requires h at c.in_ok-take.ensures
+          c.loop-block.invariant.groups
           c.loop-block.invariant.places;
     }
 

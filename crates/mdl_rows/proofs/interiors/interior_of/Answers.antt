@@ -18,7 +18,8 @@ overflow_cast-result c =
 pub returns : goal.returns
 returns c = record {
   inside =
-      let count = ap length c.as_slice.ensures.value ∙ sym (length-map c.in_ok-outports.outports.items port_seen) ∙ ap length c.in_ok-outports.ensures
+      let count = ap length c.as_slice.ensures.value ∙ sym (length-map c.in_ok-outports.outports.items port_seen)
+      ∙ ap length c.in_ok-outports.ensures
       ∙ outports-counted (all_seen c.args.own.now) in
       λ k. record {
         inports = c.inports_among.ensures k;
@@ -26,6 +27,7 @@ returns c = record {
         enable = (c.is_some.ensures ∙ ap is_some c.reset_among-reset.ensures) k;
         trigger = (c.is_some-2.ensures ∙ ap is_some c.edge_among-edge.ensures) k;
       };
-  control = c.control_by.ensures ∙ ap (λ reset. control_by reset c.edge_among-edge.result) c.reset_among-reset.ensures ∙ ap (control_by _) c.edge_among-edge.ensures;
+  control = c.control_by.ensures ∙ ap (λ reset. control_by reset c.edge_among-edge.result) c.reset_among-reset.ensures
+      ∙ ap (control_by _) c.edge_among-edge.ensures;
   outports = c.in_ok-outports.ensures;
 }

@@ -8,5 +8,7 @@ use Rattle.mdl_rows.proofs.interiors.interiors_of.Given as goal
 abbrev pub invariant-loop-block : goal.invariant-loop-block
 invariant-loop-block l =
     let blocks = all_seen l.fn.blocks in
-    (rest : List Interior) → AllZip (λ (b : Block). IsInteriorOf (blocks_of blocks (Some b.number))) (all_seen (drop l.block-index l.blocks)) rest →
+    (rest : List Interior) →
+    AllZip (λ (b : Block). IsInteriorOf (blocks_of blocks (Some b.number)))
+    (all_seen (drop l.block-index l.blocks)) rest →
     AreInteriorsOf blocks (l.interiors.items ++ rest)

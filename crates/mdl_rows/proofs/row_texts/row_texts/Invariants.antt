@@ -15,6 +15,7 @@ invariant-loop-block l =
     let blocks = (model_of l.fn.model).blocks in
     let left = all_seen (drop l.block-index l.model.blocks.items) in record {
       refusal : first_of (as_plain l.refusal) (first_in row_refusal left) ≡ first_in row_refusal blocks;
-      texts : as_plain l.refusal ≡ None → (rest : List RowText) → AllZip (λ (b : Block). IsRowText (control_of blocks b.number) b) left rest →
+      texts : as_plain l.refusal ≡ None → (rest : List RowText) →
+          AllZip (λ (b : Block). IsRowText (control_of blocks b.number) b) left rest →
           AllZip (λ (b : Block). IsRowText (control_of blocks b.number) b) blocks (l.texts.items ++ rest);
     }

@@ -15,7 +15,8 @@ bounds-texts-at c =
     let blocks = all_seen c.args.model.now.blocks.items in
     subst (λ n. c.loop-at.at < n)
     (ap length c.as_slice-block-items.ensures.value
-    ∙ sym (paired-long (λ (b : Block). IsRowText (control_of blocks b.number) b) seen c.args.model.now.blocks.items c.args.texts.now c.requires.texts))
+    ∙ sym (paired-long (λ (b : Block). IsRowText (control_of blocks b.number) b) seen c.args.model.now.blocks.items
+    c.args.texts.now c.requires.texts))
     c.loop-at-test.true
 
 pub row_of-requires-clause-among : goal.row_of-requires-clause-among
@@ -23,7 +24,8 @@ row_of-requires-clause-among c =
     let same = c.as_slice-block-items.ensures.value in
     let i = c.loop-at.at in
     let b = c.block-item.result in
-    item-among c.args.model.now.blocks.items i b c.requires.model.blocks.numbers (subst (λ (bs : List NumberedBlock). i < length bs) same c.loop-at-test.true)
+    item-among c.args.model.now.blocks.items i b c.requires.model.blocks.numbers
+    (subst (λ (bs : List NumberedBlock). i < length bs) same c.loop-at-test.true)
     (c.block-item.is ∙ ap (λ bs. slice_index_or bs i b) same)
 
 pub row_of-requires-clause-text : goal.row_of-requires-clause-text
@@ -56,4 +58,5 @@ pub returns : goal.returns
 returns c =
     let m = model_of c.args.model.now in
     zip-end (IsRowOf m) seen c.args.model.now.blocks.items c.loop-at.at c.loop-at.rows.items m.blocks
-    (subst (λ (bs : List NumberedBlock). length bs ≤ c.loop-at.at) c.as_slice-block-items.ensures.value c.loop-at-test.false) c.loop-at.invariant
+    (subst (λ (bs : List NumberedBlock). length bs ≤ c.loop-at.at) c.as_slice-block-items.ensures.value
+    c.loop-at-test.false) c.loop-at.invariant

@@ -12,9 +12,11 @@ pub returns-then-has_system : goal.returns-then-has_system
 returns-then-has_system c =
     let b = seen c.args.block.now in
     c.outport.ensures
-    ∙ with-system (all_seen c.args.model.now.blocks.items) b (system_in (kind_of b)) c.args.output (sym c.has_system.ensures ∙ c.if-has_system.true)
+    ∙ with-system (all_seen c.args.model.now.blocks.items) b (system_in (kind_of b)) c.args.output
+    (sym c.has_system.ensures ∙ c.if-has_system.true)
 
 pub returns-else-has_system : goal.returns-else-has_system
 returns-else-has_system c =
     let b = seen c.args.block.now in
-    without-system (all_seen c.args.model.now.blocks.items) b (system_in (kind_of b)) c.args.output (sym c.has_system.ensures ∙ c.if-has_system.false)
+    without-system (all_seen c.args.model.now.blocks.items) b (system_in (kind_of b)) c.args.output
+    (sym c.has_system.ensures ∙ c.if-has_system.false)

@@ -12,7 +12,8 @@ of-requires c = group-there c.args.model.now c.args.owner c.requires.model c.req
 pub returns-clause-block : goal.returns-clause-block
 returns-clause-block c =
     found-at c.of.result.now c.args.member c.get.result c.get.ensures.lookup.0 c.get.ensures.lookup.1
-    ∙ ap (λ bs. slice_get bs c.args.member) (ap all_seen c.of.ensures ∙ group-is c.args.model.now c.args.owner c.requires.model c.requires.owner)
+    ∙ ap (λ bs. slice_get bs c.args.member) (ap all_seen c.of.ensures
+    ∙ group-is c.args.model.now c.args.owner c.requires.model c.requires.owner)
 
 pub returns-clause-among : goal.returns-clause-among
 returns-clause-among c =

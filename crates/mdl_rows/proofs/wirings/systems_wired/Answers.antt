@@ -46,23 +46,31 @@ loop-block-preserved c =
       root = c.loop-block.invariant.root;
       refusal =
           first-at (inner_refusal m) seen blocks i b (as_plain c.loop-block.least) (as_plain c.first_refusal-least.result) _ h
-          (c.first_refusal-least.ensures ∙ ap (first_of (as_plain c.loop-block.least)) (found.refusal ∙ ap (λ x. inner_refusal m (seen x)) at))
+          (c.first_refusal-least.ensures
+          ∙ ap (first_of (as_plain c.loop-block.least)) (found.refusal ∙ ap (λ x. inner_refusal m (seen x)) at))
           c.loop-block.invariant.refusal;
       inner =
           zip-at (IsInnerWired m) seen blocks i b c.loop-block.inner.items c.push.new.self.items c.in_ok-refusal-2.field-0.wiring m.blocks h
-          (subst (λ x. IsInnerWired m (seen x) c.in_ok-refusal-2.field-0.wiring) at found.wiring) c.in_ok-push.ensures.items c.loop-block.invariant.inner;
+          (subst (λ x. IsInnerWired m (seen x) c.in_ok-refusal-2.field-0.wiring) at found.wiring)
+          c.in_ok-push.ensures.items c.loop-block.invariant.inner;
     }
 
 pub returns-clause-refusal : goal.returns-clause-refusal
 returns-clause-refusal c =
     let m = model_of c.args.model.now in
-    let end = subst (λ (bs : List NumberedBlock). length bs ≤ c.loop-block.block-index) c.as_slice-block-items.ensures.value c.loop-block-test.false in
-    first-end (inner_refusal m) seen c.args.model.now.blocks.items c.loop-block.block-index (as_plain c.loop-block.least) _ end c.loop-block.invariant.refusal
+    let end =
+    subst (λ (bs : List NumberedBlock). length bs ≤ c.loop-block.block-index) c.as_slice-block-items.ensures.value
+    c.loop-block-test.false in
+    first-end (inner_refusal m) seen c.args.model.now.blocks.items c.loop-block.block-index
+    (as_plain c.loop-block.least) _ end c.loop-block.invariant.refusal
 
 pub returns-clause-wirings : goal.returns-clause-wirings
 returns-clause-wirings c =
     let m = model_of c.args.model.now in
-    let end = subst (λ (bs : List NumberedBlock). length bs ≤ c.loop-block.block-index) c.as_slice-block-items.ensures.value c.loop-block-test.false in record {
+    let end =
+    subst (λ (bs : List NumberedBlock). length bs ≤ c.loop-block.block-index) c.as_slice-block-items.ensures.value
+    c.loop-block-test.false in record {
       root = c.loop-block.invariant.root;
-      inner = zip-end (IsInnerWired m) seen c.args.model.now.blocks.items c.loop-block.block-index c.loop-block.inner.items m.blocks end c.loop-block.invariant.inner;
+      inner = zip-end (IsInnerWired m) seen c.args.model.now.blocks.items c.loop-block.block-index
+          c.loop-block.inner.items m.blocks end c.loop-block.invariant.inner;
     }

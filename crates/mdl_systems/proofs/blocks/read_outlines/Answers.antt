@@ -26,14 +26,23 @@ loop-outline-preserved c =
           let is : read d (seen o) ≡ Ok (block_text w.in-Ok.block) = sym c.read_block.ensures ∙ ap plain w.in-Ok.is in
           record {
             unread = least-at (unread d) seen outlines i o (as_plain old.unread) (as_plain new.unread) _ h
-                (ap (λ f. as_plain f.unread) w.faults-is ∙ none-read o.section.now.line unread_at (block_text w.in-Ok.block) (read d (seen o)) (as_plain old.unread) is refl
+                (ap (λ f. as_plain f.unread) w.faults-is
+                ∙ none-read o.section.now.line unread_at (block_text w.in-Ok.block) (read d (seen o))
+                (as_plain old.unread) is refl
                 ∙ ap (λ x. earlier_of (as_plain old.unread) (unread d (seen x))) c.outline-item.is) c.loop-outline.invariant.unread;
             misformed = least-at (misformed d) seen outlines i o (as_plain old.misformed) (as_plain new.misformed) _ h
-                (ap (λ f. as_plain f.misformed) w.faults-is ∙ none-read o.section.now.line misformed_at (block_text w.in-Ok.block) (read d (seen o)) (as_plain old.misformed) is refl
-                ∙ ap (λ x. earlier_of (as_plain old.misformed) (misformed d (seen x))) c.outline-item.is) c.loop-outline.invariant.misformed;
-            blocks = λ none. read-more d outlines i o c.loop-outline.blocks.items c.match-read_block.blocks.items (record { owner = o.owner; block = w.in-Ok.block }) h c.outline-item.is
+                (ap (λ f. as_plain f.misformed) w.faults-is
+                ∙ none-read o.section.now.line misformed_at (block_text w.in-Ok.block) (read d (seen o))
+                (as_plain old.misformed) is refl
+                ∙ ap (λ x. earlier_of (as_plain old.misformed) (misformed d (seen x))) c.outline-item.is)
+                c.loop-outline.invariant.misformed;
+            blocks = λ none. read-more d outlines i o c.loop-outline.blocks.items c.match-read_block.blocks.items
+                (record { owner = o.owner; block = w.in-Ok.block }) h c.outline-item.is
                 (record { owner = refl; block = is }) (ap (λ v. v.items) w.blocks-is ∙ w.in_ok-push-in-Ok.ensures.items)
-                (c.loop-outline.invariant.blocks (sym (ap (λ f. as_plain f.unread) w.faults-is) ∙ none.0, sym (ap (λ f. as_plain f.misformed) w.faults-is) ∙ none.1));
+                (c.loop-outline.invariant.blocks (
+                  sym (ap (λ f. as_plain f.unread) w.faults-is) ∙ none.0,
+                  sym (ap (λ f. as_plain f.misformed) w.faults-is) ∙ none.1,
+                ));
           }
       | in-Err w ↦
           let is : read d (seen o) ≡ Err w.in-Err.fault = sym c.read_block.ensures ∙ ap plain w.in-Err.is in
@@ -47,8 +56,12 @@ loop-outline-preserved c =
                 ∙ ap (λ x. earlier_of (as_plain old.unread) (unread d (seen x))) c.outline-item.is) c.loop-outline.invariant.unread;
             misformed = least-at (misformed d) seen outlines i o (as_plain old.misformed) (as_plain new.misformed) _ h
                 (m ∙ ap (λ r. earlier_of (as_plain old.misformed) (misformed_at o.section.now.line r)) (sym is)
-                ∙ ap (λ x. earlier_of (as_plain old.misformed) (misformed d (seen x))) c.outline-item.is) c.loop-outline.invariant.misformed;
-            blocks = λ none. absurd (some-told o.section.now.line w.in-Err.fault (as_plain old.unread) (as_plain old.misformed) (sym u ∙ none.0) (sym m ∙ none.1));
+                ∙ ap (λ x. earlier_of (as_plain old.misformed) (misformed d (seen x))) c.outline-item.is)
+                c.loop-outline.invariant.misformed;
+            blocks =
+                λ none. absurd
+                (some-told o.section.now.line w.in-Err.fault (as_plain old.unread) (as_plain old.misformed) (sym u
+                ∙ none.0) (sym m ∙ none.1));
           }
     ]
 

@@ -6,4 +6,5 @@ use Rattle.mdl_systems.proofs.file.least_library.Given as goal
 
 abbrev pub invariant-loop-library : goal.invariant-loop-library
 invariant-loop-library l =
-    earlier_of (as_plain l.least) (least_in library (trees_of (drop l.library-index l.libraries))) ≡ least_in library (trees_of l.fn.libraries)
+    earlier_of (as_plain l.least) (least_in library (trees_of (drop l.library-index l.libraries)))
+    ≡ least_in library (trees_of l.fn.libraries)

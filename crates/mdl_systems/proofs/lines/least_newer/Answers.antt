@@ -11,11 +11,15 @@ use Rattle.mdl_systems.proofs.lines.least_newer.Goals as goal
 pub loop-block-preserved : goal.loop-block-preserved
 loop-block-preserved c =
     let before = as_plain c.loop-block.least in
-    least-at (λ b. least_in newer (systems_inside b)) seen c.args.blocks.now c.loop-block.block-index c.block-item.result before (as_plain c.earlier-least.result) _ c.loop-block-test.true
-    (c.earlier-least.ensures ∙ ap (earlier_of before) c.newer_inside.ensures ∙ ap (λ b. earlier_of before (least_in newer (systems_inside (seen b)))) c.block-item.is) c.loop-block.invariant
+    least-at (λ b. least_in newer (systems_inside b)) seen c.args.blocks.now c.loop-block.block-index
+    c.block-item.result before (as_plain c.earlier-least.result) _ c.loop-block-test.true
+    (c.earlier-least.ensures ∙ ap (earlier_of before) c.newer_inside.ensures
+    ∙ ap (λ b. earlier_of before (least_in newer (systems_inside (seen b)))) c.block-item.is) c.loop-block.invariant
 
 pub returns : goal.returns
 returns c =
     let root = newer (root_system (section_tree c.args.system.now)) in
-    least-end (λ b. least_in newer (systems_inside b)) seen c.args.blocks.now c.loop-block.block-index (as_plain c.loop-block.least) _ c.loop-block-test.false c.loop-block.invariant
-    ∙ ap (earlier_of root) (least-inside newer systems_inside (all_seen c.args.blocks.now) ∙ ap (λ bs. least_in newer (flat_map systems_inside bs)) c.requires)
+    least-end (λ b. least_in newer (systems_inside b)) seen c.args.blocks.now c.loop-block.block-index
+    (as_plain c.loop-block.least) _ c.loop-block-test.false c.loop-block.invariant
+    ∙ ap (earlier_of root) (least-inside newer systems_inside (all_seen c.args.blocks.now)
+    ∙ ap (λ bs. least_in newer (flat_map systems_inside bs)) c.requires)

@@ -27,8 +27,10 @@ take_system-loop-item-preserved t c =
       | take_system-in-Section+then-eq+in_ok-push+in_ok-child+in_ok-push_if_there w ↦
           let block = w.in-Section.section in
           let news = w.take_block.new.blocks.items in
-          let named = ap (λ n. bytes_eq n (codes "Block")) (sym w.bytes.ensures) ∙ ap (bytes_eq w.bytes.result.now) (sym w.as_slice.ensures) ∙ sym w.eq.ensures ∙ w.if-eq.true in
-          let all = w.in_ok-child.ensures.blocks ∙ ap (λ p. all_seen olds ++ taken (length olds) row depth p (section_tree block)) c.of-peers.ensures in
+          let named = ap (λ n. bytes_eq n (codes "Block")) (sym w.bytes.ensures)
+          ∙ ap (bytes_eq w.bytes.result.now) (sym w.as_slice.ensures) ∙ sym w.eq.ensures ∙ w.if-eq.true in
+          let all = w.in_ok-child.ensures.blocks
+          ∙ ap (λ p. all_seen olds ++ taken (length olds) row depth p (section_tree block)) c.of-peers.ensures in
           let count = length-news olds news (taken (length olds) row depth peers (section_tree block)) all in
           let split = sym (first ∙ ap (λ x. with_item x rest) w.in-Section.is ∙ section_in block rest) in
           record {
@@ -38,20 +40,23 @@ take_system-loop-item-preserved t c =
                 ∙ ap (λ x. all_seen olds ++ outlines_in (length olds) row depth peers x) split
                 ∙ c.loop-item.invariant.blocks;
             own = ap₂ (λ xs v. xs.items ++ own_in (length v.items) depth rest) w.own-is w.blocks-is
-                ∙ ap (λ xs. xs ++ own_in (length news) depth rest) (w.in_ok-push.ensures.items ∙ ap (λ n. own ++ n ∷ []) (let counted : w.len.result ≡ length olds = search rules in counted))
+                ∙ ap (λ xs. xs ++ own_in (length news) depth rest) (w.in_ok-push.ensures.items
+                ∙ ap (λ n. own ++ n ∷ []) (let counted : w.len.result ≡ length olds = search rules in counted))
                 ∙ more-own own olds news row depth peers (section_tree block) rest named all
                 ∙ ap (λ x. own ++ own_in (length olds) depth x) split
                 ∙ c.loop-item.invariant.own;
             children = ap₂ (λ xs v. map system_of xs.items ++ children_in (length v.items) depth rest) w.children-is w.blocks-is
                 ∙ ap (λ xs. map system_of xs ++ children_in (length news) depth rest) w.in_ok-push_if_there.ensures
-                ∙ more-children children w.in_ok-child.child olds news row depth peers (section_tree block) rest named all w.in_ok-child.ensures.system
+                ∙ more-children children w.in_ok-child.child olds news row depth peers
+                (section_tree block) rest named all w.in_ok-child.ensures.system
                 ∙ ap (λ x. map system_of children ++ children_in (length olds) depth x) split
                 ∙ c.loop-item.invariant.children;
           }
       | take_system-in-Section+else-eq w ↦
           let block = w.in-Section.section in
           let inner = items_of block.items.items in
-          let named = ap (λ n. bytes_eq n (codes "Block")) (sym w.bytes.ensures) ∙ ap (bytes_eq w.bytes.result.now) (sym w.as_slice.ensures) ∙ sym w.eq.ensures ∙ w.if-eq.false in
+          let named = ap (λ n. bytes_eq n (codes "Block")) (sym w.bytes.ensures)
+          ∙ ap (bytes_eq w.bytes.result.now) (sym w.as_slice.ensures) ∙ sym w.eq.ensures ∙ w.if-eq.false in
           let split = first ∙ ap (λ x. with_item x rest) w.in-Section.is ∙ section_in block rest in
           record {
             depth = subst (λ v. depth ≤ length v.items) (sym w.blocks-is) c.loop-item.invariant.depth;
@@ -60,11 +65,14 @@ take_system-loop-item-preserved t c =
                 ∙ outlines-other (length olds) row depth peers block.name block.line inner rest named))
                 ∙ c.loop-item.invariant.blocks;
             own = ap₂ (λ xs v. xs.items ++ own_in (length v.items) depth rest) w.own-is w.blocks-is
-                ∙ ap (λ xs. own ++ xs) (sym (ap (own_in (length olds) depth) split ∙ own-other (length olds) depth block.name block.line inner rest named))
+                ∙ ap (λ xs. own ++ xs)
+                (sym (ap (own_in (length olds) depth) split
+                ∙ own-other (length olds) depth block.name block.line inner rest named))
                 ∙ c.loop-item.invariant.own;
             children = ap₂ (λ xs v. map system_of xs.items ++ children_in (length v.items) depth rest) w.children-is w.blocks-is
                 ∙ ap (λ xs. map system_of children ++ xs)
-                (sym (ap (children_in (length olds) depth) split ∙ children-other (length olds) depth block.name block.line inner rest named))
+                (sym (ap (children_in (length olds) depth) split
+                ∙ children-other (length olds) depth block.name block.line inner rest named))
                 ∙ c.loop-item.invariant.children;
           }
       | take_system-in_default w ↦
@@ -94,7 +102,8 @@ take_inside-returns-then-eq-clause-blocks t c =
     let system = c.in-Section.system in
     let inner = items_of system.items.items in
     let first = items_from items i c.item-item.result c.loop-item-test.true c.item-item.is in
-    let named = ap (λ n. bytes_eq n (codes "System")) (sym c.bytes.ensures) ∙ ap (bytes_eq c.bytes.result.now) (sym c.as_slice.ensures) ∙ sym c.eq.ensures ∙ c.if-eq.true in
+    let named = ap (λ n. bytes_eq n (codes "System")) (sym c.bytes.ensures)
+    ∙ ap (bytes_eq c.bytes.result.now) (sym c.as_slice.ensures) ∙ sym c.eq.ensures ∙ c.if-eq.true in
     c.in_ok-inside.ensures.blocks
     ∙ ap (λ v. all_seen v.items ++ outlines_in (length v.items) (Some number) depth (peers_in inner) inner) c.loop-item.invariant.same
     ∙ ap (λ n. all_seen olds ++ outlines_in n (Some number) depth (peers_in inner) inner) c.requires.last
@@ -112,9 +121,11 @@ take_inside-returns-then-eq-clause-system t c =
     let depth = c.args.depth in
     let system = c.in-Section.system in
     let first = items_from items i c.item-item.result c.loop-item-test.true c.item-item.is in
-    let named = ap (λ n. bytes_eq n (codes "System")) (sym c.bytes.ensures) ∙ ap (bytes_eq c.bytes.result.now) (sym c.as_slice.ensures) ∙ sym c.eq.ensures ∙ c.if-eq.true in
+    let named = ap (λ n. bytes_eq n (codes "System")) (sym c.bytes.ensures)
+    ∙ ap (bytes_eq c.bytes.result.now) (sym c.as_slice.ensures) ∙ sym c.eq.ensures ∙ c.if-eq.true in
     ap Some (c.in_ok-inside.ensures.system
-    ∙ ap (λ n. tree_of_system (Some number) line depth n (section_tree system)) (ap (λ v. length v.items) c.loop-item.invariant.same ∙ c.requires.last))
+    ∙ ap (λ n. tree_of_system (Some number) line depth n (section_tree system))
+    (ap (λ v. length v.items) c.loop-item.invariant.same ∙ c.requires.last))
     ∙ sym (held-system number line depth (section_tree system) rest named)
     ∙ ap (system_inside number line depth) (sym (first ∙ ap (λ x. with_item x rest) c.in-Section.is ∙ section_in system rest))
     ∙ c.loop-item.invariant.system

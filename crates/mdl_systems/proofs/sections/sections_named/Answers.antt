@@ -24,9 +24,11 @@ loop-item-preserved c =
       | in-Some+in_ok-push w ↦
           ap (λ v. trees_of v.items ++ rest) w.sections-is ∙ ap (λ xs. trees_of xs ++ rest) w.in_ok-push.ensures.items
           ∙ named-push olds w.in-Some.inside here rest now whole
-          (ap (λ o. option_to_list (option_map (λ r. section_tree r.now) o)) (sym w.in-Some.is) ∙ c.named_in.ensures) split c.loop-item.invariant
+          (ap (λ o. option_to_list (option_map (λ r. section_tree r.now) o)) (sym w.in-Some.is)
+          ∙ c.named_in.ensures) split c.loop-item.invariant
       | in_default w ↦
           ap (λ v. trees_of v.items ++ rest) w.sections-is
           ∙ named-pass olds here rest now whole
-          (ap (λ o. option_to_list (option_map (λ r. section_tree r.now) o)) (sym w.in_default.is) ∙ c.named_in.ensures) split c.loop-item.invariant
+          (ap (λ o. option_to_list (option_map (λ r. section_tree r.now) o)) (sym w.in_default.is)
+          ∙ c.named_in.ensures) split c.loop-item.invariant
     ]

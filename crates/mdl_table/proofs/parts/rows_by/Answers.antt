@@ -9,7 +9,8 @@ use Rattle.mdl_table.proofs.parts.rows_by.Goals as goal
 
 pub rows_of-requires-clause-blocks : goal.rows_of-requires-clause-blocks
 rows_of-requires-clause-blocks c =
-    are-blocks c.outlines_are_numbered.ensures c.owners_are_before.ensures c.args.defaults.now (section_tree c.args.system.now) c.args.blocks.now c.requires.blocks
+    are-blocks c.outlines_are_numbered.ensures c.owners_are_before.ensures c.args.defaults.now
+    (section_tree c.args.system.now) c.args.blocks.now c.requires.blocks
 
 pub rows_of-requires-clause-at_most : goal.rows_of-requires-clause-at_most
 rows_of-requires-clause-at_most c =

@@ -13,11 +13,13 @@ value_in_item-returns-in-Section t c =
 pub value_inside-returns-in-Some : goal.value_inside-returns-in-Some
 value_inside-returns-in-Some t c =
     found-here _ _ _ _ _ (ap option_copied (sym c.in-Some.is) ∙ c.value_in_item.ensures)
-    (any_depth-from c.args.name.now c.as_slice-item-items.result.now c.loop-item.item-index c.item-item.result c.loop-item-test.true c.item-item.is)
+    (any_depth-from c.args.name.now c.as_slice-item-items.result.now c.loop-item.item-index c.item-item.result
+    c.loop-item-test.true c.item-item.is)
     c.loop-item.invariant
 
 pub value_inside-loop-item-preserved : goal.value_inside-loop-item-preserved
 value_inside-loop-item-preserved t c =
     found-later _ _ _ _ (ap option_copied (sym c.in_default.is) ∙ c.value_in_item.ensures)
-    (any_depth-from c.args.name.now c.as_slice-item-items.result.now c.loop-item.item-index c.item-item.result c.loop-item-test.true c.item-item.is)
+    (any_depth-from c.args.name.now c.as_slice-item-items.result.now c.loop-item.item-index c.item-item.result
+    c.loop-item-test.true c.item-item.is)
     c.loop-item.invariant

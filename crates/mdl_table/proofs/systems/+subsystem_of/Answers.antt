@@ -14,13 +14,16 @@ pub loop-child-preserved : goal.loop-child-preserved
 loop-child-preserved t c = (
   c.loop-child.invariant.0,
   more-made c.args.rows.now c.loop-child.children.items c.push.new.self.items c.as_slice-child-items.result.now c.loop-child.child-index
-      c.child-item.result c.in_ok-subsystem_of.field-0 _ c.loop-child-test.true c.child-item.is c.in_ok-subsystem_of.ensures c.in_ok-push.ensures.items
+      c.child-item.result c.in_ok-subsystem_of.field-0 _ c.loop-child-test.true c.child-item.is
+      c.in_ok-subsystem_of.ensures c.in_ok-push.ensures.items
       c.loop-child.invariant.1,
 )
 
 pub returns : goal.returns
 returns t c =
     let past = c.loop-child-test.false in
-    made c.args.rows.now c.args.system.now _ c.narrow.ensures refl c.control_of.ensures (c.in_ok-wires_of.ensures ∙ c.as_slice.ensures.value)
-    (all-made c.args.rows.now c.loop-child.children.items c.as_slice-child-items.result.now c.loop-child.child-index _ (omega (arith, past)) c.loop-child.invariant.1
+    made c.args.rows.now c.args.system.now _ c.narrow.ensures refl c.control_of.ensures (c.in_ok-wires_of.ensures
+    ∙ c.as_slice.ensures.value)
+    (all-made c.args.rows.now c.loop-child.children.items c.as_slice-child-items.result.now c.loop-child.child-index _
+    (omega (arith, past)) c.loop-child.invariant.1
     ∙ ap (map (nested_of c.args.rows.now)) c.as_slice-child-items.ensures.value)

@@ -9,4 +9,6 @@ returns-clause-found c =
     λ before are.
     let m = member_seen c.args.member.now in
     let ports = c.args.ports.now in
-    c.double_found.ensures ∙ ap (double_found m) (c.in_ok-is_double.ensures.before ∙ ap (is_taken ports) c.port_on.ensures ∙ port-among c.args.side m before ports are)
+    c.double_found.ensures
+    ∙ ap (double_found m) (c.in_ok-is_double.ensures.before ∙ ap (is_taken ports) c.port_on.ensures
+    ∙ port-among c.args.side m before ports are)

@@ -12,9 +12,13 @@ loop-member-preserved c =
     let ms = c.args.members.now in
     let i = c.loop-member.member-index in
     record {
-      ports = ports-next side ms i _ c.loop-member.ports c.double_port.new.ports c.loop-member-test.true c.loop-member.invariant.ports c.in_ok-double_port.ensures.taken;
+      ports = ports-next side ms i _ c.loop-member.ports c.double_port.new.ports c.loop-member-test.true
+          c.loop-member.invariant.ports c.in_ok-double_port.ensures.taken;
       least =
-          from-at (double (same_port side) (members_seen ms)) member_seen ms i _ (as_plain c.loop-member.least) (as_plain c.earlier-least.result) _
-          c.loop-member-test.true (c.earlier-least.ensures ∙ ap (earlier_of (as_plain c.loop-member.least)) (c.in_ok-double_port.ensures.found (take i (members_seen ms)) c.loop-member.invariant.ports))
+          from-at (double (same_port side) (members_seen ms)) member_seen ms i _ (as_plain c.loop-member.least)
+          (as_plain c.earlier-least.result) _
+          c.loop-member-test.true (c.earlier-least.ensures
+          ∙ ap (earlier_of (as_plain c.loop-member.least))
+          (c.in_ok-double_port.ensures.found (take i (members_seen ms)) c.loop-member.invariant.ports))
           c.loop-member.invariant.least;
     }

@@ -9,6 +9,8 @@ abbrev pub invariant-loop-member : goal.invariant-loop-member
 invariant-loop-member l = record {
   ports : ArePortsOf l.fn.side (take l.member-index (members_seen l.members)) l.ports;
   least :
-      earlier_of (as_plain l.least) (least_from (double (same_port l.fn.side) (members_seen l.fn.members)) l.member-index (members_seen (drop l.member-index l.members)))
+      earlier_of (as_plain l.least)
+      (least_from (double (same_port l.fn.side) (members_seen l.fn.members)) l.member-index
+      (members_seen (drop l.member-index l.members)))
       ≡ first_double (same_port l.fn.side) (members_seen l.fn.members);
 }

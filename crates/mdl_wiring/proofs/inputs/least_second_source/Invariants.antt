@@ -6,4 +6,5 @@ use Rattle.mdl_wiring.proofs.inputs.least_second_source.Given as goal
 
 abbrev pub invariant-loop-at : goal.invariant-loop-at
 invariant-loop-at l =
-    earlier_of (as_plain l.least) (least_from (second_source (ends_seen l.fn.ends)) l.at (ends_seen (drop l.at l.ends))) ≡ double_sources (ends_seen l.fn.ends)
+    earlier_of (as_plain l.least) (least_from (second_source (ends_seen l.fn.ends)) l.at (ends_seen (drop l.at l.ends)))
+    ≡ double_sources (ends_seen l.fn.ends)

@@ -9,4 +9,5 @@ use Rattle.mdl_wiring.proofs.loose.least_unconnected.Given as goal
 abbrev pub invariant-loop-at : goal.invariant-loop-at
 invariant-loop-at l =
     (ends : List LineEnd) → AreInputsOf ends l.fn.inputs →
-    earlier_of (as_plain l.least) (least_from (unconnected ends) l.at (members_seen (drop l.at l.members))) ≡ unconnected_ports ends (members_seen l.fn.members)
+    earlier_of (as_plain l.least) (least_from (unconnected ends) l.at (members_seen (drop l.at l.members)))
+    ≡ unconnected_ports ends (members_seen l.fn.members)

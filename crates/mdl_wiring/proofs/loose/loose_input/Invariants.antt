@@ -10,4 +10,5 @@ use Rattle.mdl_wiring.proofs.loose.loose_input.Given as goal
 abbrev pub invariant-loop-index : goal.invariant-loop-index
 invariant-loop-index l =
     (ends : List LineEnd) → AreInputsOf ends l.fn.inputs →
-    find (is_loose ends l.fn.at) (range_with_len (l.index + 1) (l.index-end - l.index)) ≡ find (is_loose ends l.fn.at) (numbers_of (member_seen l.fn.member))
+    find (is_loose ends l.fn.at) (range_with_len (l.index + 1) (l.index-end - l.index))
+    ≡ find (is_loose ends l.fn.at) (numbers_of (member_seen l.fn.member))

@@ -7,5 +7,7 @@ use Rattle.mdl_wiring.proofs.missing.least_source_without_block.Goals as goal
 
 pub loop-source-preserved : goal.loop-source-preserved
 loop-source-preserved c =
-    least-at no_block place_seen c.args.sources.now c.loop-source.source-index _ (as_plain c.loop-source.least) (as_plain c.earlier-least.result) _
-    c.loop-source-test.true (c.earlier-least.ensures ∙ ap (earlier_of (as_plain c.loop-source.least)) c.no_block.ensures) c.loop-source.invariant
+    least-at no_block place_seen c.args.sources.now c.loop-source.source-index _ (as_plain c.loop-source.least)
+    (as_plain c.earlier-least.result) _
+    c.loop-source-test.true (c.earlier-least.ensures
+    ∙ ap (earlier_of (as_plain c.loop-source.least)) c.no_block.ensures) c.loop-source.invariant

@@ -6,4 +6,5 @@ use Rattle.mdl_wiring.proofs.missing.least_source_without_port.Given as goal
 
 abbrev pub invariant-loop-source : goal.invariant-loop-source
 invariant-loop-source l =
-    earlier_of (as_plain l.least) (least_in no_output (places_seen (drop l.source-index l.sources))) ≡ least_in no_output (places_seen l.fn.sources)
+    earlier_of (as_plain l.least) (least_in no_output (places_seen (drop l.source-index l.sources)))
+    ≡ least_in no_output (places_seen l.fn.sources)

@@ -8,5 +8,6 @@ use Rattle.mdl_wiring.proofs.missing.least_target_without_port.Goals as goal
 
 pub loop-end-preserved : goal.loop-end-preserved
 loop-end-preserved c =
-    least-at (λ (e : LineEnd). no_input e.target) end_seen c.args.ends.now c.loop-end.end-index _ (as_plain c.loop-end.least) (as_plain c.earlier-least.result) _
+    least-at (λ (e : LineEnd). no_input e.target) end_seen c.args.ends.now c.loop-end.end-index _
+    (as_plain c.loop-end.least) (as_plain c.earlier-least.result) _
     c.loop-end-test.true (c.earlier-least.ensures ∙ ap (earlier_of (as_plain c.loop-end.least)) c.no_input.ensures) c.loop-end.invariant

@@ -7,4 +7,5 @@ use Rattle.mdl_wiring.proofs.newer.+newer_part.Given as goal
 
 abbrev pub invariant-loop-item : goal.invariant-loop-item
 invariant-loop-item l =
-    earlier_of (as_plain l.least) (least_in newer (branches_in (items_of (drop l.item-index l.item-items)))) ≡ least_in newer (parts_of_line (section_tree l.fn.line))
+    earlier_of (as_plain l.least) (least_in newer (branches_in (items_of (drop l.item-index l.item-items))))
+    ≡ least_in newer (parts_of_line (section_tree l.fn.line))

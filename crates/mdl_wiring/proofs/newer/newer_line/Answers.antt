@@ -22,17 +22,26 @@ loop-item-preserved c =
     elim c.match-item.branch [
       | in-Section+then-eq w ↦
           let inside = w.in-Section.line in
-          let named = ap (λ n. bytes_eq n (codes "Line")) (sym w.bytes.ensures) ∙ ap (bytes_eq w.bytes.result.now) (sym w.as_slice.ensures) ∙ sym w.eq.ensures ∙ w.if-eq.true in
+          let named = ap (λ n. bytes_eq n (codes "Line")) (sym w.bytes.ensures)
+          ∙ ap (bytes_eq w.bytes.result.now) (sym w.as_slice.ensures) ∙ sym w.eq.ensures ∙ w.if-eq.true in
           ap (λ o. earlier_of (as_plain o) (least_in newer rest)) w.least-is
           ∙ newer-more before (as_plain w.earlier-least.result) _ here rest now
-          (w.earlier-least.ensures ∙ ap (earlier_of before) (w.newer_part.ensures ∙ ap (least_in newer) (sym (ap (λ x. flat_map parts_of_line (lines_in (with_item x End))) w.in-Section.is ∙ line-section inside true named))))
+          (w.earlier-least.ensures
+          ∙ ap (earlier_of before) (w.newer_part.ensures
+          ∙ ap (least_in newer) (sym (ap (λ x. flat_map parts_of_line (lines_in (with_item x End))) w.in-Section.is
+          ∙ line-section inside true named))))
           split c.loop-item.invariant
       | in-Section+else-eq w ↦
           let inside = w.in-Section.line in
-          let named = ap (λ n. bytes_eq n (codes "Line")) (sym w.bytes.ensures) ∙ ap (bytes_eq w.bytes.result.now) (sym w.as_slice.ensures) ∙ sym w.eq.ensures ∙ w.if-eq.false in
+          let named = ap (λ n. bytes_eq n (codes "Line")) (sym w.bytes.ensures)
+          ∙ ap (bytes_eq w.bytes.result.now) (sym w.as_slice.ensures) ∙ sym w.eq.ensures ∙ w.if-eq.false in
           ap (λ o. earlier_of (as_plain o) (least_in newer rest)) w.least-is
-          ∙ newer-pass before _ here rest now (sym (ap (λ x. flat_map parts_of_line (lines_in (with_item x End))) w.in-Section.is ∙ line-section inside false named)) split c.loop-item.invariant
+          ∙ newer-pass before _ here rest now
+          (sym (ap (λ x. flat_map parts_of_line (lines_in (with_item x End))) w.in-Section.is
+          ∙ line-section inside false named)) split c.loop-item.invariant
       | in_default w ↦
           ap (λ o. earlier_of (as_plain o) (least_in newer rest)) w.least-is
-          ∙ newer-pass before _ here rest now (sym (ap (λ x. flat_map parts_of_line (lines_in (with_item x End))) w.in_default.is)) split c.loop-item.invariant
+          ∙ newer-pass before _ here rest now
+          (sym (ap (λ x. flat_map parts_of_line (lines_in (with_item x End))) w.in_default.is)) split
+          c.loop-item.invariant
     ]

@@ -8,4 +8,6 @@ use Rattle.mdl_wiring.proofs.newer.newer_line.Given as goal
 
 abbrev pub invariant-loop-item : goal.invariant-loop-item
 invariant-loop-item l =
-    earlier_of (as_plain l.least) (least_in newer (flat_map parts_of_line (lines_in (items_of (drop l.item-index l.item-items))))) ≡ newer_lines (section_tree l.fn.system).items
+    earlier_of (as_plain l.least)
+    (least_in newer (flat_map parts_of_line (lines_in (items_of (drop l.item-index l.item-items)))))
+    ≡ newer_lines (section_tree l.fn.system).items

@@ -22,13 +22,16 @@ loop-item-preserved t c =
     elim c.match-item.branch [
       | in-Section+then-eq+in_ok-take_parts w ↦
           let branch = w.in-Section.branch in
-          let named = ap (λ n. bytes_eq n (codes "Branch")) (sym w.bytes.ensures) ∙ ap (bytes_eq w.bytes.result.now) (sym w.as_slice.ensures) ∙ sym w.eq.ensures ∙ w.if-eq.true in
+          let named = ap (λ n. bytes_eq n (codes "Branch")) (sym w.bytes.ensures)
+          ∙ ap (bytes_eq w.bytes.result.now) (sym w.as_slice.ensures) ∙ sym w.eq.ensures ∙ w.if-eq.true in
           ap (λ v. trees_of v.items ++ rest) w.parts-is
-          ∙ branch-taken olds w.take_parts.new.parts.items (parts_of_line (section_tree branch)) here rest now whole w.in_ok-take_parts.ensures
+          ∙ branch-taken olds w.take_parts.new.parts.items (parts_of_line (section_tree branch)) here rest now whole
+          w.in_ok-take_parts.ensures
           (ap (λ x. branches_in (with_item x End)) w.in-Section.is ∙ branches-section branch true named) split c.loop-item.invariant
       | in-Section+else-eq w ↦
           let branch = w.in-Section.branch in
-          let named = ap (λ n. bytes_eq n (codes "Branch")) (sym w.bytes.ensures) ∙ ap (bytes_eq w.bytes.result.now) (sym w.as_slice.ensures) ∙ sym w.eq.ensures ∙ w.if-eq.false in
+          let named = ap (λ n. bytes_eq n (codes "Branch")) (sym w.bytes.ensures)
+          ∙ ap (bytes_eq w.bytes.result.now) (sym w.as_slice.ensures) ∙ sym w.eq.ensures ∙ w.if-eq.false in
           ap (λ v. trees_of v.items ++ rest) w.parts-is
           ∙ named-pass olds here rest now whole
           (sym (ap (λ x. branches_in (with_item x End)) w.in-Section.is ∙ branches-section branch false named)) split c.loop-item.invariant

@@ -6,4 +6,5 @@ use Rattle.mdl_wiring.proofs.sections.sections_named.Given as goal
 
 abbrev pub invariant-loop-item : goal.invariant-loop-item
 invariant-loop-item l =
-    trees_of l.sections.items ++ sections_named l.name (items_of (drop l.item-index l.item-items)) ≡ sections_named l.fn.name (items_of l.fn.section.items.items)
+    trees_of l.sections.items ++ sections_named l.name (items_of (drop l.item-index l.item-items))
+    ≡ sections_named l.fn.name (items_of l.fn.section.items.items)

@@ -8,5 +8,7 @@ use Rattle.mdl_wiring.proofs.wiring.sources_of.Given as goal
 
 abbrev pub invariant-loop-index : goal.invariant-loop-index
 invariant-loop-index l =
-    l.sources.items ++ filter_map (λ number. source_into (ends_seen l.fn.ends) (record { member = l.fn.at; number = number })) (range_with_len (l.index + 1) (l.index-end - l.index))
+    l.sources.items
+    ++ filter_map (λ number. source_into (ends_seen l.fn.ends) (record { member = l.fn.at; number = number }))
+    (range_with_len (l.index + 1) (l.index-end - l.index))
     ≡ sources_of (ends_seen l.fn.ends) l.fn.at (member_seen l.fn.member)

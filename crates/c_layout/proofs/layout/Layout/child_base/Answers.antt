@@ -10,7 +10,8 @@ index-requires c =
     let self = c.args.self.now in
     let has = has-tables c.self.inside self c.self.invariant c.self.view_is in
     let long : vec_len c.self.inside.bases ≡ length c.self.inside.bases.items = c.self.inside.bases.ok.0 in
-    let count = ap length has.bases ∙ length-map-range_with_len (child_base self.local (own_count self.schedule)) 0 (length self.local.children + 1) in
+    let count = ap length has.bases ∙ length-map-range_with_len (child_base self.local (own_count self.schedule)) 0
+    (length self.local.children + 1) in
     omega (arith, long, count)
 
 pub returns : goal.returns
@@ -19,4 +20,5 @@ returns c =
     let has = has-tables c.self.inside self c.self.invariant c.self.view_is in
     let base = child_base self.local (own_count self.schedule) in
     c.index.ensures ∙ ap (λ (bs : List ℕ). get_or bs c.args.place c.index.result.now) has.bases
-    ∙ get_or-map-range_with_len base 0 (length self.local.children + 1) c.args.place c.args.place c.index.result.now (omega arith) (omega arith)
+    ∙ get_or-map-range_with_len base 0 (length self.local.children + 1) c.args.place c.args.place c.index.result.now
+    (omega arith) (omega arith)

@@ -24,13 +24,20 @@ returns c =
     let control = ap (λ (s : LocalSystem). s.control) (c.local.view_is ∙ c.local-local.ensures ∙ local_is) in
     let ports = c.deref-3.ensures.value ∙ has.ports in
     let places = c.deref.ensures.value ∙ has.nodes in
-    let nodes = c.group_nodes-nodes.ensures ∙ ap (λ (s : SystemSchedule). group_nodes s c.args.group) (c.schedule.ensures ∙ ap (λ (l : Laid). l.schedule) c.self.view_is) in
-    let among : LocalSystem → List Place → List ℕ → List ℕ = λ s ps ns. filter_map (λ n. option_and_then (inport_at s) (slice_get ps n)) ns in
+    let nodes = c.group_nodes-nodes.ensures
+    ∙ ap (λ (s : SystemSchedule). group_nodes s c.args.group) (c.schedule.ensures
+    ∙ ap (λ (l : Laid). l.schedule) c.self.view_is) in
+    let among : LocalSystem → List Place → List ℕ → List ℕ =
+    λ s ps ns. filter_map (λ n. option_and_then (inport_at s) (slice_get ps n)) ns in
     let inports =
-    c.deref-2.ensures.value ∙ c.in_ok-inports.ensures ∙ ap (λ (s : LocalSystem). among s c.deref.result.now c.group_nodes-nodes.result.now) (c.local-local.ensures ∙ local_is)
-    ∙ ap (λ (ps : List Place). among self.local ps c.group_nodes-nodes.result.now) places ∙ ap (among self.local (node_places self.local)) nodes in
+    c.deref-2.ensures.value ∙ c.in_ok-inports.ensures
+    ∙ ap (λ (s : LocalSystem). among s c.deref.result.now c.group_nodes-nodes.result.now) (c.local-local.ensures
+    ∙ local_is)
+    ∙ ap (λ (ps : List Place). among self.local ps c.group_nodes-nodes.result.now) places
+    ∙ ap (among self.local (node_places self.local)) nodes in
     let params : Control → List ℕ → List (Port × FixType) → List ParamTree = λ k is ps. now_param ∷ params_where k (takes is) ps in
     subst (λ (l : List ParamTree). IfOk c.params_of_ports.result (λ p. p ≡ l))
-    (ap (λ (k : Control). params k c.deref-2.result.now c.deref-3.result.now) control ∙ ap (λ (is : List ℕ). params self.local.control is c.deref-3.result.now) inports
+    (ap (λ (k : Control). params k c.deref-2.result.now c.deref-3.result.now) control
+    ∙ ap (λ (is : List ℕ). params self.local.control is c.deref-3.result.now) inports
     ∙ ap (params self.local.control (inports_among self.local (group_nodes self.schedule c.args.group))) ports)
     c.params_of_ports.ensures

@@ -19,7 +19,8 @@ pub params_of_function-requires : goal.params_of_function-requires
 params_of_function-requires c =
     let self = c.args.self.now in
     let has = has-tables c.self.inside self c.self.invariant c.self.view_is in
-    subst (λ (ps : List (Port × FixType)). All IsLow ps) (sym (c.deref.ensures.value ∙ has.ports)) (ports-low self.local self.profile has.emittable.inputs)
+    subst (λ (ps : List (Port × FixType)). All IsLow ps) (sym (c.deref.ensures.value ∙ has.ports))
+    (ports-low self.local self.profile has.emittable.inputs)
 
 pub returns : goal.returns
 returns c =

@@ -16,5 +16,7 @@ returns c =
     let i = c.loop-outport.outport-index in
     let all : length items ≤ i = let done = c.loop-outport-test.false in omega (arith, done) in
     let field : Ported → ℕ = λ o. value_field local o.row in
-    let found = c.deref-outport-items.ensures.value ∙ c.in_ok-outports.ensures ∙ ap (λ (s : LocalSystem). map ported_of (outports s)) (c.local.ensures ∙ ap (λ (l : Laid). l.local) c.self.view_is) in
+    let found = c.deref-outport-items.ensures.value ∙ c.in_ok-outports.ensures
+    ∙ ap (λ (s : LocalSystem). map ported_of (outports s)) (c.local.ensures
+    ∙ ap (λ (l : Laid). l.local) c.self.view_is) in
     c.loop-outport.invariant ∙ ap (map field) (take_all i items all ∙ found) ∙ map-map field ported_of (outports local)

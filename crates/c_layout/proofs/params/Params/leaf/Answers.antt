@@ -21,6 +21,9 @@ pub returns : goal.returns
 returns c =
     let list = c.self.inside.list.items in
     let name = param_name c.args.wanted in
-    let told = c.place_of.ensures ∙ ap (λ (qs : List (Parameter × CType)). position_from (λ (q : Parameter × CType). bytes_eq (param_name q.0) name) 0 qs) c.deref.ensures.value
+    let told =
+    c.place_of.ensures
+    ∙ ap (λ (qs : List (Parameter × CType)). position_from
+    (λ (q : Parameter × CType). bytes_eq (param_name q.0) name) 0 qs) c.deref.ensures.value
     ∙ sym (place-map (λ (q : ParamTree). bytes_eq q.name name) named_param 0 list) in
     ap Param (c.unwrap_or.ensures ∙ ap (λ o. unwrap_or o 0) told) ∙ ap (λ (ps : List ParamTree). param_leaf ps name) c.self.view_is

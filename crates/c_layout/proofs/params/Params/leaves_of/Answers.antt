@@ -15,5 +15,6 @@ returns c =
     let i = c.loop-parameter.parameter-index in
     let leaf : ParamTree → Leaf = λ q. param_leaf c.args.self.now q.name in
     let all : length items ≤ i = let done = c.loop-parameter-test.false in omega (arith, done) in
-    c.loop-parameter.invariant ∙ ap (map (λ (q : Parameter × CType). leaf (named_param q))) (take_all i items all ∙ c.deref-parameter-items.ensures.value)
+    c.loop-parameter.invariant ∙ ap (map (λ (q : Parameter × CType). leaf (named_param q))) (take_all i items all
+    ∙ c.deref-parameter-items.ensures.value)
     ∙ sym (map-map leaf named_param c.wanted.inside.list.items) ∙ ap (map leaf) c.wanted.view_is

@@ -13,9 +13,20 @@ returns-clause-called c =
     let n = c.numbering_of-numbering.result in
     let whole = whole_again old.items now old.len (c.run_instance.auto.numbers ∙ ap length c.deref_mut.ensures.value) old.ok.0 in
     let Callable : MachineState → Type 0 = λ m. IsCallable m c.args.procedure c.args.instance c.args.values.now in
-    let Before : MachineState → Type 0 = λ m. IfOk c.run_instance.result (IsCall m (record { program = c.self.inside.checked; numbers = now }) c.args.procedure c.args.instance c.args.values.now) in
-    let After : List ℤ → Type 0 = λ ns. IfOk c.run_instance.result (IsCall c.args.self.now (record { program = c.self.inside.checked; numbers = ns }) c.args.procedure c.args.instance c.args.values.now) in
-    subst After (sym whole) (subst Before c.self.view_is (call_done c.self.inside.checked n.code.program n.root c.args.procedure c.args.instance c.args.values.now c.deref_mut.result.now old.items now c.run_instance.result c.numbering_of-numbering.ensures.program c.numbering_of-numbering.ensures.root_struct c.deref_mut.ensures.value (subst Callable (sym c.self.view_is) c.requires) c.run_instance.ensures))
+    let Before : MachineState → Type 0 =
+    λ m. IfOk c.run_instance.result
+    (IsCall m (record { program = c.self.inside.checked; numbers = now }) c.args.procedure c.args.instance
+    c.args.values.now) in
+    let After : List ℤ → Type 0 =
+    λ ns. IfOk c.run_instance.result
+    (IsCall c.args.self.now (record { program = c.self.inside.checked; numbers = ns }) c.args.procedure
+    c.args.instance c.args.values.now) in
+    subst After (sym whole)
+    (subst Before c.self.view_is
+    (call_done c.self.inside.checked n.code.program n.root c.args.procedure c.args.instance c.args.values.now
+    c.deref_mut.result.now old.items now c.run_instance.result c.numbering_of-numbering.ensures.program
+    c.numbering_of-numbering.ensures.root_struct c.deref_mut.ensures.value
+    (subst Callable (sym c.self.view_is) c.requires) c.run_instance.ensures))
 
 pub returns-clause-stuck : goal.returns-clause-stuck
 returns-clause-stuck c =
@@ -24,6 +35,17 @@ returns-clause-stuck c =
     let n = c.numbering_of-numbering.result in
     let whole = whole_again old.items now old.len (c.run_instance.auto.numbers ∙ ap length c.deref_mut.ensures.value) old.ok.0 in
     let Callable : MachineState → Type 0 = λ m. IsCallable m c.args.procedure c.args.instance c.args.values.now in
-    let Before : MachineState → Type 0 = λ m. IfErr c.run_instance.result (IsStuckCall m (record { program = c.self.inside.checked; numbers = now }) c.args.procedure c.args.instance c.args.values.now) in
-    let After : List ℤ → Type 0 = λ ns. IfErr c.run_instance.result (IsStuckCall c.args.self.now (record { program = c.self.inside.checked; numbers = ns }) c.args.procedure c.args.instance c.args.values.now) in
-    subst After (sym whole) (subst Before c.self.view_is (call_stuck c.self.inside.checked n.code.program n.root c.args.procedure c.args.instance c.args.values.now c.deref_mut.result.now old.items now c.run_instance.result c.numbering_of-numbering.ensures.program c.numbering_of-numbering.ensures.root_struct c.deref_mut.ensures.value (subst Callable (sym c.self.view_is) c.requires) c.run_instance.ensures))
+    let Before : MachineState → Type 0 =
+    λ m. IfErr c.run_instance.result
+    (IsStuckCall m (record { program = c.self.inside.checked; numbers = now }) c.args.procedure c.args.instance
+    c.args.values.now) in
+    let After : List ℤ → Type 0 =
+    λ ns. IfErr c.run_instance.result
+    (IsStuckCall c.args.self.now (record { program = c.self.inside.checked; numbers = ns }) c.args.procedure
+    c.args.instance c.args.values.now) in
+    subst After (sym whole)
+    (subst Before c.self.view_is
+    (call_stuck c.self.inside.checked n.code.program n.root c.args.procedure c.args.instance c.args.values.now
+    c.deref_mut.result.now old.items now c.run_instance.result c.numbering_of-numbering.ensures.program
+    c.numbering_of-numbering.ensures.root_struct c.deref_mut.ensures.value
+    (subst Callable (sym c.self.view_is) c.requires) c.run_instance.ensures))

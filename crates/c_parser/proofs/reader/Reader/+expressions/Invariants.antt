@@ -7,7 +7,10 @@ use Rattle.c_parser.proofs.reader.Reader.+expressions.Given as goal
 
 abbrev pub invariant-later_values-loop-values : goal.invariant-later_values-loop-values
 invariant-later_values-loop-values l =
-    Going (values_step l.self.last (parse_operand l.self.last l.levels)) (behind (map expr_of l.initial.values.items) (many (values_step l.self.last (parse_operand l.self.last l.levels)) (suc (length l.initial.rest)) 0 l.initial.rest)) (map expr_of l.values.items) 0 l.rest
+    Going (values_step l.self.last (parse_operand l.self.last l.levels))
+    (behind (map expr_of l.initial.values.items)
+    (many (values_step l.self.last (parse_operand l.self.last l.levels))
+    (suc (length l.initial.rest)) 0 l.initial.rest)) (map expr_of l.values.items) 0 l.rest
 
 abbrev pub decreases-later_values-loop-values : goal.decreases-later_values-loop-values
 decreases-later_values-loop-values l = length l.rest

@@ -7,7 +7,10 @@ use Rattle.c_parser.proofs.reader.Reader.+statements.Given as goal
 
 abbrev pub invariant-statements-loop-statements : goal.invariant-statements-loop-statements
 invariant-statements-loop-statements l =
-    Going (stmts_step l.self.last (limits_of l.self.limits) (parse_stmt l.self.last (limits_of l.self.limits) l.levels)) (many (stmts_step l.self.last (limits_of l.self.limits) (parse_stmt l.self.last (limits_of l.self.limits) l.levels)) (suc (length l.initial.rest)) 0 l.initial.rest) (map stmt_of l.statements.items) 0 l.rest
+    Going (stmts_step l.self.last (limits_of l.self.limits) (parse_stmt l.self.last (limits_of l.self.limits) l.levels))
+    (many (stmts_step l.self.last (limits_of l.self.limits)
+    (parse_stmt l.self.last (limits_of l.self.limits) l.levels)) (suc (length l.initial.rest)) 0 l.initial.rest)
+    (map stmt_of l.statements.items) 0 l.rest
 
 abbrev pub decreases-statements-loop-statements : goal.decreases-statements-loop-statements
 decreases-statements-loop-statements l = length l.rest

@@ -5,4 +5,6 @@ use Rattle.c_parser.proofs.PartsLaws.{file_parts-is}
 use Rattle.c_parser.proofs.reader.Reader.file.Goals as goal
 
 pub returns : goal.returns
-returns c = subst (GivesProgram c.file_of_parts.result) (file_parts-is c.args.self.last (limits_of c.args.self.limits) c.args.tokens) c.file_of_parts.ensures
+returns c =
+    subst (GivesProgram c.file_of_parts.result)
+    (file_parts-is c.args.self.last (limits_of c.args.self.limits) c.args.tokens) c.file_of_parts.ensures

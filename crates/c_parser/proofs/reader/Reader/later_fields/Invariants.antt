@@ -8,7 +8,10 @@ use Rattle.c_parser.proofs.reader.Reader.later_fields.Given as goal
 
 abbrev pub invariant-loop-fields : goal.invariant-loop-fields
 invariant-loop-fields l =
-    Going (fields_step l.self.last (limits_of l.self.limits)) (behind (map field_of l.initial.fields.items) (many (fields_step l.self.last (limits_of l.self.limits)) (suc (length l.initial.rest)) 0 l.initial.rest)) (map field_of l.fields.items) 0 l.rest
+    Going (fields_step l.self.last (limits_of l.self.limits))
+    (behind (map field_of l.initial.fields.items)
+    (many (fields_step l.self.last (limits_of l.self.limits)) (suc (length l.initial.rest)) 0 l.initial.rest))
+    (map field_of l.fields.items) 0 l.rest
 
 abbrev pub decreases-loop-fields : goal.decreases-loop-fields
 decreases-loop-fields l = length l.rest

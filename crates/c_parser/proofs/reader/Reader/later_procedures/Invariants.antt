@@ -8,7 +8,10 @@ use Rattle.c_parser.proofs.reader.Reader.later_procedures.Given as goal
 
 abbrev pub invariant-loop-procedures : goal.invariant-loop-procedures
 invariant-loop-procedures l =
-    Going (procedures_step l.self.last (limits_of l.self.limits)) (behind (map procedure_of l.initial.procedures.items) (many (procedures_step l.self.last (limits_of l.self.limits)) (suc (length l.initial.rest)) 0 l.initial.rest)) (map procedure_of l.procedures.items) 0 l.rest
+    Going (procedures_step l.self.last (limits_of l.self.limits))
+    (behind (map procedure_of l.initial.procedures.items)
+    (many (procedures_step l.self.last (limits_of l.self.limits)) (suc (length l.initial.rest)) 0 l.initial.rest))
+    (map procedure_of l.procedures.items) 0 l.rest
 
 abbrev pub decreases-loop-procedures : goal.decreases-loop-procedures
 decreases-loop-procedures l = length l.rest

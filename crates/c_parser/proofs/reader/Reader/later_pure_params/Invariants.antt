@@ -8,7 +8,10 @@ use Rattle.c_parser.proofs.reader.Reader.later_pure_params.Given as goal
 
 abbrev pub invariant-loop-params : goal.invariant-loop-params
 invariant-loop-params l =
-    Going (pure_params_step l.self.last (limits_of l.self.limits)) (behind (map pure_param_of l.initial.params.items) (many (pure_params_step l.self.last (limits_of l.self.limits)) (suc (length l.initial.rest)) (vec_len l.initial.params) l.initial.rest)) (map pure_param_of l.params.items) (vec_len l.params) l.rest
+    Going (pure_params_step l.self.last (limits_of l.self.limits))
+    (behind (map pure_param_of l.initial.params.items)
+    (many (pure_params_step l.self.last (limits_of l.self.limits)) (suc (length l.initial.rest))
+    (vec_len l.initial.params) l.initial.rest)) (map pure_param_of l.params.items) (vec_len l.params) l.rest
 
 abbrev pub decreases-loop-params : goal.decreases-loop-params
 decreases-loop-params l = length l.rest

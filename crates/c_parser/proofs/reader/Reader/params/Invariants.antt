@@ -7,7 +7,9 @@ use Rattle.c_parser.proofs.reader.Reader.params.Given as goal
 
 abbrev pub invariant-loop-params : goal.invariant-loop-params
 invariant-loop-params l =
-    Going (params_step l.self.last (limits_of l.self.limits)) (many (params_step l.self.last (limits_of l.self.limits)) (suc (length l.initial.rest)) 0 l.initial.rest) (map param_of l.params.items) (vec_len l.params) l.rest
+    Going (params_step l.self.last (limits_of l.self.limits))
+    (many (params_step l.self.last (limits_of l.self.limits)) (suc (length l.initial.rest)) 0 l.initial.rest)
+    (map param_of l.params.items) (vec_len l.params) l.rest
 
 abbrev pub decreases-loop-params : goal.decreases-loop-params
 decreases-loop-params l = length l.rest

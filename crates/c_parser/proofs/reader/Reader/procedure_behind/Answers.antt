@@ -6,4 +6,7 @@ use Rattle.c_parser.proofs.PartsLaws.{procedure_parts-is}
 use Rattle.c_parser.proofs.reader.Reader.procedure_behind.Goals as goal
 
 pub returns : goal.returns
-returns c = subst (Gives procedure_of c.procedure_of_parts.result) (procedure_parts-is c.args.self.last (limits_of c.args.self.limits) c.args.line c.args.private c.args.tokens.now) c.procedure_of_parts.ensures
+returns c =
+    subst (Gives procedure_of c.procedure_of_parts.result)
+    (procedure_parts-is c.args.self.last (limits_of c.args.self.limits) c.args.line c.args.private c.args.tokens.now)
+    c.procedure_of_parts.ensures

@@ -10,4 +10,10 @@ use Rattle.c_parser.proofs.reader.Reader.procedures.Goals as goal
 
 pub returns : goal.returns
 returns c =
-    first-gives (λ (v : Vec WrittenProcedure Global). map procedure_of v.items) (procedure_of c.in_ok-first.first) c.in_ok-first.rest (first_procedure c.args.self.last (limits_of c.args.self.limits) c.args.tokens.now) (λ ts. many (procedures_step c.args.self.last (limits_of c.args.self.limits)) (suc (length ts)) 0 ts) (map procedure_of c.push.new.self.items) c.later_procedures.result c.in_ok-first.ensures (ap (map procedure_of) (c.in_ok-push.ensures.items ∙ ap (λ xs. xs ++ c.in_ok-first.first ∷ []) c.new-procedures.ensures.items)) c.later_procedures.ensures
+    first-gives (λ (v : Vec WrittenProcedure Global). map procedure_of v.items)
+    (procedure_of c.in_ok-first.first) c.in_ok-first.rest
+    (first_procedure c.args.self.last (limits_of c.args.self.limits) c.args.tokens.now)
+    (λ ts. many (procedures_step c.args.self.last (limits_of c.args.self.limits)) (suc (length ts)) 0 ts)
+    (map procedure_of c.push.new.self.items) c.later_procedures.result c.in_ok-first.ensures
+    (ap (map procedure_of) (c.in_ok-push.ensures.items
+    ∙ ap (λ xs. xs ++ c.in_ok-first.first ∷ []) c.new-procedures.ensures.items)) c.later_procedures.ensures

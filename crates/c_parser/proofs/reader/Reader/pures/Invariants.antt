@@ -7,7 +7,9 @@ use Rattle.c_parser.proofs.reader.Reader.pures.Given as goal
 
 abbrev pub invariant-loop-pures : goal.invariant-loop-pures
 invariant-loop-pures l =
-    Going (pures_step l.self.last (limits_of l.self.limits)) (many (pures_step l.self.last (limits_of l.self.limits)) (suc (length l.initial.rest)) 0 l.initial.rest) (map pure_of l.pures.items) (vec_len l.pures) l.rest
+    Going (pures_step l.self.last (limits_of l.self.limits))
+    (many (pures_step l.self.last (limits_of l.self.limits)) (suc (length l.initial.rest)) 0 l.initial.rest)
+    (map pure_of l.pures.items) (vec_len l.pures) l.rest
 
 abbrev pub decreases-loop-pures : goal.decreases-loop-pures
 decreases-loop-pures l = length l.rest

@@ -7,10 +7,21 @@ use Rattle.c_parser.proofs.FewerDefinitions.{structs_step-falls}
 use Rattle.c_parser.proofs.reader.Reader.structs.Goals as goal
 
 pub loop-structs-init : goal.loop-structs-init
-loop-structs-init c = going-begins (structs_step c.args.self.last (limits_of c.args.self.limits)) struct_of c.new-structs.result.items 0 c.args.tokens c.new-structs.ensures.items refl
+loop-structs-init c =
+    going-begins (structs_step c.args.self.last (limits_of c.args.self.limits)) struct_of c.new-structs.result.items 0
+    c.args.tokens c.new-structs.ensures.items refl
 
 pub loop-structs-smaller : goal.loop-structs-smaller
-loop-structs-smaller c = (structs_step-falls c.args.self.last (limits_of c.args.self.limits)) 0 c.loop-structs.rest (struct_of c.in-Some.structure) c.in_ok-structure.later (more-is struct_of c.in_ok-structure.structure c.in-Some.structure c.in_ok-structure.later _ c.in_ok-structure.ensures c.in-Some.is)
+loop-structs-smaller c =
+    (structs_step-falls c.args.self.last (limits_of c.args.self.limits)) 0 c.loop-structs.rest
+    (struct_of c.in-Some.structure) c.in_ok-structure.later
+    (more-is struct_of c.in_ok-structure.structure c.in-Some.structure c.in_ok-structure.later _
+    c.in_ok-structure.ensures c.in-Some.is)
 
 pub loop-structs-preserved : goal.loop-structs-preserved
-loop-structs-preserved c = going-pushed-uncounted struct_of c.loop-structs.structs.items c.push.new.self.items c.in-Some.structure c.in_ok-structure.later (structs_step-falls c.args.self.last (limits_of c.args.self.limits)) (λ count ts. refl) c.loop-structs.invariant c.in_ok-push.ensures.items (more-is struct_of c.in_ok-structure.structure c.in-Some.structure c.in_ok-structure.later _ c.in_ok-structure.ensures c.in-Some.is)
+loop-structs-preserved c =
+    going-pushed-uncounted struct_of c.loop-structs.structs.items c.push.new.self.items c.in-Some.structure
+    c.in_ok-structure.later (structs_step-falls c.args.self.last (limits_of c.args.self.limits))
+    (λ count ts. refl) c.loop-structs.invariant c.in_ok-push.ensures.items
+    (more-is struct_of c.in_ok-structure.structure c.in-Some.structure c.in_ok-structure.later _
+    c.in_ok-structure.ensures c.in-Some.is)

@@ -7,7 +7,9 @@ use Rattle.c_parser.proofs.reader.Reader.structs.Given as goal
 
 abbrev pub invariant-loop-structs : goal.invariant-loop-structs
 invariant-loop-structs l =
-    Going (structs_step l.self.last (limits_of l.self.limits)) (many (structs_step l.self.last (limits_of l.self.limits)) (suc (length l.initial.rest)) 0 l.initial.rest) (map struct_of l.structs.items) 0 l.rest
+    Going (structs_step l.self.last (limits_of l.self.limits))
+    (many (structs_step l.self.last (limits_of l.self.limits)) (suc (length l.initial.rest)) 0 l.initial.rest)
+    (map struct_of l.structs.items) 0 l.rest
 
 abbrev pub decreases-loop-structs : goal.decreases-loop-structs
 decreases-loop-structs l = length l.rest

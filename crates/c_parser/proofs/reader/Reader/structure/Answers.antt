@@ -6,4 +6,7 @@ use Rattle.c_parser.proofs.PartsLaws.{struct_parts-is}
 use Rattle.c_parser.proofs.reader.Reader.structure.Goals as goal
 
 pub returns : goal.returns
-returns c = subst (Gives struct_of c.struct_of_parts.result) (struct_parts-is c.args.self.last (limits_of c.args.self.limits) c.args.token.now c.args.tokens.now) c.struct_of_parts.ensures
+returns c =
+    subst (Gives struct_of c.struct_of_parts.result)
+    (struct_parts-is c.args.self.last (limits_of c.args.self.limits) c.args.token.now c.args.tokens.now)
+    c.struct_of_parts.ensures

@@ -6,4 +6,6 @@ use Rattle.c_printer.specs.VocabularyOf.{vocabulary_of}
 use Rattle.c_printer.proofs.printing.body.+statement.Given as goal
 
 abbrev pub invariant-put_stmts-loop-s : goal.invariant-put_stmts-loop-s
-invariant-put_stmts-loop-s l = l.out.items ≡ l.initial.out.items ++ flat_map (λ s. stmt_bytes (vocabulary_of l.scope) l.margin (stmt_tree s)) (take l.s-index l.stmts)
+invariant-put_stmts-loop-s l =
+    l.out.items ≡ l.initial.out.items ++ flat_map (λ s. stmt_bytes (vocabulary_of l.scope) l.margin (stmt_tree s))
+    (take l.s-index l.stmts)

@@ -8,4 +8,6 @@ use Rattle.c_printer.proofs.printing.names.field_type.Goals as goal
 pub returns-in-Some : goal.returns-in-Some
 returns-in-Some c =
     let found = c.in-Some.ensures.lookup in
-    c.kind_type.ensures ∙ sym (map-map_at (λ f. kind_type f.kind) field_tree c.args.fields.now c.args.k c.in-Some.field.now I64 found.3.0 found.1)
+    c.kind_type.ensures
+    ∙ sym (map-map_at (λ f. kind_type f.kind) field_tree c.args.fields.now c.args.k c.in-Some.field.now I64
+    found.3.0 found.1)

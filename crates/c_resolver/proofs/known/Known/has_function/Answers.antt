@@ -14,7 +14,10 @@ returns-then-contains c =
     let procedures = map-map (λ (p : ProcedureTree). p.name) procedure_tree k.procedures.items.items in
     let pure_names = map (λ (p : Pure). p.name) k.pures.items.items in
     let procedure_names = map (λ (p : Procedure). p.name) k.procedures.items.items in
-    either_named pure_names procedure_names (map (λ (p : PureTree). p.name) (map pure_tree k.pures.items.items) ++ map (λ (p : ProcedureTree). p.name) (map procedure_tree k.procedures.items.items)) c.args.name.now true (has_name procedure_names c.args.name.now) (sym c.if-contains.true ∙ c.contains.ensures) refl (λ i. pures i ++ procedures i))
+    either_named pure_names procedure_names (map (λ (p : PureTree). p.name) (map pure_tree k.pures.items.items)
+    ++ map (λ (p : ProcedureTree). p.name) (map procedure_tree k.procedures.items.items)) c.args.name.now true
+    (has_name procedure_names c.args.name.now) (sym c.if-contains.true ∙ c.contains.ensures) refl
+    (λ i. pures i ++ procedures i))
 
 pub returns-else-contains : goal.returns-else-contains
 returns-else-contains c =
@@ -23,4 +26,7 @@ returns-else-contains c =
     let procedures = map-map (λ (p : ProcedureTree). p.name) procedure_tree k.procedures.items.items in
     let pure_names = map (λ (p : Pure). p.name) k.pures.items.items in
     let procedure_names = map (λ (p : Procedure). p.name) k.procedures.items.items in
-    either_named pure_names procedure_names (map (λ (p : PureTree). p.name) (map pure_tree k.pures.items.items) ++ map (λ (p : ProcedureTree). p.name) (map procedure_tree k.procedures.items.items)) c.args.name.now false c.contains-else-contains.result (sym c.if-contains.false ∙ c.contains.ensures) c.contains-else-contains.ensures (λ i. pures i ++ procedures i)
+    either_named pure_names procedure_names (map (λ (p : PureTree). p.name) (map pure_tree k.pures.items.items)
+    ++ map (λ (p : ProcedureTree). p.name) (map procedure_tree k.procedures.items.items)) c.args.name.now false
+    c.contains-else-contains.result (sym c.if-contains.false ∙ c.contains.ensures) c.contains-else-contains.ensures
+    (λ i. pures i ++ procedures i)

@@ -6,4 +6,7 @@ use Rattle.c_resolver.proofs.NamedPlaces.{map-map}
 use Rattle.c_resolver.proofs.known.Known.has_procedure.Goals as goal
 
 pub returns : goal.returns
-returns c = c.contains.ensures ∙ ap (λ names. has_name names c.args.name.now) (sym (map-map (λ (p : ProcedureTree). p.name) procedure_tree c.args.self.now.procedures.items.items))
+returns c =
+    c.contains.ensures
+    ∙ ap (λ names. has_name names c.args.name.now)
+    (sym (map-map (λ (p : ProcedureTree). p.name) procedure_tree c.args.self.now.procedures.items.items))

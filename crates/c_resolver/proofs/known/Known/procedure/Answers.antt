@@ -4,4 +4,6 @@ use Rattle.c_resolver.proofs.NamedPlaces.{found-view}
 use Rattle.c_resolver.proofs.known.Known.procedure.Goals as goal
 
 pub returns : goal.returns
-returns c = found-view procedure_tree (λ (p : ProcedureTree). p.name) c.args.self.now.procedures.items.items c.args.name.now c.find.result c.find.ensures
+returns c =
+    found-view procedure_tree (λ (p : ProcedureTree). p.name) c.args.self.now.procedures.items.items c.args.name.now
+    c.find.result c.find.ensures

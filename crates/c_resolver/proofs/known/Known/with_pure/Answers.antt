@@ -13,4 +13,5 @@ with-requires-clause-new c =
     let n = c.args.name.now in
     let pures = map (λ (p : PureTree). p.name) (map pure_tree s.pures.items.items) in
     let procedures = map (λ (p : ProcedureTree). p.name) (map procedure_tree s.procedures.items.items) in
-    ap (λ ns. has_name ns n) (sym (map-map (λ (p : PureTree). p.name) pure_tree s.pures.items.items)) ∙ or-left (has_name pures n) (has_name procedures n) (sym (has_name-append pures procedures n) ∙ c.requires.new)
+    ap (λ ns. has_name ns n) (sym (map-map (λ (p : PureTree). p.name) pure_tree s.pures.items.items))
+    ∙ or-left (has_name pures n) (has_name procedures n) (sym (has_name-append pures procedures n) ∙ c.requires.new)

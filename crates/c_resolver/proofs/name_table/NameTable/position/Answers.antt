@@ -5,8 +5,10 @@ use Rattle.c_resolver.proofs.name_table.NameTable.position.Goals as goal
 
 pub returns-in-Some : goal.returns-in-Some
 returns-in-Some c =
-    sym c.in-Some.is ∙ c.get_index_of.ensures.index ∙ position-names c.args.name.now c.self.inside.names.keys ∙ ap (λ names. position_from (bytes_eq c.args.name.now) 0 names) c.self.view_is
+    sym c.in-Some.is ∙ c.get_index_of.ensures.index ∙ position-names c.args.name.now c.self.inside.names.keys
+    ∙ ap (λ names. position_from (bytes_eq c.args.name.now) 0 names) c.self.view_is
 
 pub returns-in-None : goal.returns-in-None
 returns-in-None c =
-    sym c.in-None.is ∙ c.get_index_of.ensures.index ∙ position-names c.args.name.now c.self.inside.names.keys ∙ ap (λ names. position_from (bytes_eq c.args.name.now) 0 names) c.self.view_is
+    sym c.in-None.is ∙ c.get_index_of.ensures.index ∙ position-names c.args.name.now c.self.inside.names.keys
+    ∙ ap (λ names. position_from (bytes_eq c.args.name.now) 0 names) c.self.view_is

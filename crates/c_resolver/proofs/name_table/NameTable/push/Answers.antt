@@ -4,7 +4,11 @@ use Rattle.c_resolver.proofs.NameLists.{names_of, insert-names, insert-has}
 use Rattle.c_resolver.proofs.name_table.NameTable.push.Goals as goal
 
 pub returns-clause-new : goal.returns-clause-new
-returns-clause-new c = λ new. ap names_of c.in_ok-insert.ensures.keys ∙ insert-names c.args.name c.self.inside.names.keys (ap (λ names. has_name names c.args.name.now) c.self.view_is ∙ new) ∙ ap (λ names. names ++ c.args.name.now ∷ []) c.self.view_is
+returns-clause-new c = λ new. ap names_of c.in_ok-insert.ensures.keys
+    ∙ insert-names c.args.name c.self.inside.names.keys (ap (λ names. has_name names c.args.name.now) c.self.view_is
+    ∙ new) ∙ ap (λ names. names ++ c.args.name.now ∷ []) c.self.view_is
 
 pub returns-clause-added : goal.returns-clause-added
-returns-clause-added c = λ n. ap (λ keys. has_name (names_of keys) n) c.in_ok-insert.ensures.keys ∙ insert-has c.args.name c.self.inside.names.keys n ∙ ap (λ names. bytes_eq n c.args.name.now || has_name names n) c.self.view_is
+returns-clause-added c = λ n. ap (λ keys. has_name (names_of keys) n) c.in_ok-insert.ensures.keys
+    ∙ insert-has c.args.name c.self.inside.names.keys n
+    ∙ ap (λ names. bytes_eq n c.args.name.now || has_name names n) c.self.view_is

@@ -7,4 +7,7 @@ pub invariant_of-result : goal.invariant_of-result
 invariant_of-result g c =
     let s = c.args.self in
     let free = ap (λ ns. has_name ns c.args.name.now) s.named ∙ c.requires.new in
-    record { named = c.in_ok-push-2.ensures.new free ∙ (λ j. s.named j ++ sym c.requires.named j ∷ []) ∙ map_push g.T.Named.name s.items.items c.args.item ∙ ap (map g.T.Named.name) (sym c.in_ok-push.ensures.items) }
+    record {
+      named = c.in_ok-push-2.ensures.new free ∙ (λ j. s.named j ++ sym c.requires.named j ∷ [])
+          ∙ map_push g.T.Named.name s.items.items c.args.item ∙ ap (map g.T.Named.name) (sym c.in_ok-push.ensures.items);
+    }

@@ -7,7 +7,9 @@ use Rattle.mc_drive.proofs.InputCounts.{few_taken, plans_take, counts-same}
 use Rattle.mc_drive.proofs.driver.Driver.input_counts.Goals as goal
 
 pub counts_of-requires : goal.counts_of-requires
-counts_of-requires c = rw c.deref.ensures.value (few_taken _ c.self.inside.plans.items c.self.inside.update c.self.inside.arguments.items c.self.invariant)
+counts_of-requires c =
+    rw c.deref.ensures.value
+    (few_taken _ c.self.inside.plans.items c.self.inside.update c.self.inside.arguments.items c.self.invariant)
 
 pub returns-clause-counts : goal.returns-clause-counts
 returns-clause-counts c =
@@ -16,4 +18,5 @@ returns-clause-counts c =
     counts-same (inputs_of c.self.inside.shape) c.self.inside.shape.functions plans c.self.invariant.plan_each
     (plans_take _ plans c.self.inside.update c.self.inside.arguments.items c.self.invariant) in
     IfOk-weaker c.counts_of.result _ _
-    (λ found is. is ∙ ap (λ xs. map (λ (q : CallPlan). length q.inputs) xs) c.deref.ensures.value ∙ same ∙ ap (λ (d : DriverState). input_counts d.shape) c.self.view_is) c.counts_of.ensures
+    (λ found is. is ∙ ap (λ xs. map (λ (q : CallPlan). length q.inputs) xs) c.deref.ensures.value ∙ same
+    ∙ ap (λ (d : DriverState). input_counts d.shape) c.self.view_is) c.counts_of.ensures

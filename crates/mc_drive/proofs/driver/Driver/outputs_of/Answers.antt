@@ -10,8 +10,15 @@ returns-clause-within c =
     let k = c.args.function - 1 in
     let shape = c.self.inside.shape in
     let less : k < length c.self.inside.plans.items =
-    omega (arith, c.requires.least, c.requires.most, c.self.invariant.plan_each, ap (λ (d : DriverState). length d.shape.functions) c.self.view_is) in
-    let plan = c.behind-self.view_is ∙ c.index.ensures ∙ get-there c.self.inside.plans.items k _ c.index.result.now (c.self.invariant.plans_are k less) in
+    omega (
+      arith,
+      c.requires.least,
+      c.requires.most,
+      c.self.invariant.plan_each,
+      ap (λ (d : DriverState). length d.shape.functions) c.self.view_is,
+    ) in
+    let plan = c.behind-self.view_is ∙ c.index.ensures
+    ∙ get-there c.self.inside.plans.items k _ c.index.result.now (c.self.invariant.plans_are k less) in
     omega (
       arith,
       c.len.ensures,

@@ -19,7 +19,8 @@ returns-clause-more g c =
       piece = take n c.read.new.into;
       size = search rules;
       bytes =
-          grown c.deref_mut.result.now c.read.new.into _ _ b.bytes.len b.start b.end n (omega arith) (search rules) (search rules) (search rules)
+          grown c.deref_mut.result.now c.read.new.into _ _ b.bytes.len b.start b.end n (omega arith) (search rules)
+          (search rules) (search rules)
           ∙ ap (λ xs. take (b.end - b.start) (drop b.start xs) ++ take n c.read.new.into) c.deref_mut.ensures.value
           ∙ ap (λ (s : ReadAhead). s.bytes ++ take n c.read.new.into) c.self.view_is;
       moved = c.in_ok-count.ensures.bytes;

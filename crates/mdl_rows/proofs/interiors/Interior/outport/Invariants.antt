@@ -4,4 +4,5 @@ use Rattle.mdl_rows.proofs.interiors.Interior.outport.Given as goal
 
 abbrev pub invariant-loop-row : goal.invariant-loop-row
 invariant-loop-row l =
-    port_among l.port (map port_seen (drop l.row-index l.self.outports.items)) ≡ port_among l.fn.port (map port_seen l.fn.self.outports.items)
+    port_among l.port (map port_seen (drop l.row-index l.self.outports.items))
+    ≡ port_among l.fn.port (map port_seen l.fn.self.outports.items)

@@ -7,4 +7,5 @@ use Rattle.mdl_rows.proofs.model.ModelBlocks.members.Given as goal
 abbrev pub invariant-loop-block : goal.invariant-loop-block
 invariant-loop-block l =
     let blocks = all_seen l.fn.self.blocks.items in
-    members_seen l.members.items ++ map (member_of blocks) (all_seen (drop l.block-index l.own)) ≡ map (member_of blocks) (all_seen l.fn.own)
+    members_seen l.members.items ++ map (member_of blocks) (all_seen (drop l.block-index l.own))
+    ≡ map (member_of blocks) (all_seen l.fn.own)

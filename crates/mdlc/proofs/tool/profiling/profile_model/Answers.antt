@@ -5,7 +5,9 @@ use Rattle.mdlc.proofs.tool.profiling.profile_model.Goals as goal
 
 pub returns-in-Err-TooLong-clause-ends : goal.returns-in-Err-TooLong-clause-ends
 returns-in-Err-TooLong-clause-ends g c =
-    let before : HostTold = told g.H.Host.files g.H.Host.rest g.H.Host.written g.H.Host.sure g.H.Host.read_faults g.H.Host.write_faults c.args.host.now in
+    let before : HostTold =
+    told g.H.Host.files g.H.Host.rest g.H.Host.written g.H.Host.sure g.H.Host.read_faults g.H.Host.write_faults
+    c.args.host.now in
     record {
       model = long-file before c.args.model.now (c.in-Err-TooLong.ensures.too_long (search rules));
       written = search rules;

@@ -7,4 +7,5 @@ use Rattle.c_meaning.proofs.machine.tests.programs.choice.Goals as goal
 pub returns : goal.returns
 returns c =
     stmt_tree-If c.args.line c.args.test c.args.yes c.new.result
-    ∙ ap (λ l. branch c.args.line (cond_tree c.args.test) (stmts_of_list (map stmt_tree c.args.yes.items)) (stmts_of_list (map stmt_tree l))) c.new.ensures.items
+    ∙ ap (λ l. branch c.args.line (cond_tree c.args.test) (stmts_of_list (map stmt_tree c.args.yes.items))
+    (stmts_of_list (map stmt_tree l))) c.new.ensures.items
