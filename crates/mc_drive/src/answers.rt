@@ -50,7 +50,7 @@ impl Driver {
     /// In this order: `Twice` exactly where the function was called in this tick, `Value` exactly where a value is out of its
     /// input's type, and `Unlike` exactly where this tick had another value for an input, each with the first such; the driver
     /// is then as it was. `Stuck` exactly where the machine is stuck; it is then as the machine left it. In right code that
-    /// never comes.
+    /// never comes. Where a call gives an error, `out` is as it was.
     pub fn call(
         &mut self,
         function: u32,
@@ -62,6 +62,7 @@ impl Driver {
         ensures made { IfOk result (λ cost. IsCallOf function values.now out.new cost self.old self.new) }
         ensures left { IfErr result
             (λ why. Leaves why (plan_of self.old function) values.now self.old self.new) }
+        ensures kept { IfErr result (λ why. out.new ≡ out.old) }
         ensures stands { AnswersRight self.old (out_with function values.now) out.new self.new result }
     {
         calls_go_on();

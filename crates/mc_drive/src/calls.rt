@@ -73,6 +73,7 @@ impl Driver {
         ensures made { IfOk result (λ cost. IsCallOf function values.now out.new cost self.old self.new) }
         ensures stuck { IfErr result
             (λ at. IsStuckIn (plan_of self.old function) values.now at self.old self.new) }
+        ensures kept { IfErr result (λ at. out.new ≡ out.old) }
     {
         let plan = plan_at(&self.plans, function);
         let room = &mut self.arguments;
