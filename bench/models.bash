@@ -45,6 +45,17 @@ gain_loop() {
   }'
 }
 
+# So many rows: a chain of Gains behind a Ground, and last two Gains that need each other: refused as a loop.
+late_loop() {
+  awk -v n="$1" 'BEGIN {
+    printf "Model {\nSystem {\nBlock {\nBlockType Ground\nName \"g0\"\n}\n"
+    for (k = 1; k < n; k++) printf "Block {\nBlockType Gain\nName \"g%d\"\nOutDataTypeStr \"int32\"\n}\n", k
+    for (k = 0; k < n - 3; k++) printf "Line {\nSrcBlock \"g%d\"\nSrcPort 1\nDstBlock \"g%d\"\nDstPort 1\n}\n", k, k + 1
+    for (k = n - 2; k < n; k++) printf "Line {\nSrcBlock \"g%d\"\nSrcPort 1\nDstBlock \"g%d\"\nDstPort 1\n}\n", k, 2 * n - 3 - k
+    printf "}\n}\n"
+  }'
+}
+
 # So many SubSystem blocks beside each other.
 empty_subsystems() {
   awk -v n="$1" 'BEGIN {

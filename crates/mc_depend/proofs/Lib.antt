@@ -6,6 +6,7 @@ pub mod NumberSteps
 pub mod LeastPathSteps
 pub mod NeededSteps
 pub mod BlockSteps
+pub mod Falling
 pub mod GraphSteps
 pub mod InputSteps
 pub mod OutportSteps

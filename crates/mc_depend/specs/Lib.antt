@@ -3,5 +3,6 @@ pub mod Needed
 pub mod Levels
 pub mod LeastPaths
 pub mod Blocks
+pub mod Falling
 pub mod TrueNeeds
 pub mod LoopLaws

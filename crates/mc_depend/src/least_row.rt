@@ -4,16 +4,18 @@ ghost use Rattle.mc_depend.specs.Least.{IsLeastOf};
 ghost use Rattle.mc_depend.specs.Needed.{needed, IsOnLoop};
 ghost use Rattle.mc_depend.specs.Blocks.{IsInBlock, AreBlockBits, IsOnLoopIn};
 
+use crate::floor::loop_floor;
 use crate::least::lesser;
 use mc_base::Memory;
 use mc_graph::{Graph, masks};
 use std::alloc::Global;
 
-// The least row on any loop. Where there is one, the blocks up to its own are looked at.
+// The least row on any loop. The blocks from that of the floor on are looked at, of which the first has it.
 pub(crate) fn least_on_loop(alloc: Global, g: &Graph) -> Result<Option<u32>, Memory>
     ensures { IfOk result (IsLeastOf (IsOnLoop (needed g.now))) }
 {
-    for block in 0..g.n {
+    let floor = loop_floor(alloc, g)?;
+    for block in floor / 64..g.n {
         let first = u64::from(block) * 64;
         if let Some(row) = least_in_block(alloc, g, first)? {
             return Ok(Some(row));

@@ -14,8 +14,7 @@ use std::alloc::Global;
 /// The loop of rows, each of which needs the next and the last the first, that a refusal tells: it begins with the least
 /// row on any loop, is a shortest one through it, and is the first of these in order. None where there is no loop.
 ///
-/// In time linear in rows and wires where there is none. Where there is one, the rows up to the least on any are looked at
-/// in blocks of 64, each in such time; the loop through it is then found in such time.
+/// In time linear in rows and wires.
 pub fn find_loop(alloc: Global, r: &Resolved) -> Result<Option<Vec<u32>>, Memory>
     ensures { IfOk result (λ found. MatchOption found (HasNoLoop (needs_of (diagram_of r.now)))
         (λ loop. IsLeastLoop (needs_of (diagram_of r.now)) loop.items)) }

@@ -1,3 +1,4 @@
+use Rattle.std.proofs.Math.Nat.{div-mul-le_self}
 use Rattle.std.proofs.Common.{◌≡◌, ◌*◌, ap, subst, arith}
 use Rattle.mc_graph.specs.NeedsGraph.{IsGraph}
 use Rattle.mc_depend.specs.Least.{IsLeastOf}
@@ -10,6 +11,12 @@ pub returns-in-Some : goal.returns-in-Some
 returns-in-Some c = block_least (needed c.args.g.now) (c.from-first.result * 64)
     (λ b loop. let at = c.loop-block.invariant b loop in let same = c.from-first.ensures in omega arith) c.in-Some.row
     (subst (IsLeastOf (IsOnLoopIn (needed c.args.g.now) (c.from-first.result * 64))) c.in-Some.is c.in_ok-row.ensures)
+
+pub loop-block-init : goal.loop-block-init
+loop-block-init c b loop =
+    let below = div-mul-le_self c.in_ok-floor.floor 64 in
+    let above = c.in_ok-floor.ensures b loop in
+    omega arith
 
 pub loop-block-preserved : goal.loop-block-preserved
 loop-block-preserved c b loop =
