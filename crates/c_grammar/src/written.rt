@@ -125,25 +125,35 @@ pub enum WrittenStmt<'a> {
 /// A parameter of a procedure.
 #[derive(Clone, Copy, Drop)]
 pub struct WrittenParam<'a> {
+    /// The line where it begins, from 1.
     pub line: u32,
+    /// Its type.
     pub ty: CType,
+    /// Its name, as it stands.
     pub name: &'a [u8],
 }
 
 /// A parameter of a pure function, which is an `int64_t`.
 #[derive(Clone, Copy, Drop)]
 pub struct WrittenPureParam<'a> {
+    /// The line where it begins, from 1.
     pub line: u32,
+    /// Its name, as it stands.
     pub name: &'a [u8],
 }
 
 /// A pure function, with the line of its `return`.
 #[derive(Drop)]
 pub struct WrittenPure<'a> {
+    /// The line where it begins, from 1.
     pub line: u32,
+    /// Its name, as it stands.
     pub name: &'a [u8],
+    /// Its parameters, in order.
     pub params: Vec<WrittenPureParam<'a>>,
+    /// The line of its `return`, from 1.
     pub return_line: u32,
+    /// What it returns.
     pub body: WrittenExpr<'a>,
 }
 
@@ -161,34 +171,49 @@ pub enum WrittenKind<'a> {
 /// A field of a struct.
 #[derive(Clone, Copy, Drop)]
 pub struct WrittenField<'a> {
+    /// The line where it begins, from 1.
     pub line: u32,
+    /// What it is declared as.
     pub kind: WrittenKind<'a>,
+    /// Its name, as it stands.
     pub name: &'a [u8],
 }
 
 /// A struct.
 #[derive(Drop)]
 pub struct WrittenStruct<'a> {
+    /// The line where it begins, from 1.
     pub line: u32,
+    /// Its name, as it stands.
     pub name: &'a [u8],
+    /// Its fields, in order.
     pub fields: Vec<WrittenField<'a>>,
 }
 
 /// A procedure of the struct that `of` names.
 #[derive(Drop)]
 pub struct WrittenProcedure<'a> {
+    /// The line where it begins, from 1.
     pub line: u32,
+    /// Whether it is `static`.
     pub private: bool,
+    /// Its name, as it stands.
     pub name: &'a [u8],
+    /// The name of its struct, as it stands.
     pub of: &'a [u8],
+    /// Its parameters behind the struct, in order.
     pub params: Vec<WrittenParam<'a>>,
+    /// Its statements, in order.
     pub body: Vec<WrittenStmt<'a>>,
 }
 
 /// A program.
 #[derive(Drop)]
 pub struct WrittenProgram<'a> {
+    /// Its pure functions, in order.
     pub pures: Vec<WrittenPure<'a>>,
+    /// Its structs, in order.
     pub structs: Vec<WrittenStruct<'a>>,
+    /// Its procedures, in order.
     pub procedures: Vec<WrittenProcedure<'a>>,
 }

@@ -5,7 +5,10 @@ use c_syntax::{Procedure, StructDef};
 /// the child's position, and a field of a child is named by the child's output, from 0 by port.
 #[derive(Drop)]
 pub struct SystemCode {
+    /// The system's struct.
     pub structure: StructDef,
+    /// The position of each output's field in the struct, by port.
     pub outputs: Vec<u32>,
+    /// Its procedures, in the order of their numbers.
     pub procedures: Vec<Procedure>,
 }

@@ -4,8 +4,11 @@ use std::marker::Model;
 /// the need of just one of them.
 #[derive(Clone, Copy, Debug, PartialEq, Eq, Drop)]
 pub struct Difference {
+    /// The place of one output, from 0.
     pub first: u8,
+    /// The place of the other output, from 0.
     pub second: u8,
+    /// The number of a bit that lies in just one of the needs, from 0.
     pub bit: u8,
 }
 
@@ -13,7 +16,9 @@ pub struct Difference {
 /// which the needs differ.
 #[derive(Drop)]
 pub struct Certificate {
+    /// The outputs, numbered from 0.
     pub representatives: Vec<u8>,
+    /// A difference for each two of their places, in order.
     pub differ: Vec<Difference>,
 }
 

@@ -5,10 +5,15 @@ use std::marker::Model;
 /// the inputs of its root by port, and the bytes of its C text.
 #[derive(Drop)]
 pub struct Compiled {
+    /// How many rows the model has.
     pub rows: u32,
+    /// How many systems it has, with the root.
     pub systems: u32,
+    /// How many output functions these have in all.
     pub functions: u32,
+    /// The types of the root's inputs, by port.
     pub inputs: Vec<FixType>,
+    /// The C text.
     pub code: Vec<u8>,
 }
 

@@ -10,11 +10,17 @@ use std::marker::Model;
 /// trigger, and so many outputs.
 #[derive(Drop)]
 pub struct SystemReport {
+    /// The number of the subsystem row, or none for the root.
     pub row: Option<u32>,
+    /// How many inputs it has.
     pub inputs: u32,
+    /// Its controls, an enable before a trigger.
     pub controls: Vec<Port>,
+    /// How many outputs it has.
     pub outputs: u32,
+    /// Its output functions, each with the inputs it takes.
     pub profile: Profile,
+    /// That no interface has fewer functions.
     pub certificate: Certificate,
 }
 

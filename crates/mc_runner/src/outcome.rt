@@ -4,8 +4,11 @@ use mc_trace::BadLine;
 /// What a run took: its ticks, and the steps and the calls of interface procedures in them.
 #[derive(Clone, Copy, Debug, PartialEq, Eq, Drop)]
 pub struct Totals {
+    /// How many ticks were run.
     pub ticks: u64,
+    /// How many steps they took.
     pub steps: u64,
+    /// How many calls of interface procedures they made.
     pub calls: u64,
 }
 

@@ -36,6 +36,7 @@ pub enum ScriptLine {
 /// A line of a script that was read.
 #[derive(Clone, Copy, Debug, PartialEq, Eq, Drop)]
 pub struct ReadCall {
+    /// Which call it asks for.
     pub line: ScriptLine,
     /// How many values it has.
     pub count: usize,

@@ -14,7 +14,9 @@ const MOST_LINES: u32 = u32::MAX;
 /// A line of a script that is no call by itself, by its number from 1, and why.
 #[derive(Clone, Copy, Debug, PartialEq, Eq, Drop)]
 pub struct BadCall {
+    /// The number of the line, from 1.
     pub line: u32,
+    /// Why it is no call.
     pub why: ScriptWhy,
 }
 

@@ -4,7 +4,9 @@ use mc_script::BadCall;
 /// A line of a script whose call the driver refused, by its number from 1, and why.
 #[derive(Clone, Copy, Debug, PartialEq, Eq, Drop)]
 pub struct RefusedCall {
+    /// The number of the line, from 1.
     pub line: u32,
+    /// Why the call was refused.
     pub why: DriveFault,
 }
 

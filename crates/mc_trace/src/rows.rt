@@ -25,7 +25,9 @@ pub enum BadWhy {
 /// A line that is no row, by its number from 1, and why.
 #[derive(Clone, Copy, Debug, PartialEq, Eq, Drop)]
 pub struct BadLine {
+    /// The number of the line, from 1.
     pub line: u32,
+    /// Why it is no row.
     pub why: BadWhy,
 }
 
