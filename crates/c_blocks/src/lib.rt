@@ -34,6 +34,3 @@ pub use statements::{
     call_statements, memory_statements, reset_call_statements, ring_statements, trigger_statements,
     value_reset_statements, value_statements,
 };
-
-#[cfg(test)]
-mod tests;

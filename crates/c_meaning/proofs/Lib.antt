@@ -13,7 +13,5 @@ pub mod Numbered
 pub mod Paths
 pub mod Standing
 pub mod Calling
-pub mod PlainCalls
-pub mod CheckedExamples
 pub mod Halting
 pub mod Orders

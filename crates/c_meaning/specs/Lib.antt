@@ -14,4 +14,3 @@ pub mod Roots
 pub mod Instances
 pub mod Numbering
 pub mod InstanceExamples
-pub mod MachineExamples

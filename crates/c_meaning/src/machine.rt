@@ -20,7 +20,9 @@ use std::marker::Model;
 /// Why there is no machine: `root_start` is stuck, or memory ran out.
 #[derive(Clone, Copy, Debug, PartialEq, Eq, Drop)]
 pub enum NewFault {
+    /// `root_start` is stuck, where and why.
     Stuck(Stuck),
+    /// Memory ran out.
     Memory,
 }
 
@@ -173,6 +175,3 @@ fn numbering_of<'a>(checked: &'a Checked, tables: &'a Tables) -> Numbering<'a>
         count: count_at(&tables.counts, tables.root),
     }
 }
-
-#[cfg(test)]
-mod tests;

@@ -10,6 +10,3 @@ mod renumbering;
 
 pub use laws::{calls_mean_no_lines, pruned_has_none_idle, pruned_is_lawful, pruned_runs_alike};
 pub use program::pruned;
-
-#[cfg(test)]
-mod tests;

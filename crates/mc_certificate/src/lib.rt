@@ -11,6 +11,3 @@ pub use certificate::{Certificate, Difference};
 pub use checking::check;
 pub use laws::certified_are_least;
 pub use making::make;
-
-#[cfg(test)]
-mod tests;

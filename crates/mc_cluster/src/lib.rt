@@ -10,6 +10,3 @@ pub use equal_needs::classes;
 pub use groups::{Groups, groups_of};
 pub use laws::different_grow;
 pub use reaching::clusters;
-
-#[cfg(test)]
-mod tests;

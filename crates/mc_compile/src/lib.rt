@@ -10,6 +10,3 @@ mod text;
 pub use code::compiled_from;
 pub use compiled::Compiled;
 pub use compiler::compile;
-
-#[cfg(test)]
-mod tests;

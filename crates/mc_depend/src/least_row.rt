@@ -10,7 +10,7 @@ use mc_base::Memory;
 use mc_graph::{Graph, masks};
 use std::alloc::Global;
 
-// The least row on any loop. The blocks from that of the floor on are looked at, of which the first has it.
+// The least row on any loop, which is looked for from the block of the floor on.
 pub(crate) fn least_on_loop(alloc: Global, g: &Graph) -> Result<Option<u32>, Memory>
     ensures { IfOk result (IsLeastOf (IsOnLoop (needed g.now))) }
 {

@@ -14,8 +14,5 @@ mod search;
 mod true_needs;
 
 pub use laws::{loop_is_told_or_none, told_loop_is_one};
-pub use loops::find_loop;
+pub use loops::{find_in, find_loop};
 pub use true_needs::needs_of;
-
-#[cfg(test)]
-mod tests;

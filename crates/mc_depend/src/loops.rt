@@ -14,7 +14,7 @@ use std::alloc::Global;
 /// The loop of rows, each of which needs the next and the last the first, that a refusal tells: it begins with the least
 /// row on any loop, is a shortest one through it, and is the first of these in order. None where there is no loop.
 ///
-/// In time linear in rows and wires.
+/// In time linear in rows and wires, but for the logarithm of the queue that an order is found by.
 pub fn find_loop(alloc: Global, r: &Resolved) -> Result<Option<Vec<u32>>, Memory>
     ensures { IfOk result (λ found. MatchOption found (HasNoLoop (needs_of (diagram_of r.now)))
         (λ loop. IsLeastLoop (needs_of (diagram_of r.now)) loop.items)) }
@@ -23,8 +23,8 @@ pub fn find_loop(alloc: Global, r: &Resolved) -> Result<Option<Vec<u32>>, Memory
     find_in(alloc, &g)
 }
 
-// The same in a graph.
-pub(crate) fn find_in(alloc: Global, g: &Graph) -> Result<Option<Vec<u32>>, Memory>
+/// The loop that [`find_loop`] tells, in a graph whose edges lead from what is needed to what needs it.
+pub fn find_in(alloc: Global, g: &Graph) -> Result<Option<Vec<u32>>, Memory>
     ensures { IfOk result
         (λ found. MatchOption found (HasNoLoop (needed g.now))
         (λ loop. IsLeastLoop (needed g.now) loop.items)) }

@@ -1,3 +1,4 @@
+mod script;
 mod shapes;
 mod words;
 

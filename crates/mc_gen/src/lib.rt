@@ -10,6 +10,3 @@ mod trace;
 
 pub use model::generate;
 pub use trace::generate_trace;
-
-#[cfg(test)]
-mod tests;

@@ -9,6 +9,3 @@ mod system;
 mod systems;
 
 pub use interfaces::report_of;
-
-#[cfg(test)]
-mod tests;

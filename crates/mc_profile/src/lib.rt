@@ -35,6 +35,3 @@ pub use nodes::{Node, Nodes};
 pub use profile::{Function, Profile};
 pub use profiles::{local_with, profile_of, system_nodes};
 pub use tree_profiles::profiles_of;
-
-#[cfg(test)]
-mod tests;

@@ -18,6 +18,3 @@ pub use laws::{reports_are_one, reports_on_are_right, stops_are_faults};
 pub use printing::print_report;
 pub use reading::read_report;
 pub use report::SystemReport;
-
-#[cfg(test)]
-mod tests;

@@ -7,6 +7,3 @@ mod schedule;
 
 pub use node_list::NodeList;
 pub use schedule::{Schedule, schedule_of};
-
-#[cfg(test)]
-mod tests;

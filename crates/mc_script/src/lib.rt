@@ -7,6 +7,3 @@ mod walk;
 
 pub use calls::{ReadCall, ScriptLine, ScriptWhy, read_call};
 pub use walk::{BadCall, last_call, next_call};
-
-#[cfg(test)]
-mod tests;

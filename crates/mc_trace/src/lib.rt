@@ -10,6 +10,3 @@ pub use fields::{field_number, next_field};
 pub use lines::{LONGEST_LINE, Next, next_line};
 pub use rows::{BadLine, BadWhy, read_row};
 pub use walk::{last_row, next_row};
-
-#[cfg(test)]
-mod tests;

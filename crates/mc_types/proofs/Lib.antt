@@ -2,4 +2,3 @@ pub mod lemmas
 pub mod PathLemmas
 pub mod FaultLemmas
 pub mod Countable
-pub mod InputTree

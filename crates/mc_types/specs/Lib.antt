@@ -2,4 +2,3 @@ pub mod Rules
 pub mod Marks
 pub mod Walks
 pub mod Inferred
-pub mod Samples

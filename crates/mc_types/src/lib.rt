@@ -10,6 +10,3 @@ mod rows;
 mod rules;
 
 pub use infer::infer_types;
-
-#[cfg(test)]
-mod tests;

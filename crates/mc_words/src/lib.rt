@@ -12,6 +12,3 @@ mod reading;
 pub use commands::Command;
 pub use lawful::is_lawful;
 pub use reading::command;
-
-#[cfg(test)]
-mod tests;

@@ -14,6 +14,3 @@ pub use defaults::Defaults;
 pub use fault::ParamFault;
 pub use forms::{number, type_of};
 pub use times::sample_time;
-
-#[cfg(test)]
-mod tests;

@@ -9,6 +9,3 @@ mod strings;
 
 pub use fault::ReadFault;
 pub use reader::read_mdl;
-
-#[cfg(test)]
-mod tests;

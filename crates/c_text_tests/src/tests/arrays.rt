@@ -25,10 +25,10 @@ fn an_array_has_its_length(rt: HostRuntime) -> Result<(), Fail> {
 
 #[test]
 fn lengths_from_1_to_65535(rt: HostRuntime) -> Result<(), Fail> {
-    for field in [b"int32_t a[1];".as_slice(), b"int64_t a[65535];"] {
+    for &field in &[b"int32_t a[1];".as_slice(), b"int64_t a[65535];"] {
         assert_eq!(rt; field_fault(rt.alloc(), field)?, None);
     }
-    for (field, kind) in [
+    for &(field, kind) in &[
         (b"int32_t a[0];".as_slice(), TypeRule),
         (b"int32_t a[65536];", TypeRule),
         (b"int32_t a[9223372036854775807];", TypeRule),
@@ -41,7 +41,7 @@ fn lengths_from_1_to_65535(rt: HostRuntime) -> Result<(), Fail> {
 
 #[test]
 fn lengths_that_are_no_literals(rt: HostRuntime) -> Result<(), Fail> {
-    for field in [
+    for &field in &[
         b"int32_t a[];".as_slice(),
         b"int32_t a[03];",
         b"int32_t a[INT64_C(3)];",
@@ -57,7 +57,7 @@ fn lengths_that_are_no_literals(rt: HostRuntime) -> Result<(), Fail> {
 #[test]
 fn arrays_by_the_names_of_outputs(rt: HostRuntime) -> Result<(), Fail> {
     assert_eq!(rt; field_fault(rt.alloc(), b"int32_t y[3];")?, None);
-    for (field, line, kind) in [
+    for &(field, line, kind) in &[
         (b"int32_t y2[3];".as_slice(), 5, TypeRule),
         (b"int32_t y02[3];", 5, TypeRule),
         // an array closes no gap between outputs

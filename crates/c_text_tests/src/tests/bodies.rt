@@ -4,7 +4,7 @@ use std::test::Fail;
 
 #[test]
 fn items_where_they_may_stand(rt: HostRuntime) -> Result<(), Fail> {
-    for body in [
+    for &body in &[
         b"s->a[INT64_C(2)] = (int16_t)INT64_C(1);".as_slice(),
         b"s->y1 = (int32_t)(int64_t)s->a[INT64_C(0)];",
         // whether an index is within its array is no rule on the text
@@ -20,7 +20,7 @@ fn items_where_they_may_stand(rt: HostRuntime) -> Result<(), Fail> {
 
 #[test]
 fn arrays_without_an_index(rt: HostRuntime) -> Result<(), Fail> {
-    for body in [
+    for &body in &[
         b"s->a = (int16_t)INT64_C(1);".as_slice(),
         b"s->y1 = (int32_t)(int64_t)s->a;",
         b"s->y1 = (int32_t)(int64_t)s->p.b;",
@@ -34,7 +34,7 @@ fn arrays_without_an_index(rt: HostRuntime) -> Result<(), Fail> {
 
 #[test]
 fn an_index_behind_what_is_no_array(rt: HostRuntime) -> Result<(), Fail> {
-    for (body, kind) in [
+    for &(body, kind) in &[
         (
             b"s->y1[INT64_C(0)] = (int32_t)INT64_C(1);".as_slice(),
             TypeRule,
@@ -55,7 +55,7 @@ fn an_index_behind_what_is_no_array(rt: HostRuntime) -> Result<(), Fail> {
 
 #[test]
 fn a_store_before_its_index_and_its_index_before_its_value(rt: HostRuntime) -> Result<(), Fail> {
-    for (body, line, kind) in [
+    for &(body, line, kind) in &[
         (
             b"s->a[\n(int64_t)x] = (int32_t)\n(int64_t)z;".as_slice(),
             10,
@@ -77,7 +77,7 @@ fn a_store_before_its_index_and_its_index_before_its_value(rt: HostRuntime) -> R
 
 #[test]
 fn a_leaf_before_its_index(rt: HostRuntime) -> Result<(), Fail> {
-    for (body, line, kind) in [
+    for &(body, line, kind) in &[
         (
             b"s->y1 = (int32_t)(int64_t)s->n[\n(int64_t)x];".as_slice(),
             10,
@@ -101,7 +101,7 @@ fn a_leaf_before_its_index(rt: HostRuntime) -> Result<(), Fail> {
 
 #[test]
 fn tokens_before_rules(rt: HostRuntime) -> Result<(), Fail> {
-    for (body, line, kind) in [
+    for &(body, line, kind) in &[
         (b"s->a[] = (int32_t)INT64_C(1);".as_slice(), 10, Syntax),
         (b"s->q[INT64_C(0)] = (int32_t)INT64_C(1);", 5, TypeRule),
     ] {

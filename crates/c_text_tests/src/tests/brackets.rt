@@ -18,7 +18,7 @@ fn with_statement(alloc: Global, statement: &[u8]) -> Result<Vec<u8>, AllocError
 
 #[test]
 fn lengths(rt: HostRuntime) -> Result<(), Fail> {
-    for field in [
+    for &field in &[
         b"int32_t a[3];".as_slice(),
         b"uint8_t a [ 65536 ] ;",
         b"int8_t a[0];",
@@ -27,7 +27,7 @@ fn lengths(rt: HostRuntime) -> Result<(), Fail> {
         let text = with_field(rt.alloc(), field)?;
         assert_eq!(rt; parse_fault(rt.alloc(), &text), None);
     }
-    for (field, line) in [
+    for &(field, line) in &[
         (b"int8_t a[9223372036854775808];".as_slice(), 3),
         (b"int8_t a[03];", 3),
         (b"int8_t a[-1];", 3),
@@ -51,7 +51,7 @@ fn lengths(rt: HostRuntime) -> Result<(), Fail> {
 
 #[test]
 fn items(rt: HostRuntime) -> Result<(), Fail> {
-    for statement in [
+    for &statement in &[
         b"s->y1 = (int32_t)(int64_t)s->a[(((int64_t)u1 + INT64_C(1)) % INT64_C(3))];".as_slice(),
         b"s->y1 = (int32_t)(int64_t) s -> a [ (int64_t)s->a[(int64_t)s->c.v] ] ;",
         b"s->a[((int64_t)u1 % INT64_C(3))] = (int32_t)(int64_t)s->a[INT64_C(2)];",
@@ -61,7 +61,7 @@ fn items(rt: HostRuntime) -> Result<(), Fail> {
         let text = with_statement(rt.alloc(), statement)?;
         assert_eq!(rt; parse_fault(rt.alloc(), &text), None);
     }
-    for (statement, line) in [
+    for &(statement, line) in &[
         (b"s->y1 = (int32_t)(int64_t)u1\n[INT64_C(0)];".as_slice(), 8),
         (b"s->y1 = (int32_t)(int64_t)s\n[INT64_C(0)];", 8),
         (b"s->y1 = (int32_t)(int64_t)s->c.v\n[INT64_C(0)];", 8),
@@ -99,7 +99,7 @@ fn items(rt: HostRuntime) -> Result<(), Fail> {
 // Wherever a text ends before, in or behind brackets, its last line is told.
 #[test]
 fn ends_in_brackets(rt: HostRuntime) -> Result<(), Fail> {
-    for field in [
+    for &field in &[
         b"int32_t a".as_slice(),
         b"int32_t a[",
         b"int32_t a[3",
@@ -109,7 +109,7 @@ fn ends_in_brackets(rt: HostRuntime) -> Result<(), Fail> {
         let text = joined(rt.alloc(), &[BEFORE_A_FIELD, field])?;
         assert_eq!(rt; parse_fault(rt.alloc(), &text), refused(3, Syntax));
     }
-    for statement in [
+    for &statement in &[
         b"s->a".as_slice(),
         b"s->a[",
         b"s->a[INT64_C(0)",

@@ -29,8 +29,8 @@ fn items_in(
 // at one token Syntax comes before Deep.
 #[test]
 fn too_many_items(rt: HostRuntime) -> Result<(), Fail> {
-    for statement in [b"s->a[".as_slice(), b"s->y1 = (int32_t)"] {
-        for (count, behind, kind) in [
+    for &statement in &[b"s->a[".as_slice(), b"s->y1 = (int32_t)"] {
+        for &(count, behind, kind) in &[
             (101, b"".as_slice(), Deep),
             (100, b"]", Syntax),
             (99, b"INT64_C(1)\n;", Syntax),

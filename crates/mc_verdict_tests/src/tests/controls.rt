@@ -4,7 +4,7 @@ use std::test::Fail;
 // A subsystem that is triggered, at line 14: its Inport and its TriggerPort end at line 25.
 #[test]
 fn triggered(rt: HostRuntime) -> Result<(), Fail> {
-    for (trigger, more, lines, expected) in [
+    for &(trigger, more, lines, expected) in &[
         ("boolean", "", "x 1 > y 1", "accepted"),
         (
             "boolean",
@@ -34,7 +34,7 @@ fn triggered(rt: HostRuntime) -> Result<(), Fail> {
 // A subsystem with both controls, at line 20: its control ports end at line 35.
 #[test]
 fn enabled_and_triggered(rt: HostRuntime) -> Result<(), Fail> {
-    for (enable, trigger, more, expected) in [
+    for &(enable, trigger, more, expected) in &[
         ("boolean", "boolean", "", "accepted"),
         ("int8", "boolean", "", "accepted"),
         ("boolean", "int8", "", "refused F18 TriggerSigned line 20"),

@@ -13,7 +13,7 @@ fn two_times(alloc: Global, first: &str, second: &str) -> Result<String, AllocEr
 // The common denominator, which grows row by row: by the period, and then by the offset if there is one.
 #[test]
 fn common_denominators(rt: HostRuntime) -> Result<(), Fail> {
-    for (first, second, root, inside) in [
+    for &(first, second, root, inside) in &[
         ("1/1000000000", "1/1000000000", "accepted", "accepted"),
         ("1/1000000000", "[1/500000000,0]", "accepted", "accepted"),
         (
@@ -50,7 +50,7 @@ fn common_denominators(rt: HostRuntime) -> Result<(), Fail> {
 // Periods in base ticks, of which there may be a million; the base tick goes by all periods and offsets.
 #[test]
 fn long_periods(rt: HostRuntime) -> Result<(), Fail> {
-    for (first, second, root, inside) in [
+    for &(first, second, root, inside) in &[
         ("1", "1000000", "accepted", "accepted"),
         ("1000001", "2000002", "accepted", "accepted"),
         (
@@ -81,7 +81,7 @@ fn long_periods(rt: HostRuntime) -> Result<(), Fail> {
 // The cycle in base ticks, of which there may be 1,073,741,824.
 #[test]
 fn long_cycles(rt: HostRuntime) -> Result<(), Fail> {
-    for (first, second, root, inside) in [
+    for &(first, second, root, inside) in &[
         ("32768", "32767", "accepted", "accepted"),
         (
             "32768",
@@ -106,7 +106,7 @@ fn long_cycles(rt: HostRuntime) -> Result<(), Fail> {
 // Behind one rule the next, whatever the lines: here of a third row, at line 15.
 #[test]
 fn the_first_rule_is_told(rt: HostRuntime) -> Result<(), Fail> {
-    for (first, second, third, expected) in [
+    for &(first, second, third, expected) in &[
         (
             "1000001",
             "1/1000000000",
@@ -137,7 +137,7 @@ fn the_first_rule_is_told(rt: HostRuntime) -> Result<(), Fail> {
 // The written step counts for the base tick, and for its denominator before all rows.
 #[test]
 fn written_steps(rt: HostRuntime) -> Result<(), Fail> {
-    for (step, expected) in [
+    for &(step, expected) in &[
         ("auto", "accepted"),
         ("0", "accepted"),
         ("1/1000000", "accepted"),

@@ -18,7 +18,7 @@ fn delays(alloc: Global, count: u32, last: u32) -> Result<String, AllocError> {
 // A million samples are the most that may be; the first delay with which there are more is told.
 #[test]
 fn long_delays(rt: HostRuntime) -> Result<(), Fail> {
-    for (count, last, root, inside) in [
+    for &(count, last, root, inside) in &[
         (15, 16_975, "accepted", "accepted"),
         (
             15,
@@ -43,7 +43,7 @@ fn long_delays(rt: HostRuntime) -> Result<(), Fail> {
 #[test]
 fn delays_of_two_systems(rt: HostRuntime) -> Result<(), Fail> {
     let around = delays(rt.alloc(), 8, 1)?;
-    for (count, last, expected) in [
+    for &(count, last, expected) in &[
         (7, 16_974, "accepted"),
         (7, 16_975, "refused F24 LongDelays line 193 total 1000001"),
         (8, 1, "refused F24 LongDelays line 193 total 1048561"),

@@ -11,7 +11,7 @@ const MODEL: &str = "Model {\nSystem {\n}\n}\n#.................................
 #[test]
 fn long_files(rt: HostRuntime) -> Result<(), Fail> {
     let comments = COMMENT.repeat(rt.alloc(), 262_143)?;
-    for (behind, expected) in [
+    for &(behind, expected) in &[
         ("", "accepted"),
         ("\n", "refused F1 TooLong"),
         // The text has a fault too.
@@ -27,7 +27,7 @@ fn long_files(rt: HostRuntime) -> Result<(), Fail> {
 // Faults of the text come before those of its tree.
 #[test]
 fn files_without_a_tree(rt: HostRuntime) -> Result<(), Fail> {
-    for (file, expected) in [
+    for &(file, expected) in &[
         ("", "refused F3 NoModel line 0"),
         ("}\n", "refused F2 Syntax line 1 Brace"),
         ("Library {\n}\n", "refused F4 TwoModels line 1 Library"),
@@ -47,7 +47,7 @@ fn files_without_a_tree(rt: HostRuntime) -> Result<(), Fail> {
 // Faults of the text of a block, at both depths; of two the first.
 #[test]
 fn blocks_without_a_tree(rt: HostRuntime) -> Result<(), Fail> {
-    for (parts, root, inside) in [
+    for &(parts, root, inside) in &[
         (
             "Block { / BlockType Ground / Name \"g / }",
             "refused F2 Syntax line 5 OpenString",
@@ -92,7 +92,7 @@ fn blocks_without_a_tree(rt: HostRuntime) -> Result<(), Fail> {
 // The deepest section that may be, and one more.
 #[test]
 fn deep_sections(rt: HostRuntime) -> Result<(), Fail> {
-    for (depth, expected) in [
+    for &(depth, expected) in &[
         (128, "refused F2 Syntax line 128 Brace"),
         (129, "refused F2 Syntax line 129 DeepSections"),
         (130, "refused F2 Syntax line 129 DeepSections"),

@@ -4,7 +4,7 @@ use std::test::Fail;
 // Blocks from line 16 on in a subsystem that is triggered: at any depth none may have a time of its own.
 #[test]
 fn times_inside_triggered_subsystems(rt: HostRuntime) -> Result<(), Fail> {
-    for (blocks, root, inside) in [
+    for &(blocks, root, inside) in &[
         (
             "Constant k OutDataTypeStr=int8 SampleTime=inf; UnitDelay d SampleTime=-1; k 1 > d 1",
             "accepted",
@@ -38,7 +38,7 @@ fn times_inside_triggered_subsystems(rt: HostRuntime) -> Result<(), Fail> {
 // Blocks at line 21 whose time is explicit by another parameter than a period of SampleTime.
 #[test]
 fn holds_and_transitions_inside_triggered_subsystems(rt: HostRuntime) -> Result<(), Fail> {
-    for (block, root, inside) in [
+    for &(block, root, inside) in &[
         ("RateTransition z", "accepted", "accepted"),
         (
             "RateTransition z OutPortSampleTime=2 OutPortSampleTimeOpt=Inherit",
@@ -69,7 +69,7 @@ fn holds_and_transitions_inside_triggered_subsystems(rt: HostRuntime) -> Result<
 // An enable alone lets times stand, and a trigger beside it doesn't.
 #[test]
 fn times_inside_enabled_subsystems(rt: HostRuntime) -> Result<(), Fail> {
-    for (port, line, root, inside) in [
+    for &(port, line, root, inside) in &[
         ("", "", "accepted", "accepted"),
         (
             "TriggerPort p",

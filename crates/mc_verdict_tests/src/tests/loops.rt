@@ -4,7 +4,7 @@ use std::test::Fail;
 // Loops of one system: of gains, of a sum with itself, and broken by a delay.
 #[test]
 fn loops_of_blocks(rt: HostRuntime) -> Result<(), Fail> {
-    for (parts, root, inside) in [
+    for &(parts, root, inside) in &[
         (
             "Constant c OutDataTypeStr=int32; Sum p; UnitDelay d; c 1 > p 1; d 1 > p 2; p 1 > d 1",
             "accepted",
@@ -37,7 +37,7 @@ fn loops_of_blocks(rt: HostRuntime) -> Result<(), Fail> {
 // Two loops through a sum, at line 3: the shorter is told, and of two alike the one of the lesser row.
 #[test]
 fn two_loops_through_a_sum(rt: HostRuntime) -> Result<(), Fail> {
-    for (lines, root, inside) in [
+    for &(lines, root, inside) in &[
         (
             "m 1 > p 1; k 1 > p 2; l 1 > k 1; p 1 > l 1; p 1 > m 1",
             "refused F23 Loop 3 16",
@@ -65,7 +65,7 @@ fn two_loops_through_a_sum(rt: HostRuntime) -> Result<(), Fail> {
 // Loops of rows of two systems, by what enters a subsystem and by what enables or triggers it.
 #[test]
 fn loops_through_subsystems(rt: HostRuntime) -> Result<(), Fail> {
-    for (parts, root, inside) in [
+    for &(parts, root, inside) in &[
         (
             "SubSystem t {; Inport x OutDataTypeStr=int8; UnitDelay d; Outport y; x 1 > d 1; d 1 > y 1; }; t 1 > t 1",
             "accepted",
@@ -96,7 +96,7 @@ fn loops_through_subsystems(rt: HostRuntime) -> Result<(), Fail> {
 // A RateTransition that delays breaks a loop, and one that holds doesn't.
 #[test]
 fn loops_through_transitions(rt: HostRuntime) -> Result<(), Fail> {
-    for (from, to, root, inside) in [
+    for &(from, to, root, inside) in &[
         (4, 1, "accepted", "accepted"),
         (1, 4, "refused F23 Loop 3 9", "refused F23 Loop 7 13"),
         (1, 1, "refused F23 Loop 3 9", "refused F23 Loop 7 13"),

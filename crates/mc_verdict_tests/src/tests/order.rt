@@ -4,7 +4,7 @@ use std::test::Fail;
 // Of two refusals the one of the lesser number, although the other's line is before: types and widths.
 #[test]
 fn refusals_of_types_in_order(rt: HostRuntime) -> Result<(), Fail> {
-    for (parts, root, inside) in [
+    for &(parts, root, inside) in &[
         (
             "Constant c; Constant k OutDataTypeStr=int8 SampleTime=0",
             "refused F15 Continuous line 7",
@@ -41,7 +41,7 @@ fn refusals_of_types_in_order(rt: HostRuntime) -> Result<(), Fail> {
 // The same of sample times and loops.
 #[test]
 fn refusals_of_times_in_order(rt: HostRuntime) -> Result<(), Fail> {
-    for (parts, root, inside) in [
+    for &(parts, root, inside) in &[
         (
             "Constant c OutDataTypeStr=int8 SampleTime=1; Constant d OutDataTypeStr=int8 SampleTime=1000001; \
              Constant b OutDataTypeStr=boolean; \

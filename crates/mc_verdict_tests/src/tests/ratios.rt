@@ -5,7 +5,7 @@ use std::test::Fail;
 // the times are equal.
 #[test]
 fn ratios_of_rates(rt: HostRuntime) -> Result<(), Fail> {
-    for (from, to, root, inside) in [
+    for &(from, to, root, inside) in &[
         ("2", "4", "accepted", "accepted"),
         ("4", "2", "accepted", "accepted"),
         ("[2,1]", "[2,1]", "accepted", "accepted"),
@@ -47,7 +47,7 @@ fn ratios_of_rates(rt: HostRuntime) -> Result<(), Fail> {
 // has none. Of two the first is told.
 #[test]
 fn ratios_of_found_rates(rt: HostRuntime) -> Result<(), Fail> {
-    for (more, root, inside) in [
+    for &(more, root, inside) in &[
         (
             "RateTransition r OutPortSampleTime=6; p 1 > r 1",
             "accepted",

@@ -36,7 +36,7 @@ fn two_rates(rt: HostRuntime) -> Result<(), Fail> {
 #[test]
 fn rate_transitions(rt: HostRuntime) -> Result<(), Fail> {
     let alloc = rt.alloc();
-    for (inside, outside, run, delays) in [
+    for &(inside, outside, run, delays) in &[
         (4, 1, [(4, 0), (4, 0), (1, 0)], [false, true, false]),
         (1, 4, [(1, 0), (4, 0), (4, 0)], [false, false, false]),
     ] {

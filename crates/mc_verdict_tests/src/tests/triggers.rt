@@ -4,7 +4,7 @@ use std::test::Fail;
 // What triggers a subsystem at line 8.
 #[test]
 fn types_of_triggers(rt: HostRuntime) -> Result<(), Fail> {
-    for (type_text, root, inside) in [
+    for &(type_text, root, inside) in &[
         ("boolean", "accepted", "accepted"),
         ("uint32", "accepted", "accepted"),
         ("fixdt(0,1,31)", "accepted", "accepted"),
@@ -30,7 +30,7 @@ fn types_of_triggers(rt: HostRuntime) -> Result<(), Fail> {
 // Signed and unsigned controls; of two subsystems, and of one inside another, the first in the file.
 #[test]
 fn subsystems_with_signed_triggers(rt: HostRuntime) -> Result<(), Fail> {
-    for (subsystems, root, inside) in [
+    for &(subsystems, root, inside) in &[
         (
             "SubSystem t {; EnablePort p; }; c 1 > t enable",
             "accepted",

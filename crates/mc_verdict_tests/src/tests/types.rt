@@ -4,7 +4,7 @@ use std::test::Fail;
 // Rules that lead round, to a Ground or to nothing; what has no value needs no type.
 #[test]
 fn rows_without_a_type(rt: HostRuntime) -> Result<(), Fail> {
-    for (parts, root, inside) in [
+    for &(parts, root, inside) in &[
         (
             "Constant c OutDataTypeStr=int8; Gain k; Terminator t; c 1 > k 1; k 1 > t 1",
             "accepted",
@@ -41,7 +41,7 @@ fn rows_without_a_type(rt: HostRuntime) -> Result<(), Fail> {
 // Written types that aren't those of the inputs.
 #[test]
 fn types_unlike_those_read(rt: HostRuntime) -> Result<(), Fail> {
-    for (parts, root, inside) in [
+    for &(parts, root, inside) in &[
         (
             "Constant c OutDataTypeStr=int8; Outport y OutDataTypeStr=fixdt(1,8,0); c 1 > y 1",
             "accepted",
@@ -83,7 +83,7 @@ fn types_unlike_those_read(rt: HostRuntime) -> Result<(), Fail> {
 // Of two rows the one at the lesser line, whatever is wrong with it; no type is unlike one that is missing.
 #[test]
 fn the_first_type_is_told(rt: HostRuntime) -> Result<(), Fail> {
-    for (parts, root, inside) in [
+    for &(parts, root, inside) in &[
         (
             "Constant c OutDataTypeStr=int8; Outport y OutDataTypeStr=int16; UnitDelay d; c 1 > y 1; d 1 > d 1",
             "refused F17 NoType line 8 Unlike",
@@ -108,7 +108,7 @@ fn the_first_type_is_told(rt: HostRuntime) -> Result<(), Fail> {
 // An Inport of the root writes its type; one of a subsystem has that of what enters it.
 #[test]
 fn types_of_inports(rt: HostRuntime) -> Result<(), Fail> {
-    for (parts, expected) in [
+    for &(parts, expected) in &[
         ("Inport a", "refused F17 NoType line 3 Missing"),
         (
             "Inport a OutDataTypeStr=int8; SubSystem s {; Inport x; Gain k; x 1 > k 1; }; a 1 > s 1",

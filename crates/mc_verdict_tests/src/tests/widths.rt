@@ -19,7 +19,7 @@ fn wide_block(
 
 #[test]
 fn wide_products(rt: HostRuntime) -> Result<(), Fail> {
-    for (types, root, inside) in [
+    for &(types, root, inside) in &[
         (("int32", "int32"), "accepted", "accepted"),
         (
             ("uint32", "int32"),
@@ -39,7 +39,7 @@ fn wide_products(rt: HostRuntime) -> Result<(), Fail> {
 
 #[test]
 fn wide_sums_and_comparisons(rt: HostRuntime) -> Result<(), Fail> {
-    for (block, types, root, inside) in [
+    for &(block, types, root, inside) in &[
         ("Sum p", ("int32", "fixdt(1,32,30)"), "accepted", "accepted"),
         (
             "Sum p",
@@ -68,7 +68,7 @@ fn wide_sums_and_comparisons(rt: HostRuntime) -> Result<(), Fail> {
 // What a result adds to its value, and the first of two rows.
 #[test]
 fn wide_results(rt: HostRuntime) -> Result<(), Fail> {
-    for (parts, root, inside) in [
+    for &(parts, root, inside) in &[
         (
             "Constant c OutDataTypeStr=int32; DataTypeConversion x OutDataTypeStr=fixdt(1,32,31); c 1 > x 1",
             "accepted",

@@ -17,7 +17,7 @@ fn crossed_ports(rt: HostRuntime) -> Result<(), Fail> {
 // A sum, at line 8, of an input and of itself: through a delay, and through a gain, at line 13.
 #[test]
 fn loop_through_a_gain(rt: HostRuntime) -> Result<(), Fail> {
-    for (through, expected) in [
+    for &(through, expected) in &[
         ("UnitDelay d", "accepted"),
         ("Gain d Gain=1", "refused F23 Loop 8 13"),
     ] {
@@ -34,7 +34,7 @@ fn loop_through_a_gain(rt: HostRuntime) -> Result<(), Fail> {
 // A subsystem whose output enables it: the loop is of its Inport, at line 12, and its Outport, at line 20.
 #[test]
 fn enable_of_its_own_output(rt: HostRuntime) -> Result<(), Fail> {
-    for (lines, expected) in [
+    for &(lines, expected) in &[
         ("e 1 > e enable", "refused F23 Loop 12 20"),
         (
             "UnitDelay d InitialCondition=1; e 1 > d 1; d 1 > e enable",
@@ -54,7 +54,7 @@ fn enable_of_its_own_output(rt: HostRuntime) -> Result<(), Fail> {
 // An input of two seconds that is held for three, and two inputs whose ticks are too many.
 #[test]
 fn rate_refusals(rt: HostRuntime) -> Result<(), Fail> {
-    for (parts, expected) in [
+    for &(parts, expected) in &[
         (
             "Inport a OutDataTypeStr=int32 SampleTime=2; RateTransition r OutPortSampleTime=3; Outport o; \
              a 1 > r 1; r 1 > o 1",
@@ -80,7 +80,7 @@ fn rate_refusals(rt: HostRuntime) -> Result<(), Fail> {
 // Two types that differ, and a product of two words of 32 bits.
 #[test]
 fn type_refusals(rt: HostRuntime) -> Result<(), Fail> {
-    for (parts, expected) in [
+    for &(parts, expected) in &[
         (
             "Inport a OutDataTypeStr=int8; Outport o OutDataTypeStr=int16; a 1 > o 1",
             "refused F17 NoType line 8 Unlike",

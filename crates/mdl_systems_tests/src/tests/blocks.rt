@@ -12,7 +12,7 @@ const NESTED: &str =
 // Blocks and lines that aren't read, in the root and in a subsystem, and parameters out of form, which come behind them.
 #[test]
 fn blocks_that_are_refused(rt: HostRuntime) -> Result<(), Fail> {
-    for (lines, expected) in [
+    for &(lines, expected) in &[
         (NESTED, "read\n"),
         ("Block { / Name b / }", "refused F7 Unsupported line 3\n"),
         (
@@ -73,7 +73,7 @@ fn blocks_in_order(rt: HostRuntime) -> Result<(), Fail> {
         return Err(Fail::from("refused"));
     };
     let mut found = model.blocks.iter();
-    for (owner, name, line) in [(None, "s", 3), (Some(0), "x", 7), (None, "g", 13)] {
+    for &(owner, name, line) in &[(None, "s", 3), (Some(0), "x", 7), (None, "g", 13)] {
         let placed = found.next().ok_or("a block")?;
         assert_eq!(rt; placed.owner, owner);
         assert_eq!(rt; placed.block.name, name.as_bytes());

@@ -5,7 +5,7 @@ use std::test::Fail;
 // A file without a model, one whose model has no System, libraries, and a second model: in this order.
 #[test]
 fn models_of_files(rt: HostRuntime) -> Result<(), Fail> {
-    for (text, expected) in [
+    for &(text, expected) in &[
         ("Model {\nSystem {\n}\n}\n", "read\n"),
         ("", "refused F3 NoModel line 0\n"),
         ("Stateflow {\n}\n", "refused F3 NoModel line 0\n"),

@@ -15,7 +15,7 @@ fn nested(alloc: Global, depth: usize, behind: &str) -> Result<String, AllocErro
 fn deep_subsystems(rt: HostRuntime) -> Result<(), Fail> {
     let alloc = rt.alloc();
     let crowd = "Inport i; ".repeat(alloc, 33)?;
-    for (depth, behind, expected) in [
+    for &(depth, behind, expected) in &[
         (32, "", "read\n"),
         (33, "", "refused F5 TooDeep line 131\n"),
         (34, "", "refused F5 TooDeep line 131\n"),
@@ -33,7 +33,7 @@ fn deep_subsystems(rt: HostRuntime) -> Result<(), Fail> {
 #[test]
 fn too_many_blocks(rt: HostRuntime) -> Result<(), Fail> {
     let alloc = rt.alloc();
-    for (block, count, expected) in [
+    for &(block, count, expected) in &[
         ("Ground g; ", 20_000, "read\n"),
         (
             "Ground g; ",
@@ -59,7 +59,7 @@ fn too_many_blocks(rt: HostRuntime) -> Result<(), Fail> {
 fn too_many_blocks_of_all_systems(rt: HostRuntime) -> Result<(), Fail> {
     let alloc = rt.alloc();
     let blocks = "Ground g; ".repeat(alloc, 19_999)?;
-    for (behind, expected) in [
+    for &(behind, expected) in &[
         ("", "read\n"),
         ("Ground h", "refused F6 TooMany line 80005 Blocks 20001\n"),
     ] {
@@ -82,7 +82,7 @@ fn ports(alloc: Global, inports: usize, outports: usize) -> Result<String, Alloc
 #[test]
 fn crowded_systems(rt: HostRuntime) -> Result<(), Fail> {
     let alloc = rt.alloc();
-    for (inports, outports, root, inside) in [
+    for &(inports, outports, root, inside) in &[
         (32, 32, "read\n", "read\n"),
         (
             33,

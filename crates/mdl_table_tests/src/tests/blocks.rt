@@ -5,7 +5,7 @@ use std::test::Fail;
 // the first.
 #[test]
 fn what_is_not_read(rt: HostRuntime) -> Result<(), Fail> {
-    for (parts, root, inside) in [
+    for &(parts, root, inside) in &[
         (
             "Ground a; Scope b; Mux c",
             "refused F7 Unsupported line 7",
@@ -48,7 +48,7 @@ fn what_is_not_read(rt: HostRuntime) -> Result<(), Fail> {
 // The first in the order of a block's parameters, of the first block.
 #[test]
 fn the_first_parameter_is_told(rt: HostRuntime) -> Result<(), Fail> {
-    for (parts, root, inside) in [
+    for &(parts, root, inside) in &[
         (
             "Ground",
             "refused F8 Parameter line 3 Name",
@@ -92,7 +92,7 @@ fn the_first_parameter_is_told(rt: HostRuntime) -> Result<(), Fail> {
 #[test]
 fn parameters_at_their_limits(rt: HostRuntime) -> Result<(), Fail> {
     let unconnected = "F13 Unconnected";
-    for (part, number, detail) in [
+    for &(part, number, detail) in &[
         ("Sum a Inputs=16", unconnected, "port 1"),
         ("Sum a Inputs=17", "F8 Parameter", "Inputs"),
         ("Gain a Gain=2147483647", unconnected, "port 1"),

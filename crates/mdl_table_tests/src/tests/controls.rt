@@ -4,7 +4,7 @@ use std::test::Fail;
 // Any control port of the root, which a subsystem may have; of two the first.
 #[test]
 fn control_ports_of_the_root(rt: HostRuntime) -> Result<(), Fail> {
-    for (parts, root, inside) in [
+    for &(parts, root, inside) in &[
         (
             "Ground g; EnablePort e",
             "refused F14 TwoControls line 7",
@@ -32,7 +32,7 @@ fn control_ports_of_the_root(rt: HostRuntime) -> Result<(), Fail> {
 // The second port of one control, in a subsystem whose blocks begin at line 11.
 #[test]
 fn second_control_ports(rt: HostRuntime) -> Result<(), Fail> {
-    for (ports, lines, root, inside) in [
+    for &(ports, lines, root, inside) in &[
         (
             "TriggerPort t; EnablePort e",
             "g 1 > s enable; g 1 > s trigger",

@@ -15,7 +15,7 @@ fn nested(alloc: Global, count: usize) -> Result<String, AllocError> {
 #[test]
 fn deep_subsystems(rt: HostRuntime) -> Result<(), Fail> {
     let alloc = rt.alloc();
-    for (depth, expected) in [
+    for &(depth, expected) in &[
         (32, "accepted"),
         (33, "refused F5 TooDeep line 131"),
         (34, "refused F5 TooDeep line 131"),

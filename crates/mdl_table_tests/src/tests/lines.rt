@@ -4,7 +4,7 @@ use std::test::Fail;
 // Ports at the line from 11 on, from a Ground or to a Terminator or a subsystem without inputs and controls.
 #[test]
 fn ports_that_blocks_miss(rt: HostRuntime) -> Result<(), Fail> {
-    for line in [
+    for &line in &[
         "a 2 > b 1",
         "a 1 > b 2",
         "a 1 > b 0",
@@ -33,7 +33,7 @@ fn ports_that_blocks_miss(rt: HostRuntime) -> Result<(), Fail> {
 // A subsystem has the ports of its Inports, its Outports and its control ports.
 #[test]
 fn ports_that_subsystems_miss(rt: HostRuntime) -> Result<(), Fail> {
-    for (inside, line) in [
+    for &(inside, line) in &[
         ("Ground h", "a 1 > s 1"),
         ("Ground h", "s 1 > b 1"),
         ("TriggerPort h", "a 1 > s enable"),
@@ -62,7 +62,7 @@ fn ports_that_subsystems_miss(rt: HostRuntime) -> Result<(), Fail> {
 // control.
 #[test]
 fn inputs_of_two_lines(rt: HostRuntime) -> Result<(), Fail> {
-    for (lines, root, inside) in [
+    for &(lines, root, inside) in &[
         (
             "a 1 > b 1; a 1 > b 1; a 1 > b 1",
             "refused F12 TwoSources line 17",
@@ -92,7 +92,7 @@ fn inputs_of_two_lines(rt: HostRuntime) -> Result<(), Fail> {
 // the first.
 #[test]
 fn inputs_without_a_line(rt: HostRuntime) -> Result<(), Fail> {
-    for (parts, root, inside) in [
+    for &(parts, root, inside) in &[
         (
             "Ground a; Terminator b; Terminator c; a 1 > c 1",
             "refused F13 Unconnected line 7 port 1",

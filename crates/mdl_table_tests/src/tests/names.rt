@@ -4,7 +4,7 @@ use std::test::Fail;
 // A name or a port that stands twice, told at the later of the first two such.
 #[test]
 fn names_and_ports_that_stand_twice(rt: HostRuntime) -> Result<(), Fail> {
-    for (parts, root, inside) in [
+    for &(parts, root, inside) in &[
         (
             "Ground a; SubSystem b {; Ground a; Ground b; }",
             "accepted",
@@ -42,7 +42,7 @@ fn names_and_ports_that_stand_twice(rt: HostRuntime) -> Result<(), Fail> {
 // Blocks that lines name and the System hasn't, also where no end is written; told at the line or the branch.
 #[test]
 fn blocks_that_lines_miss(rt: HostRuntime) -> Result<(), Fail> {
-    for (lines, root, inside) in [
+    for &(lines, root, inside) in &[
         ("a 1 > b 1", "accepted", "accepted"),
         (
             "z 1 > b 1",

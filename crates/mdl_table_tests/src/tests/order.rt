@@ -4,7 +4,7 @@ use std::test::Fail;
 // Of two refusals the one of the lesser number, although the other's line is before: blocks and lines.
 #[test]
 fn refusals_of_blocks_in_order(rt: HostRuntime) -> Result<(), Fail> {
-    for (parts, root, inside) in [
+    for &(parts, root, inside) in &[
         (
             "Ground; Scope b",
             "refused F7 Unsupported line 6",
@@ -37,7 +37,7 @@ fn refusals_of_blocks_in_order(rt: HostRuntime) -> Result<(), Fail> {
 // The same of inputs, controls, periods and types.
 #[test]
 fn refusals_of_rows_in_order(rt: HostRuntime) -> Result<(), Fail> {
-    for (parts, root, inside) in [
+    for &(parts, root, inside) in &[
         (
             "Ground a; Sum b; a 1 > b 1; a 1 > b 1; a 1 > b 3",
             "refused F11 NoPort line 23",

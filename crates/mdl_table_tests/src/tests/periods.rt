@@ -4,7 +4,7 @@ use std::test::Fail;
 // A period 0, whatever the offset and by whatever parameter; of two the first.
 #[test]
 fn periods_of_0(rt: HostRuntime) -> Result<(), Fail> {
-    for (parts, root, inside) in [
+    for &(parts, root, inside) in &[
         (
             "Constant a Value=true; Constant b Value=true SampleTime=0; Constant c Value=true SampleTime=0",
             "refused F15 Continuous line 8",
@@ -37,7 +37,7 @@ fn periods_of_0(rt: HostRuntime) -> Result<(), Fail> {
 // Floating-point types that are written, and that of a number that writes none; of two the first.
 #[test]
 fn floating_point_types(rt: HostRuntime) -> Result<(), Fail> {
-    for (parts, root, inside) in [
+    for &(parts, root, inside) in &[
         ("Constant a Value=true", "accepted", "accepted"),
         (
             "Block { / BlockType Constant / Name a / OutDataTypeStr Inherit: Logical / }",

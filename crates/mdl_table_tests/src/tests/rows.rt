@@ -15,7 +15,7 @@ fn crossed_ports(rt: HostRuntime) -> Result<(), Fail> {
     )?;
     let rows = tree.table().rows.as_slice();
     assert_eq!(rt; rows.len(), 7);
-    for (row, line, owner, inputs) in [
+    for &(row, line, owner, inputs) in &[
         (0, 3, None, [].as_slice()),
         (1, 8, None, [].as_slice()),
         (2, 12, Some(1), [0].as_slice()),
@@ -99,7 +99,7 @@ fn kinds_of_rows(rt: HostRuntime) -> Result<(), Fail> {
 // An Outport holds its value and begins with 0, where nothing else is written.
 #[test]
 fn starts_of_outports(rt: HostRuntime) -> Result<(), Fail> {
-    for (parameters, written) in [
+    for &(parameters, written) in &[
         ("", (1, false, (0, 1))),
         (
             "OutputWhenDisabled=reset InitialOutput=2.5",
@@ -137,7 +137,7 @@ fn texts_of_rows(rt: HostRuntime) -> Result<(), Fail> {
         bits: 32,
         frac: 0,
     });
-    for (row, type_text, time_text) in [
+    for &(row, type_text, time_text) in &[
         (0, int32, TimeText::Inherit),
         (1, TypeText::Inherit, TimeText::Constant),
         (2, TypeText::Logical, TimeText::Inherit),

@@ -15,7 +15,7 @@ fn step_in(alloc: Global, file: &str) -> Result<Option<Frac>, Fail> {
 #[test]
 fn a_step_is_written_anywhere_but_in_the_system(rt: HostRuntime) -> Result<(), Fail> {
     let half = Some(Frac { num: 1, den: 2 });
-    for (file, step) in [
+    for &(file, step) in &[
         ("Model { / FixedStep 0.5 / System { / } / }", half),
         (
             "Model { / A { / B { / FixedStep 0.5 / } / } / System { / } / }",
@@ -41,7 +41,7 @@ fn the_first_step_decides(rt: HostRuntime) -> Result<(), Fail> {
         num: 1_000_000_000,
         den: 1,
     });
-    for (written, step) in [
+    for &(written, step) in &[
         ("FixedStep auto / FixedStep 0.5", None),
         ("FixedStep 0", None),
         ("FixedStep -0.5", None),

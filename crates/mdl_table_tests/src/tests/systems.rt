@@ -5,7 +5,7 @@ use std::test::Fail;
 // line 11, and what is behind it at line 17 or later.
 #[test]
 fn the_first_refusal_of_all_systems_is_told(rt: HostRuntime) -> Result<(), Fail> {
-    for (inside, behind, expected) in [
+    for &(inside, behind, expected) in &[
         (
             "Ground h; Ground h",
             "g 1 > z 1",

@@ -9,7 +9,7 @@ const SUMMING: &str = "a 1 > p 1; b 1 > p 2; p 1 > y 1";
 #[test]
 fn names_and_ports_of_blocks(rt: HostRuntime) -> Result<(), Fail> {
     let [a, b, p, y] = sum();
-    for (more, expected) in [
+    for &(more, expected) in &[
         (member("c", 80, computed(0)), "lawful\n"),
         (
             member("a", 80, computed(0)),
@@ -34,7 +34,7 @@ fn names_and_ports_of_blocks(rt: HostRuntime) -> Result<(), Fail> {
 // What lines of a sum name, its inputs, and the order of two refusals.
 #[test]
 fn lines_of_a_sum(rt: HostRuntime) -> Result<(), Fail> {
-    for (lines, expected) in [
+    for &(lines, expected) in &[
         (SUMMING, "lawful\n"),
         ("z 1 > p 1", "refused F10 NoBlock line 2\n"),
         ("a 3 > p 1; a 1 > z 1", "refused F10 NoBlock line 8\n"),
@@ -76,7 +76,7 @@ fn lines_of_a_sum(rt: HostRuntime) -> Result<(), Fail> {
 // Both controls of a subsystem.
 #[test]
 fn lines_to_controls(rt: HostRuntime) -> Result<(), Fail> {
-    for (lines, expected) in [
+    for &(lines, expected) in &[
         (
             "s 2 > y 1; a 1 > s 1; a 1 > s trigger; a 1 > s enable",
             "lawful\n",
@@ -116,7 +116,7 @@ fn ports<'a>(first: Shape, second: Shape, third: Shape) -> [Member<'a>; 3] {
 fn control_ports(rt: HostRuntime) -> Result<(), Fail> {
     let enable = Shape::EnablePort;
     let trigger = Shape::TriggerPort;
-    for (members, is_root, expected) in [
+    for &(members, is_root, expected) in &[
         (ports(enable, trigger, computed(0)), false, "lawful\n"),
         (
             ports(enable, trigger, enable),

@@ -29,7 +29,7 @@ fn the_lesser_number_is_first(rt: HostRuntime) -> Result<(), Fail> {
 // A line, and a branch inside a branch.
 #[test]
 fn lines_of_the_newer_form(rt: HostRuntime) -> Result<(), Fail> {
-    for (lines, expected) in [
+    for &(lines, expected) in &[
         ("a 1 > b 1", "none\n"),
         (
             "a 1 > b 1; Line { / Dst b / }",

@@ -1,0 +1,3 @@
+mod blocks;
+mod prelude;
+mod pruned;

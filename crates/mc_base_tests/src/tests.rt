@@ -1,0 +1,6 @@
+mod base;
+mod edge;
+mod fixed;
+mod made;
+mod trace;
+mod words;

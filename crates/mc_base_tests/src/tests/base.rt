@@ -1,0 +1,165 @@
+use mc_base::{
+    NumFault, ParamName, Place, Port, Refusal, Text, frac_of, gcd, lcm, push_number, read_decimal,
+    refusal_text,
+};
+use std::test::Fail;
+
+#[test]
+fn numbers_are_appended(rt: HostRuntime) -> Result<(), Fail> {
+    let alloc = rt.alloc();
+    let mut out = Vec::new(alloc);
+    for &n in &[0, -7, 2_147_483_647, i64::MIN] {
+        push_number(alloc, &mut out, n)?;
+        out.push(b' ')?;
+    }
+    assert_eq!(rt;
+        out.as_slice(),
+        b"0 -7 2147483647 -9223372036854775808 ".as_slice()
+    );
+    Ok(())
+}
+
+#[test]
+fn refusals_are_told(rt: HostRuntime) -> Result<(), Fail> {
+    let alloc = rt.alloc();
+    let mut rows = Vec::new(alloc);
+    rows.push(Place { row: 1, line: 9 })?;
+    rows.push(Place { row: 2, line: 14 })?;
+    for (refusal, line) in [
+        (Refusal::TooLong, "refused F1 TooLong\n"),
+        (
+            Refusal::Unsupported { line: 11 },
+            "refused F7 Unsupported line 11\n",
+        ),
+        (
+            Refusal::Parameter {
+                line: 5,
+                name: ParamName::SampleTime,
+            },
+            "refused F8 Parameter line 5 SampleTime\n",
+        ),
+        (
+            Refusal::Unconnected {
+                line: 7,
+                port: Port::Number(2),
+            },
+            "refused F13 Unconnected line 7 port 2\n",
+        ),
+        (Refusal::Loop { rows }, "refused F23 Loop 9 14\n"),
+    ] {
+        let text = refusal_text(alloc, &refusal)?;
+        assert_eq!(rt; text.as_slice(), line.as_bytes());
+    }
+    Ok(())
+}
+
+const NUMBERS: [(&str, i128, u128); 20] = [
+    ("0.1", 1, 10),
+    ("1/50", 1, 50),
+    (" 2.5\t", 5, 2),
+    ("-7", -7, 1),
+    ("+1.5e2", 150, 1),
+    ("5.", 5, 1),
+    (".5", 1, 2),
+    ("[5e-3]", 1, 200),
+    ("true", 1, 1),
+    ("[false]", 0, 1),
+    ("-0", 0, 1),
+    ("-4/6", -2, 3),
+    ("007/014", 1, 2),
+    ("1E+3", 1000, 1),
+    ("000999999999999999999", 999_999_999_999_999_999, 1),
+    ("1e18", 1_000_000_000_000_000_000, 1),
+    ("0.0000000000000000001e1", 1, 1_000_000_000_000_000_000),
+    ("1e000000000000000000001", 10, 1),
+    ("0e999999999999999999", 0, 1),
+    ("0.00000000000000000000000", 0, 1),
+];
+
+const NO_NUMBERS: [(&str, NumFault); 20] = [
+    ("", NumFault::Form),
+    (".", NumFault::Form),
+    ("-", NumFault::Form),
+    ("+-5", NumFault::Form),
+    ("1e", NumFault::Form),
+    ("1e+", NumFault::Form),
+    ("e5", NumFault::Form),
+    ("1/0", NumFault::Form),
+    ("1/-2", NumFault::Form),
+    ("1.5/2", NumFault::Form),
+    ("1 2", NumFault::Form),
+    ("[ 5]", NumFault::Form),
+    ("[[5]]", NumFault::Form),
+    ("[5", NumFault::Form),
+    ("True", NumFault::Form),
+    ("1000000000000000000", NumFault::Range),
+    ("1e19", NumFault::Range),
+    ("1.5e-18", NumFault::Range),
+    ("1/1000000000000000000", NumFault::Range),
+    ("0e0000000000000000000", NumFault::Range),
+];
+
+#[test]
+fn numbers_are_read(rt: HostRuntime) -> Result<(), Fail> {
+    for (text, num, den) in NUMBERS {
+        let read = read_decimal(text.as_bytes())?;
+        assert_eq!(rt; read.num, num, "{text}");
+        assert_eq!(rt; read.den, den, "{text}");
+    }
+    Ok(())
+}
+
+#[test]
+fn other_texts_are_no_numbers(rt: HostRuntime) {
+    for (text, fault) in NO_NUMBERS {
+        assert_eq!(rt; read_decimal(text.as_bytes()).err(), Some(fault), "{text}");
+    }
+}
+
+#[test]
+fn parts_of_fractions_are_bounded(rt: HostRuntime) -> Result<(), Fail> {
+    for &(text, fits) in &[
+        ("0", true),
+        ("1e9", true),
+        ("1e-9", true),
+        ("-1/2", false),
+        ("1000000001", false),
+        ("1/1000000001", false),
+    ] {
+        let decimal = read_decimal(text.as_bytes())?;
+        match frac_of(&decimal) {
+            Ok(frac) => {
+                assert!(rt; fits, "{text}");
+                assert_eq!(rt; i128::from(frac.num), decimal.num);
+                assert_eq!(rt; u128::from(frac.den), decimal.den);
+            }
+            Err(fault) => {
+                assert!(rt; !fits, "{text}");
+                assert_eq!(rt; fault, NumFault::Range);
+            }
+        }
+    }
+    Ok(())
+}
+
+#[test]
+fn divisors_and_multiples_are_found(rt: HostRuntime) {
+    for &(a, b, divisor, multiple) in &[
+        (1, 1, 1, 1),
+        (12, 18, 6, 36),
+        (35, 64, 1, 2240),
+        (4_294_967_295, 4_294_967_294, 1, 18_446_744_060_824_649_730),
+    ] {
+        assert_eq!(rt; gcd(a, b), divisor);
+        assert_eq!(rt; lcm(a, b), multiple);
+    }
+    assert_eq!(rt; gcd(0, 7), 7);
+    assert_eq!(rt; gcd(7, 0), 7);
+}
+
+#[test]
+fn texts_are_copied(rt: HostRuntime) -> Result<(), Fail> {
+    let text = Text::copy_of(rt.alloc(), b"In 1")?;
+    assert_eq!(rt; text.bytes(), b"In 1".as_slice());
+    Ok(())
+}

@@ -1,0 +1,220 @@
+mod conversions;
+
+use conversions::CONVERSIONS;
+use mc_base::{NumFault, read_decimal};
+use mc_fixed::{
+    Case, FixType, Over, Round, TypeFault, TypeText, all_cases, convert, gain_constant, greatest,
+    least, quantize, read_type,
+};
+use std::test::Fail;
+
+#[test]
+fn types_are_read(rt: HostRuntime) -> Result<(), Fail> {
+    for &(text, signed, bits, frac) in &[
+        ("int8", true, 8, 0),
+        (" uint32\t", false, 32, 0),
+        ("boolean", false, 1, 0),
+        ("fixdt(1,16,4)", true, 16, 4),
+        ("fixdt( true , 08,0 )", true, 8, 0),
+        ("fixdt(0,1,31)", false, 1, 31),
+    ] {
+        match read_type(text.as_bytes())? {
+            TypeText::Fixed(t) => {
+                assert_eq!(rt; t.signed, signed, "{text}");
+                assert_eq!(rt; t.bits, bits, "{text}");
+                assert_eq!(rt; t.frac, frac, "{text}");
+            }
+            _ => assert!(rt; false, "{text}"),
+        }
+    }
+    Ok(())
+}
+
+#[test]
+fn rules_and_other_texts_are_told_apart(rt: HostRuntime) {
+    for &(text, want) in &[
+        ("Inherit: auto", Ok(TypeText::Inherit)),
+        (
+            "Inherit: Logical (see Configuration)",
+            Ok(TypeText::Logical),
+        ),
+        ("Inherit: Inherit via back propagation", Ok(TypeText::Back)),
+        ("Inherit: Logical back propagation", Ok(TypeText::Logical)),
+        ("half", Err(TypeFault::Float)),
+        ("fixdt(0,33,0)", Err(TypeFault::Range)),
+        ("fixdt(1,1,0)", Err(TypeFault::Range)),
+        ("fixdt(0,8,32)", Err(TypeFault::Range)),
+        (
+            "fixdt(0,100000000000000000000000000000000000000,0)",
+            Err(TypeFault::Range),
+        ),
+        ("fixdt(1,16,-4)", Err(TypeFault::Form)),
+        ("fixdt(1,16)", Err(TypeFault::Form)),
+        ("fixdt(1,16,4,0)", Err(TypeFault::Form)),
+        ("fixdt(2,16,4)", Err(TypeFault::Form)),
+        ("fixdt(1,,4)", Err(TypeFault::Form)),
+        ("fixdt(", Err(TypeFault::Form)),
+        ("inherit: auto", Err(TypeFault::Form)),
+        ("int64", Err(TypeFault::Form)),
+        ("", Err(TypeFault::Form)),
+    ] {
+        assert_eq!(rt; read_type(text.as_bytes()), want, "{text}");
+    }
+}
+
+fn round_of(name: &str) -> Option<Round> {
+    match name {
+        "Ceiling" => Some(Round::Ceiling),
+        "Convergent" => Some(Round::Convergent),
+        "Floor" => Some(Round::Floor),
+        "Nearest" => Some(Round::Nearest),
+        "Round" => Some(Round::Round),
+        "Zero" => Some(Round::Zero),
+        _ => None,
+    }
+}
+
+fn over_of(name: &str) -> Option<Over> {
+    match name {
+        "Saturate" => Some(Over::Saturate),
+        "Wrap" => Some(Over::Wrap),
+        _ => None,
+    }
+}
+
+#[test]
+fn numbers_are_converted(rt: HostRuntime) -> Result<(), Fail> {
+    for line in CONVERSIONS.lines() {
+        let mut fields = line.split(' ');
+        let v = fields.next().ok_or("a number")?.parse::<i128>()?;
+        let from_frac = fields.next().ok_or("fraction bits")?.parse::<u8>()?;
+        let text = fields.next().ok_or("a type")?;
+        let round = round_of(fields.next().ok_or("a rounding")?).ok_or(line)?;
+        let over = over_of(fields.next().ok_or("an overflow")?).ok_or(line)?;
+        let want = fields.next().ok_or("a result")?.parse::<i64>()?;
+        let TypeText::Fixed(to) = read_type(text.as_bytes())? else {
+            return Err(Fail::new(line));
+        };
+        assert!(rt; v.unsigned_abs() <= 1 << 62 && from_frac <= 93);
+        assert_eq!(rt; convert(v, from_frac, to, round, over), want, "{line}");
+    }
+    Ok(())
+}
+
+#[test]
+fn ties_and_ends_go_by_the_modes(rt: HostRuntime) -> Result<(), Fail> {
+    let int8 = FixType::new(true, 8, 0).ok_or("int8")?;
+    for &(round, tie, wrapped) in &[
+        (Round::Floor, -3, 127),
+        (Round::Ceiling, -2, -128),
+        (Round::Zero, -2, 127),
+        (Round::Nearest, -2, -128),
+        (Round::Round, -3, -128),
+        (Round::Convergent, -2, -128),
+    ] {
+        // -2.5, and 127.5
+        assert_eq!(rt; convert(-40, 4, int8, round, Over::Saturate), tie);
+        assert_eq!(rt; convert(2040, 4, int8, round, Over::Saturate), 127);
+        assert_eq!(rt; convert(2040, 4, int8, round, Over::Wrap), wrapped);
+    }
+    Ok(())
+}
+
+#[test]
+fn gains_find_their_types(rt: HostRuntime) -> Result<(), Fail> {
+    for &(text, number, frac) in &[
+        ("0.1", 214_748_365, 31),
+        ("2.5", 5, 1),
+        ("0", 0, 0),
+        ("1", 1, 0),
+        ("-0.75", -3, 2),
+        ("1e-18", 0, 0),
+        ("1073741823.5", 2_147_483_647, 1),
+        ("2147483647.4", 2_147_483_647, 0),
+        ("-2147483648", -2_147_483_648, 0),
+        ("-2147483648.5", -2_147_483_648, 0),
+    ] {
+        let gain = read_decimal(text.as_bytes())?;
+        assert_eq!(rt; gain_constant(&gain), Ok((number, frac)), "{text}");
+    }
+    for &text in &["2147483647.5", "2147483648", "-2147483649", "1e18", "-1e18"] {
+        let gain = read_decimal(text.as_bytes())?;
+        assert_eq!(rt; gain_constant(&gain), Err(NumFault::Range), "{text}");
+    }
+    Ok(())
+}
+
+#[test]
+fn a_small_gain_is_exact(rt: HostRuntime) -> Result<(), Fail> {
+    let int32 = FixType::new(true, 32, 0).ok_or("int32")?;
+    let gain = read_decimal(b"0.1")?;
+    let (number, frac) = gain_constant(&gain)?;
+    for &(input, output) in &[(2_147_483_647i64, 214_748_364), (-1, -1), (10, 1)] {
+        let product = i128::from(input)
+            .checked_mul(i128::from(number))
+            .ok_or("wide")?;
+        assert!(rt; product.unsigned_abs() <= 1 << 62 && frac <= 93);
+        assert_eq!(rt;
+            convert(product, frac, int32, Round::Floor, Over::Saturate),
+            output
+        );
+    }
+    Ok(())
+}
+
+#[test]
+fn constants_are_quantized(rt: HostRuntime) -> Result<(), Fail> {
+    for &(text, signed, bits, frac, want) in &[
+        ("0.5", true, 8, 4, 8),
+        ("2.5", true, 8, 0, 3),
+        ("-2.5", true, 8, 0, -2),
+        ("1e18", true, 8, 31, 127),
+        ("-1e18", true, 8, 31, -128),
+        ("-1", false, 8, 0, 0),
+        ("1/3", false, 32, 31, 715_827_883),
+        ("999999999999999999e-18", true, 32, 31, 2_147_483_647),
+        ("true", false, 1, 0, 1),
+    ] {
+        let to = FixType::new(signed, bits, frac).ok_or("a type")?;
+        let number = read_decimal(text.as_bytes())?;
+        assert_eq!(rt; quantize(&number, to), want, "{text}");
+    }
+    Ok(())
+}
+
+#[test]
+fn ranges_have_their_ends(rt: HostRuntime) -> Result<(), Fail> {
+    for &(signed, bits, low, high) in &[
+        (true, 8, -128, 127),
+        (true, 32, -2_147_483_648, 2_147_483_647),
+        (true, 2, -2, 1),
+        (false, 32, 0, 4_294_967_295),
+        (false, 1, 0, 1),
+    ] {
+        let t = FixType::new(signed, bits, 0).ok_or("a type")?;
+        assert_eq!(rt; least(t), low);
+        assert_eq!(rt; greatest(t), high);
+    }
+    Ok(())
+}
+
+#[test]
+fn cases_stand_by_rounding_then_overflow_then_sign(rt: HostRuntime) {
+    let table = all_cases();
+    for &(at, round, over, signed) in &[
+        (0, Round::Ceiling, Over::Saturate, false),
+        (1, Round::Ceiling, Over::Saturate, true),
+        (2, Round::Ceiling, Over::Wrap, false),
+        (4, Round::Convergent, Over::Saturate, false),
+        (23, Round::Zero, Over::Wrap, true),
+    ] {
+        assert_eq!(rt;
+            table.cases.get(at),
+            Some(&Case {
+                round,
+                over,
+                signed
+            })
+        );
+    }
+}

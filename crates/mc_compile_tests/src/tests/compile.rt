@@ -1,0 +1,142 @@
+use mc_base::refusal_text;
+use mc_compile::{Compiled, compile};
+use mc_fixed::FixType;
+use mc_verdict::ModelFault;
+use mdl_texts::model_of;
+use std::alloc::Global;
+use std::test::Fail;
+
+const BOOLEAN: FixType = FixType {
+    signed: false,
+    bits: 1,
+    frac: 0,
+};
+
+const UINT8: FixType = FixType {
+    signed: false,
+    bits: 8,
+    frac: 0,
+};
+
+const INT16: FixType = FixType {
+    signed: true,
+    bits: 16,
+    frac: 0,
+};
+
+const INT32: FixType = FixType {
+    signed: true,
+    bits: 32,
+    frac: 0,
+};
+
+/// What compiling a model of these parts answers: `compiled`, or the text of its refusal without its end.
+fn answer(alloc: Global, parts: &str) -> Result<Vec<u8>, Fail> {
+    let text = model_of(alloc, parts)?;
+    match compile(alloc, text.as_bytes()) {
+        Ok(_) => Ok(b"compiled".to_vec(alloc)?),
+        Err(ModelFault::Refused(refusal)) => {
+            let mut text = refusal_text(alloc, &refusal)?;
+            text.pop();
+            Ok(text)
+        }
+        Err(ModelFault::Memory) => Err(Fail::from("memory")),
+    }
+}
+
+/// What a model of these parts is compiled to.
+fn compiled(alloc: Global, parts: &str) -> Result<Compiled, Fail> {
+    let text = model_of(alloc, parts)?;
+    match compile(alloc, text.as_bytes()) {
+        Ok(compiled) => Ok(compiled),
+        Err(_) => Err(Fail::from("refused")),
+    }
+}
+
+// What the rules accept is compiled, whatever its kinds, its systems and its rates.
+#[test]
+fn accepted_or_refused(rt: HostRuntime) -> Result<(), Fail> {
+    for (parts, expected) in [
+        // a sum that takes away its own value, through a gain and through a delay
+        (
+            "Inport a OutDataTypeStr=int32; Sum s Inputs=|+-; Gain g; Outport b; a 1 > s 1; g 1 > s 2; s 1 > g 1; s 1 > b 1",
+            "refused F23 Loop 8 13",
+        ),
+        (
+            "Inport a OutDataTypeStr=int32; Sum s Inputs=|+-; UnitDelay d; Outport b; a 1 > s 1; d 1 > s 2; s 1 > d 1; s 1 > b 1",
+            "compiled",
+        ),
+        (
+            "Inport a OutDataTypeStr=int32; Delay d; Outport b; a 1 > d 1; d 1 > b 1",
+            "compiled",
+        ),
+        // a subsystem with nothing in it
+        (
+            "Ground g; Terminator t; SubSystem s {; }; g 1 > t 1",
+            "compiled",
+        ),
+        // of two periods
+        (
+            "Inport a OutDataTypeStr=int8 SampleTime=2; Inport b Port=2 OutDataTypeStr=int8 SampleTime=3; \
+             Terminator s; Terminator t; a 1 > s 1; b 1 > t 1",
+            "compiled",
+        ),
+    ] {
+        assert_eq!(rt;
+            answer(rt.alloc(), parts)?.as_slice(),
+            expected.as_bytes(),
+            "{parts}"
+        );
+    }
+    Ok(())
+}
+
+// The second input goes to the first output, and the first one through a delay to the second output.
+#[test]
+fn what_one_system_has(rt: HostRuntime) -> Result<(), Fail> {
+    let compiled = compiled(
+        rt.alloc(),
+        "Inport a Port=2 OutDataTypeStr=int16; Inport b OutDataTypeStr=uint8; UnitDelay d; Outport p; Outport q Port=2; \
+         a 1 > p 1; b 1 > d 1; d 1 > q 1",
+    )?;
+    assert_eq!(rt; compiled.rows, 5);
+    assert_eq!(rt; compiled.systems, 1);
+    assert_eq!(rt; compiled.functions, 2);
+    assert_eq!(rt; compiled.inputs.as_slice(), [UINT8, INT16].as_slice());
+    Ok(())
+}
+
+// A signal goes through both ports of a subsystem, one after the other: the root has one function, the subsystem two.
+#[test]
+fn what_two_systems_have(rt: HostRuntime) -> Result<(), Fail> {
+    let compiled = compiled(
+        rt.alloc(),
+        "Inport a OutDataTypeStr=int32; \
+         SubSystem s {; Inport x1; Inport x2 Port=2; Outport y1; Outport y2 Port=2; x1 1 > y1 1; x2 1 > y2 1; }; \
+         Outport o; a 1 > s 1; s 1 > s 2; s 2 > o 1",
+    )?;
+    assert_eq!(rt; compiled.rows, 7);
+    assert_eq!(rt; compiled.systems, 2);
+    assert_eq!(rt; compiled.functions, 3);
+    assert_eq!(rt; compiled.inputs.as_slice(), [INT32].as_slice());
+    Ok(())
+}
+
+// The subsystem stands before the Inports of the root that are its controls; its own Inport is no input of the root.
+#[test]
+fn what_a_controlled_system_has(rt: HostRuntime) -> Result<(), Fail> {
+    let compiled = compiled(
+        rt.alloc(),
+        "SubSystem s {; Inport x; EnablePort e; TriggerPort t; Outport y; x 1 > y 1; }; \
+         Inport c Port=3 OutDataTypeStr=boolean; Inport b Port=2 OutDataTypeStr=boolean; Inport a OutDataTypeStr=int32; \
+         Outport o; a 1 > s 1; b 1 > s enable; c 1 > s trigger; s 1 > o 1",
+    )?;
+    assert_eq!(rt; compiled.rows, 9);
+    assert_eq!(rt; compiled.systems, 2);
+    assert_eq!(rt; compiled.functions, 2);
+    assert_eq!(rt;
+        compiled.inputs.as_slice(),
+        [INT32, BOOLEAN, BOOLEAN].as_slice()
+    );
+    Ok(())
+}

@@ -1,0 +1,5 @@
+mod blocks;
+mod graph;
+mod guards;
+mod loops;
+mod types;

@@ -1,0 +1,101 @@
+ghost use Rattle.std.specs.Prelude.{ℕ, ◌<◌, IsTrue, length, slice_index_or};
+
+use mc_graph::{Graph, OrderFault, masks, order};
+use std::test::Fail;
+
+/// The graph of these edges, where each of their ends is a node.
+fn graph(n: u32, edges: Vec<(u32, u32)>) -> Option<Graph> {
+    if are_inside(n, &edges) {
+        Some(Graph { n, edges })
+    } else {
+        None
+    }
+}
+
+/// Whether both ends of each edge are nodes.
+fn are_inside(n: u32, edges: &[(u32, u32)]) -> bool
+    ensures { IsTrue result → (k : ℕ) → k < length edges.now →
+        ((slice_index_or edges.now k (0, 0)).0 < n) × ((slice_index_or edges.now k (0, 0)).1 < n) }
+{
+    for edge in edges {
+        if edge.0 >= n || edge.1 >= n {
+            return false;
+        }
+    }
+    true
+}
+
+/// Whether the list is 0, 1, 2 and so on.
+fn counts_up(list: &[u32]) -> bool {
+    list.iter().enumerate().all(|(k, b)| *b as usize == k)
+}
+
+#[test]
+fn a_line_stands_in_its_order(rt: HostRuntime) -> Result<(), Fail> {
+    let mut edges = Vec::new(rt.alloc());
+    for b in 1..20_000 {
+        edges.push((b - 1, b))?;
+    }
+    let g = graph(20_000, edges).ok_or("an edge leaves the graph")?;
+    let list = order(rt.alloc(), &g)?;
+    assert_eq!(rt; list.len(), 20_000);
+    assert!(rt; counts_up(&list));
+    Ok(())
+}
+
+#[test]
+fn a_reversed_line_stands_backwards(rt: HostRuntime) -> Result<(), Fail> {
+    let mut edges = Vec::new(rt.alloc());
+    for b in 1..20_000 {
+        edges.push((b, b - 1))?;
+    }
+    let g = graph(20_000, edges).ok_or("an edge leaves the graph")?;
+    let mut list = order(rt.alloc(), &g)?;
+    list.reverse();
+    assert_eq!(rt; list.len(), 20_000);
+    assert!(rt; counts_up(&list));
+    Ok(())
+}
+
+#[test]
+fn a_star_stands_behind_its_middle(rt: HostRuntime) -> Result<(), Fail> {
+    let mut edges = Vec::new(rt.alloc());
+    for b in 1..20_000 {
+        edges.push((0, b))?;
+    }
+    let g = graph(20_000, edges).ok_or("an edge leaves the graph")?;
+    let list = order(rt.alloc(), &g)?;
+    assert_eq!(rt; list.len(), 20_000);
+    assert!(rt; counts_up(&list));
+    Ok(())
+}
+
+#[test]
+fn the_least_node_that_may_stand_is_next(rt: HostRuntime) -> Result<(), Fail> {
+    let edges = vec![in rt.alloc(); (3, 0), (1, 2)]?;
+    let g = graph(4, edges).ok_or("an edge leaves the graph")?;
+    let list = order(rt.alloc(), &g)?;
+    assert_eq!(rt; list.as_slice(), [1, 2, 3, 0].as_slice());
+    Ok(())
+}
+
+#[test]
+fn a_cycle_of_three_is_told(rt: HostRuntime) -> Result<(), Fail> {
+    let edges = vec![in rt.alloc(); (0, 1), (1, 2), (2, 0)]?;
+    let g = graph(3, edges).ok_or("an edge leaves the graph")?;
+    let Err(OrderFault::Cycle(list)) = order(rt.alloc(), &g) else {
+        return Err("no cycle is told".into());
+    };
+    assert_eq!(rt; list.as_slice(), [0, 2, 1].as_slice());
+    Ok(())
+}
+
+#[test]
+fn masks_meet_in_a_diamond(rt: HostRuntime) -> Result<(), Fail> {
+    let edges = vec![in rt.alloc(); (0, 1), (0, 2), (1, 3), (2, 3)]?;
+    let g = graph(4, edges).ok_or("an edge leaves the graph")?;
+    assert_eq!(rt; g.n, 4);
+    let unions = masks(rt.alloc(), &g, &[1, 2, 4, 0])?;
+    assert_eq!(rt; unions.as_slice(), [1, 3, 5, 7].as_slice());
+    Ok(())
+}

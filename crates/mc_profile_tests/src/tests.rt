@@ -1,0 +1,5 @@
+mod certificate;
+mod cluster;
+mod profile;
+mod report;
+mod schedule;

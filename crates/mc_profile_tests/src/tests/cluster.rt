@@ -1,0 +1,71 @@
+use mc_cluster::{classes, clusters, groups_of};
+use mc_graph::Graph;
+use std::test::Fail;
+
+#[test]
+fn classes_of_outputs(rt: HostRuntime) {
+    // two outputs need one input, and one needs nothing
+    let mut class = [9; 3];
+    let count = classes(&[1, 1, 0], &mut class);
+    assert_eq!(rt; count, 2);
+    assert_eq!(rt; class.as_slice(), [0, 0, 1].as_slice());
+}
+
+#[test]
+fn crossed_ports(rt: HostRuntime) {
+    // each output needs an input of its own
+    let mut class = [9; 2];
+    let count = classes(&[1, 2], &mut class);
+    assert_eq!(rt; count, 2);
+    assert_eq!(rt; class.as_slice(), [0, 1].as_slice());
+}
+
+#[test]
+fn both_controls(rt: HostRuntime) {
+    // enable and trigger alone, and with the first input
+    let mut class = [9; 3];
+    let count = classes(&[3 << 32, (3 << 32) + 1, 3 << 32], &mut class);
+    assert_eq!(rt; count, 2);
+    assert_eq!(rt; class.as_slice(), [0, 1, 0].as_slice());
+}
+
+#[test]
+fn thirty_two_needs(rt: HostRuntime) {
+    let mut masks = [0; 32];
+    for k in 0..32 {
+        masks[k] = 1 << k;
+    }
+    let mut class = [9; 32];
+    let count = classes(&masks, &mut class);
+    assert_eq!(rt; count, 32);
+    assert_eq!(rt; class[0], 0);
+    assert_eq!(rt; class[31], 31);
+}
+
+#[test]
+fn shared_node(rt: HostRuntime) -> Result<(), Fail> {
+    // x1, x2, a delay, its gain, gain + x1, gain + x2, y1, y2
+    let edges = vec![in rt.alloc(); (2, 3), (3, 4), (0, 4), (3, 5), (1, 5), (4, 6), (5, 7)]?;
+    let g = Graph { n: 8, edges };
+    let holds = clusters(rt.alloc(), &g, &[6, 7], &[0, 1])?;
+    assert_eq!(rt; holds.as_slice(), [1, 2, 3, 3, 1, 2, 1, 2].as_slice());
+    Ok(())
+}
+
+#[test]
+fn shared_child(rt: HostRuntime) -> Result<(), Fail> {
+    // In1, In2, the child's row, child + In2, Out1, Out2, and the call of the child
+    let edges = vec![in rt.alloc(); (0, 6), (6, 3), (1, 3), (6, 4), (3, 5)]?;
+    let g = Graph { n: 7, edges };
+    let holds = clusters(rt.alloc(), &g, &[4, 5], &[0, 1])?;
+    assert_eq!(rt; holds.as_slice(), [3, 2, 0, 2, 1, 2, 3].as_slice());
+    Ok(())
+}
+
+#[test]
+fn groups_of_a_shared_child(rt: HostRuntime) -> Result<(), Fail> {
+    let groups = groups_of(rt.alloc(), &[3, 2, 0, 2, 1, 2, 3])?;
+    assert_eq!(rt; groups.of.as_slice(), [0, 1, 3, 1, 2, 1, 0].as_slice());
+    assert_eq!(rt; groups.holds.as_slice(), [3, 2, 1, 0].as_slice());
+    Ok(())
+}

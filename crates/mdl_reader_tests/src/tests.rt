@@ -1,0 +1,2 @@
+mod params;
+mod reader;
