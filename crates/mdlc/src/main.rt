@@ -1,13 +1,11 @@
 //! The program: compiles a Simulink model to C.
 #![tactic(auto)]
 
-mod tool;
-
 use mc_edge::{FileHost, OutSink};
+use mc_tool::run_tool;
 use std::process::ExitCode;
 use std::rt::Env;
 use std::{env, io};
-use tool::run_tool;
 
 /// The status for want of memory.
 const NO_MEMORY: u8 = 10;
@@ -32,6 +30,3 @@ fn main(rt: HostRuntime) -> ExitCode {
     let mut out = OutSink::new(&rt);
     ExitCode::from(run_tool(rt.alloc(), &words, &mut host, &mut out))
 }
-
-#[cfg(test)]
-mod tests;

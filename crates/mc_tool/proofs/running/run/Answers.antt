@@ -1,0 +1,11 @@
+use Rattle.mc_tool.proofs.EndingLaws.{ended}
+use Rattle.mc_tool.proofs.Unsure.{unsure_asked}
+use Rattle.mc_tool.proofs.running.run.Goals as goal
+
+pub returns-clause-ended : goal.returns-clause-ended
+returns-clause-ended g c =
+    let f = c.finish.ensures in ended _ _ _ _ _ _ _ _ _ c.act-ending.ensures.ends f.1 f.2
+
+pub returns-clause-unsure : goal.returns-clause-unsure
+returns-clause-unsure g c =
+    let f = c.finish.ensures in unsure_asked _ _ _ _ _ _ _ c.act-ending.ensures.unsure f.1 f.2

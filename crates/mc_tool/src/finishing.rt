@@ -1,0 +1,112 @@
+ghost use Rattle.std.specs.Prelude.{◌≡◌, IfOk, MatchResult, string_bytes};
+ghost use Rattle.mc_tool.specs.declared.ending.Ending.{Ending};
+ghost use Rattle.mc_tool.specs.Told.{sink_told};
+ghost use Rattle.mc_tool.specs.Texts.{script_stop_line};
+ghost use Rattle.mc_tool.specs.Endings.{text_of, status_of, IsSaidOf, PutsText, Puts};
+
+use crate::ending::{Ending, ScriptStop};
+use crate::lines::{
+    USAGE, bad_line_line, code_refused_line, compiled_line, stuck_line, totals_line,
+};
+use mc_base::{Memory, refusal_text};
+use mc_edge::{Failed, Sink, put_all};
+use mc_script_runner::{bad_call_line, refused_call_line};
+use std::alloc::{AllocError, Global};
+
+// Bytes of a text.
+fn bytes_of(alloc: Global, text: &str) -> Result<Vec<u8>, Memory>
+    ensures { IfOk result (λ bytes. bytes.items ≡ text.now) }
+{
+    text.as_bytes().to_vec(alloc).map_err(|_| Memory)
+}
+
+// Bytes of a line that was made.
+fn line_bytes(line: Result<String, AllocError>) -> Result<Vec<u8>, Memory>
+    ensures { IfOk result (λ bytes. MatchResult line (λ text. bytes.items ≡ string_bytes text) (λ _. ⊥)) }
+{
+    match line {
+        Ok(line) => Ok(line.into_bytes()),
+        Err(_) => Err(Memory),
+    }
+}
+
+// The text of what stops a script.
+fn script_stop_text(alloc: Global, stop: ScriptStop) -> Result<Vec<u8>, Memory>
+    ensures { IfOk result (λ bytes. bytes.items ≡ script_stop_line stop) }
+{
+    match stop {
+        ScriptStop::NoSubsystem => bytes_of(alloc, "script line 0 NoSubsystem\n"),
+        ScriptStop::Line(bad) => Ok(bad_call_line(alloc, bad)?.into_bytes()),
+        ScriptStop::Call(refused) => Ok(refused_call_line(alloc, refused)?.into_bytes()),
+    }
+}
+
+// The text of an ending. A report is its own.
+fn text(alloc: Global, ending: Ending) -> Result<Vec<u8>, Memory>
+    ensures { IfOk result (λ bytes. bytes.items ≡ text_of ending) }
+{
+    match ending {
+        Ending::Compiled {
+            rows,
+            systems,
+            functions,
+        } => line_bytes(compiled_line(alloc, rows, systems, functions)),
+        Ending::Ran(totals) => line_bytes(totals_line(alloc, totals)),
+        Ending::Reported(report) => Ok(report),
+        Ending::Usage => bytes_of(alloc, USAGE),
+        Ending::Refused(refusal) => refusal_text(alloc, &refusal),
+        Ending::BadTrace(bad) => line_bytes(bad_line_line(alloc, bad)),
+        Ending::BadScript(stop) => script_stop_text(alloc, stop),
+        Ending::CodeRefused(fault) => line_bytes(code_refused_line(alloc, fault)),
+        Ending::CodeTooLong => bytes_of(alloc, "code refused TooLong\n"),
+        Ending::Stuck(at) => line_bytes(stuck_line(alloc, at)),
+        Ending::ReadFault => bytes_of(alloc, "read fault\n"),
+        Ending::WriteFault => bytes_of(alloc, "write fault\n"),
+        Ending::PutFault => bytes_of(alloc, ""),
+        Ending::NoMemory => bytes_of(alloc, "no memory\n"),
+    }
+}
+
+// The status of an ending.
+fn status(ending: &Ending) -> u8
+    ensures { result ≡ status_of ending.now }
+{
+    match ending {
+        Ending::Compiled { .. } | Ending::Ran(_) | Ending::Reported(_) => 0,
+        Ending::Usage => 2,
+        Ending::Refused(_) => 3,
+        Ending::BadTrace(_) | Ending::BadScript(_) => 4,
+        Ending::ReadFault => 5,
+        Ending::WriteFault => 6,
+        Ending::PutFault => 7,
+        Ending::CodeRefused(_) | Ending::CodeTooLong => 8,
+        Ending::Stuck(_) => 9,
+        Ending::NoMemory => 10,
+    }
+}
+
+// Puts the text of an ending with this status, and says the status.
+fn put_text<S: Sink>(out: &mut S, status: u8, text: &[u8]) -> u8
+    ensures { let at = sink_told S.bytes S.faults in
+        PutsText status text.now result (at out.old) (at out.new) }
+{
+    match put_all(out, text) {
+        Ok(()) => status,
+        Err(Failed) => 7,
+    }
+}
+
+/// Puts an ending's text, or the text for want of memory, and says the status. Where a line couldn't be put, nothing more is.
+pub fn finish<S: Sink>(alloc: Global, out: &mut S, ending: Ending) -> u8
+    ensures { let at = sink_told S.bytes S.faults in
+        (e : Ending) × IsSaidOf e ending × Puts e result (at out.old) (at out.new) }
+{
+    let found = status(&ending);
+    if let Ending::PutFault = ending {
+        return put_text(out, found, b"");
+    }
+    match text(alloc, ending) {
+        Ok(text) => put_text(out, found, &text),
+        Err(Memory) => put_text(out, status(&Ending::NoMemory), b"no memory\n"),
+    }
+}

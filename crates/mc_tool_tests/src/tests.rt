@@ -1,0 +1,4 @@
+mod compiling;
+mod faults;
+mod made;
+mod profiles;

@@ -1,0 +1,218 @@
+ghost use Rattle.std.specs.Prelude.{◌<◌};
+
+use mc_calls::{Answer, Files, called_in_pieces, compiled, models};
+use mdl_texts::model_of;
+use std::alloc::{AllocError, Global};
+use std::test::Fail;
+
+/// How a command ends of which one call fails: its status, the lines that are put before the last, and how many files are written.
+type Fault = (u8, &'static str, usize);
+
+/// The line that is put last where a call fails.
+fn last_line(status: u8) -> &'static str {
+    match status {
+        5 => "read fault\n",
+        6 => "write fault\n",
+        _ => "",
+    }
+}
+
+// Whether a command ended so. What is written is a front of what is written where nothing fails, and all of it but where a write failed.
+fn ended(alloc: Global, told: &Answer, whole: &Answer, fault: Fault) -> Result<bool, AllocError> {
+    let (status, lines, files) = fault;
+    let put = format!(in alloc; "{lines}{}", last_line(status))?;
+    Ok(
+        told.status == status
+            && told.files == files
+            && told.text.as_slice() == put.as_bytes()
+            && whole.code.starts_with(&told.code)
+            && (status == 6 || files == 0 || told.code == whole.code)
+            && told.refused == 0,
+    )
+}
+
+// Each call of the host fails alone, by its number, and then each of the sink. A failure of the call behind the last isn't met.
+fn all_fail(
+    alloc: Global,
+    line: &'static str,
+    texts: Files<'_>,
+    host: &[Fault],
+    puts: &[Fault],
+) -> Result<(), Fail> {
+    let unmet = ([host.len() as u64], [puts.len() as u64]);
+    let whole = called_in_pieces(alloc, line, texts, &unmet.0, &unmet.1, 65_536)?;
+    if whole.status != 0 {
+        return Err(line.into());
+    }
+    for (call, &fault) in host.iter().enumerate() {
+        let told = called_in_pieces(alloc, line, texts, &[call as u64], &[], 65_536)?;
+        if !ended(alloc, &told, &whole, fault)? {
+            return Err(line.into());
+        }
+    }
+    for (put, &fault) in puts.iter().enumerate() {
+        let told = called_in_pieces(alloc, line, texts, &[], &[put as u64], 65_536)?;
+        if !ended(alloc, &told, &whole, fault)? {
+            return Err(line.into());
+        }
+    }
+    Ok(())
+}
+
+// A file is opened, read, and read to its end; one that is written is opened, and written at once.
+const COMPILE: &[Fault] = &[(5, "", 0), (5, "", 0), (5, "", 0), (6, "", 0), (6, "", 1)];
+
+// The trace is read behind the code that was written, and its lines are put before the totals.
+const RUN: &[Fault] = &[
+    (5, "", 0),
+    (5, "", 0),
+    (5, "", 0),
+    (6, "", 0),
+    (6, "", 1),
+    (5, "", 1),
+    (5, "", 1),
+    (5, "5\n-7\n", 1),
+];
+
+const EXEC: &[Fault] = &[
+    (5, "", 0),
+    (5, "", 0),
+    (5, "", 0),
+    (5, "", 0),
+    (5, "", 0),
+    (5, "5\n-7\n", 0),
+];
+
+const PROFILE: &[Fault] = &[(5, "", 0), (5, "", 0), (5, "", 0)];
+
+const DRIVE: &[Fault] = &[
+    (5, "", 0),
+    (5, "", 0),
+    (5, "", 0),
+    (6, "", 0),
+    (6, "", 1),
+    (5, "", 1),
+    (5, "", 1),
+    (5, "out 2 9\nout 1 4\n", 1),
+];
+
+// Nothing is read.
+const GEN: &[Fault] = &[(6, "", 0), (6, "", 1), (6, "", 1), (6, "", 2)];
+
+// The lines that wait are put together, and then the last one.
+const PUT_ONE: &[Fault] = &[(7, "", 1)];
+
+const PUT_REPORT: &[Fault] = &[(7, "", 0)];
+
+const PUT_RUN: &[Fault] = &[(7, "", 1), (7, "5\n-7\n", 1)];
+
+const PUT_EXEC: &[Fault] = &[(7, "", 0), (7, "5\n-7\n", 0)];
+
+const PUT_DRIVE: &[Fault] = &[(7, "", 1), (7, "out 2 9\nout 1 4\n", 1)];
+
+const PUT_GEN: &[Fault] = &[(7, "", 2), (7, COMPILED, 2), (7, MADE, 2)];
+
+const COMPILED: &str = "compiled rows 11 systems 2 functions 3\n";
+
+const MADE: &str =
+    "compiled rows 11 systems 2 functions 3\n1045 959\n-2168 -3213\n-887 1281\n-3260 -2373\n";
+
+/// A command, how it ends where one call of the host fails, and how where one of the sink does, by the numbers of these calls.
+type Row<'a> = (&'static str, Files<'a>, &'static [Fault], &'static [Fault]);
+
+/// Each command: over one wire, over its code, and over a model with a subsystem through which a signal goes twice.
+fn rows<'a>(code: &'a [u8], crossed: &'a [u8]) -> [Row<'a>; 6] {
+    let wire = Files {
+        model: models::ONE_WIRE,
+        code,
+        trace: b"5\n-7\n",
+    };
+    let twice = Files {
+        model: crossed,
+        code,
+        trace: b"out 2 9\nout 1 4\nupdate 4 9\n",
+    };
+    [
+        ("compile a.mdl a.c", wire, COMPILE, PUT_ONE),
+        ("run a.mdl a.c t", wire, RUN, PUT_RUN),
+        ("exec b.c t", wire, EXEC, PUT_EXEC),
+        ("profile a.mdl", twice, PROFILE, PUT_REPORT),
+        ("drive a.mdl a.c 1 t", twice, DRIVE, PUT_DRIVE),
+        ("gen 1 1 g.mdl g.c", wire, GEN, PUT_GEN),
+    ]
+}
+
+fn crossed(alloc: Global) -> Result<String, AllocError> {
+    model_of(
+        alloc,
+        "Inport a OutDataTypeStr=int32; \
+         SubSystem s {; Inport x1; Inport x2 Port=2; Outport y1; Outport y2 Port=2; x1 1 > y1 1; x2 1 > y2 1; }; \
+         Outport o; a 1 > s 1; s 1 > s 2; s 2 > o 1",
+    )
+}
+
+#[test]
+fn each_call_fails_alone(rt: HostRuntime) -> Result<(), Fail> {
+    let alloc = rt.alloc();
+    let wire = compiled(alloc, models::ONE_WIRE)?;
+    let model = crossed(alloc)?;
+    for (line, texts, host, puts) in rows(&wire.code, model.as_bytes()) {
+        all_fail(alloc, line, texts, host, puts)?;
+    }
+    Ok(())
+}
+
+// Whether what is written and put are fronts of what they are where nothing fails.
+fn is_front(told: &Answer, whole: &Answer) -> bool {
+    let line = last_line(told.status).as_bytes();
+    let before = told.text.len().saturating_sub(line.len());
+    5 <= told.status
+        && told.status <= 7
+        && told.text.ends_with(line)
+        && whole
+            .text
+            .starts_with(told.text.get(..before).unwrap_or(&[]))
+        && told.files <= whole.files
+        && whole.code.starts_with(&told.code)
+}
+
+// Whether that is so for each call, of the host or else of the sink, that fails alone, up to the first that isn't met.
+fn all_are_fronts(
+    alloc: Global,
+    line: &str,
+    texts: Files<'_>,
+    of_host: bool,
+    piece: usize,
+) -> Result<bool, AllocError>
+    requires { 0 < piece }
+{
+    let whole = called_in_pieces(alloc, line, texts, &[], &[], piece)?;
+    for call in 0..200 {
+        let failing = [call];
+        let told = if of_host {
+            called_in_pieces(alloc, line, texts, &failing, &[], piece)?
+        } else {
+            called_in_pieces(alloc, line, texts, &[], &failing, piece)?
+        };
+        if told.status == 0 {
+            return Ok(whole.status == 0 && told.text == whole.text && told.code == whole.code);
+        }
+        if !is_front(&told, &whole) {
+            return Ok(false);
+        }
+    }
+    Ok(false)
+}
+
+// A call moves a part of a text.
+#[test]
+fn each_call_of_many_fails_alone(rt: HostRuntime) -> Result<(), Fail> {
+    let alloc = rt.alloc();
+    let wire = compiled(alloc, models::ONE_WIRE)?;
+    let model = crossed(alloc)?;
+    for (line, texts, _, _) in rows(&wire.code, model.as_bytes()) {
+        assert!(rt; all_are_fronts(alloc, line, texts, true, 128)?, "{line}");
+        assert!(rt; all_are_fronts(alloc, line, texts, false, 16)?, "{line}");
+    }
+    Ok(())
+}

@@ -1,6 +1,0 @@
-use Rattle.std.proofs.Common.{rules, refl}
-use Rattle.mdlc.proofs.EndingLaws.{said_no_memory}
-use Rattle.mdlc.proofs.tool.finishing.finish.Goals as goal
-
-pub returns-in-Err : goal.returns-in-Err
-returns-in-Err g c = said_no_memory c.args.ending c.status.result _ _ _ _ (search rules) c.status.ensures refl c.put_text-in-Err.ensures
