@@ -141,7 +141,7 @@ exec-finds (IsStuck at) code trace bytes m h h1 h' b b' r run =
       left = left-twice h h1 h' r.same run.left;
     })
 exec-finds PutFault code trace bytes m h h1 h' b b' r run =
-    (run.left.written ∙ r.same.written, code-found PutFault code trace bytes m h h1 h' b b' r run.end run.lines)
+    record { code = code-found PutFault code trace bytes m h h1 h' b b' r run.end run.lines; left = left-twice h h1 h' r.same run.left }
 exec-finds ReadFault code trace bytes m h h1 h' b b' r run =
     inr (
       subst (λ (n : ℕ). Rose n h'.read_faults) r.same.no_fault.read run.rose,
@@ -308,7 +308,10 @@ run-finds (BadScript stop) model code trace c m h h1 h' b b' w starts run = absu
 run-finds (IsStuck at) model code trace c m h h1 h' b b' w starts run =
     absurd (never-stuck at c m w.model.bytes run.lines.bytes w.model.holds starts run.lines.holds.stuck)
 run-finds PutFault model code trace c m h h1 h' b b' w starts run =
-    model-found PutFault model code trace c m h h1 h' b b' w starts run.left.written run.end run.lines
+    record {
+      model = model-found PutFault model code trace c m h h1 h' b b' w starts run.left.written run.end run.lines;
+      no_fault = no-faults h h1 h' w.no_fault run.left.no_fault;
+    }
 run-finds ReadFault model code trace c m h h1 h' b b' w starts run =
     inr (
       subst (λ (n : ℕ). Rose n h'.read_faults) w.no_fault.read run.rose,

@@ -122,7 +122,8 @@ module _ (r : ResolvedTable) (c : Compilation) (s : Option ℕ) (model code word
       record { model = driven (BadScript (Line bad)) h' b b' run; no_fault = no-faults h h2 h' calm run.left.no_fault }
   finds (BadScript (Call refused)) h' b b' run =
       record { model = driven (BadScript (Call refused)) h' b b' run; no_fault = no-faults h h2 h' calm run.left.no_fault }
-  finds PutFault h' b b' run = driven PutFault h' b b' run
+  finds PutFault h' b b' run =
+      record { model = driven PutFault h' b b' run; no_fault = no-faults h h2 h' calm run.left.no_fault }
   finds ReadFault h' b b' run = inr (
     subst (λ (n : ℕ). Rose n h'.read_faults) calm.read run.rose,
     record {

@@ -90,7 +90,7 @@ EndsDriving (BadScript (Line bad)) model code word script h h' b b' =
 EndsDriving (BadScript (Call refused)) model code word script h h' b b' =
     EndsDrive (BadScript (Call refused)) model code word script h h' b b'
 EndsDriving PutFault model code word script h h' b b' =
-    OnBytes h model (λ bytes. DrivesModel PutFault word script code bytes h h' b b')
+    EndsDrive PutFault model code word script h h' b b'
 EndsDriving (Refused refusal) model code word script h h' b b' =
     EndsRefused (plain_refusal refusal) model h h' × PutsNothing b b'
 EndsDriving ReadFault model code word script h h' b b' =

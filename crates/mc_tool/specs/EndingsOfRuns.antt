@@ -67,7 +67,7 @@ pub record RunsModel (e : Ending) (trace code model : List ℕ) (h h' : HostTold
       bytes b b')
   pub end : ReadsToEnd e h'
 
--- the same where nothing failed, and where no fault of reading or writing was counted
+-- the same, where no fault of reading or writing was counted
 pub record EndsRun (e : Ending) (model_name code_name trace_name : List ℕ) (h h' : HostTold)
     (b b' : SinkTold) : Type 0 where
   pub model : OnBytes h model_name (λ bytes. RunsModel e trace_name code_name bytes h h' b b')
@@ -95,8 +95,7 @@ EndsRunning (Ran totals) model code trace h h' b b' =
     EndsRun (Ran totals) model code trace h h' b b'
 EndsRunning (BadTrace line) model code trace h h' b b' =
     EndsRun (BadTrace line) model code trace h h' b b'
-EndsRunning PutFault model code trace h h' b b' =
-    OnBytes h model (λ bytes. RunsModel PutFault trace code bytes h h' b b')
+EndsRunning PutFault model code trace h h' b b' = EndsRun PutFault model code trace h h' b b'
 EndsRunning (Refused refusal) model code trace h h' b b' =
     EndsRefused (plain_refusal refusal) model h h' × PutsNothing b b'
 EndsRunning ReadFault model code trace h h' b b' = EndsRunUnread model code trace h h' b b'
@@ -175,8 +174,7 @@ abbrev pub EndsExecuting : Ending → (code trace : List ℕ) → HostTold → H
     SinkTold → Type 0
 EndsExecuting (Ran totals) code trace h h' b b' = EndsExec (Ran totals) code trace h h' b b'
 EndsExecuting (BadTrace line) code trace h h' b b' = EndsExec (BadTrace line) code trace h h' b b'
-EndsExecuting PutFault code trace h h' b b' =
-    (h'.written ≡ h.written) × OnBytes h code (λ bytes. ExecutesCode PutFault trace bytes h h' b b')
+EndsExecuting PutFault code trace h h' b b' = EndsExec PutFault code trace h h' b b'
 EndsExecuting (CodeRefused fault) code trace h h' b b' = EndsAtCode code (IsUnread fault) h h' b b'
 EndsExecuting CodeTooLong code trace h h' b b' =
     EndsAtCode code (λ bytes. code_limit < length bytes) h h' b b'
