@@ -22,7 +22,7 @@ use Rattle.mc_tool.specs.declared.ending.Ending.TheVariants.{Compiled, Ran, Repo
 use Rattle.mc_words.specs.Words.{Run, Exec}
 use Rattle.mc_tool.specs.Told.{HostTold, SinkTold, NoFault}
 use Rattle.mc_tool.specs.Runs.{HasStepTypes, rows_in, rows_over, RunsTaken, RunsTo}
-use Rattle.mc_tool.specs.EndingsOfModels.{OnNamed, OnBytes, PutsNothing, EndsNoMemory, LeavesHost}
+use Rattle.mc_tool.specs.EndingsOfModels.{OnNamed, OnBytes, OpensNothing, EndsNoMemory, LeavesHost}
 use Rattle.mc_tool.specs.EndingsOfRuns.{ReadsToEnd, TakesFile, code_limit, WritesWhole, RunsModel, LosesTrace, StartsCode, ExecutesCode, LosesTraceOf, IsStuckAtStart}
 use Rattle.mc_tool.specs.Endings.{CountsPuts, Finds, Ends}
 use Rattle.mc_tool.specs.Acting.{WritesCompiled, NotStarted, StartsFrom, RunEnds}
@@ -63,8 +63,8 @@ on-bytes first name h h1 P Q told files q known = record {
 lost : (first name : List ℕ) (h h1 h' : HostTold) (b b' : SinkTold) (p q : ProgramTree) (types others : List FixType) →
     OnNamed h first (λ _. h1.rest ≡ Some []) → h1.files ≡ h.files →
     ((taken : List ℕ) → RunsTaken p types taken b b' → RunsTaken q others taken b b') →
-    PutsNothing b b' ⊎ TakesFile p types name h1 h' b b' → PutsNothing b b' ⊎ TakesFile q others name h h' b b'
-lost first name h h1 h' b b' p q types others told files moved (inl silent) = inl silent
+    OpensNothing h' b b' ⊎ TakesFile p types name h1 h' b b' → OpensNothing h' b b' ⊎ TakesFile q others name h h' b b'
+lost first name h h1 h' b b' p q types others told files moved (inl unopened) = inl unopened
 lost first name h h1 h' b b' p q types others told files moved (inr takes) = inr (record {
   taken = takes.taken;
   file = retold first name h h1 (λ x. Some x ≡ prepend_known takes.taken h'.rest) told files takes.file;
@@ -117,7 +117,7 @@ code-found e code trace bytes m h h1 h' b b' r end run = of-code code bytes m h 
 })
 
 code-lost : (code trace bytes : List ℕ) (m : MachineState) (h h1 h' : HostTold) (b b' : SinkTold) →
-    CodeRead code bytes m h h1 → PutsNothing b b' ⊎ TakesFile (tree_of m) m.program.inputs trace h1 h' b b' →
+    CodeRead code bytes m h h1 → OpensNothing h' b b' ⊎ TakesFile (tree_of m) m.program.inputs trace h1 h' b b' →
     OnBytes h code (λ x. LosesTraceOf trace x h h' b b')
 code-lost code trace bytes m h h1 h' b b' r lines = of-code code bytes m h h1 (λ x. LosesTraceOf trace x h h' b b') r (record {
   starts = starts-code code bytes m h h1 r;
@@ -249,7 +249,7 @@ model-found e model code trace c m h h1 h' b b' w starts written end run =
 
 model-lost : (model code trace : List ℕ) (c : Compilation) (m : MachineState) (h h1 h' : HostTold) (b b' : SinkTold) →
     WritesCompiled c model code h h1 → StartsFrom c.code m → h'.written ≡ h1.written →
-    PutsNothing b b' ⊎ TakesFile (tree_of m) c.inputs trace h1 h' b b' →
+    OpensNothing h' b b' ⊎ TakesFile (tree_of m) c.inputs trace h1 h' b b' →
     OnBytes h model (λ bytes. LosesTrace trace code bytes h h' b b')
 model-lost model code trace c m h h1 h' b b' w starts written lines =
     let bytes : List ℕ = w.model.bytes in

@@ -18,7 +18,7 @@ use Rattle.mc_tool.specs.declared.ending.Ending.TheVariants.{Compiled, Ran, Repo
 use Rattle.mc_tool.specs.declared.ending.ScriptStop.TheVariants.{NoSubsystem, Line, Call}
 use Rattle.mc_tool.specs.Told.{HostTold, SinkTold, NoFault}
 use Rattle.mc_tool.specs.Scripts.{DrivesTo}
-use Rattle.mc_tool.specs.EndingsOfModels.{OnNamed, OnBytes, PutsNothing, EndsNoMemory}
+use Rattle.mc_tool.specs.EndingsOfModels.{OnNamed, OnBytes, OpensNothing, EndsNoMemory}
 use Rattle.mc_tool.specs.EndingsOfRuns.{WritesWhole}
 use Rattle.mc_tool.specs.EndingsOfDriving.{WritesDriven, TakesScript, DrivesModel, EndsDriving}
 use Rattle.mc_tool.specs.Endings.{CountsPuts, Ends}
@@ -96,9 +96,9 @@ module _ (r : ResolvedTable) (c : Compilation) (s : Option ℕ) (model code word
     end = run.end;
   })
 
-  lost : (h' : HostTold) (b b' : SinkTold) → PutsNothing b b' ⊎ TakesScript system script h2 h' b b' →
-      PutsNothing b b' ⊎ TakesScript system script h h' b b'
-  lost h' b b' (inl silent) = inl silent
+  lost : (h' : HostTold) (b b' : SinkTold) → OpensNothing h' b b' ⊎ TakesScript system script h2 h' b b' →
+      OpensNothing h' b b' ⊎ TakesScript system script h h' b b'
+  lost h' b b' (inl unopened) = inl unopened
   lost h' b b' (inr takes) = inr (record {
     taken = takes.taken;
     file = retold model script h h2 (λ x. Some x ≡ prepend_known takes.taken h'.rest) told files takes.file;

@@ -21,7 +21,7 @@ use Rattle.mc_gen.specs.Models.{model_text}
 use Rattle.mc_tool.specs.Told.{HostTold, SinkTold, NoFault}
 use Rattle.mc_tool.specs.Runs.{HasStepTypes, RunsTo}
 use Rattle.mc_tool.specs.Scripts.{DrivesTo}
-use Rattle.mc_tool.specs.EndingsOfModels.{OnNamed, OnBytes, PutsNothing, EndsCompile, EndsRefused, EndsReadFault, LeavesHost}
+use Rattle.mc_tool.specs.EndingsOfModels.{OnNamed, OnBytes, OpensNothing, PutsNothing, EndsCompile, EndsRefused, EndsReadFault, LeavesHost}
 use Rattle.mc_tool.specs.EndingsOfRuns.{ReadsToEnd, TakesFile}
 use Rattle.mc_tool.specs.EndingsOfDriving.{TakesScript}
 use Rattle.mc_tool.specs.EndingsOfGenerating.{line_of}
@@ -144,7 +144,7 @@ pub record MissesFile (p : ProgramTree) (types : List FixType) (trace : List ℕ
     (b b' : SinkTold) : Type 0 where
   pub rose : Rose h.read_faults h'.read_faults
   pub written : h'.written ≡ h.written
-  pub lines : PutsNothing b b' ⊎ TakesFile p types trace h h' b b'
+  pub lines : OpensNothing h' b b' ⊎ TakesFile p types trace h h' b b'
 
 -- memory ran out, before anything was read or put
 pub record ForgetsFile (h h' : HostTold) (b b' : SinkTold) : Type 0 where
@@ -177,7 +177,7 @@ pub record MissesScript (w : Driven) (script : List ℕ) (h h' : HostTold)
     (b b' : SinkTold) : Type 0 where
   pub rose : Rose h.read_faults h'.read_faults
   pub written : h'.written ≡ h.written
-  pub lines : PutsNothing b b' ⊎ TakesScript w script h h' b b'
+  pub lines : OpensNothing h' b b' ⊎ TakesScript w script h h' b b'
 
 -- how a run of the script of this name on a system ends
 abbrev pub DriveEnds : Ending → Driven → (script : List ℕ) → HostTold → HostTold → SinkTold →

@@ -15,7 +15,7 @@ use Rattle.mc_tool.specs.declared.ending.Ending.TheVariants.{Ran, Refused, BadSc
 use Rattle.mc_tool.specs.declared.ending.ScriptStop.TheVariants.{NoSubsystem, Line, Call}
 use Rattle.mc_tool.specs.Told.{HostTold, SinkTold, NoFault}
 use Rattle.mc_tool.specs.Scripts.{DrivesTo}
-use Rattle.mc_tool.specs.EndingsOfModels.{OnNamed, OnBytes, PutsNothing, LeavesHost, EndsRefused, EndsReadFault, EndsWriteFault, EndsNoMemory}
+use Rattle.mc_tool.specs.EndingsOfModels.{OnNamed, OnBytes, OpensNothing, PutsNothing, LeavesHost, EndsRefused, EndsReadFault, EndsWriteFault, EndsNoMemory}
 use Rattle.mc_tool.specs.EndingsOfRuns.{ReadsToEnd, WritesWhole}
 
 -- ---- The system that is driven
@@ -69,7 +69,7 @@ pub record EndsUnnamed (model_name word : List ℕ) (h h' : HostTold) (b b' : Si
 pub record LosesScript (word script code model : List ℕ) (h h' : HostTold)
     (b b' : SinkTold) : Type 0 where
   pub written : WritesDriven word code model h h'
-  pub lines : PutsNothing b b' ⊎ TakesScript written.driven script h h' b b'
+  pub lines : OpensNothing h' b b' ⊎ TakesScript written.driven script h h' b b'
 
 -- a fault of reading the model, or the script behind the code
 abbrev pub EndsDriveUnread : (model code word script : List ℕ) → HostTold → HostTold → SinkTold →

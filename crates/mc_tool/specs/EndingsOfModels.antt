@@ -1,5 +1,6 @@
 -- How a call may end that reads a model: what was found, and what was written.
 use Rattle.std.specs.Prelude.{◌≡◌, ℕ, ◌⊎◌, List, false}
+use Rattle.std.specs.Io.KnownBytes.{IsAtEnd}
 use Rattle.mc_base.specs.Refusals.{PlainRefusal, plain_refusal}
 use Rattle.mc_edge.specs.Faults.{Rose}
 use Rattle.mc_edge.specs.Files.{OnFile, add_file, WritesFront}
@@ -38,6 +39,11 @@ WritesCodeFront code model h h' =
 -- nothing was put, and no fault of putting counted
 abbrev pub PutsNothing : (b b' : SinkTold) → Type 0
 PutsNothing b b' = b' ≡ b
+
+-- a file couldn't be opened: nothing is left to read, and nothing was put
+pub record OpensNothing (h' : HostTold) (b b' : SinkTold) : Type 0 where
+  pub end : IsAtEnd h'.rest
+  pub silent : PutsNothing b b'
 
 -- the host has written nothing, and no fault was counted
 pub record LeavesHost (h h' : HostTold) : Type 0 where

@@ -20,7 +20,7 @@ use Rattle.mc_tool.specs.declared.ending.Ending.{Ending}
 use Rattle.mc_tool.specs.declared.ending.Ending.TheVariants.{Compiled, Ran, Reported, Usage, Refused, BadTrace, BadScript, CodeRefused, CodeTooLong, Stuck as IsStuck, ReadFault, WriteFault, PutFault, NoMemory}
 use Rattle.mc_tool.specs.Told.{HostTold, SinkTold, NoFault}
 use Rattle.mc_tool.specs.Runs.{HasStepTypes, RunsTaken, RunsTo}
-use Rattle.mc_tool.specs.EndingsOfModels.{OnNamed, OnBytes, PutsNothing, LeavesHost, EndsRefused, EndsReadFault, EndsWriteFault, EndsNoMemory}
+use Rattle.mc_tool.specs.EndingsOfModels.{OnNamed, OnBytes, OpensNothing, PutsNothing, LeavesHost, EndsRefused, EndsReadFault, EndsWriteFault, EndsNoMemory}
 
 -- ---- Running over a trace
 
@@ -77,7 +77,7 @@ pub record EndsRun (e : Ending) (model_name code_name trace_name : List ℕ) (h 
 -- its end
 pub record LosesTrace (trace code model : List ℕ) (h h' : HostTold) (b b' : SinkTold) : Type 0 where
   pub whole : WritesWhole code model h h'
-  pub lines : PutsNothing b b'
+  pub lines : OpensNothing h' b b'
       ⊎ TakesFile whole.right.code.program (root_types (diagram_of_table whole.resolved)) trace h h'
       b b'
 
@@ -130,7 +130,7 @@ pub record ExecutesCode (e : Ending) (trace code : List ℕ) (h h' : HostTold)
 -- and whose trace couldn't be opened, or not read to its end
 pub record LosesTraceOf (trace code : List ℕ) (h h' : HostTold) (b b' : SinkTold) : Type 0 where
   pub starts : StartsCode code
-  pub lines : PutsNothing b b' ⊎ TakesFile starts.program starts.types trace h h' b b'
+  pub lines : OpensNothing h' b b' ⊎ TakesFile starts.program starts.types trace h h' b b'
 
 -- the bytes are not too many, and no text of a program
 abbrev pub IsUnread : CFault → List ℕ → Type 0
