@@ -20,6 +20,13 @@ pub struct Answer {
     pub refused: u64,
 }
 
+impl Answer {
+    /// Whether it ended with this status, put this text and wrote so many files.
+    pub fn ended_with(&self, status: u8, text: &[u8], files: usize) -> bool {
+        self.status == status && self.text.as_slice() == text && self.files == files
+    }
+}
+
 /// The words of a command, which spaces part.
 ///
 /// Fails only for want of memory.

@@ -59,7 +59,7 @@ fn stops(
     text: &str,
 ) -> Result<bool, Fail> {
     let put = driven(alloc, parts, system, script)?;
-    Ok(put.status == 4 && put.files == 1 && put.text.as_slice() == text.as_bytes())
+    Ok(put.ended_with(4, text.as_bytes(), 1))
 }
 
 /// A script, and the lines that are put, of which the last tells where it stops.
@@ -257,7 +257,7 @@ const CONTROLS: [(&str, &str, &str, &str, &str); 5] = [
 #[test]
 fn systems_with_controls(rt: HostRuntime) -> Result<(), Fail> {
     let alloc = rt.alloc();
-    for (parts, system, ticks, outputs, calls) in CONTROLS {
+    for &(parts, system, ticks, outputs, calls) in &CONTROLS {
         let script = tick_by_tick(alloc, ticks)?;
         let lines = lines_of(alloc, outputs)?;
         assert!(rt;
@@ -364,9 +364,14 @@ fn long_lines(rt: HostRuntime) -> Result<(), Fail> {
     let alloc = rt.alloc();
     let long = behind_blanks(alloc, 4_090)?;
     assert!(rt; stops(alloc, CROSSED_PORTS, "1", &long, "script line 1 Long\n")?);
-    let longest = driven(alloc, CROSSED_PORTS, "1", &behind_blanks(alloc, 4_089)?)?;
-    assert_eq!(rt; longest.status, 0);
-    assert!(rt; longest.text.starts_with(b"out 1 4\nticks 0 "));
+    Ok(())
+}
+
+#[test]
+fn the_longest_line(rt: HostRuntime) -> Result<(), Fail> {
+    let longest = behind_blanks(rt.alloc(), 4_089)?;
+    let put = driven(rt.alloc(), CROSSED_PORTS, "1", &longest)?;
+    assert!(rt; put.status == 0 && put.text.starts_with(b"out 1 4\nticks 0 "));
     Ok(())
 }
 
@@ -383,13 +388,8 @@ fn words_of_no_system(rt: HostRuntime) -> Result<(), Fail> {
     for &word in &["9", "0", "2", "7", "01", "s", "Top", "4294967297"] {
         let line = format!(in alloc; "drive a.mdl a.c {word} missing")?;
         let put = called_with(alloc, &line, files, &[], &[])?;
-        assert_eq!(rt; put.status, 4, "{word}");
-        assert_eq!(rt;
-            put.text.as_slice(),
-            b"script line 0 NoSubsystem\n" as &[u8],
-            "{word}"
-        );
-        assert_eq!(rt; put.files, 0, "{word}");
+        let text = b"script line 0 NoSubsystem\n".as_slice();
+        assert!(rt; put.ended_with(4, text, 0), "{word}");
     }
     Ok(())
 }
@@ -417,9 +417,7 @@ fn files_of_drives(rt: HostRuntime) -> Result<(), Fail> {
         ),
     ] {
         let put = called_with(alloc, line, files, &[], &[])?;
-        assert_eq!(rt; put.status, status, "{line}");
-        assert_eq!(rt; put.text.as_slice(), text.as_bytes(), "{line}");
-        assert_eq!(rt; put.files, written, "{line}");
+        assert!(rt; put.ended_with(status, text.as_bytes(), written), "{line}");
     }
     Ok(())
 }
@@ -442,8 +440,7 @@ fn the_code_that_is_driven(rt: HostRuntime) -> Result<(), Fail> {
         "drive a.mdl a.c 1 missing",
     ] {
         let put = called_with(alloc, line, files, &[], &[])?;
-        assert_eq!(rt; put.files, 1, "{line}");
-        assert!(rt; put.code == compiled.code, "{line}");
+        assert!(rt; put.files == 1 && put.code == compiled.code, "{line}");
     }
     Ok(())
 }
@@ -482,13 +479,23 @@ fn faults_of_drives(rt: HostRuntime) -> Result<(), Fail> {
             put_fails,
             65_536,
         )?;
-        assert_eq!(rt; put.status, status, "{text}");
-        assert_eq!(rt; put.text.as_slice(), text.as_bytes(), "{text}");
-        assert_eq!(rt; put.files, written, "{text}");
+        assert!(rt; put.ended_with(status, text.as_bytes(), written), "{text}");
     }
-    let last = called_in_pieces(alloc, "drive a.mdl a.c 1 t", files, &[8], &[], 65_536)?;
-    assert_eq!(rt; last.status, 0);
-    assert!(rt; last.text.ends_with(b" calls 4\n"));
+    Ok(())
+}
+
+// There is no call 8, so that none fails.
+#[test]
+fn a_drive_without_a_fault(rt: HostRuntime) -> Result<(), Fail> {
+    let model = model_of(rt.alloc(), CROSSED_PORTS)?;
+    let files = Files {
+        model: model.as_bytes(),
+        code: b"",
+        trace: b"out 2 9\nout 1 4\nupdate 4 9\nout 2 5",
+    };
+    let line = "drive a.mdl a.c 1 t";
+    let put = called_in_pieces(rt.alloc(), line, files, &[8], &[], 65_536)?;
+    assert!(rt; put.status == 0 && put.text.ends_with(b" calls 4\n"));
     Ok(())
 }
 
@@ -509,8 +516,10 @@ fn puts_that_are_cut(rt: HostRuntime) -> Result<(), Fail> {
         ("drive a.mdl a.c 9 t", &[2], "script"),
     ] {
         let put = called_in_pieces(alloc, line, files, &[], put_fails, 3)?;
-        assert_eq!(rt; put.status, 7, "{text}");
-        assert_eq!(rt; put.text.as_slice(), text.as_bytes(), "{text}");
+        assert!(rt;
+            put.status == 7 && put.text.as_slice() == text.as_bytes(),
+            "{text}"
+        );
     }
     Ok(())
 }
@@ -539,8 +548,8 @@ fn scripts_in_pieces(rt: HostRuntime) -> Result<(), Fail> {
         };
         for piece in 1..20 {
             let put = called_in_pieces(alloc, "drive a.mdl a.c 1 t", files, &[], &[], piece)?;
-            assert_eq!(rt; put.status, status, "{piece}");
-            assert!(rt; put.text.starts_with(lines.as_bytes()), "{piece}");
+            let is_so = put.status == status && put.text.starts_with(lines.as_bytes());
+            assert!(rt; is_so, "{piece}");
         }
     }
     Ok(())
@@ -563,11 +572,8 @@ fn drives_over_sure_ends(rt: HostRuntime) -> Result<(), Fail> {
         ("drive t a.c 1 t", 3),
     ] {
         let words = words_of(alloc, line)?;
-        assert_eq!(rt;
-            run_surely(alloc, &words, files.named(alloc)?),
-            status,
-            "{line}"
-        );
+        let files = files.named(alloc)?;
+        assert_eq!(rt; run_surely(alloc, &words, files), status, "{line}");
     }
     Ok(())
 }

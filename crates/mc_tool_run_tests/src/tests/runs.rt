@@ -5,52 +5,67 @@ use mc_tool::run_surely;
 use std::alloc::{AllocError, Global};
 use std::test::Fail;
 
-// The steps are the machine's own count, and the code that was written puts the same by `exec`.
+/// Whether the run of a model over a trace puts these lines, of which the last ends with these calls, and its code the same by
+/// `exec`. The steps in the last line are the machine's own count.
+fn is_run(
+    alloc: Global,
+    model: &[u8],
+    trace: &str,
+    lines: &str,
+    calls: &str,
+) -> Result<bool, AllocError> {
+    let put = ran(alloc, model, trace.as_bytes())?;
+    let again = executed(alloc, &put.code, trace.as_bytes())?;
+    Ok(
+        put.status == 0
+            && put.text.starts_with(lines.as_bytes())
+            && put.text.ends_with(calls.as_bytes())
+            && put.files == 1
+            && again.status == 0
+            && again.text == put.text,
+    )
+}
+
 #[test]
 fn models_are_run(rt: HostRuntime) -> Result<(), Fail> {
-    let loose = models::grounds(rt.alloc(), 1)?;
     for &(model, trace, lines, calls) in &[
         (
             models::ONE_WIRE,
-            b"5\n-7\n2147483647" as &[u8],
-            b"5\n-7\n2147483647\nticks 3 steps " as &[u8],
-            b" calls 6\n" as &[u8],
+            "5\n-7\n2147483647",
+            "5\n-7\n2147483647\nticks 3 steps ",
+            " calls 6\n",
         ),
         (
             models::ONE_DELAY,
-            b"1\n2\n3\n",
-            b"7\n1\n2\nticks 3 steps ",
-            b" calls 6\n",
+            "1\n2\n3\n",
+            "7\n1\n2\nticks 3 steps ",
+            " calls 6\n",
         ),
-        (models::ONE_WIRE, b"", b"ticks 0 steps 0", b" calls 0\n"),
-        (
-            loose.as_slice(),
-            b"\n \r\n",
-            b"\n\nticks 2 steps ",
-            b" calls 2\n",
-        ),
+        (models::ONE_WIRE, "", "ticks 0 steps 0", " calls 0\n"),
         (
             models::ENDED,
-            b"5\n-7\n2147483647",
-            b"5\n-7\n2147483647\nticks 3 steps ",
-            b" calls 6\n",
+            "5\n-7\n2147483647",
+            "5\n-7\n2147483647\nticks 3 steps ",
+            " calls 6\n",
         ),
         (
             models::CONSTANTS,
-            b"\n\n",
-            b"300 0\n300 0\nticks 2 steps ",
-            b" calls 4\n",
+            "\n\n",
+            "300 0\n300 0\nticks 2 steps ",
+            " calls 4\n",
         ),
     ] {
-        let put = ran(rt.alloc(), model, trace)?;
-        assert_eq!(rt; put.status, 0);
-        assert!(rt; put.text.starts_with(lines));
-        assert!(rt; put.text.ends_with(calls));
-        assert_eq!(rt; put.files, 1);
-        let again = executed(rt.alloc(), &put.code, trace)?;
-        assert_eq!(rt; again.status, 0);
-        assert_eq!(rt; again.text, put.text);
+        assert!(rt; is_run(rt.alloc(), model, trace, lines, calls)?, "{lines}");
     }
+    Ok(())
+}
+
+#[test]
+fn a_model_without_ports_is_run(rt: HostRuntime) -> Result<(), Fail> {
+    let alloc = rt.alloc();
+    let loose = models::grounds(alloc, 1)?;
+    let lines = "\n\nticks 2 steps ";
+    assert!(rt; is_run(alloc, &loose, "\n \r\n", lines, " calls 2\n")?);
     Ok(())
 }
 
@@ -76,17 +91,16 @@ fn lines_that_are_no_row(rt: HostRuntime) -> Result<(), Fail> {
         (long.as_slice(), "trace line 1 Long\n"),
     ] {
         let put = ran(rt.alloc(), models::ONE_WIRE, trace)?;
-        assert_eq!(rt; put.status, 4, "{text}");
-        assert_eq!(rt; put.text.as_slice(), text.as_bytes(), "{text}");
-        assert_eq!(rt; put.files, 1);
+        assert!(rt; put.ended_with(4, text.as_bytes(), 1), "{text}");
     }
-    let longest = ran(
-        rt.alloc(),
-        models::ONE_WIRE,
-        &behind_blanks(rt.alloc(), 4_095)?,
-    )?;
-    assert_eq!(rt; longest.status, 0);
-    assert!(rt; longest.text.starts_with(b"5\nticks 1 "));
+    Ok(())
+}
+
+#[test]
+fn the_longest_line_is_a_row(rt: HostRuntime) -> Result<(), Fail> {
+    let trace = behind_blanks(rt.alloc(), 4_095)?;
+    let put = ran(rt.alloc(), models::ONE_WIRE, &trace)?;
+    assert!(rt; put.status == 0 && put.text.starts_with(b"5\nticks 1 "));
     Ok(())
 }
 
@@ -112,8 +126,7 @@ fn numbers_at_the_ends_of_their_types(rt: HostRuntime) -> Result<(), Fail> {
     let model = models::typed_wires(rt.alloc(), &TYPES)?;
     let put = ran(rt.alloc(), &model, ENDS)?;
     assert_eq!(rt; put.status, 0);
-    assert!(rt; put.text.starts_with(ENDS));
-    assert!(rt; put.text.ends_with(b" calls 18\n"));
+    assert!(rt; put.text.starts_with(ENDS) && put.text.ends_with(b" calls 18\n"));
     Ok(())
 }
 
@@ -139,16 +152,17 @@ fn numbers_beyond_their_types(rt: HostRuntime) -> Result<(), Fail> {
         ("0 0 0 0 0 0 0 2048\n", "trace line 1 Range 8\n"),
     ] {
         let put = ran(rt.alloc(), &model, trace.as_bytes())?;
-        assert_eq!(rt; put.status, 4, "{trace}");
-        assert_eq!(rt; put.text.as_slice(), text.as_bytes(), "{trace}");
+        assert!(rt; put.ended_with(4, text.as_bytes(), 1), "{trace}");
     }
+    Ok(())
+}
+
+#[test]
+fn a_number_beyond_its_type_behind_others(rt: HostRuntime) -> Result<(), Fail> {
     let narrow = models::one_wire_with(rt.alloc(), "OutDataTypeStr \"int8\"\n")?;
     let put = ran(rt.alloc(), narrow.as_bytes(), b"1\n2\n200\n")?;
-    assert_eq!(rt; put.status, 4);
-    assert_eq!(rt;
-        put.text.as_slice(),
-        b"1\n2\ntrace line 3 Range 1\n" as &[u8]
-    );
+    let text = b"1\n2\ntrace line 3 Range 1\n".as_slice();
+    assert!(rt; put.ended_with(4, text, 1));
     Ok(())
 }
 
@@ -200,9 +214,7 @@ fn code_is_executed(rt: HostRuntime) -> Result<(), Fail> {
         ),
     ] {
         let put = executed_storing(rt.alloc(), value, trace)?;
-        assert_eq!(rt; put.status, status, "{value}");
-        assert_eq!(rt; put.text.as_slice(), text.as_bytes(), "{value}");
-        assert_eq!(rt; put.files, 0);
+        assert!(rt; put.ended_with(status, text.as_bytes(), 0), "{value}");
     }
     Ok(())
 }
@@ -221,9 +233,7 @@ fn code_that_is_stuck_in_its_first_tick(rt: HostRuntime) -> Result<(), Fail> {
         ("(int32_t)INT64_C(2147483648)", "stuck line 5 Range\n"),
     ] {
         let put = executed_storing(rt.alloc(), value, "1\n")?;
-        assert_eq!(rt; put.status, 9, "{value}");
-        assert_eq!(rt; put.text.as_slice(), text.as_bytes(), "{value}");
-        assert_eq!(rt; put.files, 0);
+        assert!(rt; put.ended_with(9, text.as_bytes(), 0), "{value}");
     }
     Ok(())
 }
@@ -236,43 +246,39 @@ fn code_that_is_no_program(rt: HostRuntime) -> Result<(), Fail> {
         ("5", "code refused line 5 Syntax\n"),
     ] {
         let put = executed_storing(rt.alloc(), value, "1\n")?;
-        assert_eq!(rt; put.status, 8, "{value}");
-        assert_eq!(rt; put.text.as_slice(), text.as_bytes(), "{value}");
-        assert_eq!(rt; put.files, 0);
+        assert!(rt; put.ended_with(8, text.as_bytes(), 0), "{value}");
     }
     Ok(())
 }
 
 #[test]
-fn code_that_is_refused_or_stuck_at_once(rt: HostRuntime) -> Result<(), Fail> {
-    let alloc = rt.alloc();
-    let other = executed(alloc, b"int main;", b"")?;
-    assert_eq!(rt; other.status, 8);
-    assert_eq!(rt;
-        other.text.as_slice(),
-        b"code refused line 1 Syntax\n" as &[u8]
-    );
-    let mut value = String::from_str(alloc, "(int32_t)")?;
-    for _ in 0..200 {
-        value.push_str("(-")?;
-    }
-    let deep = executed(alloc, storing(alloc, value.as_str())?.as_bytes(), b"")?;
-    assert_eq!(rt; deep.status, 8);
-    assert_eq!(rt;
-        deep.text.as_slice(),
-        b"code refused line 5 Deep\n" as &[u8]
-    );
+fn code_that_begins_otherwise(rt: HostRuntime) -> Result<(), Fail> {
+    let put = executed(rt.alloc(), b"int main;", b"")?;
+    let text = b"code refused line 1 Syntax\n".as_slice();
+    assert!(rt; put.ended_with(8, text, 0));
+    Ok(())
+}
+
+#[test]
+fn deep_code(rt: HostRuntime) -> Result<(), Fail> {
+    let opened = "(-".repeat(rt.alloc(), 200)?;
+    let value = format!(in rt.alloc(); "(int32_t){opened}")?;
+    let put = executed_storing(rt.alloc(), &value, "")?;
+    let text = b"code refused line 5 Deep\n".as_slice();
+    assert!(rt; put.ended_with(8, text, 0));
+    Ok(())
+}
+
+#[test]
+fn code_stuck_in_its_start_without_a_trace(rt: HostRuntime) -> Result<(), Fail> {
     let files = Files {
         model: b"",
         code: DIVIDES_IN_ITS_START,
         trace: b"",
     };
-    let start = called_with(alloc, "exec b.c missing", files, &[], &[])?;
-    assert_eq!(rt; start.status, 9);
-    assert_eq!(rt;
-        start.text.as_slice(),
-        b"stuck line 4 ZeroDivisor\n" as &[u8]
-    );
+    let put = called_with(rt.alloc(), "exec b.c missing", files, &[], &[])?;
+    let text = b"stuck line 4 ZeroDivisor\n".as_slice();
+    assert!(rt; put.ended_with(9, text, 0));
     Ok(())
 }
 
@@ -306,9 +312,7 @@ fn faults_of_runs(rt: HostRuntime) -> Result<(), Fail> {
         ),
     ] {
         let put = called_with(alloc, line, files, fails, put_fails)?;
-        assert_eq!(rt; put.status, status, "{line}");
-        assert_eq!(rt; put.text.as_slice(), text.as_bytes(), "{line}");
-        assert_eq!(rt; put.files, written, "{line}");
+        assert!(rt; put.ended_with(status, text.as_bytes(), written), "{line}");
     }
     Ok(())
 }
@@ -333,8 +337,7 @@ fn traces_in_pieces(rt: HostRuntime) -> Result<(), Fail> {
         };
         for piece in 1..65 {
             let put = called_in_pieces(alloc, "exec b.c t", files, &[], &[], piece)?;
-            assert_eq!(rt; put.status, status, "{piece}");
-            assert_eq!(rt; put.text.as_slice(), text.as_bytes(), "{piece}");
+            assert!(rt; put.ended_with(status, text.as_bytes(), 0), "{piece}");
         }
     }
     Ok(())
@@ -349,9 +352,9 @@ fn a_model_is_run_over_a_trace_in_pieces(rt: HostRuntime) -> Result<(), Fail> {
         trace: b"5\n-7\n2147483647",
     };
     let put = called_in_pieces(rt.alloc(), "run a.mdl a.c t", files, &[], &[], 1)?;
+    let lines = b"5\n-7\n2147483647\nticks 3 steps ";
     assert_eq!(rt; put.status, 0);
-    assert!(rt; put.text.starts_with(b"5\n-7\n2147483647\nticks 3 steps "));
-    assert!(rt; put.text.ends_with(b" calls 6\n"));
+    assert!(rt; put.text.starts_with(lines) && put.text.ends_with(b" calls 6\n"));
     Ok(())
 }
 
@@ -361,17 +364,14 @@ fn a_model_is_run_over_a_trace_in_pieces(rt: HostRuntime) -> Result<(), Fail> {
 fn a_trace_that_cannot_be_read_on(rt: HostRuntime) -> Result<(), Fail> {
     let alloc = rt.alloc();
     let mut code = storing(alloc, "(int32_t)(int64_t)u1")?;
-    for _ in 0..36 {
-        code.push_str("\n")?;
-    }
+    code.push_str(&"\n".repeat(alloc, 36)?)?;
     let files = Files {
         model: b"",
         code: code.as_bytes(),
         trace: b"5\n-7\n",
     };
     let put = called_in_pieces(alloc, "exec b.c t", files, &[103], &[], 2)?;
-    assert_eq!(rt; put.status, 5);
-    assert_eq!(rt; put.text.as_slice(), b"5\nread fault\n" as &[u8]);
+    assert!(rt; put.ended_with(5, b"5\nread fault\n".as_slice(), 0));
     Ok(())
 }
 
@@ -384,11 +384,8 @@ fn refused_code_without_its_trace(rt: HostRuntime) -> Result<(), Fail> {
         trace: b"",
     };
     let put = called_with(alloc, "exec b.c missing", files, &[], &[])?;
-    assert_eq!(rt; put.status, 8);
-    assert_eq!(rt;
-        put.text.as_slice(),
-        b"code refused line 1 Syntax\n" as &[u8]
-    );
+    let text = b"code refused line 1 Syntax\n".as_slice();
+    assert!(rt; put.ended_with(8, text, 0));
     Ok(())
 }
 

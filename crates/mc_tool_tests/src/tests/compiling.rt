@@ -1,4 +1,6 @@
-use mc_calls::{called, compiled, model_file, models, words_of};
+ghost use Rattle.std.specs.Prelude.{◌<◌};
+
+use mc_calls::{Answer, called, compiled, model_file, models, words_of};
 use mc_edge::{MemHost, MemSink, SureHost, SureSink};
 use mc_tool::{run_surely, run_tool};
 use std::alloc::{AllocError, Global};
@@ -7,40 +9,29 @@ use std::test::Fail;
 const USAGE: &[u8] =
     b"usage: mdlc compile MODEL CODE | run MODEL CODE TRACE | exec CODE TRACE | profile MODEL | drive MODEL CODE SUBSYSTEM SCRIPT | gen START SIZE MODEL CODE\n";
 
+const ONE_WIRE: &[u8] = b"compiled rows 2 systems 1 functions 1\n";
+
 #[test]
 fn one_wire(rt: HostRuntime) -> Result<(), Fail> {
     let done = compiled(rt.alloc(), models::ONE_WIRE)?;
-    assert_eq!(rt; done.status, 0);
-    assert_eq!(rt;
-        done.text.as_slice(),
-        b"compiled rows 2 systems 1 functions 1\n" as &[u8]
-    );
-    assert_eq!(rt; done.files, 1);
-    assert_eq!(rt; done.refused, 0);
-    assert!(rt; done.code.starts_with(b"#include <stdint.h>\n"));
+    assert!(rt; done.ended_with(0, ONE_WIRE, 1));
+    assert!(rt; done.refused == 0 && done.code.starts_with(b"#include <stdint.h>\n"));
     Ok(())
 }
 
+// With a delay in the wire, and with a Gain in the place of the Outport, so that no output has a function.
 #[test]
-fn one_delay(rt: HostRuntime) -> Result<(), Fail> {
-    let done = compiled(rt.alloc(), models::ONE_DELAY)?;
-    assert_eq!(rt; done.status, 0);
-    assert_eq!(rt;
-        done.text.as_slice(),
-        b"compiled rows 3 systems 1 functions 1\n" as &[u8]
-    );
-    Ok(())
-}
-
-// A Gain in the place of the Outport: no output has a function.
-#[test]
-fn a_gain_without_an_output(rt: HostRuntime) -> Result<(), Fail> {
-    let done = compiled(rt.alloc(), models::GAIN.as_bytes())?;
-    assert_eq!(rt; done.status, 0);
-    assert_eq!(rt;
-        done.text.as_slice(),
-        b"compiled rows 2 systems 1 functions 0\n" as &[u8]
-    );
+fn models_near_one_wire(rt: HostRuntime) -> Result<(), Fail> {
+    for &(model, text) in &[
+        (models::ONE_DELAY, "compiled rows 3 systems 1 functions 1\n"),
+        (
+            models::GAIN.as_bytes(),
+            "compiled rows 2 systems 1 functions 0\n",
+        ),
+    ] {
+        let done = compiled(rt.alloc(), model)?;
+        assert!(rt; done.ended_with(0, text.as_bytes(), 1));
+    }
     Ok(())
 }
 
@@ -80,40 +71,68 @@ fn usage(rt: HostRuntime) -> Result<(), Fail> {
         "gen x 1 a b",
     ] {
         let told = called(rt.alloc(), line, models::ONE_WIRE, &[], &[], 4096)?;
-        assert_eq!(rt; told.status, 2, "{line}");
-        assert_eq!(rt; told.text.as_slice(), USAGE, "{line}");
-        assert_eq!(rt; told.files, 0);
+        assert!(rt; told.ended_with(2, USAGE, 0), "{line}");
     }
-    let alloc = rt.alloc();
-    let mut host = MemHost::new(alloc, Vec::new(alloc), Vec::new(alloc), 4096);
-    let mut out = MemSink::new(alloc, Vec::new(alloc), 4096);
-    assert_eq!(rt; run_tool(alloc, &[], &mut host, &mut out), 2);
-    assert_eq!(rt; out.bytes(), USAGE);
     Ok(())
 }
 
 #[test]
-fn host_faults(rt: HostRuntime) -> Result<(), Fail> {
+fn no_words(rt: HostRuntime) -> Result<(), Fail> {
     let alloc = rt.alloc();
-    let compile = "compile a.mdl a.c";
-    let missing = called(alloc, "compile b.mdl a.c", models::ONE_WIRE, &[], &[], 4096)?;
-    assert_eq!(rt; missing.status, 5);
-    assert_eq!(rt; missing.text.as_slice(), b"read fault\n" as &[u8]);
-    let second_read = called(alloc, compile, models::ONE_WIRE, &[2], &[], 16)?;
-    assert_eq!(rt; second_read.status, 5);
-    assert_eq!(rt; second_read.text.as_slice(), b"read fault\n" as &[u8]);
-    assert_eq!(rt; second_read.files, 0);
-    let first_write = called(alloc, compile, models::ONE_WIRE, &[4], &[], 4096)?;
-    assert_eq!(rt; first_write.status, 6);
-    assert_eq!(rt; first_write.text.as_slice(), b"write fault\n" as &[u8]);
-    assert_eq!(rt; first_write.files, 1);
-    assert_eq!(rt; first_write.code.len(), 0);
-    let first_put = called(alloc, compile, models::ONE_WIRE, &[], &[0], 4096)?;
-    assert_eq!(rt; first_put.status, 7);
-    assert_eq!(rt; first_put.text.len(), 0);
-    let second_put = called(alloc, compile, models::ONE_WIRE, &[], &[1], 8)?;
-    assert_eq!(rt; second_put.status, 7);
-    assert_eq!(rt; second_put.text.as_slice(), b"compiled" as &[u8]);
+    let mut host = MemHost::new(alloc, Vec::new(alloc), Vec::new(alloc), 4096);
+    let mut out = MemSink::new(alloc, Vec::new(alloc), 4096);
+    let status = run_tool(alloc, &[], &mut host, &mut out);
+    assert_eq!(rt; (status, out.bytes()), (2, USAGE));
+    Ok(())
+}
+
+#[test]
+fn a_missing_model(rt: HostRuntime) -> Result<(), Fail> {
+    let line = "compile b.mdl a.c";
+    let told = called(rt.alloc(), line, models::ONE_WIRE, &[], &[], 4096)?;
+    assert!(rt; told.ended_with(5, b"read fault\n".as_slice(), 0));
+    Ok(())
+}
+
+/// How `compile` ends on one wire where these calls of the host and of the sink fail, and each moves so many bytes at most.
+fn failing(
+    alloc: Global,
+    fails: &[u64],
+    put_fails: &[u64],
+    piece: usize,
+) -> Result<Answer, AllocError>
+    requires { 0 < piece }
+{
+    let line = "compile a.mdl a.c";
+    called(alloc, line, models::ONE_WIRE, fails, put_fails, piece)
+}
+
+#[test]
+fn a_second_read_that_fails(rt: HostRuntime) -> Result<(), Fail> {
+    let told = failing(rt.alloc(), &[2], &[], 16)?;
+    assert!(rt; told.ended_with(5, b"read fault\n".as_slice(), 0));
+    Ok(())
+}
+
+#[test]
+fn a_first_write_that_fails(rt: HostRuntime) -> Result<(), Fail> {
+    let told = failing(rt.alloc(), &[4], &[], 4096)?;
+    assert!(rt; told.ended_with(6, b"write fault\n".as_slice(), 1));
+    assert!(rt; told.code.is_empty());
+    Ok(())
+}
+
+#[test]
+fn a_first_put_that_fails(rt: HostRuntime) -> Result<(), Fail> {
+    let told = failing(rt.alloc(), &[], &[0], 4096)?;
+    assert!(rt; told.ended_with(7, b"".as_slice(), 1));
+    Ok(())
+}
+
+#[test]
+fn a_second_put_that_fails(rt: HostRuntime) -> Result<(), Fail> {
+    let told = failing(rt.alloc(), &[], &[1], 8)?;
+    assert!(rt; told.ended_with(7, b"compiled".as_slice(), 1));
     Ok(())
 }
 
@@ -135,9 +154,7 @@ fn refusals(rt: HostRuntime) -> Result<(), Fail> {
         ("Library {\n}\n", "refused F4 TwoModels line 1 Library\n"),
     ] {
         let told = compiled(rt.alloc(), model.as_bytes())?;
-        assert_eq!(rt; told.status, 3, "{line}");
-        assert_eq!(rt; told.text.as_slice(), line.as_bytes(), "{line}");
-        assert_eq!(rt; told.files, 0);
+        assert!(rt; told.ended_with(3, line.as_bytes(), 0), "{line}");
     }
     Ok(())
 }
@@ -146,11 +163,8 @@ fn refusals(rt: HostRuntime) -> Result<(), Fail> {
 fn deep_sections(rt: HostRuntime) -> Result<(), Fail> {
     let alloc = rt.alloc();
     let told = compiled(alloc, &models::nested(alloc, 129)?)?;
-    assert_eq!(rt; told.status, 3);
-    assert_eq!(rt;
-        told.text.as_slice(),
-        b"refused F2 Syntax line 129 DeepSections\n" as &[u8]
-    );
+    let line = b"refused F2 Syntax line 129 DeepSections\n".as_slice();
+    assert!(rt; told.ended_with(3, line, 0));
     Ok(())
 }
 
@@ -159,11 +173,7 @@ fn deep_sections(rt: HostRuntime) -> Result<(), Fail> {
 fn other_texts_of_one_wire(rt: HostRuntime) -> Result<(), Fail> {
     for &model in &[models::BRANCHED, models::BY_DEFAULTS, models::SURROUNDED] {
         let done = compiled(rt.alloc(), model.as_bytes())?;
-        assert_eq!(rt; done.status, 0);
-        assert_eq!(rt;
-            done.text.as_slice(),
-            b"compiled rows 2 systems 1 functions 1\n" as &[u8]
-        );
+        assert!(rt; done.ended_with(0, ONE_WIRE, 1));
     }
     Ok(())
 }
@@ -174,35 +184,48 @@ fn is_refused(alloc: Global, model: &[u8]) -> Result<bool, AllocError> {
     Ok(told.status == 3 && told.files == 0)
 }
 
-// Without its last byte the one wire is the same model; each shorter front of it is refused.
+// Without its last byte the one wire is the same model.
 #[test]
-fn prefixes(rt: HostRuntime) -> Result<(), Fail> {
+fn one_wire_without_its_last_byte(rt: HostRuntime) -> Result<(), Fail> {
     let (_, front) = models::ONE_WIRE.split_last().ok_or("there is no model")?;
     let done = compiled(rt.alloc(), front)?;
-    assert_eq!(rt; done.status, 0);
-    assert_eq!(rt;
-        done.text.as_slice(),
-        b"compiled rows 2 systems 1 functions 1\n" as &[u8]
-    );
-    for end in 0..front.len() {
-        let shorter = front.get(..end).unwrap_or(&[]);
+    assert!(rt; done.ended_with(0, ONE_WIRE, 1));
+    Ok(())
+}
+
+// Each shorter front of it is refused.
+#[test]
+fn prefixes(rt: HostRuntime) -> Result<(), Fail> {
+    for end in 0..models::ONE_WIRE.len().saturating_sub(1) {
+        let shorter = models::ONE_WIRE.get(..end).unwrap_or(&[]);
         assert!(rt; is_refused(rt.alloc(), shorter)?, "{end}");
     }
     Ok(())
 }
 
+/// What `compile` puts of a model.
+fn line_of(alloc: Global, model: Vec<u8>) -> Result<Vec<u8>, AllocError> {
+    Ok(compiled(alloc, &model)?.text)
+}
+
 #[test]
-fn large_models(rt: HostRuntime) -> Result<(), Fail> {
+fn crossed_ports(rt: HostRuntime) -> Result<(), Fail> {
     let alloc = rt.alloc();
-    let crossed = compiled(alloc, &models::crossed_ports(alloc, 32)?)?;
+    let line = line_of(alloc, models::crossed_ports(alloc, 32)?)?;
     assert_eq!(rt;
-        crossed.text.as_slice(),
-        b"compiled rows 64 systems 1 functions 32\n" as &[u8]
+        line.as_slice(),
+        b"compiled rows 64 systems 1 functions 32\n".as_slice()
     );
-    let chain = compiled(alloc, &models::backward_chain(alloc, 50)?)?;
+    Ok(())
+}
+
+#[test]
+fn a_backward_chain(rt: HostRuntime) -> Result<(), Fail> {
+    let alloc = rt.alloc();
+    let line = line_of(alloc, models::backward_chain(alloc, 50)?)?;
     assert_eq!(rt;
-        chain.text.as_slice(),
-        b"compiled rows 52 systems 1 functions 1\n" as &[u8]
+        line.as_slice(),
+        b"compiled rows 52 systems 1 functions 1\n".as_slice()
     );
     Ok(())
 }
@@ -210,16 +233,13 @@ fn large_models(rt: HostRuntime) -> Result<(), Fail> {
 #[test]
 fn many_blocks(rt: HostRuntime) -> Result<(), Fail> {
     let alloc = rt.alloc();
-    let most = compiled(alloc, &models::grounds(alloc, 20_000)?)?;
-    assert_eq!(rt;
-        most.text.as_slice(),
-        b"compiled rows 20000 systems 1 functions 0\n" as &[u8]
-    );
-    let more = compiled(alloc, &models::grounds(alloc, 20_001)?)?;
-    assert_eq!(rt;
-        more.text.as_slice(),
-        b"refused F6 TooMany line 80003 Blocks 20001\n" as &[u8]
-    );
+    for &(count, expected) in &[
+        (20_000, "compiled rows 20000 systems 1 functions 0\n"),
+        (20_001, "refused F6 TooMany line 80003 Blocks 20001\n"),
+    ] {
+        let line = line_of(alloc, models::grounds(alloc, count)?)?;
+        assert_eq!(rt; line.as_slice(), expected.as_bytes());
+    }
     Ok(())
 }
 
@@ -229,11 +249,16 @@ fn nothing_fails_over_sure_ends(rt: HostRuntime) -> Result<(), Fail> {
     let words = words_of(alloc, "compile a.mdl a.c")?;
     let mut host = SureHost::new(model_file(alloc, models::ONE_WIRE)?);
     let mut out = SureSink::new();
-    assert_eq!(rt; run_tool(alloc, &words, &mut host, &mut out), 0);
-    assert_eq!(rt; out.taken(), 38);
-    assert_eq!(rt;
-        run_surely(alloc, &words, model_file(alloc, models::ONE_WIRE)?),
-        0
-    );
+    let status = run_tool(alloc, &words, &mut host, &mut out);
+    assert_eq!(rt; (status, out.taken()), (0, 38));
+    Ok(())
+}
+
+#[test]
+fn one_wire_over_sure_ends(rt: HostRuntime) -> Result<(), Fail> {
+    let alloc = rt.alloc();
+    let words = words_of(alloc, "compile a.mdl a.c")?;
+    let files = model_file(alloc, models::ONE_WIRE)?;
+    assert_eq!(rt; run_surely(alloc, &words, files), 0);
     Ok(())
 }

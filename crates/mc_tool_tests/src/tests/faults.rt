@@ -31,32 +31,54 @@ fn ended(alloc: Global, told: &Answer, whole: &Answer, fault: Fault) -> Result<b
     )
 }
 
-// Each call of the host fails alone, by its number, and then each of the sink. A failure of the call behind the last isn't met.
+/// A command over some files, and how it ends where no call fails.
+#[derive(Drop)]
+struct Trial<'a> {
+    line: &'static str,
+    texts: Files<'a>,
+    whole: Answer,
+}
+
+impl Trial<'_> {
+    // Whether the command ends so where these calls of the host and of the sink fail.
+    fn fails_so(
+        &self,
+        alloc: Global,
+        fails: &[u64],
+        put_fails: &[u64],
+        fault: Fault,
+    ) -> Result<bool, AllocError> {
+        let told = called_in_pieces(alloc, self.line, self.texts, fails, put_fails, 65_536)?;
+        ended(alloc, &told, &self.whole, fault)
+    }
+
+    // Each call of the host fails alone, by its number, and then each of the sink.
+    fn all_fail(&self, alloc: Global, host: &[Fault], puts: &[Fault]) -> Result<bool, AllocError> {
+        for (call, &fault) in host.iter().enumerate() {
+            if !self.fails_so(alloc, &[call as u64], &[], fault)? {
+                return Ok(false);
+            }
+        }
+        for (put, &fault) in puts.iter().enumerate() {
+            if !self.fails_so(alloc, &[], &[put as u64], fault)? {
+                return Ok(false);
+            }
+        }
+        Ok(self.whole.status == 0)
+    }
+}
+
+// Each call fails alone, of the host and of the sink. A failure of the call behind the last isn't met.
 fn all_fail(
     alloc: Global,
     line: &'static str,
     texts: Files<'_>,
     host: &[Fault],
     puts: &[Fault],
-) -> Result<(), Fail> {
-    let unmet = ([host.len() as u64], [puts.len() as u64]);
-    let whole = called_in_pieces(alloc, line, texts, &unmet.0, &unmet.1, 65_536)?;
-    if whole.status != 0 {
-        return Err(line.into());
-    }
-    for (call, &fault) in host.iter().enumerate() {
-        let told = called_in_pieces(alloc, line, texts, &[call as u64], &[], 65_536)?;
-        if !ended(alloc, &told, &whole, fault)? {
-            return Err(line.into());
-        }
-    }
-    for (put, &fault) in puts.iter().enumerate() {
-        let told = called_in_pieces(alloc, line, texts, &[], &[put as u64], 65_536)?;
-        if !ended(alloc, &told, &whole, fault)? {
-            return Err(line.into());
-        }
-    }
-    Ok(())
+) -> Result<bool, AllocError> {
+    let (unmet, unmet_put) = ([host.len() as u64], [puts.len() as u64]);
+    let whole = called_in_pieces(alloc, line, texts, &unmet, &unmet_put, 65_536)?;
+    Trial { line, texts, whole }.all_fail(alloc, host, puts)
 }
 
 // A file is opened, read, and read to its end; one that is written is opened, and written at once.
@@ -157,7 +179,7 @@ fn each_call_fails_alone(rt: HostRuntime) -> Result<(), Fail> {
     let wire = compiled(alloc, models::ONE_WIRE)?;
     let model = crossed(alloc)?;
     for (line, texts, host, puts) in rows(&wire.code, model.as_bytes()) {
-        all_fail(alloc, line, texts, host, puts)?;
+        assert!(rt; all_fail(alloc, line, texts, host, puts)?, "{line}");
     }
     Ok(())
 }

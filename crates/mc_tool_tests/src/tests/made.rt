@@ -16,6 +16,9 @@ const COMPILED: &str = "compiled rows 11 systems 2 functions 3\n";
 
 const LINES: &str = "1045 959\n-2168 -3213\n-887 1281\n-3260 -2373\n";
 
+const ROWS: &str =
+    "compiled rows 11 systems 2 functions 3\n1045 959\n-2168 -3213\n-887 1281\n-3260 -2373\n";
+
 const TRACE: &[u8] = b"137\n-459\n183\n-339\n";
 
 /// What stands behind as many bytes as a text has.
@@ -23,23 +26,38 @@ fn behind<'a>(bytes: &'a [u8], text: &str) -> &'a [u8] {
     bytes.get(text.len()..).unwrap_or(&[])
 }
 
-// The model and then its code are written, and the code puts by `exec` what is put of it here.
+// The model is written and then its code, and its compiled line is put.
 #[test]
 fn the_smallest_model(rt: HostRuntime) -> Result<(), Fail> {
-    let alloc = rt.alloc();
-    let done = made(alloc, &[], &[])?;
-    assert_eq!(rt; done.status, 0);
-    assert_eq!(rt; done.files, 2);
-    assert!(rt; done.code.starts_with(MADE.as_bytes()));
-    let code = behind(&done.code, MADE);
-    assert!(rt; code.starts_with(b"#include <stdint.h>\n"));
-    let again = executed(alloc, code, TRACE)?;
-    assert_eq!(rt; again.status, 0);
-    assert!(rt; again.text.starts_with(LINES.as_bytes()));
-    assert!(rt; behind(&again.text, LINES).starts_with(b"ticks 4 steps "));
-    assert!(rt; again.text.ends_with(b" calls 20\n"));
+    let done = made(rt.alloc(), &[], &[])?;
+    assert_eq!(rt; (done.status, done.files), (0, 2));
     assert!(rt; done.text.starts_with(COMPILED.as_bytes()));
-    assert_eq!(rt; behind(&done.text, COMPILED), again.text.as_slice());
+    assert!(rt; done.code.starts_with(MADE.as_bytes()));
+    assert!(rt; behind(&done.code, MADE).starts_with(b"#include <stdint.h>\n"));
+    Ok(())
+}
+
+/// How `exec` ends on the code that was written over the trace that belongs to it.
+fn executed_again(alloc: Global, done: &Answer) -> Result<Answer, AllocError> {
+    executed(alloc, behind(&done.code, MADE), TRACE)
+}
+
+// The code puts by `exec` what is put of it here.
+#[test]
+fn the_smallest_models_code(rt: HostRuntime) -> Result<(), Fail> {
+    let done = made(rt.alloc(), &[], &[])?;
+    let again = executed_again(rt.alloc(), &done)?;
+    assert!(rt; again.ended_with(0, behind(&done.text, COMPILED), 0));
+    Ok(())
+}
+
+#[test]
+fn the_smallest_models_lines(rt: HostRuntime) -> Result<(), Fail> {
+    let done = made(rt.alloc(), &[], &[])?;
+    let lines = behind(&done.text, COMPILED);
+    assert!(rt; lines.starts_with(LINES.as_bytes()));
+    assert!(rt; behind(lines, LINES).starts_with(b"ticks 4 steps "));
+    assert!(rt; lines.ends_with(b" calls 20\n"));
     Ok(())
 }
 
@@ -53,9 +71,7 @@ fn writes_that_fail(rt: HostRuntime) -> Result<(), Fail> {
         (&[3], 2, MADE),
     ] {
         let told = made(rt.alloc(), fails, &[])?;
-        assert_eq!(rt; told.status, 6, "{files}");
-        assert_eq!(rt; told.text.as_slice(), b"write fault\n" as &[u8], "{files}");
-        assert_eq!(rt; told.files, files);
+        assert!(rt; told.ended_with(6, b"write fault\n".as_slice(), files));
         assert_eq!(rt; told.code.as_slice(), text.as_bytes(), "{files}");
     }
     Ok(())
@@ -64,22 +80,17 @@ fn writes_that_fail(rt: HostRuntime) -> Result<(), Fail> {
 // The compiled line is put first, then the lines of all four ticks together, and then the totals.
 #[test]
 fn puts_that_fail(rt: HostRuntime) -> Result<(), Fail> {
-    let alloc = rt.alloc();
-    let rows = format!(in alloc; "{COMPILED}{LINES}")?;
-    for &(fails, text) in &[
-        (&[0u64] as &[u64], ""),
-        (&[1], COMPILED),
-        (&[2], rows.as_str()),
-    ] {
-        let told = made(alloc, &[], fails)?;
-        assert_eq!(rt; told.status, 7, "{text}");
-        assert_eq!(rt; told.text.as_slice(), text.as_bytes(), "{text}");
-        assert_eq!(rt; told.files, 2, "{text}");
+    for &(fails, text) in &[(&[0u64] as &[u64], ""), (&[1], COMPILED), (&[2], ROWS)] {
+        let told = made(rt.alloc(), &[], fails)?;
+        assert!(rt; told.ended_with(7, text.as_bytes(), 2));
     }
-    let cut = called(alloc, "gen 1 1 g.mdl g.c", b"", &[], &[1], 8)?;
-    assert_eq!(rt; cut.status, 7);
-    assert_eq!(rt; cut.text.as_slice(), b"compiled" as &[u8]);
-    assert_eq!(rt; cut.files, 2);
+    Ok(())
+}
+
+#[test]
+fn a_put_that_is_cut(rt: HostRuntime) -> Result<(), Fail> {
+    let cut = called(rt.alloc(), "gen 1 1 g.mdl g.c", b"", &[], &[1], 8)?;
+    assert!(rt; cut.ended_with(7, b"compiled".as_slice(), 2));
     Ok(())
 }
 
