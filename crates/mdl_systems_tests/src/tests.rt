@@ -8,13 +8,14 @@ use mc_diagram::BuildFault;
 use mdl_params::Defaults;
 use mdl_reader::read_mdl;
 use mdl_systems::{find_model, read_model};
+use mdl_texts::model_of;
 use std::alloc::Global;
 use std::test::Fail;
 
 /// The text of a refusal, or want of memory.
-fn told(alloc: Global, fault: BuildFault) -> Result<Vec<u8>, Fail> {
+fn told(alloc: Global, fault: &BuildFault) -> Result<Vec<u8>, Fail> {
     match fault {
-        BuildFault::Refused(refusal) => Ok(refusal_text(alloc, &refusal)?),
+        BuildFault::Refused(refusal) => Ok(refusal_text(alloc, refusal)?),
         BuildFault::Memory => Err(Fail::from("memory")),
     }
 }
@@ -24,11 +25,26 @@ fn answer(alloc: Global, text: &str) -> Result<Vec<u8>, Fail> {
     let file = read_mdl(alloc, text.as_bytes())?;
     let sections = match find_model(alloc, &file) {
         Ok(sections) => sections,
-        Err(fault) => return told(alloc, fault),
+        Err(fault) => return told(alloc, &fault),
     };
     let defaults = Defaults::new(alloc, sections.model)?;
     match read_model(alloc, &defaults, sections.system) {
         Ok(_) => Ok(b"read\n".to_vec(alloc)?),
-        Err(fault) => told(alloc, fault),
+        Err(fault) => told(alloc, &fault),
     }
+}
+
+/// Fails where reading a file answers anything else than what is expected.
+fn is_told_of_file(alloc: Global, text: &str, expected: &str) -> Result<(), Fail> {
+    let told = answer(alloc, text)?;
+    if told.as_slice() == expected.as_bytes() {
+        return Ok(());
+    }
+    let told = str::from_utf8(told.as_slice())?;
+    Err(Fail::new(format_args!("{told:?} is told, not {expected:?}, of {text}")))
+}
+
+/// The same of a model of these parts.
+fn is_told(alloc: Global, parts: &str, expected: &str) -> Result<(), Fail> {
+    is_told_of_file(alloc, &model_of(alloc, parts)?, expected)
 }

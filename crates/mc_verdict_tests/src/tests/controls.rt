@@ -1,4 +1,4 @@
-use super::in_root;
+use super::is_told_in_root;
 use std::test::Fail;
 
 // A subsystem that is triggered, at line 14: its Inport and its TriggerPort end at line 25.
@@ -25,8 +25,7 @@ fn triggered(rt: HostRuntime) -> Result<(), Fail> {
              SubSystem s {{; Inport x; TriggerPort p; {more}; Outport y; {lines}; }}; \
              Outport o; a 1 > s 1; b 1 > s trigger; s 1 > o 1"
         )?;
-        let told = in_root(rt.alloc(), &parts)?;
-        assert_eq!(rt; told.as_slice(), expected.as_bytes(), "{trigger} {more}");
+        is_told_in_root(rt.alloc(), &parts, expected)?;
     }
     Ok(())
 }
@@ -63,12 +62,7 @@ fn enabled_and_triggered(rt: HostRuntime) -> Result<(), Fail> {
              SubSystem s {{; Inport x; EnablePort e; TriggerPort t; {more}; Outport y; x 1 > y 1; }}; \
              Outport o; a 1 > s 1; b 1 > s enable; c 1 > s trigger; s 1 > o 1"
         )?;
-        let told = in_root(rt.alloc(), &parts)?;
-        assert_eq!(rt;
-            told.as_slice(),
-            expected.as_bytes(),
-            "{enable} {trigger} {more}"
-        );
+        is_told_in_root(rt.alloc(), &parts, expected)?;
     }
     Ok(())
 }

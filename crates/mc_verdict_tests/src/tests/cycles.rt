@@ -1,4 +1,4 @@
-use super::{at_both_depths, in_root, verdict};
+use super::{at_both_depths, is_told, is_told_in_root, verdict};
 use mdl_texts::model_with;
 use std::alloc::{AllocError, Global};
 use std::test::Fail;
@@ -124,12 +124,7 @@ fn the_first_rule_is_told(rt: HostRuntime) -> Result<(), Fail> {
         let parts = format!(in rt.alloc();
             "{times}; Constant e OutDataTypeStr=int8 SampleTime={third}"
         )?;
-        let told = in_root(rt.alloc(), &parts)?;
-        assert_eq!(rt;
-            told.as_slice(),
-            expected.as_bytes(),
-            "{first} {second} {third}"
-        );
+        is_told_in_root(rt.alloc(), &parts, expected)?;
     }
     Ok(())
 }
@@ -150,8 +145,7 @@ fn written_steps(rt: HostRuntime) -> Result<(), Fail> {
         let parts = two_times(rt.alloc(), "1", "1/2")?;
         let settings = format!(in rt.alloc(); "FixedStep {step}")?;
         let file = model_with(rt.alloc(), &parts, &settings)?;
-        let told = verdict(rt.alloc(), &file)?;
-        assert_eq!(rt; told.as_slice(), expected.as_bytes(), "{step}");
+        is_told(&verdict(rt.alloc(), &file)?, expected, step)?;
     }
     Ok(())
 }

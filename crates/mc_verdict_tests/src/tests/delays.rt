@@ -1,17 +1,16 @@
-use super::{at_both_depths, in_root, in_subsystem};
-use std::alloc::{AllocError, Global};
+use super::{at_both_depths, is_told_in_root};
+use std::alloc::Global;
+use std::fmt::Write;
 use std::test::Fail;
 
 /// A source at line 3, from line 8 on so many delays of it of 65,535 samples, and one of other length: eleven lines each.
-fn delays(alloc: Global, count: u32, last: u32) -> Result<String, AllocError> {
+fn delays(alloc: Global, count: u32, last: u32) -> Result<String, Fail> {
     let mut parts = String::new(alloc);
     parts.push_str("Constant c OutDataTypeStr=int8; ")?;
     for at in 0..count {
-        let delay = format!(in alloc; "Delay d{at} DelayLength=65535; c 1 > d{at} 1; ")?;
-        parts.push_str(&delay)?;
+        write!(&mut parts, "Delay d{at} DelayLength=65535; c 1 > d{at} 1; ")?;
     }
-    let delay = format!(in alloc; "Delay e DelayLength={last}; c 1 > e 1")?;
-    parts.push_str(&delay)?;
+    write!(&mut parts, "Delay e DelayLength={last}; c 1 > e 1")?;
     Ok(parts)
 }
 
@@ -50,35 +49,35 @@ fn delays_of_two_systems(rt: HostRuntime) -> Result<(), Fail> {
     ] {
         let within = delays(rt.alloc(), count, last)?;
         let parts = format!(in rt.alloc(); "{around}; SubSystem s {{; {within}; }}")?;
-        let told = in_root(rt.alloc(), &parts)?;
-        assert_eq!(rt; told.as_slice(), expected.as_bytes(), "{count} {last}");
+        is_told_in_root(rt.alloc(), &parts, expected)?;
     }
     Ok(())
 }
 
-// Sixteen delays, each of the one before; they take five lines each, from line 8 on.
-#[test]
-fn a_chain_of_delays(rt: HostRuntime) -> Result<(), Fail> {
-    let alloc = rt.alloc();
+/// Sixteen delays, each of the one before; they take five lines each, from line 8 on.
+fn chain(alloc: Global) -> Result<String, Fail> {
     let mut parts = String::new(alloc);
-    parts.push_str("Inport a OutDataTypeStr=int32; Delay d0 DelayLength=65535")?;
-    for at in 1..16 {
-        let delay = format!(in alloc; "; Delay d{at} DelayLength=65535")?;
-        parts.push_str(&delay)?;
+    parts.push_str("Inport a OutDataTypeStr=int32")?;
+    for at in 0..16 {
+        write!(&mut parts, "; Delay d{at} DelayLength=65535")?;
     }
     parts.push_str("; Outport o; a 1 > d0 1; d15 1 > o 1")?;
     let mut before = 0;
     for at in 1..16 {
-        let line = format!(in alloc; "; d{before} 1 > d{at} 1")?;
-        parts.push_str(&line)?;
+        write!(&mut parts, "; d{before} 1 > d{at} 1")?;
         before = at;
     }
-    let told = in_root(alloc, &parts)?;
-    assert_eq!(rt;
-        told.as_slice(),
-        b"refused F24 LongDelays line 83 total 1048560".as_slice()
-    );
-    Ok(())
+    Ok(parts)
+}
+
+#[test]
+fn a_chain_of_delays(rt: HostRuntime) -> Result<(), Fail> {
+    let parts = chain(rt.alloc())?;
+    is_told_in_root(
+        rt.alloc(),
+        &parts,
+        "refused F24 LongDelays line 83 total 1048560",
+    )
 }
 
 // A loop comes first: behind sixteen delays it is at line 184.
@@ -86,9 +85,10 @@ fn a_chain_of_delays(rt: HostRuntime) -> Result<(), Fail> {
 fn loops_come_before_delays(rt: HostRuntime) -> Result<(), Fail> {
     let delays = delays(rt.alloc(), 15, 65_535)?;
     let parts = format!(in rt.alloc(); "{delays}; Gain k OutDataTypeStr=int8; k 1 > k 1")?;
-    let told = in_root(rt.alloc(), &parts)?;
-    assert_eq!(rt; told.as_slice(), b"refused F23 Loop 184".as_slice());
-    let told = in_subsystem(rt.alloc(), &parts)?;
-    assert_eq!(rt; told.as_slice(), b"refused F23 Loop 188".as_slice());
-    Ok(())
+    at_both_depths(
+        rt.alloc(),
+        &parts,
+        "refused F23 Loop 184",
+        "refused F23 Loop 188",
+    )
 }

@@ -1,4 +1,4 @@
-use super::{at_both_depths, verdict};
+use super::{at_both_depths, is_told, verdict};
 use std::test::Fail;
 
 /// A line of 64 bytes.
@@ -18,8 +18,7 @@ fn long_files(rt: HostRuntime) -> Result<(), Fail> {
         ("}", "refused F1 TooLong"),
     ] {
         let file = format!(in rt.alloc(); "{comments}{MODEL}{behind}")?;
-        let told = verdict(rt.alloc(), &file)?;
-        assert_eq!(rt; told.as_slice(), expected.as_bytes());
+        is_told(&verdict(rt.alloc(), &file)?, expected, behind)?;
     }
     Ok(())
 }
@@ -38,8 +37,7 @@ fn files_without_a_tree(rt: HostRuntime) -> Result<(), Fail> {
         ),
         ("Model {\nSystem {\n}\n", "refused F2 Syntax line 3 Brace"),
     ] {
-        let told = verdict(rt.alloc(), file)?;
-        assert_eq!(rt; told.as_slice(), expected.as_bytes());
+        is_told(&verdict(rt.alloc(), file)?, expected, file)?;
     }
     Ok(())
 }
@@ -98,8 +96,7 @@ fn deep_sections(rt: HostRuntime) -> Result<(), Fail> {
         (130, "refused F2 Syntax line 129 DeepSections"),
     ] {
         let file = "a {\n".repeat(rt.alloc(), depth)?;
-        let told = verdict(rt.alloc(), &file)?;
-        assert_eq!(rt; told.as_slice(), expected.as_bytes());
+        is_told(&verdict(rt.alloc(), &file)?, expected, &file)?;
     }
     Ok(())
 }

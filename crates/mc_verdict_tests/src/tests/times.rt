@@ -13,22 +13,32 @@ fn pairs(alloc: Global, times: &Times) -> Result<Vec<(u32, u32)>, AllocError> {
     Ok(pairs)
 }
 
+/// These pairs, whether each row is a transition that delays, and the cycle.
+fn described(alloc: Global, times: &Times) -> Result<String, AllocError> {
+    let pairs = pairs(alloc, times)?;
+    format!(in alloc; "{pairs:?} {:?} {}", times.delays, times.hyper)
+}
+
+/// The same of a file that is accepted.
+fn times_of(alloc: Global, file: &str) -> Result<String, Fail> {
+    let model = resolved(alloc, file)?;
+    Ok(described(alloc, &model.times)?)
+}
+
 // The base tick is 1/150 second.
 #[test]
 fn two_rates(rt: HostRuntime) -> Result<(), Fail> {
-    let alloc = rt.alloc();
     let text = model_of(
-        alloc,
+        rt.alloc(),
         "Inport a OutDataTypeStr=int32 SampleTime=1/50; \
          Block { / BlockType Inport / Name b / Port 2 / OutDataTypeStr int32 / SampleTime [1/75 1/150] / }; \
          Sum p; Outport o; a 1 > p 1; b 1 > p 2; p 1 > o 1",
     )?;
-    let times = resolved(alloc, &text)?.times;
+    let times = times_of(rt.alloc(), &text)?;
     assert_eq!(rt;
-        pairs(alloc, &times)?.as_slice(),
-        [(3, 0), (2, 1), (1, 0), (1, 0)].as_slice()
+        times.as_str(),
+        "[(3, 0), (2, 1), (1, 0), (1, 0)] [false, false, false, false] 6"
     );
-    assert_eq!(rt; times.hyper, 6);
     Ok(())
 }
 
@@ -36,18 +46,16 @@ fn two_rates(rt: HostRuntime) -> Result<(), Fail> {
 #[test]
 fn rate_transitions(rt: HostRuntime) -> Result<(), Fail> {
     let alloc = rt.alloc();
-    for &(inside, outside, run, delays) in &[
-        (4, 1, [(4, 0), (4, 0), (1, 0)], [false, true, false]),
-        (1, 4, [(1, 0), (4, 0), (4, 0)], [false, false, false]),
+    for &(inside, outside, expected) in &[
+        (4, 1, "[(4, 0), (4, 0), (1, 0)] [false, true, false] 4"),
+        (1, 4, "[(1, 0), (4, 0), (4, 0)] [false, false, false] 4"),
     ] {
         let parts = format!(in alloc;
             "Inport a OutDataTypeStr=int32 SampleTime={inside}; \
              RateTransition r InitialCondition=9 OutPortSampleTime={outside}; Outport o; a 1 > r 1; r 1 > o 1"
         )?;
-        let times = resolved(alloc, &model_of(alloc, &parts)?)?.times;
-        assert_eq!(rt; pairs(alloc, &times)?.as_slice(), run.as_slice());
-        assert_eq!(rt; times.delays.as_slice(), delays.as_slice());
-        assert_eq!(rt; times.hyper, 4);
+        let times = times_of(alloc, &model_of(alloc, &parts)?)?;
+        assert_eq!(rt; times.as_str(), expected);
     }
     Ok(())
 }
@@ -55,34 +63,30 @@ fn rate_transitions(rt: HostRuntime) -> Result<(), Fail> {
 // The base tick is two seconds.
 #[test]
 fn a_hold_of_its_own_time(rt: HostRuntime) -> Result<(), Fail> {
-    let alloc = rt.alloc();
     let text = model_of(
-        alloc,
+        rt.alloc(),
         "Inport a OutDataTypeStr=int32 SampleTime=2; ZeroOrderHold h SampleTime=4; Outport o; a 1 > h 1; h 1 > o 1",
     )?;
-    let times = resolved(alloc, &text)?.times;
+    let times = times_of(rt.alloc(), &text)?;
     assert_eq!(rt;
-        pairs(alloc, &times)?.as_slice(),
-        [(1, 0), (2, 0), (2, 0)].as_slice()
+        times.as_str(),
+        "[(1, 0), (2, 0), (2, 0)] [false, false, false] 2"
     );
-    assert_eq!(rt; times.hyper, 2);
     Ok(())
 }
 
 // The base tick is the written step.
 #[test]
 fn a_written_step(rt: HostRuntime) -> Result<(), Fail> {
-    let alloc = rt.alloc();
     let text = model_with(
-        alloc,
+        rt.alloc(),
         "Inport a OutDataTypeStr=int8 SampleTime=0.2; Gain g; Outport o; a 1 > g 1; g 1 > o 1",
         "FixedStep 0.1",
     )?;
-    let times = resolved(alloc, &text)?.times;
+    let times = times_of(rt.alloc(), &text)?;
     assert_eq!(rt;
-        pairs(alloc, &times)?.as_slice(),
-        [(2, 0), (2, 0), (2, 0)].as_slice()
+        times.as_str(),
+        "[(2, 0), (2, 0), (2, 0)] [false, false, false] 2"
     );
-    assert_eq!(rt; times.hyper, 2);
     Ok(())
 }

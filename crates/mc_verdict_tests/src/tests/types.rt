@@ -1,4 +1,4 @@
-use super::{at_both_depths, in_root};
+use super::{at_both_depths, is_told_in_root};
 use std::test::Fail;
 
 // Rules that lead round, to a Ground or to nothing; what has no value needs no type.
@@ -119,8 +119,7 @@ fn types_of_inports(rt: HostRuntime) -> Result<(), Fail> {
             "refused F17 NoType line 11 Missing",
         ),
     ] {
-        let told = in_root(rt.alloc(), parts)?;
-        assert_eq!(rt; told.as_slice(), expected.as_bytes(), "{parts}");
+        is_told_in_root(rt.alloc(), parts, expected)?;
     }
     Ok(())
 }

@@ -1,17 +1,16 @@
-use super::in_root;
+use super::is_told_in_root;
 use std::test::Fail;
 
 // A signal through both ports of a subsystem, one after the other.
 #[test]
 fn crossed_ports(rt: HostRuntime) -> Result<(), Fail> {
-    let told = in_root(
+    is_told_in_root(
         rt.alloc(),
         "Inport a OutDataTypeStr=int32; \
          SubSystem s {; Inport x1; Inport x2 Port=2; Outport y1; Outport y2 Port=2; x1 1 > y1 1; x2 1 > y2 1; }; \
          Outport o; a 1 > s 1; s 1 > s 2; s 2 > o 1",
-    )?;
-    assert_eq!(rt; told.as_slice(), b"accepted".as_slice());
-    Ok(())
+        "accepted",
+    )
 }
 
 // A sum, at line 8, of an input and of itself: through a delay, and through a gain, at line 13.
@@ -25,8 +24,7 @@ fn loop_through_a_gain(rt: HostRuntime) -> Result<(), Fail> {
             "Inport a OutDataTypeStr=int32; Sum p Inputs=|+-; {through}; Outport o; \
              a 1 > p 1; d 1 > p 2; p 1 > d 1; p 1 > o 1"
         )?;
-        let told = in_root(rt.alloc(), &parts)?;
-        assert_eq!(rt; told.as_slice(), expected.as_bytes(), "{through}");
+        is_told_in_root(rt.alloc(), &parts, expected)?;
     }
     Ok(())
 }
@@ -45,8 +43,7 @@ fn enable_of_its_own_output(rt: HostRuntime) -> Result<(), Fail> {
             "Inport a OutDataTypeStr=int32; SubSystem e {{; Inport x; EnablePort p; Outport y; x 1 > y 1; }}; \
              Outport o; a 1 > e 1; e 1 > o 1; {lines}"
         )?;
-        let told = in_root(rt.alloc(), &parts)?;
-        assert_eq!(rt; told.as_slice(), expected.as_bytes(), "{lines}");
+        is_told_in_root(rt.alloc(), &parts, expected)?;
     }
     Ok(())
 }
@@ -71,8 +68,7 @@ fn rate_refusals(rt: HostRuntime) -> Result<(), Fail> {
             "refused F21 LongCycle line 9 Hyper 999999000000",
         ),
     ] {
-        let told = in_root(rt.alloc(), parts)?;
-        assert_eq!(rt; told.as_slice(), expected.as_bytes(), "{parts}");
+        is_told_in_root(rt.alloc(), parts, expected)?;
     }
     Ok(())
 }
@@ -96,8 +92,7 @@ fn type_refusals(rt: HostRuntime) -> Result<(), Fail> {
             "accepted",
         ),
     ] {
-        let told = in_root(rt.alloc(), parts)?;
-        assert_eq!(rt; told.as_slice(), expected.as_bytes(), "{parts}");
+        is_told_in_root(rt.alloc(), parts, expected)?;
     }
     Ok(())
 }

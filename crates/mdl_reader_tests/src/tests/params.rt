@@ -54,21 +54,15 @@ fn saved_model(rt: HostRuntime) -> Result<(), Fail> {
         "Block",
         &[("Name", "Long gain"), ("Gain", "2.5")],
     )?;
-    let kind = b"Gain".as_slice();
+    for &(name, text) in &[
+        (ParamName::Gain, b"2.5".as_slice()),
+        (ParamName::SampleTime, b"-1"),
+        (ParamName::RndMeth, b"Floor"),
+    ] {
+        assert_eq!(rt; defaults.param(&block, b"Gain", name), text);
+    }
     assert_eq!(rt;
-        defaults.param(&block, kind, ParamName::Gain),
-        b"2.5".as_slice()
-    );
-    assert_eq!(rt;
-        defaults.param(&block, kind, ParamName::SampleTime),
-        b"-1".as_slice()
-    );
-    assert_eq!(rt;
-        defaults.param(&block, kind, ParamName::RndMeth),
-        b"Floor".as_slice()
-    );
-    assert_eq!(rt;
-        defaults.found(&block, kind, ParamName::Name),
+        defaults.found(&block, b"Gain", ParamName::Name),
         Some(b"Long gain".as_slice())
     );
     Ok(())

@@ -31,26 +31,54 @@ fn section_where<'a>(
     None
 }
 
+// Sections of a model as it is saved: the model, the defaults of a gain, the gain, and the line to that.
+#[derive(Clone, Copy, Drop)]
+struct Saved<'a> {
+    model: &'a Section,
+    defaults: &'a Section,
+    gain: &'a Section,
+    line: &'a Section,
+}
+
+fn saved_in(file: &Section) -> Result<Saved<'_>, &'static str> {
+    let model = file.section(b"Model").ok_or("Model")?;
+    let all = model.section(b"BlockParameterDefaults").ok_or("defaults")?;
+    let defaults = all.section(b"Block").ok_or("defaults of a gain")?;
+    let system = model.section(b"System").ok_or("System")?;
+    let gain = section_where(system, b"Block", b"BlockType", b"Gain").ok_or("Gain")?;
+    let line = section_where(system, b"Line", b"DstBlock", b"Long gain").ok_or("Line")?;
+    Ok(Saved {
+        model,
+        defaults,
+        gain,
+        line,
+    })
+}
+
+// Fails where one of these sections has another value than the saved one.
+fn has_saved_values(found: Saved) -> Result<(), Fail> {
+    for &(section, name, expected) in &[
+        (found.model, "Version", "7.8"),
+        (found.defaults, "OutDataTypeStr", "fixdt(1,16,4)"),
+        (found.defaults, "SaturateOnIntegerOverflow", "on"),
+        (found.gain, "Name", "Long gain"),
+        (found.gain, "Gain", "2.5"),
+        (found.line, "Points", "[0, 0; 10, 0]"),
+    ] {
+        if value(section, name.as_bytes()) != expected.as_bytes() {
+            return Err(Fail::new(format_args!("{name} is not {expected}")));
+        }
+    }
+    Ok(())
+}
+
 #[test]
 fn saved_model(rt: HostRuntime) -> Result<(), Fail> {
     let file = read_mdl(rt.alloc(), SAVED)?;
+    let found = saved_in(&file)?;
     assert_eq!(rt; file.name.bytes(), b"".as_slice());
-    assert_eq!(rt; file.line, 0);
-    let model = file.section(b"Model").ok_or("Model")?;
-    assert_eq!(rt; model.line, 2);
-    assert_eq!(rt; value(model, b"Version"), b"7.8".as_slice());
-    let defaults = model.section(b"BlockParameterDefaults").ok_or("defaults")?;
-    let gain = defaults.section(b"Block").ok_or("Gain")?;
-    assert_eq!(rt; value(gain, b"OutDataTypeStr"), b"fixdt(1,16,4)".as_slice());
-    assert_eq!(rt; value(gain, b"SaturateOnIntegerOverflow"), b"on".as_slice());
-    let system = model.section(b"System").ok_or("System")?;
-    let gain = section_where(system, b"Block", b"BlockType", b"Gain").ok_or("Gain")?;
-    assert_eq!(rt; gain.line, 49);
-    assert_eq!(rt; value(gain, b"Name"), b"Long gain".as_slice());
-    assert_eq!(rt; value(gain, b"Gain"), b"2.5".as_slice());
-    let line = section_where(system, b"Line", b"DstBlock", b"Long gain").ok_or("Line")?;
-    assert_eq!(rt; value(line, b"Points"), b"[0, 0; 10, 0]".as_slice());
-    Ok(())
+    assert_eq!(rt; (file.line, found.model.line, found.gain.line), (0, 2, 49));
+    has_saved_values(found)
 }
 
 #[test]

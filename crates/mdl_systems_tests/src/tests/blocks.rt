@@ -1,8 +1,10 @@
-use super::answer;
+use super::is_told;
 use mdl_params::Defaults;
 use mdl_reader::read_mdl;
-use mdl_systems::{find_model, read_model};
+use mdl_systems::{PlacedBlock, find_model, read_model};
 use mdl_texts::model_of;
+use std::alloc::Global;
+use std::fmt::Write;
 use std::test::Fail;
 
 /// A subsystem with an Inport, behind it a Ground.
@@ -52,33 +54,39 @@ fn blocks_that_are_refused(rt: HostRuntime) -> Result<(), Fail> {
             "refused F7 Unsupported line 6\n",
         ),
     ] {
-        let text = model_of(rt.alloc(), lines)?;
-        let told = answer(rt.alloc(), &text)?;
-        assert_eq!(rt; told.as_slice(), expected.as_bytes(), "{lines}");
+        is_told(rt.alloc(), lines, expected)?;
     }
     Ok(())
+}
+
+/// The owner of each block, its name and its line.
+fn described(alloc: Global, blocks: &[PlacedBlock]) -> Result<String, Fail> {
+    let mut text = String::new(alloc);
+    for placed in blocks {
+        let name = str::from_utf8(placed.block.name)?;
+        write!(
+            &mut text,
+            "{:?} {name} {}; ",
+            placed.owner, placed.block.line
+        )?;
+    }
+    Ok(text)
+}
+
+/// The same of the text of a model.
+fn blocks_of(alloc: Global, text: &str) -> Result<String, Fail> {
+    let file = read_mdl(alloc, text.as_bytes())?;
+    let sections = find_model(alloc, &file)?;
+    let defaults = Defaults::new(alloc, sections.model)?;
+    let model = read_model(alloc, &defaults, sections.system)?;
+    described(alloc, model.blocks.as_slice())
 }
 
 // The blocks in the order of the file, each before those inside it.
 #[test]
 fn blocks_in_order(rt: HostRuntime) -> Result<(), Fail> {
-    let alloc = rt.alloc();
-    let text = model_of(alloc, NESTED)?;
-    let file = read_mdl(alloc, text.as_bytes())?;
-    let Ok(sections) = find_model(alloc, &file) else {
-        return Err(Fail::from("no model"));
-    };
-    let defaults = Defaults::new(alloc, sections.model)?;
-    let Ok(model) = read_model(alloc, &defaults, sections.system) else {
-        return Err(Fail::from("refused"));
-    };
-    let mut found = model.blocks.iter();
-    for &(owner, name, line) in &[(None, "s", 3), (Some(0), "x", 7), (None, "g", 13)] {
-        let placed = found.next().ok_or("a block")?;
-        assert_eq!(rt; placed.owner, owner);
-        assert_eq!(rt; placed.block.name, name.as_bytes());
-        assert_eq!(rt; placed.block.line, line);
-    }
-    assert!(rt; found.next().is_none());
+    let text = model_of(rt.alloc(), NESTED)?;
+    let blocks = blocks_of(rt.alloc(), &text)?;
+    assert_eq!(rt; blocks.as_str(), "None s 3; Some(0) x 7; None g 13; ");
     Ok(())
 }

@@ -1,4 +1,5 @@
-use super::answer;
+use super::is_told_of_file;
+use super::numbers::nested;
 use mdl_texts::model_of;
 use std::test::Fail;
 
@@ -37,8 +38,7 @@ fn models_of_files(rt: HostRuntime) -> Result<(), Fail> {
             "refused F4 TwoModels line 5 Second\n",
         ),
     ] {
-        let told = answer(rt.alloc(), text)?;
-        assert_eq!(rt; told.as_slice(), expected.as_bytes());
+        is_told_of_file(rt.alloc(), text, expected)?;
     }
     Ok(())
 }
@@ -47,15 +47,7 @@ fn models_of_files(rt: HostRuntime) -> Result<(), Fail> {
 #[test]
 fn libraries_come_before_depths(rt: HostRuntime) -> Result<(), Fail> {
     let alloc = rt.alloc();
-    let opened = "SubSystem s {; ".repeat(alloc, 33)?;
-    let closed = "}; ".repeat(alloc, 33)?;
-    let parts = format!(in alloc; "{opened}{closed}")?;
-    let model = model_of(alloc, &parts)?;
+    let model = model_of(alloc, &nested(alloc, 33, "")?)?;
     let file = format!(in alloc; "{model}Library {{\n}}\n")?;
-    let told = answer(alloc, &file)?;
-    assert_eq!(rt;
-        told.as_slice(),
-        b"refused F4 TwoModels line 203 Library\n".as_slice()
-    );
-    Ok(())
+    is_told_of_file(alloc, &file, "refused F4 TwoModels line 203 Library\n")
 }

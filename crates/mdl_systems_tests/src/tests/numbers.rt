@@ -1,10 +1,9 @@
-use super::answer;
-use mdl_texts::model_of;
+use super::is_told;
 use std::alloc::{AllocError, Global};
 use std::test::Fail;
 
 /// The parts of so many subsystems, each inside the one before and four lines below it, with parts behind the outermost.
-fn nested(alloc: Global, depth: usize, behind: &str) -> Result<String, AllocError> {
+pub(super) fn nested(alloc: Global, depth: usize, behind: &str) -> Result<String, AllocError> {
     let opened = "SubSystem s {; ".repeat(alloc, depth)?;
     let closed = "}; ".repeat(alloc, depth)?;
     format!(in alloc; "{opened}{closed}{behind}")
@@ -21,10 +20,7 @@ fn deep_subsystems(rt: HostRuntime) -> Result<(), Fail> {
         (34, "", "refused F5 TooDeep line 131\n"),
         (33, crowd.as_str(), "refused F5 TooDeep line 131\n"),
     ] {
-        let parts = nested(alloc, depth, behind)?;
-        let text = model_of(alloc, &parts)?;
-        let told = answer(alloc, &text)?;
-        assert_eq!(rt; told.as_slice(), expected.as_bytes());
+        is_told(alloc, &nested(alloc, depth, behind)?, expected)?;
     }
     Ok(())
 }
@@ -46,10 +42,7 @@ fn too_many_blocks(rt: HostRuntime) -> Result<(), Fail> {
             "refused F6 TooMany line 80003 Blocks 20001\n",
         ),
     ] {
-        let parts = block.repeat(alloc, count)?;
-        let text = model_of(alloc, &parts)?;
-        let told = answer(alloc, &text)?;
-        assert_eq!(rt; told.as_slice(), expected.as_bytes());
+        is_told(alloc, &block.repeat(alloc, count)?, expected)?;
     }
     Ok(())
 }
@@ -64,9 +57,7 @@ fn too_many_blocks_of_all_systems(rt: HostRuntime) -> Result<(), Fail> {
         ("Ground h", "refused F6 TooMany line 80005 Blocks 20001\n"),
     ] {
         let parts = format!(in alloc; "SubSystem s {{; {blocks}}}; {behind}")?;
-        let text = model_of(alloc, &parts)?;
-        let told = answer(alloc, &text)?;
-        assert_eq!(rt; told.as_slice(), expected.as_bytes());
+        is_told(alloc, &parts, expected)?;
     }
     Ok(())
 }
@@ -104,32 +95,26 @@ fn crowded_systems(rt: HostRuntime) -> Result<(), Fail> {
         ),
     ] {
         let ports = ports(alloc, inports, outports)?;
-        let told = answer(alloc, &model_of(alloc, &ports)?)?;
-        assert_eq!(rt; told.as_slice(), root.as_bytes());
+        is_told(alloc, &ports, root)?;
         let subsystem = format!(in alloc; "SubSystem s {{; {ports}}}")?;
-        let told = answer(alloc, &model_of(alloc, &subsystem)?)?;
-        assert_eq!(rt; told.as_slice(), inside.as_bytes());
+        is_told(alloc, &subsystem, inside)?;
     }
     Ok(())
+}
+
+/// A block that isn't read, and a crowd of Inports in a subsystem behind it.
+fn crowd_inside(alloc: Global) -> Result<String, AllocError> {
+    let inports = ports(alloc, 33, 0)?;
+    format!(in alloc; "Scope z; SubSystem s {{; {inports}}}")
 }
 
 // The crowd at the lesser line is told, and before a block that isn't read.
 #[test]
 fn the_first_crowd_is_told(rt: HostRuntime) -> Result<(), Fail> {
     let alloc = rt.alloc();
-    let inports = ports(alloc, 33, 0)?;
+    let inside = crowd_inside(alloc)?;
+    is_told(alloc, &inside, "refused F6 TooMany line 7 Inports 33\n")?;
     let outports = ports(alloc, 0, 33)?;
-    let inside = format!(in alloc; "Scope z; SubSystem s {{; {inports}}}")?;
-    let told = answer(alloc, &model_of(alloc, &inside)?)?;
-    assert_eq!(rt;
-        told.as_slice(),
-        b"refused F6 TooMany line 7 Inports 33\n".as_slice()
-    );
     let both = format!(in alloc; "{inside}; {outports}")?;
-    let told = answer(alloc, &model_of(alloc, &both)?)?;
-    assert_eq!(rt;
-        told.as_slice(),
-        b"refused F6 TooMany line 2 Outports 33\n".as_slice()
-    );
-    Ok(())
+    is_told(alloc, &both, "refused F6 TooMany line 2 Outports 33\n")
 }

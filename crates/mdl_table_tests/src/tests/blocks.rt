@@ -1,4 +1,4 @@
-use super::{in_root, in_subsystem};
+use super::at_both_depths;
 use std::test::Fail;
 
 // Blocks of a type that isn't read, of none, without the System that they are to have, and lines of the newer form; of two
@@ -37,10 +37,7 @@ fn what_is_not_read(rt: HostRuntime) -> Result<(), Fail> {
             "refused F7 Unsupported line 11",
         ),
     ] {
-        let told = in_root(rt.alloc(), parts)?;
-        assert_eq!(rt; told.as_slice(), root.as_bytes(), "{parts}");
-        let told = in_subsystem(rt.alloc(), parts)?;
-        assert_eq!(rt; told.as_slice(), inside.as_bytes(), "{parts}");
+        at_both_depths(rt.alloc(), parts, root, inside)?;
     }
     Ok(())
 }
@@ -80,10 +77,7 @@ fn the_first_parameter_is_told(rt: HostRuntime) -> Result<(), Fail> {
             "refused F8 Parameter line 7 Gain",
         ),
     ] {
-        let told = in_root(rt.alloc(), parts)?;
-        assert_eq!(rt; told.as_slice(), root.as_bytes(), "{parts}");
-        let told = in_subsystem(rt.alloc(), parts)?;
-        assert_eq!(rt; told.as_slice(), inside.as_bytes(), "{parts}");
+        at_both_depths(rt.alloc(), parts, root, inside)?;
     }
     Ok(())
 }
@@ -104,12 +98,9 @@ fn parameters_at_their_limits(rt: HostRuntime) -> Result<(), Fail> {
         ("UnitDelay a SampleTime=[2,2]", "F8 Parameter", "SampleTime"),
         ("UnitDelay a SampleTime=inf", "F8 Parameter", "SampleTime"),
     ] {
-        let told = in_root(rt.alloc(), part)?;
         let root = format!(in rt.alloc(); "refused {number} line 3 {detail}")?;
-        assert_eq!(rt; told.as_slice(), root.as_bytes(), "{part}");
-        let told = in_subsystem(rt.alloc(), part)?;
         let inside = format!(in rt.alloc(); "refused {number} line 7 {detail}")?;
-        assert_eq!(rt; told.as_slice(), inside.as_bytes(), "{part}");
+        at_both_depths(rt.alloc(), part, &root, &inside)?;
     }
     Ok(())
 }

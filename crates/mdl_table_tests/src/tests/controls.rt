@@ -1,4 +1,4 @@
-use super::{in_root, in_subsystem};
+use super::at_both_depths;
 use std::test::Fail;
 
 // Any control port of the root, which a subsystem may have; of two the first.
@@ -21,10 +21,7 @@ fn control_ports_of_the_root(rt: HostRuntime) -> Result<(), Fail> {
             "refused F13 Unconnected line 3 port enable",
         ),
     ] {
-        let told = in_root(rt.alloc(), parts)?;
-        assert_eq!(rt; told.as_slice(), root.as_bytes(), "{parts}");
-        let told = in_subsystem(rt.alloc(), parts)?;
-        assert_eq!(rt; told.as_slice(), inside.as_bytes(), "{parts}");
+        at_both_depths(rt.alloc(), parts, root, inside)?;
     }
     Ok(())
 }
@@ -59,10 +56,7 @@ fn second_control_ports(rt: HostRuntime) -> Result<(), Fail> {
         ),
     ] {
         let parts = format!(in rt.alloc(); "Ground g; SubSystem s {{; {ports}; }}; {lines}")?;
-        let told = in_root(rt.alloc(), &parts)?;
-        assert_eq!(rt; told.as_slice(), root.as_bytes(), "{ports}");
-        let told = in_subsystem(rt.alloc(), &parts)?;
-        assert_eq!(rt; told.as_slice(), inside.as_bytes(), "{ports}");
+        at_both_depths(rt.alloc(), &parts, root, inside)?;
     }
     Ok(())
 }

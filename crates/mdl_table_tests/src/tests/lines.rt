@@ -1,4 +1,4 @@
-use super::{in_root, in_subsystem};
+use super::at_both_depths;
 use std::test::Fail;
 
 // Ports at the line from 11 on, from a Ground or to a Terminator or a subsystem without inputs and controls.
@@ -14,18 +14,8 @@ fn ports_that_blocks_miss(rt: HostRuntime) -> Result<(), Fail> {
         "a 3 > b 1; a 2 > b 1",
     ] {
         let parts = format!(in rt.alloc(); "Ground a; Terminator b; {line}")?;
-        let told = in_root(rt.alloc(), &parts)?;
-        assert_eq!(rt;
-            told.as_slice(),
-            b"refused F11 NoPort line 11".as_slice(),
-            "{line}"
-        );
-        let told = in_subsystem(rt.alloc(), &parts)?;
-        assert_eq!(rt;
-            told.as_slice(),
-            b"refused F11 NoPort line 15".as_slice(),
-            "{line}"
-        );
+        let (root, inside) = ("refused F11 NoPort line 11", "refused F11 NoPort line 15");
+        at_both_depths(rt.alloc(), &parts, root, inside)?;
     }
     Ok(())
 }
@@ -42,18 +32,8 @@ fn ports_that_subsystems_miss(rt: HostRuntime) -> Result<(), Fail> {
         let parts = format!(in rt.alloc();
             "Ground a; Terminator b; SubSystem s {{; {inside}; }}; {line}"
         )?;
-        let told = in_root(rt.alloc(), &parts)?;
-        assert_eq!(rt;
-            told.as_slice(),
-            b"refused F11 NoPort line 21".as_slice(),
-            "{line}"
-        );
-        let told = in_subsystem(rt.alloc(), &parts)?;
-        assert_eq!(rt;
-            told.as_slice(),
-            b"refused F11 NoPort line 25".as_slice(),
-            "{line}"
-        );
+        let (root, inside) = ("refused F11 NoPort line 21", "refused F11 NoPort line 25");
+        at_both_depths(rt.alloc(), &parts, root, inside)?;
     }
     Ok(())
 }
@@ -80,10 +60,7 @@ fn inputs_of_two_lines(rt: HostRuntime) -> Result<(), Fail> {
         ),
     ] {
         let parts = format!(in rt.alloc(); "Ground a; Terminator b; {lines}")?;
-        let told = in_root(rt.alloc(), &parts)?;
-        assert_eq!(rt; told.as_slice(), root.as_bytes(), "{lines}");
-        let told = in_subsystem(rt.alloc(), &parts)?;
-        assert_eq!(rt; told.as_slice(), inside.as_bytes(), "{lines}");
+        at_both_depths(rt.alloc(), &parts, root, inside)?;
     }
     Ok(())
 }
@@ -124,10 +101,7 @@ fn inputs_without_a_line(rt: HostRuntime) -> Result<(), Fail> {
             "refused F13 Unconnected line 7 port trigger",
         ),
     ] {
-        let told = in_root(rt.alloc(), parts)?;
-        assert_eq!(rt; told.as_slice(), root.as_bytes(), "{parts}");
-        let told = in_subsystem(rt.alloc(), parts)?;
-        assert_eq!(rt; told.as_slice(), inside.as_bytes(), "{parts}");
+        at_both_depths(rt.alloc(), parts, root, inside)?;
     }
     Ok(())
 }

@@ -1,4 +1,4 @@
-use super::{in_root, in_subsystem};
+use super::at_both_depths;
 use std::test::Fail;
 
 // A name or a port that stands twice, told at the later of the first two such.
@@ -31,10 +31,7 @@ fn names_and_ports_that_stand_twice(rt: HostRuntime) -> Result<(), Fail> {
             "refused F9 DoubleName line 15",
         ),
     ] {
-        let told = in_root(rt.alloc(), parts)?;
-        assert_eq!(rt; told.as_slice(), root.as_bytes(), "{parts}");
-        let told = in_subsystem(rt.alloc(), parts)?;
-        assert_eq!(rt; told.as_slice(), inside.as_bytes(), "{parts}");
+        at_both_depths(rt.alloc(), parts, root, inside)?;
     }
     Ok(())
 }
@@ -66,10 +63,7 @@ fn blocks_that_lines_miss(rt: HostRuntime) -> Result<(), Fail> {
         ),
     ] {
         let parts = format!(in rt.alloc(); "Ground a; Terminator b; {lines}")?;
-        let told = in_root(rt.alloc(), &parts)?;
-        assert_eq!(rt; told.as_slice(), root.as_bytes(), "{lines}");
-        let told = in_subsystem(rt.alloc(), &parts)?;
-        assert_eq!(rt; told.as_slice(), inside.as_bytes(), "{lines}");
+        at_both_depths(rt.alloc(), &parts, root, inside)?;
     }
     Ok(())
 }

@@ -1,4 +1,4 @@
-use super::in_root;
+use super::{in_root, is_told};
 use std::test::Fail;
 
 // The lesser number comes first, and then the lesser line, in whatever system it stands: the blocks of a subsystem begin at
@@ -28,8 +28,7 @@ fn the_first_refusal_of_all_systems_is_told(rt: HostRuntime) -> Result<(), Fail>
         ),
     ] {
         let parts = format!(in rt.alloc(); "Ground g; SubSystem s {{; {inside}; }}; {behind}")?;
-        let told = in_root(rt.alloc(), &parts)?;
-        assert_eq!(rt; told.as_slice(), expected.as_bytes(), "{inside} {behind}");
+        is_told(&in_root(rt.alloc(), &parts)?, expected, &parts)?;
     }
     Ok(())
 }

@@ -2,28 +2,48 @@ use mc_base::{Refusal, refusal_text};
 use mdl_reader::read_mdl;
 use mdl_texts::system_of;
 use mdl_wiring::{first_refusal, newer_line};
+use std::alloc::Global;
 use std::test::Fail;
 
 /// What is told of a refusal that may be there.
-fn told(alloc: std::alloc::Global, found: Option<Refusal>) -> Result<Vec<u8>, Fail> {
+fn told(alloc: Global, found: Option<&Refusal>) -> Result<Vec<u8>, Fail> {
     match found {
-        Some(refusal) => Ok(refusal_text(alloc, &refusal)?),
+        Some(refusal) => Ok(refusal_text(alloc, refusal)?),
         None => Ok(b"none\n".to_vec(alloc)?),
     }
 }
 
-// The lesser number, and of one number the lesser line.
+/// What is told of two refusals.
+fn first_of(alloc: Global, one: Refusal, other: Refusal) -> Result<Vec<u8>, Fail> {
+    told(alloc, first_refusal(Some(one), Some(other)).as_ref())
+}
+
 #[test]
 fn the_lesser_number_is_first(rt: HostRuntime) -> Result<(), Fail> {
     let near = Refusal::NoPort { line: 5 };
-    let far = Refusal::NoBlock { line: 90 };
-    let one = told(rt.alloc(), first_refusal(Some(near), Some(far)))?;
-    assert_eq!(rt; one.as_slice(), b"refused F10 NoBlock line 90\n".as_slice());
-    let later = Refusal::NoPort { line: 7 };
-    let sooner = Refusal::NoPort { line: 6 };
-    let two = told(rt.alloc(), first_refusal(Some(later), Some(sooner)))?;
-    assert_eq!(rt; two.as_slice(), b"refused F11 NoPort line 6\n".as_slice());
+    let told = first_of(rt.alloc(), near, Refusal::NoBlock { line: 90 })?;
+    assert_eq!(rt;
+        told.as_slice(),
+        b"refused F10 NoBlock line 90\n".as_slice()
+    );
     Ok(())
+}
+
+// Where both have one number.
+#[test]
+fn the_lesser_line_is_first(rt: HostRuntime) -> Result<(), Fail> {
+    let later = Refusal::NoPort { line: 7 };
+    let told = first_of(rt.alloc(), later, Refusal::NoPort { line: 6 })?;
+    assert_eq!(rt; told.as_slice(), b"refused F11 NoPort line 6\n".as_slice());
+    Ok(())
+}
+
+/// What is told of the first line in the newer form.
+fn newer_in(alloc: Global, lines: &str) -> Result<Vec<u8>, Fail> {
+    let text = system_of(alloc, lines)?;
+    let file = read_mdl(alloc, text.as_bytes())?;
+    let system = file.section(b"System").ok_or("System")?;
+    told(alloc, newer_line(system).as_ref())
 }
 
 // A line, and a branch inside a branch.
@@ -40,13 +60,8 @@ fn lines_of_the_newer_form(rt: HostRuntime) -> Result<(), Fail> {
             "refused F7 Unsupported line 6\n",
         ),
     ] {
-        let text = system_of(rt.alloc(), lines)?;
-        let file = read_mdl(rt.alloc(), text.as_bytes())?;
-        let Some(system) = file.section(b"System") else {
-            return Err(Fail::from("no System"));
-        };
-        let answer = told(rt.alloc(), newer_line(system))?;
-        assert_eq!(rt; answer.as_slice(), expected.as_bytes(), "{lines}");
+        let told = newer_in(rt.alloc(), lines)?;
+        assert_eq!(rt; told.as_slice(), expected.as_bytes(), "{lines}");
     }
     Ok(())
 }

@@ -21,10 +21,14 @@ fn inputs_read_by_port(rt: HostRuntime) -> Result<(), Fail> {
         member: 2,
         output: 1,
     };
-    assert_eq!(rt; wiring.sources(0), [].as_slice());
-    assert_eq!(rt; wiring.sources(2), [first, second].as_slice());
-    assert_eq!(rt; wiring.sources(3), [total].as_slice());
-    assert_eq!(rt; wiring.sources(4), [].as_slice());
+    for &(member, sources) in &[
+        (0, [].as_slice()),
+        (2, [first, second].as_slice()),
+        (3, [total].as_slice()),
+        (4, [].as_slice()),
+    ] {
+        assert_eq!(rt; wiring.sources(member), sources, "{member}");
+    }
     Ok(())
 }
 
@@ -44,7 +48,9 @@ fn controls_read_behind_inputs(rt: HostRuntime) -> Result<(), Fail> {
         member: 1,
         output: 2,
     };
-    assert_eq!(rt; wiring.sources(1), [input, input, input].as_slice());
-    assert_eq!(rt; wiring.sources(2), [second].as_slice());
+    assert_eq!(rt;
+        (wiring.sources(1), wiring.sources(2)),
+        ([input, input, input].as_slice(), [second].as_slice())
+    );
     Ok(())
 }
