@@ -43,21 +43,25 @@ fn last_column(alloc: Global, run: &[Vec<i64>]) -> Result<Vec<i64>, Fail> {
     Ok(values)
 }
 
-/// The values of the last row, by tick, in the run of a model of these parts over a trace.
+/// The values of the last row, by tick, in the run of a model over a trace.
+fn last_values(alloc: Global, r: &Resolved, inputs: &[Vec<i64>]) -> Result<Vec<i64>, Fail> {
+    let None = find_loop(alloc, r)? else {
+        return Err("there is a loop".into());
+    };
+    if !is_trace_for(r, inputs) {
+        return Err("the trace is not one for the model".into());
+    }
+    let run = plain_run(alloc, r, inputs)?;
+    last_column(alloc, run.as_slice())
+}
+
+/// The values of the last row, by tick, in the run of a model of these parts over these rows.
 fn outputs<const INPUTS: usize>(
     alloc: Global,
     parts: &str,
     rows: &[[i64; INPUTS]],
 ) -> Result<Vec<i64>, Fail> {
-    let r = resolved(alloc, parts)?;
     let inputs = trace(alloc, rows)?;
-    let None = find_loop(alloc, &r)? else {
-        return Err("there is a loop".into());
-    };
-    let rows = inputs.as_slice();
-    if !is_trace_for(&r, rows) {
-        return Err("the trace is not one for the model".into());
-    }
-    let run = plain_run(alloc, &r, rows)?;
-    last_column(alloc, run.as_slice())
+    let r = resolved(alloc, parts)?;
+    last_values(alloc, &r, inputs.as_slice())
 }

@@ -2,6 +2,7 @@ use mc_base::{
     NumFault, ParamName, Place, Port, Refusal, Text, frac_of, gcd, lcm, push_number, read_decimal,
     refusal_text,
 };
+use std::alloc::Global;
 use std::test::Fail;
 
 #[test]
@@ -19,37 +20,44 @@ fn numbers_are_appended(rt: HostRuntime) -> Result<(), Fail> {
     Ok(())
 }
 
+// The lines that tell of these refusals.
+fn lines_of(alloc: Global, refusals: &[Refusal]) -> Result<Vec<u8>, Fail> {
+    let mut lines = Vec::new(alloc);
+    for refusal in refusals {
+        let line = refusal_text(alloc, refusal)?;
+        lines.extend_from_slice(&line)?;
+    }
+    Ok(lines)
+}
+
 #[test]
 fn refusals_are_told(rt: HostRuntime) -> Result<(), Fail> {
     let alloc = rt.alloc();
-    let mut rows = Vec::new(alloc);
-    rows.push(Place { row: 1, line: 9 })?;
-    rows.push(Place { row: 2, line: 14 })?;
-    for (refusal, line) in [
-        (Refusal::TooLong, "refused F1 TooLong\n"),
-        (
-            Refusal::Unsupported { line: 11 },
-            "refused F7 Unsupported line 11\n",
-        ),
-        (
-            Refusal::Parameter {
-                line: 5,
-                name: ParamName::SampleTime,
-            },
-            "refused F8 Parameter line 5 SampleTime\n",
-        ),
-        (
-            Refusal::Unconnected {
-                line: 7,
-                port: Port::Number(2),
-            },
-            "refused F13 Unconnected line 7 port 2\n",
-        ),
-        (Refusal::Loop { rows }, "refused F23 Loop 9 14\n"),
-    ] {
-        let text = refusal_text(alloc, &refusal)?;
-        assert_eq!(rt; text.as_slice(), line.as_bytes());
-    }
+    let rows = [Place { row: 1, line: 9 }, Place { row: 2, line: 14 }].to_vec(alloc)?;
+    let refusals = [
+        Refusal::TooLong,
+        Refusal::Unsupported { line: 11 },
+        Refusal::Parameter {
+            line: 5,
+            name: ParamName::SampleTime,
+        },
+        Refusal::Unconnected {
+            line: 7,
+            port: Port::Number(2),
+        },
+        Refusal::Loop { rows },
+    ];
+    let lines = lines_of(alloc, &refusals)?;
+    assert_eq!(rt;
+        str::from_utf8(&lines),
+        Ok(
+            "refused F1 TooLong\n\
+            refused F7 Unsupported line 11\n\
+            refused F8 Parameter line 5 SampleTime\n\
+            refused F13 Unconnected line 7 port 2\n\
+            refused F23 Loop 9 14\n"
+        )
+    );
     Ok(())
 }
 

@@ -9,68 +9,83 @@ use std::test::Fail;
 
 const TEXT: &[u8] = b"Model {\n}\n and forty bytes of a further text";
 
+// Files of which the only one is `a`.
+fn one_file(alloc: Global, bytes: Vec<u8>) -> Result<Vec<(String, Vec<u8>)>, AllocError> {
+    let name = String::from_str(alloc, "a")?;
+    let mut files = Vec::new(alloc);
+    files.push((name, bytes))?;
+    Ok(files)
+}
+
 // A host with one file `a`.
 fn host_of(alloc: Global, fails: &[u64], piece: usize) -> Result<MemHost, AllocError>
     requires { 0 < piece }
 {
-    let mut files = Vec::new(alloc);
-    files.push((String::from_str(alloc, "a")?, TEXT.to_vec(alloc)?))?;
+    let files = one_file(alloc, TEXT.to_vec(alloc)?)?;
     Ok(MemHost::new(alloc, files, fails.to_vec(alloc)?, piece))
+}
+
+// Whether the file of this name holds the text, which is read whole if it has at most so many bytes.
+fn holds_text<H: Host>(
+    alloc: Global,
+    host: &mut H,
+    name: &str,
+    max: usize,
+) -> Result<bool, ReadAllFault> {
+    let bytes = read_all(alloc, host, name, max)?;
+    Ok(bytes.as_slice() == TEXT)
 }
 
 #[test]
 fn a_file_is_read_whole_or_not(rt: HostRuntime) -> Result<(), Fail> {
     let alloc = rt.alloc();
-    let fault = Some(ReadAllFault::Read);
-    let long = Some(ReadAllFault::TooLong);
+    let whole = Ok(true);
+    let fault = Err(ReadAllFault::Read);
     let length = TEXT.len();
-    for (fails, piece, max, name, want) in [
-        ([9u64, 9], 4096, 4096, "a", None),
-        ([9, 9], 16, length, "a", None),
-        ([9, 9], 16, length - 1, "a", long),
-        ([9, 9], 16, length, "b", fault),
-        ([0, 9], 16, length, "a", fault),
-        ([2, 9], 16, length, "a", fault),
+    for (fail, piece, max, name, want) in [
+        (9u64, 4096, 4096, "a", whole),
+        (9, 16, length, "a", whole),
+        (9, 16, length - 1, "a", Err(ReadAllFault::TooLong)),
+        (9, 16, length, "b", fault),
+        (0, 16, length, "a", fault),
+        (2, 16, length, "a", fault),
         // Of 45 bytes three reads take 16, 16 and 13, and the fourth finds the end.
-        ([4, 9], 16, length, "a", fault),
-        ([5, 9], 16, length, "a", None),
+        (4, 16, length, "a", fault),
+        (5, 16, length, "a", whole),
     ] {
-        let mut host = host_of(alloc, &fails, piece)?;
-        let got = read_all(alloc, &mut host, name, max);
-        match got {
-            Ok(bytes) => {
-                assert_eq!(rt; want, None);
-                assert_eq!(rt; bytes.as_slice(), TEXT);
-            }
-            Err(found) => assert_eq!(rt; want, Some(found)),
-        }
-        assert_eq!(rt; host.refused(), 0);
+        let mut host = host_of(alloc, &[fail], piece)?;
+        let read = holds_text(alloc, &mut host, name, max);
+        assert_eq!(rt;
+            (read, host.refused()),
+            (want, 0),
+            "{fail} {piece} {max} {name}"
+        );
     }
     Ok(())
+}
+
+// The first file that was written: its name and its bytes.
+fn first_written(host: &MemHost) -> Option<(&str, &[u8])> {
+    match host.written() {
+        [] => None,
+        [file, ..] => Some((file.0.as_str(), file.1.as_slice())),
+    }
 }
 
 #[test]
 fn a_file_is_written_whole_or_its_front(rt: HostRuntime) -> Result<(), Fail> {
     let alloc = rt.alloc();
-    for (fail, opened, want) in [
-        (9u64, true, TEXT),
-        (3, true, &TEXT[..32]),
-        (1, true, &TEXT[..0]),
-        (0, false, &TEXT[..0]),
+    for (fail, files, want) in [
+        (9u64, 1, Some(("c", TEXT))),
+        (3, 1, Some(("c", &TEXT[..32]))),
+        (1, 1, Some(("c", &TEXT[..0]))),
+        (0, 0, None),
     ] {
         let mut host = host_of(alloc, &[fail], 16)?;
-        let result = write_all(&mut host, "c", TEXT);
-        assert_eq!(rt; result.is_ok(), fail == 9);
-        match host.written() {
-            [] => assert!(rt; !opened),
-            [file] => {
-                assert!(rt; opened);
-                assert_eq!(rt; file.0.as_str(), "c");
-                assert_eq!(rt; file.1.as_slice(), want);
-            }
-            _ => assert!(rt; false),
-        }
-        assert_eq!(rt; host.refused(), 0);
+        let is_whole = write_all(&mut host, "c", TEXT).is_ok();
+        assert_eq!(rt; first_written(&host), want, "{fail}");
+        let counts = (host.written().len(), host.refused());
+        assert_eq!(rt; (is_whole, counts), (fail == 9, (files, 0)), "{fail}");
     }
     Ok(())
 }
@@ -80,10 +95,9 @@ fn a_text_is_put_whole_or_its_front(rt: HostRuntime) -> Result<(), Fail> {
     let alloc = rt.alloc();
     for (fail, want) in [(9u64, TEXT), (2, &TEXT[..32]), (0, &TEXT[..0])] {
         let mut sink = MemSink::new(alloc, [fail].to_vec(alloc)?, 16);
-        let result = put_all(&mut sink, TEXT);
-        assert_eq!(rt; result.is_ok(), fail == 9);
-        assert_eq!(rt; sink.bytes(), want);
-        assert_eq!(rt; sink.refused(), 0);
+        let is_whole = put_all(&mut sink, TEXT).is_ok();
+        assert_eq!(rt; sink.bytes(), want, "{fail}");
+        assert_eq!(rt; (is_whole, sink.refused()), (fail == 9, 0), "{fail}");
     }
     Ok(())
 }
@@ -91,18 +105,20 @@ fn a_text_is_put_whole_or_its_front(rt: HostRuntime) -> Result<(), Fail> {
 #[test]
 fn a_sure_host_reads_what_it_has(rt: HostRuntime) -> Result<(), Fail> {
     let alloc = rt.alloc();
-    let mut files = Vec::new(alloc);
-    files.push((String::from_str(alloc, "a")?, TEXT.to_vec(alloc)?))?;
-    let mut host = SureHost::new(files);
-    let mut sink = SureSink::new();
-    let bytes = read_all(alloc, &mut host, "a", 4096).ok().ok_or("read")?;
-    assert_eq!(rt; bytes.as_slice(), TEXT);
-    assert!(rt; read_all(alloc, &mut host, "b", 4096).is_err());
-    assert!(rt; write_all(&mut host, "c", TEXT).is_ok());
-    assert!(rt; put_all(&mut sink, TEXT).is_ok());
+    let mut host = SureHost::new(one_file(alloc, TEXT.to_vec(alloc)?)?);
+    let there = holds_text(alloc, &mut host, "a", 4096);
+    let missing = holds_text(alloc, &mut host, "b", 4096).is_err();
+    let is_written = write_all(&mut host, "c", TEXT).is_ok();
+    assert_eq!(rt; (there, missing, is_written), (Ok(true), true, true));
     assert_eq!(rt; host.taken(), TEXT.len() as u64);
-    assert_eq!(rt; sink.taken(), TEXT.len() as u64);
     Ok(())
+}
+
+#[test]
+fn a_sure_sink_counts_what_it_takes(rt: HostRuntime) {
+    let mut sink = SureSink::new();
+    let is_put = put_all(&mut sink, TEXT).is_ok();
+    assert_eq!(rt; (is_put, sink.taken()), (true, TEXT.len() as u64));
 }
 
 // A file of 5000 bytes takes a read of 4096 bytes, one of 904, and one that finds the end.
@@ -110,29 +126,35 @@ fn a_sure_host_reads_what_it_has(rt: HostRuntime) -> Result<(), Fail> {
 fn each_read_is_given_4096_bytes_to_fill(rt: HostRuntime) -> Result<(), Fail> {
     let alloc = rt.alloc();
     for (fail, whole) in [(3u64, false), (4, true)] {
-        let mut files = Vec::new(alloc);
-        files.push((String::from_str(alloc, "a")?, vec![in alloc; 7; 5000]?))?;
+        let files = one_file(alloc, vec![in alloc; 7; 5000]?)?;
         let mut host = MemHost::new(alloc, files, [fail].to_vec(alloc)?, 10_000);
-        let got = read_all(alloc, &mut host, "a", 5000);
-        assert_eq!(rt; got.is_ok(), whole);
+        let is_read = read_all(alloc, &mut host, "a", 5000).is_ok();
+        assert_eq!(rt; is_read, whole, "{fail}");
     }
     Ok(())
+}
+
+// How many bytes the sink has once it was put these, of which some may wait.
+fn bytes_put(buffer: &mut PutBuffer, sink: &mut MemSink, bytes: &[u8]) -> Option<usize> {
+    buffer.put(sink, bytes).ok()?;
+    Some(sink.bytes().len())
 }
 
 #[test]
 fn bytes_wait_until_they_are_too_many(rt: HostRuntime) -> Result<(), Fail> {
     let alloc = rt.alloc();
+    let many = vec![in alloc; 7u8; 65_536]?;
     let mut sink = MemSink::new(alloc, Vec::new(alloc), 100_000);
     let mut buffer = PutBuffer::new(alloc)?;
-    assert!(rt; buffer.put(&mut sink, TEXT).is_ok());
-    assert_eq!(rt; sink.bytes().len(), 0);
-    assert!(rt; buffer.flush(&mut sink).is_ok());
-    assert_eq!(rt; sink.bytes(), TEXT);
-    let many = vec![in alloc; 7u8; 65_536]?;
-    assert!(rt; buffer.put(&mut sink, b".").is_ok());
-    assert!(rt; buffer.put(&mut sink, &many).is_ok());
-    // The byte before them was put, and they wait.
-    assert_eq!(rt; sink.bytes().len(), TEXT.len() + 1);
+    let waiting = bytes_put(&mut buffer, &mut sink, TEXT);
+    let is_flushed = buffer.flush(&mut sink).is_ok();
+    let is_text = sink.bytes() == TEXT;
+    assert_eq!(rt; (waiting, is_flushed, is_text), (Some(0), true, true));
+    let length = TEXT.len();
+    let one = bytes_put(&mut buffer, &mut sink, b".");
+    // The byte before them is put, and they wait.
+    let more = bytes_put(&mut buffer, &mut sink, &many);
+    assert_eq!(rt; (one, more), (Some(length), Some(length + 1)));
     Ok(())
 }
 
@@ -141,31 +163,42 @@ fn bytes_are_read_behind_those_that_are_there(rt: HostRuntime) -> Result<(), Fai
     let alloc = rt.alloc();
     let mut host = host_of(alloc, &[9], 16)?;
     let mut read = ReadBuffer::new(alloc)?;
-    assert!(rt; host.open_read("a").is_ok());
-    assert_eq!(rt; read.fill(&mut host).ok(), Some(16));
+    let is_open = host.open_read("a").is_ok();
+    let count = read.fill(&mut host).ok();
+    assert_eq!(rt; (is_open, count), (true, Some(16)));
     assert_eq!(rt; read.bytes(), &TEXT[..16]);
     Ok(())
 }
 
-#[test]
-fn the_system_keeps_a_file(rt: HostRuntime) -> Result<(), Fail> {
-    let alloc = rt.alloc();
-    let mut host = FileHost::new(&rt);
-    assert!(rt; write_all(&mut host, "kept", TEXT).is_ok());
-    let bytes = read_all(alloc, &mut host, "kept", 4096).ok().ok_or("read")?;
-    assert_eq!(rt; bytes.as_slice(), TEXT);
-    assert!(rt; read_all(alloc, &mut host, "missing", 4096).is_err());
-    // A folder can be opened, and each read of it fails.
-    let fault = read_all(alloc, &mut host, ".", 4096).err();
-    assert_eq!(rt; fault, Some(ReadAllFault::Read));
-    assert!(rt; write_all(&mut host, "no/such/folder", TEXT).is_err());
+// What reads of these files give: of one that is kept, of one that is missing, and of a folder.
+fn reads<H: Host>(alloc: Global, host: &mut H) -> [Result<bool, ReadAllFault>; 3] {
+    let kept = holds_text(alloc, host, "kept", 4096);
+    let missing = holds_text(alloc, host, "missing", 4096);
+    let folder = holds_text(alloc, host, ".", 4096);
+    [kept, missing, folder]
+}
+
+// The length of the kept file once a byte is written behind it, and a file in a folder that isn't there could not be.
+fn longer<H: Host>(alloc: Global, host: &mut H) -> Option<usize> {
+    if write_all(host, "no/such/folder", TEXT).is_ok() {
+        return None;
+    }
     // The file that was opened last is still the one that is written.
-    assert!(rt; host.write(b".").is_ok());
-    let bytes = read_all(alloc, &mut host, "kept", 4096)
-        .ok()
-        .ok_or("read again")?;
-    assert_eq!(rt; bytes.len(), TEXT.len() + 1);
-    Ok(())
+    host.write(b".").ok()?;
+    let bytes = read_all(alloc, host, "kept", 4096).ok()?;
+    Some(bytes.len())
+}
+
+#[test]
+fn the_system_keeps_a_file(rt: HostRuntime) {
+    let mut host = FileHost::new(&rt);
+    let is_written = write_all(&mut host, "kept", TEXT).is_ok();
+    let reads = reads(rt.alloc(), &mut host);
+    let longer = longer(rt.alloc(), &mut host);
+    // A folder can be opened, and each read of it fails.
+    let fault = Err(ReadAllFault::Read);
+    assert_eq!(rt; (is_written, reads), (true, [Ok(true), fault, fault]));
+    assert_eq!(rt; longer, Some(TEXT.len() + 1));
 }
 
 #[test]

@@ -82,21 +82,48 @@ fn over_of(name: &str) -> Option<Over> {
     }
 }
 
+/// A number with its fraction bits, the type and the modes that it is converted by, and the result.
+#[derive(Clone, Copy)]
+struct Conversion {
+    number: i128,
+    frac: u8,
+    to: FixType,
+    round: Round,
+    over: Over,
+    result: i64,
+}
+
+/// The conversion that a line tells of.
+fn conversion_of(line: &str) -> Option<Conversion> {
+    let mut fields = line.split(' ');
+    let number = fields.next()?.parse::<i128>().ok()?;
+    let frac = fields.next()?.parse::<u8>().ok()?;
+    let TypeText::Fixed(to) = read_type(fields.next()?.as_bytes()).ok()? else {
+        return None;
+    };
+    let round = round_of(fields.next()?)?;
+    let over = over_of(fields.next()?)?;
+    let result = fields.next()?.parse::<i64>().ok()?;
+    Some(Conversion {
+        number,
+        frac,
+        to,
+        round,
+        over,
+        result,
+    })
+}
+
 #[test]
 fn numbers_are_converted(rt: HostRuntime) -> Result<(), Fail> {
     for line in CONVERSIONS.lines() {
-        let mut fields = line.split(' ');
-        let v = fields.next().ok_or("a number")?.parse::<i128>()?;
-        let from_frac = fields.next().ok_or("fraction bits")?.parse::<u8>()?;
-        let text = fields.next().ok_or("a type")?;
-        let round = round_of(fields.next().ok_or("a rounding")?).ok_or(line)?;
-        let over = over_of(fields.next().ok_or("an overflow")?).ok_or(line)?;
-        let want = fields.next().ok_or("a result")?.parse::<i64>()?;
-        let TypeText::Fixed(to) = read_type(text.as_bytes())? else {
-            return Err(Fail::new(line));
-        };
-        assert!(rt; v.unsigned_abs() <= 1 << 62 && from_frac <= 93);
-        assert_eq!(rt; convert(v, from_frac, to, round, over), want, "{line}");
+        let c = conversion_of(line).ok_or(line)?;
+        assert!(rt;
+            c.number.unsigned_abs() <= 1 << 62 && c.frac <= 93,
+            "{line}"
+        );
+        let result = convert(c.number, c.frac, c.to, c.round, c.over);
+        assert_eq!(rt; result, c.result, "{line}");
     }
     Ok(())
 }

@@ -1,6 +1,7 @@
 ghost use Rattle.std.specs.Prelude.{ℕ, ◌<◌, IsTrue, length, slice_index_or};
 
 use mc_graph::{Graph, OrderFault, masks, order};
+use std::alloc::Global;
 use std::test::Fail;
 
 /// The graph of these edges, where each of their ends is a node.
@@ -25,6 +26,12 @@ fn are_inside(n: u32, edges: &[(u32, u32)]) -> bool
     true
 }
 
+/// The order of the nodes of the graph of these edges.
+fn order_of(alloc: Global, n: u32, edges: Vec<(u32, u32)>) -> Result<Vec<u32>, Fail> {
+    let g = graph(n, edges).ok_or("an edge leaves the graph")?;
+    Ok(order(alloc, &g)?)
+}
+
 /// Whether the list is 0, 1, 2 and so on.
 fn counts_up(list: &[u32]) -> bool {
     list.iter().enumerate().all(|(k, b)| *b as usize == k)
@@ -36,10 +43,8 @@ fn a_line_stands_in_its_order(rt: HostRuntime) -> Result<(), Fail> {
     for b in 1..20_000 {
         edges.push((b - 1, b))?;
     }
-    let g = graph(20_000, edges).ok_or("an edge leaves the graph")?;
-    let list = order(rt.alloc(), &g)?;
-    assert_eq!(rt; list.len(), 20_000);
-    assert!(rt; counts_up(&list));
+    let list = order_of(rt.alloc(), 20_000, edges)?;
+    assert_eq!(rt; (list.len(), counts_up(&list)), (20_000, true));
     Ok(())
 }
 
@@ -49,11 +54,9 @@ fn a_reversed_line_stands_backwards(rt: HostRuntime) -> Result<(), Fail> {
     for b in 1..20_000 {
         edges.push((b, b - 1))?;
     }
-    let g = graph(20_000, edges).ok_or("an edge leaves the graph")?;
-    let mut list = order(rt.alloc(), &g)?;
+    let mut list = order_of(rt.alloc(), 20_000, edges)?;
     list.reverse();
-    assert_eq!(rt; list.len(), 20_000);
-    assert!(rt; counts_up(&list));
+    assert_eq!(rt; (list.len(), counts_up(&list)), (20_000, true));
     Ok(())
 }
 
@@ -63,18 +66,15 @@ fn a_star_stands_behind_its_middle(rt: HostRuntime) -> Result<(), Fail> {
     for b in 1..20_000 {
         edges.push((0, b))?;
     }
-    let g = graph(20_000, edges).ok_or("an edge leaves the graph")?;
-    let list = order(rt.alloc(), &g)?;
-    assert_eq!(rt; list.len(), 20_000);
-    assert!(rt; counts_up(&list));
+    let list = order_of(rt.alloc(), 20_000, edges)?;
+    assert_eq!(rt; (list.len(), counts_up(&list)), (20_000, true));
     Ok(())
 }
 
 #[test]
 fn the_least_node_that_may_stand_is_next(rt: HostRuntime) -> Result<(), Fail> {
     let edges = vec![in rt.alloc(); (3, 0), (1, 2)]?;
-    let g = graph(4, edges).ok_or("an edge leaves the graph")?;
-    let list = order(rt.alloc(), &g)?;
+    let list = order_of(rt.alloc(), 4, edges)?;
     assert_eq!(rt; list.as_slice(), [1, 2, 3, 0].as_slice());
     Ok(())
 }

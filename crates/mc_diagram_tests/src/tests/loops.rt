@@ -2,6 +2,7 @@ ghost use Rattle.std.specs.Prelude.{ℕ, ◌<◌, IsTrue, length, slice_index_or
 
 use mc_depend::find_in;
 use mc_graph::Graph;
+use std::alloc::Global;
 use std::test::Fail;
 
 /// The graph of these edges, where each of their ends is a node.
@@ -26,11 +27,16 @@ fn are_inside(n: u32, edges: &[(u32, u32)]) -> bool
     true
 }
 
+/// The loop that is told of the graph of these edges.
+fn loop_of(alloc: Global, n: u32, edges: Vec<(u32, u32)>) -> Result<Vec<u32>, Fail> {
+    let g = graph(n, edges).ok_or("an edge leaves the graph")?;
+    Ok(find_in(alloc, &g)?.ok_or("no loop is told")?)
+}
+
 #[test]
 fn a_sum_and_a_gain_that_go_round(rt: HostRuntime) -> Result<(), Fail> {
     let edges = vec![in rt.alloc(); (0, 1), (2, 1), (1, 2), (1, 3)]?;
-    let g = graph(4, edges).ok_or("an edge leaves the graph")?;
-    let told = find_in(rt.alloc(), &g)?.ok_or("no loop is told")?;
+    let told = loop_of(rt.alloc(), 4, edges)?;
     assert_eq!(rt; told.as_slice(), [1, 2].as_slice());
     Ok(())
 }
@@ -38,8 +44,7 @@ fn a_sum_and_a_gain_that_go_round(rt: HostRuntime) -> Result<(), Fail> {
 #[test]
 fn the_first_of_two_loops_as_short_is_told(rt: HostRuntime) -> Result<(), Fail> {
     let edges = vec![in rt.alloc(); (4, 1), (3, 1), (2, 3), (2, 4), (1, 2)]?;
-    let g = graph(5, edges).ok_or("an edge leaves the graph")?;
-    let told = find_in(rt.alloc(), &g)?.ok_or("no loop is told")?;
+    let told = loop_of(rt.alloc(), 5, edges)?;
     assert_eq!(rt; told.as_slice(), [1, 3, 2].as_slice());
     Ok(())
 }
@@ -48,8 +53,7 @@ fn the_first_of_two_loops_as_short_is_told(rt: HostRuntime) -> Result<(), Fail> 
 fn a_shortest_loop_through_the_least_row_is_told(rt: HostRuntime) -> Result<(), Fail> {
     // 0 needs 1, 1 needs 2, 2 needs 0; 0 needs 4, 4 needs 0; 3 needs itself
     let edges = vec![in rt.alloc(); (1, 0), (2, 1), (0, 2), (4, 0), (0, 4), (3, 3)]?;
-    let g = graph(5, edges).ok_or("an edge leaves the graph")?;
-    let told = find_in(rt.alloc(), &g)?.ok_or("no loop is told")?;
+    let told = loop_of(rt.alloc(), 5, edges)?;
     assert_eq!(rt; told.as_slice(), [0, 4].as_slice());
     Ok(())
 }
@@ -57,8 +61,7 @@ fn a_shortest_loop_through_the_least_row_is_told(rt: HostRuntime) -> Result<(), 
 #[test]
 fn a_row_that_needs_itself_is_a_loop(rt: HostRuntime) -> Result<(), Fail> {
     let edges = vec![in rt.alloc(); (0, 1), (1, 1)]?;
-    let g = graph(2, edges).ok_or("an edge leaves the graph")?;
-    let told = find_in(rt.alloc(), &g)?.ok_or("no loop is told")?;
+    let told = loop_of(rt.alloc(), 2, edges)?;
     assert_eq!(rt; told.as_slice(), [1].as_slice());
     Ok(())
 }
@@ -67,8 +70,7 @@ fn a_row_that_needs_itself_is_a_loop(rt: HostRuntime) -> Result<(), Fail> {
 fn enable_of_its_own_output(rt: HostRuntime) -> Result<(), Fail> {
     // Row 0 is an Inport, 1 the subsystem, 2 its Inport, 3 its EnablePort and 4 its Outport, which enables it.
     let edges = vec![in rt.alloc(); (0, 2), (4, 2), (4, 3), (2, 4), (4, 4), (4, 5)]?;
-    let g = graph(6, edges).ok_or("an edge leaves the graph")?;
-    let told = find_in(rt.alloc(), &g)?.ok_or("no loop is told")?;
+    let told = loop_of(rt.alloc(), 6, edges)?;
     assert_eq!(rt; told.as_slice(), [2, 4].as_slice());
     Ok(())
 }
@@ -80,8 +82,7 @@ fn one_long_loop(rt: HostRuntime) -> Result<(), Fail> {
         edges.push((b, b - 1))?;
     }
     edges.push((0, 19_999))?;
-    let g = graph(20_000, edges).ok_or("an edge leaves the graph")?;
-    let told = find_in(rt.alloc(), &g)?.ok_or("no loop is told")?;
+    let told = loop_of(rt.alloc(), 20_000, edges)?;
     assert_eq!(rt; told.len(), 20_000);
     assert!(rt; told.iter().enumerate().all(|(k, b)| *b as usize == k));
     Ok(())
@@ -94,8 +95,7 @@ fn a_loop_behind_a_long_chain(rt: HostRuntime) -> Result<(), Fail> {
         edges.push((b, b - 1))?;
     }
     edges.push((19_998, 19_999))?;
-    let g = graph(20_000, edges).ok_or("an edge leaves the graph")?;
-    let told = find_in(rt.alloc(), &g)?.ok_or("no loop is told")?;
+    let told = loop_of(rt.alloc(), 20_000, edges)?;
     assert_eq!(rt; told.as_slice(), [19_998, 19_999].as_slice());
     Ok(())
 }

@@ -1,6 +1,24 @@
 use mc_cluster::Groups;
-use mc_schedule::schedule_of;
+use mc_schedule::{NodeList, Schedule, schedule_of};
+use std::alloc::{AllocError, Global};
 use std::test::Fail;
+
+// The numbers of each of the lists.
+fn numbers_of(alloc: Global, lists: &[NodeList]) -> Result<Vec<&[u32]>, AllocError> {
+    let mut numbers = Vec::new(alloc);
+    for list in lists {
+        numbers.push(list.numbers())?;
+    }
+    Ok(numbers)
+}
+
+// The nodes of each group, the groups of each function, and the nodes that no function holds.
+fn described(alloc: Global, schedule: &Schedule) -> Result<String, AllocError> {
+    let groups = numbers_of(alloc, &schedule.groups)?;
+    let functions = numbers_of(alloc, &schedule.functions)?;
+    let update = schedule.update.numbers();
+    format!(in alloc; "groups {groups:?} functions {functions:?} update {update:?}")
+}
 
 #[test]
 fn shared_node(rt: HostRuntime) -> Result<(), Fail> {
@@ -10,15 +28,11 @@ fn shared_node(rt: HostRuntime) -> Result<(), Fail> {
         holds: vec![in rt.alloc(); 3, 1, 2, 0]?,
     };
     let schedule = schedule_of(rt.alloc(), &[0, 1, 4, 2, 3], &groups, 2)?;
-    assert_eq!(rt; schedule.groups.len(), 4);
-    assert_eq!(rt; schedule.groups[0].numbers(), [4].as_slice());
-    assert_eq!(rt; schedule.groups[1].numbers(), [0, 2].as_slice());
-    assert_eq!(rt; schedule.groups[2].numbers(), [1].as_slice());
-    assert!(rt; schedule.groups[3].numbers().is_empty());
-    assert_eq!(rt; schedule.functions.len(), 2);
-    assert_eq!(rt; schedule.functions[0].numbers(), [0, 1].as_slice());
-    assert_eq!(rt; schedule.functions[1].numbers(), [0, 2].as_slice());
-    assert_eq!(rt; schedule.update.numbers(), [3].as_slice());
+    let text = described(rt.alloc(), &schedule)?;
+    assert_eq!(rt;
+        text.as_str(),
+        "groups [[4], [0, 2], [1], []] functions [[0, 1], [0, 2]] update [3]"
+    );
     Ok(())
 }
 
@@ -30,14 +44,11 @@ fn shared_child(rt: HostRuntime) -> Result<(), Fail> {
         holds: vec![in rt.alloc(); 3, 2, 1, 0]?,
     };
     let schedule = schedule_of(rt.alloc(), &[0, 1, 2, 6, 3, 4, 5], &groups, 2)?;
-    assert_eq!(rt; schedule.groups.len(), 4);
-    assert_eq!(rt; schedule.groups[0].numbers(), [0, 6].as_slice());
-    assert_eq!(rt; schedule.groups[1].numbers(), [1, 3, 5].as_slice());
-    assert_eq!(rt; schedule.groups[2].numbers(), [4].as_slice());
-    assert_eq!(rt; schedule.functions.len(), 2);
-    assert_eq!(rt; schedule.functions[0].numbers(), [0, 2].as_slice());
-    assert_eq!(rt; schedule.functions[1].numbers(), [0, 1].as_slice());
-    assert_eq!(rt; schedule.update.numbers(), [2].as_slice());
+    let text = described(rt.alloc(), &schedule)?;
+    assert_eq!(rt;
+        text.as_str(),
+        "groups [[0, 6], [1, 3, 5], [4], []] functions [[0, 2], [0, 1]] update [2]"
+    );
     Ok(())
 }
 
@@ -49,9 +60,8 @@ fn thirty_two_functions(rt: HostRuntime) -> Result<(), Fail> {
         holds: vec![in rt.alloc(); (1 << 32) - 1]?,
     };
     let schedule = schedule_of(rt.alloc(), &[0], &groups, 32)?;
-    assert_eq!(rt; schedule.functions.len(), 32);
-    assert_eq!(rt; schedule.functions[0].numbers(), [0].as_slice());
-    assert_eq!(rt; schedule.functions[31].numbers(), [0].as_slice());
-    assert!(rt; schedule.update.numbers().is_empty());
+    let functions = numbers_of(rt.alloc(), &schedule.functions)?;
+    assert_eq!(rt; functions.as_slice(), [[0].as_slice(); 32].as_slice());
+    assert_eq!(rt; schedule.update.numbers(), [].as_slice());
     Ok(())
 }

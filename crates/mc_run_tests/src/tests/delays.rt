@@ -1,5 +1,6 @@
 use super::{outputs, resolved, trace};
 use mc_equations::is_trace_for;
+use std::alloc::Global;
 use std::test::Fail;
 
 /// An input behind a delay of one sample, which begins with 7.
@@ -13,16 +14,23 @@ fn one_delay(rt: HostRuntime) -> Result<(), Fail> {
     Ok(())
 }
 
+/// Whether these rows are a trace for the model of one delay.
+fn fits_one_delay<const INPUTS: usize>(
+    alloc: Global,
+    rows: &[[i64; INPUTS]],
+) -> Result<bool, Fail> {
+    let inputs = trace(alloc, rows)?;
+    let r = resolved(alloc, ONE_DELAY)?;
+    Ok(is_trace_for(&r, inputs.as_slice()))
+}
+
 #[test]
 fn a_row_has_just_one_number_for_each_input(rt: HostRuntime) -> Result<(), Fail> {
-    let r = resolved(rt.alloc(), ONE_DELAY)?;
-    let exact = trace(rt.alloc(), [[1], [2]].as_slice())?;
-    assert_eq!(rt; is_trace_for(&r, exact.as_slice()), true);
+    let exact = fits_one_delay(rt.alloc(), [[1], [2]].as_slice())?;
     let none: [[i64; 0]; 1] = [[]];
-    let too_few = trace(rt.alloc(), none.as_slice())?;
-    assert_eq!(rt; is_trace_for(&r, too_few.as_slice()), false);
-    let too_many = trace(rt.alloc(), [[1, 2]].as_slice())?;
-    assert_eq!(rt; is_trace_for(&r, too_many.as_slice()), false);
+    let too_few = fits_one_delay(rt.alloc(), none.as_slice())?;
+    let too_many = fits_one_delay(rt.alloc(), [[1, 2]].as_slice())?;
+    assert_eq!(rt; (exact, too_few, too_many), (true, false, false));
     Ok(())
 }
 

@@ -1,4 +1,4 @@
-use super::profiles::function;
+use super::profiles::{function, row_and_functions};
 use super::resolved;
 use super::systems::{child_nodes, child_profiles, root_nodes, root_profile};
 use mc_profile::Node;
@@ -19,8 +19,7 @@ const SHARED_CHILD: &str = "Inport a OutDataTypeStr=int32; Inport b Port=2 OutDa
 // The delay, at place 2, needs nothing; the gain behind it, at place 3, is needed by both sums.
 #[test]
 fn nodes_of_a_shared_node(rt: HostRuntime) -> Result<(), Fail> {
-    let r = resolved(rt.alloc(), SHARED_NODE)?;
-    let nodes = child_nodes(rt.alloc(), &r)?;
+    let nodes = child_nodes(rt.alloc(), &resolved(rt.alloc(), SHARED_NODE)?)?;
     let rows = [3, 4, 5, 6, 7, 8, 9, 10];
     assert_eq!(rt; nodes.list.as_slice(), rows.map(Node::Row).as_slice());
     let edges = [(2, 3), (3, 4), (0, 4), (3, 5), (1, 5), (4, 6), (5, 7)];
@@ -31,13 +30,11 @@ fn nodes_of_a_shared_node(rt: HostRuntime) -> Result<(), Fail> {
 
 #[test]
 fn profile_of_a_shared_node(rt: HostRuntime) -> Result<(), Fail> {
-    let r = resolved(rt.alloc(), SHARED_NODE)?;
-    let profiles = child_profiles(rt.alloc(), &r)?;
+    let profiles = child_profiles(rt.alloc(), &resolved(rt.alloc(), SHARED_NODE)?)?;
     let child = profiles.as_slice().first().ok_or("there is no child")?;
-    assert_eq!(rt; child.row, Some(2));
     assert_eq!(rt;
-        child.functions.as_slice(),
-        [function(1, 1), function(2, 2)].as_slice()
+        row_and_functions(child),
+        (Some(2), [function(1, 1), function(2, 2)].as_slice())
     );
     Ok(())
 }
@@ -45,16 +42,20 @@ fn profile_of_a_shared_node(rt: HostRuntime) -> Result<(), Fail> {
 // The call, at place 6, is needed by the sum and by the first output.
 #[test]
 fn nodes_of_a_shared_child(rt: HostRuntime) -> Result<(), Fail> {
-    let r = resolved(rt.alloc(), SHARED_CHILD)?;
-    let nodes = root_nodes(rt.alloc(), &r)?;
-    let mut list = Vec::new(rt.alloc());
-    for own in [0, 1, 2, 5, 6, 7] {
-        list.push(Node::Row(own))?;
-    }
-    list.push(Node::Call {
+    let nodes = root_nodes(rt.alloc(), &resolved(rt.alloc(), SHARED_CHILD)?)?;
+    let call = Node::Call {
         child: 2,
         function: 1,
-    })?;
+    };
+    let list = [
+        Node::Row(0),
+        Node::Row(1),
+        Node::Row(2),
+        Node::Row(5),
+        Node::Row(6),
+        Node::Row(7),
+        call,
+    ];
     assert_eq!(rt; nodes.list.as_slice(), list.as_slice());
     let edges = [(6, 3), (1, 3), (6, 4), (3, 5), (0, 6)];
     assert_eq!(rt; nodes.graph.edges.as_slice(), edges.as_slice());
@@ -63,16 +64,19 @@ fn nodes_of_a_shared_child(rt: HostRuntime) -> Result<(), Fail> {
 }
 
 #[test]
-fn profiles_of_a_shared_child(rt: HostRuntime) -> Result<(), Fail> {
-    let r = resolved(rt.alloc(), SHARED_CHILD)?;
-    let profiles = child_profiles(rt.alloc(), &r)?;
+fn profile_of_a_shared_child(rt: HostRuntime) -> Result<(), Fail> {
+    let profiles = child_profiles(rt.alloc(), &resolved(rt.alloc(), SHARED_CHILD)?)?;
     let child = profiles.as_slice().first().ok_or("there is no child")?;
     assert_eq!(rt; child.functions.as_slice(), [function(1, 1)].as_slice());
-    let root = root_profile(rt.alloc(), &r)?;
-    assert_eq!(rt; root.row, None);
+    Ok(())
+}
+
+#[test]
+fn profile_around_a_shared_child(rt: HostRuntime) -> Result<(), Fail> {
+    let root = root_profile(rt.alloc(), &resolved(rt.alloc(), SHARED_CHILD)?)?;
     assert_eq!(rt;
-        root.functions.as_slice(),
-        [function(1, 1), function(3, 2)].as_slice()
+        row_and_functions(&root),
+        (None, [function(1, 1), function(3, 2)].as_slice())
     );
     Ok(())
 }

@@ -1,5 +1,5 @@
 use mc_base::{Memory, Port};
-use mc_certificate::Difference;
+use mc_certificate::{Certificate, Difference};
 use mc_profile::Function;
 use mc_report::{ReportFault, read_report};
 use std::alloc::Global;
@@ -8,6 +8,14 @@ use std::test::Fail;
 const CROSSED: &str = "system top inputs 1 outputs 1 functions 1\nout 1 needs 1 outputs 1\n\
     system s1 inputs 2 outputs 2 functions 2\nout 1 needs 1 outputs 1\nout 2 needs 2 outputs 2\n\
     differ 1 2 by 1\nsystems 2\n";
+
+// The representatives of a certificate, and how each two of them differ.
+fn parts(certificate: &Certificate) -> (&[u8], &[Difference]) {
+    (
+        certificate.representatives.as_slice(),
+        certificate.differ.as_slice(),
+    )
+}
 
 // The line of the fault of form, 0 where the text is one of reports.
 fn fault_line(alloc: Global, text: &str) -> Result<u32, Memory> {
@@ -21,7 +29,7 @@ fn fault_line(alloc: Global, text: &str) -> Result<u32, Memory> {
 #[test]
 fn one_delay(rt: HostRuntime) -> Result<(), Fail> {
     let text = "system top inputs 1 outputs 1 functions 1\nout 1 needs none outputs 1\nsystems 1\n";
-    let reports = read_report(rt.alloc(), text.as_bytes()).map_err(|_| "no reports")?;
+    let reports = read_report(rt.alloc(), text.as_bytes())?;
     let [top] = reports.as_slice() else {
         return Err("one report".into());
     };
@@ -29,18 +37,15 @@ fn one_delay(rt: HostRuntime) -> Result<(), Fail> {
         inputs: 0,
         outputs: 1,
     };
-    assert_eq!(rt; top.row, None);
-    assert_eq!(rt; top.inputs, 1);
-    assert_eq!(rt; top.outputs, 1);
+    assert_eq!(rt; (top.row, top.inputs, top.outputs), (None, 1, 1));
     assert_eq!(rt; top.profile.functions.as_slice(), [function].as_slice());
-    assert_eq!(rt; top.certificate.representatives.as_slice(), [0].as_slice());
-    assert_eq!(rt; top.certificate.differ.len(), 0);
+    assert_eq!(rt; parts(&top.certificate), ([0].as_slice(), [].as_slice()));
     Ok(())
 }
 
 #[test]
 fn crossed_ports(rt: HostRuntime) -> Result<(), Fail> {
-    let reports = read_report(rt.alloc(), CROSSED.as_bytes()).map_err(|_| "no reports")?;
+    let reports = read_report(rt.alloc(), CROSSED.as_bytes())?;
     let [_, crossed] = reports.as_slice() else {
         return Err("two reports".into());
     };
@@ -59,16 +64,11 @@ fn crossed_ports(rt: HostRuntime) -> Result<(), Fail> {
         second: 1,
         bit: 0,
     };
-    assert_eq!(rt; crossed.row, Some(1));
-    assert_eq!(rt; crossed.profile.row, Some(1));
+    assert_eq!(rt; (crossed.row, crossed.profile.row), (Some(1), Some(1)));
     assert_eq!(rt; crossed.profile.functions.as_slice(), functions.as_slice());
     assert_eq!(rt;
-        crossed.certificate.representatives.as_slice(),
-        [0, 1].as_slice()
-    );
-    assert_eq!(rt;
-        crossed.certificate.differ.as_slice(),
-        [difference].as_slice()
+        parts(&crossed.certificate),
+        ([0, 1].as_slice(), [difference].as_slice())
     );
     Ok(())
 }
@@ -77,12 +77,11 @@ fn crossed_ports(rt: HostRuntime) -> Result<(), Fail> {
 fn classes_of_outputs(rt: HostRuntime) -> Result<(), Fail> {
     let text = "system top inputs 1 outputs 3 functions 2\nout 1 needs 1 outputs 1 2\n\
         out 2 needs none outputs 3\ndiffer 1 2 by 1\nsystems 1\n";
-    let reports = read_report(rt.alloc(), text.as_bytes()).map_err(|_| "no reports")?;
+    let reports = read_report(rt.alloc(), text.as_bytes())?;
     let [top] = reports.as_slice() else {
         return Err("one report".into());
     };
-    assert_eq!(rt; top.outputs, 3);
-    assert_eq!(rt; top.profile.functions.len(), 2);
+    assert_eq!(rt; (top.outputs, top.profile.functions.len()), (3, 2));
     assert_eq!(rt;
         top.certificate.representatives.as_slice(),
         [0, 2].as_slice()
@@ -94,7 +93,7 @@ fn classes_of_outputs(rt: HostRuntime) -> Result<(), Fail> {
 fn enable_and_trigger(rt: HostRuntime) -> Result<(), Fail> {
     let text = "system s3 inputs 1 outputs 1 functions 1 control enable trigger\n\
         out 1 needs 1 enable trigger outputs 1\nsystems 1\n";
-    let reports = read_report(rt.alloc(), text.as_bytes()).map_err(|_| "no reports")?;
+    let reports = read_report(rt.alloc(), text.as_bytes())?;
     let [gated] = reports.as_slice() else {
         return Err("one report".into());
     };
