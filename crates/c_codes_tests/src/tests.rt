@@ -1,6 +1,7 @@
 mod flat;
 
-use c_codes::codes_of;
+use c_codes::{Codes, codes_of};
+use c_shape::SystemCode;
 use mc_depend::find_loop;
 use mc_diagram::Resolved;
 use mc_verdict::accept_model;
@@ -17,26 +18,34 @@ fn resolved(alloc: Global, parts: &str) -> Result<Resolved, Fail> {
     }
 }
 
+/// The codes of a model of these parts, which has no loop.
+fn codes(alloc: Global, parts: &str) -> Result<Codes, Fail> {
+    let r = resolved(alloc, parts)?;
+    let None = find_loop(alloc, &r)? else {
+        return Err("there is a loop".into());
+    };
+    Ok(codes_of(alloc, &r)?)
+}
+
+/// The name of a system's struct, and how many procedures it has.
+fn name_and_count(code: &SystemCode) -> (&[u8], usize) {
+    (code.structure.name.bytes(), code.procedures.len())
+}
+
 // The root comes first. Each of both systems has one group, one function, an update, a start and a reset.
 #[test]
 fn nested_codes(rt: HostRuntime) -> Result<(), Fail> {
-    let r = resolved(
+    let codes = codes(
         rt.alloc(),
         "Inport a OutDataTypeStr=int32; \
          SubSystem s {; Inport x; Gain g Gain=2; Outport y; x 1 > g 1; g 1 > y 1; }; \
          Outport o; a 1 > s 1; s 1 > o 1",
     )?;
-    let None = find_loop(rt.alloc(), &r)? else {
-        return Err("there is a loop".into());
+    let [root, child] = codes.codes.as_slice() else {
+        return Err("two codes".into());
     };
-    let codes = codes_of(rt.alloc(), &r)?;
     assert_eq!(rt; codes.root.row, None);
-    assert_eq!(rt; codes.codes.len(), 2);
-    let root = codes.codes.as_slice().first().ok_or("there is no root")?;
-    let child = codes.codes.as_slice().last().ok_or("there is no child")?;
-    assert_eq!(rt; root.structure.name.bytes(), b"top".as_slice());
-    assert_eq!(rt; root.procedures.len(), 5);
-    assert_eq!(rt; child.structure.name.bytes(), b"s1".as_slice());
-    assert_eq!(rt; child.procedures.len(), 5);
+    assert_eq!(rt; name_and_count(root), (b"top".as_slice(), 5));
+    assert_eq!(rt; name_and_count(child), (b"s1".as_slice(), 5));
     Ok(())
 }

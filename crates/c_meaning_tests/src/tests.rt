@@ -1,4 +1,3 @@
-use c_grammar::ReadCFault;
 use c_meaning::{Machine, NewFault};
 use c_reader::read_c;
 use c_syntax::{Cost, Stuck, Why};
@@ -50,22 +49,20 @@ void root_start(struct root *s) {
 void root_step(struct root *s) {
 ";
 
-// The same, where the number begins with 1.
-fn set_rings(alloc: Global) -> Result<String, Fail> {
-    let (before, behind) = RINGS
-        .split_once("(int32_t)INT64_C(0));")
-        .ok_or("there is no start")?;
-    Ok(format!(in alloc; "{before}(int32_t)INT64_C(1));{behind}")?)
-}
-
 // The machine of a text without its last statements, which stand in `root_step`.
 fn machine_of(alloc: Global, text: &str, step: &str) -> Result<Machine, Fail> {
     let whole = format!(in alloc; "{text}{step}\n}}\n")?;
-    match read_c(alloc, whole.as_bytes()) {
-        Ok(checked) => Ok(Machine::new(alloc, checked)?),
-        Err(ReadCFault::Refused(_)) => Err("the text is refused".into()),
-        Err(ReadCFault::Memory) => Err("memory".into()),
-    }
+    let checked = read_c(alloc, whole.as_bytes())?;
+    Ok(Machine::new(alloc, checked)?)
+}
+
+// The machine of `RINGS` where the number begins with 1.
+fn set_rings(alloc: Global, step: &str) -> Result<Machine, Fail> {
+    let (before, behind) = RINGS
+        .split_once("(int32_t)INT64_C(0));")
+        .ok_or("there is no start")?;
+    let text = format!(in alloc; "{before}(int32_t)INT64_C(1));{behind}")?;
+    machine_of(alloc, &text, step)
 }
 
 // A tick of a program without inputs and with one output, and that output.
@@ -155,9 +152,7 @@ void root_start(struct root *s) {
 void root_step(struct root *s) { }
 ";
     let alloc = rt.alloc();
-    let Ok(checked) = read_c(alloc, text.as_bytes()) else {
-        return Err("the text is refused".into());
-    };
+    let checked = read_c(alloc, text.as_bytes())?;
     let at = Stuck {
         line: 4,
         why: Why::Range,
@@ -174,8 +169,9 @@ void root_step(struct root *s) { }
 fn calls_inside_calls(rt: HostRuntime) -> Result<(), Fail> {
     let step = "  mid_out1(&s->m);\n  leaf_update(&s->n);";
     let mut machine = machine_of(rt.alloc(), NESTED, step)?;
-    assert!(rt; takes(&mut machine, 8, 3, 9));
-    assert!(rt; takes(&mut machine, 10, 3, 9));
+    for steps in [8, 10] {
+        assert!(rt; takes(&mut machine, steps, 3, 9), "{steps}");
+    }
     assert!(rt; sticks(&mut machine, 7, Why::Range));
     for (instance, name, number) in [
         (1, "a", 5),
@@ -202,8 +198,8 @@ fn items_of_arrays(rt: HostRuntime) -> Result<(), Fail> {
     let mut machine = machine_of(rt.alloc(), RINGS, step)?;
     assert!(rt; takes(&mut machine, 5, 1, 60));
     assert_eq!(rt; machine.field(1, b"w"), Some(60));
-    assert_eq!(rt; machine.field(1, b"a"), None);
-    assert_eq!(rt; machine.child(1, b"a"), None);
+    let array = (machine.field(1, b"a"), machine.child(1, b"a"));
+    assert_eq!(rt; array, (None, None));
     assert!(rt; sticks(&mut machine, 5, Why::Index));
     assert_eq!(rt; machine.field(1, b"w"), Some(60));
     Ok(())
@@ -212,8 +208,7 @@ fn items_of_arrays(rt: HostRuntime) -> Result<(), Fail> {
 // The item at 1 is 60, then 120, and 180 is out of its type.
 #[test]
 fn items_in_their_type(rt: HostRuntime) -> Result<(), Fail> {
-    let text = set_rings(rt.alloc())?;
-    let mut machine = machine_of(rt.alloc(), &text, "  ring_update(&s->r);")?;
+    let mut machine = set_rings(rt.alloc(), "  ring_update(&s->r);")?;
     assert!(rt; takes(&mut machine, 4, 1, 0));
     assert!(rt; takes(&mut machine, 4, 1, 0));
     assert!(rt; sticks(&mut machine, 5, Why::Range));
@@ -224,12 +219,17 @@ fn items_in_their_type(rt: HostRuntime) -> Result<(), Fail> {
 // With 1 the index is one of a's, and the value is stuck; with -59 the index is stuck first.
 #[test]
 fn indices_before_values(rt: HostRuntime) -> Result<(), Fail> {
-    let mut machine = machine_of(rt.alloc(), RINGS, "  ring_out1(&s->r);")?;
-    assert!(rt; sticks(&mut machine, 11, Why::ZeroDivisor));
-    assert_eq!(rt; machine.field(1, b"w"), Some(1));
-    let step = "  ring_update(&s->r);\n  ring_out1(&s->r);";
-    let mut other = machine_of(rt.alloc(), RINGS, step)?;
-    assert!(rt; sticks(&mut other, 11, Why::Index));
-    assert_eq!(rt; other.field(1, b"w"), Some(-59));
+    for (step, why, number) in [
+        ("  ring_out1(&s->r);", Why::ZeroDivisor, 1),
+        (
+            "  ring_update(&s->r);\n  ring_out1(&s->r);",
+            Why::Index,
+            -59,
+        ),
+    ] {
+        let mut machine = machine_of(rt.alloc(), RINGS, step)?;
+        assert!(rt; sticks(&mut machine, 11, why), "{step}");
+        assert_eq!(rt; machine.field(1, b"w"), Some(number), "{step}");
+    }
     Ok(())
 }

@@ -156,16 +156,34 @@ fn a_switch_at_an_end_of_a_type_asks_nothing(rt: HostRuntime) -> Result<(), Fail
     Ok(())
 }
 
+/// The field in which the first of these statements stores a number.
+fn stored_first(statements: &[Stmt]) -> Option<u32> {
+    match statements.first() {
+        Some(Stmt::Set { field, .. }) => Some(*field),
+        _ => None,
+    }
+}
+
 #[test]
 fn a_value_is_stored_once(rt: HostRuntime) -> Result<(), Fail> {
     let alloc = rt.alloc();
     let always = value_statements(alloc, 4, None, Expr::Literal(1))?;
-    assert!(rt; matches!(always.first(), Some(Stmt::Set { field: 4, .. })));
-    let memory = memory_statements(alloc, 5, None, Leaf::Param(1), None, 7)?;
-    assert!(rt; matches!(memory.first(), Some(Stmt::Set { field: 5, .. })));
-    let level = trigger_statements(alloc, 6, Leaf::Param(2))?;
-    assert!(rt; matches!(level.first(), Some(Stmt::Set { field: 6, .. })));
+    assert_eq!(rt; stored_first(&always), Some(4));
     assert!(rt; value_reset_statements(alloc, 4, None, 7)?.is_empty());
+    Ok(())
+}
+
+#[test]
+fn a_memory_is_stored(rt: HostRuntime) -> Result<(), Fail> {
+    let memory = memory_statements(rt.alloc(), 5, None, Leaf::Param(1), None, 7)?;
+    assert_eq!(rt; stored_first(&memory), Some(5));
+    Ok(())
+}
+
+#[test]
+fn a_level_is_stored(rt: HostRuntime) -> Result<(), Fail> {
+    let level = trigger_statements(rt.alloc(), 6, Leaf::Param(2))?;
+    assert_eq!(rt; stored_first(&level), Some(6));
     Ok(())
 }
 

@@ -20,26 +20,37 @@ fn of_first(alloc: Global, position: u32) -> Result<Expr, Memory> {
     Ok(Expr::Pure(position, values))
 }
 
-/// Four functions, of which the one procedure calls the last, and that one the second.
-fn program(alloc: Global) -> Result<Program, Memory> {
-    let pure = vec![in alloc;
-        function(alloc, b"a", Expr::Literal(1))?,
-        function(alloc, b"b", Expr::Literal(2))?,
-        function(alloc, b"c", of_first(alloc, 0)?)?,
-        function(alloc, b"d", of_first(alloc, 1)?)?,
-    ]?;
+/// Four functions, of which the third calls the first and the last the second.
+fn functions(alloc: Global) -> Result<Vec<Pure>, Memory> {
+    let mut functions = Vec::new(alloc);
+    functions.push(function(alloc, b"a", Expr::Literal(1))?)?;
+    functions.push(function(alloc, b"b", Expr::Literal(2))?)?;
+    functions.push(function(alloc, b"c", of_first(alloc, 0)?)?)?;
+    functions.push(function(alloc, b"d", of_first(alloc, 1)?)?)?;
+    Ok(functions)
+}
+
+/// A procedure that stores what the last of them gives.
+fn step(alloc: Global) -> Result<Procedure, Memory> {
+    let name = Text::copy_of(alloc, b"root_step")?;
     let store = Stmt::Set {
         line: 0,
         field: 0,
         value: of_first(alloc, 3)?,
     };
-    let step = Procedure {
-        name: Text::copy_of(alloc, b"root_step")?,
+    Ok(Procedure {
+        name,
         private: false,
         of: 0,
         params: Vec::new(alloc),
         body: vec![in alloc; store]?,
-    };
+    })
+}
+
+/// The program of these functions and this procedure.
+fn program(alloc: Global) -> Result<Program, Memory> {
+    let pure = functions(alloc)?;
+    let step = step(alloc)?;
     Ok(Program {
         pure,
         structs: Vec::new(alloc),
@@ -54,9 +65,15 @@ fn two_functions_stay(rt: HostRuntime) -> Result<(), Fail> {
     let [second, last] = kept.pure.as_slice() else {
         return Err(Fail::from("two functions"));
     };
-    assert_eq!(rt; second.name.bytes(), b"b".as_slice());
-    assert_eq!(rt; last.name.bytes(), b"d".as_slice());
+    let names = (second.name.bytes(), last.name.bytes());
+    assert_eq!(rt; names, (b"b".as_slice(), b"d".as_slice()));
     assert!(rt; matches!(last.body, Expr::Pure(0, _)));
+    Ok(())
+}
+
+#[test]
+fn a_procedure_calls_by_the_new_position(rt: HostRuntime) -> Result<(), Fail> {
+    let kept = pruned(rt.alloc(), program(rt.alloc())?)?;
     let [step] = kept.procedures.as_slice() else {
         return Err(Fail::from("one procedure"));
     };

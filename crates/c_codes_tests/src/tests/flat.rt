@@ -4,7 +4,7 @@ ghost use Rattle.mc_diagram.specs.Nested.{Agrees, row_of, system_of};
 ghost use Rattle.mc_diagram.specs.ResolvedTree.{diagram_of, IsResolvedTree};
 ghost use Rattle.mc_diagram.specs.Rows.{subsystems_of};
 
-use super::resolved;
+use super::{name_and_count, resolved};
 use c_codes::{emit_system, schedule_of_system};
 use c_shape::SystemCode;
 use mc_depend::find_loop;
@@ -55,21 +55,25 @@ fn flat_code(alloc: Global, r: &Resolved) -> Result<SystemCode, Fail>
     Ok(emit_system(alloc, &local, &profile, &schedule)?)
 }
 
+/// The code of the root of a model of these parts, which has no subsystem and no loop.
+fn code_of(alloc: Global, parts: &str) -> Result<SystemCode, Fail> {
+    let r = resolved(alloc, parts)?;
+    let None = find_loop(alloc, &r)? else {
+        return Err("there is a loop".into());
+    };
+    flat_code(alloc, &r)
+}
+
 // Three times the input, and the input of the tick before, by two functions that share no node: of the values that the rows
 // have, those of both Outports are the outputs.
 #[test]
 fn two_functions(rt: HostRuntime) -> Result<(), Fail> {
-    let r = resolved(
+    let code = code_of(
         rt.alloc(),
         "Inport a OutDataTypeStr=int32; Gain g Gain=3; UnitDelay d; Outport o1; Outport o2 Port=2; \
          a 1 > g 1; a 1 > d 1; g 1 > o1 1; d 1 > o2 1",
     )?;
-    let None = find_loop(rt.alloc(), &r)? else {
-        return Err("there is a loop".into());
-    };
-    let code = flat_code(rt.alloc(), &r)?;
-    assert_eq!(rt; code.structure.name.bytes(), b"top".as_slice());
+    assert_eq!(rt; name_and_count(&code), (b"top".as_slice(), 7));
     assert_eq!(rt; code.outputs.as_slice(), [3, 4].as_slice());
-    assert_eq!(rt; code.procedures.len(), 7);
     Ok(())
 }

@@ -1,25 +1,32 @@
 use super::{END, LARGE_BEFORE_A_BODY, LARGE_BEFORE_A_FIELD, field_fault, refused};
 use crate::texts::joined;
+use c_checked::Checked;
 use c_reader::read_c;
 use c_syntax::CKind::{Name, Syntax, TypeRule};
 use c_syntax::{CType, FieldKind};
+use std::alloc::Global;
 use std::test::Fail;
+
+// The larger text with this field, as it is read.
+fn read_with_field(alloc: Global, field: &[u8]) -> Result<Checked, Fail> {
+    let text = joined(
+        alloc,
+        &[LARGE_BEFORE_A_FIELD, field, LARGE_BEFORE_A_BODY, END],
+    )?;
+    Ok(read_c(alloc, &text)?)
+}
 
 #[test]
 fn an_array_has_its_length(rt: HostRuntime) -> Result<(), Fail> {
-    let parts = &[
-        LARGE_BEFORE_A_FIELD,
-        b"uint8_t a[7];",
-        LARGE_BEFORE_A_BODY,
-        END,
-    ];
-    let text = joined(rt.alloc(), parts)?;
-    let checked = read_c(rt.alloc(), &text)?;
-    let root = checked.program().structs.as_slice().get(1).ok_or("root")?;
-    assert_eq!(rt; root.fields.len(), 4);
-    let array = root.fields.as_slice().get(3).ok_or("array")?;
-    assert_eq!(rt; array.kind, FieldKind::Array(CType::U8, 7));
-    assert_eq!(rt; checked.outputs(), 1);
+    let checked = read_with_field(rt.alloc(), b"uint8_t a[7];")?;
+    let [_, root] = checked.program().structs.as_slice() else {
+        return Err("root".into());
+    };
+    let [_, _, _, array] = root.fields.as_slice() else {
+        return Err("array".into());
+    };
+    let found = (array.kind, checked.outputs());
+    assert_eq!(rt; found, (FieldKind::Array(CType::U8, 7), 1));
     Ok(())
 }
 

@@ -1,5 +1,6 @@
 use super::{body_fault, cut_in_statement, parse_fault, refused};
 use crate::texts::joined;
+use c_grammar::ReadCFault;
 use c_syntax::CKind::{Deep, Syntax};
 use std::alloc::{AllocError, Global};
 use std::test::Fail;
@@ -58,12 +59,15 @@ fn chain_of_items(alloc: Global, count: usize) -> Result<Vec<u8>, AllocError> {
     )
 }
 
+// The fault of the larger text with such a chain.
+fn chain_fault(alloc: Global, count: usize) -> Result<Option<ReadCFault>, AllocError> {
+    let chain = chain_of_items(alloc, count)?;
+    body_fault(alloc, &chain)
+}
+
 #[test]
 fn an_index_is_one_deeper_than_its_leaf(rt: HostRuntime) -> Result<(), Fail> {
-    let alloc = rt.alloc();
-    let body = chain_of_items(alloc, 99)?;
-    assert_eq!(rt; body_fault(alloc, &body)?, None);
-    let body = chain_of_items(alloc, 100)?;
-    assert_eq!(rt; body_fault(alloc, &body)?, refused(111, Deep));
+    assert_eq!(rt; chain_fault(rt.alloc(), 99)?, None);
+    assert_eq!(rt; chain_fault(rt.alloc(), 100)?, refused(111, Deep));
     Ok(())
 }

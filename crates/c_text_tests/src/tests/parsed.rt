@@ -1,4 +1,4 @@
-use c_grammar::{WrittenExpr, WrittenKind, WrittenStmt};
+use c_grammar::{WrittenExpr, WrittenKind, WrittenProgram, WrittenStmt};
 use c_parser::parse_c;
 use c_syntax::CType;
 use std::test::Fail;
@@ -28,38 +28,61 @@ fn length_of(kind: WrittenKind) -> Option<(CType, u64)> {
 }
 
 #[test]
-fn a_ring(rt: HostRuntime) -> Result<(), Fail> {
+fn fields_of_a_ring(rt: HostRuntime) -> Result<(), Fail> {
     let program = parse_c(rt.alloc(), RING)?;
-    let root = &program.structs[1];
-    assert_eq!(rt; root.fields.len(), 3);
-    assert_eq!(rt; root.fields[1].line, 5);
-    assert_eq!(rt; root.fields[1].name, b"ring".as_slice());
-    assert_eq!(rt; length_of(root.fields[0].kind), None);
-    assert_eq!(rt; length_of(root.fields[1].kind), Some((CType::U8, 16)));
-    assert_eq!(rt; length_of(root.fields[2].kind), None);
-    let body = &program.procedures[1].body;
-    assert_eq!(rt; body.len(), 2);
-    let WrittenStmt::SetAt {
-        line,
-        field,
-        index: WrittenExpr::Neg(_),
-        cast,
-        value: WrittenExpr::Read { .. },
-    } = &body[0]
-    else {
-        return Err("a store in an item".into());
+    let [before, ring, behind] = program.structs[1].fields.as_slice() else {
+        return Err("three fields".into());
     };
-    assert_eq!(rt; *line, 10);
-    assert_eq!(rt; *field, b"ring".as_slice());
-    assert_eq!(rt; *cast, CType::U8);
-    let WrittenStmt::Set {
-        value: WrittenExpr::Item { line, field, .. },
-        ..
-    } = &body[1]
-    else {
-        return Err("a store of an item".into());
+    assert_eq!(rt; (ring.line, ring.name), (5, b"ring".as_slice()));
+    let lengths = [
+        length_of(before.kind),
+        length_of(ring.kind),
+        length_of(behind.kind),
+    ];
+    assert_eq!(rt; lengths, [None, Some((CType::U8, 16)), None]);
+    Ok(())
+}
+
+// The line, the array and the cast of a store in an item whose index is a negative and whose value is a leaf.
+fn store_in_item<'a>(statement: &WrittenStmt<'a>) -> Option<(u32, &'a [u8], CType)> {
+    match statement {
+        WrittenStmt::SetAt {
+            line,
+            field,
+            index: WrittenExpr::Neg(_),
+            cast,
+            value: WrittenExpr::Read { .. },
+        } => Some((*line, *field, *cast)),
+        _ => None,
+    }
+}
+
+// The line and the array of an item that is stored.
+fn stored_item<'a>(statement: &WrittenStmt<'a>) -> Option<(u32, &'a [u8])> {
+    match statement {
+        WrittenStmt::Set {
+            value: WrittenExpr::Item { line, field, .. },
+            ..
+        } => Some((*line, *field)),
+        _ => None,
+    }
+}
+
+// Both statements of the program's second procedure.
+fn stores<'a>(program: &WrittenProgram<'a>) -> Option<((u32, &'a [u8], CType), (u32, &'a [u8]))> {
+    let [_, step] = program.procedures.as_slice() else {
+        return None;
     };
-    assert_eq!(rt; *line, 13);
-    assert_eq!(rt; *field, b"ring".as_slice());
+    let [first, second] = step.body.as_slice() else {
+        return None;
+    };
+    Some((store_in_item(first)?, stored_item(second)?))
+}
+
+#[test]
+fn stores_of_a_ring(rt: HostRuntime) -> Result<(), Fail> {
+    let program = parse_c(rt.alloc(), RING)?;
+    let ring = b"ring".as_slice();
+    assert_eq!(rt; stores(&program), Some(((10, ring, CType::U8), (13, ring))));
     Ok(())
 }

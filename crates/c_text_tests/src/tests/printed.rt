@@ -7,7 +7,8 @@ use c_printer::print;
 use c_reader::read_c;
 use c_syntax::{CType, Expr, Field, FieldKind, Leaf, Procedure, Program, Stmt, StructDef};
 use mc_base::{Memory, Text};
-use std::alloc::Global;
+use std::alloc::{AllocError, Global};
+use std::fmt::Write;
 use std::test::Fail;
 
 const EACH_FORM: &[u8] = b"#include <stdint.h>
@@ -48,44 +49,43 @@ void root_step(struct root *s, int32_t u1) {
 }
 ";
 
-// The body of its pure function as it is read.
-const CHOSEN: &str = "Pick(\
-    Either(Compare(Gt, Read(Param(0)), Read(Param(1))), \
-    Not(Compare(Eq, Read(Param(0)), Neg(Literal(5))))), \
-    Read(Param(0)), Binary(Rem, Read(Param(1)), Literal(2)))";
+// The bodies of its pure function and its procedures as they are read.
+const BODIES: &str = "\
+Pick(\
+Either(Compare(Gt, Read(Param(0)), Read(Param(1))), \
+Not(Compare(Eq, Read(Param(0)), Neg(Literal(5))))), \
+Read(Param(0)), Binary(Rem, Read(Param(1)), Literal(2)))
+[Set { line: 18, field: 0, value: Pure(0, [Read(Param(0)), Literal(3)]) }]
+[Call { line: 22, procedure: 0, target: Child(0), values: [Literal(9)] }, \
+Set { line: 23, field: 1, value: Literal(0) }]
+[If { line: 27, test: \
+Both(Compare(Le, Read(Child(0, 0)), Read(Param(0))), \
+Compare(Lt, Read(Param(0)), Literal(9))), \
+yes: [Set { line: 28, field: 1, value: Binary(Add, Read(Own(1)), Read(Param(0))) }], \
+no: [Call { line: 30, procedure: 1, target: Own, values: [] }] }, \
+If { line: 32, test: Compare(Ne, Read(Own(1)), Literal(1)), \
+yes: [Set { line: 33, field: 1, value: Binary(Mul, Read(Own(1)), Literal(2)) }], no: [] }, \
+SetAt { line: 35, field: 2, index: Binary(Add, At(2, Literal(0)), Literal(1)), \
+value: At(2, Literal(65534)) }]
+";
 
-// The bodies of its procedures as they are read.
-const COUNTER_START: &str =
-    "[Set { line: 18, field: 0, value: Pure(0, [Read(Param(0)), Literal(3)]) }]";
-
-const ROOT_START: &str = "[\
-    Call { line: 22, procedure: 0, target: Child(0), values: [Literal(9)] }, \
-    Set { line: 23, field: 1, value: Literal(0) }]";
-
-const ROOT_STEP: &str = "[\
-    If { line: 27, test: \
-    Both(Compare(Le, Read(Child(0, 0)), Read(Param(0))), \
-    Compare(Lt, Read(Param(0)), Literal(9))), \
-    yes: [Set { line: 28, field: 1, value: Binary(Add, Read(Own(1)), Read(Param(0))) }], \
-    no: [Call { line: 30, procedure: 1, target: Own, values: [] }] }, \
-    If { line: 32, test: Compare(Ne, Read(Own(1)), Literal(1)), \
-    yes: [Set { line: 33, field: 1, value: Binary(Mul, Read(Own(1)), Literal(2)) }], no: [] }, \
-    SetAt { line: 35, field: 2, index: Binary(Add, At(2, Literal(0)), Literal(1)), \
-    value: At(2, Literal(65534)) }]";
+// The bodies of a program's pure functions and of its procedures, each on a line.
+fn bodies(alloc: Global, program: &Program) -> Result<String, AllocError> {
+    let mut bodies = String::new(alloc);
+    for function in &program.pure {
+        writeln!(bodies, "{:?}", function.body)?;
+    }
+    for procedure in &program.procedures {
+        writeln!(bodies, "{:?}", procedure.body)?;
+    }
+    Ok(bodies)
+}
 
 #[test]
 fn each_form_is_read(rt: HostRuntime) -> Result<(), Fail> {
-    let alloc = rt.alloc();
-    let checked = read_c(alloc, EACH_FORM)?;
-    let program = checked.program();
-    let chosen = program.pure.first().ok_or("a pure function")?;
-    let read = format!(in alloc; "{:?}", chosen.body)?;
-    assert_eq!(rt; read.as_str(), CHOSEN);
-    for (k, body) in [COUNTER_START, ROOT_START, ROOT_STEP].iter().enumerate() {
-        let procedure = program.procedures.get(k).ok_or("a procedure")?;
-        let read = format!(in alloc; "{:?}", procedure.body)?;
-        assert_eq!(rt; read.as_str(), *body);
-    }
+    let checked = read_c(rt.alloc(), EACH_FORM)?;
+    let read = bodies(rt.alloc(), checked.program())?;
+    assert_eq!(rt; read.as_str(), BODIES);
     Ok(())
 }
 
@@ -149,15 +149,21 @@ fn one_param(alloc: Global, name: &[u8], ty: CType) -> Result<Vec<(Text, CType)>
     Ok(vec![in alloc; (Text::copy_of(alloc, name)?, ty)]?)
 }
 
-// The root's output is its input.
-fn small(alloc: Global) -> Result<Program, Memory>
-    ensures { IfOk result (λ p. program_tree p ≡ small_program) }
+fn structs(alloc: Global) -> Result<Vec<StructDef>, Memory>
+    ensures { IfOk result (λ structs. structs.items ≡ small_program.structs) }
 {
     let y1 = field(alloc, b"y1", FieldKind::Number(CType::I32))?;
-    let root = StructDef {
-        name: Text::copy_of(alloc, b"root")?,
-        fields: vec![in alloc; y1]?,
-    };
+    let name = Text::copy_of(alloc, b"root")?;
+    let fields = vec![in alloc; y1]?;
+    Ok(vec![in alloc; StructDef { name, fields }]?)
+}
+
+fn procedures(alloc: Global) -> Result<Vec<Procedure>, Memory>
+    ensures { IfOk result (λ procedures. map procedure_tree procedures.items ≡ small_program.procedures) }
+{
+    let params = one_param(alloc, b"u1", CType::I32)?;
+    let body = vec![in alloc; set(0, Expr::Read(Leaf::Param(0)))]?;
+    let step = procedure(alloc, b"root_step", false, 0, params, body)?;
     let start = procedure(
         alloc,
         b"root_start",
@@ -166,13 +172,19 @@ fn small(alloc: Global) -> Result<Program, Memory>
         Vec::new(alloc),
         Vec::new(alloc),
     )?;
-    let params = one_param(alloc, b"u1", CType::I32)?;
-    let body = vec![in alloc; set(0, Expr::Read(Leaf::Param(0)))]?;
-    let step = procedure(alloc, b"root_step", false, 0, params, body)?;
+    Ok(vec![in alloc; start, step]?)
+}
+
+// The root's output is its input.
+fn small(alloc: Global) -> Result<Program, Memory>
+    ensures { IfOk result (λ p. program_tree p ≡ small_program) }
+{
+    let structs = structs(alloc)?;
+    let procedures = procedures(alloc)?;
     Ok(Program {
         pure: Vec::new(alloc),
-        structs: vec![in alloc; root]?,
-        procedures: vec![in alloc; start, step]?,
+        structs,
+        procedures,
     })
 }
 

@@ -1,5 +1,6 @@
-use super::{read_fault, refused};
-use c_grammar::ReadCFault;
+use super::{END, read_fault, refused};
+use crate::texts::joined;
+use c_grammar::{ReadCFault, WrittenProcedure};
 use c_parser::parse_c;
 use c_reader::read_c;
 use c_syntax::CKind;
@@ -56,51 +57,48 @@ void root_step(struct root *s) { }
 
 // The fault of a text where this is the body of `root_step`, on line 5.
 fn fault_in(alloc: Global, body: &[u8]) -> Result<Option<ReadCFault>, AllocError> {
-    let mut text = BEFORE_A_BODY.to_vec(alloc)?;
-    text.extend_from_slice(body)?;
-    text.extend_from_slice(b"\n}\n")?;
-    Ok(read_fault(alloc, text.as_slice()))
+    let text = joined(alloc, &[BEFORE_A_BODY, body, END])?;
+    Ok(read_fault(alloc, &text))
 }
 
 #[test]
 fn a_whole_program(rt: HostRuntime) -> Result<(), Fail> {
     let checked = read_c(rt.alloc(), WHOLE)?;
-    assert_eq!(rt; checked.outputs(), 2);
-    let inputs = checked.inputs();
-    assert_eq!(rt; inputs.len(), 2);
-    assert_eq!(rt; inputs[0].bits, 8);
-    assert!(rt; inputs[0].signed);
-    assert_eq!(rt; inputs[1].bits, 16);
-    assert!(rt; !inputs[1].signed);
-    assert_eq!(rt; checked.procedure(b"root_step"), Some(2));
-    assert_eq!(rt; checked.procedure(b"half"), None);
-    assert_eq!(rt; checked.program().structs.len(), 2);
+    let structs = checked.program().structs.len();
+    assert_eq!(rt; (checked.outputs(), structs), (2, 2));
+    let [first, second] = checked.inputs() else {
+        return Err("two inputs".into());
+    };
+    let inputs = [(first.bits, first.signed), (second.bits, second.signed)];
+    assert_eq!(rt; inputs, [(8, true), (16, false)]);
+    let procedures = (checked.procedure(b"root_step"), checked.procedure(b"half"));
+    assert_eq!(rt; procedures, (Some(2), None));
     Ok(())
 }
 
 #[test]
 fn names_that_are_not_there(rt: HostRuntime) -> Result<(), Fail> {
-    let alloc = rt.alloc();
-    let read = fault_in(alloc, b"s->y1 = (int32_t)(int64_t)u1;")?;
-    assert_eq!(rt; read, None);
-    let parameter = fault_in(alloc, b"s->y1 =\n(int32_t)(int64_t)u2;")?;
-    assert_eq!(rt; parameter, refused(6, CKind::Name));
-    let field = fault_in(alloc, b"s->y2 = (int32_t)(int64_t)u1;")?;
-    assert_eq!(rt; field, refused(5, CKind::Name));
-    let procedure = fault_in(alloc, b"root_step(s, (int8_t)INT64_C(0));")?;
-    assert_eq!(rt; procedure, refused(5, CKind::Name));
+    for (body, expected) in [
+        ("s->y1 = (int32_t)(int64_t)u1;", None),
+        ("s->y1 =\n(int32_t)(int64_t)u2;", refused(6, CKind::Name)),
+        ("s->y2 = (int32_t)(int64_t)u1;", refused(5, CKind::Name)),
+        ("root_step(s, (int8_t)INT64_C(0));", refused(5, CKind::Name)),
+    ] {
+        assert_eq!(rt; fault_in(rt.alloc(), body.as_bytes())?, expected, "{body}");
+    }
     Ok(())
 }
 
 #[test]
 fn types_that_differ(rt: HostRuntime) -> Result<(), Fail> {
-    let alloc = rt.alloc();
-    let store = fault_in(alloc, b"s->v1 = (int32_t)(int64_t)u2;")?;
-    assert_eq!(rt; store, refused(5, CKind::TypeRule));
-    let struct_leaf = fault_in(alloc, b"s->y1 = (int32_t)(int64_t)s->v1.v2;")?;
-    assert_eq!(rt; struct_leaf, refused(5, CKind::TypeRule));
-    let argument = fault_in(alloc, b"root_start(s,\n(int8_t)(int64_t)u2);")?;
-    assert_eq!(rt; argument, refused(5, CKind::TypeRule));
+    for (body, line) in [
+        ("s->v1 = (int32_t)(int64_t)u2;", 5),
+        ("s->y1 = (int32_t)(int64_t)s->v1.v2;", 5),
+        ("root_start(s,\n(int8_t)(int64_t)u2);", 5),
+    ] {
+        let fault = fault_in(rt.alloc(), body.as_bytes())?;
+        assert_eq!(rt; fault, refused(line, CKind::TypeRule), "{body}");
+    }
     Ok(())
 }
 
@@ -145,17 +143,20 @@ fn minuses(alloc: Global, count: usize) -> Result<Vec<u8>, AllocError> {
     Ok(text)
 }
 
+// The line and the name of a procedure, and how many parameters and statements it has.
+fn outline<'a>(procedure: &WrittenProcedure<'a>) -> (u32, &'a [u8], usize, usize) {
+    let params = procedure.params.len();
+    (procedure.line, procedure.name, params, procedure.body.len())
+}
+
 #[test]
 fn a_division(rt: HostRuntime) -> Result<(), Fail> {
     let program = parse_c(rt.alloc(), DIVISION)?;
-    assert_eq!(rt; program.pures.len(), 0);
-    assert_eq!(rt; program.structs.len(), 1);
-    assert_eq!(rt; program.procedures.len(), 2);
-    let step = &program.procedures[1];
-    assert_eq!(rt; step.line, 4);
-    assert_eq!(rt; step.name, b"root_step".as_slice());
-    assert_eq!(rt; step.params.len(), 1);
-    assert_eq!(rt; step.body.len(), 1);
+    let [_, step] = program.procedures.as_slice() else {
+        return Err("two procedures".into());
+    };
+    assert_eq!(rt; outline(step), (4, b"root_step".as_slice(), 1, 1));
+    assert_eq!(rt; (program.pures.len(), program.structs.len()), (0, 1));
     Ok(())
 }
 

@@ -53,6 +53,11 @@ fn compiled(alloc: Global, parts: &str) -> Result<Compiled, Fail> {
     }
 }
 
+/// How many rows a model has, how many systems, and how many output functions these have in all.
+fn counts(compiled: &Compiled) -> [u32; 3] {
+    [compiled.rows, compiled.systems, compiled.functions]
+}
+
 // What the rules accept is compiled, whatever its kinds, its systems and its rates.
 #[test]
 fn accepted_or_refused(rt: HostRuntime) -> Result<(), Fail> {
@@ -99,9 +104,7 @@ fn what_one_system_has(rt: HostRuntime) -> Result<(), Fail> {
         "Inport a Port=2 OutDataTypeStr=int16; Inport b OutDataTypeStr=uint8; UnitDelay d; Outport p; Outport q Port=2; \
          a 1 > p 1; b 1 > d 1; d 1 > q 1",
     )?;
-    assert_eq!(rt; compiled.rows, 5);
-    assert_eq!(rt; compiled.systems, 1);
-    assert_eq!(rt; compiled.functions, 2);
+    assert_eq!(rt; counts(&compiled), [5, 1, 2]);
     assert_eq!(rt; compiled.inputs.as_slice(), [UINT8, INT16].as_slice());
     Ok(())
 }
@@ -115,9 +118,7 @@ fn what_two_systems_have(rt: HostRuntime) -> Result<(), Fail> {
          SubSystem s {; Inport x1; Inport x2 Port=2; Outport y1; Outport y2 Port=2; x1 1 > y1 1; x2 1 > y2 1; }; \
          Outport o; a 1 > s 1; s 1 > s 2; s 2 > o 1",
     )?;
-    assert_eq!(rt; compiled.rows, 7);
-    assert_eq!(rt; compiled.systems, 2);
-    assert_eq!(rt; compiled.functions, 3);
+    assert_eq!(rt; counts(&compiled), [7, 2, 3]);
     assert_eq!(rt; compiled.inputs.as_slice(), [INT32].as_slice());
     Ok(())
 }
@@ -131,9 +132,7 @@ fn what_a_controlled_system_has(rt: HostRuntime) -> Result<(), Fail> {
          Inport c Port=3 OutDataTypeStr=boolean; Inport b Port=2 OutDataTypeStr=boolean; Inport a OutDataTypeStr=int32; \
          Outport o; a 1 > s 1; b 1 > s enable; c 1 > s trigger; s 1 > o 1",
     )?;
-    assert_eq!(rt; compiled.rows, 9);
-    assert_eq!(rt; compiled.systems, 2);
-    assert_eq!(rt; compiled.functions, 2);
+    assert_eq!(rt; counts(&compiled), [9, 2, 2]);
     assert_eq!(rt;
         compiled.inputs.as_slice(),
         [INT32, BOOLEAN, BOOLEAN].as_slice()

@@ -25,29 +25,21 @@ fn bad(line: u32, why: ScriptWhy) -> BadCall {
 #[test]
 fn calls_are_read(rt: HostRuntime) {
     let mut into = [0, 0];
-    assert_eq!(rt; read_call(b"out 1 4", COUNTS, &mut into), Ok(out(1, 1)));
-    assert_eq!(rt; into[0], 4);
-    assert_eq!(rt;
-        read_call(b"\tout 2\t -9 ", COUNTS, &mut into),
-        Ok(out(2, 1))
-    );
-    assert_eq!(rt; into[0], -9);
-    assert_eq!(rt; read_call(b"update 4 9", COUNTS, &mut into), Ok(update(2)));
-    assert_eq!(rt; into, [4, 9]);
-    assert_eq!(rt;
-        read_call(b"out 1 2147483648", COUNTS, &mut into),
-        Ok(out(1, 1))
-    );
-    assert_eq!(rt; into[0], 2_147_483_648);
-    assert_eq!(rt;
-        read_call(
-            b"out 000000000000000002 999999999999999999",
-            COUNTS,
-            &mut into
+    for (text, call, numbers) in [
+        ("out 1 4", out(1, 1), [4].as_slice()),
+        ("\tout 2\t -9 ", out(2, 1), &[-9]),
+        ("update 4 9", update(2), &[4, 9]),
+        ("out 1 2147483648", out(1, 1), &[2_147_483_648]),
+        (
+            "out 000000000000000002 999999999999999999",
+            out(2, 1),
+            &[999_999_999_999_999_999],
         ),
-        Ok(out(2, 1))
-    );
-    assert_eq!(rt; into[0], 999_999_999_999_999_999);
+    ] {
+        let read = read_call(text.as_bytes(), COUNTS, &mut into);
+        let given = into.get(..numbers.len());
+        assert_eq!(rt; (read, given), (Ok(call), Some(numbers)), "{text}");
+    }
 }
 
 #[test]
@@ -127,42 +119,50 @@ fn long_lines_have_numbers(rt: HostRuntime) -> Result<(), Fail> {
 fn calls_follow_each_other(rt: HostRuntime) {
     let text = b"out 2 9\r\nout 1\nupdate 4 9";
     let mut into = [0, 0];
-    assert_eq!(rt;
-        next_call(text, 0, 0, COUNTS, &mut into),
-        Ok(Some((out(2, 1), 9)))
-    );
-    assert_eq!(rt; into[0], 9);
-    assert_eq!(rt;
-        next_call(text, 9, 1, COUNTS, &mut into),
-        Err(bad(2, ScriptWhy::Count(0)))
-    );
-    assert_eq!(rt; next_call(text, 15, 2, COUNTS, &mut into), Ok(None));
+    let first = next_call(text, 0, 0, COUNTS, &mut into);
+    assert_eq!(rt; (first, into[0]), (Ok(Some((out(2, 1), 9))), 9));
+    let second = next_call(text, 9, 1, COUNTS, &mut into);
+    assert_eq!(rt; second, Err(bad(2, ScriptWhy::Count(0))));
+    let third = next_call(text, 15, 2, COUNTS, &mut into);
+    assert_eq!(rt; third, Ok(None));
+}
+
+#[test]
+fn texts_of_no_call(rt: HostRuntime) {
+    let mut into = [0, 0];
     assert_eq!(rt; next_call(b"", 0, 0, COUNTS, &mut into), Ok(None));
     assert_eq!(rt;
         next_call(b"\n", 0, 0, COUNTS, &mut into),
         Err(bad(1, ScriptWhy::Form))
     );
-    assert_eq!(rt;
-        last_call(b"update 4 9", 2, COUNTS, &mut into),
-        Ok(Some(update(2)))
-    );
-    assert_eq!(rt; into, [4, 9]);
     assert_eq!(rt; last_call(b"", 3, COUNTS, &mut into), Ok(None));
-    assert_eq!(rt;
-        last_call(b"out 3 1", 2, COUNTS, &mut into),
-        Err(bad(3, ScriptWhy::NoFunction(3)))
-    );
+}
+
+#[test]
+fn last_calls_are_read(rt: HostRuntime) {
+    let mut into = [0, 0];
+    let last = last_call(b"update 4 9", 2, COUNTS, &mut into);
+    assert_eq!(rt; (last, into), (Ok(Some(update(2))), [4, 9]));
+    let other = last_call(b"out 3 1", 2, COUNTS, &mut into);
+    assert_eq!(rt; other, Err(bad(3, ScriptWhy::NoFunction(3))));
 }
 
 #[test]
 fn too_many_lines_are_told(rt: HostRuntime) {
     let mut into = [0, 0];
-    let many = bad(u32::MAX, ScriptWhy::Many);
     assert_eq!(rt;
         next_call(b"out 1 4\n", 0, u32::MAX, COUNTS, &mut into),
-        Err(many)
+        Err(bad(u32::MAX, ScriptWhy::Many))
     );
-    assert_eq!(rt; last_call(b"x", u32::MAX, COUNTS, &mut into), Err(many));
+    assert_eq!(rt;
+        last_call(b"x", u32::MAX, COUNTS, &mut into),
+        Err(bad(u32::MAX, ScriptWhy::Many))
+    );
+}
+
+#[test]
+fn as_many_lines_as_may_be(rt: HostRuntime) {
+    let mut into = [0, 0];
     assert_eq!(rt;
         next_call(b"out 1 4", 0, u32::MAX, COUNTS, &mut into),
         Ok(None)

@@ -40,106 +40,75 @@ fn shape(alloc: Global, parts: &str, word: &str) -> Result<DriveShape, Fail> {
     }
 }
 
+/// The name of a shape's system, its row, and after how many ticks the number of the tick begins at 0 again.
+fn system_of(shape: &DriveShape) -> (&[u8], Option<u32>, u32) {
+    (shape.name.bytes(), shape.profile.row, shape.hyper)
+}
+
 // Each output is of one function, which takes one input.
 #[test]
 fn shape_of_crossed_ports(rt: HostRuntime) -> Result<(), Fail> {
-    let DriveShape {
-        name,
-        profile,
-        inputs,
-        controls,
-        outputs,
-        hyper,
-    } = shape(rt.alloc(), CROSSED_PORTS, "1")?;
-    let Profile { row, functions } = profile;
-    assert_eq!(rt; name.bytes(), b"s1".as_slice());
-    assert_eq!(rt; row, Some(1));
-    assert_eq!(rt;
-        functions.as_slice(),
-        [
-            Function {
-                inputs: 0b01,
-                outputs: 0b01
-            },
-            Function {
-                inputs: 0b10,
-                outputs: 0b10
-            },
-        ]
-        .as_slice()
-    );
-    assert_eq!(rt; inputs.as_slice(), [INT32, INT32].as_slice());
-    assert_eq!(rt; controls.len(), 0);
-    assert_eq!(rt; outputs.len(), 2);
-    let first = outputs.as_slice().first().ok_or("no output")?;
-    let last = outputs.as_slice().last().ok_or("no output")?;
-    assert_eq!(rt; first.bytes(), b"v4".as_slice());
-    assert_eq!(rt; last.bytes(), b"v5".as_slice());
-    assert_eq!(rt; hyper, 1);
+    let whole = shape(rt.alloc(), CROSSED_PORTS, "1")?;
+    let shape = &whole;
+    assert_eq!(rt; system_of(shape), (b"s1".as_slice(), Some(1), 1));
+    let functions = [
+        Function {
+            inputs: 0b01,
+            outputs: 0b01,
+        },
+        Function {
+            inputs: 0b10,
+            outputs: 0b10,
+        },
+    ];
+    assert_eq!(rt; shape.profile.functions.as_slice(), functions.as_slice());
+    assert_eq!(rt; shape.inputs.as_slice(), [INT32, INT32].as_slice());
+    let [first, last] = shape.outputs.as_slice() else {
+        return Err("two outputs".into());
+    };
+    let found = (first.bytes(), last.bytes(), shape.controls.len());
+    assert_eq!(rt; found, (b"v4".as_slice(), b"v5".as_slice(), 0));
     Ok(())
 }
 
 // The one function takes the input and both controls, the enable first.
 #[test]
 fn shape_with_both_controls(rt: HostRuntime) -> Result<(), Fail> {
-    let DriveShape {
-        name,
-        profile,
-        inputs,
-        controls,
-        outputs,
-        hyper,
-    } = shape(rt.alloc(), BOTH_CONTROLS, "3")?;
-    let Profile { row, functions } = profile;
-    assert_eq!(rt; name.bytes(), b"s3".as_slice());
-    assert_eq!(rt; row, Some(3));
-    assert_eq!(rt;
-        functions.as_slice(),
-        [Function {
-            inputs: 1 | 1 << 32 | 1 << 33,
-            outputs: 1
-        }]
-        .as_slice()
-    );
-    assert_eq!(rt; inputs.as_slice(), [INT16].as_slice());
-    assert_eq!(rt;
-        controls.as_slice(),
-        [(Port::Enable, BOOLEAN), (Port::Trigger, UINT8)].as_slice()
-    );
-    assert_eq!(rt; outputs.len(), 1);
-    let first = outputs.as_slice().first().ok_or("no output")?;
-    assert_eq!(rt; first.bytes(), b"v7".as_slice());
-    assert_eq!(rt; hyper, 1);
+    let whole = shape(rt.alloc(), BOTH_CONTROLS, "3")?;
+    let shape = &whole;
+    assert_eq!(rt; system_of(shape), (b"s3".as_slice(), Some(3), 1));
+    let function = Function {
+        inputs: 1 | 1 << 32 | 1 << 33,
+        outputs: 1,
+    };
+    assert_eq!(rt; shape.profile.functions.as_slice(), [function].as_slice());
+    assert_eq!(rt; shape.inputs.as_slice(), [INT16].as_slice());
+    let controls = [(Port::Enable, BOOLEAN), (Port::Trigger, UINT8)];
+    assert_eq!(rt; shape.controls.as_slice(), controls.as_slice());
+    let [output] = shape.outputs.as_slice() else {
+        return Err("one output".into());
+    };
+    assert_eq!(rt; output.bytes(), b"v7".as_slice());
     Ok(())
 }
 
 // The root has no controls; its inputs are those of the file, by port.
 #[test]
 fn shape_of_a_root(rt: HostRuntime) -> Result<(), Fail> {
-    let DriveShape {
-        name,
-        profile,
-        inputs,
-        controls,
-        outputs,
-        hyper,
-    } = shape(rt.alloc(), BOTH_CONTROLS, "top")?;
-    let Profile { row, functions } = profile;
-    assert_eq!(rt; name.bytes(), b"top".as_slice());
-    assert_eq!(rt; row, None);
-    assert_eq!(rt;
-        functions.as_slice(),
-        [Function {
-            inputs: 0b111,
-            outputs: 1
-        }]
-        .as_slice()
-    );
-    assert_eq!(rt; inputs.as_slice(), [INT16, BOOLEAN, UINT8].as_slice());
-    assert_eq!(rt; controls.len(), 0);
-    assert_eq!(rt; outputs.len(), 1);
-    let first = outputs.as_slice().first().ok_or("no output")?;
-    assert_eq!(rt; first.bytes(), b"v8".as_slice());
-    assert_eq!(rt; hyper, 1);
+    let whole = shape(rt.alloc(), BOTH_CONTROLS, "top")?;
+    let shape = &whole;
+    assert_eq!(rt; system_of(shape), (b"top".as_slice(), None, 1));
+    let function = Function {
+        inputs: 0b111,
+        outputs: 1,
+    };
+    assert_eq!(rt; shape.profile.functions.as_slice(), [function].as_slice());
+    let inputs = [INT16, BOOLEAN, UINT8];
+    assert_eq!(rt; shape.inputs.as_slice(), inputs.as_slice());
+    let [output] = shape.outputs.as_slice() else {
+        return Err("one output".into());
+    };
+    let found = (output.bytes(), shape.controls.len());
+    assert_eq!(rt; found, (b"v8".as_slice(), 0));
     Ok(())
 }
