@@ -1,34 +1,11 @@
-ghost use Rattle.std.specs.Prelude.{ℕ, ◌<◌, IsTrue, length, slice_index_or};
-
-use mc_graph::{Graph, OrderFault, masks, order};
+use super::graph_of;
+use mc_graph::{OrderFault, masks, order};
 use std::alloc::Global;
 use std::test::Fail;
 
-/// The graph of these edges, where each of their ends is a node.
-fn graph(n: u32, edges: Vec<(u32, u32)>) -> Option<Graph> {
-    if are_inside(n, &edges) {
-        Some(Graph { n, edges })
-    } else {
-        None
-    }
-}
-
-/// Whether both ends of each edge are nodes.
-fn are_inside(n: u32, edges: &[(u32, u32)]) -> bool
-    ensures { IsTrue result → (k : ℕ) → k < length edges.now →
-        ((slice_index_or edges.now k (0, 0)).0 < n) × ((slice_index_or edges.now k (0, 0)).1 < n) }
-{
-    for edge in edges {
-        if edge.0 >= n || edge.1 >= n {
-            return false;
-        }
-    }
-    true
-}
-
 /// The order of the nodes of the graph of these edges.
 fn order_of(alloc: Global, n: u32, edges: Vec<(u32, u32)>) -> Result<Vec<u32>, Fail> {
-    let g = graph(n, edges).ok_or("an edge leaves the graph")?;
+    let g = graph_of(n, edges).ok_or("an edge leaves the graph")?;
     Ok(order(alloc, &g)?)
 }
 
@@ -82,7 +59,7 @@ fn the_least_node_that_may_stand_is_next(rt: HostRuntime) -> Result<(), Fail> {
 #[test]
 fn a_cycle_of_three_is_told(rt: HostRuntime) -> Result<(), Fail> {
     let edges = vec![in rt.alloc(); (0, 1), (1, 2), (2, 0)]?;
-    let g = graph(3, edges).ok_or("an edge leaves the graph")?;
+    let g = graph_of(3, edges).ok_or("an edge leaves the graph")?;
     let Err(OrderFault::Cycle(list)) = order(rt.alloc(), &g) else {
         return Err("no cycle is told".into());
     };
@@ -93,7 +70,7 @@ fn a_cycle_of_three_is_told(rt: HostRuntime) -> Result<(), Fail> {
 #[test]
 fn masks_meet_in_a_diamond(rt: HostRuntime) -> Result<(), Fail> {
     let edges = vec![in rt.alloc(); (0, 1), (0, 2), (1, 3), (2, 3)]?;
-    let g = graph(4, edges).ok_or("an edge leaves the graph")?;
+    let g = graph_of(4, edges).ok_or("an edge leaves the graph")?;
     assert_eq!(rt; g.n, 4);
     let unions = masks(rt.alloc(), &g, &[1, 2, 4, 0])?;
     assert_eq!(rt; unions.as_slice(), [1, 3, 5, 7].as_slice());

@@ -1,35 +1,11 @@
-ghost use Rattle.std.specs.Prelude.{ℕ, ◌<◌, IsTrue, length, slice_index_or};
-
+use super::graph_of;
 use mc_depend::find_in;
-use mc_graph::Graph;
 use std::alloc::Global;
 use std::test::Fail;
 
-/// The graph of these edges, where each of their ends is a node.
-fn graph(n: u32, edges: Vec<(u32, u32)>) -> Option<Graph> {
-    if are_inside(n, &edges) {
-        Some(Graph { n, edges })
-    } else {
-        None
-    }
-}
-
-/// Whether both ends of each edge are nodes.
-fn are_inside(n: u32, edges: &[(u32, u32)]) -> bool
-    ensures { IsTrue result → (k : ℕ) → k < length edges.now →
-        ((slice_index_or edges.now k (0, 0)).0 < n) × ((slice_index_or edges.now k (0, 0)).1 < n) }
-{
-    for edge in edges {
-        if edge.0 >= n || edge.1 >= n {
-            return false;
-        }
-    }
-    true
-}
-
 /// The loop that is told of the graph of these edges.
 fn loop_of(alloc: Global, n: u32, edges: Vec<(u32, u32)>) -> Result<Vec<u32>, Fail> {
-    let g = graph(n, edges).ok_or("an edge leaves the graph")?;
+    let g = graph_of(n, edges).ok_or("an edge leaves the graph")?;
     Ok(find_in(alloc, &g)?.ok_or("no loop is told")?)
 }
 
@@ -106,7 +82,7 @@ fn a_line_has_no_loop(rt: HostRuntime) -> Result<(), Fail> {
     for b in 1..20_000 {
         edges.push((b - 1, b))?;
     }
-    let g = graph(20_000, edges).ok_or("an edge leaves the graph")?;
+    let g = graph_of(20_000, edges).ok_or("an edge leaves the graph")?;
     assert!(rt; find_in(rt.alloc(), &g)?.is_none());
     Ok(())
 }

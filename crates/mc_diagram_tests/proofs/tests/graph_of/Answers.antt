@@ -1,6 +1,6 @@
 use Rattle.std.proofs.Common.{ℕ, ◌<◌, List, length, get_or, subst, refl}
 use Rattle.std.proofs.lemmas.List.Elements.{recursion_from_All, All-from_get_or}
-use Rattle.mc_diagram_tests.proofs.tests.loops.graph.Goals as goal
+use Rattle.mc_diagram_tests.proofs.tests.graph_of.Goals as goal
 
 pub invariant_of-result : goal.invariant_of-result
 invariant_of-result c = recursion_from_All (λ (edge : ℕ × ℕ). (edge.0 < c.args.n) × (edge.1 < c.args.n)) c.args.edges.items

@@ -1,5 +1,5 @@
 use Rattle.std.proofs.Common.{ℕ, ◌<◌, slice_index_or}
-use Rattle.mc_diagram_tests.proofs.tests.loops.are_inside.Given as goal
+use Rattle.mc_diagram_tests.proofs.tests.are_inside.Given as goal
 
 abbrev pub invariant-loop-edge : goal.invariant-loop-edge
 invariant-loop-edge l = (k : ℕ) → k < l.edge-index →
