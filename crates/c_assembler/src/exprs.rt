@@ -48,19 +48,19 @@ pub(crate) fn moved_expr(alloc: Global, links: &Links<'_>, e: &Expr) -> Result<E
     match e {
         Expr::Literal(value) => Ok(Expr::Literal(*value)),
         Expr::Neg(operand) => {
-            let operand = Box::new(alloc, moved_expr(alloc, links, operand)?)?;
+            let operand = boxed_moved_expr(alloc, links, operand)?;
             Ok(Expr::Neg(operand))
         }
         Expr::Read(leaf) => Ok(Expr::Read(moved_leaf(links, *leaf))),
         Expr::Binary(op, left, right) => {
-            let left = Box::new(alloc, moved_expr(alloc, links, left)?)?;
-            let right = Box::new(alloc, moved_expr(alloc, links, right)?)?;
+            let left = boxed_moved_expr(alloc, links, left)?;
+            let right = boxed_moved_expr(alloc, links, right)?;
             Ok(Expr::Binary(*op, left, right))
         }
         Expr::Pick(test, on_true, on_false) => {
-            let test = Box::new(alloc, moved_cond(alloc, links, test)?)?;
-            let on_true = Box::new(alloc, moved_expr(alloc, links, on_true)?)?;
-            let on_false = Box::new(alloc, moved_expr(alloc, links, on_false)?)?;
+            let test = boxed_moved_cond(alloc, links, test)?;
+            let on_true = boxed_moved_expr(alloc, links, on_true)?;
+            let on_false = boxed_moved_expr(alloc, links, on_false)?;
             Ok(Expr::Pick(test, on_true, on_false))
         }
         Expr::Pure(k, values) => {
@@ -68,10 +68,20 @@ pub(crate) fn moved_expr(alloc: Global, links: &Links<'_>, e: &Expr) -> Result<E
             Ok(call_of_pure(*k, values))
         }
         Expr::At(field, index) => {
-            let index = Box::new(alloc, moved_expr(alloc, links, index)?)?;
+            let index = boxed_moved_expr(alloc, links, index)?;
             Ok(Expr::At(*field, index))
         }
     }
+}
+
+/// An expression with its leaves moved, in a box.
+#[cycle(expression)]
+fn boxed_moved_expr(alloc: Global, links: &Links<'_>, e: &Expr) -> Result<Box<Expr>, Memory>
+    ensures { IfOk result
+        (λ x. expr_tree x.value ≡ moved.moved_expr (relocation links.now) (expr_tree e.now)) }
+{
+    let e = moved_expr(alloc, links, e)?;
+    Ok(Box::new(alloc, e)?)
 }
 
 /// Expressions with their leaves moved.
@@ -104,18 +114,28 @@ pub(crate) fn moved_cond(alloc: Global, links: &Links<'_>, test: &Cond) -> Resul
             Ok(Cond::Compare(*how, left, right))
         }
         Cond::Both(left, right) => {
-            let left = Box::new(alloc, moved_cond(alloc, links, left)?)?;
-            let right = Box::new(alloc, moved_cond(alloc, links, right)?)?;
+            let left = boxed_moved_cond(alloc, links, left)?;
+            let right = boxed_moved_cond(alloc, links, right)?;
             Ok(Cond::Both(left, right))
         }
         Cond::Either(left, right) => {
-            let left = Box::new(alloc, moved_cond(alloc, links, left)?)?;
-            let right = Box::new(alloc, moved_cond(alloc, links, right)?)?;
+            let left = boxed_moved_cond(alloc, links, left)?;
+            let right = boxed_moved_cond(alloc, links, right)?;
             Ok(Cond::Either(left, right))
         }
         Cond::Not(operand) => {
-            let operand = Box::new(alloc, moved_cond(alloc, links, operand)?)?;
+            let operand = boxed_moved_cond(alloc, links, operand)?;
             Ok(Cond::Not(operand))
         }
     }
+}
+
+/// A condition with its leaves moved, in a box.
+#[cycle(expression)]
+fn boxed_moved_cond(alloc: Global, links: &Links<'_>, test: &Cond) -> Result<Box<Cond>, Memory>
+    ensures { IfOk result
+        (λ c. cond_tree c.value ≡ moved.moved_cond (relocation links.now) (cond_tree test.now)) }
+{
+    let test = moved_cond(alloc, links, test)?;
+    Ok(Box::new(alloc, test)?)
 }

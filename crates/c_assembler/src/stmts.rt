@@ -2,14 +2,14 @@
 ghost use Rattle.std.specs.Prelude.{◌≡◌, IfOk, map};
 ghost use Rattle.c_syntax.specs.Tree as tree;
 ghost use Rattle.c_syntax.specs.Tree.{stmts_of_list};
-ghost use Rattle.c_syntax.specs.Plain.{cond_tree, stmt_tree};
+ghost use Rattle.c_syntax.specs.Plain.{cond_tree, expr_tree, stmt_tree};
 ghost use Rattle.c_shape.specs.Relocation as moved;
 ghost use Rattle.c_assembler.specs.Linked.{relocation};
 
 use crate::exprs::{moved_cond, moved_expr, moved_exprs};
 use crate::links::Links;
 use crate::lists::{number_at, sum};
-use c_syntax::{Cond, Stmt};
+use c_syntax::{Cond, Expr, Stmt};
 use mc_base::Memory;
 use std::alloc::Global;
 
@@ -38,6 +38,28 @@ fn choice(line: u32, test: Cond, yes: Vec<Stmt>, no: Vec<Stmt>) -> Stmt
     }
 }
 
+/// A store in an item of an array, with its leaves moved.
+fn moved_set_at(
+    alloc: Global,
+    links: &Links<'_>,
+    line: u32,
+    field: u32,
+    index: &Expr,
+    value: &Expr,
+) -> Result<Stmt, Memory>
+    ensures { IfOk result (λ x. stmt_tree x ≡ moved.moved_stmt (relocation links.now)
+        (tree.assign_at line field (expr_tree index.now) (expr_tree value.now))) }
+{
+    let index = moved_expr(alloc, links, index)?;
+    let value = moved_expr(alloc, links, value)?;
+    Ok(Stmt::SetAt {
+        line,
+        field,
+        index,
+        value,
+    })
+}
+
 /// A statement with its calls and leaves moved.
 #[cycle(statement)]
 fn moved_stmt(alloc: Global, links: &Links<'_>, s: &Stmt) -> Result<Stmt, Memory>
@@ -57,16 +79,7 @@ fn moved_stmt(alloc: Global, links: &Links<'_>, s: &Stmt) -> Result<Stmt, Memory
             field,
             index,
             value,
-        } => {
-            let index = moved_expr(alloc, links, index)?;
-            let value = moved_expr(alloc, links, value)?;
-            Ok(Stmt::SetAt {
-                line: *line,
-                field: *field,
-                index,
-                value,
-            })
-        }
+        } => moved_set_at(alloc, links, *line, *field, index, value),
         Stmt::If {
             line,
             test,

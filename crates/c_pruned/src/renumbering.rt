@@ -42,19 +42,19 @@ pub(crate) fn renumbered_expr(alloc: Global, places: &Places, e: &Expr) -> Resul
     match e {
         Expr::Literal(value) => Ok(Expr::Literal(*value)),
         Expr::Neg(operand) => {
-            let operand = Box::new(alloc, renumbered_expr(alloc, places, operand)?)?;
+            let operand = boxed_renumbered_expr(alloc, places, operand)?;
             Ok(Expr::Neg(operand))
         }
         Expr::Read(leaf) => Ok(Expr::Read(*leaf)),
         Expr::Binary(op, left, right) => {
-            let left = Box::new(alloc, renumbered_expr(alloc, places, left)?)?;
-            let right = Box::new(alloc, renumbered_expr(alloc, places, right)?)?;
+            let left = boxed_renumbered_expr(alloc, places, left)?;
+            let right = boxed_renumbered_expr(alloc, places, right)?;
             Ok(Expr::Binary(*op, left, right))
         }
         Expr::Pick(test, on_true, on_false) => {
-            let test = Box::new(alloc, renumbered_cond(alloc, places, test)?)?;
-            let on_true = Box::new(alloc, renumbered_expr(alloc, places, on_true)?)?;
-            let on_false = Box::new(alloc, renumbered_expr(alloc, places, on_false)?)?;
+            let test = boxed_renumbered_cond(alloc, places, test)?;
+            let on_true = boxed_renumbered_expr(alloc, places, on_true)?;
+            let on_false = boxed_renumbered_expr(alloc, places, on_false)?;
             Ok(Expr::Pick(test, on_true, on_false))
         }
         Expr::Pure(function, values) => {
@@ -62,10 +62,20 @@ pub(crate) fn renumbered_expr(alloc: Global, places: &Places, e: &Expr) -> Resul
             Ok(call_of_pure(place_of(places, *function), values))
         }
         Expr::At(field, index) => {
-            let index = Box::new(alloc, renumbered_expr(alloc, places, index)?)?;
+            let index = boxed_renumbered_expr(alloc, places, index)?;
             Ok(Expr::At(*field, index))
         }
     }
+}
+
+/// An expression with its calls renumbered, in a box.
+#[cycle(expression)]
+fn boxed_renumbered_expr(alloc: Global, places: &Places, e: &Expr) -> Result<Box<Expr>, Memory>
+    ensures { IfOk result
+        (λ x. expr_tree x.value ≡ pruned.renumbered_expr (place_in places.now) (expr_tree e.now)) }
+{
+    let e = renumbered_expr(alloc, places, e)?;
+    Ok(Box::new(alloc, e)?)
 }
 
 /// Expressions with their calls renumbered.
@@ -96,20 +106,52 @@ fn renumbered_cond(alloc: Global, places: &Places, test: &Cond) -> Result<Cond, 
             Ok(Cond::Compare(*how, left, right))
         }
         Cond::Both(left, right) => {
-            let left = Box::new(alloc, renumbered_cond(alloc, places, left)?)?;
-            let right = Box::new(alloc, renumbered_cond(alloc, places, right)?)?;
+            let left = boxed_renumbered_cond(alloc, places, left)?;
+            let right = boxed_renumbered_cond(alloc, places, right)?;
             Ok(Cond::Both(left, right))
         }
         Cond::Either(left, right) => {
-            let left = Box::new(alloc, renumbered_cond(alloc, places, left)?)?;
-            let right = Box::new(alloc, renumbered_cond(alloc, places, right)?)?;
+            let left = boxed_renumbered_cond(alloc, places, left)?;
+            let right = boxed_renumbered_cond(alloc, places, right)?;
             Ok(Cond::Either(left, right))
         }
         Cond::Not(operand) => {
-            let operand = Box::new(alloc, renumbered_cond(alloc, places, operand)?)?;
+            let operand = boxed_renumbered_cond(alloc, places, operand)?;
             Ok(Cond::Not(operand))
         }
     }
+}
+
+/// A condition with its calls renumbered, in a box.
+#[cycle(expression)]
+fn boxed_renumbered_cond(alloc: Global, places: &Places, test: &Cond) -> Result<Box<Cond>, Memory>
+    ensures { IfOk result
+        (λ c. cond_tree c.value ≡ pruned.renumbered_cond (place_in places.now) (cond_tree test.now)) }
+{
+    let test = renumbered_cond(alloc, places, test)?;
+    Ok(Box::new(alloc, test)?)
+}
+
+/// A store in an item of an array, with its calls renumbered.
+fn renumbered_set_at(
+    alloc: Global,
+    places: &Places,
+    line: u32,
+    field: u32,
+    index: &Expr,
+    value: &Expr,
+) -> Result<Stmt, Memory>
+    ensures { IfOk result (λ x. stmt_tree x ≡ pruned.renumbered_stmt (place_in places.now)
+        (tree.assign_at line field (expr_tree index.now) (expr_tree value.now))) }
+{
+    let index = renumbered_expr(alloc, places, index)?;
+    let value = renumbered_expr(alloc, places, value)?;
+    Ok(Stmt::SetAt {
+        line,
+        field,
+        index,
+        value,
+    })
 }
 
 /// A statement with its calls renumbered.
@@ -132,16 +174,7 @@ fn renumbered_stmt(alloc: Global, places: &Places, s: &Stmt) -> Result<Stmt, Mem
             field,
             index,
             value,
-        } => {
-            let index = renumbered_expr(alloc, places, index)?;
-            let value = renumbered_expr(alloc, places, value)?;
-            Ok(Stmt::SetAt {
-                line: *line,
-                field: *field,
-                index,
-                value,
-            })
-        }
+        } => renumbered_set_at(alloc, places, *line, *field, index, value),
         Stmt::If {
             line,
             test,

@@ -61,7 +61,7 @@ pub(crate) fn resolve_expr(
     match e {
         WrittenExpr::Literal(number) => Ok(Expr::Literal(number.value as i64)),
         WrittenExpr::Neg(operand) => {
-            let operand = Box::new(alloc, resolve_expr(alloc, scope, operand)?)?;
+            let operand = resolve_boxed(alloc, scope, operand)?;
             Ok(Expr::Neg(operand))
         }
         WrittenExpr::Read { line, leaf } => {
@@ -69,14 +69,14 @@ pub(crate) fn resolve_expr(
             Ok(Expr::Read(leaf))
         }
         WrittenExpr::Binary(op, left, right) => {
-            let left = Box::new(alloc, resolve_expr(alloc, scope, left)?)?;
-            let right = Box::new(alloc, resolve_expr(alloc, scope, right)?)?;
+            let left = resolve_boxed(alloc, scope, left)?;
+            let right = resolve_boxed(alloc, scope, right)?;
             Ok(Expr::Binary(*op, left, right))
         }
         WrittenExpr::Pick(test, on_true, on_false) => {
-            let test = Box::new(alloc, resolve_cond(alloc, scope, test)?)?;
-            let on_true = Box::new(alloc, resolve_expr(alloc, scope, on_true)?)?;
-            let on_false = Box::new(alloc, resolve_expr(alloc, scope, on_false)?)?;
+            let test = resolve_boxed_cond(alloc, scope, test)?;
+            let on_true = resolve_boxed(alloc, scope, on_true)?;
+            let on_false = resolve_boxed(alloc, scope, on_false)?;
             Ok(Expr::Pick(test, on_true, on_false))
         }
         WrittenExpr::Pure {
@@ -86,10 +86,20 @@ pub(crate) fn resolve_expr(
         } => resolve_call_of_pure(alloc, scope, *line, function, values.as_slice()),
         WrittenExpr::Item { line, field, index } => {
             let field = on_line(*line, resolve_array(scope, field))?;
-            let index = Box::new(alloc, resolve_expr(alloc, scope, index)?)?;
+            let index = resolve_boxed(alloc, scope, index)?;
             Ok(Expr::At(field, index))
         }
     }
+}
+
+/// The same in a box.
+#[cycle(expression)]
+fn resolve_boxed(alloc: Global, scope: &Scope, e: &WrittenExpr) -> Result<Box<Expr>, ReadCFault>
+    ensures { Gives (λ b. expr_tree b.value) result
+        (rules.resolve_expr (names_of scope.now) (expr_of e.now)) }
+{
+    let e = resolve_expr(alloc, scope, e)?;
+    Ok(Box::new(alloc, e)?)
 }
 
 /// What a call of a pure function stands for.
@@ -139,18 +149,32 @@ pub(crate) fn resolve_cond(
             Ok(Cond::Compare(*how, left, right))
         }
         WrittenCond::Both(left, right) => {
-            let left = Box::new(alloc, resolve_cond(alloc, scope, left)?)?;
-            let right = Box::new(alloc, resolve_cond(alloc, scope, right)?)?;
+            let left = resolve_boxed_cond(alloc, scope, left)?;
+            let right = resolve_boxed_cond(alloc, scope, right)?;
             Ok(Cond::Both(left, right))
         }
         WrittenCond::Either(left, right) => {
-            let left = Box::new(alloc, resolve_cond(alloc, scope, left)?)?;
-            let right = Box::new(alloc, resolve_cond(alloc, scope, right)?)?;
+            let left = resolve_boxed_cond(alloc, scope, left)?;
+            let right = resolve_boxed_cond(alloc, scope, right)?;
             Ok(Cond::Either(left, right))
         }
         WrittenCond::Not(operand) => {
-            let operand = Box::new(alloc, resolve_cond(alloc, scope, operand)?)?;
+            let operand = resolve_boxed_cond(alloc, scope, operand)?;
             Ok(Cond::Not(operand))
         }
     }
+}
+
+/// The same in a box.
+#[cycle(expression)]
+fn resolve_boxed_cond(
+    alloc: Global,
+    scope: &Scope,
+    test: &WrittenCond,
+) -> Result<Box<Cond>, ReadCFault>
+    ensures { Gives (λ b. cond_tree b.value) result
+        (rules.resolve_cond (names_of scope.now) (cond_of test.now)) }
+{
+    let test = resolve_cond(alloc, scope, test)?;
+    Ok(Box::new(alloc, test)?)
 }

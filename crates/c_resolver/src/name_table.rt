@@ -1,5 +1,5 @@
 // Names by their positions.
-ghost use Rattle.std.specs.Prelude.{◌≡◌, ◌++◌, ◌∷◌, ◌||◌, [], ℕ, List, false, map, OnOk, IfOk, bytes_eq};
+ghost use Rattle.std.specs.Prelude.{◌≡◌, ◌++◌, ◌∷◌, ◌||◌, [], ℕ, List, false, map, OnOk, OnErr, IfOk, bytes_eq};
 ghost use Rattle.std.specs.List.{position_from};
 ghost use Rattle.c_syntax.specs.Outputs.{has_name};
 
@@ -51,12 +51,14 @@ impl<'a> NameTable<'a> {
         self.names.contains(name)
     }
 
-    /// One more name, behind the others; a name that is there already stays where it is.
+    /// One more name, behind the others; a name that is there already stays where it is, and so do all where memory runs
+    /// out.
     pub(crate) fn push(&mut self, name: &'a [u8]) -> Result<(), Memory>
         ensures new { OnOk result (has_name self.old name.now ≡ false → self.new ≡ self.old ++ name.now
             ∷ []) }
         ensures added { OnOk result ((n : List ℕ) →
             has_name self.new n ≡ (bytes_eq n name.now || has_name self.old n)) }
+        ensures kept { OnErr result (self.new ≡ self.old) }
     {
         if self.names.len() >= u32::MAX as usize {
             return Err(Memory);

@@ -93,53 +93,38 @@ fn resolve_procedure<'a>(
 }
 
 impl<'a> Known<'a> {
-    /// The same with one more procedure, whose name is new.
-    fn with_procedure(self, name: &'a [u8], procedure: Procedure) -> Result<Known<'a>, Memory>
-        requires new { has_name (rules.function_names (known_of self)) name.now ≡ false }
+    /// One more procedure, whose name is new.
+    fn push_procedure(&mut self, name: &'a [u8], procedure: Procedure) -> Result<(), Memory>
+        requires new { has_name (rules.function_names (known_of self.old)) name.now ≡ false }
         requires named { procedure.name ≡ name.now }
-        ensures { IfOk result (λ known. let before = known_of self.entry in
+        ensures { OnOk result (let before = known_of self.old in
             let more = procedure_tree procedure in
-            known_of known ≡ record before {
+            known_of self.new ≡ record before {
               procedures = before.procedures ++ more ∷ [];
               chains = before.chains ++ (chain.stmts_chain before.chains more.body + 1) ∷ [];
             }) }
     {
-        let Known {
-            pures,
-            structs,
-            field_names,
-            procedures,
-            mut chains,
-        } = self;
-        let longest = stmts_chain(chains.as_slice(), procedure.body.as_slice());
+        let longest = stmts_chain(self.chains.as_slice(), procedure.body.as_slice());
         let Some(length) = longest.checked_add(1) else {
             return Err(Memory);
         };
-        chains.push(length)?;
-        let procedures = procedures.with(name, procedure)?;
-        Ok(Known {
-            pures,
-            structs,
-            field_names,
-            procedures,
-            chains,
-        })
+        self.chains.push(length)?;
+        self.procedures.push(name, procedure)
     }
 }
 
-/// What is known behind procedures, each known to those after it.
+/// Makes procedures known, each to those after it.
 pub(crate) fn resolve_procedures<'a>(
     alloc: Global,
-    known: Known<'a>,
+    known: &mut Known<'a>,
     procedures: &[WrittenProcedure<'a>],
-) -> Result<Known<'a>, ReadCFault>
-    ensures { Gives known_of result
-        (rules.resolve_procedures (known_of known.entry) (map procedure_of procedures.now)) }
+) -> Result<(), ReadCFault>
+    ensures { Gives (λ _. known_of known.new) result
+        (rules.resolve_procedures (known_of known.old) (map procedure_of procedures.now)) }
 {
-    let mut known = known;
     for p in procedures {
-        let procedure = resolve_procedure(alloc, &known, p)?;
-        known = known.with_procedure(p.name, procedure)?;
+        let procedure = resolve_procedure(alloc, known, p)?;
+        known.push_procedure(p.name, procedure)?;
     }
-    Ok(known)
+    Ok(())
 }

@@ -63,9 +63,10 @@ pub fn resolve_program(alloc: Global, last: u32, p: &WrittenProgram) -> Result<P
     ensures resolved { Gives program_tree result (rules.resolve_program last (written.program_of p.now)) }
     ensures few { IfOk result (λ program. length program.procedures.items < 2 ^ 32) }
 {
-    let known = resolve_pures(alloc, nothing_known(alloc), p.pures.as_slice())?;
-    let known = resolve_structs(alloc, known, p.structs.as_slice())?;
-    let known = resolve_procedures(alloc, known, p.procedures.as_slice())?;
+    let mut known = nothing_known(alloc);
+    resolve_pures(alloc, &mut known, p.pures.as_slice())?;
+    resolve_structs(alloc, &mut known, p.structs.as_slice())?;
+    resolve_procedures(alloc, &mut known, p.procedures.as_slice())?;
     on_line(last, unless_fault(has_root(&known), CKind::Name))?;
     Ok(program_of(known))
 }

@@ -46,47 +46,33 @@ fn resolve_pure<'a>(
 }
 
 impl<'a> Known<'a> {
-    /// The same with one more pure function, whose name is new.
+    /// One more pure function, whose name is new.
     #[tactic(auto, using(crate::proofs::Each::map_push))]
-    fn with_pure(self, name: &'a [u8], pure: Pure) -> Result<Known<'a>, Memory>
-        requires new { has_name (rules.function_names (known_of self)) name.now ≡ false }
+    fn push_pure(&mut self, name: &'a [u8], pure: Pure) -> Result<(), Memory>
+        requires new { has_name (rules.function_names (known_of self.old)) name.now ≡ false }
         requires named { pure.name ≡ name.now }
-        ensures { IfOk result (λ known. known_of known
-            ≡ record (known_of self.entry) {
-              pures = (known_of self.entry).pures ++ pure_tree pure
+        ensures { OnOk result (known_of self.new
+            ≡ record (known_of self.old) {
+              pures = (known_of self.old).pures ++ pure_tree pure
                   ∷ [];
             }) }
     {
-        let Known {
-            pures,
-            structs,
-            field_names,
-            procedures,
-            chains,
-        } = self;
-        let pures = pures.with(name, pure)?;
-        Ok(Known {
-            pures,
-            structs,
-            field_names,
-            procedures,
-            chains,
-        })
+        self.pures.push(name, pure)
     }
 }
 
-/// What is known behind pure functions, each known to those after it.
+/// Makes pure functions known, each to those after it.
 pub(crate) fn resolve_pures<'a>(
     alloc: Global,
-    known: Known<'a>,
+    known: &mut Known<'a>,
     pures: &[WrittenPure<'a>],
-) -> Result<Known<'a>, ReadCFault>
-    ensures { Gives known_of result (rules.resolve_pures (known_of known.entry) (map pure_of pures.now)) }
+) -> Result<(), ReadCFault>
+    ensures { Gives (λ _. known_of known.new) result
+        (rules.resolve_pures (known_of known.old) (map pure_of pures.now)) }
 {
-    let mut known = known;
     for p in pures {
-        let pure = resolve_pure(alloc, &known, p)?;
-        known = known.with_pure(p.name, pure)?;
+        let pure = resolve_pure(alloc, known, p)?;
+        known.push_pure(p.name, pure)?;
     }
-    Ok(known)
+    Ok(())
 }

@@ -77,54 +77,45 @@ fn resolve_struct<'a>(
 }
 
 impl<'a> Known<'a> {
-    /// The same with one more struct, whose name is new and whose fields have these names.
-    fn with_struct(
-        self,
+    /// One more struct, whose name is new and whose fields have these names.
+    fn push_struct(
+        &mut self,
         name: &'a [u8],
         def: StructDef,
         names: NameTable<'a>,
-    ) -> Result<Known<'a>, Memory>
-        requires new { has_name (map (λ d. d.name) self.structs.items.items) name.now ≡ false }
+    ) -> Result<(), Memory>
+        requires new { has_name (map (λ d. d.name) self.old.structs.items.items) name.now ≡ false }
         requires named { def.name ≡ name.now }
         requires fields { names ≡ map (λ f. f.name) def.fields }
-        ensures { IfOk result (λ known. known_of known
-            ≡ record (known_of self.entry) {
-              structs = (known_of self.entry).structs ++ def
+        ensures { OnOk result (known_of self.new
+            ≡ record (known_of self.old) {
+              structs = (known_of self.old).structs ++ def
                   ∷ [];
             }) }
     {
-        let Known {
-            pures,
-            structs,
-            mut field_names,
-            procedures,
-            chains,
-        } = self;
-        field_names.push(names)?;
-        let structs = structs.with(name, def)?;
-        Ok(Known {
-            pures,
-            structs,
-            field_names,
-            procedures,
-            chains,
-        })
+        self.field_names.push(names)?;
+        match self.structs.push(name, def) {
+            Ok(()) => Ok(()),
+            Err(memory) => {
+                self.field_names.pop();
+                Err(memory)
+            }
+        }
     }
 }
 
-/// What is known behind structs, each known to those after it.
+/// Makes structs known, each to those after it.
 pub(crate) fn resolve_structs<'a>(
     alloc: Global,
-    known: Known<'a>,
+    known: &mut Known<'a>,
     structs: &[WrittenStruct<'a>],
-) -> Result<Known<'a>, ReadCFault>
-    ensures { Gives known_of result
-        (rules.resolve_structs (known_of known.entry) (map struct_of structs.now)) }
+) -> Result<(), ReadCFault>
+    ensures { Gives (λ _. known_of known.new) result
+        (rules.resolve_structs (known_of known.old) (map struct_of structs.now)) }
 {
-    let mut known = known;
     for d in structs {
-        let (def, names) = resolve_struct(alloc, &known, d)?;
-        known = known.with_struct(d.name, def, names)?;
+        let (def, names) = resolve_struct(alloc, known, d)?;
+        known.push_struct(d.name, def, names)?;
     }
-    Ok(known)
+    Ok(())
 }

@@ -1,5 +1,5 @@
 // Definitions in the order of a text, each found by its name.
-ghost use Rattle.std.specs.Prelude.{◌≡◌, ◌++◌, ◌∷◌, [], ℕ, List, false, map, None, Some, MatchOption, slice_get, bytes_eq, IfOk};
+ghost use Rattle.std.specs.Prelude.{◌≡◌, ◌++◌, ◌∷◌, [], ℕ, List, false, map, None, Some, MatchOption, slice_get, bytes_eq, OnOk, OnErr};
 ghost use Rattle.std.specs.List.{position_from};
 ghost use Rattle.c_syntax.specs.Outputs.{has_name};
 
@@ -72,19 +72,21 @@ impl<'a, T: Named + Drop> Table<'a, T> {
         }
     }
 
-    /// The same with one more definition, whose name is new.
-    pub(crate) fn with(self, name: &'a [u8], item: T) -> Result<Table<'a, T>, Memory>
-        requires new { has_name (map T.name self.items.items) name.now ≡ false }
+    /// One more definition, whose name is new. Where memory runs out, the table stays as it is.
+    pub(crate) fn push(&mut self, name: &'a [u8], item: T) -> Result<(), Memory>
+        requires new { has_name (map T.name self.old.items.items) name.now ≡ false }
         requires named { T.name item ≡ name.now }
-        ensures { IfOk result (λ table. table.items.items ≡ self.entry.items.items ++ item ∷ []) }
+        ensures pushed { OnOk result (self.new.items.items ≡ self.old.items.items ++ item ∷ []) }
+        ensures kept { OnErr result (self.new.items.items ≡ self.old.items.items) }
     {
-        let Table {
-            mut items,
-            mut names,
-        } = self;
-        items.push(item)?;
-        names.push(name)?;
-        Ok(Table { items, names })
+        self.items.push(item)?;
+        match self.names.push(name) {
+            Ok(()) => Ok(()),
+            Err(memory) => {
+                self.items.pop();
+                Err(memory)
+            }
+        }
     }
 
     /// The definitions themselves, in their order.

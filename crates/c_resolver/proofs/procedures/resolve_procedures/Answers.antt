@@ -12,8 +12,8 @@ returns-in_err-procedure c =
     let known = known_of c.loop-p.known in
     let i = c.loop-p.p-index in
     let e = c.in_err-procedure.field-0.0 in
-    let whole = resolve_procedures (known_of c.args.known) (map procedure_of c.args.procedures.now) in
-    gives-same known_of c.from_residual.result e whole c.from_residual.ensures.1
+    let whole = resolve_procedures (known_of c.args.known.now) (map procedure_of c.args.procedures.now) in
+    gives-same (λ _. known_of c.loop-p.known) c.from_residual.result e whole c.from_residual.ensures.1
     (fails-bind e (resolve_procedure known (procedure_of c.p-item.result))
     (λ x. resolve_procedures
     (record known {

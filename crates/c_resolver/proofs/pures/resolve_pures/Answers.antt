@@ -11,8 +11,8 @@ returns-in_err-pure c =
     let known = known_of c.loop-p.known in
     let i = c.loop-p.p-index in
     let e = c.in_err-pure.field-0.0 in
-    let whole = resolve_pures (known_of c.args.known) (map pure_of c.args.pures.now) in
-    gives-same known_of c.from_residual.result e whole c.from_residual.ensures.1
+    let whole = resolve_pures (known_of c.args.known.now) (map pure_of c.args.pures.now) in
+    gives-same (λ _. known_of c.loop-p.known) c.from_residual.result e whole c.from_residual.ensures.1
     (fails-bind e (resolve_pure known (pure_of c.p-item.result))
     (λ x. resolve_pures (record known { pures = known.pures ++ x ∷ [] })
     (map pure_of (drop (i + 1) c.args.pures.now))) whole (c.loop-p.invariant

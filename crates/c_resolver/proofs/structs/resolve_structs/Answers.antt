@@ -11,8 +11,8 @@ returns-in_err-def c =
     let known = known_of c.loop-d.known in
     let i = c.loop-d.d-index in
     let e = c.in_err-def.field-0.0 in
-    let whole = resolve_structs (known_of c.args.known) (map struct_of c.args.structs.now) in
-    gives-same known_of c.from_residual.result e whole c.from_residual.ensures.1
+    let whole = resolve_structs (known_of c.args.known.now) (map struct_of c.args.structs.now) in
+    gives-same (λ _. known_of c.loop-d.known) c.from_residual.result e whole c.from_residual.ensures.1
     (fails-bind e (resolve_struct known (struct_of c.d-item.result))
     (λ x. resolve_structs (record known { structs = known.structs ++ x ∷ [] })
     (map struct_of (drop (i + 1) c.args.structs.now))) whole (c.loop-d.invariant

@@ -5,11 +5,11 @@ use Rattle.c_syntax.specs.Outputs.{has_name}
 use Rattle.c_syntax.proofs.lemmas.NamePlaces.{or-left}
 use Rattle.c_syntax.proofs.lemmas.NameFacts.{has_name-append}
 use Rattle.c_resolver.proofs.NamedPlaces.{map-map}
-use Rattle.c_resolver.proofs.known.Known.with_pure.Goals as goal
+use Rattle.c_resolver.proofs.known.Known.push_pure.Goals as goal
 
-pub with-requires-clause-new : goal.with-requires-clause-new
-with-requires-clause-new c =
-    let s = c.args.self in
+pub push-requires-clause-new : goal.push-requires-clause-new
+push-requires-clause-new c =
+    let s = c.args.self.now in
     let n = c.args.name.now in
     let pures = map (λ (p : PureTree). p.name) (map pure_tree s.pures.items.items) in
     let procedures = map (λ (p : ProcedureTree). p.name) (map procedure_tree s.procedures.items.items) in
