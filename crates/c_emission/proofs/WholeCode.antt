@@ -1,5 +1,5 @@
 -- The code of a system from its parts.
-use Rattle.std.proofs.Common.{◌≡◌, ap, ◌∙◌, ℕ, List, map}
+use Rattle.std.proofs.Common.{◌≡◌, ℕ, List, map}
 use Rattle.mc_profile.specs.LocalSystem.{LocalSystem}
 use Rattle.mc_profile.specs.SystemProfile.{SystemProfile}
 use Rattle.mc_profile.specs.Locals.{outports}
@@ -10,17 +10,15 @@ use Rattle.c_shape.specs.Slots.{slot_field}
 use Rattle.c_shape.specs.SystemTree.{SystemTree}
 use Rattle.c_system.specs.EmittedCode.{system_procedures, system_code}
 use Rattle.c_system.specs.Fields.{value_field, code_slots}
-use Rattle.c_layout.specs.Laid.{Laid}
 
 abbrev code_with : StructTree → List ℕ → List ProcedureTree → SystemTree
 code_with structure outputs procedures = record { structure = structure; outputs = outputs; procedures = procedures }
 
-pub code_is : (l : Laid) (local : LocalSystem) (profile : SystemProfile) (schedule : SystemSchedule) →
-    l ≡ record { local = local; profile = profile; schedule = schedule } →
+pub code_is : (local : LocalSystem) (profile : SystemProfile) (schedule : SystemSchedule)
     (structure : StructTree) (outputs : List ℕ) (procedures : List ProcedureTree) →
-    structure ≡ record { name = system_name l.local.row; fields = map slot_field (code_slots l.local l.schedule) } →
-    outputs ≡ map (λ o. value_field l.local o.row) (outports l.local) →
-    procedures ≡ system_procedures l.local l.profile l.schedule →
+    structure ≡ record { name = system_name local.row; fields = map slot_field (code_slots local schedule) } →
+    outputs ≡ map (λ o. value_field local o.row) (outports local) →
+    procedures ≡ system_procedures local profile schedule →
     code_with structure outputs procedures ≡ system_code local profile schedule
-code_is l local profile schedule is structure outputs procedures structure_is outputs_are procedures_are =
-    (λ i. code_with (structure_is i) (outputs_are i) (procedures_are i)) ∙ ap (λ (m : Laid). system_code m.local m.profile m.schedule) is
+code_is local profile schedule structure outputs procedures structure_is outputs_are procedures_are =
+    λ i. code_with (structure_is i) (outputs_are i) (procedures_are i)

@@ -12,6 +12,22 @@ use mc_profile::{Local, Profile};
 use mc_schedule::Schedule;
 use std::alloc::Global;
 
+/// The code of a system that is laid out.
+///
+/// Fails only for want of memory.
+fn code_of_layout(alloc: Global, layout: &Layout<'_>) -> Result<SystemCode, Memory>
+    requires emittable { IsEmittable layout.now.local layout.now.schedule }
+    requires agree { AgreeOnFunctions layout.now.profile layout.now.schedule }
+    ensures { let of = layout.now in IfOk result
+        (λ code. system_tree code ≡ system_code of.local of.profile of.schedule) }
+{
+    Ok(SystemCode {
+        structure: layout.structure(alloc)?,
+        outputs: layout.output_fields(alloc)?,
+        procedures: procedures(alloc, layout)?,
+    })
+}
+
 /// The code of a system by its own rows, its profile and the schedule of its nodes, in time linear
 /// in its rows, its children's headers and the calls of groups.
 ///
@@ -28,9 +44,5 @@ pub fn code_of_system(
         (λ code. system_tree code ≡ system_code local.now profile.now schedule.now) }
 {
     let layout = Layout::new(alloc, local, profile, schedule)?;
-    Ok(SystemCode {
-        structure: layout.structure(alloc)?,
-        outputs: layout.output_fields(alloc)?,
-        procedures: procedures(alloc, &layout)?,
-    })
+    code_of_layout(alloc, &layout)
 }

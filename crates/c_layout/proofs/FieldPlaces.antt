@@ -21,10 +21,10 @@ place-at keys k i e = subst (λ o. unwrap_or o 0 ≤ length keys) e (place-withi
 
 -- what a value of the program has, of the system that it is seen as
 pub has-fields : (i : Inside) (self : Scheduled) →
-    HasFields (record { local = i.local.now; schedule = i.schedule.now }) i.values i.singles i.lines i.counters →
+    HasFields (record { local = i.local.now; schedule = i.schedule.now }) i.numbers.values i.numbers.singles i.numbers.lines i.numbers.counters →
     record { local = i.local.now; schedule = i.schedule.now } ≡ self →
-    HasFields self i.values i.singles i.lines i.counters
-has-fields i self has same = subst (λ (of : Scheduled). HasFields of i.values i.singles i.lines i.counters) same has
+    HasFields self i.numbers.values i.numbers.singles i.numbers.lines i.numbers.counters
+has-fields i self has same = subst (λ (of : Scheduled). HasFields of i.numbers.values i.numbers.singles i.numbers.lines i.numbers.counters) same has
 
 module _ (of : Scheduled) (v s l c : List ℕ) (has : HasFields of v s l c) where
   pub value-count : length v ≡ length (value_rows of.local)

@@ -15,11 +15,11 @@ use Rattle.c_layout.specs.Tables.{HasTables}
 
 -- what a value of the program has, of the system that it is seen as
 pub has-tables : (i : Inside) (self : Laid) →
-    HasTables (record { local = i.fields.local; profile = i.profile.now; schedule = i.fields.schedule }) i.sources
-    i.nodes.items i.groups.items i.bases.items i.ports.items →
+    HasTables (record { local = i.fields.local; profile = i.profile.now; schedule = i.fields.schedule }) i.tables.sources
+    i.tables.nodes.items i.tables.groups.items i.tables.bases.items i.tables.ports.items →
     record { local = i.fields.local; profile = i.profile.now; schedule = i.fields.schedule } ≡ self →
-    HasTables self i.sources i.nodes.items i.groups.items i.bases.items i.ports.items
-has-tables i self has same = subst (λ (of : Laid). HasTables of i.sources i.nodes.items i.groups.items i.bases.items i.ports.items) same has
+    HasTables self i.tables.sources i.tables.nodes.items i.tables.groups.items i.tables.bases.items i.tables.ports.items
+has-tables i self has same = subst (λ (of : Laid). HasTables of i.tables.sources i.tables.nodes.items i.tables.groups.items i.tables.bases.items i.tables.ports.items) same has
 
 -- ---- Procedures
 

@@ -1,9 +1,11 @@
-ghost use Rattle.std.specs.Prelude.{◌≡◌, ◌≤◌, IfOk, length, filter, unwrap_or};
+ghost use Rattle.std.specs.Prelude.{◌≡◌, ◌<◌, ◌≤◌, ◌^◌, IfOk, length, filter, unwrap_or};
 ghost use Rattle.mc_blocks.specs.Meaning.{has_value as has_value_of_kind};
 ghost use Rattle.c_shape.specs.Delays.{is_single as is_single_op, is_line as is_line_op};
 ghost use Rattle.c_system.specs.Emittable.{IsEmittable};
 ghost use Rattle.c_system.specs.Fields as fields;
 ghost use Rattle.c_system.specs.NodeCode as node;
+ghost use Rattle.c_layout.specs.Laid.{Scheduled};
+ghost use Rattle.c_layout.specs.Tables.{HasFields};
 
 use crate::groups::shared_groups;
 use crate::kinds::{has_value, is_line, is_single, is_triggered};
@@ -15,16 +17,40 @@ use mc_schedule::Schedule;
 use std::alloc::Global;
 use std::marker::Model;
 
+/// The numbers of the rows with a value, with the memory of one sample and with that of several, and of the groups with
+/// a counter: fields lie in their order.
+#[derive(Drop)]
+struct Numbers {
+    values: Positions,
+    singles: Positions,
+    lines: Positions,
+    counters: Positions,
+}
+
+impl Numbers {
+    /// The numbers of a system with this schedule.
+    fn new(alloc: Global, local: &Local, schedule: &Schedule) -> Result<Numbers, Memory>
+        requires { IsEmittable local.now schedule.now }
+        ensures { let of : Scheduled = record { local = local.now; schedule = schedule.now } in
+            IfOk result (λ n. HasFields of n.values n.singles n.lines n.counters) }
+    {
+        let rows = rows_of(local);
+        Ok(Numbers {
+            values: value_rows(alloc, rows)?,
+            singles: single_rows(alloc, rows)?,
+            lines: line_rows(alloc, rows)?,
+            counters: counted_groups(alloc, schedule)?,
+        })
+    }
+}
+
 /// Where the fields of a system's struct lie, seen as the system and its schedule. All look-ups take constant expected
 /// time.
 #[derive(Drop)]
 pub(crate) struct Fields<'a> {
     local: &'a Local,
     schedule: &'a Schedule,
-    values: Positions,
-    singles: Positions,
-    lines: Positions,
-    counters: Positions,
+    numbers: Numbers,
 }
 
 impl<'a> Model for Fields<'a> {
@@ -35,8 +61,8 @@ impl<'a> Model for Fields<'a> {
 
     ghost view = { λ f. record { local = f.local.now; schedule = f.schedule.now } };
 
-    ghost invariant = { λ f. HasFields (record { local = f.local.now; schedule = f.schedule.now }) f.values
-        f.singles f.lines f.counters };
+    ghost invariant = { λ f. HasFields (record { local = f.local.now; schedule = f.schedule.now })
+        f.numbers.values f.numbers.singles f.numbers.lines f.numbers.counters };
 }
 
 impl<'a> Fields<'a> {
@@ -49,14 +75,11 @@ impl<'a> Fields<'a> {
         requires { IsEmittable local.now schedule.now }
         ensures { IfOk result (λ f. f ≡ record { local = local.now; schedule = schedule.now }) }
     {
-        let rows = rows_of(local);
+        let numbers = Numbers::new(alloc, local, schedule)?;
         Ok(Fields {
             local,
             schedule,
-            values: Positions::new(alloc, value_numbers(alloc, rows)?)?,
-            singles: Positions::new(alloc, single_numbers(alloc, rows)?)?,
-            lines: Positions::new(alloc, line_numbers(alloc, rows)?)?,
-            counters: Positions::new(alloc, shared_groups(alloc, schedule)?)?,
+            numbers,
         })
     }
 
@@ -78,28 +101,31 @@ impl<'a> Fields<'a> {
     pub(crate) fn is_emittable(&self)
         ensures { IsEmittable self.now.local self.now.schedule }
     {
-        let _rows = &self.values;
+        let _numbers = &self.numbers;
     }
 
     /// The field of the value of row `b`.
     pub(crate) fn value(&self, b: u32) -> u32
         ensures { result ≡ fields.value_field self.now.local b }
     {
-        place_among(&self.values, b) as u32
+        place_among(&self.numbers.values, b) as u32
     }
 
     /// The field of what row `b` remembers, where that is one sample.
     pub(crate) fn memory(&self, b: u32) -> u32
         ensures { result ≡ fields.memory_field self.now.local b }
     {
-        (self.values.count() + place_among(&self.singles, b)) as u32
+        (self.numbers.values.count() + place_among(&self.numbers.singles, b)) as u32
     }
 
     /// The fields of what row `b` remembers, where that is several samples.
     pub(crate) fn ring(&self, b: u32) -> RingFields
         ensures { result ≡ node.ring_fields self.now.local b }
     {
-        let first = self.values.count() + self.singles.count() + 3 * place_among(&self.lines, b);
+        let numbers = &self.numbers;
+        let first = numbers.values.count()
+            + numbers.singles.count()
+            + 3 * place_among(&numbers.lines, b);
         let items = first as u32;
         RingFields {
             items,
@@ -112,7 +138,8 @@ impl<'a> Fields<'a> {
     pub(crate) fn trigger(&self) -> u32
         ensures { result ≡ fields.trigger_field self.now.local }
     {
-        (self.values.count() + self.singles.count() + 3 * self.lines.count()) as u32
+        let numbers = &self.numbers;
+        (numbers.values.count() + numbers.singles.count() + 3 * numbers.lines.count()) as u32
     }
 
     /// The field of the child at a place, and where the counters begin behind the last one.
@@ -128,7 +155,7 @@ impl<'a> Fields<'a> {
     pub(crate) fn counter(&self, group: u32) -> Option<u32>
         ensures { result ≡ fields.counter_field self.now.local self.now.schedule group }
     {
-        match self.counters.place(group) {
+        match self.numbers.counters.place(group) {
             Some(place) => Some(self.child(child_count(self.local)) + place as u32),
             None => None,
         }
@@ -138,7 +165,7 @@ impl<'a> Fields<'a> {
     pub(crate) fn counted(&self) -> &[u32]
         ensures { result.now ≡ fields.shared_groups self.now.schedule }
     {
-        self.counters.keys()
+        self.numbers.counters.keys()
     }
 }
 
@@ -169,8 +196,8 @@ fn child_count(local: &Local) -> usize
 }
 
 // The numbers of the rows with a value.
-fn value_numbers(alloc: Global, rows: &[LocalRow]) -> Result<Vec<u32>, Memory>
-    ensures { IfOk result (λ v. v.items
+fn value_rows(alloc: Global, rows: &[LocalRow]) -> Result<Positions, Memory>
+    ensures { IfOk result (λ p. p
         ≡ fields.numbers (filter (λ r. has_value_of_kind r.kind) rows.now)) }
 {
     let mut numbers = Vec::new(alloc);
@@ -179,12 +206,12 @@ fn value_numbers(alloc: Global, rows: &[LocalRow]) -> Result<Vec<u32>, Memory>
             numbers.push(row.row)?;
         }
     }
-    Ok(numbers)
+    Positions::new(alloc, numbers)
 }
 
 // The numbers of the rows that remember one sample.
-fn single_numbers(alloc: Global, rows: &[LocalRow]) -> Result<Vec<u32>, Memory>
-    ensures { IfOk result (λ v. v.items ≡ fields.numbers (filter (λ r. is_single_op r.op) rows.now)) }
+fn single_rows(alloc: Global, rows: &[LocalRow]) -> Result<Positions, Memory>
+    ensures { IfOk result (λ p. p ≡ fields.numbers (filter (λ r. is_single_op r.op) rows.now)) }
 {
     let mut numbers = Vec::new(alloc);
     for row in rows {
@@ -192,12 +219,12 @@ fn single_numbers(alloc: Global, rows: &[LocalRow]) -> Result<Vec<u32>, Memory>
             numbers.push(row.row)?;
         }
     }
-    Ok(numbers)
+    Positions::new(alloc, numbers)
 }
 
 // The numbers of the rows that remember several samples.
-fn line_numbers(alloc: Global, rows: &[LocalRow]) -> Result<Vec<u32>, Memory>
-    ensures { IfOk result (λ v. v.items ≡ fields.numbers (filter (λ r. is_line_op r.op) rows.now)) }
+fn line_rows(alloc: Global, rows: &[LocalRow]) -> Result<Positions, Memory>
+    ensures { IfOk result (λ p. p ≡ fields.numbers (filter (λ r. is_line_op r.op) rows.now)) }
 {
     let mut numbers = Vec::new(alloc);
     for row in rows {
@@ -205,5 +232,13 @@ fn line_numbers(alloc: Global, rows: &[LocalRow]) -> Result<Vec<u32>, Memory>
             numbers.push(row.row)?;
         }
     }
-    Ok(numbers)
+    Positions::new(alloc, numbers)
+}
+
+// The groups that have a counter.
+fn counted_groups(alloc: Global, schedule: &Schedule) -> Result<Positions, Memory>
+    requires { length schedule.now.groups < 2 ^ 32 }
+    ensures { IfOk result (λ p. p ≡ fields.shared_groups schedule.now) }
+{
+    Positions::new(alloc, shared_groups(alloc, schedule)?)
 }

@@ -19,13 +19,12 @@ use crate::heads::{all_params, params_of_function, params_of_ports};
 use crate::inports::inports_among;
 use crate::params::Params;
 use crate::ported::outports;
-use crate::sources::Sources;
 use crate::structure::structure;
 use crate::tables::Tables;
 use c_blocks::{ControlLeaves, RingFields};
 use c_syntax::{Leaf, StructDef};
 use c_system::{Place, Source};
-use mc_base::{Memory, Port};
+use mc_base::Memory;
 use mc_fixed::FixType;
 use mc_profile::{Local, Profile};
 use mc_schedule::Schedule;
@@ -41,11 +40,7 @@ use std::marker::Model;
 pub struct Layout<'a> {
     fields: Fields<'a>,
     profile: &'a Profile,
-    sources: Sources,
-    nodes: Vec<Place>,
-    groups: Vec<u32>,
-    bases: Vec<u32>,
-    ports: Vec<(Port, FixType)>,
+    tables: Tables,
 }
 
 impl<'a> Model for Layout<'a> {
@@ -62,7 +57,8 @@ impl<'a> Model for Layout<'a> {
 
     ghost invariant = { λ l. HasTables
         (record { local = l.fields.local; profile = l.profile.now; schedule = l.fields.schedule })
-        l.sources l.nodes.items l.groups.items l.bases.items l.ports.items };
+        l.tables.sources l.tables.nodes.items l.tables.groups.items l.tables.bases.items
+        l.tables.ports.items };
 }
 
 impl<'a> Layout<'a> {
@@ -84,11 +80,7 @@ impl<'a> Layout<'a> {
         Ok(Layout {
             fields,
             profile,
-            sources: tables.sources,
-            nodes: tables.nodes,
-            groups: tables.groups,
-            bases: tables.bases,
-            ports: tables.ports,
+            tables,
         })
     }
 
@@ -205,14 +197,14 @@ impl<'a> Layout<'a> {
     pub fn source(&self, wire: u32) -> Option<Source>
         ensures { result ≡ sources.source_of self.now.local wire }
     {
-        self.sources.of(wire)
+        self.tables.sources.of(wire)
     }
 
     /// What reads a wire.
     pub fn wire_leaf(&self, wire: u32) -> Leaf
         ensures { result ≡ sources.wire_leaf self.now.local wire }
     {
-        match self.sources.of(wire) {
+        match self.tables.sources.of(wire) {
             Some(source) => source.leaf,
             None => Leaf::Own(0),
         }
@@ -239,7 +231,7 @@ impl<'a> Layout<'a> {
     {
         let mut types = Vec::new(alloc);
         for wire in wires {
-            match self.sources.of(*wire) {
+            match self.tables.sources.of(*wire) {
                 Some(source) => types.push(source.number)?,
                 None => return Ok(types),
             }
@@ -253,14 +245,14 @@ impl<'a> Layout<'a> {
     pub fn node_places(&self) -> &[Place]
         ensures { result.now ≡ places.node_places self.now.local }
     {
-        self.nodes.as_slice()
+        self.tables.nodes.as_slice()
     }
 
     /// The groups that have nodes: the own procedures begin with those of these groups.
     pub fn code_groups(&self) -> &[u32]
         ensures { result.now ≡ groups.code_groups self.now.schedule }
     {
-        self.groups.as_slice()
+        self.tables.groups.as_slice()
     }
 
     /// The nodes of a group.
@@ -276,7 +268,7 @@ impl<'a> Layout<'a> {
         ensures { result ≡ groups.own_count self.now.schedule }
     {
         let schedule = self.fields.schedule();
-        (self.groups.len() + schedule.functions.len() + 3) as u32
+        (self.tables.groups.len() + schedule.functions.len() + 3) as u32
     }
 
     /// The number of the first procedure of the child at a place, behind the own ones and those of the children before.
@@ -285,7 +277,7 @@ impl<'a> Layout<'a> {
         ensures { result
             ≡ places.child_base self.now.local (groups.own_count self.now.schedule) place }
     {
-        self.bases[place]
+        self.tables.bases[place]
     }
 
     // ---- Parameters
@@ -302,7 +294,7 @@ impl<'a> Layout<'a> {
         let local = self.fields.local();
         let profile = self.profile;
         let function = &profile.functions[(j - 1) as usize];
-        params_of_function(alloc, local.control, function, &self.ports)
+        params_of_function(alloc, local.control, function, &self.tables.ports)
     }
 
     /// The parameters of the update.
@@ -313,7 +305,7 @@ impl<'a> Layout<'a> {
             ≡ (heads.update_head (locals.own_header self.now.local self.now.profile)).params) }
     {
         let local = self.fields.local();
-        all_params(alloc, local.control, &self.ports)
+        all_params(alloc, local.control, &self.tables.ports)
     }
 
     /// The parameters of the procedure of a group.
@@ -326,8 +318,8 @@ impl<'a> Layout<'a> {
     {
         let local = self.fields.local();
         let nodes = group_nodes(self.fields.schedule(), group);
-        let inports = inports_among(alloc, local, &self.nodes, nodes)?;
-        params_of_ports(alloc, local.control, &inports, &self.ports)
+        let inports = inports_among(alloc, local, &self.tables.nodes, nodes)?;
+        params_of_ports(alloc, local.control, &inports, &self.tables.ports)
     }
 
     /// Where the controls are read in a procedure with these parameters, and what the trigger remembers.

@@ -8,9 +8,9 @@ overflow_cast-result c =
     let i = c.self.inside in
     let self = c.args.self.now in
     let has = has-fields i self c.self.invariant c.self.view_is in
-    let fit = all-fit self i.values i.singles i.lines i.counters has in
-    let behind = trigger-is self i.values i.singles i.lines i.counters has in
-    let at = place-at i.counters c.args.group c.in-Some.place (sym c.place.ensures ∙ c.in-Some.is) in
+    let fit = all-fit self i.numbers.values i.numbers.singles i.numbers.lines i.numbers.counters has in
+    let behind = trigger-is self i.numbers.values i.numbers.singles i.numbers.lines i.numbers.counters has in
+    let at = place-at i.numbers.counters c.args.group c.in-Some.place (sym c.place.ensures ∙ c.in-Some.is) in
     let same = ap (λ (s : Scheduled). length s.local.children) c.self.view_is in
     omega (arith, fit, behind, at, same)
 
@@ -19,8 +19,8 @@ overflow_add-result c =
     let i = c.self.inside in
     let self = c.args.self.now in
     let has = has-fields i self c.self.invariant c.self.view_is in
-    let fit = all-fit self i.values i.singles i.lines i.counters has in
-    let behind = trigger-is self i.values i.singles i.lines i.counters has in
-    let at = place-at i.counters c.args.group c.in-Some.place (sym c.place.ensures ∙ c.in-Some.is) in
+    let fit = all-fit self i.numbers.values i.numbers.singles i.numbers.lines i.numbers.counters has in
+    let behind = trigger-is self i.numbers.values i.numbers.singles i.numbers.lines i.numbers.counters has in
+    let at = place-at i.numbers.counters c.args.group c.in-Some.place (sym c.place.ensures ∙ c.in-Some.is) in
     let same = ap (λ (s : Scheduled). length s.local.children) c.self.view_is in
     omega (arith, fit, behind, at, same)

@@ -7,8 +7,8 @@ overflow_mul-first c =
     let i = c.self.inside in
     let self = c.args.self.now in
     let has = has-fields i self c.self.invariant c.self.view_is in
-    let fit = all-fit self i.values i.singles i.lines i.counters has in
-    let at = place-within i.lines c.args.b in
+    let fit = all-fit self i.numbers.values i.numbers.singles i.numbers.lines i.numbers.counters has in
+    let at = place-within i.numbers.lines c.args.b in
     omega (arith, fit, at)
 
 pub overflow_add-first-2 : goal.overflow_add-first-2
@@ -16,8 +16,8 @@ overflow_add-first-2 c =
     let i = c.self.inside in
     let self = c.args.self.now in
     let has = has-fields i self c.self.invariant c.self.view_is in
-    let fit = all-fit self i.values i.singles i.lines i.counters has in
-    let at = place-within i.lines c.args.b in
+    let fit = all-fit self i.numbers.values i.numbers.singles i.numbers.lines i.numbers.counters has in
+    let at = place-within i.numbers.lines c.args.b in
     omega (arith, fit, at)
 
 pub overflow_cast-items : goal.overflow_cast-items
@@ -25,8 +25,8 @@ overflow_cast-items c =
     let i = c.self.inside in
     let self = c.args.self.now in
     let has = has-fields i self c.self.invariant c.self.view_is in
-    let fit = all-fit self i.values i.singles i.lines i.counters has in
-    let at = place-within i.lines c.args.b in
+    let fit = all-fit self i.numbers.values i.numbers.singles i.numbers.lines i.numbers.counters has in
+    let at = place-within i.numbers.lines c.args.b in
     omega (arith, fit, at)
 
 pub overflow_add-result : goal.overflow_add-result
@@ -34,8 +34,8 @@ overflow_add-result c =
     let i = c.self.inside in
     let self = c.args.self.now in
     let has = has-fields i self c.self.invariant c.self.view_is in
-    let fit = all-fit self i.values i.singles i.lines i.counters has in
-    let at = place-within i.lines c.args.b in
+    let fit = all-fit self i.numbers.values i.numbers.singles i.numbers.lines i.numbers.counters has in
+    let at = place-within i.numbers.lines c.args.b in
     omega (arith, fit, at)
 
 pub overflow_add-result-2 : goal.overflow_add-result-2
@@ -43,6 +43,6 @@ overflow_add-result-2 c =
     let i = c.self.inside in
     let self = c.args.self.now in
     let has = has-fields i self c.self.invariant c.self.view_is in
-    let fit = all-fit self i.values i.singles i.lines i.counters has in
-    let at = place-within i.lines c.args.b in
+    let fit = all-fit self i.numbers.values i.numbers.singles i.numbers.lines i.numbers.counters has in
+    let at = place-within i.numbers.lines c.args.b in
     omega (arith, fit, at)

@@ -7,6 +7,6 @@ overflow_cast-result c =
     let i = c.self.inside in
     let self = c.args.self.now in
     let has = has-fields i self c.self.invariant c.self.view_is in
-    let fit = all-fit self i.values i.singles i.lines i.counters has in
-    let at = place-within i.values c.args.b in
+    let fit = all-fit self i.numbers.values i.numbers.singles i.numbers.lines i.numbers.counters has in
+    let at = place-within i.numbers.values c.args.b in
     omega (arith, fit, at)

@@ -9,7 +9,7 @@ pub index-requires : goal.index-requires
 index-requires c =
     let self = c.args.self.now in
     let has = has-tables c.self.inside self c.self.invariant c.self.view_is in
-    let long : vec_len c.self.inside.bases ≡ length c.self.inside.bases.items = c.self.inside.bases.ok.0 in
+    let long : vec_len c.self.inside.tables.bases ≡ length c.self.inside.tables.bases.items = c.self.inside.tables.bases.ok.0 in
     let count = ap length has.bases ∙ length-map-range_with_len (child_base self.local (own_count self.schedule)) 0
     (length self.local.children + 1) in
     omega (arith, long, count)

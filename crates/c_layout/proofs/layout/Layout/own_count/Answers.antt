@@ -9,7 +9,7 @@ overflow_add-result-2 c =
     let self = c.args.self.now in
     let has = has-tables c.self.inside self c.self.invariant c.self.view_is in
     let own = own-within self.local self.schedule has.emittable in
-    let groups = c.len.ensures ∙ c.self.inside.groups.ok.0 ∙ ap length has.groups in
+    let groups = c.len.ensures ∙ c.self.inside.tables.groups.ok.0 ∙ ap length has.groups in
     let functions = c.len-2.ensures ∙ c.schedule.inside.functions.ok.0
     ∙ ap (λ (s : SystemSchedule). length s.functions) (c.schedule.view_is ∙ c.schedule-schedule.ensures
     ∙ ap (λ (l : Laid). l.schedule) c.self.view_is) in
@@ -20,7 +20,7 @@ overflow_cast-result c =
     let self = c.args.self.now in
     let has = has-tables c.self.inside self c.self.invariant c.self.view_is in
     let own = own-within self.local self.schedule has.emittable in
-    let groups = c.len.ensures ∙ c.self.inside.groups.ok.0 ∙ ap length has.groups in
+    let groups = c.len.ensures ∙ c.self.inside.tables.groups.ok.0 ∙ ap length has.groups in
     let functions = c.len-2.ensures ∙ c.schedule.inside.functions.ok.0
     ∙ ap (λ (s : SystemSchedule). length s.functions) (c.schedule.view_is ∙ c.schedule-schedule.ensures
     ∙ ap (λ (l : Laid). l.schedule) c.self.view_is) in
