@@ -73,6 +73,19 @@ fn all_procedures(
     Ok(procedures)
 }
 
+/// The program that codes come to, with the root by its own rows and so many ticks in a round.
+fn program_of(alloc: Global, codes: &Codes<'_>, root: &Local, hyper: u32) -> Result<Program, Memory>
+    ensures { IfOk result (λ p. (pures : List PureTree) × IsPrelude pures
+        × (program_tree p
+        ≡ assembled.assembled (trees codes.now.list.now) root.now hyper pures)) }
+{
+    Ok(Program {
+        pure: prelude(alloc)?,
+        structs: all_structs(alloc, codes, root)?,
+        procedures: all_procedures(alloc, codes, root, hyper)?,
+    })
+}
+
 /// The program that the codes of all systems come to, the topmost first: the pure functions, the structs and procedures
 /// from the last code to the first, and those of the root by its own rows. So many ticks are one round.
 ///
@@ -89,9 +102,5 @@ pub fn assemble(
 {
     let none = no_code(alloc);
     let codes = Codes::new(alloc, codes, &none)?;
-    Ok(Program {
-        pure: prelude(alloc)?,
-        structs: all_structs(alloc, &codes, root)?,
-        procedures: all_procedures(alloc, &codes, root, hyper)?,
-    })
+    program_of(alloc, &codes, root, hyper)
 }

@@ -13,3 +13,4 @@ pub mod StructLaws
 pub mod ProcedureLaws
 pub mod NumberNames
 pub mod RootLaws
+pub mod ProgramLaws

@@ -3,3 +3,4 @@ pub mod Gives
 pub mod Choices
 pub mod Params
 pub mod Fields
+pub mod Programs

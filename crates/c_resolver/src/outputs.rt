@@ -1,12 +1,13 @@
 // The outputs among the fields of the root's struct.
-ghost use Rattle.std.specs.Prelude.{◌≡◌, ◌++◌, map, codes, decimal, string_bytes, IfOk, OnOk, filter_map, []};
+ghost use Rattle.std.specs.Prelude.{◌≡◌, ◌++◌, ℕ, List, map, codes, decimal, string_bytes, IfOk, OnOk, filter_map, []};
 ghost use Rattle.std.specs.List.{list_all, cons_option};
 ghost use Rattle.std.specs.Char.{is_ascii_digit};
 ghost use Rattle.c_syntax.specs.Outputs as outputs;
+ghost use Rattle.c_syntax.specs.Outputs.{has_name};
 ghost use Rattle.c_rules.specs.Resolve.{number_name};
 ghost use Rattle.c_grammar.specs.WrittenTrees.{field_of};
 
-use crate::name_table::table_of;
+use crate::name_table::{NameTable, table_of};
 use c_grammar::{WrittenField, WrittenKind};
 use mc_base::{Memory, Text};
 use std::alloc::{AllocError, Global};
@@ -25,6 +26,16 @@ pub(crate) fn output_names(alloc: Global, names: &[&[u8]]) -> Result<Vec<Text>, 
         ≡ outputs.output_names (map (λ n. n.now) names.now)) }
 {
     let table = table_of(alloc, names)?;
+    outputs_among(alloc, &table, names)
+}
+
+/// Those of the names of outputs, in order, that stand among names, which are these.
+fn outputs_among(alloc: Global, table: &NameTable, names: &[&[u8]]) -> Result<Vec<Text>, Memory>
+    requires { (n : List ℕ) →
+        has_name table.now n ≡ has_name (map (λ x. x.now) names.now) n }
+    ensures { IfOk result (λ found. found.items
+        ≡ outputs.output_names (map (λ n. n.now) names.now)) }
+{
     let mut found = Vec::new(alloc);
     for before in 0..names.len() {
         let name = output_name(alloc, before + 1)?;

@@ -75,14 +75,16 @@ fn resolve_procedure<'a>(
     ensures named { IfOk result (λ procedure. procedure.name ≡ p.now.name.now) }
 {
     let of = on_line(p.line, resolve_head(known, p))?;
-    let plain = plain_params(alloc, p.params.as_slice())?;
-    let names = resolve_params(alloc, known, plain.as_slice())?;
-    let scope = Scope {
-        known,
-        of: Some(of),
-        params: &names,
+    let body = {
+        let plain = plain_params(alloc, p.params.as_slice())?;
+        let names = resolve_params(alloc, known, plain.as_slice())?;
+        let scope = Scope {
+            known,
+            of: Some(of),
+            params: &names,
+        };
+        resolve_stmts(alloc, &scope, p.body.as_slice())?
     };
-    let body = resolve_stmts(alloc, &scope, p.body.as_slice())?;
     Ok(Procedure {
         name: Text::copy_of(alloc, p.name)?,
         private: p.private,

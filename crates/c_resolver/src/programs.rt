@@ -4,6 +4,7 @@ ghost use Rattle.c_syntax.specs.Plain.{program_tree};
 ghost use Rattle.c_rules.specs.Resolve as rules;
 ghost use Rattle.c_grammar.specs.WrittenTrees as written;
 ghost use Rattle.c_resolver.specs.Gives.{Gives};
+ghost use Rattle.c_resolver.specs.Programs as definitions;
 ghost use Rattle.c_resolver.specs.Scopes.{known_of};
 
 use crate::faults::{on_line, unless_fault};
@@ -58,15 +59,29 @@ fn program_of(known: Known) -> Program
     }
 }
 
+/// Makes all definitions of a program known, and sees that those of the root are among them.
+fn resolve_definitions<'a>(
+    alloc: Global,
+    last: u32,
+    known: &mut Known<'a>,
+    p: &WrittenProgram<'a>,
+) -> Result<(), ReadCFault>
+    ensures { Gives (λ _. known_of known.new) result
+        (definitions.resolve_definitions last (known_of known.old) (written.program_of p.now)) }
+{
+    resolve_pures(alloc, known, p.pures.as_slice())?;
+    resolve_structs(alloc, known, p.structs.as_slice())?;
+    resolve_procedures(alloc, known, p.procedures.as_slice())?;
+    on_line(last, unless_fault(has_root(known), CKind::Name))?;
+    Ok(())
+}
+
 /// What a written program stands for; the last line of its text is where a missing root is told.
 pub fn resolve_program(alloc: Global, last: u32, p: &WrittenProgram) -> Result<Program, ReadCFault>
     ensures resolved { Gives program_tree result (rules.resolve_program last (written.program_of p.now)) }
     ensures few { IfOk result (λ program. length program.procedures.items < 2 ^ 32) }
 {
     let mut known = nothing_known(alloc);
-    resolve_pures(alloc, &mut known, p.pures.as_slice())?;
-    resolve_structs(alloc, &mut known, p.structs.as_slice())?;
-    resolve_procedures(alloc, &mut known, p.procedures.as_slice())?;
-    on_line(last, unless_fault(has_root(&known), CKind::Name))?;
+    resolve_definitions(alloc, last, &mut known, p)?;
     Ok(program_of(known))
 }

@@ -30,13 +30,15 @@ fn resolve_pure<'a>(
     if known.has_function(p.name) {
         return Err(ReadCFault::Refused(fault_at(p.line, CKind::Name)));
     }
-    let names = resolve_params(alloc, known, p.params.as_slice())?;
-    let scope = Scope {
-        known,
-        of: None,
-        params: &names,
+    let body = {
+        let names = resolve_params(alloc, known, p.params.as_slice())?;
+        let scope = Scope {
+            known,
+            of: None,
+            params: &names,
+        };
+        resolve_expr(alloc, &scope, &p.body)?
     };
-    let body = resolve_expr(alloc, &scope, &p.body)?;
     Ok(Pure {
         name: Text::copy_of(alloc, p.name)?,
         params: texts_of(alloc, p.params.as_slice())?,

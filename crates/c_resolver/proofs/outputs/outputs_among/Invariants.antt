@@ -1,7 +1,7 @@
 use Rattle.std.proofs.Common.{◌≡◌, map}
 use Rattle.c_syntax.specs.Outputs.{has_name, output_name, numbers_from}
 use Rattle.c_resolver.proofs.OutputLaws.{Pass}
-use Rattle.c_resolver.proofs.outputs.output_names.Given as goal
+use Rattle.c_resolver.proofs.outputs.outputs_among.Given as goal
 
 abbrev pub invariant-loop-before : goal.invariant-loop-before
 invariant-loop-before l = record {

@@ -3,7 +3,7 @@ use Rattle.std.proofs.lemmas.List.{length-map}
 use Rattle.c_syntax.specs.Outputs.{has_name}
 use Rattle.c_resolver.proofs.NameLists.{names_of}
 use Rattle.c_resolver.proofs.OutputLaws.{outputs-stop, outputs-all, outputs-push}
-use Rattle.c_resolver.proofs.outputs.output_names.Goals as goal
+use Rattle.c_resolver.proofs.outputs.outputs_among.Goals as goal
 
 pub returns-then-not-contains : goal.returns-then-not-contains
 returns-then-not-contains c =
@@ -11,7 +11,7 @@ returns-then-not-contains c =
     let i = c.loop-before.before in
     let within : i < length names = omega (arith, c.loop-before-test.true, length-map c.args.names.now (λ n. n.now)) in
     let here = ap (has_name names) (sym (c.bytes.ensures ∙ c.in_ok-name.ensures))
-    ∙ sym (c.in_ok-table.ensures c.bytes.result.now) ∙ sym c.contains.ensures ∙ c.if-not-contains.true in
+    ∙ sym (c.requires c.bytes.result.now) ∙ sym c.contains.ensures ∙ c.if-not-contains.true in
     c.loop-before.invariant.found ∙ outputs-stop names i within c.loop-before.invariant.passed here
 
 pub loop-before-preserved : goal.loop-before-preserved
@@ -19,7 +19,7 @@ loop-before-preserved c =
     let names = names_of c.args.names.now in
     let i = c.loop-before.before in
     let here = ap (has_name names) (sym (c.bytes.ensures ∙ c.in_ok-name.ensures))
-    ∙ sym (c.in_ok-table.ensures c.bytes.result.now) ∙ sym c.contains.ensures ∙ c.if-not-contains.false in
+    ∙ sym (c.requires c.bytes.result.now) ∙ sym c.contains.ensures ∙ c.if-not-contains.false in
     record {
       found = c.in_ok-push.ensures.items
           ∙ ap (λ (xs : List (List ℕ)). xs ++ c.in_ok-name.name ∷ []) c.loop-before.invariant.found

@@ -1,0 +1,11 @@
+use Rattle.std.proofs.Common.{map}
+use Rattle.c_syntax.specs.Plain.{pure_tree}
+use Rattle.c_assembler.proofs.program.program_of.Goals as goal
+
+pub returns : goal.returns
+returns c =
+    let pures = map pure_tree c.in_ok-prelude.field-0.items in (
+      pures,
+      c.in_ok-prelude.ensures,
+      λ j. record { pures = pures; structs = c.in_ok-all_structs.ensures j; procedures = c.in_ok-all_procedures.ensures j },
+    )
