@@ -1,5 +1,5 @@
 ghost use Rattle.std.specs.Prelude.{◌≡◌, IfOk, false};
-ghost use Rattle.clap.specs.Words.{app_of, rule_of};
+ghost use Rattle.clap.specs.Words.{app_of, rule_of, with_subcommand};
 ghost use Rattle.clap.specs.declared.builder.command.Command.TheViews.{out-Command as fields_of};
 ghost use Rattle.mc_words.specs.Program.{argument, compile, run, exec, profile, drive, gen, bare, program, IsSubcommand};
 
@@ -76,14 +76,22 @@ fn bare<'a>(alloc: Global) -> Command<'a>
         .subcommand_required(true)
 }
 
-/// The program, with each of its commands as a subcommand.
-pub fn program<'a>(alloc: Global) -> Result<Command<'a>, AllocError>
-    ensures { IfOk result (λ c. app_of c ≡ program) }
+// The program with the commands that compile and run.
+fn runner<'a>(alloc: Global) -> Result<Command<'a>, AllocError>
+    ensures { IfOk result (λ c. app_of c
+        ≡ with_subcommand (with_subcommand (with_subcommand bare compile) run) exec) }
 {
     bare(alloc)
         .subcommand(compile(alloc)?)?
         .subcommand(run(alloc)?)?
-        .subcommand(exec(alloc)?)?
+        .subcommand(exec(alloc)?)
+}
+
+/// The program, with each of its commands as a subcommand.
+pub fn program<'a>(alloc: Global) -> Result<Command<'a>, AllocError>
+    ensures { IfOk result (λ c. app_of c ≡ program) }
+{
+    runner(alloc)?
         .subcommand(profile(alloc)?)?
         .subcommand(drive(alloc)?)?
         .subcommand(generate(alloc)?)
