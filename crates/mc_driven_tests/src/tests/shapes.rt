@@ -3,7 +3,7 @@ use mc_base::Port;
 use mc_drive::DriveShape;
 use mc_driven::{shape_of, system_named};
 use mc_fixed::FixType;
-use mc_profile::{Function, Profile};
+use mc_profile::Function;
 use std::alloc::Global;
 use std::test::Fail;
 
@@ -40,17 +40,32 @@ fn shape(alloc: Global, parts: &str, word: &str) -> Result<DriveShape, Fail> {
     }
 }
 
-/// The name of a shape's system, its row, and after how many ticks the number of the tick begins at 0 again.
-fn system_of(shape: &DriveShape) -> (&[u8], Option<u32>, u32) {
-    (shape.name.bytes(), shape.profile.row, shape.hyper)
+/// What is seen of a shape: its system's name and row, after how many ticks the number of the tick begins at 0 again, its
+/// functions, its inputs, its controls, and how many outputs it has, with the first and the last.
+type Seen<'a> = (
+    (&'a [u8], Option<u32>, u32),
+    &'a [Function],
+    &'a [FixType],
+    &'a [(Port, FixType)],
+    (usize, Option<&'a [u8]>, Option<&'a [u8]>),
+);
+
+fn seen(shape: &DriveShape) -> Seen<'_> {
+    let outputs = shape.outputs.as_slice();
+    let first = outputs.first().map(|output| output.bytes());
+    let last = outputs.last().map(|output| output.bytes());
+    (
+        (shape.name.bytes(), shape.profile.row, shape.hyper),
+        shape.profile.functions.as_slice(),
+        shape.inputs.as_slice(),
+        shape.controls.as_slice(),
+        (outputs.len(), first, last),
+    )
 }
 
 // Each output is of one function, which takes one input.
 #[test]
 fn shape_of_crossed_ports(rt: HostRuntime) -> Result<(), Fail> {
-    let whole = shape(rt.alloc(), CROSSED_PORTS, "1")?;
-    let shape = &whole;
-    assert_eq!(rt; system_of(shape), (b"s1".as_slice(), Some(1), 1));
     let functions = [
         Function {
             inputs: 0b01,
@@ -61,54 +76,52 @@ fn shape_of_crossed_ports(rt: HostRuntime) -> Result<(), Fail> {
             outputs: 0b10,
         },
     ];
-    assert_eq!(rt; shape.profile.functions.as_slice(), functions.as_slice());
-    assert_eq!(rt; shape.inputs.as_slice(), [INT32, INT32].as_slice());
-    let [first, last] = shape.outputs.as_slice() else {
-        return Err("two outputs".into());
-    };
-    let found = (first.bytes(), last.bytes(), shape.controls.len());
-    assert_eq!(rt; found, (b"v4".as_slice(), b"v5".as_slice(), 0));
+    let wanted: Seen = (
+        (b"s1", Some(1), 1),
+        &functions,
+        &[INT32, INT32],
+        &[],
+        (2, Some(b"v4"), Some(b"v5")),
+    );
+    let shape = shape(rt.alloc(), CROSSED_PORTS, "1")?;
+    assert_eq!(rt; seen(&shape), wanted);
     Ok(())
 }
 
 // The one function takes the input and both controls, the enable first.
 #[test]
 fn shape_with_both_controls(rt: HostRuntime) -> Result<(), Fail> {
-    let whole = shape(rt.alloc(), BOTH_CONTROLS, "3")?;
-    let shape = &whole;
-    assert_eq!(rt; system_of(shape), (b"s3".as_slice(), Some(3), 1));
     let function = Function {
         inputs: 1 | 1 << 32 | 1 << 33,
         outputs: 1,
     };
-    assert_eq!(rt; shape.profile.functions.as_slice(), [function].as_slice());
-    assert_eq!(rt; shape.inputs.as_slice(), [INT16].as_slice());
-    let controls = [(Port::Enable, BOOLEAN), (Port::Trigger, UINT8)];
-    assert_eq!(rt; shape.controls.as_slice(), controls.as_slice());
-    let [output] = shape.outputs.as_slice() else {
-        return Err("one output".into());
-    };
-    assert_eq!(rt; output.bytes(), b"v7".as_slice());
+    let wanted: Seen = (
+        (b"s3", Some(3), 1),
+        &[function],
+        &[INT16],
+        &[(Port::Enable, BOOLEAN), (Port::Trigger, UINT8)],
+        (1, Some(b"v7"), Some(b"v7")),
+    );
+    let shape = shape(rt.alloc(), BOTH_CONTROLS, "3")?;
+    assert_eq!(rt; seen(&shape), wanted);
     Ok(())
 }
 
 // The root has no controls; its inputs are those of the file, by port.
 #[test]
 fn shape_of_a_root(rt: HostRuntime) -> Result<(), Fail> {
-    let whole = shape(rt.alloc(), BOTH_CONTROLS, "top")?;
-    let shape = &whole;
-    assert_eq!(rt; system_of(shape), (b"top".as_slice(), None, 1));
     let function = Function {
         inputs: 0b111,
         outputs: 1,
     };
-    assert_eq!(rt; shape.profile.functions.as_slice(), [function].as_slice());
-    let inputs = [INT16, BOOLEAN, UINT8];
-    assert_eq!(rt; shape.inputs.as_slice(), inputs.as_slice());
-    let [output] = shape.outputs.as_slice() else {
-        return Err("one output".into());
-    };
-    let found = (output.bytes(), shape.controls.len());
-    assert_eq!(rt; found, (b"v8".as_slice(), 0));
+    let wanted: Seen = (
+        (b"top", None, 1),
+        &[function],
+        &[INT16, BOOLEAN, UINT8],
+        &[],
+        (1, Some(b"v8"), Some(b"v8")),
+    );
+    let shape = shape(rt.alloc(), BOTH_CONTROLS, "top")?;
+    assert_eq!(rt; seen(&shape), wanted);
     Ok(())
 }
