@@ -61,7 +61,8 @@ fn refusals_are_told(rt: HostRuntime) -> Result<(), Fail> {
     Ok(())
 }
 
-const NUMBERS: [(&str, i128, u128); 20] = [
+// Texts, with the parts of the fractions that they are.
+const NUMBERS: &[(&str, i128, u128)] = &[
     ("0.1", 1, 10),
     ("1/50", 1, 50),
     (" 2.5\t", 5, 2),
@@ -84,7 +85,7 @@ const NUMBERS: [(&str, i128, u128); 20] = [
     ("0.00000000000000000000000", 0, 1),
 ];
 
-const NO_NUMBERS: [(&str, NumFault); 20] = [
+const NO_NUMBERS: &[(&str, NumFault)] = &[
     ("", NumFault::Form),
     (".", NumFault::Form),
     ("-", NumFault::Form),
@@ -107,47 +108,45 @@ const NO_NUMBERS: [(&str, NumFault); 20] = [
     ("0e0000000000000000000", NumFault::Range),
 ];
 
+// The parts of the fraction that a text is.
+fn parts_of(text: &str) -> Result<(i128, u128), NumFault> {
+    let read = read_decimal(text.as_bytes())?;
+    Ok((read.num, read.den))
+}
+
 #[test]
-fn numbers_are_read(rt: HostRuntime) -> Result<(), Fail> {
-    for (text, num, den) in NUMBERS {
-        let read = read_decimal(text.as_bytes())?;
-        assert_eq!(rt; read.num, num, "{text}");
-        assert_eq!(rt; read.den, den, "{text}");
+fn numbers_are_read(rt: HostRuntime) {
+    for &(text, num, den) in NUMBERS {
+        assert_eq!(rt; parts_of(text), Ok((num, den)), "{text}");
     }
-    Ok(())
 }
 
 #[test]
 fn other_texts_are_no_numbers(rt: HostRuntime) {
-    for (text, fault) in NO_NUMBERS {
-        assert_eq!(rt; read_decimal(text.as_bytes()).err(), Some(fault), "{text}");
+    for &(text, fault) in NO_NUMBERS {
+        assert_eq!(rt; parts_of(text), Err(fault), "{text}");
     }
 }
 
+// The parts of the fraction that a text is, where these are bounded.
+fn bounded_parts_of(text: &str) -> Result<(u64, u64), NumFault> {
+    let frac = frac_of(&read_decimal(text.as_bytes())?)?;
+    Ok((frac.num, frac.den))
+}
+
 #[test]
-fn parts_of_fractions_are_bounded(rt: HostRuntime) -> Result<(), Fail> {
-    for &(text, fits) in &[
-        ("0", true),
-        ("1e9", true),
-        ("1e-9", true),
-        ("-1/2", false),
-        ("1000000001", false),
-        ("1/1000000001", false),
+fn parts_of_fractions_are_bounded(rt: HostRuntime) {
+    let beyond = Err(NumFault::Range);
+    for &(text, want) in &[
+        ("0", Ok((0, 1))),
+        ("1e9", Ok((1_000_000_000, 1))),
+        ("1e-9", Ok((1, 1_000_000_000))),
+        ("-1/2", beyond),
+        ("1000000001", beyond),
+        ("1/1000000001", beyond),
     ] {
-        let decimal = read_decimal(text.as_bytes())?;
-        match frac_of(&decimal) {
-            Ok(frac) => {
-                assert!(rt; fits, "{text}");
-                assert_eq!(rt; i128::from(frac.num), decimal.num);
-                assert_eq!(rt; u128::from(frac.den), decimal.den);
-            }
-            Err(fault) => {
-                assert!(rt; !fits, "{text}");
-                assert_eq!(rt; fault, NumFault::Range);
-            }
-        }
+        assert_eq!(rt; bounded_parts_of(text), want, "{text}");
     }
-    Ok(())
 }
 
 #[test]
@@ -158,11 +157,9 @@ fn divisors_and_multiples_are_found(rt: HostRuntime) {
         (35, 64, 1, 2240),
         (4_294_967_295, 4_294_967_294, 1, 18_446_744_060_824_649_730),
     ] {
-        assert_eq!(rt; gcd(a, b), divisor);
-        assert_eq!(rt; lcm(a, b), multiple);
+        assert_eq!(rt; (gcd(a, b), lcm(a, b)), (divisor, multiple));
     }
-    assert_eq!(rt; gcd(0, 7), 7);
-    assert_eq!(rt; gcd(7, 0), 7);
+    assert_eq!(rt; (gcd(0, 7), gcd(7, 0)), (7, 7));
 }
 
 #[test]

@@ -83,9 +83,12 @@ fn a_file_is_written_whole_or_its_front(rt: HostRuntime) -> Result<(), Fail> {
     ] {
         let mut host = host_of(alloc, &[fail], 16)?;
         let is_whole = write_all(&mut host, "c", TEXT).is_ok();
-        assert_eq!(rt; first_written(&host), want, "{fail}");
         let counts = (host.written().len(), host.refused());
-        assert_eq!(rt; (is_whole, counts), (fail == 9, (files, 0)), "{fail}");
+        assert_eq!(rt;
+            (is_whole, first_written(&host), counts),
+            (fail == 9, want, (files, 0)),
+            "{fail}"
+        );
     }
     Ok(())
 }
@@ -96,8 +99,11 @@ fn a_text_is_put_whole_or_its_front(rt: HostRuntime) -> Result<(), Fail> {
     for (fail, want) in [(9u64, TEXT), (2, &TEXT[..32]), (0, &TEXT[..0])] {
         let mut sink = MemSink::new(alloc, [fail].to_vec(alloc)?, 16);
         let is_whole = put_all(&mut sink, TEXT).is_ok();
-        assert_eq!(rt; sink.bytes(), want, "{fail}");
-        assert_eq!(rt; (is_whole, sink.refused()), (fail == 9, 0), "{fail}");
+        assert_eq!(rt;
+            (is_whole, sink.bytes(), sink.refused()),
+            (fail == 9, want, 0),
+            "{fail}"
+        );
     }
     Ok(())
 }
@@ -109,8 +115,8 @@ fn a_sure_host_reads_what_it_has(rt: HostRuntime) -> Result<(), Fail> {
     let there = holds_text(alloc, &mut host, "a", 4096);
     let missing = holds_text(alloc, &mut host, "b", 4096).is_err();
     let is_written = write_all(&mut host, "c", TEXT).is_ok();
-    assert_eq!(rt; (there, missing, is_written), (Ok(true), true, true));
-    assert_eq!(rt; host.taken(), TEXT.len() as u64);
+    let found = (there, missing, is_written, host.taken());
+    assert_eq!(rt; found, (Ok(true), true, true, TEXT.len() as u64));
     Ok(())
 }
 
@@ -165,8 +171,8 @@ fn bytes_are_read_behind_those_that_are_there(rt: HostRuntime) -> Result<(), Fai
     let mut read = ReadBuffer::new(alloc)?;
     let is_open = host.open_read("a").is_ok();
     let count = read.fill(&mut host).ok();
-    assert_eq!(rt; (is_open, count), (true, Some(16)));
-    assert_eq!(rt; read.bytes(), &TEXT[..16]);
+    let found = (is_open, count, read.bytes());
+    assert_eq!(rt; found, (true, Some(16), &TEXT[..16]));
     Ok(())
 }
 
@@ -197,8 +203,10 @@ fn the_system_keeps_a_file(rt: HostRuntime) {
     let longer = longer(rt.alloc(), &mut host);
     // A folder can be opened, and each read of it fails.
     let fault = Err(ReadAllFault::Read);
-    assert_eq!(rt; (is_written, reads), (true, [Ok(true), fault, fault]));
-    assert_eq!(rt; longer, Some(TEXT.len() + 1));
+    assert_eq!(rt;
+        (is_written, reads, longer),
+        (true, [Ok(true), fault, fault], Some(TEXT.len() + 1))
+    );
 }
 
 #[test]

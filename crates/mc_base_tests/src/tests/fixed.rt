@@ -8,8 +8,16 @@ use mc_fixed::{
 };
 use std::test::Fail;
 
+// Whether the type that a text is has a sign, its bits and its fraction bits.
+fn fixed_of(text: &str) -> Option<(bool, u8, u8)> {
+    match read_type(text.as_bytes()) {
+        Ok(TypeText::Fixed(t)) => Some((t.signed, t.bits, t.frac)),
+        _ => None,
+    }
+}
+
 #[test]
-fn types_are_read(rt: HostRuntime) -> Result<(), Fail> {
+fn types_are_read(rt: HostRuntime) {
     for &(text, signed, bits, frac) in &[
         ("int8", true, 8, 0),
         (" uint32\t", false, 32, 0),
@@ -18,16 +26,8 @@ fn types_are_read(rt: HostRuntime) -> Result<(), Fail> {
         ("fixdt( true , 08,0 )", true, 8, 0),
         ("fixdt(0,1,31)", false, 1, 31),
     ] {
-        match read_type(text.as_bytes())? {
-            TypeText::Fixed(t) => {
-                assert_eq!(rt; t.signed, signed, "{text}");
-                assert_eq!(rt; t.bits, bits, "{text}");
-                assert_eq!(rt; t.frac, frac, "{text}");
-            }
-            _ => assert!(rt; false, "{text}"),
-        }
+        assert_eq!(rt; fixed_of(text), Some((signed, bits, frac)), "{text}");
     }
-    Ok(())
 }
 
 #[test]
@@ -140,15 +140,21 @@ fn ties_and_ends_go_by_the_modes(rt: HostRuntime) -> Result<(), Fail> {
         (Round::Convergent, -2, -128),
     ] {
         // -2.5, and 127.5
-        assert_eq!(rt; convert(-40, 4, int8, round, Over::Saturate), tie);
-        assert_eq!(rt; convert(2040, 4, int8, round, Over::Saturate), 127);
-        assert_eq!(rt; convert(2040, 4, int8, round, Over::Wrap), wrapped);
+        let low = convert(-40, 4, int8, round, Over::Saturate);
+        let high = convert(2040, 4, int8, round, Over::Saturate);
+        let past = convert(2040, 4, int8, round, Over::Wrap);
+        assert_eq!(rt; (low, high, past), (tie, 127, wrapped));
     }
     Ok(())
 }
 
+// The constant that a gain becomes: its stored integer and its fraction bits.
+fn gain_of(text: &str) -> Result<(i64, u8), NumFault> {
+    gain_constant(&read_decimal(text.as_bytes())?)
+}
+
 #[test]
-fn gains_find_their_types(rt: HostRuntime) -> Result<(), Fail> {
+fn gains_find_their_types(rt: HostRuntime) {
     for &(text, number, frac) in &[
         ("0.1", 214_748_365, 31),
         ("2.5", 5, 1),
@@ -161,14 +167,15 @@ fn gains_find_their_types(rt: HostRuntime) -> Result<(), Fail> {
         ("-2147483648", -2_147_483_648, 0),
         ("-2147483648.5", -2_147_483_648, 0),
     ] {
-        let gain = read_decimal(text.as_bytes())?;
-        assert_eq!(rt; gain_constant(&gain), Ok((number, frac)), "{text}");
+        assert_eq!(rt; gain_of(text), Ok((number, frac)), "{text}");
     }
+}
+
+#[test]
+fn gains_beyond_32_bits_have_no_type(rt: HostRuntime) {
     for &text in &["2147483647.5", "2147483648", "-2147483649", "1e18", "-1e18"] {
-        let gain = read_decimal(text.as_bytes())?;
-        assert_eq!(rt; gain_constant(&gain), Err(NumFault::Range), "{text}");
+        assert_eq!(rt; gain_of(text), Err(NumFault::Range), "{text}");
     }
-    Ok(())
 }
 
 #[test]
@@ -219,8 +226,7 @@ fn ranges_have_their_ends(rt: HostRuntime) -> Result<(), Fail> {
         (false, 1, 0, 1),
     ] {
         let t = FixType::new(signed, bits, 0).ok_or("a type")?;
-        assert_eq!(rt; least(t), low);
-        assert_eq!(rt; greatest(t), high);
+        assert_eq!(rt; (least(t), greatest(t)), (low, high));
     }
     Ok(())
 }
