@@ -1,9 +1,9 @@
-mod controls;
-mod delays;
 mod profiles;
 mod rates;
+mod runs;
 mod shared;
 mod systems;
+mod traces;
 
 use mc_depend::find_loop;
 use mc_diagram::Resolved;
@@ -22,29 +22,39 @@ fn resolved(alloc: Global, parts: &str) -> Result<Resolved, Fail> {
     }
 }
 
-/// A trace with these rows.
-fn trace<const INPUTS: usize>(
-    alloc: Global,
-    rows: &[[i64; INPUTS]],
-) -> Result<Vec<Vec<i64>>, Fail> {
+/// The trace with these rows, which `;` parts, of numbers that blanks part.
+fn trace(alloc: Global, rows: &str) -> Result<Vec<Vec<i64>>, Fail> {
     let mut trace = Vec::new(alloc);
-    for row in rows {
-        trace.push(Vec::from_slice(alloc, row.as_slice())?)?;
+    for row in rows.split(';') {
+        trace.push(numbers(alloc, row)?)?;
     }
     Ok(trace)
 }
 
-/// The last value of each tick.
-fn last_column(alloc: Global, run: &[Vec<i64>]) -> Result<Vec<i64>, Fail> {
-    let mut values = Vec::new(alloc);
+/// The numbers of a row.
+fn numbers(alloc: Global, row: &str) -> Result<Vec<i64>, Fail> {
+    let mut numbers = Vec::new(alloc);
+    for word in row.split_whitespace() {
+        numbers.push(word.parse::<i64>()?)?;
+    }
+    Ok(numbers)
+}
+
+/// The last value of each tick, as a text.
+fn last_column(alloc: Global, run: &[Vec<i64>]) -> Result<String, Fail> {
+    let mut values = String::new(alloc);
     for tick in run {
-        values.push(*tick.as_slice().last().ok_or("there is no row")?)?;
+        let last = tick.as_slice().last().ok_or("there is no row")?;
+        if !values.is_empty() {
+            values.push(' ')?;
+        }
+        values.push_str(&last.to_string(alloc)?)?;
     }
     Ok(values)
 }
 
 /// The values of the last row, by tick, in the run of a model over a trace.
-fn last_values(alloc: Global, r: &Resolved, inputs: &[Vec<i64>]) -> Result<Vec<i64>, Fail> {
+fn last_values(alloc: Global, r: &Resolved, inputs: &[Vec<i64>]) -> Result<String, Fail> {
     let None = find_loop(alloc, r)? else {
         return Err("there is a loop".into());
     };
@@ -56,11 +66,7 @@ fn last_values(alloc: Global, r: &Resolved, inputs: &[Vec<i64>]) -> Result<Vec<i
 }
 
 /// The values of the last row, by tick, in the run of a model of these parts over these rows.
-fn outputs<const INPUTS: usize>(
-    alloc: Global,
-    parts: &str,
-    rows: &[[i64; INPUTS]],
-) -> Result<Vec<i64>, Fail> {
+fn outputs(alloc: Global, parts: &str, rows: &str) -> Result<String, Fail> {
     let inputs = trace(alloc, rows)?;
     let r = resolved(alloc, parts)?;
     last_values(alloc, &r, inputs.as_slice())

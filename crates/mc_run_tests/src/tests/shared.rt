@@ -1,7 +1,7 @@
 use super::profiles::{function, row_and_functions};
 use super::resolved;
 use super::systems::{child_nodes, child_profiles, root_nodes, root_profile};
-use mc_profile::Node;
+use mc_profile::{Node, Nodes};
 use std::test::Fail;
 
 /// A subsystem that adds twice what a delay holds to each of its two inputs; the delay begins with 1 and takes that double.
@@ -16,15 +16,25 @@ const SHARED_CHILD: &str = "Inport a OutDataTypeStr=int32; Inport b Port=2 OutDa
      SubSystem s {; Inport x; Outport y; x 1 > y 1; }; \
      Sum p; Outport o1; Outport o2 Port=2; a 1 > s 1; s 1 > p 1; b 1 > p 2; s 1 > o1 1; p 1 > o2 1";
 
+/// The nodes of a system, its edges and the nodes of its outputs.
+type Seen<'a> = (&'a [Node], &'a [(u32, u32)], &'a [u32]);
+
+fn seen(nodes: &Nodes) -> Seen<'_> {
+    (
+        nodes.list.as_slice(),
+        nodes.graph.edges.as_slice(),
+        nodes.outputs.as_slice(),
+    )
+}
+
 // The delay, at place 2, needs nothing; the gain behind it, at place 3, is needed by both sums.
 #[test]
 fn nodes_of_a_shared_node(rt: HostRuntime) -> Result<(), Fail> {
-    let nodes = child_nodes(rt.alloc(), &resolved(rt.alloc(), SHARED_NODE)?)?;
-    let rows = [3, 4, 5, 6, 7, 8, 9, 10];
-    assert_eq!(rt; nodes.list.as_slice(), rows.map(Node::Row).as_slice());
+    let rows = [3, 4, 5, 6, 7, 8, 9, 10].map(Node::Row);
     let edges = [(2, 3), (3, 4), (0, 4), (3, 5), (1, 5), (4, 6), (5, 7)];
-    assert_eq!(rt; nodes.graph.edges.as_slice(), edges.as_slice());
-    assert_eq!(rt; nodes.outputs.as_slice(), [6, 7].as_slice());
+    let nodes = child_nodes(rt.alloc(), &resolved(rt.alloc(), SHARED_NODE)?)?;
+    let wanted: Seen = (&rows, &edges, &[6, 7]);
+    assert_eq!(rt; seen(&nodes), wanted);
     Ok(())
 }
 
@@ -42,7 +52,6 @@ fn profile_of_a_shared_node(rt: HostRuntime) -> Result<(), Fail> {
 // The call, at place 6, is needed by the sum and by the first output.
 #[test]
 fn nodes_of_a_shared_child(rt: HostRuntime) -> Result<(), Fail> {
-    let nodes = root_nodes(rt.alloc(), &resolved(rt.alloc(), SHARED_CHILD)?)?;
     let call = Node::Call {
         child: 2,
         function: 1,
@@ -56,10 +65,10 @@ fn nodes_of_a_shared_child(rt: HostRuntime) -> Result<(), Fail> {
         Node::Row(7),
         call,
     ];
-    assert_eq!(rt; nodes.list.as_slice(), list.as_slice());
     let edges = [(6, 3), (1, 3), (6, 4), (3, 5), (0, 6)];
-    assert_eq!(rt; nodes.graph.edges.as_slice(), edges.as_slice());
-    assert_eq!(rt; nodes.outputs.as_slice(), [4, 5].as_slice());
+    let nodes = root_nodes(rt.alloc(), &resolved(rt.alloc(), SHARED_CHILD)?)?;
+    let wanted: Seen = (&list, &edges, &[4, 5]);
+    assert_eq!(rt; seen(&nodes), wanted);
     Ok(())
 }
 

@@ -1,0 +1,23 @@
+use super::{resolved, trace};
+use mc_equations::is_trace_for;
+use std::alloc::Global;
+use std::test::Fail;
+
+/// Whether these rows are a trace for a model of one input.
+fn fits_one_input(alloc: Global, rows: &str) -> Result<bool, Fail> {
+    let inputs = trace(alloc, rows)?;
+    let r = resolved(
+        alloc,
+        "Inport a OutDataTypeStr=int32; UnitDelay d InitialCondition=7; Outport o; a 1 > d 1; d 1 > o 1",
+    )?;
+    Ok(is_trace_for(&r, inputs.as_slice()))
+}
+
+#[test]
+fn a_row_has_just_one_number_for_each_input(rt: HostRuntime) -> Result<(), Fail> {
+    let exact = fits_one_input(rt.alloc(), "1; 2")?;
+    let too_few = fits_one_input(rt.alloc(), "")?;
+    let too_many = fits_one_input(rt.alloc(), "1 2")?;
+    assert_eq!(rt; (exact, too_few, too_many), (true, false, false));
+    Ok(())
+}
