@@ -4,3 +4,4 @@ pub mod Choices
 pub mod Params
 pub mod Fields
 pub mod Programs
+pub mod Bodies

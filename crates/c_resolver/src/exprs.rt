@@ -94,7 +94,11 @@ pub(crate) fn resolve_expr(
 
 /// The same in a box.
 #[cycle(expression)]
-fn resolve_boxed(alloc: Global, scope: &Scope, e: &WrittenExpr) -> Result<Box<Expr>, ReadCFault>
+pub(crate) fn resolve_boxed(
+    alloc: Global,
+    scope: &Scope,
+    e: &WrittenExpr,
+) -> Result<Box<Expr>, ReadCFault>
     ensures { Gives (λ b. expr_tree b.value) result
         (rules.resolve_expr (names_of scope.now) (expr_of e.now)) }
 {
@@ -135,18 +139,14 @@ fn resolve_exprs(alloc: Global, scope: &Scope, es: &[WrittenExpr]) -> Result<Vec
 
 /// What a condition stands for.
 #[cycle(expression)]
-pub(crate) fn resolve_cond(
-    alloc: Global,
-    scope: &Scope,
-    test: &WrittenCond,
-) -> Result<Cond, ReadCFault>
+fn resolve_cond(alloc: Global, scope: &Scope, test: &WrittenCond) -> Result<Cond, ReadCFault>
     ensures { Gives cond_tree result (rules.resolve_cond (names_of scope.now) (cond_of test.now)) }
 {
     match test {
         WrittenCond::Compare(how, left, right) => {
-            let left = resolve_expr(alloc, scope, left)?;
+            let left = resolve_boxed(alloc, scope, left)?;
             let right = resolve_expr(alloc, scope, right)?;
-            Ok(Cond::Compare(*how, left, right))
+            Ok(Cond::Compare(*how, Box::into_inner(left), right))
         }
         WrittenCond::Both(left, right) => {
             let left = resolve_boxed_cond(alloc, scope, left)?;
@@ -167,7 +167,7 @@ pub(crate) fn resolve_cond(
 
 /// The same in a box.
 #[cycle(expression)]
-fn resolve_boxed_cond(
+pub(crate) fn resolve_boxed_cond(
     alloc: Global,
     scope: &Scope,
     test: &WrittenCond,

@@ -8,11 +8,12 @@ ghost use Rattle.c_resolver.specs.Scopes.{known_of};
 
 use crate::faults::unless_fault;
 use crate::known::Known;
-use crate::name_table::{NameTable, table_of_texts};
+use crate::name_table::table_of_texts;
 use crate::numbers::Numbers;
 use crate::outputs::looks_like_output;
+use crate::table::Table;
 use c_grammar::{WrittenField, WrittenKind};
-use c_syntax::{CKind, FieldKind};
+use c_syntax::{CKind, Field, FieldKind};
 use mc_base::{Memory, Text};
 use std::alloc::Global;
 
@@ -92,16 +93,17 @@ fn resolve_kind(known: &Known, kind: WrittenKind) -> Result<FieldKind, CKind>
     }
 }
 
-/// What the kind of a field stands for, where the field keeps the rules behind these names.
+/// What the kind of a field stands for, where the field keeps the rules behind these fields.
 pub(crate) fn resolve_field(
     known: &Known,
     is_root: bool,
     numbers: &Numbers,
-    earlier: &NameTable,
+    earlier: &Table<Field>,
     field: &WrittenField,
 ) -> Result<FieldKind, CKind>
-    ensures { rules.resolve_field (known_of known.now) is_root (names_in numbers.now) earlier.now
-        (field_of field.now) ≡ named_kind field.now.name.now result }
+    ensures { rules.resolve_field (known_of known.now) is_root (names_in numbers.now)
+        (map (λ f. f.name) earlier.now.items.items) (field_of field.now)
+        ≡ named_kind field.now.name.now result }
 {
     unless_fault(!earlier.contains(field.name), CKind::Name)?;
     let kind = resolve_kind(known, field.kind)?;

@@ -26,7 +26,7 @@ fn is_taken(known: &Known, names: &NameTable, name: &[u8]) -> bool
 /// The names of parameters: each differs from those before it, and from the functions that are defined before.
 pub(crate) fn resolve_params<'a>(
     alloc: Global,
-    known: &Known<'a>,
+    known: &Known,
     params: &[WrittenPureParam<'a>],
 ) -> Result<NameTable<'a>, ReadCFault>
     ensures checked { Gives (λ names. tt) result (rules.check_params (rules.function_names (known_of known.now))

@@ -1,10 +1,12 @@
 // Procedures.
 ghost use Rattle.std.specs.Prelude.{◌≡◌, ◌+◌, ◌++◌, ◌∷◌, [], map, false, OnOk, IfOk};
 ghost use Rattle.c_syntax.specs.Outputs.{has_name};
-ghost use Rattle.c_syntax.specs.Plain.{procedure_tree};
+ghost use Rattle.c_syntax.specs.Plain.{procedure_tree, stmt_tree};
+ghost use Rattle.c_syntax.specs.Tree.{stmts_of_list};
 ghost use Rattle.c_rules.specs.Resolve as rules;
 ghost use Rattle.c_syntax.specs.Chains as chain;
-ghost use Rattle.c_grammar.specs.WrittenTrees.{procedure_of};
+ghost use Rattle.c_grammar.specs.WrittenTrees.{procedure_of, param_of};
+ghost use Rattle.c_resolver.specs.Bodies.{procedure_body};
 ghost use Rattle.c_resolver.specs.Gives.{Gives};
 ghost use Rattle.c_resolver.specs.Params.{plain_param};
 ghost use Rattle.c_resolver.specs.Scopes.{known_of};
@@ -12,11 +14,12 @@ ghost use Rattle.c_resolver.specs.Scopes.{known_of};
 use crate::chains::stmts_chain;
 use crate::faults::{on_line, unless_fault};
 use crate::known::{Known, Scope};
+use crate::name_table::NameTable;
 use crate::params::resolve_params;
 use crate::roots::is_lawful_root;
 use crate::stmts::resolve_stmts;
 use c_grammar::{ReadCFault, WrittenParam, WrittenProcedure, WrittenPureParam};
-use c_syntax::{CKind, CType, Procedure};
+use c_syntax::{CKind, CType, Procedure, Stmt};
 use mc_base::{Memory, Text};
 use std::alloc::{AllocError, Global};
 
@@ -62,6 +65,40 @@ fn typed_texts_of(alloc: Global, params: &[WrittenParam]) -> Result<Vec<(Text, C
     Ok(typed)
 }
 
+/// The names of the parameters of a procedure: each differs from those before it, and from the functions that are
+/// defined before.
+fn resolve_names<'a>(
+    alloc: Global,
+    known: &Known,
+    params: &[WrittenParam<'a>],
+) -> Result<NameTable<'a>, ReadCFault>
+    ensures checked { Gives (λ names. tt) result (rules.check_params (rules.function_names (known_of known.now))
+        [] (map (λ q. (q.line, q.name)) (map param_of params.now))) }
+    ensures names { IfOk result (λ names. names ≡ map (λ q. q.name) (map param_of params.now)) }
+{
+    let plain = plain_params(alloc, params)?;
+    resolve_params(alloc, known, plain.as_slice())
+}
+
+/// What the statements of a procedure of the struct at a position stand for, whose parameters keep the rules.
+fn resolve_body<'a>(
+    alloc: Global,
+    known: &Known<'a>,
+    of: u32,
+    p: &WrittenProcedure<'a>,
+) -> Result<Vec<Stmt>, ReadCFault>
+    ensures { Gives (λ v. stmts_of_list (map stmt_tree v.items)) result
+        (procedure_body (known_of known.now) of (procedure_of p.now)) }
+{
+    let names = resolve_names(alloc, known, p.params.as_slice())?;
+    let scope = Scope {
+        known,
+        of: Some(of),
+        params: &names,
+    };
+    resolve_stmts(alloc, &scope, p.body.as_slice())
+}
+
 /// What a procedure stands for.
 fn resolve_procedure<'a>(
     alloc: Global,
@@ -75,21 +112,14 @@ fn resolve_procedure<'a>(
     ensures named { IfOk result (λ procedure. procedure.name ≡ p.now.name.now) }
 {
     let of = on_line(p.line, resolve_head(known, p))?;
-    let body = {
-        let plain = plain_params(alloc, p.params.as_slice())?;
-        let names = resolve_params(alloc, known, plain.as_slice())?;
-        let scope = Scope {
-            known,
-            of: Some(of),
-            params: &names,
-        };
-        resolve_stmts(alloc, &scope, p.body.as_slice())?
-    };
+    let name = Text::copy_of(alloc, p.name)?;
+    let params = typed_texts_of(alloc, p.params.as_slice())?;
+    let body = resolve_body(alloc, known, of, p)?;
     Ok(Procedure {
-        name: Text::copy_of(alloc, p.name)?,
+        name,
         private: p.private,
         of,
-        params: typed_texts_of(alloc, p.params.as_slice())?,
+        params,
         body,
     })
 }

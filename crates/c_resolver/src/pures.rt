@@ -1,9 +1,10 @@
 // Pure functions.
 ghost use Rattle.std.specs.Prelude.{◌≡◌, ◌++◌, ◌∷◌, [], map, false, OnOk, IfOk};
 ghost use Rattle.c_syntax.specs.Outputs.{has_name};
-ghost use Rattle.c_syntax.specs.Plain.{pure_tree};
+ghost use Rattle.c_syntax.specs.Plain.{pure_tree, expr_tree};
 ghost use Rattle.c_rules.specs.Resolve as rules;
 ghost use Rattle.c_grammar.specs.WrittenTrees.{pure_of};
+ghost use Rattle.c_resolver.specs.Bodies.{pure_body};
 ghost use Rattle.c_resolver.specs.Gives.{Gives};
 ghost use Rattle.c_resolver.specs.Scopes.{known_of};
 
@@ -12,9 +13,26 @@ use crate::faults::fault_at;
 use crate::known::{Known, Scope};
 use crate::params::{resolve_params, texts_of};
 use c_grammar::{ReadCFault, WrittenPure};
-use c_syntax::{CKind, Pure};
+use c_syntax::{CKind, Expr, Pure};
 use mc_base::{Memory, Text};
 use std::alloc::Global;
+
+/// What a pure function returns, whose parameters keep the rules.
+fn resolve_body<'a>(
+    alloc: Global,
+    known: &Known<'a>,
+    p: &WrittenPure<'a>,
+) -> Result<Expr, ReadCFault>
+    ensures { Gives expr_tree result (pure_body (known_of known.now) (pure_of p.now)) }
+{
+    let names = resolve_params(alloc, known, p.params.as_slice())?;
+    let scope = Scope {
+        known,
+        of: None,
+        params: &names,
+    };
+    resolve_expr(alloc, &scope, &p.body)
+}
 
 /// What a pure function stands for.
 fn resolve_pure<'a>(
@@ -30,18 +48,12 @@ fn resolve_pure<'a>(
     if known.has_function(p.name) {
         return Err(ReadCFault::Refused(fault_at(p.line, CKind::Name)));
     }
-    let body = {
-        let names = resolve_params(alloc, known, p.params.as_slice())?;
-        let scope = Scope {
-            known,
-            of: None,
-            params: &names,
-        };
-        resolve_expr(alloc, &scope, &p.body)?
-    };
+    let name = Text::copy_of(alloc, p.name)?;
+    let params = texts_of(alloc, p.params.as_slice())?;
+    let body = resolve_body(alloc, known, p)?;
     Ok(Pure {
-        name: Text::copy_of(alloc, p.name)?,
-        params: texts_of(alloc, p.params.as_slice())?,
+        name,
+        params,
         body,
         line: p.return_line,
     })

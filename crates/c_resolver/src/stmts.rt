@@ -12,7 +12,7 @@ ghost use Rattle.c_resolver.specs.Scopes.{names_of};
 ghost use Rattle.c_resolver.specs.Choices.{resolve_second};
 
 use crate::calls::{resolve_call_of_procedure, resolve_item_store, resolve_store};
-use crate::exprs::{resolve_cond, resolve_expr};
+use crate::exprs::{resolve_boxed, resolve_boxed_cond, resolve_expr};
 use crate::faults::on_line;
 use crate::known::Scope;
 use c_grammar::{ReadCFault, WrittenExpr, WrittenStmt};
@@ -20,14 +20,14 @@ use c_syntax::{CType, Cond, Stmt};
 use std::alloc::Global;
 
 /// A choice.
-fn choice(line: u32, test: Cond, yes: Vec<Stmt>, no: Vec<Stmt>) -> Stmt
+fn choice(line: u32, test: Box<Cond>, yes: Vec<Stmt>, no: Vec<Stmt>) -> Stmt
     ensures { stmt_tree result
-        ≡ tree.branch line (cond_tree test) (stmts_of_list (map stmt_tree yes.items))
+        ≡ tree.branch line (cond_tree test.value) (stmts_of_list (map stmt_tree yes.items))
         (stmts_of_list (map stmt_tree no.items)) }
 {
     Stmt::If {
         line,
-        test,
+        test: Box::into_inner(test),
         yes,
         no,
     }
@@ -47,12 +47,12 @@ fn resolve_set_at(
         (assign_at line field.now (expr_of index.now) cast (expr_of value.now))) }
 {
     let field = on_line(line, resolve_item_store(scope, field, cast))?;
-    let index = resolve_expr(alloc, scope, index)?;
+    let index = resolve_boxed(alloc, scope, index)?;
     let value = resolve_expr(alloc, scope, value)?;
     Ok(Stmt::SetAt {
         line,
         field,
-        index,
+        index: Box::into_inner(index),
         value,
     })
 }
@@ -91,7 +91,7 @@ fn resolve_stmt(alloc: Global, scope: &Scope, s: &WrittenStmt) -> Result<Stmt, R
             has_else,
             no,
         } => {
-            let test = resolve_cond(alloc, scope, test)?;
+            let test = resolve_boxed_cond(alloc, scope, test)?;
             let on_true = resolve_stmts(alloc, scope, yes)?;
             let on_false = resolve_else(alloc, scope, *has_else, no)?;
             Ok(choice(*line, test, on_true, on_false))

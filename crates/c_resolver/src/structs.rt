@@ -1,5 +1,6 @@
 // Structs.
-ghost use Rattle.std.specs.Prelude.{◌≡◌, ◌++◌, ◌∷◌, [], map, false, OnOk, IfOk};
+ghost use Rattle.std.specs.Prelude.{◌≡◌, ◌++◌, ◌∷◌, [], map, filter_map, false, OnOk, IfOk, bytes_eq, codes};
+ghost use Rattle.c_syntax.specs.Outputs as output;
 ghost use Rattle.c_syntax.specs.Outputs.{has_name};
 ghost use Rattle.c_syntax.specs.PlainField.{field_trees};
 ghost use Rattle.c_rules.specs.Resolve as rules;
@@ -15,36 +16,80 @@ use crate::name_table::NameTable;
 use crate::numbers::Numbers;
 use crate::outputs::{number_names, output_names};
 use crate::roots::is_root;
+use crate::table::Table;
 use c_grammar::{ReadCFault, WrittenField, WrittenStruct};
-use c_syntax::{CKind, Field, StructDef};
+use c_syntax::{CKind, Field, FieldKind, StructDef};
 use mc_base::{Memory, Text};
 use std::alloc::Global;
 
-/// What the fields of a struct stand for, with their names.
+/// One more field, whose name is new.
+fn push_field<'a>(
+    alloc: Global,
+    fields: &mut Table<'a, Field>,
+    field: &WrittenField<'a>,
+    kind: FieldKind,
+) -> Result<(), Memory>
+    requires { has_name (map (λ f. f.name) fields.old.items.items) field.now.name.now ≡ false }
+    ensures { OnOk result (field_trees fields.new.items.items ≡ field_trees fields.old.items.items
+        ++ record { name = field.now.name.now; kind = kind } ∷ []) }
+{
+    let name = Text::copy_of(alloc, field.name)?;
+    fields.push(field.name, Field { name, kind })
+}
+
+/// What the fields of a struct stand for.
 fn resolve_fields<'a>(
     alloc: Global,
     known: &Known,
     is_root: bool,
     numbers: &Numbers,
     fields: &[WrittenField<'a>],
-) -> Result<(Vec<Field>, NameTable<'a>), ReadCFault>
-    ensures resolved { Gives (λ r. field_trees r.0.items) result
+) -> Result<Table<'a, Field>, ReadCFault>
+    ensures { Gives (λ r. field_trees r.items.items) result
         (rules.resolve_fields (known_of known.now) is_root (names_in numbers.now) []
         (map field_of fields.now)) }
-    ensures named { IfOk result (λ r. r.1 ≡ map (λ f. f.name) (field_trees r.0.items)) }
 {
-    let mut resolved = Vec::new(alloc);
-    let mut names = NameTable::new(alloc);
+    let mut resolved = Table::new(alloc);
     for field in fields {
         let kind = on_line(
             field.line,
-            resolve_field(known, is_root, numbers, &names, field),
+            resolve_field(known, is_root, numbers, &resolved, field),
         )?;
-        names.push(field.name)?;
-        let name = Text::copy_of(alloc, field.name)?;
-        resolved.push(Field { name, kind })?;
+        push_field(alloc, &mut resolved, field, kind)?;
     }
-    Ok((resolved, names))
+    Ok(resolved)
+}
+
+/// What the fields of a struct stand for, where these are the names of its number fields, and of the outputs among them.
+fn resolve_beside<'a>(
+    alloc: Global,
+    known: &Known<'a>,
+    d: &WrittenStruct<'a>,
+    names: Vec<&'a [u8]>,
+    outputs: &[Text],
+) -> Result<Table<'a, Field>, ReadCFault>
+    requires { outputs.now ≡ output.output_names (map (λ x. x.now) names.items) }
+    ensures { Gives (λ r. field_trees r.items.items) result
+        (rules.resolve_fields (known_of known.now) (bytes_eq d.now.name.now (codes "root"))
+        (map (λ x. x.now) names.entry.items) [] (struct_of d.now).fields) }
+{
+    let numbers = numbers_of(alloc, names, outputs)?;
+    resolve_fields(alloc, known, is_root(d.name), &numbers, d.fields.as_slice())
+}
+
+/// What the fields of a struct stand for, the names of the outputs among them found first.
+fn resolve_all_fields<'a>(
+    alloc: Global,
+    known: &Known<'a>,
+    d: &WrittenStruct<'a>,
+) -> Result<Table<'a, Field>, ReadCFault>
+    ensures { Gives (λ r. field_trees r.items.items) result
+        (rules.resolve_fields (known_of known.now) (bytes_eq d.now.name.now (codes "root"))
+        (filter_map rules.number_name (struct_of d.now).fields) [] (struct_of d.now).fields) }
+{
+    let names = number_names(alloc, d.fields.as_slice())?;
+    let outputs = output_names(alloc, names.as_slice())?;
+    resolve_beside(alloc, known, d, names, outputs.as_slice())
 }
 
 /// What a struct stands for, with the names of its fields.
@@ -62,17 +107,8 @@ fn resolve_struct<'a>(
     if known.structs.contains(d.name) {
         return Err(ReadCFault::Refused(fault_at(d.line, CKind::Name)));
     }
-    let names = number_names(alloc, d.fields.as_slice())?;
-    let outputs = output_names(alloc, names.as_slice())?;
-    let numbers = numbers_of(alloc, names, outputs.as_slice())?;
-    let (fields, names) = resolve_fields(
-        alloc,
-        known,
-        is_root(d.name),
-        &numbers,
-        d.fields.as_slice(),
-    )?;
     let name = Text::copy_of(alloc, d.name)?;
+    let (fields, names) = resolve_all_fields(alloc, known, d)?.into_parts();
     Ok((StructDef { name, fields }, names))
 }
 
@@ -93,11 +129,12 @@ impl<'a> Known<'a> {
                   ∷ [];
             }) }
     {
+        let count = self.field_names.len();
         self.field_names.push(names)?;
         match self.structs.push(name, def) {
             Ok(()) => Ok(()),
             Err(memory) => {
-                self.field_names.pop();
+                self.field_names.truncate(count);
                 Err(memory)
             }
         }

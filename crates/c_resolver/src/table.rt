@@ -4,7 +4,7 @@ ghost use Rattle.std.specs.List.{position_from};
 ghost use Rattle.c_syntax.specs.Outputs.{has_name};
 
 use crate::name_table::NameTable;
-use c_syntax::{Procedure, Pure, StructDef};
+use c_syntax::{Field, Procedure, Pure, StructDef};
 use mc_base::Memory;
 use std::alloc::Global;
 
@@ -19,6 +19,10 @@ impl Named for Pure {
 
 impl Named for StructDef {
     ghost name = { λ d. d.name };
+}
+
+impl Named for Field {
+    ghost name = { λ f. f.name };
 }
 
 impl Named for Procedure {
@@ -95,5 +99,14 @@ impl<'a, T: Named + Drop> Table<'a, T> {
     {
         let Table { items, .. } = self;
         items
+    }
+
+    /// The definitions themselves, in their order, and the table of their names.
+    pub(crate) fn into_parts(self) -> (Vec<T>, NameTable<'a>)
+        ensures items { result.0 ≡ self.entry.items }
+        ensures names { result.1 ≡ map T.name self.entry.items.items }
+    {
+        let Table { items, names } = self;
+        (items, names)
     }
 }

@@ -26,7 +26,7 @@ resolve_stmt-returns-in_err-on_true-in-If t c =
     gives-same stmt_tree c.from_residual-in_err-on_true-in-If.result e
     (resolve_stmt names (stmt_of c.args.s.now)) c.from_residual-in_err-on_true-in-If.ensures.1
     (fails_first names (stmt_of c.args.s.now) i.line (cond_of i.test) first i.has_else second is
-    (cond_tree c.in_ok-test-in-If.test) c.in_ok-test-in-If.ensures e c.in_err-on_true-in-If.ensures)
+    (cond_tree c.in_ok-test-in-If.test.value) c.in_ok-test-in-If.ensures e c.in_err-on_true-in-If.ensures)
 
 pub resolve_stmt-returns-in_err-on_false-in-If : goal.resolve_stmt-returns-in_err-on_false-in-If
 resolve_stmt-returns-in_err-on_false-in-If t c =
@@ -41,7 +41,7 @@ resolve_stmt-returns-in_err-on_false-in-If t c =
     gives-same stmt_tree c.from_residual-in_err-on_false-in-If.result e
     (resolve_stmt names (stmt_of c.args.s.now)) c.from_residual-in_err-on_false-in-If.ensures.1
     (fails_second names (stmt_of c.args.s.now) i.line (cond_of i.test) first i.has_else second is
-    (cond_tree c.in_ok-test-in-If.test) c.in_ok-test-in-If.ensures
+    (cond_tree c.in_ok-test-in-If.test.value) c.in_ok-test-in-If.ensures
     (stmts_of_list (map stmt_tree c.in_ok-on_true-in-If.on_true.items)) c.in_ok-on_true-in-If.ensures e
     c.in_err-on_false-in-If.ensures)
 
@@ -55,7 +55,7 @@ resolve_stmt-returns-in_ok-on_false-in-If t c =
     ∙ (λ j. choice_of i.line (cond_of i.test) (stmts_from (map stmt_of (sym c.deref.ensures.value j))) i.has_else
     (stmts_from (map stmt_of (sym c.deref-in-If.ensures.value j)))) in
     gives_choice names (stmt_of c.args.s.now) i.line (cond_of i.test) first i.has_else second is
-    (cond_tree c.in_ok-test-in-If.test) c.in_ok-test-in-If.ensures
+    (cond_tree c.in_ok-test-in-If.test.value) c.in_ok-test-in-If.ensures
     (stmts_of_list (map stmt_tree c.in_ok-on_true-in-If.on_true.items)) c.in_ok-on_true-in-If.ensures
     (stmts_of_list (map stmt_tree c.in_ok-on_false-in-If.on_false.items)) c.in_ok-on_false-in-If.ensures
     ∙ ap Ok (sym c.choice.ensures)

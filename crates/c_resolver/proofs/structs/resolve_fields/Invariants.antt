@@ -8,9 +8,7 @@ use Rattle.c_resolver.proofs.StructLaws.{rest_fields}
 use Rattle.c_resolver.proofs.structs.resolve_fields.Given as goal
 
 abbrev pub invariant-loop-field : goal.invariant-loop-field
-invariant-loop-field l = record {
-  named : l.names ≡ map (λ f. f.name) (field_trees l.resolved.items);
-  resolved : rules.resolve_fields (known_of l.known) l.is_root (names_in l.numbers) [] (map field_of l.fields)
-      ≡ rest_fields (known_of l.known) l.is_root (names_in l.numbers) (field_trees l.resolved.items) l.names
-      (map field_of (drop l.field-index l.fields));
-}
+invariant-loop-field l =
+    rules.resolve_fields (known_of l.known) l.is_root (names_in l.numbers) [] (map field_of l.fields)
+    ≡ rest_fields (known_of l.known) l.is_root (names_in l.numbers) (field_trees l.resolved.items.items)
+    (map (λ f. f.name) l.resolved.items.items) (map field_of (drop l.field-index l.fields))
