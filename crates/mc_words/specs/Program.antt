@@ -1,9 +1,10 @@
 -- The program as `clap` is told of it, and what its matches ask for.
-use Rattle.std.specs.Prelude.{◌≡◌, true, false, if◌then◌else◌, List, [], ◌∷◌, map, Option, Some, None, bytes_eq, codes}
-use Rattle.clap.specs.Words.{App, Row, Rule, Shape, Text, first_of, new_app, new_rule, shape_of}
+use Rattle.std.specs.Prelude.{◌≡◌, true, false, if◌then◌else◌, List, [], ◌∷◌, map, fold, Option, Some, None, bytes_eq, codes}
+use Rattle.clap.specs.Words.{App, Row, Rule, Shape, Text, first_of, new_app, new_rule, shape_of, with_subcommand}
 use Rattle.clap.specs.declared.builder.command.Command.{Command}
 use Rattle.clap.specs.declared.builder.command.Command.TheViews.{out-Command as fields_of}
 use Rattle.mc_words.specs.Words.{Asked, Compile, Run, Exec, Profile, Drive, number_up_to, greatest_start, greatest_size, gen_by}
+use denote.Ref.{Bor}
 
 -- an argument by its place, which has to be there
 abbrev pub argument : Text → Rule
@@ -45,6 +46,20 @@ bare = record {
   };
   subs = [];
 }
+
+-- the program with a further command, by its name and the names of its arguments
+abbrev pub with_command : App → Text × List Text → App
+with_command a command = with_subcommand a (with_arguments command.0 command.1)
+
+abbrev pub with_commands : List (Text × List Text) → App
+with_commands commands = fold with_command bare commands
+
+-- texts, and commands by their names and arguments, behind references
+abbrev pub texts : List (Bor Text) → List Text
+texts names = map (λ (name : Bor Text). name.now) names
+
+abbrev pub command_texts : Bor Text × Bor (List (Bor Text)) → Text × List Text
+command_texts command = (command.0.now, texts command.1.now)
 
 abbrev pub program : App
 program = record {

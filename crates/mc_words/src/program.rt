@@ -1,10 +1,20 @@
-ghost use Rattle.std.specs.Prelude.{◌≡◌, IfOk, false};
-ghost use Rattle.clap.specs.Words.{app_of, rule_of, with_subcommand};
+ghost use Rattle.std.specs.Prelude.{◌≡◌, IfOk, map, false};
+ghost use Rattle.clap.specs.Words.{app_of, rule_of};
 ghost use Rattle.clap.specs.declared.builder.command.Command.TheViews.{out-Command as fields_of};
-ghost use Rattle.mc_words.specs.Program.{argument, compile, run, exec, profile, drive, gen, bare, program, IsSubcommand};
+ghost use Rattle.mc_words.specs.Program.{argument, with_arguments, with_command, with_commands, texts, command_texts, bare, program, IsSubcommand};
 
 use clap::{Arg, Command};
 use std::alloc::{AllocError, Global};
+
+// The commands by their names, each with the names of its arguments.
+const COMMANDS: [(&str, &[&str]); 6] = [
+    ("compile", &["MODEL", "CODE"]),
+    ("run", &["MODEL", "CODE", "TRACE"]),
+    ("exec", &["CODE", "TRACE"]),
+    ("profile", &["MODEL"]),
+    ("drive", &["MODEL", "CODE", "SUBSYSTEM", "SCRIPT"]),
+    ("gen", &["START", "SIZE", "MODEL", "CODE"]),
+];
 
 // An argument by its place, which has to be there.
 fn argument<'a>(alloc: Global, name: &'a str) -> Arg<'a>
@@ -13,55 +23,20 @@ fn argument<'a>(alloc: Global, name: &'a str) -> Arg<'a>
     Arg::new(alloc, name).required(true)
 }
 
-fn compile<'a>(alloc: Global) -> Result<Command<'a>, AllocError>
-    ensures { IfOk result (λ c. IsSubcommand c compile) }
+// A command that takes these arguments.
+fn with_arguments<'a>(
+    alloc: Global,
+    name: &'a str,
+    arguments: &[&'a str],
+) -> Result<Command<'a>, AllocError>
+    ensures { IfOk result (λ c.
+        IsSubcommand c (with_arguments name.now (texts arguments.now))) }
 {
-    Command::new(alloc, "compile")
-        .arg(argument(alloc, "MODEL"))?
-        .arg(argument(alloc, "CODE"))
-}
-
-fn run<'a>(alloc: Global) -> Result<Command<'a>, AllocError>
-    ensures { IfOk result (λ c. IsSubcommand c run) }
-{
-    Command::new(alloc, "run")
-        .arg(argument(alloc, "MODEL"))?
-        .arg(argument(alloc, "CODE"))?
-        .arg(argument(alloc, "TRACE"))
-}
-
-fn exec<'a>(alloc: Global) -> Result<Command<'a>, AllocError>
-    ensures { IfOk result (λ c. IsSubcommand c exec) }
-{
-    Command::new(alloc, "exec")
-        .arg(argument(alloc, "CODE"))?
-        .arg(argument(alloc, "TRACE"))
-}
-
-fn profile<'a>(alloc: Global) -> Result<Command<'a>, AllocError>
-    ensures { IfOk result (λ c. IsSubcommand c profile) }
-{
-    Command::new(alloc, "profile").arg(argument(alloc, "MODEL"))
-}
-
-fn drive<'a>(alloc: Global) -> Result<Command<'a>, AllocError>
-    ensures { IfOk result (λ c. IsSubcommand c drive) }
-{
-    Command::new(alloc, "drive")
-        .arg(argument(alloc, "MODEL"))?
-        .arg(argument(alloc, "CODE"))?
-        .arg(argument(alloc, "SUBSYSTEM"))?
-        .arg(argument(alloc, "SCRIPT"))
-}
-
-fn generate<'a>(alloc: Global) -> Result<Command<'a>, AllocError>
-    ensures { IfOk result (λ c. IsSubcommand c gen) }
-{
-    Command::new(alloc, "gen")
-        .arg(argument(alloc, "START"))?
-        .arg(argument(alloc, "SIZE"))?
-        .arg(argument(alloc, "MODEL"))?
-        .arg(argument(alloc, "CODE"))
+    let mut command = Command::new(alloc, name);
+    for next in arguments {
+        command = command.arg(argument(alloc, next))?;
+    }
+    Ok(command)
 }
 
 // The program without its commands. It has no help and no version of `clap`.
@@ -76,23 +51,37 @@ fn bare<'a>(alloc: Global) -> Command<'a>
         .subcommand_required(true)
 }
 
-// The program with the commands that compile and run.
-fn runner<'a>(alloc: Global) -> Result<Command<'a>, AllocError>
+// The program with a further command.
+fn with_command<'a>(
+    alloc: Global,
+    program: Command<'a>,
+    name: &'a str,
+    arguments: &[&'a str],
+) -> Result<Command<'a>, AllocError>
     ensures { IfOk result (λ c. app_of c
-        ≡ with_subcommand (with_subcommand (with_subcommand bare compile) run) exec) }
+        ≡ with_command (app_of program.entry) (name.now, texts arguments.now)) }
 {
-    bare(alloc)
-        .subcommand(compile(alloc)?)?
-        .subcommand(run(alloc)?)?
-        .subcommand(exec(alloc)?)
+    let command = with_arguments(alloc, name, arguments)?;
+    program.subcommand(command)
+}
+
+// The program with these commands.
+fn with_commands<'a>(
+    alloc: Global,
+    commands: &[(&'a str, &'a [&'a str])],
+) -> Result<Command<'a>, AllocError>
+    ensures { IfOk result (λ c. app_of c ≡ with_commands (map command_texts commands.now)) }
+{
+    let mut program = bare(alloc);
+    for (name, arguments) in commands {
+        program = with_command(alloc, program, name, arguments)?;
+    }
+    Ok(program)
 }
 
 /// The program, with each of its commands as a subcommand.
 pub fn program<'a>(alloc: Global) -> Result<Command<'a>, AllocError>
     ensures { IfOk result (λ c. app_of c ≡ program) }
 {
-    runner(alloc)?
-        .subcommand(profile(alloc)?)?
-        .subcommand(drive(alloc)?)?
-        .subcommand(generate(alloc)?)
+    with_commands(alloc, &COMMANDS)
 }
