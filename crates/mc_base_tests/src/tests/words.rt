@@ -1,4 +1,4 @@
-use mc_words::{Command, command, is_lawful};
+use mc_words::{command, is_lawful};
 use std::alloc::{AllocError, Global};
 use std::test::Fail;
 
@@ -8,6 +8,18 @@ fn words_of(alloc: Global, line: &str) -> Result<Vec<String>, AllocError> {
         words.push(String::from_str(alloc, word)?)?;
     }
     Ok(words)
+}
+
+// Whether words are lawful, and what they ask for.
+fn told(alloc: Global, words: &[String]) -> Result<(bool, String), Fail> {
+    let asked = command(alloc, words)?;
+    Ok((is_lawful(words), format!(in alloc; "{asked:?}")?))
+}
+
+// The same of the words of a line.
+fn told_of(alloc: Global, line: &str) -> Result<(bool, String), Fail> {
+    let words = words_of(alloc, line)?;
+    told(alloc, &words)
 }
 
 // Lines whose words ask for nothing.
@@ -81,200 +93,104 @@ const NOTHING: &[&str] = &[
 
 #[test]
 fn other_words_ask_for_nothing(rt: HostRuntime) -> Result<(), Fail> {
-    let alloc = rt.alloc();
     for &line in NOTHING {
-        let words = words_of(alloc, line)?;
-        let asked = command(alloc, &words)?;
-        assert_eq!(rt; (is_lawful(&words), asked), (false, None), "{line}");
+        let (is_lawful, asked) = told_of(rt.alloc(), line)?;
+        assert_eq!(rt; (is_lawful, asked.as_str()), (false, "None"), "{line}");
     }
     Ok(())
 }
 
 #[test]
 fn no_words_ask_for_nothing(rt: HostRuntime) -> Result<(), Fail> {
-    let asked = command(rt.alloc(), &[])?;
-    assert_eq!(rt; (is_lawful(&[]), asked), (false, None));
+    let (is_lawful, asked) = told(rt.alloc(), &[])?;
+    assert_eq!(rt; (is_lawful, asked.as_str()), (false, "None"));
     Ok(())
 }
 
 // Lines, and what their words ask for.
-const ASKED: &[(&str, Command<'static>)] = &[
-    (
-        "compile a b",
-        Command::Compile {
-            model: "a",
-            code: "b",
-        },
-    ),
+const ASKED: &[(&str, &str)] = &[
+    ("compile a b", r#"Some(Compile { model: "a", code: "b" })"#),
     (
         "compile run exec",
-        Command::Compile {
-            model: "run",
-            code: "exec",
-        },
+        r#"Some(Compile { model: "run", code: "exec" })"#,
     ),
     (
         "compile compile help",
-        Command::Compile {
-            model: "compile",
-            code: "help",
-        },
+        r#"Some(Compile { model: "compile", code: "help" })"#,
     ),
     (
         "compile a=b c--d",
-        Command::Compile {
-            model: "a=b",
-            code: "c--d",
-        },
+        r#"Some(Compile { model: "a=b", code: "c--d" })"#,
     ),
     (
         "run a b c",
-        Command::Run {
-            model: "a",
-            code: "b",
-            trace: "c",
-        },
+        r#"Some(Run { model: "a", code: "b", trace: "c" })"#,
     ),
     (
         "run a b a",
-        Command::Run {
-            model: "a",
-            code: "b",
-            trace: "a",
-        },
+        r#"Some(Run { model: "a", code: "b", trace: "a" })"#,
     ),
     (
         "run run help exec",
-        Command::Run {
-            model: "run",
-            code: "help",
-            trace: "exec",
-        },
+        r#"Some(Run { model: "run", code: "help", trace: "exec" })"#,
     ),
-    (
-        "exec a b",
-        Command::Exec {
-            code: "a",
-            trace: "b",
-        },
-    ),
-    (
-        "exec a a",
-        Command::Exec {
-            code: "a",
-            trace: "a",
-        },
-    ),
+    ("exec a b", r#"Some(Exec { code: "a", trace: "b" })"#),
+    ("exec a a", r#"Some(Exec { code: "a", trace: "a" })"#),
     (
         "exec exec run",
-        Command::Exec {
-            code: "exec",
-            trace: "run",
-        },
+        r#"Some(Exec { code: "exec", trace: "run" })"#,
     ),
-    ("profile a", Command::Profile { model: "a" }),
-    ("profile profile", Command::Profile { model: "profile" }),
-    ("profile help", Command::Profile { model: "help" }),
-    ("profile a.mdl", Command::Profile { model: "a.mdl" }),
+    ("profile a", r#"Some(Profile { model: "a" })"#),
+    ("profile profile", r#"Some(Profile { model: "profile" })"#),
+    ("profile help", r#"Some(Profile { model: "help" })"#),
+    ("profile a.mdl", r#"Some(Profile { model: "a.mdl" })"#),
     (
         "drive a b top c",
-        Command::Drive {
-            model: "a",
-            code: "b",
-            subsystem: "top",
-            script: "c",
-        },
+        r#"Some(Drive { model: "a", code: "b", subsystem: "top", script: "c" })"#,
     ),
     (
         "drive a b 1 a",
-        Command::Drive {
-            model: "a",
-            code: "b",
-            subsystem: "1",
-            script: "a",
-        },
+        r#"Some(Drive { model: "a", code: "b", subsystem: "1", script: "a" })"#,
     ),
     (
         "drive a b b c",
-        Command::Drive {
-            model: "a",
-            code: "b",
-            subsystem: "b",
-            script: "c",
-        },
+        r#"Some(Drive { model: "a", code: "b", subsystem: "b", script: "c" })"#,
     ),
     (
         "drive a b x a",
-        Command::Drive {
-            model: "a",
-            code: "b",
-            subsystem: "x",
-            script: "a",
-        },
+        r#"Some(Drive { model: "a", code: "b", subsystem: "x", script: "a" })"#,
     ),
     (
         "drive drive run 7 gen",
-        Command::Drive {
-            model: "drive",
-            code: "run",
-            subsystem: "7",
-            script: "gen",
-        },
+        r#"Some(Drive { model: "drive", code: "run", subsystem: "7", script: "gen" })"#,
     ),
     (
         "drive help gen top exec",
-        Command::Drive {
-            model: "help",
-            code: "gen",
-            subsystem: "top",
-            script: "exec",
-        },
+        r#"Some(Drive { model: "help", code: "gen", subsystem: "top", script: "exec" })"#,
     ),
     (
         "gen 1 1 a b",
-        Command::Gen {
-            start: 1,
-            size: 1,
-            model: "a",
-            code: "b",
-        },
+        r#"Some(Gen { start: 1, size: 1, model: "a", code: "b" })"#,
     ),
     (
         "gen 2147483646 2499 a b",
-        Command::Gen {
-            start: 2_147_483_646,
-            size: 2_499,
-            model: "a",
-            code: "b",
-        },
+        r#"Some(Gen { start: 2147483646, size: 2499, model: "a", code: "b" })"#,
     ),
     (
         "gen 10 200 gen profile",
-        Command::Gen {
-            start: 10,
-            size: 200,
-            model: "gen",
-            code: "profile",
-        },
+        r#"Some(Gen { start: 10, size: 200, model: "gen", code: "profile" })"#,
     ),
     (
         "gen 7 1000 1 7",
-        Command::Gen {
-            start: 7,
-            size: 1_000,
-            model: "1",
-            code: "7",
-        },
+        r#"Some(Gen { start: 7, size: 1000, model: "1", code: "7" })"#,
     ),
 ];
 
 #[test]
 fn words_ask_for_commands(rt: HostRuntime) -> Result<(), Fail> {
-    let alloc = rt.alloc();
-    for (line, asked) in ASKED {
-        let words = words_of(alloc, line)?;
-        let found = command(alloc, &words)?;
-        assert_eq!(rt; (is_lawful(&words), found), (true, Some(*asked)), "{line}");
+    for &(line, want) in ASKED {
+        let (is_lawful, asked) = told_of(rt.alloc(), line)?;
+        assert_eq!(rt; (is_lawful, asked.as_str()), (true, want), "{line}");
     }
     Ok(())
 }
