@@ -12,6 +12,10 @@ abbrev pub first_or : {E : Type 0} → E → List E → E
 first_or none [] = none
 first_or none (e ∷ es) = e
 
+-- the parts behind four rounds, in which sixteen become one
+abbrev pub rounds : {E : Type 0} → (E → E → E) → List E → List E
+rounds join es = pairs join (pairs join (pairs join (pairs join es)))
+
 -- all parts joined; `none` where there are none
 abbrev pub balanced : {E : Type 0} → (E → E → E) → E → List E → E
-balanced join none es = first_or none (pairs join (pairs join (pairs join (pairs join es))))
+balanced join none es = first_or none (rounds join es)

@@ -1,7 +1,7 @@
 ghost use Rattle.std.specs.Prelude.{◌≡◌, IfOk, map};
 ghost use Rattle.c_syntax.specs.Plain.{expr_tree, cond_tree};
 ghost use Rattle.c_syntax.specs.Tree as tree;
-ghost use Rattle.c_blocks.specs.Balanced.{pairs, balanced};
+ghost use Rattle.c_blocks.specs.Balanced.{pairs, rounds, balanced};
 ghost use Rattle.c_blocks.specs.Joints.{join_of};
 
 use crate::expression::{binary, both, either, truth};
@@ -34,6 +34,17 @@ fn pairs_of_exprs(alloc: Global, op: BinOp, parts: Vec<Expr>) -> Result<Vec<Expr
     Ok(pairs)
 }
 
+/// All parts joined by an operator in four rounds, in which sixteen become one.
+fn joined_exprs(alloc: Global, op: BinOp, parts: Vec<Expr>) -> Result<Vec<Expr>, Memory>
+    ensures { IfOk result
+        (λ v. map expr_tree v.items ≡ rounds (tree.binary op) (map expr_tree parts.items)) }
+{
+    let twos = pairs_of_exprs(alloc, op, parts)?;
+    let fours = pairs_of_exprs(alloc, op, twos)?;
+    let eights = pairs_of_exprs(alloc, op, fours)?;
+    pairs_of_exprs(alloc, op, eights)
+}
+
 /// All parts joined by an operator, of which there are sixteen at most; `none` where there are none.
 pub(crate) fn balanced_expr(
     alloc: Global,
@@ -45,10 +56,7 @@ pub(crate) fn balanced_expr(
         (λ e. expr_tree e
         ≡ balanced (tree.binary op) (expr_tree none) (map expr_tree parts.items)) }
 {
-    let twos = pairs_of_exprs(alloc, op, parts)?;
-    let fours = pairs_of_exprs(alloc, op, twos)?;
-    let eights = pairs_of_exprs(alloc, op, fours)?;
-    let whole = pairs_of_exprs(alloc, op, eights)?;
+    let whole = joined_exprs(alloc, op, parts)?;
     Ok(whole.into_iter().next().unwrap_or(none))
 }
 
@@ -80,6 +88,17 @@ fn pairs_of_conds(alloc: Global, joint: Joint, parts: Vec<Cond>) -> Result<Vec<C
     Ok(pairs)
 }
 
+/// All tests joined in four rounds, in which sixteen become one.
+fn joined_conds(alloc: Global, joint: Joint, parts: Vec<Cond>) -> Result<Vec<Cond>, Memory>
+    ensures { IfOk result
+        (λ v. map cond_tree v.items ≡ rounds (join_of joint) (map cond_tree parts.items)) }
+{
+    let twos = pairs_of_conds(alloc, joint, parts)?;
+    let fours = pairs_of_conds(alloc, joint, twos)?;
+    let eights = pairs_of_conds(alloc, joint, fours)?;
+    pairs_of_conds(alloc, joint, eights)
+}
+
 /// All tests joined, of which there are sixteen at most; `none` where there are none.
 pub(crate) fn balanced_cond(
     alloc: Global,
@@ -90,9 +109,6 @@ pub(crate) fn balanced_cond(
     ensures { IfOk result
         (λ c. cond_tree c ≡ balanced (join_of joint) (cond_tree none) (map cond_tree parts.items)) }
 {
-    let twos = pairs_of_conds(alloc, joint, parts)?;
-    let fours = pairs_of_conds(alloc, joint, twos)?;
-    let eights = pairs_of_conds(alloc, joint, fours)?;
-    let whole = pairs_of_conds(alloc, joint, eights)?;
+    let whole = joined_conds(alloc, joint, parts)?;
     Ok(whole.into_iter().next().unwrap_or(none))
 }

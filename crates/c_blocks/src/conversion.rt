@@ -61,15 +61,19 @@ fn rounded(alloc: Global, e: Expr, frac: u32, unit: u32, how: How) -> Result<Exp
 fn cast(alloc: Global, over: Over, to: FixType, e: Expr) -> Result<Expr, Memory>
     ensures { IfOk result (λ c. expr_tree c ≡ code.cast over to (expr_tree e)) }
 {
-    let (function, last) = match over {
-        Over::Saturate => (CLAMP, written(alloc, greatest(to))?),
-        Over::Wrap => (WRAP, power(u32::from(to.bits))),
-    };
     let mut values = Vec::new(alloc);
     values.push(e)?;
     values.push(written(alloc, least(to))?)?;
-    values.push(last)?;
-    Ok(call(function, values))
+    match over {
+        Over::Saturate => {
+            values.push(written(alloc, greatest(to))?)?;
+            Ok(call(CLAMP, values))
+        }
+        Over::Wrap => {
+            values.push(power(u32::from(to.bits)))?;
+            Ok(call(WRAP, values))
+        }
+    }
 }
 
 /// An expression of `frac` fraction bits, for a number of a range, converted into a type: by a call where its unit is finer than
