@@ -50,7 +50,6 @@ fn whole_count(counts: &[u32], fields: &[Field]) -> Option<u32>
 
 /// How many instances an instance of each struct is, with those inside it. Fails where memory runs out, or where a `u32` can't
 /// count them.
-#[tactic(auto, using(crate::proofs::Numbered::counts_more))]
 pub(crate) fn counts_of(alloc: Global, structs: &[StructDef]) -> Result<Vec<u32>, AllocError>
     ensures { IfOk result (λ v. v.items ≡ counts_of [] structs.now) }
 {

@@ -51,7 +51,6 @@ fn layout_of(alloc: Global, earlier: &[Layout], fields: &[Field]) -> Result<Layo
 
 /// The structs of a program, each of earlier ones. Fails where memory runs out, or where an instance has more numbers than
 /// can be counted.
-#[tactic(auto, using(crate::proofs::LaidOut::layouts_more))]
 pub(crate) fn layouts_of(alloc: Global, structs: &[StructDef]) -> Result<Vec<Layout>, AllocError>
     ensures { IfOk result (λ v. v.items ≡ layouts_of [] structs.now) }
 {

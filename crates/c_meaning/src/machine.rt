@@ -1,10 +1,13 @@
 ghost use Rattle.std.specs.Prelude.{◌≡◌, ◌<◌, length, IfOk, IfErr, IfSome, option_and_then};
+ghost use Rattle.c_syntax.specs.Plain.{program_tree};
 ghost use Rattle.c_syntax.specs.RootFields.{root_struct};
+ghost use Rattle.c_checked.specs.Checked.{IsChecked};
 ghost use Rattle.c_meaning.specs.Codes.{code_tree};
 ghost use Rattle.c_meaning.specs.Instances.{instances, instance_at, child_named, number_named};
 ghost use Rattle.c_meaning.specs.Machines.{IsStarted, IsStartFault, IsRow, IsTick, IsStuckTick, IsCallable, IsCall, IsStuckCall};
 ghost use Rattle.c_meaning.specs.Numbering.{IsNumbering};
-ghost use Rattle.c_meaning.specs.Roots.{HasTables};
+ghost use Rattle.c_meaning.specs.Roots.{AreTables, HasTables, IsMachine};
+ghost use Rattle.c_meaning.specs.Slots.{layout_at};
 ghost use Rattle.c_meaning.specs.States.{tree_of, fields_of};
 
 use crate::calls::run_instance;
@@ -73,18 +76,12 @@ impl Machine {
         ensures started { IfOk result (IsStarted program) }
         ensures stuck { IfErr result (IsStartFault program) }
     {
-        let tables = tables_of(alloc, program.program(), program.outputs())?;
-        let mut numbers = zeros(alloc, size_at(&tables.layouts, tables.root))?;
-        let code = Code::new(program.program(), &tables.layouts, &tables.logged);
-        let start = run_root(&code, tables.root, tables.start, &[], &mut numbers);
-        match start {
-            Ok(_) => Ok(Machine {
-                checked: program,
-                tables,
-                numbers,
-            }),
-            Err(at) => Err(NewFault::Stuck(at)),
-        }
+        let (tables, numbers) = started(alloc, &program)?;
+        Ok(Machine {
+            checked: program,
+            tables,
+            numbers,
+        })
     }
 
     /// The program.
@@ -156,6 +153,38 @@ impl Machine {
     {
         let numbering = numbering_of(&self.checked, &self.tables);
         run_instance(&numbering, procedure, instance, values, &mut self.numbers)
+    }
+}
+
+// The tables of a program, and its numbers behind `root_start`.
+fn started(alloc: Global, checked: &Checked) -> Result<(Tables, Vec<i64>), NewFault>
+    requires { IsChecked checked.now }
+    ensures machine { IfOk result (λ r. IsMachine checked.now r.0 r.1.items) }
+    ensures started { IfOk result
+        (λ r. IsStarted checked.now (record { program = checked.now; numbers = r.1.items })) }
+    ensures stuck { IfErr result (IsStartFault checked.now) }
+{
+    let tables = tables_of(alloc, checked.program(), checked.outputs())?;
+    let numbers = first_numbers(alloc, checked, &tables)?;
+    Ok((tables, numbers))
+}
+
+// The numbers of a program behind `root_start`, by its tables.
+fn first_numbers(alloc: Global, checked: &Checked, tables: &Tables) -> Result<Vec<i64>, NewFault>
+    requires { AreTables (program_tree checked.now.program) tables.now.layouts.items
+        tables.now.logged.items tables.now.root tables.now.start tables.now.step
+        tables.now.outputs.items }
+    ensures room { IfOk result
+        (λ v. length v.items ≡ (layout_at tables.now.layouts.items tables.now.root).size) }
+    ensures started { IfOk result
+        (λ v. IsStarted checked.now (record { program = checked.now; numbers = v.items })) }
+    ensures stuck { IfErr result (IsStartFault checked.now) }
+{
+    let mut numbers = zeros(alloc, size_at(&tables.layouts, tables.root))?;
+    let code = Code::new(checked.program(), &tables.layouts, &tables.logged);
+    match run_root(&code, tables.root, tables.start, &[], &mut numbers) {
+        Ok(_) => Ok(numbers),
+        Err(at) => Err(NewFault::Stuck(at)),
     }
 }
 

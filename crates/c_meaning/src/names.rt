@@ -4,14 +4,8 @@ ghost use Rattle.std.specs.List.{position_from, starts_with, prefix_len};
 ghost use Rattle.c_machine.specs.Machine.{is_interface};
 ghost use Rattle.std.specs.Char.{is_ascii_digit};
 
-use c_syntax::{Field, Procedure, StructDef};
+use c_syntax::{Field, Procedure};
 use std::alloc::{AllocError, Global};
-
-pub(crate) fn struct_named(structs: &[StructDef], name: &[u8]) -> Option<usize>
-    ensures { result ≡ position_from (λ s. bytes_eq s.name name.now) 0 structs.now }
-{
-    structs.iter().position(|s| s.name.bytes() == name)
-}
 
 pub(crate) fn procedure_named(procedures: &[Procedure], name: &[u8]) -> Option<usize>
     ensures { result ≡ position_from (λ q. bytes_eq q.name name.now) 0 procedures.now }

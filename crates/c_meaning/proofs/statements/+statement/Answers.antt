@@ -1,8 +1,9 @@
-use Rattle.std.proofs.Common.{Bool, ◌≡◌, ◌≤◌, ◌+◌, ◌-◌, ◌++◌, ℤ, List, length, map, take, drop, ℕ, ap, sym, ◌∙◌, subst, arith, rules, slice_index_or, false}
+use Rattle.std.proofs.Common.{Bool, true, ◌≡◌, ◌≤◌, ◌+◌, ◌-◌, ◌++◌, ℤ, List, length, map, take, drop, ℕ, ap, sym, ◌∙◌, subst, arith, rules, slice_index_or, false}
 use Rattle.std.specs.Prelude.{if◌then◌else◌}
 use Rattle.std.proofs.lemmas.Grind.{common_steps}
+use Rattle.c_syntax.specs.declared.code.Expr.{Expr}
 use Rattle.c_syntax.specs.declared.code.Target.{Target}
-use Rattle.c_syntax.specs.Plain.{expr_tree, stmt_tree, procedure_tree}
+use Rattle.c_syntax.specs.Plain.{expr_tree, cond_tree, stmt_tree, procedure_tree}
 use Rattle.c_syntax.specs.Limits.{stmt_depth, stmts_depth}
 use Rattle.c_syntax.specs.Tree.{StmtTree, StmtTrees, ProcedureTree, call, exprs_of_list, stmts_of_list}
 use Rattle.c_machine.specs.Machine.{run_stmt, run_stmts, routine_at, Routine}
@@ -13,10 +14,10 @@ use Rattle.c_meaning.specs.Sound.{IsSoundStmt, AreSoundStmts, IsCallOf, IsProced
 use Rattle.c_machine.specs.Cells.{Cells}
 use Rattle.c_meaning.specs.Codes.{ReadyCode, code_tree}
 use Rattle.c_meaning.specs.Seen.{ended, seen}
-use Rattle.c_meaning.specs.Frames.{cells_in, scope_in, tree_in}
+use Rattle.c_meaning.specs.Frames.{cells_in, run_in, scope_in, tree_in}
 use Rattle.c_meaning.proofs.Narrow.{exprs_length-list}
 use Rattle.c_meaning.proofs.Measures.{procs_depth, if_depth, stmts_depth_at, sound_here, sound_more, procs_at, found_is, proc_logged, proc_params, proc_count}
-use Rattle.c_meaning.proofs.Outcomes.{stmts_more, stmts_stop, stmts_end, call_gives, call_sticks, routine_is, procedure_gives, target_left}
+use Rattle.c_meaning.proofs.Outcomes.{branch_gives, branch_sticks, stmts_more, stmts_stop, stmts_end, call_gives, call_sticks, routine_is, procedure_gives, target_left}
 use Rattle.c_meaning.proofs.Places.{holds, part_length, drop_more}
 use Rattle.c_meaning.proofs.statements.+statement.Goals as goal
 
@@ -336,3 +337,41 @@ run_procedure-returns-clause-ran t c =
     c.requires.there.there c.program.ensures.ready.logged_is) (c.log_call.ensures.calls
     ∙ ap (λ (xs : List Bool). c.args.cost.now.calls + (if slice_index_or xs c.args.procedure false then 1 else 0))
     c.logged.ensures) last
+
+pub run-returns-in-Set-clause-ran : goal.run-returns-in-Set-clause-ran
+run-returns-in-Set-clause-ran t c =
+    c.set_field.ensures.ran
+    ∙ ap (λ x. run_in c.args.frame.now (stmt_tree x) c.args.numbers.now c.args.cost.now) (sym c.in-Set.is)
+
+pub run-returns-in-SetAt-clause-ran : goal.run-returns-in-SetAt-clause-ran
+run-returns-in-SetAt-clause-ran t c =
+    c.set_item.ensures.ran
+    ∙ ap (λ x. run_in c.args.frame.now (stmt_tree x) c.args.numbers.now c.args.cost.now) (sym c.in-SetAt.is)
+
+pub run-returns-in-Call-clause-ran : goal.run-returns-in-Call-clause-ran
+run-returns-in-Call-clause-ran t c =
+    let Ran : List Expr → StmtTree = λ es. call c.in-Call.line c.in-Call.procedure c.in-Call.target (exprs_of_list (map expr_tree es)) in
+    c.run_call.ensures.ran
+    ∙ ap (λ x. run_in c.args.frame.now x c.args.numbers.now c.args.cost.now)
+    (sym (ap stmt_tree c.in-Call.is ∙ ap Ran (sym c.deref-in-Call.ensures.value)))
+
+pub run_if-returns-in-Holds-clause-ran : goal.run_if-returns-in-Holds-clause-ran
+run_if-returns-in-Holds-clause-ran t c =
+    branch_gives (scope_in c.args.frame.now) c.args.line c.args.cost.now.steps c.args.cost.now.calls _ _
+    (cond_tree c.args.test.now) (stmts_of_list (map stmt_tree c.args.on_true.now))
+    (stmts_of_list (map stmt_tree c.args.on_false.now)) true (cells_in c.args.frame.now c.args.numbers.now) _
+    c.in_ok-take_step.ensures.taken c.in-Holds.ensures.value c.run_all.ensures.ran
+
+pub run_if-returns-in-Fails-clause-ran : goal.run_if-returns-in-Fails-clause-ran
+run_if-returns-in-Fails-clause-ran t c =
+    branch_gives (scope_in c.args.frame.now) c.args.line c.args.cost.now.steps c.args.cost.now.calls _ _
+    (cond_tree c.args.test.now) (stmts_of_list (map stmt_tree c.args.on_true.now))
+    (stmts_of_list (map stmt_tree c.args.on_false.now)) false (cells_in c.args.frame.now c.args.numbers.now) _
+    c.in_ok-take_step.ensures.taken c.in-Fails.ensures.value c.run_all-in-Fails.ensures.ran
+
+pub run_if-returns-in-Halts-clause-ran : goal.run_if-returns-in-Halts-clause-ran
+run_if-returns-in-Halts-clause-ran t c =
+    branch_sticks (scope_in c.args.frame.now) c.args.line c.args.cost.now.steps c.args.cost.now.calls _
+    (cond_tree c.args.test.now) (stmts_of_list (map stmt_tree c.args.on_true.now))
+    (stmts_of_list (map stmt_tree c.args.on_false.now)) (cells_in c.args.frame.now c.args.numbers.now) _
+    c.in_ok-take_step.ensures.taken c.in-Halts.ensures.value

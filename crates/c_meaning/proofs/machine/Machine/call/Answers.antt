@@ -6,6 +6,18 @@ use Rattle.c_meaning.proofs.Calling.{call_done, call_stuck}
 use Rattle.c_meaning.proofs.Places.{whole_again}
 use Rattle.c_meaning.proofs.machine.Machine.call.Goals as goal
 
+pub invariant_of-self : goal.invariant_of-self
+invariant_of-self c =
+    let old = c.self.inside.numbers in
+    let same = c.run_instance.auto.numbers ∙ ap length c.deref_mut.ensures.value in
+    let whole = whole_again old.items c.run_instance.new.numbers old.len same old.ok.0 in
+    record {
+      tables = c.self.invariant.tables;
+      counts = c.self.invariant.counts;
+      outputs_count = c.self.invariant.outputs_count;
+      room = ap length whole ∙ same ∙ c.self.invariant.room;
+    }
+
 pub returns-clause-called : goal.returns-clause-called
 returns-clause-called c =
     let old = c.self.inside.numbers in

@@ -1,10 +1,62 @@
-use Rattle.std.proofs.Common.{subst, sym, ◌∙◌, ap, ℤ, List, length}
-use Rattle.c_meaning.specs.Codes.{ReadyCode}
+use Rattle.std.proofs.Common.{subst, sym, ◌∙◌, ap, ℤ, Bool, List, length}
+use Rattle.c_syntax.specs.declared.program.Program.{Program}
+use Rattle.c_syntax.specs.Plain.{program_tree}
+use Rattle.c_meaning.specs.Slots.{StructLayout, layout_at}
+use Rattle.c_meaning.specs.Sound.{IsReady, IsProcedureOf}
+use Rattle.c_meaning.specs.Codes.{ReadyCode, code_tree}
 use Rattle.c_meaning.specs.Machines.{IsTick}
 use Rattle.c_meaning.specs.States.{MachineState}
 use Rattle.c_meaning.proofs.RootLaws.{tick_left}
 use Rattle.c_meaning.proofs.Places.{whole_again}
 use Rattle.c_meaning.proofs.machine.Machine.tick.Goals as goal
+
+pub new-code-requires : goal.new-code-requires
+new-code-requires c =
+    let p = program_tree c.self.inside.checked.program in
+    let t = c.self.inside.tables in
+    let Ready : Program → Type 0 = λ x. IsReady (program_tree x) c.deref.result.now c.deref-2.result.now in
+    let Laid : List StructLayout → Type 0 = λ ls. IsReady p ls c.deref-2.result.now in
+    let Logged : List Bool → Type 0 = λ bs. IsReady p t.layouts.items bs in
+    subst Ready (sym c.program.ensures)
+    (subst Laid (sym c.deref.ensures.value) (subst Logged (sym c.deref-2.ensures.value) c.self.invariant.tables.ready))
+
+pub run_root-requires-clause-there : goal.run_root-requires-clause-there
+run_root-requires-clause-there c =
+    let t = c.self.inside.tables in
+    subst (λ (k : ReadyCode). IsProcedureOf (code_tree k) t.step t.root) (sym c.new-code.ensures)
+    (subst (λ (x : Program). IsProcedureOf (program_tree x) t.step t.root) (sym c.program.ensures)
+    c.self.invariant.tables.step_there)
+
+pub run_root-requires-clause-room : goal.run_root-requires-clause-room
+run_root-requires-clause-room c =
+    let t = c.self.inside.tables in
+    ap length c.deref_mut.ensures.value ∙ c.self.invariant.room
+    ∙ sym (ap (λ (k : ReadyCode). (layout_at k.layouts t.root).size) c.new-code.ensures
+    ∙ ap (λ (ls : List StructLayout). (layout_at ls t.root).size) c.deref.ensures.value)
+
+pub invariant_of-self : goal.invariant_of-self
+invariant_of-self c =
+    let old = c.self.inside.numbers in
+    let same = c.run_root.auto.numbers ∙ ap length c.deref_mut.ensures.value in
+    let whole = whole_again old.items c.run_root.new.numbers old.len same old.ok.0 in
+    record {
+      tables = c.self.invariant.tables;
+      counts = c.self.invariant.counts;
+      outputs_count = c.self.invariant.outputs_count;
+      room = ap length whole ∙ same ∙ c.self.invariant.room;
+    }
+
+pub invariant_of-self-2 : goal.invariant_of-self-2
+invariant_of-self-2 c =
+    let old = c.self.inside.numbers in
+    let same = c.run_root.auto.numbers ∙ ap length c.deref_mut.ensures.value in
+    let whole = whole_again old.items c.run_root.new.numbers old.len same old.ok.0 in
+    record {
+      tables = c.self.invariant.tables;
+      counts = c.self.invariant.counts;
+      outputs_count = c.self.invariant.outputs_count;
+      room = ap length whole ∙ same ∙ c.self.invariant.room;
+    }
 
 pub returns-clause-ticked : goal.returns-clause-ticked
 returns-clause-ticked c =
