@@ -2,20 +2,22 @@ ghost use Rattle.std.specs.Prelude.{◌≡◌, ◌<◌, ◌≤◌, ◌-◌, ◌^
 ghost use Rattle.std.specs.Option.{option_and_then};
 ghost use Rattle.mc_blocks.specs.Value.{greatest_in};
 ghost use Rattle.c_syntax.specs.Plain.{expr_tree, cond_tree};
+ghost use Rattle.c_syntax.specs.Tree as tree;
 ghost use Rattle.c_syntax.specs.Tree.{compare};
+ghost use Rattle.c_syntax.specs.declared.BinOp.TheVariants.{Mul};
 ghost use Rattle.c_blocks.specs.RowCode as code;
 ghost use Rattle.c_blocks.specs.Ranges as numbers;
 ghost use Rattle.c_blocks.specs.Resolved.{IsRowOp};
 
 use crate::conversion::{aligned, converted};
 use crate::exact::{greatest_frac, product, sum};
-use crate::expression::{binary, choice, truth, written};
+use crate::expression::{binary, truth, written};
 use crate::laws::row_ops_are_writable;
 use crate::ranges::{gain_range, input_range, product_range, sum_range};
 use crate::truth::{logic, passes, passes_all};
 use c_syntax::{BinOp, Cond, Expr, Leaf};
 use mc_base::{Compare, Memory};
-use mc_blocks::{Criterion, How, Op};
+use mc_blocks::{Criterion, How, Logic, Op};
 use mc_fixed::FixType;
 use std::alloc::Global;
 
@@ -84,11 +86,31 @@ fn converted_input(
     converted(alloc, input(inputs, place), u32::from(frac), range, to, how)
 }
 
+/// The same in a box.
+fn boxed_input(
+    alloc: Global,
+    inputs: &[Leaf],
+    types: &[FixType],
+    place: usize,
+    frac: u8,
+    to: FixType,
+    how: How,
+) -> Result<Box<Expr>, Memory>
+    requires { frac ≤ 31 }
+    ensures { IfOk result
+        (λ e. expr_tree e.value ≡ code.converted_input inputs.now types.now place frac to how) }
+{
+    Ok(Box::new(
+        alloc,
+        converted_input(alloc, inputs, types, place, frac, to, how)?,
+    )?)
+}
+
 /// The first input where a test holds, else the third one, each converted into a type; `first` says which one, where it's known.
 fn converted_either(
     alloc: Global,
     first: Option<bool>,
-    test: Cond,
+    test: Box<Cond>,
     fracs: [u8; 2],
     inputs: &[Leaf],
     types: &[FixType],
@@ -97,17 +119,17 @@ fn converted_either(
 ) -> Result<Expr, Memory>
     requires first_unit { get_or fracs 0 0 ≤ 31 }
     requires third_unit { get_or fracs 1 0 ≤ 31 }
-    ensures { IfOk result (λ e. expr_tree e ≡ code.either_code first (cond_tree test)
+    ensures { IfOk result (λ e. expr_tree e ≡ code.either_code first (cond_tree test.value)
         (code.converted_input inputs.now types.now 0 (get_or fracs 0 0) to how)
         (code.converted_input inputs.now types.now 2 (get_or fracs 1 0) to how)) }
 {
-    let on_true = converted_input(alloc, inputs, types, 0, fracs[0], to, how)?;
-    let on_false = converted_input(alloc, inputs, types, 2, fracs[1], to, how)?;
-    match first {
-        Some(true) => Ok(on_true),
-        Some(false) => Ok(on_false),
-        None => choice(alloc, test, on_true, on_false),
-    }
+    let on_true = boxed_input(alloc, inputs, types, 0, fracs[0], to, how)?;
+    let on_false = boxed_input(alloc, inputs, types, 2, fracs[1], to, how)?;
+    Ok(match first {
+        Some(true) => Box::into_inner(on_true),
+        Some(false) => Box::into_inner(on_false),
+        None => Expr::Pick(test, on_true, on_false),
+    })
 }
 
 /// The product of all inputs, of `frac` fraction bits together, converted into a type.
@@ -151,7 +173,37 @@ fn switched(
 {
     let first = passes_all(criterion, threshold, input_range(types, 1));
     let test = passes(alloc, criterion, input(inputs, 1), threshold)?;
+    let test = Box::new(alloc, test)?;
     converted_either(alloc, first, test, fracs, inputs, types, to, how)
+}
+
+/// The first input, of a gain, times `m` and of `frac` fraction bits then, converted into a type.
+fn converted_gain(
+    alloc: Global,
+    m: i64,
+    frac: u8,
+    inputs: &[Leaf],
+    types: &[FixType],
+    to: FixType,
+    how: How,
+) -> Result<Expr, Memory>
+    requires factor_fits { unsigned_abs m < 2 ^ 63 }
+    requires unit { frac - to.frac ≤ 62 }
+    ensures { IfOk result (λ e. expr_tree e ≡ code.converted
+        (tree.binary Mul (code.input_code inputs.now 0) (code.written m)) frac
+        (numbers.gain_range m types.now) to how) }
+{
+    let factor = written(alloc, m)?;
+    let exact = binary(alloc, BinOp::Mul, input(inputs, 0), factor)?;
+    converted(alloc, exact, u32::from(frac), gain_range(m, types), to, how)
+}
+
+/// 1 where a logical operator over inputs holds, else 0.
+fn logic_value(alloc: Global, op: Logic, inputs: &[Leaf]) -> Result<Expr, Memory>
+    ensures { IfOk result
+        (λ e. expr_tree e ≡ code.truth (code.logic_code op (code.truths inputs.now))) }
+{
+    truth(alloc, logic(alloc, op, inputs)?)
 }
 
 /// The expression for the value of a row: what the row computes of its inputs and its memory, in C, with two calls of
@@ -176,10 +228,7 @@ pub fn value_code(
         Op::Copy => Ok(input(inputs, 0)),
         Op::Value(v) => written(alloc, v),
         Op::Delay(_) | Op::Line { .. } => Ok(memory),
-        Op::Gain { m, frac, to, how } => {
-            let exact = binary(alloc, BinOp::Mul, input(inputs, 0), written(alloc, m)?)?;
-            converted(alloc, exact, u32::from(frac), gain_range(m, types), to, how)
-        }
+        Op::Gain { m, frac, to, how } => converted_gain(alloc, m, frac, inputs, types, to, how),
         Op::Sum {
             count,
             minus,
@@ -204,7 +253,7 @@ pub fn value_code(
             how,
         } => switched(alloc, criterion, threshold, fracs, inputs, types, to, how),
         Op::Relational { compare, fracs } => comparison(alloc, compare, &fracs, inputs),
-        Op::Logic { op, .. } => truth(alloc, logic(alloc, op, inputs)?),
+        Op::Logic { op, .. } => logic_value(alloc, op, inputs),
         Op::Convert { frac, to, how } => converted_input(alloc, inputs, types, 0, frac, to, how),
         Op::Nothing => Ok(Expr::Literal(0)),
     }

@@ -1,8 +1,9 @@
 ghost use Rattle.std.specs.Prelude.{◌≡◌, ◌<◌, ◌^◌, IfOk, map, unsigned_abs};
 ghost use Rattle.std.specs.Option.{option_map};
-ghost use Rattle.c_syntax.specs.Tree.{branch, stmts_of_list};
+ghost use Rattle.c_syntax.specs.Tree.{branch, read, stmts_of_list};
 ghost use Rattle.c_syntax.specs.Plain.{expr_tree, cond_tree, stmt_tree};
 ghost use Rattle.c_blocks.specs.StatementCode as code;
+ghost use Rattle.c_blocks.specs.RowCode.{written};
 
 use crate::activity::level_code;
 use crate::exact::reads;
@@ -112,6 +113,24 @@ pub fn value_reset_statements(
     only_if(alloc, disabled, started)
 }
 
+/// The own field at a position takes what a leaf reads, or a number.
+fn memory_stores(
+    alloc: Global,
+    field: u32,
+    input: Leaf,
+    start: i64,
+) -> Result<(Vec<Stmt>, Vec<Stmt>), Memory>
+    requires { unsigned_abs start < 2 ^ 63 }
+    ensures taken { IfOk result (λ r. stmts_of_list (map stmt_tree r.0.items)
+        ≡ code.store_code field (read input)) }
+    ensures started { IfOk result (λ r. stmts_of_list (map stmt_tree r.1.items)
+        ≡ code.store_code field (written start)) }
+{
+    let taken = store(alloc, field, Expr::Read(input))?;
+    let started = store(alloc, field, written(alloc, start)?)?;
+    Ok((taken, started))
+}
+
 /// The statements for the memory of a delay of one sample: it takes the input where the row runs, and else its start where
 /// the system is off. `runs` always holds where it is `None`, and `off` never.
 ///
@@ -129,8 +148,7 @@ pub fn memory_statements(
         ≡ code.memory_statements field (option_map cond_tree runs) input
         (option_map cond_tree off) start) }
 {
-    let taken = store(alloc, field, Expr::Read(input))?;
-    let started = store(alloc, field, written(alloc, start)?)?;
+    let (taken, started) = memory_stores(alloc, field, input, start)?;
     let begun = only_if(alloc, off, started)?;
     guarded(alloc, runs, taken, begun)
 }

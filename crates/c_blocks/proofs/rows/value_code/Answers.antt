@@ -4,8 +4,8 @@ use Rattle.mc_blocks.specs.Value.{greatest_in}
 use Rattle.c_blocks.specs.Resolved.{IsWritable}
 use Rattle.c_blocks.proofs.rows.value_code.Goals as goal
 
-pub written-requires-in-Gain : goal.written-requires-in-Gain
-written-requires-in-Gain c =
+pub converted_gain-requires-clause-factor_fits : goal.converted_gain-requires-clause-factor_fits
+converted_gain-requires-clause-factor_fits c =
     let fits : FitsSigned w64 c.in-Gain.m = search rules in
     let writable = subst IsWritable c.in-Gain.is (c.row_ops_are_writable.ensures c.args.op.now c.requires) in
     simp to_z-of_z writable.0
@@ -13,7 +13,7 @@ written-requires-in-Gain c =
 pub converted_sum-requires-clause-unit : goal.converted_sum-requires-clause-unit
 converted_sum-requires-clause-unit c =
     let writable = subst IsWritable c.in-Sum.is (c.row_ops_are_writable.ensures c.args.op.now c.requires) in
-    subst (λ n. greatest_in (take n c.in-Sum.fracs) ≤ 31) (sym c.from-in-Sum.ensures) writable.1
+    subst (λ n. greatest_in (take n c.in-Sum.fracs) ≤ 31) (sym c.from.ensures) writable.1
 
 pub switched-requires-clause-threshold_fits : goal.switched-requires-clause-threshold_fits
 switched-requires-clause-threshold_fits c =
