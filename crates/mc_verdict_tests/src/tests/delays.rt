@@ -1,4 +1,4 @@
-use super::{at_both_depths, is_told_in_root};
+use super::{is_told_in_root, is_told_inside};
 use std::alloc::Global;
 use std::fmt::Write;
 use std::test::Fail;
@@ -14,44 +14,47 @@ fn delays(alloc: Global, count: u32, last: u32) -> Result<String, Fail> {
     Ok(parts)
 }
 
-// A million samples are the most that may be; the first delay with which there are more is told.
 #[test]
 fn long_delays(rt: HostRuntime) -> Result<(), Fail> {
-    for &(count, last, root, inside) in &[
-        (15, 16_975, "accepted", "accepted"),
+    for &(count, last, behind, root, inside) in &[
+        // A million samples are the most that may be; the first delay with which there are more is told.
+        (15, 16_975, "", "accepted", "accepted"),
         (
             15,
             16_976,
+            "",
             "refused F24 LongDelays line 173 total 1000001",
             "refused F24 LongDelays line 177 total 1000001",
         ),
         (
             16,
             1,
+            "",
             "refused F24 LongDelays line 173 total 1048560",
             "refused F24 LongDelays line 177 total 1048560",
         ),
+        // A loop comes first: behind sixteen delays it is at line 184.
+        (
+            15,
+            65_535,
+            "; Gain k OutDataTypeStr=int8; k 1 > k 1",
+            "refused F23 Loop 184",
+            "refused F23 Loop 188",
+        ),
     ] {
-        let parts = delays(rt.alloc(), count, last)?;
-        at_both_depths(rt.alloc(), &parts, root, inside)?;
+        let mut parts = delays(rt.alloc(), count, last)?;
+        parts.push_str(behind)?;
+        is_told_in_root(rt.alloc(), &parts, root)?;
+        is_told_inside(rt.alloc(), &parts, inside)?;
     }
     Ok(())
 }
 
-// Those of all systems count together: nine in the root, and from line 116 on those of a subsystem.
-#[test]
-fn delays_of_two_systems(rt: HostRuntime) -> Result<(), Fail> {
-    let around = delays(rt.alloc(), 8, 1)?;
-    for &(count, last, expected) in &[
-        (7, 16_974, "accepted"),
-        (7, 16_975, "refused F24 LongDelays line 193 total 1000001"),
-        (8, 1, "refused F24 LongDelays line 193 total 1048561"),
-    ] {
-        let within = delays(rt.alloc(), count, last)?;
-        let parts = format!(in rt.alloc(); "{around}; SubSystem s {{; {within}; }}")?;
-        is_told_in_root(rt.alloc(), &parts, expected)?;
-    }
-    Ok(())
+/// Nine delays in the root, and from line 116 on so many and one more in a subsystem.
+fn delays_of_two_systems(alloc: Global, count: u32, last: u32) -> Result<String, Fail> {
+    let around = delays(alloc, 8, 1)?;
+    let within = delays(alloc, count, last)?;
+    Ok(format!(in alloc; "{around}; SubSystem s {{; {within}; }}")?)
 }
 
 /// Sixteen delays, each of the one before; they take five lines each, from line 8 on.
@@ -70,25 +73,17 @@ fn chain(alloc: Global) -> Result<String, Fail> {
     Ok(parts)
 }
 
+// Those of all systems count together, and so do those of a chain.
 #[test]
-fn a_chain_of_delays(rt: HostRuntime) -> Result<(), Fail> {
-    let parts = chain(rt.alloc())?;
-    is_told_in_root(
-        rt.alloc(),
-        &parts,
-        "refused F24 LongDelays line 83 total 1048560",
-    )
-}
-
-// A loop comes first: behind sixteen delays it is at line 184.
-#[test]
-fn loops_come_before_delays(rt: HostRuntime) -> Result<(), Fail> {
-    let delays = delays(rt.alloc(), 15, 65_535)?;
-    let parts = format!(in rt.alloc(); "{delays}; Gain k OutDataTypeStr=int8; k 1 > k 1")?;
-    at_both_depths(
-        rt.alloc(),
-        &parts,
-        "refused F23 Loop 184",
-        "refused F23 Loop 188",
-    )
+fn delays_together(rt: HostRuntime) -> Result<(), Fail> {
+    let alloc = rt.alloc();
+    for &(count, last, expected) in &[
+        (7, 16_974, "accepted"),
+        (7, 16_975, "refused F24 LongDelays line 193 total 1000001"),
+        (8, 1, "refused F24 LongDelays line 193 total 1048561"),
+    ] {
+        is_told_in_root(alloc, &delays_of_two_systems(alloc, count, last)?, expected)?;
+    }
+    let expected = "refused F24 LongDelays line 83 total 1048560";
+    is_told_in_root(alloc, &chain(alloc)?, expected)
 }
