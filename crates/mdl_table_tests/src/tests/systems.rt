@@ -1,34 +1,30 @@
-use super::{in_root, is_told};
+use super::in_root;
 use std::test::Fail;
 
 // The lesser number comes first, and then the lesser line, in whatever system it stands: the blocks of a subsystem begin at
 // line 11, and what is behind it at line 17 or later.
+const SYSTEMS: &str = "Ground g; SubSystem s {; _; }; _";
+
+const REFUSALS: &[(&str, &str)] = &[
+    (
+        "Ground h; Ground h | g 1 > z 1",
+        "refused F9 DoubleName line 15",
+    ),
+    (
+        "Constant c | Terminator t",
+        "refused F13 Unconnected line 17 port 1",
+    ),
+    (
+        "Terminator t | Terminator u",
+        "refused F13 Unconnected line 11 port 1",
+    ),
+    (
+        "Constant c | Constant d SampleTime=0",
+        "refused F15 Continuous line 17",
+    ),
+];
+
 #[test]
-fn the_first_refusal_of_all_systems_is_told(rt: HostRuntime) -> Result<(), Fail> {
-    for &(inside, behind, expected) in &[
-        (
-            "Ground h; Ground h",
-            "g 1 > z 1",
-            "refused F9 DoubleName line 15",
-        ),
-        (
-            "Constant c",
-            "Terminator t",
-            "refused F13 Unconnected line 17 port 1",
-        ),
-        (
-            "Terminator t",
-            "Terminator u",
-            "refused F13 Unconnected line 11 port 1",
-        ),
-        (
-            "Constant c",
-            "Constant d SampleTime=0",
-            "refused F15 Continuous line 17",
-        ),
-    ] {
-        let parts = format!(in rt.alloc(); "Ground g; SubSystem s {{; {inside}; }}; {behind}")?;
-        is_told(&in_root(rt.alloc(), &parts)?, expected, &parts)?;
-    }
-    Ok(())
+fn the_first_refusal_of_all_systems(rt: HostRuntime) -> Result<(), Fail> {
+    in_root(rt.alloc(), SYSTEMS, REFUSALS)
 }
