@@ -1,147 +1,193 @@
-use mc_base::{Decimal, Frac, Memory, ParamName, Text, TimeText};
-use mc_fixed::TypeText;
-use mdl_params::{BlockType, Defaults, ParamFault, number, sample_time, type_of};
-use mdl_tree::{Item, Section};
-use std::alloc::Global;
+use super::is_told;
+use mc_base::ParamName;
+use mdl_params::{Defaults, number, sample_time, type_of};
+use mdl_reader::read_mdl;
+use mdl_texts::push_lines;
+use mdl_tree::Section;
+use std::alloc::{AllocError, Global};
 use std::test::Fail;
 
-// A section with these parameters.
-fn section(alloc: Global, name: &str, params: &[(&str, &str)]) -> Result<Section, Memory> {
-    let mut items = Vec::new(alloc);
-    for (name, value) in params {
-        items.push(Item::Param {
-            name: Text::copy_of(alloc, name.as_bytes())?,
-            value: Text::copy_of(alloc, value.as_bytes())?,
-            line: 2,
-        })?;
-    }
-    let name = Text::copy_of(alloc, name.as_bytes())?;
-    Ok(Section {
-        name,
-        line: 1,
-        items,
-    })
+/// A model whose section of defaults has these blocks, and beside it a block with these parameters; lines are parted by ` / `.
+fn model_with(alloc: Global, defaults: &str, params: &str) -> Result<Section, Fail> {
+    let lines = format!(in alloc;
+        "BlockParameterDefaults {{ / Version 1 / {defaults} / }} / Block {{ / {params} / }}"
+    )?;
+    let mut text = String::new(alloc);
+    push_lines(&mut text, &lines)?;
+    Ok(read_mdl(alloc, text.as_bytes())?)
 }
 
-// The defaults of a model whose section of defaults has these blocks.
-fn defaults(alloc: Global, blocks: &[&[(&str, &str)]]) -> Result<Defaults, Memory> {
-    let mut outer = section(alloc, "BlockParameterDefaults", &[("Version", "1")])?;
-    for params in blocks {
-        outer
-            .items
-            .push(Item::Section(section(alloc, "Block", params)?))?;
-    }
-    let mut model = section(alloc, "Model", &[])?;
-    model.items.push(Item::Section(outer))?;
-    Defaults::new(alloc, &model)
+/// What stands for a parameter of a block of this type.
+fn found_in(alloc: Global, model: &Section, kind: &str, name: ParamName) -> Result<Vec<u8>, Fail> {
+    let defaults = Defaults::new(alloc, model)?;
+    let block = model.section(b"Block").ok_or("no block")?;
+    let text = defaults
+        .found(block, kind.as_bytes(), name)
+        .ok_or("no text")?;
+    Ok(text.to_vec(alloc)?)
 }
+
+/// Two gains in the section of defaults, of which the first counts.
+const GAINS: &str = "Block { / BlockType Gain / OutDataTypeStr fixdt(1,16,4) / SampleTime -1 / } / \
+    Block { / BlockType Gain / SampleTime 7 / }";
+
+/// A block there with an initial condition by its second name.
+const DELAYS: &str = "Block { / BlockType Delay / X0 3 / }";
+
+const PARAMS: &[(&str, &str, &str, ParamName, &str)] = &[
+    // The block's own, that of the defaults, and that of the type.
+    (
+        GAINS,
+        "Gain",
+        "Name \"Long gain\" / Gain 2.5",
+        ParamName::Gain,
+        "2.5",
+    ),
+    (
+        GAINS,
+        "Gain",
+        "Name \"Long gain\" / Gain 2.5",
+        ParamName::SampleTime,
+        "-1",
+    ),
+    (
+        GAINS,
+        "Gain",
+        "Name \"Long gain\" / Gain 2.5",
+        ParamName::RndMeth,
+        "Floor",
+    ),
+    (
+        GAINS,
+        "Gain",
+        "Name \"Long gain\" / Gain 2.5",
+        ParamName::Name,
+        "Long gain",
+    ),
+    // A delay of several samples, whose initial condition has no second name.
+    (
+        DELAYS,
+        "Delay",
+        "DelayLength 5 / X0 7",
+        ParamName::DelayLength,
+        "5",
+    ),
+    (
+        DELAYS,
+        "Delay",
+        "DelayLength 5 / X0 7",
+        ParamName::DelayLengthSource,
+        "Dialog",
+    ),
+    (
+        DELAYS,
+        "Delay",
+        "DelayLength 5 / X0 7",
+        ParamName::InitialCondition,
+        "0",
+    ),
+    (
+        DELAYS,
+        "Delay",
+        "DelayLength 5 / X0 7",
+        ParamName::InitialConditionSource,
+        "Dialog",
+    ),
+    (
+        DELAYS,
+        "Delay",
+        "DelayLength 5 / X0 7",
+        ParamName::ExternalReset,
+        "None",
+    ),
+    (
+        DELAYS,
+        "Delay",
+        "DelayLength 5 / X0 7",
+        ParamName::SampleTime,
+        "-1",
+    ),
+];
 
 #[test]
-fn saved_model(rt: HostRuntime) -> Result<(), Fail> {
-    let defaults = defaults(
-        rt.alloc(),
-        &[
-            &[
-                ("BlockType", "Gain"),
-                ("OutDataTypeStr", "fixdt(1,16,4)"),
-                ("SampleTime", "-1"),
-            ],
-            &[("BlockType", "Gain"), ("SampleTime", "7")],
-        ],
-    )?;
-    let block = section(
-        rt.alloc(),
-        "Block",
-        &[("Name", "Long gain"), ("Gain", "2.5")],
-    )?;
-    for &(name, text) in &[
-        (ParamName::Gain, b"2.5".as_slice()),
-        (ParamName::SampleTime, b"-1"),
-        (ParamName::RndMeth, b"Floor"),
-    ] {
-        assert_eq!(rt; defaults.param(&block, b"Gain", name), text);
+fn parameters_of_blocks(rt: HostRuntime) -> Result<(), Fail> {
+    for &(defaults, kind, params, name, expected) in PARAMS {
+        let model = model_with(rt.alloc(), defaults, params)?;
+        is_told(&found_in(rt.alloc(), &model, kind, name)?, expected, params)?;
     }
-    assert_eq!(rt;
-        defaults.found(&block, b"Gain", ParamName::Name),
-        Some(b"Long gain".as_slice())
-    );
     Ok(())
 }
 
-// What stands for the initial condition of a unit delay with these parameters, where X0 is 3 in the defaults.
-fn initial_condition(alloc: Global, params: &[(&str, &str)]) -> Result<u8, Memory> {
-    let defaults = defaults(alloc, &[&[("BlockType", "UnitDelay"), ("X0", "3")]])?;
-    let delay = section(alloc, "Block", params)?;
-    let text = defaults.param(&delay, b"UnitDelay", ParamName::InitialCondition);
-    Ok(text.first().copied().unwrap_or(0))
+/// What stands for the initial condition of a unit delay with these parameters, where X0 is 3 in the defaults.
+fn initial_condition(alloc: Global, params: &str) -> Result<Vec<u8>, Fail> {
+    let model = model_with(alloc, "Block { / BlockType UnitDelay / X0 3 / }", params)?;
+    let defaults = Defaults::new(alloc, &model)?;
+    let block = model.section(b"Block").ok_or("no block")?;
+    let text = defaults.param(block, b"UnitDelay", ParamName::InitialCondition);
+    Ok(text.to_vec(alloc)?)
 }
 
 #[test]
 fn initial_conditions(rt: HostRuntime) -> Result<(), Fail> {
-    assert_eq!(rt; initial_condition(rt.alloc(), &[])?, b'3');
-    assert_eq!(rt; initial_condition(rt.alloc(), &[("X0", "7")])?, b'7');
-    assert_eq!(rt;
-        initial_condition(rt.alloc(), &[("X0", "7"), ("InitialCondition", "5")])?,
-        b'5'
-    );
-    Ok(())
-}
-
-#[test]
-fn delays_of_several_samples(rt: HostRuntime) -> Result<(), Fail> {
-    let defaults = defaults(rt.alloc(), &[&[("BlockType", "Delay"), ("X0", "3")]])?;
-    let delay = section(rt.alloc(), "Block", &[("DelayLength", "5"), ("X0", "7")])?;
-    for &(name, text) in &[
-        (ParamName::DelayLength, b"5".as_slice()),
-        (ParamName::DelayLengthSource, b"Dialog"),
-        (ParamName::InitialCondition, b"0"),
-        (ParamName::InitialConditionSource, b"Dialog"),
-        (ParamName::ExternalReset, b"None"),
-        (ParamName::SampleTime, b"-1"),
-    ] {
-        assert_eq!(rt; defaults.param(&delay, b"Delay", name), text);
+    for &(params, expected) in &[("", "3"), ("X0 7", "7"), ("X0 7 / InitialCondition 5", "5")] {
+        is_told(&initial_condition(rt.alloc(), params)?, expected, params)?;
     }
     Ok(())
 }
 
-#[test]
-fn numbers_and_types(rt: HostRuntime) -> Result<(), Fail> {
-    assert_eq!(rt; number(b" [1/50] "), Ok(Decimal { num: 1, den: 50 }));
-    assert_eq!(rt; number(b"1e19"), Err(ParamFault::Parameter));
-    assert_eq!(rt; type_of(b"Inherit: auto"), Ok(TypeText::Inherit));
-    assert_eq!(rt; type_of(b"single"), Err(ParamFault::Float));
-    assert_eq!(rt; type_of(b"fixdt(1,33,0)"), Err(ParamFault::Parameter));
-    Ok(())
+/// What a text means as a number, as a type, or as a sample time.
+fn meaning(alloc: Global, text: &str, what: &str) -> Result<String, AllocError> {
+    let bytes = text.as_bytes();
+    match what {
+        "number" => format!(in alloc; "{:?}", number(bytes)),
+        "type" => format!(in alloc; "{:?}", type_of(bytes)),
+        _ => format!(in alloc; "{:?}", sample_time(bytes)),
+    }
 }
 
+const MEANINGS: &[(&str, &str, &str)] = &[
+    (" [1/50] ", "number", "Ok(Decimal { num: 1, den: 50 })"),
+    ("1e19", "number", "Err(Parameter)"),
+    ("Inherit: auto", "type", "Ok(Inherit)"),
+    ("single", "type", "Err(Float)"),
+    ("fixdt(1,33,0)", "type", "Err(Parameter)"),
+    (
+        "1/50",
+        "time",
+        "Ok(Each { period: Frac { num: 1, den: 50 }, offset: Frac { num: 0, den: 1 } })",
+    ),
+    (
+        "[1/75 1/150]",
+        "time",
+        "Ok(Each { period: Frac { num: 1, den: 75 }, offset: Frac { num: 1, den: 150 } })",
+    ),
+    (
+        " [0.2, 0.1]",
+        "time",
+        "Ok(Each { period: Frac { num: 1, den: 5 }, offset: Frac { num: 1, den: 10 } })",
+    ),
+    (
+        "[2,0]",
+        "time",
+        "Ok(Each { period: Frac { num: 2, den: 1 }, offset: Frac { num: 0, den: 1 } })",
+    ),
+    (
+        "1.000003",
+        "time",
+        "Ok(Each { period: Frac { num: 1000003, den: 1000000 }, offset: Frac { num: 0, den: 1 } })",
+    ),
+    ("[-1, 0]", "time", "Ok(Inherit)"),
+    ("inf", "time", "Ok(Constant)"),
+    ("0", "time", "Err(Continuous)"),
+    ("[0 -1]", "time", "Err(Continuous)"),
+    ("[1 1]", "time", "Err(Parameter)"),
+    ("-2", "time", "Err(Parameter)"),
+];
+
 #[test]
-fn sample_times(rt: HostRuntime) -> Result<(), Fail> {
-    for &(text, period, offset) in &[
-        (b"1/50".as_slice(), (1, 50), (0, 1)),
-        (b"[1/75 1/150]", (1, 75), (1, 150)),
-        (b" [0.2, 0.1]", (1, 5), (1, 10)),
-        (b"[2,0]", (2, 1), (0, 1)),
-        (b"1.000003", (1000003, 1000000), (0, 1)),
-    ] {
-        let TimeText::Each {
-            period: p,
-            offset: o,
-        } = sample_time(text)?
-        else {
-            return Err("no period")?;
-        };
-        assert_eq!(rt; (p.num, p.den), period);
-        assert_eq!(rt; (o.num, o.den), offset);
-    }
-    for &(text, found) in &[
-        (b"[-1, 0]".as_slice(), Ok(TimeText::Inherit)),
-        (b"inf", Ok(TimeText::Constant)),
-        (b"0", Err(ParamFault::Continuous)),
-        (b"[0 -1]", Err(ParamFault::Continuous)),
-        (b"[1 1]", Err(ParamFault::Parameter)),
-        (b"-2", Err(ParamFault::Parameter)),
-    ] {
-        assert_eq!(rt; sample_time(text), found);
+fn meanings_of_texts(rt: HostRuntime) -> Result<(), Fail> {
+    for &(text, what, expected) in MEANINGS {
+        is_told(meaning(rt.alloc(), text, what)?.as_bytes(), expected, text)?;
     }
     Ok(())
 }

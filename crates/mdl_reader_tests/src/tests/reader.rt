@@ -1,9 +1,12 @@
+use super::is_told;
+use mc_base::SyntaxKind;
 use mc_base::SyntaxKind::{
     AfterString, BadName, Brace, DeepSections, OpenBracket, OpenString, StrayString,
 };
 use mdl_reader::{ReadFault, read_mdl};
 use mdl_texts::SAVED;
 use mdl_tree::{Item, Section};
+use std::alloc::Global;
 use std::test::Fail;
 
 // The value of a section's first parameter of this name, or the empty text.
@@ -65,9 +68,7 @@ fn has_saved_values(found: Saved) -> Result<(), Fail> {
         (found.gain, "Gain", "2.5"),
         (found.line, "Points", "[0, 0; 10, 0]"),
     ] {
-        if value(section, name.as_bytes()) != expected.as_bytes() {
-            return Err(Fail::new(format_args!("{name} is not {expected}")));
-        }
+        is_told(value(section, name.as_bytes()), expected, name)?;
     }
     Ok(())
 }
@@ -76,39 +77,40 @@ fn has_saved_values(found: Saved) -> Result<(), Fail> {
 fn saved_model(rt: HostRuntime) -> Result<(), Fail> {
     let file = read_mdl(rt.alloc(), SAVED)?;
     let found = saved_in(&file)?;
-    assert_eq!(rt; file.name.bytes(), b"".as_slice());
-    assert_eq!(rt; (file.line, found.model.line, found.gain.line), (0, 2, 49));
+    let lines = (file.line, found.model.line, found.gain.line);
+    assert_eq!(rt; (file.name.bytes(), lines), (b"".as_slice(), (0, 2, 49)));
     has_saved_values(found)
+}
+
+// Fails where reading a text has another first fault.
+fn is_fault(alloc: Global, text: &str, line: u32, kind: SyntaxKind) -> Result<(), Fail> {
+    if read_mdl(alloc, text.as_bytes()).err() == Some(ReadFault::Syntax { line, kind }) {
+        return Ok(());
+    }
+    Err(Fail::new(format_args!("{kind:?} is not the fault in line {line} of {text}")))
 }
 
 #[test]
 fn first_faults(rt: HostRuntime) -> Result<(), Fail> {
     for &(text, line, kind) in &[
-        (b"Model {\n  Name \"on".as_slice(), 2, OpenString),
-        (b"Model {\r\n1 x\r\n", 2, BadName),
-        (b"Model {\n}}\n", 2, BadName),
-        (b"a\"b\"", 1, BadName),
-        (b"a \"b\" \"c\"", 1, AfterString),
-        (b"a {\nb [1\n}\n}\n", 2, OpenBracket),
-        (b"a \"b\"\n\n# more\n\"c\"\nd {\n\"e\"\n}", 6, StrayString),
-        (b"a 1\n\"b\"", 2, StrayString),
-        (b"\n}\n", 2, Brace),
-        (b"a {\n}\nb {\n\n", 4, Brace),
+        ("Model {\n  Name \"on", 2, OpenString),
+        ("Model {\r\n1 x\r\n", 2, BadName),
+        ("Model {\n}}\n", 2, BadName),
+        ("a\"b\"", 1, BadName),
+        ("a \"b\" \"c\"", 1, AfterString),
+        ("a {\nb [1\n}\n}\n", 2, OpenBracket),
+        ("a \"b\"\n\n# more\n\"c\"\nd {\n\"e\"\n}", 6, StrayString),
+        ("a 1\n\"b\"", 2, StrayString),
+        ("\n}\n", 2, Brace),
+        ("a {\n}\nb {\n\n", 4, Brace),
     ] {
-        let fault = read_mdl(rt.alloc(), text).err();
-        assert_eq!(rt; fault, Some(ReadFault::Syntax { line, kind }));
+        is_fault(rt.alloc(), text, line, kind)?;
     }
-    Ok(())
-}
-
-#[test]
-fn deepest_sections(rt: HostRuntime) -> Result<(), Fail> {
-    let mut text = Vec::new(rt.alloc());
+    // The deepest sections that may be, and deeper ones.
     for depth in 1..130u32 {
-        text.extend_from_slice(b"a {\n")?;
-        let fault = read_mdl(rt.alloc(), text.as_slice()).err();
+        let text = "a {\n".repeat(rt.alloc(), depth as usize)?;
         let kind = if depth < 129 { Brace } else { DeepSections };
-        assert_eq!(rt; fault, Some(ReadFault::Syntax { line: depth, kind }));
+        is_fault(rt.alloc(), &text, depth, kind)?;
     }
     Ok(())
 }
