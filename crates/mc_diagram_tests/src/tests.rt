@@ -7,6 +7,8 @@ mod loops;
 mod types;
 
 use mc_graph::Graph;
+use std::alloc::{AllocError, Global};
+use std::test::Fail;
 
 /// The graph of these edges, where each of their ends is a node.
 fn graph_of(n: u32, edges: Vec<(u32, u32)>) -> Option<Graph> {
@@ -28,4 +30,37 @@ fn are_inside(n: u32, edges: &[(u32, u32)]) -> bool
         }
     }
     true
+}
+
+/// The graph of these edges, or a failure.
+fn small_graph(alloc: Global, n: u32, edges: &[(u32, u32)]) -> Result<Graph, Fail> {
+    let edges = edges.to_vec(alloc)?;
+    Ok(graph_of(n, edges).ok_or("an edge leaves the graph")?)
+}
+
+/// The edges of 20,000 nodes: to each from the one before, from each to the one before, or to each from the first.
+fn long_edges(alloc: Global, shape: &str) -> Result<Vec<(u32, u32)>, AllocError> {
+    let mut edges = Vec::new(alloc);
+    for b in 1..20_000 {
+        let edge = match shape {
+            "line" => (b - 1, b),
+            "reversed" => (b, b - 1),
+            _ => (0, b),
+        };
+        edges.push(edge)?;
+    }
+    Ok(edges)
+}
+
+/// Whether the list is 0, 1, 2 and so on.
+fn counts_up(list: &[u32]) -> bool {
+    list.iter().enumerate().all(|(k, b)| *b as usize == k)
+}
+
+/// Fails where what is told isn't what is expected.
+fn is_told(told: &str, expected: &str) -> Result<(), Fail> {
+    if told == expected {
+        return Ok(());
+    }
+    Err(Fail::new(format_args!("{told} is told, not {expected}")))
 }

@@ -70,21 +70,23 @@ fn value(k: &Kind, types: &[FixType], out: FixType, inputs: &[i64]) -> i64
 #[test]
 fn wide_product(rt: HostRuntime) {
     let least = -2_147_483_648;
-    let product = Kind::Product {
+    let wrapping = Kind::Product {
         count: 2,
         how: FLOOR_WRAP,
     };
-    assert_eq!(rt; wide_bits(&product, &[UINT32, UINT32], UINT32), 64);
-    assert_eq!(rt; wide_bits(&product, &[INT32, INT32], INT32), 62);
-    assert_eq!(rt; value(&product, &[INT32, INT32], INT32, &[least, least]), 0);
-    let product = Kind::Product {
+    let saturating = Kind::Product {
         count: 2,
         how: FLOOR_SATURATE,
     };
-    assert_eq!(rt;
-        value(&product, &[INT32, INT32], INT32, &[least, least]),
-        2_147_483_647
-    );
+    let bits = [
+        wide_bits(&wrapping, &[UINT32, UINT32], UINT32),
+        wide_bits(&wrapping, &[INT32, INT32], INT32),
+    ];
+    let values = [
+        value(&wrapping, &[INT32, INT32], INT32, &[least, least]),
+        value(&saturating, &[INT32, INT32], INT32, &[least, least]),
+    ];
+    assert_eq!(rt; (bits, values), ([64, 62], [0, 2_147_483_647]));
 }
 
 #[test]
@@ -111,10 +113,13 @@ fn switch_thresholds(rt: HostRuntime) {
         threshold: half,
         how: FLOOR_WRAP,
     };
-    assert_eq!(rt; value(&above, &types, INT8, &[5, 8, 300]), 127);
-    assert_eq!(rt; value(&above_wrapping, &types, INT8, &[5, 8, 300]), 44);
-    assert_eq!(rt; value(&above, &types, INT8, &[5, 9, 300]), 5);
-    assert_eq!(rt; value(&at_least, &types, INT8, &[5, 8, 300]), 5);
+    let values = [
+        value(&above, &types, INT8, &[5, 8, 300]),
+        value(&above_wrapping, &types, INT8, &[5, 8, 300]),
+        value(&above, &types, INT8, &[5, 9, 300]),
+        value(&at_least, &types, INT8, &[5, 8, 300]),
+    ];
+    assert_eq!(rt; values, [127, 44, 5, 5]);
 }
 
 #[test]
@@ -124,10 +129,13 @@ fn logic_and_comparison(rt: HostRuntime) {
         count: 3,
     };
     let three = [BOOLEAN, BOOLEAN, BOOLEAN];
-    assert_eq!(rt; value(&xor, &three, BOOLEAN, &[1, 1, 1]), 1);
-    assert_eq!(rt; value(&xor, &three, BOOLEAN, &[1, 1, 0]), 0);
     let less = Kind::Relational(Compare::Lt);
-    assert_eq!(rt; value(&less, &[INT8, UINT8], BOOLEAN, &[-1, 255]), 1);
+    let values = [
+        value(&xor, &three, BOOLEAN, &[1, 1, 1]),
+        value(&xor, &three, BOOLEAN, &[1, 1, 0]),
+        value(&less, &[INT8, UINT8], BOOLEAN, &[-1, 255]),
+    ];
+    assert_eq!(rt; values, [1, 0, 1]);
 }
 
 #[test]
@@ -136,13 +144,15 @@ fn small_gain(rt: HostRuntime) {
         gain: GainText::Own(Decimal { num: 1, den: 10 }),
         how: FLOOR_WRAP,
     };
-    assert_eq!(rt; wide_bits(&gain, &[INT32], INT32), 59);
-    assert_eq!(rt;
+    let values = [
         value(&gain, &[INT32], INT32, &[2_147_483_647]),
-        214_748_364
+        value(&gain, &[INT32], INT32, &[-1]),
+        value(&gain, &[INT32], INT32, &[10]),
+    ];
+    assert_eq!(rt;
+        (wide_bits(&gain, &[INT32], INT32), values),
+        (59, [214_748_364, -1, 1])
     );
-    assert_eq!(rt; value(&gain, &[INT32], INT32, &[-1]), -1);
-    assert_eq!(rt; value(&gain, &[INT32], INT32, &[10]), 1);
 }
 
 #[test]
@@ -152,7 +162,7 @@ fn rounding_to_int8(rt: HostRuntime) {
         bits: 16,
         frac: 4,
     };
-    for (round, tie, wrapped) in [
+    for &(round, tie, wrapped) in &[
         (Round::Floor, -3, 127),
         (Round::Ceiling, -2, -128),
         (Round::Zero, -2, 127),
@@ -168,9 +178,12 @@ fn rounding_to_int8(rt: HostRuntime) {
             round,
             over: Over::Wrap,
         });
-        assert_eq!(rt; value(&saturating, &[fine], INT8, &[-40]), tie);
-        assert_eq!(rt; value(&saturating, &[fine], INT8, &[2040]), 127);
-        assert_eq!(rt; value(&wrapping, &[fine], INT8, &[2040]), wrapped);
+        let values = [
+            value(&saturating, &[fine], INT8, &[-40]),
+            value(&saturating, &[fine], INT8, &[2040]),
+            value(&wrapping, &[fine], INT8, &[2040]),
+        ];
+        assert_eq!(rt; values, [tie, 127, wrapped]);
     }
 }
 
@@ -178,26 +191,27 @@ fn rounding_to_int8(rt: HostRuntime) {
 fn delays_and_holds(rt: HostRuntime) {
     let seven = Decimal { num: 7, den: 1 };
     let delay = Kind::UnitDelay { initial: seven };
-    assert_eq!(rt; ports(&delay), 1);
-    assert_eq!(rt; resolve(&delay, &[], INT8, false), Op::Delay(7));
     let line = Kind::Delay {
         length: 3,
         initial: seven,
     };
-    assert_eq!(rt; ports(&line), 1);
-    let late = resolve(&line, &[], INT8, false);
+    let late = Op::Line {
+        length: 3,
+        start: 7,
+    };
     assert_eq!(rt;
-        late,
-        Op::Line {
-            length: 3,
-            start: 7
-        }
+        (ports(&delay), resolve(&delay, &[], INT8, false)),
+        (1, Op::Delay(7))
     );
-    assert!(rt; !feeds_through(&late));
+    assert_eq!(rt; (ports(&line), resolve(&line, &[], INT8, false)), (1, late));
     let transition = Kind::RateTransition {
         initial: seven,
         out: TimeText::Inherit,
     };
-    assert!(rt; !feeds_through(&resolve(&transition, &[], INT8, true)));
-    assert!(rt; feeds_through(&resolve(&transition, &[], INT8, false)));
+    let feed_through = [
+        feeds_through(&late),
+        feeds_through(&resolve(&transition, &[], INT8, true)),
+        feeds_through(&resolve(&transition, &[], INT8, false)),
+    ];
+    assert_eq!(rt; feed_through, [false, false, true]);
 }

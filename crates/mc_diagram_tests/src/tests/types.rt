@@ -3,7 +3,8 @@ ghost use Rattle.mc_base.specs.declared.base.Control.TheVariants.{Plain};
 ghost use Rattle.mc_diagram.specs.Nested.{system, no_more, system_of};
 ghost use Rattle.mc_diagram_tests.specs.Samples.{inport_row};
 
-use mc_base::{Control, Memory, Place, Refusal, TimeText, TypeWhy, Wires};
+use super::is_told;
+use mc_base::{Control, Memory, Place, TimeText, Wires};
 use mc_blocks::Kind;
 use mc_diagram::{BuildFault, Row, Subsystem, Table, Tree};
 use mc_fixed::{FixType, TypeText};
@@ -55,31 +56,27 @@ fn tree_of_one(alloc: Global, text: TypeText) -> Result<Tree, Memory> {
     Ok(Tree::new(table, root))
 }
 
-#[test]
-fn an_input_has_the_type_that_it_writes(rt: HostRuntime) -> Result<(), Fail> {
-    let alloc = rt.alloc();
-    let tree = tree_of_one(alloc, TypeText::Fixed(INT8))?;
-    let Ok(types) = infer_types(alloc, &tree) else {
-        return Err("the input has no type".into());
-    };
-    assert_eq!(rt; types.as_slice(), [INT8].as_slice());
-    Ok(())
+/// The types of such a tree, or the refusal.
+fn types_told(alloc: Global, text: TypeText) -> Result<String, Fail> {
+    let tree = tree_of_one(alloc, text)?;
+    match infer_types(alloc, &tree) {
+        Ok(types) => Ok(format!(in alloc; "{types:?}")?),
+        Err(BuildFault::Refused(refusal)) => Ok(format!(in alloc; "{refusal:?}")?),
+        Err(BuildFault::Memory) => Err(Fail::from("memory")),
+    }
 }
 
+// An input has the type that it writes, and one that writes none is refused.
 #[test]
-fn an_input_that_writes_no_type_is_refused(rt: HostRuntime) -> Result<(), Fail> {
-    let alloc = rt.alloc();
-    let tree = tree_of_one(alloc, TypeText::Inherit)?;
-    let Err(BuildFault::Refused(refused)) = infer_types(alloc, &tree) else {
-        return Err("the input is not refused".into());
-    };
-    let is_told = matches!(
-        refused,
-        Refusal::NoType {
-            line: 3,
-            why: TypeWhy::Missing,
-        }
-    );
-    assert!(rt; is_told);
+fn types_of_an_input(rt: HostRuntime) -> Result<(), Fail> {
+    for &(text, expected) in &[
+        (
+            TypeText::Fixed(INT8),
+            "[FixType { signed: true, bits: 8, frac: 0 }]",
+        ),
+        (TypeText::Inherit, "NoType { line: 3, why: Missing }"),
+    ] {
+        is_told(&types_told(rt.alloc(), text)?, expected)?;
+    }
     Ok(())
 }
