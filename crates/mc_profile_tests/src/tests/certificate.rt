@@ -1,46 +1,60 @@
+ghost use Rattle.std.specs.Prelude.{◌≤◌, length};
+
+use super::is_told;
 use mc_certificate::{Certificate, Difference, check, make};
+use std::alloc::{AllocError, Global};
 use std::test::Fail;
 
-const fn differ(first: u8, second: u8, bit: u8) -> Difference {
-    Difference { first, second, bit }
+/// The certificate for outputs of these needs, whether it is one for these, and whether it is one for others.
+fn made(alloc: Global, needs: &[u64], others: &[u64]) -> Result<String, Fail>
+    requires { length needs.now ≤ 32 }
+{
+    let c = make(alloc, needs)?;
+    let (for_needs, for_others) = (check(needs, &c), check(others, &c));
+    let text = format!(in alloc;
+        "{:?} {:?} {for_needs} {for_others}",
+        c.representatives, c.differ
+    )?;
+    Ok(text)
 }
 
 #[test]
 fn classes_of_outputs(rt: HostRuntime) -> Result<(), Fail> {
     // two outputs need the input, and one needs nothing
-    let c = make(rt.alloc(), &[1, 1, 0])?;
-    assert_eq!(rt; c.representatives.as_slice(), [0, 2].as_slice());
-    assert_eq!(rt; c.differ.as_slice(), [differ(0, 1, 0)].as_slice());
-    assert!(rt; check(&[1, 1, 0], &c));
-    assert!(rt; !check(&[1, 1, 1], &c));
-    assert!(rt; !check(&[1, 1], &c));
-    Ok(())
+    let two_classes = "[0, 2] [Difference { first: 0, second: 1, bit: 0 }] true false";
+    let told = made(rt.alloc(), &[1, 1, 0], &[1, 1, 1])?;
+    is_told(told.as_bytes(), two_classes, "an output of other needs")?;
+    let told = made(rt.alloc(), &[1, 1, 0], &[1, 1])?;
+    is_told(told.as_bytes(), two_classes, "an output less")?;
+    // each output needs an input of its own
+    let crossed = "[0, 1] [Difference { first: 0, second: 1, bit: 0 }] true true";
+    let told = made(rt.alloc(), &[1, 2], &[1, 2])?;
+    is_told(told.as_bytes(), crossed, "crossed ports")
 }
 
-#[test]
-fn crossed_ports(rt: HostRuntime) -> Result<(), Fail> {
-    // each output needs an input of its own
-    let c = make(rt.alloc(), &[1, 2])?;
-    assert_eq!(rt; c.representatives.as_slice(), [0, 1].as_slice());
-    assert_eq!(rt; c.differ.as_slice(), [differ(0, 1, 0)].as_slice());
-    assert!(rt; check(&[1, 2], &c));
-    Ok(())
+/// Whether the pairs with these bits are a certificate for three outputs.
+fn is_sound(alloc: Global, pairs: &[(u8, u8, u8)]) -> Result<bool, AllocError> {
+    let mut differ = Vec::new(alloc);
+    for &(first, second, bit) in pairs {
+        differ.push(Difference { first, second, bit })?;
+    }
+    let representatives = [0, 1, 2].to_vec(alloc)?;
+    let c = Certificate {
+        representatives,
+        differ,
+    };
+    Ok(check(&[1, 2, 1 << 33], &c))
 }
 
 #[test]
 fn pairs_in_order(rt: HostRuntime) -> Result<(), Fail> {
-    let needs = [1, 2, 1 << 33];
-    for (differ, is_sound) in [
-        ([differ(0, 1, 1), differ(0, 2, 33), differ(1, 2, 1)], true),
-        ([differ(0, 1, 1), differ(1, 2, 1), differ(0, 2, 33)], false),
-        ([differ(0, 1, 1), differ(0, 2, 64), differ(1, 2, 1)], false),
-        ([differ(0, 1, 1), differ(0, 2, 33), differ(1, 2, 0)], false),
+    for &(pairs, expected) in &[
+        ([(0, 1, 1), (0, 2, 33), (1, 2, 1)], true),
+        ([(0, 1, 1), (1, 2, 1), (0, 2, 33)], false),
+        ([(0, 1, 1), (0, 2, 64), (1, 2, 1)], false),
+        ([(0, 1, 1), (0, 2, 33), (1, 2, 0)], false),
     ] {
-        let c = Certificate {
-            representatives: [0, 1, 2].to_vec(rt.alloc())?,
-            differ: differ.to_vec(rt.alloc())?,
-        };
-        assert_eq!(rt; check(&needs, &c), is_sound);
+        assert_eq!(rt; is_sound(rt.alloc(), &pairs)?, expected);
     }
     Ok(())
 }

@@ -5,28 +5,22 @@ use std::test::Fail;
 #[test]
 fn classes_of_outputs(rt: HostRuntime) {
     // two outputs need one input, and one needs nothing
-    let mut class = [9; 3];
-    let count = classes(&[1, 1, 0], &mut class);
-    assert_eq!(rt; count, 2);
-    assert_eq!(rt; class.as_slice(), [0, 0, 1].as_slice());
-}
-
-#[test]
-fn crossed_ports(rt: HostRuntime) {
+    let mut shared = [9; 3];
+    let of_shared = classes(&[1, 1, 0], &mut shared);
     // each output needs an input of its own
-    let mut class = [9; 2];
-    let count = classes(&[1, 2], &mut class);
-    assert_eq!(rt; count, 2);
-    assert_eq!(rt; class.as_slice(), [0, 1].as_slice());
-}
-
-#[test]
-fn both_controls(rt: HostRuntime) {
+    let mut crossed = [9; 2];
+    let of_crossed = classes(&[1, 2], &mut crossed);
     // enable and trigger alone, and with the first input
-    let mut class = [9; 3];
-    let count = classes(&[3 << 32, (3 << 32) + 1, 3 << 32], &mut class);
-    assert_eq!(rt; count, 2);
-    assert_eq!(rt; class.as_slice(), [0, 1, 0].as_slice());
+    let mut controlled = [9; 3];
+    let of_controlled = classes(&[3 << 32, (3 << 32) + 1, 3 << 32], &mut controlled);
+    assert_eq!(rt;
+        (
+            (of_shared, shared),
+            (of_crossed, crossed),
+            (of_controlled, controlled)
+        ),
+        ((2, [0, 0, 1]), (2, [0, 1]), (2, [0, 1, 0]))
+    );
 }
 
 #[test]
@@ -37,9 +31,7 @@ fn thirty_two_needs(rt: HostRuntime) {
     }
     let mut class = [9; 32];
     let count = classes(&masks, &mut class);
-    assert_eq!(rt; count, 32);
-    assert_eq!(rt; class[0], 0);
-    assert_eq!(rt; class[31], 31);
+    assert_eq!(rt; (count, class[0], class[31]), (32, 0, 31));
 }
 
 #[test]
@@ -58,14 +50,18 @@ fn shared_child(rt: HostRuntime) -> Result<(), Fail> {
     let edges = vec![in rt.alloc(); (0, 6), (6, 3), (1, 3), (6, 4), (3, 5)]?;
     let g = Graph { n: 7, edges };
     let holds = clusters(rt.alloc(), &g, &[4, 5], &[0, 1])?;
-    assert_eq!(rt; holds.as_slice(), [3, 2, 0, 2, 1, 2, 3].as_slice());
-    Ok(())
-}
-
-#[test]
-fn groups_of_a_shared_child(rt: HostRuntime) -> Result<(), Fail> {
     let groups = groups_of(rt.alloc(), &[3, 2, 0, 2, 1, 2, 3])?;
-    assert_eq!(rt; groups.of.as_slice(), [0, 1, 3, 1, 2, 1, 0].as_slice());
-    assert_eq!(rt; groups.holds.as_slice(), [3, 2, 1, 0].as_slice());
+    assert_eq!(rt;
+        (
+            holds.as_slice(),
+            groups.of.as_slice(),
+            groups.holds.as_slice()
+        ),
+        (
+            [3, 2, 0, 2, 1, 2, 3].as_slice(),
+            [0, 1, 3, 1, 2, 1, 0].as_slice(),
+            [3, 2, 1, 0].as_slice()
+        )
+    );
     Ok(())
 }

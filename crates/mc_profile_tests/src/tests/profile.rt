@@ -1,49 +1,32 @@
+ghost use Rattle.std.specs.Prelude.{◌≤◌, length};
+
+use super::is_told;
 use mc_profile::{Function, functions_of};
+use std::alloc::Global;
 use std::test::Fail;
 
+/// The functions of a system whose outputs have these needs.
+fn functions_told(alloc: Global, needs: &[u64]) -> Result<String, Fail>
+    requires { length needs.now ≤ 32 }
+{
+    let functions = functions_of(alloc, needs)?;
+    Ok(format!(in alloc; "{functions:?}")?)
+}
+
 #[test]
-fn crossed_ports(rt: HostRuntime) -> Result<(), Fail> {
+fn functions_of_outputs(rt: HostRuntime) -> Result<(), Fail> {
     // each output needs an input of its own
-    let functions = functions_of(rt.alloc(), &[1, 2])?;
-    let first = Function {
-        inputs: 1,
-        outputs: 1,
-    };
-    let second = Function {
-        inputs: 2,
-        outputs: 2,
-    };
-    assert_eq!(rt; functions.as_slice(), [first, second].as_slice());
-    Ok(())
-}
-
-#[test]
-fn classes_of_outputs(rt: HostRuntime) -> Result<(), Fail> {
+    let crossed = "[Function { inputs: 1, outputs: 1 }, Function { inputs: 2, outputs: 2 }]";
+    let told = functions_told(rt.alloc(), &[1, 2])?;
+    is_told(told.as_bytes(), crossed, "crossed ports")?;
     // two outputs need the input, and one behind a delay needs none
-    let functions = functions_of(rt.alloc(), &[1, 1, 0])?;
-    let both = Function {
-        inputs: 1,
-        outputs: 3,
-    };
-    let delayed = Function {
-        inputs: 0,
-        outputs: 4,
-    };
-    assert_eq!(rt; functions.as_slice(), [both, delayed].as_slice());
-    Ok(())
-}
-
-#[test]
-fn both_controls(rt: HostRuntime) -> Result<(), Fail> {
+    let delayed = "[Function { inputs: 1, outputs: 3 }, Function { inputs: 0, outputs: 4 }]";
+    let told = functions_told(rt.alloc(), &[1, 1, 0])?;
+    is_told(told.as_bytes(), delayed, "an output behind a delay")?;
     // an enable and a trigger besides the input
-    let needs = (3 << 32) + 1;
-    let functions = functions_of(rt.alloc(), &[needs])?;
-    let all = Function {
-        inputs: 12_884_901_889,
-        outputs: 1,
-    };
-    assert_eq!(rt; functions.as_slice(), [all].as_slice());
-    Ok(())
+    let controlled = "[Function { inputs: 12884901889, outputs: 1 }]";
+    let told = functions_told(rt.alloc(), &[(3 << 32) + 1])?;
+    is_told(told.as_bytes(), controlled, "both controls")
 }
 
 #[test]
@@ -53,11 +36,10 @@ fn thirty_two_needs(rt: HostRuntime) -> Result<(), Fail> {
         needs[k] = 1 << k;
     }
     let functions = functions_of(rt.alloc(), &needs)?;
-    assert_eq!(rt; functions.len(), 32);
     let last = Function {
         inputs: 2_147_483_648,
         outputs: 2_147_483_648,
     };
-    assert_eq!(rt; functions[31], last);
+    assert_eq!(rt; (functions.len(), functions.last()), (32, Some(&last)));
     Ok(())
 }

@@ -7,6 +7,7 @@ ghost use Rattle.mc_report.specs.Reports.{AreControls, IsReport};
 
 mod reading;
 
+use super::is_told;
 use mc_base::{Memory, Port};
 use mc_certificate::make;
 use mc_profile::{Function, Profile};
@@ -45,25 +46,67 @@ fn report(
     })
 }
 
+// The printed report on one such system.
+fn printed(
+    alloc: Global,
+    row: Option<u32>,
+    controls: &[Port],
+    needs: &[u64],
+    functions: &[Function],
+) -> Result<Vec<u8>, Fail>
+    requires controls { AreControls controls.now }
+    requires few { length needs.now ≤ 32 }
+    requires in_inputs { All (λ mask.
+        ports_mask (ports_in mask (map Number (range_with_len 1 1) ++ controls.now))
+        ≡ mask) needs.now }
+    requires functions { functions.now ≡ functions_for needs.now }
+{
+    let of_system = report(alloc, row, 1, controls, needs, functions)?;
+    Ok(print_report(alloc, &[of_system])?)
+}
+
 #[test]
-fn one_delay(rt: HostRuntime) -> Result<(), Fail> {
-    let alloc = rt.alloc();
-    let top = report(
-        alloc,
-        None,
-        1,
-        &[],
-        &[0],
-        &[Function {
-            inputs: 0,
-            outputs: 1,
-        }],
+fn systems_of_one_input(rt: HostRuntime) -> Result<(), Fail> {
+    let delayed = [Function {
+        inputs: 0,
+        outputs: 1,
+    }];
+    let told = printed(rt.alloc(), None, &[], &[0], &delayed)?;
+    is_told(
+        &told,
+        "system top inputs 1 outputs 1 functions 1\nout 1 needs none outputs 1\nsystems 1\n",
+        "a delay",
     )?;
-    let text = print_report(alloc, &[top])?;
-    let expected =
-        "system top inputs 1 outputs 1 functions 1\nout 1 needs none outputs 1\nsystems 1\n";
-    assert_eq!(rt; text.as_slice(), expected.as_bytes());
-    Ok(())
+    let classes = [
+        Function {
+            inputs: 1,
+            outputs: 3,
+        },
+        Function {
+            inputs: 0,
+            outputs: 4,
+        },
+    ];
+    let told = printed(rt.alloc(), None, &[], &[1, 1, 0], &classes)?;
+    is_told(
+        &told,
+        "system top inputs 1 outputs 3 functions 2\nout 1 needs 1 outputs 1 2\n\
+        out 2 needs none outputs 3\ndiffer 1 2 by 1\nsystems 1\n",
+        "classes of outputs",
+    )?;
+    let all = (3 << 32) + 1;
+    let gated = [Function {
+        inputs: all,
+        outputs: 1,
+    }];
+    let controls = [Port::Enable, Port::Trigger];
+    let told = printed(rt.alloc(), Some(3), &controls, &[all], &gated)?;
+    is_told(
+        &told,
+        "system s3 inputs 1 outputs 1 functions 1 control enable trigger\n\
+        out 1 needs 1 enable trigger outputs 1\nsystems 1\n",
+        "both controls",
+    )
 }
 
 #[test]
@@ -95,50 +138,6 @@ fn crossed_ports(rt: HostRuntime) -> Result<(), Fail> {
     let expected = "system top inputs 1 outputs 1 functions 1\nout 1 needs 1 outputs 1\n\
         system s1 inputs 2 outputs 2 functions 2\nout 1 needs 1 outputs 1\nout 2 needs 2 outputs 2\n\
         differ 1 2 by 1\nsystems 2\n";
-    assert_eq!(rt; text.as_slice(), expected.as_bytes());
-    Ok(())
-}
-
-#[test]
-fn classes_of_outputs(rt: HostRuntime) -> Result<(), Fail> {
-    let alloc = rt.alloc();
-    let functions = [
-        Function {
-            inputs: 1,
-            outputs: 3,
-        },
-        Function {
-            inputs: 0,
-            outputs: 4,
-        },
-    ];
-    let top = report(alloc, None, 1, &[], &[1, 1, 0], &functions)?;
-    let text = print_report(alloc, &[top])?;
-    let expected = "system top inputs 1 outputs 3 functions 2\nout 1 needs 1 outputs 1 2\n\
-        out 2 needs none outputs 3\ndiffer 1 2 by 1\nsystems 1\n";
-    assert_eq!(rt; text.as_slice(), expected.as_bytes());
-    Ok(())
-}
-
-#[test]
-fn enable_and_trigger(rt: HostRuntime) -> Result<(), Fail> {
-    let alloc = rt.alloc();
-    let all = (3 << 32) + 1;
-    let functions = [Function {
-        inputs: all,
-        outputs: 1,
-    }];
-    let gated = report(
-        alloc,
-        Some(3),
-        1,
-        &[Port::Enable, Port::Trigger],
-        &[all],
-        &functions,
-    )?;
-    let text = print_report(alloc, &[gated])?;
-    let expected = "system s3 inputs 1 outputs 1 functions 1 control enable trigger\n\
-        out 1 needs 1 enable trigger outputs 1\nsystems 1\n";
     assert_eq!(rt; text.as_slice(), expected.as_bytes());
     Ok(())
 }
