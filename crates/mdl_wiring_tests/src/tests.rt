@@ -74,3 +74,23 @@ fn answer(alloc: Global, members: &[Member], lines: &str, is_root: bool) -> Resu
         Err(WiringFault::Memory) => Err(Fail::from("memory")),
     }
 }
+
+/// Fails where what is told of some text isn't what is expected.
+fn is_told(told: &[u8], expected: &str, text: &str) -> Result<(), Fail> {
+    if told == expected.as_bytes() {
+        return Ok(());
+    }
+    let told = str::from_utf8(told)?;
+    Err(Fail::new(format_args!("{told:?} is told, not {expected:?}, of {text}")))
+}
+
+/// Compares what wiring answers with what is expected.
+fn is_answered(
+    alloc: Global,
+    members: &[Member],
+    lines: &str,
+    is_root: bool,
+    expected: &str,
+) -> Result<(), Fail> {
+    is_told(&answer(alloc, members, lines, is_root)?, expected, lines)
+}

@@ -1,3 +1,4 @@
+use super::is_told;
 use mc_base::{Refusal, refusal_text};
 use mdl_reader::read_mdl;
 use mdl_texts::system_of;
@@ -13,29 +14,19 @@ fn told(alloc: Global, found: Option<&Refusal>) -> Result<Vec<u8>, Fail> {
     }
 }
 
-/// What is told of two refusals.
-fn first_of(alloc: Global, one: Refusal, other: Refusal) -> Result<Vec<u8>, Fail> {
-    told(alloc, first_refusal(Some(one), Some(other)).as_ref())
+/// Fails where what is told of two refusals isn't what is expected.
+fn is_first(alloc: Global, one: Refusal, other: Refusal, expected: &str) -> Result<(), Fail> {
+    let first = told(alloc, first_refusal(Some(one), Some(other)).as_ref())?;
+    is_told(&first, expected, "two")
 }
 
+// The one of the lesser number, and where both have one number the one at the lesser line.
 #[test]
-fn the_lesser_number_is_first(rt: HostRuntime) -> Result<(), Fail> {
-    let near = Refusal::NoPort { line: 5 };
-    let told = first_of(rt.alloc(), near, Refusal::NoBlock { line: 90 })?;
-    assert_eq!(rt;
-        told.as_slice(),
-        b"refused F10 NoBlock line 90\n".as_slice()
-    );
-    Ok(())
-}
-
-// Where both have one number.
-#[test]
-fn the_lesser_line_is_first(rt: HostRuntime) -> Result<(), Fail> {
-    let later = Refusal::NoPort { line: 7 };
-    let told = first_of(rt.alloc(), later, Refusal::NoPort { line: 6 })?;
-    assert_eq!(rt; told.as_slice(), b"refused F11 NoPort line 6\n".as_slice());
-    Ok(())
+fn the_first_of_two_refusals(rt: HostRuntime) -> Result<(), Fail> {
+    let (near, far) = (Refusal::NoPort { line: 5 }, Refusal::NoBlock { line: 90 });
+    is_first(rt.alloc(), near, far, "refused F10 NoBlock line 90\n")?;
+    let (later, sooner) = (Refusal::NoPort { line: 7 }, Refusal::NoPort { line: 6 });
+    is_first(rt.alloc(), later, sooner, "refused F11 NoPort line 6\n")
 }
 
 /// What is told of the first line in the newer form.
@@ -60,8 +51,7 @@ fn lines_of_the_newer_form(rt: HostRuntime) -> Result<(), Fail> {
             "refused F7 Unsupported line 6\n",
         ),
     ] {
-        let told = newer_in(rt.alloc(), lines)?;
-        assert_eq!(rt; told.as_slice(), expected.as_bytes(), "{lines}");
+        is_told(&newer_in(rt.alloc(), lines)?, expected, lines)?;
     }
     Ok(())
 }
