@@ -44,7 +44,36 @@ fn is_told_of_file(alloc: Global, text: &str, expected: &str) -> Result<(), Fail
     Err(Fail::new(format_args!("{told:?} is told, not {expected:?}, of {text}")))
 }
 
-/// The same of a model of these parts.
-fn is_told(alloc: Global, parts: &str, expected: &str) -> Result<(), Fail> {
-    is_told_of_file(alloc, &model_of(alloc, parts)?, expected)
+/// A part without how often it stands, and that, as in `32 * Ground g`.
+fn counted(part: &str) -> Result<(usize, &str), Fail> {
+    match part.split_once(" * ") {
+        Some((count, part)) => Ok((count.parse::<usize>()?, part)),
+        None => Ok((1, part)),
+    }
+}
+
+/// Parts of which some stand several times, each written out.
+fn written_out(alloc: Global, parts: &str) -> Result<String, Fail> {
+    let mut text = String::new(alloc);
+    for part in parts.split("; ") {
+        let (count, part) = counted(part)?;
+        for _ in 0..count {
+            text.push_str(part)?;
+            text.push_str("; ")?;
+        }
+    }
+    Ok(text)
+}
+
+/// The text of a model of these parts, of which some may stand several times.
+fn model_text(alloc: Global, parts: &str) -> Result<String, Fail> {
+    Ok(model_of(alloc, &written_out(alloc, parts)?)?)
+}
+
+/// Fails where reading a model of one of these lists of parts answers anything else than what is expected of it.
+fn are_told(alloc: Global, cases: &[(&str, &str)]) -> Result<(), Fail> {
+    for &(parts, expected) in cases {
+        is_told_of_file(alloc, &model_text(alloc, parts)?, expected)?;
+    }
+    Ok(())
 }

@@ -1,15 +1,34 @@
 use mdl_params::Defaults;
 use mdl_reader::read_mdl;
-use mdl_systems::{SystemText, find_model, read_model};
+use mdl_systems::{PlacedBlock, SystemText, find_model, read_model};
 use mdl_texts::model_of;
 use std::alloc::Global;
+use std::fmt::Write;
 use std::test::Fail;
+
+/// A subsystem with an Inport, behind it a Ground.
+const NESTED: &str =
+    "Block { / BlockType SubSystem / Name s / System { / Block { / BlockType Inport / Name x / } / } / } / Block { / BlockType Ground / Name g / }";
 
 /// A Ground, a subsystem of an Inport and a subsystem of a Ground, and behind it an empty subsystem.
 const LINES: &str = "Block { / BlockType Ground / Name a / } / \
     Block { / BlockType SubSystem / Name s / System { / Block { / BlockType Inport / Name x / } / \
     Block { / BlockType SubSystem / Name t / System { / Block { / BlockType Ground / Name b / } / } / } / } / } / \
     Block { / BlockType SubSystem / Name u / System { / } / }";
+
+/// The owner of each block, its name and its line.
+fn blocks_told(alloc: Global, blocks: &[PlacedBlock]) -> Result<String, Fail> {
+    let mut text = String::new(alloc);
+    for placed in blocks {
+        let name = str::from_utf8(placed.block.name)?;
+        write!(
+            &mut text,
+            "{:?} {name} {}; ",
+            placed.owner, placed.block.line
+        )?;
+    }
+    Ok(text)
+}
 
 /// The row and the line of a system, its own blocks, and how many systems are directly inside it.
 fn seen<'a>(system: &'a SystemText) -> (Option<usize>, u32, &'a [usize], usize) {
@@ -22,7 +41,7 @@ fn seen<'a>(system: &'a SystemText) -> (Option<usize>, u32, &'a [usize], usize) 
 }
 
 /// What is seen of the root, of its first system and the one inside that, and of its second system.
-fn described(alloc: Global, root: &SystemText) -> Result<String, Fail> {
+fn systems_told(alloc: Global, root: &SystemText) -> Result<String, Fail> {
     let first = root.children.first().ok_or("s")?;
     let inner = first.children.first().ok_or("t")?;
     let last = root.children.get(1).ok_or("u")?;
@@ -30,23 +49,38 @@ fn described(alloc: Global, root: &SystemText) -> Result<String, Fail> {
     Ok(format!(in alloc; "{root:?} {first:?} {inner:?} {last:?}")?)
 }
 
-/// The same of the text of a model.
-fn systems_of(alloc: Global, text: &str) -> Result<String, Fail> {
+/// What is told of the blocks or the systems of a model of these parts.
+fn told_in(alloc: Global, parts: &str, what: &str) -> Result<String, Fail> {
+    let text = model_of(alloc, parts)?;
     let file = read_mdl(alloc, text.as_bytes())?;
     let sections = find_model(alloc, &file)?;
     let defaults = Defaults::new(alloc, sections.model)?;
     let model = read_model(alloc, &defaults, sections.system)?;
-    described(alloc, &model.root)
+    match what {
+        "blocks" => blocks_told(alloc, model.blocks.as_slice()),
+        _ => systems_told(alloc, &model.root),
+    }
 }
 
-// Each system has its row, its line and its own blocks, and stands inside the one around it.
 #[test]
-fn systems_inside_others(rt: HostRuntime) -> Result<(), Fail> {
-    let text = model_of(rt.alloc(), LINES)?;
-    let systems = systems_of(rt.alloc(), &text)?;
-    assert_eq!(rt;
-        systems.as_str(),
-        "(None, 2, [0, 1, 5], 2) (Some(1), 7, [2, 3], 1) (Some(3), 15, [4], 0) (Some(5), 27, [], 0)"
-    );
+fn blocks_and_systems(rt: HostRuntime) -> Result<(), Fail> {
+    for &(parts, what, expected) in &[
+        // The blocks in the order of the file, each before those inside it.
+        (NESTED, "blocks", "None s 3; Some(0) x 7; None g 13; "),
+        (
+            LINES,
+            "blocks",
+            "None a 3; None s 7; Some(1) x 11; Some(1) t 15; Some(3) b 19; None u 27; ",
+        ),
+        // Each system has its row, its line and its own blocks, and stands inside the one around it.
+        (
+            LINES,
+            "systems",
+            "(None, 2, [0, 1, 5], 2) (Some(1), 7, [2, 3], 1) (Some(3), 15, [4], 0) (Some(5), 27, [], 0)",
+        ),
+    ] {
+        let told = told_in(rt.alloc(), parts, what)?;
+        assert_eq!(rt; told.as_str(), expected);
+    }
     Ok(())
 }
