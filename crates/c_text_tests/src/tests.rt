@@ -1,5 +1,4 @@
 mod arrays;
-mod bodies;
 mod brackets;
 mod depths;
 mod parsed;
@@ -42,50 +41,26 @@ void root_step(struct root *s, int32_t u1) {
 
 const END: &[u8] = b"\n}\n";
 
-// The first fault of a text's grammar.
-fn parse_fault(alloc: Global, text: &[u8]) -> Option<ReadCFault> {
-    match parse_c(alloc, text) {
+// The first fault of the grammar of a text of these parts.
+fn parse_fault(alloc: Global, parts: &[&[u8]]) -> Result<Option<ReadCFault>, AllocError> {
+    let text = joined(alloc, parts)?;
+    Ok(match parse_c(alloc, &text) {
         Ok(_) => None,
         Err(fault) => Some(fault),
-    }
+    })
 }
 
-// The first fault of a text.
-fn read_fault(alloc: Global, text: &[u8]) -> Option<ReadCFault> {
-    match read_c(alloc, text) {
+// The first fault of a text of these parts.
+fn read_fault(alloc: Global, parts: &[&[u8]]) -> Result<Option<ReadCFault>, AllocError> {
+    let text = joined(alloc, parts)?;
+    Ok(match read_c(alloc, &text) {
         Ok(_) => None,
         Err(fault) => Some(fault),
-    }
-}
-
-// A text with an array that ends in a statement on line 7.
-fn cut_in_statement(alloc: Global, statement: &[u8]) -> Result<Vec<u8>, AllocError> {
-    joined(
-        alloc,
-        &[BEFORE_A_FIELD, b"int32_t a[3];", BEFORE_A_BODY, statement],
-    )
-}
-
-// The first fault of the larger text with this field and this body.
-fn fault_with(alloc: Global, field: &[u8], body: &[u8]) -> Result<Option<ReadCFault>, AllocError> {
-    let text = joined(
-        alloc,
-        &[LARGE_BEFORE_A_FIELD, field, LARGE_BEFORE_A_BODY, body, END],
-    )?;
-    Ok(read_fault(alloc, &text))
-}
-
-// The fault of the larger text with this field.
-fn field_fault(alloc: Global, field: &[u8]) -> Result<Option<ReadCFault>, AllocError> {
-    fault_with(alloc, field, b"")
-}
-
-// The fault of the larger text with an array of three 16-bit numbers, and this body.
-fn body_fault(alloc: Global, body: &[u8]) -> Result<Option<ReadCFault>, AllocError> {
-    fault_with(alloc, b"int16_t a[3];", body)
+    })
 }
 
 // A fault on a line.
-fn refused(line: u32, kind: CKind) -> Option<ReadCFault> {
+fn refused(fault: Option<(u32, CKind)>) -> Option<ReadCFault> {
+    let (line, kind) = fault?;
     Some(ReadCFault::Refused(CFault { line, kind }))
 }

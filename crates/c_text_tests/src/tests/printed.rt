@@ -81,20 +81,18 @@ fn bodies(alloc: Global, program: &Program) -> Result<String, AllocError> {
     Ok(bodies)
 }
 
-#[test]
-fn each_form_is_read(rt: HostRuntime) -> Result<(), Fail> {
-    let checked = read_c(rt.alloc(), EACH_FORM)?;
-    let read = bodies(rt.alloc(), checked.program())?;
-    assert_eq!(rt; read.as_str(), BODIES);
-    Ok(())
+// The bodies of each form as they are read, and its text as it is printed.
+fn each_form(alloc: Global) -> Result<(String, Vec<u8>), Fail> {
+    let checked = read_c(alloc, EACH_FORM)?;
+    let program = checked.program();
+    let text = print(alloc, program)?;
+    Ok((bodies(alloc, program)?, text))
 }
 
 #[test]
 fn each_form_in_its_place(rt: HostRuntime) -> Result<(), Fail> {
-    let alloc = rt.alloc();
-    let checked = read_c(alloc, EACH_FORM)?;
-    let text = print(alloc, checked.program())?;
-    assert_eq!(rt; text.as_slice(), EACH_FORM);
+    let (bodies, text) = each_form(rt.alloc())?;
+    assert_eq!(rt; (bodies.as_str(), text.as_slice()), (BODIES, EACH_FORM));
     Ok(())
 }
 

@@ -3,9 +3,9 @@ use Rattle.c_syntax.specs.declared.program.Program.{Program}
 use Rattle.c_syntax.specs.Plain.{program_tree}
 use Rattle.c_syntax.specs.Lawful.{IsLawful}
 use Rattle.c_checked.specs.Checked.{CheckedProgram}
-use Rattle.c_text_tests.proofs.tests.printed.each_form_in_its_place.Goals as goal
+use Rattle.c_text_tests.proofs.tests.printed.each_form.Goals as goal
 
 pub print-requires : goal.print-requires
-print-requires g c =
-    let same = c.program.ensures ∙ ap (λ (v : CheckedProgram). v.program) (sym c.checked.view_is) in
-    subst (λ (p : Program). IsLawful (program_tree p)) (sym same) c.checked.invariant.lawful
+print-requires g =
+    let same = g.program-program.ensures ∙ ap (λ (v : CheckedProgram). v.program) (sym g.checked.view_is) in
+    subst (λ (p : Program). IsLawful (program_tree p)) (sym same) g.checked.invariant.lawful
