@@ -36,107 +36,126 @@ fn holds_text<H: Host>(
     Ok(bytes.as_slice() == TEXT)
 }
 
+// How many bytes it has.
+const LENGTH: usize = 44;
+
+// Whether a file holds the text, of a host of which this call fails, with how many calls failed for want of memory.
+fn read_of(
+    alloc: Global,
+    fail: u64,
+    piece: usize,
+    max: usize,
+    name: &str,
+) -> Result<(Result<bool, ReadAllFault>, u64), AllocError>
+    requires { 0 < piece }
+{
+    let mut host = host_of(alloc, &[fail], piece)?;
+    let read = holds_text(alloc, &mut host, name, max);
+    Ok((read, host.refused()))
+}
+
+// Whether a file of 5000 bytes is read, of which this call fails.
+fn is_long_file_read(alloc: Global, fail: u64) -> Result<bool, AllocError> {
+    let files = one_file(alloc, vec![in alloc; 7; 5000]?)?;
+    let mut host = MemHost::new(alloc, files, [fail].to_vec(alloc)?, 10_000);
+    Ok(read_all(alloc, &mut host, "a", 5000).is_ok())
+}
+
 #[test]
 fn a_file_is_read_whole_or_not(rt: HostRuntime) -> Result<(), Fail> {
-    let alloc = rt.alloc();
-    let whole = Ok(true);
-    let fault = Err(ReadAllFault::Read);
-    let length = TEXT.len();
-    for (fail, piece, max, name, want) in [
-        (9u64, 4096, 4096, "a", whole),
-        (9, 16, length, "a", whole),
-        (9, 16, length - 1, "a", Err(ReadAllFault::TooLong)),
-        (9, 16, length, "b", fault),
-        (0, 16, length, "a", fault),
-        (2, 16, length, "a", fault),
-        // Of 45 bytes three reads take 16, 16 and 13, and the fourth finds the end.
-        (4, 16, length, "a", fault),
-        (5, 16, length, "a", whole),
+    for &(fail, piece, max, name, want) in &[
+        (9, 4096, 4096, "a", Ok(true)),
+        (9, 16, LENGTH, "a", Ok(true)),
+        (9, 16, 43, "a", Err(ReadAllFault::TooLong)),
+        (9, 16, LENGTH, "b", Err(ReadAllFault::Read)),
+        (0, 16, LENGTH, "a", Err(ReadAllFault::Read)),
+        (2, 16, LENGTH, "a", Err(ReadAllFault::Read)),
+        // Of 44 bytes three reads take 16, 16 and 12, and the fourth finds the end.
+        (4, 16, LENGTH, "a", Err(ReadAllFault::Read)),
+        (5, 16, LENGTH, "a", Ok(true)),
     ] {
-        let mut host = host_of(alloc, &[fail], piece)?;
-        let read = holds_text(alloc, &mut host, name, max);
         assert_eq!(rt;
-            (read, host.refused()),
+            read_of(rt.alloc(), fail, piece, max, name)?,
             (want, 0),
             "{fail} {piece} {max} {name}"
         );
     }
+    // A file of 5000 bytes takes a read of 4096 bytes, one of 904, and one that finds the end.
+    for &(fail, whole) in &[(3, false), (4, true)] {
+        assert_eq!(rt; is_long_file_read(rt.alloc(), fail)?, whole, "{fail}");
+    }
     Ok(())
 }
 
-// The first file that was written: its name and its bytes.
-fn first_written(host: &MemHost) -> Option<(&str, &[u8])> {
-    match host.written() {
-        [] => None,
-        [file, ..] => Some((file.0.as_str(), file.1.as_slice())),
+// Whether all of the text is written to a file where this call fails, how many files are written and how many calls failed for
+// want of memory, and the names of the files with their bytes.
+fn written(alloc: Global, fail: u64) -> Result<(bool, usize, u64, Vec<u8>), AllocError> {
+    let mut host = host_of(alloc, &[fail], 16)?;
+    let is_whole = write_all(&mut host, "c", TEXT).is_ok();
+    let mut bytes = Vec::new(alloc);
+    for file in host.written() {
+        bytes.extend_from_slice(file.0.as_bytes())?;
+        bytes.extend_from_slice(&file.1)?;
     }
+    Ok((is_whole, host.written().len(), host.refused(), bytes))
+}
+
+// Whether all of the text is put where this call fails, how many calls failed for want of memory, and what is put.
+fn put(alloc: Global, fail: u64) -> Result<(bool, u64, Vec<u8>), AllocError> {
+    let mut sink = MemSink::new(alloc, [fail].to_vec(alloc)?, 16);
+    let is_whole = put_all(&mut sink, TEXT).is_ok();
+    Ok((is_whole, sink.refused(), sink.bytes().to_vec(alloc)?))
 }
 
 #[test]
-fn a_file_is_written_whole_or_its_front(rt: HostRuntime) -> Result<(), Fail> {
-    let alloc = rt.alloc();
-    for (fail, files, want) in [
-        (9u64, 1, Some(("c", TEXT))),
-        (3, 1, Some(("c", &TEXT[..32]))),
-        (1, 1, Some(("c", &TEXT[..0]))),
-        (0, 0, None),
+fn texts_are_written_and_put_whole_or_their_fronts(rt: HostRuntime) -> Result<(), Fail> {
+    // of the file `c`
+    for &(fail, files, want) in &[
+        (9, 1, "cModel {\n}\n and forty bytes of a further text"),
+        (3, 1, "cModel {\n}\n and forty bytes of a "),
+        (1, 1, "c"),
+        (0, 0, ""),
     ] {
-        let mut host = host_of(alloc, &[fail], 16)?;
-        let is_whole = write_all(&mut host, "c", TEXT).is_ok();
-        let counts = (host.written().len(), host.refused());
+        let (is_whole, count, refused, bytes) = written(rt.alloc(), fail)?;
         assert_eq!(rt;
-            (is_whole, first_written(&host), counts),
-            (fail == 9, want, (files, 0)),
+            (is_whole, count, refused, bytes.as_slice()),
+            (fail == 9, files, 0, want.as_bytes()),
+            "{fail}"
+        );
+    }
+    for &(fail, want) in &[
+        (9, "Model {\n}\n and forty bytes of a further text"),
+        (2, "Model {\n}\n and forty bytes of a "),
+        (0, ""),
+    ] {
+        let (is_whole, refused, bytes) = put(rt.alloc(), fail)?;
+        assert_eq!(rt;
+            (is_whole, refused, bytes.as_slice()),
+            (fail == 9, 0, want.as_bytes()),
             "{fail}"
         );
     }
     Ok(())
 }
 
-#[test]
-fn a_text_is_put_whole_or_its_front(rt: HostRuntime) -> Result<(), Fail> {
-    let alloc = rt.alloc();
-    for (fail, want) in [(9u64, TEXT), (2, &TEXT[..32]), (0, &TEXT[..0])] {
-        let mut sink = MemSink::new(alloc, [fail].to_vec(alloc)?, 16);
-        let is_whole = put_all(&mut sink, TEXT).is_ok();
-        assert_eq!(rt;
-            (is_whole, sink.bytes(), sink.refused()),
-            (fail == 9, want, 0),
-            "{fail}"
-        );
-    }
-    Ok(())
-}
-
-#[test]
-fn a_sure_host_reads_what_it_has(rt: HostRuntime) -> Result<(), Fail> {
-    let alloc = rt.alloc();
+// What a sure host reads of a file that it has and of one that it hasn't, whether it writes, and how many bytes it takes.
+fn surely_read(alloc: Global) -> Result<(Result<bool, ReadAllFault>, bool, bool, u64), AllocError> {
     let mut host = SureHost::new(one_file(alloc, TEXT.to_vec(alloc)?)?);
     let there = holds_text(alloc, &mut host, "a", 4096);
-    let missing = holds_text(alloc, &mut host, "b", 4096).is_err();
+    let is_missing = holds_text(alloc, &mut host, "b", 4096).is_err();
     let is_written = write_all(&mut host, "c", TEXT).is_ok();
-    let found = (there, missing, is_written, host.taken());
-    assert_eq!(rt; found, (Ok(true), true, true, TEXT.len() as u64));
-    Ok(())
+    Ok((there, is_missing, is_written, host.taken()))
 }
 
 #[test]
-fn a_sure_sink_counts_what_it_takes(rt: HostRuntime) {
+fn sure_ends_read_what_they_have_and_count_what_they_take(rt: HostRuntime) -> Result<(), Fail> {
     let mut sink = SureSink::new();
     let is_put = put_all(&mut sink, TEXT).is_ok();
-    assert_eq!(rt; (is_put, sink.taken()), (true, TEXT.len() as u64));
-}
-
-// A file of 5000 bytes takes a read of 4096 bytes, one of 904, and one that finds the end.
-#[test]
-fn each_read_is_given_4096_bytes_to_fill(rt: HostRuntime) -> Result<(), Fail> {
-    let alloc = rt.alloc();
-    for (fail, whole) in [(3u64, false), (4, true)] {
-        let files = one_file(alloc, vec![in alloc; 7; 5000]?)?;
-        let mut host = MemHost::new(alloc, files, [fail].to_vec(alloc)?, 10_000);
-        let is_read = read_all(alloc, &mut host, "a", 5000).is_ok();
-        assert_eq!(rt; is_read, whole, "{fail}");
-    }
+    let length = TEXT.len() as u64;
+    assert_eq!(rt;
+        (surely_read(rt.alloc())?, (is_put, sink.taken())),
+        ((Ok(true), true, true, length), (true, length))
+    );
     Ok(())
 }
 
@@ -146,33 +165,41 @@ fn bytes_put(buffer: &mut PutBuffer, sink: &mut MemSink, bytes: &[u8]) -> Option
     Some(sink.bytes().len())
 }
 
-#[test]
-fn bytes_wait_until_they_are_too_many(rt: HostRuntime) -> Result<(), Fail> {
-    let alloc = rt.alloc();
+// How many bytes a sink has once the text was put; whether the buffer is flushed, and it then has the text; and how many it
+// has behind one further byte, and behind many.
+fn bytes_behind_puts(
+    alloc: Global,
+) -> Result<(Option<usize>, (bool, bool), [Option<usize>; 2]), AllocError> {
     let many = vec![in alloc; 7u8; 65_536]?;
     let mut sink = MemSink::new(alloc, Vec::new(alloc), 100_000);
     let mut buffer = PutBuffer::new(alloc)?;
     let waiting = bytes_put(&mut buffer, &mut sink, TEXT);
     let is_flushed = buffer.flush(&mut sink).is_ok();
     let is_text = sink.bytes() == TEXT;
-    assert_eq!(rt; (waiting, is_flushed, is_text), (Some(0), true, true));
-    let length = TEXT.len();
     let one = bytes_put(&mut buffer, &mut sink, b".");
-    // The byte before them is put, and they wait.
     let more = bytes_put(&mut buffer, &mut sink, &many);
-    assert_eq!(rt; (one, more), (Some(length), Some(length + 1)));
-    Ok(())
+    Ok((waiting, (is_flushed, is_text), [one, more]))
 }
 
-#[test]
-fn bytes_are_read_behind_those_that_are_there(rt: HostRuntime) -> Result<(), Fail> {
-    let alloc = rt.alloc();
+// Whether a file is opened, how many bytes a buffer then takes, and whether it has these.
+fn filled(alloc: Global) -> Result<(bool, Option<usize>, bool), AllocError> {
     let mut host = host_of(alloc, &[9], 16)?;
     let mut read = ReadBuffer::new(alloc)?;
     let is_open = host.open_read("a").is_ok();
     let count = read.fill(&mut host).ok();
-    let found = (is_open, count, read.bytes());
-    assert_eq!(rt; found, (true, Some(16), &TEXT[..16]));
+    Ok((is_open, count, read.bytes() == &TEXT[..16]))
+}
+
+#[test]
+fn bytes_wait_in_buffers(rt: HostRuntime) -> Result<(), Fail> {
+    let length = TEXT.len();
+    // Once there are too many the byte before them is put, and they wait.
+    assert_eq!(rt;
+        bytes_behind_puts(rt.alloc())?,
+        (Some(0), (true, true), [Some(length), Some(length + 1)])
+    );
+    // They are read behind those that are there.
+    assert_eq!(rt; filled(rt.alloc())?, (true, Some(16), true));
     Ok(())
 }
 
@@ -196,7 +223,8 @@ fn longer<H: Host>(alloc: Global, host: &mut H) -> Option<usize> {
 }
 
 #[test]
-fn the_system_keeps_a_file(rt: HostRuntime) {
+fn the_system_keeps_a_file_and_takes_a_text(rt: HostRuntime) {
+    let is_put = put_all(&mut OutSink::new(&rt), TEXT).is_ok();
     let mut host = FileHost::new(&rt);
     let is_written = write_all(&mut host, "kept", TEXT).is_ok();
     let reads = reads(rt.alloc(), &mut host);
@@ -204,14 +232,7 @@ fn the_system_keeps_a_file(rt: HostRuntime) {
     // A folder can be opened, and each read of it fails.
     let fault = Err(ReadAllFault::Read);
     assert_eq!(rt;
-        (is_written, reads, longer),
-        (true, [Ok(true), fault, fault], Some(TEXT.len() + 1))
+        (is_put, is_written, reads, longer),
+        (true, true, [Ok(true), fault, fault], Some(TEXT.len() + 1))
     );
-}
-
-#[test]
-fn output_takes_a_text(rt: HostRuntime) -> Result<(), Fail> {
-    let mut sink = OutSink::new(&rt);
-    assert!(rt; put_all(&mut sink, TEXT).is_ok());
-    Ok(())
 }

@@ -28,10 +28,7 @@ fn types_are_read(rt: HostRuntime) {
     ] {
         assert_eq!(rt; fixed_of(text), Some((signed, bits, frac)), "{text}");
     }
-}
-
-#[test]
-fn rules_and_other_texts_are_told_apart(rt: HostRuntime) {
+    // rules and other texts
     for &(text, want) in &[
         ("Inherit: auto", Ok(TypeText::Inherit)),
         (
@@ -114,23 +111,35 @@ fn conversion_of(line: &str) -> Option<Conversion> {
     })
 }
 
+// What the conversion of a line gives, and what it is to give.
+fn converted(line: &str) -> Option<(i64, i64)> {
+    let c = conversion_of(line)?;
+    if c.number.unsigned_abs() <= 1 << 62 && c.frac <= 93 {
+        Some((convert(c.number, c.frac, c.to, c.round, c.over), c.result))
+    } else {
+        None
+    }
+}
+
+const INT8: FixType = FixType {
+    signed: true,
+    bits: 8,
+    frac: 0,
+};
+
+const INT32: FixType = FixType {
+    signed: true,
+    bits: 32,
+    frac: 0,
+};
+
 #[test]
 fn numbers_are_converted(rt: HostRuntime) -> Result<(), Fail> {
     for line in CONVERSIONS.lines() {
-        let c = conversion_of(line).ok_or(line)?;
-        assert!(rt;
-            c.number.unsigned_abs() <= 1 << 62 && c.frac <= 93,
-            "{line}"
-        );
-        let result = convert(c.number, c.frac, c.to, c.round, c.over);
-        assert_eq!(rt; result, c.result, "{line}");
+        let (result, want) = converted(line).ok_or(line)?;
+        assert_eq!(rt; result, want, "{line}");
     }
-    Ok(())
-}
-
-#[test]
-fn ties_and_ends_go_by_the_modes(rt: HostRuntime) -> Result<(), Fail> {
-    let int8 = FixType::new(true, 8, 0).ok_or("int8")?;
+    // ties and ends go by the modes
     for &(round, tie, wrapped) in &[
         (Round::Floor, -3, 127),
         (Round::Ceiling, -2, -128),
@@ -140,9 +149,9 @@ fn ties_and_ends_go_by_the_modes(rt: HostRuntime) -> Result<(), Fail> {
         (Round::Convergent, -2, -128),
     ] {
         // -2.5, and 127.5
-        let low = convert(-40, 4, int8, round, Over::Saturate);
-        let high = convert(2040, 4, int8, round, Over::Saturate);
-        let past = convert(2040, 4, int8, round, Over::Wrap);
+        let low = convert(-40, 4, INT8, round, Over::Saturate);
+        let high = convert(2040, 4, INT8, round, Over::Saturate);
+        let past = convert(2040, 4, INT8, round, Over::Wrap);
         assert_eq!(rt; (low, high, past), (tie, 127, wrapped));
     }
     Ok(())
@@ -153,51 +162,54 @@ fn gain_of(text: &str) -> Result<(i64, u8), NumFault> {
     gain_constant(&read_decimal(text.as_bytes())?)
 }
 
+// A number times the gain 0.1, in 32 bits, rounded down.
+fn tenth_of(number: i64) -> Option<i64> {
+    let (gain, frac) = gain_of("0.1").ok()?;
+    let product = i128::from(number).checked_mul(i128::from(gain))?;
+    if product.unsigned_abs() <= 1 << 62 && frac <= 93 {
+        Some(convert(product, frac, INT32, Round::Floor, Over::Saturate))
+    } else {
+        None
+    }
+}
+
 #[test]
 fn gains_find_their_types(rt: HostRuntime) {
-    for &(text, number, frac) in &[
-        ("0.1", 214_748_365, 31),
-        ("2.5", 5, 1),
-        ("0", 0, 0),
-        ("1", 1, 0),
-        ("-0.75", -3, 2),
-        ("1e-18", 0, 0),
-        ("1073741823.5", 2_147_483_647, 1),
-        ("2147483647.4", 2_147_483_647, 0),
-        ("-2147483648", -2_147_483_648, 0),
-        ("-2147483648.5", -2_147_483_648, 0),
+    for &(text, constant) in &[
+        ("0.1", Ok((214_748_365, 31))),
+        ("2.5", Ok((5, 1))),
+        ("0", Ok((0, 0))),
+        ("1", Ok((1, 0))),
+        ("-0.75", Ok((-3, 2))),
+        ("1e-18", Ok((0, 0))),
+        ("1073741823.5", Ok((2_147_483_647, 1))),
+        ("2147483647.4", Ok((2_147_483_647, 0))),
+        ("-2147483648", Ok((-2_147_483_648, 0))),
+        ("-2147483648.5", Ok((-2_147_483_648, 0))),
+        // beyond 32 bits there is none
+        ("2147483647.5", Err(NumFault::Range)),
+        ("2147483648", Err(NumFault::Range)),
+        ("-2147483649", Err(NumFault::Range)),
+        ("1e18", Err(NumFault::Range)),
+        ("-1e18", Err(NumFault::Range)),
     ] {
-        assert_eq!(rt; gain_of(text), Ok((number, frac)), "{text}");
+        assert_eq!(rt; gain_of(text), constant, "{text}");
+    }
+    // a small gain is exact
+    for &(input, output) in &[(2_147_483_647, 214_748_364), (-1, -1), (10, 1)] {
+        assert_eq!(rt; tenth_of(input), Some(output));
     }
 }
 
-#[test]
-fn gains_beyond_32_bits_have_no_type(rt: HostRuntime) {
-    for &text in &["2147483647.5", "2147483648", "-2147483649", "1e18", "-1e18"] {
-        assert_eq!(rt; gain_of(text), Err(NumFault::Range), "{text}");
-    }
+// The constant that a text becomes in the type with this sign, these bits and these fraction bits.
+fn quantized(text: &str, signed: bool, bits: u8, frac: u8) -> Option<i64> {
+    let to = FixType::new(signed, bits, frac)?;
+    let number = read_decimal(text.as_bytes()).ok()?;
+    Some(quantize(&number, to))
 }
 
 #[test]
-fn a_small_gain_is_exact(rt: HostRuntime) -> Result<(), Fail> {
-    let int32 = FixType::new(true, 32, 0).ok_or("int32")?;
-    let gain = read_decimal(b"0.1")?;
-    let (number, frac) = gain_constant(&gain)?;
-    for &(input, output) in &[(2_147_483_647i64, 214_748_364), (-1, -1), (10, 1)] {
-        let product = i128::from(input)
-            .checked_mul(i128::from(number))
-            .ok_or("wide")?;
-        assert!(rt; product.unsigned_abs() <= 1 << 62 && frac <= 93);
-        assert_eq!(rt;
-            convert(product, frac, int32, Round::Floor, Over::Saturate),
-            output
-        );
-    }
-    Ok(())
-}
-
-#[test]
-fn constants_are_quantized(rt: HostRuntime) -> Result<(), Fail> {
+fn constants_are_quantized(rt: HostRuntime) {
     for &(text, signed, bits, frac, want) in &[
         ("0.5", true, 8, 4, 8),
         ("2.5", true, 8, 0, 3),
@@ -209,15 +221,18 @@ fn constants_are_quantized(rt: HostRuntime) -> Result<(), Fail> {
         ("999999999999999999e-18", true, 32, 31, 2_147_483_647),
         ("true", false, 1, 0, 1),
     ] {
-        let to = FixType::new(signed, bits, frac).ok_or("a type")?;
-        let number = read_decimal(text.as_bytes())?;
-        assert_eq!(rt; quantize(&number, to), want, "{text}");
+        assert_eq!(rt; quantized(text, signed, bits, frac), Some(want), "{text}");
     }
-    Ok(())
+}
+
+// The ends of the type with this sign and these bits.
+fn ends_of(signed: bool, bits: u8) -> Option<(i64, i64)> {
+    let t = FixType::new(signed, bits, 0)?;
+    Some((least(t), greatest(t)))
 }
 
 #[test]
-fn ranges_have_their_ends(rt: HostRuntime) -> Result<(), Fail> {
+fn ranges_have_their_ends(rt: HostRuntime) {
     for &(signed, bits, low, high) in &[
         (true, 8, -128, 127),
         (true, 32, -2_147_483_648, 2_147_483_647),
@@ -225,10 +240,8 @@ fn ranges_have_their_ends(rt: HostRuntime) -> Result<(), Fail> {
         (false, 32, 0, 4_294_967_295),
         (false, 1, 0, 1),
     ] {
-        let t = FixType::new(signed, bits, 0).ok_or("a type")?;
-        assert_eq!(rt; (least(t), greatest(t)), (low, high));
+        assert_eq!(rt; ends_of(signed, bits), Some((low, high)));
     }
-    Ok(())
 }
 
 #[test]

@@ -1,5 +1,8 @@
+ghost use Rattle.std.specs.Prelude.{◌≤◌, length};
+
 use mc_fixed::FixType;
 use mc_trace::{BadLine, BadWhy, Next, last_row, next_line, next_row, read_row};
+use std::alloc::{AllocError, Global};
 use std::test::Fail;
 
 const BOOLEAN: FixType = FixType {
@@ -26,111 +29,150 @@ const fn bad(line: u32, why: BadWhy) -> BadLine {
 
 const AB: &[u8] = b"ab\r\nc";
 
-#[test]
-fn lines_are_found(rt: HostRuntime) {
-    let line = |start: usize, end: usize, after: usize| Next::Line { start, end, after };
-    assert_eq!(rt; next_line(AB, 0, false), line(0, 2, 4));
-    assert_eq!(rt; next_line(AB, 4, true), line(4, 5, 5));
-    assert_eq!(rt; next_line(AB, 4, false), Next::More);
-    assert_eq!(rt; next_line(AB, 5, true), Next::End);
-    assert_eq!(rt; next_line(b"\n", 0, true), line(0, 0, 1));
-    assert_eq!(rt; next_line(b"1\r", 0, true), line(0, 2, 2));
+// So many digits, and what stands behind them.
+fn digits(alloc: Global, count: usize, end: &str) -> Result<Vec<u8>, AllocError> {
+    let mut text = vec![in alloc; b'1'; count]?;
+    text.extend_from_slice(end.as_bytes())?;
+    Ok(text)
+}
+
+// The first line of such a text.
+fn line_of(alloc: Global, count: usize, end: &str, is_last: bool) -> Result<Next, AllocError> {
+    let text = digits(alloc, count, end)?;
+    Ok(next_line(&text, 0, is_last))
 }
 
 #[test]
-fn long_lines_are_told(rt: HostRuntime) -> Result<(), Fail> {
-    let line = |after: usize| Next::Line {
-        start: 0,
-        end: 4096,
-        after,
-    };
-    for (count, end, is_last, want) in [
-        (4096, "", true, line(4096)),
+fn lines_are_found(rt: HostRuntime) -> Result<(), Fail> {
+    for &(text, from, is_last, start, end, after) in &[
+        (AB, 0, false, 0, 2, 4),
+        (AB, 4, true, 4, 5, 5),
+        (b"\n", 0, true, 0, 0, 1),
+        (b"1\r", 0, true, 0, 2, 2),
+    ] {
+        let line = Next::Line { start, end, after };
+        assert_eq!(rt; next_line(text, from, is_last), line);
+    }
+    let others = (next_line(AB, 4, false), next_line(AB, 5, true));
+    assert_eq!(rt; others, (Next::More, Next::End));
+    // long lines
+    for &(count, end, is_last, want) in &[
+        (
+            4096,
+            "",
+            true,
+            Next::Line {
+                start: 0,
+                end: 4096,
+                after: 4096,
+            },
+        ),
         (4096, "\r", false, Next::More),
         (4096, "\r", true, Next::Long),
-        (4096, "\r\n", true, line(4098)),
+        (
+            4096,
+            "\r\n",
+            true,
+            Next::Line {
+                start: 0,
+                end: 4096,
+                after: 4098,
+            },
+        ),
         (4097, "", false, Next::Long),
     ] {
-        let mut text = vec![in rt.alloc(); b'1'; count]?;
-        text.extend_from_slice(end.as_bytes())?;
-        assert_eq!(rt;
-            next_line(&text, 0, is_last),
-            want,
-            "{count} {end:?} {is_last}"
-        );
+        let line = line_of(rt.alloc(), count, end, is_last)?;
+        assert_eq!(rt; line, want, "{count} {end:?} {is_last}");
     }
     Ok(())
 }
 
-#[test]
-fn long_rows_are_refused(rt: HostRuntime) -> Result<(), Fail> {
-    let longer = vec![in rt.alloc(); b'1'; 4097]?;
-    assert_eq!(rt; read_row(&longer, &[], &mut []), Err(BadWhy::Long));
-    Ok(())
+// What a text writes as a row of these types.
+fn row_of(text: &[u8], types: &[FixType]) -> Result<[i64; 2], BadWhy>
+    requires { length types.now ≤ 2 }
+{
+    let mut into = [9, 9];
+    read_row(text, types, &mut into[..types.len()])?;
+    Ok(into)
+}
+
+// What a row is of one more digit than it may have.
+fn long_row(alloc: Global) -> Result<Result<[i64; 2], BadWhy>, AllocError> {
+    let text = digits(alloc, 4097, "")?;
+    Ok(row_of(&text, &[]))
 }
 
 #[test]
-fn rows_are_read(rt: HostRuntime) {
-    let mut into = [0, 0];
-    let read = read_row(b" -4 \t1 ", &[INT32, BOOLEAN], &mut into);
-    assert_eq!(rt; (read, into), (Ok(()), [-4, 1]));
-    let read = read_row(b"-0 000000000000000001", &[BOOLEAN, BOOLEAN], &mut into);
-    assert_eq!(rt; (read, into), (Ok(()), [0, 1]));
-    assert_eq!(rt; read_row(b" ", &[], &mut []), Ok(()));
-}
-
-#[test]
-fn other_texts_are_no_rows(rt: HostRuntime) {
-    let mut into = [0, 0];
-    for &(text, why) in &[
-        ("+1 2", BadWhy::Form(1)),
-        ("1 2", BadWhy::Range(2)),
-        ("2 x", BadWhy::Range(1)),
-        ("1 1000000000000000000", BadWhy::Form(2)),
-        ("0 -", BadWhy::Form(2)),
-        ("1", BadWhy::Count(1)),
+fn rows_are_read(rt: HostRuntime) -> Result<(), Fail> {
+    // of two booleans
+    for &(text, want) in &[
+        ("-0 000000000000000001", Ok([0, 1])),
+        ("+1 2", Err(BadWhy::Form(1))),
+        ("1 2", Err(BadWhy::Range(2))),
+        ("2 x", Err(BadWhy::Range(1))),
+        ("1 1000000000000000000", Err(BadWhy::Form(2))),
+        ("0 -", Err(BadWhy::Form(2))),
+        ("1", Err(BadWhy::Count(1))),
     ] {
-        let read = read_row(text.as_bytes(), &[BOOLEAN, BOOLEAN], &mut into);
-        assert_eq!(rt; read, Err(why), "{text}");
+        let row = row_of(text.as_bytes(), &[BOOLEAN, BOOLEAN]);
+        assert_eq!(rt; row, want, "{text}");
     }
-    let read = read_row(b"1 2 x", &[INT32], &mut into[..1]);
-    assert_eq!(rt; read, Err(BadWhy::Count(3)));
+    // of other types, and of none
+    let others = [
+        row_of(b" -4 \t1 ", &[INT32, BOOLEAN]),
+        row_of(b"1 2 x", &[INT32]),
+        row_of(b" ", &[]),
+        long_row(rt.alloc())?,
+    ];
+    assert_eq!(rt;
+        others,
+        [
+            Ok([-4, 1]),
+            Err(BadWhy::Count(3)),
+            Ok([9, 9]),
+            Err(BadWhy::Long)
+        ]
+    );
+    Ok(())
 }
 
 const ROWS: &[u8] = b"5\n200\r\n-7";
 
+// Rows from a place on behind so many lines; the last has no end.
 #[test]
 fn rows_follow_each_other(rt: HostRuntime) {
     let mut into = [0];
-    let next = next_row(ROWS, 0, 0, &[INT8], &mut into);
-    assert_eq!(rt; (next, into), (Ok(Some(2)), [5]));
-    let next = next_row(ROWS, 7, 2, &[INT8], &mut into);
-    assert_eq!(rt; next, Ok(None));
-}
-
-#[test]
-fn bad_rows_are_told_by_their_lines(rt: HostRuntime) {
-    let mut into = [0];
-    let next = next_row(ROWS, 2, 1, &[INT8], &mut into);
-    assert_eq!(rt; next, Err(bad(2, BadWhy::Range(1))));
-    let next = next_row(ROWS, 0, u32::MAX, &[INT8], &mut into);
-    assert_eq!(rt; next, Err(bad(u32::MAX, BadWhy::Many)));
+    let first = next_row(ROWS, 0, 0, &[INT8], &mut into);
+    let stored = into;
+    let last = next_row(ROWS, 7, 2, &[INT8], &mut into);
+    let beyond = next_row(ROWS, 2, 1, &[INT8], &mut into);
+    let many = next_row(ROWS, 0, u32::MAX, &[INT8], &mut into);
+    assert_eq!(rt;
+        ((first, stored), last, beyond, many),
+        (
+            (Ok(Some(2)), [5]),
+            Ok(None),
+            Err(bad(2, BadWhy::Range(1))),
+            Err(bad(u32::MAX, BadWhy::Many))
+        )
+    );
 }
 
 #[test]
 fn the_last_row_needs_no_end(rt: HostRuntime) {
     let mut into = [0];
     let last = last_row(b"-7", 2, &[INT8], &mut into);
-    assert_eq!(rt; (last, into), (Ok(true), [-7]));
-    let last = last_row(b"", 2, &[INT8], &mut into);
-    assert_eq!(rt; last, Ok(false));
-}
-
-#[test]
-fn a_bad_last_row_is_told_by_its_line(rt: HostRuntime) {
-    let mut into = [0];
-    let last = last_row(b"x", u32::MAX, &[INT8], &mut into);
-    assert_eq!(rt; last, Err(bad(u32::MAX, BadWhy::Many)));
-    let last = last_row(b"x", 2, &[INT8], &mut into);
-    assert_eq!(rt; last, Err(bad(3, BadWhy::Form(1))));
+    let stored = into;
+    let empty = last_row(b"", 2, &[INT8], &mut into);
+    let many = last_row(b"x", u32::MAX, &[INT8], &mut into);
+    let other = last_row(b"x", 2, &[INT8], &mut into);
+    assert_eq!(rt;
+        ((last, stored), empty, many, other),
+        (
+            (Ok(true), [-7]),
+            Ok(false),
+            Err(bad(u32::MAX, BadWhy::Many)),
+            Err(bad(3, BadWhy::Form(1)))
+        )
+    );
 }
