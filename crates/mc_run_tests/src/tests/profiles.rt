@@ -1,27 +1,18 @@
 use super::resolved;
-use mc_profile::{Function, Profile, profiles_of};
+use super::shared::{SHARED_CHILD, SHARED_NODE};
+use mc_profile::{Profile, profiles_of};
 use std::alloc::Global;
+use std::fmt::Write;
 use std::test::Fail;
 
-/// A function that takes these inputs and gives these outputs, as masks.
-pub(super) fn function(inputs: u64, outputs: u32) -> Function {
-    Function { inputs, outputs }
-}
-
-/// The row of a profile and its functions.
-pub(super) fn row_and_functions(profile: &Profile) -> (Option<u32>, &[Function]) {
-    (profile.row, profile.functions.as_slice())
-}
-
 /// Tells of a profile: its row, if it has one, and for each function the masks of its inputs and of its outputs.
-fn push_profile(alloc: Global, profile: &Profile, text: &mut String) -> Result<(), Fail> {
+fn push_profile(profile: &Profile, text: &mut String) -> Result<(), Fail> {
     match profile.row {
-        Some(row) => text.push_str(&format!(in alloc; "{row}:")?)?,
+        Some(row) => write!(text, "{row}:")?,
         None => text.push_str("root:")?,
     }
     for function in profile.functions.as_slice() {
-        let masks = format!(in alloc; " {}/{}", function.inputs, function.outputs)?;
-        text.push_str(&masks)?;
+        write!(text, " {}/{}", function.inputs, function.outputs)?;
     }
     text.push_str("; ")?;
     Ok(())
@@ -33,7 +24,7 @@ fn profiles(alloc: Global, parts: &str) -> Result<String, Fail> {
     let profiles = profiles_of(alloc, &r)?;
     let mut text = String::new(alloc);
     for profile in profiles.as_slice() {
-        push_profile(alloc, profile, &mut text)?;
+        push_profile(profile, &mut text)?;
     }
     Ok(text)
 }
@@ -60,12 +51,17 @@ const PROFILES: &[(&str, &str)] = &[
          Outport o; a 1 > s 1; b 1 > s enable; c 1 > s trigger; s 1 > o 1",
         "root: 7/1; 3: 12884901889/1; ",
     ),
+    // Of the subsystem each output needs its input, and so it is around it.
+    (SHARED_NODE, "root: 1/1 2/2; 2: 1/1 2/2; "),
+    // The second output of the root needs both inputs.
+    (SHARED_CHILD, "root: 1/1 3/2; 2: 1/1; "),
 ];
 
 #[test]
 fn systems_have_profiles(rt: HostRuntime) -> Result<(), Fail> {
     for &(parts, told) in PROFILES {
-        assert_eq!(rt; profiles(rt.alloc(), parts)?.as_str(), told, "{parts}");
+        let profiles = profiles(rt.alloc(), parts)?;
+        assert_eq!(rt; profiles.as_str(), told, "{parts}");
     }
     Ok(())
 }

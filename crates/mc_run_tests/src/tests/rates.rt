@@ -1,5 +1,6 @@
 use super::resolved;
 use mc_times::hit;
+use std::alloc::Global;
 use std::test::Fail;
 
 /// An input each 1/50 second, one each 1/75 from 1/150 on, and their sum.
@@ -7,18 +8,28 @@ pub(super) const TWO_RATES: &str = "Inport a OutDataTypeStr=int32 SampleTime=1/5
      Block { / BlockType Inport / Name b / Port 2 / OutDataTypeStr int32 / SampleTime [1/75 1/150] / }; \
      Sum p; Outport o; a 1 > p 1; b 1 > p 2; p 1 > o 1";
 
+/// Whether a row of the model with these rates is hit in each of the first six ticks.
+fn hits(alloc: Global, row: usize) -> Result<[bool; 6], Fail> {
+    let times = resolved(alloc, TWO_RATES)?.times;
+    let time = *times.run.get(row).ok_or("the table has no such row")?;
+    Ok([
+        hit(time, 0),
+        hit(time, 1),
+        hit(time, 2),
+        hit(time, 3),
+        hit(time, 4),
+        hit(time, 5),
+    ])
+}
+
 #[test]
 fn ticks_of_two_rates(rt: HostRuntime) -> Result<(), Fail> {
-    let times = resolved(rt.alloc(), TWO_RATES)?.times;
-    for (row, hits) in [
+    for &(row, wanted) in &[
         (0, [true, false, false, true, false, false]),
         (1, [false, true, false, true, false, true]),
         (2, [true, true, true, true, true, true]),
     ] {
-        let time = times.run.get(row).ok_or("the table has no such row")?;
-        for (t, is_hit) in hits.iter().enumerate() {
-            assert_eq!(rt; hit(*time, t as u32), *is_hit);
-        }
+        assert_eq!(rt; hits(rt.alloc(), row)?, wanted, "{row}");
     }
     Ok(())
 }

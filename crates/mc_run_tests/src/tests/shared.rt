@@ -1,18 +1,20 @@
-use super::profiles::{function, row_and_functions};
 use super::resolved;
-use super::systems::{child_nodes, child_profiles, root_nodes, root_profile};
+use super::systems::{child_nodes, root_nodes};
 use mc_profile::{Node, Nodes};
+use std::alloc::Global;
 use std::test::Fail;
 
 /// A subsystem that adds twice what a delay holds to each of its two inputs; the delay begins with 1 and takes that double.
-const SHARED_NODE: &str = "Inport a OutDataTypeStr=int32; Inport b Port=2 OutDataTypeStr=int32; \
+pub(super) const SHARED_NODE: &str =
+    "Inport a OutDataTypeStr=int32; Inport b Port=2 OutDataTypeStr=int32; \
      SubSystem s {; Inport x1; Inport x2 Port=2; UnitDelay d InitialCondition=1; Gain g Gain=2 OutDataTypeStr=int32; \
      Sum p; Sum q; Outport y1; Outport y2 Port=2; \
      g 1 > d 1; d 1 > g 1; g 1 > p 1; x1 1 > p 2; g 1 > q 1; x2 1 > q 2; p 1 > y1 1; q 1 > y2 1; }; \
      Outport o1; Outport o2 Port=2; a 1 > s 1; b 1 > s 2; s 1 > o1 1; s 2 > o2 1";
 
 /// A subsystem that passes its input on; the first output of the root is what it gives, the second that and an input more.
-const SHARED_CHILD: &str = "Inport a OutDataTypeStr=int32; Inport b Port=2 OutDataTypeStr=int32; \
+pub(super) const SHARED_CHILD: &str =
+    "Inport a OutDataTypeStr=int32; Inport b Port=2 OutDataTypeStr=int32; \
      SubSystem s {; Inport x; Outport y; x 1 > y 1; }; \
      Sum p; Outport o1; Outport o2 Port=2; a 1 > s 1; s 1 > p 1; b 1 > p 2; s 1 > o1 1; p 1 > o2 1";
 
@@ -27,25 +29,24 @@ fn seen(nodes: &Nodes) -> Seen<'_> {
     )
 }
 
+/// The nodes of the subsystem of a model of these parts.
+fn nodes_of_child(alloc: Global, parts: &str) -> Result<Nodes, Fail> {
+    child_nodes(alloc, &resolved(alloc, parts)?)
+}
+
+/// The nodes of the root of a model of these parts.
+fn nodes_of_root(alloc: Global, parts: &str) -> Result<Nodes, Fail> {
+    root_nodes(alloc, &resolved(alloc, parts)?)
+}
+
 // The delay, at place 2, needs nothing; the gain behind it, at place 3, is needed by both sums.
 #[test]
 fn nodes_of_a_shared_node(rt: HostRuntime) -> Result<(), Fail> {
     let rows = [3, 4, 5, 6, 7, 8, 9, 10].map(Node::Row);
     let edges = [(2, 3), (3, 4), (0, 4), (3, 5), (1, 5), (4, 6), (5, 7)];
-    let nodes = child_nodes(rt.alloc(), &resolved(rt.alloc(), SHARED_NODE)?)?;
+    let nodes = nodes_of_child(rt.alloc(), SHARED_NODE)?;
     let wanted: Seen = (&rows, &edges, &[6, 7]);
     assert_eq!(rt; seen(&nodes), wanted);
-    Ok(())
-}
-
-#[test]
-fn profile_of_a_shared_node(rt: HostRuntime) -> Result<(), Fail> {
-    let profiles = child_profiles(rt.alloc(), &resolved(rt.alloc(), SHARED_NODE)?)?;
-    let child = profiles.as_slice().first().ok_or("there is no child")?;
-    assert_eq!(rt;
-        row_and_functions(child),
-        (Some(2), [function(1, 1), function(2, 2)].as_slice())
-    );
     Ok(())
 }
 
@@ -66,26 +67,8 @@ fn nodes_of_a_shared_child(rt: HostRuntime) -> Result<(), Fail> {
         call,
     ];
     let edges = [(6, 3), (1, 3), (6, 4), (3, 5), (0, 6)];
-    let nodes = root_nodes(rt.alloc(), &resolved(rt.alloc(), SHARED_CHILD)?)?;
+    let nodes = nodes_of_root(rt.alloc(), SHARED_CHILD)?;
     let wanted: Seen = (&list, &edges, &[4, 5]);
     assert_eq!(rt; seen(&nodes), wanted);
-    Ok(())
-}
-
-#[test]
-fn profile_of_a_shared_child(rt: HostRuntime) -> Result<(), Fail> {
-    let profiles = child_profiles(rt.alloc(), &resolved(rt.alloc(), SHARED_CHILD)?)?;
-    let child = profiles.as_slice().first().ok_or("there is no child")?;
-    assert_eq!(rt; child.functions.as_slice(), [function(1, 1)].as_slice());
-    Ok(())
-}
-
-#[test]
-fn profile_around_a_shared_child(rt: HostRuntime) -> Result<(), Fail> {
-    let root = root_profile(rt.alloc(), &resolved(rt.alloc(), SHARED_CHILD)?)?;
-    assert_eq!(rt;
-        row_and_functions(&root),
-        (None, [function(1, 1), function(3, 2)].as_slice())
-    );
     Ok(())
 }

@@ -46,7 +46,7 @@ fn only_child(r: &Resolved) -> Result<&Subsystem, Fail>
 }
 
 /// The profile of that subsystem.
-pub fn child_profiles(alloc: Global, r: &Resolved) -> Result<Vec<Profile>, Fail>
+fn child_profiles(alloc: Global, r: &Resolved) -> Result<Vec<Profile>, Fail>
     ensures { IfOk result (λ v. AreProfiles (diagram_of r.now) None v.items) }
 {
     let child = only_child(r)?;
@@ -61,12 +61,6 @@ pub fn child_nodes(alloc: Global, r: &Resolved) -> Result<Nodes, Fail> {
     let child = only_child(r)?;
     let local = local_of(alloc, r, child, &[])?;
     Ok(nodes_of(alloc, &local)?)
-}
-
-/// The profile of the root.
-pub fn root_profile(alloc: Global, r: &Resolved) -> Result<Profile, Fail> {
-    let children = child_profiles(alloc, r)?;
-    Ok(profile_of(alloc, r, root_of(r), &children)?)
 }
 
 /// The nodes of the root.

@@ -15,9 +15,8 @@ fn fits_one_input(alloc: Global, rows: &str) -> Result<bool, Fail> {
 
 #[test]
 fn a_row_has_just_one_number_for_each_input(rt: HostRuntime) -> Result<(), Fail> {
-    let exact = fits_one_input(rt.alloc(), "1; 2")?;
-    let too_few = fits_one_input(rt.alloc(), "")?;
-    let too_many = fits_one_input(rt.alloc(), "1 2")?;
-    assert_eq!(rt; (exact, too_few, too_many), (true, false, false));
+    for &(rows, fits) in &[("1; 2", true), ("", false), ("1 2", false)] {
+        assert_eq!(rt; fits_one_input(rt.alloc(), rows)?, fits, "{rows}");
+    }
     Ok(())
 }
