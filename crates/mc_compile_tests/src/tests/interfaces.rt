@@ -17,7 +17,7 @@ fn answer(alloc: Global, parts: &str) -> Result<Vec<u8>, Fail> {
 
 #[test]
 fn reports_and_refusals(rt: HostRuntime) -> Result<(), Fail> {
-    for (parts, expected) in [
+    for &(parts, expected) in &[
         (
             "Inport a OutDataTypeStr=int32; UnitDelay d; Outport o; a 1 > d 1; d 1 > o 1",
             "system top inputs 1 outputs 1 functions 1\nout 1 needs none outputs 1\nsystems 1\n",
@@ -51,11 +51,8 @@ fn reports_and_refusals(rt: HostRuntime) -> Result<(), Fail> {
             "refused F23 Loop 8 13\n",
         ),
     ] {
-        assert_eq!(rt;
-            answer(rt.alloc(), parts)?.as_slice(),
-            expected.as_bytes(),
-            "{parts}"
-        );
+        let answer = answer(rt.alloc(), parts)?;
+        assert_eq!(rt; answer.as_slice(), expected.as_bytes(), "{parts}");
     }
     Ok(())
 }
