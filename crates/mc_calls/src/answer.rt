@@ -21,9 +21,19 @@ pub struct Answer {
 }
 
 impl Answer {
-    /// Whether it ended with this status, put this text and wrote so many files.
-    pub fn ended_with(&self, status: u8, text: &[u8], files: usize) -> bool {
-        self.status == status && self.text.as_slice() == text && self.files == files
+    /// Whether it ended with this status, put this text, in which a `*` stands for any bytes, and wrote so many files.
+    pub fn ended_with(&self, status: u8, text: &str, files: usize) -> bool {
+        self.status == status && self.files == files && is_like(&self.text, text)
+    }
+}
+
+// Whether a text is the expected one, in which a `*` stands for any bytes.
+fn is_like(text: &[u8], expected: &str) -> bool {
+    match expected.split_once("*") {
+        Some((front, end)) => {
+            text.starts_with(front.as_bytes()) && text.ends_with(end.as_bytes())
+        }
+        None => text == expected.as_bytes(),
     }
 }
 

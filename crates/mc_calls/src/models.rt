@@ -63,7 +63,7 @@ DstPort 1
 ";
 
 /// The first model with a Gain in the place of its Outport.
-pub const GAIN: &str = "Model {
+pub const GAIN: &[u8] = b"Model {
   Name \"one\"
   System {
     Name \"one\"
@@ -89,7 +89,7 @@ pub const GAIN: &str = "Model {
 ";
 
 /// The first model with a Scope in the place of its Outport.
-pub const SCOPE: &str = "Model {
+pub const SCOPE: &[u8] = b"Model {
   Name \"one\"
   System {
     Name \"one\"
@@ -115,7 +115,7 @@ pub const SCOPE: &str = "Model {
 ";
 
 /// The first model without its last line.
-pub const UNCLOSED: &str = "Model {
+pub const UNCLOSED: &[u8] = b"Model {
   Name \"one\"
   System {
     Name \"one\"
@@ -140,7 +140,7 @@ pub const UNCLOSED: &str = "Model {
 ";
 
 /// The first model with a Branch in the place of the Line's own end.
-pub const BRANCHED: &str = "Model {
+pub const BRANCHED: &[u8] = b"Model {
   System {
     Block {
       BlockType Inport
@@ -164,7 +164,7 @@ pub const BRANCHED: &str = "Model {
 ";
 
 /// The first model with the type of its Inport among its defaults, by its numbers.
-pub const BY_DEFAULTS: &str = "Model {
+pub const BY_DEFAULTS: &[u8] = b"Model {
   BlockParameterDefaults {
     Block {
       BlockType Inport
@@ -191,7 +191,7 @@ pub const BY_DEFAULTS: &str = "Model {
 ";
 
 /// The first model with sections and parameters that are passed over.
-pub const SURROUNDED: &str = "Stateflow {
+pub const SURROUNDED: &[u8] = b"Stateflow {
   machine {
   }
 }
@@ -303,30 +303,6 @@ DstPort 1
 }
 ";
 
-const BEFORE_A_TYPE: &str =
-    "Model {\n  Name \"one\"\n  System {\n    Name \"one\"\n    Block {\n      BlockType Inport\n      Name \"In1\"\n      Port \"1\"\n";
-
-const BEHIND_A_TYPE: &str = "    }
-    Block {
-      BlockType Outport
-      Name \"Out1\"
-      Port \"1\"
-    }
-    Line {
-      SrcBlock \"In1\"
-      SrcPort 1
-      DstBlock \"Out1\"
-      DstPort 1
-    }
-  }
-}
-";
-
-/// The first model with these parameters in the place of its Inport's type.
-pub fn one_wire_with(alloc: Global, parameters: &str) -> Result<String, AllocError> {
-    format!(in alloc; "{BEFORE_A_TYPE}{parameters}{BEHIND_A_TYPE}")
-}
-
 /// So many sections, each inside the one before, and none of them closed.
 pub fn nested(alloc: Global, count: u32) -> Result<Vec<u8>, AllocError> {
     let mut text = Vec::new(alloc);
@@ -403,34 +379,6 @@ pub fn backward_chain(alloc: Global, count: u32) -> Result<Vec<u8>, AllocError> 
     }
     let last = format!(in alloc; "d{count}")?;
     push_line(alloc, &mut text, last.as_str(), "o")?;
-    text.extend_from_slice(b"}\n}\n")?;
-    Ok(text)
-}
-
-/// For each type an Inport of it, wired to an Outport.
-pub fn typed_wires(alloc: Global, types: &[&str]) -> Result<Vec<u8>, AllocError> {
-    let mut text = b"Model {\nSystem {\n".to_vec(alloc)?;
-    for (at, kind) in types.iter().enumerate() {
-        let port = at + 1;
-        let blocks = format!(in alloc;
-            "Block {{
-BlockType Inport
-Name \"i{port}\"
-Port \"{port}\"
-OutDataTypeStr \"{kind}\"
-}}
-Block {{
-BlockType Outport
-Name \"o{port}\"
-Port \"{port}\"
-}}
-"
-        )?;
-        text.extend_from_slice(blocks.as_bytes())?;
-        let source = format!(in alloc; "i{port}")?;
-        let target = format!(in alloc; "o{port}")?;
-        push_line(alloc, &mut text, source.as_str(), target.as_str())?;
-    }
     text.extend_from_slice(b"}\n}\n")?;
     Ok(text)
 }

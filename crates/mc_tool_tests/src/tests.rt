@@ -1,4 +1,6 @@
+mod calls;
 mod compiling;
 mod faults;
 mod made;
 mod profiles;
+mod sure;

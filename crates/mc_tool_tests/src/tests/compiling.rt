@@ -1,264 +1,235 @@
-ghost use Rattle.std.specs.Prelude.{◌<◌};
-
-use mc_calls::{Answer, called, compiled, model_file, models, words_of};
-use mc_edge::{MemHost, MemSink, SureHost, SureSink};
-use mc_tool::{run_surely, run_tool};
+use mc_calls::{called, compiled, models};
+use mc_edge::{MemHost, MemSink};
+use mc_tool::run_tool;
 use std::alloc::{AllocError, Global};
 use std::test::Fail;
 
-const USAGE: &[u8] =
-    b"usage: mdlc compile MODEL CODE | run MODEL CODE TRACE | exec CODE TRACE | profile MODEL | drive MODEL CODE SUBSYSTEM SCRIPT | gen START SIZE MODEL CODE\n";
+const ONE_WIRE: &str = "compiled rows 2 systems 1 functions 1\n";
 
-const ONE_WIRE: &[u8] = b"compiled rows 2 systems 1 functions 1\n";
+/// Whether `compile` ends so on a model.
+fn compiles(
+    alloc: Global,
+    model: &[u8],
+    status: u8,
+    text: &str,
+    files: usize,
+) -> Result<bool, AllocError> {
+    Ok(compiled(alloc, model)?.ended_with(status, text, files))
+}
+
+/// Whether the code of one wire begins as it has to, and how many calls fail for want of memory.
+fn code_of_one_wire(alloc: Global) -> Result<(bool, u64), AllocError> {
+    let done = compiled(alloc, models::ONE_WIRE)?;
+    Ok((
+        done.code.starts_with(b"#include <stdint.h>\n"),
+        done.refused,
+    ))
+}
+
+/// What the names of models stand for; other texts stand for themselves.
+fn bytes_of(model: &'static str) -> &'static [u8] {
+    match model {
+        "one wire" => models::ONE_WIRE,
+        "a delay" => models::ONE_DELAY,
+        "a gain" => models::GAIN,
+        "a branch" => models::BRANCHED,
+        "defaults" => models::BY_DEFAULTS,
+        "other sections" => models::SURROUNDED,
+        "a scope" => models::SCOPE,
+        "unclosed" => models::UNCLOSED,
+        _ => model.as_bytes(),
+    }
+}
+
+/// A model, the status, the text that is put, and how many files are written.
+type Row = (&'static str, u8, &'static str, usize);
+
+const MODELS: &[Row] = &[
+    ("one wire", 0, ONE_WIRE, 1),
+    // With a delay in the wire, and with a Gain in the place of the Outport, so that no output has a function.
+    ("a delay", 0, "compiled rows 3 systems 1 functions 1\n", 1),
+    ("a gain", 0, "compiled rows 2 systems 1 functions 0\n", 1),
+    // Each has the one row of an Inport wired to that of an Outport.
+    ("a branch", 0, ONE_WIRE, 1),
+    ("defaults", 0, ONE_WIRE, 1),
+    ("other sections", 0, ONE_WIRE, 1),
+    // refusals
+    ("a scope", 3, "refused F7 Unsupported line 11\n", 0),
+    ("unclosed", 3, "refused F2 Syntax line 22 Brace\n", 0),
+    (
+        "Model {\n  Name \"on",
+        3,
+        "refused F2 Syntax line 2 OpenString\n",
+        0,
+    ),
+    ("", 3, "refused F3 NoModel line 0\n", 0),
+    ("Model {\n}\n", 3, "refused F3 NoModel line 1\n", 0),
+    (
+        "Model {\nSystem {\n}\n}\nModel {\n}\n",
+        3,
+        "refused F4 TwoModels line 5 Second\n",
+        0,
+    ),
+    (
+        "Library {\n}\n",
+        3,
+        "refused F4 TwoModels line 1 Library\n",
+        0,
+    ),
+];
 
 #[test]
-fn one_wire(rt: HostRuntime) -> Result<(), Fail> {
-    let done = compiled(rt.alloc(), models::ONE_WIRE)?;
-    assert!(rt; done.ended_with(0, ONE_WIRE, 1));
-    assert!(rt; done.refused == 0 && done.code.starts_with(b"#include <stdint.h>\n"));
+fn models_are_compiled_or_refused(rt: HostRuntime) -> Result<(), Fail> {
+    for &(model, status, text, files) in MODELS {
+        assert!(rt;
+            compiles(rt.alloc(), bytes_of(model), status, text, files)?,
+            "{text}"
+        );
+    }
+    assert_eq!(rt; code_of_one_wire(rt.alloc())?, (true, 0));
     Ok(())
 }
 
-// With a delay in the wire, and with a Gain in the place of the Outport, so that no output has a function.
+/// Whether the first so many bytes of one wire are refused, and nothing is written.
+fn front_is_refused(alloc: Global, length: usize) -> Result<bool, AllocError> {
+    let told = compiled(alloc, models::ONE_WIRE.get(..length).unwrap_or(&[]))?;
+    Ok(told.status == 3 && told.files == 0)
+}
+
+// Without its last byte the one wire is the same model, and each shorter front of it is refused.
 #[test]
-fn models_near_one_wire(rt: HostRuntime) -> Result<(), Fail> {
-    for &(model, text) in &[
-        (models::ONE_DELAY, "compiled rows 3 systems 1 functions 1\n"),
-        (
-            models::GAIN.as_bytes(),
-            "compiled rows 2 systems 1 functions 0\n",
-        ),
-    ] {
-        let done = compiled(rt.alloc(), model)?;
-        assert!(rt; done.ended_with(0, text.as_bytes(), 1));
+fn fronts_of_one_wire(rt: HostRuntime) -> Result<(), Fail> {
+    let (_, front) = models::ONE_WIRE.split_last().ok_or("there is no model")?;
+    assert!(rt; compiles(rt.alloc(), front, 0, ONE_WIRE, 1)?);
+    for length in 0..front.len() {
+        assert!(rt; front_is_refused(rt.alloc(), length)?, "{length}");
     }
     Ok(())
+}
+
+/// Whether `compile` ends so on a model with so many of what this says.
+fn large_compiles(
+    alloc: Global,
+    what: &str,
+    count: u32,
+    status: u8,
+    text: &str,
+    files: usize,
+) -> Result<bool, AllocError> {
+    let model = match what {
+        "crossed ports" => models::crossed_ports(alloc, count)?,
+        "delays" => models::backward_chain(alloc, count)?,
+        "blocks" => models::grounds(alloc, count)?,
+        _ => models::nested(alloc, count)?,
+    };
+    compiles(alloc, &model, status, text, files)
+}
+
+#[test]
+fn large_models(rt: HostRuntime) -> Result<(), Fail> {
+    for &(what, count, status, text, files) in &[
+        (
+            "crossed ports",
+            32,
+            0,
+            "compiled rows 64 systems 1 functions 32\n",
+            1,
+        ),
+        (
+            "delays",
+            50,
+            0,
+            "compiled rows 52 systems 1 functions 1\n",
+            1,
+        ),
+        (
+            "blocks",
+            20_000,
+            0,
+            "compiled rows 20000 systems 1 functions 0\n",
+            1,
+        ),
+        (
+            "blocks",
+            20_001,
+            3,
+            "refused F6 TooMany line 80003 Blocks 20001\n",
+            0,
+        ),
+        (
+            "deep sections",
+            129,
+            3,
+            "refused F2 Syntax line 129 DeepSections\n",
+            0,
+        ),
+    ] {
+        assert!(rt;
+            large_compiles(rt.alloc(), what, count, status, text, files)?,
+            "{text}"
+        );
+    }
+    Ok(())
+}
+
+const USAGE: &str =
+    "usage: mdlc compile MODEL CODE | run MODEL CODE TRACE | exec CODE TRACE | profile MODEL | drive MODEL CODE SUBSYSTEM SCRIPT | gen START SIZE MODEL CODE\n";
+
+/// Words that ask for nothing.
+const NOTHING: &[&str] = &[
+    "help",
+    "--help",
+    "compile a.mdl",
+    "compile a.mdl a.mdl",
+    "compile a.mdl -c",
+    "compile a.mdl ",
+    "compile a.mdl a.c d",
+    "run a.mdl a.c",
+    "run a.mdl a.mdl t",
+    "run a.mdl t t",
+    "run a.mdl a.c t u",
+    "exec a.c",
+    "exec a.c -t",
+    "exec a.c t u",
+    "drive a.mdl a.c 1",
+    "drive a.mdl a.c 1 t u",
+    "drive a.mdl a.mdl 1 t",
+    "drive a.mdl a.c 1 a.c",
+    "drive a.mdl a.c -1 t",
+    "profile",
+    "profile -a",
+    "profile a.mdl b",
+    "gen 1 1 a",
+    "gen 1 1 a a",
+    "gen 1 1 a b c",
+    "gen 0 1 a b",
+    "gen 01 1 a b",
+    "gen 2147483647 1 a b",
+    "gen 1 0 a b",
+    "gen 1 2500 a b",
+    "gen x 1 a b",
+];
+
+/// Whether a command tells of the usage, and writes nothing.
+fn tells_usage(alloc: Global, line: &str) -> Result<bool, AllocError> {
+    let told = called(alloc, line, models::ONE_WIRE, &[], &[], 4096)?;
+    Ok(told.ended_with(2, USAGE, 0))
+}
+
+/// The status of a call without words, and what it puts.
+fn without_words(alloc: Global) -> Result<(u8, Vec<u8>), AllocError> {
+    let mut host = MemHost::new(alloc, Vec::new(alloc), Vec::new(alloc), 4096);
+    let mut out = MemSink::new(alloc, Vec::new(alloc), 4096);
+    let status = run_tool(alloc, &[], &mut host, &mut out);
+    Ok((status, out.bytes().to_vec(alloc)?))
 }
 
 #[test]
 fn usage(rt: HostRuntime) -> Result<(), Fail> {
-    for &line in &[
-        "help",
-        "--help",
-        "compile a.mdl",
-        "compile a.mdl a.mdl",
-        "compile a.mdl -c",
-        "compile a.mdl ",
-        "compile a.mdl a.c d",
-        "run a.mdl a.c",
-        "run a.mdl a.mdl t",
-        "run a.mdl t t",
-        "run a.mdl a.c t u",
-        "exec a.c",
-        "exec a.c -t",
-        "exec a.c t u",
-        "drive a.mdl a.c 1",
-        "drive a.mdl a.c 1 t u",
-        "drive a.mdl a.mdl 1 t",
-        "drive a.mdl a.c 1 a.c",
-        "drive a.mdl a.c -1 t",
-        "profile",
-        "profile -a",
-        "profile a.mdl b",
-        "gen 1 1 a",
-        "gen 1 1 a a",
-        "gen 1 1 a b c",
-        "gen 0 1 a b",
-        "gen 01 1 a b",
-        "gen 2147483647 1 a b",
-        "gen 1 0 a b",
-        "gen 1 2500 a b",
-        "gen x 1 a b",
-    ] {
-        let told = called(rt.alloc(), line, models::ONE_WIRE, &[], &[], 4096)?;
-        assert!(rt; told.ended_with(2, USAGE, 0), "{line}");
+    for &line in NOTHING {
+        assert!(rt; tells_usage(rt.alloc(), line)?, "{line}");
     }
-    Ok(())
-}
-
-#[test]
-fn no_words(rt: HostRuntime) -> Result<(), Fail> {
-    let alloc = rt.alloc();
-    let mut host = MemHost::new(alloc, Vec::new(alloc), Vec::new(alloc), 4096);
-    let mut out = MemSink::new(alloc, Vec::new(alloc), 4096);
-    let status = run_tool(alloc, &[], &mut host, &mut out);
-    assert_eq!(rt; (status, out.bytes()), (2, USAGE));
-    Ok(())
-}
-
-#[test]
-fn a_missing_model(rt: HostRuntime) -> Result<(), Fail> {
-    let line = "compile b.mdl a.c";
-    let told = called(rt.alloc(), line, models::ONE_WIRE, &[], &[], 4096)?;
-    assert!(rt; told.ended_with(5, b"read fault\n".as_slice(), 0));
-    Ok(())
-}
-
-/// How `compile` ends on one wire where these calls of the host and of the sink fail, and each moves so many bytes at most.
-fn failing(
-    alloc: Global,
-    fails: &[u64],
-    put_fails: &[u64],
-    piece: usize,
-) -> Result<Answer, AllocError>
-    requires { 0 < piece }
-{
-    let line = "compile a.mdl a.c";
-    called(alloc, line, models::ONE_WIRE, fails, put_fails, piece)
-}
-
-#[test]
-fn a_second_read_that_fails(rt: HostRuntime) -> Result<(), Fail> {
-    let told = failing(rt.alloc(), &[2], &[], 16)?;
-    assert!(rt; told.ended_with(5, b"read fault\n".as_slice(), 0));
-    Ok(())
-}
-
-#[test]
-fn a_first_write_that_fails(rt: HostRuntime) -> Result<(), Fail> {
-    let told = failing(rt.alloc(), &[4], &[], 4096)?;
-    assert!(rt; told.ended_with(6, b"write fault\n".as_slice(), 1));
-    assert!(rt; told.code.is_empty());
-    Ok(())
-}
-
-#[test]
-fn a_first_put_that_fails(rt: HostRuntime) -> Result<(), Fail> {
-    let told = failing(rt.alloc(), &[], &[0], 4096)?;
-    assert!(rt; told.ended_with(7, b"".as_slice(), 1));
-    Ok(())
-}
-
-#[test]
-fn a_second_put_that_fails(rt: HostRuntime) -> Result<(), Fail> {
-    let told = failing(rt.alloc(), &[], &[1], 8)?;
-    assert!(rt; told.ended_with(7, b"compiled".as_slice(), 1));
-    Ok(())
-}
-
-#[test]
-fn refusals(rt: HostRuntime) -> Result<(), Fail> {
-    for &(model, line) in &[
-        (models::SCOPE, "refused F7 Unsupported line 11\n"),
-        (models::UNCLOSED, "refused F2 Syntax line 22 Brace\n"),
-        (
-            "Model {\n  Name \"on",
-            "refused F2 Syntax line 2 OpenString\n",
-        ),
-        ("", "refused F3 NoModel line 0\n"),
-        ("Model {\n}\n", "refused F3 NoModel line 1\n"),
-        (
-            "Model {\nSystem {\n}\n}\nModel {\n}\n",
-            "refused F4 TwoModels line 5 Second\n",
-        ),
-        ("Library {\n}\n", "refused F4 TwoModels line 1 Library\n"),
-    ] {
-        let told = compiled(rt.alloc(), model.as_bytes())?;
-        assert!(rt; told.ended_with(3, line.as_bytes(), 0), "{line}");
-    }
-    Ok(())
-}
-
-#[test]
-fn deep_sections(rt: HostRuntime) -> Result<(), Fail> {
-    let alloc = rt.alloc();
-    let told = compiled(alloc, &models::nested(alloc, 129)?)?;
-    let line = b"refused F2 Syntax line 129 DeepSections\n".as_slice();
-    assert!(rt; told.ended_with(3, line, 0));
-    Ok(())
-}
-
-// Each has the one row of an Inport wired to that of an Outport.
-#[test]
-fn other_texts_of_one_wire(rt: HostRuntime) -> Result<(), Fail> {
-    for &model in &[models::BRANCHED, models::BY_DEFAULTS, models::SURROUNDED] {
-        let done = compiled(rt.alloc(), model.as_bytes())?;
-        assert!(rt; done.ended_with(0, ONE_WIRE, 1));
-    }
-    Ok(())
-}
-
-// These bytes are refused, and nothing is written.
-fn is_refused(alloc: Global, model: &[u8]) -> Result<bool, AllocError> {
-    let told = compiled(alloc, model)?;
-    Ok(told.status == 3 && told.files == 0)
-}
-
-// Without its last byte the one wire is the same model.
-#[test]
-fn one_wire_without_its_last_byte(rt: HostRuntime) -> Result<(), Fail> {
-    let (_, front) = models::ONE_WIRE.split_last().ok_or("there is no model")?;
-    let done = compiled(rt.alloc(), front)?;
-    assert!(rt; done.ended_with(0, ONE_WIRE, 1));
-    Ok(())
-}
-
-// Each shorter front of it is refused.
-#[test]
-fn prefixes(rt: HostRuntime) -> Result<(), Fail> {
-    for end in 0..models::ONE_WIRE.len().saturating_sub(1) {
-        let shorter = models::ONE_WIRE.get(..end).unwrap_or(&[]);
-        assert!(rt; is_refused(rt.alloc(), shorter)?, "{end}");
-    }
-    Ok(())
-}
-
-/// What `compile` puts of a model.
-fn line_of(alloc: Global, model: Vec<u8>) -> Result<Vec<u8>, AllocError> {
-    Ok(compiled(alloc, &model)?.text)
-}
-
-#[test]
-fn crossed_ports(rt: HostRuntime) -> Result<(), Fail> {
-    let alloc = rt.alloc();
-    let line = line_of(alloc, models::crossed_ports(alloc, 32)?)?;
-    assert_eq!(rt;
-        line.as_slice(),
-        b"compiled rows 64 systems 1 functions 32\n".as_slice()
-    );
-    Ok(())
-}
-
-#[test]
-fn a_backward_chain(rt: HostRuntime) -> Result<(), Fail> {
-    let alloc = rt.alloc();
-    let line = line_of(alloc, models::backward_chain(alloc, 50)?)?;
-    assert_eq!(rt;
-        line.as_slice(),
-        b"compiled rows 52 systems 1 functions 1\n".as_slice()
-    );
-    Ok(())
-}
-
-#[test]
-fn many_blocks(rt: HostRuntime) -> Result<(), Fail> {
-    let alloc = rt.alloc();
-    for &(count, expected) in &[
-        (20_000, "compiled rows 20000 systems 1 functions 0\n"),
-        (20_001, "refused F6 TooMany line 80003 Blocks 20001\n"),
-    ] {
-        let line = line_of(alloc, models::grounds(alloc, count)?)?;
-        assert_eq!(rt; line.as_slice(), expected.as_bytes());
-    }
-    Ok(())
-}
-
-#[test]
-fn nothing_fails_over_sure_ends(rt: HostRuntime) -> Result<(), Fail> {
-    let alloc = rt.alloc();
-    let words = words_of(alloc, "compile a.mdl a.c")?;
-    let mut host = SureHost::new(model_file(alloc, models::ONE_WIRE)?);
-    let mut out = SureSink::new();
-    let status = run_tool(alloc, &words, &mut host, &mut out);
-    assert_eq!(rt; (status, out.taken()), (0, 38));
-    Ok(())
-}
-
-#[test]
-fn one_wire_over_sure_ends(rt: HostRuntime) -> Result<(), Fail> {
-    let alloc = rt.alloc();
-    let words = words_of(alloc, "compile a.mdl a.c")?;
-    let files = model_file(alloc, models::ONE_WIRE)?;
-    assert_eq!(rt; run_surely(alloc, &words, files), 0);
+    let (status, text) = without_words(rt.alloc())?;
+    assert_eq!(rt; (status, text.as_slice()), (2, USAGE.as_bytes()));
     Ok(())
 }

@@ -31,54 +31,49 @@ fn ended(alloc: Global, told: &Answer, whole: &Answer, fault: Fault) -> Result<b
     )
 }
 
-/// A command over some files, and how it ends where no call fails.
-#[derive(Drop)]
-struct Trial<'a> {
-    line: &'static str,
-    texts: Files<'a>,
-    whole: Answer,
+// Whether a command ends so where these calls of the host and of the sink fail.
+fn fails_so(
+    alloc: Global,
+    (line, texts): (&str, Files<'_>),
+    whole: &Answer,
+    (fails, put_fails): (&[u64], &[u64]),
+    fault: Fault,
+) -> Result<bool, AllocError> {
+    let told = called_in_pieces(alloc, line, texts, fails, put_fails, 65_536)?;
+    ended(alloc, &told, whole, fault)
 }
 
-impl Trial<'_> {
-    // Whether the command ends so where these calls of the host and of the sink fail.
-    fn fails_so(
-        &self,
-        alloc: Global,
-        fails: &[u64],
-        put_fails: &[u64],
-        fault: Fault,
-    ) -> Result<bool, AllocError> {
-        let told = called_in_pieces(alloc, self.line, self.texts, fails, put_fails, 65_536)?;
-        ended(alloc, &told, &self.whole, fault)
-    }
-
-    // Each call of the host fails alone, by its number, and then each of the sink.
-    fn all_fail(&self, alloc: Global, host: &[Fault], puts: &[Fault]) -> Result<bool, AllocError> {
-        for (call, &fault) in host.iter().enumerate() {
-            if !self.fails_so(alloc, &[call as u64], &[], fault)? {
-                return Ok(false);
-            }
+// Whether a command ends so where each call of the host fails alone, by its number, and then each of the sink.
+fn all_fail_so(
+    alloc: Global,
+    command: (&str, Files<'_>),
+    whole: &Answer,
+    host: &[Fault],
+    puts: &[Fault],
+) -> Result<bool, AllocError> {
+    for (call, &fault) in host.iter().enumerate() {
+        if !fails_so(alloc, command, whole, (&[call as u64], &[]), fault)? {
+            return Ok(false);
         }
-        for (put, &fault) in puts.iter().enumerate() {
-            if !self.fails_so(alloc, &[], &[put as u64], fault)? {
-                return Ok(false);
-            }
-        }
-        Ok(self.whole.status == 0)
     }
+    for (put, &fault) in puts.iter().enumerate() {
+        if !fails_so(alloc, command, whole, (&[], &[put as u64]), fault)? {
+            return Ok(false);
+        }
+    }
+    Ok(whole.status == 0)
 }
 
 // Each call fails alone, of the host and of the sink. A failure of the call behind the last isn't met.
 fn all_fail(
     alloc: Global,
-    line: &'static str,
-    texts: Files<'_>,
+    command: (&str, Files<'_>),
     host: &[Fault],
     puts: &[Fault],
 ) -> Result<bool, AllocError> {
     let (unmet, unmet_put) = ([host.len() as u64], [puts.len() as u64]);
-    let whole = called_in_pieces(alloc, line, texts, &unmet, &unmet_put, 65_536)?;
-    Trial { line, texts, whole }.all_fail(alloc, host, puts)
+    let whole = called_in_pieces(alloc, command.0, command.1, &unmet, &unmet_put, 65_536)?;
+    all_fail_so(alloc, command, &whole, host, puts)
 }
 
 // A file is opened, read, and read to its end; one that is written is opened, and written at once.
@@ -139,30 +134,19 @@ const COMPILED: &str = "compiled rows 11 systems 2 functions 3\n";
 const MADE: &str =
     "compiled rows 11 systems 2 functions 3\n1045 959\n-2168 -3213\n-887 1281\n-3260 -2373\n";
 
-/// A command, how it ends where one call of the host fails, and how where one of the sink does, by the numbers of these calls.
-type Row<'a> = (&'static str, Files<'a>, &'static [Fault], &'static [Fault]);
+/// A command, whether it is over the model of crossed ports and its script, how it ends where one call of the host fails, and how
+/// where one of the sink does, by the numbers of these calls.
+type Row = (&'static str, bool, &'static [Fault], &'static [Fault]);
 
 /// Each command: over one wire, over its code, and over a model with a subsystem through which a signal goes twice.
-fn rows<'a>(code: &'a [u8], crossed: &'a [u8]) -> [Row<'a>; 6] {
-    let wire = Files {
-        model: models::ONE_WIRE,
-        code,
-        trace: b"5\n-7\n",
-    };
-    let twice = Files {
-        model: crossed,
-        code,
-        trace: b"out 2 9\nout 1 4\nupdate 4 9\n",
-    };
-    [
-        ("compile a.mdl a.c", wire, COMPILE, PUT_ONE),
-        ("run a.mdl a.c t", wire, RUN, PUT_RUN),
-        ("exec b.c t", wire, EXEC, PUT_EXEC),
-        ("profile a.mdl", twice, PROFILE, PUT_REPORT),
-        ("drive a.mdl a.c 1 t", twice, DRIVE, PUT_DRIVE),
-        ("gen 1 1 g.mdl g.c", wire, GEN, PUT_GEN),
-    ]
-}
+const ROWS: &[Row] = &[
+    ("compile a.mdl a.c", false, COMPILE, PUT_ONE),
+    ("run a.mdl a.c t", false, RUN, PUT_RUN),
+    ("exec b.c t", false, EXEC, PUT_EXEC),
+    ("profile a.mdl", true, PROFILE, PUT_REPORT),
+    ("drive a.mdl a.c 1 t", true, DRIVE, PUT_DRIVE),
+    ("gen 1 1 g.mdl g.c", false, GEN, PUT_GEN),
+];
 
 fn crossed(alloc: Global) -> Result<String, AllocError> {
     model_of(
@@ -171,17 +155,6 @@ fn crossed(alloc: Global) -> Result<String, AllocError> {
          SubSystem s {; Inport x1; Inport x2 Port=2; Outport y1; Outport y2 Port=2; x1 1 > y1 1; x2 1 > y2 1; }; \
          Outport o; a 1 > s 1; s 1 > s 2; s 2 > o 1",
     )
-}
-
-#[test]
-fn each_call_fails_alone(rt: HostRuntime) -> Result<(), Fail> {
-    let alloc = rt.alloc();
-    let wire = compiled(alloc, models::ONE_WIRE)?;
-    let model = crossed(alloc)?;
-    for (line, texts, host, puts) in rows(&wire.code, model.as_bytes()) {
-        assert!(rt; all_fail(alloc, line, texts, host, puts)?, "{line}");
-    }
-    Ok(())
 }
 
 // Whether what is written and put are fronts of what they are where nothing fails.
@@ -198,43 +171,87 @@ fn is_front(told: &Answer, whole: &Answer) -> bool {
         && whole.code.starts_with(&told.code)
 }
 
-// Whether that is so for each call, of the host or else of the sink, that fails alone, up to the first that isn't met.
-fn all_are_fronts(
+// Whether a command ends as it does where nothing fails, if the call that is to fail isn't met; none if it ends with fronts.
+fn outcome(told: &Answer, whole: &Answer) -> Option<bool> {
+    if told.status == 0 {
+        Some(whole.status == 0 && told.text == whole.text && told.code == whole.code)
+    } else if is_front(told, whole) {
+        None
+    } else {
+        Some(false)
+    }
+}
+
+// Whether a command ends with fronts where a call fails alone, of the host or else of the sink, for each up to the first that
+// isn't met.
+fn all_end_with_fronts(
     alloc: Global,
-    line: &str,
-    texts: Files<'_>,
+    command: (&str, Files<'_>),
+    whole: &Answer,
     of_host: bool,
     piece: usize,
 ) -> Result<bool, AllocError>
     requires { 0 < piece }
 {
-    let whole = called_in_pieces(alloc, line, texts, &[], &[], piece)?;
+    let nothing: &[u64] = &[];
     for call in 0..200 {
         let failing = [call];
-        let told = if of_host {
-            called_in_pieces(alloc, line, texts, &failing, &[], piece)?
+        let (fails, put_fails) = if of_host {
+            (failing.as_slice(), nothing)
         } else {
-            called_in_pieces(alloc, line, texts, &[], &failing, piece)?
+            (nothing, failing.as_slice())
         };
-        if told.status == 0 {
-            return Ok(whole.status == 0 && told.text == whole.text && told.code == whole.code);
-        }
-        if !is_front(&told, &whole) {
-            return Ok(false);
+        let told = called_in_pieces(alloc, command.0, command.1, fails, put_fails, piece)?;
+        if let Some(is_so) = outcome(&told, whole) {
+            return Ok(is_so);
         }
     }
     Ok(false)
 }
 
-// A call moves a part of a text.
-#[test]
-fn each_call_of_many_fails_alone(rt: HostRuntime) -> Result<(), Fail> {
-    let alloc = rt.alloc();
+// The same where a call moves a part of a text.
+fn all_are_fronts(
+    alloc: Global,
+    command: (&str, Files<'_>),
+    of_host: bool,
+    piece: usize,
+) -> Result<bool, AllocError>
+    requires { 0 < piece }
+{
+    let whole = called_in_pieces(alloc, command.0, command.1, &[], &[], piece)?;
+    all_end_with_fronts(alloc, command, &whole, of_host, piece)
+}
+
+// Whether each call of a command fails alone so, where one call moves a whole text, and where it moves a part of it.
+fn each_fails_alone(alloc: Global, row: &Row) -> Result<bool, AllocError> {
+    let (line, is_crossed, host, puts) = *row;
     let wire = compiled(alloc, models::ONE_WIRE)?;
-    let model = crossed(alloc)?;
-    for (line, texts, _, _) in rows(&wire.code, model.as_bytes()) {
-        assert!(rt; all_are_fronts(alloc, line, texts, true, 128)?, "{line}");
-        assert!(rt; all_are_fronts(alloc, line, texts, false, 16)?, "{line}");
+    let crossed = crossed(alloc)?;
+    let (model, trace) = if is_crossed {
+        (
+            crossed.as_bytes(),
+            b"out 2 9\nout 1 4\nupdate 4 9\n".as_slice(),
+        )
+    } else {
+        (models::ONE_WIRE, b"5\n-7\n".as_slice())
+    };
+    let texts = Files {
+        model,
+        code: &wire.code,
+        trace,
+    };
+    let command = (line, texts);
+    Ok(
+        all_fail(alloc, command, host, puts)?
+            && all_are_fronts(alloc, command, true, 128)?
+            && all_are_fronts(alloc, command, false, 16)?,
+    )
+}
+
+#[test]
+fn each_call_fails_alone(rt: HostRuntime) -> Result<(), Fail> {
+    for row in ROWS {
+        assert!(rt; each_fails_alone(rt.alloc(), row)?, "{}", row.0);
     }
     Ok(())
 }

@@ -1,19 +1,17 @@
-ghost use Rattle.std.specs.Prelude.{◌<◌};
-
-use mc_calls::{Answer, called, model_file, models, words_of};
-use mc_tool::run_surely;
+use mc_calls::called;
 use mdl_texts::model_of;
-use std::alloc::Global;
+use std::alloc::{AllocError, Global};
 use std::test::Fail;
 
-/// How `profile` ends over a model of these parts.
-fn profiled(alloc: Global, parts: &str) -> Result<Answer, Fail> {
+/// Whether `profile` puts this report on a model of these parts.
+fn reports(alloc: Global, parts: &str, report: &str) -> Result<bool, AllocError> {
     let model = model_of(alloc, parts)?;
-    Ok(called(alloc, "profile a.mdl", model.as_bytes(), &[], &[], 4096)?)
+    let told = called(alloc, "profile a.mdl", model.as_bytes(), &[], &[], 4096)?;
+    Ok(told.ended_with(0, report, 0))
 }
 
 /// A model's parts, and its report.
-const REPORTS: [(&str, &str); 5] = [
+const REPORTS: &[(&str, &str)] = &[
     (
         "Inport a OutDataTypeStr=int32; UnitDelay d InitialCondition=7; Outport o; a 1 > d 1; d 1 > o 1",
         "system top inputs 1 outputs 1 functions 1\nout 1 needs none outputs 1\nsystems 1\n",
@@ -56,76 +54,9 @@ const REPORTS: [(&str, &str); 5] = [
 ];
 
 #[test]
-fn reports(rt: HostRuntime) -> Result<(), Fail> {
-    for &(parts, report) in &REPORTS {
-        let told = profiled(rt.alloc(), parts)?;
-        assert!(rt; told.ended_with(0, report.as_bytes(), 0), "{parts}");
+fn reports_of_models(rt: HostRuntime) -> Result<(), Fail> {
+    for &(parts, report) in REPORTS {
+        assert!(rt; reports(rt.alloc(), parts, report)?, "{parts}");
     }
-    Ok(())
-}
-
-#[test]
-fn refused_models(rt: HostRuntime) -> Result<(), Fail> {
-    for &(model, line) in &[
-        (models::SCOPE, "refused F7 Unsupported line 11\n"),
-        (
-            "Model {\n  Name \"on",
-            "refused F2 Syntax line 2 OpenString\n",
-        ),
-        ("", "refused F3 NoModel line 0\n"),
-    ] {
-        let told = called(
-            rt.alloc(),
-            "profile a.mdl",
-            model.as_bytes(),
-            &[],
-            &[],
-            4096,
-        )?;
-        assert!(rt; told.ended_with(3, line.as_bytes(), 0), "{line}");
-    }
-    Ok(())
-}
-
-// The calls 0 to 2 of the host read the model.
-#[test]
-fn faults_of_profiles(rt: HostRuntime) -> Result<(), Fail> {
-    let report =
-        "system top inputs 1 outputs 1 functions 1\nout 1 needs none outputs 1\nsystems 1\n";
-    for &(line, fails, put_fails, status, text) in &[
-        (
-            "profile b.mdl",
-            &[] as &[u64],
-            &[] as &[u64],
-            5,
-            "read fault\n",
-        ),
-        ("profile a.mdl", &[0], &[], 5, "read fault\n"),
-        ("profile a.mdl", &[1], &[], 5, "read fault\n"),
-        ("profile a.mdl", &[2], &[], 5, "read fault\n"),
-        ("profile a.mdl", &[3], &[], 0, report),
-        ("profile a.mdl", &[], &[0], 7, ""),
-        ("profile a.mdl", &[], &[1], 0, report),
-    ] {
-        let told = called(rt.alloc(), line, models::ONE_DELAY, fails, put_fails, 4096)?;
-        assert!(rt; told.ended_with(status, text.as_bytes(), 0), "{line}");
-    }
-    Ok(())
-}
-
-#[test]
-fn a_report_that_is_cut(rt: HostRuntime) -> Result<(), Fail> {
-    let line = "profile a.mdl";
-    let cut = called(rt.alloc(), line, models::ONE_DELAY, &[], &[1], 10)?;
-    assert!(rt; cut.ended_with(7, b"system top".as_slice(), 0));
-    Ok(())
-}
-
-#[test]
-fn a_profile_over_sure_ends(rt: HostRuntime) -> Result<(), Fail> {
-    let alloc = rt.alloc();
-    let words = words_of(alloc, "profile a.mdl")?;
-    let files = model_file(alloc, models::ONE_DELAY)?;
-    assert_eq!(rt; run_surely(alloc, &words, files), 0);
     Ok(())
 }
