@@ -1,16 +1,13 @@
-ghost use Rattle.c_blocks.specs.Resolved.{IsRowOp};
-
 use c_blocks::{
     ControlLeaves, RingFields, active_by, call_statements, disabled_by, hit_test, level_code,
     memory_statements, off_by, oldest_code, reset_call_statements, ring_statements,
     trigger_statements, value_code, value_reset_statements, value_statements,
 };
 use c_syntax::{BinOp, Cond, Expr, Leaf, Stmt, Target};
-use mc_base::{Control, Decimal, Edge, Memory};
-use mc_blocks::{Criterion, How, Kind, Op, resolve};
+use mc_base::{Control, Decimal, Edge};
+use mc_blocks::{Criterion, How, Kind, resolve};
 use mc_diagram::Time;
 use mc_fixed::{FixType, Over, Round};
-use std::alloc::Global;
 use std::test::Fail;
 
 const INT8: FixType = FixType {
@@ -25,12 +22,6 @@ const INT16: FixType = FixType {
     frac: 0,
 };
 
-const UINT8: FixType = FixType {
-    signed: false,
-    bits: 8,
-    frac: 0,
-};
-
 const WRAPPED: How = How {
     round: Round::Floor,
     over: Over::Wrap,
@@ -42,84 +33,59 @@ const LEAVES: ControlLeaves = ControlLeaves {
     remembers: Leaf::Own(0),
 };
 
-const RING: RingFields = RingFields {
-    items: 1,
-    place: 2,
-    taken: 3,
-};
-
-// What an expression is at its top.
-fn top_of(code: Expr) -> &'static str {
-    match code {
-        Expr::Read(Leaf::Param(1)) => "parameter 1",
-        Expr::Read(Leaf::Own(4)) => "field 4",
-        Expr::Binary(BinOp::Add, _, _) => "sum",
-        Expr::Pure(7, _) => "pure function 7",
-        Expr::Pick(_, _, _) => "choice",
-        _ => "another",
-    }
+#[test]
+fn a_hold_reads_its_input(rt: HostRuntime) -> Result<(), Fail> {
+    let op = resolve(&Kind::ZeroOrderHold, &[], INT8, false);
+    let code = value_code(
+        rt.alloc(),
+        &op,
+        &[Leaf::Param(1)],
+        &[INT8],
+        Expr::Read(Leaf::Own(4)),
+    )?;
+    assert!(rt; matches!(code, Expr::Read(Leaf::Param(1))));
+    Ok(())
 }
 
-// What the code of a value is at its top. The memory is field 4.
-fn value_top(
-    alloc: Global,
-    op: &Op,
-    inputs: &[Leaf],
-    types: &[FixType],
-) -> Result<&'static str, Memory>
-    requires { IsRowOp op.now }
-{
-    let memory = Expr::Read(Leaf::Own(4));
-    Ok(top_of(value_code(alloc, op, inputs, types, memory)?))
-}
-
-// What the codes of some blocks, of the oldest item of a ring and of the level of a trigger are at their tops.
-fn tops(alloc: Global) -> Result<[&'static str; 9], Memory> {
-    let leaves = [Leaf::Param(1), Leaf::Param(2), Leaf::Param(3)];
-    let hold = resolve(&Kind::ZeroOrderHold, &[], INT8, false);
+#[test]
+fn a_delay_reads_its_memory(rt: HostRuntime) -> Result<(), Fail> {
     let initial = Decimal { num: 7, den: 1 };
-    let delay = resolve(&Kind::UnitDelay { initial }, &[], INT8, false);
-    let wider = resolve(&Kind::Convert(WRAPPED), &[INT8], INT16, false);
-    let kind = Kind::Sum {
-        count: 2,
-        minus: 2,
-        how: WRAPPED,
-    };
-    let sum = resolve(&kind, &[INT8, INT8], INT16, false);
-    let kind = Kind::Switch {
-        criterion: Criterion::Ge,
-        threshold: Decimal { num: 0, den: 1 },
-        how: WRAPPED,
-    };
-    let switch = resolve(&kind, &[UINT8, UINT8, UINT8], UINT8, false);
-    Ok([
-        value_top(alloc, &hold, &leaves[..1], &[INT8])?,
-        value_top(alloc, &delay, &leaves[..1], &[INT8])?,
-        value_top(alloc, &wider, &leaves[..1], &[INT8])?,
-        value_top(alloc, &sum, &leaves[..2], &[INT8, INT8])?,
-        value_top(alloc, &sum, &leaves[..2], &[])?,
-        value_top(alloc, &switch, &leaves, &[UINT8, UINT8, UINT8])?,
-        value_top(alloc, &switch, &leaves, &[])?,
-        top_of(oldest_code(alloc, RING, 3, 7)?),
-        top_of(level_code(alloc, Leaf::Param(2))?),
-    ])
+    let op = resolve(&Kind::UnitDelay { initial }, &[], INT8, false);
+    let code = value_code(
+        rt.alloc(),
+        &op,
+        &[Leaf::Param(1)],
+        &[INT8],
+        Expr::Read(Leaf::Own(4)),
+    )?;
+    assert!(rt; matches!(code, Expr::Read(Leaf::Own(4))));
+    Ok(())
 }
 
-// What a test asks.
-fn asked(test: Option<Cond>) -> &'static str {
-    match test {
-        None => "nothing",
-        Some(Cond::Both(_, _)) => "both",
-        Some(_) => "one",
-    }
+#[test]
+fn nothing_is_asked_of_a_plain_subsystem(rt: HostRuntime) -> Result<(), Fail> {
+    assert!(rt; active_by(rt.alloc(), Control::Plain, LEAVES)?.is_none());
+    assert!(rt; off_by(rt.alloc(), Control::Plain, LEAVES)?.is_none());
+    assert!(rt; disabled_by(rt.alloc(), Control::Plain, LEAVES)?.is_none());
+    Ok(())
 }
 
-// What is asked of systems without controls and with both, and of ticks.
-fn tests(alloc: Global) -> Result<[&'static str; 7], Memory> {
+#[test]
+fn an_enable_and_a_trigger_are_both_asked(rt: HostRuntime) -> Result<(), Fail> {
     let both = Control::Both {
         reset: false,
         edge: Edge::Rising,
     };
+    let active = active_by(rt.alloc(), both, LEAVES)?;
+    assert!(rt; matches!(active, Some(Cond::Both(_, _))));
+    assert!(rt; off_by(rt.alloc(), both, LEAVES)?.is_none());
+    let level = level_code(rt.alloc(), Leaf::Param(2))?;
+    assert!(rt; matches!(level, Expr::Pick(_, _, _)));
+    Ok(())
+}
+
+#[test]
+fn every_tick_is_a_hit_of_period_1(rt: HostRuntime) -> Result<(), Fail> {
     let every = Time {
         period: 1,
         offset: 0,
@@ -128,96 +94,118 @@ fn tests(alloc: Global) -> Result<[&'static str; 7], Memory> {
         period: 3,
         offset: 2,
     };
-    Ok([
-        asked(active_by(alloc, Control::Plain, LEAVES)?),
-        asked(off_by(alloc, Control::Plain, LEAVES)?),
-        asked(disabled_by(alloc, Control::Plain, LEAVES)?),
-        asked(active_by(alloc, both, LEAVES)?),
-        asked(off_by(alloc, both, LEAVES)?),
-        asked(hit_test(alloc, every, Leaf::Param(0))?),
-        asked(hit_test(alloc, third, Leaf::Param(0))?),
-    ])
+    assert!(rt; hit_test(rt.alloc(), every, Leaf::Param(0))?.is_none());
+    assert!(rt; hit_test(rt.alloc(), third, Leaf::Param(0))?.is_some());
+    Ok(())
 }
 
-// What the first of some statements does, and the field that it stores or the procedure that it calls.
-fn first_of(statements: Vec<Stmt>) -> (&'static str, u32) {
-    match statements.as_slice() {
-        [] => ("nothing", 0),
-        [Stmt::Set { field, .. }, ..] => ("a store", *field),
-        [Stmt::SetAt { field, .. }, _, _] => ("a store of an item, and two more", *field),
-        [
-            Stmt::Call {
-                procedure,
-                target: Target::Child(8),
-                ..
-            },
-            ..,
-        ] => ("a call on field 8", *procedure),
-        _ => ("another", 0),
-    }
-}
+const RING: RingFields = RingFields {
+    items: 1,
+    place: 2,
+    taken: 3,
+};
 
-// What the first statements are for a value, its reset, a memory, a level, a ring, a child and its reset.
-fn firsts(alloc: Global) -> Result<[(&'static str, u32); 7], Memory> {
-    let input = Leaf::Param(1);
-    Ok([
-        first_of(value_statements(alloc, 4, None, Expr::Literal(1))?),
-        first_of(value_reset_statements(alloc, 4, None, 7)?),
-        first_of(memory_statements(alloc, 5, None, input, None, 7)?),
-        first_of(trigger_statements(alloc, 6, Leaf::Param(2))?),
-        first_of(ring_statements(alloc, RING, 3, None, input, None)?),
-        first_of(call_statements(alloc, None, 9, 8, &[Leaf::Param(0)])?),
-        first_of(reset_call_statements(alloc, None, 9, 8)?),
-    ])
+#[test]
+fn a_wider_type_holds_each_number(rt: HostRuntime) -> Result<(), Fail> {
+    let op = resolve(&Kind::Convert(WRAPPED), &[INT8], INT16, false);
+    let nothing = Expr::Literal(0);
+    let code = value_code(rt.alloc(), &op, &[Leaf::Param(1)], &[INT8], nothing)?;
+    assert!(rt; matches!(code, Expr::Read(Leaf::Param(1))));
+    Ok(())
 }
 
 #[test]
-fn codes_of_blocks(rt: HostRuntime) -> Result<(), Fail> {
-    assert_eq!(rt;
-        tops(rt.alloc())?,
-        [
-            // A hold reads its input, and a delay its memory.
-            "parameter 1",
-            "field 4",
-            // A wider type holds each number.
-            "parameter 1",
-            // A sum that fits is not brought into its type, where the types are known.
-            "sum",
-            "pure function 7",
-            // A switch at an end of a type asks nothing, where the types are known.
-            "parameter 1",
-            "choice",
-            // the oldest item of a ring, and the level of a trigger
-            "choice",
-            "choice",
-        ]
+fn a_sum_that_fits_is_not_brought_into_its_type(rt: HostRuntime) -> Result<(), Fail> {
+    let kind = Kind::Sum {
+        count: 2,
+        minus: 2,
+        how: WRAPPED,
+    };
+    let types = [INT8, INT8];
+    let leaves = [Leaf::Param(1), Leaf::Param(2)];
+    let op = resolve(&kind, &types, INT16, false);
+    let known = value_code(rt.alloc(), &op, &leaves, &types, Expr::Literal(0))?;
+    assert!(rt; matches!(known, Expr::Binary(BinOp::Add, _, _)));
+    let unknown = value_code(rt.alloc(), &op, &leaves, &[], Expr::Literal(0))?;
+    assert!(rt; matches!(unknown, Expr::Pure(7, _)));
+    Ok(())
+}
+
+#[test]
+fn a_switch_at_an_end_of_a_type_asks_nothing(rt: HostRuntime) -> Result<(), Fail> {
+    let uint8 = FixType {
+        signed: false,
+        bits: 8,
+        frac: 0,
+    };
+    let kind = Kind::Switch {
+        criterion: Criterion::Ge,
+        threshold: Decimal { num: 0, den: 1 },
+        how: How {
+            round: Round::Floor,
+            over: Over::Wrap,
+        },
+    };
+    let types = [uint8, uint8, uint8];
+    let leaves = [Leaf::Param(1), Leaf::Param(2), Leaf::Param(3)];
+    let op = resolve(&kind, &types, uint8, false);
+    let known = value_code(rt.alloc(), &op, &leaves, &types, Expr::Literal(0))?;
+    assert!(rt; matches!(known, Expr::Read(Leaf::Param(1))));
+    let unknown = value_code(rt.alloc(), &op, &leaves, &[], Expr::Literal(0))?;
+    assert!(rt; matches!(unknown, Expr::Pick(_, _, _)));
+    Ok(())
+}
+
+/// The field in which the first of these statements stores a number.
+fn stored_first(statements: &[Stmt]) -> Option<u32> {
+    match statements.first() {
+        Some(Stmt::Set { field, .. }) => Some(*field),
+        _ => None,
+    }
+}
+
+#[test]
+fn a_value_is_stored_once(rt: HostRuntime) -> Result<(), Fail> {
+    let alloc = rt.alloc();
+    let always = value_statements(alloc, 4, None, Expr::Literal(1))?;
+    assert_eq!(rt; stored_first(&always), Some(4));
+    assert!(rt; value_reset_statements(alloc, 4, None, 7)?.is_empty());
+    Ok(())
+}
+
+#[test]
+fn a_memory_is_stored(rt: HostRuntime) -> Result<(), Fail> {
+    let memory = memory_statements(rt.alloc(), 5, None, Leaf::Param(1), None, 7)?;
+    assert_eq!(rt; stored_first(&memory), Some(5));
+    Ok(())
+}
+
+#[test]
+fn a_level_is_stored(rt: HostRuntime) -> Result<(), Fail> {
+    let level = trigger_statements(rt.alloc(), 6, Leaf::Param(2))?;
+    assert_eq!(rt; stored_first(&level), Some(6));
+    Ok(())
+}
+
+#[test]
+fn a_ring_stores_its_item_first(rt: HostRuntime) -> Result<(), Fail> {
+    let alloc = rt.alloc();
+    let oldest = oldest_code(alloc, RING, 3, 7)?;
+    assert!(rt; matches!(oldest, Expr::Pick(_, _, _)));
+    let stores = ring_statements(alloc, RING, 3, None, Leaf::Param(1), None)?;
+    assert!(rt; matches!(stores.first(), Some(Stmt::SetAt { field: 1, .. })));
+    assert_eq!(rt; stores.len(), 3);
+    Ok(())
+}
+
+#[test]
+fn a_child_is_called_on_its_field(rt: HostRuntime) -> Result<(), Fail> {
+    let alloc = rt.alloc();
+    let call = call_statements(alloc, None, 9, 8, &[Leaf::Param(0)])?;
+    let target = Target::Child(8);
+    assert!(rt;
+        matches!(call.first(), Some(Stmt::Call { procedure: 9, target: found, .. }) if *found == target)
     );
-    assert_eq!(rt;
-        tests(rt.alloc())?,
-        [
-            // Nothing is asked of a plain subsystem.
-            "nothing", "nothing", "nothing",
-            // An enable and a trigger are both asked, and nothing where they are off.
-            "both", "nothing",
-            // Every tick is a hit of period 1.
-            "nothing", "one",
-        ]
-    );
-    assert_eq!(rt;
-        firsts(rt.alloc())?,
-        [
-            // A value is stored once.
-            ("a store", 4),
-            ("nothing", 0),
-            // A memory and a level are stored.
-            ("a store", 5),
-            ("a store", 6),
-            // A ring stores its item first.
-            ("a store of an item, and two more", 1),
-            // A child is called on its field.
-            ("a call on field 8", 9),
-            ("nothing", 0),
-        ]
-    );
+    assert!(rt; reset_call_statements(alloc, None, 9, 8)?.is_empty());
     Ok(())
 }

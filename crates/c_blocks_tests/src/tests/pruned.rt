@@ -58,30 +58,33 @@ fn program(alloc: Global) -> Result<Program, Memory> {
     })
 }
 
-/// The names of both functions that a program has, and the functions that the last of them and the one procedure call.
-fn seen(program: &Program) -> Option<([&[u8]; 2], [u32; 2])> {
-    let [first, last] = program.pure.as_slice() else {
-        return None;
-    };
-    let [step] = program.procedures.as_slice() else {
-        return None;
-    };
-    let [Stmt::Set { value, .. }] = step.body.as_slice() else {
-        return None;
-    };
-    match (&last.body, value) {
-        (Expr::Pure(of_last, _), Expr::Pure(of_step, _)) => Some((
-            [first.name.bytes(), last.name.bytes()],
-            [*of_last, *of_step],
-        )),
-        _ => None,
-    }
-}
-
 // The first and the third go; the second is called by its new position 0, and the last by 1.
 #[test]
 fn two_functions_stay(rt: HostRuntime) -> Result<(), Fail> {
     let kept = pruned(rt.alloc(), program(rt.alloc())?)?;
-    assert_eq!(rt; seen(&kept), Some(([b"b", b"d"], [0, 1])));
+    let [second, last] = kept.pure.as_slice() else {
+        return Err(Fail::from("two functions"));
+    };
+    let names = (second.name.bytes(), last.name.bytes());
+    assert_eq!(rt; names, (b"b".as_slice(), b"d".as_slice()));
+    assert!(rt; matches!(last.body, Expr::Pure(0, _)));
+    Ok(())
+}
+
+#[test]
+fn a_procedure_calls_by_the_new_position(rt: HostRuntime) -> Result<(), Fail> {
+    let kept = pruned(rt.alloc(), program(rt.alloc())?)?;
+    let [step] = kept.procedures.as_slice() else {
+        return Err(Fail::from("one procedure"));
+    };
+    assert!(rt;
+        matches!(
+            step.body.as_slice(),
+            [Stmt::Set {
+                value: Expr::Pure(1, _),
+                ..
+            }]
+        )
+    );
     Ok(())
 }

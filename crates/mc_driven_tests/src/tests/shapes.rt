@@ -63,10 +63,9 @@ fn seen(shape: &DriveShape) -> Seen<'_> {
     )
 }
 
+// Each output is of one function, which takes one input.
 #[test]
-fn shapes_of_systems(rt: HostRuntime) -> Result<(), Fail> {
-    // Each output is of one function, which takes one input.
-    let crossed = shape(rt.alloc(), CROSSED_PORTS, "1")?;
+fn shape_of_crossed_ports(rt: HostRuntime) -> Result<(), Fail> {
     let functions = [
         Function {
             inputs: 0b01,
@@ -77,42 +76,52 @@ fn shapes_of_systems(rt: HostRuntime) -> Result<(), Fail> {
             outputs: 0b10,
         },
     ];
-    let of_crossed: Seen = (
+    let wanted: Seen = (
         (b"s1", Some(1), 1),
         &functions,
         &[INT32, INT32],
         &[],
         (2, Some(b"v4"), Some(b"v5")),
     );
-    // The one function takes the input and both controls, the enable first.
-    let both = shape(rt.alloc(), BOTH_CONTROLS, "3")?;
+    let shape = shape(rt.alloc(), CROSSED_PORTS, "1")?;
+    assert_eq!(rt; seen(&shape), wanted);
+    Ok(())
+}
+
+// The one function takes the input and both controls, the enable first.
+#[test]
+fn shape_with_both_controls(rt: HostRuntime) -> Result<(), Fail> {
     let function = Function {
         inputs: 1 | 1 << 32 | 1 << 33,
         outputs: 1,
     };
-    let of_both: Seen = (
+    let wanted: Seen = (
         (b"s3", Some(3), 1),
         &[function],
         &[INT16],
         &[(Port::Enable, BOOLEAN), (Port::Trigger, UINT8)],
         (1, Some(b"v7"), Some(b"v7")),
     );
-    // The root has no controls; its inputs are those of the file, by port.
-    let root = shape(rt.alloc(), BOTH_CONTROLS, "top")?;
+    let shape = shape(rt.alloc(), BOTH_CONTROLS, "3")?;
+    assert_eq!(rt; seen(&shape), wanted);
+    Ok(())
+}
+
+// The root has no controls; its inputs are those of the file, by port.
+#[test]
+fn shape_of_a_root(rt: HostRuntime) -> Result<(), Fail> {
     let function = Function {
         inputs: 0b111,
         outputs: 1,
     };
-    let of_root: Seen = (
+    let wanted: Seen = (
         (b"top", None, 1),
         &[function],
         &[INT16, BOOLEAN, UINT8],
         &[],
         (1, Some(b"v8"), Some(b"v8")),
     );
-    assert_eq!(rt;
-        (seen(&crossed), seen(&both), seen(&root)),
-        (of_crossed, of_both, of_root)
-    );
+    let shape = shape(rt.alloc(), BOTH_CONTROLS, "top")?;
+    assert_eq!(rt; seen(&shape), wanted);
     Ok(())
 }

@@ -6,7 +6,7 @@ use std::test::Fail;
 #[test]
 fn words_of_systems(rt: HostRuntime) -> Result<(), Fail> {
     let r = resolved(rt.alloc(), CROSSED_PORTS)?;
-    for &(word, expected) in &[
+    for (word, expected) in [
         ("top", Some(System { row: None })),
         ("1", Some(System { row: Some(1) })),
         ("01", None),
