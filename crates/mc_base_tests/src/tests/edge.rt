@@ -87,9 +87,9 @@ fn a_file_is_read_whole_or_not(rt: HostRuntime) -> Result<(), Fail> {
     Ok(())
 }
 
-// Whether all of the text is written to a file where this call fails, how many files are written and how many calls failed for
-// want of memory, and the names of the files with their bytes.
-fn written(alloc: Global, fail: u64) -> Result<(bool, usize, u64, Vec<u8>), AllocError> {
+// Whether a text is written to a file where this call fails, whole where it is none of them, so that so many files are written, whose
+// names and bytes are these, and no call fails for want of memory.
+fn is_written(alloc: Global, fail: u64, files: usize, want: &str) -> Result<bool, AllocError> {
     let mut host = host_of(alloc, &[fail], 16)?;
     let is_whole = write_all(&mut host, "c", TEXT).is_ok();
     let mut bytes = Vec::new(alloc);
@@ -97,14 +97,19 @@ fn written(alloc: Global, fail: u64) -> Result<(bool, usize, u64, Vec<u8>), Allo
         bytes.extend_from_slice(file.0.as_bytes())?;
         bytes.extend_from_slice(&file.1)?;
     }
-    Ok((is_whole, host.written().len(), host.refused(), bytes))
+    Ok(
+        is_whole == (fail == 9)
+            && host.written().len() == files
+            && host.refused() == 0
+            && bytes.as_slice() == want.as_bytes(),
+    )
 }
 
-// Whether all of the text is put where this call fails, how many calls failed for want of memory, and what is put.
-fn put(alloc: Global, fail: u64) -> Result<(bool, u64, Vec<u8>), AllocError> {
+// Whether a text is put so where this call fails, whole where it is none of them, and no call fails for want of memory.
+fn is_put(alloc: Global, fail: u64, want: &str) -> Result<bool, AllocError> {
     let mut sink = MemSink::new(alloc, [fail].to_vec(alloc)?, 16);
     let is_whole = put_all(&mut sink, TEXT).is_ok();
-    Ok((is_whole, sink.refused(), sink.bytes().to_vec(alloc)?))
+    Ok(is_whole == (fail == 9) && sink.refused() == 0 && sink.bytes() == want.as_bytes())
 }
 
 #[test]
@@ -116,12 +121,7 @@ fn texts_are_written_whole_or_their_fronts(rt: HostRuntime) -> Result<(), Fail> 
         (1, 1, "c"),
         (0, 0, ""),
     ] {
-        let (is_whole, count, refused, bytes) = written(rt.alloc(), fail)?;
-        assert_eq!(rt;
-            (is_whole, count, refused, bytes.as_slice()),
-            (fail == 9, files, 0, want.as_bytes()),
-            "{fail}"
-        );
+        assert!(rt; is_written(rt.alloc(), fail, files, want)?, "{fail}");
     }
     Ok(())
 }
@@ -133,12 +133,7 @@ fn texts_are_put_whole_or_their_fronts(rt: HostRuntime) -> Result<(), Fail> {
         (2, "Model {\n}\n and forty bytes of a "),
         (0, ""),
     ] {
-        let (is_whole, refused, bytes) = put(rt.alloc(), fail)?;
-        assert_eq!(rt;
-            (is_whole, refused, bytes.as_slice()),
-            (fail == 9, 0, want.as_bytes()),
-            "{fail}"
-        );
+        assert!(rt; is_put(rt.alloc(), fail, want)?, "{fail}");
     }
     Ok(())
 }
