@@ -1,8 +1,9 @@
 -- Calls of groups whose parameters stand in a list by their numbers, and the functions that consist of them.
 use Rattle.std.specs.List.{range_with_len}
-use Rattle.std.proofs.Common.{◌≡◌, refl, ap, ap₂, ◌∙◌, ℕ, ◌<◌, List, [], ◌∷◌, map, length, All, slice_index_or, false, arith}
+use Rattle.std.proofs.Common.{◌≡◌, refl, ap, ap₂, ◌∙◌, ℕ, ◌<◌, List, [], ◌∷◌, map, length, All, get_or, slice_index_or, false, zero-add, arith}
+use Rattle.std.proofs.lemmas.List.{get_or-map}
 use Rattle.std.proofs.lemmas.List.Elements.{All-head, All-tail}
-use Rattle.std.proofs.lemmas.List.FromFn.{length-map-range_with_len}
+use Rattle.std.proofs.lemmas.List.FromFn.{get_or-range_with_len, length-map-range_with_len, length-range_with_len}
 use Rattle.mc_profile.specs.LocalSystem.{LocalSystem}
 use Rattle.mc_profile.specs.SystemProfile.{SystemProfile}
 use Rattle.mc_profile.specs.Locals.{own_header}
@@ -11,7 +12,12 @@ use Rattle.c_syntax.specs.Tree.{StmtTree, ParamTree, ProcedureTree, stmts_of_lis
 use Rattle.c_shape.specs.Heads.{out_head}
 use Rattle.c_shape.specs.Names.{out_name}
 use Rattle.c_system.specs.EmittedCode.{with_body, own_call, group_params, function_procedure}
-use Rattle.c_emission.proofs.Loops.{get_or_mapped_range}
+
+-- what stands at a number is what was made for it
+pub get_or_mapped_range : {A : Type 0} (f : ℕ → A) (n k : ℕ) (d : A) → k < n → get_or (map f (range_with_len 0 n)) k d ≡ f k
+get_or_mapped_range f n k d inside =
+    let within : k < length (range_with_len 0 n) = let l = length-range_with_len 0 n in omega (arith, l, inside) in
+    get_or-map f (range_with_len 0 n) k 0 d within ∙ ap f (get_or-range_with_len 0 n k 0 inside ∙ zero-add k)
 
 -- what is taken from the list is what the list was made by
 taken_from_range : {A B : Type 0} (made : ℕ → A → B) (f : ℕ → A) (n : ℕ) (list : List A) (d : A) (called : List ℕ) →

@@ -1,7 +1,6 @@
-pub mod Joined
-pub mod Steps
-pub mod Loops
-pub mod CodeGroups
-pub mod Agreed
+mod Placed
+mod Pieces
+mod CodeGroups
+mod Agreed
 mod GroupCalls
 mod WholeCode

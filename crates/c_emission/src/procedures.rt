@@ -8,14 +8,13 @@ ghost use Rattle.c_system.specs.EmittedCode as emitted;
 ghost use Rattle.c_system.specs.Emittable.{IsEmittable};
 ghost use Rattle.c_system.specs.Groups.{own_count};
 ghost use Rattle.c_system.specs.Renewing as renewing;
+ghost use Rattle.c_nodes.specs.Code.{code_of};
 ghost use Rattle.c_emission.specs.Agreeing.{AgreeOnFunctions};
-ghost use Rattle.c_emission.specs.Code.{code_of};
 
-use crate::calls::{counted, own_calls};
-use crate::nodes::nodes_code;
 use crate::renewal::{reset_body, start_body};
 use crate::update::update_body;
 use c_layout::{Layout, Params, group_name, out_name, reset_name, start_name, update_name};
+use c_nodes::{counted, nodes_code, own_calls};
 use c_syntax::{CType, Procedure, Stmt};
 use mc_base::{Memory, Text};
 use mc_schedule::NodeList;

@@ -6,9 +6,8 @@ ghost use Rattle.c_system.specs.Emittable.{IsEmittable};
 ghost use Rattle.c_system.specs.Groups.{own_count};
 ghost use Rattle.c_system.specs.Renewing as renewing;
 
-use crate::children::update_number;
-use crate::stores::{counter_stores, push_memory_starts, push_value_starts};
 use c_layout::Layout;
+use c_nodes::{counter_stores, push_memory_starts, push_value_starts, update_number};
 use c_syntax::{Stmt, Target};
 use mc_base::Memory;
 use mc_profile::ChildUse;

@@ -8,14 +8,12 @@ ghost use Rattle.c_system.specs.EmittedCode as emitted;
 ghost use Rattle.c_system.specs.Emittable.{IsEmittable, IsWritableRow};
 ghost use Rattle.c_system.specs.Groups.{own_count};
 ghost use Rattle.c_system.specs.NodeCode as node;
-ghost use Rattle.c_emission.specs.Code.{code_of};
+ghost use Rattle.c_nodes.specs.Code.{code_of};
 
-use crate::children::{reset_code, update_code};
-use crate::lists::push_code;
-use crate::nodes::nodes_code;
-use crate::rows::{memory_code, trigger_code};
-use crate::stores::counter_stores;
 use c_layout::{Layout, Params, is_delay, is_triggered};
+use c_nodes::{
+    counter_stores, memory_code, nodes_code, push_code, reset_code, trigger_code, update_code,
+};
 use c_syntax::Stmt;
 use mc_base::Memory;
 use mc_profile::{ChildUse, LocalRow};

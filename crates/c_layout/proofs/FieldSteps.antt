@@ -21,6 +21,17 @@ field-more list new f before front pushed kept =
     ap field_trees pushed ∙ map-append field_tree list (f ∷ []) ∙ ap (λ l. l ++ field_tree f ∷ []) kept
     ∙ append_assoc before front (field_tree f ∷ [])
 
+pub field-pushed : (list new : List Field) (f : Field) (field : FieldTree) → new ≡ list ++ f ∷ [] → field_tree f ≡ field →
+    field_trees new ≡ field_trees list ++ field ∷ []
+field-pushed list new f field pushed told =
+    ap field_trees pushed ∙ map-append field_tree list (f ∷ []) ∙ ap (λ t. field_trees list ++ t ∷ []) told
+
+pub three-pushed : (before : List FieldTree) (a b c : FieldTree) (one two three : List FieldTree) → one ≡ before ++ a ∷ [] → two ≡ one ++ b ∷ [] →
+    three ≡ two ++ c ∷ [] → three ≡ before ++ a ∷ b ∷ c ∷ []
+three-pushed before a b c one two three first second third =
+    third ∙ ap (λ l. l ++ c ∷ []) (second ∙ ap (λ l. l ++ b ∷ []) first ∙ append_assoc before (a ∷ []) (b ∷ []))
+    ∙ append_assoc before (a ∷ b ∷ []) (c ∷ [])
+
 -- ---- All fields
 
 map-flat : {A B C : Type 0} (g : B → C) (f : A → List B) (xs : List A) → map g (flat_map f xs) ≡ flat_map (λ x. map g (f x)) xs

@@ -7,3 +7,4 @@ mod Bases
 mod CallCounts
 mod ParamNames
 mod FieldSteps
+mod WireTypes

@@ -1,9 +1,9 @@
 -- Lists that a loop makes, one step on.
-use Rattle.std.proofs.Common.{◌≡◌, ℕ, zero, suc, ◌+◌, ◌<◌, ◌≤◌, Bool, true, false, cond, List, [], ◌∷◌, ◌++◌, map, filter, find, length, get_or, take, Option, Some, None, refl, sym, ap, ◌∙◌, arith}
+use Rattle.std.proofs.Common.{◌≡◌, ℕ, zero, suc, ◌+◌, ◌<◌, ◌≤◌, Bool, true, false, cond, List, [], ◌∷◌, ◌++◌, map, filter, find, length, get_or, take, Option, Some, None, refl, sym, ap, ◌∙◌, append-nil, append_assoc, arith}
 use Rattle.std.specs.List.{range_with_len, enumerate_from, flat_map, filter_map, cons_option, position_from}
 use Rattle.std.specs.Option.{option_to_list, option_or, unwrap_or}
-use Rattle.std.proofs.lemmas.List.{map-append, length-take-le, take_more, flat_map_more}
-use Rattle.std.proofs.lemmas.List.Elements.{filter-append, filter_map-append}
+use Rattle.std.proofs.lemmas.List.{map-append, map_more, length-take-le, take_more, flat_map_more}
+use Rattle.std.proofs.lemmas.List.Elements.{filter-append, filter_more, filter_map-append}
 use Rattle.std.proofs.lemmas.List.Folds.{find-append}
 
 -- ---- Numbers from one on
@@ -110,3 +110,48 @@ place-map t f n (x ∷ xs) = ap (cond (t (f x)) (Some n)) (place-map t f (n + 1)
 pub map-map : {A B C : Type 0} (g : B → C) (f : A → B) (xs : List A) → map g (map f xs) ≡ map (λ x. g (f x)) xs
 map-map g f [] = refl
 map-map g f (x ∷ xs) = ap (λ ys. g (f x) ∷ ys) (map-map g f xs)
+
+-- ---- What a loop pushes, behind what stood there before
+
+-- of each member one
+pub mapped-next : {A B : Type 0} (f : A → B) (xs : List A) (i : ℕ) (x : A) (before so_far now : List B) → i < length xs →
+    x ≡ get_or xs i x → so_far ≡ before ++ map f (take i xs) → now ≡ so_far ++ f x ∷ [] → now ≡ before ++ map f (take (i + 1) xs)
+mapped-next f xs i x before so_far now inside read is pushed =
+    pushed ∙ ap (λ ys. ys ++ f x ∷ []) is ∙ append_assoc before (map f (take i xs)) (f x ∷ [])
+    ∙ ap (λ y. before ++ (map f (take i xs) ++ f y ∷ [])) read ∙ ap (λ ys. before ++ ys) (sym (map_more f xs i x inside))
+
+filter-next : {A : Type 0} (p : A → Bool) (xs : List A) (i : ℕ) (x : A) (t : Bool) → i < length xs → x ≡ get_or xs i x → p x ≡ t →
+    filter p (take (i + 1) xs) ≡ filter p (take i xs) ++ cond t (x ∷ []) []
+filter-next p xs i x t inside read told =
+    filter_more p xs i x inside ∙ ap (λ y. filter p (take i xs) ++ cond (p y) (y ∷ []) []) (sym read)
+    ∙ ap (λ b. filter p (take i xs) ++ cond b (x ∷ []) []) told
+
+-- of each member that passes a test one
+pub passed-then : {A B : Type 0} (p : A → Bool) (f : A → B) (xs : List A) (i : ℕ) (x : A) (before so_far now : List B) → i < length xs →
+    x ≡ get_or xs i x → p x ≡ true → so_far ≡ before ++ map f (filter p (take i xs)) → now ≡ so_far ++ f x ∷ [] →
+    now ≡ before ++ map f (filter p (take (i + 1) xs))
+passed-then p f xs i x before so_far now inside read told is pushed =
+    pushed ∙ ap (λ ys. ys ++ f x ∷ []) is ∙ append_assoc before (map f (filter p (take i xs))) (f x ∷ [])
+    ∙ ap (λ ys. before ++ ys) (sym (ap (map f) (filter-next p xs i x true inside read told)
+    ∙ map-append f (filter p (take i xs)) (x ∷ [])))
+
+pub passed-else : {A B : Type 0} (p : A → Bool) (f : A → B) (xs : List A) (i : ℕ) (x : A) (before so_far : List B) → i < length xs →
+    x ≡ get_or xs i x → p x ≡ false → so_far ≡ before ++ map f (filter p (take i xs)) →
+    so_far ≡ before ++ map f (filter p (take (i + 1) xs))
+passed-else p f xs i x before so_far inside read told is =
+    is ∙ ap (λ ys. before ++ map f ys) (sym (filter-next p xs i x false inside read told ∙ append-nil (filter p (take i xs))))
+
+-- of each member that passes a test several
+pub several-then : {A B : Type 0} (p : A → Bool) (f : A → List B) (xs : List A) (i : ℕ) (x : A) (before so_far now : List B) →
+    i < length xs → x ≡ get_or xs i x → p x ≡ true → so_far ≡ before ++ flat_map f (filter p (take i xs)) → now ≡ so_far ++ f x →
+    now ≡ before ++ flat_map f (filter p (take (i + 1) xs))
+several-then p f xs i x before so_far now inside read told is pushed =
+    pushed ∙ ap (λ ys. ys ++ f x) is ∙ append_assoc before (flat_map f (filter p (take i xs))) (f x)
+    ∙ ap (λ ys. before ++ ys) (sym (ap (flat_map f) (filter-next p xs i x true inside read told)
+    ∙ flat-push f (filter p (take i xs)) x))
+
+pub several-else : {A B : Type 0} (p : A → Bool) (f : A → List B) (xs : List A) (i : ℕ) (x : A) (before so_far : List B) →
+    i < length xs → x ≡ get_or xs i x → p x ≡ false → so_far ≡ before ++ flat_map f (filter p (take i xs)) →
+    so_far ≡ before ++ flat_map f (filter p (take (i + 1) xs))
+several-else p f xs i x before so_far inside read told is =
+    is ∙ ap (λ ys. before ++ flat_map f ys) (sym (filter-next p xs i x false inside read told ∙ append-nil (filter p (take i xs))))

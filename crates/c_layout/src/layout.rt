@@ -204,7 +204,7 @@ impl<'a> Layout<'a> {
     pub fn wire_leaf(&self, wire: u32) -> Leaf
         ensures { result ≡ sources.wire_leaf self.now.local wire }
     {
-        match self.tables.sources.of(wire) {
+        match self.source(wire) {
             Some(source) => source.leaf,
             None => Leaf::Own(0),
         }
@@ -231,7 +231,7 @@ impl<'a> Layout<'a> {
     {
         let mut types = Vec::new(alloc);
         for wire in wires {
-            match self.tables.sources.of(*wire) {
+            match self.source(*wire) {
                 Some(source) => types.push(source.number)?,
                 None => return Ok(types),
             }

@@ -30,14 +30,21 @@ pub fn system_name(alloc: Global, s: Option<u32>) -> Result<Text, Memory>
     }
 }
 
+// One text behind another.
+fn joined(alloc: Global, front: &[u8], back: &[u8]) -> Result<Text, Memory>
+    ensures { IfOk result (λ t. t ≡ front.now ++ back.now) }
+{
+    let mut text = Vec::from_slice(alloc, front)?;
+    text.extend_from_slice(back)?;
+    Ok(Text::new(text))
+}
+
 // The name of a system with an end.
 fn with_end(alloc: Global, s: Option<u32>, end: &str) -> Result<Text, Memory>
     ensures { IfOk result (λ t. t ≡ systems.system_name s ++ end.now) }
 {
     let system = system_name(alloc, s)?;
-    let mut name = Vec::from_slice(alloc, system.bytes())?;
-    name.extend_from_slice(end.as_bytes())?;
-    Ok(Text::new(name))
+    joined(alloc, system.bytes(), end.as_bytes())
 }
 
 // The name of a system with an end and a number behind it.
@@ -46,9 +53,7 @@ fn with_number(alloc: Global, s: Option<u32>, end: &str, number: u64) -> Result<
 {
     let front = with_end(alloc, s, end)?;
     let digits = format!(in alloc; "{number}")?;
-    let mut name = Vec::from_slice(alloc, front.bytes())?;
-    name.extend_from_slice(digits.as_bytes())?;
-    Ok(Text::new(name))
+    joined(alloc, front.bytes(), digits.as_bytes())
 }
 
 /// The name of function `j` of a system, from 1 on.

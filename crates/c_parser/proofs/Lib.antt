@@ -1,12 +1,3 @@
-pub mod TokenLines
-pub mod Pieces
-pub mod Numerals
-pub mod Keywords
 pub mod Lists
-pub mod Rows
-pub mod Fewer
-pub mod Levels
-pub mod FewerDefinitions
 pub mod PartsLaws
-pub mod LastLine
 pub mod WholeText

@@ -5,7 +5,7 @@ use Rattle.c_grammar.specs.Results.{◌>>=◌, ◌>>◌}
 use Rattle.c_grammar.specs.Tokens.{Token}
 use Rattle.c_grammar.specs.Parsing.{Parsed, Limits, many, or_syntax_unless, next, parse_word, parse_name, parse_expr, parse_pure_param, pure_params_step, parse_pure, parse_procedure_behind, parse_field, fields_step, parse_struct, parse_procedure, definition_of, pures_step, structs_step, procedures_step, parse_file}
 use Rattle.c_grammar.specs.declared.fault.ReadCFault.{ReadCFault}
-use Rattle.c_parser.specs.Gives.{Gives, behind}
+use Rattle.c_expressions.specs.Gives.{Gives, behind}
 use Rattle.c_parser.specs.Parts.{pure_parts, procedure_parts}
 use Rattle.c_parser.specs.FileParts.{struct_parts, first_procedure, file_parts}
 

@@ -1,10 +1,4 @@
-pub mod Lines
-pub mod Pieces
-pub mod Gives
-pub mod Numerals
 pub mod ParsedText
-pub mod Operands
-pub mod Limited
 pub mod Parts
 pub mod GivesProgram
 pub mod FileParts

@@ -3,14 +3,13 @@ ghost use Rattle.std.specs.Prelude.{◌≡◌, ◌||◌, ◌++◌, ◌∷◌, []
 ghost use Rattle.std.specs.List.{position_or_len, before_first, after_first};
 ghost use Rattle.c_grammar.specs.Tokens as tokens;
 ghost use Rattle.c_grammar.specs.Parsing as parsing;
-ghost use Rattle.c_parser.specs.Limited.{limits_of};
+ghost use Rattle.c_expressions.specs.Limited.{limits_of};
 ghost use Rattle.c_parser.specs.ParsedText.{GivesText};
 
-use crate::lines::last_line;
-use crate::reader::{Limits, Reader, syntax_on};
-use crate::tokens::Tokens;
-use crate::words::is;
+use crate::file::file;
+use c_expressions::{Limits, Reader, syntax_on};
 use c_grammar::{ReadCFault, WrittenProgram};
+use c_tokens::{Tokens, is, last_line};
 use std::alloc::Global;
 
 // Where the first line ends, or the length.
@@ -70,5 +69,5 @@ pub fn parse_c<'a>(alloc: Global, bytes: &'a [u8]) -> Result<WrittenProgram<'a>,
         last,
         limits,
     };
-    reader.file(tokens)
+    file(reader, tokens)
 }

@@ -8,9 +8,11 @@ ghost use Rattle.c_reader.specs.Reading.{IsRead, IsReadFault};
 
 use c_checked::Checked;
 use c_grammar::ReadCFault;
-use c_parser::{last_line, parse_c};
-use c_resolver::{check_root, resolve_program};
+use c_outputs::check_root;
+use c_parser::parse_c;
+use c_resolver::resolve_program;
 use c_syntax::Program;
+use c_tokens::last_line;
 use std::alloc::Global;
 
 /// The program of a text, its names resolved.

@@ -1,4 +1,3 @@
-pub mod NameLists
 pub mod FieldPlaces
 pub mod Each
 pub mod Rows
@@ -7,10 +6,6 @@ pub mod Fails
 pub mod ChoiceLaws
 pub mod ParamLaws
 pub mod PureLaws
-pub mod OutputLaws
 pub mod FieldLists
 pub mod StructLaws
 pub mod ProcedureLaws
-pub mod NumberNames
-pub mod RootLaws
-pub mod ProgramLaws

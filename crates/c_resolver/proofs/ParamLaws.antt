@@ -1,7 +1,7 @@
 -- Parameters, one after another.
-use Rattle.std.proofs.Common.{◌≡◌, refl, sym, ◌∙◌, ap, ℕ, zero, suc, ◌+◌, ◌<◌, Bool, true, false, not, ◌&&◌, ◌||◌, List, [], ◌∷◌, ◌++◌, length, map, take, drop, get_or, Err, bytes_eq, arith}
+use Rattle.std.proofs.Common.{◌≡◌, refl, sym, ◌∙◌, ap, ℕ, zero, suc, ◌+◌, ◌<◌, Bool, true, false, not, ◌&&◌, ◌||◌, List, [], ◌∷◌, ◌++◌, length, map, take, drop, reverse, get_or, Err, bytes_eq, arith}
 use Rattle.std.proofs.Math.Seq.{drop-cons}
-use Rattle.std.proofs.lemmas.List.{take_more}
+use Rattle.std.proofs.lemmas.List.{reverse-append, take_more}
 use Rattle.c_resolver.proofs.Each.{map_push}
 use Rattle.c_syntax.specs.declared.fault.CKind.TheVariants.{Name}
 use Rattle.c_grammar.specs.Prefix.{fault_at}
@@ -10,19 +10,14 @@ use Rattle.c_grammar.specs.Results.{◌>>◌}
 use Rattle.c_rules.specs.Resolve.{on_line, unless_fault, check_params}
 use Rattle.c_syntax.proofs.lemmas.NameFacts.{has_name-append}
 
--- a list from its end
-abbrev pub flipped : List (List ℕ) → List (List ℕ)
-flipped [] = []
-flipped (x ∷ xs) = flipped xs ++ x ∷ []
+pub reverse-push : (xs : List (List ℕ)) (n : List ℕ) → reverse (xs ++ n ∷ []) ≡ n ∷ reverse xs
+reverse-push xs n = reverse-append xs (n ∷ [])
 
-pub flipped-push : (xs : List (List ℕ)) (n : List ℕ) → flipped (xs ++ n ∷ []) ≡ n ∷ flipped xs
-flipped-push [] n = refl
-flipped-push (x ∷ xs) n = ap (λ ys. ys ++ x ∷ []) (flipped-push xs n)
-
-pub has_name-flipped : (xs : List (List ℕ)) (n : List ℕ) → has_name (flipped xs) n ≡ has_name xs n
-has_name-flipped [] n = refl
-has_name-flipped (x ∷ xs) n = has_name-append (flipped xs) (x ∷ []) n
-    ∙ ap (λ b. b || (bytes_eq n x || false)) (has_name-flipped xs n) ∙ turn (has_name xs n) (bytes_eq n x)
+pub has_name-reverse : (xs : List (List ℕ)) (n : List ℕ) → has_name (reverse xs) n ≡ has_name xs n
+has_name-reverse [] n = refl
+has_name-reverse (x ∷ xs) n =
+    ap (λ ys. has_name ys n) (reverse-append (x ∷ []) xs) ∙ has_name-append (reverse xs) (x ∷ []) n
+    ∙ ap (λ b. b || (bytes_eq n x || false)) (has_name-reverse xs n) ∙ turn (has_name xs n) (bytes_eq n x)
   where
     turn : (a b : Bool) → (a || (b || false)) ≡ (b || a)
     turn true true = refl
@@ -33,21 +28,21 @@ has_name-flipped (x ∷ xs) n = has_name-append (flipped xs) (x ∷ []) n
 -- a parameter that passes
 pub param-passes : (functions names : List (List ℕ)) (p : ℕ × List ℕ) (ps : List (ℕ × List ℕ)) →
     has_name functions p.1 ≡ false → has_name names p.1 ≡ false →
-    check_params functions (flipped names) (p ∷ ps) ≡ check_params functions (flipped (names ++ p.1 ∷ [])) ps
+    check_params functions (reverse names) (p ∷ ps) ≡ check_params functions (reverse (names ++ p.1 ∷ [])) ps
 param-passes functions names p ps apart new =
-    (λ i. on_line p.0 (unless_fault (not (apart i) && not ((has_name-flipped names p.1 ∙ new) i)) Name) >> check_params
-    functions (p.1 ∷ flipped names) ps) ∙ ap (λ e. check_params functions e ps) (sym (flipped-push names p.1))
+    (λ i. on_line p.0 (unless_fault (not (apart i) && not ((has_name-reverse names p.1 ∙ new) i)) Name) >> check_params
+    functions (p.1 ∷ reverse names) ps) ∙ ap (λ e. check_params functions e ps) (sym (reverse-push names p.1))
 
 -- a parameter of a name that is taken
 pub param-fails : (functions names : List (List ℕ)) (p : ℕ × List ℕ) (ps : List (ℕ × List ℕ)) →
     (has_name functions p.1 || has_name names p.1) ≡ true →
-    check_params functions (flipped names) (p ∷ ps) ≡ Err (fault_at p.0 Name)
+    check_params functions (reverse names) (p ∷ ps) ≡ Err (fault_at p.0 Name)
 param-fails functions names p ps taken =
-    (λ i. on_line p.0 (unless_fault (not (has_name functions p.1) && not (has_name-flipped names p.1 i)) Name) >>
-    check_params functions (p.1 ∷ flipped names) ps) ∙ by (has_name functions p.1) (has_name names p.1) taken
+    (λ i. on_line p.0 (unless_fault (not (has_name functions p.1) && not (has_name-reverse names p.1 i)) Name) >>
+    check_params functions (p.1 ∷ reverse names) ps) ∙ by (has_name functions p.1) (has_name names p.1) taken
   where
     by : (a b : Bool) → (a || b) ≡ true →
-        (on_line p.0 (unless_fault (not a && not b) Name) >> check_params functions (p.1 ∷ flipped names) ps)
+        (on_line p.0 (unless_fault (not a && not b) Name) >> check_params functions (p.1 ∷ reverse names) ps)
         ≡ Err (fault_at p.0 Name)
     by true b h = refl
     by false true h = refl

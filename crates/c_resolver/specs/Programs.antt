@@ -2,16 +2,22 @@
 use Rattle.std.specs.Prelude.{ℕ, Result, Ok}
 use Rattle.c_syntax.specs.declared.fault.CFault.{CFault}
 use Rattle.c_syntax.specs.declared.fault.CKind.TheVariants.{Name}
+use Rattle.c_syntax.specs.Tree.{ProgramTree}
 use Rattle.c_grammar.specs.Results.{◌>>=◌, ◌>>◌}
 use Rattle.c_grammar.specs.Written.{WrittenProgram}
 use Rattle.c_rules.specs.Resolve.{Known, on_line, unless_fault, has_root, resolve_pures, resolve_structs, resolve_procedures}
 
--- what is known behind all definitions of a program, where the root's are among them; `last` is the
--- text's last line
-abbrev pub resolve_definitions : ℕ → Known → WrittenProgram → Result Known CFault
-resolve_definitions last known p = do
+-- the program of what is known
+abbrev pub program_with : Known → ProgramTree
+program_with known =
+    record { pures = known.pures; structs = known.structs; procedures = known.procedures }
+
+-- the program that definitions behind what is known stand for, where the root's are among them;
+-- `last` is the text's last line
+abbrev pub program_behind : ℕ → Known → WrittenProgram → Result ProgramTree CFault
+program_behind last known p = do
   with_pures ← resolve_pures known p.pures
   with_structs ← resolve_structs with_pures p.structs
   all ← resolve_procedures with_structs p.procedures
   on_line last (unless_fault (has_root all) Name)
-  Ok all
+  Ok (program_with all)

@@ -8,11 +8,10 @@ ghost use Rattle.c_resolver.specs.Scopes.{known_of};
 
 use crate::faults::unless_fault;
 use crate::known::Known;
-use crate::name_table::table_of_texts;
-use crate::numbers::Numbers;
-use crate::outputs::looks_like_output;
+use crate::numbers::{Numbers, is_number};
 use crate::table::Table;
 use c_grammar::{WrittenField, WrittenKind};
+use c_outputs::{looks_like_output, table_of_texts};
 use c_syntax::{CKind, Field, FieldKind};
 use mc_base::{Memory, Text};
 use std::alloc::Global;
@@ -31,16 +30,6 @@ pub(crate) fn numbers_of<'n, 'a>(
 {
     let outputs = table_of_texts(alloc, outputs)?;
     Ok(Numbers { names, outputs })
-}
-
-/// Whether a field is written as a number.
-fn is_number(kind: WrittenKind) -> bool
-    ensures { result ≡ rules.is_number_written (kind_of kind.entry) }
-{
-    match kind {
-        WrittenKind::Number(_) => true,
-        WrittenKind::Array(_, _) | WrittenKind::Struct(_) => false,
-    }
 }
 
 /// Whether a field of the root's struct may have this name.
@@ -86,7 +75,7 @@ fn resolve_kind(known: &Known, kind: WrittenKind) -> Result<FieldKind, CKind>
             Some(length) => Ok(FieldKind::Array(ty, length)),
             None => Err(CKind::TypeRule),
         },
-        WrittenKind::Struct(name) => match known.struct_position(name) {
+        WrittenKind::Struct(name) => match known.structs.position(name) {
             Some(k) => Ok(FieldKind::Struct(k)),
             None => Err(CKind::Name),
         },

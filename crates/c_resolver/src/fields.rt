@@ -7,8 +7,8 @@ ghost use Rattle.c_grammar.specs.WrittenTrees.{leaf_of};
 ghost use Rattle.c_resolver.specs.Scopes.{names_of};
 
 use crate::known::{Known, Scope};
-use crate::name_table::NameTable;
 use c_grammar::WrittenLeaf;
+use c_outputs::NameTable;
 use c_syntax::{CKind, CType, Field, FieldKind, Leaf};
 
 /// The position and the kind of the field with a name.

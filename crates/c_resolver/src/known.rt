@@ -1,8 +1,8 @@
 // What is defined before a place.
 ghost use Rattle.std.specs.Prelude.{◌≡◌, map};
 
-use crate::name_table::NameTable;
 use crate::table::Table;
+use c_outputs::NameTable;
 use c_syntax::{Procedure, Pure, StructDef};
 
 /// The definitions before a place; of each struct also the names of its fields, and of each procedure the length of the

@@ -7,12 +7,9 @@ mod exprs;
 mod faults;
 mod field_rules;
 mod fields;
-mod interface;
 mod known;
 mod lookups;
-mod name_table;
 mod numbers;
-mod outputs;
 mod params;
 mod procedures;
 mod programs;
@@ -22,5 +19,4 @@ mod stmts;
 mod structs;
 mod table;
 
-pub use interface::check_root;
 pub use programs::resolve_program;

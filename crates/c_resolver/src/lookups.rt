@@ -37,25 +37,10 @@ impl<'a> Known<'a> {
         self.procedures.find(name)
     }
 
-    /// Whether a struct has this name.
-    pub(crate) fn has_struct(&self, name: &[u8]) -> bool
-        ensures { result ≡ has_name (map (λ d. d.name) (known_of self.now).structs) name.now }
-    {
-        self.structs.contains(name)
-    }
-
     /// Whether a procedure has this name.
     pub(crate) fn has_procedure(&self, name: &[u8]) -> bool
         ensures { result ≡ has_name (map (λ p. p.name) (known_of self.now).procedures) name.now }
     {
         self.procedures.contains(name)
-    }
-
-    /// The position of the struct of this name.
-    pub(crate) fn struct_position(&self, name: &[u8]) -> Option<u32>
-        ensures { result
-            ≡ position_from (λ d. bytes_eq d.name name.now) 0 (known_of self.now).structs }
-    {
-        self.structs.position(name)
     }
 }

@@ -8,8 +8,8 @@ ghost use Rattle.c_resolver.specs.Params.{line_and_name};
 
 use crate::faults::fault_at;
 use crate::known::Known;
-use crate::name_table::NameTable;
 use c_grammar::{ReadCFault, WrittenPureParam};
+use c_outputs::NameTable;
 use c_syntax::CKind;
 use mc_base::{Memory, Text};
 use std::alloc::Global;

@@ -14,11 +14,11 @@ ghost use Rattle.c_resolver.specs.Scopes.{known_of};
 use crate::chains::stmts_chain;
 use crate::faults::{on_line, unless_fault};
 use crate::known::{Known, Scope};
-use crate::name_table::NameTable;
 use crate::params::resolve_params;
 use crate::roots::is_lawful_root;
 use crate::stmts::resolve_stmts;
 use c_grammar::{ReadCFault, WrittenParam, WrittenProcedure, WrittenPureParam};
+use c_outputs::NameTable;
 use c_syntax::{CKind, CType, Procedure, Stmt};
 use mc_base::{Memory, Text};
 use std::alloc::{AllocError, Global};
@@ -28,7 +28,7 @@ fn resolve_head(known: &Known, p: &WrittenProcedure) -> Result<u32, CKind>
     ensures { result ≡ rules.resolve_head (known_of known.now) (procedure_of p.now) }
 {
     unless_fault(!known.has_function(p.name), CKind::Name)?;
-    match known.struct_position(p.of) {
+    match known.structs.position(p.of) {
         Some(of) => {
             unless_fault(is_lawful_root(p), CKind::TypeRule)?;
             Ok(of)

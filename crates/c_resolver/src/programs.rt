@@ -16,6 +16,7 @@ use crate::table::Table;
 use c_grammar::{ReadCFault, WrittenProgram};
 use c_syntax::{CKind, Program};
 use std::alloc::Global;
+use std::mem;
 
 /// What is known before the first definition.
 fn nothing_known<'a>(alloc: Global) -> Known<'a>
@@ -34,16 +35,14 @@ fn nothing_known<'a>(alloc: Global) -> Known<'a>
 fn has_root(known: &Known) -> bool
     ensures { result ≡ rules.has_root (known_of known.now) }
 {
-    known.has_struct(b"root")
+    known.structs.contains(b"root")
         && known.has_procedure(b"root_start")
         && known.has_procedure(b"root_step")
 }
 
 /// The program of these definitions.
 fn program_of(known: Known) -> Program
-    ensures tree { let all = known_of known.entry in
-        program_tree result
-        ≡ record { pures = all.pures; structs = all.structs; procedures = all.procedures } }
+    ensures tree { program_tree result ≡ definitions.program_with (known_of known.entry) }
     ensures few { length result.procedures.items < 2 ^ 32 }
 {
     let Known {
@@ -59,21 +58,22 @@ fn program_of(known: Known) -> Program
     }
 }
 
-/// Makes all definitions of a program known, and sees that those of the root are among them.
+/// The program of what is known and of more definitions, where the root's are among them. What is known goes into it.
 fn resolve_definitions<'a>(
     alloc: Global,
     last: u32,
     known: &mut Known<'a>,
     p: &WrittenProgram<'a>,
-) -> Result<(), ReadCFault>
-    ensures { Gives (λ _. known_of known.new) result
-        (definitions.resolve_definitions last (known_of known.old) (written.program_of p.now)) }
+) -> Result<Program, ReadCFault>
+    ensures resolved { Gives program_tree result
+        (definitions.program_behind last (known_of known.old) (written.program_of p.now)) }
+    ensures few { IfOk result (λ program. length program.procedures.items < 2 ^ 32) }
 {
     resolve_pures(alloc, known, p.pures.as_slice())?;
     resolve_structs(alloc, known, p.structs.as_slice())?;
     resolve_procedures(alloc, known, p.procedures.as_slice())?;
     on_line(last, unless_fault(has_root(known), CKind::Name))?;
-    Ok(())
+    Ok(program_of(mem::replace(known, nothing_known(alloc))))
 }
 
 /// What a written program stands for; the last line of its text is where a missing root is told.
@@ -82,6 +82,5 @@ pub fn resolve_program(alloc: Global, last: u32, p: &WrittenProgram) -> Result<P
     ensures few { IfOk result (λ program. length program.procedures.items < 2 ^ 32) }
 {
     let mut known = nothing_known(alloc);
-    resolve_definitions(alloc, last, &mut known, p)?;
-    Ok(program_of(known))
+    resolve_definitions(alloc, last, &mut known, p)
 }

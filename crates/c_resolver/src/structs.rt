@@ -5,19 +5,18 @@ ghost use Rattle.c_syntax.specs.Outputs.{has_name};
 ghost use Rattle.c_syntax.specs.PlainField.{field_trees};
 ghost use Rattle.c_rules.specs.Resolve as rules;
 ghost use Rattle.c_grammar.specs.WrittenTrees.{field_of, struct_of};
-ghost use Rattle.c_resolver.specs.Fields.{names_in};
+ghost use Rattle.c_resolver.specs.Fields.{names_in, fields_behind};
 ghost use Rattle.c_resolver.specs.Gives.{Gives};
 ghost use Rattle.c_resolver.specs.Scopes.{known_of};
 
 use crate::faults::{fault_at, on_line};
 use crate::field_rules::{numbers_of, resolve_field};
 use crate::known::Known;
-use crate::name_table::NameTable;
-use crate::numbers::Numbers;
-use crate::outputs::{number_names, output_names};
+use crate::numbers::{Numbers, number_names};
 use crate::roots::is_root;
 use crate::table::Table;
 use c_grammar::{ReadCFault, WrittenField, WrittenStruct};
+use c_outputs::{NameTable, output_names};
 use c_syntax::{CKind, Field, FieldKind, StructDef};
 use mc_base::{Memory, Text};
 use std::alloc::Global;
@@ -37,59 +36,74 @@ fn push_field<'a>(
     fields.push(field.name, Field { name, kind })
 }
 
-/// What the fields of a struct stand for.
+/// Adds what more fields of a struct stand for to those before them.
 fn resolve_fields<'a>(
     alloc: Global,
     known: &Known,
     is_root: bool,
     numbers: &Numbers,
     fields: &[WrittenField<'a>],
-) -> Result<Table<'a, Field>, ReadCFault>
-    ensures { Gives (λ r. field_trees r.items.items) result
-        (rules.resolve_fields (known_of known.now) is_root (names_in numbers.now) []
-        (map field_of fields.now)) }
+    resolved: &mut Table<'a, Field>,
+) -> Result<(), ReadCFault>
+    ensures { let before = resolved.old.items.items in
+        Gives (λ _. field_trees resolved.new.items.items) result
+        (fields_behind (known_of known.now) is_root (names_in numbers.now) (field_trees before)
+        (map (λ f. f.name) before) (map field_of fields.now)) }
 {
-    let mut resolved = Table::new(alloc);
     for field in fields {
         let kind = on_line(
             field.line,
-            resolve_field(known, is_root, numbers, &resolved, field),
+            resolve_field(known, is_root, numbers, resolved, field),
         )?;
-        push_field(alloc, &mut resolved, field, kind)?;
+        push_field(alloc, resolved, field, kind)?;
     }
-    Ok(resolved)
+    Ok(())
 }
 
-/// What the fields of a struct stand for, where these are the names of its number fields, and of the outputs among them.
+/// Adds what the fields of a struct stand for, where these are the names of its number fields, and of the outputs among
+/// them.
 fn resolve_beside<'a>(
     alloc: Global,
     known: &Known<'a>,
     d: &WrittenStruct<'a>,
     names: Vec<&'a [u8]>,
     outputs: &[Text],
-) -> Result<Table<'a, Field>, ReadCFault>
+    resolved: &mut Table<'a, Field>,
+) -> Result<(), ReadCFault>
     requires { outputs.now ≡ output.output_names (map (λ x. x.now) names.items) }
-    ensures { Gives (λ r. field_trees r.items.items) result
-        (rules.resolve_fields (known_of known.now) (bytes_eq d.now.name.now (codes "root"))
-        (map (λ x. x.now) names.entry.items) [] (struct_of d.now).fields) }
+    ensures { let before = resolved.old.items.items in
+        Gives (λ _. field_trees resolved.new.items.items) result
+        (fields_behind (known_of known.now) (bytes_eq d.now.name.now (codes "root"))
+        (map (λ x. x.now) names.entry.items) (field_trees before) (map (λ f. f.name) before)
+        (struct_of d.now).fields) }
 {
     let numbers = numbers_of(alloc, names, outputs)?;
-    resolve_fields(alloc, known, is_root(d.name), &numbers, d.fields.as_slice())
+    resolve_fields(
+        alloc,
+        known,
+        is_root(d.name),
+        &numbers,
+        d.fields.as_slice(),
+        resolved,
+    )
 }
 
-/// What the fields of a struct stand for, the names of the outputs among them found first.
+/// Adds what the fields of a struct stand for, the names of the outputs among them found first.
 fn resolve_all_fields<'a>(
     alloc: Global,
     known: &Known<'a>,
     d: &WrittenStruct<'a>,
-) -> Result<Table<'a, Field>, ReadCFault>
-    ensures { Gives (λ r. field_trees r.items.items) result
-        (rules.resolve_fields (known_of known.now) (bytes_eq d.now.name.now (codes "root"))
-        (filter_map rules.number_name (struct_of d.now).fields) [] (struct_of d.now).fields) }
+    resolved: &mut Table<'a, Field>,
+) -> Result<(), ReadCFault>
+    ensures { let before = resolved.old.items.items in
+        Gives (λ _. field_trees resolved.new.items.items) result
+        (fields_behind (known_of known.now) (bytes_eq d.now.name.now (codes "root"))
+        (filter_map rules.number_name (struct_of d.now).fields) (field_trees before)
+        (map (λ f. f.name) before) (struct_of d.now).fields) }
 {
     let names = number_names(alloc, d.fields.as_slice())?;
     let outputs = output_names(alloc, names.as_slice())?;
-    resolve_beside(alloc, known, d, names, outputs.as_slice())
+    resolve_beside(alloc, known, d, names, outputs.as_slice(), resolved)
 }
 
 /// What a struct stands for, with the names of its fields.
@@ -108,7 +122,9 @@ fn resolve_struct<'a>(
         return Err(ReadCFault::Refused(fault_at(d.line, CKind::Name)));
     }
     let name = Text::copy_of(alloc, d.name)?;
-    let (fields, names) = resolve_all_fields(alloc, known, d)?.into_parts();
+    let mut table = Table::new(alloc);
+    resolve_all_fields(alloc, known, d, &mut table)?;
+    let (fields, names) = table.into_parts();
     Ok((StructDef { name, fields }, names))
 }
 

@@ -3,7 +3,7 @@ ghost use Rattle.std.specs.Prelude.{◌≡◌, ◌++◌, ◌∷◌, [], ℕ, Lis
 ghost use Rattle.std.specs.List.{position_from};
 ghost use Rattle.c_syntax.specs.Outputs.{has_name};
 
-use crate::name_table::NameTable;
+use c_outputs::NameTable;
 use c_syntax::{Field, Procedure, Pure, StructDef};
 use mc_base::Memory;
 use std::alloc::Global;

@@ -1,4 +1,4 @@
-// Tests of words, numbers, files, lines of traces and the command line, apart from them so that their proofs are made once.
+// Tests of numbers, types, files and lines of traces, apart from them so that their proofs are made once.
 #![tactic(auto)]
 
 #[cfg(test)]

@@ -2,10 +2,12 @@
 #![tactic(auto)]
 
 mod answer;
+mod faults;
 mod files;
 pub mod models;
 
 pub use answer::{
-    Answer, called, called_in_pieces, called_on, called_with, compiled, executed, ran, words_of,
+    Answer, called, called_in_pieces, called_on, called_with, compiled, executed, words_of,
 };
+pub use faults::{End, Faults, NO_FAULT, NONE, called_so};
 pub use files::{Files, model_file};

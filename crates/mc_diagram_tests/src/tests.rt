@@ -6,9 +6,16 @@ mod guards;
 mod loops;
 mod types;
 
+use mc_fixed::FixType;
 use mc_graph::Graph;
 use std::alloc::{AllocError, Global};
 use std::test::Fail;
+
+const INT8: FixType = FixType {
+    signed: true,
+    bits: 8,
+    frac: 0,
+};
 
 /// The graph of these edges, where each of their ends is a node.
 fn graph_of(n: u32, edges: Vec<(u32, u32)>) -> Option<Graph> {

@@ -1,4 +1,4 @@
-// Runs, nodes and profiles of small models, apart from what they test so that its proofs are made once.
+// Sample times, nodes and runs of small models, apart from what they test so that its proofs are made once.
 #![tactic(auto)]
 
 #[cfg(test)]

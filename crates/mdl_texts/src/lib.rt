@@ -1,11 +1,13 @@
-// Texts of models (MDL), written short, for tests.
+// Texts of models (MDL), written short, and tables of cases of them, for tests.
 #![tactic(auto)]
 
+mod cases;
 mod models;
 mod parts;
 mod whole;
 mod words;
 
+pub use cases::{at_both_depths, filled, in_root, is_told, is_told_in_root, is_told_inside};
 pub use models::{model_of, model_with, system_of};
 pub use parts::push_parts;
 pub use whole::{MADE, SAVED};

@@ -4,7 +4,7 @@ mod sources;
 
 use mc_base::refusal_text;
 use mdl_reader::read_mdl;
-use mdl_texts::system_of;
+use mdl_texts::{is_told, system_of};
 use mdl_wiring::{Member, Shape, Wiring, WiringFault, wire};
 use std::alloc::Global;
 use std::test::Fail;
@@ -73,15 +73,6 @@ fn answer(alloc: Global, members: &[Member], lines: &str, is_root: bool) -> Resu
         Err(WiringFault::Refused(refusal)) => Ok(refusal_text(alloc, &refusal)?),
         Err(WiringFault::Memory) => Err(Fail::from("memory")),
     }
-}
-
-/// Fails where what is told of some text isn't what is expected.
-fn is_told(told: &[u8], expected: &str, text: &str) -> Result<(), Fail> {
-    if told == expected.as_bytes() {
-        return Ok(());
-    }
-    let told = str::from_utf8(told)?;
-    Err(Fail::new(format_args!("{told:?} is told, not {expected:?}, of {text}")))
 }
 
 /// Compares what wiring answers with what is expected.

@@ -1,16 +1,12 @@
-ghost use Rattle.std.specs.Prelude.{◌≡◌, [], ◌∷◌, map, IfOk};
-ghost use Rattle.c_syntax.specs.Tree.{assign, stmts_of_list};
-ghost use Rattle.c_syntax.specs.Plain.{expr_tree, stmt_tree, param_trees, procedure_tree, program_tree};
-ghost use Rattle.c_printer.specs.PrintingExamples.{small_program};
-
+use c_checked::Checked;
 use c_printer::print;
 use c_reader::read_c;
-use c_syntax::{CType, Expr, Field, FieldKind, Leaf, Procedure, Program, Stmt, StructDef};
-use mc_base::{Memory, Text};
+use c_syntax::Program;
 use std::alloc::{AllocError, Global};
 use std::fmt::Write;
 use std::test::Fail;
 
+// Each form of expressions, conditions and statements.
 const EACH_FORM: &[u8] = b"#include <stdint.h>
 
 static int64_t chosen(int64_t x, int64_t y) {
@@ -49,8 +45,8 @@ void root_step(struct root *s, int32_t u1) {
 }
 ";
 
-// The bodies of its pure function and its procedures as they are read.
-const BODIES: &str = "\
+// What is told of it.
+const EACH_FORM_AS_READ: &str = "\
 Pick(\
 Either(Compare(Gt, Read(Param(0)), Read(Param(1))), \
 Not(Compare(Eq, Read(Param(0)), Neg(Literal(5))))), \
@@ -67,6 +63,29 @@ If { line: 32, test: Compare(Ne, Read(Own(1)), Literal(1)), \
 yes: [Set { line: 33, field: 1, value: Binary(Mul, Read(Own(1)), Literal(2)) }], no: [] }, \
 SetAt { line: 35, field: 2, index: Binary(Add, At(2, Literal(0)), Literal(1)), \
 value: At(2, Literal(65534)) }]
+Some(2) None
+";
+
+// A program whose output is its input.
+const COPY: &[u8] = b"#include <stdint.h>
+
+struct root {
+    int32_t y1;
+};
+
+void root_start(struct root *s) {
+}
+
+void root_step(struct root *s, int32_t u1) {
+    s->y1 = (int32_t)(int64_t)u1;
+}
+";
+
+// What is told of it.
+const COPY_AS_READ: &str = "\
+[]
+[Set { line: 11, field: 0, value: Read(Param(0)) }]
+Some(1) None
 ";
 
 // The bodies of a program's pure functions and of its procedures, each on a line.
@@ -81,131 +100,28 @@ fn bodies(alloc: Global, program: &Program) -> Result<String, AllocError> {
     Ok(bodies)
 }
 
-// The bodies of each form as they are read, and its text as it is printed.
-fn each_form(alloc: Global) -> Result<(String, Vec<u8>), Fail> {
-    let checked = read_c(alloc, EACH_FORM)?;
+// Tells of a program its bodies, and where `root_step` and `chosen` are among its procedures.
+fn told(alloc: Global, checked: &Checked) -> Result<String, AllocError> {
+    let mut told = bodies(alloc, checked.program())?;
+    let step = checked.procedure(b"root_step");
+    let chosen = checked.procedure(b"chosen");
+    writeln!(told, "{step:?} {chosen:?}")?;
+    Ok(told)
+}
+
+// What is told of the program of a text, and the text as it is printed.
+fn read_and_printed(alloc: Global, text: &[u8]) -> Result<(String, Vec<u8>), Fail> {
+    let checked = read_c(alloc, text)?;
     let program = checked.program();
-    let text = print(alloc, program)?;
-    Ok((bodies(alloc, program)?, text))
+    let printed = print(alloc, program)?;
+    Ok((told(alloc, &checked)?, printed))
 }
 
 #[test]
 fn each_form_in_its_place(rt: HostRuntime) -> Result<(), Fail> {
-    let (bodies, text) = each_form(rt.alloc())?;
-    assert_eq!(rt; (bodies.as_str(), text.as_slice()), (BODIES, EACH_FORM));
-    Ok(())
-}
-
-fn field(alloc: Global, name: &[u8], kind: FieldKind) -> Result<Field, Memory>
-    ensures { IfOk result (λ f. f ≡ record { name = name.now; kind = kind }) }
-{
-    Ok(Field {
-        name: Text::copy_of(alloc, name)?,
-        kind,
-    })
-}
-
-fn procedure(
-    alloc: Global,
-    name: &[u8],
-    private: bool,
-    of: u32,
-    params: Vec<(Text, CType)>,
-    body: Vec<Stmt>,
-) -> Result<Procedure, Memory>
-    ensures { IfOk result (λ p. procedure_tree p
-        ≡ record {
-          name = name.now;
-          private = private;
-          of = of;
-          params = param_trees params.items;
-          body = stmts_of_list (map stmt_tree body.items);
-        }) }
-{
-    Ok(Procedure {
-        name: Text::copy_of(alloc, name)?,
-        private,
-        of,
-        params,
-        body,
-    })
-}
-
-fn set(field: u32, value: Expr) -> Stmt
-    ensures { stmt_tree result ≡ assign 0 field (expr_tree value) }
-{
-    Stmt::Set {
-        line: 0,
-        field,
-        value,
+    for &(text, as_read) in &[(EACH_FORM, EACH_FORM_AS_READ), (COPY, COPY_AS_READ)] {
+        let (told, printed) = read_and_printed(rt.alloc(), text)?;
+        assert_eq!(rt; (told.as_str(), printed.as_slice()), (as_read, text));
     }
-}
-
-fn one_param(alloc: Global, name: &[u8], ty: CType) -> Result<Vec<(Text, CType)>, Memory>
-    ensures { IfOk result (λ params. params.items ≡ (name.now, ty) ∷ []) }
-{
-    Ok(vec![in alloc; (Text::copy_of(alloc, name)?, ty)]?)
-}
-
-fn structs(alloc: Global) -> Result<Vec<StructDef>, Memory>
-    ensures { IfOk result (λ structs. structs.items ≡ small_program.structs) }
-{
-    let y1 = field(alloc, b"y1", FieldKind::Number(CType::I32))?;
-    let name = Text::copy_of(alloc, b"root")?;
-    let fields = vec![in alloc; y1]?;
-    Ok(vec![in alloc; StructDef { name, fields }]?)
-}
-
-fn procedures(alloc: Global) -> Result<Vec<Procedure>, Memory>
-    ensures { IfOk result (λ procedures. map procedure_tree procedures.items ≡ small_program.procedures) }
-{
-    let params = one_param(alloc, b"u1", CType::I32)?;
-    let body = vec![in alloc; set(0, Expr::Read(Leaf::Param(0)))]?;
-    let step = procedure(alloc, b"root_step", false, 0, params, body)?;
-    let start = procedure(
-        alloc,
-        b"root_start",
-        false,
-        0,
-        Vec::new(alloc),
-        Vec::new(alloc),
-    )?;
-    Ok(vec![in alloc; start, step]?)
-}
-
-// The root's output is its input.
-fn small(alloc: Global) -> Result<Program, Memory>
-    ensures { IfOk result (λ p. program_tree p ≡ small_program) }
-{
-    let structs = structs(alloc)?;
-    let procedures = procedures(alloc)?;
-    Ok(Program {
-        pure: Vec::new(alloc),
-        structs,
-        procedures,
-    })
-}
-
-#[test]
-fn a_lawful_program(rt: HostRuntime) -> Result<(), Fail> {
-    let program = small(rt.alloc())?;
-    let text = print(rt.alloc(), &program)?;
-    assert_eq!(rt;
-        text.as_slice(),
-        b"#include <stdint.h>
-
-struct root {
-    int32_t y1;
-};
-
-void root_start(struct root *s) {
-}
-
-void root_step(struct root *s, int32_t u1) {
-    s->y1 = (int32_t)(int64_t)u1;
-}
-"
-            .as_slice()
-    );
     Ok(())
 }

@@ -1,5 +1,6 @@
 mod conversions;
 
+use super::{INT8, INT32};
 use conversions::CONVERSIONS;
 use mc_base::{NumFault, read_decimal};
 use mc_fixed::{
@@ -16,20 +17,23 @@ fn fixed_of(text: &str) -> Option<(bool, u8, u8)> {
     }
 }
 
+/// Texts of types, and whether each has a sign, its bits and its fraction bits.
+const FIXED: &[(&str, (bool, u8, u8))] = &[
+    ("int8", (true, 8, 0)),
+    (" uint32\t", (false, 32, 0)),
+    ("boolean", (false, 1, 0)),
+    ("fixdt(1,16,4)", (true, 16, 4)),
+    ("fixdt( true , 08,0 )", (true, 8, 0)),
+    ("fixdt(0,1,31)", (false, 1, 31)),
+];
+
 #[test]
 fn types_are_read(rt: HostRuntime) {
-    for &(text, signed, bits, frac) in &[
-        ("int8", true, 8, 0),
-        (" uint32\t", false, 32, 0),
-        ("boolean", false, 1, 0),
-        ("fixdt(1,16,4)", true, 16, 4),
-        ("fixdt( true , 08,0 )", true, 8, 0),
-        ("fixdt(0,1,31)", false, 1, 31),
-    ] {
-        assert_eq!(rt; fixed_of(text), Some((signed, bits, frac)), "{text}");
+    for &(text, parts) in FIXED {
+        assert_eq!(rt; fixed_of(text), Some(parts), "{text}");
     }
     // rules and other texts
-    for &(text, want) in &[
+    for &(text, meaning) in &[
         ("Inherit: auto", Ok(TypeText::Inherit)),
         (
             "Inherit: Logical (see Configuration)",
@@ -55,7 +59,7 @@ fn types_are_read(rt: HostRuntime) {
         ("int64", Err(TypeFault::Form)),
         ("", Err(TypeFault::Form)),
     ] {
-        assert_eq!(rt; read_type(text.as_bytes()), want, "{text}");
+        assert_eq!(rt; read_type(text.as_bytes()), meaning, "{text}");
     }
 }
 
@@ -120,18 +124,6 @@ fn converted(line: &str) -> Option<(i64, i64)> {
         None
     }
 }
-
-const INT8: FixType = FixType {
-    signed: true,
-    bits: 8,
-    frac: 0,
-};
-
-const INT32: FixType = FixType {
-    signed: true,
-    bits: 32,
-    frac: 0,
-};
 
 #[test]
 fn numbers_are_converted(rt: HostRuntime) -> Result<(), Fail> {

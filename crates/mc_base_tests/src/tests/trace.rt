@@ -1,27 +1,10 @@
 ghost use Rattle.std.specs.Prelude.{◌≤◌, length};
 
+use super::{BOOLEAN, INT8, INT32};
 use mc_fixed::FixType;
 use mc_trace::{BadLine, BadWhy, Next, last_row, next_line, next_row, read_row};
 use std::alloc::{AllocError, Global};
 use std::test::Fail;
-
-const BOOLEAN: FixType = FixType {
-    signed: false,
-    bits: 1,
-    frac: 0,
-};
-
-const INT8: FixType = FixType {
-    signed: true,
-    bits: 8,
-    frac: 0,
-};
-
-const INT32: FixType = FixType {
-    signed: true,
-    bits: 32,
-    frac: 0,
-};
 
 const fn bad(line: u32, why: BadWhy) -> BadLine {
     BadLine { line, why }
@@ -42,6 +25,33 @@ fn line_of(alloc: Global, count: usize, end: &str, is_last: bool) -> Result<Next
     Ok(next_line(&text, 0, is_last))
 }
 
+/// So many digits, what stands behind them, whether the text is whole, and what its first line is.
+const LONG_LINES: &[(usize, &str, bool, Next)] = &[
+    (
+        4096,
+        "",
+        true,
+        Next::Line {
+            start: 0,
+            end: 4096,
+            after: 4096,
+        },
+    ),
+    (4096, "\r", false, Next::More),
+    (4096, "\r", true, Next::Long),
+    (
+        4096,
+        "\r\n",
+        true,
+        Next::Line {
+            start: 0,
+            end: 4096,
+            after: 4098,
+        },
+    ),
+    (4097, "", false, Next::Long),
+];
+
 #[test]
 fn lines_are_found(rt: HostRuntime) -> Result<(), Fail> {
     for &(text, from, is_last, start, end, after) in &[
@@ -55,32 +65,7 @@ fn lines_are_found(rt: HostRuntime) -> Result<(), Fail> {
     }
     let others = (next_line(AB, 4, false), next_line(AB, 5, true));
     assert_eq!(rt; others, (Next::More, Next::End));
-    // long lines
-    for &(count, end, is_last, want) in &[
-        (
-            4096,
-            "",
-            true,
-            Next::Line {
-                start: 0,
-                end: 4096,
-                after: 4096,
-            },
-        ),
-        (4096, "\r", false, Next::More),
-        (4096, "\r", true, Next::Long),
-        (
-            4096,
-            "\r\n",
-            true,
-            Next::Line {
-                start: 0,
-                end: 4096,
-                after: 4098,
-            },
-        ),
-        (4097, "", false, Next::Long),
-    ] {
+    for &(count, end, is_last, want) in LONG_LINES {
         let line = line_of(rt.alloc(), count, end, is_last)?;
         assert_eq!(rt; line, want, "{count} {end:?} {is_last}");
     }

@@ -4,6 +4,7 @@ ghost use Rattle.mc_blocks.specs.Limits.{HasInputTypes, IsWithinLimits};
 ghost use Rattle.mc_blocks.specs.Meaning.{op_of};
 ghost use Rattle.mc_blocks.specs.Width as width;
 
+use super::INT8;
 use mc_base::{Compare, Decimal, TimeText};
 use mc_blocks::{
     Criterion, GainText, How, Kind, Logic, Op, feeds_through, ports, resolve, rhs, wide_bits,
@@ -13,12 +14,6 @@ use mc_fixed::{FixType, Over, Round};
 const BOOLEAN: FixType = FixType {
     signed: false,
     bits: 1,
-    frac: 0,
-};
-
-const INT8: FixType = FixType {
-    signed: true,
-    bits: 8,
     frac: 0,
 };
 

@@ -3,20 +3,14 @@ ghost use Rattle.mc_base.specs.declared.base.Control.TheVariants.{Plain};
 ghost use Rattle.mc_diagram.specs.Nested.{system, no_more, system_of};
 ghost use Rattle.mc_diagram_tests.specs.Samples.{inport_row};
 
-use super::is_told;
-use mc_base::{Control, Memory, Place, TimeText, Wires};
+use super::INT8;
+use mc_base::{Control, Memory, Place, Refusal, TimeText, TypeWhy, Wires};
 use mc_blocks::Kind;
 use mc_diagram::{BuildFault, Row, Subsystem, Table, Tree};
 use mc_fixed::{FixType, TypeText};
 use mc_types::infer_types;
 use std::alloc::Global;
 use std::test::Fail;
-
-const INT8: FixType = FixType {
-    signed: true,
-    bits: 8,
-    frac: 0,
-};
 
 /// An input with this text of its type, as the first row of the root.
 fn inport(alloc: Global, text: TypeText) -> Row
@@ -56,13 +50,20 @@ fn tree_of_one(alloc: Global, text: TypeText) -> Result<Tree, Memory> {
     Ok(Tree::new(table, root))
 }
 
-/// The types of such a tree, or the refusal.
-fn types_told(alloc: Global, text: TypeText) -> Result<String, Fail> {
+/// The line of the row that is refused for want of a type, and why it has none.
+fn missing_type(fault: &BuildFault) -> Option<(u32, TypeWhy)> {
+    match fault {
+        BuildFault::Refused(Refusal::NoType { line, why }) => Some((*line, *why)),
+        _ => None,
+    }
+}
+
+/// The type of the input of such a tree, or the line of that row and why it has none.
+fn type_of_input(alloc: Global, text: TypeText) -> Result<Result<FixType, (u32, TypeWhy)>, Fail> {
     let tree = tree_of_one(alloc, text)?;
     match infer_types(alloc, &tree) {
-        Ok(types) => Ok(format!(in alloc; "{types:?}")?),
-        Err(BuildFault::Refused(refusal)) => Ok(format!(in alloc; "{refusal:?}")?),
-        Err(BuildFault::Memory) => Err(Fail::from("memory")),
+        Ok(types) => Ok(Ok(*types.first().ok_or("no row")?)),
+        Err(fault) => Ok(Err(missing_type(&fault).ok_or("another fault")?)),
     }
 }
 
@@ -70,13 +71,10 @@ fn types_told(alloc: Global, text: TypeText) -> Result<String, Fail> {
 #[test]
 fn types_of_an_input(rt: HostRuntime) -> Result<(), Fail> {
     for &(text, expected) in &[
-        (
-            TypeText::Fixed(INT8),
-            "[FixType { signed: true, bits: 8, frac: 0 }]",
-        ),
-        (TypeText::Inherit, "NoType { line: 3, why: Missing }"),
+        (TypeText::Fixed(INT8), Ok(INT8)),
+        (TypeText::Inherit, Err((3, TypeWhy::Missing))),
     ] {
-        is_told(&types_told(rt.alloc(), text)?, expected)?;
+        assert_eq!(rt; type_of_input(rt.alloc(), text)?, expected);
     }
     Ok(())
 }

@@ -1,35 +1,71 @@
-ghost use Rattle.std.specs.Prelude.{◌≤◌, length};
-
-use super::is_told;
+use mc_base::Memory;
 use mc_certificate::{Certificate, Difference, check, make};
 use std::alloc::{AllocError, Global};
 use std::test::Fail;
 
-/// The certificate for outputs of these needs, whether it is one for these, and whether it is one for others.
-fn made(alloc: Global, needs: &[u64], others: &[u64]) -> Result<String, Fail>
-    requires { length needs.now ≤ 32 }
-{
-    let c = make(alloc, needs)?;
-    let (for_needs, for_others) = (check(needs, &c), check(others, &c));
-    let text = format!(in alloc;
-        "{:?} {:?} {for_needs} {for_others}",
-        c.representatives, c.differ
-    )?;
-    Ok(text)
+/// The needs of outputs, the certificate that is made for them, other needs, and whether it is one for these too.
+struct Made {
+    needs: &'static [u64],
+    representatives: &'static [u8],
+    differ: &'static [Difference],
+    others: &'static [u64],
+    is_for_others: bool,
+}
+
+/// The first two representatives differ in input 1.
+const BY_INPUT_1: Difference = Difference {
+    first: 0,
+    second: 1,
+    bit: 0,
+};
+
+const CERTIFICATES: &[Made] = &[
+    // Two outputs need the input, and one needs nothing.
+    Made {
+        needs: &[1, 1, 0],
+        representatives: &[0, 2],
+        differ: &[BY_INPUT_1],
+        others: &[1, 1, 1],
+        is_for_others: false,
+    },
+    Made {
+        needs: &[1, 1, 0],
+        representatives: &[0, 2],
+        differ: &[BY_INPUT_1],
+        others: &[1, 1],
+        is_for_others: false,
+    },
+    // Each output needs an input of its own.
+    Made {
+        needs: &[1, 2],
+        representatives: &[0, 1],
+        differ: &[BY_INPUT_1],
+        others: &[1, 2],
+        is_for_others: true,
+    },
+];
+
+/// Whether such a certificate is made; not for more than 32 outputs.
+fn is_made(alloc: Global, expected: &Made) -> Result<bool, Memory> {
+    let needs = expected.needs;
+    if needs.len() > 32 {
+        return Ok(false);
+    }
+    let made = make(alloc, needs)?;
+    Ok(
+        made.representatives.as_slice() == expected.representatives
+            && made.differ.as_slice() == expected.differ
+            && check(needs, &made)
+            && check(expected.others, &made) == expected.is_for_others,
+    )
 }
 
 #[test]
 fn classes_of_outputs(rt: HostRuntime) -> Result<(), Fail> {
-    // two outputs need the input, and one needs nothing
-    let two_classes = "[0, 2] [Difference { first: 0, second: 1, bit: 0 }] true false";
-    let told = made(rt.alloc(), &[1, 1, 0], &[1, 1, 1])?;
-    is_told(told.as_bytes(), two_classes, "an output of other needs")?;
-    let told = made(rt.alloc(), &[1, 1, 0], &[1, 1])?;
-    is_told(told.as_bytes(), two_classes, "an output less")?;
-    // each output needs an input of its own
-    let crossed = "[0, 1] [Difference { first: 0, second: 1, bit: 0 }] true true";
-    let told = made(rt.alloc(), &[1, 2], &[1, 2])?;
-    is_told(told.as_bytes(), crossed, "crossed ports")
+    for expected in CERTIFICATES {
+        assert!(rt; is_made(rt.alloc(), expected)?, "{:?}", expected.others);
+    }
+    Ok(())
 }
 
 /// Whether the pairs with these bits are a certificate for three outputs.

@@ -1,32 +1,35 @@
 ghost use Rattle.std.specs.Prelude.{◌≤◌, length};
 
-use super::is_told;
 use mc_profile::{Function, functions_of};
 use std::alloc::Global;
 use std::test::Fail;
 
-/// The functions of a system whose outputs have these needs.
-fn functions_told(alloc: Global, needs: &[u64]) -> Result<String, Fail>
+const fn function(inputs: u64, outputs: u32) -> Function {
+    Function { inputs, outputs }
+}
+
+/// Fails where the functions of a system whose outputs have these needs are others.
+fn are_functions(alloc: Global, needs: &[u64], expected: &[Function]) -> Result<(), Fail>
     requires { length needs.now ≤ 32 }
 {
     let functions = functions_of(alloc, needs)?;
-    Ok(format!(in alloc; "{functions:?}")?)
+    if functions.as_slice() == expected {
+        return Ok(());
+    }
+    Err(Fail::new(format_args!("{functions:?} are given for {needs:?}, not {expected:?}")))
 }
 
 #[test]
 fn functions_of_outputs(rt: HostRuntime) -> Result<(), Fail> {
     // each output needs an input of its own
-    let crossed = "[Function { inputs: 1, outputs: 1 }, Function { inputs: 2, outputs: 2 }]";
-    let told = functions_told(rt.alloc(), &[1, 2])?;
-    is_told(told.as_bytes(), crossed, "crossed ports")?;
+    let crossed = [function(1, 1), function(2, 2)];
+    are_functions(rt.alloc(), &[1, 2], &crossed)?;
     // two outputs need the input, and one behind a delay needs none
-    let delayed = "[Function { inputs: 1, outputs: 3 }, Function { inputs: 0, outputs: 4 }]";
-    let told = functions_told(rt.alloc(), &[1, 1, 0])?;
-    is_told(told.as_bytes(), delayed, "an output behind a delay")?;
+    let delayed = [function(1, 3), function(0, 4)];
+    are_functions(rt.alloc(), &[1, 1, 0], &delayed)?;
     // an enable and a trigger besides the input
-    let controlled = "[Function { inputs: 12884901889, outputs: 1 }]";
-    let told = functions_told(rt.alloc(), &[(3 << 32) + 1])?;
-    is_told(told.as_bytes(), controlled, "both controls")
+    let needs = (3 << 32) + 1;
+    are_functions(rt.alloc(), &[needs], &[function(12_884_901_889, 1)])
 }
 
 #[test]
@@ -36,10 +39,7 @@ fn thirty_two_needs(rt: HostRuntime) -> Result<(), Fail> {
         needs[k] = 1 << k;
     }
     let functions = functions_of(rt.alloc(), &needs)?;
-    let last = Function {
-        inputs: 2_147_483_648,
-        outputs: 2_147_483_648,
-    };
+    let last = function(2_147_483_648, 2_147_483_648);
     assert_eq!(rt; (functions.len(), functions.last()), (32, Some(&last)));
     Ok(())
 }

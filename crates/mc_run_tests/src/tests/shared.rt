@@ -5,16 +5,14 @@ use std::alloc::Global;
 use std::test::Fail;
 
 /// A subsystem that adds twice what a delay holds to each of its two inputs; the delay begins with 1 and takes that double.
-pub(super) const SHARED_NODE: &str =
-    "Inport a OutDataTypeStr=int32; Inport b Port=2 OutDataTypeStr=int32; \
+const SHARED_NODE: &str = "Inport a OutDataTypeStr=int32; Inport b Port=2 OutDataTypeStr=int32; \
      SubSystem s {; Inport x1; Inport x2 Port=2; UnitDelay d InitialCondition=1; Gain g Gain=2 OutDataTypeStr=int32; \
      Sum p; Sum q; Outport y1; Outport y2 Port=2; \
      g 1 > d 1; d 1 > g 1; g 1 > p 1; x1 1 > p 2; g 1 > q 1; x2 1 > q 2; p 1 > y1 1; q 1 > y2 1; }; \
      Outport o1; Outport o2 Port=2; a 1 > s 1; b 1 > s 2; s 1 > o1 1; s 2 > o2 1";
 
 /// A subsystem that passes its input on; the first output of the root is what it gives, the second that and an input more.
-pub(super) const SHARED_CHILD: &str =
-    "Inport a OutDataTypeStr=int32; Inport b Port=2 OutDataTypeStr=int32; \
+const SHARED_CHILD: &str = "Inport a OutDataTypeStr=int32; Inport b Port=2 OutDataTypeStr=int32; \
      SubSystem s {; Inport x; Outport y; x 1 > y 1; }; \
      Sum p; Outport o1; Outport o2 Port=2; a 1 > s 1; s 1 > p 1; b 1 > p 2; s 1 > o1 1; p 1 > o2 1";
 

@@ -1,4 +1,4 @@
-use super::{resolved, trace};
+use super::{DELAYED, resolved, trace};
 use mc_equations::is_trace_for;
 use std::alloc::Global;
 use std::test::Fail;
@@ -6,10 +6,7 @@ use std::test::Fail;
 /// Whether these rows are a trace for a model of one input.
 fn fits_one_input(alloc: Global, rows: &str) -> Result<bool, Fail> {
     let inputs = trace(alloc, rows)?;
-    let r = resolved(
-        alloc,
-        "Inport a OutDataTypeStr=int32; UnitDelay d InitialCondition=7; Outport o; a 1 > d 1; d 1 > o 1",
-    )?;
+    let r = resolved(alloc, DELAYED)?;
     Ok(is_trace_for(&r, inputs.as_slice()))
 }
 

@@ -125,45 +125,48 @@ fn large_compiles(
     compiles(alloc, &model, status, text, files)
 }
 
+/// What a model has many of and how many, the status, the text that is put, and how many files are written.
+const LARGE_MODELS: &[(&str, u32, u8, &str, usize)] = &[
+    (
+        "crossed ports",
+        32,
+        0,
+        "compiled rows 64 systems 1 functions 32\n",
+        1,
+    ),
+    (
+        "delays",
+        50,
+        0,
+        "compiled rows 52 systems 1 functions 1\n",
+        1,
+    ),
+    (
+        "blocks",
+        20_000,
+        0,
+        "compiled rows 20000 systems 1 functions 0\n",
+        1,
+    ),
+    (
+        "blocks",
+        20_001,
+        3,
+        "refused F6 TooMany line 80003 Blocks 20001\n",
+        0,
+    ),
+    (
+        "deep sections",
+        129,
+        3,
+        "refused F2 Syntax line 129 DeepSections\n",
+        0,
+    ),
+];
+
 #[test]
 fn large_models(rt: HostRuntime) -> Result<(), Fail> {
-    for &(what, count, status, text, files) in &[
-        (
-            "crossed ports",
-            32,
-            0,
-            "compiled rows 64 systems 1 functions 32\n",
-            1,
-        ),
-        (
-            "delays",
-            50,
-            0,
-            "compiled rows 52 systems 1 functions 1\n",
-            1,
-        ),
-        (
-            "blocks",
-            20_000,
-            0,
-            "compiled rows 20000 systems 1 functions 0\n",
-            1,
-        ),
-        (
-            "blocks",
-            20_001,
-            3,
-            "refused F6 TooMany line 80003 Blocks 20001\n",
-            0,
-        ),
-        (
-            "deep sections",
-            129,
-            3,
-            "refused F2 Syntax line 129 DeepSections\n",
-            0,
-        ),
-    ] {
+    for &(what, count, status, text, files) in LARGE_MODELS {
         assert!(rt;
             large_compiles(rt.alloc(), what, count, status, text, files)?,
             "{text}"

@@ -1,10 +1,10 @@
-use super::is_told;
-use mc_base::ParamName;
-use mdl_params::{Defaults, number, sample_time, type_of};
+use mc_base::{ParamName, TimeText};
+use mc_fixed::TypeText;
+use mdl_params::{Defaults, ParamFault, number, sample_time, type_of};
 use mdl_reader::read_mdl;
-use mdl_texts::push_lines;
+use mdl_texts::{is_told, push_lines};
 use mdl_tree::Section;
-use std::alloc::{AllocError, Global};
+use std::alloc::Global;
 use std::test::Fail;
 
 /// A model whose section of defaults has these blocks, and beside it a block with these parameters; lines are parted by ` / `.
@@ -27,91 +27,42 @@ fn found_in(alloc: Global, model: &Section, kind: &str, name: ParamName) -> Resu
     Ok(text.to_vec(alloc)?)
 }
 
-/// Two gains in the section of defaults, of which the first counts.
-const GAINS: &str = "Block { / BlockType Gain / OutDataTypeStr fixdt(1,16,4) / SampleTime -1 / } / \
-    Block { / BlockType Gain / SampleTime 7 / }";
+/// A block with these defaults, of this type and with these parameters.
+type Block = (&'static str, &'static str, &'static str);
 
-/// A block there with an initial condition by its second name.
-const DELAYS: &str = "Block { / BlockType Delay / X0 3 / }";
+/// A gain with two blocks in the section of defaults, of which the first counts.
+const GAIN: Block = (
+    "Block { / BlockType Gain / OutDataTypeStr fixdt(1,16,4) / SampleTime -1 / } / \
+     Block { / BlockType Gain / SampleTime 7 / }",
+    "Gain",
+    "Name \"Long gain\" / Gain 2.5",
+);
 
-const PARAMS: &[(&str, &str, &str, ParamName, &str)] = &[
+/// A delay with an initial condition by its second name, there too.
+const DELAY: Block = (
+    "Block { / BlockType Delay / X0 3 / }",
+    "Delay",
+    "DelayLength 5 / X0 7",
+);
+
+const PARAMS: &[(Block, ParamName, &str)] = &[
     // The block's own, that of the defaults, and that of the type.
-    (
-        GAINS,
-        "Gain",
-        "Name \"Long gain\" / Gain 2.5",
-        ParamName::Gain,
-        "2.5",
-    ),
-    (
-        GAINS,
-        "Gain",
-        "Name \"Long gain\" / Gain 2.5",
-        ParamName::SampleTime,
-        "-1",
-    ),
-    (
-        GAINS,
-        "Gain",
-        "Name \"Long gain\" / Gain 2.5",
-        ParamName::RndMeth,
-        "Floor",
-    ),
-    (
-        GAINS,
-        "Gain",
-        "Name \"Long gain\" / Gain 2.5",
-        ParamName::Name,
-        "Long gain",
-    ),
+    (GAIN, ParamName::Gain, "2.5"),
+    (GAIN, ParamName::SampleTime, "-1"),
+    (GAIN, ParamName::RndMeth, "Floor"),
+    (GAIN, ParamName::Name, "Long gain"),
     // A delay of several samples, whose initial condition has no second name.
-    (
-        DELAYS,
-        "Delay",
-        "DelayLength 5 / X0 7",
-        ParamName::DelayLength,
-        "5",
-    ),
-    (
-        DELAYS,
-        "Delay",
-        "DelayLength 5 / X0 7",
-        ParamName::DelayLengthSource,
-        "Dialog",
-    ),
-    (
-        DELAYS,
-        "Delay",
-        "DelayLength 5 / X0 7",
-        ParamName::InitialCondition,
-        "0",
-    ),
-    (
-        DELAYS,
-        "Delay",
-        "DelayLength 5 / X0 7",
-        ParamName::InitialConditionSource,
-        "Dialog",
-    ),
-    (
-        DELAYS,
-        "Delay",
-        "DelayLength 5 / X0 7",
-        ParamName::ExternalReset,
-        "None",
-    ),
-    (
-        DELAYS,
-        "Delay",
-        "DelayLength 5 / X0 7",
-        ParamName::SampleTime,
-        "-1",
-    ),
+    (DELAY, ParamName::DelayLength, "5"),
+    (DELAY, ParamName::DelayLengthSource, "Dialog"),
+    (DELAY, ParamName::InitialCondition, "0"),
+    (DELAY, ParamName::InitialConditionSource, "Dialog"),
+    (DELAY, ParamName::ExternalReset, "None"),
+    (DELAY, ParamName::SampleTime, "-1"),
 ];
 
 #[test]
 fn parameters_of_blocks(rt: HostRuntime) -> Result<(), Fail> {
-    for &(defaults, kind, params, name, expected) in PARAMS {
+    for &((defaults, kind, params), name, expected) in PARAMS {
         let model = model_with(rt.alloc(), defaults, params)?;
         is_told(&found_in(rt.alloc(), &model, kind, name)?, expected, params)?;
     }
@@ -135,59 +86,65 @@ fn initial_conditions(rt: HostRuntime) -> Result<(), Fail> {
     Ok(())
 }
 
-/// What a text means as a number, as a type, or as a sample time.
-fn meaning(alloc: Global, text: &str, what: &str) -> Result<String, AllocError> {
-    let bytes = text.as_bytes();
-    match what {
-        "number" => format!(in alloc; "{:?}", number(bytes)),
-        "type" => format!(in alloc; "{:?}", type_of(bytes)),
-        _ => format!(in alloc; "{:?}", sample_time(bytes)),
+/// Texts, with the parts of the fractions that they are, or why they are no numbers.
+const NUMBERS: &[(&str, Result<(i128, u128), ParamFault>)] = &[
+    (" [1/50] ", Ok((1, 50))),
+    ("1e19", Err(ParamFault::Parameter)),
+];
+
+/// The parts of the fraction that a text is.
+fn parts_of(text: &str) -> Result<(i128, u128), ParamFault> {
+    let read = number(text.as_bytes())?;
+    Ok((read.num, read.den))
+}
+
+#[test]
+fn numbers_and_types(rt: HostRuntime) {
+    for &(text, parts) in NUMBERS {
+        assert_eq!(rt; parts_of(text), parts, "{text}");
+    }
+    for &(text, meaning) in &[
+        ("Inherit: auto", Ok(TypeText::Inherit)),
+        ("single", Err(ParamFault::Float)),
+        ("fixdt(1,33,0)", Err(ParamFault::Parameter)),
+    ] {
+        assert_eq!(rt; type_of(text.as_bytes()), meaning, "{text}");
     }
 }
 
-const MEANINGS: &[(&str, &str, &str)] = &[
-    (" [1/50] ", "number", "Ok(Decimal { num: 1, den: 50 })"),
-    ("1e19", "number", "Err(Parameter)"),
-    ("Inherit: auto", "type", "Ok(Inherit)"),
-    ("single", "type", "Err(Float)"),
-    ("fixdt(1,33,0)", "type", "Err(Parameter)"),
-    (
-        "1/50",
-        "time",
-        "Ok(Each { period: Frac { num: 1, den: 50 }, offset: Frac { num: 0, den: 1 } })",
-    ),
-    (
-        "[1/75 1/150]",
-        "time",
-        "Ok(Each { period: Frac { num: 1, den: 75 }, offset: Frac { num: 1, den: 150 } })",
-    ),
-    (
-        " [0.2, 0.1]",
-        "time",
-        "Ok(Each { period: Frac { num: 1, den: 5 }, offset: Frac { num: 1, den: 10 } })",
-    ),
-    (
-        "[2,0]",
-        "time",
-        "Ok(Each { period: Frac { num: 2, den: 1 }, offset: Frac { num: 0, den: 1 } })",
-    ),
-    (
-        "1.000003",
-        "time",
-        "Ok(Each { period: Frac { num: 1000003, den: 1000000 }, offset: Frac { num: 0, den: 1 } })",
-    ),
-    ("[-1, 0]", "time", "Ok(Inherit)"),
-    ("inf", "time", "Ok(Constant)"),
-    ("0", "time", "Err(Continuous)"),
-    ("[0 -1]", "time", "Err(Continuous)"),
-    ("[1 1]", "time", "Err(Parameter)"),
-    ("-2", "time", "Err(Parameter)"),
+/// Texts, with the parts of the period and of the offset that each writes.
+const PERIODS: &[(&str, (u64, u64), (u64, u64))] = &[
+    ("1/50", (1, 50), (0, 1)),
+    ("[1/75 1/150]", (1, 75), (1, 150)),
+    (" [0.2, 0.1]", (1, 5), (1, 10)),
+    ("[2,0]", (2, 1), (0, 1)),
+    ("1.000003", (1_000_003, 1_000_000), (0, 1)),
 ];
 
-#[test]
-fn meanings_of_texts(rt: HostRuntime) -> Result<(), Fail> {
-    for &(text, what, expected) in MEANINGS {
-        is_told(meaning(rt.alloc(), text, what)?.as_bytes(), expected, text)?;
+/// The parts of the period and of the offset that a text writes.
+fn period_of(text: &str) -> Option<((u64, u64), (u64, u64))> {
+    match sample_time(text.as_bytes()) {
+        Ok(TimeText::Each { period, offset }) => {
+            Some(((period.num, period.den), (offset.num, offset.den)))
+        }
+        _ => None,
     }
-    Ok(())
+}
+
+#[test]
+fn sample_times(rt: HostRuntime) {
+    for &(text, period, offset) in PERIODS {
+        assert_eq!(rt; period_of(text), Some((period, offset)), "{text}");
+    }
+    // other sample times, or why a text writes none
+    for &(text, time) in &[
+        ("[-1, 0]", Ok(TimeText::Inherit)),
+        ("inf", Ok(TimeText::Constant)),
+        ("0", Err(ParamFault::Continuous)),
+        ("[0 -1]", Err(ParamFault::Continuous)),
+        ("[1 1]", Err(ParamFault::Parameter)),
+        ("-2", Err(ParamFault::Parameter)),
+    ] {
+        assert_eq!(rt; sample_time(text.as_bytes()), time, "{text}");
+    }
 }

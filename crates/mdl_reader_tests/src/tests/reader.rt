@@ -1,10 +1,9 @@
-use super::is_told;
 use mc_base::SyntaxKind;
 use mc_base::SyntaxKind::{
     AfterString, BadName, Brace, DeepSections, OpenBracket, OpenString, StrayString,
 };
 use mdl_reader::{ReadFault, read_mdl};
-use mdl_texts::SAVED;
+use mdl_texts::{SAVED, is_told};
 use mdl_tree::{Item, Section};
 use std::alloc::Global;
 use std::test::Fail;

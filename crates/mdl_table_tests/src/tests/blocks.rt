@@ -1,4 +1,5 @@
-use super::at_both_depths;
+use super::answer;
+use mdl_texts::at_both_depths;
 use std::test::Fail;
 
 const BLOCKS: &[(&str, &str, &str)] = &[
@@ -120,5 +121,5 @@ const BLOCKS: &[(&str, &str, &str)] = &[
 
 #[test]
 fn blocks_and_parameters(rt: HostRuntime) -> Result<(), Fail> {
-    at_both_depths(rt.alloc(), "_", BLOCKS)
+    at_both_depths(rt.alloc(), &answer, "_", BLOCKS)
 }

@@ -1,4 +1,5 @@
-use super::at_both_depths;
+use super::answer;
+use mdl_texts::at_both_depths;
 use std::test::Fail;
 
 // Any control port of the root, which a subsystem may have; of two the first.
@@ -48,6 +49,6 @@ const PORTS_OF_A_SUBSYSTEM: &[(&str, &str, &str)] = &[
 
 #[test]
 fn control_ports(rt: HostRuntime) -> Result<(), Fail> {
-    at_both_depths(rt.alloc(), "_", PORTS_OF_THE_ROOT)?;
-    at_both_depths(rt.alloc(), SUBSYSTEM, PORTS_OF_A_SUBSYSTEM)
+    at_both_depths(rt.alloc(), &answer, "_", PORTS_OF_THE_ROOT)?;
+    at_both_depths(rt.alloc(), &answer, SUBSYSTEM, PORTS_OF_A_SUBSYSTEM)
 }

@@ -1,4 +1,5 @@
-use super::is_told_in_root;
+use super::answer;
+use mdl_texts::is_told_in_root;
 use std::alloc::{AllocError, Global};
 use std::test::Fail;
 
@@ -17,7 +18,8 @@ fn deep_subsystems(rt: HostRuntime) -> Result<(), Fail> {
         (33, "refused F5 TooDeep line 131"),
         (34, "refused F5 TooDeep line 131"),
     ] {
-        is_told_in_root(rt.alloc(), &nested(rt.alloc(), depth)?, expected)?;
+        let parts = nested(rt.alloc(), depth)?;
+        is_told_in_root(rt.alloc(), &answer, &parts, expected)?;
     }
     Ok(())
 }

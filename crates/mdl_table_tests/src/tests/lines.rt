@@ -1,4 +1,5 @@
-use super::at_both_depths;
+use super::answer;
+use mdl_texts::at_both_depths;
 use std::test::Fail;
 
 // Lines between two blocks, from 11 on.
@@ -123,7 +124,12 @@ const INPUTS_WITHOUT_A_LINE: &[(&str, &str, &str)] = &[
 
 #[test]
 fn ends_of_lines(rt: HostRuntime) -> Result<(), Fail> {
-    at_both_depths(rt.alloc(), BLOCKS, LINES)?;
-    at_both_depths(rt.alloc(), SUBSYSTEM, PORTS_THAT_A_SUBSYSTEM_MISSES)?;
-    at_both_depths(rt.alloc(), "_", INPUTS_WITHOUT_A_LINE)
+    at_both_depths(rt.alloc(), &answer, BLOCKS, LINES)?;
+    at_both_depths(
+        rt.alloc(),
+        &answer,
+        SUBSYSTEM,
+        PORTS_THAT_A_SUBSYSTEM_MISSES,
+    )?;
+    at_both_depths(rt.alloc(), &answer, "_", INPUTS_WITHOUT_A_LINE)
 }

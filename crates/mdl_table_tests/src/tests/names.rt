@@ -1,4 +1,5 @@
-use super::at_both_depths;
+use super::answer;
+use mdl_texts::at_both_depths;
 use std::test::Fail;
 
 // A name or a port that stands twice, told at the later of the first two such.
@@ -59,6 +60,6 @@ const BLOCKS_THAT_LINES_NAME: &[(&str, &str, &str)] = &[
 
 #[test]
 fn names_of_blocks(rt: HostRuntime) -> Result<(), Fail> {
-    at_both_depths(rt.alloc(), "_", NAMES_AND_PORTS)?;
-    at_both_depths(rt.alloc(), BLOCKS, BLOCKS_THAT_LINES_NAME)
+    at_both_depths(rt.alloc(), &answer, "_", NAMES_AND_PORTS)?;
+    at_both_depths(rt.alloc(), &answer, BLOCKS, BLOCKS_THAT_LINES_NAME)
 }

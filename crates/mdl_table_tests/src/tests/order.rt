@@ -1,4 +1,5 @@
-use super::at_both_depths;
+use super::answer;
+use mdl_texts::at_both_depths;
 use std::test::Fail;
 
 const REFUSALS: &[(&str, &str, &str)] = &[
@@ -53,5 +54,5 @@ const REFUSALS: &[(&str, &str, &str)] = &[
 
 #[test]
 fn refusals_in_order(rt: HostRuntime) -> Result<(), Fail> {
-    at_both_depths(rt.alloc(), "_", REFUSALS)
+    at_both_depths(rt.alloc(), &answer, "_", REFUSALS)
 }

@@ -1,4 +1,5 @@
-use super::at_both_depths;
+use super::answer;
+use mdl_texts::at_both_depths;
 use std::test::Fail;
 
 const PERIODS_AND_TYPES: &[(&str, &str, &str)] = &[
@@ -54,5 +55,5 @@ const PERIODS_AND_TYPES: &[(&str, &str, &str)] = &[
 
 #[test]
 fn periods_and_types(rt: HostRuntime) -> Result<(), Fail> {
-    at_both_depths(rt.alloc(), "_", PERIODS_AND_TYPES)
+    at_both_depths(rt.alloc(), &answer, "_", PERIODS_AND_TYPES)
 }

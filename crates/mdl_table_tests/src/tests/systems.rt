@@ -1,4 +1,5 @@
-use super::in_root;
+use super::answer;
+use mdl_texts::in_root;
 use std::test::Fail;
 
 // The lesser number comes first, and then the lesser line, in whatever system it stands: the blocks of a subsystem begin at
@@ -26,5 +27,5 @@ const REFUSALS: &[(&str, &str)] = &[
 
 #[test]
 fn the_first_refusal_of_all_systems(rt: HostRuntime) -> Result<(), Fail> {
-    in_root(rt.alloc(), SYSTEMS, REFUSALS)
+    in_root(rt.alloc(), &answer, SYSTEMS, REFUSALS)
 }

@@ -1,7 +1,6 @@
-use super::is_told;
 use mc_base::{Refusal, refusal_text};
 use mdl_reader::read_mdl;
-use mdl_texts::system_of;
+use mdl_texts::{is_told, system_of};
 use mdl_wiring::{first_refusal, newer_line};
 use std::alloc::Global;
 use std::test::Fail;

@@ -1,7 +1,7 @@
 use Rattle.std.proofs.Common.{◌∙◌, ◌+◌, ℕ, List, ap, map, arith}
 use Rattle.c_syntax.specs.Plain.{procedure_tree}
 use Rattle.c_system.specs.EmittedCode.{function_procedure}
-use Rattle.c_emission.proofs.Loops.{enumerated_more}
+use Rattle.c_emission.proofs.Placed.{enumerated_more}
 use Rattle.c_emission.proofs.procedures.push_functions.Goals as goal
 
 pub loop-k-preserved : goal.loop-k-preserved

@@ -2,7 +2,7 @@ use Rattle.std.proofs.Common.{◌∙◌, ap, map, arith}
 use Rattle.c_syntax.specs.Plain.{stmt_tree}
 use Rattle.c_system.specs.Groups.{own_count}
 use Rattle.c_system.specs.Renewing.{call_behind}
-use Rattle.c_emission.proofs.Loops.{enumerated_more}
+use Rattle.c_emission.proofs.Placed.{enumerated_more}
 use Rattle.c_emission.proofs.renewal.push_child_calls.Goals as goal
 
 pub loop-place-preserved : goal.loop-place-preserved

@@ -3,7 +3,7 @@ use Rattle.mc_diagram.specs.Run.{is_delay}
 use Rattle.c_syntax.specs.Tree.{no_stmts}
 use Rattle.c_system.specs.EmittedCode.{joined}
 use Rattle.c_system.specs.NodeCode.{memory_code}
-use Rattle.c_emission.specs.Code.{code_of}
+use Rattle.c_nodes.specs.Code.{code_of}
 use Rattle.c_emission.proofs.update.memories_code.Given as goal
 
 abbrev pub invariant-loop-row : goal.invariant-loop-row

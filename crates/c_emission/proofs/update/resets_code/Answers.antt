@@ -1,7 +1,7 @@
 use Rattle.c_system.specs.Groups.{own_count}
 use Rattle.c_system.specs.NodeCode.{reset_code}
-use Rattle.c_emission.specs.Code.{code_of}
-use Rattle.c_emission.proofs.Joined.{joined_placed}
+use Rattle.c_nodes.specs.Code.{code_of}
+use Rattle.c_emission.proofs.Placed.{joined_placed}
 use Rattle.c_emission.proofs.update.resets_code.Goals as goal
 
 pub loop-place-preserved : goal.loop-place-preserved

@@ -1,4 +1,4 @@
-use Rattle.std.proofs.Common.{◌≡◌, ◌∙◌, ℕ, List, ap, ap₂, filter, map, if◌then◌else◌}
+use Rattle.std.proofs.Common.{◌≡◌, ◌∙◌, ℕ, All, List, ap, ap₂, filter, map, subst, sym, if◌then◌else◌}
 use Rattle.std.specs.List.{enumerate_from}
 use Rattle.mc_diagram.specs.Rows.{is_triggered}
 use Rattle.mc_diagram.specs.Run.{is_delay}
@@ -7,13 +7,28 @@ use Rattle.mc_profile.specs.declared.local.LocalRow.{LocalRow}
 use Rattle.mc_profile.specs.LocalSystem.{LocalSystem}
 use Rattle.mc_schedule.specs.SystemSchedule.{SystemSchedule}
 use Rattle.c_syntax.specs.Tree.{no_stmts, stmts_append, stmts_of_list}
+use Rattle.c_system.specs.Emittable.{IsWritableRow}
 use Rattle.c_system.specs.EmittedCode.{joined}
 use Rattle.c_system.specs.Groups.{own_count}
 use Rattle.c_system.specs.NodeCode.{code_at, memory_code, update_code, reset_code, trigger_code}
 use Rattle.c_system.specs.Renewing.{counter_stores}
-use Rattle.c_emission.specs.Code.{code_of}
-use Rattle.c_emission.proofs.Joined.{joined_six}
+use Rattle.c_nodes.specs.Code.{code_of}
+use Rattle.c_emission.proofs.Pieces.{joined_six}
 use Rattle.c_emission.proofs.update.update_body.Goals as goal
+
+pub memories_code-requires : goal.memories_code-requires
+memories_code-requires c =
+    let opened = c.local.view_is ∙ c.local-local.ensures in
+    subst (All (IsWritableRow c.args.layout.now.local))
+    (sym (c.as_slice.ensures.value ∙ ap (λ (s : LocalSystem). s.rows) opened)) c.requires.rows
+
+pub updates_code-requires-clause-children : goal.updates_code-requires-clause-children
+updates_code-requires-clause-children c =
+    c.as_slice-children.ensures.value ∙ ap (λ (s : LocalSystem). s.children) (c.local.view_is ∙ c.local-local.ensures)
+
+pub resets_code-requires-clause-children : goal.resets_code-requires-clause-children
+resets_code-requires-clause-children c =
+    c.as_slice-children.ensures.value ∙ ap (λ (s : LocalSystem). s.children) (c.local.view_is ∙ c.local-local.ensures)
 
 pub returns : goal.returns
 returns c =

@@ -1,6 +1,27 @@
-use Rattle.std.proofs.Common.{◌+◌, ℕ, List, ◌++◌, ◌∷◌, [], sym, ap, ap₂, ◌∙◌}
-use Rattle.c_layout.proofs.Bases.{procedures, base-more, bases-more}
+use Rattle.std.proofs.Common.{◌+◌, ◌^◌, ℕ, List, ◌++◌, ◌∷◌, [], sym, ap, ap₂, ◌∙◌, arith}
+use Rattle.c_layout.proofs.Bases.{procedures, base-fits, base-more, bases-more}
 use Rattle.c_layout.proofs.places.bases_of.Goals as goal
+
+pub overflow_cast-next : goal.overflow_cast-next
+overflow_cast-next c =
+    let fits = base-fits c.args.count (2 ^ 32) c.loop-child.next c.function_count.result c.args.children.now
+    c.loop-child.child-index c.child-item.result c.loop-child-test.true c.requires c.loop-child.invariant.0 c.child-item.is
+    c.function_count.ensures in
+    omega (arith, fits)
+
+pub overflow_add-next : goal.overflow_add-next
+overflow_add-next c =
+    let fits = base-fits c.args.count (2 ^ 32) c.loop-child.next c.function_count.result c.args.children.now
+    c.loop-child.child-index c.child-item.result c.loop-child-test.true c.requires c.loop-child.invariant.0 c.child-item.is
+    c.function_count.ensures in
+    omega (arith, fits)
+
+pub overflow_add-next-in-loop-child : goal.overflow_add-next-in-loop-child
+overflow_add-next-in-loop-child c =
+    let fits = base-fits c.args.count (2 ^ 32) c.loop-child.next c.function_count.result c.args.children.now
+    c.loop-child.child-index c.child-item.result c.loop-child-test.true c.requires c.loop-child.invariant.0 c.child-item.is
+    c.function_count.ensures in
+    omega (arith, fits)
 
 pub loop-child-preserved : goal.loop-child-preserved
 loop-child-preserved c =

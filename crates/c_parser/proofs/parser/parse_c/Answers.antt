@@ -1,6 +1,6 @@
 use Rattle.std.proofs.Common.{◌≡◌, ◌∙◌, ap, ◌||◌, ◌++◌, ◌∷◌, [], bytes_eq}
 use Rattle.c_grammar.specs.Tokens.{header_line, has_header}
-use Rattle.c_parser.specs.Limited.{limits_of}
+use Rattle.c_expressions.specs.Limited.{limits_of}
 use Rattle.c_parser.proofs.WholeText.{text-gives}
 use Rattle.c_parser.proofs.parser.parse_c.Goals as goal
 

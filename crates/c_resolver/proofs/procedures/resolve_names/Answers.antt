@@ -6,7 +6,7 @@ use Rattle.c_rules.specs.Resolve.{function_names, check_params}
 use Rattle.c_grammar.specs.declared.written.WrittenPureParam.{WrittenPureParam as PlainParam}
 use Rattle.c_grammar.specs.declared.written.WrittenParam.{WrittenParam as TypedParam}
 use Rattle.c_grammar.specs.WrittenTrees.{param_of}
-use Rattle.c_resolver.specs.declared.name_table.NameTable.{NameTable}
+use Rattle.c_outputs.specs.declared.name_table.NameTable.{NameTable}
 use Rattle.c_resolver.specs.Gives.{Gives}
 use Rattle.c_resolver.specs.Scopes.{known_of}
 use Rattle.c_resolver.specs.Params.{line_and_name, plain_param}

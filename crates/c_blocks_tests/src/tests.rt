@@ -1,3 +1,0 @@
-mod blocks;
-mod prelude;
-mod pruned;

@@ -1,5 +1,0 @@
-// Codes of small models, apart from what they test so that its proofs are made once.
-#![tactic(auto)]
-
-#[cfg(test)]
-mod tests;

@@ -1,0 +1,123 @@
+ghost use Rattle.std.specs.Prelude.{◌≡◌, ◌<◌, ◌+◌, ◌-◌, ◌^◌, ◌∷◌, IfOk, length, map};
+ghost use Rattle.mc_profile.specs.Headers.{header_functions};
+ghost use Rattle.mc_profile.specs.LawfulLocals.{IsChild};
+ghost use Rattle.mc_profile.specs.Locals.{entering as wires_entering};
+ghost use Rattle.c_system.specs.Emittable.{IsEmittable};
+ghost use Rattle.c_system.specs.Groups.{own_count};
+ghost use Rattle.c_system.specs.NodeCode as node;
+ghost use Rattle.c_system.specs.Places.{child_base, now_leaf};
+ghost use Rattle.c_system.specs.Sources.{wire_leaf};
+ghost use Rattle.c_nodes.specs.Code.{code_of};
+
+use crate::activity::{active_test, off_test};
+use crate::taken::{entering, taken};
+use c_blocks::{call_statements, reset_call_statements};
+use c_layout::{Layout, Params};
+use c_syntax::{Leaf, Stmt};
+use mc_base::Memory;
+use mc_profile::ChildUse;
+use std::alloc::Global;
+
+/// The leaves of a call: the tick, and what else is passed on.
+fn with_now(alloc: Global, params: &Params, others: &[Leaf]) -> Result<Vec<Leaf>, Memory>
+    ensures { IfOk result (λ v. v.items ≡ now_leaf params.now ∷ others.now) }
+{
+    let mut leaves = Vec::new(alloc);
+    leaves.push(params.now_leaf())?;
+    leaves.extend_from_slice(others)?;
+    Ok(leaves)
+}
+
+/// The leaves of the wires that enter a child.
+fn entering_leaves(
+    alloc: Global,
+    layout: &Layout<'_>,
+    child: &ChildUse,
+) -> Result<Vec<Leaf>, Memory>
+    ensures { IfOk result
+        (λ v. v.items ≡ map (wire_leaf layout.now.local) (wires_entering child.now)) }
+{
+    let wires = entering(alloc, child)?;
+    layout.wire_leaves(alloc, &wires)
+}
+
+/// The statements that call function `j`, from 1 on, of the child at a place.
+///
+/// Fails only for want of memory.
+pub(crate) fn call_code(
+    alloc: Global,
+    layout: &Layout<'_>,
+    params: &Params,
+    place: usize,
+    child: &ChildUse,
+    j: u8,
+) -> Result<Vec<Stmt>, Memory>
+    requires emittable { IsEmittable layout.now.local layout.now.schedule }
+    requires child { IsChild child.now }
+    requires place { place < length layout.now.local.children }
+    ensures { let of = layout.now in IfOk result (λ v. code_of v.items
+        ≡ node.call_code of.local (own_count of.schedule) params.now place child.now j) }
+{
+    let entering = entering_leaves(alloc, layout, child)?;
+    let taken = taken(alloc, &child.header, j, &entering)?;
+    let leaves = with_now(alloc, params, &taken)?;
+    let active = active_test(alloc, layout, params)?;
+    let procedure = layout.child_base(place) + u32::from(j).saturating_sub(1);
+    call_statements(alloc, active, procedure, layout.child_field(place), &leaves)
+}
+
+/// The number of the update of the child at a place; its start and its reset follow.
+pub fn update_number(layout: &Layout<'_>, place: usize, child: &ChildUse) -> u32
+    requires emittable { IsEmittable layout.now.local layout.now.schedule }
+    requires child { IsChild child.now }
+    requires place { place < length layout.now.local.children }
+    ensures number { result ≡ child_base layout.now.local (own_count layout.now.schedule) place
+        + length (header_functions child.now.header) }
+    ensures small { result < 2 ^ 32 - 2 }
+{
+    layout.child_base(place) + child.header.profile.functions.len() as u32
+}
+
+/// The statements that call the update of the child at a place.
+///
+/// Fails only for want of memory.
+pub fn update_code(
+    alloc: Global,
+    layout: &Layout<'_>,
+    params: &Params,
+    place: usize,
+    child: &ChildUse,
+) -> Result<Vec<Stmt>, Memory>
+    requires emittable { IsEmittable layout.now.local layout.now.schedule }
+    requires child { IsChild child.now }
+    requires place { place < length layout.now.local.children }
+    ensures { let of = layout.now in IfOk result (λ v. code_of v.items
+        ≡ node.update_code of.local (own_count of.schedule) params.now (place, child.now)) }
+{
+    let entering = entering_leaves(alloc, layout, child)?;
+    let leaves = with_now(alloc, params, &entering)?;
+    let active = active_test(alloc, layout, params)?;
+    let procedure = update_number(layout, place, child);
+    call_statements(alloc, active, procedure, layout.child_field(place), &leaves)
+}
+
+/// The statements that reset the child at a place.
+///
+/// Fails only for want of memory.
+pub fn reset_code(
+    alloc: Global,
+    layout: &Layout<'_>,
+    params: &Params,
+    place: usize,
+    child: &ChildUse,
+) -> Result<Vec<Stmt>, Memory>
+    requires emittable { IsEmittable layout.now.local layout.now.schedule }
+    requires child { IsChild child.now }
+    requires place { place < length layout.now.local.children }
+    ensures { let of = layout.now in IfOk result (λ v. code_of v.items
+        ≡ node.reset_code of.local (own_count of.schedule) params.now (place, child.now)) }
+{
+    let off = off_test(alloc, layout, params)?;
+    let procedure = update_number(layout, place, child) + 2;
+    reset_call_statements(alloc, off, procedure, layout.child_field(place))
+}

@@ -1,0 +1,4 @@
+pub mod NameLists
+pub mod OutputLaws
+pub mod NumberNames
+pub mod RootLaws
