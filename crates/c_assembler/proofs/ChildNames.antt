@@ -2,7 +2,7 @@
 use Rattle.std.proofs.Common.{◌≡◌, refl, sym, ap, ◌∙◌, ℕ, zero, suc, ◌+◌, ◌-◌, ◌<◌, ◌≤◌, ◌≢◌, false, cond, List, [], ◌∷◌, ◌++◌, length, map, set, take, drop, get_or, find, replicate, Option, Some, None, arith}
 use Rattle.std.specs.List.{range_with_len, filter_map, cons_option}
 use Rattle.std.specs.Option.{option_map, option_to_list}
-use Rattle.std.proofs.lemmas.List.{map-append, map-set}
+use Rattle.std.proofs.lemmas.List.{drop_more, map-append, map-set}
 use Rattle.std.proofs.lemmas.Bool.{eq-eqb, ne_eqb}
 use denote.Ref.{Bor}
 use Rattle.c_syntax.specs.declared.program.Field.{Field}
@@ -11,8 +11,8 @@ use Rattle.c_syntax.specs.declared.program.FieldKind.TheVariants.{Struct}
 use Rattle.c_syntax.specs.PlainField.{field_tree, field_trees}
 use Rattle.c_syntax.specs.Tree.{FieldTree}
 use Rattle.c_shape.specs.Assembled.{is_child_kind}
+use Rattle.c_rows.proofs.lemmas.Steps.{kept-more}
 use Rattle.c_assembler.specs.Children.{child_at, children_at, told_name, told_names}
-use Rattle.c_assembler.proofs.Steps.{drop-more, kept-more}
 
 -- two functions that are one on a range
 range-same : {A : Type 0} (f g : ℕ → A) (a n : ℕ) → ((k : ℕ) → k < a + n → f k ≡ g k) →
@@ -112,7 +112,7 @@ pub field-before : (fields : List Field) (place : ℕ) (f : Field) → 0 < place
 field-before fields place f some inside read =
     let same : place ≡ place - 1 + 1 = omega (arith, some) in
     (λ j. field_tree (read j) ∷ field_trees (drop (same j) fields))
-    ∙ ap field_trees (sym (drop-more fields (place - 1) f (omega (arith, some, inside))))
+    ∙ ap field_trees (sym (drop_more fields (place - 1) f (omega (arith, some, inside))))
 
 pub past-fields : (fields : List Field) → drop (length fields) fields ≡ []
 past-fields [] = refl

@@ -3,7 +3,7 @@ use Rattle.std.proofs.Common.{◌≡◌, refl, sym, ap, ap₂, ◌∙◌, ℕ, z
 use Rattle.std.specs.Prelude.{slice_index, slice_index_or}
 use Rattle.std.specs.List.{position_from, range_with_len, sum_by, flat_map}
 use Rattle.std.proofs.lemmas.Bool.{cases_lt}
-use Rattle.std.proofs.lemmas.List.{length-map}
+use Rattle.std.proofs.lemmas.List.{drop_more, length-map}
 use Rattle.std.proofs.lemmas.List.Sums.{sum_by-cons}
 use Rattle.std.proofs.lemmas.List.FromFn.{get_or-map-range_with_len}
 use Rattle.std.proofs.lemmas.Map.Text.{hash_map_updates_str}
@@ -16,7 +16,6 @@ use Rattle.c_shape.specs.Assembled.{no_code, code_at, code_named, first_procedur
 use Rattle.c_assembler.specs.declared.links.Links.{Links}
 use Rattle.c_assembler.specs.Linked.{relocation}
 use Rattle.c_assembler.specs.Places.{trees, place_in, TellsCodes, IsNoCode}
-use Rattle.c_assembler.proofs.Steps.{drop-more}
 
 pub code-there : (codes : List SystemCode) (i : ℕ) (code : SystemCode) → slice_get codes i ≡ Some code →
     system_tree code ≡ code_at (trees codes) i
@@ -94,7 +93,7 @@ pub count-fewer : (codes : List SystemCode) (i : ℕ) (code : SystemCode) → i 
     ≡ length code.procedures.items + sum_by (λ c. length c.procedures) (drop (i + 1) (trees codes))
 count-fewer codes i code inside read =
     ap (sum_by (λ (c : SystemTree). length c.procedures))
-    (drop-trees codes i ∙ ap trees (drop-more codes i code inside)
+    (drop-trees codes i ∙ ap trees (drop_more codes i code inside)
     ∙ ap₂ (λ (c : SystemCode) (l : List SystemTree). system_tree c ∷ l) (sym read) (sym (drop-trees codes (i + 1))))
     ∙ sum_by-cons (λ (c : SystemTree). length c.procedures) (system_tree code) (drop (i + 1) (trees codes))
     ∙ ap (λ n. n + sum_by (λ (c : SystemTree). length c.procedures) (drop (i + 1) (trees codes)))
@@ -112,7 +111,7 @@ names-more codes j i v code name before after next value inside read named told 
     hash_map_updates_str name before after (Some v) updates other
     ∙ (λ k. cond (bytes_eq ((named ∙ ap (λ (c : SystemCode). c.structure.name) read) k) other) (Some (value k))
     ((told other ∙ ap (λ n. position_from (λ (c : SystemTree). bytes_eq c.structure.name other) n (trees (drop n codes))) next) k))
-    ∙ ap (λ l. position_from (λ (c : SystemTree). bytes_eq c.structure.name other) i (trees l)) (sym (drop-more codes i code inside))
+    ∙ ap (λ l. position_from (λ (c : SystemTree). bytes_eq c.structure.name other) i (trees l)) (sym (drop_more codes i code inside))
 
 -- ---- Where what a code names goes
 

@@ -1,5 +1,4 @@
 mod Steps
-mod PortOrder
 mod OutNames
 mod CodePlaces
 mod ChildNames

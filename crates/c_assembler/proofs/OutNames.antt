@@ -5,7 +5,7 @@ use Rattle.std.specs.Option.{is_some}
 use Rattle.std.proofs.lemmas.List.{map-append}
 use Rattle.c_shape.specs.SystemTree.{SystemTree}
 use Rattle.c_shape.specs.Assembled.{has_procedure, numbered_name, out_names}
-use Rattle.c_assembler.proofs.Steps.{range-more}
+use Rattle.c_rows.proofs.lemmas.Steps.{range-more}
 
 -- so many numbers from 1 on pass
 abbrev pub Pass : (ℕ → Bool) → ℕ → Type 0

@@ -7,7 +7,7 @@ use Rattle.c_syntax.specs.Tree.{ProcedureTree}
 use Rattle.c_shape.specs.SystemTree.{SystemTree}
 use Rattle.c_shape.specs.Relocation.{moved_procedure}
 use Rattle.c_shape.specs.Assembled.{code_at, relocation_of}
-use Rattle.c_assembler.proofs.Steps.{range-more}
+use Rattle.c_rows.proofs.lemmas.Steps.{range-more}
 
 -- the procedures of code i in the program
 abbrev pub code_procedures : List SystemTree → ℕ → List ProcedureTree

@@ -1,4 +1,5 @@
 pub mod Places
 pub mod Linked
 pub mod Ports
+pub mod Roots
 pub mod Children

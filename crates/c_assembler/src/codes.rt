@@ -17,7 +17,7 @@ pub(crate) struct Codes<'a> {
     none: &'a SystemCode,
     names: Names<'a>,
     firsts: Vec<u32>,
-    ghost found: { AreFound list.now none.now (place_in names) firsts.items },
+    ghost found: { AreFound list.now none.now (place_in names.value) firsts.items },
 }
 
 impl<'a> Codes<'a> {
@@ -31,11 +31,13 @@ impl<'a> Codes<'a> {
         ensures { IfOk result (λ c. c.list.now ≡ list.now) }
     {
         small(list.len())?;
+        let firsts = firsts_of(alloc, list)?;
+        let names = names_of(alloc, list)?;
         Ok(Codes {
             list,
             none,
-            names: names_of(alloc, list)?,
-            firsts: firsts_of(alloc, list)?,
+            names,
+            firsts,
         })
     }
 

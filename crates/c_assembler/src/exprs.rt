@@ -76,7 +76,11 @@ pub(crate) fn moved_expr(alloc: Global, links: &Links<'_>, e: &Expr) -> Result<E
 
 /// An expression with its leaves moved, in a box.
 #[cycle(expression)]
-fn boxed_moved_expr(alloc: Global, links: &Links<'_>, e: &Expr) -> Result<Box<Expr>, Memory>
+pub(crate) fn boxed_moved_expr(
+    alloc: Global,
+    links: &Links<'_>,
+    e: &Expr,
+) -> Result<Box<Expr>, Memory>
     ensures { IfOk result
         (λ x. expr_tree x.value ≡ moved.moved_expr (relocation links.now) (expr_tree e.now)) }
 {
@@ -109,9 +113,9 @@ pub(crate) fn moved_cond(alloc: Global, links: &Links<'_>, test: &Cond) -> Resul
 {
     match test {
         Cond::Compare(how, left, right) => {
-            let left = moved_expr(alloc, links, left)?;
+            let left = boxed_moved_expr(alloc, links, left)?;
             let right = moved_expr(alloc, links, right)?;
-            Ok(Cond::Compare(*how, left, right))
+            Ok(Cond::Compare(*how, Box::into_inner(left), right))
         }
         Cond::Both(left, right) => {
             let left = boxed_moved_cond(alloc, links, left)?;

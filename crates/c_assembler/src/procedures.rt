@@ -32,12 +32,14 @@ fn moved_procedure(alloc: Global, links: &Links<'_>, q: &Procedure) -> Result<Pr
     ensures { IfOk result (λ p. procedure_tree p
         ≡ moved.moved_procedure (relocation links.now) (procedure_tree q.now)) }
 {
+    let params = copied_params(alloc, q.params.as_slice())?;
+    let body = moved_stmts(alloc, links, q.body.as_slice())?;
     Ok(Procedure {
         name: Text::copy_of(alloc, q.name.bytes())?,
         private: q.private,
         of: links.of,
-        params: copied_params(alloc, q.params.as_slice())?,
-        body: moved_stmts(alloc, links, q.body.as_slice())?,
+        params,
+        body,
     })
 }
 

@@ -9,7 +9,7 @@ ghost use Rattle.c_assembler.specs.Places.{IsNoCode, trees};
 
 use crate::codes::Codes;
 use crate::procedures::push_procedures;
-use crate::root_code::root_procedures;
+use crate::root_code::push_root_procedures;
 use crate::root_struct::root_structure;
 use crate::structs::moved_struct;
 use c_prelude::prelude;
@@ -67,9 +67,7 @@ fn all_procedures(
     for i in (0..codes.count()).rev() {
         push_procedures(alloc, codes, i, &mut procedures)?;
     }
-    let (start, step) = root_procedures(alloc, codes, root, hyper)?;
-    procedures.push(start)?;
-    procedures.push(step)?;
+    push_root_procedures(alloc, codes, root, hyper, &mut procedures)?;
     Ok(procedures)
 }
 
@@ -79,10 +77,12 @@ fn program_of(alloc: Global, codes: &Codes<'_>, root: &Local, hyper: u32) -> Res
         × (program_tree p
         ≡ assembled.assembled (trees codes.now.list.now) root.now hyper pures)) }
 {
+    let structs = all_structs(alloc, codes, root)?;
+    let procedures = all_procedures(alloc, codes, root, hyper)?;
     Ok(Program {
         pure: prelude(alloc)?,
-        structs: all_structs(alloc, codes, root)?,
-        procedures: all_procedures(alloc, codes, root, hyper)?,
+        structs,
+        procedures,
     })
 }
 

@@ -31,6 +31,17 @@ fn store(field: u32, value: Expr) -> Stmt
     }
 }
 
+/// The call that starts the topmost system, where the root has so many outputs.
+fn start_call(alloc: Global, codes: &Codes<'_>, count: u32) -> Result<Stmt, Memory>
+    requires { count + 1 < 2 ^ 32 }
+    ensures { IfOk result (λ s. stmt_tree s
+        ≡ assembled.call_top (trees codes.now.list.now) [] count
+        ((assembled.code_at (trees codes.now.list.now) 0).structure.name ++ text "_start")) }
+{
+    let name = with_end(alloc, system_name(codes.at(0)), "_start")?;
+    call_top(alloc, codes, &[], count, name.bytes())
+}
+
 /// What starts the topmost system and the tick, where the root has so many outputs.
 pub(crate) fn start_body(alloc: Global, codes: &Codes<'_>, count: u32) -> Result<Vec<Stmt>, Memory>
     requires { count + 1 < 2 ^ 32 }
@@ -39,9 +50,8 @@ pub(crate) fn start_body(alloc: Global, codes: &Codes<'_>, count: u32) -> Result
         ((assembled.code_at (trees codes.now.list.now) 0).structure.name ++ text "_start")
         ∷ assign 0 0 (literal (pos 0)) ∷ []) }
 {
-    let name = with_end(alloc, system_name(codes.at(0)), "_start")?;
     let mut list = Vec::new(alloc);
-    list.push(call_top(alloc, codes, &[], count, name.bytes())?)?;
+    list.push(start_call(alloc, codes, count)?)?;
     list.push(store(0, Expr::Literal(0)))?;
     Ok(list)
 }
@@ -81,13 +91,14 @@ fn push_outputs(count: u32, fields: &[u32], list: &mut Vec<Stmt>) -> Result<(), 
     Ok(())
 }
 
-/// An operator over two expressions.
-fn operation(alloc: Global, op: BinOp, left: Expr, right: Expr) -> Result<Expr, Memory>
-    ensures { IfOk result (λ e. expr_tree e ≡ binary op (expr_tree left) (expr_tree right)) }
+/// The tick and one more, in a box.
+fn tick_and_one(alloc: Global) -> Result<Box<Expr>, Memory>
+    ensures { IfOk result (λ e. expr_tree e.value
+        ≡ binary Add (read (own_leaf 0)) (literal (pos 1))) }
 {
-    let left = Box::new(alloc, left)?;
-    let right = Box::new(alloc, right)?;
-    Ok(Expr::Binary(op, left, right))
+    let tick = Box::new(alloc, Expr::Read(Leaf::Own(0)))?;
+    let one = Box::new(alloc, Expr::Literal(1))?;
+    Ok(Box::new(alloc, Expr::Binary(BinOp::Add, tick, one))?)
 }
 
 /// The store of the next tick, which begins anew after so many.
@@ -96,10 +107,9 @@ fn next_tick(alloc: Global, hyper: u32) -> Result<Stmt, Memory>
         ≡ assign 0 0 (binary Rem (binary Add (read (own_leaf 0)) (literal (pos 1)))
         (literal (pos hyper)))) }
 {
-    let tick = Expr::Read(Leaf::Own(0));
-    let next = operation(alloc, BinOp::Add, tick, Expr::Literal(1))?;
-    let rest = operation(alloc, BinOp::Rem, next, Expr::Literal(i64::from(hyper)))?;
-    Ok(store(0, rest))
+    let next = tick_and_one(alloc)?;
+    let round = Box::new(alloc, Expr::Literal(i64::from(hyper)))?;
+    Ok(store(0, Expr::Binary(BinOp::Rem, next, round)))
 }
 
 /// What a step does, where the root has so many outputs.

@@ -8,9 +8,7 @@ ghost use Rattle.c_assembler.specs.Places.{trees};
 ghost use Rattle.c_assembler.specs.Ports.{field_of, param_of};
 
 use crate::codes::Codes;
-use crate::kinds::container;
-use crate::names::{input_name, named, output_name};
-use crate::ported::{Ported, inports, outports};
+use c_rows::{Ported, container, inports, input_name, named, outports, output_name};
 use c_syntax::{CType, Field, FieldKind, StructDef};
 use mc_base::{Memory, Text};
 use mc_profile::Local;
@@ -76,8 +74,9 @@ pub(crate) fn root_structure(
 ) -> Result<StructDef, Memory>
     ensures { IfOk result (λ s. s ≡ assembled.root_structure (trees codes.now.list.now) root.now 0) }
 {
+    let fields = root_fields(alloc, codes, root)?;
     Ok(StructDef {
         name: named(alloc, "root")?,
-        fields: root_fields(alloc, codes, root)?,
+        fields,
     })
 }

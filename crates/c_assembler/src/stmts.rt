@@ -6,7 +6,7 @@ ghost use Rattle.c_syntax.specs.Plain.{cond_tree, expr_tree, stmt_tree};
 ghost use Rattle.c_shape.specs.Relocation as moved;
 ghost use Rattle.c_assembler.specs.Linked.{relocation};
 
-use crate::exprs::{moved_cond, moved_expr, moved_exprs};
+use crate::exprs::{boxed_moved_expr, moved_cond, moved_expr, moved_exprs};
 use crate::links::Links;
 use crate::lists::{number_at, sum};
 use c_syntax::{Cond, Expr, Stmt};
@@ -50,12 +50,12 @@ fn moved_set_at(
     ensures { IfOk result (λ x. stmt_tree x ≡ moved.moved_stmt (relocation links.now)
         (tree.assign_at line field (expr_tree index.now) (expr_tree value.now))) }
 {
-    let index = moved_expr(alloc, links, index)?;
+    let index = boxed_moved_expr(alloc, links, index)?;
     let value = moved_expr(alloc, links, value)?;
     Ok(Stmt::SetAt {
         line,
         field,
-        index,
+        index: Box::into_inner(index),
         value,
     })
 }
@@ -86,9 +86,9 @@ fn moved_stmt(alloc: Global, links: &Links<'_>, s: &Stmt) -> Result<Stmt, Memory
             yes,
             no,
         } => {
-            let test = moved_cond(alloc, links, test)?;
             let on_true = moved_stmts(alloc, links, yes)?;
             let on_false = moved_stmts(alloc, links, no)?;
+            let test = moved_cond(alloc, links, test)?;
             Ok(choice(*line, test, on_true, on_false))
         }
         Stmt::Call {

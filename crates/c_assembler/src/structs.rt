@@ -51,8 +51,9 @@ pub(crate) fn moved_struct(
     ensures { IfOk result (λ s. s
         ≡ assembled.moved_struct (trees codes.now.list.now) (system_tree code.now)) }
 {
+    let fields = moved_fields(alloc, codes, code.structure.fields.as_slice())?;
     Ok(StructDef {
         name: Text::copy_of(alloc, code.structure.name.bytes())?,
-        fields: moved_fields(alloc, codes, code.structure.fields.as_slice())?,
+        fields,
     })
 }

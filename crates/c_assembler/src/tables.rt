@@ -10,14 +10,14 @@ use indexmap::IndexMap;
 use mc_base::Memory;
 use std::alloc::Global;
 
-/// Names, each with the position of the first code that has it.
-pub(crate) type Names<'a> = IndexMap<&'a [u8], u32>;
+/// Names, each with the position of the first code that has it. A box is dropped by one call.
+pub(crate) type Names<'a> = Box<IndexMap<&'a [u8], u32>>;
 
 /// The positions of codes by their names. The first ones come last and stay.
 pub(crate) fn names_of<'a>(alloc: Global, list: &'a [SystemCode]) -> Result<Names<'a>, Memory>
-    ensures { IfOk result (λ names. TellsCodes 0 list.now (place_in names)) }
+    ensures { IfOk result (λ names. TellsCodes 0 list.now (place_in names.value)) }
 {
-    let mut names = IndexMap::new(alloc);
+    let mut names = Box::new(alloc, IndexMap::new(alloc))?;
     for place in (0..list.len()).rev() {
         let code = &list[place];
         names.insert(code.structure.name.bytes(), small(place)?)?;

@@ -1,4 +1,2 @@
-pub mod lemmas
-mod GivenFunctions
-mod ScheduleSteps
+mod SystemSteps
 mod TreeSteps

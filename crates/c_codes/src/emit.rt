@@ -8,6 +8,7 @@ use c_emission::{code_of_system, emitted_agree};
 use c_shape::SystemCode;
 use c_system::emitted_is_emittable;
 use c_system_right::emitted_code_is_ok;
+use c_tables::layout_of;
 use mc_base::Memory;
 use mc_profile::{Local, Profile};
 use mc_schedule::Schedule;
@@ -30,5 +31,6 @@ pub fn emit_system(
     emitted_is_emittable();
     emitted_agree();
     emitted_code_is_ok();
-    code_of_system(alloc, local, profile, schedule)
+    let layout = layout_of(alloc, local, profile, schedule)?;
+    code_of_system(alloc, &layout)
 }

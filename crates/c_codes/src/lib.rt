@@ -2,11 +2,8 @@
 #![tactic(auto)]
 
 mod emit;
-mod functions;
 mod reading;
-mod schedules;
 mod systems;
 
 pub use emit::emit_system;
-pub use schedules::schedule_of_system;
 pub use systems::{Codes, codes_of};

@@ -13,7 +13,7 @@ ghost use Rattle.c_shape.specs.SystemTree.{system_tree};
 
 use crate::emit::emit_system;
 use crate::reading::{is_child, is_resolved, root};
-use crate::schedules::schedule_of_system;
+use c_schedules::schedule_of_system;
 use c_shape::SystemCode;
 use mc_base::Memory;
 use mc_diagram::{Resolved, Subsystem};

@@ -1,10 +1,9 @@
-// The procedures of one system, and so its code, by its own rows, its profile and the order of its nodes.
+// The procedures of one system that is laid out, and so its code.
 #![tactic(auto)]
 
 mod emit;
 mod laws;
 mod procedures;
-mod renewal;
 mod update;
 
 pub use emit::code_of_system;

@@ -11,10 +11,12 @@ ghost use Rattle.c_system.specs.Renewing as renewing;
 ghost use Rattle.c_nodes.specs.Code.{code_of};
 ghost use Rattle.c_emission.specs.Agreeing.{AgreeOnFunctions};
 
-use crate::renewal::{reset_body, start_body};
 use crate::update::update_body;
-use c_layout::{Layout, Params, group_name, out_name, reset_name, start_name, update_name};
+use c_heads::{group_params, out_params, update_params};
+use c_layout::{Layout, Params};
 use c_nodes::{counted, nodes_code, own_calls};
+use c_rows::{group_name, out_name, reset_name, start_name, update_name};
+use c_starts::{reset_body, start_body};
 use c_syntax::{CType, Procedure, Stmt};
 use mc_base::{Memory, Text};
 use mc_schedule::NodeList;
@@ -66,7 +68,7 @@ fn update_procedure(alloc: Global, layout: &Layout<'_>) -> Result<Procedure, Mem
         IfOk result (λ p. procedure_tree p ≡ emitted.with_body head
         (emitted.update_body layout.now.local layout.now.profile layout.now.schedule head.params)) }
 {
-    let params = layout.update_params(alloc)?;
+    let params = update_params(alloc, layout)?;
     let body = update_body(alloc, layout, &params)?;
     let name = update_name(alloc, layout.local().row)?;
     Ok(procedure(name, false, params.named(alloc)?, body))
@@ -109,7 +111,7 @@ fn all_group_params(alloc: Global, layout: &Layout<'_>) -> Result<Vec<Params>, M
 {
     let mut params = Vec::new(alloc);
     for group in 0..layout.schedule().groups.len() {
-        params.push(layout.group_params(alloc, group as u32)?)?;
+        params.push(group_params(alloc, layout, group as u32)?)?;
     }
     Ok(params)
 }
@@ -131,7 +133,7 @@ fn function_procedure(
     ensures { let of = layout.now in IfOk result (λ p. procedure_tree p
         ≡ emitted.function_procedure of.local of.profile of.schedule (j, called.now)) }
 {
-    let params = layout.out_params(alloc, j)?;
+    let params = out_params(alloc, layout, j)?;
     let body = own_calls(alloc, &params, called, wanted)?;
     let name = out_name(alloc, layout.local().row, j)?;
     Ok(procedure(name, false, params.named(alloc)?, body))

@@ -10,10 +10,10 @@ ghost use Rattle.c_system.specs.Groups.{own_count};
 ghost use Rattle.c_system.specs.NodeCode as node;
 ghost use Rattle.c_nodes.specs.Code.{code_of};
 
-use c_layout::{Layout, Params, is_delay, is_triggered};
-use c_nodes::{
-    counter_stores, memory_code, nodes_code, push_code, reset_code, trigger_code, update_code,
-};
+use c_layout::{Layout, Params};
+use c_nodes::{memory_code, nodes_code, push_code, reset_code, trigger_code, update_code};
+use c_rows::{is_delay, is_triggered};
+use c_starts::counter_stores;
 use c_syntax::Stmt;
 use mc_base::Memory;
 use mc_profile::{ChildUse, LocalRow};

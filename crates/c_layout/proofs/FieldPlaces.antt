@@ -7,7 +7,7 @@ use Rattle.c_system.specs.Fields.{first_place, value_rows, single_rows, line_row
 use Rattle.c_layout.specs.declared.fields.Fields.TheInside.{Inside}
 use Rattle.c_layout.specs.Laid.{Scheduled}
 use Rattle.c_layout.specs.Tables.{HasFields}
-use Rattle.c_layout.proofs.Steps.{place-within as within}
+use Rattle.c_rows.proofs.lemmas.Steps.{place-within as within}
 
 -- ---- Places in a list
 

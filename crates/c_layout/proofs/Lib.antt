@@ -1,10 +1,4 @@
-mod Steps
 mod FieldPlaces
-mod PortTypes
-mod OutParams
 mod LaidTables
-mod Bases
-mod CallCounts
 mod ParamNames
-mod FieldSteps
 mod WireTypes

@@ -1,32 +1,26 @@
-ghost use Rattle.std.specs.Prelude.{◌≡◌, ◌+◌, ◌≤◌, ◌<◌, IfOk, Some, length, map, slice_get};
-ghost use Rattle.mc_profile.specs.declared.local.ChildUse.{ChildUse};
+ghost use Rattle.std.specs.Prelude.{◌≡◌, ◌+◌, ◌-◌, ◌^◌, ◌≤◌, ◌<◌, IfOk, length, map};
 ghost use Rattle.mc_profile.specs.Headers.{header_functions};
-ghost use Rattle.mc_profile.specs.Locals as locals;
-ghost use Rattle.mc_profile.specs.Systems as systems;
-ghost use Rattle.c_shape.specs.Heads as heads;
-ghost use Rattle.c_shape.specs.Slots as slots;
+ghost use Rattle.mc_profile.specs.LawfulLocals.{IsChild};
+ghost use Rattle.mc_profile.specs.Locals.{own_header};
 ghost use Rattle.c_system.specs.Emittable.{IsEmittable};
-ghost use Rattle.c_system.specs.EmittedCode as code;
-ghost use Rattle.c_system.specs.Fields as fields;
+ghost use Rattle.c_system.specs.Fields as field;
 ghost use Rattle.c_system.specs.Groups as groups;
+ghost use Rattle.c_system.specs.Heads as heads;
 ghost use Rattle.c_system.specs.NodeCode as node;
 ghost use Rattle.c_system.specs.Places as places;
 ghost use Rattle.c_system.specs.Sources as sources;
+ghost use Rattle.c_layout.specs.Tables.{HasTables};
 
 use crate::fields::Fields;
 use crate::groups::group_nodes;
-use crate::heads::{all_params, params_of_function, params_of_ports};
-use crate::inports::inports_among;
 use crate::params::Params;
-use crate::ported::outports;
-use crate::structure::structure;
 use crate::tables::Tables;
 use c_blocks::{ControlLeaves, RingFields};
-use c_syntax::{Leaf, StructDef};
+use c_syntax::Leaf;
 use c_system::{Place, Source};
-use mc_base::Memory;
+use mc_base::{Memory, Port};
 use mc_fixed::FixType;
-use mc_profile::{Local, Profile};
+use mc_profile::{ChildUse, Local, Profile};
 use mc_schedule::Schedule;
 use std::alloc::Global;
 use std::marker::Model;
@@ -34,8 +28,7 @@ use std::marker::Model;
 /// All that the code of a system names: its fields, the sources of its wires, its nodes, its children's procedures and
 /// its parameters. It is seen as the system with its profile and its schedule.
 ///
-/// It is made in time linear in the system and its schedule, and what it finds by a number it finds in constant expected
-/// time.
+/// What it finds by a number it finds in constant expected time.
 #[derive(Drop)]
 pub struct Layout<'a> {
     fields: Fields<'a>,
@@ -62,26 +55,23 @@ impl<'a> Model for Layout<'a> {
 }
 
 impl<'a> Layout<'a> {
-    /// The layout of a system with this profile and this schedule.
-    ///
-    /// Fails only for want of memory.
-    pub fn new(
-        alloc: Global,
-        local: &'a Local,
-        profile: &'a Profile,
-        schedule: &'a Schedule,
-    ) -> Result<Layout<'a>, Memory>
-        requires { IsEmittable local.now schedule.now }
-        ensures { IfOk result (λ l. l
-            ≡ record { local = local.now; profile = profile.now; schedule = schedule.now }) }
+    /// The layout of a system with these fields, this profile and these tables.
+    pub fn new(fields: Fields<'a>, profile: &'a Profile, tables: Tables) -> Layout<'a>
+        requires { HasTables
+            (record { local = fields.local; profile = profile.now; schedule = fields.schedule })
+            tables.sources tables.nodes.items tables.groups.items tables.bases.items
+            tables.ports.items }
+        ensures { result ≡ record {
+          local = fields.entry.local;
+          profile = profile.now;
+          schedule = fields.entry.schedule;
+        } }
     {
-        let fields = Fields::new(alloc, local, schedule)?;
-        let tables = Tables::new(alloc, &fields)?;
-        Ok(Layout {
+        Layout {
             fields,
             profile,
             tables,
-        })
+        }
     }
 
     /// The system.
@@ -116,14 +106,14 @@ impl<'a> Layout<'a> {
 
     /// The field of the value of row `b`.
     pub fn value_field(&self, b: u32) -> u32
-        ensures { result ≡ fields.value_field self.now.local b }
+        ensures { result ≡ field.value_field self.now.local b }
     {
         self.fields.value(b)
     }
 
     /// The field of what row `b` remembers, where that is one sample.
     pub fn memory_field(&self, b: u32) -> u32
-        ensures { result ≡ fields.memory_field self.now.local b }
+        ensures { result ≡ field.memory_field self.now.local b }
     {
         self.fields.memory(b)
     }
@@ -137,7 +127,7 @@ impl<'a> Layout<'a> {
 
     /// The field of what the trigger remembers.
     pub fn trigger_field(&self) -> u32
-        ensures { result ≡ fields.trigger_field self.now.local }
+        ensures { result ≡ field.trigger_field self.now.local }
     {
         self.fields.trigger()
     }
@@ -145,50 +135,23 @@ impl<'a> Layout<'a> {
     /// The field of the child at a place; behind the last child the counters begin.
     pub fn child_field(&self, place: usize) -> u32
         requires { place ≤ length self.now.local.children }
-        ensures { result ≡ fields.child_field self.now.local place }
+        ensures { result ≡ field.child_field self.now.local place }
     {
         self.fields.child(place)
     }
 
     /// The counter of a group, where it has one.
     pub fn counter_field(&self, group: u32) -> Option<u32>
-        ensures { result ≡ fields.counter_field self.now.local self.now.schedule group }
+        ensures { result ≡ field.counter_field self.now.local self.now.schedule group }
     {
         self.fields.counter(group)
     }
 
     /// The groups that have a counter, in the order of the counters.
     pub fn shared_groups(&self) -> &[u32]
-        ensures { result.now ≡ fields.shared_groups self.now.schedule }
+        ensures { result.now ≡ field.shared_groups self.now.schedule }
     {
         self.fields.counted()
-    }
-
-    /// The struct of the system.
-    ///
-    /// Fails only for want of memory.
-    pub fn structure(&self, alloc: Global) -> Result<StructDef, Memory>
-        ensures { IfOk result (λ s. s ≡ record {
-          name = systems.system_name self.now.local.row;
-          fields = map slots.slot_field (fields.code_slots self.now.local self.now.schedule);
-        }) }
-    {
-        structure(alloc, &self.fields)
-    }
-
-    /// The fields of the outputs' values, by port.
-    ///
-    /// Fails only for want of memory.
-    pub fn output_fields(&self, alloc: Global) -> Result<Vec<u32>, Memory>
-        ensures { IfOk result (λ v. v.items
-            ≡ map (λ o. fields.value_field self.now.local o.row) (locals.outports self.now.local)) }
-    {
-        let outports = outports(alloc, self.fields.local())?;
-        let mut found = Vec::new(alloc);
-        for outport in &outports {
-            found.push(self.fields.value(outport.row))?;
-        }
-        Ok(found)
     }
 
     // ---- Sources
@@ -280,46 +243,26 @@ impl<'a> Layout<'a> {
         self.tables.bases[place]
     }
 
+    /// The number of the update of the child at a place; its start and its reset follow.
+    pub fn update_number(&self, place: usize, child: &ChildUse) -> u32
+        requires child { IsChild child.now }
+        requires place { place < length self.now.local.children }
+        ensures number { result
+            ≡ places.child_base self.now.local (groups.own_count self.now.schedule) place
+            + length (header_functions child.now.header) }
+        ensures small { result < 2 ^ 32 - 2 }
+    {
+        self.is_emittable();
+        self.child_base(place) + child.header.profile.functions.len() as u32
+    }
+
     // ---- Parameters
 
-    /// The parameters of function `j`, from 1 on.
-    ///
-    /// Fails only for want of memory.
-    pub fn out_params(&self, alloc: Global, j: u32) -> Result<Params, Memory>
-        requires first { 0 < j }
-        requires last { j ≤ length self.now.profile.functions }
-        ensures { IfOk result (λ p. p
-            ≡ (heads.out_head (locals.own_header self.now.local self.now.profile) j).params) }
+    /// The inputs of the system by port and then its controls, each with its type.
+    pub fn port_types(&self) -> &[(Port, FixType)]
+        ensures { result.now ≡ heads.port_types (own_header self.now.local self.now.profile) }
     {
-        let local = self.fields.local();
-        let profile = self.profile;
-        let function = &profile.functions[(j - 1) as usize];
-        params_of_function(alloc, local.control, function, &self.tables.ports)
-    }
-
-    /// The parameters of the update.
-    ///
-    /// Fails only for want of memory.
-    pub fn update_params(&self, alloc: Global) -> Result<Params, Memory>
-        ensures { IfOk result (λ p. p
-            ≡ (heads.update_head (locals.own_header self.now.local self.now.profile)).params) }
-    {
-        let local = self.fields.local();
-        all_params(alloc, local.control, &self.tables.ports)
-    }
-
-    /// The parameters of the procedure of a group.
-    ///
-    /// Fails only for want of memory.
-    pub fn group_params(&self, alloc: Global, group: u32) -> Result<Params, Memory>
-        requires { group < length self.now.schedule.groups }
-        ensures { IfOk result (λ p. p
-            ≡ code.group_params self.now.local self.now.profile self.now.schedule group) }
-    {
-        let local = self.fields.local();
-        let nodes = group_nodes(self.fields.schedule(), group);
-        let inports = inports_among(alloc, local, &self.tables.nodes, nodes)?;
-        params_of_ports(alloc, local.control, &inports, &self.tables.ports)
+        self.tables.ports.as_slice()
     }
 
     /// Where the controls are read in a procedure with these parameters, and what the trigger remembers.

@@ -5,8 +5,8 @@ ghost use Rattle.c_shape.specs.Names as names;
 ghost use Rattle.c_system.specs.Places as places;
 ghost use Rattle.c_layout.specs.Parameters as parameters;
 
-use crate::names::{input_name, named};
 use crate::parameter::Parameter;
+use c_rows::{input_name, named};
 use c_syntax::{CType, Leaf};
 use mc_base::{Control, Memory, Port, Text};
 use std::alloc::Global;
@@ -152,7 +152,7 @@ fn param_name(alloc: Global, parameter: Parameter) -> Result<Text, Memory>
 }
 
 /// The parameter of the trigger of a system that is controlled so.
-pub(crate) fn trigger_parameter(control: Control) -> Parameter
+pub fn trigger_parameter(control: Control) -> Parameter
     ensures { result ≡ parameters.trigger_parameter control }
 {
     match control {
@@ -162,7 +162,7 @@ pub(crate) fn trigger_parameter(control: Control) -> Parameter
 }
 
 /// The parameter of an input of a system that is controlled so.
-pub(crate) fn port_parameter(control: Control, port: Port) -> Parameter
+pub fn port_parameter(control: Control, port: Port) -> Parameter
     ensures { result ≡ parameters.port_parameter control port }
 {
     match port {

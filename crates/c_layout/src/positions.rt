@@ -10,9 +10,10 @@ use std::marker::Model;
 
 /// Numbers in a list, each found at its first place: the list.
 #[derive(Drop)]
-pub(crate) struct Positions {
+pub struct Positions {
     keys: Vec<u32>,
-    places: IndexMap<u32, usize>,
+    // In a box, which is dropped by one call.
+    places: Box<IndexMap<u32, usize>>,
 }
 
 impl Model for Positions {
@@ -24,34 +25,36 @@ impl Model for Positions {
 
     ghost view = { λ p. p.keys.items };
 
-    ghost invariant = { λ p. TellsPlaces p.keys.items (get nat_eq p.places) };
+    ghost invariant = { λ p. TellsPlaces p.keys.items (get nat_eq p.places.value) };
 }
 
 impl Positions {
     /// The places of these numbers, made in time linear in how many there are.
-    pub(crate) fn new(alloc: Global, keys: Vec<u32>) -> Result<Positions, Memory>
+    ///
+    /// Fails only for want of memory.
+    pub fn new(alloc: Global, keys: Vec<u32>) -> Result<Positions, Memory>
         ensures { IfOk result (λ p. p ≡ keys.items) }
     {
-        let places = first_places(alloc, &keys)?;
+        let places = Box::new(alloc, first_places(alloc, &keys)?)?;
         Ok(Positions { keys, places })
     }
 
     /// How many numbers there are.
-    pub(crate) fn count(&self) -> usize
+    pub fn count(&self) -> usize
         ensures { result ≡ length self.now }
     {
         self.keys.len()
     }
 
     /// The numbers in their order.
-    pub(crate) fn keys(&self) -> &[u32]
+    pub fn keys(&self) -> &[u32]
         ensures { result.now ≡ self.now }
     {
         self.keys.as_slice()
     }
 
     /// The first place of a number, in constant expected time.
-    pub(crate) fn place(&self, key: u32) -> Option<usize>
+    pub fn place(&self, key: u32) -> Option<usize>
         ensures { result ≡ first_place self.now key }
     {
         self.places.get(&key).copied()

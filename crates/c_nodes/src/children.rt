@@ -1,11 +1,10 @@
-ghost use Rattle.std.specs.Prelude.{◌≡◌, ◌<◌, ◌+◌, ◌-◌, ◌^◌, ◌∷◌, IfOk, length, map};
-ghost use Rattle.mc_profile.specs.Headers.{header_functions};
+ghost use Rattle.std.specs.Prelude.{◌≡◌, ◌<◌, ◌∷◌, IfOk, length, map};
 ghost use Rattle.mc_profile.specs.LawfulLocals.{IsChild};
 ghost use Rattle.mc_profile.specs.Locals.{entering as wires_entering};
 ghost use Rattle.c_system.specs.Emittable.{IsEmittable};
 ghost use Rattle.c_system.specs.Groups.{own_count};
 ghost use Rattle.c_system.specs.NodeCode as node;
-ghost use Rattle.c_system.specs.Places.{child_base, now_leaf};
+ghost use Rattle.c_system.specs.Places.{now_leaf};
 ghost use Rattle.c_system.specs.Sources.{wire_leaf};
 ghost use Rattle.c_nodes.specs.Code.{code_of};
 
@@ -66,18 +65,6 @@ pub(crate) fn call_code(
     call_statements(alloc, active, procedure, layout.child_field(place), &leaves)
 }
 
-/// The number of the update of the child at a place; its start and its reset follow.
-pub fn update_number(layout: &Layout<'_>, place: usize, child: &ChildUse) -> u32
-    requires emittable { IsEmittable layout.now.local layout.now.schedule }
-    requires child { IsChild child.now }
-    requires place { place < length layout.now.local.children }
-    ensures number { result ≡ child_base layout.now.local (own_count layout.now.schedule) place
-        + length (header_functions child.now.header) }
-    ensures small { result < 2 ^ 32 - 2 }
-{
-    layout.child_base(place) + child.header.profile.functions.len() as u32
-}
-
 /// The statements that call the update of the child at a place.
 ///
 /// Fails only for want of memory.
@@ -97,7 +84,7 @@ pub fn update_code(
     let entering = entering_leaves(alloc, layout, child)?;
     let leaves = with_now(alloc, params, &entering)?;
     let active = active_test(alloc, layout, params)?;
-    let procedure = update_number(layout, place, child);
+    let procedure = layout.update_number(place, child);
     call_statements(alloc, active, procedure, layout.child_field(place), &leaves)
 }
 
@@ -118,6 +105,6 @@ pub fn reset_code(
         ≡ node.reset_code of.local (own_count of.schedule) params.now (place, child.now)) }
 {
     let off = off_test(alloc, layout, params)?;
-    let procedure = update_number(layout, place, child) + 2;
+    let procedure = layout.update_number(place, child) + 2;
     reset_call_statements(alloc, off, procedure, layout.child_field(place))
 }

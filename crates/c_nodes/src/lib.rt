@@ -1,4 +1,4 @@
-// The statements of a system's nodes, and those of its memories, its children, its starts and its counters.
+// The statements of a system's nodes, and those of its memories, its trigger, and its children's updates and resets.
 #![tactic(auto)]
 
 mod activity;
@@ -7,13 +7,10 @@ mod children;
 mod lists;
 mod nodes;
 mod rows;
-mod starts;
-mod stores;
 mod taken;
 
 pub use calls::{counted, own_calls};
-pub use children::{reset_code, update_code, update_number};
+pub use children::{reset_code, update_code};
 pub use lists::push_code;
 pub use nodes::nodes_code;
 pub use rows::{memory_code, trigger_code};
-pub use stores::{counter_stores, push_memory_starts, push_value_starts};

@@ -1,30 +1,22 @@
 ghost use Rattle.std.specs.Prelude.{◌≡◌, IfOk, map};
 ghost use Rattle.c_syntax.specs.Plain.{expr_tree};
-ghost use Rattle.c_shape.specs.RowStarts.{row_start as start_of_row};
 ghost use Rattle.c_system.specs.Emittable.{IsWritableRow};
 ghost use Rattle.c_system.specs.NodeCode as node;
 ghost use Rattle.c_nodes.specs.Code.{code_of};
 
 use crate::activity::{disabled_test, off_test, runs_test};
 use crate::lists::push_code;
-use crate::starts::start_by;
 use c_blocks::{
     memory_statements, oldest_code, ring_statements, trigger_statements, value_code as rhs_code,
     value_reset_statements, value_statements,
 };
-use c_layout::{Layout, Params, delay_length, has_value, is_inport, is_reset_outport, port_of};
+use c_layout::{Layout, Params};
+use c_rows::{has_value, is_inport, is_reset_outport, port_of, row_start};
 use c_syntax::{Expr, Leaf, Stmt};
 use mc_base::Memory;
 use mc_blocks::Op;
 use mc_profile::LocalRow;
 use std::alloc::Global;
-
-/// What a row is before the first tick.
-pub(crate) fn row_start(layout: &Layout<'_>, row: &LocalRow) -> i64
-    ensures { result ≡ start_of_row layout.now.local row.now }
-{
-    start_by(&row.op, &row.kind, layout.local().control, row.out)
-}
 
 /// What a delay remembers from its oldest sample; of no meaning at another row.
 ///
@@ -36,7 +28,7 @@ fn memory_read(alloc: Global, layout: &Layout<'_>, row: &LocalRow) -> Result<Exp
     match row.op {
         Op::Line { length, .. } => {
             let ring = layout.ring_fields(row.row);
-            oldest_code(alloc, ring, length, row_start(layout, row))
+            oldest_code(alloc, ring, length, row_start(layout.local(), row))
         }
         _ => Ok(Expr::Read(Leaf::Own(layout.memory_field(row.row)))),
     }
@@ -93,7 +85,7 @@ fn output_reset(
     }
     let field = layout.value_field(row.row);
     let disabled = disabled_test(alloc, layout, params)?;
-    value_reset_statements(alloc, field, disabled, row_start(layout, row))
+    value_reset_statements(alloc, field, disabled, row_start(layout.local(), row))
 }
 
 /// The statements that store what a row computes, where it runs.
@@ -159,7 +151,7 @@ pub fn memory_code(
             ring_statements(alloc, layout.ring_fields(row.row), length, runs, input, off)
         }
         _ => {
-            let start = row_start(layout, row);
+            let start = row_start(layout.local(), row);
             memory_statements(alloc, layout.memory_field(row.row), runs, input, off, start)
         }
     }

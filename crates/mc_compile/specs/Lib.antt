@@ -1,2 +1,1 @@
-pub mod Compilation
 pub mod Inputs

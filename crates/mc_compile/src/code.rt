@@ -2,13 +2,13 @@ ghost use Rattle.std.specs.Prelude.{IfOk};
 ghost use Rattle.mc_diagram.specs.Needs.{needs_of, HasNoLoop};
 ghost use Rattle.mc_diagram.specs.ResolvedTable.{table_of_tree};
 ghost use Rattle.mc_diagram.specs.ResolvedTree.{diagram_of};
-ghost use Rattle.mc_compile.specs.Compilation.{IsCompilationOf};
+ghost use Rattle.mc_compilation.specs.Compilation.{IsCompilationOf};
 
-use crate::compiled::Compiled;
 use crate::inputs::input_types;
 use crate::text::needed_text;
 use c_program::{Emitted, emit};
 use mc_base::Memory;
+use mc_compilation::Compiled;
 use mc_diagram::Resolved;
 use std::alloc::Global;
 

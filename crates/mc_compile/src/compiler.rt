@@ -1,9 +1,9 @@
 ghost use Rattle.std.specs.Prelude.{IfOk, IfErr};
 ghost use Rattle.mc_verdict.specs.Faults.{IsFaultOf};
-ghost use Rattle.mc_compile.specs.Compilation.{IsCompiledFrom};
+ghost use Rattle.mc_compilation.specs.Compilation.{IsCompiledFrom};
 
 use crate::code::compiled_from;
-use crate::compiled::Compiled;
+use mc_compilation::Compiled;
 use mc_verdict::{ModelFault, accept_model};
 use std::alloc::Global;
 

@@ -2,11 +2,9 @@
 #![tactic(auto)]
 
 mod code;
-mod compiled;
 mod compiler;
 mod inputs;
 mod text;
 
 pub use code::compiled_from;
-pub use compiled::Compiled;
 pub use compiler::compile;

@@ -1,22 +1,2 @@
-pub mod Files
-pub mod CompileLaws
-pub mod OneAnswer
-pub mod StatusLaws
-pub mod TraceTypes
-pub mod PutTexts
-pub mod Unwritten
-pub mod ProfileLaws
-pub mod GenerateLaws
-pub mod MadeLaws
-pub mod DrivesRight
-pub mod RightLaws
-pub mod EndingLaws
-pub mod RunLaws
-pub mod ScriptLaws
-pub mod RootTypes
-pub mod CodeLaws
-pub mod Drivers
-pub mod DriveLaws
-pub mod Completeness
-pub mod Unsure
-pub mod Starts
+mod Endings
+mod SureCalls

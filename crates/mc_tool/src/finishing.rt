@@ -1,15 +1,15 @@
 ghost use Rattle.std.specs.Prelude.{◌≡◌, IfOk, MatchResult, string_bytes};
-ghost use Rattle.mc_tool.specs.declared.ending.Ending.{Ending};
-ghost use Rattle.mc_tool.specs.Told.{sink_told};
-ghost use Rattle.mc_tool.specs.Texts.{script_stop_line};
-ghost use Rattle.mc_tool.specs.Endings.{text_of, status_of, IsSaidOf, PutsText, Puts};
+ghost use Rattle.mc_endings.specs.declared.ending.Ending.{Ending};
+ghost use Rattle.mc_endings.specs.Told.{sink_told};
+ghost use Rattle.mc_endings.specs.Texts.{script_stop_line};
+ghost use Rattle.mc_endings.specs.Endings.{text_of, status_of, IsSaidOf, PutsText, Puts};
 
-use crate::ending::{Ending, ScriptStop};
-use crate::lines::{
-    USAGE, bad_line_line, code_refused_line, compiled_line, stuck_line, totals_line,
-};
 use mc_base::{Memory, refusal_text};
 use mc_edge::{Failed, Sink, put_all};
+use mc_endings::{
+    Ending, ScriptStop, USAGE, bad_line_line, code_refused_line, compiled_line, stuck_line,
+    totals_line,
+};
 use mc_script_runner::{bad_call_line, refused_call_line};
 use std::alloc::{AllocError, Global};
 

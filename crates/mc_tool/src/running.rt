@@ -2,18 +2,20 @@ ghost use Rattle.std.specs.Prelude.{◌≡◌, ◌≢◌, None, IfSome};
 ghost use Rattle.mc_edge.specs.Faults.{Rose, IsCalm};
 ghost use Rattle.mc_edge.specs.Fakes.{files_of};
 ghost use Rattle.mc_words.specs.Words.{word_bytes, asked_by};
-ghost use Rattle.mc_tool.specs.Told.{told, sink_told};
-ghost use Rattle.mc_tool.specs.Endings.{EndsAt};
-ghost use Rattle.mc_tool.specs.Statuses.{IsPlain, IsExactly, Comes, ComesExactly, OnTold, IsDone};
-ghost use Rattle.mc_tool.specs.Headline.{WritesNothing, DoesRight};
-ghost use Rattle.mc_tool.specs.Completeness.{CanDo, IsComplete, IsSureOf, IsUnsureOf};
+ghost use Rattle.mc_endings.specs.Told.{told, sink_told};
+ghost use Rattle.mc_endings.specs.Endings.{EndsAt};
+ghost use Rattle.mc_endings.specs.Statuses.{IsPlain, IsExactly, Comes, ComesExactly, OnTold, IsDone};
+ghost use Rattle.mc_endings.specs.Headline.{WritesNothing, DoesRight};
+ghost use Rattle.mc_endings.specs.Completeness.{CanDo, IsComplete, IsSureOf, IsUnsureOf};
 
-use crate::acting::act;
 use crate::finishing::finish;
-use c_reading::readings_agree;
-use mc_driven::shapes_are_one;
+use mc_commands::act;
 use mc_edge::{Host, Sink, SureHost, SureSink};
-use mc_verdict::one_verdict;
+use mc_endings_right::{
+    each_status_is_exact, endings_are_complete, endings_do_right, faults_are_counted,
+    five_is_read_fault, nothing_is_written, plain_is_calm, statuses_are_exact, sure_are_done,
+    sure_hosts_are_sure, usage_is_exact,
+};
 use std::alloc::Global;
 
 // Does what the words ask for, puts the text of how it ended, and says the status.
@@ -25,6 +27,7 @@ fn run<H: Host, S: Sink>(alloc: Global, words: &[String], host: &mut H, out: &mu
     ensures unsure { IfSome (asked_by (word_bytes words.now)) (λ asked. result ≡ 5 →
         IsUnsureOf H.files H.sure host.old asked) }
 {
+    five_is_read_fault();
     let ending = act(alloc, words, host, out);
     finish(alloc, out, ending)
 }
@@ -91,9 +94,15 @@ pub fn run_tool<H: Host, S: Sink>(alloc: Global, words: &[String], host: &mut H,
     ensures unsure { IfSome (asked_by (word_bytes words.now)) (λ asked. result ≡ 5 →
         IsUnsureOf H.files H.sure host.old asked) }
 {
-    one_verdict();
-    readings_agree();
-    shapes_are_one();
+    endings_do_right();
+    nothing_is_written();
+    usage_is_exact();
+    statuses_are_exact();
+    each_status_is_exact();
+    faults_are_counted();
+    plain_is_calm();
+    endings_are_complete();
+    sure_are_done();
     run(alloc, words, host, out)
 }
 
@@ -107,6 +116,7 @@ pub fn run_surely(alloc: Global, words: &[String], files: Vec<(String, Vec<u8>)>
         (λ asked. ComesExactly result asked (files_of files.items)) }
     ensures never { (result ≢ 6) × (result ≢ 7) }
 {
+    sure_hosts_are_sure();
     let mut host = SureHost::new(files);
     let mut out = SureSink::new();
     run_tool(alloc, words, &mut host, &mut out)

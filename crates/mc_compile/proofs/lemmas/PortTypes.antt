@@ -11,7 +11,7 @@ use Rattle.mc_diagram.specs.Inputs.{input_row}
 use Rattle.mc_diagram.specs.Traces.{input_type_of}
 use Rattle.mc_diagram.proofs.lemmas.ByRow.{map_range-at}
 use Rattle.mc_verdict.proofs.lemmas.PlaceLists.{same_at}
-use Rattle.mc_compile.specs.Compilation.{root_types}
+use Rattle.mc_compilation.specs.Compilation.{root_types}
 
 pub nothing-behind : {A : Type 0} (xs : List A) → xs ++ [] ≡ xs
 nothing-behind [] = refl

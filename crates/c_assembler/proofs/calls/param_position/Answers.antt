@@ -1,7 +1,7 @@
 use Rattle.std.proofs.Common.{◌≡◌, IfOk, ℕ, List, bytes_eq, unwrap_or, subst, sym, ap, ◌∙◌}
 use Rattle.c_syntax.specs.declared.code.CType.{CType}
 use Rattle.c_syntax.specs.Tree.{ParamTree}
-use Rattle.c_assembler.proofs.Steps.{place-map}
+use Rattle.c_rows.proofs.lemmas.Steps.{place-map}
 use Rattle.c_assembler.proofs.calls.param_position.Goals as goal
 
 pub returns : goal.returns

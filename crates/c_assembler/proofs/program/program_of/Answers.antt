@@ -7,5 +7,5 @@ returns c =
     let pures = map pure_tree c.in_ok-prelude.field-0.items in (
       pures,
       c.in_ok-prelude.ensures,
-      λ j. record { pures = pures; structs = c.in_ok-all_structs.ensures j; procedures = c.in_ok-all_procedures.ensures j },
+      λ j. record { pures = pures; structs = c.in_ok-structs.ensures j; procedures = c.in_ok-procedures.ensures j },
     )

@@ -1,7 +1,7 @@
 use Rattle.std.proofs.Common.{bytes_eq, sym, ◌∙◌}
 use Rattle.c_syntax.specs.Tree.{ProcedureTree}
 use Rattle.c_syntax.specs.Plain.{procedure_tree}
-use Rattle.c_assembler.proofs.Steps.{place-map}
+use Rattle.c_rows.proofs.lemmas.Steps.{place-map}
 use Rattle.c_assembler.proofs.public.place_of.Goals as goal
 
 pub returns : goal.returns

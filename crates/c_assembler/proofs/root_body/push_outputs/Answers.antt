@@ -3,8 +3,8 @@ use Rattle.std.specs.List.{enumerate_from}
 use Rattle.std.proofs.lemmas.List.{map-append}
 use Rattle.c_syntax.specs.Tree.{StmtTree}
 use Rattle.c_syntax.specs.Plain.{stmt_tree}
-use Rattle.c_assembler.proofs.Steps.{map-enumerate-more}
-use Rattle.c_assembler.proofs.RootCode.{output_store}
+use Rattle.c_rows.proofs.lemmas.Steps.{map-enumerate-more}
+use Rattle.c_assembler.specs.Roots.{output_store}
 use Rattle.c_assembler.proofs.root_body.push_outputs.Goals as goal
 
 pub loop-place-preserved : goal.loop-place-preserved

@@ -2,8 +2,9 @@ use Rattle.std.proofs.Common.{◌≡◌, IfOk, List, map, subst, ap, ◌∙◌}
 use Rattle.mc_profile.specs.Locals.{inports}
 use Rattle.c_syntax.specs.Tree.{ParamTree}
 use Rattle.c_syntax.specs.Plain.{param_trees}
-use Rattle.c_assembler.specs.Ports.{param_of, ported_of}
-use Rattle.c_assembler.proofs.Steps.{map-map}
+use Rattle.c_rows.specs.Ported.{ported_of}
+use Rattle.c_rows.proofs.lemmas.Steps.{map-map}
+use Rattle.c_assembler.specs.Ports.{param_of}
 use Rattle.c_assembler.proofs.root_struct.root_params.Goals as goal
 
 pub returns : goal.returns

@@ -4,7 +4,7 @@ use Rattle.c_right.specs.Assembly.{IsCodeOf}
 use Rattle.c_right.specs.SystemOk.{SystemOk}
 use Rattle.c_shape.specs.SystemTree.{system_tree}
 use Rattle.c_system.proofs.lemmas.Emittable.{few-functions}
-use Rattle.c_codes.proofs.lemmas.SystemSteps.{few-outputs, is-emitted, is-code}
+use Rattle.c_codes.proofs.SystemSteps.{few-outputs, is-emitted, is-code}
 use Rattle.c_codes.proofs.systems.code_of.Goals as goal
 
 pub schedule_of_system-requires-clause-outputs : goal.schedule_of_system-requires-clause-outputs

@@ -3,7 +3,7 @@ use Rattle.mc_diagram.specs.declared.subsystem.Subsystem.{Subsystem}
 use Rattle.mc_diagram.specs.Nested.{row_of, system_of}
 use Rattle.mc_profile.specs.TreeProfiles.{rows_inside}
 use Rattle.c_shape.specs.SystemTree.{system_tree}
-use Rattle.c_codes.proofs.lemmas.SystemSteps.{can-assemble}
+use Rattle.c_codes.proofs.SystemSteps.{can-assemble}
 use Rattle.c_codes.proofs.systems.codes_of.Goals as goal
 
 pub returns : goal.returns

@@ -1,10 +1,11 @@
-use Rattle.std.proofs.Common.{◌≡◌, subst, IfOk}
-use Rattle.c_shape.specs.SystemTree.{system_tree}
-use Rattle.c_system.specs.EmittedCode.{system_code}
-use Rattle.c_layout.specs.Laid.{Laid}
+use Rattle.std.proofs.Common.{map}
+use Rattle.c_syntax.specs.Plain.{procedure_tree}
+use Rattle.c_emission.proofs.WholeCode.{code_is}
 use Rattle.c_emission.proofs.emit.code_of_system.Goals as goal
 
 pub returns : goal.returns
 returns c =
-    subst (λ (of : Laid). IfOk c.code_of_layout.result (λ code. system_tree code ≡ system_code of.local of.profile of.schedule))
-    c.in_ok-layout.ensures c.code_of_layout.ensures
+    let of = c.args.layout.now in
+    code_is of.local of.profile of.schedule
+    c.in_ok-structure.field-0 c.in_ok-output_fields.field-0.items (map procedure_tree c.in_ok-procedures.field-0.items)
+    c.in_ok-structure.ensures c.in_ok-output_fields.ensures c.in_ok-procedures.ensures

@@ -1,4 +1,4 @@
-use Rattle.std.proofs.Common.{◌∙◌, ap, cond, map, arith}
+use Rattle.std.proofs.Common.{◌∙◌, ap, cond, map, subst, sym, arith}
 use Rattle.std.proofs.lemmas.List.{take_all}
 use Rattle.mc_diagram.specs.Run.{is_delay}
 use Rattle.mc_profile.specs.declared.local.LocalRow.{LocalRow}
@@ -8,14 +8,13 @@ use Rattle.c_system.specs.EmittedCode.{joined}
 use Rattle.c_system.specs.NodeCode.{memory_code}
 use Rattle.c_nodes.specs.Code.{code_of}
 use Rattle.c_nodes.proofs.lemmas.Joined.{joined_next}
-use Rattle.c_nodes.proofs.lemmas.Loops.{holds_at}
 use Rattle.c_emission.proofs.Pieces.{joined_filter}
 use Rattle.c_emission.proofs.update.memories_code.Goals as goal
 
 pub delay_code-requires : goal.delay_code-requires
 delay_code-requires c =
-    holds_at (IsWritableRow c.args.layout.now.local) c.args.rows.now c.loop-row.row-index c.row-item.result c.requires
-    c.loop-row-test.true c.row-item.is
+    subst (IsWritableRow c.args.layout.now.local) (sym c.row-item.is)
+    (c.requires c.loop-row.row-index c.row-item.result c.loop-row-test.true)
 
 pub loop-row-preserved : goal.loop-row-preserved
 loop-row-preserved c =

@@ -1,6 +1,6 @@
 use Rattle.std.proofs.Common.{ℕ, []}
 use Rattle.c_system.specs.declared.source.Source.{Source}
-use Rattle.c_layout.proofs.Steps.{mapped-next}
+use Rattle.c_rows.proofs.lemmas.Steps.{mapped-next}
 use Rattle.c_layout.proofs.sources.rows_of.Goals as goal
 
 pub loop-source-preserved : goal.loop-source-preserved

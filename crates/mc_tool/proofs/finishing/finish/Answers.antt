@@ -1,5 +1,5 @@
 use Rattle.std.proofs.Common.{rules, refl}
-use Rattle.mc_tool.proofs.EndingLaws.{said_no_memory}
+use Rattle.mc_tool.proofs.Endings.{said_no_memory}
 use Rattle.mc_tool.proofs.finishing.finish.Goals as goal
 
 pub returns-in-Err : goal.returns-in-Err

@@ -1,5 +1,4 @@
-use Rattle.mc_tool.proofs.EndingLaws.{ended}
-use Rattle.mc_tool.proofs.Unsure.{unsure_asked}
+use Rattle.mc_tool.proofs.Endings.{ended, unsure_asked}
 use Rattle.mc_tool.proofs.running.run.Goals as goal
 
 pub returns-clause-ended : goal.returns-clause-ended
@@ -8,4 +7,4 @@ returns-clause-ended g c =
 
 pub returns-clause-unsure : goal.returns-clause-unsure
 returns-clause-unsure g c =
-    let f = c.finish.ensures in unsure_asked _ _ _ _ _ _ _ c.act-ending.ensures.unsure f.1 f.2
+    let f = c.finish.ensures in unsure_asked c.five_is_read_fault.ensures _ _ _ _ _ _ _ c.act-ending.ensures.unsure f.1 f.2

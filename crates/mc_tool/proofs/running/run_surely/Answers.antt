@@ -1,12 +1,13 @@
 use Rattle.std.proofs.Common.{ap}
 use Rattle.mc_edge.specs.Fakes.{SureHostState, files_of}
 use Rattle.mc_words.specs.Words.{word_bytes, asked_by}
-use Rattle.mc_tool.proofs.Completeness.{surely, surely_comes, unrisen}
+use Rattle.mc_tool.proofs.SureCalls.{surely, surely_comes, unrisen}
 use Rattle.mc_tool.proofs.running.run_surely.Goals as goal
 
 pub returns-clause-done : goal.returns-clause-done
 returns-clause-done c =
-    surely (asked_by (word_bytes c.args.words.now)) c.new-host.result (files_of c.args.files.items) c.run_tool.result
+    surely c.sure_hosts_are_sure.ensures (asked_by (word_bytes c.args.words.now)) c.new-host.result
+    (files_of c.args.files.items) c.run_tool.result
     (ap (λ (s : SureHostState). s.files) c.new-host.ensures) c.run_tool.ensures.sure
 
 pub returns-clause-comes : goal.returns-clause-comes

@@ -2,7 +2,7 @@ use Rattle.std.proofs.Common.{ℕ, ◌++◌, ◌∷◌, [], get_or, ap, ◌∙�
 use Rattle.std.proofs.lemmas.List.{get_or_default}
 use Rattle.c_syntax.specs.declared.code.Leaf.{Leaf}
 use Rattle.c_system.specs.Sources.{wire_leaf}
-use Rattle.c_layout.proofs.Steps.{mapped-next}
+use Rattle.c_rows.proofs.lemmas.Steps.{mapped-next}
 use Rattle.c_layout.proofs.layout.Layout.wire_leaves.Goals as goal
 
 pub loop-wire-preserved : goal.loop-wire-preserved

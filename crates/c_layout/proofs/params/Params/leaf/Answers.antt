@@ -7,7 +7,7 @@ use Rattle.c_syntax.specs.Tree.{ParamTree}
 use Rattle.c_system.specs.Places.{param_leaf}
 use Rattle.c_layout.specs.declared.parameter.Parameter.{Parameter}
 use Rattle.c_layout.specs.Parameters.{param_name, named_param}
-use Rattle.c_layout.proofs.Steps.{place-within, place-map}
+use Rattle.c_rows.proofs.lemmas.Steps.{place-within, place-map}
 use Rattle.c_layout.proofs.params.Params.leaf.Goals as goal
 
 pub overflow_cast-result : goal.overflow_cast-result

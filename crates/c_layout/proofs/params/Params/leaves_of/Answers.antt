@@ -6,7 +6,7 @@ use Rattle.c_syntax.specs.Tree.{ParamTree}
 use Rattle.c_system.specs.Places.{param_leaf}
 use Rattle.c_layout.specs.declared.parameter.Parameter.{Parameter}
 use Rattle.c_layout.specs.Parameters.{named_param}
-use Rattle.c_layout.proofs.Steps.{map-map}
+use Rattle.c_rows.proofs.lemmas.Steps.{map-map}
 use Rattle.c_layout.proofs.params.Params.leaves_of.Goals as goal
 
 pub returns : goal.returns

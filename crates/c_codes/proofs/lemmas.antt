@@ -1,2 +1,0 @@
--- Lemmas that proofs of the crates above use.
-pub mod SystemSteps

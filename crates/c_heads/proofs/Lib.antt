@@ -1,0 +1,3 @@
+mod TakenPorts
+mod OutParams
+mod FieldSteps

@@ -1,0 +1,12 @@
+// What stands in the heads of a system's procedures, and its struct.
+#![tactic(auto)]
+
+mod heads;
+mod inports;
+mod outputs;
+mod params;
+mod struct_fields;
+
+pub use outputs::output_fields;
+pub use params::{group_params, out_params, update_params};
+pub use struct_fields::structure;

@@ -1,0 +1,2 @@
+mod GivenFunctions
+mod ScheduleSteps

@@ -1,0 +1,3 @@
+mod CallCounts
+mod ChildBases
+mod PortTypes

@@ -1,0 +1,96 @@
+-- What is known of a file that was read, accepted and compiled.
+use Rattle.std.proofs.Math.Seq.{take-length}
+use Rattle.std.proofs.Common.{◌≡◌, ℕ, ◌<◌, inl, inr, List, [], length, refl, sym, ap, subst, ◌∙◌}
+use Rattle.std.specs.Prelude.{Option, Some}
+use Rattle.mc_base.specs.Refusals.{TooLong}
+use Rattle.mc_edge.specs.Faults.{Rose}
+use Rattle.mc_edge.specs.Files.{File, OnFile, add_file, WritesFront}
+use Rattle.mc_diagram.specs.ResolvedTable.{ResolvedTable}
+use Rattle.mc_verdict.specs.Verdict.{HasVerdict, Refused as IsRefused}
+use Rattle.mc_compilation.specs.Compilation.{Compilation, IsCompiledFrom}
+use Rattle.mc_endings.specs.declared.ending.Ending.{Ending}
+use Rattle.mc_endings.specs.declared.ending.Ending.TheVariants.{Compiled, Ran, Reported, Usage, Refused, BadTrace, BadScript, CodeRefused, CodeTooLong, Stuck as IsStuck, ReadFault, WriteFault, PutFault, NoMemory}
+use Rattle.mc_endings.specs.Told.{HostTold}
+use Rattle.mc_endings.specs.EndingsOfModels.{OnNamed, OnBytes, WritesCodeFront, EndsWriteFault}
+use Rattle.mc_endings.specs.EndingsOfRuns.{WritesWhole}
+use Rattle.mc_endings.specs.Acting.{WritesCompiled, NotCompiled, AcceptsFile, WritesCodeOf, CutsCodeOf, NotWritten}
+use Rattle.mc_endings.proofs.lemmas.Files.{there, longer_than}
+
+-- a file with too many bytes is refused for that
+pub long-file : (h : HostTold) (name : List ℕ) → OnNamed h name (λ x. 16_777_216 < length x) →
+    OnBytes h name (λ x. HasVerdict x (IsRefused TooLong))
+long-file h name long =
+    let known : OnBytes h name (λ x. 16_777_216 < length x) = longer_than h name 16_777_216 long in
+    record { bytes = known.bytes; file = known.file; holds = inl (inl (known.holds, refl)) }
+
+-- writing leaves what is unread
+still-read : (files : Option (List File)) (rest : Option (List ℕ)) (name : List ℕ) (now later : Option (List ℕ)) →
+    OnFile files rest name (λ _. now ≡ Some []) → later ≡ now → OnFile files rest name (λ _. later ≡ Some [])
+still-read files rest name now later told same = there files rest name told (λ x empty. same ∙ empty)
+
+-- ---- Accepting a model, and then writing its code
+
+module _ (r : ResolvedTable) (model code : List ℕ) (h h1 h' : HostTold) (accepts : AcceptsFile r model h h1) where
+  pub left-to-read : h'.rest ≡ h1.rest → OnNamed h model (λ _. h'.rest ≡ Some [])
+  left-to-read same = still-read h.files h.rest model h1.rest h'.rest accepts.told same
+
+  -- its code was written whole
+  pub compiled-file : (c : Compilation) → WritesCodeOf r c code h1 h' → WritesCompiled c model code h h'
+  compiled-file c writes = record {
+    model = record {
+      bytes = accepts.model.bytes;
+      file = accepts.model.file;
+      holds = record { resolved = r; verdict = accepts.model.holds; compiled = writes.right };
+    };
+    written = writes.written ∙ ap (λ (fs : Option (List File)). add_file fs code c.code) accepts.left.written;
+    files = writes.files ∙ accepts.files;
+    told = left-to-read writes.rest;
+    no_fault = record {
+      read = writes.no_fault.read ∙ accepts.left.no_fault.read;
+      write = writes.no_fault.write ∙ accepts.left.no_fault.write;
+    };
+  }
+
+  -- a front of it was
+  pub front-file : CutsCodeOf r code h1 h' → EndsWriteFault model code h h'
+  front-file cuts = record {
+    rose = subst (λ (n : ℕ). Rose n h'.write_faults) accepts.left.no_fault.write cuts.rose;
+    model = record {
+      bytes = accepts.model.bytes;
+      file = accepts.model.file;
+      holds = (
+        cuts.compilation,
+        record { resolved = r; verdict = accepts.model.holds; compiled = cuts.right },
+        subst (λ (fs : Option (List File)). WritesFront fs h'.written code cuts.compilation.code) accepts.left.written cuts.front,
+      );
+    };
+  }
+
+  -- or it wasn't
+  pub not-written : (e : Ending) → NotWritten e r code h1 h' → NotCompiled e model code h h'
+  not-written WriteFault ends = front-file ends
+  not-written NoMemory ends = inl (ends ∙ accepts.left.written)
+  not-written (Compiled rows systems functions) ends = absurd ends
+  not-written (Ran totals) ends = absurd ends
+  not-written (Reported text) ends = absurd ends
+  not-written Usage ends = absurd ends
+  not-written (Refused refusal) ends = absurd ends
+  not-written (BadTrace line) ends = absurd ends
+  not-written (BadScript stop) ends = absurd ends
+  not-written (CodeRefused fault) ends = absurd ends
+  not-written CodeTooLong ends = absurd ends
+  not-written (IsStuck at) ends = absurd ends
+  not-written ReadFault ends = absurd ends
+  not-written PutFault ends = absurd ends
+
+-- ---- Code that was written
+
+-- code that is written whole is a front of itself
+front-of : (code model : List ℕ) (h h' : HostTold) (c : Compilation) → IsCompiledFrom model c →
+    h'.written ≡ add_file h.written code c.code → WritesCodeFront code model h h'
+front-of code model h h' c from written =
+    (c, from, inr (length c.code, written ∙ ap (λ (bytes : List ℕ). add_file h.written code bytes) (sym (take-length c.code))))
+
+pub whole-front : (code model : List ℕ) (h h' : HostTold) → WritesWhole code model h h' → WritesCodeFront code model h h'
+whole-front code model h h' w =
+    front-of code model h h' w.compilation (record { resolved = w.resolved; verdict = w.verdict; compiled = w.right }) w.written

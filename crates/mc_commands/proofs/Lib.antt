@@ -1,0 +1,10 @@
+pub mod CompileLaws
+pub mod RunLaws
+pub mod ScriptLaws
+pub mod RootTypes
+pub mod CodeLaws
+pub mod MadeLaws
+pub mod Drivers
+pub mod DriveLaws
+pub mod Unsure
+pub mod Starts

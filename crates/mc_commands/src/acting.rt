@@ -1,0 +1,142 @@
+ghost use Rattle.std.specs.Prelude.{◌≡◌, Some, IfSome, false};
+ghost use Rattle.mc_words.specs.Words.{HasBounds, asked, asked_by, word_bytes};
+ghost use Rattle.mc_words.specs.Words.Asked.{Compile, Run, Exec};
+ghost use Rattle.mc_endings.specs.Told.{told, sink_told};
+ghost use Rattle.mc_endings.specs.EndingsOfModels.{EndsCompile};
+ghost use Rattle.mc_endings.specs.Endings.{Ends};
+ghost use Rattle.mc_endings.specs.Completeness.{IfReadFault, IsUnsureOf};
+
+use crate::compiling::compile_into;
+use crate::driving::drive_model;
+use crate::generating::generate_model;
+use crate::profiling::profile_model;
+use crate::starting::started;
+use crate::tracing::run_file;
+use c_reading::readings_agree;
+use mc_base::Memory;
+use mc_edge::{Host, ReadAllFault, Sink, read_all};
+use mc_endings::Ending;
+use mc_words::{Command, command};
+use std::alloc::Global;
+
+/// The most bytes that a C file has.
+const MOST_CODE: usize = 536_870_912;
+
+// Compiles the file `model` into the file `code`.
+fn compile_model<H: Host>(alloc: Global, host: &mut H, model: &str, code: &str) -> Ending
+    ensures ends { let at = told H.files H.rest H.written H.sure H.read_faults H.write_faults in
+        EndsCompile result model.now code.now (at host.old) (at host.new) }
+    ensures unsure { IfReadFault result (H.sure host.old model.now ≡ false) }
+{
+    match compile_into(alloc, host, model, code) {
+        Ok(compiled) => Ending::Compiled {
+            rows: compiled.rows,
+            systems: compiled.systems,
+            functions: compiled.functions,
+        },
+        Err(ending) => ending,
+    }
+}
+
+// Compiles the file `model` into the file `code`, and runs what was written over the file `trace`.
+fn run_model<H: Host, S: Sink>(
+    alloc: Global,
+    host: &mut H,
+    out: &mut S,
+    model: &str,
+    code: &str,
+    trace: &str,
+) -> Ending
+    ensures ends { let at = told H.files H.rest H.written H.sure H.read_faults H.write_faults in
+        let sink = sink_told S.bytes S.faults in
+        Ends result (Some (Run model.now code.now trace.now)) (at host.old) (at host.new)
+        (sink out.old) (sink out.new) }
+    ensures unsure { IfReadFault result
+        (IsUnsureOf H.files H.sure host.old (Run model.now code.now trace.now)) }
+{
+    let compiled = match compile_into(alloc, host, model, code) {
+        Ok(compiled) => compiled,
+        Err(ending) => return ending,
+    };
+    readings_agree();
+    match started(alloc, &compiled.code) {
+        Ok(mut machine) => run_file(alloc, host, out, &mut machine, &compiled.inputs, trace),
+        // Right code is read and starts, so that memory alone can be wanting.
+        Err(ending) => ending,
+    }
+}
+
+// Runs the file `code` over the file `trace`.
+fn exec_code<H: Host, S: Sink>(
+    alloc: Global,
+    host: &mut H,
+    out: &mut S,
+    code: &str,
+    trace: &str,
+) -> Ending
+    ensures ends { let at = told H.files H.rest H.written H.sure H.read_faults H.write_faults in
+        let sink = sink_told S.bytes S.faults in
+        Ends result (Some (Exec code.now trace.now)) (at host.old) (at host.new) (sink out.old)
+        (sink out.new) }
+    ensures unsure { IfReadFault result (IsUnsureOf H.files H.sure host.old (Exec code.now trace.now)) }
+{
+    let bytes = match read_all(alloc, host, code, MOST_CODE) {
+        Ok(bytes) => bytes,
+        Err(ReadAllFault::Read) => return Ending::ReadFault,
+        Err(ReadAllFault::TooLong) => return Ending::CodeTooLong,
+        Err(ReadAllFault::Memory) => return Ending::NoMemory,
+    };
+    let mut machine = match started(alloc, &bytes) {
+        Ok(machine) => machine,
+        Err(ending) => return ending,
+    };
+    let Ok(types) = machine.checked().inputs().to_vec(alloc) else {
+        return Ending::NoMemory;
+    };
+    run_file(alloc, host, out, &mut machine, &types, trace)
+}
+
+// Does what a command asks for, but for the last text that is put.
+fn perform<H: Host, S: Sink>(alloc: Global, command: Command, host: &mut H, out: &mut S) -> Ending
+    requires { HasBounds command }
+    ensures ends { let at = told H.files H.rest H.written H.sure H.read_faults H.write_faults in
+        let sink = sink_told S.bytes S.faults in
+        Ends result (Some (asked command.entry)) (at host.old) (at host.new) (sink out.old)
+        (sink out.new) }
+    ensures unsure { IfReadFault result (IsUnsureOf H.files H.sure host.old (asked command.entry)) }
+{
+    match command {
+        Command::Compile { model, code } => compile_model(alloc, host, model, code),
+        Command::Run { model, code, trace } => run_model(alloc, host, out, model, code, trace),
+        Command::Exec { code, trace } => exec_code(alloc, host, out, code, trace),
+        Command::Profile { model } => profile_model(alloc, host, model),
+        Command::Drive {
+            model,
+            code,
+            subsystem,
+            script,
+        } => drive_model(alloc, host, out, model, code, subsystem, script),
+        Command::Gen {
+            start,
+            size,
+            model,
+            code,
+        } => generate_model(alloc, host, out, start, size, model, code),
+    }
+}
+
+/// Does what the words ask for, but for the last text that is put.
+pub fn act<H: Host, S: Sink>(alloc: Global, words: &[String], host: &mut H, out: &mut S) -> Ending
+    ensures ends { let at = told H.files H.rest H.written H.sure H.read_faults H.write_faults in
+        let sink = sink_told S.bytes S.faults in
+        Ends result (asked_by (word_bytes words.now)) (at host.old) (at host.new) (sink out.old)
+        (sink out.new) }
+    ensures unsure { IfSome (asked_by (word_bytes words.now))
+        (λ asked. IfReadFault result (IsUnsureOf H.files H.sure host.old asked)) }
+{
+    match command(alloc, words) {
+        Ok(Some(command)) => perform(alloc, command, host, out),
+        Ok(None) => Ending::Usage,
+        Err(Memory) => Ending::NoMemory,
+    }
+}

@@ -1,0 +1,12 @@
+mod OneAnswer
+mod FaultStatuses
+mod EndingLaws
+mod StatusLaws
+mod Completeness
+mod SureHosts
+mod PutTexts
+mod Unwritten
+mod ProfileLaws
+mod DrivesRight
+mod GenerateLaws
+mod RightLaws
