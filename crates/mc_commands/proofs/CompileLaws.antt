@@ -2,7 +2,7 @@
 use Rattle.std.proofs.Math.Seq.{take-length}
 use Rattle.std.proofs.Common.{◌≡◌, ℕ, ◌<◌, inl, inr, List, [], length, refl, sym, ap, subst, ◌∙◌}
 use Rattle.std.specs.Prelude.{Option, Some}
-use Rattle.mc_base.specs.Refusals.{TooLong}
+use Rattle.mc_refusals.specs.Refusals.{TooLong}
 use Rattle.mc_edge.specs.Faults.{Rose}
 use Rattle.mc_edge.specs.Files.{File, OnFile, add_file, WritesFront}
 use Rattle.mc_diagram.specs.ResolvedTable.{ResolvedTable}

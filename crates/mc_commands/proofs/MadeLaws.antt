@@ -1,8 +1,8 @@
 -- How `gen` ends, by what its parts come to.
 use Rattle.std.proofs.Common.{◌≡◌, ℕ, inl, inr, List, refl, sym, ap, subst, ◌∙◌}
 use Rattle.std.specs.Prelude.{Some}
-use Rattle.mc_base.specs.declared.refusal.Refusal.{Refusal}
-use Rattle.mc_base.specs.Refusals.{plain_refusal}
+use Rattle.mc_refusals.specs.declared.refusal.Refusal.{Refusal}
+use Rattle.mc_refusals.specs.Refusals.{plain_refusal}
 use Rattle.mc_edge.specs.Faults.{Rose}
 use Rattle.mc_fixed.specs.declared.types.FixType.{FixType}
 use Rattle.c_syntax.specs.Tree.{ProgramTree}

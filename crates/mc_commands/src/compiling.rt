@@ -5,12 +5,13 @@ ghost use Rattle.mc_diagram.specs.ResolvedTree.{diagram_of};
 ghost use Rattle.mc_endings.specs.Told.{told};
 ghost use Rattle.mc_endings.specs.Acting.{AcceptsFile, NotAccepted, NotCompiled, NotWritten, WritesCodeOf, WritesCompiled};
 
-use mc_base::{Memory, Refusal};
+use mc_base::Memory;
 use mc_compilation::Compiled;
 use mc_compile::compiled_from;
 use mc_diagram::Resolved;
 use mc_edge::{Failed, Host, ReadAllFault, read_all, write_all};
 use mc_endings::Ending;
+use mc_refusals::Refusal;
 use mc_verdict::{ModelFault, accept_model};
 use std::alloc::Global;
 

@@ -4,10 +4,10 @@ ghost use Rattle.mc_endings.specs.EndingsOfModels.{EndsProfiling};
 ghost use Rattle.mc_endings.specs.Completeness.{IfReadFault};
 
 use crate::compiling::MOST_BYTES;
-use mc_base::Refusal;
 use mc_edge::{Host, ReadAllFault, read_all};
 use mc_endings::Ending;
 use mc_interfaces::report_of;
+use mc_refusals::Refusal;
 use mc_verdict::ModelFault;
 use std::alloc::Global;
 

@@ -8,7 +8,7 @@ use Rattle.mc_base.specs.declared.Edge.TheVariants.{Rising, Either}
 use Rattle.mc_base.specs.declared.Port.TheVariants.{Number, Enable, Trigger}
 use Rattle.mc_base.specs.declared.TimeText.{TimeText}
 use Rattle.mc_base.specs.declared.TimeText.TheVariants.{Inherit as NoTime, Each}
-use Rattle.mc_base.specs.Refusals.{TriggerSigned, TimeInside}
+use Rattle.mc_refusals.specs.Refusals.{TriggerSigned, TimeInside}
 use Rattle.mc_fixed.specs.declared.FixType.{FixType}
 use Rattle.mc_fixed.specs.declared.TypeText.{TypeText}
 use Rattle.mc_fixed.specs.declared.TypeText.TheVariants.{Inherit, Fixed}

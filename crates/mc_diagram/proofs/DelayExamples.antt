@@ -3,7 +3,7 @@ use Rattle.std.specs.Prelude.{◌≡◌, ℕ, zero, suc, ◌*◌, true, false, L
 use Rattle.std.proofs.Common.{lit≤}
 use Rattle.mc_base.specs.declared.Control.TheVariants.{Enabled}
 use Rattle.mc_base.specs.declared.TimeText.TheVariants.{Inherit as NoTime}
-use Rattle.mc_base.specs.Refusals.{LongDelays}
+use Rattle.mc_refusals.specs.Refusals.{LongDelays}
 use Rattle.mc_fixed.specs.declared.TypeText.TheVariants.{Inherit, Fixed}
 use Rattle.mc_fixed.specs.Types.{int8}
 use Rattle.mc_blocks.specs.declared.Kind.{Kind}

@@ -1,7 +1,7 @@
 -- A table has at most one set of sample times, and at most one first refusal for them.
 use Rattle.std.specs.Prelude.{◌≡◌, ℕ, suc, ◌<◌, Bool, true, false, ◌↔◌, List, [], ◌∷◌, length, slice_index_or, Option, Some, None, MatchOption}
 use Rattle.std.proofs.Common.{refl, sym, ◌∙◌, ap, ap₂, subst, arith}
-use Rattle.mc_base.specs.Refusals.{PlainRefusal}
+use Rattle.mc_refusals.specs.Refusals.{PlainRefusal}
 use Rattle.mc_diagram.specs.declared.times.Time.{Time}
 use Rattle.mc_diagram.specs.SampleTimes.{every_tick, FindsBefore, Delays}
 use Rattle.mc_diagram.specs.TimeRefusals.{AreInputTimes, rate_refusal, written_time_refusal}

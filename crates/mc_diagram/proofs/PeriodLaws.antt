@@ -9,7 +9,7 @@ use native.Mathlib.Nat.{one-dvd, dvd_refl, dvd_trans, dvd-zero, zero-div, eq-zer
 use Rattle.mc_base.specs.declared.TimeText.{TimeText}
 use Rattle.mc_base.specs.declared.TimeText.TheVariants.{Inherit, Constant, Each}
 use Rattle.mc_base.specs.Numbers.{gcd, lcm}
-use Rattle.mc_base.specs.Refusals.{TimeInside}
+use Rattle.mc_refusals.specs.Refusals.{TimeInside}
 use Rattle.mc_base.proofs.lemmas.LeastMultiple.{lcm_is}
 use Rattle.mc_blocks.specs.declared.Kind.{Kind}
 use Rattle.mc_blocks.specs.declared.Kind.TheVariants.{RateTransition}

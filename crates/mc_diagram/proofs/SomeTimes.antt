@@ -6,7 +6,7 @@ use Rattle.std.proofs.lemmas.List.{get_or_past}
 use native.Mathlib.Decide.{dec_lt}
 use Rattle.mc_base.specs.declared.TimeText.{TimeText}
 use Rattle.mc_base.specs.declared.TimeText.TheVariants.{Inherit, Constant, Each}
-use Rattle.mc_base.specs.Refusals.{PlainRefusal}
+use Rattle.mc_refusals.specs.Refusals.{PlainRefusal}
 use Rattle.mc_diagram.specs.declared.table.Row.{Row}
 use Rattle.mc_diagram.specs.declared.times.Time.{Time}
 use Rattle.mc_diagram.specs.RowTable.{RowTable}

@@ -1,7 +1,7 @@
 -- How a call of the tool may end: for each ending what was found, what was written and what is put.
 use Rattle.std.specs.Prelude.{◌≡◌, ◌≢◌, ℕ, ◌⊎◌, List, [], Option, Some, None}
 use Rattle.std.specs.Io.KnownBytes.{append_known}
-use Rattle.mc_base.specs.Refusals.{plain_refusal, refusal_line}
+use Rattle.mc_refusals.specs.Refusals.{plain_refusal, refusal_line}
 use Rattle.mc_edge.specs.Faults.{Rose}
 use Rattle.mc_edge.specs.Files.{PutsFront}
 use Rattle.mc_endings.specs.declared.ending.Ending.{Ending}

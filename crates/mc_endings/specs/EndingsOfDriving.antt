@@ -2,7 +2,7 @@
 -- put.
 use Rattle.std.specs.Prelude.{◌≡◌, ℕ, ◌⊎◌, List, Some, None}
 use Rattle.std.specs.Io.KnownBytes.{prepend_known}
-use Rattle.mc_base.specs.Refusals.{plain_refusal}
+use Rattle.mc_refusals.specs.Refusals.{plain_refusal}
 use Rattle.mc_edge.specs.Faults.{Rose}
 use Rattle.mc_diagram.specs.ResolvedTable.{ResolvedTable}
 use Rattle.mc_verdict.specs.Verdict.{HasVerdict, Accepted}

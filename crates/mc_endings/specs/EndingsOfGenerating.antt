@@ -1,7 +1,7 @@
 -- How a call may end that makes a model by rule: what was found, what was written and what was put.
 use Rattle.std.specs.Prelude.{◌≡◌, ℕ, ◌⊎◌, List, Option}
 use Rattle.std.specs.Io.KnownBytes.{append_known}
-use Rattle.mc_base.specs.Refusals.{PlainRefusal, plain_refusal}
+use Rattle.mc_refusals.specs.Refusals.{PlainRefusal, plain_refusal}
 use Rattle.mc_edge.specs.Faults.{Rose}
 use Rattle.mc_edge.specs.Files.{File, add_file, PutsFront, WritesFront}
 use Rattle.mc_diagram.specs.ResolvedTable.{diagram_of_table}

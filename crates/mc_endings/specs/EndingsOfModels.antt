@@ -1,7 +1,7 @@
 -- How a call may end that reads a model: what was found, and what was written.
 use Rattle.std.specs.Prelude.{◌≡◌, ℕ, ◌⊎◌, List, false}
 use Rattle.std.specs.Io.KnownBytes.{IsAtEnd}
-use Rattle.mc_base.specs.Refusals.{PlainRefusal, plain_refusal}
+use Rattle.mc_refusals.specs.Refusals.{PlainRefusal, plain_refusal}
 use Rattle.mc_edge.specs.Faults.{Rose}
 use Rattle.mc_edge.specs.Files.{OnFile, add_file, WritesFront}
 use Rattle.mc_verdict.specs.Verdict.{HasVerdict, Refused as IsRefused}

@@ -2,7 +2,7 @@
 -- put.
 use Rattle.std.specs.Prelude.{◌≡◌, ℕ, ◌<◌, ◌≤◌, ◌⊎◌, List, length, Some, ⊤}
 use Rattle.std.specs.Io.KnownBytes.{prepend_known, IsAtEnd}
-use Rattle.mc_base.specs.Refusals.{plain_refusal}
+use Rattle.mc_refusals.specs.Refusals.{plain_refusal}
 use Rattle.mc_fixed.specs.declared.types.FixType.{FixType}
 use Rattle.mc_edge.specs.Faults.{Rose}
 use Rattle.mc_edge.specs.Files.{add_file}

@@ -1,7 +1,7 @@
 -- What each command does where nothing fails.
 use Rattle.std.specs.Prelude.{◌≡◌, ◌≢◌, ◌⊎◌, ℕ, ◌<◌, ◌≤◌, List, ◌++◌, length, Option, Some, None, ⊤}
 use Rattle.std.specs.Io.KnownBytes.{append_known}
-use Rattle.mc_base.specs.Refusals.{PlainRefusal, refusal_line}
+use Rattle.mc_refusals.specs.Refusals.{PlainRefusal, refusal_line}
 use Rattle.mc_fixed.specs.declared.types.FixType.{FixType}
 use Rattle.mc_edge.specs.Faults.{IsCalm}
 use Rattle.mc_edge.specs.Files.{add_file}

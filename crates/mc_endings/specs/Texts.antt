@@ -1,7 +1,7 @@
 -- The lines that the program puts.
 use Rattle.std.specs.Prelude.{ℕ, List, [], ◌∷◌, ◌++◌, codes, decimal}
 use Rattle.mc_base.specs.Bytes.{line_of_words}
-use Rattle.mc_base.specs.Refusals.{at_line}
+use Rattle.mc_base.specs.Words.{at_line}
 use Rattle.c_syntax.specs.declared.fault.CFault.{CFault}
 use Rattle.c_syntax.specs.declared.fault.CKind.{CKind}
 use Rattle.c_syntax.specs.declared.fault.CKind.TheVariants.{Syntax, Deep, Name, TypeRule}

@@ -1,5 +1,5 @@
 use c_syntax::{CFault, Stuck};
-use mc_base::Refusal;
+use mc_refusals::Refusal;
 use mc_runner::Totals;
 use mc_script::BadCall;
 use mc_script_runner::RefusedCall;

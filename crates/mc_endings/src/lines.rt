@@ -1,7 +1,7 @@
 // The lines in which a call of the tool ends.
 ghost use Rattle.std.specs.Prelude.{◌≡◌, ◌∷◌, [], IfOk, string_bytes, codes, decimal};
 ghost use Rattle.mc_base.specs.Bytes.{line_of_words};
-ghost use Rattle.mc_base.specs.Refusals.{at_line};
+ghost use Rattle.mc_base.specs.Words.{at_line};
 ghost use Rattle.mc_endings.specs.Texts as text;
 
 use c_syntax::{CFault, CKind, Stuck, Why};

@@ -2,7 +2,7 @@
 use Rattle.std.proofs.Common.{◌≡◌, ℕ, inl, inr, List, ◌++◌, refl, ap, subst, ◌∙◌}
 use Rattle.std.specs.Prelude.{Option, Some, None}
 use Rattle.std.specs.Io.KnownBytes.{append_known}
-use Rattle.mc_base.specs.Refusals.{plain_refusal}
+use Rattle.mc_refusals.specs.Refusals.{plain_refusal}
 use Rattle.mc_fixed.specs.declared.types.FixType.{FixType}
 use Rattle.mc_trace.specs.declared.rows.BadLine.{BadLine}
 use Rattle.mc_diagram.specs.ResolvedTable.{ResolvedTable, diagram_of_table}

@@ -1,7 +1,7 @@
 -- A model has one verdict, a text one program or one fault, and what is asked for comes to one status.
 use Rattle.std.proofs.Common.{◌≡◌, ℕ, inl, inr, List, [], ◌∷◌, map, refl, sym, ap, subst, ◌∙◌, arith}
 use Rattle.std.specs.Prelude.{Option, Some, None, IsSomeAnd}
-use Rattle.mc_base.specs.Refusals.{PlainRefusal}
+use Rattle.mc_refusals.specs.Refusals.{PlainRefusal}
 use Rattle.mc_fixed.specs.declared.types.FixType.{FixType}
 use Rattle.mc_edge.specs.Files.{File, lookup}
 use Rattle.mc_diagram.specs.Diagram.{Diagram}

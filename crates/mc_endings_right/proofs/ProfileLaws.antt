@@ -1,7 +1,7 @@
 -- What `profile` does where nothing fails, by the way in which it ended.
 use Rattle.std.proofs.Common.{◌≡◌, ℕ, inl, inr, List, refl, subst, arith}
 use Rattle.std.specs.Prelude.{Some}
-use Rattle.mc_base.specs.Refusals.{plain_refusal}
+use Rattle.mc_refusals.specs.Refusals.{plain_refusal}
 use Rattle.mc_diagram.specs.ResolvedTable.{ResolvedTable, diagram_of_table}
 use Rattle.mc_report.specs.Reports.{IsReportText}
 use Rattle.mc_interfaces.specs.Interfaces.{IsReportOf}

@@ -2,7 +2,7 @@
 use Rattle.std.proofs.Common.{◌≡◌, ℕ, inl, inr, List, ◌++◌, refl, sym, ap, ◌∙◌, append_assoc, arith}
 use Rattle.std.specs.Prelude.{Option, Some, None}
 use Rattle.std.specs.Io.KnownBytes.{append_known}
-use Rattle.mc_base.specs.Refusals.{PlainRefusal, refusal_line}
+use Rattle.mc_refusals.specs.Refusals.{PlainRefusal, refusal_line}
 use Rattle.mc_fixed.specs.declared.types.FixType.{FixType}
 use Rattle.mc_trace.specs.declared.rows.BadLine.{BadLine}
 use Rattle.c_syntax.specs.declared.fault.Stuck.{Stuck}

@@ -6,7 +6,7 @@ use Rattle.std.specs.Bool.{beq}
 use Rattle.std.specs.Option.{option_or}
 use Rattle.std.proofs.Common.{refl, sym, ◌∙◌, ap, subst, arith, inl, inr, true≢false, eqb-true}
 use native.Mathlib.Decide.{ℕ_discrete}
-use Rattle.mc_base.specs.Refusals.{PlainRefusal}
+use Rattle.mc_refusals.specs.Refusals.{PlainRefusal}
 use Rattle.mc_fixed.specs.declared.FixType.{FixType}
 use Rattle.mc_fixed.specs.declared.TypeText.{TypeText}
 use Rattle.mc_fixed.specs.declared.TypeText.TheVariants.{Inherit, Logical, Back, Fixed}

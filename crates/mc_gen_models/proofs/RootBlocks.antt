@@ -5,7 +5,7 @@ use Rattle.std.specs.List.{AllByRecursion, cons_option}
 use Rattle.std.specs.Result.{result_ok}
 use Rattle.std.specs.Fmt.{digits}
 use Rattle.mc_base.specs.Numbers.{reported_number}
-use Rattle.mc_fixed.specs.TypeTexts.{integer_format, Fixed}
+use Rattle.mdl_type_texts.specs.TypeTexts.{integer_format, Fixed}
 use Rattle.mdl_tree.specs.Spelling.{Items}
 use Rattle.mdl_tree.specs.Walks.{SectionTree}
 use Rattle.mdl_params.specs.declared.BlockType.{BlockType}

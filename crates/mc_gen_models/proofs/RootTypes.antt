@@ -7,7 +7,7 @@ use Rattle.mc_fixed.specs.declared.FixType.{FixType}
 use Rattle.mc_fixed.specs.declared.TypeText.{TypeText}
 use Rattle.mc_fixed.specs.declared.TypeText.TheVariants as held
 use Rattle.mc_fixed.specs.Types.{boolean}
-use Rattle.mc_fixed.specs.TypeTexts.{Format, Meaning, Fixed, Inherit, Logical, Back, meaning_of, format_of, integer_format}
+use Rattle.mdl_type_texts.specs.TypeTexts.{Format, Meaning, Fixed, Inherit, Logical, Back, meaning_of, format_of, integer_format}
 use Rattle.mc_blocks.specs.declared.Kind.{Kind}
 use Rattle.mc_blocks.specs.declared.Kind.TheVariants as kind
 use Rattle.mc_diagram.specs.declared.table.Row.{Row}

@@ -9,7 +9,7 @@ use Rattle.std.specs.Char.{is_ascii_digit}
 use Rattle.std.specs.Str.Lines.{strip_carriage_return}
 use Rattle.std.specs.Str.Parse.{digits_value}
 use Rattle.mc_base.specs.Bytes.{is_blank}
-use Rattle.mc_base.specs.Literals.{is_numeral, with_sign}
+use Rattle.mc_numerals.specs.Literals.{is_numeral, with_sign}
 use Rattle.mc_fixed.specs.declared.FixType.{FixType}
 use Rattle.mc_fixed.specs.Conversion.{least_of, greatest_of}
 use Rattle.mc_trace.specs.declared.rows.BadWhy.TheVariants.{Long, Count, Range}

@@ -12,7 +12,7 @@ use Rattle.std.proofs.lemmas.Fmt.{IsAscii-decimal, parse-decimal}
 use Rattle.std.proofs.lemmas.Str.{IsUtf8-from_ascii}
 use Rattle.mc_base.specs.declared.Port.{Port}
 use Rattle.mc_base.specs.declared.Port.TheVariants.{Number, Enable, Trigger}
-use Rattle.mc_base.specs.Refusals.{port_word}
+use Rattle.mc_base.specs.Words.{port_word}
 use Rattle.mc_profile.specs.Ports.{bit_of, ports_mask}
 use Rattle.mc_report.specs.Following.{controls_with}
 use Rattle.mc_report.specs.Guesses.{IsPlaced, lists_words}

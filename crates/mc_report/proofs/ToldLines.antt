@@ -9,7 +9,7 @@ use Rattle.std.proofs.Math.Nat.{mod-eq_of_lt, mod-lt}
 use Rattle.std.proofs.Math.Pow.{pow_mono}
 use Rattle.mc_base.specs.declared.Port.{Port}
 use Rattle.mc_base.specs.declared.Port.TheVariants.{Number}
-use Rattle.mc_base.specs.Refusals.{port_word}
+use Rattle.mc_base.specs.Words.{port_word}
 use Rattle.mc_profile.specs.declared.Function.{Function}
 use Rattle.mc_profile.specs.Ports.{bit_of, has_bit, ports_in, ports_mask}
 use Rattle.mc_report.specs.declared.head.Head.{Head}

@@ -4,7 +4,7 @@ use Rattle.std.specs.Prelude.{codes, decimal, flat_map}
 use Rattle.std.specs.List.{AllByRecursion}
 use Rattle.std.proofs.lemmas.Bool.{false≢true, ltb-true}
 use Rattle.mc_base.specs.declared.Port.{Port}
-use Rattle.mc_base.specs.Refusals.{port_word}
+use Rattle.mc_base.specs.Words.{port_word}
 use Rattle.mc_certificate.specs.declared.Difference.{Difference}
 use Rattle.mc_profile.specs.declared.Function.{Function}
 use Rattle.mc_report.specs.PlainReport.{PlainReport}

@@ -1,7 +1,7 @@
 -- What the words of lines tell.
 use Rattle.std.specs.Prelude.{ℕ, ◌<◌, ⊤, List, ◌∷◌, ◌++◌, map, codes, decimal}
 use Rattle.mc_base.specs.declared.Port.{Port}
-use Rattle.mc_base.specs.Refusals.{port_word}
+use Rattle.mc_base.specs.Words.{port_word}
 use Rattle.mc_profile.specs.declared.Function.{Function}
 use Rattle.mc_profile.specs.Ports.{bit_of, ports_mask}
 use Rattle.mc_profile.specs.Systems.{system_name}

@@ -3,7 +3,7 @@ use Rattle.std.specs.Prelude.{ℕ, ◌+◌, ◌-◌, ◌==◌, List, [], ◌∷�
 use Rattle.std.specs.List.{enumerate_from, range_with_len}
 use Rattle.mc_base.specs.declared.Port.{Port}
 use Rattle.mc_base.specs.declared.Port.TheVariants.{Number}
-use Rattle.mc_base.specs.Refusals.{port_word}
+use Rattle.mc_base.specs.Words.{port_word}
 use Rattle.mc_certificate.specs.declared.Difference.{Difference}
 use Rattle.mc_profile.specs.declared.Function.{Function}
 use Rattle.mc_profile.specs.Ports.{bit_of, has_bit, ports_in}

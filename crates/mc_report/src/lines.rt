@@ -1,6 +1,6 @@
 ghost use Rattle.std.specs.Prelude.{◌≡◌, ◌≤◌, ◌++◌, [], if◌then◌else◌, OnOk, codes, decimal, map};
 ghost use Rattle.std.specs.String.{string_bytes};
-ghost use Rattle.mc_base.specs.Refusals.{port_word};
+ghost use Rattle.mc_base.specs.Words.{port_word};
 ghost use Rattle.mc_profile.specs.Ports as ports;
 ghost use Rattle.mc_profile.specs.Ports.{has_bit};
 ghost use Rattle.mc_profile.specs.Systems.{system_name};

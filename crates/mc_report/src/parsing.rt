@@ -3,7 +3,7 @@ ghost use Rattle.std.specs.Prelude.{◌≡◌, ◌<◌, ◌≤◌, ◌^◌, ◌�
 ghost use Rattle.std.specs.List.{list_any, prefix_len};
 ghost use Rattle.mc_base.specs.declared.Port.TheVariants.{Number};
 ghost use Rattle.mc_base.specs.declared.Port.{Port};
-ghost use Rattle.mc_base.specs.Refusals.{port_word};
+ghost use Rattle.mc_base.specs.Words.{port_word};
 ghost use Rattle.mc_profile.specs.Ports.{ports_mask};
 ghost use Rattle.mc_profile.specs.Ports as ports;
 ghost use Rattle.mc_profile.specs.Systems.{system_name};

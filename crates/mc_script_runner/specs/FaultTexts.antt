@@ -3,7 +3,7 @@ use Rattle.std.specs.Prelude.{ℕ, ◌-◌, List, [], ◌∷◌, map, filter, co
 use Rattle.std.specs.List.{range_with_len}
 use Rattle.std.specs.Fmt.{signed_decimal}
 use Rattle.mc_base.specs.Bytes.{line_of_words}
-use Rattle.mc_base.specs.Refusals.{at_line, port_word}
+use Rattle.mc_base.specs.Words.{at_line, port_word}
 use Rattle.mc_profile.specs.Ports.{has_bit}
 use Rattle.mc_drive.specs.declared.fault.DriveFault.{DriveFault}
 use Rattle.mc_drive.specs.declared.fault.DriveFault.TheVariants as drive

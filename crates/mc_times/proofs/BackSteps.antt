@@ -4,7 +4,7 @@ use Rattle.std.specs.Prelude.{flat_map, if◌then◌else◌}
 use Rattle.std.specs.List.{range_with_len}
 use Rattle.mc_base.specs.declared.TimeText.{TimeText}
 use Rattle.mc_base.specs.declared.TimeText.TheVariants.{Inherit, Constant, Each}
-use Rattle.mc_base.specs.Refusals.{PlainRefusal, RateRatio}
+use Rattle.mc_refusals.specs.Refusals.{PlainRefusal, RateRatio}
 use Rattle.mc_blocks.specs.declared.Kind.{Kind}
 use Rattle.mc_blocks.specs.declared.Kind.TheVariants.{RateTransition}
 use Rattle.mc_diagram.specs.declared.times.Time.{Time}

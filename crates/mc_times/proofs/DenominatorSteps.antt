@@ -4,7 +4,7 @@ use Rattle.std.specs.Prelude.{flat_map, fold, ◌==◌, if◌then◌else◌}
 use Rattle.std.specs.Option.{option_map_or}
 use Rattle.std.proofs.lemmas.List.{map-append}
 use Rattle.mc_base.specs.declared.Frac.{Frac}
-use Rattle.mc_base.specs.declared.refusal.CycleWhat.TheVariants.{Denominator}
+use Rattle.mc_refusals.specs.declared.refusal.CycleWhat.TheVariants.{Denominator}
 use Rattle.mc_base.specs.declared.TimeText.{TimeText}
 use Rattle.mc_base.specs.declared.TimeText.TheVariants.{Inherit, Constant, Each}
 use Rattle.mc_base.specs.Numbers.{lcm}

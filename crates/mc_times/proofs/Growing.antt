@@ -1,11 +1,11 @@
 -- A multiple in memory that grows over the numbers of rows.
 use Rattle.std.proofs.Common.{◌≡◌, sym, ◌∙◌, ap, subst, ℕ, ◌<◌, ◌≤◌, List, [], ◌∷◌, map, Option, None, Some, Result, Ok, Err, IfErr}
 use Rattle.std.specs.Prelude.{fold, option_map}
-use Rattle.mc_base.specs.declared.refusal.CycleWhat.{CycleWhat}
+use Rattle.mc_refusals.specs.declared.refusal.CycleWhat.{CycleWhat}
 use Rattle.std.specs.Result.{IsErrAnd}
-use Rattle.mc_base.specs.declared.refusal.Refusal.{Refusal}
+use Rattle.mc_refusals.specs.declared.refusal.Refusal.{Refusal}
 use Rattle.mc_base.specs.Numbers.{lcm}
-use Rattle.mc_base.specs.Refusals.{PlainRefusal, LongCycle}
+use Rattle.mc_refusals.specs.Refusals.{PlainRefusal, LongCycle}
 use Rattle.mc_diagram.specs.TimeRefusals.{AtLine, first_over}
 use Rattle.mc_times.specs.declared.cycles.Multiple.{Multiple}
 use Rattle.mc_times.proofs.LineNumbers.{IsRunning, running-grown, running-over}

@@ -10,8 +10,8 @@ use native.Mathlib.Nat.{one-dvd, pos_of_dvd_of_pos}
 use Rattle.mc_base.specs.declared.Frac.{Frac}
 use Rattle.mc_base.specs.declared.TimeText.{TimeText}
 use Rattle.mc_base.specs.declared.TimeText.TheVariants.{Inherit, Constant, Each}
-use Rattle.mc_base.specs.declared.refusal.CycleWhat.TheVariants.{Period}
-use Rattle.mc_base.specs.Refusals.{LongCycle}
+use Rattle.mc_refusals.specs.declared.refusal.CycleWhat.TheVariants.{Period}
+use Rattle.mc_refusals.specs.Refusals.{LongCycle}
 use Rattle.mc_diagram.specs.declared.table.Row.{Row}
 use Rattle.mc_diagram.specs.RowTable.{RowTable}
 use Rattle.mc_diagram.specs.SampleTimes.{written_by, written_time, fractions, fractions_in, step_in, common_denominator, numerator_over, base_numerator, periods_in}

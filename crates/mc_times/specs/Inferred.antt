@@ -1,6 +1,6 @@
 -- The sample times of a table, or why it is refused for them.
 use Rattle.std.specs.Prelude.{None, Some, ⊤}
-use Rattle.mc_base.specs.Refusals.{plain_refusal}
+use Rattle.mc_refusals.specs.Refusals.{plain_refusal}
 use Rattle.mc_diagram.specs.declared.BuildFault.{BuildFault}
 use Rattle.mc_diagram.specs.declared.BuildFault.TheVariants.{Refused, Memory}
 use Rattle.mc_diagram.specs.RowTable.{RowTable}

@@ -1,6 +1,6 @@
 ghost use Rattle.std.specs.Prelude.{◌≡◌, ◌<◌, ◌≤◌, ◌^◌, None, Some, IfOk, IfErr, OnOk};
 ghost use Rattle.mc_base.specs.Numbers as multiples;
-ghost use Rattle.mc_base.specs.Refusals as plain;
+ghost use Rattle.mc_refusals.specs.Refusals as plain;
 ghost use Rattle.mc_diagram.specs.FirstRefusal.{as_plain};
 ghost use Rattle.mc_diagram.specs.RowTable.{RowTable};
 ghost use Rattle.mc_diagram.specs.SampleTimes as sample;
@@ -11,8 +11,9 @@ ghost use Rattle.mc_times.specs.Lawful.{AreLawful, ArePeriodsCountable};
 use crate::base::BaseTick;
 use crate::texts::written_time;
 use crate::ticks::ticks;
-use mc_base::{CycleWhat, Frac, Refusal, TimeText, lcm};
+use mc_base::{Frac, TimeText, lcm};
 use mc_diagram::Row;
+use mc_refusals::{CycleWhat, Refusal};
 
 const MOST_DENOMINATOR: u64 = 1_000_000_000;
 

@@ -1,5 +1,5 @@
 ghost use Rattle.std.specs.Prelude.{◌≡◌, ◌<◌, ◌^◌, None, Some, IfOk, IfErr, OnOk, length};
-ghost use Rattle.mc_base.specs.Refusals.{plain_refusal};
+ghost use Rattle.mc_refusals.specs.Refusals.{plain_refusal};
 ghost use Rattle.mc_diagram.specs.RowTable.{RowTable};
 ghost use Rattle.mc_diagram.specs.Rows.{by_row};
 ghost use Rattle.mc_diagram.specs.SampleTimes.{hyperperiod, outermost_trigger};
@@ -17,8 +17,9 @@ use crate::inside::least_time_inside;
 use crate::rates::least_bad_rate;
 use crate::run::{delay_marks, run_times};
 use crate::triggers::outer_triggers;
-use mc_base::{Frac, Memory, Refusal};
+use mc_base::{Frac, Memory};
 use mc_diagram::{BuildFault, Row, Times, Tree};
+use mc_refusals::Refusal;
 use std::alloc::Global;
 
 /// The base tick, and the cycle after which all hits repeat.

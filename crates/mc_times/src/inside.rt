@@ -1,5 +1,5 @@
 ghost use Rattle.std.specs.Prelude.{◌≡◌, ◌&&◌, is_some};
-ghost use Rattle.mc_base.specs.Refusals as plain;
+ghost use Rattle.mc_refusals.specs.Refusals as plain;
 ghost use Rattle.mc_diagram.specs.FirstRefusal.{as_plain, found_where, least_line};
 ghost use Rattle.mc_diagram.specs.Rows.{by_row};
 ghost use Rattle.mc_diagram.specs.SampleTimes.{outermost_trigger, written_by, written_time};
@@ -9,8 +9,9 @@ ghost use Rattle.std.specs.Prelude.{◌<◌, length};
 
 use crate::texts::written_time;
 use crate::triggers::trigger_at;
-use mc_base::{Refusal, TimeText};
+use mc_base::TimeText;
 use mc_diagram::{Row, earlier};
+use mc_refusals::Refusal;
 
 /// The first row that writes a period inside a subsystem with a trigger.
 pub(crate) fn least_time_inside(rows: &[Row], triggers: &[Option<u32>]) -> Option<Refusal>

@@ -8,9 +8,10 @@ ghost use Rattle.mc_times.specs.Bases.{AreCounted, IsBaseOf, IsCountedText};
 
 use crate::base::BaseTick;
 use crate::times::time_of;
-use mc_base::{Refusal, TimeText};
+use mc_base::TimeText;
 use mc_blocks::Kind;
 use mc_diagram::{Row, Time, earlier};
+use mc_refusals::Refusal;
 
 /// The first rate transition between times without a whole ratio, by the times that the inputs of the rows give.
 pub(crate) fn least_bad_rate(rows: &[Row], inside: &[Time], base: BaseTick) -> Option<Refusal>

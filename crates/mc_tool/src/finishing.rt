@@ -4,12 +4,13 @@ ghost use Rattle.mc_endings.specs.Told.{sink_told};
 ghost use Rattle.mc_endings.specs.Texts.{script_stop_line};
 ghost use Rattle.mc_endings.specs.Endings.{text_of, status_of, IsSaidOf, PutsText, Puts};
 
-use mc_base::{Memory, refusal_text};
+use mc_base::Memory;
 use mc_edge::{Failed, Sink, put_all};
 use mc_endings::{
     Ending, ScriptStop, USAGE, bad_line_line, code_refused_line, compiled_line, stuck_line,
     totals_line,
 };
+use mc_refusals::refusal_text;
 use mc_script_runner::{bad_call_line, refused_call_line};
 use std::alloc::{AllocError, Global};
 

@@ -7,9 +7,9 @@ use Rattle.std.proofs.lemmas.Int.Digits.{digits_value-lt}
 use Rattle.std.proofs.lemmas.List.Sums.{prefix_len_stops, prefix_len-le-length}
 use Rattle.std.proofs.lemmas.List.{get_or-drop, length-take-le, length-drop}
 use Rattle.mc_base.specs.Bytes.{is_blank, drop_while}
-use Rattle.mc_base.specs.Literals.{is_numeral, are_digits}
-use Rattle.mc_base.proofs.lemmas.DigitLaws.{AllDigits-from_are_digits}
-use Rattle.mc_base.proofs.lemmas.NumberBounds.{powers}
+use Rattle.mc_numerals.specs.Literals.{is_numeral, are_digits}
+use Rattle.mc_numerals.proofs.lemmas.DigitLaws.{AllDigits-from_are_digits}
+use Rattle.mc_numerals.proofs.lemmas.NumberBounds.{powers}
 use Rattle.mc_trace.specs.Fields.{fields}
 
 abbrev pub is_some_text : List ℕ → Bool

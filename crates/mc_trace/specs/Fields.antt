@@ -3,7 +3,7 @@ use Rattle.std.specs.Prelude.{ℕ, Bool, true, false, not, ◌&&◌, List, [], �
 use Rattle.std.specs.List.{slice_split}
 use Rattle.std.specs.Str.Parse.{digits_value}
 use Rattle.mc_base.specs.Bytes.{is_blank}
-use Rattle.mc_base.specs.Literals.{is_numeral, with_sign}
+use Rattle.mc_numerals.specs.Literals.{is_numeral, with_sign}
 
 -- the fields of a line, which blanks part
 abbrev pub fields : List ℕ → List (List ℕ)

@@ -5,7 +5,8 @@ ghost use Rattle.mc_base.specs.Bytes.{is_blank};
 ghost use Rattle.mc_trace.specs.Fields as field;
 ghost use Rattle.mc_trace.specs.Fields.{fields};
 
-use mc_base::{capped_number, is_blank, is_numeral, trim_start};
+use mc_base::{is_blank, trim_start};
+use mc_numerals::{capped_number, is_numeral};
 
 // How many digits a field has at most.
 const MOST_DIGITS: usize = 18;

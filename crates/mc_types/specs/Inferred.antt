@@ -1,6 +1,6 @@
 -- The types of a table's rows, or why they are refused.
 use Rattle.std.specs.Prelude.{◌≡◌, ℕ, ◌<◌, List, map, length, None, Some, ⊤}
-use Rattle.mc_base.specs.Refusals.{plain_refusal}
+use Rattle.mc_refusals.specs.Refusals.{plain_refusal}
 use Rattle.mc_fixed.specs.declared.FixType.{FixType}
 use Rattle.mc_blocks.specs.Limits.{HasInputTypes, IsWithinLimits}
 use Rattle.mc_diagram.specs.declared.table.Row.{Row}

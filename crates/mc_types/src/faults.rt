@@ -1,6 +1,6 @@
 ghost use Rattle.std.specs.Prelude.{◌≡◌, ◌<◌, ◌&&◌, IfOk, List, length, map, nat_lt, false, option_and_then, slice_get};
 ghost use Rattle.std.specs.Option.{option_map_or};
-ghost use Rattle.mc_base.specs.Refusals as plain;
+ghost use Rattle.mc_refusals.specs.Refusals as plain;
 ghost use Rattle.mc_fixed.specs.declared.FixType.{FixType};
 ghost use Rattle.mc_blocks.specs.Limits.{HasInputTypes, IsWithinLimits};
 ghost use Rattle.mc_blocks.specs.Width as width;
@@ -15,10 +15,11 @@ use crate::rows::{
     boolean, first_wire, is_boolean_by_kind, is_port, met_at, row_at, trigger_wire, type_at,
 };
 use crate::rules::written_type;
-use mc_base::{Memory, Refusal, TypeWhy};
+use mc_base::Memory;
 use mc_blocks::wide_bits;
 use mc_diagram::Row;
 use mc_fixed::FixType;
+use mc_refusals::{Refusal, TypeWhy};
 use std::alloc::Global;
 
 /// The most bits that a row may need.

@@ -1,15 +1,16 @@
 ghost use Rattle.std.specs.Prelude.{◌≡◌, IfOk, nat_lt, map, filter};
 ghost use Rattle.std.specs.Option.{option_or};
-ghost use Rattle.mc_base.specs.Refusals as plain;
+ghost use Rattle.mc_refusals.specs.Refusals as plain;
 ghost use Rattle.mc_diagram.specs.Rows.{by_row, row_numbers};
 ghost use Rattle.mc_diagram.specs.FirstRefusal.{least_line, as_plain};
 ghost use Rattle.mc_diagram.specs.TypeRefusals.{followed_type, bad_types, signed_triggers, bits_of_row, line_at};
 ghost use Rattle.mc_types.specs.Inferred.{AreCountable};
 
 use crate::faults::{trigger_fault, type_fault, wide_fault};
-use mc_base::{Memory, Refusal};
+use mc_base::Memory;
 use mc_diagram::{Row, earlier};
 use mc_fixed::FixType;
+use mc_refusals::Refusal;
 use std::alloc::Global;
 
 /// The first row without a type, or with one unlike its input's.

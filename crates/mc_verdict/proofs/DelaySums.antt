@@ -4,7 +4,7 @@ use Rattle.std.specs.List.{AllByRecursion, range_with_len}
 use Rattle.std.proofs.Common.{sym, ◌∙◌, ap, ap₂, subst, cond, drop_of_length-le, arith}
 use Rattle.std.proofs.lemmas.List.{at_drop_more}
 use Rattle.std.proofs.lemmas.Bool.Decides.{nat_tests}
-use Rattle.mc_base.specs.Refusals.{PlainRefusal, LongDelays}
+use Rattle.mc_refusals.specs.Refusals.{PlainRefusal, LongDelays}
 use Rattle.mc_diagram.specs.declared.table.Row.{Row}
 use Rattle.mc_diagram.specs.Rows.{row_at}
 use Rattle.mc_diagram.specs.TimeRefusals.{AtLine}

@@ -3,8 +3,8 @@ use Rattle.std.specs.Prelude.{◌≡◌, refl, ℕ, ◌<◌, ◌≤◌, Bool, tr
 use Rattle.std.proofs.lemmas.Bool.Decides.{nat_tests}
 use Rattle.std.specs.Str.Lines.{lines}
 use Rattle.std.proofs.Common.{sym, ◌∙◌, ap, subst, inl, inr, arith}
-use Rattle.mc_base.specs.declared.SyntaxKind.{SyntaxKind}
-use Rattle.mc_base.specs.Refusals.{PlainRefusal, TooLong, Syntax}
+use Rattle.mc_refusals.specs.declared.SyntaxKind.{SyntaxKind}
+use Rattle.mc_refusals.specs.Refusals.{PlainRefusal, TooLong, Syntax}
 use Rattle.mdl_tree.specs.Spelling.{Items, LinesSpell, lines_fault, Fault, TreeOrFault}
 use Rattle.mc_diagram.specs.RowTable.{RowTable}
 use Rattle.mdl_rows.specs.Refusals.{tree_refusal}

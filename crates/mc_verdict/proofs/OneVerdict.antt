@@ -1,7 +1,7 @@
 -- Each file has one verdict, by the laws of its table, of its times and of loops.
 use Rattle.std.specs.Prelude.{◌≡◌, refl, ℕ, List, [], ◌∷◌, Option, Some, None}
 use Rattle.std.proofs.Common.{sym, ◌∙◌, ap, subst, inl, inr}
-use Rattle.mc_base.specs.Refusals.{PlainRefusal, Loop}
+use Rattle.mc_refusals.specs.Refusals.{PlainRefusal, Loop}
 use Rattle.mc_diagram.specs.RowTable.{RowTable}
 use Rattle.mc_diagram.specs.ResolvedTable.{ResolvedTable, diagram_of_table, IsResolvedTable}
 use Rattle.mc_diagram.specs.TypeRefusals.{type_refusal}

@@ -1,8 +1,8 @@
 -- Why a file gives no model.
 use Rattle.std.specs.Prelude.{ℕ, List, Option, MatchOption, ⊤}
-use Rattle.mc_base.specs.declared.refusal.Refusal.{Refusal}
-use Rattle.mc_base.specs.declared.refusal.Refusal.TheVariants as refusal
-use Rattle.mc_base.specs.Refusals.{plain_refusal}
+use Rattle.mc_refusals.specs.declared.refusal.Refusal.{Refusal}
+use Rattle.mc_refusals.specs.declared.refusal.Refusal.TheVariants as refusal
+use Rattle.mc_refusals.specs.Refusals.{plain_refusal}
 use Rattle.mc_diagram.specs.Diagram.{Diagram}
 use Rattle.mc_diagram.specs.Needs.{needs_of, HasNoLoop}
 use Rattle.mc_diagram.specs.declared.BuildFault.{BuildFault}

@@ -1,7 +1,7 @@
 -- The verdict on a file, for what its text and its tree are: a refusal, or the table of its model.
 use Rattle.std.specs.Prelude.{◌≡◌, ℕ, ◌<◌, ◌≤◌, ◌⊎◌, List, length, None, Some}
-use Rattle.mc_base.specs.declared.SyntaxKind.{SyntaxKind}
-use Rattle.mc_base.specs.Refusals.{PlainRefusal, TooLong, Syntax}
+use Rattle.mc_refusals.specs.declared.SyntaxKind.{SyntaxKind}
+use Rattle.mc_refusals.specs.Refusals.{PlainRefusal, TooLong, Syntax}
 use Rattle.mdl_tree.specs.Spelling.{Items, Mdl, Fault}
 use Rattle.mc_diagram.specs.RowTable.{RowTable}
 use Rattle.mc_diagram.specs.WellFormed.{IsWellFormed}

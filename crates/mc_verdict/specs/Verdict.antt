@@ -1,7 +1,7 @@
 -- The verdict on a file: its first refusal, or the resolved table of its model.
 use Rattle.std.specs.Prelude.{◌≡◌, ℕ, ◌⊎◌, List, map, None, Some}
 use Rattle.mc_base.specs.declared.Place.{Place}
-use Rattle.mc_base.specs.Refusals.{PlainRefusal, Loop}
+use Rattle.mc_refusals.specs.Refusals.{PlainRefusal, Loop}
 use Rattle.mc_diagram.specs.declared.table.Row.{Row}
 use Rattle.mc_diagram.specs.RowTable.{RowTable}
 use Rattle.mc_diagram.specs.Rows.{row_at}

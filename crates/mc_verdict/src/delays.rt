@@ -1,13 +1,13 @@
 ghost use Rattle.std.specs.Prelude.{◌≡◌, ◌≤◌, IfSome, option_map};
 ghost use Rattle.std.specs.List.{AllByRecursion};
-ghost use Rattle.mc_base.specs.Refusals.{plain_refusal};
+ghost use Rattle.mc_refusals.specs.Refusals.{plain_refusal};
 ghost use Rattle.mc_diagram.specs.DelayRefusals.{delay_refusal, length_at};
 ghost use Rattle.mc_diagram.specs.WellFormed.{IsRow};
 ghost use Rattle.mc_verdict.specs.DelaySums.{one_length};
 
-use mc_base::Refusal;
 use mc_blocks::Kind;
 use mc_diagram::Row;
+use mc_refusals::Refusal;
 
 /// The most samples that the delays of a model remember together.
 const MOST_SAMPLES: u32 = 1_000_000;

@@ -1,5 +1,6 @@
-use mc_base::{Memory, Refusal};
+use mc_base::Memory;
 use mc_diagram::BuildFault;
+use mc_refusals::Refusal;
 use mdl_reader::ReadFault;
 
 /// Why a file gives no model: it is refused, or there was no memory.

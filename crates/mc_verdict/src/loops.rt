@@ -3,9 +3,10 @@ ghost use Rattle.mc_diagram.specs.ResolvedTree.{diagram_of};
 ghost use Rattle.mc_verdict.specs.Faults.{TellsLoopOf};
 ghost use Rattle.mc_verdict.specs.Verdict.{places_of as places_of_rows};
 
-use mc_base::{Memory, Place, Refusal};
+use mc_base::{Memory, Place};
 use mc_depend::find_loop;
 use mc_diagram::{Resolved, Row};
+use mc_refusals::Refusal;
 use std::alloc::Global;
 
 /// The places of the rows with these numbers.

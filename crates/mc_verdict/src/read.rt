@@ -3,8 +3,8 @@ ghost use Rattle.mc_verdict.specs.Faults.{IsFaultOf};
 ghost use Rattle.mc_verdict.specs.Files.{IsModelWith};
 
 use crate::fault::ModelFault;
-use mc_base::Refusal;
 use mc_diagram::Tree;
+use mc_refusals::Refusal;
 use mdl_reader::read_mdl;
 use mdl_table::build;
 use std::alloc::Global;

@@ -4,8 +4,8 @@ use Rattle.std.specs.Prelude.{min}
 use Rattle.std.specs.List.{prefix_len}
 use Rattle.std.specs.Str.Parse.{digits_value}
 use Rattle.std.proofs.lemmas.Bool.Decides.{nat_tests}
-use Rattle.mc_base.specs.Literals.{are_digits}
-use Rattle.mc_base.proofs.lemmas.NumberBounds.{numeral_digits, positive_value}
+use Rattle.mc_numerals.specs.Literals.{are_digits}
+use Rattle.mc_numerals.proofs.lemmas.NumberBounds.{numeral_digits, positive_value}
 use Rattle.mc_words.specs.Words.{is_plain_number, number_up_to}
 
 pub plain_digits : (word : List ℕ) → is_plain_number word ≡ true → are_digits word ≡ true

@@ -3,7 +3,7 @@ use Rattle.std.specs.Prelude.{ℕ, ◌<◌, ◌≤◌, Bool, false, not, ◌&&�
 use Rattle.std.specs.List.{list_all}
 use Rattle.std.specs.Str.Parse.{digits_value}
 use Rattle.std.specs.declared.alloc.Global.{Global}
-use Rattle.mc_base.specs.Literals.{is_numeral}
+use Rattle.mc_numerals.specs.Literals.{is_numeral}
 use Rattle.mc_words.specs.declared.commands.Command.{Command}
 use Rattle.mc_words.specs.declared.commands.Command.TheVariants as command
 

@@ -3,7 +3,7 @@ ghost use Rattle.std.specs.Prelude.{◌≡◌, ◌<◌, ◌≤◌, IfSome};
 ghost use Rattle.mc_words.specs.Words as words;
 ghost use Rattle.mc_words.specs.Words.{greatest_start, greatest_size};
 
-use mc_base::{capped_number, is_numeral};
+use mc_numerals::{capped_number, is_numeral};
 
 const GREATEST_START: u32 = 2_147_483_646;
 

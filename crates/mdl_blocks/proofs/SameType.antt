@@ -4,7 +4,7 @@ use mathlib.Core.HLevel.{is_prop→PathP}
 use Rattle.std.specs.Coded.{le_prop}
 use Rattle.mc_fixed.specs.declared.FixType.{FixType}
 use Rattle.mc_fixed.specs.Profile.{InProfile}
-use Rattle.mc_fixed.specs.TypeTexts.{format_of}
+use Rattle.mdl_type_texts.specs.TypeTexts.{format_of}
 
 profile-prop : (s : Bool) (b f : ℕ) → IsProp (InProfile s b f)
 profile-prop s b f = hlevel (le_prop)

@@ -6,8 +6,8 @@ use Rattle.mc_base.specs.declared.ParamName.TheVariants.{Name, OutDataTypeStr, S
 use Rattle.mc_base.specs.declared.ParamName.TheVariants as param
 use Rattle.mc_base.specs.declared.Edge.{Edge}
 use Rattle.mc_base.specs.declared.Compare.{Compare}
-use Rattle.mc_base.specs.Literals.{Ratio}
-use Rattle.mc_fixed.specs.TypeTexts.{Inherit}
+use Rattle.mc_numerals.specs.Literals.{Ratio}
+use Rattle.mdl_type_texts.specs.TypeTexts.{Inherit}
 use Rattle.mc_blocks.specs.declared.How.{How}
 use Rattle.mc_blocks.specs.declared.Logic.{Logic}
 use Rattle.mc_blocks.specs.declared.Criterion.{Criterion}

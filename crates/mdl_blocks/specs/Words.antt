@@ -6,7 +6,7 @@ use Rattle.mc_base.specs.declared.Edge.{Edge}
 use Rattle.mc_base.specs.declared.Edge.TheVariants.{Rising, Falling, Either}
 use Rattle.mc_base.specs.declared.Compare.{Compare}
 use Rattle.mc_base.specs.declared.Compare.TheVariants as compare
-use Rattle.mc_base.specs.Literals.{Ratio}
+use Rattle.mc_numerals.specs.Literals.{Ratio}
 use Rattle.mc_fixed.specs.declared.Round.{Round}
 use Rattle.mc_fixed.specs.declared.Round.TheVariants as round
 use Rattle.mc_fixed.specs.declared.Over.{Over}

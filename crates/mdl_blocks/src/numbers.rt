@@ -1,5 +1,5 @@
 ghost use Rattle.std.specs.Prelude.{◌≡◌, ◌<◌, ◌≤◌, ◌^◌, IfSome, option_map};
-ghost use Rattle.mc_base.specs.Literals.{ratio_of};
+ghost use Rattle.mc_numerals.specs.Literals.{ratio_of};
 ghost use Rattle.mc_fixed.specs.Rounding.{nearest, floor_div};
 ghost use Rattle.mc_fixed.specs.Conversion.{fits_32};
 ghost use Rattle.mdl_blocks.specs.Words as words;

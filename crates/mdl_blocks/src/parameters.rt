@@ -1,5 +1,5 @@
 ghost use Rattle.std.specs.Prelude.{◌≡◌};
-ghost use Rattle.mc_base.specs.Literals.{ratio_of};
+ghost use Rattle.mc_numerals.specs.Literals.{ratio_of};
 ghost use Rattle.mc_base.specs.declared.ParamName.TheVariants.{ConvertRealWorld, Criteria, DelayLength, InitialOutput, Inputs, Operator, OutDataTypeStr, OutPortSampleTimeOpt, PortDimensions, RndMeth, SampleTime, SaturateOnIntegerOverflow, SystemSampleTime, TriggerType};
 ghost use Rattle.mc_base.specs.declared.ParamName.TheVariants as param;
 ghost use Rattle.mdl_blocks.specs.Results.{Gives};

@@ -3,7 +3,7 @@ use Rattle.std.specs.Prelude.{◌≡◌, ℕ, Bool, not, ◌&&◌, bytes_eq, Lis
 use Rattle.std.specs.Option.{option_or}
 use Rattle.mc_base.specs.declared.base.ParamName.{ParamName}
 use Rattle.mc_base.specs.declared.base.ParamName.TheVariants.{InitialCondition}
-use Rattle.mc_base.specs.Refusals.{param_word}
+use Rattle.mc_base.specs.Words.{param_word}
 use Rattle.mdl_tree.specs.Spelling.{Items, End, Param, Section}
 use Rattle.mdl_tree.specs.Walks.{SectionTree, sections_named, first_section, first_value}
 use Rattle.mdl_params.specs.declared.block_type.BlockType.TheVariants.{Delay}

@@ -6,7 +6,7 @@ use Rattle.mc_base.specs.declared.base.NumFault.{NumFault}
 use Rattle.mc_base.specs.declared.base.TimeText.{TimeText}
 use Rattle.mc_base.specs.declared.base.TimeText.TheVariants as held
 use Rattle.mc_base.specs.Bytes.{is_blank, trim, drop_while}
-use Rattle.mc_base.specs.Literals.{Ratio, number_value, plain_value, frac_parts, parts_of}
+use Rattle.mc_numerals.specs.Literals.{Ratio, number_value, plain_value, frac_parts, parts_of}
 use Rattle.mdl_params.specs.declared.fault.ParamFault.{ParamFault}
 use Rattle.mdl_params.specs.declared.fault.ParamFault.TheVariants.{Parameter, Continuous}
 

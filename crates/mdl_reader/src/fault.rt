@@ -1,7 +1,7 @@
 ghost use Rattle.std.specs.Prelude.{◌≡◌};
 ghost use Rattle.mdl_reader.specs.declared.fault.ReadFault.TheVariants.{Syntax, Memory};
 
-use mc_base::SyntaxKind;
+use mc_refusals::SyntaxKind;
 use std::alloc::{AllocError, AllocFailed};
 
 /// Why a text gives no tree of sections.

@@ -3,7 +3,7 @@ use Rattle.std.proofs.Common.{◌≡◌, refl, sym, ◌∙◌, ap, subst, ℕ, z
 use Rattle.std.proofs.lemmas.Bool.Decides.{nat_tests}
 use Rattle.std.specs.Prelude.{nat_eq, slice_get, filter_map, option_and_then}
 use Rattle.std.specs.List.{All, cons_option}
-use Rattle.mc_base.specs.Refusals.{PlainRefusal}
+use Rattle.mc_refusals.specs.Refusals.{PlainRefusal}
 use Rattle.mdl_wiring.specs.declared.ports.Source.{Source}
 use Rattle.mdl_wiring.specs.Members.{Member}
 use Rattle.mdl_wiring.specs.Lines.{LineEnd, ends_in}

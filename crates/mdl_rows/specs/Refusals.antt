@@ -1,6 +1,6 @@
 -- Why a model whose blocks can be read has no table.
 use Rattle.std.specs.Prelude.{List, [], ◌∷◌, Option, Some, None, is_none, option_map, Result, Ok, Err}
-use Rattle.mc_base.specs.Refusals.{PlainRefusal}
+use Rattle.mc_refusals.specs.Refusals.{PlainRefusal}
 use Rattle.mc_diagram.specs.FirstRefusal.{first_there}
 use Rattle.mdl_tree.specs.Spelling.{Items}
 use Rattle.mdl_params.specs.Defaults.{DefaultTexts, kinds_of, default_blocks}

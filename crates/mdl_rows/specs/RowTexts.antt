@@ -4,9 +4,9 @@ use Rattle.std.specs.Option.{option_or}
 use Rattle.mc_base.specs.declared.Control.{Control}
 use Rattle.mc_base.specs.declared.Decimal.{Decimal}
 use Rattle.mc_base.specs.declared.TimeText.{TimeText}
-use Rattle.mc_base.specs.Literals.{ratio_of}
+use Rattle.mc_numerals.specs.Literals.{ratio_of}
 use Rattle.mc_fixed.specs.declared.TypeText.{TypeText}
-use Rattle.mc_fixed.specs.TypeTexts.{meaning_of, Inherit, Logical, Back, Fixed}
+use Rattle.mdl_type_texts.specs.TypeTexts.{meaning_of, Inherit, Logical, Back, Fixed}
 use Rattle.mc_blocks.specs.declared.Kind.{Kind}
 use Rattle.mc_blocks.specs.declared.Kind.TheVariants as row
 use Rattle.mdl_params.specs.Times.{time_of}

@@ -8,7 +8,8 @@ ghost use Rattle.mdl_rows.specs.Wired as wired;
 
 use crate::blocks::NumberedBlock;
 use crate::model::ModelBlocks;
-use mc_base::{Memory, Refusal};
+use mc_base::Memory;
+use mc_refusals::Refusal;
 use mdl_blocks::BlockKind;
 use mdl_tree::Section;
 use mdl_wiring::{Wiring, WiringFault, first_refusal, wire};

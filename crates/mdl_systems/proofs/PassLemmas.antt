@@ -1,7 +1,7 @@
 -- Passes over blocks in memory, one by one, and over the systems inside them.
 use Rattle.std.proofs.Common.{◌≡◌, refl, sym, ◌∙◌, ap, ℕ, suc, ◌+◌, ◌<◌, ◌≤◌, List, [], ◌∷◌, length, drop, slice_index_or, drop-cons, drop_of_length-le, Option, map, arith}
 use Rattle.std.specs.Prelude.{flat_map}
-use Rattle.mc_base.specs.Refusals.{PlainRefusal}
+use Rattle.mc_refusals.specs.Refusals.{PlainRefusal}
 use Rattle.mc_diagram.specs.FirstRefusal.{earlier_of, least_in}
 use Rattle.mc_diagram.proofs.lemmas.FirstRefusals.{earlier_assoc, earlier-none, least-append}
 

@@ -1,7 +1,7 @@
 -- The model of a file, or why the file has none.
 use Rattle.std.specs.Prelude.{List, [], ◌∷◌, Option, Some, None, Result, Ok, Err, codes}
-use Rattle.mc_base.specs.declared.ModelKind.TheVariants.{Library, Second}
-use Rattle.mc_base.specs.Refusals.{PlainRefusal, NoModel, TwoModels}
+use Rattle.mc_refusals.specs.declared.ModelKind.TheVariants.{Library, Second}
+use Rattle.mc_refusals.specs.Refusals.{PlainRefusal, NoModel, TwoModels}
 use Rattle.mdl_tree.specs.Spelling.{Items}
 use Rattle.mdl_tree.specs.Walks.{SectionTree, sections_named, first_section}
 use Rattle.mc_diagram.specs.FirstRefusal.{least_in}

@@ -2,7 +2,7 @@
 use Rattle.std.specs.Prelude.{◌≡◌, List, Option, Some, None, Result, Ok, ⊤}
 use Rattle.std.specs.List.{AllZip}
 use Rattle.std.specs.Result.{result_err}
-use Rattle.mc_base.specs.Refusals.{PlainRefusal, plain_refusal}
+use Rattle.mc_refusals.specs.Refusals.{PlainRefusal, plain_refusal}
 use Rattle.mdl_tree.specs.Values.{section_tree}
 use Rattle.mdl_tree.specs.Walks.{SectionTree}
 use Rattle.mdl_params.specs.Defaults.{DefaultTexts}

@@ -1,10 +1,10 @@
 -- Why the blocks of a model can't be read.
 use Rattle.std.specs.Prelude.{ℕ, ◌&&◌, nat_lt, nat_le, if◌then◌else◌, List, [], ◌∷◌, length, slice_get, Option, Some, None, option_map, Result, Ok, Err}
-use Rattle.mc_base.specs.declared.Many.{Many}
-use Rattle.mc_base.specs.declared.Many.TheVariants.{Blocks, Inports, Outports}
+use Rattle.mc_refusals.specs.declared.Many.{Many}
+use Rattle.mc_refusals.specs.declared.Many.TheVariants.{Blocks, Inports, Outports}
 use Rattle.mc_base.specs.Numbers.{reported_number}
-use Rattle.mc_base.specs.Refusals.{PlainRefusal, TooDeep, TooMany}
-use Rattle.mc_base.specs.Refusals as refusal
+use Rattle.mc_refusals.specs.Refusals.{PlainRefusal, TooDeep, TooMany}
+use Rattle.mc_refusals.specs.Refusals as refusal
 use Rattle.mdl_tree.specs.Walks.{SectionTree}
 use Rattle.mdl_params.specs.Defaults.{DefaultTexts}
 use Rattle.mdl_blocks.specs.declared.fault.Fault.{Fault}

@@ -1,5 +1,5 @@
 ghost use Rattle.std.specs.Prelude.{◌≡◌, IfOk, IfErr, Ok, Err};
-ghost use Rattle.mc_base.specs.Refusals.{plain_refusal};
+ghost use Rattle.mc_refusals.specs.Refusals.{plain_refusal};
 ghost use Rattle.mdl_tree.specs.Values.{section_tree};
 ghost use Rattle.mc_diagram.specs.FirstRefusal.{least_in, as_plain};
 ghost use Rattle.mdl_systems.specs.Models as models_of;
@@ -8,8 +8,8 @@ ghost use Rattle.mdl_systems.specs.Held.{trees_of};
 
 use crate::placed::ModelSections;
 use crate::sections::sections_named;
-use mc_base::{ModelKind, Refusal};
 use mc_diagram::{BuildFault, earlier};
+use mc_refusals::{ModelKind, Refusal};
 use mdl_tree::Section;
 use std::alloc::Global;
 

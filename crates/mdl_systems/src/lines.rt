@@ -7,8 +7,8 @@ ghost use Rattle.mdl_systems.specs.Held.{seen, all_seen};
 
 use crate::outline::Outline;
 use crate::outlines::system_inside;
-use mc_base::Refusal;
 use mc_diagram::earlier;
+use mc_refusals::Refusal;
 use mdl_tree::Section;
 use mdl_wiring::newer_line;
 

@@ -8,8 +8,8 @@ ghost use Rattle.mdl_systems.specs.Held.{seen, all_seen};
 
 use crate::outline::Outline;
 use crate::outlines::{is_subsystem, system_inside};
-use mc_base::{Many, Refusal};
 use mc_diagram::earlier;
+use mc_refusals::{Many, Refusal};
 use mdl_blocks::Peers;
 use mdl_tree::Section;
 

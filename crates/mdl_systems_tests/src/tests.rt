@@ -3,8 +3,8 @@ mod files;
 mod numbers;
 mod systems;
 
-use mc_base::refusal_text;
 use mc_diagram::BuildFault;
+use mc_refusals::refusal_text;
 use mdl_params::Defaults;
 use mdl_reader::read_mdl;
 use mdl_systems::{find_model, read_model};

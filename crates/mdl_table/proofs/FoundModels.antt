@@ -1,7 +1,7 @@
 -- The model that is found in a file, as that of its tree.
 use Rattle.std.proofs.Common.{◌≡◌, refl, sym, ◌∙◌, ap, subst, ℕ, Bool, true, false, cond, List, [], ◌∷◌, slice_get, Option, None, Some, codes}
 use Rattle.std.specs.Prelude.{bytes_eq, IfErr, IfOk, Result, Ok, Err}
-use Rattle.mc_base.specs.Refusals.{PlainRefusal}
+use Rattle.mc_refusals.specs.Refusals.{PlainRefusal}
 use Rattle.mc_base.specs.declared.Frac.{Frac}
 use Rattle.mc_diagram.specs.declared.BuildFault.{BuildFault}
 use Rattle.mc_diagram.specs.FirstRefusal.{least_in}

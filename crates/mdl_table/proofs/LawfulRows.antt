@@ -5,7 +5,7 @@ use Rattle.std.specs.List.{AllByRecursion, AllZip}
 use Rattle.std.specs.Option.{option_or}
 use Rattle.std.specs.Result.{result_ok}
 use Rattle.std.proofs.Math.IntN.{pos-*ℤ-pos, negsuc-*ℤ-pos}
-use Rattle.mc_base.specs.Literals.{Ratio, ratio_of, parts_of, frac_parts}
+use Rattle.mc_numerals.specs.Literals.{Ratio, ratio_of, parts_of, frac_parts}
 use Rattle.mc_base.specs.declared.NumFault.TheVariants.{Range}
 use Rattle.mc_base.specs.declared.Control.{Control}
 use Rattle.mc_base.specs.declared.Decimal.{Decimal}
@@ -16,8 +16,8 @@ use Rattle.mc_fixed.specs.declared.TypeText.{TypeText}
 use Rattle.mc_fixed.specs.declared.TypeText.TheVariants as type
 use Rattle.mc_fixed.specs.Conversion.{fits_32}
 use Rattle.mc_fixed.specs.Rounding.{nearest}
-use Rattle.mc_fixed.specs.TypeTexts.{meaning_of}
-use Rattle.mc_fixed.specs.TypeTexts as meaning
+use Rattle.mdl_type_texts.specs.TypeTexts.{meaning_of}
+use Rattle.mdl_type_texts.specs.TypeTexts as meaning
 use Rattle.mc_blocks.specs.declared.Kind.{Kind}
 use Rattle.mc_diagram.specs.declared.table.Row.{Row}
 use Rattle.mc_diagram.specs.WellFormed.{IsRow, IsGain, IsGainNumber, IsTypeTextOf, IsTimeTextOf, IsTruthValue, IsConstantType, IsIntegerType, IsInheritedOrEach, IsAnyTime, IsStep}

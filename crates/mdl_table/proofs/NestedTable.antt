@@ -4,9 +4,9 @@ use Rattle.std.specs.Prelude.{option_and_then, option_map}
 use Rattle.std.specs.List.{AllZip}
 use Rattle.std.proofs.lemmas.List.{get_or_past}
 use Rattle.mc_base.specs.declared.Place.{Place}
-use Rattle.mc_base.specs.declared.Many.TheVariants.{Blocks}
+use Rattle.mc_refusals.specs.declared.Many.TheVariants.{Blocks}
 use Rattle.mc_base.specs.Numbers.{reported_number}
-use Rattle.mc_base.specs.Refusals.{PlainRefusal, TooDeep, TooMany}
+use Rattle.mc_refusals.specs.Refusals.{PlainRefusal, TooDeep, TooMany}
 use Rattle.mc_diagram.specs.declared.table.Row.{Row}
 use Rattle.mc_diagram.specs.Rows as rows
 use Rattle.mc_diagram.specs.Rows.{no_row, row_at, around}

@@ -5,8 +5,8 @@ use Rattle.std.proofs.Common.{sym, ◌∙◌, ap, ap₂}
 use mathlib.Core.HLevel.{is_prop→PathP}
 use Rattle.std.specs.Coded.{le_prop}
 use Rattle.mc_base.specs.Numbers.{AreLowest}
-use Rattle.mc_base.specs.Literals.{ratio_of, parts_of}
-use Rattle.mc_base.specs.Refusals.{PlainRefusal}
+use Rattle.mc_numerals.specs.Literals.{ratio_of, parts_of}
+use Rattle.mc_refusals.specs.Refusals.{PlainRefusal}
 use Rattle.mc_base.specs.declared.Control.{Control}
 use Rattle.mc_base.specs.declared.Decimal.{Decimal}
 use Rattle.mc_base.specs.declared.Frac.{Frac}
@@ -16,7 +16,7 @@ use Rattle.mc_fixed.specs.declared.FixType.{FixType}
 use Rattle.mc_fixed.specs.declared.TypeText.{TypeText}
 use Rattle.mc_fixed.specs.declared.TypeText.TheVariants as type
 use Rattle.mc_fixed.specs.Profile.{InProfile}
-use Rattle.mc_fixed.specs.TypeTexts.{format_of, meaning_of, Fixed}
+use Rattle.mdl_type_texts.specs.TypeTexts.{format_of, meaning_of, Fixed}
 use Rattle.mc_blocks.specs.declared.Kind.{Kind}
 use Rattle.mc_blocks.specs.declared.Kind.TheVariants as row
 use Rattle.mc_diagram.specs.declared.table.Row.{Row}

@@ -5,7 +5,7 @@ use Rattle.std.specs.List.{list_any}
 use Rattle.std.specs.Option.{option_map_or}
 use Rattle.std.proofs.lemmas.Option.{slice_get-map}
 use Rattle.std.proofs.lemmas.Bool.Decides.{nat_tests}
-use Rattle.mc_base.specs.Refusals.{PlainRefusal, DoubleName}
+use Rattle.mc_refusals.specs.Refusals.{PlainRefusal, DoubleName}
 use Rattle.mc_diagram.proofs.lemmas.FirstRefusals.{none-first, none-later}
 use Rattle.mdl_tree.specs.Spelling.{Items}
 use Rattle.mdl_wiring.specs.declared.member.Shape.{Shape}

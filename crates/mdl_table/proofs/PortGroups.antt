@@ -6,10 +6,10 @@ use Rattle.std.proofs.lemmas.List.Elements.{filter-append}
 use Rattle.std.proofs.lemmas.List.Sums.{length-filter}
 use Rattle.std.proofs.lemmas.Bool.{ltb-false}
 use Rattle.std.proofs.Math.Nat.{min-eq_left}
-use Rattle.mc_base.specs.declared.Many.{Many}
-use Rattle.mc_base.specs.declared.Many.TheVariants.{Inports, Outports}
+use Rattle.mc_refusals.specs.declared.Many.{Many}
+use Rattle.mc_refusals.specs.declared.Many.TheVariants.{Inports, Outports}
 use Rattle.mc_base.specs.Numbers.{reported_number}
-use Rattle.mc_base.specs.Refusals.{TooMany}
+use Rattle.mc_refusals.specs.Refusals.{TooMany}
 use Rattle.mc_diagram.specs.Rows.{same_system}
 use Rattle.mc_diagram.proofs.lemmas.FirstRefusals.{none-first, none-later}
 use Rattle.mdl_tree.specs.Spelling.{Items, End, Param, Section}

@@ -7,11 +7,11 @@ use Rattle.std.proofs.lemmas.Slice.Eq.{bytes_eq-Decides}
 use Rattle.std.proofs.lemmas.Bool.{eqb-true}
 use Rattle.std.proofs.lemmas.List.{length-replicate}
 use Rattle.mc_base.specs.Bytes.{trim}
-use Rattle.mc_base.specs.Literals.{Ratio, plain_value, without_brackets}
+use Rattle.mc_numerals.specs.Literals.{Ratio, plain_value, without_brackets}
 use Rattle.mc_base.specs.declared.ParamName.{ParamName}
 use Rattle.mc_fixed.specs.Conversion.{fits_32}
 use Rattle.mc_fixed.specs.Rounding.{nearest}
-use Rattle.mc_fixed.specs.TypeTexts.{Meaning, Inherit, Logical, Back, Fixed}
+use Rattle.mdl_type_texts.specs.TypeTexts.{Meaning, Inherit, Logical, Back, Fixed}
 use Rattle.mc_blocks.specs.declared.Kind.TheVariants as row
 use Rattle.mc_blocks.specs.declared.Logic.{Logic}
 use Rattle.mc_blocks.specs.declared.Logic.TheVariants.{And, Or, Nand, Nor, Xor, Nxor, Not}

@@ -4,7 +4,7 @@ use Rattle.std.specs.Prelude.{◌==◌, option_and_then, option_map, Result, Ok,
 use Rattle.std.specs.List.{AllByRecursion, AllZip}
 use Rattle.std.specs.Result.{result_ok}
 use Rattle.mc_base.specs.Numbers.{AreLowest}
-use Rattle.mc_base.specs.Literals.{Ratio, ratio_of, frac_parts, parts_of}
+use Rattle.mc_numerals.specs.Literals.{Ratio, ratio_of, frac_parts, parts_of}
 use Rattle.mc_base.specs.declared.Control.{Control}
 use Rattle.mc_base.specs.declared.Decimal.{Decimal}
 use Rattle.mc_base.specs.declared.Frac.{Frac}

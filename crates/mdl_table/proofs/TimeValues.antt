@@ -3,7 +3,7 @@ use Rattle.std.proofs.Common.{◌≡◌, refl, sym, subst, ℕ, zero, suc, ◌*�
 use Rattle.std.specs.Prelude.{◌==◌, Result, Ok, Err, not, take_while}
 use Rattle.mc_base.specs.Numbers.{AreLowest}
 use Rattle.mc_base.specs.Bytes.{trim, drop_while}
-use Rattle.mc_base.specs.Literals.{Ratio, frac_parts, plain_value, number_value, without_brackets}
+use Rattle.mc_numerals.specs.Literals.{Ratio, frac_parts, plain_value, number_value, without_brackets}
 use Rattle.mc_base.specs.declared.NumFault.{NumFault}
 use Rattle.mc_base.specs.declared.NumFault.TheVariants.{Range}
 use Rattle.mc_base.specs.declared.TimeText.{TimeText}

@@ -7,9 +7,9 @@ use Rattle.std.proofs.lemmas.List.Elements.{All-from_recursion}
 use Rattle.std.proofs.lemmas.Slice.Eq.{bytes_eq-Decides}
 use Rattle.mc_base.specs.declared.Place.{Place}
 use Rattle.mc_base.specs.declared.ParamName.TheVariants.{Name}
-use Rattle.mc_base.specs.declared.Many.TheVariants.{Blocks}
+use Rattle.mc_refusals.specs.declared.Many.TheVariants.{Blocks}
 use Rattle.mc_base.specs.Numbers.{reported_number}
-use Rattle.mc_base.specs.Refusals.{TooMany}
+use Rattle.mc_refusals.specs.Refusals.{TooMany}
 use Rattle.mc_diagram.specs.declared.table.Row.{Row}
 use Rattle.mc_diagram.specs.declared.subsystem.Subsystem.{Subsystem}
 use Rattle.mc_diagram.specs.declared.subsystem.Subsystem.TheViews.{out-Subsystem}

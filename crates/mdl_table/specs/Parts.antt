@@ -1,6 +1,6 @@
 -- What a model has for its tree, by its sections in memory.
 use Rattle.std.specs.Prelude.{List, [], ◌∷◌, Option}
-use Rattle.mc_base.specs.Refusals.{PlainRefusal}
+use Rattle.mc_refusals.specs.Refusals.{PlainRefusal}
 use Rattle.mc_diagram.specs.declared.table.Row.{Row}
 use Rattle.mc_diagram.specs.FirstRefusal.{first_there}
 use Rattle.mc_diagram.specs.Nested as nested

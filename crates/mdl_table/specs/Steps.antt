@@ -3,7 +3,7 @@ use Rattle.std.specs.Prelude.{◌≡◌, ℕ, ◌==◌, if◌then◌else◌, Lis
 use Rattle.std.specs.Option.{option_or}
 use Rattle.std.specs.Result.{result_ok}
 use Rattle.mc_base.specs.declared.Frac.{Frac}
-use Rattle.mc_base.specs.Literals.{Ratio, parts_of, frac_parts}
+use Rattle.mc_numerals.specs.Literals.{Ratio, parts_of, frac_parts}
 use Rattle.mdl_params.specs.Forms.{number_form}
 use Rattle.mdl_tree.specs.Spelling.{Items, End, Param, Section}
 use Rattle.mdl_tree.specs.Walks.{first_section}

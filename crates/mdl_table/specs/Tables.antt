@@ -1,6 +1,6 @@
 -- Which table a file has.
 use Rattle.std.specs.Prelude.{◌≡◌, ℕ, Result, Ok, Err}
-use Rattle.mc_base.specs.Refusals.{PlainRefusal}
+use Rattle.mc_refusals.specs.Refusals.{PlainRefusal}
 use Rattle.mdl_tree.specs.Spelling.{Items}
 use Rattle.mc_diagram.specs.RowTable.{RowTable}
 use Rattle.mc_diagram.specs.declared.subsystem.Subsystem.{out-Subsystem}

@@ -9,8 +9,8 @@ mod rows;
 mod steps;
 mod systems;
 
-use mc_base::refusal_text;
 use mc_diagram::{BuildFault, Tree};
+use mc_refusals::refusal_text;
 use mdl_reader::read_mdl;
 use mdl_table::build;
 use mdl_texts::model_of;

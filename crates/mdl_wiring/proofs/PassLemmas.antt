@@ -1,7 +1,7 @@
 -- Passes over items in memory, one by one.
 use Rattle.std.proofs.Common.{◌≡◌, sym, ◌∙◌, ap, ℕ, suc, ◌+◌, ◌<◌, ◌≤◌, List, [], ◌∷◌, ◌++◌, length, drop, take, slice_index_or, drop-cons, drop_of_length-le, Option, map, arith}
 use Rattle.std.proofs.lemmas.List.{take_more, map-append, length-map, length-take-le}
-use Rattle.mc_base.specs.Refusals.{PlainRefusal}
+use Rattle.mc_refusals.specs.Refusals.{PlainRefusal}
 use Rattle.mc_diagram.specs.FirstRefusal.{earlier_of, least_in}
 use Rattle.mc_diagram.proofs.lemmas.FirstRefusals.{earlier_assoc, earlier-none}
 use Rattle.mdl_wiring.specs.Refusals.{least_from}

@@ -1,6 +1,6 @@
 -- The order of refusals.
 use Rattle.std.specs.Prelude.{ℕ, Bool, ◌||◌, ◌&&◌, ◌==◌, nat_lt, if◌then◌else◌, Option, Some, None}
-use Rattle.mc_base.specs.Refusals.{PlainRefusal, TooLong, Syntax, NoModel, TwoModels, TooDeep, TooMany, Unsupported, Parameter, DoubleName, NoBlock, NoPort, TwoSources, Unconnected, TwoControls, Continuous, FloatType, NoType, TriggerSigned, TooWide, TimeInside, LongCycle, RateRatio, Loop, LongDelays}
+use Rattle.mc_refusals.specs.Refusals.{PlainRefusal, TooLong, Syntax, NoModel, TwoModels, TooDeep, TooMany, Unsupported, Parameter, DoubleName, NoBlock, NoPort, TwoSources, Unconnected, TwoControls, Continuous, FloatType, NoType, TriggerSigned, TooWide, TimeInside, LongCycle, RateRatio, Loop, LongDelays}
 use Rattle.mc_diagram.specs.FirstRefusal.{line_of_refusal}
 
 -- the number of a refusal

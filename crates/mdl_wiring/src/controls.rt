@@ -4,8 +4,8 @@ ghost use Rattle.mdl_wiring.specs.Members.{member_seen, members_seen};
 ghost use Rattle.mdl_wiring.specs.Refusals as refusals;
 
 use crate::member::{Member, Shape};
-use mc_base::Refusal;
 use mc_diagram::earlier;
+use mc_refusals::Refusal;
 
 /// A control of a subsystem.
 #[derive(Clone, Copy, Debug, PartialEq, Eq, Drop)]

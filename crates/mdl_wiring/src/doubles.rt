@@ -8,8 +8,9 @@ ghost use Rattle.mdl_wiring.specs.Doubles as doubles;
 use crate::member::{Member, Shape};
 use crate::names::{Names, is_before, place_of};
 use indexmap::IndexSet;
-use mc_base::{Memory, Refusal};
+use mc_base::Memory;
 use mc_diagram::earlier;
+use mc_refusals::Refusal;
 use std::alloc::Global;
 
 /// A side of a system, on which its ports have numbers of their own.

@@ -1,4 +1,5 @@
-use mc_base::{Memory, Refusal};
+use mc_base::Memory;
+use mc_refusals::Refusal;
 
 /// Why the lines of a system lead nowhere: the system is refused, or there was no memory.
 #[derive(Debug, Drop)]

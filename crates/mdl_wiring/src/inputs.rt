@@ -7,8 +7,9 @@ use crate::lines::LineEnd;
 use crate::names::is_before;
 use crate::ports::{Input, input_at};
 use indexmap::IndexMap;
-use mc_base::{Memory, Refusal};
+use mc_base::Memory;
 use mc_diagram::earlier;
+use mc_refusals::Refusal;
 use std::alloc::Global;
 
 /// Inputs, each with the place of the first line end that leads to it.

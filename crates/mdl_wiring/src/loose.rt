@@ -8,8 +8,8 @@ ghost use Rattle.mdl_wiring.specs.Held.{AreInputsOf};
 use crate::inputs::{Inputs, end_at};
 use crate::member::Member;
 use crate::ports::Input;
-use mc_base::Refusal;
 use mc_diagram::earlier;
+use mc_refusals::Refusal;
 
 /// The number of the first input of the block at a place to which no line leads.
 fn loose_input(inputs: &Inputs, member: &Member, at: usize) -> Option<u64>

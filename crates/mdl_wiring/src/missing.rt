@@ -6,8 +6,8 @@ ghost use Rattle.mdl_wiring.specs.Held.{place_seen, places_seen, ends_seen};
 
 use crate::lines::{LineEnd, Place};
 use crate::ports::{input_at, output_at};
-use mc_base::Refusal;
 use mc_diagram::earlier;
+use mc_refusals::Refusal;
 
 /// The refusal of a place whose block isn't there.
 fn no_block(place: &Place) -> Option<Refusal>

@@ -4,8 +4,8 @@ ghost use Rattle.mdl_tree.specs.Values.{section_tree};
 ghost use Rattle.mdl_wiring.specs.Lines.{parts_of_line};
 ghost use Rattle.mdl_wiring.specs.Refusals as refusals;
 
-use mc_base::Refusal;
 use mc_diagram::earlier;
+use mc_refusals::Refusal;
 use mdl_tree::{Item, Section};
 
 /// Whether a part of a line names its ends in the newer form.

@@ -1,10 +1,10 @@
 ghost use Rattle.std.specs.Prelude.{◌≡◌, Some};
-ghost use Rattle.mc_base.specs.Refusals.{plain_refusal};
+ghost use Rattle.mc_refusals.specs.Refusals.{plain_refusal};
 ghost use Rattle.mc_diagram.specs.FirstRefusal.{as_plain};
 ghost use Rattle.mdl_wiring.specs.Order as order;
 
-use mc_base::Refusal;
 use mc_diagram::earlier;
+use mc_refusals::Refusal;
 
 /// The number of a refusal.
 fn number_of(refusal: &Refusal) -> u32

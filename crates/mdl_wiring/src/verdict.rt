@@ -19,7 +19,8 @@ use crate::missing::{least_without_block, least_without_port};
 use crate::names::{Names, names_of};
 use crate::sections::sections_named;
 use crate::wiring::{Wiring, wiring_of};
-use mc_base::{Memory, Refusal};
+use mc_base::Memory;
+use mc_refusals::Refusal;
 use mdl_tree::Section;
 use std::alloc::Global;
 

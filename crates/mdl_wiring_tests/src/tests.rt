@@ -2,7 +2,7 @@ mod faults;
 mod order;
 mod sources;
 
-use mc_base::refusal_text;
+use mc_refusals::refusal_text;
 use mdl_reader::read_mdl;
 use mdl_texts::{is_told, system_of};
 use mdl_wiring::{Member, Shape, Wiring, WiringFault, wire};

@@ -4,7 +4,7 @@ use Rattle.std.specs.Int.{IsGcd, ◌∣◌}
 use Rattle.std.proofs.lemmas.Nat.Gcd.{IsGcd-from_zero, IsGcd-from_mod, dvd-zero}
 use Rattle.std.proofs.Math.Nat.{div-mul_cancel, dvd_of_mul-dvd-mul_right, mul-dvd-mul_right, dvd-mul_right_of_dvd, mul-add-mod_self_left, mod-eq_of_lt, mul-lt-mul_of_pos_left}
 use Rattle.mc_base.specs.Numbers.{gcd_within, gcd, lcm, IsLcm}
-use Rattle.mc_base.proofs.lemmas.Lowest.{gcd_is, gcd_pos}
+use Rattle.mc_base.proofs.lemmas.Divisors.{gcd_is, gcd_pos}
 
 some : (b : ℕ) → 0 < suc b
 some b = omega arith

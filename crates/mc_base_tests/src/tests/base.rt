@@ -1,7 +1,6 @@
-use mc_base::{
-    Memory, NumFault, ParamName, Place, Port, Refusal, Text, frac_of, gcd, lcm, push_number,
-    read_decimal, refusal_text,
-};
+use mc_base::{Memory, NumFault, ParamName, Place, Port, Text, gcd, lcm, push_number};
+use mc_numerals::{frac_of, read_decimal};
+use mc_refusals::{Refusal, refusal_text};
 use std::alloc::Global;
 use std::test::Fail;
 

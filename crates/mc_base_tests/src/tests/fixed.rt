@@ -2,11 +2,13 @@ mod conversions;
 
 use super::{INT8, INT32};
 use conversions::CONVERSIONS;
-use mc_base::{NumFault, read_decimal};
+use mc_base::NumFault;
 use mc_fixed::{
     Case, FixType, Over, Round, TypeFault, TypeText, all_cases, convert, gain_constant, greatest,
-    least, quantize, read_type,
+    least, quantize,
 };
+use mc_numerals::read_decimal;
+use mdl_type_texts::read_type;
 use std::test::Fail;
 
 // Whether the type that a text is has a sign, its bits and its fraction bits.

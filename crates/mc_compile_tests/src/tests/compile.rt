@@ -1,6 +1,6 @@
-use mc_base::refusal_text;
 use mc_compile::compile;
 use mc_fixed::FixType;
+use mc_refusals::refusal_text;
 use mc_verdict::ModelFault;
 use mdl_texts::model_of;
 use std::alloc::Global;

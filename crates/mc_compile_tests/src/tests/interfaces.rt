@@ -1,5 +1,5 @@
-use mc_base::refusal_text;
 use mc_interfaces::report_of;
+use mc_refusals::refusal_text;
 use mc_verdict::ModelFault;
 use mdl_texts::model_of;
 use std::alloc::Global;

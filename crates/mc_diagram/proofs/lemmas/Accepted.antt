@@ -9,8 +9,8 @@ use native.Mathlib.Decide.{dec_lt, ℕ_discrete}
 use mathlib.Core.Path.{fun_ext}
 use Rattle.mc_base.specs.Numbers.{lcm}
 use Rattle.mc_base.specs.declared.TimeText.{TimeText}
-use Rattle.mc_base.specs.Refusals.{PlainRefusal, TooWide, LongCycle}
-use Rattle.mc_base.specs.declared.CycleWhat.TheVariants.{Hyper}
+use Rattle.mc_refusals.specs.Refusals.{PlainRefusal, TooWide, LongCycle}
+use Rattle.mc_refusals.specs.declared.CycleWhat.TheVariants.{Hyper}
 use Rattle.mc_fixed.specs.declared.FixType.{FixType}
 use Rattle.mc_fixed.specs.Types.{boolean}
 use Rattle.mc_blocks.specs.Width.{wide_bits}

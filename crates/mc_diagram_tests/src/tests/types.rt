@@ -4,10 +4,11 @@ ghost use Rattle.mc_diagram.specs.Nested.{system, no_more, system_of};
 ghost use Rattle.mc_diagram_tests.specs.Samples.{inport_row};
 
 use super::INT8;
-use mc_base::{Control, Memory, Place, Refusal, TimeText, TypeWhy, Wires};
+use mc_base::{Control, Memory, Place, TimeText, Wires};
 use mc_blocks::Kind;
 use mc_diagram::{BuildFault, Row, Subsystem, Table, Tree};
 use mc_fixed::{FixType, TypeText};
+use mc_refusals::{Refusal, TypeWhy};
 use mc_types::infer_types;
 use std::alloc::Global;
 use std::test::Fail;

@@ -2,9 +2,9 @@
 use Rattle.std.specs.Prelude.{◌≡◌, refl, ℕ, ◌<◌, nat_lt, Bool, List, [], ◌∷◌, map, filter, length, Option, Some, None, is_some, unwrap_or, if◌then◌else◌}
 use Rattle.std.specs.Option.{option_or}
 use Rattle.std.proofs.Common.{sym, ◌∙◌, ap, subst, arith}
-use Rattle.mc_base.specs.declared.TypeWhy.TheVariants.{Missing, Unlike}
-use Rattle.mc_base.specs.declared.refusal.Refusal.{Refusal}
-use Rattle.mc_base.specs.Refusals.{PlainRefusal, plain_refusal, NoType, TooWide}
+use Rattle.mc_refusals.specs.declared.TypeWhy.TheVariants.{Missing, Unlike}
+use Rattle.mc_refusals.specs.declared.refusal.Refusal.{Refusal}
+use Rattle.mc_refusals.specs.Refusals.{PlainRefusal, plain_refusal, NoType, TooWide}
 use Rattle.mc_fixed.specs.declared.FixType.{FixType}
 use Rattle.mc_fixed.specs.Types.{boolean}
 use Rattle.mc_diagram.specs.declared.table.Row.{Row}

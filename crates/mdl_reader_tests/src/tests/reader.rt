@@ -1,5 +1,5 @@
-use mc_base::SyntaxKind;
-use mc_base::SyntaxKind::{
+use mc_refusals::SyntaxKind;
+use mc_refusals::SyntaxKind::{
     AfterString, BadName, Brace, DeepSections, OpenBracket, OpenString, StrayString,
 };
 use mdl_reader::{ReadFault, read_mdl};

@@ -1,4 +1,4 @@
-use mc_base::{Refusal, refusal_text};
+use mc_refusals::{Refusal, refusal_text};
 use mdl_reader::read_mdl;
 use mdl_texts::{is_told, system_of};
 use mdl_wiring::{first_refusal, newer_line};

@@ -1,6 +1,6 @@
 use Rattle.std.proofs.Common.{◌≡◌, ◌<◌, ◌^◌, All, List, map, take}
 use Rattle.mc_base.specs.declared.Port.{Port}
-use Rattle.mc_base.specs.Refusals.{port_word}
+use Rattle.mc_base.specs.Words.{port_word}
 use Rattle.mc_profile.specs.Ports.{ports_mask}
 use Rattle.mc_report.specs.Guesses.{IsPlaced}
 use Rattle.mc_report.proofs.parsing.mask_in.Given as goal

@@ -1,8 +1,8 @@
 use Rattle.std.proofs.Common.{◌≡◌, sym, ◌∙◌, ap, subst, arith, ◌+◌, ◌<◌, ◌^◌, [], ◌∷◌, drop}
 use Rattle.std.specs.Prelude.{Some}
 use Rattle.std.proofs.lemmas.List.{get_or_default}
-use Rattle.mc_base.specs.declared.refusal.CycleWhat.TheVariants.{Denominator}
-use Rattle.mc_base.specs.Refusals.{plain_refusal}
+use Rattle.mc_refusals.specs.declared.refusal.CycleWhat.TheVariants.{Denominator}
+use Rattle.mc_refusals.specs.Refusals.{plain_refusal}
 use Rattle.mc_diagram.specs.declared.table.Row.{Row}
 use Rattle.mc_diagram.specs.RowTable.{RowTable}
 use Rattle.mc_diagram.specs.Rows.{row_at, no_row}

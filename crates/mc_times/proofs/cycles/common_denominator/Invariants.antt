@@ -1,6 +1,6 @@
 use Rattle.std.proofs.Common.{◌^◌, drop}
 use Rattle.std.specs.Option.{option_map_or}
-use Rattle.mc_base.specs.declared.refusal.CycleWhat.TheVariants.{Denominator}
+use Rattle.mc_refusals.specs.declared.refusal.CycleWhat.TheVariants.{Denominator}
 use Rattle.mc_base.specs.declared.Frac.{Frac}
 use Rattle.mc_diagram.specs.TimeRefusals.{denominators_in}
 use Rattle.mc_times.proofs.Growing.{IsGrowing}

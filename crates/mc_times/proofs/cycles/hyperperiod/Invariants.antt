@@ -1,5 +1,5 @@
 use Rattle.std.proofs.Common.{◌^◌, drop}
-use Rattle.mc_base.specs.declared.refusal.CycleWhat.TheVariants.{Hyper}
+use Rattle.mc_refusals.specs.declared.refusal.CycleWhat.TheVariants.{Hyper}
 use Rattle.mc_times.proofs.Growing.{IsGrowing}
 use Rattle.mc_times.proofs.LineNumbers.{of_rows}
 use Rattle.mc_times.proofs.PeriodSteps.{periods_by}

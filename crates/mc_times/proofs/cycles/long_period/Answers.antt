@@ -1,8 +1,8 @@
 use Rattle.std.proofs.Common.{◌≡◌, sym, ◌∙◌, ap, subst, ◌+◌, [], ◌∷◌, drop}
 use Rattle.std.specs.Prelude.{find, option_map}
 use Rattle.std.proofs.lemmas.List.{get_or_default}
-use Rattle.mc_base.specs.declared.refusal.CycleWhat.TheVariants.{Period}
-use Rattle.mc_base.specs.Refusals.{PlainRefusal, LongCycle}
+use Rattle.mc_refusals.specs.declared.refusal.CycleWhat.TheVariants.{Period}
+use Rattle.mc_refusals.specs.Refusals.{PlainRefusal, LongCycle}
 use Rattle.mc_diagram.specs.declared.table.Row.{Row}
 use Rattle.mc_diagram.specs.Rows.{row_at, no_row}
 use Rattle.mc_diagram.specs.SampleTimes.{written_by}

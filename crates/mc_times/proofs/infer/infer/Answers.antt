@@ -1,6 +1,6 @@
 use Rattle.std.proofs.Common.{◌≡◌, refl, sym, ◌∙◌, ap, subst, length, List, Option, None, Some}
 use Rattle.std.specs.Prelude.{MatchOption}
-use Rattle.mc_base.specs.Refusals.{PlainRefusal}
+use Rattle.mc_refusals.specs.Refusals.{PlainRefusal}
 use Rattle.mc_diagram.specs.declared.times.Time.{Time}
 use Rattle.mc_diagram.specs.FirstRefusal.{as_plain}
 use Rattle.mc_diagram.specs.RowTable.{RowTable}

@@ -1,5 +1,5 @@
 use Rattle.std.proofs.Common.{◌≡◌, refl, sym, ◌∙◌, ap, None, Some}
-use Rattle.mc_base.specs.Refusals.{plain_refusal}
+use Rattle.mc_refusals.specs.Refusals.{plain_refusal}
 use Rattle.mc_diagram.specs.FirstRefusal.{as_plain, least_line}
 use Rattle.mc_diagram.specs.RowTable.{RowTable}
 use Rattle.mc_diagram.specs.TimeRefusals.{times_inside, written_time_refusal, long_denominator, long_period, long_cycle}

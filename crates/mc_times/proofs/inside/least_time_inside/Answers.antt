@@ -1,6 +1,6 @@
 use Rattle.std.proofs.Common.{ℕ, Bool, ◌-◌, length, ap, ◌∙◌, arith}
 use Rattle.std.specs.Prelude.{is_some, ◌&&◌}
-use Rattle.mc_base.specs.Refusals.{PlainRefusal, TimeInside}
+use Rattle.mc_refusals.specs.Refusals.{PlainRefusal, TimeInside}
 use Rattle.mc_diagram.specs.FirstRefusal.{as_plain, least_line}
 use Rattle.mc_diagram.specs.Rows.{row_numbers}
 use Rattle.mc_diagram.specs.SampleTimes.{outermost_trigger, written_time}

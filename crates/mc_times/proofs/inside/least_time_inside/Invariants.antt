@@ -1,7 +1,7 @@
 use Rattle.std.proofs.Common.{◌≡◌, ◌-◌, ◌≤◌, length}
 use Rattle.std.specs.Prelude.{flat_map, is_some, ◌&&◌}
 use Rattle.std.specs.List.{range_with_len}
-use Rattle.mc_base.specs.Refusals.{TimeInside}
+use Rattle.mc_refusals.specs.Refusals.{TimeInside}
 use Rattle.mc_diagram.specs.FirstRefusal.{as_plain, least_line}
 use Rattle.mc_diagram.specs.SampleTimes.{outermost_trigger, written_time}
 use Rattle.mc_diagram.specs.TimeRefusals.{is_each}

@@ -1,6 +1,6 @@
 use Rattle.std.proofs.Common.{◌≡◌, ◌-◌, length}
 use Rattle.std.specs.List.{range_with_len}
-use Rattle.mc_base.specs.Refusals.{TriggerSigned}
+use Rattle.mc_refusals.specs.Refusals.{TriggerSigned}
 use Rattle.mc_diagram.specs.TypeRefusals.{has_signed_trigger, line_at}
 use Rattle.mc_diagram.specs.FirstRefusal.{as_plain, earlier_of, least_in, found_where}
 use Rattle.mc_types.proofs.passes.least_signed_trigger.Given as goal

@@ -1,7 +1,7 @@
 use Rattle.std.proofs.Common.{◌∙◌, ap, length}
 use Rattle.std.specs.List.{range_with_len}
 use Rattle.std.specs.Prelude.{nat_lt}
-use Rattle.mc_base.specs.Refusals.{TooWide}
+use Rattle.mc_refusals.specs.Refusals.{TooWide}
 use Rattle.mc_diagram.specs.TypeRefusals.{bits_of_row, line_at}
 use Rattle.mc_diagram.specs.Rows.{row_numbers}
 use Rattle.mc_diagram.specs.FirstRefusal.{as_plain, earlier_of, least_in, found_where}

@@ -1,0 +1,2 @@
+pub mod TypeTexts
+pub mod TypeTextExamples
