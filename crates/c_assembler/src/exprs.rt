@@ -1,5 +1,5 @@
 // Expressions and conditions with their leaves moved.
-ghost use Rattle.std.specs.Prelude.{◌≡◌, IfOk, map, slice_index};
+ghost use Rattle.std.specs.Prelude.{◌≡◌, IfOk, map};
 ghost use Rattle.c_syntax.specs.Tree as tree;
 ghost use Rattle.c_syntax.specs.Tree.{exprs_of_list};
 ghost use Rattle.c_syntax.specs.Plain.{expr_tree, cond_tree};

@@ -1,7 +1,6 @@
 // The procedures of codes at their places.
 ghost use Rattle.std.specs.Prelude.{◌≡◌, ◌++◌, IfOk, OnOk, map};
 ghost use Rattle.c_syntax.specs.Plain.{procedure_tree};
-ghost use Rattle.c_shape.specs.SystemTree.{system_tree};
 ghost use Rattle.c_shape.specs.Assembled as assembled;
 ghost use Rattle.c_shape.specs.Relocation as moved;
 ghost use Rattle.c_assembler.specs.Linked.{relocation};

@@ -1,6 +1,5 @@
 // The root's struct and parameters.
-ghost use Rattle.std.specs.Prelude.{◌≡◌, ◌++◌, ◌∷◌, [], IfOk, OnOk, map};
-ghost use Rattle.mc_profile.specs.Locals as locals;
+ghost use Rattle.std.specs.Prelude.{◌≡◌, ◌++◌, [], IfOk, OnOk, map};
 ghost use Rattle.c_syntax.specs.PlainField.{field_tree, field_trees};
 ghost use Rattle.c_syntax.specs.Plain.{param_trees};
 ghost use Rattle.c_shape.specs.Assembled as assembled;

@@ -1,4 +1,4 @@
-use Rattle.std.proofs.Common.{sym, ◌∙◌, ap, map, ◌++◌, ◌∷◌, [], List, ℕ, Bool, Option, Some, None, if◌then◌else◌}
+use Rattle.std.proofs.Common.{sym, ◌∙◌, ap, map, ◌++◌, [], List, ℕ, Bool, Option, Some, None, if◌then◌else◌}
 use Rattle.std.specs.List.{cons_option}
 use Rattle.std.proofs.lemmas.List.{append-nil}
 use denote.Ref.{Bor}
