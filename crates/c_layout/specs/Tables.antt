@@ -4,7 +4,6 @@ use Rattle.std.specs.List.{range_with_len}
 use Rattle.mc_base.specs.declared.base.Port.{Port}
 use Rattle.mc_fixed.specs.declared.types.FixType.{FixType}
 use Rattle.mc_profile.specs.Locals.{own_header}
-use Rattle.mc_profile.specs.SystemProfile.{SystemProfile}
 use Rattle.c_system.specs.declared.node.Place.{Place}
 use Rattle.c_system.specs.declared.source.Source.{Source}
 use Rattle.c_system.specs.Emittable.{IsEmittable}
@@ -39,11 +38,3 @@ pub record HasTables (of : Laid) (found : List Source) (placed : List Place)
       ≡ map (child_base of.local (own_count of.schedule))
       (range_with_len 0 (length of.local.children + 1))
   pub ports : typed ≡ port_types (own_header of.local of.profile)
-
--- these are the tables of a layout of the system, whatever its profile
-abbrev pub AreTables : (of : Scheduled) → List Source → List Place → List ℕ → List ℕ →
-    List (Port × FixType) → Type 0
-AreTables of found placed grouped based typed =
-    (profile : SystemProfile) →
-    HasTables (record { local = of.local; profile = profile; schedule = of.schedule }) found placed
-    grouped based typed

@@ -1,6 +1,6 @@
 ghost use Rattle.std.specs.Prelude.{◌≡◌, IfOk};
 ghost use Rattle.c_system.specs.Emittable.{IsEmittable};
-ghost use Rattle.c_layout.specs.Tables.{AreTables};
+ghost use Rattle.c_tables.specs.Tables.{AreTables};
 
 use crate::bases::bases_behind;
 use crate::groups::code_groups;
