@@ -4,7 +4,7 @@ ghost use Rattle.c_shape.specs.Heads.{now_param};
 ghost use Rattle.c_system.specs.Heads as heads;
 
 use c_layout::{Parameter, Params, port_parameter};
-use c_rows::container;
+use c_rows::{bit_of, container};
 use c_syntax::CType;
 use mc_base::{Control, Memory, Port};
 use mc_fixed::FixType;
@@ -105,15 +105,4 @@ fn has_port(mask: u64, port: Port) -> bool
     ensures { result ≡ has_bit_of mask (bit_of_port port) }
 {
     mask & (1 << bit_of(port)) != 0
-}
-
-// The place of an input in a mask.
-fn bit_of(port: Port) -> u32
-    ensures { result ≡ bit_of_port port }
-{
-    match port {
-        Port::Number(k) => k.saturating_sub(1),
-        Port::Enable => 32,
-        Port::Trigger => 33,
-    }
 }

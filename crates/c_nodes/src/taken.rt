@@ -5,15 +5,11 @@ ghost use Rattle.mc_profile.specs.Headers as headers;
 ghost use Rattle.mc_profile.specs.Locals.{entering as wires_entering};
 ghost use Rattle.mc_profile.specs.Ports as mask;
 
+use c_rows::bit_of;
 use c_syntax::Leaf;
 use mc_base::{Control, Memory, Port};
 use mc_profile::{ChildUse, Function, Header};
 use std::alloc::Global;
-
-// The bits of the controls in a set of inputs.
-const ENABLE: u32 = 32;
-
-const TRIGGER: u32 = 33;
 
 /// A function that takes and gives nothing.
 const IDLE: Function = Function {
@@ -115,17 +111,6 @@ fn taken_by(
         }
     }
     Ok(taken)
-}
-
-/// The place of an input in a set.
-fn bit_of(port: Port) -> u32
-    ensures { result ≡ mask.bit_of port }
-{
-    match port {
-        Port::Number(k) => k.saturating_sub(1),
-        Port::Enable => ENABLE,
-        Port::Trigger => TRIGGER,
-    }
 }
 
 /// Whether a set has a bit.

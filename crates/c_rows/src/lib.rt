@@ -1,11 +1,14 @@
-// What the emitter asks of a system's rows: their kinds, their ports, their starts, and the names that they give.
+// What the emitter asks of a system's rows: their kinds, their ports, their starts, and the names that they give;
+// and the place of a port in a set.
 #![tactic(auto)]
 
+mod bits;
 mod kinds;
 mod names;
 mod ported;
 mod starts;
 
+pub use bits::bit_of;
 pub use kinds::{
     container, delay_length, has_value, is_delay, is_inport, is_line, is_outport, is_reset_outport,
     is_single, is_triggered, port_of,
