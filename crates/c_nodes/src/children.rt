@@ -75,7 +75,6 @@ pub fn update_code(
     place: usize,
     child: &ChildUse,
 ) -> Result<Vec<Stmt>, Memory>
-    requires emittable { IsEmittable layout.now.local layout.now.schedule }
     requires child { IsChild child.now }
     requires place { place < length layout.now.local.children }
     ensures { let of = layout.now in IfOk result (λ v. code_of v.items
@@ -98,7 +97,6 @@ pub fn reset_code(
     place: usize,
     child: &ChildUse,
 ) -> Result<Vec<Stmt>, Memory>
-    requires emittable { IsEmittable layout.now.local layout.now.schedule }
     requires child { IsChild child.now }
     requires place { place < length layout.now.local.children }
     ensures { let of = layout.now in IfOk result (λ v. code_of v.items

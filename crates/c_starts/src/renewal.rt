@@ -26,7 +26,6 @@ fn call_behind(
     place: usize,
     child: &ChildUse,
 ) -> Stmt
-    requires emittable { IsEmittable layout.now.local layout.now.schedule }
     requires child { IsChild child.now }
     requires place { place < length layout.now.local.children }
     requires behind { behind ≤ 2 }
