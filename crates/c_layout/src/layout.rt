@@ -25,8 +25,8 @@ use mc_schedule::Schedule;
 use std::alloc::Global;
 use std::marker::Model;
 
-/// All that the code of a system names: its fields, the sources of its wires, its nodes, its children's procedures and
-/// its parameters. It is seen as the system with its profile and its schedule.
+/// All that the code of a system names: its fields, the sources of its wires, its nodes, its groups, its children's
+/// procedures and the types of its ports. It is seen as the system with its profile and its schedule.
 ///
 /// What it finds by a number it finds in constant expected time.
 #[derive(Drop)]
