@@ -1,27 +1,18 @@
 -- What is known of a file that was read, accepted and compiled.
 use Rattle.std.proofs.Math.Seq.{take-length}
-use Rattle.std.proofs.Common.{◌≡◌, ℕ, ◌<◌, inl, inr, List, [], length, refl, sym, ap, subst, ◌∙◌}
+use Rattle.std.proofs.Common.{◌≡◌, ℕ, inl, inr, List, [], length, sym, ap, subst, ◌∙◌}
 use Rattle.std.specs.Prelude.{Option, Some}
-use Rattle.mc_refusals.specs.Refusals.{TooLong}
 use Rattle.mc_edge.specs.Faults.{Rose}
 use Rattle.mc_edge.specs.Files.{File, OnFile, add_file, WritesFront}
 use Rattle.mc_diagram.specs.ResolvedTable.{ResolvedTable}
-use Rattle.mc_verdict.specs.Verdict.{HasVerdict, Refused as IsRefused}
 use Rattle.mc_compilation.specs.Compilation.{Compilation, IsCompiledFrom}
 use Rattle.mc_endings.specs.declared.ending.Ending.{Ending}
 use Rattle.mc_endings.specs.declared.ending.Ending.TheVariants.{Compiled, Ran, Reported, Usage, Refused, BadTrace, BadScript, CodeRefused, CodeTooLong, Stuck as IsStuck, ReadFault, WriteFault, PutFault, NoMemory}
 use Rattle.mc_endings.specs.Told.{HostTold}
-use Rattle.mc_endings.specs.EndingsOfModels.{OnNamed, OnBytes, WritesCodeFront, EndsWriteFault}
+use Rattle.mc_endings.specs.EndingsOfModels.{OnNamed, WritesCodeFront, EndsWriteFault}
 use Rattle.mc_endings.specs.EndingsOfRuns.{WritesWhole}
 use Rattle.mc_endings.specs.Acting.{WritesCompiled, NotCompiled, AcceptsFile, WritesCodeOf, CutsCodeOf, NotWritten}
-use Rattle.mc_endings.proofs.lemmas.Files.{there, longer_than}
-
--- a file with too many bytes is refused for that
-pub long-file : (h : HostTold) (name : List ℕ) → OnNamed h name (λ x. 16_777_216 < length x) →
-    OnBytes h name (λ x. HasVerdict x (IsRefused TooLong))
-long-file h name long =
-    let known : OnBytes h name (λ x. 16_777_216 < length x) = longer_than h name 16_777_216 long in
-    record { bytes = known.bytes; file = known.file; holds = inl (inl (known.holds, refl)) }
+use Rattle.mc_endings.proofs.lemmas.Files.{there}
 
 -- writing leaves what is unread
 still-read : (files : Option (List File)) (rest : Option (List ℕ)) (name : List ℕ) (now later : Option (List ℕ)) →

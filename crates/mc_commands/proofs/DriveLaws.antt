@@ -23,9 +23,10 @@ use Rattle.mc_endings.specs.EndingsOfRuns.{WritesWhole}
 use Rattle.mc_endings.specs.EndingsOfDriving.{WritesDriven, TakesScript, DrivesModel, EndsDriving}
 use Rattle.mc_endings.specs.Endings.{CountsPuts, Ends}
 use Rattle.mc_endings.specs.Acting.{AcceptsFile, WritesCodeOf, NotWritten, DrivesFile, DriveEnds}
-use Rattle.mc_commands.proofs.CodeLaws.{retold, on-bytes, no-faults}
+use Rattle.mc_steps.proofs.lemmas.TwoFiles.{retold, on-bytes}
+use Rattle.mc_commands.proofs.CodeLaws.{no-faults}
 use Rattle.mc_commands.proofs.CompileLaws.{left-to-read, front-file, whole-front}
-use Rattle.mc_commands.proofs.Drivers.{driven-of}
+use Rattle.mc_commands.proofs.DrivenSystems.{driven-of}
 
 -- ---- The code isn't written whole
 

@@ -1,10 +1,6 @@
 pub mod CompileLaws
-pub mod RunLaws
-pub mod ScriptLaws
 pub mod RootTypes
 pub mod CodeLaws
 pub mod MadeLaws
-pub mod Drivers
+pub mod DrivenSystems
 pub mod DriveLaws
-pub mod Unsure
-pub mod Starts

@@ -22,8 +22,9 @@ use Rattle.mc_endings.specs.EndingsOfModels.{LeavesHost}
 use Rattle.mc_endings.specs.EndingsOfGenerating.{WritesBoth, WritesFrontOfTwo, line_of, with_line, RunsMade}
 use Rattle.mc_endings.specs.Endings.{CountsPuts, Ends, PutsWhole}
 use Rattle.mc_endings.specs.Acting.{StartsFrom, NotStarted, WritesMade, NotMade, NotPut, RowsEnd}
-use Rattle.mc_commands.proofs.CodeLaws.{as-compiled, never-stuck, starts-right}
-use Rattle.mc_commands.proofs.RunLaws.{same-sink}
+use Rattle.mc_steps.proofs.lemmas.RightStarts.{starts-right}
+use Rattle.mc_steps.proofs.lemmas.SameSinks.{same-sink}
+use Rattle.mc_commands.proofs.CodeLaws.{as-compiled, never-stuck}
 
 -- ---- A model that wasn't made
 

@@ -1,6 +1,6 @@
 ghost use Rattle.std.specs.Prelude.{◌≡◌, Some, IfSome, false};
 ghost use Rattle.mc_words.specs.Words.{HasBounds, asked, asked_by, word_bytes};
-ghost use Rattle.mc_words.specs.Words.Asked.{Compile, Run, Exec};
+ghost use Rattle.mc_words.specs.Words.Asked.{Compile, Run};
 ghost use Rattle.mc_endings.specs.Told.{told, sink_told};
 ghost use Rattle.mc_endings.specs.EndingsOfModels.{EndsCompile};
 ghost use Rattle.mc_endings.specs.Endings.{Ends};
@@ -9,18 +9,13 @@ ghost use Rattle.mc_endings.specs.Completeness.{IfReadFault, IsUnsureOf};
 use crate::compiling::compile_into;
 use crate::driving::drive_model;
 use crate::generating::generate_model;
-use crate::profiling::profile_model;
-use crate::starting::started;
-use crate::tracing::run_file;
 use c_reading::readings_agree;
 use mc_base::Memory;
-use mc_edge::{Host, ReadAllFault, Sink, read_all};
+use mc_edge::{Host, Sink};
 use mc_endings::Ending;
+use mc_steps::{exec_code, profile_model, run_file, started};
 use mc_words::{Command, command};
 use std::alloc::Global;
-
-/// The most bytes that a C file has.
-const MOST_CODE: usize = 536_870_912;
 
 // Compiles the file `model` into the file `code`.
 fn compile_model<H: Host>(alloc: Global, host: &mut H, model: &str, code: &str) -> Ending
@@ -64,36 +59,6 @@ fn run_model<H: Host, S: Sink>(
         // Right code is read and starts, so that memory alone can be wanting.
         Err(ending) => ending,
     }
-}
-
-// Runs the file `code` over the file `trace`.
-fn exec_code<H: Host, S: Sink>(
-    alloc: Global,
-    host: &mut H,
-    out: &mut S,
-    code: &str,
-    trace: &str,
-) -> Ending
-    ensures ends { let at = told H.files H.rest H.written H.sure H.read_faults H.write_faults in
-        let sink = sink_told S.bytes S.faults in
-        Ends result (Some (Exec code.now trace.now)) (at host.old) (at host.new) (sink out.old)
-        (sink out.new) }
-    ensures unsure { IfReadFault result (IsUnsureOf H.files H.sure host.old (Exec code.now trace.now)) }
-{
-    let bytes = match read_all(alloc, host, code, MOST_CODE) {
-        Ok(bytes) => bytes,
-        Err(ReadAllFault::Read) => return Ending::ReadFault,
-        Err(ReadAllFault::TooLong) => return Ending::CodeTooLong,
-        Err(ReadAllFault::Memory) => return Ending::NoMemory,
-    };
-    let mut machine = match started(alloc, &bytes) {
-        Ok(machine) => machine,
-        Err(ending) => return ending,
-    };
-    let Ok(types) = machine.checked().inputs().to_vec(alloc) else {
-        return Ending::NoMemory;
-    };
-    run_file(alloc, host, out, &mut machine, &types, trace)
 }
 
 // Does what a command asks for, but for the last text that is put.

@@ -1,42 +1,18 @@
-ghost use Rattle.std.specs.Prelude.{◌≡◌, IfErr, IfOk};
+ghost use Rattle.std.specs.Prelude.{IfErr, IfOk};
 ghost use Rattle.mc_diagram.specs.Needs.{HasNoLoop, needs_of};
 ghost use Rattle.mc_diagram.specs.ResolvedTable.{table_of_tree};
 ghost use Rattle.mc_diagram.specs.ResolvedTree.{diagram_of};
 ghost use Rattle.mc_endings.specs.Told.{told};
-ghost use Rattle.mc_endings.specs.Acting.{AcceptsFile, NotAccepted, NotCompiled, NotWritten, WritesCodeOf, WritesCompiled};
+ghost use Rattle.mc_endings.specs.Acting.{NotCompiled, NotWritten, WritesCodeOf, WritesCompiled};
 
 use mc_base::Memory;
 use mc_compilation::Compiled;
 use mc_compile::compiled_from;
 use mc_diagram::Resolved;
-use mc_edge::{Failed, Host, ReadAllFault, read_all, write_all};
+use mc_edge::{Failed, Host, write_all};
 use mc_endings::Ending;
-use mc_refusals::Refusal;
-use mc_verdict::{ModelFault, accept_model};
+use mc_steps::accept_file;
 use std::alloc::Global;
-
-/// The most bytes that a model has.
-pub const MOST_BYTES: usize = 16_777_216;
-
-/// Reads the file `model`, which the rules accept.
-pub fn accept_file<H: Host>(alloc: Global, host: &mut H, model: &str) -> Result<Resolved, Ending>
-    ensures accepted { let at = told H.files H.rest H.written H.sure H.read_faults H.write_faults in
-        IfOk result (λ r. AcceptsFile (table_of_tree r) model.now (at host.old) (at host.new)) }
-    ensures ended { let at = told H.files H.rest H.written H.sure H.read_faults H.write_faults in
-        IfErr result (λ ending. NotAccepted ending model.now (at host.old) (at host.new)) }
-{
-    let bytes = match read_all(alloc, host, model, MOST_BYTES) {
-        Ok(bytes) => bytes,
-        Err(ReadAllFault::Read) => return Err(Ending::ReadFault),
-        Err(ReadAllFault::TooLong) => return Err(Ending::Refused(Refusal::TooLong)),
-        Err(ReadAllFault::Memory) => return Err(Ending::NoMemory),
-    };
-    match accept_model(alloc, &bytes) {
-        Ok(resolved) => Ok(resolved),
-        Err(ModelFault::Refused(refusal)) => Err(Ending::Refused(refusal)),
-        Err(ModelFault::Memory) => Err(Ending::NoMemory),
-    }
-}
 
 /// Compiles an accepted model into the file `code`.
 pub fn write_code<H: Host>(

@@ -7,8 +7,6 @@ ghost use Rattle.mc_endings.specs.EndingsOfGenerating.{WritesFrontOfTwo, line_of
 ghost use Rattle.mc_endings.specs.Endings.{PutsWhole, Ends};
 ghost use Rattle.mc_endings.specs.Acting.{WritesMade, NotMade, NotPut};
 
-use crate::rows::run_rows;
-use crate::starting::started;
 use c_reading::readings_agree;
 use mc_base::Memory;
 use mc_compilation::Compiled;
@@ -17,6 +15,7 @@ use mc_edge::{Failed, Host, Sink, put_all, write_all};
 use mc_endings::{Ending, compiled_line};
 use mc_gen::{generate, generate_trace};
 use mc_gen_models::generated_traces_are_rows;
+use mc_steps::{run_rows, started};
 use mc_verdict::ModelFault;
 use std::alloc::Global;
 

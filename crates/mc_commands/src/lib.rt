@@ -5,10 +5,5 @@ mod acting;
 mod compiling;
 mod driving;
 mod generating;
-mod profiling;
-mod rows;
-mod scripting;
-mod starting;
-mod tracing;
 
 pub use acting::act;

@@ -8,7 +8,7 @@ use Rattle.mc_endings.specs.Told.{HostTold, SinkTold, told, sink_told}
 use Rattle.mc_words.specs.Words.{Run}
 use Rattle.mc_endings.specs.Acting.{WritesCompiled, StartsFrom, NotStarted, RunEnds}
 use Rattle.mc_commands.proofs.CodeLaws.{inputs-fit, run_ends, run_unstarted}
-use Rattle.mc_commands.proofs.Unsure.{unsure_second}
+use Rattle.mc_steps.proofs.lemmas.Unsure.{unsure_second}
 use Rattle.mc_commands.proofs.acting.run_model.Goals as goal
 
 pub run_file-requires-clause-types : goal.run_file-requires-clause-types

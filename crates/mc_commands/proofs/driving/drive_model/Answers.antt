@@ -8,7 +8,7 @@ use Rattle.mc_endings.specs.declared.ending.Ending.{Ending}
 use Rattle.mc_endings.specs.Told.{HostTold, SinkTold, told, sink_told}
 use Rattle.mc_endings.specs.Endings.{Ends}
 use Rattle.mc_commands.proofs.DriveLaws.{drive_unwritten, drive_ends, drive_forgets}
-use Rattle.mc_commands.proofs.Unsure.{unsure_second}
+use Rattle.mc_steps.proofs.lemmas.Unsure.{unsure_second}
 use Rattle.mc_commands.proofs.driving.drive_model.Goals as goal
 
 pub returns-in-Err-write_code-clause-ends : goal.returns-in-Err-write_code-clause-ends
