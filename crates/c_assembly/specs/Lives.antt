@@ -22,6 +22,7 @@ use Rattle.c_simulation.specs.RunTicks.{tick_at}
 use Rattle.c_simulation.specs.RunTickLaws.{AreItems}
 use Rattle.c_right.specs.Paths.{place_in, path_inside}
 use Rattle.c_right.specs.Calls.{HasCallsOf}
+use Rattle.c_right.specs.Held.{HoldsRun}
 use Rattle.c_assembly.specs.Parts.{Parts, program_of, diagram, all_systems, coded_header, Views}
 use Rattle.c_assembly.specs.Places.{FormsAreOfSlots}
 use Rattle.c_assembly.specs.Offers.{offer_of, SystemsOfferTheirs}
@@ -87,8 +88,8 @@ module _ (a : Parts) (v : Views a) (s : Option ℕ) (xs : List (List ℤ)) (run 
     pub resets : IsTrue (outer_at n t).is_off_around → IsQuiet n i
 
   -- An instance of the system n that was started from these fields lives through the run: in each
-  -- tick it serves, what it leaves is what it stands as in the next tick, and in the first it
-  -- stands as its start left it.
+  -- tick it serves, what it leaves is what it stands as in the next tick, in the first it stands as
+  -- its start left it, and what it leaves holds what the run has.
   pub record Lives (renewed : Renewed a v) (n : Option ℕ) (before : Cells) : Type 0 where
     pub at : ℕ → InstanceTick
     pub serves : (t : ℕ) → t < length xs →
@@ -96,6 +97,7 @@ module _ (a : Parts) (v : Views a) (s : Option ℕ) (xs : List (List ℤ)) (run 
     pub follows : (t : ℕ) → suc t < length xs → (at t).after ≡ (at (suc t)).standing none_called
     pub first : 0 < length xs → (at zero).standing none_called ≡ (renewed.started n).renewed before
     pub accounts : (t : ℕ) → t < length xs → HasAccounts n t (at t)
+    pub holds : (t : ℕ) → t < length xs → HoldsRun (program_of a) (diagram a) n run t (at t).after
 
 -- each instance of a system lives through each run of the system, or of one around it
 abbrev pub EachInstanceLives : (a : Parts) (v : Views a) → Renewed a v → Type 0

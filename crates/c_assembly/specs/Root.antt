@@ -19,7 +19,7 @@ use Rattle.c_simulation.specs.Budgets.{step_bound}
 use Rattle.c_simulation.specs.Renewals.{Renewal}
 use Rattle.c_right.specs.Paths.{path_to, cells_at}
 use Rattle.c_right.specs.Calls.{CallsInTick}
-use Rattle.c_right.specs.Anew.{forms_at, FromAnyFields, Restarts}
+use Rattle.c_right.specs.Anew.{forms_at, FromAnyFields}
 use Rattle.c_assembly.specs.Parts.{Parts, program_of, diagram, all_systems, Views}
 use Rattle.c_assembly.specs.Starts.{Renewed, ReachInside}
 use Rattle.c_assembly.specs.Lives.{Lives}
@@ -53,17 +53,17 @@ InstancesHavePaths a =
 
 -- What `root_start` leaves: the tick is 0, `top` is started, and so is each system inside at its
 -- path; the outputs are as they were, and the fields keep their forms.
-pub record IsRootStarted (a : Parts) (started : Option ℕ → Renewal) (before : Cells)
-    (after : After) : Type 0 where
+pub record IsRootStarted (a : Parts) (started : Option ℕ → Renewal)
+    (before after : Cells) : Type 0 where
   pub stands : IsRootAt (program_of a) a.hyper 0
-      ((started None).renewed (fields_at before (top_place (program_of a)))) after.cells
+      ((started None).renewed (fields_at before (top_place (program_of a)))) after
   pub systems : AllByRecursion
-      (λ s. cells_at (path_to (program_of a) (diagram a).rows s) after.cells
+      (λ s. cells_at (path_to (program_of a) (diagram a).rows s) after
       ≡ (started s).renewed (cells_at (path_to (program_of a) (diagram a).rows s) before))
       (all_systems a)
-  pub outputs : map (number_at after.cells) (output_fields (root_fields (program_of a)))
+  pub outputs : map (number_at after) (output_fields (root_fields (program_of a)))
       ≡ map (number_at before) (output_fields (root_fields (program_of a)))
-  pub keeps : HasForms (forms_at (program_of a) (root_struct (program_of a))) after.cells
+  pub keeps : HasForms (forms_at (program_of a) (root_struct (program_of a))) after
 
 -- so it does from any fields of the root's struct
 abbrev pub RootStarts : (a : Parts) (v : Views a) → Renewed a v → Type 0
@@ -71,10 +71,6 @@ RootStarts a v renewed =
     FromAnyFields (program_of a) (root_struct (program_of a))
     (unwrap_or (procedure_named (program_of a) root_start_name) 0)
     (IsRootStarted a renewed.started)
-
--- the whole program is started as it should be
-abbrev pub AssembledRestarts : Parts → Type 0
-AssembledRestarts a = Restarts (program_of a) (diagram a)
 
 -- A tick of the root goes from the tick's number and an instance of `top` in which nothing was
 -- called to those of the next tick, gives the outputs, stays within the bound, and makes the calls
@@ -102,11 +98,6 @@ RootTakesTicks a v renewed = (xs : List (List ℤ)) (run : Run) (before : Cells)
 abbrev pub RootsStart : Type 0
 RootsStart = (a : Parts) (v : Views a) (renewed : Renewed a v) → ReachInside a renewed.started →
     InstancesHavePaths a → RootStarts a v renewed
-
--- Given that the root starts.
-abbrev pub RestartsFollow : Type 0
-RestartsFollow = (a : Parts) (v : Views a) (renewed : Renewed a v) → InstancesHavePaths a →
-    RootStarts a v renewed → AssembledRestarts a
 
 abbrev pub RootsTakeTicks : Type 0
 RootsTakeTicks = (a : Parts) (v : Views a) (renewed : Renewed a v) → RootTakesTicks a v renewed

@@ -12,7 +12,7 @@ use Rattle.c_simulation.specs.Instances.{Offered, Offer}
 use Rattle.c_simulation.specs.Budgets.{own_budget}
 use Rattle.c_simulation.specs.Renewals.{Renewal, Renews, IsStarted, IsReset, AllSlots}
 use Rattle.c_right.specs.Paths.{path_inside, cells_at}
-use Rattle.c_right.specs.Anew.{forms_at, RenewsAll}
+use Rattle.c_right.specs.Anew.{field_count, forms_at}
 use Rattle.c_assembly.specs.Parts.{Parts, program_of, diagram, all_systems, Views}
 use Rattle.c_assembly.specs.Places.{FormsAreOfSlots}
 use Rattle.c_assembly.specs.Offers.{offer_of, SystemsOfferTheirs}
@@ -33,6 +33,7 @@ pub record IsRenewed (a : Parts) (v : Views a) (which : Offer → Offered) (IsSo
       AllSlots (IsSo (v.at n).local (map (λ u. renewals u.header.row) (v.at n).local.children))
       (v.at n).slots before ((renewals n).renewed before)
   pub in_time : (renewals n).most ≤ budget_inside a v n
+  pub short : (renewals n).most ≤ field_count (renewals n).forms
 
 -- each system starts and is reset
 pub record Renewed (a : Parts) (v : Views a) : Type 0 where
@@ -40,10 +41,6 @@ pub record Renewed (a : Parts) (v : Views a) : Type 0 where
   pub reset : Option ℕ → Renewal
   pub starts : AllByRecursion (IsRenewed a v (λ o. o.start) IsStarted started) (all_systems a)
   pub resets : AllByRecursion (IsRenewed a v (λ o. o.reset) IsReset reset) (all_systems a)
-
--- each system of the program is started and reset as it should be, from any fields of its struct
-abbrev pub AssembledRenews : Parts → Type 0
-AssembledRenews a = AllByRecursion (RenewsAll (program_of a) (diagram a)) (all_systems a)
 
 -- Given what each system offers, and what its fields hold.
 abbrev pub SystemsAreRenewed : Type 0
@@ -62,7 +59,3 @@ ReachInside a renewals = (n : Option ℕ) → Contains (all_systems a) n → (e 
 abbrev pub RenewalsReachInside : Type 0
 RenewalsReachInside = FormsAreOfSlots → (a : Parts) (v : Views a) (renewed : Renewed a v) →
     ReachInside a renewed.started × ReachInside a renewed.reset
-
--- Given that: each system is started and reset with all inside it.
-abbrev pub RenewalsGoInside : Type 0
-RenewalsGoInside = FormsAreOfSlots → (a : Parts) (v : Views a) → Renewed a v → AssembledRenews a

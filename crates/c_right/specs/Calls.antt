@@ -15,7 +15,7 @@ use Rattle.c_shape.specs.Names.{value_name, update_name}
 use Rattle.c_shape.specs.Faces.{out_places}
 use Rattle.c_shape.specs.Programs.{procedure_place}
 use Rattle.c_simulation.specs.Instances.{calls_at, stores_at}
-use Rattle.c_right.specs.Paths.{place_in, path_to}
+use Rattle.c_right.specs.Paths.{place_in, path_to, path_inside}
 
 -- each output procedure once, in some order, and after them the update once
 pub record IsWholeTick (p : ProgramTree) (s : Option ℕ) (calls : List ℕ) : Type 0 where
@@ -28,27 +28,32 @@ pub record IsWholeTick (p : ProgramTree) (s : Option ℕ) (calls : List ℕ) : T
 abbrev pub HasCallsOf : ProgramTree → Option ℕ → Bool → List ℕ → Type 0
 HasCallsOf p s is_active calls = MatchBool is_active (IsWholeTick p s calls) (calls ≡ [])
 
--- each value field of a system's own rows is stored at most once
-abbrev pub StoresOnce : ProgramTree → List Row → Option ℕ → List StoredField → Type 0
-StoresOnce p rows s stores =
-    AllByRecursion (λ b. stores_at (path_to p rows s) (place_in p s (value_name b)) stores ≤ 1)
+-- each value field of a system's own rows is stored at most once, in its instance at this path
+abbrev pub StoresOnce : ProgramTree → List Row → (path : List ℕ) → Option ℕ → List StoredField →
+    Type 0
+StoresOnce p rows path s stores =
+    AllByRecursion (λ b. stores_at path (place_in p s (value_name b)) stores ≤ 1)
     (filter (λ b. has_value (row_at rows b).kind) (rows_of rows s))
 
 -- A tick of the run of the system s, with the trace's row x, the values v and what the triggers
--- remember before it: on each instance inside s the calls and stores of the tick, and no calls on
--- any other instance but that of s.
-pub record CallsInside (p : ProgramTree) (d : Diagram) (s : Option ℕ) (x v : List ℤ)
-    (g : List TrigMem) (log : List LoggedCall) (stores : List StoredField) : Type 0 where
+-- remember before it, where the instance of s is at this path: on each instance inside s the calls
+-- of the tick, no calls on any other instance but that of s, and each value of s and of the systems
+-- inside is stored once at most.
+pub record CallsInside (p : ProgramTree) (d : Diagram) (path : List ℕ) (s : Option ℕ)
+    (x v : List ℤ) (g : List TrigMem) (log : List LoggedCall)
+    (stores : List StoredField) : Type 0 where
   pub each : AllByRecursion (λ e. HasCallsOf p (Some e) (active_in d s x v g (around d.rows s e))
-      (calls_at (path_to p d.rows (Some e)) log)) (systems_inside d.rows s)
-  pub stored_once : AllByRecursion (λ e. StoresOnce p d.rows (Some e) stores)
+      (calls_at (path ++ path_inside p d.rows s e) log)) (systems_inside d.rows s)
+  pub stored_once : StoresOnce p d.rows path s stores
+  pub inner_stored_once : AllByRecursion
+      (λ e. StoresOnce p d.rows (path ++ path_inside p d.rows s e) (Some e) stores)
       (systems_inside d.rows s)
   pub no_other : AllByRecursion
-      (λ c. Contains (map (path_to p d.rows) (s ∷ map Some (systems_inside d.rows s))) c.path) log
+      (λ c. Contains (path ∷ map (λ e. path ++ path_inside p d.rows s e) (systems_inside d.rows s))
+      c.path) log
 
 -- the same for a tick of the whole program, in which `top` always has its calls
 pub record CallsInTick (p : ProgramTree) (d : Diagram) (x v : List ℤ) (g : List TrigMem)
     (log : List LoggedCall) (stores : List StoredField) : Type 0 where
-  pub inside : CallsInside p d None x v g log stores
+  pub inside : CallsInside p d (path_to p d.rows None) None x v g log stores
   pub top : IsWholeTick p None (calls_at (path_to p d.rows None) log)
-  pub top_stored_once : StoresOnce p d.rows None stores

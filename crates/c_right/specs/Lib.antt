@@ -1,6 +1,8 @@
 pub mod Paths
 pub mod Calls
 pub mod Scripts
+pub mod Held
+pub mod Driving
 pub mod Anew
 pub mod Right
 pub mod Alone

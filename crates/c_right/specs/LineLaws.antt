@@ -2,16 +2,17 @@
 -- assembled program, whose lines are 0, holds of the one reading of its text.
 use Rattle.std.specs.Prelude.{◌≡◌, ℕ, Bool, List, Option, ℤ}
 use Rattle.mc_diagram.specs.Diagram.{Diagram}
-use Rattle.mc_diagram.specs.Laws.{Run}
 use Rattle.mc_diagram.specs.ResolvedTable.{ResolvedTable, diagram_of_table}
 use Rattle.c_syntax.specs.Tree.{ProgramTree}
-use Rattle.c_machine.specs.Rows.{c_rows}
+use Rattle.c_machine.specs.Rows.{start_run}
 use Rattle.c_syntax.specs.Lawful.{without_lines}
 use Rattle.c_rules.specs.Reading.{IsTextOf}
 use Rattle.c_shape.specs.Faces.{HasLeastInterface}
 use Rattle.c_shape.specs.ProgramShape.{HasShape}
+use Rattle.c_simulation.specs.Instances.{OnDone}
 use Rattle.c_right.specs.Anew.{RenewsAll, Restarts}
-use Rattle.c_right.specs.Right.{GivesOutputs, StaysInBound, HasCalls, AnswersAnyOrder, IsCodeFor, IsRightFor}
+use Rattle.c_right.specs.Driving.{TakesTraces}
+use Rattle.c_right.specs.Right.{GivesOutputs, StaysInBound, AnswersAnyOrder, IsCodeFor, IsRightFor}
 
 -- what holds of a program holds of each that differs in lines alone
 abbrev pub IsBlindToLines : (ProgramTree → Type 0) → Type 0
@@ -21,15 +22,16 @@ IsBlindToLines P = (p q : ProgramTree) → without_lines p ≡ without_lines q �
 pub record RowsMeanNoLines : Type 0 where
   pub outputs : (d : Diagram) (xs : List (List ℤ)) → IsBlindToLines (λ p. GivesOutputs p d xs)
   pub bounded : (d : Diagram) (xs : List (List ℤ)) → IsBlindToLines (λ p. StaysInBound p d xs)
-  pub calls : (d : Diagram) (xs : List (List ℤ)) (run : Run) →
-      IsBlindToLines (λ p. HasCalls p d (c_rows p xs).ticks xs run.values run.triggers)
+  pub ticks : (d : Diagram) →
+      IsBlindToLines (λ p. OnDone (start_run p) (λ started. TakesTraces p d started.cells))
   pub any_order : (d : Diagram) (hyper : ℕ) (s : Option ℕ) →
       IsBlindToLines (λ p. AnswersAnyOrder p d hyper s)
 
 -- what is started anew and reset
 pub record RenewalsMeanNoLines : Type 0 where
-  pub renewed : (d : Diagram) (s : Option ℕ) → IsBlindToLines (λ p. RenewsAll p d s)
-  pub restarted : (d : Diagram) → IsBlindToLines (λ p. Restarts p d)
+  pub renewed : (d : Diagram) (hyper : ℕ) (s : Option ℕ) →
+      IsBlindToLines (λ p. RenewsAll p d hyper s)
+  pub restarted : (d : Diagram) (hyper : ℕ) → IsBlindToLines (λ p. Restarts p d hyper)
 
 -- the interfaces and the shape
 pub record ShapeMeansNoLines : Type 0 where

@@ -1,10 +1,10 @@
 -- The instances of a program's systems by their paths from the root.
-use Rattle.std.specs.Prelude.{ℕ, List, [], ◌∷◌, map, reverse, Option, None}
+use Rattle.std.specs.Prelude.{ℕ, ℤ, List, [], ◌∷◌, map, reverse, Option, None}
 use Rattle.mc_diagram.specs.declared.table.Row.{Row}
 use Rattle.mc_diagram.specs.Rows.{row_at, enclosing, around_inside}
 use Rattle.mc_profile.specs.Systems.{system_name}
 use Rattle.c_syntax.specs.Tree.{ProgramTree, struct_fields}
-use Rattle.c_machine.specs.Cells.{Cells, fields_at}
+use Rattle.c_machine.specs.Cells.{Cells, number_at, fields_at}
 use Rattle.c_syntax.specs.RootFields.{field_position, root_fields}
 use Rattle.c_shape.specs.Names.{child_name}
 use Rattle.c_shape.specs.Programs.{struct_place}
@@ -12,6 +12,10 @@ use Rattle.c_shape.specs.Programs.{struct_place}
 -- the position of a field of this name in a system's struct
 abbrev pub place_in : ProgramTree → Option ℕ → List ℕ → ℕ
 place_in p s name = field_position (struct_fields p.structs (struct_place p s)) name
+
+-- a field of an instance of the system s, by its name
+abbrev pub number_in : ProgramTree → Option ℕ → Cells → List ℕ → ℤ
+number_in p s cells name = number_at cells (place_in p s name)
 
 -- the path of a system's instance from the root: `top`, and then a field for each subsystem down to
 -- it
