@@ -13,7 +13,7 @@ use Rattle.c_machine.specs.Machine.{routine_at, program_routines}
 use Rattle.c_shape.specs.Names.{value_name, memory_name, place_name, taken_name, trigger_name, now_name, start_name, reset_name, root_start_name}
 use Rattle.c_shape.specs.Programs.{procedure_place, struct_place}
 use Rattle.c_simulation.specs.Instances.{OnDone}
-use Rattle.c_simulation.specs.Forms.{Form, holds_number, holds_array, holds_instance, Forms, no_forms, more_forms, HasForms, struct_forms}
+use Rattle.c_simulation.specs.Forms.{Form, holds_instance, Forms, no_forms, more_forms, HasForms, struct_forms}
 use Rattle.c_right.specs.Paths.{path_inside, path_to, number_in, cells_at}
 use Rattle.c_right.specs.Held.{valued_rows, single_rows, line_rows, counter_fields}
 use Rattle.c_right.specs.Driving.{TakesTraces, AnswersScripts}
@@ -25,9 +25,8 @@ forms_at p k = slice_index_or (struct_forms [] p.structs) k no_forms
 -- how many fields there are of these forms, those of instances below too
 abbrev mutual
   pub form_fields : Form → ℕ
-  form_fields (holds_number type) = 0
-  form_fields (holds_array type count) = 0
   form_fields (holds_instance fields) = field_count fields
+  form_fields _ = 0
 
   pub field_count : Forms → ℕ
   field_count no_forms = 0
