@@ -1,37 +1,41 @@
 -- What a program does over traces, scripts, starts and resets means nothing by its lines.
-use Rattle.std.specs.Prelude.{◌≡◌, ℕ, suc, ◌+◌, ◌≤◌, ◌%◌, Bool, true, false, cond, ◌||◌, List, [], ◌∷◌, ◌++◌, map, filter, length, slice_index_or, Contains, IsPermutation, Option, Some, None, option_map, unwrap_or, ℤ, pos, bytes_eq}
+use Rattle.std.specs.Prelude.{◌≡◌, ◌⊎◌, ℕ, suc, ◌+◌, ◌≤◌, ◌%◌, Bool, true, false, cond, ◌||◌, List, [], ◌∷◌, ◌++◌, map, filter, length, slice_index_or, Contains, IsPermutation, Option, Some, None, option_map, unwrap_or, ℤ, pos, bytes_eq}
 use Rattle.std.specs.List.{AllByRecursion, position_from, list_any, prefix_len, range_with_len}
 use Rattle.std.proofs.Common.{refl, sym, ap, subst, ◌∙◌}
 use Rattle.mc_guards.specs.declared.TrigMem.{TrigMem}
 use Rattle.mc_blocks.specs.Meaning.{has_value}
 use Rattle.mc_diagram.specs.declared.table.Row.{Row}
-use Rattle.mc_diagram.specs.Rows.{row_at, rows_of, around, outports_of}
+use Rattle.mc_diagram.specs.Rows.{row_at, rows_of, around, outports_of, system_control, is_triggered}
 use Rattle.mc_diagram.specs.Diagram.{Diagram}
-use Rattle.mc_diagram.specs.Run.{value_at, start_of, active_in}
+use Rattle.mc_diagram.specs.Run.{value_at, memory_at, first_of, start_of, active_in, outs}
 use Rattle.mc_diagram.specs.Laws.{Run}
+use Rattle.mc_diagram.specs.SystemRuns.{system_trigger}
 use Rattle.mc_profile.specs.declared.Function.{Function}
 use Rattle.mc_profile.specs.Functions.{functions_for}
 use Rattle.mc_profile.specs.Headers.{numbered_function, given_by_function}
-use Rattle.mc_profile.specs.Systems.{systems_inside, system_name}
+use Rattle.mc_profile.specs.Systems.{systems, systems_inside, system_name}
 use Rattle.c_syntax.specs.declared.Stuck.{Stuck}
-use Rattle.c_syntax.specs.Tree.{FieldTree, StructTree, struct_fields, ProcedureTree, ProgramTree}
+use Rattle.c_syntax.specs.Tree.{FieldTree, StructTree, ProcedureTree, ProgramTree}
 use Rattle.c_syntax.specs.RootFields.{field_position, output_fields, root_struct, root_fields}
 use Rattle.c_syntax.specs.Lawful.{procedure_without_lines, without_lines}
 use Rattle.c_machine.specs.Cells.{Cells, number_at, fields_at}
 use Rattle.c_machine.specs.Machine.{LoggedCall, StoredField, After, Outcome, done, stuck, call_from_outside}
-use Rattle.c_machine.specs.Rows.{TickRow, Rows, c_rows, start_run}
+use Rattle.c_machine.specs.Rows.{TickRow, Rows, tick_row, c_rows, start_run, step_run}
 use Rattle.c_machine.specs.LinesAside.{LinesMeanNothing, RunAlike, outcome_aside, stuck_aside}
-use Rattle.c_shape.specs.Names.{value_name, out_name, update_name, start_name, reset_name, now_name, root_start_name, is_counter_name}
+use Rattle.c_shape.specs.Names.{value_name, memory_name, trigger_name, out_name, update_name, start_name, reset_name, now_name, root_start_name, root_step_name}
 use Rattle.c_shape.specs.Programs.{procedure_place, struct_place}
 use Rattle.c_shape.specs.Faces.{out_places}
 use Rattle.c_simulation.specs.Instances.{OnDone, calls_at, stores_at}
-use Rattle.c_simulation.specs.Forms.{no_forms, HasForms, struct_forms}
+use Rattle.c_simulation.specs.Forms.{HasForms}
 use Rattle.c_simulation.specs.Budgets.{step_bound}
-use Rattle.c_right.specs.Paths.{path_to, path_inside, place_in, cells_at}
+use Rattle.c_simulation.specs.Standing.{trigger_number}
+use Rattle.c_right.specs.Paths.{path_to, path_inside, place_in, number_in, cells_at}
 use Rattle.c_right.specs.Scripts.{Call, out_with, update_with}
 use Rattle.c_right.specs.Calls.{IsWholeTick, HasCallsOf, StoresOnce, CallsInside, CallsInTick}
-use Rattle.c_right.specs.Right.{GivesOutputs, StaysInBound, HasCalls, call_in_tick, field_of, DrivenFrom, AnswersAnyOrder}
-use Rattle.c_right.specs.Anew.{valued_rows, number_in, AreForgotten, AreStarted, AreReset, HoldsInside, FromAnyFields, RenewsAll, AreRestarted, Restarts}
+use Rattle.c_right.specs.Held.{valued_rows, single_rows, line_rows, counter_fields, HoldsRing, HoldsTick, HoldsRun}
+use Rattle.c_right.specs.Driving.{IsRightTick, TicksFrom, TakesTraces, call_in_tick, HoldsOutputs, DrivenFrom, AnswersScripts}
+use Rattle.c_right.specs.Right.{GivesOutputs, StaysInBound, AnswersAnyOrder}
+use Rattle.c_right.specs.Anew.{forms_at, field_count, AreForgotten, AreStarted, AreReset, HoldsInside, FromAnyFields, RenewsAll, AreRestarted, Restarts}
 use Rattle.c_right.specs.LineLaws.{RowsMeanNoLines, RenewalsMeanNoLines}
 
 -- ---- Outcomes
@@ -81,23 +85,128 @@ pub each-then : {A : Type 0} (P Q : A → Type 0) (xs : List A) → ((x : A) →
 each-then P Q [] next h = tt
 each-then P Q (x ∷ xs) next h = (next x h.0, each-then P Q xs next h.1)
 
+-- ---- Two programs with the same structs
+
+-- the structs of a program, and nothing else
+abbrev bare : List StructTree → ProgramTree
+bare structs = record { pures = []; structs = structs; procedures = [] }
+
+-- what holds of one of them holds of the other
+with-structs : (P : ProgramTree → Type 0) (p q : ProgramTree) → p.structs ≡ q.structs → ((x : ProgramTree) → P x → P (bare x.structs)) →
+    ((x : ProgramTree) → P (bare x.structs) → P x) → P p → P q
+with-structs P p q same to from h = from q (subst (λ structs. P (bare structs)) same (to p h))
+
+module _ (p q : ProgramTree) (same : p.structs ≡ q.structs) where
+  same-path : (rows : List Row) (s : Option ℕ) → path_to p rows s ≡ path_to q rows s
+  same-path rows s = ap (λ structs. path_to (bare structs) rows s) same
+
+  same-inside : (rows : List Row) (s : Option ℕ) (e : ℕ) → path_inside p rows s e ≡ path_inside q rows s e
+  same-inside rows s e = ap (λ structs. path_inside (bare structs) rows s e) same
+
+  same-field : (s : Option ℕ) (name : List ℕ) → place_in p s name ≡ place_in q s name
+  same-field s name = ap (λ structs. place_in (bare structs) s name) same
+
+  -- ---- What fields hold
+
+  ring-alike : (d : Diagram) (n : Option ℕ) (cells : Cells) (memory : List ℤ) (b : ℕ) →
+      HoldsRing p d n cells memory b → HoldsRing q d n cells memory b
+  ring-alike d n cells memory b =
+      with-structs (λ x. HoldsRing x d n cells memory b) p q same
+      (λ x h. record { ring = h.ring; items = h.items; place = h.place; taken = h.taken; holds = h.holds })
+      (λ x h. record { ring = h.ring; items = h.items; place = h.place; taken = h.taken; holds = h.holds })
+
+  held-alike : (d : Diagram) (v : List ℤ) (m : List (List ℤ)) (g : List TrigMem) (n : Option ℕ) (cells : Cells) →
+      HoldsTick p d v m g n cells → HoldsTick q d v m g n cells
+  held-alike d v m g n cells h = record {
+    values =
+        subst (λ structs. AllByRecursion (λ b. number_in (bare structs) n cells (value_name b) ≡ value_at v b) (valued_rows d n))
+        same h.values;
+    memories =
+        subst (λ structs. AllByRecursion (λ b. number_in (bare structs) n cells (memory_name b) ≡ first_of (memory_at m b))
+        (single_rows d n)) same h.memories;
+    rings = each-then (λ b. HoldsRing p d n cells (memory_at m b) b) (λ b. HoldsRing q d n cells (memory_at m b) b) (line_rows d n)
+        (λ b one. ring-alike d n cells (memory_at m b) b one) h.rings;
+    trigger =
+        subst (λ structs. is_triggered (system_control d.rows n) ≡ true →
+        number_in (bare structs) n cells trigger_name ≡ trigger_number (system_trigger g n)) same h.trigger;
+    counters =
+        subst (λ structs. AllByRecursion (λ (f : FieldTree). number_in (bare structs) n cells f.name ≡ pos 0)
+        (counter_fields (bare structs) n)) same h.counters;
+  }
+
+  run-held-alike : (d : Diagram) (s : Option ℕ) (run : Run) (t : ℕ) (cells : Cells) →
+      HoldsRun p d s run t cells → HoldsRun q d s run t cells
+  run-held-alike d s run t cells h =
+      let v = slice_index_or run.values t [] in
+      let m = slice_index_or run.memories (suc t) [] in
+      let g = slice_index_or run.triggers (suc t) [] in record {
+        here = held-alike d v m g s cells h.here;
+        inside =
+            subst (λ structs. AllByRecursion
+            (λ e. HoldsTick q d v m g (Some e) (cells_at (path_inside (bare structs) d.rows s e) cells)) (systems_inside d.rows s)) same
+            (each-then (λ e. HoldsTick p d v m g (Some e) (cells_at (path_inside p d.rows s e) cells))
+            (λ e. HoldsTick q d v m g (Some e) (cells_at (path_inside p d.rows s e) cells)) (systems_inside d.rows s)
+            (λ e one. held-alike d v m g (Some e) (cells_at (path_inside p d.rows s e) cells) one) h.inside);
+      }
+
+  -- ---- What starts and resets leave
+
+  forgotten-alike : (d : Diagram) (n : Option ℕ) (after : Cells) → AreForgotten p d n after → AreForgotten q d n after
+  forgotten-alike d n after =
+      with-structs (λ x. AreForgotten x d n after) p q same
+      (λ x h. record { memories = h.memories; places = h.places; taken = h.taken; trigger = h.trigger })
+      (λ x h. record { memories = h.memories; places = h.places; taken = h.taken; trigger = h.trigger })
+
+  started-alike : (d : Diagram) (n : Option ℕ) (after : Cells) → AreStarted p d n after → AreStarted q d n after
+  started-alike d n after h = record {
+    forgotten = forgotten-alike d n after h.forgotten;
+    values =
+        subst (λ structs. AllByRecursion (λ b. number_in (bare structs) n after (value_name b) ≡ start_of d b) (valued_rows d n))
+        same h.values;
+    counters =
+        subst (λ structs. AllByRecursion (λ (f : FieldTree). number_in (bare structs) n after f.name ≡ pos 0)
+        (counter_fields (bare structs) n)) same h.counters;
+  }
+
+  reset-alike : (d : Diagram) (n : Option ℕ) (before after : Cells) → AreReset p d n before after → AreReset q d n before after
+  reset-alike d n before after h = record {
+    forgotten = forgotten-alike d n after h.forgotten;
+    values =
+        subst (λ structs.
+        AllByRecursion (λ b. number_in (bare structs) n after (value_name b) ≡ number_in (bare structs) n before (value_name b))
+        (valued_rows d n)) same h.values;
+    counters =
+        subst (λ structs.
+        AllByRecursion (λ (f : FieldTree). (number_in (bare structs) n after f.name ≡ pos 0)
+        ⊎ (number_in (bare structs) n after f.name ≡ number_in (bare structs) n before f.name))
+        (counter_fields (bare structs) n)) same h.counters;
+  }
+
+  holds-alike : (d : Diagram) (s : Option ℕ) (P Q : Option ℕ → Cells → Cells → Type 0) (before after : Cells) →
+      ((n : Option ℕ) (old new : Cells) → P n old new → Q n old new) → HoldsInside p d s P before after → HoldsInside q d s Q before after
+  holds-alike d s P Q before after next h = record {
+    here = next s before after h.here;
+    inside =
+        subst (λ structs.
+        AllByRecursion (λ e. Q (Some e) (cells_at (path_inside (bare structs) d.rows s e) before)
+        (cells_at (path_inside (bare structs) d.rows s e) after)) (systems_inside d.rows s)) same
+        (each-then (λ e. P (Some e) (cells_at (path_inside p d.rows s e) before) (cells_at (path_inside p d.rows s e) after))
+        (λ e. Q (Some e) (cells_at (path_inside p d.rows s e) before) (cells_at (path_inside p d.rows s e) after))
+        (systems_inside d.rows s)
+        (λ e one. next (Some e) (cells_at (path_inside p d.rows s e) before) (cells_at (path_inside p d.rows s e) after) one) h.inside);
+  }
+
 -- ---- Two programs that differ in lines alone
 
 module _ (p q : ProgramTree) (same : without_lines p ≡ without_lines q) (alike : RunAlike p q) where
-  pub same-structs : p.structs ≡ q.structs
-  same-structs = ap (λ (x : ProgramTree). x.structs) same
+  abbrev structs : p.structs ≡ q.structs
+  structs = ap (λ (x : ProgramTree). x.structs) same
 
-  pub same-place : (name : List ℕ) → procedure_place p name ≡ procedure_place q name
+  same-place : (name : List ℕ) → procedure_place p name ≡ procedure_place q name
   same-place name = sym (procedure_place-aside p name) ∙ ap (λ x. procedure_place x name) same ∙ procedure_place-aside q name
 
   same-outs : (s : Option ℕ) → out_places p s ≡ out_places q s
   same-outs s = sym (out_places-aside p s) ∙ ap (λ x. out_places x s) same ∙ out_places-aside q s
-
-  same-path : (rows : List Row) (s : Option ℕ) → path_to p rows s ≡ path_to q rows s
-  same-path rows s = ap (λ structs. path_to (record { pures = []; structs = structs; procedures = [] }) rows s) same-structs
-
-  same-field : (s : Option ℕ) (name : List ℕ) → place_in p s name ≡ place_in q s name
-  same-field s name = ap (λ structs. place_in (record { pures = []; structs = structs; procedures = [] }) s name) same-structs
 
   same-ticks : (xs : List (List ℤ)) → (c_rows p xs).ticks ≡ (c_rows q xs).ticks
   same-ticks xs = ap (λ (rows : Rows). rows.ticks) (alike.rows xs)
@@ -117,6 +226,14 @@ module _ (p q : ProgramTree) (same : without_lines p ≡ without_lines q) (alike
     steps = subst (AllByRecursion (λ (row : TickRow). row.steps ≤ step_bound d.rows)) (same-ticks xs) h.steps;
   }
 
+  -- a call of the procedure with a name
+  named-alike : (name : List ℕ) (path : List ℕ) (values : List ℤ) (cells : Cells) →
+      outcome_aside (call_from_outside p (procedure_place p name) path values cells)
+      ≡ outcome_aside (call_from_outside q (procedure_place q name) path values cells)
+  named-alike name path values cells =
+      (λ i. outcome_aside (call_from_outside p (same-place name i) path values cells))
+      ∙ alike.calls (procedure_place q name) path values cells
+
   -- ---- Calls and stores
 
   whole-alike : (s : Option ℕ) (calls : List ℕ) → IsWholeTick p s calls → IsWholeTick q s calls
@@ -131,229 +248,202 @@ module _ (p q : ProgramTree) (same : without_lines p ≡ without_lines q) (alike
   calls-alike s true calls others e h = subst (IsWholeTick q s) e (whole-alike s calls h)
   calls-alike s false calls others e h = sym e ∙ h
 
-  once-alike : (rows : List Row) (s : Option ℕ) (stores : List StoredField) → StoresOnce p rows s stores → StoresOnce q rows s stores
-  once-alike rows s stores h =
-      each-then (λ b. stores_at (path_to p rows s) (place_in p s (value_name b)) stores ≤ 1)
-      (λ b. stores_at (path_to q rows s) (place_in q s (value_name b)) stores ≤ 1)
+  once-alike : (rows : List Row) (path others : List ℕ) (s : Option ℕ) (stores : List StoredField) → path ≡ others →
+      StoresOnce p rows path s stores → StoresOnce q rows others s stores
+  once-alike rows path others s stores e h =
+      each-then (λ b. stores_at path (place_in p s (value_name b)) stores ≤ 1)
+      (λ b. stores_at others (place_in q s (value_name b)) stores ≤ 1)
       (filter (λ b. has_value (row_at rows b).kind) (rows_of rows s))
-      (λ b one. subst (λ n. n ≤ 1) (λ i. stores_at (same-path rows s i) (same-field s (value_name b) i) stores) one) h
+      (λ b one. subst (λ n. n ≤ 1) (λ i. stores_at (e i) (same-field p q structs s (value_name b) i) stores) one) h
 
-  inside-alike : (d : Diagram) (s : Option ℕ) (x v : List ℤ) (g : List TrigMem) (log : List LoggedCall) (stores : List StoredField) →
-      CallsInside p d s x v g log stores → CallsInside q d s x v g log stores
-  inside-alike d s x v g log stores h = record {
-    each = each-then
-        (λ e. HasCallsOf p (Some e) (active_in d s x v g (around d.rows s e))
-        (calls_at (path_to p d.rows (Some e)) log))
-        (λ e. HasCallsOf q (Some e) (active_in d s x v g (around d.rows s e))
-        (calls_at (path_to q d.rows (Some e)) log)) (systems_inside d.rows s)
-        (λ e one. calls-alike (Some e) (active_in d s x v g (around d.rows s e))
-        (calls_at (path_to p d.rows (Some e)) log) (calls_at (path_to q d.rows (Some e)) log)
-        (ap (λ path. calls_at path log) (same-path d.rows (Some e))) one) h.each;
-    stored_once =
-        each-then (λ e. StoresOnce p d.rows (Some e) stores) (λ e. StoresOnce q d.rows (Some e) stores)
-        (systems_inside d.rows s) (λ e one. once-alike d.rows (Some e) stores one) h.stored_once;
-    no_other =
-        subst (λ paths. AllByRecursion (λ (c : LoggedCall). Contains paths c.path) log)
-        (λ i. map (λ o. same-path d.rows o i) (s ∷ map Some (systems_inside d.rows s))) h.no_other;
-  }
+  inside-alike : (d : Diagram) (path : List ℕ) (s : Option ℕ) (x v : List ℤ) (g : List TrigMem) (log : List LoggedCall)
+      (stores : List StoredField) → CallsInside p d path s x v g log stores → CallsInside q d path s x v g log stores
+  inside-alike d path s x v g log stores h =
+      let same_path = λ (e : ℕ). ap (λ inside. path ++ inside) (same-inside p q structs d.rows s e) in record {
+        each = each-then
+            (λ e. HasCallsOf p (Some e) (active_in d s x v g (around d.rows s e))
+            (calls_at (path ++ path_inside p d.rows s e) log))
+            (λ e. HasCallsOf q (Some e) (active_in d s x v g (around d.rows s e))
+            (calls_at (path ++ path_inside q d.rows s e) log)) (systems_inside d.rows s)
+            (λ e one. calls-alike (Some e) (active_in d s x v g (around d.rows s e))
+            (calls_at (path ++ path_inside p d.rows s e) log) (calls_at (path ++ path_inside q d.rows s e) log)
+            (ap (λ there. calls_at there log) (same_path e)) one) h.each;
+        stored_once = once-alike d.rows path path s stores refl h.stored_once;
+        inner_stored_once =
+            each-then (λ e. StoresOnce p d.rows (path ++ path_inside p d.rows s e) (Some e) stores)
+            (λ e. StoresOnce q d.rows (path ++ path_inside q d.rows s e) (Some e) stores) (systems_inside d.rows s)
+            (λ e one. once-alike d.rows (path ++ path_inside p d.rows s e) (path ++ path_inside q d.rows s e) (Some e) stores
+            (same_path e) one) h.inner_stored_once;
+        no_other =
+            subst (λ paths. AllByRecursion (λ (c : LoggedCall). Contains paths c.path) log)
+            (λ i. path ∷ map (λ e. same_path e i) (systems_inside d.rows s)) h.no_other;
+      }
 
   tick-alike : (d : Diagram) (x v : List ℤ) (g : List TrigMem) (log : List LoggedCall) (stores : List StoredField) →
       CallsInTick p d x v g log stores → CallsInTick q d x v g log stores
   tick-alike d x v g log stores h = record {
-    inside = inside-alike d None x v g log stores h.inside;
-    top = subst (λ path. IsWholeTick q None (calls_at path log)) (same-path d.rows None)
+    inside = subst (λ path. CallsInside q d path None x v g log stores) (same-path p q structs d.rows None)
+        (inside-alike d (path_to p d.rows None) None x v g log stores h.inside);
+    top = subst (λ path. IsWholeTick q None (calls_at path log)) (same-path p q structs d.rows None)
         (whole-alike None (calls_at (path_to p d.rows None) log) h.top);
-    top_stored_once = once-alike d.rows None stores h.top_stored_once;
   }
 
-  ticks-alike : (d : Diagram) (ticks : List TickRow) (xs vs : List (List ℤ)) (gs : List (List TrigMem)) →
-      HasCalls p d ticks xs vs gs → HasCalls q d ticks xs vs gs
-  ticks-alike d [] xs vs gs h = tt
-  ticks-alike d (row ∷ rows) (x ∷ xs) (v ∷ vs) (g ∷ gs) h = (tick-alike d x v g row.log row.stores h.0, ticks-alike d rows xs vs gs h.1)
-  ticks-alike d (row ∷ rows) [] vs gs h = absurd h
-  ticks-alike d (row ∷ rows) (x ∷ xs) [] gs h = absurd h
-  ticks-alike d (row ∷ rows) (x ∷ xs) (v ∷ vs) [] h = absurd h
+  -- ---- Traces
 
-  pub rows-alike : (d : Diagram) (xs : List (List ℤ)) (run : Run) →
-      HasCalls p d (c_rows p xs).ticks xs run.values run.triggers →
-      HasCalls q d (c_rows q xs).ticks xs run.values run.triggers
-  rows-alike d xs run h =
-      subst (λ ticks. HasCalls q d ticks xs run.values run.triggers) (same-ticks xs)
-      (ticks-alike d (c_rows p xs).ticks xs run.values run.triggers h)
+  right-alike : (d : Diagram) (run : Run) (t : ℕ) (x : List ℤ) (after : After) →
+      IsRightTick p d run t x after → IsRightTick q d run t x after
+  right-alike d run t x after h = record {
+    outputs = subst (λ ss. (tick_row (bare ss) after).outputs ≡ outs d None (slice_index_or run.values t [])) structs h.outputs;
+    in_bound = h.in_bound;
+    calls =
+        tick-alike d x (slice_index_or run.values t []) (slice_index_or run.triggers t []) after.log after.stores h.calls;
+    holds = subst (λ path. HoldsRun q d None run t (cells_at path after.cells)) (same-path p q structs d.rows None)
+        (run-held-alike p q structs d None run t (cells_at (path_to p d.rows None) after.cells) h.holds);
+  }
+
+  ticks-alike : (d : Diagram) (run : Run) (t : ℕ) (rest : List (List ℤ)) (cells : Cells) →
+      TicksFrom p d run t rest cells → TicksFrom q d run t rest cells
+  ticks-alike d run t [] cells h = tt
+  ticks-alike d run t (x ∷ rest) cells h =
+      done-alike (step_run p x cells) (step_run q x cells)
+      (λ (after : After). IsRightTick q d run t x after × TicksFrom q d run (suc t) rest after.cells)
+      (named-alike root_step_name [] x cells)
+      (done-then (step_run p x cells) _ _
+      (λ after both. (right-alike d run t x after both.0, ticks-alike d run (suc t) rest after.cells both.1)) h)
+
+  traces-alike : (d : Diagram) (cells : Cells) → TakesTraces p d cells → TakesTraces q d cells
+  traces-alike d cells h xs run trace is_run = ticks-alike d run 0 xs cells (h xs run trace is_run)
+
+  pub rows-alike : (d : Diagram) → OnDone (start_run p) (λ started. TakesTraces p d started.cells) →
+      OnDone (start_run q) (λ started. TakesTraces q d started.cells)
+  rows-alike d h =
+      done-alike (start_run p) (start_run q) (λ started. TakesTraces q d started.cells) alike.start
+      (done-then (start_run p) (λ started. TakesTraces p d started.cells) (λ started. TakesTraces q d started.cells)
+      (λ started takes. traces-alike d started.cells takes) h)
 
   -- ---- Scripts
 
-  outside-alike : (d : Diagram) (hyper : ℕ) (s : Option ℕ) (t : ℕ) (name : List ℕ) (values : List ℤ) (cells : Cells) →
-      outcome_aside (call_in_tick p d hyper s t name values cells) ≡ outcome_aside (call_in_tick q d hyper s t name values cells)
-  outside-alike d hyper s t name values cells =
-      (λ i. outcome_aside (call_from_outside p (same-place name i) (same-path d.rows s i) (pos (t % hyper) ∷ values) cells))
-      ∙ alike.calls (procedure_place q name) (path_to q d.rows s) (pos (t % hyper) ∷ values) cells
+  module _ (d : Diagram) (hyper : ℕ) (path : List ℕ) (s : Option ℕ) (functions : List Function) (xs : List (List ℤ)) (run : Run) where
+    outputs-held-alike : (t : ℕ) (cells : Cells) (js : List ℕ) →
+        AllByRecursion (HoldsOutputs p d hyper path s functions xs run t cells) js →
+        AllByRecursion (HoldsOutputs q d hyper path s functions xs run t cells) js
+    outputs-held-alike t cells js h =
+        subst (λ ss. AllByRecursion (HoldsOutputs (bare ss) d hyper path s functions xs run t cells) js) structs h
 
-  same-number : (d : Diagram) (s : Option ℕ) (cells : Cells) (b : ℕ) → field_of p d s cells b ≡ field_of q d s cells b
-  same-number d s cells b = λ i. number_at (cells_at (same-path d.rows s i) cells) (same-field s (value_name b) i)
-
-  module _ (d : Diagram) (hyper : ℕ) (s : Option ℕ) (functions : List Function) (xs : List (List ℤ)) (run : Run) where
-    driven-alike : (script : List Call) (t : ℕ) (cells : Cells) (log : List LoggedCall) (stores : List StoredField) →
-        DrivenFrom p d hyper s functions xs run t cells log stores script →
-        DrivenFrom q d hyper s functions xs run t cells log stores script
-    driven-alike [] t cells log stores h = tt
-    driven-alike (out_with j values ∷ script) t cells log stores h =
-        done-alike (call_in_tick p d hyper s t (out_name s j) values cells) (call_in_tick q d hyper s t (out_name s j) values cells)
-        (λ (after : After). AllByRecursion (λ o. field_of q d s after.cells o
-        ≡ value_at (slice_index_or run.values t []) o)
-        (given_by_function (numbered_function functions j) (outports_of d.rows s))
-        × DrivenFrom q d hyper s functions xs run t after.cells (log ++ after.log) (stores ++ after.stores) script)
-        (outside-alike d hyper s t (out_name s j) values cells)
-        (done-then (call_in_tick p d hyper s t (out_name s j) values cells) _ _
+    driven-alike : (script : List Call) (t : ℕ) (cells : Cells) (called : List ℕ) (log : List LoggedCall) (stores : List StoredField) →
+        DrivenFrom p d hyper path s functions xs run t cells called log stores script →
+        DrivenFrom q d hyper path s functions xs run t cells called log stores script
+    driven-alike [] t cells called log stores h = tt
+    driven-alike (out_with j values ∷ script) t cells called log stores h =
+        done-alike (call_in_tick p hyper path t (out_name s j) values cells) (call_in_tick q hyper path t (out_name s j) values cells)
+        (λ (after : After). AllByRecursion (HoldsOutputs q d hyper path s functions xs run t after.cells) (j ∷ called)
+        × DrivenFrom q d hyper path s functions xs run t after.cells (j ∷ called) (log ++ after.log) (stores ++ after.stores) script)
+        (named-alike (out_name s j) path (pos (t % hyper) ∷ values) cells)
+        (done-then (call_in_tick p hyper path t (out_name s j) values cells) _ _
         (λ after both. (
-          each-then (λ o. field_of p d s after.cells o ≡ value_at (slice_index_or run.values t []) o)
-              (λ o. field_of q d s after.cells o ≡ value_at (slice_index_or run.values t []) o)
-              (given_by_function (numbered_function functions j) (outports_of d.rows s))
-              (λ o one. sym (same-number d s after.cells o) ∙ one) both.0,
-          driven-alike script t after.cells (log ++ after.log) (stores ++ after.stores) both.1,
+          outputs-held-alike t after.cells (j ∷ called) both.0,
+          driven-alike script t after.cells (j ∷ called) (log ++ after.log) (stores ++ after.stores) both.1,
         )) h)
-    driven-alike (update_with values ∷ script) t cells log stores h =
-        done-alike (call_in_tick p d hyper s t (update_name s) values cells) (call_in_tick q d hyper s t (update_name s) values cells)
-        (λ (after : After). CallsInside q d s (slice_index_or xs t []) (slice_index_or run.values t [])
+    driven-alike (update_with values ∷ script) t cells called log stores h =
+        done-alike (call_in_tick p hyper path t (update_name s) values cells) (call_in_tick q hyper path t (update_name s) values cells)
+        (λ (after : After). CallsInside q d path s (slice_index_or xs t []) (slice_index_or run.values t [])
         (slice_index_or run.triggers t []) (log ++ after.log) (stores ++ after.stores)
-        × DrivenFrom q d hyper s functions xs run (suc t) after.cells [] [] script)
-        (outside-alike d hyper s t (update_name s) values cells)
-        (done-then (call_in_tick p d hyper s t (update_name s) values cells) _ _
-        (λ after both. (
-          inside-alike d s (slice_index_or xs t []) (slice_index_or run.values t []) (slice_index_or run.triggers t [])
-              (log ++ after.log) (stores ++ after.stores) both.0,
-          driven-alike script (suc t) after.cells [] [] both.1,
+        × HoldsRun q d s run t (cells_at path after.cells)
+        × DrivenFrom q d hyper path s functions xs run (suc t) after.cells [] [] [] script)
+        (named-alike (update_name s) path (pos (t % hyper) ∷ values) cells)
+        (done-then (call_in_tick p hyper path t (update_name s) values cells) _ _
+        (λ after all. (
+          inside-alike d path s (slice_index_or xs t []) (slice_index_or run.values t []) (slice_index_or run.triggers t [])
+              (log ++ after.log) (stores ++ after.stores) all.0,
+          run-held-alike p q structs d s run t (cells_at path after.cells) all.1,
+          driven-alike script (suc t) after.cells [] [] [] all.2,
         )) h)
+
+  scripts-alike : (d : Diagram) (hyper : ℕ) (path : List ℕ) (s : Option ℕ) (cells : Cells) →
+      AnswersScripts p d hyper path s cells → AnswersScripts q d hyper path s cells
+  scripts-alike d hyper path s cells h needs script xs run true_needs lawful trace fits is_run =
+      driven-alike d hyper path s (functions_for needs) xs run script 0 cells [] [] []
+      (h needs script xs run true_needs lawful trace fits is_run)
+
+  -- on the system's own instance
+  own-scripts-alike : (d : Diagram) (hyper : ℕ) (s : Option ℕ) (cells : Cells) →
+      AnswersScripts p d hyper (path_to p d.rows s) s cells → AnswersScripts q d hyper (path_to q d.rows s) s cells
+  own-scripts-alike d hyper s cells h =
+      subst (λ path. AnswersScripts q d hyper path s cells) (same-path p q structs d.rows s)
+      (scripts-alike d hyper (path_to p d.rows s) s cells h)
 
   pub answers-alike : (d : Diagram) (hyper : ℕ) (s : Option ℕ) → AnswersAnyOrder p d hyper s → AnswersAnyOrder q d hyper s
-  answers-alike d hyper s h needs script xs run true_needs lawful trace fits is_run =
-      done-alike (start_run p) (start_run q)
-      (λ (started : After). DrivenFrom q d hyper s (functions_for needs) xs run 0 started.cells [] [] script)
-      alike.start
-      (done-then (start_run p) _ _ (λ started from. driven-alike d hyper s (functions_for needs) xs run script 0 started.cells [] [] from)
-      (h needs script xs run true_needs lawful trace fits is_run))
+  answers-alike d hyper s h =
+      done-alike (start_run p) (start_run q) (λ started. AnswersScripts q d hyper (path_to q d.rows s) s started.cells) alike.start
+      (done-then (start_run p) (λ started. AnswersScripts p d hyper (path_to p d.rows s) s started.cells)
+      (λ started. AnswersScripts q d hyper (path_to q d.rows s) s started.cells)
+      (λ started one. own-scripts-alike d hyper s started.cells one) h)
 
   -- ---- Starts and resets
 
-  leaves-alike : (structure k : ℕ) (P Q : Cells → After → Type 0) →
-      ((before : Cells) (a : After) → P before a → Q before a) → FromAnyFields p structure k P →
-      FromAnyFields q structure k Q
-  leaves-alike structure k P Q next h before has =
-      done-alike (call_from_outside p k [] [] before) (call_from_outside q k [] [] before) (Q before) (alike.calls k [] [] before)
-      (done-then (call_from_outside p k [] [] before) (P before) (Q before) (next before)
-      (h before (subst (λ structs. HasForms (slice_index_or (struct_forms [] structs) structure no_forms) before) (sym same-structs) has)))
+  leaves-alike : (structure : ℕ) (name : List ℕ) (P Q : Cells → Cells → Type 0) →
+      ((before after : Cells) → P before after → Q before after) → FromAnyFields p structure (procedure_place p name) P →
+      FromAnyFields q structure (procedure_place q name) Q
+  leaves-alike structure name P Q next h before has =
+      done-alike (call_from_outside p (procedure_place p name) [] [] before) (call_from_outside q (procedure_place q name) [] [] before)
+      (λ a. (a.steps ≤ field_count (forms_at q structure)) × Q before a.cells) (named-alike name [] [] before)
+      (done-then (call_from_outside p (procedure_place p name) [] [] before)
+      (λ a. (a.steps ≤ field_count (forms_at p structure)) × P before a.cells)
+      (λ a. (a.steps ≤ field_count (forms_at q structure)) × Q before a.cells)
+      (λ a both. (
+        subst (λ ss. a.steps ≤ field_count (forms_at (bare ss) structure)) structs both.0,
+        next before a.cells both.1,
+      )) (h before (subst (λ ss. HasForms (forms_at (bare ss) structure) before) (sym structs) has)))
 
--- what holds of one of two programs with the same structs
-with-structs : (P : ProgramTree → Type 0) (p q : ProgramTree) → p.structs ≡ q.structs →
-    ((x : ProgramTree) → P x → P (record { pures = []; structs = x.structs; procedures = [] })) →
-    ((x : ProgramTree) → P (record { pures = []; structs = x.structs; procedures = [] }) → P x) → P p → P q
-with-structs P p q same to from h = from q (subst (λ structs. P (record { pures = []; structs = structs; procedures = [] })) same (to p h))
-
-forgotten-alike : (d : Diagram) (n : Option ℕ) (after : Cells) (p q : ProgramTree) → p.structs ≡ q.structs →
-    AreForgotten p d n after → AreForgotten q d n after
-forgotten-alike d n after p q same =
-    with-structs (λ x. AreForgotten x d n after) p q same
-    (λ x h. record { memories = h.memories; places = h.places; taken = h.taken; trigger = h.trigger })
-    (λ x h. record { memories = h.memories; places = h.places; taken = h.taken; trigger = h.trigger })
-
-started-alike : (d : Diagram) (n : Option ℕ) (after : Cells) (p q : ProgramTree) → p.structs ≡ q.structs →
-    AreStarted p d n after → AreStarted q d n after
-started-alike d n after p q same h = record {
-  forgotten = forgotten-alike d n after p q same h.forgotten;
-  values =
-      subst (λ structs.
-      AllByRecursion (λ b. number_in (record { pures = []; structs = structs; procedures = [] }) n after (value_name b)
-      ≡ start_of d b) (valued_rows d n)) same h.values;
-  counters =
-      subst (λ structs.
-      AllByRecursion
-      (λ (f : FieldTree). number_in (record { pures = []; structs = structs; procedures = [] }) n after f.name ≡ pos 0)
-      (filter (λ (f : FieldTree). is_counter_name f.name)
-      (struct_fields structs (struct_place (record { pures = []; structs = structs; procedures = [] }) n)))) same
-      h.counters;
-}
-
-reset-alike : (d : Diagram) (n : Option ℕ) (before after : Cells) (p q : ProgramTree) → p.structs ≡ q.structs →
-    AreReset p d n before after → AreReset q d n before after
-reset-alike d n before after p q same h = record {
-  forgotten = forgotten-alike d n after p q same h.forgotten;
-  values =
-      subst (λ structs.
-      AllByRecursion (λ b. number_in (record { pures = []; structs = structs; procedures = [] }) n after (value_name b)
-      ≡ number_in (record { pures = []; structs = structs; procedures = [] }) n before (value_name b))
-      (valued_rows d n)) same h.values;
-}
-
-holds-alike : (d : Diagram) (s : Option ℕ) (P Q : Option ℕ → Cells → Cells → Type 0) (before after : Cells)
-    (p q : ProgramTree) → p.structs ≡ q.structs →
-    ((n : Option ℕ) (old new : Cells) → P n old new → Q n old new) → HoldsInside p d s P before after → HoldsInside q d s Q before after
-holds-alike d s P Q before after p q same next h = record {
-  here = next s before after h.here;
-  inside =
-      subst (λ structs.
-      AllByRecursion
-      (λ e. Q (Some e)
-      (cells_at (path_inside (record { pures = []; structs = structs; procedures = [] }) d.rows s e) before)
-      (cells_at (path_inside (record { pures = []; structs = structs; procedures = [] }) d.rows s e) after))
-      (systems_inside d.rows s)) same
-      (each-then
-      (λ e. P (Some e) (cells_at (path_inside p d.rows s e) before) (cells_at (path_inside p d.rows s e) after))
-      (λ e. Q (Some e) (cells_at (path_inside p d.rows s e) before) (cells_at (path_inside p d.rows s e) after))
-      (systems_inside d.rows s)
-      (λ e one. next (Some e) (cells_at (path_inside p d.rows s e) before) (cells_at (path_inside p d.rows s e) after) one) h.inside);
-}
-
--- the structs of a program, and nothing else
-abbrev bare : List StructTree → ProgramTree
-bare structs = record { pures = []; structs = structs; procedures = [] }
-
-module _ (p q : ProgramTree) (same : without_lines p ≡ without_lines q) (alike : RunAlike p q) where
-  abbrev structs : p.structs ≡ q.structs
-  structs = same-structs p q same alike
-
-  moved-alike : (k l : ℕ) (name : List ℕ) (P Q : Cells → After → Type 0) → k ≡ l →
-      ((before : Cells) (a : After) → P before a → Q before a) →
+  moved-alike : (k l : ℕ) (name : List ℕ) (P Q : Cells → Cells → Type 0) → k ≡ l →
+      ((before after : Cells) → P before after → Q before after) →
       FromAnyFields p k (procedure_place p name) P → FromAnyFields q l (procedure_place q name) Q
   moved-alike k l name P Q at next h =
-      subst (λ i. FromAnyFields q i (procedure_place q name) Q) at
-      (subst (λ i. FromAnyFields q k i Q) (same-place p q same alike name)
-      (leaves-alike p q same alike k (procedure_place p name) P Q next h))
+      subst (λ i. FromAnyFields q i (procedure_place q name) Q) at (leaves-alike k name P Q next h)
 
-  pub renewed-alike : (d : Diagram) (s : Option ℕ) → RenewsAll p d s → RenewsAll q d s
-  renewed-alike d s h = record {
+  all-started-alike : (d : Diagram) (s : Option ℕ) (before after : Cells) →
+      HoldsInside p d s (λ n old new. AreStarted p d n new) before after →
+      HoldsInside q d s (λ n old new. AreStarted q d n new) before after
+  all-started-alike d s before after h =
+      holds-alike p q structs d s (λ n old new. AreStarted p d n new) (λ n old new. AreStarted q d n new) before after
+      (λ n old new one. started-alike p q structs d n new one) h
+
+  pub renewed-alike : (d : Diagram) (hyper : ℕ) (s : Option ℕ) → RenewsAll p d hyper s → RenewsAll q d hyper s
+  renewed-alike d hyper s h = record {
     starts = moved-alike (struct_place p s) (struct_place q s) (start_name s)
-        (λ before a. HoldsInside p d s (λ n old new. AreStarted p d n new) before a.cells)
-        (λ before a. HoldsInside q d s (λ n old new. AreStarted q d n new) before a.cells)
-        (ap (λ x. struct_place (bare x) s) structs)
-        (λ before a one. holds-alike d s (λ n old new. AreStarted p d n new)
-        (λ n old new. AreStarted q d n new) before a.cells p q structs
-        (λ n old new begun. started-alike d n new p q structs begun) one) h.starts;
+        (λ before after. HoldsInside p d s (λ n old new. AreStarted p d n new) before after × AnswersScripts p d hyper [] s after)
+        (λ before after. HoldsInside q d s (λ n old new. AreStarted q d n new) before after × AnswersScripts q d hyper [] s after)
+        (ap (λ ss. struct_place (bare ss) s) structs)
+        (λ before after both. (all-started-alike d s before after both.0, scripts-alike d hyper [] s after both.1)) h.starts;
     resets = moved-alike (struct_place p s) (struct_place q s) (reset_name s)
-        (λ before a. HoldsInside p d s (AreReset p d) before a.cells) (λ before a. HoldsInside q d s (AreReset q d) before a.cells)
-        (ap (λ x. struct_place (bare x) s) structs)
-        (λ before a one. holds-alike d s (AreReset p d) (AreReset q d) before a.cells p q structs
-        (λ n old new begun. reset-alike d n old new p q structs begun) one) h.resets;
+        (HoldsInside p d s (AreReset p d)) (HoldsInside q d s (AreReset q d)) (ap (λ ss. struct_place (bare ss) s) structs)
+        (λ before after one. holds-alike p q structs d s (AreReset p d) (AreReset q d) before after
+        (λ n old new begun. reset-alike p q structs d n old new begun) one) h.resets;
   }
 
-  root-alike : (d : Diagram) (before after : Cells) → AreRestarted p d before after → AreRestarted q d before after
-  root-alike d before after h = record {
-    tick = subst (λ x. number_at after (field_position (root_fields (bare x)) now_name) ≡ pos 0) structs h.tick;
+  root-alike : (d : Diagram) (hyper : ℕ) (before after : Cells) →
+      AreRestarted p d hyper before after → AreRestarted q d hyper before after
+  root-alike d hyper before after h = record {
+    tick = subst (λ ss. number_at after (field_position (root_fields (bare ss)) now_name) ≡ pos 0) structs h.tick;
     top = subst
-        (λ x. HoldsInside q d None (λ n old new. AreStarted q d n new)
-        (fields_at before (field_position (root_fields (bare x)) (system_name None)))
-        (fields_at after (field_position (root_fields (bare x)) (system_name None)))) structs
-        (holds-alike d None (λ n old new. AreStarted p d n new) (λ n old new. AreStarted q d n new) _ _ p q structs
-        (λ n old new begun. started-alike d n new p q structs begun) h.top);
+        (λ ss. HoldsInside q d None (λ n old new. AreStarted q d n new)
+        (fields_at before (field_position (root_fields (bare ss)) (system_name None)))
+        (fields_at after (field_position (root_fields (bare ss)) (system_name None)))) structs
+        (all-started-alike d None _ _ h.top);
     outputs =
-        subst (λ x. map (number_at after) (output_fields (root_fields (bare x)))
-        ≡ map (number_at before) (output_fields (root_fields (bare x)))) structs h.outputs;
+        subst (λ ss. map (number_at after) (output_fields (root_fields (bare ss)))
+        ≡ map (number_at before) (output_fields (root_fields (bare ss)))) structs h.outputs;
+    traces = traces-alike d after h.traces;
+    scripts =
+        each-then (λ s. AnswersScripts p d hyper (path_to p d.rows s) s after)
+        (λ s. AnswersScripts q d hyper (path_to q d.rows s) s after) (systems d.rows)
+        (λ s one. own-scripts-alike d hyper s after one) h.scripts;
   }
 
-  pub restarted-alike : (d : Diagram) → Restarts p d → Restarts q d
-  restarted-alike d h =
-      moved-alike (root_struct p) (root_struct q) root_start_name (λ before a. AreRestarted p d before a.cells)
-      (λ before a. AreRestarted q d before a.cells)
-      (ap (λ x. root_struct (bare x)) structs) (λ before a one. root-alike d before a.cells one) h
+  pub restarted-alike : (d : Diagram) (hyper : ℕ) → Restarts p d hyper → Restarts q d hyper
+  restarted-alike d hyper h =
+      moved-alike (root_struct p) (root_struct q) root_start_name (AreRestarted p d hyper) (AreRestarted q d hyper)
+      (ap (λ ss. root_struct (bare ss)) structs) (λ before after one. root-alike d hyper before after one) h
 
 -- ---- The laws
 
@@ -361,12 +451,12 @@ pub rows_mean_no_lines : LinesMeanNothing → RowsMeanNoLines
 rows_mean_no_lines lines = record {
   outputs = λ d xs p q same h. outputs-alike p q same (lines p q same) d xs h;
   bounded = λ d xs p q same h. bounded-alike p q same (lines p q same) d xs h;
-  calls = λ d xs run p q same h. rows-alike p q same (lines p q same) d xs run h;
+  ticks = λ d p q same h. rows-alike p q same (lines p q same) d h;
   any_order = λ d hyper s p q same h. answers-alike p q same (lines p q same) d hyper s h;
 }
 
 pub renewals_mean_no_lines : LinesMeanNothing → RenewalsMeanNoLines
 renewals_mean_no_lines lines = record {
-  renewed = λ d s p q same h. renewed-alike p q same (lines p q same) d s h;
-  restarted = λ d p q same h. restarted-alike p q same (lines p q same) d h;
+  renewed = λ d hyper s p q same h. renewed-alike p q same (lines p q same) d hyper s h;
+  restarted = λ d hyper p q same h. restarted-alike p q same (lines p q same) d hyper h;
 }

@@ -706,13 +706,14 @@ text_of_code_is_right lines bytes p r text h =
         runs = record {
           outputs = λ xs trace. rows.outputs d xs p q same (h.runs.outputs xs trace);
           bounded = λ xs trace. rows.bounded d xs p q same (h.runs.bounded xs trace);
-          calls = λ xs run trace is. rows.calls d xs run p q same (h.runs.calls xs run trace is);
+          ticks = rows.ticks d p q same h.runs.ticks;
         };
         least = each-then (HasLeastInterface p d) (HasLeastInterface q d) (systems d.rows) (λ s one. least-alike p q same d s one) h.least;
         shape = shape-alike p q same r.times.hyper d r.times.delays h.shape;
         any_order = each-then (AnswersAnyOrder p d r.times.hyper) (AnswersAnyOrder q d r.times.hyper) (systems d.rows)
             (λ s one. rows.any_order d r.times.hyper s p q same one) h.any_order;
-        renewed = each-then (RenewsAll p d) (RenewsAll q d) (systems d.rows) (λ s one. renewals.renewed d s p q same one) h.renewed;
-        restarted = renewals.restarted d p q same h.restarted;
+        renewed = each-then (RenewsAll p d r.times.hyper) (RenewsAll q d r.times.hyper) (systems d.rows)
+            (λ s one. renewals.renewed d r.times.hyper s p q same one) h.renewed;
+        restarted = renewals.restarted d r.times.hyper p q same h.restarted;
       };
     }
