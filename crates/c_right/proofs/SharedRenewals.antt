@@ -1,17 +1,17 @@
 -- The program of a root and its shared child starts and resets each system right, whatever its fields hold.
-use Rattle.std.specs.Prelude.{◌≡◌, refl, ℕ, [], ◌∷◌, Some, None, pos}
+use Rattle.std.specs.Prelude.{◌≡◌, refl, ℕ, ◌≤◌, [], ◌∷◌, Option, Some, None, pos}
 use Rattle.std.specs.Fmt.{digits}
-use Rattle.std.proofs.Common.{sym, ap, ap₂, subst, true≢false}
+use Rattle.std.proofs.Common.{sym, ap, ap₂, subst, inr, lit≤, true≢false}
 use Rattle.mc_profile.specs.LocalSamples.{shared_child}
 use Rattle.c_syntax.specs.declared.CType.TheVariants.{I32, U8}
 use Rattle.c_machine.specs.Cells.{Cell, number, items, object, Cells, no_cells, more_cells, cell_value, cell_items, cell_fields, cell_at}
 use Rattle.c_syntax.specs.Tree.{ProgramTree}
-use Rattle.c_machine.specs.Machine.{After, routine_at, program_routines}
+use Rattle.c_machine.specs.Machine.{routine_at, program_routines}
 use Rattle.c_shape.specs.Names.{start_name, reset_name}
-use Rattle.c_shape.specs.Programs.{procedure_place}
+use Rattle.c_shape.specs.Programs.{procedure_place, struct_place}
 use Rattle.c_simulation.specs.Forms.{Form, Forms, holds_number, holds_array, holds_instance, holds_nothing, no_forms, more_forms, HasForm, HasForms, forms_of}
 use Rattle.c_simulation.specs.Instances.{OnDone}
-use Rattle.c_right.specs.Anew.{AreStarted, AreReset, HoldsInside, RenewsAll, AreRestarted, Restarts}
+use Rattle.c_right.specs.Anew.{field_count, AreStarted, AreReset, HoldsInside, FromAnyFields}
 use Rattle.c_right.specs.SharedSamples.{shared_program}
 
 -- ---- Fields of a form, spelled out
@@ -56,11 +56,14 @@ mutual
   spelled-is (more_forms form forms) (more_cells c cells) h = ap₂ more_cells (spelled_cell-is form c h.0) (spelled-is forms cells h.1)
 
 -- so what a procedure makes of any fields of the form is what it makes of fields that are spelled out
-pub from-spelled : (p : ProgramTree) (procedure : ℕ) (forms : Forms) (P : Cells → After → Type 0) →
-    ((c : Cells) → OnDone ((routine_at (program_routines p) procedure).run [] (spelled forms c) 0) (P (spelled forms c))) →
-    (before : Cells) → HasForms forms before → OnDone ((routine_at (program_routines p) procedure).run [] before 0) (P before)
+pub from-spelled : (p : ProgramTree) (procedure : ℕ) (forms : Forms) (P : Cells → Cells → Type 0) →
+    ((c : Cells) → OnDone ((routine_at (program_routines p) procedure).run [] (spelled forms c) 0)
+    (λ a. (a.steps ≤ field_count forms) × P (spelled forms c) a.cells)) →
+    (before : Cells) → HasForms forms before →
+    OnDone ((routine_at (program_routines p) procedure).run [] before 0) (λ a. (a.steps ≤ field_count forms) × P before a.cells)
 from-spelled p procedure forms P of_spelled before has =
-    subst (λ c. OnDone ((routine_at (program_routines p) procedure).run [] c 0) (P c)) (spelled-is forms before has) (of_spelled before)
+    subst (λ c. OnDone ((routine_at (program_routines p) procedure).run [] c 0) (λ a. (a.steps ≤ field_count forms) × P c a.cells))
+    (spelled-is forms before has) (of_spelled before)
 
 -- ---- The forms of the child, of `top` and of `root`
 
@@ -72,149 +75,97 @@ top_forms =
     forms_of (holds_number I32 ∷ holds_number I32 ∷ holds_number I32 ∷ holds_number I32 ∷ holds_number I32
     ∷ holds_instance child_forms ∷ holds_number U8 ∷ holds_number U8 ∷ holds_number U8 ∷ [])
 
-abbrev whole_forms : Forms
-whole_forms = forms_of (holds_number I32 ∷ holds_number I32 ∷ holds_number I32 ∷ holds_instance top_forms ∷ [])
-
 -- ---- Starts and resets
 
-child_renews : RenewsAll shared_program shared_child (Some 2)
+-- from any fields a system and those inside are started, and reset
+abbrev Starts : Option ℕ → Type 0
+Starts s =
+    FromAnyFields shared_program (struct_place shared_program s) (procedure_place shared_program (start_name s))
+    (HoldsInside shared_program shared_child s (λ n old new. AreStarted shared_program shared_child n new))
+
+abbrev Resets : Option ℕ → Type 0
+Resets s =
+    FromAnyFields shared_program (struct_place shared_program s) (procedure_place shared_program (reset_name s))
+    (HoldsInside shared_program shared_child s (AreReset shared_program shared_child))
+
+child_starts : Starts (Some 2)
 unfolding digits
-child_renews = record {
-  starts =
-      λ before has.
-      subst (λ c.
-      OnDone ((routine_at (program_routines shared_program) (procedure_place shared_program (start_name (Some 2)))).run
-      [] c 0) (λ a. HoldsInside shared_program shared_child (Some 2)
-      (λ n old new. AreStarted shared_program shared_child n new) c a.cells)) (spelled-is child_forms before has)
-      (record {
+child_starts =
+    from-spelled shared_program (procedure_place shared_program (start_name (Some 2))) child_forms
+    (HoldsInside shared_program shared_child (Some 2) (λ n old new. AreStarted shared_program shared_child n new))
+    (λ c. (
+      lit≤ tt,
+      record {
         here = record {
-          forgotten = record {
-            memories = tt;
-            places = tt;
-            taken = tt;
-            trigger = λ h. absurd (true≢false (sym h));
-          };
+          forgotten = record { memories = tt; places = tt; taken = tt; trigger = λ h. absurd (true≢false (sym h)) };
           values = (refl, (refl, tt));
           counters = (refl, tt);
         };
         inside = tt;
-      });
-  resets =
-      λ before has.
-      subst (λ c.
-      OnDone ((routine_at (program_routines shared_program) (procedure_place shared_program (reset_name (Some 2)))).run
-      [] c 0) (λ a. HoldsInside shared_program shared_child (Some 2) (AreReset shared_program shared_child) c a.cells))
-      (spelled-is child_forms before has)
-      (record {
+      },
+    ))
+
+child_resets : Resets (Some 2)
+unfolding digits
+child_resets =
+    from-spelled shared_program (procedure_place shared_program (reset_name (Some 2))) child_forms
+    (HoldsInside shared_program shared_child (Some 2) (AreReset shared_program shared_child))
+    (λ c. (
+      lit≤ tt,
+      record {
         here = record {
-          forgotten = record {
-            memories = tt;
-            places = tt;
-            taken = tt;
-            trigger = λ h. absurd (true≢false (sym h));
-          };
+          forgotten = record { memories = tt; places = tt; taken = tt; trigger = λ h. absurd (true≢false (sym h)) };
           values = (refl, (refl, tt));
+          counters = (inr refl, tt);
         };
         inside = tt;
-      });
-}
+      },
+    ))
 
-top_renews : RenewsAll shared_program shared_child None
+top_starts : Starts None
 unfolding digits
-top_renews = record {
-  starts =
-      λ before has.
-      subst (λ c.
-      OnDone ((routine_at (program_routines shared_program) (procedure_place shared_program (start_name None))).run
-      [] c 0) (λ a. HoldsInside shared_program shared_child None
-      (λ n old new. AreStarted shared_program shared_child n new) c a.cells)) (spelled-is top_forms before has)
-      (record {
+top_starts =
+    from-spelled shared_program (procedure_place shared_program (start_name None)) top_forms
+    (HoldsInside shared_program shared_child None (λ n old new. AreStarted shared_program shared_child n new))
+    (λ c. (
+      lit≤ tt,
+      record {
         here = record {
-          forgotten = record {
-            memories = tt;
-            places = tt;
-            taken = tt;
-            trigger = λ h. absurd (true≢false (sym h));
-          };
+          forgotten = record { memories = tt; places = tt; taken = tt; trigger = λ h. absurd (true≢false (sym h)) };
           values = (refl, (refl, (refl, (refl, (refl, tt)))));
           counters = (refl, (refl, (refl, tt)));
         };
         inside = (
           record {
-            forgotten = record {
-              memories = tt;
-              places = tt;
-              taken = tt;
-              trigger = λ h. absurd (true≢false (sym h));
-            };
+            forgotten = record { memories = tt; places = tt; taken = tt; trigger = λ h. absurd (true≢false (sym h)) };
             values = (refl, (refl, tt));
             counters = (refl, tt);
           },
           tt,
         );
-      });
-  resets =
-      λ before has.
-      subst (λ c.
-      OnDone ((routine_at (program_routines shared_program) (procedure_place shared_program (reset_name None))).run
-      [] c 0) (λ a. HoldsInside shared_program shared_child None (AreReset shared_program shared_child) c a.cells))
-      (spelled-is top_forms before has)
-      (record {
-        here = record {
-          forgotten = record {
-            memories = tt;
-            places = tt;
-            taken = tt;
-            trigger = λ h. absurd (true≢false (sym h));
-          };
-          values = (refl, (refl, (refl, (refl, (refl, tt)))));
-        };
-        inside = (
-          record {
-            forgotten = record {
-              memories = tt;
-              places = tt;
-              taken = tt;
-              trigger = λ h. absurd (true≢false (sym h));
-            };
-            values = (refl, (refl, tt));
-          },
-          tt,
-        );
-      });
-}
+      },
+    ))
 
-restarts : Restarts shared_program shared_child
+top_resets : Resets None
 unfolding digits
-restarts before has =
-    subst (λ c. OnDone ((routine_at (program_routines shared_program) 13).run [] c 0)
-    (λ a. AreRestarted shared_program shared_child c a.cells)) (spelled-is whole_forms before has)
-    (record {
-      tick = refl;
-      top = record {
+top_resets =
+    from-spelled shared_program (procedure_place shared_program (reset_name None)) top_forms
+    (HoldsInside shared_program shared_child None (AreReset shared_program shared_child))
+    (λ c. (
+      lit≤ tt,
+      record {
         here = record {
-          forgotten = record {
-            memories = tt;
-            places = tt;
-            taken = tt;
-            trigger = λ h. absurd (true≢false (sym h));
-          };
+          forgotten = record { memories = tt; places = tt; taken = tt; trigger = λ h. absurd (true≢false (sym h)) };
           values = (refl, (refl, (refl, (refl, (refl, tt)))));
-          counters = (refl, (refl, (refl, tt)));
+          counters = (inr refl, (inr refl, (inr refl, tt)));
         };
         inside = (
           record {
-            forgotten = record {
-              memories = tt;
-              places = tt;
-              taken = tt;
-              trigger = λ h. absurd (true≢false (sym h));
-            };
+            forgotten = record { memories = tt; places = tt; taken = tt; trigger = λ h. absurd (true≢false (sym h)) };
             values = (refl, (refl, tt));
-            counters = (refl, tt);
+            counters = (inr refl, tt);
           },
           tt,
         );
-      };
-      outputs = refl;
-    })
+      },
+    ))

@@ -17,8 +17,8 @@ whole_code runs needs profiles = record {
   least = (top_least needs, (child_least needs, tt));
   shape = whole_shape;
   any_order = (top_answers runs profiles, (child_answers runs profiles, tt));
-  renewed = (top_renews, (child_renews, tt));
-  restarted = whole_restarts;
+  renewed = (top_renews runs profiles, (child_renews runs profiles, tt));
+  restarted = whole_restarts runs profiles;
 }
 
 -- the root and the child have one function each

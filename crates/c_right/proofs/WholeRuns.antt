@@ -1,9 +1,9 @@
--- Over every trace the sample of whole right code gives the outputs of its model's one run, within the bound on steps and with the
--- calls of each tick.
-use Rattle.std.specs.Prelude.{◌≡◌, refl, ℕ, zero, suc, ◌%◌, ◌<◌, ◌≤◌, ◌==◌, true, not, ◌&&◌, if◌then◌else◌, List, [], ◌∷◌, map, Contains, Option, Some, None, ℤ, pos}
+-- Over every trace the sample of whole right code gives the outputs of its model's one run, within the bound on steps, with the
+-- calls of each tick, and with its values in all fields; and so it does behind each start.
+use Rattle.std.specs.Prelude.{◌≡◌, refl, ℕ, zero, suc, ◌+◌, ◌%◌, ◌<◌, ◌≤◌, ◌==◌, true, not, ◌&&◌, if◌then◌else◌, List, [], ◌∷◌, map, length, slice_index_or, Contains, Option, Some, None, ℤ, pos}
 use Rattle.std.specs.List.{AllByRecursion}
 use Rattle.std.specs.Fmt.{digits}
-use Rattle.std.proofs.Common.{sym, ap, subst, ◌∙◌, arith, lit<, lit≤}
+use Rattle.std.proofs.Common.{sym, ap, subst, ◌∙◌, arith, lit<, lit≤, true≢false}
 use Rattle.std.proofs.Math.Path.{fun_ext}
 use Rattle.std.proofs.lemmas.List.Sorted.{IsPermutation-refl}
 use Rattle.mc_guards.specs.declared.TrigMem.{TrigMem}
@@ -21,9 +21,14 @@ use Rattle.c_machine.specs.Cells.{Cells, number, object, no_cells, more_cells, n
 use Rattle.c_syntax.specs.RootFields.{output_fields, root_fields}
 use Rattle.c_machine.specs.Machine.{StoredField, Outcome, done}
 use Rattle.c_machine.specs.Rows.{TickRow, Rows, with_tick, c_rows, rows_from, rows_after, rows_of_start, start_run, step_run}
+use Rattle.mc_profile.specs.Systems.{systems_inside}
+use Rattle.c_simulation.specs.Instances.{OnDone}
 use Rattle.c_simulation.specs.Budgets.{step_bound}
+use Rattle.c_right.specs.Paths.{path_to, path_inside, cells_at}
 use Rattle.c_right.specs.Calls.{CallsInTick}
-use Rattle.c_right.specs.Right.{GivesOutputs, StaysInBound, HasCalls, RunsRight}
+use Rattle.c_right.specs.Held.{HoldsTick, HoldsRun}
+use Rattle.c_right.specs.Driving.{IsRightTick, TicksFrom, TakesTraces}
+use Rattle.c_right.specs.Right.{GivesOutputs, StaysInBound, RunsRight}
 use Rattle.c_right.specs.WholeSamples.{later_five, whole_program, first_values, later_values, remembered, child_values, no_triggers, values_over, run_over}
 
 -- ---- Each row runs at every tick
@@ -320,47 +325,166 @@ unfolding digits
 steps-over [] = tt
 steps-over (x ∷ xs) = (lit≤ tt, steps-later xs)
 
-first-calls : CallsInTick whole_program later_five [] first_values no_triggers first_row.log first_row.stores
+-- ---- Each tick, from whatever output a start leaves
+
+-- the bound on steps
+within : 19 ≤ step_bound later_five.rows
 unfolding digits
-first-calls = record {
+within = lit≤ tt
+
+-- the system s and those inside hold these values, a memory of 5 and no function called
+pub record HoldsAll (s : Option ℕ) (v : List ℤ) (cells : Cells) : Type 0 where
+  pub here : HoldsTick whole_program later_five v (remembered (pos 5)) no_triggers s cells
+  pub inside : AllByRecursion
+      (λ e. HoldsTick whole_program later_five v (remembered (pos 5)) no_triggers (Some e)
+      (cells_at (path_inside whole_program later_five.rows s e) cells)) (systems_inside later_five.rows s)
+
+pub all-one : {A : Type 0} (v d : A) (xs : List (List ℤ)) (t : ℕ) → t < length xs → slice_index_or (map (λ y. v) xs) t d ≡ v
+all-one v d [] t below = absurd (omega arith)
+all-one v d (x ∷ xs) zero below = refl
+all-one v d (x ∷ xs) (suc t) below = all-one v d xs t (omega arith)
+
+pub value-first : (later : List ℤ) (xs : List (List ℤ)) → 0 < length xs → slice_index_or (values_over later xs) 0 [] ≡ first_values
+value-first later [] above = absurd (omega arith)
+value-first later (x ∷ xs) above = refl
+
+pub value-later : (later : List ℤ) (xs : List (List ℤ)) (t : ℕ) → 0 < t → t < length xs →
+    slice_index_or (values_over later xs) t [] ≡ later
+value-later later [] t above below = absurd (omega arith)
+value-later later (x ∷ xs) zero above below = absurd (omega arith)
+value-later later (x ∷ xs) (suc t) above below = all-one later [] xs t (omega arith)
+
+with-three : (P : List ℤ → List (List ℤ) → List TrigMem → Type 0) (v w : List ℤ) (m n : List (List ℤ)) (g k : List TrigMem) →
+    v ≡ w → m ≡ n → g ≡ k → P w n k → P v m g
+with-three P v w m n g k values memories triggers h =
+    subst (λ v. P v m g) (sym values) (subst (λ m. P w m g) (sym memories) (subst (λ g. P w n g) (sym triggers) h))
+
+-- so behind tick t of a run with these values in it
+pub holds-run : (s : Option ℕ) (later v : List ℤ) (xs : List (List ℤ)) (t : ℕ) (cells : Cells) → t < length xs →
+    slice_index_or (values_over later xs) t [] ≡ v → HoldsAll s v cells → HoldsRun whole_program later_five s (run_over later xs) t cells
+holds-run s later v xs t cells below same h =
+    let memories = all-one (remembered (pos 5)) [] xs t below in
+    let triggers = all-one no_triggers [] xs t below in record {
+      here = with-three (λ v m g. HoldsTick whole_program later_five v m g s cells) _ _ _ _ _ _ same memories triggers h.here;
+      inside = with-three
+          (λ v m g. AllByRecursion
+          (λ e. HoldsTick whole_program later_five v m g (Some e) (cells_at (path_inside whole_program later_five.rows s e) cells))
+          (systems_inside later_five.rows s)) _ _ _ _ _ _ same memories triggers h.inside;
+    }
+
+whole-calls : (x v : List ℤ) (g : List TrigMem) → CallsInTick whole_program later_five x v g first_row.log first_row.stores
+unfolding digits
+whole-calls x v g = record {
   inside = record {
     each = (record { outs = 1 ∷ []; each_once = IsPermutation-refl (1 ∷ []); then_update = refl }, tt);
-    stored_once = ((lit≤ tt, (lit≤ tt, (lit≤ tt, tt))), tt);
+    stored_once = (lit≤ tt, tt);
+    inner_stored_once = ((lit≤ tt, (lit≤ tt, (lit≤ tt, tt))), tt);
     no_other = ((0, lit< tt, refl), ((1, lit< tt, refl), ((0, lit< tt, refl), ((1, lit< tt, refl), tt))));
   };
   top = record { outs = 6 ∷ []; each_once = IsPermutation-refl (6 ∷ []); then_update = refl };
-  top_stored_once = (lit≤ tt, tt);
 }
 
-later-calls : CallsInTick whole_program later_five [] later_values no_triggers later_row.log later_row.stores
+-- a step from these fields leaves those, with this output and these values
+record StepsRight (before after : Cells) (output : ℤ) (v : List ℤ) : Type 0 where
+  step : Steps before after (tick_of output)
+  place : number_at after 1 ≡ output
+  given : outs later_five None v ≡ output ∷ []
+  holds : HoldsAll None v (cells_at (path_to whole_program later_five.rows None) after)
+
+-- the fields as a start leaves them
+abbrev pub begun : (output : ℤ) → Cells
+begun output = fields_of output (pos 0) (pos 0) (pos 0) (pos 0) (pos 0)
+
+first-right : (output : ℤ) → StepsRight (begun output) second (pos 0) first_values
 unfolding digits
-later-calls = record {
-  inside = record {
-    each = (record { outs = 1 ∷ []; each_once = IsPermutation-refl (1 ∷ []); then_update = refl }, tt);
-    stored_once = ((lit≤ tt, (lit≤ tt, (lit≤ tt, tt))), tt);
-    no_other = ((0, lit< tt, refl), ((1, lit< tt, refl), ((0, lit< tt, refl), ((1, lit< tt, refl), tt))));
+first-right output = record {
+  step = refl;
+  place = refl;
+  given = refl;
+  holds = record {
+    here = record {
+      values = (refl, tt);
+      memories = tt;
+      rings = tt;
+      trigger = λ h. absurd (true≢false (sym h));
+      counters = (refl, tt);
+    };
+    inside = (
+      record {
+        values = (refl, (refl, (refl, tt)));
+        memories = (refl, tt);
+        rings = tt;
+        trigger = λ h. absurd (true≢false (sym h));
+        counters = (refl, tt);
+      },
+      tt,
+    );
   };
-  top = record { outs = 6 ∷ []; each_once = IsPermutation-refl (6 ∷ []); then_update = refl };
-  top_stored_once = (lit≤ tt, tt);
 }
 
-calls-later : (xs : List (List ℤ)) → IsTrace later_five None xs →
-    HasCalls whole_program later_five (map (λ y. later_row) xs) xs (map (λ y. later_values) xs) (no_triggers ∷ map (λ y. no_triggers) xs)
-calls-later [] is = tt
-calls-later (x ∷ xs) is = (
-  no-inputs (λ x. CallsInTick whole_program later_five x later_values no_triggers later_row.log later_row.stores) x
-      is.0 later-calls,
-  calls-later xs is.1,
-)
+third-holds : HoldsAll None later_values (cells_at (path_to whole_program later_five.rows None) third)
+unfolding digits
+third-holds = record {
+  here = record {
+    values = (refl, tt);
+    memories = tt;
+    rings = tt;
+    trigger = λ h. absurd (true≢false (sym h));
+    counters = (refl, tt);
+  };
+  inside = (
+    record {
+      values = (refl, (refl, (refl, tt)));
+      memories = (refl, tt);
+      rings = tt;
+      trigger = λ h. absurd (true≢false (sym h));
+      counters = (refl, tt);
+    },
+    tt,
+  );
+}
 
-calls-over : (xs : List (List ℤ)) → IsTrace later_five None xs →
-    HasCalls whole_program later_five (rows_over xs) xs (run_over later_values xs).values (run_over later_values xs).triggers
-calls-over [] is = tt
-calls-over (x ∷ xs) is = (
-  no-inputs (λ x. CallsInTick whole_program later_five x first_values no_triggers first_row.log first_row.stores) x
-      is.0 first-calls,
-  calls-later xs is.1,
-)
+second-right : StepsRight second third (pos 5) later_values
+unfolding digits
+second-right = record { step = refl; place = refl; given = refl; holds = third-holds }
+
+third-right : StepsRight third third (pos 5) later_values
+unfolding digits
+third-right = record { step = refl; place = refl; given = refl; holds = third-holds }
+
+module _ (xs : List (List ℤ)) where
+  abbrev Ticks : ℕ → List (List ℤ) → Cells → Type 0
+  Ticks t rest cells = TicksFrom whole_program later_five (run_over later_values xs) t rest cells
+
+  tick-on : (t : ℕ) (x : List ℤ) (rest : List (List ℤ)) (before after : Cells) (output : ℤ) (v : List ℤ) →
+      StepsRight before after output v → t < length xs → slice_index_or (values_over later_values xs) t [] ≡ v →
+      IsTraceRow later_five None x → Ticks (suc t) rest after → Ticks t (x ∷ rest) before
+  tick-on t x rest before after output v h below same is ticks =
+      no-inputs (λ x. Ticks t (x ∷ rest) before) x is
+      (subst (λ (o : Outcome). OnDone o (λ a. IsRightTick whole_program later_five (run_over later_values xs) t [] a
+      × Ticks (suc t) rest a.cells)) (sym h.step) (right, ticks))
+    where
+      right : IsRightTick whole_program later_five (run_over later_values xs) t []
+          (record { cells = after; steps = (tick_of output).steps; log = (tick_of output).log; stores = (tick_of output).stores })
+      right = record {
+        outputs = ap (map (number_at after)) places ∙ ap (λ n. n ∷ []) h.place ∙ sym h.given ∙ ap (outs later_five None) (sym same);
+        in_bound = within;
+        calls = whole-calls [] _ _;
+        holds = holds-run None later_values v xs t _ below same h.holds;
+      }
+
+  ticks-on : (rest : List (List ℤ)) (t : ℕ) (before : Cells) → StepsRight before third (pos 5) later_values → 0 < t →
+      t + length rest ≡ length xs → IsTrace later_five None rest → Ticks t rest before
+  ticks-on [] t before h above long is = tt
+  ticks-on (x ∷ rest) t before h above long is =
+      tick-on t x rest before third (pos 5) later_values h (omega (arith, long)) (value-later later_values xs t above (omega (arith, long)))
+      is.0 (ticks-on rest (suc t) third third-right (omega arith) (omega (arith, long)) is.1)
+
+ticks-over : (output : ℤ) (xs : List (List ℤ)) → IsTrace later_five None xs → Ticks xs 0 xs (begun output)
+ticks-over output [] is = tt
+ticks-over output (x ∷ xs) is =
+    tick-on (x ∷ xs) 0 x xs (begun output) second (pos 0) first_values (first-right output) (omega arith) refl is.0
+    (ticks-on (x ∷ xs) xs 1 second second-right (lit< tt) (omega arith) is.1)
 
 module _ (law : LoopFreeHasOneRun) where
   -- any run is the one
@@ -369,8 +493,14 @@ module _ (law : LoopFreeHasOneRun) where
   run-is s later like xs run is has = let one = law later_five s xs no-loop in
       one.only run has ∙ sym (one.only (run_over later xs) (is-run_of s later like xs is))
 
+  -- from fields as a start leaves them each trace is answered
+  pub whole-takes : (output : ℤ) → TakesTraces whole_program later_five (begun output)
+  whole-takes output xs run is has =
+      subst (λ (run : Run). TicksFrom whole_program later_five run 0 xs (begun output))
+      (sym (run-is None later_values root-runs xs run is has)) (ticks-over output xs is)
+
   pub whole-runs : RunsRight whole_program later_five
-  whole-runs = record { outputs = outputs; bounded = bounded; calls = calls }
+  whole-runs = record { outputs = outputs; bounded = bounded; ticks = ticks }
     where
       outputs : (xs : List (List ℤ)) → IsTrace later_five None xs → GivesOutputs whole_program later_five xs
       outputs xs is = let one = law later_five None xs no-loop in record {
@@ -387,10 +517,5 @@ module _ (law : LoopFreeHasOneRun) where
             (sym (rows-are xs is).0) (steps-over xs);
       }
 
-      calls : (xs : List (List ℤ)) (run : Run) → IsTrace later_five None xs → IsRunOver later_five None xs run →
-          HasCalls whole_program later_five (c_rows whole_program xs).ticks xs run.values run.triggers
-      calls xs run is has =
-          subst (λ (run : Run). HasCalls whole_program later_five (c_rows whole_program xs).ticks xs run.values
-          run.triggers) (sym (run-is None later_values root-runs xs run is has))
-          (subst (λ ticks. HasCalls whole_program later_five ticks xs (run_over later_values xs).values
-          (run_over later_values xs).triggers) (sym (rows-are xs is).0) (calls-over xs is))
+      ticks : OnDone (start_run whole_program) (λ started. TakesTraces whole_program later_five started.cells)
+      ticks = subst (λ (o : Outcome). OnDone o (λ a. TakesTraces whole_program later_five a.cells)) (sym starts) (whole-takes (pos 0))
