@@ -1,14 +1,14 @@
 -- The program of a delay is started and reset right, whatever its fields hold; one whose reset does nothing is refused.
 use Rattle.std.specs.Prelude.{◌≡◌, refl, ℕ, ◌==◌, false, [], ◌∷◌, None, pos, nat_abs}
 use Rattle.std.specs.Fmt.{digits}
-use Rattle.std.proofs.Common.{sym, ap, ◌∙◌, true≢false}
+use Rattle.std.proofs.Common.{sym, ap, ◌∙◌, lit≤, true≢false}
 use Rattle.std.proofs.lemmas.Bool.{eq-eqb}
 use Rattle.c_syntax.specs.declared.CType.TheVariants.{I32}
 use Rattle.c_machine.specs.Cells.{Cells, number, no_cells, more_cells}
 use Rattle.c_shape.specs.Names.{start_name, reset_name}
-use Rattle.c_shape.specs.Programs.{procedure_place}
+use Rattle.c_shape.specs.Programs.{procedure_place, struct_place}
 use Rattle.c_simulation.specs.Forms.{Forms, holds_number, forms_of}
-use Rattle.c_right.specs.Anew.{AreStarted, AreReset, HoldsInside, RenewsAll}
+use Rattle.c_right.specs.Anew.{AreStarted, AreReset, HoldsInside, FromAnyFields, RenewsAll}
 use Rattle.c_right.specs.DelaySamples.{one_delay, delay_program, empty_reset}
 use Rattle.c_right.proofs.SharedRenewals.{from-spelled}
 
@@ -16,32 +16,41 @@ use Rattle.c_right.proofs.SharedRenewals.{from-spelled}
 abbrev top_forms : Forms
 top_forms = forms_of (holds_number I32 ∷ holds_number I32 ∷ holds_number I32 ∷ holds_number I32 ∷ [])
 
-renews : RenewsAll delay_program one_delay None
+starts : FromAnyFields delay_program (struct_place delay_program None) (procedure_place delay_program (start_name None))
+    (HoldsInside delay_program one_delay None (λ n old new. AreStarted delay_program one_delay n new))
 unfolding digits
-renews = record {
-  starts =
-      from-spelled delay_program (procedure_place delay_program (start_name None)) top_forms
-      (λ c a. HoldsInside delay_program one_delay None (λ n old new. AreStarted delay_program one_delay n new) c
-      a.cells)
-      (λ c. record {
+starts =
+    from-spelled delay_program (procedure_place delay_program (start_name None)) top_forms
+    (HoldsInside delay_program one_delay None (λ n old new. AreStarted delay_program one_delay n new))
+    (λ c. (
+      lit≤ tt,
+      record {
         here = record {
           forgotten = record { memories = (refl, tt); places = tt; taken = tt; trigger = λ h. absurd (true≢false (sym h)) };
           values = (refl, (refl, (refl, tt)));
           counters = tt;
         };
         inside = tt;
-      });
-  resets =
-      from-spelled delay_program (procedure_place delay_program (reset_name None)) top_forms
-      (λ c a. HoldsInside delay_program one_delay None (AreReset delay_program one_delay) c a.cells)
-      (λ c. record {
+      },
+    ))
+
+resets : FromAnyFields delay_program (struct_place delay_program None) (procedure_place delay_program (reset_name None))
+    (HoldsInside delay_program one_delay None (AreReset delay_program one_delay))
+unfolding digits
+resets =
+    from-spelled delay_program (procedure_place delay_program (reset_name None)) top_forms
+    (HoldsInside delay_program one_delay None (AreReset delay_program one_delay))
+    (λ c. (
+      lit≤ tt,
+      record {
         here = record {
           forgotten = record { memories = (refl, tt); places = tt; taken = tt; trigger = λ h. absurd (true≢false (sym h)) };
           values = (refl, (refl, (refl, tt)));
+          counters = tt;
         };
         inside = tt;
-      });
-}
+      },
+    ))
 
 -- the memory holds 9
 abbrev midst : Cells
@@ -50,6 +59,6 @@ midst = more_cells (number (pos 9)) (more_cells (number (pos 9)) (more_cells (nu
 apart : (a b : ℕ) → (a == b) ≡ false → pos a ≡ pos b → ⊥
 apart a b differ e = true≢false (sym (eq-eqb a b (ap nat_abs e)) ∙ differ)
 
-empty : RenewsAll empty_reset one_delay None → ⊥
+empty : RenewsAll empty_reset one_delay 1 None → ⊥
 unfolding digits
-empty h = apart 9 0 refl (h.resets midst (refl, (refl, (refl, (refl, tt))))).here.forgotten.memories.0
+empty h = apart 9 0 refl (h.resets midst (refl, (refl, (refl, (refl, tt))))).1.here.forgotten.memories.0

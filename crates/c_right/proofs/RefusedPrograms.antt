@@ -16,14 +16,16 @@ use Rattle.mc_diagram.specs.Traces.{IsTrace}
 use Rattle.mc_profile.specs.LocalSamples.{shared_child}
 use Rattle.c_syntax.specs.Tree.{ProgramTree}
 use Rattle.c_machine.specs.Cells.{Cells, number, object, no_cells, more_cells}
-use Rattle.c_machine.specs.Rows.{c_rows}
+use Rattle.c_machine.specs.Rows.{start_run}
 use Rattle.c_shape.specs.Faces.{takes, out_places, givers, HasLeastInterface}
 use Rattle.c_shape.specs.Programs.{struct_place}
+use Rattle.c_simulation.specs.Instances.{OnDone}
 use Rattle.c_simulation.specs.Forms.{Forms, HasForms, holds_number, holds_instance, forms_of}
 use Rattle.c_syntax.specs.declared.CType.TheVariants.{I32, U8}
 use Rattle.c_right.specs.Scripts.{Call, out_with, IsLawfulScript, Fits}
 use Rattle.c_right.specs.Calls.{IsWholeTick}
-use Rattle.c_right.specs.Right.{StaysInBound, HasCalls, AnswersAnyOrder}
+use Rattle.c_right.specs.Driving.{TakesTraces}
+use Rattle.c_right.specs.Right.{StaysInBound, AnswersAnyOrder}
 use Rattle.c_right.specs.Anew.{forms_at, RenewsAll, Restarts}
 use Rattle.c_right.specs.SharedSamples.{trace, repeats_shared, called_first_alone, takes_unused, one_step, idle_functions, flat_step, divides_by_zero, over_bound, leaves_values, leaves_counter, leaves_child, stores_values, leaves_tick}
 use Rattle.c_right.proofs.SharedNeeds.{not_second, outer_input, outer_needs}
@@ -62,20 +64,27 @@ long : (p : ProgramTree) (s : Option ℕ) (calls : List ℕ) → IsWholeTick p s
 long p s calls h = ap length h.then_update ∙ length-append h.outs _
     ∙ ap (λ n. n + 1) (length_permutation (out_places p s) h.outs h.each_once)
 
+is_shared_trace : IsTrace shared_child None trace
+is_shared_trace = ((search rules, (search rules, tt)), ((search rules, (search rules, tt)), tt))
+
+-- a program answers each trace from its start
+abbrev AnswersTraces : ProgramTree → Type 0
+AnswersTraces p = OnDone (start_run p) (λ started. TakesTraces p shared_child started.cells)
+
 -- a shared node that is run again calls the child's function twice
-repeated : HasCalls repeats_shared shared_child (c_rows repeats_shared trace).ticks trace shared_run.values shared_run.triggers → ⊥
+repeated : AnswersTraces repeats_shared → ⊥
 unfolding digits
-repeated h = apart 3 2 refl (long repeats_shared (Some 2) (1 ∷ 1 ∷ 2 ∷ []) h.0.inside.each.0)
+repeated h = apart 3 2 refl (long repeats_shared (Some 2) (1 ∷ 1 ∷ 2 ∷ []) (h trace shared_run is_shared_trace is_shared_run).0.calls.inside.each.0)
 
 -- and stores the node's value twice
-stored_twice : HasCalls repeats_shared shared_child (c_rows repeats_shared trace).ticks trace shared_run.values shared_run.triggers → ⊥
+stored_twice : AnswersTraces repeats_shared → ⊥
 unfolding digits
-stored_twice h = let once : 2 ≤ 1 = h.0.top_stored_once.0 in omega arith
+stored_twice h = let once : 2 ≤ 1 = (h trace shared_run is_shared_trace is_shared_run).0.calls.inside.stored_once.0 in omega arith
 
 -- a flat step calls nothing
-flat : HasCalls flat_step shared_child (c_rows flat_step trace).ticks trace shared_run.values shared_run.triggers → ⊥
+flat : AnswersTraces flat_step → ⊥
 unfolding digits
-flat h = apart 0 2 refl (long flat_step (Some 2) [] h.0.inside.each.0)
+flat h = apart 0 2 refl (long flat_step (Some 2) [] (h trace shared_run is_shared_trace is_shared_run).0.calls.inside.each.0)
 
 -- ---- Steps
 
@@ -175,7 +184,7 @@ first_alone : AnswersAnyOrder called_first_alone shared_child 1 None → ⊥
 unfolding digits
 first_alone h =
     let driven = h (1 ∷ 3 ∷ []) second_first one_row short_run outer_needs in_order is_trace fits is_short_run in
-    values-apart 10 11 refl driven.0.0
+    values-apart 10 11 refl driven.0.0.0
 
 -- ---- Starts and resets
 
@@ -201,21 +210,21 @@ has_forms p same =
     subst (λ forms. HasForms forms midst) (sym same)
     (refl, (refl, (refl, (refl, (refl, ((refl, (refl, (refl, tt))), (refl, (refl, (refl, tt)))))))))
 
-left_values : RenewsAll leaves_values shared_child None → ⊥
+left_values : RenewsAll leaves_values shared_child 1 None → ⊥
 unfolding digits
-left_values h = values-apart 9 0 refl (h.starts midst (has_forms leaves_values refl)).here.values.0
+left_values h = values-apart 9 0 refl (h.starts midst (has_forms leaves_values refl)).1.0.here.values.0
 
-left_counter : RenewsAll leaves_counter shared_child None → ⊥
+left_counter : RenewsAll leaves_counter shared_child 1 None → ⊥
 unfolding digits
-left_counter h = values-apart 1 0 refl (h.starts midst (has_forms leaves_counter refl)).here.counters.0
+left_counter h = values-apart 1 0 refl (h.starts midst (has_forms leaves_counter refl)).1.0.here.counters.0
 
-left_child : RenewsAll leaves_child shared_child None → ⊥
+left_child : RenewsAll leaves_child shared_child 1 None → ⊥
 unfolding digits
-left_child h = values-apart 9 0 refl (h.starts midst (has_forms leaves_child refl)).inside.0.values.0
+left_child h = values-apart 9 0 refl (h.starts midst (has_forms leaves_child refl)).1.0.inside.0.values.0
 
-stored_values : RenewsAll stores_values shared_child None → ⊥
+stored_values : RenewsAll stores_values shared_child 1 None → ⊥
 unfolding digits
-stored_values h = values-apart 0 9 refl (h.resets midst (has_forms stores_values refl)).here.values.0
+stored_values h = values-apart 0 9 refl (h.resets midst (has_forms stores_values refl)).1.here.values.0
 
 -- ---- The whole program started again
 
@@ -223,6 +232,6 @@ stored_values h = values-apart 0 9 refl (h.resets midst (has_forms stores_values
 abbrev whole_midst : Cells
 whole_midst = more_cells (number (pos 1)) (more_cells (number (pos 9)) (more_cells (number (pos 9)) (more_cells (object midst) no_cells)))
 
-left_tick : Restarts leaves_tick shared_child → ⊥
+left_tick : Restarts leaves_tick shared_child 1 → ⊥
 unfolding digits
-left_tick h = values-apart 1 0 refl (h whole_midst (refl, (refl, (refl, (has_forms leaves_tick refl, tt))))).tick
+left_tick h = values-apart 1 0 refl (h whole_midst (refl, (refl, (refl, (has_forms leaves_tick refl, tt))))).1.tick

@@ -1,17 +1,20 @@
 -- The program of a root and its shared child over a trace: it gives the outputs of the run and stays within the bound, each tick
--- has its calls and stores, and a script in another order is answered.
-use Rattle.std.specs.Prelude.{refl, List, [], ◌∷◌, map, None, pos}
+-- has its calls, stores and values, and a script in another order is answered.
+use Rattle.std.specs.Prelude.{refl, List, [], ◌∷◌, map, None, ℤ, pos}
 use Rattle.std.specs.Fmt.{digits}
-use Rattle.std.proofs.Common.{ap, lit<, lit≤}
+use Rattle.std.proofs.Common.{sym, ap, lit<, lit≤, true≢false}
 use Rattle.std.proofs.lemmas.List.Sorted.{IsPermutation-refl}
 use Rattle.mc_diagram.specs.Run.{outs}
 use Rattle.mc_diagram.specs.Laws.{Run, HasOneRun}
 use Rattle.mc_profile.specs.Functions.{functions_for}
 use Rattle.mc_profile.specs.LocalSamples.{shared_child}
-use Rattle.c_machine.specs.Rows.{c_rows, start_run}
+use Rattle.c_machine.specs.Cells.{Cells, number, object, no_cells, more_cells}
+use Rattle.c_machine.specs.Rows.{start_run}
 use Rattle.c_simulation.specs.Instances.{OnDone}
 use Rattle.c_right.specs.Scripts.{Call, out_with, update_with}
-use Rattle.c_right.specs.Right.{GivesOutputs, StaysInBound, HasCalls, DrivenFrom}
+use Rattle.c_right.specs.Held.{HoldsRun}
+use Rattle.c_right.specs.Driving.{TicksFrom, DrivenFrom}
+use Rattle.c_right.specs.Right.{GivesOutputs, StaysInBound}
 use Rattle.c_right.specs.SharedSamples.{shared_program, trace}
 use Rattle.c_right.proofs.RefusedPrograms.{shared_run, is_shared_run}
 
@@ -28,27 +31,97 @@ bounded : StaysInBound shared_program shared_child trace
 unfolding digits
 bounded = record { not_stuck = refl; steps = (lit≤ tt, (lit≤ tt, tt)) }
 
-calls : HasCalls shared_program shared_child (c_rows shared_program trace).ticks trace shared_run.values shared_run.triggers
+-- ---- What fields hold
+
+-- those of `top` behind a tick with these inputs and their sum
+abbrev top_behind : (first second sum : ℤ) → Cells
+top_behind first second sum =
+    let child = more_cells (number first) (more_cells (number first) (more_cells (number (pos 0)) no_cells)) in
+    more_cells (number first)
+    (more_cells (number second)
+    (more_cells (number sum)
+    (more_cells (number first)
+    (more_cells (number sum)
+    (more_cells (object child)
+    (more_cells (number (pos 0)) (more_cells (number (pos 0)) (more_cells (number (pos 0)) no_cells))))))))
+
+holds_first : HoldsRun shared_program shared_child None shared_run 0 (top_behind (pos 1) (pos 10) (pos 11))
 unfolding digits
-calls = (
-  record {
-    inside = record {
-      each = (record { outs = 1 ∷ []; each_once = IsPermutation-refl (1 ∷ []); then_update = refl }, tt);
-      stored_once = ((lit≤ tt, (lit≤ tt, tt)), tt);
-      no_other = ((0, lit< tt, refl), ((1, lit< tt, refl), ((0, lit< tt, refl), ((0, lit< tt, refl), ((1, lit< tt, refl), tt)))));
-    };
-    top = record { outs = 8 ∷ 9 ∷ []; each_once = IsPermutation-refl (8 ∷ 9 ∷ []); then_update = refl };
-    top_stored_once = (lit≤ tt, (lit≤ tt, (lit≤ tt, (lit≤ tt, (lit≤ tt, tt)))));
-  },
-  (
+holds_first = record {
+  here = record {
+    values = (refl, (refl, (refl, (refl, (refl, tt)))));
+    memories = tt;
+    rings = tt;
+    trigger = λ h. absurd (true≢false (sym h));
+    counters = (refl, (refl, (refl, tt)));
+  };
+  inside = (
     record {
+      values = (refl, (refl, tt));
+      memories = tt;
+      rings = tt;
+      trigger = λ h. absurd (true≢false (sym h));
+      counters = (refl, tt);
+    },
+    tt,
+  );
+}
+
+holds_second : HoldsRun shared_program shared_child None shared_run 1 (top_behind (pos 2) (pos 20) (pos 22))
+unfolding digits
+holds_second = record {
+  here = record {
+    values = (refl, (refl, (refl, (refl, (refl, tt)))));
+    memories = tt;
+    rings = tt;
+    trigger = λ h. absurd (true≢false (sym h));
+    counters = (refl, (refl, (refl, tt)));
+  };
+  inside = (
+    record {
+      values = (refl, (refl, tt));
+      memories = tt;
+      rings = tt;
+      trigger = λ h. absurd (true≢false (sym h));
+      counters = (refl, tt);
+    },
+    tt,
+  );
+}
+
+-- ---- Ticks and scripts
+
+ticks : OnDone (start_run shared_program) (λ started. TicksFrom shared_program shared_child shared_run 0 trace started.cells)
+unfolding digits
+ticks = (
+  record {
+    outputs = refl;
+    in_bound = lit≤ tt;
+    calls = record {
       inside = record {
         each = (record { outs = 1 ∷ []; each_once = IsPermutation-refl (1 ∷ []); then_update = refl }, tt);
-        stored_once = ((lit≤ tt, (lit≤ tt, tt)), tt);
+        stored_once = (lit≤ tt, (lit≤ tt, (lit≤ tt, (lit≤ tt, (lit≤ tt, tt)))));
+        inner_stored_once = ((lit≤ tt, (lit≤ tt, tt)), tt);
         no_other = ((0, lit< tt, refl), ((1, lit< tt, refl), ((0, lit< tt, refl), ((0, lit< tt, refl), ((1, lit< tt, refl), tt)))));
       };
       top = record { outs = 8 ∷ 9 ∷ []; each_once = IsPermutation-refl (8 ∷ 9 ∷ []); then_update = refl };
-      top_stored_once = (lit≤ tt, (lit≤ tt, (lit≤ tt, (lit≤ tt, (lit≤ tt, tt)))));
+    };
+    holds = holds_first;
+  },
+  (
+    record {
+      outputs = refl;
+      in_bound = lit≤ tt;
+      calls = record {
+        inside = record {
+          each = (record { outs = 1 ∷ []; each_once = IsPermutation-refl (1 ∷ []); then_update = refl }, tt);
+          stored_once = (lit≤ tt, (lit≤ tt, (lit≤ tt, (lit≤ tt, (lit≤ tt, tt)))));
+          inner_stored_once = ((lit≤ tt, (lit≤ tt, tt)), tt);
+          no_other = ((0, lit< tt, refl), ((1, lit< tt, refl), ((0, lit< tt, refl), ((0, lit< tt, refl), ((1, lit< tt, refl), tt)))));
+        };
+        top = record { outs = 8 ∷ 9 ∷ []; each_once = IsPermutation-refl (8 ∷ 9 ∷ []); then_update = refl };
+      };
+      holds = holds_second;
     },
     tt,
   ),
@@ -62,29 +135,33 @@ script =
     ∷ []
 
 driven : OnDone (start_run shared_program)
-    (λ started. DrivenFrom shared_program shared_child 1 None (functions_for (1 ∷ 3 ∷ [])) trace shared_run 0
-    started.cells [] [] script)
+    (λ started. DrivenFrom shared_program shared_child 1 (3 ∷ []) None (functions_for (1 ∷ 3 ∷ [])) trace shared_run 0
+    started.cells [] [] [] script)
 unfolding digits
 driven = (
-  (refl, tt),
+  ((refl, tt), tt),
   (
-    (refl, tt),
+    ((refl, tt), ((refl, tt), tt)),
     (
       record {
         each = (record { outs = 1 ∷ []; each_once = IsPermutation-refl (1 ∷ []); then_update = refl }, tt);
-        stored_once = ((lit≤ tt, (lit≤ tt, tt)), tt);
+        stored_once = (lit≤ tt, (lit≤ tt, (lit≤ tt, (lit≤ tt, (lit≤ tt, tt)))));
+        inner_stored_once = ((lit≤ tt, (lit≤ tt, tt)), tt);
         no_other = ((0, lit< tt, refl), ((1, lit< tt, refl), ((0, lit< tt, refl), ((0, lit< tt, refl), ((1, lit< tt, refl), tt)))));
       },
+      holds_first,
       (
-        (refl, tt),
+        ((refl, tt), tt),
         (
-          (refl, tt),
+          ((refl, tt), ((refl, tt), tt)),
           (
             record {
               each = (record { outs = 1 ∷ []; each_once = IsPermutation-refl (1 ∷ []); then_update = refl }, tt);
-              stored_once = ((lit≤ tt, (lit≤ tt, tt)), tt);
+              stored_once = (lit≤ tt, (lit≤ tt, (lit≤ tt, (lit≤ tt, (lit≤ tt, tt)))));
+              inner_stored_once = ((lit≤ tt, (lit≤ tt, tt)), tt);
               no_other = ((0, lit< tt, refl), ((1, lit< tt, refl), ((0, lit< tt, refl), ((0, lit< tt, refl), ((1, lit< tt, refl), tt)))));
             },
+            holds_second,
             tt,
           ),
         ),
