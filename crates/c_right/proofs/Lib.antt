@@ -19,3 +19,4 @@ mod WholeRenewals
 mod WholeScripts
 mod WholeCode
 mod RefusedAlone
+mod SpoiledPrograms

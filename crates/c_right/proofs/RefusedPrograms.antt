@@ -56,7 +56,7 @@ is_shared_run = (
 apart : (a b : ℕ) → (a == b) ≡ false → a ≡ b → ⊥
 apart a b differ e = true≢false (sym (eq-eqb a b e) ∙ differ)
 
-values-apart : (a b : ℕ) → (a == b) ≡ false → pos a ≡ pos b → ⊥
+pub values-apart : (a b : ℕ) → (a == b) ≡ false → pos a ≡ pos b → ⊥
 values-apart a b differ e = apart a b differ (ap nat_abs e)
 
 -- a whole tick of calls is one longer than there are functions
@@ -150,17 +150,17 @@ idle h = none_gives h.face.gives ([] ∷ []) h.is_face.outputs
 abbrev second_first : List Call
 second_first = out_with 2 (pos 1 ∷ pos 10 ∷ []) ∷ []
 
-abbrev one_row : List (List ℤ)
+abbrev pub one_row : List (List ℤ)
 one_row = (pos 1 ∷ pos 10 ∷ []) ∷ []
 
-abbrev short_run : Run
+abbrev pub short_run : Run
 short_run = record {
   values = (pos 1 ∷ pos 10 ∷ pos 0 ∷ pos 1 ∷ pos 1 ∷ pos 11 ∷ pos 1 ∷ pos 11 ∷ []) ∷ [];
   memories = replicate 2 (replicate 8 []);
   triggers = replicate 2 (replicate 8 NotYet);
 }
 
-is_short_run : IsRunOver shared_child None one_row short_run
+pub is_short_run : IsRunOver shared_child None one_row short_run
 is_short_run = (refl, refl, (record { values = refl; memories = refl; triggers = refl }, tt))
 
 in_order : IsLawfulScript shared_child None (functions_for (1 ∷ 3 ∷ [])) second_first
@@ -173,7 +173,7 @@ in_order = (
   tt,
 )
 
-is_trace : IsTrace shared_child None one_row
+pub is_trace : IsTrace shared_child None one_row
 is_trace = ((search rules, (search rules, tt)), tt)
 
 fits : Fits shared_child None (functions_for (1 ∷ 3 ∷ [])) one_row second_first

@@ -15,3 +15,4 @@ pub mod SharedExamples
 pub mod DelaySamples
 pub mod WholeSamples
 pub mod RefusedAlone
+pub mod SpoiledSamples
