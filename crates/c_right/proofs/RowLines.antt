@@ -5,14 +5,13 @@ use Rattle.std.proofs.Common.{refl, sym, ap, subst, ◌∙◌}
 use Rattle.mc_guards.specs.declared.TrigMem.{TrigMem}
 use Rattle.mc_blocks.specs.Meaning.{has_value}
 use Rattle.mc_diagram.specs.declared.table.Row.{Row}
-use Rattle.mc_diagram.specs.Rows.{row_at, rows_of, around, outports_of, system_control, is_triggered}
+use Rattle.mc_diagram.specs.Rows.{row_at, rows_of, around, system_control, is_triggered}
 use Rattle.mc_diagram.specs.Diagram.{Diagram}
 use Rattle.mc_diagram.specs.Run.{value_at, memory_at, first_of, start_of, active_in, outs}
 use Rattle.mc_diagram.specs.Laws.{Run}
 use Rattle.mc_diagram.specs.SystemRuns.{system_trigger}
 use Rattle.mc_profile.specs.declared.Function.{Function}
 use Rattle.mc_profile.specs.Functions.{functions_for}
-use Rattle.mc_profile.specs.Headers.{numbered_function, given_by_function}
 use Rattle.mc_profile.specs.Systems.{systems, systems_inside, system_name}
 use Rattle.c_syntax.specs.declared.Stuck.{Stuck}
 use Rattle.c_syntax.specs.Tree.{FieldTree, StructTree, ProcedureTree, ProgramTree}

@@ -30,7 +30,7 @@ use Rattle.c_right.specs.Scripts.{Call, out_with, update_with, TickSoFar, nothin
 use Rattle.c_right.specs.Held.{HoldsRun}
 use Rattle.c_right.specs.Driving.{call_in_tick, HoldsOutputs, DrivenFrom, AnswersScripts}
 use Rattle.c_right.specs.Right.{AnswersAnyOrder}
-use Rattle.c_right.specs.WholeSamples.{later_five, whole_program, child_profile, top_profile, first_values, later_values, child_values, values_over, run_over}
+use Rattle.c_right.specs.WholeSamples.{later_five, whole_program, child_profile, top_profile, first_values, later_values, child_values, run_over}
 use Rattle.c_right.proofs.WholeRuns.{modulo-one, begun, starts, at_top, in_child, RunsLike, root-runs, child-runs, run-is, HoldsAll, holds-run, value-first, value-later}
 use Rattle.c_right.proofs.WholeFaces.{child_is_profile, top_is_profile}
 

@@ -1,6 +1,6 @@
 -- A system's code as a program of its own, in which each child is nothing but its outputs and the
 -- heads of its procedures: so the rules and limits of C are said of it by itself.
-use Rattle.std.specs.Prelude.{ℕ, ◌+◌, ◌<◌, ◌≤◌, List, [], ◌∷◌, ◌++◌, map, flat_map, drop, length, replicate}
+use Rattle.std.specs.Prelude.{ℕ, ◌<◌, ◌≤◌, List, [], ◌∷◌, ◌++◌, map, flat_map, drop, length, replicate}
 use Rattle.std.specs.List.{AllByRecursion, enumerate_from}
 use Rattle.mc_profile.specs.declared.ChildUse.{ChildUse}
 use Rattle.mc_profile.specs.LocalSystem.{LocalSystem}

@@ -1,6 +1,6 @@
 -- Instances that are started anew and reset: what this makes of the fields of a system and of each
 -- system inside it, whatever numbers of their types they held, and what they answer from then on.
-use Rattle.std.specs.Prelude.{◌≡◌, ◌⊎◌, ℕ, ◌+◌, ◌≤◌, true, List, [], map, slice_index_or, unwrap_or, Option, Some, None, pos}
+use Rattle.std.specs.Prelude.{◌≡◌, ◌⊎◌, ℕ, ◌+◌, ◌≤◌, true, [], map, slice_index_or, unwrap_or, Option, Some, None, pos}
 use Rattle.std.specs.List.{AllByRecursion}
 use Rattle.mc_diagram.specs.Rows.{system_control, is_triggered}
 use Rattle.mc_diagram.specs.Diagram.{Diagram}

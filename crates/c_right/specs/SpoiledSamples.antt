@@ -17,7 +17,7 @@ use Rattle.c_syntax.specs.declared.Leaf.TheVariants.{Param, Own, Child}
 use Rattle.c_syntax.specs.declared.Target.TheVariants.{Own as OnSelf, Child as OnChild}
 use Rattle.c_syntax.specs.Tree.{literal, read, binary, pick, item, compare, assign, assign_at, branch, call, no_stmts, no_exprs, exprs_of_list, stmts_of_list, ExprTree, ProcedureTree, ProgramTree}
 use Rattle.c_machine.specs.Cells.{Cells, number, items, object, no_cells, more_cells}
-use Rattle.c_machine.specs.Machine.{Outcome, done, stuck, call_from_outside}
+use Rattle.c_machine.specs.Machine.{call_from_outside}
 use Rattle.c_machine.specs.Rows.{c_rows, rows_of_start}
 use Rattle.c_shape.specs.Names.{counter_name}
 use Rattle.c_shape.specs.Heads.{now_param}
