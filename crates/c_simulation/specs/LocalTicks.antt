@@ -22,11 +22,13 @@ use Rattle.c_shape.specs.RowStarts.{row_start}
 use Rattle.c_simulation.specs.Rings.{Ring, IsRing, emptied_ring, moved_ring}
 
 -- A tick of a system, and the rings in which its delays of several samples have their memories,
--- before the tick and after it. A ring may lie anywhere.
+-- before the tick and after it. A ring may lie anywhere. The filler, where there is one, holds the
+-- same number before and after, which may be any.
 pub record LocalTick : Type 0 where
   pub tick : SystemTick
   pub ring : ℕ → Ring
   pub ring_after : ℕ → Ring
+  pub filler : ℤ
 
 module _ (local : LocalSystem) (m : LocalTick) where
   -- whether the system is active, off, and disabled by its enable

@@ -43,6 +43,7 @@ first_tick inputs = record {
   };
   ring = λ b. begun_ring [];
   ring_after = λ b. begun_ring [];
+  filler = pos 0;
 }
 
 abbrev outer_tick : LocalTick

@@ -99,9 +99,15 @@ reset_body = zeros (3 ∷ [])
 abbrev pub code : SystemTree
 code = code_of group_body function_body update_body start_body reset_body
 
--- a tick of a system without delays of several samples
+-- a tick of a system without delays of several samples and without a filler
 abbrev pub without_rings : SystemTick → LocalTick
-without_rings m = record { tick = m; ring = λ b. begun_ring []; ring_after = λ b. begun_ring [] }
+without_rings m =
+    record {
+      tick = m;
+      ring = λ b. begun_ring [];
+      ring_after = λ b. begun_ring [];
+      filler = pos 0;
+    }
 
 -- before the tick x1 was 9, the delay and y1 were 8, and the memory is 5; In1 is 7
 abbrev pub held_values : ℕ → ℤ

@@ -9,7 +9,7 @@ use Rattle.mc_profile.specs.Headers.{header_of}
 use Rattle.mc_profile.specs.Locals.{local_of}
 use Rattle.c_simulation.specs.LocalTicks.{LocalTick, value_of, memory_of, is_active, is_off}
 use Rattle.c_simulation.specs.Standing.{outer_tick_of, child_tick_of}
-use Rattle.c_simulation.specs.RunTicks.{tick_at}
+use Rattle.c_simulation.specs.RunTicks.{nothing_untouched, tick_at}
 use Rattle.c_simulation.specs.ResetExamples.{delayed, local, profile}
 
 -- enabled with 7, then disabled with 8
@@ -39,7 +39,7 @@ is_run = (
 )
 
 abbrev at : ℕ → LocalTick
-at t = tick_at delayed None trace run (Some 2) (λ b. []) t
+at t = tick_at delayed None trace run (Some 2) nothing_untouched t
 
 -- in the first tick the subsystem is active, in the second it is off
 first_active : is_active local (at 0) ≡ true
@@ -69,6 +69,6 @@ second_memory = refl
 abbrev root_local : LocalSystem
 root_local = local_of delayed [] None (header_of delayed (Some 2) profile ∷ [])
 
-visits : map (child_tick_of root_local (tick_at delayed None trace run None (λ b. []) 1))
+visits : map (child_tick_of root_local (tick_at delayed None trace run None nothing_untouched 1))
     root_local.children ≡ outer_tick_of local (at 1) ∷ []
 visits = refl

@@ -15,7 +15,7 @@ use Rattle.c_simulation.specs.LocalTicks.{IsLocalTick, IsTypedTick}
 use Rattle.c_simulation.specs.Standing.{outer_tick_of, child_tick_of}
 use Rattle.c_simulation.specs.StandingLaws.{Follows}
 use Rattle.c_simulation.specs.Relation.{IsCycleOf}
-use Rattle.c_simulation.specs.RunTicks.{tick_at}
+use Rattle.c_simulation.specs.RunTicks.{Untouched, tick_at}
 
 -- the cycle of the model is one of each system
 abbrev pub CycleIsOfLocals : Type 0
@@ -27,39 +27,39 @@ abbrev pub AreItems : Diagram → (ℕ → List ℤ) → Type 0
 AreItems d items = (b : ℕ) → length (items b) ≡ delay_length (op_at d b)
 
 -- each tick of a run is a tick for the rows of each system inside, whatever stood in the arrays of
--- its rings
+-- its rings and in its filler
 abbrev pub TicksAreLocal : Type 0
 TicksAreLocal =
     (r : ResolvedTree) (s n : Option ℕ) (local : LocalSystem) (xs : List (List ℤ)) (run : Run)
-    (items : ℕ → List ℤ) (t : ℕ) → IsResolvedTree r →
+    (untouched : Untouched) (t : ℕ) → IsResolvedTree r →
     IsSystemWithin (diagram_of r).rows s n → IsLocalOf r n local →
-    IsRunOver (diagram_of r) s xs run → AreItems (diagram_of r) items → t < length xs →
-    IsLocalTick local (tick_at (diagram_of r) s xs run n items t)
+    IsRunOver (diagram_of r) s xs run → AreItems (diagram_of r) untouched.items → t < length xs →
+    IsLocalTick local (tick_at (diagram_of r) s xs run n untouched t)
 
 -- and where the trace lies in its types, so does all else; round a loop of rows that copy any
 -- number could stand
 abbrev pub TicksAreTyped : Type 0
 TicksAreTyped =
     (r : ResolvedTree) (s n : Option ℕ) (local : LocalSystem) (xs : List (List ℤ)) (run : Run)
-    (items : ℕ → List ℤ) (t : ℕ) → IsResolvedTree r →
+    (untouched : Untouched) (t : ℕ) → IsResolvedTree r →
     IsSystem (diagram_of r).rows n → IsSystemWithin (diagram_of r).rows s n → IsLocalOf r n local →
     IsRunOver (diagram_of r) s xs run → IsTrace (diagram_of r) s xs →
     HasNoLoop (needs_of (diagram_of r)) → t < length xs →
-    IsTypedTick local (tick_at (diagram_of r) s xs run n items t)
+    IsTypedTick local (tick_at (diagram_of r) s xs run n untouched t)
 
 -- one tick follows the other
 abbrev pub TicksFollow : Type 0
 TicksFollow =
-    (d : Diagram) (s n : Option ℕ) (xs : List (List ℤ)) (run : Run) (items : ℕ → List ℤ) (t : ℕ) →
-    Follows (tick_at d s xs run n items t) (tick_at d s xs run n items (suc t))
+    (d : Diagram) (s n : Option ℕ) (xs : List (List ℤ)) (run : Run) (untouched : Untouched) (t : ℕ) →
+    Follows (tick_at d s xs run n untouched t) (tick_at d s xs run n untouched (suc t))
 
 -- a child meets the tick that its own rows have
 abbrev pub ChildrenMeetTheirTicks : Type 0
 ChildrenMeetTheirTicks =
     (r : ResolvedTree) (s n : Option ℕ) (local inner : LocalSystem) (u : ChildUse)
-    (xs : List (List ℤ)) (run : Run) (items others : ℕ → List ℤ) (t : ℕ) → IsResolvedTree r →
+    (xs : List (List ℤ)) (run : Run) (untouched others : Untouched) (t : ℕ) → IsResolvedTree r →
     IsSystemWithin (diagram_of r).rows s n → IsLocalOf r n local → Contains local.children u →
     IsLocalOf r u.header.row inner →
     IsRunOver (diagram_of r) s xs run → t < length xs →
-    child_tick_of local (tick_at (diagram_of r) s xs run n items t) u
+    child_tick_of local (tick_at (diagram_of r) s xs run n untouched t) u
     ≡ outer_tick_of inner (tick_at (diagram_of r) s xs run u.header.row others t)

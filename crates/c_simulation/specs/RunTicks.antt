@@ -1,6 +1,6 @@
 -- What a tick of a run of a diagram, or of one of its systems, is for the rows of each system
 -- inside, with the rings of its delays of several samples.
-use Rattle.std.specs.Prelude.{ℕ, zero, suc, ◌||◌, if◌then◌else◌, List, Option, ℤ}
+use Rattle.std.specs.Prelude.{ℕ, zero, suc, ◌||◌, if◌then◌else◌, List, [], Option, ℤ, pos}
 use Rattle.mc_blocks.specs.Meaning.{delay_length}
 use Rattle.mc_blocks.specs.Value.{input}
 use Rattle.mc_diagram.specs.Diagram.{Diagram, op_at}
@@ -17,16 +17,31 @@ next_ring d n m b ring =
     then moved_ring (delay_length (op_at d b)) ring (input (own_inputs d n m b) 0)
     else ring)
 
--- A run of the system s of a diagram over a trace, and a system n, which is s or inside it; `items`
--- is what stood in each ring's array before the start, which lets it stand.
-module _ (d : Diagram) (s : Option ℕ) (xs : List (List ℤ)) (run : Run) (n : Option ℕ) (items : ℕ →
-    List ℤ) where
+-- What stood before the start in the fields that a start lets stand: in the array of each row's
+-- ring, and in the filler.
+pub record Untouched : Type 0 where
+  pub items : ℕ → List ℤ
+  pub filler : ℤ
+
+-- what an instance without rings and filler has
+abbrev pub nothing_untouched : Untouched
+nothing_untouched = record { items = λ b. []; filler = pos 0 }
+
+-- A run of the system s of a diagram over a trace, and a system n, which is s or inside it, in an
+-- instance that was started.
+module _ (d : Diagram) (s : Option ℕ) (xs : List (List ℤ)) (run : Run) (n : Option ℕ) (untouched :
+    Untouched) where
   -- The ring of row b before a tick: from the start on, as the row runs and is reset.
   abbrev pub ring_at : ℕ → ℕ → Ring
-  ring_at zero b = begun_ring (items b)
+  ring_at zero b = begun_ring (untouched.items b)
   ring_at (suc t) b = next_ring d n (system_tick d s xs run n t) b (ring_at t b)
 
   -- the tick for the rows of n
   abbrev pub tick_at : ℕ → LocalTick
   tick_at t =
-      record { tick = system_tick d s xs run n t; ring = ring_at t; ring_after = ring_at (suc t) }
+      record {
+        tick = system_tick d s xs run n t;
+        ring = ring_at t;
+        ring_after = ring_at (suc t);
+        filler = untouched.filler;
+      }

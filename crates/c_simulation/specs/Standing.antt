@@ -73,7 +73,7 @@ module _ (local : LocalSystem) (m : LocalTick) (children : List InstanceTick) wh
   standing_cell executed counted (counter name type) = number (counted name)
   standing_cell executed counted (instance k u) =
       object ((instance_at children k).standing (called_in (is_active local m) executed u))
-  standing_cell executed counted filler = number (pos 0)
+  standing_cell executed counted filler = number m.filler
 
   abbrev pub standing_cells : List Slot → (executed : Node → Bool) (counted : List ℕ → ℤ) → Cells
   standing_cells slots executed counted = cells_of (map (standing_cell executed counted) slots)
@@ -88,7 +88,7 @@ module _ (local : LocalSystem) (m : LocalTick) (children : List InstanceTick) wh
   after_cell trigger = number (trigger_number m.tick.trigger_after)
   after_cell (counter name type) = number (pos 0)
   after_cell (instance k u) = object (instance_at children k).after
-  after_cell filler = number (pos 0)
+  after_cell filler = number m.filler
 
   abbrev pub after_cells : List Slot → Cells
   after_cells slots = cells_of (map after_cell slots)

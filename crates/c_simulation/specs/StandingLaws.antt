@@ -34,6 +34,7 @@ pub record Follows (m next : LocalTick) : Type 0 where
   pub memory : (b : ℕ) → next.tick.memory b ≡ m.tick.memory_after b
   pub ring : (b : ℕ) → next.ring b ≡ m.ring_after b
   pub trigger : next.tick.trigger ≡ m.tick.trigger_after
+  pub filler : next.filler ≡ m.filler
 
 abbrev pub NextStands : Type 0
 NextStands =
@@ -57,7 +58,7 @@ BeginsFrom local m renewals children (counter name type) before = ⊤
 BeginsFrom local m renewals children (instance k u) before =
     (renewal_at renewals k).renewed (cell_fields before)
     ≡ (instance_at children k).standing none_called
-BeginsFrom local m renewals children filler before = before ≡ number (pos 0)
+BeginsFrom local m renewals children filler before = before ≡ number m.filler
 
 abbrev pub BeginsFromAll : LocalSystem → LocalTick → List Renewal → List InstanceTick → List Slot →
     Cells → Type 0

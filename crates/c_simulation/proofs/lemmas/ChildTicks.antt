@@ -19,7 +19,7 @@ use Rattle.mc_profile.specs.Locals.{child_use, local_of, outports}
 use Rattle.mc_profile.specs.NodeFacts.{AreHeaders, HeaderIsOfOwnRows}
 use Rattle.c_simulation.specs.LocalTicks.{LocalTick}
 use Rattle.c_simulation.specs.Standing.{outer_tick_of, child_tick_of}
-use Rattle.c_simulation.specs.RunTicks.{tick_at}
+use Rattle.c_simulation.specs.RunTicks.{Untouched, tick_at}
 use Rattle.c_simulation.specs.RunTickLaws.{ChildrenMeetTheirTicks}
 use Rattle.c_simulation.proofs.Lists.{in-map, of-map, of-filter, map-map, of-rows}
 
@@ -49,13 +49,13 @@ outputs-are own d h delays headers is f =
     ∙ map-map (λ (o : ℕ × FixType). f o.0) (λ (o : LocalRow). (o.row, o.out)) (outports (local_of d delays h.row headers))
 
 module _ (own : HeaderIsOfOwnRows) (r : ResolvedTree) (s n : Option ℕ) (xs : List (List ℤ)) (run : Run)
-    (items others : ℕ → List ℤ) (t : ℕ) (resolved : IsResolvedTree r)
+    (untouched others : Untouched) (t : ℕ) (resolved : IsResolvedTree r)
     (within : IsSystemWithin (diagram_of r).rows s n) (is : IsRunOver (diagram_of r) s xs run) where
   abbrev d : Diagram
   d = diagram_of r
 
   abbrev m : LocalTick
-  m = tick_at d s xs run n items t
+  m = tick_at d s xs run n untouched t
 
   meets : (h : SystemHeader) (headers inner : List SystemHeader) → AreHeaders d n headers → Contains headers h →
       child_tick_of (local_of d r.times.delays n headers) m (child_use d h)
@@ -78,12 +78,12 @@ module _ (own : HeaderIsOfOwnRows) (r : ResolvedTree) (s n : Option ℕ) (xs : L
       }
 
 pub children_meet_their_ticks : HeaderIsOfOwnRows → ChildrenMeetTheirTicks
-children_meet_their_ticks own r s n local inner u xs run items others t resolved within is_local inside is_inner is below =
+children_meet_their_ticks own r s n local inner u xs run untouched others t resolved within is_local inside is_inner is below =
     let d = diagram_of r in
     let at = of-map (child_use d) is_local.headers u (subst (λ (l : LocalSystem). Contains l.children u) is_local.is_local inside) in
     let h = at.0 in
     let row : (child_use d h).header.row ≡ u.header.row = ap (λ (w : ChildUse). w.header.row) at.2 in
-    ap₂ (λ (l : LocalSystem) (w : ChildUse). child_tick_of l (tick_at d s xs run n items t) w) is_local.is_local (sym at.2)
-    ∙ meets own r s n xs run items others t resolved within is h is_local.headers is_inner.headers is_local.are_headers at.1
+    ap₂ (λ (l : LocalSystem) (w : ChildUse). child_tick_of l (tick_at d s xs run n untouched t) w) is_local.is_local (sym at.2)
+    ∙ meets own r s n xs run untouched others t resolved within is h is_local.headers is_inner.headers is_local.are_headers at.1
     ∙ ap (λ o. outer_tick_of (local_of d r.times.delays o is_inner.headers) (tick_at d s xs run o others t)) row
     ∙ ap (λ (l : LocalSystem). outer_tick_of l (tick_at d s xs run u.header.row others t)) (sym is_inner.is_local)

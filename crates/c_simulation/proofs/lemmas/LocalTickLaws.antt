@@ -22,7 +22,7 @@ use Rattle.c_shape.specs.Delays.{is_line}
 use Rattle.c_simulation.specs.Rings.{Ring, IsRing, begun_ring, emptied_ring, moved_ring}
 use Rattle.c_shape.specs.RowStarts.{row_start}
 use Rattle.c_simulation.specs.LocalTicks.{LocalTick, IsLocalTick, row_inputs, row_runs, value_of, memory_of, ring_of}
-use Rattle.c_simulation.specs.RunTicks.{next_ring, ring_at, tick_at}
+use Rattle.c_simulation.specs.RunTicks.{Untouched, next_ring, ring_at, tick_at}
 use Rattle.c_simulation.specs.RunTickLaws.{AreItems, TicksAreLocal}
 use Rattle.c_simulation.proofs.Lists.{each-row, each-kept}
 use Rattle.c_simulation.proofs.lemmas.RingLaws.{begun_is_ring, emptied_is_ring, moved_is_ring}
@@ -89,9 +89,9 @@ line-is_delay (Logic op count) h = absurd (true≢false (sym h))
 line-is_delay (Convert frac to how) h = absurd (true≢false (sym h))
 line-is_delay Nothing h = absurd (true≢false (sym h))
 
-module _ (r : ResolvedTree) (s n : Option ℕ) (xs : List (List ℤ)) (run : Run) (items : ℕ → List ℤ) (resolved : IsResolvedTree r)
+module _ (r : ResolvedTree) (s n : Option ℕ) (xs : List (List ℤ)) (run : Run) (untouched : Untouched) (resolved : IsResolvedTree r)
     (within : IsSystemWithin (diagram_of r).rows s n) (is : IsRunOver (diagram_of r) s xs run)
-    (filled : AreItems (diagram_of r) items) where
+    (filled : AreItems (diagram_of r) untouched.items) where
   abbrev d : Diagram
   d = diagram_of r
 
@@ -103,15 +103,15 @@ module _ (r : ResolvedTree) (s n : Option ℕ) (xs : List (List ℤ)) (run : Run
 
   -- a ring holds what its delay remembers
   step : (b t : ℕ) → IsRowOf d.rows n b → is_delay (op_at d b) ≡ true → t < length xs →
-      IsRing (delay_length (op_at d b)) (start_of d b) (ring_at d s xs run n items t b) ((at t).memory b) →
-      IsRing (delay_length (op_at d b)) (start_of d b) (ring_at d s xs run n items (suc t) b) ((at t).memory_after b)
+      IsRing (delay_length (op_at d b)) (start_of d b) (ring_at d s xs run n untouched t b) ((at t).memory b) →
+      IsRing (delay_length (op_at d b)) (start_of d b) (ring_at d s xs run n untouched (suc t) b) ((at t).memory_after b)
   step b t own delay below so_far =
-      subst (IsRing (delay_length (op_at d b)) (start_of d b) (ring_at d s xs run n items (suc t) b))
+      subst (IsRing (delay_length (op_at d b)) (start_of d b) (ring_at d s xs run n untouched (suc t) b))
       (sym ((is_run.each t below).memories b own delay))
       (by ((at t).is_off_around || system_is_off d n (at t)) (own_runs d n (at t) b))
     where
       ring : Ring
-      ring = ring_at d s xs run n items t b
+      ring = ring_at d s xs run n untouched t b
 
       taken : ℤ
       taken = input (own_inputs d n (at t) b) 0
@@ -125,17 +125,17 @@ module _ (r : ResolvedTree) (s n : Option ℕ) (xs : List (List ℤ)) (run : Run
       by false false = so_far
 
   holds : (b t : ℕ) → IsRowOf d.rows n b → is_delay (op_at d b) ≡ true → t < length xs →
-      IsRing (delay_length (op_at d b)) (start_of d b) (ring_at d s xs run n items t b) ((at t).memory b)
+      IsRing (delay_length (op_at d b)) (start_of d b) (ring_at d s xs run n untouched t b) ((at t).memory b)
   holds b zero own delay below =
-      subst (IsRing (delay_length (op_at d b)) (start_of d b) (begun_ring (items b))) (sym (is_run.first.memories b own delay))
-      (begun_is_ring (delay_length (op_at d b)) (start_of d b) (items b) (delays-are-some r b resolved own.in_table delay).0 (filled b))
+      subst (IsRing (delay_length (op_at d b)) (start_of d b) (begun_ring (untouched.items b))) (sym (is_run.first.memories b own delay))
+      (begun_is_ring (delay_length (op_at d b)) (start_of d b) (untouched.items b) (delays-are-some r b resolved own.in_table delay).0 (filled b))
   holds b (suc t) own delay below = step b t own delay (omega arith) (holds b t own delay (omega arith))
 
 pub ticks_are_local : TicksAreLocal
-ticks_are_local r s n local xs run items t resolved within is_local is filled below =
+ticks_are_local r s n local xs run untouched t resolved within is_local is filled below =
     let d = diagram_of r in
-    let m = tick_at d s xs run n items t in
-    let tick = (is_run r s n xs run items resolved within is filled).each t below in
+    let m = tick_at d s xs run n untouched t in
+    let tick = (is_run r s n xs run untouched resolved within is filled).each t below in
     let delays = r.times.delays in
     let headers = is_local.headers in
     subst (λ (l : LocalSystem). IsLocalTick l m) (sym is_local.is_local) (record {
@@ -158,7 +158,7 @@ ticks_are_local r s n local xs run items t resolved within is_local is filled be
           (m.tick.memory q.row)) (local_row d delays) d.rows n
           (λ b own line. subst (λ start. IsRing (delay_length (op_at d b)) start (m.ring b) (m.tick.memory b))
           (start-is d delays n headers m b own)
-          (holds r s n xs run items resolved within is filled b t own (line-is_delay (op_at d b) line) below)));
+          (holds r s n xs run untouched resolved within is filled b t own (line-is_delay (op_at d b) line) below)));
       rings = each-kept (λ q. m.ring_after q.row ≡ ring_of (local_of d delays n headers) m q) (λ q. is_line q.op)
           (local_of d delays n headers).rows
           (each-row (λ q. is_line q.op ≡ true → m.ring_after q.row ≡ ring_of (local_of d delays n headers) m q)

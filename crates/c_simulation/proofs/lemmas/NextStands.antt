@@ -31,7 +31,7 @@ module _ (local : LocalSystem) (m next : LocalTick) (children nexts : List Insta
   slot trigger = ap (λ g. number (trigger_number g)) (sym follows.trigger)
   slot (counter name type) = ap number (sym (zero name))
   slot (instance k u) = ap object (linked k ∙ ap (instance_at nexts k).standing (λ i j. nothing (is_active local next) u.header.row j i))
-  slot filler = refl
+  slot filler = ap number (sym follows.filler)
 
   all : (slots : List Slot) → after_cells local m children slots ≡ standing_cells local next nexts slots (λ x. false) counted
   all [] = refl
@@ -74,4 +74,4 @@ first_stands local slots m renewals children counted before after is begins zero
 
 -- ticks of a run follow each other by definition
 pub ticks_follow : TicksFollow
-ticks_follow d s n xs run arrays t = record { before = λ b. refl; memory = λ b. refl; ring = λ b. refl; trigger = refl }
+ticks_follow d s n xs run untouched t = record { before = λ b. refl; memory = λ b. refl; ring = λ b. refl; trigger = refl; filler = refl }

@@ -28,7 +28,7 @@ use Rattle.mc_profile.specs.Locals.{local_row, child_use, local_of, inports}
 use Rattle.mc_profile.specs.NodeFacts.{HeaderIsOfOwnRows}
 use Rattle.mc_profile.proofs.lemmas.OwnRows.{of-ports}
 use Rattle.c_simulation.specs.LocalTicks.{LocalTick, IsFed, GivesInTypes, IsTypedTick, row_inputs, row_runs}
-use Rattle.c_simulation.specs.RunTicks.{tick_at}
+use Rattle.c_simulation.specs.RunTicks.{Untouched, tick_at}
 use Rattle.c_simulation.specs.RunTickLaws.{TicksAreTyped}
 use Rattle.c_simulation.proofs.Lists.{each-row, each-kept, each-made, zip-made, zip-from, zip-back}
 use Rattle.c_simulation.proofs.lemmas.LocalTickLaws.{inputs-are}
@@ -43,7 +43,7 @@ inside-too rows s e inside = ap (λ q. is_system s e || q) inside ∙ either (is
     either false = refl
 
 module _ (own : HeaderIsOfOwnRows) (typed : SystemsAreTyped) (r : ResolvedTree) (s n : Option ℕ) (xs : List (List ℤ))
-    (run : Run) (items : ℕ → List ℤ) (t : ℕ) (resolved : IsResolvedTree r)
+    (run : Run) (untouched : Untouched) (t : ℕ) (resolved : IsResolvedTree r)
     (system : IsSystem (diagram_of r).rows n) (within : IsSystemWithin (diagram_of r).rows s n)
     (is : IsRunOver (diagram_of r) s xs run) (trace : IsTrace (diagram_of r) s xs)
     (none : HasNoLoop (needs_of (diagram_of r))) (below : t < length xs) where
@@ -51,7 +51,7 @@ module _ (own : HeaderIsOfOwnRows) (typed : SystemsAreTyped) (r : ResolvedTree) 
   d = diagram_of r
 
   abbrev m : LocalTick
-  m = tick_at d s xs run n items t
+  m = tick_at d s xs run n untouched t
 
   own-typed : IsTypedSystem d n m.tick
   own-typed = typed r s n xs run t resolved system within is trace none below
@@ -140,8 +140,8 @@ module _ (own : HeaderIsOfOwnRows) (typed : SystemsAreTyped) (r : ResolvedTree) 
       }
 
 pub ticks_are_typed : HeaderIsOfOwnRows → SystemsAreTyped → TicksAreTyped
-ticks_are_typed own typed r s n local xs run items t resolved system within is_local is trace none below =
+ticks_are_typed own typed r s n local xs run untouched t resolved system within is_local is trace none below =
     let d = diagram_of r in
-    subst (λ (l : LocalSystem). IsTypedTick l (tick_at d s xs run n items t)) (sym is_local.is_local)
-    (whole own typed r s n xs run items t resolved system within is trace none below is_local.headers
+    subst (λ (l : LocalSystem). IsTypedTick l (tick_at d s xs run n untouched t)) (sym is_local.is_local)
+    (whole own typed r s n xs run untouched t resolved system within is trace none below is_local.headers
     (λ h inside. child-header d n is_local.headers is_local.are_headers h inside))
