@@ -1,6 +1,6 @@
 -- The start and the reset of an instance, from any fields of its struct's form: what each makes of
 -- them.
-use Rattle.std.specs.Prelude.{◌≡◌, ◌⊎◌, ℕ, ◌+◌, ◌≤◌, List, [], ◌∷◌, map, sum_by, slice_index_or, pos, ⊤}
+use Rattle.std.specs.Prelude.{◌≡◌, ◌⊎◌, ℕ, ◌+◌, ◌≤◌, List, [], ◌∷◌, map, length, sum_by, slice_index_or, pos, ⊤}
 use Rattle.mc_profile.specs.LocalSystem.{LocalSystem}
 use Rattle.c_machine.specs.Cells.{Cell, number, object, Cells, no_cells, more_cells, cell_fields}
 use Rattle.c_machine.specs.Values.{step_limit}
@@ -74,7 +74,7 @@ AllSlots P (s ∷ slots) (more_cells b before) (more_cells c after) =
     P s b c × AllSlots P slots before after
 
 -- A system's procedure makes this of its own fields, wherever those of its children renew theirs;
--- its own steps are within the budget.
+-- its own steps are within the budget, and no more than one for each field.
 pub record RenewsOwn (local : LocalSystem) (slots : List Slot) (children : List Renewal)
     (IsSo : Slot → Cell → Cell → Type 0) (q : Offered) : Type 0 where
   pub own : Renewal
@@ -82,4 +82,5 @@ pub record RenewsOwn (local : LocalSystem) (slots : List Slot) (children : List 
   pub becomes : (before : Cells) → HasForms own.forms before →
       AllSlots IsSo slots before (own.renewed before)
   pub most : own.most ≤ own_budget local + sum_by (λ (n : Renewal). n.most) children
+  pub short : own.most ≤ length slots + sum_by (λ (n : Renewal). n.most) children
   pub renews : Renews q own
