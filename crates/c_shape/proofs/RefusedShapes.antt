@@ -1,5 +1,5 @@
 -- Codes that differ in one thing from that of a child that passes its input on haven't the shape of a system's code.
-use Rattle.std.specs.Prelude.{◌≡◌, refl, ℕ, zero, suc, ◌≤◌, ◌==◌, false, List, [], ◌∷◌, length, slice_index_or, Contains, codes}
+use Rattle.std.specs.Prelude.{◌≡◌, refl, ℕ, zero, suc, ◌<◌, ◌≤◌, ◌==◌, false, List, [], ◌∷◌, length, slice_index_or, Contains, codes}
 use Rattle.std.specs.Fmt.{digits}
 use Rattle.std.proofs.Common.{sym, ap, arith, ◌∙◌, true≢false}
 use Rattle.std.proofs.lemmas.Bool.{eq-eqb}
@@ -9,7 +9,7 @@ use Rattle.c_shape.specs.NamedLeaf.{NamedLeaf, param, own, child}
 use Rattle.c_shape.specs.LocalShape.{HasLocalShape}
 use Rattle.c_shape.specs.SystemTree.{SystemTree}
 use Rattle.c_shape.specs.TinySamples.{x1, y1, inner_slots}
-use Rattle.c_shape.specs.RefusedShapes.{longer_struct, stored_by_two, reads_parameter, tests_value, named_otherwise, passes_number, gives_nothing}
+use Rattle.c_shape.specs.RefusedShapes.{longer_struct, stored_by_two, reads_parameter, tests_value, named_otherwise, passes_number, gives_nothing, idle_group, idle_counter, idle_slots}
 
 apart : (a b : ℕ) → (a == b) ≡ false → a ≡ b → ⊥
 apart a b differ e = true≢false (sym (eq-eqb a b e) ∙ differ)
@@ -74,3 +74,23 @@ other_name h = apart 104 103 refl (ap (λ (name : List ℕ). slice_index_or name
 passed_number : HasShapeOfChild passes_number → ⊥
 unfolding digits
 passed_number h = cc h.rules.1.0.calls.0.0.1
+
+-- ---- What nothing uses
+
+uncalled : HasShapeOfChild idle_group → ⊥
+unfolding digits
+uncalled h = let called : 0 < 0 = h.used.called.1.1.1.1.1.0 in omega arith
+
+-- the number of the only counter that is read, as a letter
+no-second : Contains (own (codes "k0") ∷ []) (own (codes "k1")) → ⊥
+no-second (zero, below, is) = apart 48 49 refl (ap (λ (leaf : NamedLeaf). second leaf) is)
+  where
+    second : NamedLeaf → ℕ
+    second (own name) = slice_index_or name 1 0
+    second (param name) = 0
+    second (child field inner) = 0
+no-second (suc k, below, is) = omega arith
+
+unread : HasLocalShape inner_local inner_profile idle_slots idle_counter → ⊥
+unfolding digits
+unread h = no-second h.used.read.1.0

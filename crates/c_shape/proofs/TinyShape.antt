@@ -44,4 +44,5 @@ child_has_shape = record {
     ),
   );
   once = record { values = (lit≤ tt, (lit≤ tt, tt)); functions = tt; updates = tt };
+  used = record { called = (lit< tt, (tt, (tt, (tt, (tt, tt))))); read = ((0, lit< tt, refl), tt) };
 }

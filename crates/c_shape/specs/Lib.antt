@@ -7,6 +7,7 @@ pub mod CodeNames
 pub mod Reads
 pub mod Rules
 pub mod Once
+pub mod Used
 pub mod Stored
 pub mod Slots
 pub mod Relocation

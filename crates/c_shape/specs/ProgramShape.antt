@@ -1,5 +1,5 @@
 -- The shape of a program for a diagram: each system in a struct and procedures of its own.
-use Rattle.std.specs.Prelude.{◌≡◌, ℕ, not, Bool, List, ◌∷◌, map, filter, IsPermutation, Option}
+use Rattle.std.specs.Prelude.{◌≡◌, ℕ, not, Bool, List, ◌∷◌, map, filter, Contains, IsPermutation, Option}
 use Rattle.std.specs.List.{AllByRecursion}
 use Rattle.mc_diagram.specs.Diagram.{Diagram}
 use Rattle.mc_profile.specs.SystemProfile.{SystemProfile}
@@ -11,13 +11,16 @@ use Rattle.mc_profile.specs.Locals.{local_of, own_header}
 use Rattle.mc_profile.specs.NodeFacts.{AreHeaders}
 use Rattle.c_syntax.specs.declared.FieldKind.{FieldKind}
 use Rattle.c_syntax.specs.declared.FieldKind.TheVariants.{Number, Array, Struct}
-use Rattle.c_syntax.specs.Tree.{ProgramTree}
+use Rattle.c_syntax.specs.Lawful.{pure_without_lines}
+use Rattle.c_syntax.specs.Tree.{PureTree, ProgramTree}
+use Rattle.c_prelude.specs.Bodies.{function_trees}
 use Rattle.c_shape.specs.Names.{root_name}
 use Rattle.c_shape.specs.Heads.{head_of, public_heads}
 use Rattle.c_shape.specs.CodeNames.{NamedKind, NamedField, number_kind, array_kind, struct_kind, named_fields}
 use Rattle.c_shape.specs.Rules.{KeepsRules}
 use Rattle.c_shape.specs.Once.{StatesOnce}
 use Rattle.c_shape.specs.Slots.{Slot, slot_field, counters_in, AreSlots}
+use Rattle.c_shape.specs.Used.{AreUsed}
 use Rattle.c_shape.specs.Programs.{struct_at, names_in, procedures_of, struct_place}
 use Rattle.c_shape.specs.RootCode.{HasRootCode}
 
@@ -52,8 +55,9 @@ abbrev pub viewed : {d : Diagram} {delays : List Bool} {s : Option ℕ} → Syst
     LocalSystem
 viewed {d} {delays} {s} view = local_of d delays s view.headers
 
--- The code of the system s: its struct, its public procedures, and what its procedures touch. In
--- these words there is nothing of the rows of another system but the headers of the children.
+-- The code of the system s: its struct, its public procedures, what its procedures touch, and that
+-- none of its own is idle. In these words there is nothing of the rows of another system but the
+-- headers of the children.
 pub record HasSystemShape (p : ProgramTree) (d : Diagram) (delays : List Bool)
     (s : Option ℕ) : Type 0 where
   pub view : SystemView d delays s
@@ -67,9 +71,16 @@ pub record HasSystemShape (p : ProgramTree) (d : Diagram) (delays : List Bool)
       (procedures_of p (struct_place p s))
   pub once : StatesOnce (names_in p (struct_place p s)) (viewed view)
       (procedures_of p (struct_place p s))
+  pub used : AreUsed (names_in p (struct_place p s)) (counters_in fields.slots)
+      (procedures_of p (struct_place p s))
+
+-- pure functions are among the eight, whatever lines they stand on
+abbrev pub AreOfPrelude : List PureTree → Type 0
+AreOfPrelude = AllByRecursion (λ f. Contains function_trees (pure_without_lines f))
 
 -- the shape of a program for a diagram whose hits repeat after `hyper` ticks
 pub record HasShape (p : ProgramTree) (d : Diagram) (delays : List Bool) (hyper : ℕ) : Type 0 where
+  pub pures : AreOfPrelude p.pures
   pub structs : IsPermutation (root_name ∷ map system_name (systems d.rows))
       (map (λ st. st.name) p.structs)
   pub each : AllByRecursion (HasSystemShape p d delays) (systems d.rows)

@@ -6,9 +6,11 @@ use Rattle.c_syntax.specs.declared.FieldKind.TheVariants.{Number}
 use Rattle.c_syntax.specs.declared.Leaf.TheVariants.{Param, Own}
 use Rattle.c_syntax.specs.declared.Target.TheVariants.{Own as OnSelf}
 use Rattle.c_syntax.specs.Tree.{ExprTree, literal, read, compare, assign, branch, call, no_stmts, exprs_of_list, stmts_of_list, StmtTree, ProcedureTree}
+use Rattle.c_shape.specs.Names.{counter_name}
 use Rattle.c_shape.specs.Heads.{now_param}
+use Rattle.c_shape.specs.Slots.{Slot, counter, slot_field}
 use Rattle.c_shape.specs.SystemTree.{SystemTree}
-use Rattle.c_shape.specs.TinySamples.{input_param, inner_procedure, zeros, child_code}
+use Rattle.c_shape.specs.TinySamples.{x1, y1, inner_slots, input_param, inner_procedure, zeros, child_code}
 
 -- the code by the statements of its function, of its update, and its group
 abbrev with_bodies : (group : ProcedureTree) (on_out on_update : List StmtTree) → SystemTree
@@ -88,3 +90,27 @@ passes_number =
 -- the function stores nothing, and the update calls the group
 abbrev pub gives_nothing : SystemTree
 gives_nothing = with_bodies right_group [] (calls_group ++ zeros (2 ∷ []))
+
+-- a second group that nothing calls
+abbrev pub idle_group : SystemTree
+idle_group = record {
+  structure = child_code.structure;
+  outputs = child_code.outputs;
+  procedures =
+      child_code.procedures ++ group (codes "s2_g1") (read (Own 2)) (read (Own 0)) ∷ [];
+}
+
+-- a second counter that no test reads, in the struct and among the slots
+abbrev pub idle_counter : SystemTree
+idle_counter = record {
+  structure =
+      record {
+        name = child_code.structure.name;
+        fields = child_code.structure.fields ++ slot_field (counter (counter_name 1) U8) ∷ [];
+      };
+  outputs = child_code.outputs;
+  procedures = child_code.procedures;
+}
+
+abbrev pub idle_slots : List Slot
+idle_slots = inner_slots x1 y1 ++ counter (counter_name 1) U8 ∷ []

@@ -99,15 +99,13 @@ BeginsTick p q (assign line f value) =
     ((names_in p q.of).own f ≡ now_name) × (literal_number value ≡ pos 0)
 BeginsTick p q _ = ⊥
 
--- a tick: each function of `top` in some order, its update, each output in some order, and the move
--- to the next tick
-pub record IsTickOf (d : Diagram) (top : SystemHeader) (steps : List RootStep) : Type 0 where
-  pub functions : List Head
-  pub each_function : IsPermutation (out_heads top) functions
-  pub outputs : List (ℕ × ℕ)
-  pub each_output : IsPermutation (enumerate_from 1 (outports_of d.rows None)) outputs
-  pub in_order : steps ≡ map calls functions ++ calls (update_head top)
-      ∷ map (λ o. copies o.0 o.1) outputs ++ moves_on ∷ []
+-- a tick: each function of `top` by number, its update, each output by port, and the move to the
+-- next tick
+abbrev pub tick_steps : Diagram → SystemHeader → List RootStep
+tick_steps d top =
+    map calls (out_heads top) ++ calls (update_head top)
+    ∷ map (λ (o : ℕ × ℕ). copies o.0 o.1) (enumerate_from 1 (outports_of d.rows None))
+    ++ moves_on ∷ []
 
 -- `struct root` has the tick, the outputs and `top`; `root_start` starts `top`, makes the tick 0,
 -- and stores nothing else; `root_step` takes the inputs and does the steps of a tick
@@ -133,6 +131,5 @@ pub record HasRootCode (p : ProgramTree) (d : Diagram) (hyper : ℕ) : Type 0 wh
   pub starts : AllZip (Does p hyper start)
       (calls (Rattle.c_shape.specs.Heads.start_head (header_of d None profile)) ∷ [])
       (filter (λ st. not (is_literal_store st)) (list_of_stmts start.body))
-  pub steps : List RootStep
-  pub are_steps : IsTickOf d (header_of d None profile) steps
-  pub does : AllZip (Does p hyper step) steps (list_of_stmts step.body)
+  pub does : AllZip (Does p hyper step) (tick_steps d (header_of d None profile))
+      (list_of_stmts step.body)
