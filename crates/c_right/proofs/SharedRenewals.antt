@@ -1,5 +1,5 @@
 -- The program of a root and its shared child starts and resets each system right, whatever its fields hold.
-use Rattle.std.specs.Prelude.{◌≡◌, refl, ℕ, ◌≤◌, [], ◌∷◌, Option, Some, None, pos}
+use Rattle.std.specs.Prelude.{◌≡◌, refl, ℕ, ◌≤◌, [], ◌∷◌, Option, Some, None}
 use Rattle.std.specs.Fmt.{digits}
 use Rattle.std.proofs.Common.{sym, ap, ap₂, subst, inr, lit≤, true≢false}
 use Rattle.mc_profile.specs.LocalSamples.{shared_child}
@@ -9,7 +9,7 @@ use Rattle.c_syntax.specs.Tree.{ProgramTree}
 use Rattle.c_machine.specs.Machine.{routine_at, program_routines}
 use Rattle.c_shape.specs.Names.{start_name, reset_name}
 use Rattle.c_shape.specs.Programs.{procedure_place, struct_place}
-use Rattle.c_simulation.specs.Forms.{Form, Forms, holds_number, holds_array, holds_instance, holds_nothing, no_forms, more_forms, HasForm, HasForms, forms_of}
+use Rattle.c_simulation.specs.Forms.{Form, Forms, holds_number, holds_array, holds_instance, no_forms, more_forms, HasForm, HasForms, forms_of}
 use Rattle.c_simulation.specs.Instances.{OnDone}
 use Rattle.c_right.specs.Anew.{field_count, AreStarted, AreReset, HoldsInside, FromAnyFields}
 use Rattle.c_right.specs.SharedSamples.{shared_program}
@@ -26,7 +26,6 @@ abbrev mutual
   spelled_cell (holds_number type) c = number (cell_value c)
   spelled_cell (holds_array type count) c = items (cell_items c)
   spelled_cell (holds_instance fields) c = object (spelled fields (cell_fields c))
-  spelled_cell holds_nothing c = number (pos 0)
 
   -- the numbers of these fields, in fields of the form
   pub spelled : Forms → Cells → Cells
@@ -44,9 +43,6 @@ mutual
   spelled_cell-is (holds_instance fields) (number v) h = absurd h
   spelled_cell-is (holds_instance fields) (items vs) h = absurd h
   spelled_cell-is (holds_instance fields) (object cells) h = ap object (spelled-is fields cells h)
-  spelled_cell-is holds_nothing (number v) h = ap number (sym h)
-  spelled_cell-is holds_nothing (items vs) h = absurd h
-  spelled_cell-is holds_nothing (object cells) h = absurd h
 
   -- fields of the form are these
   pub spelled-is : (forms : Forms) (cells : Cells) → HasForms forms cells → spelled forms cells ≡ cells
