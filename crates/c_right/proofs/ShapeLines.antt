@@ -18,9 +18,10 @@ use Rattle.mc_profile.specs.Systems.{systems, system_name}
 use Rattle.mc_profile.specs.Locals.{own_header}
 use Rattle.c_syntax.specs.declared.Target.{Target}
 use Rattle.c_syntax.specs.declared.Target.TheVariants.{Own, Child}
-use Rattle.c_syntax.specs.Tree.{ExprTree, StmtTree, assign, assign_at, branch, call, StmtTrees, no_stmts, more_stmts, list_of_stmts, list_of_exprs, StructTree, struct_fields, no_struct, ParamTree, ProcedureTree, ProgramTree}
+use Rattle.c_syntax.specs.Tree.{ExprTree, StmtTree, assign, assign_at, branch, call, StmtTrees, no_stmts, more_stmts, list_of_stmts, list_of_exprs, StructTree, struct_fields, no_struct, ParamTree, PureTree, ProcedureTree, ProgramTree}
 use Rattle.c_syntax.specs.RootFields.{root_struct}
-use Rattle.c_syntax.specs.Lawful.{stmt_without_lines, stmts_without_lines, procedure_without_lines, without_lines}
+use Rattle.c_syntax.specs.Lawful.{stmt_without_lines, stmts_without_lines, pure_without_lines, procedure_without_lines, without_lines}
+use Rattle.c_prelude.specs.Bodies.{function_trees}
 use Rattle.c_shape.specs.NamedLeaf.{NamedLeaf, param, own, child}
 use Rattle.c_shape.specs.Names.{value_name, port_name, start_name, reset_name, update_name, group_name, now_name, output_name, root_name}
 use Rattle.mc_profile.specs.Headers.{header_of}
@@ -29,12 +30,13 @@ use Rattle.c_shape.specs.Heads.{Head, head_of, out_heads, public_heads}
 use Rattle.c_shape.specs.CodeNames.{CodeNames, named_fields, named_leaves, IsReadOf}
 use Rattle.c_shape.specs.Reads.{StoreSite, IndexSite, CallSite, stmt_stores, stores_in, stmt_tests, tests_in, stmt_calls, calls_in, stmt_indices, indices_in, expr_leaves, cond_leaves, cond_indices}
 use Rattle.c_shape.specs.Rules.{parameter_names, passed, IsRightCall, store_reads, index_reads, test_reads, KeepsRules}
-use Rattle.c_shape.specs.Once.{of_ticks, StatesOnce}
+use Rattle.c_shape.specs.Once.{of_ticks, call_sites, StatesOnce}
+use Rattle.c_shape.specs.Used.{tested_in, AreUsed}
 use Rattle.c_shape.specs.Stored.{stored_on, stored_in, stored_names, has_stored}
 use Rattle.c_shape.specs.Slots.{counters_in}
 use Rattle.c_shape.specs.Programs.{procedure_at, no_procedure, field_in, no_field, kind_fields, names_in, procedures_of, struct_place}
 use Rattle.c_shape.specs.Faces.{out_places, stores, takes, HasLeastInterface}
-use Rattle.c_shape.specs.RootCode.{RootStep, calls, copies, moves_on, IsPassed, MovesOn, DoesCall, DoesStore, Does, is_literal_store, BeginsTick, root_fields_of, HasRootCode}
+use Rattle.c_shape.specs.RootCode.{RootStep, calls, copies, moves_on, tick_steps, IsPassed, MovesOn, DoesCall, DoesStore, Does, is_literal_store, BeginsTick, root_fields_of, HasRootCode}
 use Rattle.c_shape.specs.ProgramShape.{viewed, HasSystemShape, HasShape}
 use Rattle.c_right.specs.Anew.{RenewsAll}
 use Rattle.c_right.specs.Right.{AnswersAnyOrder}
@@ -256,6 +258,38 @@ once-alike n local qs rs alike h =
           called h.updates;
     }
 
+tested-alike : (n : CodeNames) (q r : ProcedureTree) → Alike q r → tested_in n q ≡ tested_in n r
+tested-alike n q r alike =
+    (λ i. flat_map (λ test. named_leaves n (same-params q r alike i) (cond_leaves test)) (same-tests q r alike i))
+
+used-alike : (n : CodeNames) (counters : List (List ℕ)) (qs rs : List ProcedureTree) → AllZip Alike qs rs →
+    AreUsed n counters qs → AreUsed n counters rs
+used-alike n counters qs rs alike h = record {
+  called =
+      subst (λ (sites : List CallSite). AllByRecursion
+      (λ (q : ProcedureTree). MatchBool q.private
+      (0 < count_by (λ (c : CallSite). bytes_eq (n.callee c.procedure).name q.name) sites) ⊤) rs)
+      (flat-alike (λ q. calls_in q.body) same-calls qs rs alike)
+      (each-alike (λ q. MatchBool q.private (0 < call_sites n qs q.name) ⊤) (λ q. MatchBool q.private (0 < call_sites n qs q.name) ⊤)
+      (λ q r e one. subst (λ (x : Head). MatchBool x.private (0 < call_sites n qs x.name) ⊤) (same-head q r e) one)
+      qs rs alike h.called);
+  read =
+      subst (λ leaves. AllByRecursion (λ name. Contains leaves (own name)) counters)
+      (flat-alike (tested_in n) (tested-alike n) qs rs alike) h.read;
+}
+
+-- ---- Pure functions
+
+pures-aside : (P : PureTree → Type 0) (fs : List PureTree) → AllByRecursion (λ f. P (pure_without_lines f)) fs →
+    AllByRecursion P (map pure_without_lines fs)
+pures-aside P [] h = tt
+pures-aside P (f ∷ fs) h = (h.0, pures-aside P fs h.1)
+
+pures-from : (P : PureTree → Type 0) (fs : List PureTree) → AllByRecursion P (map pure_without_lines fs) →
+    AllByRecursion (λ f. P (pure_without_lines f)) fs
+pures-from P [] h = tt
+pures-from P (f ∷ fs) h = (h.0, pures-from P fs h.1)
+
 -- ---- What procedures store, themselves or through private ones
 
 module _ (private : ℕ → Bool) (field : ℕ → ℕ → List ℕ) where
@@ -372,6 +406,9 @@ module _ (p q : ProgramTree) (same : without_lines p ≡ without_lines q) where
         once = subst (λ (n : CodeNames). StatesOnce n local (procedures_of q (struct_place q s))) (same-names s)
             (once-alike (names_in p (struct_place p s)) local (procedures_of p (struct_place p s))
             (procedures_of q (struct_place q s)) own h.once);
+        used = subst (λ (n : CodeNames). AreUsed n (counters_in h.fields.slots) (procedures_of q (struct_place q s))) (same-names s)
+            (used-alike (names_in p (struct_place p s)) (counters_in h.fields.slots) (procedures_of p (struct_place p s))
+            (procedures_of q (struct_place q s)) own h.used);
       }
 
 -- ---- The root
@@ -667,16 +704,18 @@ module _ (p q : ProgramTree) (same : without_lines p ≡ without_lines q) (hyper
             (λ step a b e one. does-alike q hyper two.one step a b e
             (moved-step h.start two.one two.one_alike step a one))
             (calls (heads.start_head (header_of d None h.profile)) ∷ []) _ _ others h.starts;
-        steps = h.steps;
-        are_steps = h.are_steps;
         does = zip-stmt (Does p hyper h.step) (Does q hyper two.other)
             (λ step a b e one. does-alike q hyper two.other step a b e
-            (moved-step h.step two.other two.other_alike step a one)) h.steps _ _
+            (moved-step h.step two.other two.other_alike step a one)) (tick_steps d (header_of d None h.profile)) _ _
             (bodies-alike h.step two.other two.other_alike) h.does;
       }
 
   pub shape-alike : (d : Diagram) (delays : List Bool) → HasShape p d delays hyper → HasShape q d delays hyper
   shape-alike d delays h = record {
+    pures =
+        pures-from (Contains function_trees) q.pures
+        (subst (AllByRecursion (Contains function_trees)) (ap (λ (x : ProgramTree). x.pures) same)
+        (pures-aside (Contains function_trees) p.pures h.pures));
     structs =
         subst (λ (ss : List StructTree). IsPermutation (root_name ∷ map system_name (systems d.rows))
         (map (λ st. st.name) ss)) (structs p q same) h.structs;

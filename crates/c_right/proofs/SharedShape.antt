@@ -1,9 +1,7 @@
 -- The program of a root and its shared child has the shape of a program.
-use Rattle.std.specs.Prelude.{◌≡◌, refl, ℕ, zero, suc, ◌+◌, ◌%◌, ◌<◌, List, [], ◌∷◌, ◌++◌, map, Contains, Some, None, pos}
-use Rattle.std.specs.List.{enumerate_from}
+use Rattle.std.specs.Prelude.{◌≡◌, refl, ℕ, zero, suc, ◌+◌, ◌%◌, ◌<◌, List, [], ◌∷◌, map, Contains, Some, None, pos}
 use Rattle.std.specs.Fmt.{digits}
 use Rattle.std.proofs.Common.{subst, arith, lit<, lit≤}
-use Rattle.mc_diagram.specs.Rows.{outports_of}
 use Rattle.mc_profile.specs.Functions.{IsProfileOf}
 use Rattle.mc_profile.specs.SystemHeader.{SystemHeader}
 use Rattle.mc_profile.specs.Headers.{header_of}
@@ -16,10 +14,9 @@ use Rattle.c_syntax.specs.declared.Leaf.TheVariants.{Param, Own, Child}
 use Rattle.c_syntax.specs.Tree.{literal, read, binary}
 use Rattle.c_machine.specs.Values.{Function, gives, eval}
 use Rattle.c_shape.specs.Names.{counter_name}
-use Rattle.c_shape.specs.Heads.{out_heads, update_head}
 use Rattle.c_shape.specs.Programs.{procedure_at}
 use Rattle.c_shape.specs.Slots.{CounterField}
-use Rattle.c_shape.specs.RootCode.{HasRootCode, calls, copies, moves_on, tick, input}
+use Rattle.c_shape.specs.RootCode.{HasRootCode, tick, input}
 use Rattle.c_shape.specs.ProgramShape.{HasSystemShape, HasShape}
 use Rattle.c_right.specs.SharedSamples.{shared_program}
 use Rattle.c_right.proofs.SharedNeeds.{inner_is_profile, outer_is_profile}
@@ -83,6 +80,7 @@ module _ (inner_is : IsProfileOf shared_child (Some 2) inner_profile) (outer_is 
       ),
     );
     once = record { values = (lit≤ tt, (lit≤ tt, tt)); functions = tt; updates = tt };
+    used = record { called = (lit< tt, (tt, (tt, (tt, (tt, tt))))); read = ((0, lit< tt, refl), tt) };
   }
 
   outer_shape : HasSystemShape shared_program shared_child [] None
@@ -234,6 +232,10 @@ module _ (inner_is : IsProfileOf shared_child (Some 2) inner_profile) (outer_is 
       functions = ((refl, tt), tt);
       updates = (refl, tt);
     };
+    used = record {
+      called = (lit< tt, (lit< tt, (lit< tt, (tt, (tt, (tt, (tt, (tt, tt))))))));
+      read = ((0, lit< tt, refl), ((1, lit< tt, refl), ((2, lit< tt, refl), tt)));
+    };
   }
 
   -- the cycle has one tick
@@ -259,18 +261,6 @@ module _ (inner_is : IsProfileOf shared_child (Some 2) inner_profile) (outer_is 
     begins = lit< tt;
     tick_alone = ((refl, refl), tt);
     starts = ((refl, refl, tt), tt);
-    steps = map calls (out_heads (header_of shared_child None outer_profile))
-        ++ calls (update_head (header_of shared_child None outer_profile)) ∷ copies 1 6 ∷ copies 2 7 ∷ moves_on ∷ [];
-    are_steps =
-        record {
-          functions = out_heads (header_of shared_child None outer_profile);
-          each_function = record { moves = []; below = tt; is = refl };
-          outputs =
-              enumerate_from 1 (outports_of shared_child.rows None);
-          each_output =
-              record { moves = []; below = tt; is = refl };
-          in_order = refl;
-        };
     does = (
       (refl, refl, ((_, tick refl, (Own 0, refl, refl)), ((_, input, (Param 0, refl, refl)), tt))),
       (
@@ -303,6 +293,7 @@ module _ (inner_is : IsProfileOf shared_child (Some 2) inner_profile) (outer_is 
   whole_shape : HasShape shared_program shared_child [] 1
   unfolding digits
   whole_shape = record {
+    pures = tt;
     structs = record { moves = (0, 2) ∷ []; below = (lit< tt, lit< tt, tt); is = refl };
     each = (outer_shape, (inner_shape, tt));
     root = root_code;

@@ -1,15 +1,16 @@
 -- A step of `root` that doesn't move the tick on is refused, and a start of it that doesn't make it 0.
-use Rattle.std.specs.Prelude.{◌≡◌, ◌⊎◌, refl, ℕ, ◌<◌, ◌==◌, false, List, [], ◌∷◌, ◌++◌, filter, length, slice_index_or, pos}
+use Rattle.std.specs.Prelude.{◌≡◌, ◌⊎◌, refl, ℕ, ◌<◌, ◌==◌, false, List, [], ◌∷◌, ◌++◌, filter, length, slice_index_or, None, pos}
 use Rattle.std.specs.List.{AllZip}
 use Rattle.std.specs.Fmt.{digits}
 use Rattle.std.proofs.Common.{sym, ap, subst, ◌∙◌, inl, inr, arith, true≢false}
 use Rattle.std.proofs.lemmas.Bool.{eq-eqb}
+use Rattle.mc_profile.specs.Headers.{header_of}
 use Rattle.mc_profile.specs.LocalSamples.{shared_child}
 use Rattle.c_syntax.specs.Tree.{literal, StmtTree, assign, list_of_stmts, ProcedureTree}
 use Rattle.c_syntax.specs.RootFields.{root_struct}
 use Rattle.c_shape.specs.Heads.{Head}
 use Rattle.c_shape.specs.Programs.{procedure_at, procedures_of}
-use Rattle.c_shape.specs.RootCode.{RootStep, moves_on, Does, is_literal_store, HasRootCode}
+use Rattle.c_shape.specs.RootCode.{RootStep, moves_on, tick_steps, Does, is_literal_store, HasRootCode}
 use Rattle.c_right.specs.SharedSamples.{still_tick, leaves_tick}
 use Rattle.c_right.proofs.ShapeLines.{two-orders}
 
@@ -56,12 +57,12 @@ still h = by (two-orders h.start h.step (procedures_of still_tick (root_struct s
     by (inl e) =
         let step : procedure_at still_tick 14 ≡ h.step =
         ap (λ (xs : List ProcedureTree). slice_index_or xs 1 (procedure_at still_tick 14)) e in
-        let does = subst (λ (x : ProcedureTree). AllZip (Does still_tick 1 x) h.steps (list_of_stmts x.body)) (sym step) h.does in
+        let does =
+        subst (λ (x : ProcedureTree). AllZip (Does still_tick 1 x) (tick_steps shared_child (header_of shared_child None h.profile))
+        (list_of_stmts x.body)) (sym step) h.does in
         let moves =
         moves-last (Does still_tick 1 (procedure_at still_tick 14)) _ (assign 0 0 (literal (pos 0)))
-        (list_of_stmts (procedure_at still_tick 14).body)
-        (subst (λ steps. AllZip (Does still_tick 1 (procedure_at still_tick 14)) steps
-        (list_of_stmts (procedure_at still_tick 14).body)) h.are_steps.in_order does) in
+        (list_of_stmts (procedure_at still_tick 14).body) does in
         apart 2 3 refl (ap (λ (name : List ℕ). length name) moves.0)
 
 -- the start of the other has one statement, a call

@@ -1,9 +1,7 @@
 -- The sample of whole right code has the shape of a program.
-use Rattle.std.specs.Prelude.{◌≡◌, refl, ℕ, zero, suc, ◌+◌, ◌%◌, ◌<◌, List, [], ◌∷◌, ◌++◌, map, Contains, Some, None, pos}
-use Rattle.std.specs.List.{enumerate_from}
+use Rattle.std.specs.Prelude.{◌≡◌, refl, ℕ, zero, suc, ◌+◌, ◌%◌, ◌<◌, List, [], ◌∷◌, Contains, Some, None, pos}
 use Rattle.std.specs.Fmt.{digits}
 use Rattle.std.proofs.Common.{subst, arith, lit<, lit≤}
-use Rattle.mc_diagram.specs.Rows.{outports_of}
 use Rattle.mc_profile.specs.Functions.{IsProfileOf}
 use Rattle.mc_profile.specs.SystemHeader.{SystemHeader}
 use Rattle.mc_profile.specs.Headers.{header_of}
@@ -15,10 +13,9 @@ use Rattle.c_syntax.specs.declared.Leaf.TheVariants.{Param, Own, Child}
 use Rattle.c_syntax.specs.Tree.{literal, read, binary}
 use Rattle.c_machine.specs.Values.{Function, gives, eval}
 use Rattle.c_shape.specs.Names.{counter_name}
-use Rattle.c_shape.specs.Heads.{out_heads, update_head}
 use Rattle.c_shape.specs.Programs.{procedure_at}
 use Rattle.c_shape.specs.Slots.{CounterField}
-use Rattle.c_shape.specs.RootCode.{HasRootCode, calls, copies, moves_on, tick}
+use Rattle.c_shape.specs.RootCode.{HasRootCode, tick}
 use Rattle.c_shape.specs.ProgramShape.{HasSystemShape, HasShape}
 use Rattle.c_right.specs.WholeSamples.{later_five, child_profile, top_profile, child_header, whole_program}
 use Rattle.c_right.proofs.WholeFaces.{child_is_profile, top_is_profile}
@@ -81,6 +78,7 @@ child_shape = record {
     ),
   );
   once = record { values = (lit≤ tt, (lit≤ tt, (lit≤ tt, tt))); functions = tt; updates = tt };
+  used = record { called = (lit< tt, (tt, (tt, (tt, (tt, tt))))); read = ((0, lit< tt, refl), tt) };
 }
 
 top_shape : HasSystemShape whole_program later_five [] None
@@ -177,6 +175,7 @@ top_shape = record {
     ),
   );
   once = record { values = (lit≤ tt, tt); functions = ((refl, tt), tt); updates = (refl, tt) };
+  used = record { called = (lit< tt, (tt, (tt, (tt, (tt, tt))))); read = ((0, lit< tt, refl), tt) };
 }
 
 -- the cycle has one tick
@@ -202,17 +201,6 @@ root_code = record {
   begins = lit< tt;
   tick_alone = ((refl, refl), tt);
   starts = ((refl, refl, tt), tt);
-  steps = map calls (out_heads (header_of later_five None top_profile))
-      ++ calls (update_head (header_of later_five None top_profile)) ∷ copies 1 4 ∷ moves_on ∷ [];
-  are_steps =
-      record {
-        functions = out_heads (header_of later_five None top_profile);
-        each_function = record { moves = []; below = tt; is = refl };
-        outputs =
-            enumerate_from 1 (outports_of later_five.rows None);
-        each_output = record { moves = []; below = tt; is = refl };
-        in_order = refl;
-      };
   does = (
     (refl, refl, ((_, tick refl, (Own 0, refl, refl)), tt)),
     (
@@ -225,6 +213,7 @@ root_code = record {
 pub whole_shape : HasShape whole_program later_five [] 1
 unfolding digits
 whole_shape = record {
+  pures = tt;
   structs = record { moves = (0, 2) ∷ []; below = (lit< tt, lit< tt, tt); is = refl };
   each = (top_shape, (child_shape, tt));
   root = root_code;
