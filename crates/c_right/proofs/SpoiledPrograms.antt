@@ -40,6 +40,10 @@ is_ring_run = (refl, refl, (record { values = refl; memories = refl; triggers = 
 is_child_run : IsRunOver ring_five (Some 0) ([] ∷ []) ring_run
 is_child_run = (refl, refl, (record { values = refl; memories = refl; triggers = refl }, tt))
 
+-- two lists of one number are the same
+the-same : (a b : ℤ) → a ∷ [] ≡ b ∷ [] → a ≡ b
+the-same a b e = ap (λ (vs : List ℤ). slice_index_or vs 0 (pos 0)) e
+
 -- behind a start from fields whose ring holds a 9 the first output is 9, and should be 0
 started_again : Restarts early_ring ring_five 1 → ⊥
 unfolding digits
@@ -47,7 +51,7 @@ started_again h =
     let begun =
     h root_midst
     (refl, (refl, ((refl, ((refl, (refl, (refl, ((refl, (refl, tt)), (refl, (refl, (refl, tt))))))), (refl, tt))), tt))) in
-    values-apart 9 0 refl (ap (λ (vs : List ℤ). slice_index_or vs 0 (pos 0)) (begun.1.traces ([] ∷ []) ring_run (tt, tt) is_ring_run).0.outputs)
+    values-apart 9 0 refl (the-same (pos 9) (pos 0) (begun.1.traces ([] ∷ []) ring_run (tt, tt) is_ring_run).0.outputs)
 
 -- one that reads it where a sample was taken answers the trace, and its ring holds what the delay remembers
 answered_again : OnDone (call_from_outside ring_program 10 [] [] root_midst)
