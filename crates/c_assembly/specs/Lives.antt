@@ -18,7 +18,7 @@ use Rattle.c_simulation.specs.Serving.{Serves}
 use Rattle.c_simulation.specs.Standing.{outer_tick_of}
 use Rattle.c_simulation.specs.Accounts.{log_along, most_along, stored_along}
 use Rattle.c_simulation.specs.Relation.{KeepsRelation}
-use Rattle.c_simulation.specs.RunTicks.{tick_at}
+use Rattle.c_simulation.specs.RunTicks.{Untouched, nothing_untouched, tick_at}
 use Rattle.c_simulation.specs.RunTickLaws.{AreItems}
 use Rattle.c_right.specs.Paths.{place_in, path_inside}
 use Rattle.c_right.specs.Calls.{HasCallsOf}
@@ -38,9 +38,9 @@ function_numbers a v n = range_with_len 1 (length (header_functions (coded_heade
 
 -- A run of the system s over a trace.
 module _ (a : Parts) (v : Views a) (s : Option ℕ) (xs : List (List ℤ)) (run : Run) where
-  -- the tick as the code around the system n meets it; it shows no rings
+  -- the tick as the code around the system n meets it; it shows no rings and no filler
   abbrev pub outer_at : Option ℕ → ℕ → OuterTick
-  outer_at n t = outer_tick_of (v.at n).local (tick_at (diagram a) s xs run n (λ b. []) t)
+  outer_at n t = outer_tick_of (v.at n).local (tick_at (diagram a) s xs run n nothing_untouched t)
 
   -- whether the system around subsystem e is active
   abbrev pub is_around_active : ℕ → ℕ → Bool
@@ -115,11 +115,11 @@ AccountsFollow = (a : Parts) (v : Views a) (s : Option ℕ) (xs : List (List ℤ
     IsTrace (diagram a) s xs → IsRunOver (diagram a) s xs run →
     (place : ℕ) (n : Option ℕ) (stands : slice_get (all_systems a) place ≡ Some n) →
     IsSystemWithin (diagram a).rows s n →
-    (items : ℕ → List ℤ) → AreItems (diagram a) items → (t : ℕ) → t < length xs →
+    (untouched : Untouched) → AreItems (diagram a) untouched.items → (t : ℕ) → t < length xs →
     (children : List InstanceTick) →
     (kept : KeepsRelation (v.at n).local (coded_header (v.at n)) (v.at n).slots
     (v.each place n stands).behaves.held (v.each place n stands).behaves.counted a.hyper
-    (tick_at (diagram a) s xs run n items t) (offer_of a v n) children) →
+    (tick_at (diagram a) s xs run n untouched t) (offer_of a v n) children) →
     ((k : ℕ) (u : ChildUse) → slice_get (v.at n).local.children k ≡ Some u →
     Serves (coded_header (v.at u.header.row)) (offer_of a v u.header.row) a.hyper
     (outer_at a v s xs run u.header.row t) (instance_at children k)) →
