@@ -1,5 +1,5 @@
 -- The forms of a struct's fields are told by those of the structs before it.
-use Rattle.std.specs.Prelude.{◌≡◌, ℕ, zero, suc, ◌+◌, ◌<◌, ⊤, List, [], ◌∷◌, ◌++◌, map, length, slice_index_or, if◌then◌else◌, bytes_eq, refl}
+use Rattle.std.specs.Prelude.{◌≡◌, ℕ, zero, suc, ◌+◌, ◌<◌, ⊤, List, [], ◌∷◌, ◌++◌, map, length, slice_index_or, refl}
 use Rattle.std.specs.List.{AllByRecursion}
 use Rattle.std.proofs.Common.{sym, ap, ap₂, subst, ◌∙◌, arith}
 use Rattle.std.proofs.Math.Seq.{get_or-append_seam}
@@ -7,8 +7,7 @@ use Rattle.std.proofs.lemmas.List.{get_or_append_left, get_or_past, length-appen
 use Rattle.c_syntax.specs.declared.FieldKind.{FieldKind}
 use Rattle.c_syntax.specs.declared.FieldKind.TheVariants.{Number, Array, Struct}
 use Rattle.c_syntax.specs.Tree.{FieldTree, StructTree, struct_fields}
-use Rattle.c_shape.specs.Names.{filler_name}
-use Rattle.c_simulation.specs.Forms.{Form, Forms, no_forms, more_forms, holds_instance, holds_nothing, forms_of, kind_form, field_form, struct_forms}
+use Rattle.c_simulation.specs.Forms.{Forms, no_forms, more_forms, holds_instance, forms_of, kind_form, field_form, struct_forms}
 
 -- an instance is one of an earlier struct
 abbrev pub IsEarlierKind : ℕ → FieldKind → Type 0
@@ -37,9 +36,7 @@ module _ (one two : List Forms) (n : ℕ) (same : (k : ℕ) → k < n → slice_
   fields-agree : (fields : List FieldTree) → AreEarlier n fields →
       forms_of (map (field_form one) fields) ≡ forms_of (map (field_form two) fields)
   fields-agree [] earlier = refl
-  fields-agree (f ∷ fields) earlier =
-      ap₂ more_forms (ap (λ (form : Form). if bytes_eq f.name filler_name then holds_nothing else form) (kind-agrees f.kind earlier.0))
-      (fields-agree fields earlier.1)
+  fields-agree (f ∷ fields) earlier = ap₂ more_forms (kind-agrees f.kind earlier.0) (fields-agree fields earlier.1)
 
 forms-behind : (earlier : List Forms) (structs : List StructTree) (j : ℕ) → AreEarlier (length earlier + j) (struct_fields structs j) →
     slice_index_or (struct_forms earlier structs) (length earlier + j) no_forms

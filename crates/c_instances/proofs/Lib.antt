@@ -1,7 +1,6 @@
 mod Lists
-mod FillerName
 mod ZeroFields
-mod ProgramZeros
+mod ProgramFields
 mod EarlierForms
 mod ChildStructs
 mod SlotForms

@@ -23,7 +23,7 @@ use Rattle.c_assembly.specs.Places.{SystemsHavePlaces, RootStandsLast}
 use Rattle.c_assembly.specs.Root.{top_place, HasPath, HasInstance, InstancesHavePaths}
 use Rattle.c_instances.specs.Inside.{HasInside, InstancesHavePathsInside}
 use Rattle.c_instances.proofs.Lists.{all-both, all-mapped, position-behind}
-use Rattle.c_instances.proofs.ProgramZeros.{now_field, output_field, top_field}
+use Rattle.c_instances.proofs.ProgramFields.{now_field, output_field, top_field}
 use Rattle.c_instances.proofs.EarlierForms.{AreEarlier, IsEarlierKind, forms-at-place}
 use Rattle.c_instances.proofs.ChildStructs.{code-below}
 use Rattle.c_instances.proofs.FieldForms.{field-there, inner-fields}

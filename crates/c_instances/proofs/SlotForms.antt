@@ -1,23 +1,21 @@
 -- The fields of a system's struct hold what its slots do.
-use Rattle.std.specs.Prelude.{◌≡◌, ℕ, ◌<◌, List, [], ◌∷◌, map, slice_get, slice_index_or, if◌then◌else◌, Contains, Option, Some, refl}
+use Rattle.std.specs.Prelude.{◌≡◌, ℕ, ◌<◌, List, [], ◌∷◌, map, slice_get, slice_index_or, Contains, Option, Some, refl}
 use Rattle.std.proofs.Common.{sym, ap, ap₂, subst, ◌∙◌}
 use Rattle.std.proofs.lemmas.Option.{get_or_from_slice_get}
 use Rattle.mc_profile.specs.declared.ChildUse.{ChildUse}
 use Rattle.mc_profile.specs.Systems.{system_name}
 use Rattle.mc_profile.proofs.lemmas.Members.{in-first, in-rest, at-map}
-use Rattle.c_syntax.specs.declared.CType.TheVariants.{I32}
 use Rattle.c_syntax.specs.Tree.{StructTree, struct_fields}
 use Rattle.c_shape.specs.Slots.{Slot, value, memory, ring_items, ring_place, ring_taken, trigger, counter, instance, filler, slot_field}
 use Rattle.c_shape.specs.SystemTree.{SystemTree}
 use Rattle.c_shape.specs.Programs.{struct_place}
 use Rattle.c_shape.specs.Assembled.{code_named, struct_position}
-use Rattle.c_simulation.specs.Forms.{Forms, no_forms, more_forms, holds_number, holds_instance, holds_nothing, forms_of, slot_form, field_form, struct_forms}
+use Rattle.c_simulation.specs.Forms.{Forms, no_forms, more_forms, holds_instance, forms_of, slot_form, field_form, struct_forms}
 use Rattle.c_simulation.proofs.lemmas.SlotMembers.{slot-is}
 use Rattle.c_right.specs.Anew.{forms_at}
 use Rattle.c_assembly.specs.Parts.{Parts, program_of, all_systems, IsCodedAs, Views}
 use Rattle.c_assembly.specs.Places.{SystemsHavePlaces, FormsAreOfSlots}
-use Rattle.c_instances.proofs.FillerName.{taken-apart, counter-apart, system-apart, IsNamed, slot-named}
-use Rattle.c_instances.proofs.ProgramZeros.{moved_field}
+use Rattle.c_instances.proofs.ProgramFields.{moved_field}
 use Rattle.c_instances.proofs.EarlierForms.{IsEarlierKind, AreEarlier, forms-at-place}
 use Rattle.c_instances.proofs.ChildStructs.{earlier-child}
 
@@ -28,19 +26,17 @@ module _ (codes : List SystemTree) (earlier children : List Forms) where
       slice_index_or earlier (struct_position codes (code_named codes (system_name u.header.row))) no_forms
       ≡ slice_index_or children k no_forms
 
-  form-is : (slot : Slot) → IsNamed slot → ((k : ℕ) (u : ChildUse) → slot ≡ instance k u → IsFound k u) →
+  form-is : (slot : Slot) → ((k : ℕ) (u : ChildUse) → slot ≡ instance k u → IsFound k u) →
       field_form earlier (moved_field codes (slot_field slot)) ≡ slot_form children slot
-  form-is (value r) named found = refl
-  form-is (memory r) named found = refl
-  form-is (ring_items r) named found = refl
-  form-is (ring_place r) named found = refl
-  form-is (ring_taken r) named found = ap (λ b. if b then holds_nothing else holds_number I32) (taken-apart r.row)
-  form-is trigger named found = refl
-  form-is (counter name type) named found = ap (λ b. if b then holds_nothing else holds_number type) (counter-apart name named)
-  form-is (instance k u) named found =
-      let inner : Forms = slice_index_or earlier (struct_position codes (code_named codes (system_name u.header.row))) no_forms in
-      ap (λ b. if b then holds_nothing else holds_instance inner) (system-apart u.header.row) ∙ ap holds_instance (found k u refl)
-  form-is filler named found = refl
+  form-is (value r) found = refl
+  form-is (memory r) found = refl
+  form-is (ring_items r) found = refl
+  form-is (ring_place r) found = refl
+  form-is (ring_taken r) found = refl
+  form-is trigger found = refl
+  form-is (counter name type) found = refl
+  form-is (instance k u) found = ap holds_instance (found k u refl)
+  form-is filler found = refl
 
   forms-are : (slots : List Slot) →
       ((x : Slot) → Contains slots x → field_form earlier (moved_field codes (slot_field x)) ≡ slot_form children x) →
@@ -98,8 +94,7 @@ module _ (places : SystemsHavePlaces) (a : Parts) (v : Views a) (place : ℕ) (s
 
   each-form : (x : Slot) → Contains slots x → field_form all_forms (moved_field a.codes (slot_field x)) ≡ slot_form child_forms x
   each-form x has =
-      form-is a.codes all_forms child_forms x (slot-named (v.at s).local slots known.shape.slots_right x has)
-      (λ k u is. found k u (subst (Contains slots) is has))
+      form-is a.codes all_forms child_forms x (λ k u is. found k u (subst (Contains slots) is has))
 
   pub forms-of-slots : forms_at (program_of a) (struct_place (program_of a) s) ≡ forms_of (map (slot_form child_forms) slots)
   forms-of-slots =

@@ -1,4 +1,4 @@
-use Rattle.c_instances.proofs.ProgramZeros.{zeros_have_forms}
+use Rattle.c_instances.proofs.ZeroFields.{zeros_have_forms}
 use Rattle.c_instances.proofs.laws.zeros_have_forms.Goals as goal
 
 pub returns : goal.returns
