@@ -19,7 +19,7 @@ use Rattle.c_simulation.specs.LocalTicks.{LocalTick, is_active, is_off}
 use Rattle.c_simulation.specs.Instances.{Act, update, reset, none_called, InstanceTick, calls_at}
 use Rattle.c_simulation.specs.Accounts.{log_along, most_along, AreCallsAndUpdate, newly_called, AreActs}
 use Rattle.c_simulation.specs.Serving.{Serves}
-use Rattle.c_simulation.specs.RunTicks.{tick_at}
+use Rattle.c_simulation.specs.RunTicks.{Untouched, tick_at}
 use Rattle.c_simulation.specs.RunTickLaws.{ChildrenMeetTheirTicks}
 use Rattle.c_right.specs.Calls.{IsWholeTick, HasCallsOf}
 use Rattle.c_right.specs.Paths.{path_inside}
@@ -116,13 +116,13 @@ module _ (meet : ChildrenMeetTheirTicks) (a : Parts) (v : Views a) (place : ℕ)
     (stands : slice_get (all_systems a) place ≡ Some n)
     (lawful : IsLocal (v.at n).local) (s : Option ℕ) (xs : List (List ℤ)) (run : Run)
     (within : IsSystemWithin (rows a v place n stands) s n) (is_run : IsRunOver (diagram a) s xs run)
-    (items : ℕ → List ℤ) (t : ℕ) (below : t < length xs) (k : ℕ) (u : ChildUse) (at : slice_get (v.at n).local.children k ≡ Some u) (e : ℕ)
+    (untouched : Untouched) (t : ℕ) (below : t < length xs) (k : ℕ) (u : ChildUse) (at : slice_get (v.at n).local.children k ≡ Some u) (e : ℕ)
     (row : u.header.row ≡ Some e)
     (child : IsChildRow (diagram a).rows n e) (i : InstanceTick)
     (serves : Serves (coded_header (v.at u.header.row)) (offer_of a v u.header.row) a.hyper (outer_at a v s xs run u.header.row t) i)
     (accounts : HasAccounts a v s xs run u.header.row t i) where
   abbrev m : LocalTick
-  m = tick_at (diagram a) s xs run n items t
+  m = tick_at (diagram a) s xs run n untouched t
 
   has-child : Contains (v.at n).local.children u
   has-child = in-at (v.at n).local.children k u at
@@ -137,7 +137,7 @@ module _ (meet : ChildrenMeetTheirTicks) (a : Parts) (v : Views a) (place : ℕ)
   accounts-row = subst (λ o. HasAccounts a v s xs run o t i) row accounts
 
   child-active : is_around_active a v s xs run t e ≡ is_active (v.at n).local m
-  child-active = parent-is a v place n stands meet s xs run within is_run items t below u has-child e row
+  child-active = parent-is a v place n stands meet s xs run within is_run untouched t below u has-child e row
 
   few-functions : suc (length (header_functions (coded_header (v.at (Some e))))) < 2 ^ 64
   few-functions =
@@ -159,12 +159,12 @@ module _ (meet : ChildrenMeetTheirTicks) (a : Parts) (v : Views a) (place : ℕ)
 
   pub reset-limits : IsTrue m.tick.is_off_around → KeepsLimits a v s xs run t e i (reset ∷ []) 0
   reset-limits off = quiet-limits a v s xs run t e i
-      (accounts-row.resets (off-is a v place n stands meet s xs run within is_run items t below u has-child e row
+      (accounts-row.resets (off-is a v place n stands meet s xs run within is_run untouched t below u has-child e row
       ∙ ap (λ b. b || is_off (v.at n).local m) off))
 
   pub reset-log : IsTrue m.tick.is_off_around → i.log none_called reset ≡ []
   reset-log off = (accounts-row.resets
-      (off-is a v place n stands meet s xs run within is_run items t below u has-child e row
+      (off-is a v place n stands meet s xs run within is_run untouched t below u has-child e row
       ∙ ap (λ b. b || is_off (v.at n).local m) off)).calls
 
   module _ (held : ℕ → Node → Bool) (acts : List Act) where
@@ -189,7 +189,7 @@ module _ (meet : ChildrenMeetTheirTicks) (a : Parts) (v : Views a) (place : ℕ)
         CallsRight a v s xs run t e i acts × KeepsLimits a v s xs run t e i acts 1
     resting true rests off is =
         let quiet = accounts-row.resets
-        (off-is a v place n stands meet s xs run within is_run items t below u has-child e row
+        (off-is a v place n stands meet s xs run within is_run untouched t below u has-child e row
         ∙ ap (λ b. m.tick.is_off_around || b) off ∙ or_right m.tick.is_off_around true refl) in
         subst (λ row. CallsRight a v s xs run t e i row × KeepsLimits a v s xs run t e i row 1) (sym is) (
           no-calls a v s xs run t e i (reset ∷ []) (append-nil (i.log none_called reset) ∙ quiet.calls) (child-active ∙ rests)

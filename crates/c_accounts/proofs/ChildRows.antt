@@ -15,7 +15,7 @@ use Rattle.mc_profile.proofs.lemmas.Members.{in-none, in-first, in-rest, in-case
 use Rattle.mc_profile.proofs.lemmas.PortRows.{in-subsystems}
 use Rattle.c_simulation.specs.LocalTicks.{LocalTick, is_active, is_off}
 use Rattle.c_simulation.specs.Instances.{OuterTick}
-use Rattle.c_simulation.specs.RunTicks.{tick_at}
+use Rattle.c_simulation.specs.RunTicks.{Untouched, nothing_untouched, tick_at}
 use Rattle.c_simulation.specs.RunTickLaws.{ChildrenMeetTheirTicks}
 use Rattle.c_simulation.specs.Standing.{child_tick_of}
 use Rattle.c_simulation.proofs.lemmas.ChildTicks.{child-header}
@@ -75,14 +75,14 @@ module _ (a : Parts) (v : Views a) (place : ℕ) (n : Option ℕ) (stands : slic
 
   module _ (meet : ChildrenMeetTheirTicks) (s : Option ℕ) (xs : List (List ℤ)) (run : Run) (within : IsSystemWithin rows s n)
       (is_run : IsRunOver (diagram a) s xs run)
-      (items : ℕ → List ℤ) (t : ℕ) (below : t < length xs) (u : ChildUse) (has : Contains children-of u) where
+      (untouched : Untouched) (t : ℕ) (below : t < length xs) (u : ChildUse) (has : Contains children-of u) where
     abbrev m : LocalTick
-    m = tick_at (diagram a) s xs run n items t
+    m = tick_at (diagram a) s xs run n untouched t
 
     meets : child_tick_of (v.at n).local m u ≡ outer_at a v s xs run u.header.row t
     meets =
         let behind = child-behind u has in
-        meet a.model s n (v.at n).local (v.at u.header.row).local u xs run items (λ b. []) t a.can.resolved within known.local has
+        meet a.model s n (v.at n).local (v.at u.header.row).local u xs run untouched nothing_untouched t a.can.resolved within known.local has
         (v.each behind.inner_place u.header.row behind.stands).local is_run below
 
     pub parent-is : (e : ℕ) → u.header.row ≡ Some e → is_around_active a v s xs run t e ≡ is_active (v.at n).local m

@@ -22,7 +22,7 @@ use Rattle.c_simulation.specs.Accounts.{log_along, stored_along, newly_executed,
 use Rattle.c_simulation.specs.Relation.{KeepsRelation}
 use Rattle.c_simulation.specs.Serving.{Serves}
 use Rattle.c_simulation.specs.Standing.{executed_by, called_in}
-use Rattle.c_simulation.specs.RunTicks.{tick_at}
+use Rattle.c_simulation.specs.RunTicks.{Untouched, tick_at}
 use Rattle.c_simulation.specs.RunTickLaws.{ChildrenMeetTheirTicks}
 use Rattle.c_right.specs.Paths.{place_in}
 use Rattle.c_assembly.specs.Parts.{Parts, program_of, diagram, all_systems, coded_header, Views}
@@ -42,10 +42,10 @@ use Rattle.c_accounts.proofs.InnerAccounts.{calls-in, no-other, stored-in, in-bu
 module _ (fields : FieldsHavePlaces) (meet : ChildrenMeetTheirTicks) (lawful_law : LocalsAreLawful)
     (a : Parts) (v : Views a) (s : Option ℕ) (xs : List (List ℤ)) (run : Run) (is_run : IsRunOver (diagram a) s xs run)
     (place : ℕ) (n : Option ℕ) (stands : slice_get (all_systems a) place ≡ Some n) (within : IsSystemWithin (diagram a).rows s n)
-    (items : ℕ → List ℤ) (t : ℕ) (below : t < length xs) (children : List InstanceTick)
+    (untouched : Untouched) (t : ℕ) (below : t < length xs) (children : List InstanceTick)
     (kept : KeepsRelation (v.at n).local (coded_header (v.at n)) (v.at n).slots (v.each place n stands).behaves.held
     (v.each place n stands).behaves.counted a.hyper
-    (tick_at (diagram a) s xs run n items t) (offer_of a v n) children)
+    (tick_at (diagram a) s xs run n untouched t) (offer_of a v n) children)
     (serve : (k : ℕ) (u : ChildUse) → slice_get (v.at n).local.children k ≡ Some u →
     Serves (coded_header (v.at u.header.row)) (offer_of a v u.header.row) a.hyper (outer_at a v s xs run u.header.row t)
     (instance_at children k))
@@ -61,7 +61,7 @@ module _ (fields : FieldsHavePlaces) (meet : ChildrenMeetTheirTicks) (lawful_law
   slots = (v.at n).slots
 
   abbrev m : LocalTick
-  m = tick_at (diagram a) s xs run n items t
+  m = tick_at (diagram a) s xs run n untouched t
 
   abbrev held : ℕ → Node → Bool
   held = (v.each place n stands).behaves.held
@@ -103,7 +103,7 @@ module _ (fields : FieldsHavePlaces) (meet : ChildrenMeetTheirTicks) (lawful_law
         let child = row-of-child a v place n stands u (in-at local.children k u at) in
         let rows_same : Some child.0 ≡ Some e = sym child.1 ∙ row in
         let same : child.0 ≡ e = cc rows_same in
-        acts-right meet a v place n stands lawful s xs run within is_run items t below k u at e row
+        acts-right meet a v place n stands lawful s xs run within is_run untouched t below k u at e row
         (subst (λ z. IsChildRow (diagram a).rows n z) same child.2) (instance_at children k)
         (serve k u at) (accounts k u at) held (all.sums.acts k)
         (all-left local lawful h held (v.each place n stands).behaves.are_held m k e u at row) (all.are_acts k u at)
@@ -155,7 +155,7 @@ module _ (fields : FieldsHavePlaces) (meet : ChildrenMeetTheirTicks) (lawful_law
         let rows_same : Some child.0 ≡ Some e = sym child.1 ∙ row in
         let same : child.0 ≡ e = cc rows_same in
         subst (λ acts. KeepsLimits a v s xs run t e (instance_at children k) acts 0) (sym (reset-acts k u at))
-        (reset-limits meet a v place n stands lawful s xs run within is_run items t below k u at e row
+        (reset-limits meet a v place n stands lawful s xs run within is_run untouched t below k u at e row
         (subst (λ z. IsChildRow (diagram a).rows n z) same child.2) (instance_at children k)
         (serve k u at) (accounts k u at) off)
 
@@ -184,7 +184,7 @@ module _ (fields : FieldsHavePlaces) (meet : ChildrenMeetTheirTicks) (lawful_law
                 ∙ ap (λ c. log_along (instance_at children k) c (added.acts k)) (no-function k u at_child)
                 ∙ ap (log_along (instance_at children k) none_called) (reset-acts k u at_child)
                 ∙ append-nil ((instance_at children k).log none_called reset)
-                ∙ reset-log meet a v place n stands lawful s xs run within is_run items t below k u at_child child.0 child.1 child.2
+                ∙ reset-log meet a v place n stands lawful s xs run within is_run untouched t below k u at_child child.0 child.1 child.2
                 (instance_at children k) (serve k u at_child) (accounts k u at_child) off
             by (inr none) = added.no_other_log f none
 
@@ -196,9 +196,9 @@ module _ (fields : FieldsHavePlaces) (meet : ChildrenMeetTheirTicks) (lawful_law
             omega (arith, few, same)
 
 pub accounts_follow : FieldsHavePlaces → ChildrenMeetTheirTicks → LocalsAreLawful → AccountsFollow
-accounts_follow fields meet lawful_law a v s xs run is_trace is_run place n stands within items are_items t below children kept
+accounts_follow fields meet lawful_law a v s xs run is_trace is_run place n stands within untouched are_items t below children kept
     serve accounts = record {
-      whole = λ parent js order. whole-tick-of fields meet lawful_law a v s xs run is_run place n stands within items t below children kept
+      whole = λ parent js order. whole-tick-of fields meet lawful_law a v s xs run is_run place n stands within untouched t below children kept
           serve accounts parent js order;
-      resets = λ off. quiet fields meet lawful_law a v s xs run is_run place n stands within items t below children kept serve accounts off;
+      resets = λ off. quiet fields meet lawful_law a v s xs run is_run place n stands within untouched t below children kept serve accounts off;
     }
