@@ -4,6 +4,7 @@ mod NestedRows
 mod InnerSums
 mod SystemPlaces
 mod InnerBudgets
+mod FieldCounts
 mod RenewedSystems
 mod InnerPaths
 mod OwnSlots

@@ -20,7 +20,7 @@ use Rattle.c_simulation.specs.Instances.{Offered, Offer}
 use Rattle.c_simulation.specs.Serving.{IsOfferOf}
 use Rattle.c_simulation.specs.Relation.{own_offer}
 use Rattle.c_simulation.specs.Renewals.{Renewal, no_renewal, Renews, IsStarted, IsReset, AllSlots, RenewsOwn}
-use Rattle.c_right.specs.Anew.{forms_at}
+use Rattle.c_right.specs.Anew.{field_count, forms_at}
 use Rattle.c_assembly.specs.Parts.{Parts, program_of, all_systems, Views}
 use Rattle.c_assembly.specs.Places.{FormsAreOfSlots}
 use Rattle.c_assembly.specs.Offers.{offer_of, child_offers, SystemsOfferTheirs, OffersAreOfHeaders}
@@ -29,6 +29,7 @@ use Rattle.c_renewed.proofs.Everywhere.{all-made, zip-along, zip-made, map-same,
 use Rattle.c_renewed.proofs.Sums.{total, total-is, total-map, total-le}
 use Rattle.c_renewed.proofs.SystemPlaces.{others, child-behind}
 use Rattle.c_renewed.proofs.InnerBudgets.{children-budgets}
+use Rattle.c_renewed.proofs.FieldCounts.{fields-below}
 
 module _ (headers : OffersAreOfHeaders) (offers : SystemsOfferTheirs) (forms : FormsAreOfSlots) (a : Parts) (v : Views a)
     (which : Offer → Offered) (IsSo : LocalSystem → List Renewal → Slot → Cell → Cell → Type 0)
@@ -55,6 +56,7 @@ module _ (headers : OffersAreOfHeaders) (offers : SystemsOfferTheirs) (forms : F
     renews = subst (Renews (which (offer_of a v s))) same is.renews;
     becomes = subst (Becomes s (g s)) children (subst (λ r. Becomes s r (of_children f s)) same is.becomes);
     in_time = subst (λ (r : Renewal). r.most ≤ budget_inside a v s) same is.in_time;
+    short = subst (λ (r : Renewal). r.most ≤ field_count r.forms) same is.short;
   }
 
   -- so are all systems from a place on
@@ -121,13 +123,29 @@ module _ (headers : OffersAreOfHeaders) (offers : SystemsOfferTheirs) (forms : F
         (λ u has. (child-renewed u has).forms))
         ∙ sym (forms a v k s stands)
 
+    children-most : sum_by (λ (r : Renewal). r.most) (of_children renewals s)
+        ≡ total (λ (u : ChildUse). (renewals u.header.row).most) (v.at s).local.children
+    children-most =
+        total-is (λ (r : Renewal). r.most) (of_children renewals s)
+        ∙ total-map (λ (r : Renewal). r.most) (λ (u : ChildUse). renewals u.header.row) (v.at s).local.children
+
+    own-short : made.own.most ≤ field_count made.own.forms
+    own-short =
+        let short = made.short in
+        let sum = children-most in
+        let each = total-le (λ (u : ChildUse). (renewals u.header.row).most) (λ (u : ChildUse). field_count (renewals u.header.row).forms)
+        (v.at s).local.children (λ u has. (child-renewed u has).short) in
+        let below = fields-below (v.at s).local (v.at s).slots (v.each k s stands).shape.slots_right
+        (λ (u : ChildUse). (renewals u.header.row).forms) in
+        let forms = ap field_count (made.forms
+        ∙ ap (λ fs. slot_forms fs (v.at s).slots)
+        (map-map (λ (r : Renewal). r.forms) (λ (u : ChildUse). renewals u.header.row) (v.at s).local.children)) in
+        omega (arith, short, sum, each, below, forms)
+
     own-most : made.own.most ≤ budget_inside a v s
     own-most =
         let most = made.most in
-        let sum : sum_by (λ (r : Renewal). r.most) (of_children renewals s) ≡ total (λ (u : ChildUse). (renewals u.header.row).most)
-        (v.at s).local.children =
-        total-is (λ (r : Renewal). r.most) (of_children renewals s)
-        ∙ total-map (λ (r : Renewal). r.most) (λ (u : ChildUse). renewals u.header.row) (v.at s).local.children in
+        let sum = children-most in
         let each = total-le (λ (u : ChildUse). (renewals u.header.row).most) (λ (u : ChildUse). budget_inside a v u.header.row)
         (v.at s).local.children (λ u has. (child-renewed u has).in_time) in
         let whole = children-budgets a v k s stands in
@@ -141,6 +159,7 @@ module _ (headers : OffersAreOfHeaders) (offers : SystemsOfferTheirs) (forms : F
       becomes = subst (λ r. Becomes s r (of_children extended s)) (sym itself)
           (subst (Becomes s made.own) (children-apart k s (omega arith) stands) made.becomes);
       in_time = subst (λ (r : Renewal). r.most ≤ budget_inside a v s) (sym itself) own-most;
+      short = subst (λ (r : Renewal). r.most ≤ field_count r.forms) (sym itself) own-short;
     }
 
     one-more : AreRenewedFrom k
