@@ -1,5 +1,5 @@
 -- The start and the reset of a system's code renew the fields of its struct.
-use Rattle.std.specs.Prelude.{◌≡◌, ℕ, suc, ◌+◌, ◌-◌, ◌≤◌, Bool, true, false, if◌then◌else◌, List, [], ◌∷◌, map, take, length, slice_get, Contains, Some, refl}
+use Rattle.std.specs.Prelude.{◌≡◌, ℕ, suc, ◌+◌, ◌-◌, ◌≤◌, Bool, true, false, if◌then◌else◌, List, [], ◌∷◌, map, take, length, slice_get, sum_by, Contains, Some, refl}
 use Rattle.std.specs.List.{AllZip}
 use Rattle.std.proofs.Common.{sym, ap, subst, ◌∙◌, arith}
 use Rattle.std.proofs.lemmas.Bool.{le-ltb}
@@ -44,7 +44,7 @@ use Rattle.c_renewal.proofs.MovedFields.{moved_callee, moved-fields}
 use Rattle.c_renewal.proofs.OwnProcedures.{front, starting, resetting, count-is, start-position, reset-position, start-at, reset-at, start-unlogged, reset-unlogged}
 use Rattle.c_renewal.proofs.OwnSlots.{own-slot-is}
 use Rattle.c_renewal.proofs.ProcedurePlaces.{numbered-before, numbered-at, offered_before, offered-at}
-use Rattle.c_renewal.proofs.FieldSteps.{all-fields, insides-are}
+use Rattle.c_renewal.proofs.FieldSteps.{insides, all-fields, few-fields, insides-are}
 use Rattle.c_renewal.proofs.RenewalBudgets.{start-in-budget, reset-in-budget}
 use Rattle.c_renewal.proofs.TypedStarts.{starts-in, small, written-gives}
 use Rattle.c_renewal.proofs.Lists.{at-index, zip-at, length-zip}
@@ -188,6 +188,11 @@ module _ (local : LocalSystem) (profile : SystemProfile) (schedule : SystemSched
       most = fields_steps all local children slots;
     }
 
+    inside-children : insides children slots ≡ sum_by (λ (n : Renewal). n.most) children
+    inside-children = insides-are children local schedule
+        (length-zip (λ u o. IsOfferOf u.header o) local.children offers are
+        ∙ length-zip (λ (o : Offer) n. Renews (pick o) n) offers children renew)
+
     renews-own : is_interface q.name ≡ false → q.body ≡ stmts_of_list (fields_code all local callee 0 slots) →
         length (fields_code all local callee 0 slots) ≤ own_budget local →
         (IsSo : Slot → Cell → Cell → Type 0) → ((s : Slot) (b : Cell) → IsSo s b (renewed_cell all local children s b)) →
@@ -198,10 +203,12 @@ module _ (local : LocalSystem) (profile : SystemProfile) (schedule : SystemSched
       becomes = become all local children IsSo so slots;
       most =
           let steps = all-fields all local callee children slots 0 in
-          let of_children = insides-are children local schedule
-          (length-zip (λ u o. IsOfferOf u.header o) local.children offers are
-          ∙ length-zip (λ (o : Offer) n. Renews (pick o) n) offers children renew) in
+          let of_children = inside-children in
           omega (arith, steps, of_children, long);
+      short =
+          let few = few-fields all local children slots in
+          let of_children = inside-children in
+          omega (arith, few, of_children);
       renews = record {
         does = λ before steps has room.
             subst (λ r. Leaves (r.run [] before steps) (own.renewed before) (steps + own.most)) (sym routine-is)

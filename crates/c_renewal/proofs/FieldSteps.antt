@@ -1,5 +1,5 @@
 -- The steps of a start and of a reset field by field: those of the own statements, and those of the children.
-use Rattle.std.specs.Prelude.{◌≡◌, ℕ, suc, ◌+◌, Bool, true, false, if◌then◌else◌, List, [], ◌∷◌, ◌++◌, map, flat_map, length, sum_by, refl}
+use Rattle.std.specs.Prelude.{◌≡◌, ℕ, suc, ◌+◌, ◌≤◌, Bool, true, false, if◌then◌else◌, List, [], ◌∷◌, ◌++◌, map, flat_map, length, sum_by, refl}
 use Rattle.std.specs.List.{enumerate_from}
 use Rattle.std.proofs.Common.{sym, ap, ap₂, ◌∙◌, arith}
 use Rattle.std.proofs.lemmas.List.{length-append}
@@ -64,6 +64,35 @@ module _ (all : Bool) (local : LocalSystem) (callee : ℕ → ChildUse → ℕ) 
       let rest = all-fields slots (f + 1) in
       let both = length-append (field_code all local callee f s) (fields_code all local callee (f + 1) slots) in
       omega (arith, here, rest, both)
+
+-- ---- At most one step for each field
+
+module _ (all : Bool) (local : LocalSystem) (children : List Renewal) where
+  few-field : (s : Slot) → field_steps all local children s ≤ 1 + inside children s
+  few-field (value r) = by all
+    where
+      by : (t : Bool) → (if t then 1 else 0) ≤ 1
+      by true = omega arith
+      by false = omega arith
+  few-field (memory r) = omega arith
+  few-field (ring_items r) = omega arith
+  few-field (ring_place r) = omega arith
+  few-field (ring_taken r) = omega arith
+  few-field trigger = omega arith
+  few-field (counter name type) = by all
+    where
+      by : (t : Bool) → (if t then 1 else 0) ≤ 1
+      by true = omega arith
+      by false = omega arith
+  few-field (instance k u) = omega arith
+  few-field filler = omega arith
+
+  pub few-fields : (slots : List Slot) → fields_steps all local children slots ≤ length slots + insides children slots
+  few-fields [] = omega arith
+  few-fields (s ∷ slots) =
+      let here = few-field s in
+      let rest = few-fields slots in
+      omega (arith, here, rest)
 
 -- ---- The steps of children
 
