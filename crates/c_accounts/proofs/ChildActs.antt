@@ -27,11 +27,14 @@ use Rattle.c_assembly.specs.Parts.{Parts, program_of, diagram, all_systems, code
 use Rattle.c_assembly.specs.Offers.{offer_of}
 use Rattle.c_assembly.specs.Starts.{budget_inside}
 use Rattle.c_assembly.specs.Lives.{whole_tick, function_numbers, outer_at, is_around_active, StoredAtMost, IsWhole, IsQuiet, HasAccounts}
-use Rattle.c_accounts.proofs.SystemsUnder.{IsChildRow, inside-under, under-rests}
+use Rattle.c_assembly.proofs.lemmas.AssembledPlaces.{member, all-made}
+use Rattle.c_assembly.proofs.lemmas.ChildRows.{rows, nested, child-behind}
+use Rattle.c_assembly.proofs.lemmas.SystemsUnder.{IsChildRow, inside-under}
 use Rattle.c_accounts.proofs.ProgramNames.{row-is}
 use Rattle.c_accounts.proofs.OutPlaces.{count-is}
 use Rattle.c_accounts.proofs.OwnCalls.{whole-tick}
-use Rattle.c_accounts.proofs.ChildRows.{member, all-made, rows, nested, child-behind, parent-is, off-is}
+use Rattle.c_accounts.proofs.RestingSystems.{under-rests}
+use Rattle.c_accounts.proofs.ChildTicks.{parent-is, off-is}
 
 module _ (a : Parts) (v : Views a) (s : Option ℕ) (xs : List (List ℤ)) (run : Run) (t : ℕ) where
   -- the calls of these acts inside the instance of subsystem e

@@ -31,10 +31,11 @@ use Rattle.c_assembly.specs.Lives.{is_around_active, StoredAtMost}
 use Rattle.c_accounts.proofs.Sums.{total, total-is, total-map, total-le}
 use Rattle.c_accounts.proofs.Logs.{calls-inside}
 use Rattle.c_accounts.proofs.AlongTick.{Sums, child-at, sum-same}
-use Rattle.c_accounts.proofs.SystemsUnder.{IsChildRow, Under, inside-cases, under-inside, own-inside, more-inside, inside-under, way-to-child, way-through-child}
+use Rattle.c_assembly.proofs.lemmas.SystemsUnder.{IsChildRow, Under, inside-cases, under-inside, own-inside, more-inside, inside-under, way-to-child, way-through-child}
 use Rattle.c_accounts.proofs.SumsInside.{sum-inside}
 use Rattle.c_accounts.proofs.SlotPlaces.{child-slot, value-slot, child-of-slot, slot-cases}
-use Rattle.c_accounts.proofs.ChildRows.{all-made, member, nested, row-of-child, child-of-row}
+use Rattle.c_assembly.proofs.lemmas.AssembledPlaces.{member, all-made}
+use Rattle.c_assembly.proofs.lemmas.ChildRows.{nested, row-of-child, child-of-row}
 use Rattle.c_accounts.proofs.ChildActs.{CallsRight, KeepsLimits}
 
 total-numbered : {A : Type 0} (f : A → ℕ) (n : ℕ) (xs : List A) → total (λ (e : ℕ × A). f e.1) (enumerate_from n xs) ≡ total f xs

@@ -5,13 +5,13 @@ mod ActRows
 mod LeftFunctions
 mod Executed
 mod AlongTick
-mod SystemsUnder
+mod RestingSystems
 mod SumsInside
 mod SlotPlaces
 mod ProgramNames
 mod OutPlaces
 mod OwnCalls
-mod ChildRows
+mod ChildTicks
 mod ChildActs
 mod InnerAccounts
 mod WholeAccounts

@@ -9,7 +9,7 @@ use Rattle.mc_diagram.proofs.lemmas.Tests.{or-cases}
 use Rattle.mc_profile.specs.Systems.{systems_inside}
 use Rattle.mc_profile.proofs.lemmas.Members.{in-at, at-in, in-range, of-range, of-filter}
 use Rattle.c_accounts.proofs.Sums.{total, total-add, total-kept, total-le, counted-at, at-most-one, by-owner}
-use Rattle.c_accounts.proofs.SystemsUnder.{IsChildRow, Under, under-later, inside-under, own-inside, more-inside, child-apart, one-child}
+use Rattle.c_assembly.proofs.lemmas.SystemsUnder.{IsChildRow, Under, under-later, inside-under, own-inside, more-inside, child-apart, one-child}
 
 module _ (rows : List Row) (nested : IsNested rows) (n : Option ℕ) where
   below-all : (x : ℕ) → Contains (row_numbers rows) x → x < length rows

@@ -33,9 +33,10 @@ use Rattle.c_accounts.proofs.Logs.{none-logged}
 use Rattle.c_accounts.proofs.LeftFunctions.{left-first}
 use Rattle.c_accounts.proofs.Executed.{all-left, none-called}
 use Rattle.c_accounts.proofs.AlongTick.{Sums, one-sum, Whole, whole}
-use Rattle.c_accounts.proofs.SystemsUnder.{IsChildRow}
+use Rattle.c_assembly.proofs.lemmas.SystemsUnder.{IsChildRow}
 use Rattle.c_accounts.proofs.SlotPlaces.{child-of-slot, slot-cases}
-use Rattle.c_accounts.proofs.ChildRows.{all-made, row-of-child}
+use Rattle.c_assembly.proofs.lemmas.AssembledPlaces.{all-made}
+use Rattle.c_assembly.proofs.lemmas.ChildRows.{row-of-child}
 use Rattle.c_accounts.proofs.ChildActs.{CallsRight, KeepsLimits, reset-limits, reset-log, acts-right}
 use Rattle.c_accounts.proofs.InnerAccounts.{calls-in, no-other, stored-in, in-budget, ValueAt, value-at}
 

@@ -2,3 +2,5 @@
 pub mod AssembledNames
 pub mod AssembledPlaces
 pub mod AssembledChildren
+pub mod SystemsUnder
+pub mod ChildRows

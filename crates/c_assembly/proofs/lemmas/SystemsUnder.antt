@@ -1,18 +1,12 @@
 -- What is inside a system: its children, and what is under one of them.
-use Rattle.std.specs.Prelude.{◌≡◌, ◌⊎◌, ℕ, zero, suc, ◌<◌, ◌≤◌, true, false, not, ◌||◌, ◌==◌, cond, if◌then◌else◌, List, [], ◌∷◌, ◌++◌, map, filter, reverse, length, Option, Some, None, ℤ, refl}
+use Rattle.std.specs.Prelude.{◌≡◌, ◌⊎◌, ℕ, zero, suc, ◌<◌, ◌≤◌, true, false, not, ◌||◌, ◌==◌, cond, if◌then◌else◌, List, [], ◌∷◌, ◌++◌, map, filter, reverse, length, Option, Some, None, refl}
 use Rattle.std.specs.List.{list_any}
 use Rattle.std.proofs.Common.{sym, ap, subst, ◌∙◌, arith, inl, inr, true≢false, eq-eqb}
 use Rattle.std.proofs.lemmas.Bool.{eqb-true, ne_eqb, or_left, or_right}
 use Rattle.std.proofs.lemmas.List.{reverse-append}
-use Rattle.mc_base.specs.declared.Control.{Control}
-use Rattle.mc_base.specs.declared.Control.TheVariants.{Plain, Enabled, Triggered, Both}
-use Rattle.mc_guards.specs.declared.TrigMem.{TrigMem}
-use Rattle.mc_guards.specs.Activity.{active}
 use Rattle.mc_diagram.specs.declared.table.Row.{Row}
-use Rattle.mc_diagram.specs.Rows.{row_at, control_at, is_subsystem, is_system, outward, enclosing, around, around_inside, is_inside}
+use Rattle.mc_diagram.specs.Rows.{row_at, is_subsystem, is_system, outward, enclosing, around, around_inside, is_inside}
 use Rattle.mc_diagram.specs.WellFormed.{IsNested, IsOwner}
-use Rattle.mc_diagram.specs.Diagram.{Diagram}
-use Rattle.mc_diagram.specs.Run.{trigger_at, enable_value, trigger_value, active_in}
 use Rattle.mc_diagram.specs.RunLaws.{IsSystemWithin}
 use Rattle.mc_diagram.proofs.lemmas.Enclosing.{enclosing-step}
 use Rattle.mc_diagram.proofs.lemmas.Tests.{or-cases}
@@ -53,10 +47,10 @@ none-around rows = by (length rows)
     by (suc n) = refl
 
 module _ (rows : List Row) (nested : IsNested rows) where
-  owner-lower : (x g : ℕ) → x < length rows → (row_at rows x).owner ≡ Some g → (g < x) × (is_subsystem (row_at rows g).kind ≡ true)
+  pub owner-lower : (x g : ℕ) → x < length rows → (row_at rows x).owner ≡ Some g → (g < x) × (is_subsystem (row_at rows g).kind ≡ true)
   owner-lower x g below own = subst (IsOwner rows x) own (nested.owned x below)
 
-  owner-below : (x g : ℕ) → x < length rows → (row_at rows x).owner ≡ Some g → g < length rows
+  pub owner-below : (x g : ℕ) → x < length rows → (row_at rows x).owner ≡ Some g → g < length rows
   owner-below x g below own = let lower = (owner-lower x g below own).0 in omega (arith, lower, below)
 
   pub under-later : (e k x : ℕ) → x < length rows → Under rows e k x → e < x
@@ -66,7 +60,7 @@ module _ (rows : List Row) (nested : IsNested rows) where
       let lower = (owner-lower x g below own).0 in
       let rest = under-later e k g (owner-below x g below own) u in omega (arith, lower, rest)
 
-  around-step : (o : Option ℕ) (x g : ℕ) → x < length rows → (row_at rows x).owner ≡ Some g → is_system o x ≡ false →
+  pub around-step : (o : Option ℕ) (x g : ℕ) → x < length rows → (row_at rows x).owner ≡ Some g → is_system o x ≡ false →
       around rows o x ≡ g ∷ around rows o g
   around-step o x g below own other =
       ap (λ r. if r then [] else enclosing rows o (row_at rows x).owner) other ∙ ap (enclosing rows o) own
@@ -200,9 +194,8 @@ module _ (rows : List Row) (nested : IsNested rows) where
       ap (λ es. map field (reverse (x ∷ es))) (under-around n e k x below child u)
       ∙ ap (map field) (reverse-append (x ∷ around_inside rows (Some e) x) (e ∷ []))
 
-  -- ---- Activity
-
-  system-before : (s n : Option ℕ) (e z : ℕ) → IsSystemWithin rows s n → IsChildRow rows n e → e ≤ z → is_system s z ≡ false
+  -- what stands from a child on is not a system around it
+  pub system-before : (s n : Option ℕ) (e z : ℕ) → IsSystemWithin rows s n → IsChildRow rows n e → e ≤ z → is_system s z ≡ false
   system-before None n e z within child le = refl
   system-before (Some k) n e z within child le = by n refl within
     where
@@ -217,34 +210,6 @@ module _ (rows : List Row) (nested : IsNested rows) where
                 let u = inside-under k (suc f) f (omega arith) below inside in
                 let less = under-later k u.0 f below u.1 in omega (arith, less, equal, lower, le)
           ])
-
--- nothing is active in what is not
-pub at-rest : (control : Control) (memory : TrigMem) (enable trigger : ℤ) → active false control memory enable trigger ≡ false
-at-rest Plain memory enable trigger = refl
-at-rest (Enabled reset) memory enable trigger = refl
-at-rest (Triggered waits_for) memory enable trigger = refl
-at-rest (Both reset waits_for) memory enable trigger = refl
-
-module _ (d : Diagram) (nested : IsNested d.rows) (s n : Option ℕ) (within : IsSystemWithin d.rows s n) (e : ℕ)
-    (child : IsChildRow d.rows n e)
-    (x v : List ℤ) (g : List TrigMem) where
-  pub under-rests : (k z : ℕ) → z < length d.rows → Under d.rows e k z → active_in d s x v g (around d.rows s e) ≡ false →
-      active_in d s x v g (around d.rows s z) ≡ false
-  under-rests zero z below u rests = absurd u
-  under-rests (suc k) z below (inl own) rests =
-      let lower = (owner-lower d.rows nested z e below own).0 in
-      ap (active_in d s x v g) (around-step d.rows nested s z e below own
-      (system-before d.rows nested s n e z within child (omega (arith, lower))))
-      ∙ ap (λ p. active p (control_at d.rows e) (trigger_at g e) (enable_value d s x v g e) (trigger_value d s x v g e)) rests
-      ∙ at-rest (control_at d.rows e) (trigger_at g e) (enable_value d s x v g e) (trigger_value d s x v g e)
-  under-rests (suc k) z below (inr (f, own, u)) rests =
-      let lower = (owner-lower d.rows nested z f below own).0 in
-      let deeper = under-later d.rows nested e k f (owner-below d.rows nested z f below own) u in
-      ap (active_in d s x v g) (around-step d.rows nested s z f below own
-      (system-before d.rows nested s n e z within child (omega (arith, lower, deeper))))
-      ∙ ap (λ p. active p (control_at d.rows f) (trigger_at g f) (enable_value d s x v g f) (trigger_value d s x v g f))
-      (under-rests k f (owner-below d.rows nested z f below own) u rests)
-      ∙ at-rest (control_at d.rows f) (trigger_at g f) (enable_value d s x v g f) (trigger_value d s x v g f)
 
 module _ (rows : List Row) (nested : IsNested rows) (n : Option ℕ) where
   -- a child is under no other
