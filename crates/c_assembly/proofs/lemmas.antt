@@ -4,3 +4,5 @@ pub mod AssembledPlaces
 pub mod AssembledChildren
 pub mod SystemsUnder
 pub mod ChildRows
+pub mod OwnSlots
+pub mod NamedFields

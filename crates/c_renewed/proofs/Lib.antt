@@ -7,7 +7,6 @@ mod InnerBudgets
 mod FieldCounts
 mod RenewedSystems
 mod InnerPaths
-mod OwnSlots
 mod RenewedFields
 mod ReachedInside
 mod RenewedInside

@@ -22,11 +22,12 @@ use Rattle.c_right.specs.Paths.{place_in, path_inside, cells_at}
 use Rattle.c_assembly.specs.Parts.{Parts, program_of, diagram, all_systems, Views}
 use Rattle.c_assembly.specs.Places.{FieldsHavePlaces, FormsAreOfSlots}
 use Rattle.c_assembly.specs.Starts.{IsRenewed}
+use Rattle.c_assembly.proofs.lemmas.AssembledChildren.{has-child}
+use Rattle.c_assembly.proofs.lemmas.OwnSlots.{slots-at, forms-at, instance-fields}
 use Rattle.c_renewed.proofs.Everywhere.{member, all-made}
 use Rattle.c_renewed.proofs.NestedRows.{IsDeeper, of-inside, child-or-deeper}
 use Rattle.c_renewed.proofs.SystemPlaces.{nested, among-all, children-rows}
 use Rattle.c_renewed.proofs.InnerPaths.{cells-last, path-child, path-deeper}
-use Rattle.c_renewed.proofs.OwnSlots.{slots-at, forms-at, instance-fields, instance-there}
 
 module _ (fields : FieldsHavePlaces) (hold : FormsAreOfSlots) (a : Parts) (v : Views a) where
   abbrev rows : List Row
@@ -55,7 +56,7 @@ module _ (fields : FieldsHavePlaces) (hold : FormsAreOfSlots) (a : Parts) (v : V
       ap (λ os. slice_get os at.0) (children-rows a v stands.0 n stands.1) ∙ at-map Some (subsystems_of rows n) at.0 e at.1 in
       let u = map-at (λ (u : ChildUse). u.header.row) (v.at n).local.children at.0 (Some e) number in
       let slot = at-in (v.at n).slots (instance at.0 u.0)
-      (instance-there (v.at n).local (v.at n).slots known.shape.slots_right at.0 u.0 u.1) in
+      (has-child (v.at n).local (v.at n).slots known.shape.slots_right at.0 u.0 u.1) in
       record {
         position = at.0;
         use_of = u.0;

@@ -1,7 +1,7 @@
--- Each row of a system, and each of its children, has its slots, and what holds of all slots of fields holds where a slot stands.
-use Rattle.std.specs.Prelude.{◌≡◌, ℕ, zero, suc, ◌+◌, true, if◌then◌else◌, List, [], ◌∷◌, ◌++◌, map, flat_map, filter, slice_get, Contains, Some}
+-- Each row of a system has its slots, and what holds of all slots of fields holds where a slot stands.
+use Rattle.std.specs.Prelude.{◌≡◌, ℕ, zero, suc, true, if◌then◌else◌, List, [], ◌∷◌, ◌++◌, map, flat_map, filter, slice_get, Contains, Some}
 use Rattle.std.specs.List.{enumerate_from}
-use Rattle.std.proofs.Common.{sym, subst, arith, inl, inr}
+use Rattle.std.proofs.Common.{sym, subst, inl, inr}
 use Rattle.std.proofs.lemmas.List.Elements.{Contains-append_left, Contains-append_right}
 use Rattle.std.proofs.lemmas.List.Sorted.{Contains-permutation}
 use Rattle.std.proofs.lemmas.Option.{same_Some, none-some}
@@ -10,7 +10,7 @@ use Rattle.mc_diagram.specs.Rows.{is_triggered}
 use Rattle.mc_profile.specs.declared.ChildUse.{ChildUse}
 use Rattle.mc_profile.specs.declared.LocalRow.{LocalRow}
 use Rattle.mc_profile.specs.LocalSystem.{LocalSystem}
-use Rattle.mc_profile.proofs.lemmas.Members.{in-none, in-first, in-rest, in-cases, in-map, in-filter, in-enumerate}
+use Rattle.mc_profile.proofs.lemmas.Members.{in-none, in-first, in-rest, in-cases, in-map, in-filter}
 use Rattle.c_machine.specs.Cells.{Cell, number, items, object, Cells, no_cells, more_cells, cell_at, cell_fields}
 use Rattle.c_shape.specs.Delays.{is_single, is_line}
 use Rattle.c_shape.specs.Slots.{Slot, value, memory, ring_items, ring_place, ring_taken, trigger, counter, instance, ring_slots, own_slots, or_filler, CounterField, AreSlots}
@@ -102,6 +102,9 @@ module _ (local : LocalSystem) (slots : List Slot) (are : AreSlots local slots) 
       (in-rings (filter (λ (q : LocalRow). is_line q.op) local.rows) r x
       (in-filter (λ (q : LocalRow). is_line q.op) local.rows r own has) among)))
 
+  pub items-there : (r : LocalRow) → Contains local.rows r → is_line r.op ≡ true → Contains slots (ring_items r)
+  items-there r own has = ring-there r (ring_items r) own has (in-first (ring_items r) (ring_place r ∷ ring_taken r ∷ []))
+
   pub place-there : (r : LocalRow) → Contains local.rows r → is_line r.op ≡ true → Contains slots (ring_place r)
   place-there r own has =
       ring-there r (ring_place r) own has
@@ -116,12 +119,3 @@ module _ (local : LocalSystem) (slots : List Slot) (are : AreSlots local slots) 
   trigger-there has =
       own-first trigger (Contains-append_right (values ++ memories ++ rings) triggers trigger
       (subst (λ t. Contains (if t then trigger ∷ [] else []) trigger) (sym has) (in-first trigger [])))
-
-  pub instance-there : (k : ℕ) (u : ChildUse) → slice_get local.children k ≡ Some u → Contains slots (instance k u)
-  instance-there k u at =
-      own-there (instance k u) (Contains-append_right (values ++ memories ++ rings ++ triggers) instances (instance k u)
-      (in-map (λ (e : ℕ × ChildUse). instance e.0 e.1) (enumerate_from 0 local.children) (k, u)
-      (subst (λ i. Contains (enumerate_from 0 local.children) (i, u)) zero_more (in-enumerate 0 local.children k u at))))
-    where
-      zero_more : 0 + k ≡ k
-      zero_more = omega arith
