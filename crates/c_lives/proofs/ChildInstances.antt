@@ -6,7 +6,7 @@ use Rattle.std.proofs.lemmas.Option.{same_Some, none-some}
 use Rattle.mc_diagram.specs.Laws.{Run}
 use Rattle.mc_profile.specs.declared.ChildUse.{ChildUse}
 use Rattle.mc_profile.specs.LocalSystem.{LocalSystem}
-use Rattle.mc_profile.proofs.lemmas.Members.{in-first, in-rest, at-in}
+use Rattle.mc_profile.proofs.lemmas.Members.{in-first, in-rest}
 use Rattle.c_machine.specs.Cells.{Cells}
 use Rattle.c_simulation.specs.LocalTicks.{LocalTick}
 use Rattle.c_simulation.specs.Instances.{none_called, InstanceTick, instance_at, Offer}
@@ -18,18 +18,6 @@ use Rattle.c_assembly.specs.Starts.{Renewed}
 use Rattle.c_assembly.specs.Lives.{Lives}
 
 -- ---- Lists
-
-pub each-at : {A : Type 0} (P : A → Type 0) (xs : List A) (k : ℕ) (x : A) → AllByRecursion P xs → slice_get xs k ≡ Some x → P x
-each-at P [] k x all at = absurd (none-some x at)
-each-at P (y ∷ xs) zero x all at = subst P (same_Some y x at) all.0
-each-at P (y ∷ xs) (suc k) x all at = each-at P xs k x all.1 at
-
-pub each-in : {A : Type 0} (P : A → Type 0) (xs : List A) (x : A) → AllByRecursion P xs → Contains xs x → P x
-each-in P xs x all h = let at = at-in xs x h in each-at P xs at.0 x all at.1
-
-pub each-held : {A : Type 0} (P : A → Type 0) (xs : List A) → ((x : A) → Contains xs x → P x) → AllByRecursion P xs
-each-held P [] holds = tt
-each-held P (x ∷ xs) holds = (holds x (in-first x xs), each-held P xs (λ y h. holds y (in-rest x y xs h)))
 
 pub zip-held : {A B : Type 0} (P : A → B → Type 0) (f : A → B) (xs : List A) → ((x : A) → Contains xs x → P x (f x)) →
     AllZip P xs (map f xs)

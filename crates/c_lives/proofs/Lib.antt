@@ -1,4 +1,5 @@
 mod SlotFields
 mod FirstTicks
 mod ChildInstances
+mod HeldFields
 mod LivingSystems

@@ -39,14 +39,19 @@ use Rattle.c_simulation.proofs.lemmas.ChildTicks.{child-header}
 use Rattle.c_simulation.proofs.lemmas.SlotMembers.{SlotIs, slot-is}
 use Rattle.c_right.specs.Paths.{place_in}
 use Rattle.c_right.specs.Anew.{forms_at}
+use Rattle.c_right.specs.Held.{HoldsRun}
 use Rattle.c_assembly.specs.Parts.{Parts, program_of, diagram, all_systems, coded_header, IsCodedAs, IsChildBehind, Views}
-use Rattle.c_assembly.specs.Places.{FieldsHavePlaces, FormsAreOfSlots}
+use Rattle.c_assembly.specs.Places.{SystemsHavePlaces, FieldsHavePlaces, FormsAreOfSlots}
 use Rattle.c_assembly.specs.Offers.{offer_of, child_offers, OffersAreOfHeaders, SystemsOfferTheirs}
 use Rattle.c_assembly.specs.Starts.{IsRenewed, Renewed}
 use Rattle.c_assembly.specs.Lives.{outer_at, HasAccounts, Lives, AccountsFollow, LivesFollow}
-use Rattle.c_lives.proofs.SlotFields.{sized, sized-long, sized-same, field-form, instance-fields, array-items, nothing-held, child-slot, begins-all}
+use Rattle.c_assembly.proofs.lemmas.AssembledChildren.{has-child}
+use Rattle.c_assembly.proofs.lemmas.AssembledPlaces.{member, all-made}
+use Rattle.c_assembly.proofs.lemmas.OwnSlots.{forms-at, instance-fields}
+use Rattle.c_lives.proofs.SlotFields.{sized, sized-long, sized-same, array-items, nothing-held, begins-all}
 use Rattle.c_lives.proofs.FirstTicks.{own-op, value-begins, memory-begins, trigger-begins}
-use Rattle.c_lives.proofs.ChildInstances.{each-at, each-in, each-held, zip-held, AllLive, instances, at-child, linked, all-serve}
+use Rattle.c_lives.proofs.ChildInstances.{zip-held, AllLive, instances, at-child, linked, all-serve}
+use Rattle.c_lives.proofs.HeldFields.{holds-run}
 
 -- ---- Systems
 
@@ -83,6 +88,7 @@ record Laws : Type 0 where
   pub next : NextStands
   pub first : FirstStands
   pub headers : OffersAreOfHeaders
+  pub structs : SystemsHavePlaces
   pub places : FieldsHavePlaces
   pub forms : FormsAreOfSlots
   pub offers : SystemsOfferTheirs
@@ -106,7 +112,8 @@ module _ (laws : Laws) (a : Parts) (v : Views a) (renewed : Renewed a v) (s : Op
     child_fields u = fields_at before (place_in (program_of a) n (system_name u.header.row))
 
     is-renewed : (k : ℕ) (o : Option ℕ) → slice_get (all_systems a) k ≡ Some o → IsRenewed a v (λ q. q.start) IsStarted renewed.started o
-    is-renewed k o at = each-at (IsRenewed a v (λ q. q.start) IsStarted renewed.started) (all_systems a) k o renewed.starts at
+    is-renewed k o at =
+        member (IsRenewed a v (λ q. q.start) IsStarted renewed.started) (all_systems a) o renewed.starts (in-at (all_systems a) k o at)
 
     -- ---- Fields
 
@@ -120,14 +127,14 @@ module _ (laws : Laws) (a : Parts) (v : Views a) (renewed : Renewed a v) (s : Op
     field-place f x at = laws.places a v n f x (in-at (all_systems a) place n stands) at
 
     behind : (u : ChildUse) → Contains local.children u → IsChildBehind a v.at place u
-    behind u h = each-in (IsChildBehind a v.at place) local.children u (v.children place n stands) h
+    behind u h = member (IsChildBehind a v.at place) local.children u (v.children place n stands) h
 
     child-has : (u : ChildUse) → Contains local.children u → HasForms (renewed.started u.header.row).forms (child_fields u)
     child-has u h =
         let forms_of_child : ChildUse → Forms = λ u. forms_at (program_of a) (struct_place (program_of a) u.header.row) in
         let (k, at) = at-in local.children u h in
-        let (f, slot) = child-slot local slots known.shape.slots_right k u at in
-        let form = field-form child_forms slots before has-slots f (instance k u) slot in
+        let (f, slot) = at-in slots (instance k u) (has-child local slots known.shape.slots_right k u at) in
+        let form = forms-at child_forms slots before f (instance k u) has-slots slot in
         let inner = behind u h in
         let struct : slice_index_or child_forms k no_forms ≡ (renewed.started u.header.row).forms =
         get_or_from_slice_get child_forms k (forms_of_child u) no_forms (at-map forms_of_child local.children k u at)
@@ -246,6 +253,16 @@ module _ (laws : Laws) (a : Parts) (v : Views a) (renewed : Renewed a v) (s : Op
           (λ u one. one.accounts t below))
       accounts-by t (inr past) inside = absurd (omega arith)
 
+      -- what it leaves is what its slots hold behind the tick, and each child's instance holds the tick
+      holds-by : (t : ℕ) (when : (t < length xs) ⊎ (length xs ≤ t)) → t < length xs →
+          HoldsRun (program_of a) (diagram a) n run t (instance_by t when).after
+      holds-by t (inl below) inside =
+          subst (HoldsRun (program_of a) (diagram a) n run t) (sym (kept t below).after)
+          (holds-run laws.structs laws.places a v place n stands s xs run ring_start t (is-local t below) (children t)
+          (at-child a v s xs run renewed child_fields (λ u i. HoldsRun (program_of a) (diagram a) u.header.row run t i.after) t
+          local.children live (λ u one. one.holds t below)))
+      holds-by t (inr past) inside = absurd (omega arith)
+
       -- ---- The first tick
 
       abbrev renewals : List Renewal
@@ -285,7 +302,7 @@ module _ (laws : Laws) (a : Parts) (v : Views a) (renewed : Renewed a v) (s : Op
           ((renewed.started n).renewed before) ((is-renewed place n stands).becomes before has)
           (begins-all local (tick 0) renewals (children 0) child_forms slots before has-slots (λ f x at.
           begins inside f x at (slot-is local slots known.shape.slots_right x (in-at slots f x at))
-          (field-form child_forms slots before has-slots f x at)))
+          (forms-at child_forms slots before f x has-slots at)))
           known.behaves.nothing_counted)
       first-by (inr past) inside = absurd (omega arith)
 
@@ -296,6 +313,7 @@ module _ (laws : Laws) (a : Parts) (v : Views a) (renewed : Renewed a v) (s : Op
         follows = λ t below. follows-by t (cases_lt t (length xs)) (cases_lt (suc t) (length xs)) below;
         first = λ below. first-by (cases_lt zero (length xs)) below;
         accounts = λ t below. accounts-by t (cases_lt t (length xs)) below;
+        holds = λ t below. holds-by t (cases_lt t (length xs)) below;
       }
 
   -- children stand later
@@ -305,7 +323,7 @@ module _ (laws : Laws) (a : Parts) (v : Views a) (renewed : Renewed a v) (s : Op
   lives-from zero place n stands within before has enough = absurd (let below = at-below (all_systems a) place n stands in omega arith)
   lives-from (suc count) place n stands within before has enough =
       lives-here place n stands within before has
-      (each-held (λ (u : ChildUse). Lives a v s xs run renewed u.header.row (child_fields place n stands within before has u))
+      (all-made (λ (u : ChildUse). Lives a v s xs run renewed u.header.row (child_fields place n stands within before has u))
       (v.at n).local.children (λ u h.
       let inner = behind place n stands within before has u h in
       lives-from count inner.inner_place u.header.row inner.stands (child-within place n stands within before has u h)
@@ -313,8 +331,8 @@ module _ (laws : Laws) (a : Parts) (v : Views a) (renewed : Renewed a v) (s : Op
       (let later = inner.later in omega arith)))
 
 pub lives_follow : TicksAreLocal → TicksAreTyped → TicksFollow → CycleIsOfLocals → ChildrenMeetTheirTicks → NextStands → FirstStands →
-    OffersAreOfHeaders → FieldsHavePlaces → LivesFollow
-lives_follow local_ticks typed_ticks follow cycles meet next first headers places offers forms accounts =
+    OffersAreOfHeaders → SystemsHavePlaces → FieldsHavePlaces → LivesFollow
+lives_follow local_ticks typed_ticks follow cycles meet next first headers structs places offers forms accounts =
     λ a v renewed s xs run trace is n inside within before has.
     let stands = at-in (all_systems a) n inside in
     let laws : Laws = record {
@@ -326,6 +344,7 @@ lives_follow local_ticks typed_ticks follow cycles meet next first headers place
       next = next;
       first = first;
       headers = headers;
+      structs = structs;
       places = places;
       forms = forms;
       offers = offers;

@@ -1,6 +1,6 @@
 ghost use Rattle.c_assembly.specs.Lives.{LivesFollow};
 
-use c_assembly::{fields_have_places, offers_are_of_headers};
+use c_assembly::{fields_have_places, offers_are_of_headers, systems_have_places};
 use c_simulation::{
     children_meet_their_ticks, cycle_is_of_locals, first_stands, next_stands, ticks_are_local,
     ticks_are_typed, ticks_follow,
@@ -19,5 +19,6 @@ pub fn lives_follow()
     next_stands();
     first_stands();
     offers_are_of_headers();
+    systems_have_places();
     fields_have_places();
 }
