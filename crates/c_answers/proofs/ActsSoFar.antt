@@ -1,10 +1,12 @@
 -- The functions that were called so far in a tick, in order, and those that are left; and what acts come to, one after another.
-use Rattle.std.specs.Prelude.{◌≡◌, ◌≢◌, ℕ, zero, suc, ◌+◌, ◌<◌, ◌≤◌, ◌==◌, ◌||◌, Bool, true, false, not, cond, List, [], ◌∷◌, ◌++◌, map, filter, IsPermutation, IsTrue, refl}
+use Rattle.std.specs.Prelude.{◌≡◌, ◌≢◌, ℕ, zero, suc, ◌+◌, ◌<◌, ◌≤◌, ◌==◌, ◌||◌, Bool, true, false, not, cond, List, [], ◌∷◌, ◌++◌, map, filter, Contains, IsPermutation, IsTrue, refl}
 use Rattle.std.specs.List.{list_any, list_all, range_with_len}
 use Rattle.std.proofs.Common.{sym, ap, ap₂, subst, ◌∙◌, arith, inl, inr, true≢false, eqb-true, eq-eqb, ne_eqb, append_assoc}
-use Rattle.std.proofs.lemmas.Bool.{cases_eq, and_parts}
+use Rattle.std.proofs.lemmas.Bool.{cases_eq, and_parts, or_left, or_right}
 use Rattle.std.proofs.lemmas.List.{map-append}
+use Rattle.std.proofs.lemmas.List.Elements.{Contains-append_left, Contains-append_right}
 use Rattle.std.proofs.lemmas.List.Sorted.{IsPermutation-refl, IsPermutation-cons, IsPermutation-trans, IsPermutation-middle, IsPermutation-pop_more}
+use Rattle.mc_profile.proofs.lemmas.Members.{in-none, in-first, in-cases}
 use Rattle.c_machine.specs.Machine.{LoggedCall}
 use Rattle.c_simulation.specs.Instances.{Act, out, update, none_called, with_called, InstanceTick}
 use Rattle.c_simulation.specs.Accounts.{log_along, most_along, stored_along}
@@ -34,6 +36,21 @@ same-either a b = by (a == b) refl
 pub called-is : (js : List ℕ) (j : ℕ) → called_of js j ≡ list_any (λ i. i == j) js
 called-is [] j = refl
 called-is (k ∷ js) j = ap₂ (λ a b. a || b) (same-either j k) (called-is js j)
+
+-- each of them was called, and stands among them in order
+pub is-called : (js : List ℕ) (j : ℕ) → Contains js j → called_of js j ≡ true
+is-called [] j has = absurd (in-none j has)
+is-called (k ∷ js) j has = elim (in-cases k j js has) [
+  | inl same ↦ or_left (j == k) (called_of js j) (eq-eqb j k (sym same))
+  | inr more ↦ or_right (j == k) (called_of js j) (is-called js j more)
+]
+
+pub among-order : (js : List ℕ) (j : ℕ) → Contains js j → Contains (in_order js) j
+among-order [] j has = absurd (in-none j has)
+among-order (k ∷ js) j has = elim (in-cases k j js has) [
+  | inl same ↦ Contains-append_right (in_order js) (k ∷ []) j (subst (Contains (k ∷ [])) same (in-first k []))
+  | inr more ↦ Contains-append_left (in_order js) (k ∷ []) j (among-order js j more)
+]
 
 -- ---- What is left
 

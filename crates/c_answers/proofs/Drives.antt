@@ -1,18 +1,18 @@
--- A script of calls on the instance of a system, from call to call and from tick to tick.
-use Rattle.std.specs.Prelude.{◌≡◌, ℕ, suc, ◌+◌, ◌<◌, ◌≤◌, ◌%◌, ◌==◌, ◌&&◌, Bool, true, false, List, [], ◌∷◌, ◌++◌, map, filter, length, slice_get, slice_index_or, Contains, IsPermutation, IsTrue, Option, Some, ℤ, pos, refl}
+-- A script of calls on the instance of a system at a path, from call to call and from tick to tick.
+use Rattle.std.specs.Prelude.{◌≡◌, ℕ, suc, ◌+◌, ◌<◌, ◌≤◌, ◌%◌, ◌==◌, Bool, true, false, List, [], ◌∷◌, ◌++◌, map, filter, length, slice_get, slice_index_or, Contains, IsPermutation, IsTrue, Option, Some, ℤ, pos, refl}
 use Rattle.std.specs.List.{AllByRecursion, list_any, list_all}
 use Rattle.std.proofs.Common.{sym, ap, ap₂, subst, ◌∙◌, arith, inl, inr, append-nil}
 use Rattle.std.proofs.lemmas.Bool.{and_parts}
-use Rattle.std.proofs.lemmas.List.Sorted.{IsPermutation-refl}
+use Rattle.std.proofs.lemmas.List.Elements.{Contains-append_left}
+use Rattle.std.proofs.lemmas.List.Sorted.{IsPermutation-refl, IsPermutation-sym, Contains-permutation}
 use Rattle.mc_fixed.specs.Conversion.{InType}
 use Rattle.mc_blocks.specs.Meaning.{has_value}
 use Rattle.mc_diagram.specs.declared.table.Row.{Row}
 use Rattle.mc_diagram.specs.Diagram.{Diagram}
-use Rattle.mc_diagram.specs.Rows.{row_at, row_numbers, rows_of, outports_of, is_subsystem, is_inside}
+use Rattle.mc_diagram.specs.Rows.{row_at, rows_of, outports_of}
 use Rattle.mc_diagram.specs.Inputs.{input_ports}
 use Rattle.mc_diagram.specs.Run.{value_at}
 use Rattle.mc_diagram.specs.Laws.{Run}
-use Rattle.mc_diagram.specs.RunLaws.{OwnRowsStandIn}
 use Rattle.mc_diagram.specs.Traces.{input_type_of}
 use Rattle.mc_profile.specs.declared.Function.{Function}
 use Rattle.mc_profile.specs.SystemHeader.{SystemHeader}
@@ -21,7 +21,7 @@ use Rattle.mc_profile.specs.Headers.{header_of, numbered_function, given_by_func
 use Rattle.mc_profile.specs.Locals.{own_header}
 use Rattle.mc_profile.specs.NodeFacts.{HeaderIsOfOwnRows}
 use Rattle.mc_profile.specs.Systems.{systems_inside}
-use Rattle.mc_profile.proofs.lemmas.Members.{in-none, in-first, in-rest, in-cases, in-map, of-map, of-filter, in-range, of-range, in-at}
+use Rattle.mc_profile.proofs.lemmas.Members.{in-none, in-first, in-rest, in-cases, in-map, of-map, in-range, of-range, in-at}
 use Rattle.c_syntax.specs.Tree.{ProgramTree}
 use Rattle.c_machine.specs.Cells.{Cells, number_at}
 use Rattle.c_machine.specs.Values.{step_limit}
@@ -32,18 +32,19 @@ use Rattle.c_simulation.specs.Instances.{Act, out, update, none_called, with_cal
 use Rattle.c_simulation.specs.Serving.{act_values, MayCome}
 use Rattle.c_simulation.specs.BudgetLaws.{BudgetsSumToBound}
 use Rattle.c_simulation.specs.Accounts.{log_along, most_along, stored_along}
-use Rattle.c_right.specs.Paths.{place_in, path_to, path_inside, cells_at}
+use Rattle.c_right.specs.Paths.{place_in, path_inside, cells_at}
 use Rattle.c_right.specs.Calls.{HasCallsOf, StoresOnce, CallsInside}
 use Rattle.c_right.specs.Scripts.{Call, out_with, update_with, TickSoFar, nothing_yet, IsLawfulFrom, tick_after, tick_count, AgreesFrom}
-use Rattle.c_right.specs.Right.{call_in_tick, DrivenFrom}
+use Rattle.c_right.specs.Held.{HoldsRun}
+use Rattle.c_right.specs.Driving.{call_in_tick, HoldsOutputs, DrivenFrom}
 use Rattle.c_assembly.specs.Parts.{Parts, program_of, diagram, all_systems, coded_header, Views}
 use Rattle.c_assembly.specs.Offers.{offer_of}
 use Rattle.c_assembly.specs.Starts.{Renewed}
 use Rattle.c_assembly.specs.Root.{HasPath}
 use Rattle.c_assembly.specs.Lives.{whole_tick, function_numbers, outer_at, is_around_active, IsWhole, Lives}
-use Rattle.c_answers.proofs.InstancePaths.{calls_under, stores_under, on-done, LeavesAt, done-at, calls-under-both, stores-under-both, stores-both, calls-under-at, stores-under-at, paths-under, some-at, all-members, member-holds}
-use Rattle.c_answers.proofs.PathsInside.{path-by}
-use Rattle.c_answers.proofs.ActsSoFar.{called_of, in_order, left_of, called-is, left-less, one-more, none-left, so-far-next, whole-from, most-behind, IsLogOf, IsStoredBy, log-next, stored-next}
+use Rattle.c_assembly.proofs.lemmas.AssembledPlaces.{member, all-made}
+use Rattle.c_answers.proofs.InstancePaths.{calls_under, stores_under, on-done, LeavesAt, done-at, calls-under-both, stores-under-both, stores-both, calls-under-at, stores-under-at, paths-under, some-at}
+use Rattle.c_answers.proofs.ActsSoFar.{called_of, in_order, left_of, called-is, is-called, among-order, left-less, one-more, none-left, so-far-next, whole-from, most-behind, IsLogOf, IsStoredBy, log-next, stored-next}
 use Rattle.c_answers.proofs.GivenArguments.{given-values, taken-values, ports-are, traced, all-traced, active-around}
 use Rattle.c_answers.proofs.FoundOutputs.{out-offered, outputs-left}
 use Rattle.c_answers.proofs.StepRoom.{budget-within}
@@ -62,10 +63,9 @@ all-left : (functions : List ℕ) → left_of functions [] ≡ functions
 all-left [] = refl
 all-left (j ∷ functions) = ap (λ js. j ∷ js) (all-left functions)
 
-module _ (headers : HeaderIsOfOwnRows) (stand_in : OwnRowsStandIn) (sums : BudgetsSumToBound) (a : Parts) (v : Views a)
-    (renewed : Renewed a v)
-    (place : ℕ) (s : Option ℕ) (stands : slice_get (all_systems a) place ≡ Some s) (xs : List (List ℤ)) (run : Run) (before : Cells)
-    (lives : Lives a v s xs run renewed s before) where
+module _ (headers : HeaderIsOfOwnRows) (sums : BudgetsSumToBound) (a : Parts) (v : Views a) (renewed : Renewed a v)
+    (place : ℕ) (s : Option ℕ) (stands : slice_get (all_systems a) place ≡ Some s) (path : List ℕ) (xs : List (List ℤ)) (run : Run)
+    (before : Cells) (lives : Lives a v s xs run renewed s before) where
   abbrev p : ProgramTree
   p = program_of a
 
@@ -74,9 +74,6 @@ module _ (headers : HeaderIsOfOwnRows) (stand_in : OwnRowsStandIn) (sums : Budge
 
   abbrev rows : List Row
   rows = d.rows
-
-  abbrev path : List ℕ
-  path = path_to p rows s
 
   abbrev h : SystemHeader
   h = coded_header (v.at s)
@@ -108,7 +105,7 @@ module _ (headers : HeaderIsOfOwnRows) (stand_in : OwnRowsStandIn) (sums : Budge
       cells_at path cells ≡ (lives.at t).standing (called_of called) → MayCome h (outer t) (called_of called) act →
       (offered_for (offer_of a v s) act).routine ≡ routine_at (program_routines p) (procedure_place p name) →
       act_values h a.hyper (outer t) act ≡ pos (t % a.hyper) ∷ values → (lives.at t).most (called_of called) act ≤ step_limit →
-      OnDone (call_in_tick p d a.hyper s t name values cells)
+      OnDone (call_in_tick p a.hyper path t name values cells)
       (LeavesAt path
       (Leaves (fields_after (lives.at t) (called_of called) act) (0 + (lives.at t).most (called_of called) act)
       ((lives.at t).log (called_of called) act) ((lives.at t).stored (called_of called) act)))
@@ -182,7 +179,7 @@ module _ (headers : HeaderIsOfOwnRows) (stand_in : OwnRowsStandIn) (sums : Budge
           let whole = ((lives.accounts t below).whole (active t) (in_order (j ∷ called) ++ left) next-order).in_time in
           let same = ap (most_along i none_called) (whole-from (j ∷ called) left ∙ so-far-next called j more) in
           let behind = most-behind i called (out j ∷ more) in
-          let budget = budget-within stand_in a v sums s (in-at (all_systems a) place s stands) in
+          let budget = budget-within a v sums s (in-at (all_systems a) place s stands) in
           omega (arith, whole, same, behind, budget)
 
       pub next-stands : (b : After) →
@@ -221,7 +218,7 @@ module _ (headers : HeaderIsOfOwnRows) (stand_in : OwnRowsStandIn) (sums : Budge
       update-room =
           let time = whole.in_time in
           let behind = most-behind i called (update ∷ []) in
-          let budget = budget-within stand_in a v sums s (in-at (all_systems a) place s stands) in
+          let budget = budget-within a v sums s (in-at (all_systems a) place s stands) in
           omega (arith, time, behind, budget)
 
       abbrev acts : List Act
@@ -249,58 +246,87 @@ module _ (headers : HeaderIsOfOwnRows) (stand_in : OwnRowsStandIn) (sums : Budge
             ∙ stores-under-at path inner field (at.inner_stores ++ l.inner.stores) in
             omega (arith, so, one, both, seen)
 
-        path-of : (e : ℕ) → Contains (systems_inside rows s) e → path_to p rows (Some e) ≡ path ++ path_inside p rows s e
-        path-of e has =
-            let kept = of-filter (λ k. is_subsystem (row_at rows k).kind && is_inside rows s k) (row_numbers rows) e has in
-            let high = (of-range 0 (length rows) e kept.0).1 in
-            path-by stand_in rows a.can.resolved.tree.table.nested p s e (omega (arith, high))
-            (and_parts (is_subsystem (row_at rows e).kind) (is_inside rows s e) kept.1).1
-
-        calls-of : (e : ℕ) → Contains (systems_inside rows s) e →
-            calls_at (path_to p rows (Some e)) (log ++ b.log) ≡ calls_at (path_inside p rows s e) (log_along i none_called acts)
-        calls-of e has =
-            ap₂ calls_at (path-of e has) all-log ∙ calls-under-at path (path_inside p rows s e) (log_along i none_called acts)
-
-        stores-of : (e : ℕ) → Contains (systems_inside rows s) e → StoresOnce p rows (Some e) (stores ++ b.stores)
-        stores-of e has =
-            let valued = filter (λ k. has_value (row_at rows k).kind) (rows_of rows (Some e)) in
-            let once = member-holds _ (systems_inside rows s) e whole.stored_inside has in
-            all-members (λ k. stores_at (path_to p rows (Some e)) (place_in p (Some e) (value_name k)) (stores ++ b.stores) ≤ 1) valued
+        own-stores : StoresOnce p rows path s (stores ++ b.stores)
+        own-stores =
+            let valued = filter (λ k. has_value (row_at rows k).kind) (rows_of rows s) in
+            all-made (λ k. stores_at path (place_in p s (value_name k)) (stores ++ b.stores) ≤ 1) valued
             (λ k inside.
-            let most = member-holds _ valued k once inside in
-            let fewer = all-stores (path_inside p rows s e) (place_in p (Some e) (value_name k)) in
-            let seen = ap (λ q. stores_at q (place_in p (Some e) (value_name k)) (stores ++ b.stores)) (path-of e has) in
+            let most = member _ valued k whole.stored inside in
+            let fewer = all-stores [] (place_in p s (value_name k)) in
+            let seen = ap (λ q. stores_at q (place_in p s (value_name k)) (stores ++ b.stores)) (append-nil path) in
             omega (arith, most, fewer, seen))
 
-        place-of : (c : LoggedCall) → Contains (log_along i none_called acts) c →
-            Contains (map (path_to p rows) (s ∷ map Some (systems_inside rows s))) (path ++ c.path)
+        stores-of : (e : ℕ) → Contains (systems_inside rows s) e →
+            StoresOnce p rows (path ++ path_inside p rows s e) (Some e) (stores ++ b.stores)
+        stores-of e has =
+            let valued = filter (λ k. has_value (row_at rows k).kind) (rows_of rows (Some e)) in
+            let once = member _ (systems_inside rows s) e whole.stored_inside has in
+            all-made
+            (λ k. stores_at (path ++ path_inside p rows s e) (place_in p (Some e) (value_name k)) (stores ++ b.stores) ≤ 1) valued
+            (λ k inside.
+            let most = member _ valued k once inside in
+            let fewer = all-stores (path_inside p rows s e) (place_in p (Some e) (value_name k)) in
+            omega (arith, most, fewer))
+
+        calls-of : (e : ℕ) → calls_at (path ++ path_inside p rows s e) (log ++ b.log)
+            ≡ calls_at (path_inside p rows s e) (log_along i none_called acts)
+        calls-of e =
+            ap (calls_at (path ++ path_inside p rows s e)) all-log
+            ∙ calls-under-at path (path_inside p rows s e) (log_along i none_called acts)
+
+        -- the paths of s and of all inside it
+        abbrev instances : List (List ℕ)
+        instances = path ∷ map (λ e. path ++ path_inside p rows s e) (systems_inside rows s)
+
+        place-of : (c : LoggedCall) → Contains (log_along i none_called acts) c → Contains instances (path ++ c.path)
         place-of c has = elim (whole.no_other c.path) [
           | inl none ↦ absurd (some-at c (log_along i none_called acts) has none)
           | inr some ↦ elim (in-cases [] c.path (map (path_inside p rows s) (systems_inside rows s)) some) [
             | inl own ↦
-                subst (Contains (map (path_to p rows) (s ∷ map Some (systems_inside rows s))))
-                (sym (ap (λ q. path ++ q) (sym own) ∙ append-nil path))
-                (in-first path (map (path_to p rows) (map Some (systems_inside rows s))))
+                subst (Contains instances) (sym (ap (λ q. path ++ q) (sym own) ∙ append-nil path))
+                (in-first path (map (λ e. path ++ path_inside p rows s e) (systems_inside rows s)))
             | inr deeper ↦
                 let e = of-map (path_inside p rows s) (systems_inside rows s) c.path deeper in
-                subst (Contains (map (path_to p rows) (s ∷ map Some (systems_inside rows s)))) (path-of e.0 e.1 ∙ ap (λ q. path ++ q) e.2)
-                (in-map (path_to p rows) (s ∷ map Some (systems_inside rows s)) (Some e.0)
-                (in-rest s (Some e.0) (map Some (systems_inside rows s)) (in-map Some (systems_inside rows s) e.0 e.1)))
+                subst (Contains instances) (ap (λ q. path ++ q) e.2)
+                (in-rest path (path ++ path_inside p rows s e.0) (map (λ e. path ++ path_inside p rows s e) (systems_inside rows s))
+                (in-map (λ e. path ++ path_inside p rows s e) (systems_inside rows s) e.0 e.1))
           ]
         ]
 
-        pub calls-inside : CallsInside p d s (slice_index_or xs t []) (slice_index_or run.values t []) (slice_index_or run.triggers t [])
-            (log ++ b.log) (stores ++ b.stores)
+        pub calls-inside : CallsInside p d path s (slice_index_or xs t []) (slice_index_or run.values t [])
+            (slice_index_or run.triggers t []) (log ++ b.log) (stores ++ b.stores)
         calls-inside = record {
-          each = all-members _ (systems_inside rows s)
-              (λ e has. subst (HasCallsOf p (Some e) (is_around_active a v s xs run t e)) (sym (calls-of e has))
-              (member-holds _ (systems_inside rows s) e whole.calls has));
-          stored_once = all-members _ (systems_inside rows s) stores-of;
+          each = all-made _ (systems_inside rows s)
+              (λ e has. subst (HasCallsOf p (Some e) (is_around_active a v s xs run t e)) (sym (calls-of e))
+              (member _ (systems_inside rows s) e whole.calls has));
+          stored_once = own-stores;
+          inner_stored_once = all-made _ (systems_inside rows s) stores-of;
           no_other =
-              subst (AllByRecursion (λ c. Contains (map (path_to p rows) (s ∷ map Some (systems_inside rows s))) c.path)) (sym all-log)
-              (paths-under (Contains (map (path_to p rows) (s ∷ map Some (systems_inside rows s)))) path (log_along i none_called acts)
-              (all-members _ (log_along i none_called acts) place-of));
+              subst (AllByRecursion (λ c. Contains instances c.path)) (sym all-log)
+              (paths-under (Contains instances) path (log_along i none_called acts)
+              (all-made _ (log_along i none_called acts) place-of));
         }
+
+        pub holds-run : HoldsRun p d s run t (cells_at path b.cells)
+        holds-run = subst (HoldsRun p d s run t) (sym (l.cells ∙ l.holds.fields)) (lives.holds t below)
+
+  -- the outputs of each function that was called have their values
+  outputs-held : (t : ℕ) (called : List ℕ) (cells : Cells) (log : List LoggedCall) (stores : List StoredField) → t < length xs →
+      StandsBetween t called cells log stores →
+      AllByRecursion (HoldsOutputs p d a.hyper path s own_functions xs run t cells) called
+  outputs-held t called cells log stores below at =
+      all-made (HoldsOutputs p d a.hyper path s own_functions xs run t cells) called
+      (λ j has.
+      let among = Contains-permutation (in_order called ++ left_of numbers called) numbers j
+      (IsPermutation-sym numbers (in_order called ++ left_of numbers called) at.order)
+      (Contains-append_left (in_order called) (left_of numbers called) j (among-order called j has)) in
+      let range = of-range 1 (length own_functions) j among in
+      subst (λ (c : Cells). AllByRecursion
+      (λ o. number_at c (place_in p s (value_name o)) ≡ value_at (slice_index_or run.values t []) o)
+      (given_by_function (numbered_function own_functions j) (outports_of rows s))) (sym at.fields)
+      (outputs-left p d s (v.at s).local (v.at s).profile header a.hyper (outer t) (lives.at t)
+      (value_at (slice_index_or run.values t [])) (called_of called) j (lives.serves t below) refl (omega (arith, range.0))
+      (omega (arith, range.1)) (is-called called j has)))
 
   -- ---- The script
 
@@ -330,7 +356,7 @@ module _ (headers : HeaderIsOfOwnRows) (stand_in : OwnRowsStandIn) (sums : Budge
       IsLawfulFrom d s own_functions tick script → AgreesFrom d s own_functions t xs script →
       t + tick_count d s own_functions script ≤ length xs →
       (t < length xs → StandsBetween t tick.called cells log stores) →
-      DrivenFrom p d a.hyper s own_functions xs run t cells log stores script
+      DrivenFrom p d a.hyper path s own_functions xs run t cells tick.called log stores script
   drive [] t cells log stores tick lawful agrees room stands_there = tt
   drive (out_with j values ∷ script) t cells log stores tick lawful agrees room stands_there =
       let below : t < length xs = omega (arith, room) in
@@ -340,14 +366,10 @@ module _ (headers : HeaderIsOfOwnRows) (stand_in : OwnRowsStandIn) (sums : Budge
       let given =
       given-values (λ q w. InType (input_type_of d s q) w) (traced d s xs run t)
       (ports_in (numbered_function own_functions j).inputs (input_ports rows s)) values lawful.0.in_types agrees.0 in
-      on-done (call_in_tick p d a.hyper s t (out_name s j) values cells) _ _
+      on-done (call_in_tick p a.hyper path t (out_name s j) values cells) _ _
       (λ after l.
       let next = next-stands t tick.called cells log stores below at j turn.0 turn.1 fresh after l in (
-        subst (λ (c : Cells). AllByRecursion
-            (λ o. number_at c (place_in p s (value_name o)) ≡ value_at (slice_index_or run.values t []) o)
-            (given_by_function (numbered_function own_functions j) (outports_of rows s))) (sym next.fields)
-            (outputs-left p d s (v.at s).local (v.at s).profile header a.hyper (outer t) (lives.at t)
-            (value_at (slice_index_or run.values t [])) (called_of tick.called) j (lives.serves t below) refl turn.0 turn.1),
+        outputs-held t (j ∷ tick.called) after.cells (log ++ after.log) (stores ++ after.stores) below next,
         drive script t after.cells (log ++ after.log) (stores ++ after.stores)
             (tick_after d s own_functions tick (out_with j values)) lawful.1 agrees.1 (omega (arith, room)) (λ more. next),
       ))
@@ -360,9 +382,10 @@ module _ (headers : HeaderIsOfOwnRows) (stand_in : OwnRowsStandIn) (sums : Budge
       let all = lawful.0.in_turn in
       let given =
       given-values (λ q w. InType (input_type_of d s q) w) (traced d s xs run t) (input_ports rows s) values lawful.0.in_types agrees.0 in
-      on-done (call_in_tick p d a.hyper s t (update_name s) values cells) _ _
+      on-done (call_in_tick p a.hyper path t (update_name s) values cells) _ _
       (λ after l. (
         calls-inside t tick.called cells log stores below at all after l,
+        holds-run t tick.called cells log stores below at all after l,
         drive script (suc t) after.cells [] [] nothing_yet lawful.1 agrees.1 (omega (arith, room))
             (λ more. begins (suc t) after.cells l.there (l.cells ∙ l.holds.fields ∙ lives.follows t more)),
       ))

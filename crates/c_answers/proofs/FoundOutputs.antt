@@ -1,7 +1,7 @@
 -- What a system offers in a program, by the numbers of its functions, and the values that these leave in its outputs' fields.
-use Rattle.std.specs.Prelude.{◌≡◌, ℕ, ◌+◌, ◌-◌, ◌<◌, ◌≤◌, ◌==◌, ◌&&◌, Bool, true, if◌then◌else◌, List, [], ◌∷◌, map, filter, length, slice_get, slice_index, Contains, Option, Some, ℤ, pos, refl}
+use Rattle.std.specs.Prelude.{◌≡◌, ℕ, ◌+◌, ◌-◌, ◌<◌, ◌≤◌, ◌&&◌, Bool, true, if◌then◌else◌, List, [], ◌∷◌, map, filter, length, slice_get, slice_index, Contains, Option, Some, ℤ, pos}
 use Rattle.std.specs.List.{AllByRecursion, list_any, range_with_len, enumerate_from}
-use Rattle.std.proofs.Common.{sym, ap, ◌∙◌, arith, inl, inr, eq-eqb}
+use Rattle.std.proofs.Common.{sym, ap, ◌∙◌, arith, inl, inr}
 use Rattle.std.proofs.lemmas.Bool.{and_from, or_left, or_right}
 use Rattle.std.proofs.lemmas.Option.{get_or_from_slice_get}
 use Rattle.mc_fixed.specs.declared.FixType.{FixType}
@@ -19,11 +19,11 @@ use Rattle.mc_profile.proofs.lemmas.Members.{in-none, in-cases, of-map, of-filte
 use Rattle.c_syntax.specs.Tree.{ProgramTree}
 use Rattle.c_machine.specs.Cells.{number_at}
 use Rattle.c_shape.specs.Names.{value_name, out_name}
-use Rattle.c_simulation.specs.Instances.{out, with_called, InstanceTick, nothing_offered, offered_for, OuterTick}
+use Rattle.c_simulation.specs.Instances.{out, InstanceTick, nothing_offered, offered_for, OuterTick}
 use Rattle.c_simulation.specs.Serving.{is_given, Serves}
 use Rattle.c_right.specs.Paths.{place_in}
 use Rattle.c_assembly.specs.Offers.{offered_by, program_offer}
-use Rattle.c_answers.proofs.InstancePaths.{all-members}
+use Rattle.c_assembly.proofs.lemmas.AssembledPlaces.{all-made}
 
 any-of : (test : ℕ → Bool) (xs : List ℕ) (x : ℕ) → Contains xs x → test x ≡ true → list_any test xs ≡ true
 any-of test [] x has passes = absurd (in-none x has)
@@ -67,24 +67,24 @@ module _ (p : ProgramTree) (d : Diagram) (s : Option ℕ) (local : LocalSystem) 
       (at-map (λ (r : LocalRow). f r.row) (outports local) k own.0 own.1)
       ∙ ap (λ (e : ℕ × FixType). f e.0) own.2
 
-  -- behind a call of function j its outputs have the values of the tick
+  -- where function j was called its outputs have the values of the tick
   pub outputs-left : (cycle : ℕ) (outer : OuterTick) (i : InstanceTick) (f : ℕ → ℤ) (called : ℕ → Bool) (j : ℕ) →
       Serves h (program_offer p h) cycle outer i →
-      outer.outputs ≡ map (λ (r : LocalRow). f r.row) (outports local) → 0 < j → j ≤ length (header_functions h) →
-      AllByRecursion (λ o. number_at (i.standing (with_called called j)) (place_in p s (value_name o)) ≡ f o)
+      outer.outputs ≡ map (λ (r : LocalRow). f r.row) (outports local) → 0 < j → j ≤ length (header_functions h) → called j ≡ true →
+      AllByRecursion (λ o. number_at (i.standing called) (place_in p s (value_name o)) ≡ f o)
       (given_by_function (header_function h j) (outports_of d.rows s))
-  outputs-left cycle outer i f called j serves outs positive most =
-      all-members (λ o. number_at (i.standing (with_called called j)) (place_in p s (value_name o)) ≡ f o)
+  outputs-left cycle outer i f called j serves outs positive most is_called =
+      all-made (λ o. number_at (i.standing called) (place_in p s (value_name o)) ≡ f o)
       (given_by_function (header_function h j) (outports_of d.rows s)) one
     where
-      given : (k : ℕ) → has_bit (header_function h j).outputs k ≡ true → is_given h (with_called called j) k ≡ true
+      given : (k : ℕ) → has_bit (header_function h j).outputs k ≡ true → is_given h called k ≡ true
       given k bit =
-          any-of (λ i. with_called called j i && has_bit (header_function h i).outputs k)
+          any-of (λ i. called i && has_bit (header_function h i).outputs k)
           (range_with_len 1 (length (header_functions h))) j (in-range 1 (length (header_functions h)) j positive (omega (arith, most)))
-          (and_from (with_called called j j) (has_bit (header_function h j).outputs k) (or_left (j == j) (called j) (eq-eqb j j refl)) bit)
+          (and_from (called j) (has_bit (header_function h j).outputs k) is_called bit)
 
       one : (o : ℕ) → Contains (given_by_function (header_function h j) (outports_of d.rows s)) o →
-          number_at (i.standing (with_called called j)) (place_in p s (value_name o)) ≡ f o
+          number_at (i.standing called) (place_in p s (value_name o)) ≡ f o
       one o has =
           let passes = λ (e : ℕ × ℕ). has_bit (header_function h j).outputs e.0 in
           let pair = of-map (λ (e : ℕ × ℕ). e.1) (filter passes (enumerate_from 0 (outports_of d.rows s))) o has in
@@ -94,8 +94,8 @@ module _ (p : ProgramTree) (d : Diagram) (s : Option ℕ) (local : LocalSystem) 
           let at : slice_get (outports_of d.rows s) k ≡ Some o = found.2 ∙ ap Some pair.2 in
           let bit : has_bit (header_function h j).outputs k ≡ true =
           ap (has_bit (header_function h j).outputs) (let same : k ≡ 0 + k = omega arith in same ∙ found.1) ∙ kept.1 in
-          ap (number_at (i.standing (with_called called j))) (sym (place-at k o at))
-          ∙ serves.outputs (with_called called j) k (at-below h.outputs k (o, type_at d.types o) (output-at k o at))
+          ap (number_at (i.standing called)) (sym (place-at k o at))
+          ∙ serves.outputs called k (at-below h.outputs k (o, type_at d.types o) (output-at k o at))
           ∙ ap (λ b. number_of (if b then outer.outputs else outer.before) k) (given k bit)
           ∙ ap (λ vs. number_of vs k) outs
           ∙ value-at f k o at

@@ -8,7 +8,7 @@ use Rattle.c_machine.specs.Cells.{Cells, object, cell_fields, set_cell, fields_a
 use Rattle.c_machine.specs.CellLaws.{cells_count}
 use Rattle.c_machine.specs.Machine.{LoggedCall, StoredField, After, Outcome, done, stuck, call_under, store_under, in_child, at_path}
 use Rattle.c_machine.proofs.lemmas.CellLaws.{fields_are_set}
-use Rattle.mc_profile.proofs.lemmas.Members.{in-none, in-first, in-rest, in-cases}
+use Rattle.mc_profile.proofs.lemmas.Members.{in-none, in-cases}
 use Rattle.c_simulation.specs.Instances.{same_path, calls_at, stores_at, OnDone}
 use Rattle.c_right.specs.Paths.{cells_at}
 use Rattle.c_assembly.specs.Root.{HasPath}
@@ -148,14 +148,3 @@ some-at c (z ∷ log) has none = by (same_path c.path z.path) refl none (in-case
     by true e here which later = cc here
     by false e here (inl same) later = true≢false (sym (ap (λ (q : LoggedCall). same_path c.path q.path) same ∙ same-itself c.path) ∙ e)
     by false e here (inr more) later = later more here
-
-pub all-members : {A : Type 0} (P : A → Type 0) (xs : List A) → ((x : A) → Contains xs x → P x) → AllByRecursion P xs
-all-members P [] all = tt
-all-members P (x ∷ xs) all = (all x (in-first x xs), all-members P xs (λ y has. all y (in-rest x y xs has)))
-
-pub member-holds : {A : Type 0} (P : A → Type 0) (xs : List A) (x : A) → AllByRecursion P xs → Contains xs x → P x
-member-holds P [] x all has = absurd (in-none x has)
-member-holds P (y ∷ ys) x all has = elim (in-cases y x ys has) [
-  | inl same ↦ subst P same all.0
-  | inr more ↦ member-holds P ys x all.1 more
-]

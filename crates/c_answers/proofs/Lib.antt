@@ -1,5 +1,4 @@
 mod InstancePaths
-mod PathsInside
 mod ActsSoFar
 mod GivenArguments
 mod FoundOutputs

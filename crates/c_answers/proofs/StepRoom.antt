@@ -1,5 +1,5 @@
 -- The budgets of a system and of all inside it leave room for each tick.
-use Rattle.std.specs.Prelude.{◌≡◌, ℕ, suc, ◌+◌, ◌*◌, ◌≤◌, ◌&&◌, max, Bool, true, false, cond, List, [], ◌∷◌, map, filter, fold, length, slice_get, sum_by, Contains, Option, Some, None, refl}
+use Rattle.std.specs.Prelude.{◌≡◌, ℕ, suc, ◌+◌, ◌*◌, ◌<◌, ◌≤◌, ◌&&◌, max, Bool, true, false, cond, List, [], ◌∷◌, map, filter, fold, length, slice_get, sum_by, Contains, Option, Some, None, refl}
 use Rattle.std.specs.List.{AllZip}
 use Rattle.std.proofs.Common.{sym, ap, subst, ◌∙◌, arith, lit≤, inl, inr, le_refl}
 use Rattle.std.proofs.lemmas.Bool.{and_parts, and_from, and_right}
@@ -8,7 +8,7 @@ use Rattle.std.proofs.lemmas.Nat.{mul-le}
 use Rattle.mc_blocks.specs.Value.{greatest_in}
 use Rattle.mc_diagram.specs.declared.table.Row.{Row}
 use Rattle.mc_diagram.specs.Rows.{row_at, row_numbers, is_subsystem, is_outport, is_inside, outports_of}
-use Rattle.mc_diagram.specs.RunLaws.{OwnRowsStandIn}
+use Rattle.mc_diagram.specs.WellFormed.{IsNested}
 use Rattle.mc_profile.specs.NodeFacts.{IsLocalOf}
 use Rattle.mc_profile.specs.Systems.{systems, systems_inside}
 use Rattle.mc_profile.proofs.lemmas.Members.{in-none, in-first, in-rest, in-cases, of-map, of-filter, of-range}
@@ -18,7 +18,7 @@ use Rattle.c_simulation.specs.Budgets.{own_budget, step_bound}
 use Rattle.c_simulation.specs.BudgetLaws.{BudgetsSumToBound}
 use Rattle.c_assembly.specs.Parts.{Parts, diagram, all_systems, Views}
 use Rattle.c_assembly.specs.Starts.{budget_inside}
-use Rattle.c_answers.proofs.PathsInside.{not-inside-itself}
+use Rattle.c_assembly.proofs.lemmas.SystemsUnder.{under-later, inside-under}
 
 -- ---- Sums
 
@@ -66,7 +66,17 @@ sum-made w f (x ∷ xs) = sum_by-cons w (f x) (map f xs) ∙ ap (λ n. w (f x) +
 
 -- ---- A system and all inside it are among all systems
 
-module _ (stand_in : OwnRowsStandIn) (a : Parts) where
+-- a subsystem isn't inside itself
+not-inside-itself : (rows : List Row) → IsNested rows → (f : ℕ) → f < length rows → is_inside rows (Some f) f ≡ false
+not-inside-itself rows nested f below = by (is_inside rows (Some f) f) refl
+  where
+    by : (b : Bool) → is_inside rows (Some f) f ≡ b → b ≡ false
+    by false e = refl
+    by true e =
+        let u = inside-under rows nested f (suc f) f (omega arith) below e in
+        let later = under-later rows nested f u.0 f below u.1 in absurd (omega (arith, later))
+
+module _ (a : Parts) where
   abbrev rows : List Row
   rows = (diagram a).rows
 
@@ -93,7 +103,7 @@ module _ (stand_in : OwnRowsStandIn) (a : Parts) where
       let inner = λ (e : ℕ). is_subsystem (row_at rows e).kind && is_inside rows (Some f) e in
       let any = λ (e : ℕ). is_subsystem (row_at rows e).kind && is_inside rows None e in
       let apart : inner f ≡ false = and_right (is_subsystem (row_at rows f).kind) (is_inside rows (Some f) f)
-      (not-inside-itself stand_in rows a.can.resolved.tree.table.nested f
+      (not-inside-itself rows a.can.resolved.tree.table.nested f
       (let low = (of-range 0 (length rows) f row.0).1 in omega (arith, low))) in
       let wide : any f ≡ true = and_from (is_subsystem (row_at rows f).kind) (is_inside rows None f) row.1 refl in
       let less =

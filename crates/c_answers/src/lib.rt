@@ -1,7 +1,7 @@
 // The program that the codes of all systems of a model come to, called from outside.
 //
-// Proved to follow: where instances have their fields, start and live through runs, and the root
-// starts, each system answers its calls in any lawful order.
+// Proved to follow: where instances live through runs, each that stands as its start left it answers its
+// calls in any lawful order.
 #![tactic(auto)]
 
 mod laws;
