@@ -1,4 +1,4 @@
--- An instance of a system that stands as its start left it answers its calls in any lawful order.
+-- An instance of a system that is as its start left it answers its calls in any lawful order.
 use Rattle.std.specs.Prelude.{◌≡◌, ℕ, ◌==◌, List, [], Contains, Option, Some, None, ℤ, refl}
 use Rattle.std.proofs.Common.{sym, ap, subst, ◌∙◌, arith, eq-eqb}
 use Rattle.std.proofs.lemmas.Bool.{or_left}

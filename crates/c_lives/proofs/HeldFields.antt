@@ -1,4 +1,4 @@
--- What an instance leaves behind a tick holds what the run has, in its own fields and in those of each system inside.
+-- What an instance leaves after a tick holds what the run has, in its own fields and in those of each system inside.
 use Rattle.std.specs.Prelude.{◌≡◌, ℕ, zero, suc, ◌||◌, Bool, true, false, if◌then◌else◌, List, [], ◌∷◌, map, filter, replicate, slice_get, slice_index_or, Contains, Option, Some, ℤ, pos}
 use Rattle.std.proofs.Common.{sym, ap, subst, ◌∙◌}
 use Rattle.std.proofs.lemmas.Option.{same_Some, none-some}
@@ -53,7 +53,7 @@ ring-moves n start v ring remembered false false is = is
 
 module _ (local : LocalSystem) (m : LocalTick) (tick : IsLocalTick local m) (r : LocalRow) (own : Contains local.rows r)
     (line : is_line r.op ≡ true) where
-  -- behind the tick the ring of a delay holds what the delay remembers
+  -- after the tick the ring of a delay holds what the delay remembers
   pub ring-after : IsRing (delay_length r.op) (row_start local r) (m.ring_after r.row) (m.tick.memory_after r.row)
   ring-after =
       let among = in-filter (λ (q : LocalRow). is_line q.op) local.rows r own line in

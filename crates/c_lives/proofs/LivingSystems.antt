@@ -253,7 +253,7 @@ module _ (laws : Laws) (a : Parts) (v : Views a) (renewed : Renewed a v) (s : Op
           (λ u one. one.accounts t below))
       accounts-by t (inr past) inside = absurd (omega arith)
 
-      -- what it leaves is what its slots hold behind the tick, and each child's instance holds the tick
+      -- what it leaves is what its slots hold after the tick, and each child's instance holds the tick
       holds-by : (t : ℕ) (when : (t < length xs) ⊎ (length xs ≤ t)) → t < length xs →
           HoldsRun (program_of a) (diagram a) n run t (instance_by t when).after
       holds-by t (inl below) inside =
