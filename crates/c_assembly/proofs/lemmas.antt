@@ -6,3 +6,5 @@ pub mod SystemsUnder
 pub mod ChildRows
 pub mod OwnSlots
 pub mod NamedFields
+pub mod RootPaths
+pub mod Executions
