@@ -68,10 +68,6 @@ pub on_behind : (log : List LoggedCall) (stores : List StoredField) (o : Outcome
 on_behind log stores (done a) P Q has next = next a has
 on_behind log stores (stuck at cells) P Q has next = has
 
-pub on_done : (o : Outcome) (P Q : After → Type 0) → ((a : After) → P a → Q a) → OnDone o P → OnDone o Q
-on_done (done a) P Q follows has = follows a has
-on_done (stuck at cells) P Q follows has = has
-
 -- these functions may be called in this order, and then the update
 abbrev pub AllMay : ((ℕ → Bool) → Act → Type 0) → (ℕ → Bool) → List ℕ → Type 0
 AllMay May called [] = May called update

@@ -1,10 +1,10 @@
 -- The forms of the root's struct: those of its fields, that of `top` among them.
-use Rattle.std.specs.Prelude.{◌≡◌, ℕ, zero, suc, ◌+◌, List, [], ◌∷◌, ◌++◌, map, length, reverse, slice_get, slice_index_or, Some, None, refl}
+use Rattle.std.specs.Prelude.{◌≡◌, ℕ, zero, suc, ◌+◌, ◌≤◌, List, [], ◌∷◌, ◌++◌, map, length, reverse, slice_get, slice_index_or, Some, None, refl}
 use Rattle.std.specs.List.{range_with_len}
 use Rattle.std.proofs.Common.{ap, ◌∙◌, arith}
 use Rattle.std.proofs.lemmas.List.{length-append, reverse-append, get_or_append_left}
 use Rattle.std.proofs.lemmas.List.FromFn.{length-range_with_len}
-use Rattle.std.proofs.lemmas.Option.{get_or_from_slice_get}
+use Rattle.std.proofs.lemmas.Option.{get_or_from_slice_get, same_Some, none-some}
 use Rattle.mc_profile.proofs.lemmas.Members.{at-right, at-below}
 use Rattle.c_syntax.specs.RootFields.{root_struct}
 use Rattle.c_syntax.specs.Tree.{StructTree}
@@ -12,8 +12,8 @@ use Rattle.c_machine.specs.Cells.{Cells, no_cells, more_cells, cell_at}
 use Rattle.c_machine.specs.CellLaws.{cells_count}
 use Rattle.c_shape.specs.Assembled.{code_at, from_last, struct_position, moved_struct, root_structure}
 use Rattle.c_shape.specs.Programs.{struct_place}
-use Rattle.c_simulation.specs.Forms.{Form, holds_nothing, Forms, no_forms, more_forms, HasForm, HasForms, forms_of, field_form, struct_forms}
-use Rattle.c_right.specs.Anew.{forms_at}
+use Rattle.c_simulation.specs.Forms.{Form, holds_instance, Forms, no_forms, more_forms, HasForm, HasForms, forms_of, field_form, struct_forms}
+use Rattle.c_right.specs.Anew.{forms_at, form_fields, field_count}
 use Rattle.c_assembly.specs.Parts.{Parts, program_of, Views}
 use Rattle.c_assembly.specs.Places.{SystemsHavePlaces, RootHasPlaces}
 use Rattle.c_root.proofs.PortedRows.{mapped-length}
@@ -21,7 +21,7 @@ use Rattle.c_root.proofs.PortedRows.{mapped-length}
 -- ---- Forms by their places
 
 abbrev pub form_at : Forms → ℕ → Form
-form_at no_forms g = holds_nothing
+form_at no_forms g = holds_instance no_forms
 form_at (more_forms form forms) zero = form
 form_at (more_forms form forms) (suc g) = form_at forms g
 
@@ -35,6 +35,15 @@ count-forms [] no_cells has = refl
 count-forms [] (more_cells c cells) has = absurd has
 count-forms (x ∷ xs) no_cells has = absurd has
 count-forms (x ∷ xs) (more_cells c cells) has = ap suc (count-forms xs cells has.1)
+
+-- with an instance among them there are its fields, and those up to it
+pub fields-below : (xs : List Form) (g : ℕ) (inner : Forms) → slice_get xs g ≡ Some (holds_instance inner) →
+    g + suc (field_count inner) ≤ field_count (forms_of xs)
+fields-below [] g inner at = absurd (none-some (holds_instance inner) at)
+fields-below (x ∷ xs) zero inner at =
+    let same = ap form_fields (same_Some x (holds_instance inner) at) in
+    omega (arith, same)
+fields-below (x ∷ xs) (suc g) inner at = let rest = fields-below xs g inner at in omega (arith, rest)
 
 -- where each cell keeps its form, all do
 pub keep-forms : (forms : Forms) (before after : Cells) → HasForms forms before → cells_count after ≡ cells_count before →

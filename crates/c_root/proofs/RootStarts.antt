@@ -26,27 +26,28 @@ use Rattle.c_shape.specs.Heads.{start_head}
 use Rattle.c_shape.specs.Programs.{no_procedure, procedure_place, struct_place}
 use Rattle.c_shape.specs.Assembled.{first_procedure, struct_position, call_top, root_value, root_structure, root_procedures}
 use Rattle.c_simulation.specs.BudgetLaws.{BudgetsSumToBound}
-use Rattle.c_simulation.specs.Forms.{Form, no_forms, HasForm, HasForms, holds_number, holds_instance, forms_of, field_form}
+use Rattle.c_simulation.specs.Forms.{Form, Forms, no_forms, HasForm, HasForms, holds_number, holds_instance, forms_of, field_form}
 use Rattle.c_simulation.specs.Instances.{OnDone}
 use Rattle.c_right.specs.Paths.{path_to, path_inside, cells_at}
-use Rattle.c_right.specs.Anew.{forms_at}
+use Rattle.c_right.specs.Anew.{field_count, forms_at}
 use Rattle.c_assembly.specs.Parts.{Parts, program_of, diagram, all_systems, Views}
 use Rattle.c_assembly.specs.Places.{SystemsHavePlaces, RootHasPlaces}
 use Rattle.c_assembly.specs.Offers.{offered_by, offer_of}
 use Rattle.c_assembly.specs.Starts.{Renewed, ReachInside}
 use Rattle.c_assembly.specs.Root.{top_place, HasInstance, IsRootStarted, RootsStart}
+use Rattle.c_assembly.proofs.lemmas.RootPaths.{path-to-top, path-to-inside}
+use Rattle.c_assembly.proofs.lemmas.Executions.{on-done}
 use Rattle.c_root.proofs.NumberedNames.{each-of}
-use Rattle.c_root.proofs.ChildCalls.{on_then, on_behind, on_done}
+use Rattle.c_root.proofs.ChildCalls.{on_then, on_behind}
 use Rattle.c_root.proofs.PortedRows.{mapped-length}
 use Rattle.c_root.proofs.RootCopies.{Stores, one_store}
 use Rattle.c_root.proofs.RootStruct.{out_field, top_field, count-fields}
-use Rattle.c_root.proofs.RootForms.{form_at, form-of, count-forms, keep-forms, earlier_forms, root-forms, top-forms}
+use Rattle.c_root.proofs.RootForms.{form_at, form-of, count-forms, fields-below, keep-forms, earlier_forms, root-forms, top-forms}
 use Rattle.c_root.proofs.RootFacts.{root-fields, top-here, now-here, outputs-here, long}
 use Rattle.c_root.proofs.RootRoutines.{systems_count, root_scope, same-routine, runs-body, types-are, first-sum}
 use Rattle.c_root.proofs.RootBound.{within-bound, within-limit}
 use Rattle.c_root.proofs.TopCode.{start-shown, params-found, position-is, place-below, struct-name}
 use Rattle.c_root.proofs.TopFacts.{h, known, row, os, out-ports, few-outs, functions-short}
-use Rattle.c_root.proofs.TopLogs.{path-to-top, path-to-inside}
 
 -- the laws on which the root's start rests
 pub record Laws : Type 0 where
@@ -104,6 +105,23 @@ module _ (laws : Laws) (a : Parts) (v : Views a) (renewed : Renewed a v) where
       first-sum a.codes (v.at None).code (known a v).stands in
       sym (same-routine laws.order a 0 start (omega (arith, below, sum))) ∙ ap (λ o. (offered_by p (start_name o)).routine) (sym (row a v))
 
+  abbrev forms : List Form
+  forms = map (field_form (earlier_forms a)) (root_structure a.codes a.root a.hyper).fields
+
+  -- the fields of `top`
+  abbrev inner_forms : Forms
+  inner_forms = slice_index_or (earlier_forms a) (struct_position a.codes 0) no_forms
+
+  top-form : slice_get forms f ≡ Some (holds_instance inner_forms)
+  top-form =
+      let at : m + 1 ≡ suc (length (map out_field (os a v)) + 0) = let same = mapped-length out_field (os a v) in
+      omega (arith, same) in
+      ap (slice_get forms) at
+      ∙ at-map (field_form (earlier_forms a)) (map out_field (os a v) ++ top_field (struct_position a.codes 0) ∷ [])
+      (length (map out_field (os a v)) + 0) (top_field (struct_position a.codes 0))
+      (at-right (map out_field (os a v)) (top_field (struct_position a.codes 0) ∷ []) 0
+      (top_field (struct_position a.codes 0)) refl)
+
   -- what the start of `top` takes
   few : (renewed.started None).most + 2 ≤ step_limit
   few =
@@ -111,6 +129,15 @@ module _ (laws : Laws) (a : Parts) (v : Views a) (renewed : Renewed a v) where
       let bound = within-bound a v laws.budgets in
       let limit = within-limit a v in
       omega (arith, spent, bound, limit)
+
+  -- the root has at least two fields more than `top`
+  short : 2 + (renewed.started None).most ≤ field_count (forms_at p (root_struct p))
+  short =
+      let most = renewed.starts.0.short in
+      let inner = ap field_count (renewed.starts.0.forms ∙ top-forms a v laws.systems) in
+      let whole = ap field_count (root-forms a laws.root) in
+      let below = fields-below forms f inner_forms top-form in
+      omega (arith, most, inner, whole, below)
 
   -- ---- From any fields of the struct
 
@@ -139,7 +166,7 @@ module _ (laws : Laws) (a : Parts) (v : Views a) (renewed : Renewed a v) where
       pub count : cells_count after.cells ≡ cells_count before
       pub top_cell : cell_at after.cells f ≡ object started
       pub others : (g : ℕ) → f ≢ g → cell_at after.cells g ≡ cell_at before g
-      pub in_time : after.steps + 1 ≤ step_limit
+      pub in_time : after.steps ≤ 1 + (renewed.started None).most
 
     called : OnDone (run_stmt scope (call 0 start (Child f) no_exprs) before 0) Called
     called =
@@ -156,13 +183,12 @@ module _ (laws : Laws) (a : Parts) (v : Views a) (renewed : Renewed a v) where
         left (done z) has =
             let set = fields_are_set before f (object z.cells) in
             let size = wide in
-            let room = few in
             let late = has.1 in
             record {
               count = set.count;
               top_cell = set.here (omega (arith, size)) ∙ ap object has.0;
               others = set.others;
-              in_time = omega (arith, room, late);
+              in_time = omega (arith, late);
             }
 
     -- behind all
@@ -171,6 +197,7 @@ module _ (laws : Laws) (a : Parts) (v : Views a) (renewed : Renewed a v) where
       pub now_cell : cell_at after.cells 0 ≡ number (pos 0)
       pub top_cell : cell_at after.cells f ≡ object started
       pub others : (g : ℕ) → f ≢ g → 0 ≢ g → cell_at after.cells g ≡ cell_at before g
+      pub in_time : after.steps ≤ 2 + (renewed.started None).most
 
     begun : OnDone ((routine_at (program_routines p) (unwrap_or (procedure_named p root_start_name) 0)).run [] before 0) Begun
     begun =
@@ -189,6 +216,7 @@ module _ (laws : Laws) (a : Parts) (v : Views a) (renewed : Renewed a v) where
           now_cell = stored.stands.cell;
           top_cell = stored.stands.others f (λ e. omega (arith, e)) ∙ has.top_cell;
           others = λ g one two. stored.stands.others g two ∙ has.others g one;
+          in_time = let early = has.in_time in let late = stored.quiet.in_time in omega (arith, early, late);
         })))
       where
         last : (b : After) → Called b → OnDone (run_stmts scope (stmts_of_list (assign 0 0 (literal (pos 0)) ∷ [])) b.cells b.steps)
@@ -196,23 +224,21 @@ module _ (laws : Laws) (a : Parts) (v : Views a) (renewed : Renewed a v) where
         last b has =
             let size = wide in
             let same = has.count in
-            let room = has.in_time in
+            let early = has.in_time in
+            let room = few in
             subst (λ o. OnDone o (Stores f 0 (pos 0) b.cells (b.steps + 1)))
             (sym ((sequences_run_in_order scope b.cells b.steps).alone (assign 0 0 (literal (pos 0)))))
             (one_store scope f 0 (literal (pos 0)) (pos 0) b.cells b.steps (omega (arith, size, same))
             (gives_literal scope.functions (reads [] b.cells) 0 (pos 0))
             (ap (λ ty. is_in_type ty (pos 0))
             (ap (λ ts. type_at ts 0) (types-are laws.order a laws.root [] 0 ∙ ap field_types (root-fields laws.root a v))))
-            (omega (arith, room)))
+            (omega (arith, room, early)))
 
     -- ---- What is left
 
     module _ (reach : ReachInside a renewed.started) (after : After) (has : Begun after) where
       top-is : fields_at after.cells f ≡ started
       top-is = ap cell_fields has.top_cell
-
-      abbrev forms : List Form
-      forms = map (field_form (earlier_forms a)) (root_structure a.codes a.root a.hyper).fields
 
       form-kept : (g : ℕ) → HasForm (form_at (forms_of forms) g) (cell_at before g) →
           HasForm (form_at (forms_of forms) g) (cell_at after.cells g)
@@ -222,23 +248,13 @@ module _ (laws : Laws) (a : Parts) (v : Views a) (renewed : Renewed a v) where
             let here : f ≡ suc g = same in
             subst (λ k. HasForm (form_at (forms_of forms) k) (cell_at after.cells k)) here
             (subst (λ form. HasForm form (cell_at after.cells f))
-            (sym (form-of forms f (holds_instance (slice_index_or (earlier_forms a) (struct_position a.codes 0) no_forms)) top-form))
-            (subst (HasForm (holds_instance (slice_index_or (earlier_forms a) (struct_position a.codes 0) no_forms))) (sym has.top_cell)
+            (sym (form-of forms f (holds_instance inner_forms) top-form))
+            (subst (HasForm (holds_instance inner_forms)) (sym has.top_cell)
             (subst (λ fs. HasForms fs started) (renewed.starts.0.forms ∙ top-forms a v laws.systems)
             (renewed.starts.0.renews.keeps top top-formed))))
         | inr (t, apart) ↦ subst (HasForm (form_at (forms_of forms) (suc g)))
             (sym (has.others (suc g) (λ e. apart e) (λ e. omega (arith, e)))) was
       ]
-        where
-          top-form : slice_get forms f ≡ Some (holds_instance (slice_index_or (earlier_forms a) (struct_position a.codes 0) no_forms))
-          top-form =
-              let at : m + 1 ≡ suc (length (map out_field (os a v)) + 0) = let same = mapped-length out_field (os a v) in
-              omega (arith, same) in
-              ap (slice_get forms) at
-              ∙ at-map (field_form (earlier_forms a)) (map out_field (os a v) ++ top_field (struct_position a.codes 0) ∷ [])
-              (length (map out_field (os a v)) + 0) (top_field (struct_position a.codes 0))
-              (at-right (map out_field (os a v)) (top_field (struct_position a.codes 0) ∷ []) 0
-              (top_field (struct_position a.codes 0)) refl)
 
       system-started : (s : Option ℕ) → Contains (all_systems a) s → cells_at (path_to p (diagram a).rows s) after.cells ≡
           (renewed.started s).renewed (cells_at (path_to p (diagram a).rows s) before)
@@ -269,7 +285,7 @@ module _ (laws : Laws) (a : Parts) (v : Views a) (renewed : Renewed a v) where
           ap₂ (λ x xs. x ∷ xs) (ap cell_value (has.others k (λ e. omega (arith, e, most)) (λ e. omega (arith, e, some))))
           (output-kept (k + 1) n (omega arith) (omega (arith, most)))
 
-      pub is-started : IsRootStarted a renewed.started before after
+      pub is-started : IsRootStarted a renewed.started before after.cells
       is-started = record {
         stands = record {
           now = ap (number_at after.cells) (now-here laws.root a v) ∙ ap cell_value has.now_cell ∙ ap pos (sym (zero-mod a.hyper));
@@ -291,7 +307,12 @@ module _ (laws : Laws) (a : Parts) (v : Views a) (renewed : Renewed a v) where
 pub roots_start : Laws → RootsStart
 roots_start laws a v renewed reach paths before formed =
     let inside = (paths before formed).0 in
-    on_done ((routine_at (program_routines (program_of a)) (unwrap_or (procedure_named (program_of a) root_start_name) 0)).run []
-    before 0) (Begun laws a v renewed before formed inside) (IsRootStarted a renewed.started before)
-    (λ after has. is-started laws a v renewed before formed inside reach after has)
+    on-done ((routine_at (program_routines (program_of a)) (unwrap_or (procedure_named (program_of a) root_start_name) 0)).run []
+    before 0) (Begun laws a v renewed before formed inside)
+    (λ after. (after.steps ≤ field_count (forms_at (program_of a) (root_struct (program_of a))))
+    × IsRootStarted a renewed.started before after.cells)
+    (λ after has. (
+      let early = has.in_time in let enough = short laws a v renewed in omega (arith, early, enough),
+      is-started laws a v renewed before formed inside reach after has,
+    ))
     (begun laws a v renewed before formed inside)

@@ -42,7 +42,7 @@ use Rattle.c_simulation.specs.Budgets.{step_bound}
 use Rattle.c_simulation.specs.BudgetLaws.{BudgetsSumToBound}
 use Rattle.c_simulation.specs.LocalTicks.{IsTypedTick}
 use Rattle.c_simulation.specs.Relation.{IsCycleOf}
-use Rattle.c_simulation.specs.RunTicks.{tick_at}
+use Rattle.c_simulation.specs.RunTicks.{nothing_untouched, tick_at}
 use Rattle.c_simulation.specs.RunTickLaws.{CycleIsOfLocals, TicksAreTyped}
 use Rattle.c_simulation.proofs.lemmas.Containers.{container-has}
 use Rattle.c_assembly.specs.Parts.{Parts, program_of, diagram, Views}
@@ -181,8 +181,8 @@ module _ (laws : Laws) (a : Parts) (v : Views a) where
     abbrev outer : OuterTick
     outer = outer_at a v None xs run None t
 
-    typed : IsTypedTick (local a v) (tick_at (diagram a) None xs run None (λ b. []) t)
-    typed = laws.typed a.model None None (local a v) xs run (λ b. []) t a.can.resolved tt refl
+    typed : IsTypedTick (local a v) (tick_at (diagram a) None xs run None nothing_untouched t)
+    typed = laws.typed a.model None None (local a v) xs run nothing_untouched t a.can.resolved tt refl
         (known a v).local is_run trace a.can.no_loop below
 
     abbrev most : ℕ

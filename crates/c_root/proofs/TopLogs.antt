@@ -1,5 +1,5 @@
 -- What the calls of a whole tick of `top` come to, seen from the root.
-use Rattle.std.specs.Prelude.{◌≡◌, ℕ, zero, suc, ◌+◌, ◌-◌, ◌<◌, ◌≤◌, Bool, true, false, not, ◌||◌, ◌&&◌, ◌==◌, cond, List, [], ◌∷◌, ◌++◌, map, filter, reverse, length, slice_index_or, Contains, IsTrue, IsPermutation, Option, Some, None, ℤ, refl}
+use Rattle.std.specs.Prelude.{◌≡◌, ℕ, zero, suc, ◌+◌, ◌-◌, ◌<◌, ◌≤◌, Bool, true, false, ◌||◌, ◌&&◌, ◌==◌, cond, List, [], ◌∷◌, ◌++◌, map, filter, length, slice_index_or, Contains, IsTrue, IsPermutation, Option, Some, None, ℤ, refl}
 use Rattle.std.specs.List.{AllByRecursion, range_with_len}
 use Rattle.std.proofs.Common.{sym, ap, ap₂, subst, ◌∙◌, arith, inl, inr, true≢false}
 use Rattle.std.proofs.lemmas.Bool.{eq-eqb, ne_eqb}
@@ -7,49 +7,30 @@ use Rattle.std.proofs.lemmas.List.Sorted.{IsPermutation-refl}
 use Rattle.std.proofs.lemmas.Option.{get_or_from_slice_get}
 use Rattle.mc_blocks.specs.Meaning.{has_value}
 use Rattle.mc_diagram.specs.declared.table.Row.{Row}
-use Rattle.mc_diagram.specs.Rows.{row_at, row_numbers, rows_of, is_subsystem, is_inside, is_system, outward, around}
-use Rattle.mc_diagram.specs.WellFormed.{IsNested}
+use Rattle.mc_diagram.specs.Rows.{row_at, rows_of}
 use Rattle.mc_diagram.specs.Laws.{Run}
-use Rattle.mc_diagram.proofs.lemmas.Enclosing.{enclosing-step}
 use Rattle.mc_profile.specs.SystemHeader.{SystemHeader}
 use Rattle.mc_profile.specs.Headers.{header_functions}
 use Rattle.mc_profile.specs.Systems.{systems_inside}
-use Rattle.mc_profile.proofs.lemmas.Members.{in-none, in-first, in-rest, in-cases, in-map, of-map, of-filter, of-range, at-map, at-range}
+use Rattle.mc_profile.proofs.lemmas.Members.{in-none, in-first, in-rest, in-cases, in-map, of-map, at-map, at-range}
 use Rattle.c_syntax.specs.Tree.{ProgramTree}
 use Rattle.c_machine.specs.Machine.{LoggedCall, StoredField, call_under}
-use Rattle.c_shape.specs.Names.{child_name, value_name, out_name, update_name}
+use Rattle.c_shape.specs.Names.{value_name, out_name, update_name}
 use Rattle.c_shape.specs.Programs.{procedure_place}
 use Rattle.c_shape.specs.Faces.{out_count}
 use Rattle.c_simulation.specs.Instances.{out, update, none_called, with_called, called_after, OuterTick, InstanceTick, Offered, nothing_offered, Offer, same_path, calls_at, stores_at}
 use Rattle.c_simulation.specs.Serving.{MayCome, own_entry, Serves}
 use Rattle.c_simulation.specs.Accounts.{log_along, stored_along}
-use Rattle.c_right.specs.Paths.{place_in, path_to, path_inside}
-use Rattle.c_right.specs.Calls.{IsWholeTick, HasCallsOf, StoresOnce, CallsInTick}
+use Rattle.c_right.specs.Paths.{place_in, path_inside}
+use Rattle.c_right.specs.Calls.{IsWholeTick, HasCallsOf, StoresOnce, CallsInside, CallsInTick}
 use Rattle.c_assembly.specs.Parts.{Parts, program_of, diagram, Views}
 use Rattle.c_assembly.specs.Offers.{program_offer, offered_by}
 use Rattle.c_assembly.specs.Root.{top_place}
 use Rattle.c_assembly.specs.Lives.{whole_tick, IsWhole, StoredAtMost, is_around_active}
+use Rattle.c_assembly.proofs.lemmas.RootPaths.{path-to-top}
 use Rattle.c_root.proofs.NumberedNames.{each-of}
+use Rattle.c_root.proofs.PortedRows.{map-map}
 use Rattle.c_root.proofs.ChildCalls.{AllMay}
-
--- ---- Paths
-
-filter-all : (es : List ℕ) → filter (λ e. not (is_system None e)) es ≡ es
-filter-all [] = refl
-filter-all (e ∷ es) = ap (λ fs. e ∷ fs) (filter-all es)
-
-pub path-to-top : (p : ProgramTree) (rows : List Row) → path_to p rows None ≡ top_place p ∷ []
-path-to-top p rows = ap (λ es. top_place p ∷ map (λ e. place_in p (row_at rows e).owner (child_name e)) (reverse es)) (none (length rows))
-  where
-    none : (n : ℕ) → outward rows None n None ≡ []
-    none zero = refl
-    none (suc n) = refl
-
-pub path-to-inside : (p : ProgramTree) (rows : List Row) (e : ℕ) → IsNested rows → e < length rows →
-    path_to p rows (Some e) ≡ top_place p ∷ path_inside p rows None e
-path-to-inside p rows e nested below =
-    ap (λ es. top_place p ∷ map (λ f. place_in p (row_at rows f).owner (child_name f)) (reverse es))
-    (enclosing-step rows None nested e below ∙ ap (λ es. e ∷ es) (sym (filter-all (around rows None e))))
 
 -- ---- Calls under a field
 
@@ -175,11 +156,9 @@ module _ (a : Parts) (v : Views a) (xs : List (List ℤ)) (run : Run) (t : ℕ) 
   abbrev inner : List LoggedCall
   inner = log_along i none_called (whole_tick js)
 
-  inside-path : (e : ℕ) → Contains (systems_inside rows None) e → path_to p rows (Some e) ≡ top_place p ∷ path_inside p rows None e
-  inside-path e has =
-      let kept = of-filter (λ c. is_subsystem (row_at rows c).kind && is_inside rows None c) (row_numbers rows) e has in
-      let below = (of-range 0 (length rows) e kept.0).1 in
-      path-to-inside p rows e a.can.resolved.tree.table.nested (omega (arith, below))
+  -- where the instances are
+  abbrev paths : List (List ℕ)
+  paths = (top_place p ∷ []) ∷ map (λ e. top_place p ∷ path_inside p rows None e) (systems_inside rows None)
 
   module _ (logged : log ≡ map (call_under (top_place p)) inner)
       (stored : (path : List ℕ) (field : ℕ) → stores_at (top_place p ∷ path) field stores ≤ stored_along i none_called
@@ -187,54 +166,38 @@ module _ (a : Parts) (v : Views a) (xs : List (List ℤ)) (run : Run) (t : ℕ) 
     calls-inside : (path : List ℕ) → calls_at (top_place p ∷ path) log ≡ calls_at path inner
     calls-inside path = ap (calls_at (top_place p ∷ path)) logged ∙ calls-under (top_place p) path inner
 
-    once : (path whole_path : List ℕ) (o : Option ℕ) → path_to p rows o ≡ whole_path → whole_path ≡ top_place p ∷ path →
-        StoredAtMost a v None xs run i (whole_tick js) path o 1 → StoresOnce p rows o stores
-    once path whole_path o is goes most =
+    once : (path : List ℕ) (o : Option ℕ) → StoredAtMost a v None xs run i (whole_tick js) path o 1 →
+        StoresOnce p rows (top_place p ∷ path) o stores
+    once path o most =
         all-follow _ _ (filter (λ b. has_value (row_at rows b).kind) (rows_of rows o))
-        (λ b has few.
-        let at = stored path (place_in p o (value_name b)) in
-        subst (λ z. stores_at z (place_in p o (value_name b)) stores ≤ 1) (sym (is ∙ goes)) (omega (arith, at, few))) most
+        (λ b has few. let at = stored path (place_in p o (value_name b)) in omega (arith, at, few)) most
 
-    elsewhere : (c : LoggedCall) → Contains inner c → Contains (map (path_to p rows) (None ∷ map Some (systems_inside rows None)))
-        (top_place p ∷ c.path)
+    elsewhere : (c : LoggedCall) → Contains inner c → Contains paths (top_place p ∷ c.path)
     elsewhere c has = elim (whole.no_other c.path) [
       | inl none ↦ absurd (there inner c has none)
-      | inr listed ↦ elim (in-cases [] c.path (map (path_inside p rows None) (systems_inside rows None)) listed) [
-        | inl own ↦
-            subst (Contains (map (path_to p rows) (None ∷ map Some (systems_inside rows None))))
-            (path-to-top p rows ∙ ap (λ path. top_place p ∷ path) own)
-            (in-first (path_to p rows None) (map (path_to p rows) (map Some (systems_inside rows None))))
-        | inr more ↦
-            let made = of-map (path_inside p rows None) (systems_inside rows None) c.path more in
-            in-rest (path_to p rows None) (top_place p ∷ c.path) (map (path_to p rows) (map Some (systems_inside rows None)))
-            (subst (Contains (map (path_to p rows) (map Some (systems_inside rows None))))
-            (inside-path made.0 made.1 ∙ ap (λ path. top_place p ∷ path) made.2)
-            (in-map (path_to p rows) (map Some (systems_inside rows None)) (Some made.0)
-            (in-map Some (systems_inside rows None) made.0 made.1)))
-      ]
+      | inr listed ↦ subst (λ more. Contains ((top_place p ∷ []) ∷ more) (top_place p ∷ c.path))
+          (map-map (λ path. top_place p ∷ path) (path_inside p rows None) (systems_inside rows None))
+          (in-map (λ path. top_place p ∷ path) ([] ∷ map (path_inside p rows None) (systems_inside rows None)) c.path listed)
     ]
 
     pub calls_in_tick : IsWholeTick p None (calls_at [] inner) →
         CallsInTick p (diagram a) (slice_index_or xs t []) (slice_index_or run.values t []) (slice_index_or run.triggers t []) log stores
     calls_in_tick top = record {
-      inside = record {
-        each = all-follow _ _ (systems_inside rows None)
-            (λ e has calls. subst (HasCallsOf p (Some e) (is_around_active a v None xs run t e))
-            (sym (ap (λ path. calls_at path log) (inside-path e has) ∙ calls-inside (path_inside p rows None e))) calls) whole.calls;
-        stored_once = all-follow _ _ (systems_inside rows None)
-            (λ e has most. once (path_inside p rows None e) (path_to p rows (Some e)) (Some e) refl (inside-path e has) most)
-            whole.stored_inside;
-        no_other = subst (AllByRecursion (λ c. Contains (map (path_to p rows) (None ∷ map Some (systems_inside rows None))) c.path))
-            (sym logged)
-            (each-of (λ (c : LoggedCall). Contains (map (path_to p rows) (None ∷ map Some (systems_inside rows None))) c.path)
-            (map (call_under (top_place p)) inner)
-            (λ c has.
-            let made = of-map (call_under (top_place p)) inner c has in
-            subst (λ (z : LoggedCall). Contains (map (path_to p rows) (None ∷ map Some (systems_inside rows None))) z.path) made.2
-            (elsewhere made.0 made.1)));
-      };
+      inside = subst (λ path. CallsInside p (diagram a) path None (slice_index_or xs t []) (slice_index_or run.values t [])
+          (slice_index_or run.triggers t []) log stores) (sym (path-to-top p rows)) (record {
+            each = all-follow _ _ (systems_inside rows None)
+                (λ e has calls. subst (HasCallsOf p (Some e) (is_around_active a v None xs run t e))
+                (sym (calls-inside (path_inside p rows None e))) calls) whole.calls;
+            stored_once = once [] None whole.stored;
+            inner_stored_once = all-follow _ _ (systems_inside rows None)
+                (λ e has most. once (path_inside p rows None e) (Some e) most) whole.stored_inside;
+            no_other = subst (AllByRecursion (λ c. Contains paths c.path)) (sym logged)
+                (each-of (λ (c : LoggedCall). Contains paths c.path) (map (call_under (top_place p)) inner)
+                (λ c has.
+                let made = of-map (call_under (top_place p)) inner c has in
+                subst (λ (z : LoggedCall). Contains paths z.path) made.2 (elsewhere made.0 made.1)));
+          });
       top = subst (IsWholeTick p None) (sym (ap (λ path. calls_at path log) (path-to-top p rows) ∙ calls-inside [])) top;
-      top_stored_once = once [] (path_to p rows None) None refl (path-to-top p rows) whole.stored;
     }
 
 -- the calls of a whole tick are one of each function and then the update, where the program shows as many
