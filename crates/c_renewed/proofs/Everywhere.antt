@@ -1,10 +1,8 @@
--- What holds of each member of a list, and of what an execution leaves.
+-- What holds of each member of a list.
 use Rattle.std.specs.Prelude.{◌≡◌, List, [], ◌∷◌, map, Contains, refl}
 use Rattle.std.specs.List.{AllByRecursion, AllZip}
 use Rattle.std.proofs.Common.{ap, ap₂, subst, inl, inr}
 use Rattle.mc_profile.proofs.lemmas.Members.{in-none, in-first, in-rest, in-cases}
-use Rattle.c_machine.specs.Machine.{After, Outcome, done, stuck}
-use Rattle.c_simulation.specs.Instances.{OnDone}
 
 -- all members pass, so this one does
 pub member : {A : Type 0} (P : A → Type 0) (xs : List A) (x : A) → AllByRecursion P xs → Contains xs x → P x
@@ -34,10 +32,3 @@ map-same f g (x ∷ xs) same = ap₂ (λ y ys. y ∷ ys) (same x (in-first x xs)
 pub map-map : {A B C : Type 0} (g : B → C) (f : A → B) (xs : List A) → map g (map f xs) ≡ map (λ x. g (f x)) xs
 map-map g f [] = refl
 map-map g f (x ∷ xs) = ap (λ rest. g (f x) ∷ rest) (map-map g f xs)
-
--- ---- Executions
-
--- what follows from what holds of what is left
-pub done-then : (o : Outcome) (P Q : After → Type 0) → ((x : After) → P x → Q x) → OnDone o P → OnDone o Q
-done-then (done x) P Q next h = next x h
-done-then (stuck at cells) P Q next h = absurd h

@@ -1,18 +1,15 @@
--- The path to a subsystem inside a system goes by the subsystem around it, and from the root by `top`.
-use Rattle.std.specs.Prelude.{◌≡◌, ℕ, ◌<◌, true, not, List, [], ◌∷◌, ◌++◌, map, filter, reverse, length, Option, Some, None, refl}
+-- The path to a subsystem inside a system goes by the subsystem around it.
+use Rattle.std.specs.Prelude.{◌≡◌, ℕ, ◌<◌, true, List, [], ◌∷◌, ◌++◌, map, reverse, length, Option, Some, refl}
 use Rattle.std.proofs.Common.{ap, ◌∙◌}
 use Rattle.std.proofs.lemmas.List.{map-append, reverse-append}
 use Rattle.mc_diagram.specs.declared.table.Row.{Row}
-use Rattle.mc_diagram.specs.Rows.{row_at, is_system, around, around_inside, is_inside}
+use Rattle.mc_diagram.specs.Rows.{row_at, around_inside, is_inside}
 use Rattle.mc_diagram.specs.WellFormed.{IsNested}
-use Rattle.mc_diagram.proofs.lemmas.Enclosing.{enclosing-step}
-use Rattle.mc_profile.specs.Systems.{system_name}
 use Rattle.c_syntax.specs.Tree.{ProgramTree}
-use Rattle.c_syntax.specs.RootFields.{field_position, root_fields}
 use Rattle.c_machine.specs.Cells.{Cells, fields_at}
 use Rattle.c_shape.specs.Names.{child_name}
-use Rattle.c_right.specs.Paths.{place_in, path_to, path_inside, cells_at}
-use Rattle.c_renewed.proofs.NestedRows.{none-outward, around-child, around-deeper}
+use Rattle.c_right.specs.Paths.{place_in, path_inside, cells_at}
+use Rattle.c_renewed.proofs.NestedRows.{around-child, around-deeper}
 
 -- the last step of a path
 pub cells-last : (path : List ℕ) (f : ℕ) (cells : Cells) → cells_at (path ++ f ∷ []) cells ≡ fields_at (cells_at path cells) f
@@ -36,20 +33,3 @@ module _ (p : ProgramTree) (rows : List Row) (nested : IsNested rows) where
       ∙ ap (map field) (reverse-append (e ∷ []) (g ∷ around_inside rows s g))
       ∙ map-append field (reverse (g ∷ around_inside rows s g)) (e ∷ [])
       ∙ ap (λ o. path_inside p rows s g ++ place_in p o (child_name e) ∷ []) own
-
-  abbrev top : ℕ
-  top = field_position (root_fields p) (system_name None)
-
-  -- ---- From the root
-
-  pub path-top : path_to p rows None ≡ top ∷ []
-  path-top = ap (λ es. top ∷ map field (reverse es)) (none-outward rows None (length rows))
-
-  pub path-below-top : (e : ℕ) → e < length rows → path_to p rows (Some e) ≡ top ∷ path_inside p rows None e
-  path-below-top e below =
-      ap (λ es. top ∷ map field (reverse es)) (enclosing-step rows None nested e below)
-      ∙ ap (λ es. top ∷ map field (reverse (e ∷ es))) (back (around rows None e))
-    where
-      back : (es : List ℕ) → es ≡ filter (λ f. not (is_system None f)) es
-      back [] = refl
-      back (f ∷ es) = ap (λ rest. f ∷ rest) (back es)

@@ -1,5 +1,5 @@
-ghost use Rattle.c_assembly.specs.Root.{RestartsFollow};
-ghost use Rattle.c_assembly.specs.Starts.{RenewalsGoInside, RenewalsReachInside, SystemsAreRenewed};
+ghost use Rattle.c_assembly.specs.Starts.{RenewalsReachInside, SystemsAreRenewed};
+ghost use Rattle.c_assembly.specs.Whole.{RenewalsGoInside, RestartsFollow};
 
 use c_assembly::{fields_have_places, offers_are_of_headers, systems_have_places};
 use c_simulation::budgets_sum_to_bound;
@@ -19,7 +19,8 @@ pub fn renewals_reach_inside()
     fields_have_places();
 }
 
-/// Each system is started and reset with all inside it, from any fields of its struct.
+/// Each system is started and reset with all inside it, from any fields of its struct, and after its
+/// start it answers each lawful script, where started instances do.
 pub fn renewals_go_inside()
     ensures { RenewalsGoInside }
 {
@@ -28,7 +29,8 @@ pub fn renewals_go_inside()
     budgets_sum_to_bound();
 }
 
-/// The whole program is started from any fields, where its root starts.
+/// The whole program is started from any fields, and after that it answers traces and scripts, where
+/// its root starts, and started instances answer.
 pub fn restarts_follow()
     ensures { RestartsFollow }
 {
