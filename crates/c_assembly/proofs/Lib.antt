@@ -17,5 +17,6 @@ mod CalledNames
 pub mod OfferedPlaces
 mod OutputPlaces
 mod SystemOffers
+mod RootTraces
 mod RootRows
 mod Derivations

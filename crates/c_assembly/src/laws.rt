@@ -1,7 +1,7 @@
 ghost use Rattle.c_assembly.specs.Offers.{OffersAreOfHeaders, ProceduresFollow, SystemsOfferTheirs};
 ghost use Rattle.c_assembly.specs.Parts.{CodesHaveViews};
 ghost use Rattle.c_assembly.specs.Places.{FieldsHavePlaces, RootHasPlaces, SystemsHavePlaces};
-ghost use Rattle.c_assembly.specs.Whole.{CodeFollows, RunsFollow};
+ghost use Rattle.c_assembly.specs.Whole.{CodeFollows, RunsFollow, TracesFollow};
 
 use c_machine::procedures_stand_in_order;
 use c_shape::moved_code_agrees;
@@ -64,9 +64,15 @@ pub fn systems_offer_theirs()
     procedures_follow();
 }
 
-/// The program gives over each trace the outputs of the one run, within the bound on steps, by the
-/// calls of each tick, where its root starts and takes single ticks as it should, and each instance
-/// has its fields, starts, and lives through runs.
+/// Fields of the root whose instance of `top` is as its start left it answer each trace, where the
+/// root takes single ticks as it should, and each instance lives through runs.
+pub fn traces_follow()
+    ensures { TracesFollow }
+{}
+
+/// A program that is restarted from any fields gives over each trace the outputs of the one run,
+/// within the bound on steps, by the calls of each tick, and each system answers its calls in any
+/// lawful order.
 pub fn runs_follow()
     ensures { RunsFollow }
 {
