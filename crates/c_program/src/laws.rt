@@ -3,7 +3,9 @@ ghost use Rattle.c_assembly.specs.Whole.{AssembledIsCode};
 
 use c_accounts::accounts_follow;
 use c_answers::answers_follow;
-use c_assembly::{code_follows, codes_have_views, runs_follow, systems_offer_theirs};
+use c_assembly::{
+    code_follows, codes_have_views, runs_follow, systems_offer_theirs, traces_follow,
+};
 use c_faces::{assembled_has_shape, assembled_is_least};
 use c_instances::{forms_are_of_slots, instances_have_paths, zeros_have_forms};
 use c_keeping::assembled_is_lawful;
@@ -23,14 +25,15 @@ pub fn assembled_is_code()
     instances_have_paths();
     systems_are_renewed();
     renewals_reach_inside();
-    renewals_go_inside();
-    restarts_follow();
     accounts_follow();
     lives_follow();
     roots_start();
     roots_take_ticks();
-    runs_follow();
     answers_follow();
+    traces_follow();
+    renewals_go_inside();
+    restarts_follow();
+    runs_follow();
     assembled_has_shape();
     assembled_is_least();
     assembled_is_lawful();
