@@ -23,7 +23,7 @@ use Rattle.mc_profile.proofs.lemmas.OwnRows.{of-rows}
 use Rattle.c_shape.specs.Delays.{is_single}
 use Rattle.c_shape.specs.RowStarts.{row_start}
 use Rattle.c_simulation.specs.LocalTicks.{LocalTick}
-use Rattle.c_simulation.specs.RunTicks.{tick_at}
+use Rattle.c_simulation.specs.RunTicks.{Untouched, tick_at}
 
 -- a delay of one sample is a delay, of that length
 single-is_delay : (op : Op) → is_single op ≡ true → (is_delay op ≡ true) × (delay_length op ≡ 1)
@@ -87,10 +87,10 @@ module _ (r : ResolvedTree) (n : Option ℕ) (local : LocalSystem) (is_local : I
       ap (λ o. start_by (op_at d b) (row_at d.rows b).kind (system_control d.rows o) (type_at d.types b)) own.own
       ∙ ap (λ (l : LocalSystem). row_start l (local_row d r.times.delays b)) (sym is_local.is_local)
 
-  module _ (s : Option ℕ) (xs : List (List ℤ)) (run : Run) (items : ℕ → List ℤ) (resolved : IsResolvedTree r)
+  module _ (s : Option ℕ) (xs : List (List ℤ)) (run : Run) (untouched : Untouched) (resolved : IsResolvedTree r)
       (within : IsSystemWithin (diagram_of r).rows s n) (is : IsRunOver (diagram_of r) s xs run) where
     abbrev m : LocalTick
-    m = tick_at (diagram_of r) s xs run n items 0
+    m = tick_at (diagram_of r) s xs run n untouched 0
 
     first : IsFirstTick (diagram_of r) n (system_tick (diagram_of r) s xs run n 0)
     first = (runs_are_of_systems r s n xs run resolved within is).first

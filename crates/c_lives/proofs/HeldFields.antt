@@ -21,7 +21,7 @@ use Rattle.c_shape.specs.Slots.{Slot, value, memory, ring_items, ring_place, rin
 use Rattle.c_simulation.specs.Instances.{InstanceTick, instance_at}
 use Rattle.c_simulation.specs.LocalTicks.{LocalTick, IsLocalTick, is_off, row_runs, row_inputs, memory_of, ring_of}
 use Rattle.c_simulation.specs.Rings.{Ring, IsRing, emptied_ring, moved_ring}
-use Rattle.c_simulation.specs.RunTicks.{tick_at}
+use Rattle.c_simulation.specs.RunTicks.{Untouched, tick_at}
 use Rattle.c_simulation.specs.Standing.{cells_of, after_cell, after_cells}
 use Rattle.c_simulation.proofs.lemmas.LocalTickLaws.{line-is_delay}
 use Rattle.c_simulation.proofs.lemmas.RingLaws.{emptied_is_ring, moved_is_ring}
@@ -72,8 +72,8 @@ module _ (local : LocalSystem) (m : LocalTick) (tick : IsLocalTick local m) (r :
 -- ---- Fields
 
 module _ (structs : SystemsHavePlaces) (fields : FieldsHavePlaces) (a : Parts) (v : Views a) (place : ℕ) (n : Option ℕ)
-    (stands : slice_get (all_systems a) place ≡ Some n) (s : Option ℕ) (xs : List (List ℤ)) (run : Run) (items : ℕ → List ℤ) (t : ℕ)
-    (tick : IsLocalTick (v.at n).local (tick_at (diagram a) s xs run n items t)) (children : List InstanceTick) where
+    (stands : slice_get (all_systems a) place ≡ Some n) (s : Option ℕ) (xs : List (List ℤ)) (run : Run) (untouched : Untouched) (t : ℕ)
+    (tick : IsLocalTick (v.at n).local (tick_at (diagram a) s xs run n untouched t)) (children : List InstanceTick) where
   abbrev local : LocalSystem
   local = (v.at n).local
 
@@ -84,7 +84,7 @@ module _ (structs : SystemsHavePlaces) (fields : FieldsHavePlaces) (a : Parts) (
   d = diagram a
 
   abbrev m : LocalTick
-  m = tick_at d s xs run n items t
+  m = tick_at d s xs run n untouched t
 
   abbrev row : ℕ → LocalRow
   row b = local_row d a.model.times.delays b

@@ -20,9 +20,10 @@ use Rattle.mc_profile.specs.Headers.{header_functions}
 use Rattle.mc_profile.specs.Locals.{child_use}
 use Rattle.mc_profile.specs.Systems.{systems, systems_inside, system_name}
 use Rattle.mc_profile.proofs.lemmas.Members.{of-map, of-filter, in-at, at-in, at-map, map-at, at-below}
-use Rattle.c_machine.specs.Cells.{Cells, items, cell_at, cell_fields, cell_items, fields_at, items_at}
+use Rattle.c_syntax.specs.declared.CType.TheVariants.{I8}
+use Rattle.c_machine.specs.Cells.{Cells, number, items, cell_at, cell_fields, cell_items, number_at, fields_at, items_at}
 use Rattle.c_shape.specs.Assembled.{first_procedure}
-use Rattle.c_shape.specs.Names.{container, memory_name}
+use Rattle.c_shape.specs.Names.{container, memory_name, filler_name}
 use Rattle.c_shape.specs.Programs.{struct_place}
 use Rattle.c_shape.specs.Slots.{Slot, value, memory, ring_items, ring_place, ring_taken, trigger, counter, instance, filler, slot_field}
 use Rattle.c_simulation.specs.Forms.{Forms, no_forms, HasForm, HasForms, slot_form, slot_forms}
@@ -30,14 +31,14 @@ use Rattle.c_simulation.specs.Instances.{none_called, InstanceTick, no_instance,
 use Rattle.c_simulation.specs.LocalTicks.{LocalTick, IsLocalTick, IsTypedTick}
 use Rattle.c_simulation.specs.Relation.{IsCycleOf, KeepsRelation}
 use Rattle.c_simulation.specs.Renewals.{Renewal, no_renewal, renewal_at, IsStarted}
-use Rattle.c_simulation.specs.RunTicks.{tick_at}
+use Rattle.c_simulation.specs.RunTicks.{Untouched, nothing_untouched, tick_at}
 use Rattle.c_simulation.specs.RunTickLaws.{TicksAreLocal, TicksAreTyped, TicksFollow, CycleIsOfLocals, ChildrenMeetTheirTicks}
 use Rattle.c_simulation.specs.Serving.{IsOfferOf, Serves}
 use Rattle.c_simulation.specs.Standing.{standing_cells, child_tick_of}
 use Rattle.c_simulation.specs.StandingLaws.{NextStands, FirstStands, BeginsFrom}
 use Rattle.c_simulation.proofs.lemmas.ChildTicks.{child-header}
 use Rattle.c_simulation.proofs.lemmas.SlotMembers.{SlotIs, slot-is}
-use Rattle.c_right.specs.Paths.{place_in}
+use Rattle.c_right.specs.Paths.{place_in, number_in}
 use Rattle.c_right.specs.Anew.{forms_at}
 use Rattle.c_right.specs.Held.{HoldsRun}
 use Rattle.c_assembly.specs.Parts.{Parts, program_of, diagram, all_systems, coded_header, IsCodedAs, IsChildBehind, Views}
@@ -48,7 +49,7 @@ use Rattle.c_assembly.specs.Lives.{outer_at, HasAccounts, Lives, AccountsFollow,
 use Rattle.c_assembly.proofs.lemmas.AssembledChildren.{has-child}
 use Rattle.c_assembly.proofs.lemmas.AssembledPlaces.{member, all-made}
 use Rattle.c_assembly.proofs.lemmas.OwnSlots.{forms-at, instance-fields}
-use Rattle.c_lives.proofs.SlotFields.{sized, sized-long, sized-same, array-items, nothing-held, begins-all}
+use Rattle.c_lives.proofs.SlotFields.{sized, sized-long, sized-same, number-held, array-items, begins-all}
 use Rattle.c_lives.proofs.FirstTicks.{own-op, value-begins, memory-begins, trigger-begins}
 use Rattle.c_lives.proofs.ChildInstances.{zip-held, AllLive, instances, at-child, linked, all-serve}
 use Rattle.c_lives.proofs.HeldFields.{holds-run}
@@ -157,12 +158,15 @@ module _ (laws : Laws) (a : Parts) (v : Views a) (renewed : Renewed a v) (s : Op
     -- ---- Ticks, where each child lives
 
     module _ (live : AllLive a v s xs run renewed child_fields local.children) where
-      -- what stands in the ring of a delay before the start
-      abbrev ring_start : ℕ → List ℤ
-      ring_start b = sized (delay_length (op_at (diagram a) b)) (items_at before (place_in (program_of a) n (memory_name b)))
+      -- what stands in the ring of a delay, and in the filler, before the start
+      abbrev untouched : Untouched
+      untouched = record {
+        items = λ b. sized (delay_length (op_at (diagram a) b)) (items_at before (place_in (program_of a) n (memory_name b)));
+        filler = number_in (program_of a) n before filler_name;
+      }
 
       abbrev tick : ℕ → LocalTick
-      tick t = tick_at (diagram a) s xs run n ring_start t
+      tick t = tick_at (diagram a) s xs run n untouched t
 
       abbrev children : ℕ → List InstanceTick
       children t = instances a v s xs run renewed child_fields local.children live t
@@ -173,7 +177,7 @@ module _ (laws : Laws) (a : Parts) (v : Views a) (renewed : Renewed a v) (s : Op
       child-serves t below u one h =
           let inner = behind u h in
           let met =
-          laws.meet a.model s n local (v.at u.header.row).local u xs run ring_start (λ b. []) t a.can.resolved within known.local h
+          laws.meet a.model s n local (v.at u.header.row).local u xs run untouched nothing_untouched t a.can.resolved within known.local h
           (v.each inner.inner_place u.header.row inner.stands).local is below in
           subst (λ outer. Serves u.header (offer_of a v u.header.row) a.hyper outer (one.at t)) (sym met)
           (subst (λ header. Serves header (offer_of a v u.header.row) a.hyper (outer_at a v s xs run u.header.row t) (one.at t))
@@ -190,11 +194,11 @@ module _ (laws : Laws) (a : Parts) (v : Views a) (renewed : Renewed a v) (s : Op
       cycle = subst (IsCycleOf local) (sym a.can.is_cycle) (laws.cycles a.model n local a.can.resolved known.local)
 
       is-local : (t : ℕ) → t < length xs → IsLocalTick local (tick t)
-      is-local t below = laws.local_ticks a.model s n local xs run ring_start t a.can.resolved within known.local is
+      is-local t below = laws.local_ticks a.model s n local xs run untouched t a.can.resolved within known.local is
           (λ b. sized-long (delay_length (op_at (diagram a) b)) (items_at before (place_in (program_of a) n (memory_name b)))) below
 
       is-typed : (t : ℕ) → t < length xs → IsTypedTick local (tick t)
-      is-typed t below = laws.typed_ticks a.model s n local xs run ring_start t a.can.resolved
+      is-typed t below = laws.typed_ticks a.model s n local xs run untouched t a.can.resolved
           (is-a-system (diagram a).rows place n stands) within known.local is trace a.can.no_loop below
 
       kept : (t : ℕ) → t < length xs →
@@ -234,7 +238,7 @@ module _ (laws : Laws) (a : Parts) (v : Views a) (renewed : Renewed a v) (s : Op
       follows-by t (inl below) (inl further) inside =
           (kept t below).after
           ∙ laws.next local slots (tick t) (tick (suc t)) (children t) (children (suc t)) (known.behaves.counted none_called)
-          (laws.follow (diagram a) s n xs run ring_start t) known.behaves.nothing_counted
+          (laws.follow (diagram a) s n xs run untouched t) known.behaves.nothing_counted
           (linked a v s xs run renewed child_fields t inside local.children live)
           ∙ sym (stands-before (suc t) further)
       follows-by t (inl below) (inr past) inside = absurd (omega arith)
@@ -243,7 +247,7 @@ module _ (laws : Laws) (a : Parts) (v : Views a) (renewed : Renewed a v) (s : Op
       accounts-by : (t : ℕ) (when : (t < length xs) ⊎ (length xs ≤ t)) → t < length xs →
           HasAccounts a v s xs run n t (instance_by t when)
       accounts-by t (inl below) inside =
-          laws.accounts a v s xs run trace is place n stands within ring_start
+          laws.accounts a v s xs run trace is place n stands within untouched
           (λ b. sized-long (delay_length (op_at (diagram a) b)) (items_at before (place_in (program_of a) n (memory_name b)))) t below
           (children t) (kept t below)
           (at-child a v s xs run renewed child_fields
@@ -258,7 +262,7 @@ module _ (laws : Laws) (a : Parts) (v : Views a) (renewed : Renewed a v) (s : Op
           HoldsRun (program_of a) (diagram a) n run t (instance_by t when).after
       holds-by t (inl below) inside =
           subst (HoldsRun (program_of a) (diagram a) n run t) (sym (kept t below).after)
-          (holds-run laws.structs laws.places a v place n stands s xs run ring_start t (is-local t below) (children t)
+          (holds-run laws.structs laws.places a v place n stands s xs run untouched t (is-local t below) (children t)
           (at-child a v s xs run renewed child_fields (λ u i. HoldsRun (program_of a) (diagram a) u.header.row run t i.after) t
           local.children live (λ u one. one.holds t below)))
       holds-by t (inr past) inside = absurd (omega arith)
@@ -270,9 +274,9 @@ module _ (laws : Laws) (a : Parts) (v : Views a) (renewed : Renewed a v) (s : Op
 
       begins : zero < length xs → (f : ℕ) (x : Slot) → slice_get slots f ≡ Some x → SlotIs local x →
           HasForm (slot_form child_forms x) (cell_at before f) → BeginsFrom local (tick 0) renewals (children 0) x (cell_at before f)
-      begins some f (value q) at slot form = value-begins a.model n local known.local s xs run ring_start a.can.resolved within is q slot.0
+      begins some f (value q) at slot form = value-begins a.model n local known.local s xs run untouched a.can.resolved within is q slot.0
       begins some f (memory q) at slot form =
-          memory-begins a.model n local known.local s xs run ring_start a.can.resolved within is q slot.0 slot.1
+          memory-begins a.model n local known.local s xs run untouched a.can.resolved within is q slot.0 slot.1
       begins some f (ring_items q) at slot form =
           let array = array-items (container q.out) (delay_length q.op) (cell_at before f) form in
           let long = array.1 ∙ ap delay_length (own-op a.model n local known.local q slot.0) in
@@ -281,7 +285,7 @@ module _ (laws : Laws) (a : Parts) (v : Views a) (renewed : Renewed a v) (s : Op
           ∙ sized-same (delay_length (op_at (diagram a) q.row)) (cell_items (cell_at before f)) long))
       begins some f (ring_place q) at slot form = refl
       begins some f (ring_taken q) at slot form = refl
-      begins some f trigger at slot form = trigger-begins a.model n local known.local s xs run ring_start a.can.resolved within is
+      begins some f trigger at slot form = trigger-begins a.model n local known.local s xs run untouched a.can.resolved within is
       begins some f (counter name type) at slot form = tt
       begins some f (instance k u) at slot form =
           let started : renewal_at renewals k ≡ renewed.started u.header.row =
@@ -292,7 +296,8 @@ module _ (laws : Laws) (a : Parts) (v : Views a) (renewed : Renewed a v) (s : Op
           ∙ sym (at-child a v s xs run renewed child_fields
           (λ w i. i.standing none_called ≡ (renewed.started w.header.row).renewed (child_fields w)) 0 local.children live
           (λ w one. one.first some) k u slot)
-      begins some f filler at slot form = nothing-held (cell_at before f) form
+      begins some f filler at slot form =
+          number-held I8 (cell_at before f) form ∙ ap (λ i. number (number_at before i)) (sym (field-place f filler at))
 
       first-by : (when : (zero < length xs) ⊎ (length xs ≤ zero)) → zero < length xs →
           (instance_by zero when).standing none_called ≡ (renewed.started n).renewed before

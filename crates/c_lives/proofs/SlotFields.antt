@@ -4,9 +4,9 @@ use Rattle.std.proofs.Common.{ap, arith, eq-eqb}
 use Rattle.std.proofs.lemmas.Bool.{eqb-true}
 use Rattle.mc_profile.specs.LocalSystem.{LocalSystem}
 use Rattle.c_syntax.specs.declared.CType.{CType}
-use Rattle.c_machine.specs.Cells.{Cell, number, items, object, Cells, no_cells, more_cells, cell_at, cell_items}
+use Rattle.c_machine.specs.Cells.{Cell, number, items, object, Cells, no_cells, more_cells, cell_at, cell_value, cell_items}
 use Rattle.c_shape.specs.Slots.{Slot}
-use Rattle.c_simulation.specs.Forms.{Forms, holds_array, holds_nothing, HasForm, HasForms, slot_forms}
+use Rattle.c_simulation.specs.Forms.{Forms, holds_number, holds_array, HasForm, HasForms, slot_forms}
 use Rattle.c_simulation.specs.LocalTicks.{LocalTick}
 use Rattle.c_simulation.specs.Instances.{InstanceTick}
 use Rattle.c_simulation.specs.Renewals.{Renewal}
@@ -40,10 +40,10 @@ array-items type count (number v) has = absurd has
 array-items type count (items vs) has = (refl, has.0)
 array-items type count (object cells) has = absurd has
 
-pub nothing-held : (c : Cell) → HasForm holds_nothing c → c ≡ number (pos 0)
-nothing-held (number v) has = ap number has
-nothing-held (items vs) has = absurd has
-nothing-held (object cells) has = absurd has
+pub number-held : (type : CType) (c : Cell) → HasForm (holds_number type) c → c ≡ number (cell_value c)
+number-held type (number v) has = refl
+number-held type (items vs) has = absurd has
+number-held type (object cells) has = absurd has
 
 -- ---- Slots
 
