@@ -23,6 +23,7 @@ mod NameTexts
 mod StoreSites
 mod CallSites
 mod CalledOnce
+mod UsedParts
 mod Whole
 mod StoredNames
 mod HeldOutputs

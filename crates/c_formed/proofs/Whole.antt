@@ -7,6 +7,7 @@ use Rattle.c_formed.proofs.GivenOutputs.{functions_give_their_outputs}
 use Rattle.c_formed.proofs.KeptRules.{code_keeps_rules}
 use Rattle.c_formed.proofs.OutputPlaces.{outputs_have_places}
 use Rattle.c_formed.proofs.PublicHeads.{heads_are_public}
+use Rattle.c_formed.proofs.UsedParts.{code_is_used}
 use Rattle.c_formed.proofs.Slots.{slots_are_right, struct_has_its_slots}
 
 pub emitted_code_has_shape : LocalsAreLawful → NodesReachAsRows → RowsReadTheirLeaves → EmittedCodeHasShape
@@ -18,4 +19,5 @@ emitted_code_has_shape lawful reach reads local profile schedule is = record {
   gives = functions_give_their_outputs lawful reach local profile schedule is;
   rules = code_keeps_rules lawful reach reads local profile schedule is;
   once = code_states_once lawful reach local profile schedule is;
+  used = code_is_used lawful reach local profile schedule is;
 }

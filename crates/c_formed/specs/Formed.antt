@@ -11,6 +11,7 @@ use Rattle.c_shape.specs.LocalShape.{HasLocalShape, local_names, own_position, o
 use Rattle.c_shape.specs.Names.{out_name}
 use Rattle.c_shape.specs.Once.{StatesOnce}
 use Rattle.c_shape.specs.Rules.{KeepsRules}
+use Rattle.c_shape.specs.Used.{AreUsed}
 use Rattle.c_shape.specs.Slots.{AreSlots, IsStructOf, AreOutputPlaces, counters_in}
 use Rattle.c_system.specs.Emitted.{IsEmitted}
 use Rattle.c_system.specs.EmittedCode.{system_code}
@@ -64,6 +65,14 @@ FunctionsGiveTheirOutputs =
     (own_position (system_code local profile schedule) (out_name local.row j))
     ≡ given_rows (own_header local profile) j)
     (range_with_len 1 (length profile.functions))
+
+-- each private procedure is called, and each counter read by a test
+abbrev pub CodeIsUsed : Type 0
+CodeIsUsed = (local : LocalSystem) (profile : SystemProfile) (schedule : SystemSchedule) →
+    IsEmitted local profile schedule →
+    AreUsed (local_names local (code_slots local schedule) (system_code local profile schedule))
+    (counters_in (code_slots local schedule))
+    (system_code local profile schedule).procedures
 
 -- the whole
 abbrev pub EmittedCodeHasShape : Type 0

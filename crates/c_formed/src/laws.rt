@@ -1,4 +1,4 @@
-ghost use Rattle.c_formed.specs.Formed.{CodeKeepsRules, CodeStatesOnce, EmittedCodeHasShape, FunctionsGiveTheirOutputs, HeadsArePublic, OutputsHavePlaces, SlotsAreRight, StructHasItsSlots};
+ghost use Rattle.c_formed.specs.Formed.{CodeIsUsed, CodeKeepsRules, CodeStatesOnce, EmittedCodeHasShape, FunctionsGiveTheirOutputs, HeadsArePublic, OutputsHavePlaces, SlotsAreRight, StructHasItsSlots};
 
 use c_blocks::rows_read_their_leaves;
 use mc_profile::{locals_are_lawful, nodes_reach_as_rows};
@@ -45,6 +45,14 @@ pub fn code_states_once()
 /// Each function of a system's code stores just the outputs that it gives, itself or through groups.
 pub fn functions_give_their_outputs()
     ensures { FunctionsGiveTheirOutputs }
+{
+    locals_are_lawful();
+    nodes_reach_as_rows();
+}
+
+/// Nothing in the code of a system is idle: each private procedure is called, and each counter read by a test.
+pub fn code_is_used()
+    ensures { CodeIsUsed }
 {
     locals_are_lawful();
     nodes_reach_as_rows();
