@@ -11,7 +11,7 @@ use Rattle.c_shape.specs.SystemTree.{SystemTree}
 use Rattle.c_shape.specs.TinySamples.{x1, y1, inner_slots}
 use Rattle.c_shape.specs.RefusedShapes.{longer_struct, stored_by_two, reads_parameter, tests_value, named_otherwise, passes_number, gives_nothing, idle_group, idle_counter, idle_slots}
 
-apart : (a b : ℕ) → (a == b) ≡ false → a ≡ b → ⊥
+pub apart : (a b : ℕ) → (a == b) ≡ false → a ≡ b → ⊥
 apart a b differ e = true≢false (sym (eq-eqb a b e) ∙ differ)
 
 abbrev HasShapeOfChild : SystemTree → Type 0

@@ -1,9 +1,12 @@
--- The heads of a child's code, what its function gives, and the program of it alone as the root.
-use Rattle.std.specs.Prelude.{◌≡◌, refl, not, map, filter, codes}
+-- The heads of a child's code, the place of its output around it, and the steps of a tick.
+use Rattle.std.specs.Prelude.{◌≡◌, refl, not, [], ◌∷◌, map, filter, None, codes}
 use Rattle.std.specs.Fmt.{digits}
-use Rattle.mc_profile.specs.LocalSamples.{inner_header, outer_local}
+use Rattle.mc_profile.specs.LocalSamples.{shared_child, inner_header, outer_local, outer_profile}
+use Rattle.mc_profile.specs.SystemHeader.{SystemHeader}
+use Rattle.mc_profile.specs.Headers.{header_of}
 use Rattle.c_shape.specs.NamedLeaf.{child}
-use Rattle.c_shape.specs.Heads.{head_of, public_heads}
+use Rattle.c_shape.specs.Heads.{head_of, out_head, update_head, public_heads}
+use Rattle.c_shape.specs.RootCode.{calls, copies, moves_on, tick_steps}
 use Rattle.c_shape.specs.Rules.{wire_place}
 use Rattle.c_shape.specs.TinySamples.{inner_procedures}
 
@@ -16,3 +19,12 @@ heads = refl
 inner_place : wire_place outer_local 4 ≡ child (codes "s2") (codes "v4")
 unfolding digits
 inner_place = refl
+
+-- a tick around it calls both functions of `top` by number, and copies both outputs by port
+abbrev top_header : SystemHeader
+top_header = header_of shared_child None outer_profile
+
+in_order : tick_steps shared_child top_header
+    ≡ calls (out_head top_header 1) ∷ calls (out_head top_header 2) ∷ calls (update_head top_header)
+    ∷ copies 1 6 ∷ copies 2 7 ∷ moves_on ∷ []
+in_order = refl
