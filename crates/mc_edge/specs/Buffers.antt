@@ -1,6 +1,7 @@
 -- Bytes that wait between a file and its reader, or between a writer and what the bytes are put to.
 use Rattle.std.specs.Prelude.{◌≡◌, ℕ, List, ◌++◌, length, Option}
-use Rattle.std.specs.Io.KnownBytes.{append_known, prepend_known}
+use Rattle.std.specs.Io.KnownBytes.{append_known}
+use Rattle.mc_edge.specs.Reading.{Source, HasRead}
 
 -- a front of this text was put behind what was there, and the rest of it is held
 pub record PutsAllBut (held : List ℕ) (text : List ℕ) (old new : Option (List ℕ)) : Type 0 where
@@ -9,11 +10,11 @@ pub record PutsAllBut (held : List ℕ) (text : List ℕ) (old new : Option (Lis
   pub put : new ≡ append_known old gone
 
 -- so many bytes were read behind those that were there
-pub record ReadsOn (count : ℕ) (old new : List ℕ) (rest rest' : Option (List ℕ)) : Type 0 where
+pub record ReadsOn (count : ℕ) (old new : List ℕ) (s s' : Source) : Type 0 where
   pub piece : List ℕ
   pub size : length piece ≡ count
   pub bytes : new ≡ old ++ piece
-  pub moved : rest ≡ prepend_known piece rest'
+  pub read : HasRead piece s s'
 
 -- bytes that were read and are not yet taken, with room for so many behind them
 pub record ReadAhead : Type 0 where

@@ -2,6 +2,7 @@
 ghost use Rattle.std.specs.Prelude.{◌≡◌, ◌+◌, ◌<◌, ◌≤◌, true, [], drop, length, IfOk, OnErr, IsOk};
 ghost use Rattle.std.specs.Io.KnownBytes.{IsAtEnd};
 ghost use Rattle.mc_edge.specs.Faults.{HasCause};
+ghost use Rattle.mc_edge.specs.Reading.{source};
 ghost use Rattle.mc_edge.specs.Buffers.{ReadsOn};
 
 use crate::{Failed, Host};
@@ -73,11 +74,12 @@ impl ReadBuffer {
     // Reads into the room behind the bytes.
     fn read<H: Host>(&mut self, host: &mut H) -> Result<usize, Failed>
         requires room { 0 < self.old.room }
-        ensures more { IfOk result (λ n. ReadsOn n self.old.bytes self.new.bytes (H.rest host.old)
-            (H.rest host.new)) }
+        ensures more { IfOk result (λ n. ReadsOn n self.old.bytes self.new.bytes
+            (source (H.rest host.old) (H.given host.old)) (source (H.rest host.new) (H.given host.new))) }
         ensures end { IfOk result (λ n. n ≡ 0 → IsAtEnd (H.rest host.new)) }
         ensures kept { OnErr result (self.new.bytes ≡ self.old.bytes) }
-        ensures unread { OnErr result (H.rest host.new ≡ H.rest host.old) }
+        ensures unread { OnErr result (source (H.rest host.new) (H.given host.new)
+            ≡ source (H.rest host.old) (H.given host.old)) }
         ensures sure { H.sure_rest host.old ≡ true → IsOk result × (H.sure_rest host.new ≡ true) }
         ensures cause { HasCause (H.read_faults host.old) (H.read_faults host.new) result }
         ensures files { H.files host.new ≡ H.files host.old }
@@ -94,11 +96,12 @@ impl ReadBuffer {
     /// Fails only where the host counted a fault, and leaves the bytes as they are.
     pub fn fill<H: Host>(&mut self, host: &mut H) -> Result<usize, Failed>
         requires room { length self.old.bytes < 65536 }
-        ensures more { IfOk result (λ n. ReadsOn n self.old.bytes self.new.bytes (H.rest host.old)
-            (H.rest host.new)) }
+        ensures more { IfOk result (λ n. ReadsOn n self.old.bytes self.new.bytes
+            (source (H.rest host.old) (H.given host.old)) (source (H.rest host.new) (H.given host.new))) }
         ensures end { IfOk result (λ n. n ≡ 0 → IsAtEnd (H.rest host.new)) }
         ensures kept { OnErr result (self.new.bytes ≡ self.old.bytes) }
-        ensures unread { OnErr result (H.rest host.new ≡ H.rest host.old) }
+        ensures unread { OnErr result (source (H.rest host.new) (H.given host.new)
+            ≡ source (H.rest host.old) (H.given host.old)) }
         ensures sure { H.sure_rest host.old ≡ true → IsOk result × (H.sure_rest host.new ≡ true) }
         ensures cause { HasCause (H.read_faults host.old) (H.read_faults host.new) result }
         ensures files { H.files host.new ≡ H.files host.old }

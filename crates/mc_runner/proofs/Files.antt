@@ -1,9 +1,11 @@
 -- Runs over bytes, and over a file that is read in pieces.
 use Rattle.std.proofs.Common.{◌≡◌, ◌≢◌, refl, sym, ◌∙◌, ap, subst, ℕ, ◌+◌, List, [], ◌++◌, length, take, drop, append_assoc}
-use Rattle.std.specs.Prelude.{Option, None, Result, Ok, Err, MatchResult}
-use Rattle.std.specs.Io.KnownBytes.{prepend_known, IsAtEnd}
+use Rattle.std.specs.Prelude.{None, Result, Ok, Err, MatchResult}
+use Rattle.std.specs.Io.KnownBytes.{IsAtEnd}
 use Rattle.std.proofs.lemmas.List.{append-nil, take-append-drop}
+use Rattle.mc_edge.specs.Reading.{Source, HasRead}
 use Rattle.mc_edge.specs.Buffers.{ReadsOn}
+use Rattle.mc_edge.proofs.lemmas.ReadLaws.{read_nothing, read_both}
 use Rattle.mc_fixed.specs.declared.types.FixType.{FixType}
 use Rattle.mc_trace.specs.Lines.{whole_lines}
 use Rattle.mc_trace.specs.Rows.{Trace, rows_of, whole_rows_of, rows_behind}
@@ -14,7 +16,7 @@ use Rattle.mc_runner.specs.declared.outcome.RunFault.TheVariants.{Read, Out, Tra
 use Rattle.mc_runner.specs.Ticks.{Standing}
 use Rattle.mc_runner.specs.Runs.{no_totals, ticks_over, HasRun, RanWhole, StoppedBy, Ends, Parts, file_rows, StoppedReading, RunsOver}
 use Rattle.mc_runner.specs.Walks.{RunsThrough, RunsLines, RunsTo}
-use Rattle.mc_runner.proofs.lemmas.FilePieces.{prepend_known-twice, prepend_known-none, left_of, is_left, none_left}
+use Rattle.mc_runner.proofs.lemmas.FilePieces.{left_of, is_left, none_left}
 use Rattle.mc_runner.proofs.Walks.{none_through, both_through, stops_in, ends_in, EndsLast, clear, runs_clear, stops_clear, ends_clear}
 
 -- before the first tick, the rows behind no line are all
@@ -66,44 +68,43 @@ handed_on result fault trace s s' is stop = subst (λ (r : Result (Unit {0}) Run
 -- ---- Pieces of a file
 
 -- a run that has taken some of a file: whole lines, whose rows were run, and these bytes
-pub record Reads (types : List FixType) (bytes : List ℕ) (rest rest' : Option (List ℕ)) (s s' : Standing) : Type 0 where
+pub record Reads (types : List FixType) (bytes : List ℕ) (rest rest' : Source) (s s' : Standing) : Type 0 where
   pub head : List ℕ
-  pub took : rest ≡ prepend_known (head ++ bytes) rest'
+  pub took : HasRead (head ++ bytes) rest rest'
   pub through : RunsThrough head types s s'
 
-pub reads_none : (types : List FixType) (bytes : List ℕ) (rest : Option (List ℕ)) (s : Standing) → bytes ≡ [] →
+pub reads_none : (types : List FixType) (bytes : List ℕ) (rest : Source) (s : Standing) → bytes ≡ [] →
     Reads types bytes rest rest s s
 reads_none types bytes rest s none = record {
   head = [];
-  took = prepend_known-none rest ∙ ap (λ b. prepend_known b rest) (sym none);
+  took = subst (λ b. HasRead b rest rest) (sym none) (read_nothing rest);
   through = none_through types s;
 }
 
-pub reads_on : (types : List FixType) (count : ℕ) (bytes bytes' : List ℕ) (rest rest' rest'' : Option (List ℕ))
+pub reads_on : (types : List FixType) (count : ℕ) (bytes bytes' : List ℕ) (rest rest' rest'' : Source)
     (s s' : Standing) → Reads types bytes rest rest' s s' →
     ReadsOn count bytes bytes' rest' rest'' → Reads types bytes' rest rest'' s s'
 reads_on types count bytes bytes' rest rest' rest'' s s' so_far more = record {
   head = so_far.head;
   took =
-      so_far.took ∙ ap (prepend_known (so_far.head ++ bytes)) more.moved ∙ prepend_known-twice (so_far.head ++ bytes) more.piece rest''
-      ∙ ap (λ b. prepend_known b rest'') (append_assoc so_far.head bytes more.piece ∙ ap (λ b. so_far.head ++ b) (sym more.bytes));
+      subst (λ b. HasRead b rest rest'') (append_assoc so_far.head bytes more.piece ∙ ap (λ b. so_far.head ++ b) (sym more.bytes))
+      (read_both (so_far.head ++ bytes) more.piece rest rest' rest'' so_far.took more.read);
   through = so_far.through;
 }
 
-pub lines_read : (types : List FixType) (done : ℕ) (bytes : List ℕ) (rest rest' : Option (List ℕ))
+pub lines_read : (types : List FixType) (done : ℕ) (bytes : List ℕ) (rest rest' : Source)
     (s s' s'' : Standing) → Reads types bytes rest rest' s s' →
     RunsLines done bytes types s' s'' → Reads types (drop done bytes) rest rest' s s''
 lines_read types done bytes rest rest' s s' s'' so_far lines = record {
   head = so_far.head ++ take done bytes;
   took =
-      so_far.took
-      ∙ ap (λ b. prepend_known b rest') (ap (λ b. so_far.head ++ b) (sym (take-append-drop done bytes))
-      ∙ sym (append_assoc so_far.head (take done bytes) (drop done bytes)));
+      subst (λ b. HasRead b rest rest') (ap (λ b. so_far.head ++ b) (sym (take-append-drop done bytes))
+      ∙ sym (append_assoc so_far.head (take done bytes) (drop done bytes))) so_far.took;
   through = both_through so_far.head (take done bytes) types s s' s'' so_far.through lines.through;
 }
 
 -- the file can't be read on
-pub read_stops : (types : List FixType) (bytes : List ℕ) (rest rest' : Option (List ℕ)) (s s' : Standing) →
+pub read_stops : (types : List FixType) (bytes : List ℕ) (rest rest' : Source) (s s' : Standing) →
     s.totals ≡ no_totals → s.waiting ≡ [] → s'.waiting ≡ [] →
     BeginsLine bytes → Reads types bytes rest rest' s s' → RunsOver (Err Read) rest rest' types (clear s) (clear s')
 read_stops types bytes rest rest' s s' start none none' begins reads =
@@ -113,9 +114,9 @@ read_stops types bytes rest rest' s s' start none none' begins reads =
     ∙ ap (λ ls. with_rows rows (rows_behind (s.totals.ticks + length rows) types ls)) begins.no_whole in
     let same : rows ≡ (whole_rows_of (reads.head ++ bytes) types).rows = sym (ap (λ (t : Trace). t.rows) whole ∙ append-nil rows) in
     record {
-      parts = record { taken = reads.head ++ bytes; left = left_of rest' };
+      parts = record { taken = reads.head ++ bytes; left = left_of rest'.rest };
       took = reads.took;
-      left = is_left rest';
+      left = is_left rest'.rest;
       ends = record {
         rows_only = ap (λ (t : Trace). t.bad) whole;
         unstuck = subst (λ xs. (ticks_over s xs).stuck_place ≡ None) same reads.through.unstuck;
@@ -142,12 +143,12 @@ never_memory Memory trace s s' stop = absurd stop
 
 -- a line of a piece ends the run
 pub lines_stop : (result : Result (Unit {0}) RunFault) (fault : RunFault) (types : List FixType) (bytes : List ℕ)
-    (rest rest' : Option (List ℕ)) (s s' s'' : Standing) → result ≡ Err fault →
+    (rest rest' : Source) (s s' s'' : Standing) → result ≡ Err fault →
     s.totals ≡ no_totals → s.waiting ≡ [] → (fault ≢ Out → s''.waiting ≡ []) → Reads types bytes rest rest' s s' →
     ((behind : List ℕ) → RunsTo fault (rows_after s'.totals.ticks types (bytes ++ behind)) s' s'') →
     RunsOver result rest rest' types (clear s) (clear s'')
 lines_stop result fault types bytes rest rest' s s' s'' is start none none' reads stop =
-    let left = left_of rest' in
+    let left = left_of rest'.rest in
     let parts : Parts = record { taken = reads.head ++ bytes; left = left } in
     let here = stops_in fault reads.head (bytes ++ left) types s s' s'' reads.through (stop left) in
     let whole : rows_after s.totals.ticks types (reads.head ++ (bytes ++ left)) ≡ file_rows parts types =
@@ -157,7 +158,7 @@ lines_stop result fault types bytes rest rest' s s' s'' is start none none' read
     (record {
       parts = parts;
       took = reads.took;
-      left = is_left rest';
+      left = is_left rest'.rest;
       ends =
           stop_over fault parts types (clear s) (clear s'')
           (subst (λ t. StoppedBy fault t (clear s) (clear s'')) whole (stops_clear fault _ s s'' none none' here))
@@ -166,42 +167,42 @@ lines_stop result fault types bytes rest rest' s s' s'' is start none none' read
 
 -- the last line ends the run
 pub file_ends : (result : Result (Unit {0}) RunFault) (types : List FixType) (bytes : List ℕ)
-    (rest rest' : Option (List ℕ)) (s s' s'' : Standing) →
-    s.totals ≡ no_totals → s.waiting ≡ [] → (result ≢ Err Out → s''.waiting ≡ []) → IsAtEnd rest' → Reads types bytes rest rest' s s' →
+    (rest rest' : Source) (s s' s'' : Standing) →
+    s.totals ≡ no_totals → s.waiting ≡ [] → (result ≢ Err Out → s''.waiting ≡ []) → IsAtEnd rest'.rest → Reads types bytes rest rest' s s' →
     EndsLast result (rows_after s'.totals.ticks types bytes) s' s'' → RunsOver result rest rest' types (clear s) (clear s'')
 file_ends result types bytes rest rest' s s' s'' start none none' end reads last = record {
   parts = parts;
   took = reads.took;
-  left = is_left rest';
+  left = is_left rest'.rest;
   ends = over result (subst (λ t. Ends result t (clear s) (clear s'')) whole (end_clear result _ s s'' none none' both)) both;
 }
   where
     parts : Parts
-    parts = record { taken = reads.head ++ bytes; left = left_of rest' }
+    parts = record { taken = reads.head ++ bytes; left = left_of rest'.rest }
 
     both : EndsLast result (rows_after s.totals.ticks types (reads.head ++ bytes)) s s''
     both = both_end result reads.head bytes types s s' s'' reads.through last
 
-    whole : rows_after s.totals.ticks types (reads.head ++ bytes) ≡ rows_of ((reads.head ++ bytes) ++ left_of rest') types
+    whole : rows_after s.totals.ticks types (reads.head ++ bytes) ≡ rows_of ((reads.head ++ bytes) ++ left_of rest'.rest) types
     whole =
         rows_at_start s types (reads.head ++ bytes) start
-        ∙ ap (λ t. rows_of t types) (sym (ap (λ l. (reads.head ++ bytes) ++ l) (none_left rest' end) ∙ append-nil (reads.head ++ bytes)))
+        ∙ ap (λ t. rows_of t types) (sym (ap (λ l. (reads.head ++ bytes) ++ l) (none_left rest'.rest end) ∙ append-nil (reads.head ++ bytes)))
 
-    over : (r : Result (Unit {0}) RunFault) → Ends r (rows_of ((reads.head ++ bytes) ++ left_of rest') types) (clear s) (clear s'') →
+    over : (r : Result (Unit {0}) RunFault) → Ends r (rows_of ((reads.head ++ bytes) ++ left_of rest'.rest) types) (clear s) (clear s'') →
         EndsLast r (rows_after s.totals.ticks types (reads.head ++ bytes)) s s'' →
-        MatchResult r (λ _. RanWhole (file_rows (record { taken = reads.head ++ bytes; left = left_of rest' }) types) (clear s) (clear s''))
-        (λ fault. StoppedReading fault (record { taken = reads.head ++ bytes; left = left_of rest' }) types (clear s) (clear s''))
+        MatchResult r (λ _. RanWhole (file_rows (record { taken = reads.head ++ bytes; left = left_of rest'.rest }) types) (clear s) (clear s''))
+        (λ fault. StoppedReading fault (record { taken = reads.head ++ bytes; left = left_of rest'.rest }) types (clear s) (clear s''))
     over (Ok value) ends last = ends
     over (Err fault) ends last =
-        stop_over fault (record { taken = reads.head ++ bytes; left = left_of rest' }) types (clear s) (clear s'') ends
+        stop_over fault (record { taken = reads.head ++ bytes; left = left_of rest'.rest }) types (clear s) (clear s'') ends
         (never_memory fault _ s s'' last)
 
 -- nothing was read
-pub nothing_read : (rest : Option (List ℕ)) (types : List FixType) (s : Standing) → RunsOver (Err Memory) rest rest types s s
+pub nothing_read : (rest : Source) (types : List FixType) (s : Standing) → RunsOver (Err Memory) rest rest types s s
 nothing_read rest types s = record {
-  parts = record { taken = []; left = left_of rest };
-  took = prepend_known-none rest;
-  left = is_left rest;
+  parts = record { taken = []; left = left_of rest.rest };
+  took = read_nothing rest;
+  left = is_left rest.rest;
   ends = (refl, refl);
 }
 

@@ -1,8 +1,9 @@
 -- What a run over the rows of a trace comes to.
 use Rattle.std.specs.Prelude.{◌≡◌, ℕ, ◌+◌, ℤ, List, [], ◌++◌, length, Option, None, Some, IfSome, Result, MatchResult}
 use Rattle.std.specs.List.{sum_by}
-use Rattle.std.specs.Io.KnownBytes.{append_known, prepend_known}
+use Rattle.std.specs.Io.KnownBytes.{append_known}
 use Rattle.mc_edge.specs.Files.{PutsFront}
+use Rattle.mc_edge.specs.Reading.{Source, HasRead}
 use Rattle.mc_fixed.specs.declared.types.FixType.{FixType}
 use Rattle.c_syntax.specs.declared.fault.Stuck.{Stuck}
 use Rattle.c_machine.specs.Rows.{TickRow, Rows, rows_from, interface_calls}
@@ -123,10 +124,10 @@ StoppedReading fault.Memory parts types s s' = (s' ≡ s) × (parts.taken ≡ []
 
 -- it was a run over a file that is told to be such where the host tells it: what was taken of it in
 -- the call, and what is left
-pub record RunsOver (result : Result (Unit {0}) RunFault) (rest rest' : Option (List ℕ))
+pub record RunsOver (result : Result (Unit {0}) RunFault) (from to : Source)
     (types : List FixType) (s s' : Standing) : Type 0 where
   pub parts : Parts
-  pub took : rest ≡ prepend_known parts.taken rest'
-  pub left : IfSome rest' (λ told. told ≡ parts.left)
+  pub took : HasRead parts.taken from to
+  pub left : IfSome to.rest (λ told. told ≡ parts.left)
   pub ends : MatchResult result (λ _. RanWhole (file_rows parts types) s s')
       (λ fault. StoppedReading fault parts types s s')

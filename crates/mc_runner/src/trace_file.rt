@@ -3,6 +3,7 @@ ghost use Rattle.std.specs.Prelude.{◌≡◌, ◌≢◌, ◌≤◌, [], false, 
 ghost use Rattle.std.specs.Io.KnownBytes.{IsAtEnd};
 ghost use Rattle.std.specs.List.{AllZip};
 ghost use Rattle.mc_edge.specs.Faults.{Rose};
+ghost use Rattle.mc_edge.specs.Reading.{source};
 ghost use Rattle.mc_runner.specs.Runs.{no_totals, RunsOver};
 ghost use Rattle.mc_runner.specs.Ticks.{IsNarrower, standing};
 ghost use Rattle.mc_runner.specs.Walks.{HasRoom};
@@ -29,7 +30,8 @@ fn run_pieces<H: Host, S: Sink>(
     requires start { run.old.totals ≡ no_totals }
     requires empty { run.old.lines ≡ [] }
     requires unread { read.old.bytes ≡ [] }
-    ensures ran { RunsOver result (H.rest host.old) (H.rest host.new) types.now
+    ensures ran { RunsOver result (source (H.rest host.old) (H.given host.old))
+        (source (H.rest host.new) (H.given host.new)) types.now
         (standing machine.old run.old.totals (S.bytes sink.old))
         (standing machine.new run.new.totals (S.bytes sink.new)) }
     ensures end { OnOk result (IsAtEnd (H.rest host.new)) }
@@ -78,11 +80,13 @@ pub fn run_trace<H: Host, S: Sink>(
 ) -> Result<(), RunFault>
     requires types { AllZip IsNarrower types.now machine.old.program.inputs }
     requires start { totals.old ≡ no_totals }
-    ensures ran { RunsOver result (H.rest host.old) (H.rest host.new) types.now
+    ensures ran { RunsOver result (source (H.rest host.old) (H.given host.old))
+        (source (H.rest host.new) (H.given host.new)) types.now
         (standing machine.old totals.old (S.bytes sink.old))
         (standing machine.new totals.new (S.bytes sink.new)) }
     ensures end { OnOk result (IsAtEnd (H.rest host.new)) }
-    ensures untouched { IsErrOf result RunFault.Memory → H.rest host.new ≡ H.rest host.old }
+    ensures untouched { IsErrOf result RunFault.Memory → source (H.rest host.new) (H.given host.new)
+        ≡ source (H.rest host.old) (H.given host.old) }
 
     ensures read_cause { IsErrOf result RunFault.Read →
         Rose (H.read_faults host.old) (H.read_faults host.new) }

@@ -1,13 +1,15 @@
 -- Runs over a script's file, which is read in pieces.
 use Rattle.std.proofs.Common.{◌≡◌, ◌≢◌, refl, sym, ◌∙◌, ap, subst, ℕ, List, [], ◌++◌, length, take, drop, append_assoc, arith}
-use Rattle.std.specs.Prelude.{Option, None, Result, Ok, Err, MatchResult}
-use Rattle.std.specs.Io.KnownBytes.{prepend_known, IsAtEnd}
+use Rattle.std.specs.Prelude.{Result, Ok, Err, MatchResult}
+use Rattle.std.specs.Io.KnownBytes.{IsAtEnd}
 use Rattle.std.proofs.lemmas.List.{append-nil, take-append-drop}
 use Rattle.mc_edge.specs.Files.{PutsFront}
+use Rattle.mc_edge.specs.Reading.{Source, HasRead}
 use Rattle.mc_edge.specs.Buffers.{ReadsOn}
+use Rattle.mc_edge.proofs.lemmas.ReadLaws.{read_nothing, read_both}
 use Rattle.mc_runner.specs.Runs.{Parts}
 use Rattle.mc_runner.proofs.lemmas.Waiting.{all_put}
-use Rattle.mc_runner.proofs.lemmas.FilePieces.{prepend_known-twice, prepend_known-none, left_of, is_left, none_left}
+use Rattle.mc_runner.proofs.lemmas.FilePieces.{left_of, is_left, none_left}
 use Rattle.mc_trace.specs.Pieces.{BeginsLine}
 use Rattle.mc_drive.specs.Counts.{input_counts}
 use Rattle.mc_drive.specs.Shapes.{inputs_of}
@@ -88,40 +90,38 @@ both_end (Err fault) head text counts all n n' s s' s'' through ends = stops_in 
 -- ---- Pieces of a file
 
 -- a run that has taken some of a file: whole lines from the first on, whose calls were answered, and these bytes
-pub record Reads (counts : List ℕ) (all n : ℕ) (bytes : List ℕ) (rest rest' : Option (List ℕ)) (s s' : Standing) : Type 0 where
+pub record Reads (counts : List ℕ) (all n : ℕ) (bytes : List ℕ) (rest rest' : Source) (s s' : Standing) : Type 0 where
   pub head : List ℕ
-  pub took : rest ≡ prepend_known (head ++ bytes) rest'
+  pub took : HasRead (head ++ bytes) rest rest'
   pub through : RunsThrough head counts all 0 n s s'
 
-pub reads_none : (counts : List ℕ) (all n : ℕ) (bytes : List ℕ) (rest : Option (List ℕ)) (s : Standing) → n ≡ 0 → bytes ≡ [] →
+pub reads_none : (counts : List ℕ) (all n : ℕ) (bytes : List ℕ) (rest : Source) (s : Standing) → n ≡ 0 → bytes ≡ [] →
     Reads counts all n bytes rest rest s s
 reads_none counts all n bytes rest s start none = record {
   head = [];
-  took = prepend_known-none rest ∙ ap (λ b. prepend_known b rest) (sym none);
+  took = subst (λ b. HasRead b rest rest) (sym none) (read_nothing rest);
   through = subst (λ k. RunsThrough [] counts all 0 k s s) (sym start) (none_through counts all 0 s);
 }
 
-pub reads_on : (counts : List ℕ) (all n count : ℕ) (bytes bytes' : List ℕ) (rest rest' rest'' : Option (List ℕ)) (s s' : Standing) →
+pub reads_on : (counts : List ℕ) (all n count : ℕ) (bytes bytes' : List ℕ) (rest rest' rest'' : Source) (s s' : Standing) →
     Reads counts all n bytes rest rest' s s' →
     ReadsOn count bytes bytes' rest' rest'' → Reads counts all n bytes' rest rest'' s s'
 reads_on counts all n count bytes bytes' rest rest' rest'' s s' so_far more = record {
   head = so_far.head;
   took =
-      so_far.took ∙ ap (prepend_known (so_far.head ++ bytes)) more.moved ∙ prepend_known-twice (so_far.head ++ bytes) more.piece rest''
-      ∙ ap (λ b. prepend_known b rest'') (append_assoc so_far.head bytes more.piece ∙ ap (λ b. so_far.head ++ b) (sym more.bytes));
+      subst (λ b. HasRead b rest rest'') (append_assoc so_far.head bytes more.piece ∙ ap (λ b. so_far.head ++ b) (sym more.bytes))
+      (read_both (so_far.head ++ bytes) more.piece rest rest' rest'' so_far.took more.read);
   through = so_far.through;
 }
 
-pub lines_read : (counts : List ℕ) (all n n' done : ℕ) (bytes : List ℕ) (rest rest' : Option (List ℕ)) (s s' s'' : Standing) →
+pub lines_read : (counts : List ℕ) (all n n' done : ℕ) (bytes : List ℕ) (rest rest' : Source) (s s' s'' : Standing) →
     Reads counts all n bytes rest rest' s s' →
     RunsLines done bytes counts all n n' s' s'' → Reads counts all n' (drop done bytes) rest rest' s s''
 lines_read counts all n n' done bytes rest rest' s s' s'' so_far lines = record {
   head = so_far.head ++ take done bytes;
   took =
-      so_far.took
-      ∙ ap (λ b. prepend_known b rest')
-      (ap (λ b. so_far.head ++ b) (sym (take-append-drop done bytes))
-      ∙ sym (append_assoc so_far.head (take done bytes) (drop done bytes)));
+      subst (λ b. HasRead b rest rest') (ap (λ b. so_far.head ++ b) (sym (take-append-drop done bytes))
+      ∙ sym (append_assoc so_far.head (take done bytes) (drop done bytes))) so_far.took;
   through = both_through so_far.head (take done bytes) counts all 0 n n' s s' s'' so_far.through lines.through;
 }
 
@@ -131,7 +131,7 @@ script_is : (s : Standing) (counts text : List ℕ) → counts ≡ input_counts 
 script_is s counts text are = ap (λ c. calls_after 0 c (length (inputs_of s.driver.shape)) text) are
 
 -- the file can't be read on
-pub read_stops : (counts : List ℕ) (n : ℕ) (bytes : List ℕ) (rest rest' : Option (List ℕ)) (s s' : Standing) →
+pub read_stops : (counts : List ℕ) (n : ℕ) (bytes : List ℕ) (rest rest' : Source) (s s' : Standing) →
     counts ≡ input_counts s.driver.shape → s.waiting ≡ [] → s'.waiting ≡ [] →
     BeginsLine bytes → Reads counts (length (inputs_of s.driver.shape)) n bytes rest rest' s s' →
     RunsOver (Err Read) rest rest' (clear s) (clear s')
@@ -142,9 +142,9 @@ read_stops counts n bytes rest rest' s s' are none none' begins reads =
     ap (λ c. whole_calls_of c all (reads.head ++ bytes)) (sym are)
     ∙ whole_calls_are reads.head bytes counts all (calls_in answers) reads.through.writes begins in
     record {
-      parts = record { taken = reads.head ++ bytes; left = left_of rest' };
+      parts = record { taken = reads.head ++ bytes; left = left_of rest'.rest };
       took = reads.took;
-      left = is_left rest';
+      left = is_left rest'.rest;
       ends = record {
         calls_only = ap (λ (t : Script). t.bad) whole;
         answers = answers;
@@ -155,13 +155,13 @@ read_stops counts n bytes rest rest' s s' are none none' begins reads =
 
 -- a line of a piece ends the run
 pub lines_stop : (result : Result (Unit {0}) ScriptFault) (fault : ScriptFault) (counts : List ℕ) (n : ℕ) (bytes : List ℕ)
-    (rest rest' : Option (List ℕ)) (s s' s'' : Standing) →
+    (rest rest' : Source) (s s' s'' : Standing) →
     result ≡ Err fault → counts ≡ input_counts s.driver.shape → s.waiting ≡ [] → (fault ≢ Out → s''.waiting ≡ []) →
     Reads counts (length (inputs_of s.driver.shape)) n bytes rest rest' s s' →
     ((behind : List ℕ) → RunsTo fault n (calls_after n counts (length (inputs_of s.driver.shape)) (bytes ++ behind)) s' s'') →
     RunsOver result rest rest' (clear s) (clear s'')
 lines_stop result fault counts n bytes rest rest' s s' s'' is are none none' reads stop =
-    let left = left_of rest' in
+    let left = left_of rest'.rest in
     let parts : Parts = record { taken = reads.head ++ bytes; left = left } in
     let all = length (inputs_of s.driver.shape) in
     let here = stops_in fault reads.head (bytes ++ left) counts all 0 n s s' s'' reads.through (stop left) in
@@ -171,37 +171,37 @@ lines_stop result fault counts n bytes rest rest' s s' s'' is are none none' rea
     (record {
       parts = parts;
       took = reads.took;
-      left = is_left rest';
+      left = is_left rest'.rest;
       ends = stop_clear fault parts s s'' none none' (subst (λ t. RunsTo fault 0 t s s'') whole here);
     })
 
 -- the last line ends the run
-pub file_ends : (result : Result (Unit {0}) ScriptFault) (counts : List ℕ) (n : ℕ) (bytes : List ℕ) (rest rest' : Option (List ℕ))
+pub file_ends : (result : Result (Unit {0}) ScriptFault) (counts : List ℕ) (n : ℕ) (bytes : List ℕ) (rest rest' : Source)
     (s s' s'' : Standing) →
-    counts ≡ input_counts s.driver.shape → s.waiting ≡ [] → (result ≢ Err Out → s''.waiting ≡ []) → IsAtEnd rest' →
+    counts ≡ input_counts s.driver.shape → s.waiting ≡ [] → (result ≢ Err Out → s''.waiting ≡ []) → IsAtEnd rest'.rest →
     Reads counts (length (inputs_of s.driver.shape)) n bytes rest rest' s s' →
     EndsLast result n (calls_after n counts (length (inputs_of s.driver.shape)) bytes) s' s'' →
     RunsOver result rest rest' (clear s) (clear s'')
 file_ends result counts n bytes rest rest' s s' s'' are none none' end reads last =
-    let parts : Parts = record { taken = reads.head ++ bytes; left = left_of rest' } in
+    let parts : Parts = record { taken = reads.head ++ bytes; left = left_of rest'.rest } in
     let all = length (inputs_of s.driver.shape) in
     let here = both_end result reads.head bytes counts all 0 n s s' s'' reads.through last in
     let whole : calls_after 0 counts all (reads.head ++ bytes) ≡ file_script parts s.driver =
     script_is s counts (reads.head ++ bytes) are
-    ∙ ap (script_for s.driver) (sym (ap (λ l. (reads.head ++ bytes) ++ l) (none_left rest' end) ∙ append-nil (reads.head ++ bytes))) in
+    ∙ ap (script_for s.driver) (sym (ap (λ l. (reads.head ++ bytes) ++ l) (none_left rest'.rest end) ∙ append-nil (reads.head ++ bytes))) in
     record {
       parts = parts;
       took = reads.took;
-      left = is_left rest';
+      left = is_left rest'.rest;
       ends = ends_clear result parts s s'' none none' (subst (λ t. EndsLast result 0 t s s'') whole here);
     }
 
 -- nothing was read
-pub nothing_read : (rest : Option (List ℕ)) (s : Standing) → RunsOver (Err Memory) rest rest s s
+pub nothing_read : (rest : Source) (s : Standing) → RunsOver (Err Memory) rest rest s s
 nothing_read rest s = record {
-  parts = record { taken = []; left = left_of rest };
-  took = prepend_known-none rest;
-  left = is_left rest;
+  parts = record { taken = []; left = left_of rest.rest };
+  took = read_nothing rest;
+  left = is_left rest.rest;
   ends = (refl, refl);
 }
 

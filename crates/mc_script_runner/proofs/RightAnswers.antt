@@ -192,7 +192,7 @@ answers_right one_run rests lawful w answers d d' stands some =
     }
 
 -- a run of a script isn't stuck
-never_stuck : (w : Driven) (result : Result (Unit {0}) ScriptFault) (rest rest' : Option (List ℕ)) (s s' : Standing) →
+never_stuck : (w : Driven) (result : Result (Unit {0}) ScriptFault) (rest rest' : Source) (s s' : Standing) →
     StandsFor w s.driver [] → RunsOverFile result rest rest' s s' →
     (line : ℕ) (at : Stuck) → result ≢ Err (fault.Call (record { line = line; why = drive.Stuck at }))
 never_stuck w result rest rest' s s' stands over line at is =
@@ -201,7 +201,7 @@ never_stuck w result rest rest' s s' stands over line at is =
     let behind = stands_behind w [] stop.front.answers s.driver stop.before stands stop.run.answered.answered in
     stop.refuses.refused.right w (calls_in stop.front.answers) behind.stands
 
-pub right_run : AnswersAreRight → (w : Driven) (result : Result (Unit {0}) ScriptFault) (rest rest' : Option (List ℕ)) (s s' : Standing) →
+pub right_run : AnswersAreRight → (w : Driven) (result : Result (Unit {0}) ScriptFault) (rest rest' : Source) (s s' : Standing) →
     RunsOverFile result rest rest' s s' →
     StandsFor w s.driver [] → IsRightRun w result s.driver s'.driver
 right_run law w result rest rest' s s' over stands = record {

@@ -1,8 +1,9 @@
 -- What a script comes to where the driver is one of right code: the calls up to the script's end
 -- are answered by the system.
 use Rattle.std.specs.Prelude.{◌≡◌, ℕ, List, [], ◌++◌, Option, IfSome, Result, Ok, Err, ℤ}
-use Rattle.std.specs.Io.KnownBytes.{append_known, prepend_known}
+use Rattle.std.specs.Io.KnownBytes.{append_known}
 use Rattle.mc_edge.specs.Files.{PutsFront}
+use Rattle.mc_edge.specs.Reading.{Source, HasRead}
 use Rattle.mc_diagram.specs.Laws.{Run}
 use Rattle.c_right.specs.Scripts.{Call, IsLawfulScript}
 use Rattle.mc_runner.specs.declared.outcome.Totals.{Totals}
@@ -70,16 +71,16 @@ DrivesTo (Err fault.Memory) w parts taken put put' = put' ≡ put
 
 -- the run of a script over a file that is told to be such where the host tells it
 pub record DrivesOver (w : Driven) (result : Result (Unit {0}) ScriptFault)
-    (rest rest' : Option (List ℕ)) (taken : Totals) (put put' : Option (List ℕ)) : Type 0 where
+    (from to : Source) (taken : Totals) (put put' : Option (List ℕ)) : Type 0 where
   pub parts : Parts
-  pub took : rest ≡ prepend_known parts.taken rest'
-  pub left : IfSome rest' (λ told. told ≡ parts.left)
+  pub took : HasRead parts.taken from to
+  pub left : IfSome to.rest (λ told. told ≡ parts.left)
   pub drives : DrivesTo result w parts taken put put'
 
 -- a driver that stands for the empty script runs each script so
 abbrev pub ScriptsAreDriven : Type 0
 ScriptsAreDriven =
     (w : Driven) (result : Result (Unit {0}) ScriptFault)
-    (rest rest' : Option (List ℕ)) (s s' : Standing) →
-    StandsFor w s.driver [] → s.totals ≡ no_totals → RunsOverFile result rest rest' s s' →
-    DrivesOver w result rest rest' s'.totals s.put s'.put
+    (from to : Source) (s s' : Standing) →
+    StandsFor w s.driver [] → s.totals ≡ no_totals → RunsOverFile result from to s s' →
+    DrivesOver w result from to s'.totals s.put s'.put

@@ -1,7 +1,7 @@
 -- What the run of a script comes to.
 use Rattle.std.specs.Prelude.{◌≡◌, ◌⊎◌, ℕ, ◌+◌, List, [], ◌++◌, length, Option, None, Some, IfSome, Result, MatchResult}
-use Rattle.std.specs.Io.KnownBytes.{prepend_known}
 use Rattle.mc_edge.specs.Files.{PutsFront}
+use Rattle.mc_edge.specs.Reading.{Source, HasRead}
 use Rattle.c_right.specs.Scripts.{Call}
 use Rattle.mc_runner.specs.Runs.{Parts}
 use Rattle.mc_drive.specs.declared.fault.DriveFault.{DriveFault}
@@ -77,10 +77,10 @@ StoppedReading fault.Memory parts s s' = (s' ≡ s) × (parts.taken ≡ [])
 
 -- it was a run over a file that is told to be such where the host tells it: what was taken of it in
 -- the call, and what is left
-pub record RunsOver (result : Result (Unit {0}) ScriptFault) (rest rest' : Option (List ℕ))
+pub record RunsOver (result : Result (Unit {0}) ScriptFault) (from to : Source)
     (s s' : Standing) : Type 0 where
   pub parts : Parts
-  pub took : rest ≡ prepend_known parts.taken rest'
-  pub left : IfSome rest' (λ told. told ≡ parts.left)
+  pub took : HasRead parts.taken from to
+  pub left : IfSome to.rest (λ told. told ≡ parts.left)
   pub ends : MatchResult result (λ _. RanWhole (file_script parts s.driver) s s')
       (λ fault. StoppedReading fault parts s s')

@@ -2,6 +2,7 @@
 ghost use Rattle.std.specs.Prelude.{◌≡◌, ◌≢◌, ◌≤◌, [], false, Err, OnOk, IsErrOf};
 ghost use Rattle.std.specs.Io.KnownBytes.{IsAtEnd};
 ghost use Rattle.mc_edge.specs.Faults.{Rose};
+ghost use Rattle.mc_edge.specs.Reading.{source};
 ghost use Rattle.mc_runner.specs.Runs.{no_totals};
 ghost use Rattle.mc_drive.specs.Driven.{Driven, StandsFor};
 ghost use Rattle.mc_script_runner.specs.Standings.{standing};
@@ -32,7 +33,8 @@ fn run_pieces<H: Host, S: Sink>(
     requires start { run.old.done ≡ 0 }
     requires empty { run.old.lines ≡ [] }
     requires unread { read.old.bytes ≡ [] }
-    ensures ran { RunsOver result (H.rest host.old) (H.rest host.new)
+    ensures ran { RunsOver result (source (H.rest host.old) (H.given host.old))
+        (source (H.rest host.new) (H.given host.new))
         (standing driver.old run.old.totals (S.bytes sink.old))
         (standing driver.new run.new.totals (S.bytes sink.new)) }
     ensures end { OnOk result (IsAtEnd (H.rest host.new)) }
@@ -87,11 +89,13 @@ pub fn run_script<H: Host, S: Sink>(
     totals: &mut Totals,
 ) -> Result<(), ScriptFault>
     requires start { totals.old ≡ no_totals }
-    ensures ran { RunsOver result (H.rest host.old) (H.rest host.new)
+    ensures ran { RunsOver result (source (H.rest host.old) (H.given host.old))
+        (source (H.rest host.new) (H.given host.new))
         (standing driver.old totals.old (S.bytes sink.old))
         (standing driver.new totals.new (S.bytes sink.new)) }
     ensures end { OnOk result (IsAtEnd (H.rest host.new)) }
-    ensures untouched { IsErrOf result ScriptFault.Memory → H.rest host.new ≡ H.rest host.old }
+    ensures untouched { IsErrOf result ScriptFault.Memory → source (H.rest host.new) (H.given host.new)
+        ≡ source (H.rest host.old) (H.given host.old) }
     ensures right { (w : Driven) → StandsFor w driver.old [] → IsRightRun w result
         driver.old driver.new }
 

@@ -1,19 +1,11 @@
 -- Files that are read in pieces.
 use Rattle.std.proofs.Common.{◌≡◌, refl, sym, ◌∙◌, ap, subst, ℕ, List, [], ◌∷◌, ◌++◌, length, append_assoc, arith}
 use Rattle.std.specs.Prelude.{Option, None, Some, IfSome}
-use Rattle.std.specs.Io.KnownBytes.{prepend_known, IsAtEnd}
+use Rattle.std.specs.Io.KnownBytes.{IsAtEnd}
 use Rattle.std.proofs.lemmas.List.{append-nil}
+use Rattle.mc_edge.specs.Reading.{Source}
 use Rattle.mc_edge.specs.Buffers.{ReadsOn}
 use Rattle.mc_trace.specs.Pieces.{BeginsLine}
-
-pub prepend_known-twice : (front more : List ℕ) (k : Option (List ℕ)) →
-    prepend_known front (prepend_known more k) ≡ prepend_known (front ++ more) k
-prepend_known-twice front more None = refl
-prepend_known-twice front more (Some xs) = ap (λ ys. Some ys) (sym (append_assoc front more xs))
-
-pub prepend_known-none : (k : Option (List ℕ)) → k ≡ prepend_known [] k
-prepend_known-none None = refl
-prepend_known-none (Some xs) = refl
 
 pub begins_none : (bytes : List ℕ) → bytes ≡ [] → BeginsLine bytes
 begins_none bytes none = subst BeginsLine (sym none) (record { no_whole = refl; short = omega arith })
@@ -23,7 +15,7 @@ no_bytes [] none = refl
 no_bytes (c ∷ cs) none = absurd (omega arith)
 
 -- at the end of the file the bytes are those that were there
-pub same_bytes : (count : ℕ) (bytes bytes' : List ℕ) (rest rest' : Option (List ℕ)) →
+pub same_bytes : (count : ℕ) (bytes bytes' : List ℕ) (rest rest' : Source) →
     ReadsOn count bytes bytes' rest rest' → count ≡ 0 → bytes' ≡ bytes
 same_bytes count bytes bytes' rest rest' more none =
     more.bytes ∙ ap (λ p. bytes ++ p) (no_bytes more.piece (more.size ∙ none)) ∙ append-nil bytes

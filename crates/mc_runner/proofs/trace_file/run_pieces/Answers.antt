@@ -1,6 +1,7 @@
 use Rattle.std.proofs.Common.{◌≡◌, [], ◌++◌, refl, ap, sym, subst, ◌∙◌}
 use Rattle.std.specs.Prelude.{Err}
 use Rattle.std.proofs.lemmas.Result.{err_from_is_err_and}
+use Rattle.mc_edge.specs.Reading.{source}
 use Rattle.mc_trace.specs.Pieces.{rows_after, BeginsLine}
 use Rattle.mc_runner.specs.declared.outcome.RunFault.TheVariants.{Read, Out}
 use Rattle.mc_runner.specs.Runs.{RunsOver}
@@ -31,12 +32,12 @@ pub returns-in_default-clause-ran : goal.returns-in_default-clause-ran
 returns-in_default-clause-ran g c =
     let s = inside c.args.machine.now c.args.run.now (g.S.Sink.bytes c.args.sink.now) in
     let s' = inside c.loop-count.machine c.loop-count.run (g.S.Sink.bytes c.loop-count.sink) in
-    subst (λ r. RunsOver (Err Read) (g.H.Host.rest c.args.host.now) r c.args.types.now
+    subst (λ r. RunsOver (Err Read) (source (g.H.Host.rest c.args.host.now) (g.H.Host.given c.args.host.now)) r c.args.types.now
     (standing c.args.machine.now c.args.run.now.totals (g.S.Sink.bytes c.args.sink.now))
     (standing c.loop-count.machine c.loop-count.run.totals (g.S.Sink.bytes c.loop-count.sink)))
     (sym c.in_default.ensures.unread)
-    (read_stops c.args.types.now c.loop-count.read.bytes (g.H.Host.rest c.args.host.now)
-    (g.H.Host.rest c.loop-count.host) s s' c.requires.start c.requires.empty c.loop-count.invariant.empty
+    (read_stops c.args.types.now c.loop-count.read.bytes (source (g.H.Host.rest c.args.host.now) (g.H.Host.given c.args.host.now))
+    (source (g.H.Host.rest c.loop-count.host) (g.H.Host.given c.loop-count.host)) s s' c.requires.start c.requires.empty c.loop-count.invariant.empty
     c.loop-count.invariant.begins c.loop-count.invariant.reads)
 
 pub returns-then-count-eq0-clause-ran : goal.returns-then-count-eq0-clause-ran
@@ -47,8 +48,8 @@ returns-then-count-eq0-clause-ran g c =
     let reads =
     reads_on c.args.types.now c.in-Ok.count c.loop-count.read.bytes c.fill.new.self.bytes _ _ _ s s'
     c.loop-count.invariant.reads c.in-Ok.ensures.more in
-    file_ends c.run_last.result c.args.types.now c.fill.new.self.bytes (g.H.Host.rest c.args.host.now)
-    (g.H.Host.rest c.fill.new.host) s s' s'' c.requires.start c.requires.empty
+    file_ends c.run_last.result c.args.types.now c.fill.new.self.bytes (source (g.H.Host.rest c.args.host.now) (g.H.Host.given c.args.host.now))
+    (source (g.H.Host.rest c.fill.new.host) (g.H.Host.given c.fill.new.host)) s s' s'' c.requires.start c.requires.empty
     c.run_last.ensures.empty (c.in-Ok.ensures.end c.if-count-eq0.true) reads
     (subst (λ t. EndsLast c.run_last.result (rows_after c.loop-count.run.totals.ticks c.args.types.now t) s' s'')
     c.bytes.ensures c.run_last.ensures.ran)
@@ -63,8 +64,8 @@ returns-in_err-done-clause-ran g c =
     let reads =
     reads_on c.args.types.now c.in-Ok.count c.loop-count.read.bytes c.fill.new.self.bytes _ _ _ s s'
     c.loop-count.invariant.reads c.in-Ok.ensures.more in
-    lines_stop c.from_residual.result fault c.args.types.now c.fill.new.self.bytes (g.H.Host.rest c.args.host.now)
-    (g.H.Host.rest c.fill.new.host) s s' s''
+    lines_stop c.from_residual.result fault c.args.types.now c.fill.new.self.bytes (source (g.H.Host.rest c.args.host.now) (g.H.Host.given c.args.host.now))
+    (source (g.H.Host.rest c.fill.new.host) (g.H.Host.given c.fill.new.host)) s s' s''
     (p.1 ∙ ap (λ f. Err f) p.2) c.requires.start c.requires.empty
     (λ other. c.in_err-done.ensures.empty (λ e. let same : fault ≡ Out = cc in other same)) reads
     (λ behind.
@@ -94,9 +95,9 @@ loop-count-preserved g c =
     let lines = subst (λ t. RunsLines done t c.args.types.now s' s'') c.bytes-in-loop-count.ensures c.in_ok-done.ensures.ran in
     record {
       reads =
-          subst (λ b. Reads c.args.types.now b (g.H.Host.rest c.args.host.now) (g.H.Host.rest c.fill.new.host) s s'') (sym c.take.ensures)
-          (lines_read c.args.types.now done c.fill.new.self.bytes (g.H.Host.rest c.args.host.now)
-          (g.H.Host.rest c.fill.new.host) s s' s'' reads lines);
+          subst (λ b. Reads c.args.types.now b (source (g.H.Host.rest c.args.host.now) (g.H.Host.given c.args.host.now)) (source (g.H.Host.rest c.fill.new.host) (g.H.Host.given c.fill.new.host)) s s'') (sym c.take.ensures)
+          (lines_read c.args.types.now done c.fill.new.self.bytes (source (g.H.Host.rest c.args.host.now) (g.H.Host.given c.args.host.now))
+          (source (g.H.Host.rest c.fill.new.host) (g.H.Host.given c.fill.new.host)) s s' s'' reads lines);
       begins = subst BeginsLine (sym c.take.ensures) lines.rest;
       room = c.run_lines.ensures.room;
       empty = c.in_ok-done.ensures.empty (λ e. cc);

@@ -1,5 +1,6 @@
 use Rattle.std.proofs.Common.{◌≡◌, [], ◌+◌, ◌-◌, ◌*◌, length}
 use Rattle.std.specs.Prelude.{true}
+use Rattle.mc_edge.specs.Reading.{source}
 use Rattle.mc_trace.specs.Pieces.{BeginsLine}
 use Rattle.mc_runner.specs.Walks.{inside, HasRoom}
 use Rattle.mc_runner.proofs.Files.{Reads}
@@ -8,7 +9,7 @@ use Rattle.mc_runner.proofs.trace_file.run_pieces.Given as goal
 -- whole lines of the file were run through, and the bytes begin one
 abbrev pub invariant-loop-count : goal.invariant-loop-count
 invariant-loop-count g l = record {
-  reads : Reads l.types l.read.bytes (g.H.Host.rest l.fn.host) (g.H.Host.rest l.host)
+  reads : Reads l.types l.read.bytes (source (g.H.Host.rest l.fn.host) (g.H.Host.given l.fn.host)) (source (g.H.Host.rest l.host) (g.H.Host.given l.host))
       (inside l.fn.machine l.fn.run (g.S.Sink.bytes l.fn.sink)) (inside l.machine l.run (g.S.Sink.bytes l.sink));
   begins : BeginsLine l.read.bytes;
   room : HasRoom l.run l.types l.machine;

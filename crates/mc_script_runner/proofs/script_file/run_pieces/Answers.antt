@@ -1,6 +1,7 @@
 use Rattle.std.proofs.Common.{◌≡◌, [], ◌++◌, ◌∙◌, refl, ap, sym, subst, length}
 use Rattle.std.specs.Prelude.{Err}
 use Rattle.std.proofs.lemmas.Result.{err_from_is_err_and}
+use Rattle.mc_edge.specs.Reading.{source}
 use Rattle.mc_runner.proofs.lemmas.FilePieces.{begins_none}
 use Rattle.mc_trace.specs.Pieces.{BeginsLine}
 use Rattle.mc_drive.specs.Shapes.{Shape, inputs_of}
@@ -35,12 +36,12 @@ pub returns-in_default-clause-ran : goal.returns-in_default-clause-ran
 returns-in_default-clause-ran g c =
     let s = inside c.args.driver.now c.args.run.now (g.S.Sink.bytes c.args.sink.now) in
     let s' = inside c.loop-count.driver c.loop-count.run (g.S.Sink.bytes c.loop-count.sink) in
-    subst (λ r. RunsOver (Err Read) (g.H.Host.rest c.args.host.now) r
+    subst (λ r. RunsOver (Err Read) (source (g.H.Host.rest c.args.host.now) (g.H.Host.given c.args.host.now)) r
     (standing c.args.driver.now c.args.run.now.totals (g.S.Sink.bytes c.args.sink.now))
     (standing c.loop-count.driver c.loop-count.run.totals (g.S.Sink.bytes c.loop-count.sink)))
     (sym c.in_default.ensures.unread)
-    (read_stops c.args.counts.now c.loop-count.run.done c.loop-count.read.bytes (g.H.Host.rest c.args.host.now)
-    (g.H.Host.rest c.loop-count.host) s s' c.requires.counts.are c.requires.empty c.loop-count.invariant.empty
+    (read_stops c.args.counts.now c.loop-count.run.done c.loop-count.read.bytes (source (g.H.Host.rest c.args.host.now) (g.H.Host.given c.args.host.now))
+    (source (g.H.Host.rest c.loop-count.host) (g.H.Host.given c.loop-count.host)) s s' c.requires.counts.are c.requires.empty c.loop-count.invariant.empty
     c.loop-count.invariant.begins c.loop-count.invariant.reads)
 
 pub returns-then-count-eq0-clause-ran : goal.returns-then-count-eq0-clause-ran
@@ -52,8 +53,8 @@ returns-then-count-eq0-clause-ran g c =
     let reads =
     reads_on c.args.counts.now all c.loop-count.run.done c.in-Ok.count c.loop-count.read.bytes c.fill.new.self.bytes _ _ _ s s'
     c.loop-count.invariant.reads c.in-Ok.ensures.more in
-    file_ends c.run_last.result c.args.counts.now c.loop-count.run.done c.fill.new.self.bytes (g.H.Host.rest c.args.host.now)
-    (g.H.Host.rest c.fill.new.host) s s' s'' c.requires.counts.are c.requires.empty
+    file_ends c.run_last.result c.args.counts.now c.loop-count.run.done c.fill.new.self.bytes (source (g.H.Host.rest c.args.host.now) (g.H.Host.given c.args.host.now))
+    (source (g.H.Host.rest c.fill.new.host) (g.H.Host.given c.fill.new.host)) s s' s'' c.requires.counts.are c.requires.empty
     c.run_last.ensures.empty (c.in-Ok.ensures.end c.if-count-eq0.true) reads
     (subst (λ (shape : Shape). EndsLast c.run_last.result c.loop-count.run.done
     (calls_after c.loop-count.run.done c.args.counts.now (length (inputs_of shape)) c.fill.new.self.bytes) s' s'')
@@ -73,8 +74,8 @@ returns-in_err-done-clause-ran g c =
     let reads =
     reads_on c.args.counts.now all c.loop-count.run.done c.in-Ok.count c.loop-count.read.bytes c.fill.new.self.bytes _ _ _ s s'
     c.loop-count.invariant.reads c.in-Ok.ensures.more in
-    lines_stop c.from_residual.result fault c.args.counts.now c.loop-count.run.done c.fill.new.self.bytes (g.H.Host.rest c.args.host.now)
-    (g.H.Host.rest c.fill.new.host) s s' s''
+    lines_stop c.from_residual.result fault c.args.counts.now c.loop-count.run.done c.fill.new.self.bytes (source (g.H.Host.rest c.args.host.now) (g.H.Host.given c.args.host.now))
+    (source (g.H.Host.rest c.fill.new.host) (g.H.Host.given c.fill.new.host)) s s' s''
     (p.1 ∙ ap (λ f. Err f) p.2) c.requires.counts.are c.requires.empty
     (λ other. c.in_err-done.ensures.empty (λ e. let same : fault ≡ Out = cc in other same)) reads
     (λ behind.
@@ -117,11 +118,11 @@ loop-count-preserved g c =
     c.bytes-in-loop-count.ensures c.in_ok-done.ensures.ran) in
     record {
       reads =
-          subst (λ b. Reads c.args.counts.now all c.run_lines.new.run.done b (g.H.Host.rest c.args.host.now)
-          (g.H.Host.rest c.fill.new.host) s s'')
+          subst (λ b. Reads c.args.counts.now all c.run_lines.new.run.done b (source (g.H.Host.rest c.args.host.now) (g.H.Host.given c.args.host.now))
+          (source (g.H.Host.rest c.fill.new.host) (g.H.Host.given c.fill.new.host)) s s'')
           (sym c.take.ensures)
           (lines_read c.args.counts.now all c.loop-count.run.done c.run_lines.new.run.done done c.fill.new.self.bytes
-          (g.H.Host.rest c.args.host.now) (g.H.Host.rest c.fill.new.host) s s' s'' reads lines);
+          (source (g.H.Host.rest c.args.host.now) (g.H.Host.given c.args.host.now)) (source (g.H.Host.rest c.fill.new.host) (g.H.Host.given c.fill.new.host)) s s' s'' reads lines);
       begins = subst BeginsLine (sym c.take.ensures) lines.rest;
       room = c.run_lines.ensures.room;
       empty = c.in_ok-done.ensures.empty (λ e. cc);

@@ -1,5 +1,6 @@
 use Rattle.std.proofs.Common.{◌≡◌, [], ◌+◌, ◌-◌, ◌*◌, length}
 use Rattle.std.specs.Prelude.{true}
+use Rattle.mc_edge.specs.Reading.{source}
 use Rattle.mc_trace.specs.Pieces.{BeginsLine}
 use Rattle.mc_drive.specs.Shapes.{inputs_of}
 use Rattle.mc_script_runner.specs.Walks.{inside, HasRoom}
@@ -9,7 +10,7 @@ use Rattle.mc_script_runner.proofs.script_file.run_pieces.Given as goal
 -- the calls of whole lines of the file were answered, and the bytes begin one
 abbrev pub invariant-loop-count : goal.invariant-loop-count
 invariant-loop-count g l = record {
-  reads : Reads l.counts (length (inputs_of l.fn.driver.shape)) l.run.done l.read.bytes (g.H.Host.rest l.fn.host) (g.H.Host.rest l.host)
+  reads : Reads l.counts (length (inputs_of l.fn.driver.shape)) l.run.done l.read.bytes (source (g.H.Host.rest l.fn.host) (g.H.Host.given l.fn.host)) (source (g.H.Host.rest l.host) (g.H.Host.given l.host))
       (inside l.fn.driver l.fn.run (g.S.Sink.bytes l.fn.sink)) (inside l.driver l.run (g.S.Sink.bytes l.sink));
   begins : BeginsLine l.read.bytes;
   room : HasRoom l.run l.driver.shape;

@@ -1,3 +1,4 @@
+use Rattle.mc_edge.specs.Reading.{source}
 use Rattle.mc_script_runner.specs.Standings.{standing}
 use Rattle.mc_script_runner.proofs.Files.{nothing_read}
 use Rattle.mc_script_runner.proofs.RightAnswers.{right_run}
@@ -5,12 +6,12 @@ use Rattle.mc_script_runner.proofs.script_file.run_script.Goals as goal
 
 pub returns-in_default-clause-ran : goal.returns-in_default-clause-ran
 returns-in_default-clause-ran g c =
-    nothing_read (g.H.Host.rest c.args.host.now) (standing c.args.driver.now c.args.totals.now (g.S.Sink.bytes c.args.sink.now))
+    nothing_read (source (g.H.Host.rest c.args.host.now) (g.H.Host.given c.args.host.now)) (standing c.args.driver.now c.args.totals.now (g.S.Sink.bytes c.args.sink.now))
 
 pub returns-in_default-clause-right : goal.returns-in_default-clause-right
 returns-in_default-clause-right g c = λ w stands.
     let s = standing c.args.driver.now c.args.totals.now (g.S.Sink.bytes c.args.sink.now) in
-    let rest = g.H.Host.rest c.args.host.now in
+    let rest = source (g.H.Host.rest c.args.host.now) (g.H.Host.given c.args.host.now) in
     right_run c.answers_are_right.ensures w _ rest rest s s (nothing_read rest s) stands
 
 pub returns-clause-right : goal.returns-clause-right

@@ -1,6 +1,7 @@
 use Rattle.std.proofs.Common.{◌-◌, ◌++◌, take, drop, ap, ◌∙◌, arith, rules}
 use Rattle.mc_edge.specs.Buffers.{ReadAhead}
 use Rattle.mc_edge.proofs.Buffers.{kept_before, grown, on_error}
+use Rattle.mc_edge.proofs.lemmas.ReadLaws.{rose_by_taken}
 use Rattle.mc_edge.proofs.read_buffer.ReadBuffer.read.Goals as goal
 
 pub returns-in_err-count-clause-kept : goal.returns-in_err-count-clause-kept
@@ -23,5 +24,8 @@ returns-clause-more g c =
           (search rules) (search rules)
           ∙ ap (λ xs. take (b.end - b.start) (drop b.start xs) ++ take n c.read.new.into) c.deref_mut.ensures.value
           ∙ ap (λ (s : ReadAhead). s.bytes ++ take n c.read.new.into) c.self.view_is;
-      moved = c.in_ok-count.ensures.bytes;
+      read = record {
+        front = c.in_ok-count.ensures.bytes;
+        count = rose_by_taken _ _ n c.read.new.into (search rules) c.in_ok-count.ensures.given;
+      };
     }
