@@ -85,8 +85,7 @@ pub fn run_trace<H: Host, S: Sink>(
         (standing machine.old totals.old (S.bytes sink.old))
         (standing machine.new totals.new (S.bytes sink.new)) }
     ensures end { OnOk result (IsAtEnd (H.rest host.new)) }
-    ensures untouched { IsErrOf result RunFault.Memory → source (H.rest host.new) (H.given host.new)
-        ≡ source (H.rest host.old) (H.given host.old) }
+    ensures untouched { IsErrOf result RunFault.Memory → H.rest host.new ≡ H.rest host.old }
 
     ensures read_cause { IsErrOf result RunFault.Read →
         Rose (H.read_faults host.old) (H.read_faults host.new) }
