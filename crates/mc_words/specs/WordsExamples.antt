@@ -33,9 +33,13 @@ words-compile : asked_by (codes "compile" ∷ codes "a" ∷ codes "b" ∷ [])
     ≡ Some (Compile (codes "a") (codes "b"))
 words-compile = refl
 
-words-run : asked_by (codes "run" ∷ codes "a" ∷ codes "b" ∷ codes "a" ∷ [])
-    ≡ Some (Run (codes "a") (codes "b") (codes "a"))
+words-run : asked_by (codes "run" ∷ codes "a" ∷ codes "b" ∷ codes "c" ∷ [])
+    ≡ Some (Run (codes "a") (codes "b") (codes "c"))
 words-run = refl
+
+words-run_by_the_model : asked_by (codes "run" ∷ codes "a" ∷ codes "b" ∷ codes "a" ∷ [])
+    ≡ Some (Run (codes "a") (codes "b") (codes "a"))
+words-run_by_the_model = refl
 
 words-run_over_model : asked_by (codes "run" ∷ codes "a" ∷ codes "a" ∷ codes "b" ∷ []) ≡ None
 words-run_over_model = refl
@@ -43,9 +47,13 @@ words-run_over_model = refl
 words-run_over_trace : asked_by (codes "run" ∷ codes "a" ∷ codes "b" ∷ codes "b" ∷ []) ≡ None
 words-run_over_trace = refl
 
-words-exec : asked_by (codes "exec" ∷ codes "a" ∷ codes "a" ∷ [])
-    ≡ Some (Exec (codes "a") (codes "a"))
+words-exec : asked_by (codes "exec" ∷ codes "a" ∷ codes "b" ∷ [])
+    ≡ Some (Exec (codes "a") (codes "b"))
 words-exec = refl
+
+words-exec_by_the_code : asked_by (codes "exec" ∷ codes "a" ∷ codes "a" ∷ [])
+    ≡ Some (Exec (codes "a") (codes "a"))
+words-exec_by_the_code = refl
 
 words-named_run : asked_by (codes "compile" ∷ codes "run" ∷ codes "help" ∷ [])
     ≡ Some (Compile (codes "run") (codes "help"))
@@ -110,7 +118,7 @@ words-drive_long = refl
 abbrev gen : (start size code : List ℕ) → Option Asked
 gen start size code = asked_by (codes "gen" ∷ start ∷ size ∷ codes "a" ∷ code ∷ [])
 
-words-gen : gen (codes "1") (codes "1") (codes "b") ≡ Some (Gen 1 1 (codes "a") (codes "b"))
+words-gen : gen (codes "1") (codes "2") (codes "b") ≡ Some (Gen 1 2 (codes "a") (codes "b"))
 words-gen = refl
 
 words-gen_greatest : gen (codes "2147483646") (codes "2499") (codes "b")
