@@ -1,26 +1,22 @@
 //! The program: compiles a Simulink model to C.
 #![tactic(auto)]
 
+mod held;
+mod words;
+
+use held::hold_standard;
 use mc_edge::{FileHost, OutSink};
 use mc_tool::run_tool;
+use std::io;
 use std::process::ExitCode;
-use std::rt::Env;
-use std::{env, io};
+use words::words_of;
 
 /// The status for want of memory.
 const NO_MEMORY: u8 = 10;
 
-// The words after the program's name.
-fn words_of(rt: &(impl Env + AllocGlobal)) -> io::Result<Vec<String>> {
-    let mut words = Vec::new(rt.alloc());
-    for word in env::args(rt)?.skip(1) {
-        words.push(word)?;
-    }
-    Ok(words)
-}
-
 // Words that are no text ask for nothing.
 fn main(rt: HostRuntime) -> ExitCode {
+    let _held = hold_standard(&rt);
     let words = match words_of(&rt) {
         Ok(words) => words,
         Err(e) if e.kind() == io::ErrorKind::OutOfMemory => return ExitCode::from(NO_MEMORY),
