@@ -11,5 +11,7 @@ pub mod Params
 pub mod PrintedResolving
 pub mod PrintedScopes
 pub mod PrintedProgram
-pub mod PrintedReading
+pub mod AlikeBytes
+mod AlikeText
+mod PrintedReading
 pub mod PrintedProcedures

@@ -11,6 +11,7 @@ use Rattle.c_syntax.specs.RootFields.{is_number_kind, is_number, number_names}
 use Rattle.c_rules.specs.Resolve.{Known, function_names, check_params, resolve_pure, array_limit, resolve_kind, is_number_written, number_name, resolve_fields, resolve_struct, resolve_pures, resolve_structs, has_root, resolve_program}
 use Rattle.c_grammar.specs.Results.{◌>>=◌}
 use Rattle.c_syntax.specs.Lawful.{AreDistinct, AreApart, ArePures, IsLawfulPure, AreStructs, IsLawfulStruct, IsLawfulKind, IsLawful, chains_of, pure_names, procedure_names, pure_without_lines, procedure_without_lines, without_lines}
+use Rattle.c_rules.specs.AlikeTexts.{is_alike}
 use Rattle.c_rules.specs.Reading.{IsTextOf, CText}
 use Rattle.c_syntax.specs.Names.{name_at}
 use Rattle.c_printer.specs.Printing.{struct_name, program_bytes}
@@ -25,6 +26,7 @@ use Rattle.c_printer.proofs.PrintedResolving.{expr-resolved}
 use Rattle.c_grammar.specs.Tokens.{last_line}
 use Rattle.c_syntax.specs.Limits.{stmt_depth, stmts_depth, stmt_exprs_depth, stmts_exprs_depth, PureFits, ProcedureFits, IsWithinLimits}
 use Rattle.c_printer.proofs.PrintedProcedures.{one_more, procedures_without_lines-read, after_procedures, procedures-resolved}
+use Rattle.c_printer.proofs.AlikeText.{text-alike}
 use Rattle.c_printer.proofs.PrintedProgram.{program-read, program-header, slice_get-front, pures-some, moved, pures-distinct}
 
 -- the parameters of a pure function, by their names
@@ -289,4 +291,5 @@ module _ (p : ProgramTree) (lawful : IsLawful p) where
         read = read;
         one = λ other r. one-reading one_written bytes other (read_program p) r read;
         same = text-same;
+        alike = ap is_alike same ∙ text-alike p lawful;
       }

@@ -1,2 +1,4 @@
 pub mod Resolve
+pub mod AlikeTexts
+pub mod AlikeExamples
 pub mod Reading

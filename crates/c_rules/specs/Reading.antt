@@ -8,6 +8,7 @@ use Rattle.c_grammar.specs.Tokens.{has_header, tokens_of, last_line}
 use Rattle.c_grammar.specs.Grammar.{Spells}
 use Rattle.c_syntax.specs.Limits.{IsWithinLimits}
 use Rattle.c_grammar.specs.Prefix.{file_needs, token_fault, fault_at}
+use Rattle.c_rules.specs.AlikeTexts.{is_alike}
 use Rattle.c_rules.specs.Resolve.{resolve_program}
 use Rattle.c_syntax.specs.Lawful.{without_lines}
 
@@ -36,9 +37,10 @@ IsFaultBehind true bytes fault =
 abbrev pub CFaultOf : List ℕ → CFault → Type 0
 CFaultOf bytes fault = IsFaultBehind (has_header bytes) bytes fault
 
--- the bytes have one reading, and it is this program, lines aside
+-- the bytes have one reading, and it is this program, lines aside; and C99 reads the same tokens
 pub record IsTextOf (bytes : List ℕ) (p : ProgramTree) : Type 0 where
   pub reading : ProgramTree
   pub read : CText bytes reading
   pub one : (other : ProgramTree) → CText bytes other → other ≡ reading
   pub same : without_lines reading ≡ without_lines p
+  pub alike : is_alike bytes ≡ true
