@@ -741,6 +741,7 @@ text_of_code_is_right lines bytes p r text h =
       program = q;
       reads = text.read;
       only = text.one;
+      alike = text.alike;
       code = record {
         runs = record {
           outputs = λ xs trace. rows.outputs d xs p q same (h.runs.outputs xs trace);

@@ -1,5 +1,5 @@
 -- When C bytes are right for a table of rows.
-use Rattle.std.specs.Prelude.{◌≡◌, ℕ, ◌≤◌, Bool, List, map, sum, Option, None, ℤ}
+use Rattle.std.specs.Prelude.{◌≡◌, ℕ, ◌≤◌, Bool, true, List, map, sum, Option, None, ℤ}
 use Rattle.std.specs.List.{AllByRecursion, AllZip}
 use Rattle.mc_diagram.specs.ResolvedTable.{ResolvedTable, diagram_of_table}
 use Rattle.mc_diagram.specs.Diagram.{Diagram}
@@ -9,6 +9,7 @@ use Rattle.mc_diagram.specs.Laws.{HasOneRun}
 use Rattle.mc_cluster.specs.Classes.{class_count}
 use Rattle.c_syntax.specs.Tree.{ProgramTree}
 use Rattle.c_machine.specs.Rows.{c_rows, start_run}
+use Rattle.c_rules.specs.AlikeTexts.{is_alike}
 use Rattle.c_rules.specs.Reading.{CText}
 use Rattle.mc_profile.specs.Systems.{systems}
 use Rattle.mc_diagram.specs.Traces.{IsTrace}
@@ -69,11 +70,13 @@ pub record IsCodeFor (p : ProgramTree) (d : Diagram) (delays : List Bool) (hyper
   pub renewed : AllByRecursion (RenewsAll p d hyper) (systems d.rows)
   pub restarted : Restarts p d hyper
 
--- the bytes have one reading, and it is code for the diagram of a resolved table
+-- the bytes have one reading, C99 reads the same tokens, and it is code for the diagram of a
+-- resolved table
 pub record IsRightFor (bytes : List ℕ) (r : ResolvedTable) : Type 0 where
   pub program : ProgramTree
   pub reads : CText bytes program
   pub only : (other : ProgramTree) → CText bytes other → other ≡ program
+  pub alike : is_alike bytes ≡ true
   pub code : IsCodeFor program (diagram_of_table r) r.times.delays r.times.hyper
 
 -- so many output functions all systems have together: for each system one for each different set of
