@@ -40,7 +40,8 @@ use Rattle.c_pruned.proofs.lemmas.SameRuns.{Agree, expr-same}
 use Rattle.c_pruned_right.specs.Laws.{PrunedIsCode}
 use Rattle.c_pruned_right.proofs.PrunedBodies.{each-map, zip-map, filter-map, map-map, expr-leaves, exprs-list, stmts-list}
 use Rattle.c_pruned_right.proofs.PrunedRules.{read-moved, keeps, once-moved, stored-moved}
-use Rattle.c_pruned_right.proofs.PrunedRows.{q, same-outs, outputs-alike, bounded-alike, rows-alike, answers-alike, renewed-alike, restarted-alike}
+use Rattle.c_right.proofs.lemmas.AlikePrograms.{outputs-alike, bounded-alike, rows-alike, answers-alike, renewed-alike, restarted-alike}
+use Rattle.c_pruned_right.proofs.PrunedRows.{q, same-outs, are-alike}
 
 -- ---- Functions at the positions that an expression calls
 
@@ -324,20 +325,22 @@ module _ (place : ℕ → ℕ) (pures : List PureTree) (p : ProgramTree) where
   -- ---- All together
 
   pub code-alike : RunsAs r p → (d : Diagram) (delays : List Bool) (hyper : ℕ) → IsCodeFor p d delays hyper → IsCodeFor r d delays hyper
-  code-alike alike d delays hyper h = record {
-    runs = record {
-      outputs = λ xs trace. outputs-alike place pures p alike d xs (h.runs.outputs xs trace);
-      bounded = λ xs trace. bounded-alike place pures p alike d xs (h.runs.bounded xs trace);
-      calls = λ xs run trace is. rows-alike place pures p alike d xs run (h.runs.calls xs run trace is);
-    };
-    least = each-then (HasLeastInterface p d) (HasLeastInterface r d) (systems d.rows) (λ s one. least-alike d s one) h.least;
-    shape = shape-alike d delays hyper h.shape;
-    any_order =
-        each-then (AnswersAnyOrder p d hyper) (AnswersAnyOrder r d hyper) (systems d.rows)
-        (λ s one. answers-alike place pures p alike d hyper s one) h.any_order;
-    renewed = each-then (RenewsAll p d) (RenewsAll r d) (systems d.rows) (λ s one. renewed-alike place pures p alike d s one) h.renewed;
-    restarted = restarted-alike place pures p alike d h.restarted;
-  }
+  code-alike runs d delays hyper h =
+      let are = are-alike place pures p runs in record {
+        runs = record {
+          outputs = λ xs trace. outputs-alike p r are d xs (h.runs.outputs xs trace);
+          bounded = λ xs trace. bounded-alike p r are d xs (h.runs.bounded xs trace);
+          ticks = rows-alike p r are d h.runs.ticks;
+        };
+        least = each-then (HasLeastInterface p d) (HasLeastInterface r d) (systems d.rows) (λ s one. least-alike d s one) h.least;
+        shape = shape-alike d delays hyper h.shape;
+        any_order =
+            each-then (AnswersAnyOrder p d hyper) (AnswersAnyOrder r d hyper) (systems d.rows)
+            (λ s one. answers-alike p r are d hyper s one) h.any_order;
+        renewed = each-then (RenewsAll p d hyper) (RenewsAll r d hyper) (systems d.rows)
+            (λ s one. renewed-alike p r are d hyper s one) h.renewed;
+        restarted = restarted-alike p r are d hyper h.restarted;
+      }
 
 pub pruned_is_code : PrunedRunsAlike → PrunedIsCode
 pruned_is_code alike p d delays hyper lawful h =

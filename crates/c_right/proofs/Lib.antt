@@ -1,3 +1,4 @@
+pub mod lemmas
 mod RowLines
 mod ScriptSteps
 mod GivenValues

@@ -41,7 +41,8 @@ use Rattle.c_shape.specs.ProgramShape.{viewed, HasSystemShape, HasShape}
 use Rattle.c_right.specs.Anew.{RenewsAll}
 use Rattle.c_right.specs.Right.{AnswersAnyOrder}
 use Rattle.c_right.specs.LineLaws.{ShapeMeansNoLines, TextOfCodeIsRight}
-use Rattle.c_right.proofs.RowLines.{out_places-aside, each-then, rows_mean_no_lines, renewals_mean_no_lines}
+use Rattle.c_right.proofs.lemmas.AlikePrograms.{each-then}
+use Rattle.c_right.proofs.RowLines.{out_places-aside, rows_mean_no_lines, renewals_mean_no_lines}
 
 -- ---- What bodies store, test, call and index
 
