@@ -21,7 +21,7 @@ use Rattle.c_shape.specs.Once.{of_ticks, store_sites, call_sites, StatesOnce}
 use Rattle.c_shape.specs.Stored.{stored_on, stored_in, stored_names}
 use Rattle.c_pruned.specs.Pruned.{renumbered_expr, renumbered_cond, renumbered_procedure}
 use Rattle.c_pruned_right.proofs.PrunedBodies.{each-map, zip-map, filter-map, map-map, count-map, expr-leaves, cond-leaves, moved_store, moved_index, moved_call, stores-moved, tests-moved, calls-moved, indices-moved, flat-moved}
-use Rattle.c_pruned_right.proofs.PrunedRows.{each-then}
+use Rattle.c_right.proofs.lemmas.AlikePrograms.{each-then}
 
 module _ (place : ℕ → ℕ) where
   abbrev move : ProcedureTree → ProcedureTree

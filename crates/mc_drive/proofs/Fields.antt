@@ -2,18 +2,16 @@
 use Rattle.std.specs.Prelude.{◌≡◌, ℕ, suc, ◌+◌, List, [], ◌∷◌, ◌++◌, slice_index_or, ℤ, ⊤, refl}
 use Rattle.std.specs.List.{AllByRecursion}
 use Rattle.std.proofs.Common.{sym, ap, subst, ◌∙◌, arith}
-use Rattle.mc_diagram.specs.Rows.{outports_of}
-use Rattle.mc_diagram.specs.Run.{value_at}
 use Rattle.mc_diagram.specs.Laws.{Run}
-use Rattle.mc_profile.specs.Headers.{numbered_function, given_by_function}
 use Rattle.c_machine.specs.Cells.{Cells}
 use Rattle.c_machine.specs.Machine.{After, LoggedCall, StoredField, Outcome, done, stuck}
-use Rattle.c_shape.specs.Names.{out_name, update_name}
 use Rattle.c_simulation.specs.Instances.{OnDone}
 use Rattle.c_right.specs.Scripts.{Call, out_with, update_with}
+use Rattle.c_right.specs.Paths.{cells_at}
 use Rattle.c_right.specs.Calls.{CallsInside}
-use Rattle.c_right.specs.Right.{field_of, call_in_tick, DrivenFrom}
-use Rattle.mc_drive.specs.Driven.{Driven, functions_of, updates, LeavesFields, call_at}
+use Rattle.c_right.specs.Held.{HoldsRun}
+use Rattle.c_right.specs.Driving.{HoldsOutputs, DrivenFrom}
+use Rattle.mc_drive.specs.Driven.{Driven, functions_of, path_of, updates, LeavesFields, call_at}
 
 -- ---- Outcomes
 
@@ -62,49 +60,57 @@ module _ (w : Driven) where
   -- ---- What right code says
 
   module _ (xs : List (List ℤ)) (run : Run) where
-    abbrev Rest : ℕ → Cells → List LoggedCall → List StoredField → List Call → Type 0
-    Rest t cells log stores script = DrivenFrom w.program w.diagram w.hyper w.system (functions_of w) xs run t cells log stores script
+    abbrev Rest : ℕ → Cells → List ℕ → List LoggedCall → List StoredField → List Call → Type 0
+    Rest t cells called log stores script =
+        DrivenFrom w.program w.diagram w.hyper (path_of w) w.system (functions_of w) xs run t cells called log stores script
 
     -- a function's outputs are those of the run
     abbrev pub HasOutputs : ℕ → Call → Cells → Type 0
     HasOutputs t (out_with j values) cells =
-        AllByRecursion (λ o. field_of w.program w.diagram w.system cells o
-        ≡ value_at (slice_index_or run.values t []) o)
-        (given_by_function (numbered_function (functions_of w) j) (outports_of w.diagram.rows w.system))
+        HoldsOutputs w.program w.diagram w.hyper (path_of w) w.system (functions_of w) xs run t cells j
     HasOutputs t (update_with values) cells = ⊤
+
+    -- those of all functions called in the tick
+    abbrev Outputs : ℕ → List ℕ → After → Type 0
+    Outputs t called a =
+        AllByRecursion (HoldsOutputs w.program w.diagram w.hyper (path_of w) w.system (functions_of w) xs run t a.cells) called
 
     abbrev Inside : ℕ → List LoggedCall → List StoredField → After → Type 0
     Inside t log stores a =
-        CallsInside w.program w.diagram w.system (slice_index_or xs t []) (slice_index_or run.values t [])
+        CallsInside w.program w.diagram (path_of w) w.system (slice_index_or xs t []) (slice_index_or run.values t [])
         (slice_index_or run.triggers t []) (log ++ a.log) (stores ++ a.stores)
 
-    driven-last : (t : ℕ) (cells mid : Cells) (log : List LoggedCall) (stores : List StoredField) (c : Call) →
-        mid ≡ cells → Rest t cells log stores (c ∷ []) →
-        OnDone (call_at w t c mid) (λ a. HasOutputs t c a.cells)
-    driven-last t cells mid log stores (out_with j values) same h =
-        subst (λ (o : Outcome). OnDone o (λ a. HasOutputs t (out_with j values) a.cells)) (ap (call_at w t (out_with j values)) (sym same))
-        (on-done (call_at w t (out_with j values) cells) (λ a. HasOutputs t (out_with j values) a.cells
-        × Rest t a.cells (log ++ a.log) (stores ++ a.stores) []) (λ a. HasOutputs t (out_with j values) a.cells)
-        (λ a both. both.0) h)
-    driven-last t cells mid log stores (update_with values) same h =
-        subst (λ (o : Outcome). OnDone o (λ a. ⊤)) (ap (call_at w t (update_with values)) (sym same))
-        (on-done (call_at w t (update_with values) cells) (λ a. Inside t log stores a × Rest (suc t) a.cells [] [] [])
-        (λ a. ⊤) (λ a both. tt) h)
+    abbrev Held : ℕ → After → Type 0
+    Held t a = HoldsRun w.program w.diagram w.system run t (cells_at (path_of w) a.cells)
 
-    pub driven-more : (script : List Call) (t n : ℕ) (cells mid : Cells) (log : List LoggedCall)
+    driven-last : (t : ℕ) (cells mid : Cells) (called : List ℕ) (log : List LoggedCall) (stores : List StoredField) (c : Call) →
+        mid ≡ cells → Rest t cells called log stores (c ∷ []) →
+        OnDone (call_at w t c mid) (λ a. HasOutputs t c a.cells)
+    driven-last t cells mid called log stores (out_with j values) same h =
+        subst (λ (o : Outcome). OnDone o (λ a. HasOutputs t (out_with j values) a.cells)) (ap (call_at w t (out_with j values)) (sym same))
+        (on-done (call_at w t (out_with j values) cells) (λ a. Outputs t (j ∷ called) a
+        × Rest t a.cells (j ∷ called) (log ++ a.log) (stores ++ a.stores) []) (λ a. HasOutputs t (out_with j values) a.cells)
+        (λ a both. both.0.0) h)
+    driven-last t cells mid called log stores (update_with values) same h =
+        subst (λ (o : Outcome). OnDone o (λ a. ⊤)) (ap (call_at w t (update_with values)) (sym same))
+        (on-done (call_at w t (update_with values) cells) (λ a. Inside t log stores a × Held t a × Rest (suc t) a.cells [] [] [] [])
+        (λ a. ⊤) (λ a all. tt) h)
+
+    pub driven-more : (script : List Call) (t n : ℕ) (cells mid : Cells) (called : List ℕ) (log : List LoggedCall)
         (stores : List StoredField) (c : Call) → t + updates script ≡ n →
-        Rest t cells log stores (script ++ c ∷ []) → LeavesFields w t cells script mid →
+        Rest t cells called log stores (script ++ c ∷ []) → LeavesFields w t cells script mid →
         OnDone (call_at w n c mid) (λ a. HasOutputs n c a.cells)
-    driven-more [] t n cells mid log stores c count h left =
+    driven-more [] t n cells mid called log stores c count h left =
         let here : t ≡ n = omega (arith, count) in
-        subst (λ (k : ℕ). OnDone (call_at w k c mid) (λ a. HasOutputs k c a.cells)) here (driven-last t cells mid log stores c left h)
-    driven-more (out_with j values ∷ cs) t n cells mid log stores c count h left =
-        out-of-both (call_at w t (out_with j values) cells) (λ a. HasOutputs t (out_with j values) a.cells)
-        (λ a. Rest t a.cells (log ++ a.log) (stores ++ a.stores) (cs ++ c ∷ []))
+        subst (λ (k : ℕ). OnDone (call_at w k c mid) (λ a. HasOutputs k c a.cells)) here
+        (driven-last t cells mid called log stores c left h)
+    driven-more (out_with j values ∷ cs) t n cells mid called log stores c count h left =
+        out-of-both (call_at w t (out_with j values) cells) (Outputs t (j ∷ called))
+        (λ a. Rest t a.cells (j ∷ called) (log ++ a.log) (stores ++ a.stores) (cs ++ c ∷ []))
         (λ a. LeavesFields w t a.cells cs mid) (OnDone (call_at w n c mid) (λ a. HasOutputs n c a.cells))
-        (λ a rest leaves. driven-more cs t n a.cells mid (log ++ a.log) (stores ++ a.stores) c count rest leaves) h left
-    driven-more (update_with values ∷ cs) t n cells mid log stores c count h left =
+        (λ a rest leaves. driven-more cs t n a.cells mid (j ∷ called) (log ++ a.log) (stores ++ a.stores) c count rest leaves) h left
+    driven-more (update_with values ∷ cs) t n cells mid called log stores c count h left =
         out-of-both (call_at w t (update_with values) cells) (Inside t log stores)
-        (λ a. Rest (suc t) a.cells [] [] (cs ++ c ∷ [])) (λ a. LeavesFields w (suc t) a.cells cs mid)
+        (λ a. Held t a × Rest (suc t) a.cells [] [] [] (cs ++ c ∷ [])) (λ a. LeavesFields w (suc t) a.cells cs mid)
         (OnDone (call_at w n c mid) (λ a. HasOutputs n c a.cells))
-        (λ a rest leaves. driven-more cs (suc t) n a.cells mid [] [] c (omega (arith, count)) rest leaves) h left
+        (λ a rest leaves. driven-more cs (suc t) n a.cells mid [] [] [] c (omega (arith, count)) rest.1 leaves) h left

@@ -24,9 +24,10 @@ use Rattle.c_meaning.specs.States.{MachineState, tree_of, fields_of}
 use Rattle.c_shape.specs.Names.{value_name}
 use Rattle.c_shape.specs.Programs.{procedure_place, struct_place}
 use Rattle.c_simulation.specs.Instances.{OnDone}
-use Rattle.c_right.specs.Paths.{path_to, cells_at}
+use Rattle.c_right.specs.Paths.{path_to, number_in, cells_at}
 use Rattle.c_right.specs.Scripts.{Call, out_with, given_of, TickSoFar, nothing_yet, tick_after, IsLike, IsLawfulScript}
-use Rattle.c_right.specs.Right.{field_of, AnswersAnyOrder, DrivenFrom}
+use Rattle.c_right.specs.Driving.{DrivenFrom, AnswersScripts}
+use Rattle.c_right.specs.Right.{AnswersAnyOrder}
 use Rattle.c_right.specs.DriveLaws.{tick_behind}
 use Rattle.mc_drive.specs.declared.inputs.Input.{Input}
 use Rattle.mc_drive.specs.Shapes.{Shape, inputs_of, inputs_taken, function_outputs}
@@ -34,9 +35,9 @@ use Rattle.mc_drive.specs.Drivable.{HasNumberField, IsDrivable}
 use Rattle.mc_drive.specs.States.{DriverState, program_of, number_of}
 use Rattle.mc_drive.specs.Judging.{values_fault, first_fault, value_fault, unlike_fault}
 use Rattle.mc_drive.specs.Calling.{given_with}
-use Rattle.mc_drive.specs.Driven.{Driven, functions_of, shape_of, updates, LeavesFields, StandsFor, RunsOver, functions_called, values_given, call_at, IsDrivenOver}
+use Rattle.mc_drive.specs.Driven.{Driven, functions_of, shape_of, path_of, updates, LeavesFields, StandsFor, RunsOver, functions_called, values_given, call_at, IsDrivenOver}
 use Rattle.mc_drive.proofs.Lists.{all-kept, all-at, all-numbered, map-filter, kept-mapped}
-use Rattle.mc_drive.proofs.Fields.{HasOutputs, driven-more}
+use Rattle.mc_drive.proofs.Fields.{on-done, HasOutputs, driven-more}
 use Rattle.mc_drive.proofs.Ports.{AreIn, AreApart, AreOther, all_inputs, ports-are, types-are, inputs-apart, inputs-there}
 use Rattle.mc_drive.proofs.Ticks.{no-first, no-second, ports_of, HasOneEach, values-kept, one-each-more, like-all}
 use Rattle.mc_drive.proofs.Callable.{typed-all}
@@ -184,9 +185,10 @@ module _ (w : Driven) (before : DriverState) (script : List Call) (stands : Stan
   pub driven-over : (longer : List Call) (xs : List (List ℤ)) (run : Run) → IsLawfulScript w.diagram w.system (functions_of w) longer →
       RunsOver w longer xs run → IsDrivenOver w longer xs run
   driven-over longer xs run lawful over =
-      all-at (AnswersAnyOrder w.program w.diagram w.hyper) (systems w.diagram.rows) w.system w.code.any_order
-      w.in_diagram w.needs longer xs run
-      w.are_needs lawful over.is_trace over.fits over.is_run
+      on-done (start_run w.program) (λ started. AnswersScripts w.program w.diagram w.hyper (path_of w) w.system started.cells)
+      (λ started. DrivenFrom w.program w.diagram w.hyper (path_of w) w.system (functions_of w) xs run 0 started.cells [] [] [] longer)
+      (λ started answers. answers w.needs longer xs run w.are_needs lawful over.is_trace over.fits over.is_run)
+      (all-at (AnswersAnyOrder w.program w.diagram w.hyper) (systems w.diagram.rows) w.system w.code.any_order w.in_diagram)
 
   -- one more call is done, and gives what each such run has
   pub answered : (c : Call) (xs : List (List ℤ)) (run : Run) →
@@ -194,10 +196,10 @@ module _ (w : Driven) (before : DriverState) (script : List Call) (stands : Stan
       OnDone (call_at w (updates script) c (fields_of before.machine)) (λ a. HasOutputs w xs run (updates script) c a.cells)
   answered c xs run lawful over =
       both-out (start_run w.program)
-      (λ a. DrivenFrom w.program w.diagram w.hyper w.system (functions_of w) xs run 0 a.cells [] [] (script ++ c ∷ []))
+      (λ a. DrivenFrom w.program w.diagram w.hyper (path_of w) w.system (functions_of w) xs run 0 a.cells [] [] [] (script ++ c ∷ []))
       (λ a. LeavesFields w 0 a.cells script (fields_of before.machine))
       (OnDone (call_at w (updates script) c (fields_of before.machine)) (λ a. HasOutputs w xs run (updates script) c a.cells))
-      (λ a rest left. driven-more w xs run script 0 (updates script) a.cells (fields_of before.machine) [] [] c (omega arith) rest left)
+      (λ a rest left. driven-more w xs run script 0 (updates script) a.cells (fields_of before.machine) [] [] [] c (omega arith) rest left)
       (driven-over (script ++ c ∷ []) xs run lawful over)
       stands.fields
 
@@ -219,7 +221,7 @@ module _ (w : Driven) (before : DriverState) (script : List Call) (stands : Stan
   numbers-of-rows : (m : MachineState) (instance : ℕ) (cells : Cells) (f : ℕ → ℤ) (rows : List ℕ) →
       tree_of m ≡ w.program → instance ≡ before.instance → fields_of m ≡ cells →
       AllByRecursion (HasNumberField w.program (struct_place w.program w.system)) (map value_name rows) →
-      AllByRecursion (λ o. field_of w.program w.diagram w.system cells o ≡ f o) rows →
+      AllByRecursion (λ o. number_in w.program w.system (cells_at (path_of w) cells) (value_name o) ≡ f o) rows →
       map (number_of m instance) (map value_name rows) ≡ map f rows
   numbers-of-rows m instance cells f [] program at left fields gives = refl
   numbers-of-rows m instance cells f (o ∷ rows) program at left fields gives =

@@ -28,7 +28,8 @@ use Rattle.c_simulation.specs.Instances.{OnDone}
 use Rattle.c_right.specs.Paths.{path_to}
 use Rattle.c_right.specs.Scripts.{Call, out_with, update_with, Given, TickSoFar, nothing_yet, IsLawfulScript, Fits}
 use Rattle.c_right.specs.DriveLaws.{tick_behind}
-use Rattle.c_right.specs.Right.{IsCodeFor, DrivenFrom, call_in_tick}
+use Rattle.c_right.specs.Driving.{call_in_tick, DrivenFrom}
+use Rattle.c_right.specs.Right.{IsCodeFor}
 use Rattle.mc_drive.specs.declared.inputs.Input.{Input}
 use Rattle.mc_drive.specs.declared.fault.DriveFault.{DriveFault}
 use Rattle.mc_drive.specs.declared.fault.DriveFault.TheVariants as fault
@@ -75,21 +76,25 @@ updates [] = 0
 updates (out_with j values ∷ cs) = updates cs
 updates (update_with values ∷ cs) = suc (updates cs)
 
+-- the path of the system's instance from the root
+abbrev pub path_of : Driven → List ℕ
+path_of w = path_to w.program w.diagram.rows w.system
+
 -- what a call does in tick t, from these fields
 abbrev pub call_at : Driven → ℕ → Call → Cells → Outcome
 call_at w t (out_with j values) cells =
-    call_in_tick w.program w.diagram w.hyper w.system t (out_name w.system j) values cells
+    call_in_tick w.program w.hyper (path_of w) t (out_name w.system j) values cells
 call_at w t (update_with values) cells =
-    call_in_tick w.program w.diagram w.hyper w.system t (update_name w.system) values cells
+    call_in_tick w.program w.hyper (path_of w) t (update_name w.system) values cells
 
 -- from these fields the calls of a script, from tick t on, are not stuck and leave those
 abbrev pub LeavesFields : Driven → ℕ → Cells → List Call → Cells → Type 0
 LeavesFields w t cells [] end = end ≡ cells
 LeavesFields w t cells (out_with j values ∷ cs) end =
-    OnDone (call_in_tick w.program w.diagram w.hyper w.system t (out_name w.system j) values cells)
+    OnDone (call_in_tick w.program w.hyper (path_of w) t (out_name w.system j) values cells)
     (λ a. LeavesFields w t a.cells cs end)
 LeavesFields w t cells (update_with values ∷ cs) end =
-    OnDone (call_in_tick w.program w.diagram w.hyper w.system t (update_name w.system) values cells)
+    OnDone (call_in_tick w.program w.hyper (path_of w) t (update_name w.system) values cells)
     (λ a. LeavesFields w (suc t) a.cells cs end)
 
 -- ---- The present tick
@@ -131,7 +136,7 @@ pub record StandsFor (w : Driven) (d : DriverState) (script : List Call) : Type 
   pub shape : d.shape ≡ shape_of w
   pub instance : instance_at w.program d.instance
       ≡ Some (record {
-        path = path_to w.program w.diagram.rows w.system;
+        path = path_of w;
         struct = struct_place w.program w.system;
       })
   pub lawful : IsLawfulScript w.diagram w.system (functions_of w) script
@@ -149,7 +154,7 @@ pub record IsReadyFor (w : Driven) (machine : MachineState) (instance : ℕ)
   pub shape_is : shape ≡ shape_of w
   pub instance_is : instance_at w.program instance
       ≡ Some (record {
-        path = path_to w.program w.diagram.rows w.system;
+        path = path_of w;
         struct = struct_place w.program w.system;
       })
 
@@ -176,13 +181,14 @@ outputs_in w run t j =
     (outports_of w.diagram.rows w.system))
 
 -- Over a run of the system, the calls of a script are answered from `root_start` on: none is stuck,
--- each `out` leaves the run's values in the fields of its outputs, and in each completed tick the
--- systems inside have their calls.
+-- after each `out` the outputs of all functions called in the tick have the run's values in their
+-- fields, and in each completed tick the systems inside have their calls, and each field inside
+-- holds what the run has.
 abbrev pub IsDrivenOver : Driven → List Call → List (List ℤ) → Run → Type 0
 IsDrivenOver w script xs run =
     OnDone (start_run w.program)
-    (λ started. DrivenFrom w.program w.diagram w.hyper w.system
-    (functions_of w) xs run 0 started.cells [] [] script)
+    (λ started. DrivenFrom w.program w.diagram w.hyper (path_of w) w.system
+    (functions_of w) xs run 0 started.cells [] [] [] script)
 
 -- what a call told is what the system gives over every trace that fits a script; an update tells
 -- nothing
