@@ -21,3 +21,4 @@ mod WholeScripts
 mod WholeCode
 mod RefusedAlone
 mod SpoiledPrograms
+mod RefusedFields

@@ -33,9 +33,9 @@ bounded = record { not_stuck = refl; steps = (lit≤ tt, (lit≤ tt, tt)) }
 
 -- ---- What fields hold
 
--- those of `top` behind a tick with these inputs and their sum
-abbrev top_behind : (first second sum : ℤ) → Cells
-top_behind first second sum =
+-- those of `top` after a tick with these inputs and their sum
+abbrev top_after : (first second sum : ℤ) → Cells
+top_after first second sum =
     let child = more_cells (number first) (more_cells (number first) (more_cells (number (pos 0)) no_cells)) in
     more_cells (number first)
     (more_cells (number second)
@@ -45,7 +45,7 @@ top_behind first second sum =
     (more_cells (object child)
     (more_cells (number (pos 0)) (more_cells (number (pos 0)) (more_cells (number (pos 0)) no_cells))))))))
 
-holds_first : HoldsRun shared_program shared_child None shared_run 0 (top_behind (pos 1) (pos 10) (pos 11))
+holds_first : HoldsRun shared_program shared_child None shared_run 0 (top_after (pos 1) (pos 10) (pos 11))
 unfolding digits
 holds_first = record {
   here = record {
@@ -67,7 +67,7 @@ holds_first = record {
   );
 }
 
-holds_second : HoldsRun shared_program shared_child None shared_run 1 (top_behind (pos 2) (pos 20) (pos 22))
+holds_second : HoldsRun shared_program shared_child None shared_run 1 (top_after (pos 2) (pos 20) (pos 22))
 unfolding digits
 holds_second = record {
   here = record {

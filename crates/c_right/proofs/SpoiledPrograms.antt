@@ -1,4 +1,4 @@
--- Programs that are wrong in one thing behind a second start, behind a reset, between two ticks, or where functions are called in
+-- Programs that are wrong in one thing after a second start, after a reset, between two ticks, or where functions are called in
 -- another order: each is refused.
 use Rattle.std.specs.Prelude.{◌≡◌, ◌⊎◌, refl, ℕ, zero, suc, ◌+◌, ◌-◌, ◌%◌, ◌^◌, ◌≤◌, nat_lt, if◌then◌else◌, [], ◌∷◌, List, slice_index_or, IsBitSet, Some, None, pos, nat_abs, ℤ}
 use Rattle.std.specs.Fmt.{digits}
@@ -44,7 +44,7 @@ is_child_run = (refl, refl, (record { values = refl; memories = refl; triggers =
 the-same : (a b : ℤ) → a ∷ [] ≡ b ∷ [] → a ≡ b
 the-same a b e = ap (λ (vs : List ℤ). slice_index_or vs 0 (pos 0)) e
 
--- behind a start from fields whose ring holds a 9 the first output is 9, and should be 0
+-- after a start from fields whose ring holds a 9 the first output is 9, and should be 0
 started_again : Restarts early_ring ring_five 1 → ⊥
 unfolding digits
 started_again h =
@@ -186,7 +186,7 @@ long : RenewsAll long_start later_five 1 (Some 0) → ⊥
 unfolding digits
 long h = let within : 10 ≤ 5 = (h.starts between (refl, (refl, (refl, (refl, (refl, tt)))))).0 in omega arith
 
--- a counter was 0, and is 1 behind the reset
+-- a counter was 0, and is 1 after the reset
 counted : RenewsAll counting_reset later_five 1 (Some 0) → ⊥
 unfolding digits
 counted h = by (h.resets between (refl, (refl, (refl, (refl, (refl, tt)))))).1.here.counters.0
@@ -253,7 +253,7 @@ first_second_lawful = (
 first_second_fits : Fits shared_child None (functions_for (1 ∷ 3 ∷ [])) one_row first_second
 first_second_fits = record { one_row_each = refl; agrees = ((refl, tt), ((refl, (refl, tt)), tt)) }
 
--- behind the second function the first output is 0, and should be 1 until the next tick
+-- after the second function the first output is 0, and should be 1 until the next tick
 mended : AnswersAnyOrder mends_output shared_child 1 None → ⊥
 unfolding digits
 mended h =

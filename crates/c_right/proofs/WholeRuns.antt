@@ -1,5 +1,5 @@
 -- Over every trace the sample of whole right code gives the outputs of its model's one run, within the bound on steps, with the
--- calls of each tick, and with its values in all fields; and so it does behind each start.
+-- calls of each tick, and with its values in all fields; and so it does after each start.
 use Rattle.std.specs.Prelude.{◌≡◌, refl, ℕ, zero, suc, ◌+◌, ◌%◌, ◌<◌, ◌≤◌, ◌==◌, true, not, ◌&&◌, if◌then◌else◌, List, [], ◌∷◌, map, length, slice_index_or, Contains, Option, Some, None, ℤ, pos}
 use Rattle.std.specs.List.{AllByRecursion}
 use Rattle.std.specs.Fmt.{digits}
@@ -181,7 +181,7 @@ fields_of output out1 delayed constant y1 memory =
     let top = more_cells (number out1) (more_cells (object child) (more_cells (number (pos 0)) no_cells)) in
     more_cells (number (pos 0)) (more_cells (number output) (more_cells (object top) no_cells))
 
--- behind the start, the first tick, and each later one
+-- after the start, the first tick, and each later one
 abbrev pub started : Cells
 started = fields_of (pos 0) (pos 0) (pos 0) (pos 0) (pos 0) (pos 0)
 
@@ -359,7 +359,7 @@ with-three : (P : List ℤ → List (List ℤ) → List TrigMem → Type 0) (v w
 with-three P v w m n g k values memories triggers h =
     subst (λ v. P v m g) (sym values) (subst (λ m. P w m g) (sym memories) (subst (λ g. P w n g) (sym triggers) h))
 
--- so behind tick t of a run with these values in it
+-- so after tick t of a run with these values in it
 pub holds-run : (s : Option ℕ) (later v : List ℤ) (xs : List (List ℤ)) (t : ℕ) (cells : Cells) → t < length xs →
     slice_index_or (values_over later xs) t [] ≡ v → HoldsAll s v cells → HoldsRun whole_program later_five s (run_over later xs) t cells
 holds-run s later v xs t cells below same h =

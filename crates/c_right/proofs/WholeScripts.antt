@@ -1,4 +1,4 @@
--- Behind each start the sample of whole right code answers its calls in any lawful order, on an instance of the child and on one of
+-- After each start the sample of whole right code answers its calls in any lawful order, on an instance of the child and on one of
 -- the root, in fields of their own and in those of `root`.
 use Rattle.std.specs.Prelude.{◌≡◌, refl, ℕ, zero, suc, ◌+◌, ◌<◌, max, List, [], ◌∷◌, ◌++◌, length, slice_index_or, Option, Some, None, ℤ, pos}
 use Rattle.std.specs.List.{AllByRecursion, AllZip}

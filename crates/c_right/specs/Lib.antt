@@ -16,3 +16,4 @@ pub mod DelaySamples
 pub mod WholeSamples
 pub mod RefusedAlone
 pub mod SpoiledSamples
+pub mod HeldExamples

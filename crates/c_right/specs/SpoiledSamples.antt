@@ -1,4 +1,4 @@
--- Programs that are wrong in one thing behind a second start, behind a reset, between two ticks, or
+-- Programs that are wrong in one thing after a second start, after a reset, between two ticks, or
 -- where functions are called in another order.
 use Rattle.std.specs.Prelude.{◌≡◌, refl, ℕ, false, List, [], ◌∷◌, ◌++◌, map, pos, codes, Some, None, ℤ}
 use Rattle.std.specs.Fmt.{digits}
@@ -93,7 +93,7 @@ root_midst =
     (more_cells (number (pos 0)) no_cells)) in
     more_cells (number (pos 0)) (more_cells (number (pos 9)) (more_cells (object top) no_cells))
 
--- the outputs of two ticks behind the first start, and behind a start from those fields
+-- the outputs of two ticks after the first start, and after a start from those fields
 abbrev FirstOutputs : ProgramTree → List (List ℤ) → Type 0
 FirstOutputs p outputs = map (λ row. row.outputs) (c_rows p ([] ∷ [] ∷ [])).ticks ≡ outputs
 
@@ -150,7 +150,7 @@ long_start =
     (inner_procedure (codes "s0_start") [] (zeros (0 ∷ 1 ∷ 2 ∷ 3 ∷ 4 ∷ [])
     ++ zeros (0 ∷ 1 ∷ 2 ∷ 3 ∷ 4 ∷ [])))
 
--- behind the reset the group counts as executed
+-- after the reset the group counts as executed
 abbrev pub counting_reset : ProgramTree
 counting_reset =
     with_child 4
