@@ -1,6 +1,6 @@
 ghost use Rattle.std.specs.Prelude.{◌≡◌};
 ghost use Rattle.mc_refusals.specs.Refusals.{plain_refusal};
-ghost use Rattle.mdl_blocks.specs.Faults.{refusal_number, refusal_at};
+ghost use Rattle.mdl_blocks.specs.Faults.{refusal_at};
 
 use mc_base::ParamName;
 use mc_refusals::Refusal;
@@ -20,18 +20,6 @@ pub enum Fault {
 }
 
 impl Fault {
-    /// The number of its refusal: of two faults in a file that with the lesser number is told.
-    pub fn refusal_number(self) -> u32
-        ensures { result ≡ refusal_number self }
-    {
-        match self {
-            Fault::Unsupported => 7,
-            Fault::Parameter(_) => 8,
-            Fault::Continuous => 15,
-            Fault::FloatType => 16,
-        }
-    }
-
     /// The refusal of a file for this fault of the block whose section is opened at this line.
     pub fn refusal_at(self, line: u32) -> Refusal
         ensures { plain_refusal result ≡ refusal_at line self }
