@@ -1,5 +1,5 @@
 -- Fields of a triggered subsystem that hold something else than its run has after a tick are refused, one by one.
-use Rattle.std.specs.Prelude.{◌≡◌, refl, ℕ, [], ◌∷◌, List, slice_index_or, Some, pos, nat_abs, ℤ}
+use Rattle.std.specs.Prelude.{◌≡◌, refl, [], ◌∷◌, List, slice_index_or, Some, pos, nat_abs, ℤ}
 use Rattle.std.specs.Fmt.{digits}
 use Rattle.std.proofs.Common.{sym, ap, ◌∙◌}
 use Rattle.c_machine.specs.Cells.{Cells}

@@ -1,29 +1,32 @@
 -- Programs that are wrong in one thing after a second start, after a reset, between two ticks, or where functions are called in
 -- another order: each is refused.
-use Rattle.std.specs.Prelude.{◌≡◌, ◌⊎◌, refl, ℕ, zero, suc, ◌+◌, ◌-◌, ◌%◌, ◌^◌, ◌≤◌, nat_lt, if◌then◌else◌, [], ◌∷◌, List, slice_index_or, IsBitSet, Some, None, pos, nat_abs, ℤ}
+use Rattle.std.specs.Prelude.{◌≡◌, ◌⊎◌, refl, ℕ, zero, suc, ◌-◌, ◌≤◌, [], ◌∷◌, List, slice_index_or, Some, None, pos, ℤ}
 use Rattle.std.specs.Fmt.{digits}
-use Rattle.std.specs.Int.Bits.{and_zero_l}
-use Rattle.std.proofs.Common.{sym, ap, ◌∙◌, arith, inl, inr, lit<, lit≤, rules, true≢false}
+use Rattle.std.proofs.Common.{sym, ap, arith, inl, inr, lit<, lit≤, rules, true≢false}
 use Rattle.std.proofs.lemmas.List.Sorted.{IsPermutation-refl}
 use Rattle.mc_diagram.specs.Needs.{IsInputRow, AreTrueNeeds}
 use Rattle.mc_diagram.specs.Laws.{Run, IsRunOver}
 use Rattle.mc_profile.specs.Functions.{functions_for}
 use Rattle.mc_profile.specs.LocalSamples.{shared_child}
-use Rattle.c_machine.specs.Cells.{Cells, number, items, no_cells, more_cells}
+use Rattle.c_syntax.specs.declared.CType.TheVariants.{I32, U8}
+use Rattle.c_machine.specs.Cells.{Cells, number, no_cells, more_cells}
 use Rattle.c_machine.specs.Machine.{call_from_outside}
 use Rattle.c_machine.specs.Rows.{start_run}
+use Rattle.c_shape.specs.Names.{start_name, reset_name}
+use Rattle.c_shape.specs.Programs.{procedure_place, struct_place}
 use Rattle.c_simulation.specs.Instances.{OnDone}
-use Rattle.c_simulation.specs.Rings.{Ring, ring_list}
+use Rattle.c_simulation.specs.Forms.{Forms, holds_number, holds_array, forms_of}
 use Rattle.c_right.specs.Scripts.{Call, out_with, update_with, IsLawfulScript, Fits}
-use Rattle.c_right.specs.Held.{HoldsRing}
 use Rattle.c_right.specs.Driving.{TicksFrom, TakesTraces}
 use Rattle.c_right.specs.Right.{AnswersAnyOrder}
-use Rattle.c_right.specs.Anew.{RenewsAll, Restarts}
+use Rattle.c_right.specs.Anew.{AreStarted, AreReset, HoldsInside, FromAnyFields, RenewsAll, Restarts}
 use Rattle.c_right.specs.WholeSamples.{later_five, first_values, later_values, remembered, no_triggers, run_over}
-use Rattle.c_right.specs.SpoiledSamples.{ring_five, ring_program, early_ring, child_midst, root_midst, shifted_value, long_start, counting_reset, stores_again, mends_output}
+use Rattle.c_right.specs.SpoiledSamples.{ring_five, ring_program, early_ring, lasting_ring, child_midst, root_midst, shifted_value, long_start, counting_reset, stores_again, mends_output}
 use Rattle.c_right.proofs.SharedNeeds.{outer_needs}
+use Rattle.c_right.proofs.SharedRenewals.{from-spelled}
 use Rattle.c_right.proofs.RefusedPrograms.{values-apart, one_row, short_run, is_short_run, is_trace}
 use Rattle.c_right.proofs.WholeRuns.{root-runs, is-run_of}
+use Rattle.c_right.proofs.WholeFaces.{no-bit}
 
 -- ---- A ring that is read whatever was taken
 
@@ -102,28 +105,7 @@ answered_again = (
   tt,
 )
 
--- a ring of a 5 of which no sample counts as taken doesn't hold 5
-abbrev uncounted : Cells
-uncounted =
-    more_cells (number (pos 0))
-    (more_cells (number (pos 5))
-    (more_cells (number (pos 0))
-    (more_cells (items (pos 5 ∷ [])) (more_cells (number (pos 0)) (more_cells (number (pos 0)) (more_cells (number (pos 0)) no_cells))))))
-
-lost : HoldsRing ring_program ring_five (Some 0) uncounted (pos 5 ∷ []) 1 → ⊥
-unfolding digits
-lost h = by h.ring h.taken h.holds.holds
-  where
-    by : (ring : Ring) → pos 0 ≡ pos ring.taken → pos 5 ∷ [] ≡ ring_list 1 (pos 0) ring → ⊥
-    by ring taken holds =
-        values-apart 5 0 refl
-        (ap (λ (vs : List ℤ). slice_index_or vs 0 (pos 0)) holds
-        ∙ ap (λ n. if nat_lt 0 (1 - n) then pos 0 else slice_index_or ring.items ((ring.place + 0) % 1) (pos 0)) (sym (ap nat_abs taken)))
-
 -- no output of the child needs an input
-no-bit : (k : ℕ) → IsBitSet 0 k → ⊥
-no-bit k set = set (and_zero_l (2 ^ k))
-
 no-input : (k i : ℕ) → IsInputRow ring_five.rows (Some 0) k i → ⊥
 no-input k zero h = cc h.is_inport
 no-input k (suc zero) h = cc h.is_inport
@@ -159,6 +141,56 @@ child_started h =
     let begun = h.starts child_midst (refl, (refl, (refl, ((refl, (refl, tt)), (refl, (refl, (refl, tt))))))) in
     values-apart 9 0 refl
     (begun.1.1 (0 ∷ []) one_call ([] ∷ []) ring_run ring_needs one_call_lawful (tt, tt) one_call_fits is_child_run).0.0.0
+
+-- ---- A ring that is started and reset
+
+abbrev ring_forms : Forms
+ring_forms =
+    let value = holds_number I32 in
+    forms_of (value ∷ value ∷ value ∷ holds_array I32 1 ∷ value ∷ value ∷ holds_number U8 ∷ [])
+
+-- the items stay as they are, and none counts as taken
+ring_starts : FromAnyFields ring_program (struct_place ring_program (Some 0)) (procedure_place ring_program (start_name (Some 0)))
+    (HoldsInside ring_program ring_five (Some 0) (λ n old new. AreStarted ring_program ring_five n new))
+unfolding digits
+ring_starts =
+    from-spelled ring_program (procedure_place ring_program (start_name (Some 0))) ring_forms
+    (HoldsInside ring_program ring_five (Some 0) (λ n old new. AreStarted ring_program ring_five n new))
+    (λ c. (
+      lit≤ tt,
+      record {
+        here = record {
+          forgotten = record { memories = tt; places = (refl, tt); taken = (refl, tt); trigger = λ h. absurd (true≢false (sym h)) };
+          values = (refl, (refl, (refl, tt)));
+          counters = (refl, tt);
+        };
+        inside = tt;
+      },
+    ))
+
+ring_resets : FromAnyFields ring_program (struct_place ring_program (Some 0)) (procedure_place ring_program (reset_name (Some 0)))
+    (HoldsInside ring_program ring_five (Some 0) (AreReset ring_program ring_five))
+unfolding digits
+ring_resets =
+    from-spelled ring_program (procedure_place ring_program (reset_name (Some 0))) ring_forms
+    (HoldsInside ring_program ring_five (Some 0) (AreReset ring_program ring_five))
+    (λ c. (
+      lit≤ tt,
+      record {
+        here = record {
+          forgotten = record { memories = tt; places = (refl, tt); taken = (refl, tt); trigger = λ h. absurd (true≢false (sym h)) };
+          values = (refl, (refl, (refl, tt)));
+          counters = (inr refl, tt);
+        };
+        inside = tt;
+      },
+    ))
+
+lasting : RenewsAll lasting_ring ring_five 1 (Some 0) → ⊥
+unfolding digits
+lasting h =
+    values-apart 1 0 refl
+    (h.resets child_midst (refl, (refl, (refl, ((refl, (refl, tt)), (refl, (refl, (refl, tt)))))))).1.here.forgotten.taken.0
 
 -- ---- Values inside
 

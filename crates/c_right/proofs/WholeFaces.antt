@@ -13,7 +13,7 @@ use Rattle.c_right.proofs.SharedFaces.{shown-by-itself}
 
 -- ---- Needs
 
-no-bit : (k : ℕ) → IsBitSet 0 k → ⊥
+pub no-bit : (k : ℕ) → IsBitSet 0 k → ⊥
 no-bit k set = set (and_zero_l (2 ^ k))
 
 no-input : (s : Option ℕ) (k i : ℕ) → IsInputRow later_five.rows s k i → ⊥

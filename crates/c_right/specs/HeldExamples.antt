@@ -1,6 +1,6 @@
 -- What the fields of a triggered subsystem hold after a tick: a value, a memory, a ring, what the
 -- trigger remembers, and a counter.
-use Rattle.std.specs.Prelude.{◌≡◌, refl, ℕ, false, List, [], ◌∷◌, ◌++◌, map, replicate, slice_index_or, pos, codes, Some, None, ℤ}
+use Rattle.std.specs.Prelude.{refl, ℕ, false, List, [], ◌∷◌, ◌++◌, map, replicate, pos, codes, Some, None, ℤ}
 use Rattle.std.specs.Fmt.{digits}
 use Rattle.std.proofs.Common.{lit<, lit≤}
 use Rattle.mc_base.specs.declared.Control.TheVariants.{Triggered}
@@ -10,7 +10,7 @@ use Rattle.mc_guards.specs.declared.TrigMem.TheVariants.{NotYet, Low, High}
 use Rattle.mc_blocks.specs.declared.Kind.TheVariants.{Inport, Outport, SubSystem, UnitDelay, Delay, TriggerPort}
 use Rattle.mc_diagram.specs.Diagram.{Diagram}
 use Rattle.mc_diagram.specs.RunExamples.{simple, row, zero_initial}
-use Rattle.mc_diagram.specs.Laws.{Run, IsRunOver}
+use Rattle.mc_diagram.specs.Laws.{IsRunOver}
 use Rattle.mc_profile.specs.Locals.{local_row}
 use Rattle.mc_profile.specs.declared.LocalRow.{LocalRow}
 use Rattle.c_syntax.specs.declared.CType.TheVariants.{U8}

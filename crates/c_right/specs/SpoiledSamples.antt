@@ -15,7 +15,7 @@ use Rattle.c_syntax.specs.declared.BinOp.TheVariants.{Add, Sub}
 use Rattle.c_syntax.specs.declared.CType.TheVariants.{U8}
 use Rattle.c_syntax.specs.declared.Leaf.TheVariants.{Param, Own, Child}
 use Rattle.c_syntax.specs.declared.Target.TheVariants.{Own as OnSelf, Child as OnChild}
-use Rattle.c_syntax.specs.Tree.{literal, read, binary, pick, item, compare, assign, assign_at, branch, call, no_stmts, no_exprs, exprs_of_list, stmts_of_list, ExprTree, ProcedureTree, ProgramTree}
+use Rattle.c_syntax.specs.Tree.{literal, read, binary, pick, item, compare, assign, assign_at, branch, call, no_stmts, no_exprs, exprs_of_list, stmts_of_list, ExprTree, StmtTree, ProcedureTree, ProgramTree}
 use Rattle.c_machine.specs.Cells.{Cells, number, items, object, no_cells, more_cells}
 use Rattle.c_machine.specs.Machine.{call_from_outside}
 use Rattle.c_machine.specs.Rows.{c_rows, rows_of_start}
@@ -47,9 +47,9 @@ ring_fields =
     map value (map at_row (1 ∷ 2 ∷ 3 ∷ [])) ++ ring_slots (at_row 1) ++ counter (counter_name 0) U8
     ∷ []
 
--- the child's code by what the delay reads
-abbrev ring_code : ExprTree → SystemTree
-ring_code oldest = record {
+-- the child's code by what the delay reads, and by its reset
+abbrev ring_code : ExprTree → List StmtTree → SystemTree
+ring_code oldest on_reset = record {
   structure = record { name = codes "s0"; fields = map slot_field ring_fields };
   outputs = 2 ∷ [];
   procedures =
@@ -59,24 +59,30 @@ ring_code oldest = record {
       ∷ assign_at 0 3 (read (Own 4)) (read (Own 1)) ∷ assign 0 5 (literal (pos 1))
       ∷ zeros (4 ∷ 6 ∷ []))
       ∷ inner_procedure (codes "s0_start") [] (zeros (0 ∷ 1 ∷ 2 ∷ 4 ∷ 5 ∷ 6 ∷ []))
-      ∷ inner_procedure (codes "s0_reset") [] (zeros (4 ∷ 5 ∷ []))
+      ∷ inner_procedure (codes "s0_reset") [] on_reset
       ∷ [];
 }
 
-abbrev ring_program_of : ExprTree → ProgramTree
-ring_program_of oldest =
-    assembled (top_code ∷ ring_code oldest ∷ [])
+abbrev ring_program_of : ExprTree → List StmtTree → ProgramTree
+ring_program_of oldest on_reset =
+    assembled (top_code ∷ ring_code oldest on_reset ∷ [])
     (local_of ring_five [] None (header_of ring_five (Some 0) child_profile ∷ [])) 1 []
 
--- it reads the ring where a sample was taken
+-- the ring where a sample was taken
+abbrev oldest_taken : ExprTree
+oldest_taken =
+    pick (compare Eq (read (Own 5)) (literal (pos 0))) (literal (pos 0)) (item 3 (read (Own 4)))
+
 abbrev pub ring_program : ProgramTree
-ring_program =
-    ring_program_of
-    (pick (compare Eq (read (Own 5)) (literal (pos 0))) (literal (pos 0)) (item 3 (read (Own 4))))
+ring_program = ring_program_of oldest_taken (zeros (4 ∷ 5 ∷ []))
 
 -- it reads the ring in any case
 abbrev pub early_ring : ProgramTree
-early_ring = ring_program_of (item 3 (read (Own 4)))
+early_ring = ring_program_of (item 3 (read (Own 4))) (zeros (4 ∷ 5 ∷ []))
+
+-- its reset leaves what was taken
+abbrev pub lasting_ring : ProgramTree
+lasting_ring = ring_program_of oldest_taken (zeros (4 ∷ []))
 
 -- fields of the child whose ring holds a 9, and fields of `root` around them
 abbrev pub child_midst : Cells
