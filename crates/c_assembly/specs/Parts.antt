@@ -13,6 +13,7 @@ use Rattle.mc_profile.specs.Locals.{own_header}
 use Rattle.mc_profile.specs.NodeFacts.{IsLocalOf}
 use Rattle.mc_profile.specs.Systems.{systems}
 use Rattle.c_syntax.specs.Tree.{PureTree, ProgramTree}
+use Rattle.c_prelude.specs.Bodies.{function_trees}
 use Rattle.c_prelude.specs.Rules.{IsPrelude}
 use Rattle.c_shape.specs.SystemTree.{SystemTree}
 use Rattle.c_shape.specs.Slots.{Slot}
@@ -22,7 +23,7 @@ use Rattle.c_simulation.specs.Relation.{Behaves}
 use Rattle.c_right.specs.Alone.{IsLawfulAlone, HasShortChains}
 use Rattle.c_right.specs.Assembly.{CanAssemble}
 
--- codes that can be put together, and functions of the prelude
+-- codes that can be put together, and the functions of the prelude
 pub record Parts : Type 0 where
   pub model : ResolvedTree
   pub codes : List SystemTree
@@ -31,6 +32,7 @@ pub record Parts : Type 0 where
   pub pures : List PureTree
   pub can : CanAssemble model codes root hyper
   pub prelude : IsPrelude pures
+  pub known : pures ≡ function_trees
 
 abbrev pub program_of : Parts → ProgramTree
 program_of a = assembled a.codes a.root a.hyper a.pures

@@ -2,6 +2,8 @@ mod Lists
 mod AllowedReads
 mod MovedSites
 mod MovedRules
+mod MovedUses
+mod KnownFunctions
 mod StandingCode
 mod SystemShapes
 mod PortedRows

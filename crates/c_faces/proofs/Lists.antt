@@ -2,7 +2,8 @@
 use Rattle.std.specs.Prelude.{◌≡◌, ℕ, zero, suc, ◌+◌, ◌≤◌, Bool, true, false, cond, List, [], ◌∷◌, ◌++◌, map, flat_map, filter, find, zip, take, length, count_by, slice_get, slice_index_or, Contains, Some, unwrap_or, bytes_eq, refl}
 use Rattle.std.specs.List.{AllByRecursion, AllZip, position_from}
 use Rattle.std.specs.Cmp.Lexicographic.{same_text}
-use Rattle.std.proofs.Common.{sym, ap, ap₂, subst, ◌∙◌, arith}
+use Rattle.std.proofs.Common.{sym, ap, ap₂, subst, ◌∙◌, arith, inl, inr}
+use Rattle.std.proofs.lemmas.List.Elements.{Contains-append_left, Contains-append_right, Contains-append_cases}
 use Rattle.std.proofs.lemmas.List.Sums.{sum_by-cons}
 use Rattle.std.proofs.lemmas.Option.{get_or_from_slice_get, same_Some}
 use Rattle.mc_profile.proofs.lemmas.Members.{in-first, in-rest, of-map, at-map, at-below}
@@ -20,6 +21,16 @@ pub each-mapped : {A B : Type 0} (P : A → Type 0) (Q : B → Type 0) (f : A �
     AllByRecursion P xs → AllByRecursion Q (map f xs)
 each-mapped P Q f [] gives all = tt
 each-mapped P Q f (x ∷ xs) gives all = (gives x all.0, each-mapped P Q f xs gives all.1)
+
+-- what is in the list of some element is in that of its image
+pub flat-kept : {A B C : Type 0} (f : A → List C) (g : B → List C) (move : A → B) (y : C) →
+    ((x : A) → Contains (f x) y → Contains (g (move x)) y) → (xs : List A) → Contains (flat_map f xs) y →
+    Contains (flat_map g (map move xs)) y
+flat-kept f g move y kept [] has = has
+flat-kept f g move y kept (x ∷ xs) has = elim (Contains-append_cases (f x) (flat_map f xs) y has) [
+  | inl first ↦ Contains-append_left (g (move x)) (flat_map g (map move xs)) y (kept x first)
+  | inr more ↦ Contains-append_right (g (move x)) (flat_map g (map move xs)) y (flat-kept f g move y kept xs more)
+]
 
 pub filter-all : {A : Type 0} (p : A → Bool) (xs : List A) → AllByRecursion (λ x. p x ≡ true) xs → filter p xs ≡ xs
 filter-all p [] all = refl

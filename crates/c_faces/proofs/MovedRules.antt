@@ -147,6 +147,18 @@ module _ (n l : CodeNames) (m : Relocation) (count : ℕ)
           (λ test reads. cond-kept q.params (test_reads counters) (test-named counters) test reads) rules.tests);
     }
 
+  -- ---- How often a procedure is called
+
+  pub sites-same : (ps : List ProcedureTree) →
+      ((c : CallSite) → Contains (flat_map (λ (q : ProcedureTree). calls_in q.body) ps) c → c.procedure < count) →
+      (name : List ℕ) → call_sites n (map (moved_procedure m) ps) name ≡ call_sites l ps name
+  sites-same ps inside name =
+      ap (count_by (λ (c : CallSite). bytes_eq (n.callee c.procedure).name name)) (all-calls m ps)
+      ∙ count-mapped (λ (c : CallSite). bytes_eq (n.callee c.procedure).name name)
+      (λ (c : CallSite). bytes_eq (l.callee c.procedure).name name) (moved_call m)
+      (flat_map (λ (q : ProcedureTree). calls_in q.body) ps)
+      (λ c has. ap (λ (head : Head). bytes_eq head.name name) (callee-same c.procedure (inside c has)))
+
   -- ---- Statements that are made once
 
   module _ (local : LocalSystem) (qs : List ProcedureTree)
@@ -178,12 +190,7 @@ module _ (n l : CodeNames) (m : Relocation) (count : ℕ)
 
     calls-same : (name : List ℕ) → call_sites n (of_ticks local moved) name ≡ call_sites l (of_ticks local qs) name
     calls-same name =
-        ap (λ ps. call_sites n ps name) ticks-moved
-        ∙ ap (count_by (λ (c : CallSite). bytes_eq (n.callee c.procedure).name name)) (all-calls m (of_ticks local qs))
-        ∙ count-mapped (λ (c : CallSite). bytes_eq (n.callee c.procedure).name name)
-        (λ (c : CallSite). bytes_eq (l.callee c.procedure).name name) (moved_call m)
-        (flat_map (λ (q : ProcedureTree). calls_in q.body) (of_ticks local qs))
-        (λ c has. ap (λ (head : Head). bytes_eq head.name name) (callee-same c.procedure (call-within c has)))
+        ap (λ ps. call_sites n ps name) ticks-moved ∙ sites-same (of_ticks local qs) call-within name
 
     pub once-kept : StatesOnce l local qs → StatesOnce n local moved
     once-kept once = record {

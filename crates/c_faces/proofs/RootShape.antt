@@ -21,7 +21,7 @@ use Rattle.c_shape.specs.Heads.{Head, input_params, public_heads, out_head, out_
 use Rattle.c_shape.specs.NamedLeaf.{own, child}
 use Rattle.c_shape.specs.Names.{now_name, root_step_name}
 use Rattle.c_shape.specs.Programs.{struct_at, no_procedure, procedures_of}
-use Rattle.c_shape.specs.RootCode.{RootStep, calls, copies, moves_on, MovesOn, Does, HasRootCode}
+use Rattle.c_shape.specs.RootCode.{RootStep, calls, copies, moves_on, MovesOn, Does, tick_steps, HasRootCode}
 use Rattle.c_shape.specs.Slots.{value}
 use Rattle.c_shape.specs.SystemTree.{SystemTree}
 use Rattle.c_shape.specs.Assembled.{code_at, out_names, call_top, root_procedures}
@@ -205,17 +205,7 @@ module _ (places : SystemsHavePlaces) (root_places : RootHasPlaces) (headers : H
               (λ w has other. absurd (in-none w has)),
           tt,
         );
-        steps = map calls (out_heads top) ++ calls (update_head top) ∷ map (λ (o : ℕ × ℕ). copies o.0 o.1)
-            (enumerate_from 1 ports) ++ moves_on ∷ [];
-        are_steps = record {
-          functions = out_heads top;
-          each_function = record { moves = []; below = tt; is = refl };
-          outputs = enumerate_from 1 ports;
-          each_output = record { moves = []; below = tt; is = refl };
-          in_order = refl;
-        };
-        does = subst (AllZip DoesStep (map calls (out_heads top) ++ calls (update_head top) ∷ map (λ (o : ℕ × ℕ). copies o.0 o.1)
-            (enumerate_from 1 ports) ++ moves_on ∷ [])) (sym body-is)
+        does = subst (AllZip DoesStep (tick_steps (diagram a) top)) (sym body-is)
             (zip-append DoesStep (map calls (out_heads top) ++ (calls (update_head top) ∷ map (λ (o : ℕ × ℕ). copies o.0 o.1)
             (enumerate_from 1 ports)))
             (map calling (out_names (code_at a.codes 0)) ++ (calling (named (text "_update")) ∷ map copying

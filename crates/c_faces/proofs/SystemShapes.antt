@@ -19,6 +19,7 @@ use Rattle.c_shape.specs.Reads.{CallSite, calls_in}
 use Rattle.c_shape.specs.Relocation.{moved_procedure}
 use Rattle.c_shape.specs.Rules.{KeepsRules}
 use Rattle.c_shape.specs.Slots.{Slot, value, memory, ring_items, ring_place, ring_taken, trigger, counter, instance, filler, slot_field, counters_in, AreSlots}
+use Rattle.c_shape.specs.Used.{AreUsed}
 use Rattle.c_shape.specs.SystemTree.{SystemTree}
 use Rattle.c_shape.specs.Assembled.{struct_position, relocation_of, moved_kind}
 use Rattle.c_assembly.specs.Parts.{Parts, program_of, diagram, all_systems, IsCodedAs, CodesHaveViews, Views}
@@ -28,6 +29,7 @@ use Rattle.c_assembly.proofs.lemmas.AssembledPlaces.{all-made, code-is}
 use Rattle.c_assembly.proofs.lemmas.AssembledChildren.{of-child, behind, child-found}
 use Rattle.c_faces.specs.Shapes.{SystemsHaveShape}
 use Rattle.c_faces.proofs.MovedRules.{procedure-kept, once-kept}
+use Rattle.c_faces.proofs.MovedUses.{used-kept}
 use Rattle.c_faces.proofs.StandingCode.{moved_field, struct-here, own-same, own-procedures, leaf-same, callee-same}
 
 -- what a program has of a system by its own rows, whose fields are for these
@@ -40,6 +42,8 @@ record IsShapedAs (a : Parts) (s : Option ℕ) (local : LocalSystem) (profile : 
   pub rules : AllByRecursion (KeepsRules (names_in (program_of a) (struct_place (program_of a) s)) local (counters_in slots))
       (procedures_of (program_of a) (struct_place (program_of a) s))
   pub once : StatesOnce (names_in (program_of a) (struct_place (program_of a) s)) local
+      (procedures_of (program_of a) (struct_place (program_of a) s))
+  pub used : AreUsed (names_in (program_of a) (struct_place (program_of a) s)) (counters_in slots)
       (procedures_of (program_of a) (struct_place (program_of a) s))
 
 module _ (locals : LocalsAreLawful) (places : SystemsHavePlaces) (a : Parts) (v : Views a) (place : ℕ) (s : Option ℕ)
@@ -118,6 +122,9 @@ module _ (locals : LocalsAreLawful) (places : SystemsHavePlaces) (a : Parts) (v 
         once = subst (StatesOnce names local) (sym there)
             (once-kept names own m (length (callable local code)) (own-same places a v place s stands) (leaf-same places a v place s stands)
             (callee-same places a v place s stands locals) local code.procedures within known.shape.once);
+        used = subst (AreUsed names (counters_in slots)) (sym there)
+            (used-kept names own m (length (callable local code)) (own-same places a v place s stands) (leaf-same places a v place s stands)
+            (callee-same places a v place s stands locals) (counters_in slots) code.procedures within known.shape.used);
       }
     where
       heads-same : (qs : List ProcedureTree) → map head_of qs ≡ map head_of (map (moved_procedure (relocation_of a.codes place)) qs)
@@ -152,6 +159,7 @@ module _ (locals : LocalsAreLawful) (places : SystemsHavePlaces) (a : Parts) (v 
         heads = by.heads;
         rules = by.rules;
         once = by.once;
+        used = by.used;
       }
 
 pub systems_have_shape : CodesHaveViews → LocalsAreLawful → SystemsHavePlaces → SystemsHaveShape

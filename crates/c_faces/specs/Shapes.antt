@@ -3,7 +3,7 @@ use Rattle.std.specs.Prelude.{◌∷◌, map, IsPermutation}
 use Rattle.std.specs.List.{AllByRecursion}
 use Rattle.mc_profile.specs.Systems.{system_name}
 use Rattle.c_shape.specs.Names.{root_name}
-use Rattle.c_shape.specs.ProgramShape.{HasSystemShape}
+use Rattle.c_shape.specs.ProgramShape.{AreOfPrelude, HasSystemShape}
 use Rattle.c_shape.specs.RootCode.{HasRootCode}
 use Rattle.c_assembly.specs.Parts.{Parts, program_of, diagram, all_systems}
 use Rattle.c_assembly.specs.Whole.{AssembledHasShape}
@@ -13,6 +13,10 @@ abbrev pub SystemsHaveShape : Type 0
 SystemsHaveShape =
     (a : Parts) → AllByRecursion (HasSystemShape (program_of a) (diagram a) a.model.times.delays)
     (all_systems a)
+
+-- the pure functions are among the eight
+abbrev pub FunctionsAreKnown : Type 0
+FunctionsAreKnown = (a : Parts) → AreOfPrelude (program_of a).pures
 
 -- the structs are those of the systems and the root's
 abbrev pub StructsAreNamed : Type 0

@@ -1,5 +1,5 @@
 ghost use Rattle.c_faces.specs.Faces.{AssembledAreLeast};
-ghost use Rattle.c_faces.specs.Shapes.{AssembledHaveShape, RootHasShape, StructsAreNamed, SystemsHaveShape};
+ghost use Rattle.c_faces.specs.Shapes.{AssembledHaveShape, FunctionsAreKnown, RootHasShape, StructsAreNamed, SystemsHaveShape};
 
 use c_assembly::{codes_have_views, root_has_places, systems_have_places};
 use c_simulation::cycle_is_of_locals;
@@ -13,6 +13,11 @@ pub fn systems_have_shape()
     systems_have_places();
     locals_are_lawful();
 }
+
+/// The pure functions of an assembled program are among the eight of the prelude.
+pub fn functions_are_known()
+    ensures { FunctionsAreKnown }
+{}
 
 /// The structs of an assembled program are those of its systems and the root's.
 pub fn structs_are_named()
@@ -36,6 +41,7 @@ pub fn root_has_shape()
 pub fn assembled_has_shape()
     ensures { AssembledHaveShape }
 {
+    functions_are_known();
     systems_have_shape();
     structs_are_named();
     root_has_shape();

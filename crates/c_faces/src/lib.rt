@@ -9,5 +9,6 @@
 mod laws;
 
 pub use laws::{
-    assembled_has_shape, assembled_is_least, root_has_shape, structs_are_named, systems_have_shape,
+    assembled_has_shape, assembled_is_least, functions_are_known, root_has_shape,
+    structs_are_named, systems_have_shape,
 };
