@@ -1,7 +1,7 @@
--- Starts and resets that are wrong from some fields are refused, and a function that gives nothing.
+-- Starts and resets that are wrong from some fields, or store twice, are refused, and a function that gives nothing.
 use Rattle.std.specs.Prelude.{◌≡◌, refl, ℕ, ◌+◌, ◌≤◌, ◌==◌, false, List, [], ◌∷◌, pos, nat_abs}
 use Rattle.std.specs.Fmt.{digits}
-use Rattle.std.proofs.Common.{sym, ap, subst, ◌∙◌, arith, rules, lit<, lit≤, true≢false}
+use Rattle.std.proofs.Common.{sym, ap, ◌∙◌, arith, rules, lit<, lit≤, true≢false}
 use Rattle.std.proofs.lemmas.Bool.{eq-eqb}
 use Rattle.mc_blocks.specs.declared.Kind.TheVariants.{Inport, Outport, UnitDelay}
 use Rattle.mc_fixed.specs.Types.{int32}
@@ -10,11 +10,11 @@ use Rattle.mc_profile.specs.Locals.{own_header}
 use Rattle.c_syntax.specs.Tree.{PureTree}
 use Rattle.c_machine.specs.Cells.{Cell, number, cell_value, Cells, number_at}
 use Rattle.c_machine.specs.Values.{step_limit}
-use Rattle.c_machine.specs.Machine.{Outcome, done, stuck}
 use Rattle.c_prelude.specs.Rules.{IsPrelude}
 use Rattle.c_shape.specs.SystemTree.{SystemTree}
 use Rattle.c_shape.specs.Slots.{Slot}
-use Rattle.c_simulation.specs.Forms.{Forms, HasForms, slot_forms}
+use Rattle.c_simulation.specs.Budgets.{own_budget}
+use Rattle.c_simulation.specs.Forms.{HasForms, slot_forms}
 use Rattle.c_simulation.specs.LocalTicks.{IsLocalTick, IsTypedTick}
 use Rattle.c_simulation.specs.Instances.{out, update, none_called, with_called, Offered, OnDone}
 use Rattle.c_simulation.specs.Serving.{MayCome}
@@ -22,29 +22,22 @@ use Rattle.c_simulation.specs.Standing.{outer_tick_of}
 use Rattle.c_simulation.specs.Relation.{IsCycleOf, KeepsRelation, Behaves, own_offer}
 use Rattle.c_simulation.specs.Renewals.{IsStarted, IsReset, AllSlots, RenewsOwn}
 use Rattle.c_simulation.specs.ResetExamples.{local, profile, slots, high_tick}
-use Rattle.c_simulation.specs.RefusedCodes.{midst, start_leaves_values, start_leaves_counter, reset_stores_values, empty_reset, idle_function}
+use Rattle.c_simulation.proofs.RenewedSamples.{makes, takes}
+use Rattle.c_simulation.specs.RefusedCodes.{midst, start_leaves_values, start_leaves_counter, start_stores_twice, reset_stores_values, empty_reset, idle_function}
 
 midst_has_forms : HasForms (slot_forms [] slots) midst
 midst_has_forms = (refl, (refl, (refl, (refl, (refl, tt)))))
 
+few_steps : own_budget local ≤ step_limit
+few_steps = lit≤ tt
+
 -- what a procedure that renews the fields makes of these
 becomes : (IsSo : Slot → Cell → Cell → Type 0) (q : Offered) → RenewsOwn local slots [] IsSo q →
     OnDone (q.routine.run [] midst 0) (λ a. AllSlots IsSo slots midst a.cells)
-becomes IsSo q h = by (q.routine.run [] midst 0) (h.renews.does midst 0 has room)
-  where
-    has : HasForms h.own.forms midst
-    has = subst (λ (forms : Forms). HasForms forms midst) (sym h.forms) midst_has_forms
-
-    room : 0 + h.own.most ≤ step_limit
-    room = let most : h.own.most ≤ 64 = h.most in omega arith
-
-    by : (o : Outcome) → OnDone o (λ a. (a.cells ≡ h.own.renewed midst) × (a.steps ≤ 0 + h.own.most) × (a.log ≡ [])) →
-        OnDone o (λ a. AllSlots IsSo slots midst a.cells)
-    by (done a) left = subst (AllSlots IsSo slots midst) (sym left.0) (h.becomes midst has)
-    by (stuck at cells) left = left
+becomes = makes local slots midst midst_has_forms few_steps
 
 -- different numbers are different fields
-apart : (a b : ℕ) → (a == b) ≡ false → number (pos a) ≡ number (pos b) → ⊥
+pub apart : (a b : ℕ) → (a == b) ≡ false → number (pos a) ≡ number (pos b) → ⊥
 apart a b differ e = true≢false (sym (eq-eqb a b (ap (λ c. nat_abs (cell_value c)) e)) ∙ differ)
 
 -- ---- The tick in which the enable is high
@@ -146,6 +139,13 @@ module _ (pures : List PureTree) (prelude : IsPrelude pures) where
   counter_is_left : Behaves local profile slots start_leaves_counter → ⊥
   unfolding digits
   counter_is_left h = apart 1 0 refl (becomes (IsStarted local []) (start_of start_leaves_counter) (begun start_leaves_counter h)).1.1.1.1.0
+
+  fields_are_stored_twice : Behaves local profile slots start_stores_twice → ⊥
+  unfolding digits
+  fields_are_stored_twice h =
+      let steps : 10 ≤ 5 =
+      takes local slots midst midst_has_forms few_steps (IsStarted local []) (start_of start_stores_twice) (begun start_stores_twice h) in
+      omega (arith, steps)
 
   values_are_stored : Behaves local profile slots reset_stores_values → ⊥
   unfolding digits

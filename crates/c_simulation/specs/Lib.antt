@@ -13,6 +13,7 @@ pub mod Relation
 pub mod RelationExamples
 pub mod ResetExamples
 pub mod RefusedCodes
+pub mod FillerExamples
 pub mod NodeCode
 pub mod SoundLocals
 pub mod StandingLaws

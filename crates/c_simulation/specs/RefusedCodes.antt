@@ -25,6 +25,12 @@ abbrev pub start_leaves_counter : SystemTree
 start_leaves_counter =
     code_of group_body function_body update_body (zeros (0 ∷ 1 ∷ 2 ∷ 3 ∷ [])) reset_body
 
+-- a start that stores each field twice
+abbrev pub start_stores_twice : SystemTree
+start_stores_twice =
+    code_of group_body function_body update_body
+    (zeros (0 ∷ 0 ∷ 1 ∷ 1 ∷ 2 ∷ 2 ∷ 3 ∷ 3 ∷ 4 ∷ 4 ∷ [])) reset_body
+
 -- a reset that stores values besides, and one that does nothing
 abbrev pub reset_stores_values : SystemTree
 reset_stores_values =
