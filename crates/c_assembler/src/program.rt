@@ -4,6 +4,7 @@ ghost use Rattle.c_syntax.specs.Plain.{procedure_tree, program_tree};
 ghost use Rattle.c_shape.specs.Relocation.{moved_procedure};
 ghost use Rattle.c_shape.specs.SystemTree.{system_tree};
 ghost use Rattle.c_shape.specs.Assembled as assembled;
+ghost use Rattle.c_prelude.specs.Bodies.{function_trees};
 ghost use Rattle.c_prelude.specs.Rules.{IsPrelude};
 ghost use Rattle.c_assembler.specs.Places.{IsNoCode, trees};
 
@@ -73,7 +74,7 @@ fn all_procedures(
 
 /// The program that codes come to, with the root by its own rows and so many ticks in a round.
 fn program_of(alloc: Global, codes: &Codes<'_>, root: &Local, hyper: u32) -> Result<Program, Memory>
-    ensures { IfOk result (λ p. (pures : List PureTree) × IsPrelude pures
+    ensures { IfOk result (λ p. (pures : List PureTree) × IsPrelude pures × (pures ≡ function_trees)
         × (program_tree p
         ≡ assembled.assembled (trees codes.now.list.now) root.now hyper pures)) }
 {
@@ -97,7 +98,7 @@ pub fn assemble(
     root: &Local,
     hyper: u32,
 ) -> Result<Program, Memory>
-    ensures { IfOk result (λ p. (pures : List PureTree) × IsPrelude pures
+    ensures { IfOk result (λ p. (pures : List PureTree) × IsPrelude pures × (pures ≡ function_trees)
         × (program_tree p ≡ assembled.assembled (map system_tree codes.now) root.now hyper pures)) }
 {
     let none = no_code(alloc);

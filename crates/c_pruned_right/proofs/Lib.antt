@@ -1,5 +1,6 @@
-mod PrunedRows
+mod PrunedPlaces
 mod PrunedBodies
 mod PrunedRules
 mod PrunedShape
+mod PrunedCode
 mod PrunedTexts

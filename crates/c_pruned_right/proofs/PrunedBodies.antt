@@ -1,8 +1,9 @@
 -- What code stores, tests, calls and indexes with its calls of pure functions renumbered.
-use Rattle.std.specs.Prelude.{◌≡◌, ℕ, ◌+◌, Bool, true, false, cond, List, [], ◌∷◌, ◌++◌, map, filter, flat_map, fold, count_by}
+use Rattle.std.specs.Prelude.{◌≡◌, ℕ, ◌+◌, Bool, true, false, cond, List, [], ◌∷◌, ◌++◌, map, filter, flat_map, fold, count_by, Contains}
 use Rattle.std.specs.List.{AllByRecursion, AllZip}
-use Rattle.std.proofs.Common.{refl, sym, ap, ap₂, ◌∙◌}
+use Rattle.std.proofs.Common.{refl, sym, ap, ap₂, subst, ◌∙◌, inl, inr}
 use Rattle.std.proofs.lemmas.List.{map-append}
+use Rattle.mc_profile.proofs.lemmas.Members.{in-none, in-cases}
 use Rattle.c_syntax.specs.declared.Leaf.TheVariants as leaf
 use Rattle.c_syntax.specs.Tree.{ExprTree, literal, neg, read, binary, pick, pure, item, ExprTrees, no_exprs, more_exprs, CondTree, compare, both, either, negated, StmtTree, assign, assign_at, branch, call, StmtTrees, no_stmts, more_stmts, list_of_exprs, list_of_stmts, ProcedureTree}
 use Rattle.c_shape.specs.Reads.{expr_leaves, exprs_leaves, cond_leaves, StoreSite, IndexSite, CallSite, expr_indices, exprs_indices, cond_indices, stmt_stores, stores_in, stmt_tests, tests_in, stmt_calls, calls_in, stmt_indices, indices_in}
@@ -14,6 +15,10 @@ pub each-map : {A B : Type 0} (f : A → B) (P : A → Type 0) (Q : B → Type 0
     AllByRecursion P xs → AllByRecursion Q (map f xs)
 each-map f P Q [] next h = tt
 each-map f P Q (x ∷ xs) next h = (next x h.0, each-map f P Q xs next h.1)
+
+pub member : {A : Type 0} (P : A → Type 0) (xs : List A) (x : A) → AllByRecursion P xs → Contains xs x → P x
+member P [] x all has = absurd (in-none x has)
+member P (y ∷ ys) x all has = elim (in-cases y x ys has) [ inl same ↦ subst P same all.0 | inr more ↦ member P ys x all.1 more ]
 
 pub zip-map : {A B C : Type 0} (f : B → C) (R : A → B → Type 0) (S : A → C → Type 0) →
     ((a : A) (b : B) → R a b → S a (f b)) → (firsts : List A) (bs : List B) → AllZip R firsts bs →

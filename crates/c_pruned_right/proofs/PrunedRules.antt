@@ -1,5 +1,5 @@
 -- Procedures keep their rules with their calls of pure functions renumbered.
-use Rattle.std.specs.Prelude.{◌≡◌, ℕ, ◌≤◌, not, ◌||◌, if◌then◌else◌, Bool, List, [], ◌∷◌, ◌++◌, map, filter, flat_map, count_by, Contains, bytes_eq}
+use Rattle.std.specs.Prelude.{◌≡◌, ℕ, ◌<◌, ◌≤◌, not, ◌||◌, MatchBool, if◌then◌else◌, Bool, List, [], ◌∷◌, ◌++◌, map, filter, flat_map, count_by, Contains, bytes_eq, ⊤}
 use Rattle.std.specs.List.{AllByRecursion}
 use Rattle.std.proofs.Common.{refl, sym, ap, ap₂, subst, ◌∙◌}
 use Rattle.std.proofs.lemmas.List.Folds.{flat_map-map}
@@ -11,17 +11,18 @@ use Rattle.mc_profile.specs.LocalSystem.{LocalSystem}
 use Rattle.c_syntax.specs.declared.Target.{Target}
 use Rattle.c_syntax.specs.declared.Target.TheVariants.{Own, Child}
 use Rattle.c_syntax.specs.Tree.{ExprTree, CondTree, ParamTree, ProcedureTree}
-use Rattle.c_shape.specs.NamedLeaf.{NamedLeaf, param}
+use Rattle.c_shape.specs.NamedLeaf.{NamedLeaf, param, own}
 use Rattle.c_shape.specs.Names.{value_name, start_name, reset_name, update_name}
 use Rattle.c_shape.specs.Heads.{Head, out_heads}
 use Rattle.c_shape.specs.CodeNames.{CodeNames, named_leaves, IsReadOf}
 use Rattle.c_shape.specs.Reads.{StoreSite, IndexSite, CallSite, stores_in, tests_in, calls_in, indices_in, expr_leaves, cond_leaves}
 use Rattle.c_shape.specs.Rules.{passed, IsRightCall, store_reads, index_reads, test_reads, KeepsRules}
 use Rattle.c_shape.specs.Once.{of_ticks, store_sites, call_sites, StatesOnce}
+use Rattle.c_shape.specs.Used.{tested_in, AreUsed}
 use Rattle.c_shape.specs.Stored.{stored_on, stored_in, stored_names}
 use Rattle.c_pruned.specs.Pruned.{renumbered_expr, renumbered_cond, renumbered_procedure}
+use Rattle.c_pruned.proofs.lemmas.Numbers.{each-then}
 use Rattle.c_pruned_right.proofs.PrunedBodies.{each-map, zip-map, filter-map, map-map, count-map, expr-leaves, cond-leaves, moved_store, moved_index, moved_call, stores-moved, tests-moved, calls-moved, indices-moved, flat-moved}
-use Rattle.c_right.proofs.lemmas.AlikePrograms.{each-then}
 
 module _ (place : ℕ → ℕ) where
   abbrev move : ProcedureTree → ProcedureTree
@@ -95,6 +96,15 @@ module _ (place : ℕ → ℕ) where
         (sym (cond-leaves place test)) one) h.tests);
   }
 
+  -- ---- How often a procedure is called
+
+  sites-same : (n : CodeNames) (xs : List ProcedureTree) (name : List ℕ) → call_sites n xs name ≡ call_sites n (map move xs) name
+  sites-same n xs name =
+      let test : CallSite → Bool = λ c. bytes_eq (n.callee c.procedure).name name in
+      sym (ap (count_by test) (flat-moved place (λ (x : ProcedureTree). calls_in x.body) (moved_call place)
+      (λ x. calls-moved place x.body) xs)
+      ∙ count-map (moved_call place) test (flat_map (λ (x : ProcedureTree). calls_in x.body) xs))
+
   -- ---- Each value once
 
   module _ (n : CodeNames) (local : LocalSystem) (xs : List ProcedureTree) where
@@ -110,12 +120,7 @@ module _ (place : ℕ → ℕ) where
         ∙ count-map (moved_store place) test (flat_map (λ (x : ProcedureTree). stores_in x.body) (of_ticks local xs)))
 
     calls-same : (name : List ℕ) → call_sites n (of_ticks local xs) name ≡ call_sites n (of_ticks local (map move xs)) name
-    calls-same name =
-        let test : CallSite → Bool = λ c. bytes_eq (n.callee c.procedure).name name in
-        sym (ap (λ qs. count_by test (flat_map (λ (x : ProcedureTree). calls_in x.body) qs)) ticks-moved
-        ∙ ap (count_by test) (flat-moved place (λ (x : ProcedureTree). calls_in x.body) (moved_call place)
-        (λ x. calls-moved place x.body) (of_ticks local xs))
-        ∙ count-map (moved_call place) test (flat_map (λ (x : ProcedureTree). calls_in x.body) (of_ticks local xs)))
+    calls-same name = sites-same n (of_ticks local xs) name ∙ sym (ap (λ qs. call_sites n qs name) ticks-moved)
 
     pub once-moved : StatesOnce n local xs → StatesOnce n local (map move xs)
     once-moved h = record {
@@ -136,6 +141,24 @@ module _ (place : ℕ → ℕ) where
       updates = each-then (λ (u : ChildUse). call_sites n (of_ticks local xs) (update_name u.header.row) ≡ 1)
           (λ (u : ChildUse). call_sites n (of_ticks local (map move xs)) (update_name u.header.row) ≡ 1) local.children
           (λ u it. sym (calls-same (update_name u.header.row)) ∙ it) h.updates;
+    }
+
+  -- ---- What is used
+
+  module _ (n : CodeNames) where
+    tested-same : (x : ProcedureTree) → tested_in n (move x) ≡ tested_in n x
+    tested-same x =
+        let reads : CondTree → List NamedLeaf = λ test. named_leaves n x.params (cond_leaves test) in
+        ap (flat_map reads) (tests-moved place x.body) ∙ flat_map-map reads (renumbered_cond place) (tests_in x.body)
+        ∙ (λ i. flat_map (λ test. named_leaves n x.params (cond-leaves place test i)) (tests_in x.body))
+
+    pub used-moved : (counters : List (List ℕ)) (xs : List ProcedureTree) → AreUsed n counters xs → AreUsed n counters (map move xs)
+    used-moved counters xs h = record {
+      called = each-map move (λ (x : ProcedureTree). MatchBool x.private (0 < call_sites n xs x.name) ⊤)
+          (λ (x : ProcedureTree). MatchBool x.private (0 < call_sites n (map move xs) x.name) ⊤) xs
+          (λ x some. subst (λ k. MatchBool x.private (0 < k) ⊤) (sites-same n xs x.name) some) h.called;
+      read = subst (λ leaves. AllByRecursion (λ name. Contains leaves (own name)) counters)
+          (sym (flat_map-map (tested_in n) move xs ∙ (λ i. flat_map (λ x. tested-same x i) xs))) h.read;
     }
 
   -- ---- What procedures store, themselves or through private ones

@@ -1,5 +1,5 @@
 -- The shape and the interfaces of a program with its pure functions at other positions.
-use Rattle.std.specs.Prelude.{◌≡◌, ℕ, zero, suc, ◌+◌, ◌<◌, ◌==◌, ◌%◌, not, Bool, List, [], ◌∷◌, map, filter, length, slice_index_or, IsPermutation, Option, None, bytes_eq, pos, neg_ℤ}
+use Rattle.std.specs.Prelude.{◌≡◌, ℕ, zero, suc, ◌+◌, ◌<◌, ◌==◌, ◌%◌, not, Bool, true, false, if◌then◌else◌, List, [], ◌∷◌, ◌++◌, map, filter, length, slice_index_or, Contains, IsPermutation, Option, None, bytes_eq, pos, neg_ℤ}
 use Rattle.std.specs.List.{AllByRecursion, AllZip, list_any, enumerate_from}
 use Rattle.std.proofs.Common.{refl, sym, ap, subst, ◌∙◌, arith}
 use Rattle.std.proofs.lemmas.List.{length-map}
@@ -13,7 +13,9 @@ use Rattle.mc_profile.specs.Locals.{own_header}
 use Rattle.mc_profile.specs.Headers.{header_of}
 use Rattle.c_syntax.specs.declared.Target.TheVariants.{Own, Child}
 use Rattle.c_syntax.specs.Tree.{ExprTree, literal, neg, read, binary, pick, pure, item, StmtTree, assign, assign_at, branch, call, StmtTrees, list_of_stmts, list_of_exprs, PureTree, ParamTree, ProcedureTree, ProgramTree}
+use Rattle.c_syntax.specs.Lawful.{pure_without_lines}
 use Rattle.c_syntax.specs.RootFields.{root_struct}
+use Rattle.c_prelude.specs.Bodies.{function_trees}
 use Rattle.c_machine.specs.Values.{Function, function_at, eval, gives}
 use Rattle.c_shape.specs.NamedLeaf.{NamedLeaf, own, child}
 use Rattle.c_shape.specs.Names.{value_name, port_name, now_name, output_name}
@@ -24,24 +26,19 @@ use Rattle.c_shape.specs.Reads.{expr_leaves}
 use Rattle.c_shape.specs.Rules.{KeepsRules}
 use Rattle.c_shape.specs.Once.{StatesOnce}
 use Rattle.c_shape.specs.Stored.{stored_names, has_stored}
+use Rattle.c_shape.specs.Used.{AreUsed}
 use Rattle.c_shape.specs.Slots.{counters_in}
 use Rattle.c_shape.specs.Programs.{procedure_at, no_procedure, field_in, names_in, procedures_of, struct_place, struct_at}
 use Rattle.c_shape.specs.Faces.{stores, takes, HasLeastInterface}
-use Rattle.c_shape.specs.RootCode.{RootStep, calls, copies, moves_on, IsPassed, MovesOn, DoesCall, DoesStore, Does, root_fields_of, is_literal, is_literal_store, literal_number, BeginsTick, HasRootCode}
-use Rattle.c_shape.specs.ProgramShape.{viewed, HasSystemShape, HasShape}
-use Rattle.c_right.specs.Right.{AnswersAnyOrder, IsCodeFor}
-use Rattle.c_right.specs.Anew.{RenewsAll}
+use Rattle.c_shape.specs.RootCode.{RootStep, calls, copies, moves_on, IsPassed, MovesOn, DoesCall, DoesStore, Does, root_fields_of, is_literal, is_literal_store, literal_number, BeginsTick, tick_steps, HasRootCode}
+use Rattle.c_shape.specs.ProgramShape.{viewed, AreOfPrelude, HasSystemShape, HasShape}
 use Rattle.c_pruned.specs.Calls.{expr_functions}
-use Rattle.c_pruned.specs.Needed.{is_needed}
-use Rattle.c_pruned.specs.Pruned.{renumbered_expr, renumbered_stmt, renumbered_stmts, renumbered_pure, renumbered_procedure, kept_before, kept_from}
-use Rattle.c_pruned.specs.Laws.{RunsAs, PrunedRunsAlike}
+use Rattle.c_pruned.specs.Pruned.{renumbered_expr, renumbered_stmt, renumbered_stmts, renumbered_pure, renumbered_procedure, kept_from}
 use Rattle.c_pruned.proofs.lemmas.Numbers.{each-then}
 use Rattle.c_pruned.proofs.lemmas.SameRuns.{Agree, expr-same}
-use Rattle.c_pruned_right.specs.Laws.{PrunedIsCode}
-use Rattle.c_pruned_right.proofs.PrunedBodies.{each-map, zip-map, filter-map, map-map, expr-leaves, exprs-list, stmts-list}
-use Rattle.c_pruned_right.proofs.PrunedRules.{read-moved, keeps, once-moved, stored-moved}
-use Rattle.c_right.proofs.lemmas.AlikePrograms.{outputs-alike, bounded-alike, rows-alike, answers-alike, renewed-alike, restarted-alike}
-use Rattle.c_pruned_right.proofs.PrunedRows.{q, same-outs, are-alike}
+use Rattle.c_pruned_right.proofs.PrunedBodies.{each-map, member, zip-map, filter-map, map-map, expr-leaves, exprs-list, stmts-list}
+use Rattle.c_pruned_right.proofs.PrunedRules.{read-moved, keeps, once-moved, used-moved, stored-moved}
+use Rattle.c_pruned_right.proofs.PrunedPlaces.{q, same-outs}
 
 -- ---- Functions at the positions that an expression calls
 
@@ -70,6 +67,34 @@ called-at place functions n zero k m inside e = absurd (omega arith)
 called-at place functions n (suc count) zero m inside e =
     ap (λ j. function_at functions (place j)) (let same : m ≡ n = omega (arith, e) in same)
 called-at place functions n (suc count) (suc k) m inside e = called-at place functions (suc n) count k m (omega arith) (omega (arith, e))
+
+-- ---- Pure functions
+
+-- none of the eight calls another, so each stays what it is
+eight-stay : (place : ℕ → ℕ) → AllByRecursion (λ f. renumbered_pure place f ≡ f) function_trees
+eight-stay place = (refl, (refl, (refl, (refl, (refl, (refl, (refl, (refl, tt))))))))
+
+known-moved : (place : ℕ → ℕ) (f : PureTree) → Contains function_trees (pure_without_lines f) →
+    Contains function_trees (pure_without_lines (renumbered_pure place f))
+known-moved place f known =
+    subst (Contains function_trees)
+    (sym (member (λ g. renumbered_pure place g ≡ g) function_trees (pure_without_lines f) (eight-stay place) known)) known
+
+kept-known : (keeps : ℕ → Bool) (n : ℕ) (fs : List PureTree) → AreOfPrelude fs → AreOfPrelude (kept_from keeps n fs)
+kept-known keeps n [] all = tt
+kept-known keeps n (f ∷ fs) all = by (keeps n) (kept-known keeps (suc n) fs all.1)
+  where
+    by : (t : Bool) → AreOfPrelude (kept_from keeps (suc n) fs) → AreOfPrelude ((if t then f ∷ [] else []) ++ kept_from keeps (suc n) fs)
+    by true more = (all.0, more)
+    by false more = more
+
+-- those that are kept are among the eight
+pub pures-known : (place : ℕ → ℕ) (keeps : ℕ → Bool) (fs : List PureTree) → AreOfPrelude fs →
+    AreOfPrelude (map (renumbered_pure place) (kept_from keeps 0 fs))
+pures-known place keeps fs all =
+    each-map (renumbered_pure place) (λ f. Contains function_trees (pure_without_lines f))
+    (λ f. Contains function_trees (pure_without_lines f)) (kept_from keeps 0 fs) (λ f known. known-moved place f known)
+    (kept-known keeps 0 fs all)
 
 -- ---- Literals
 
@@ -199,6 +224,8 @@ module _ (place : ℕ → ℕ) (pures : List PureTree) (p : ProgramTree) where
             (λ x one. keeps place n local (counters_in h.fields.slots) x one) h.rules));
         once = subst (λ (m : CodeNames). StatesOnce m local (procedures_of r of)) (same-names of)
             (subst (StatesOnce n local) own (once-moved place n local xs h.once));
+        used = subst (λ (m : CodeNames). AreUsed m (counters_in h.fields.slots) (procedures_of r of)) (same-names of)
+            (subst (AreUsed n (counters_in h.fields.slots)) own (used-moved place n (counters_in h.fields.slots) xs h.used));
       }
 
   -- ---- The root
@@ -308,41 +335,18 @@ module _ (place : ℕ → ℕ) (pures : List PureTree) (p : ProgramTree) where
             (zip-map moved_stmt (Does p hyper h.start) (Does r hyper (move h.start))
             (λ step a one. does-alike hyper h.start step a one)
             (calls (heads.start_head (header_of d None h.profile)) ∷ []) others h.starts);
-        steps = h.steps;
-        are_steps = h.are_steps;
-        does = subst (AllZip (Does r hyper (move h.step)) h.steps) (sym (stmts-list place h.step.body))
+        does = subst (AllZip (Does r hyper (move h.step)) (tick_steps d (header_of d None h.profile)))
+            (sym (stmts-list place h.step.body))
             (zip-map moved_stmt (Does p hyper h.step) (Does r hyper (move h.step))
-            (λ step a one. does-alike hyper h.step step a one) h.steps (list_of_stmts h.step.body) h.does);
+            (λ step a one. does-alike hyper h.step step a one) (tick_steps d (header_of d None h.profile))
+            (list_of_stmts h.step.body) h.does);
       }
 
-  pub shape-alike : (d : Diagram) (delays : List Bool) (hyper : ℕ) → HasShape p d delays hyper → HasShape r d delays hyper
-  shape-alike d delays hyper h = record {
+  pub shape-alike : (d : Diagram) (delays : List Bool) (hyper : ℕ) → AreOfPrelude pures → HasShape p d delays hyper →
+      HasShape r d delays hyper
+  shape-alike d delays hyper known h = record {
+    pures = known;
     structs = h.structs;
     each = each-then (HasSystemShape p d delays) (HasSystemShape r d delays) (systems d.rows) (λ s one. system-alike d delays s one) h.each;
     root = root-alike d hyper h.root;
   }
-
-  -- ---- All together
-
-  pub code-alike : RunsAs r p → (d : Diagram) (delays : List Bool) (hyper : ℕ) → IsCodeFor p d delays hyper → IsCodeFor r d delays hyper
-  code-alike runs d delays hyper h =
-      let are = are-alike place pures p runs in record {
-        runs = record {
-          outputs = λ xs trace. outputs-alike p r are d xs (h.runs.outputs xs trace);
-          bounded = λ xs trace. bounded-alike p r are d xs (h.runs.bounded xs trace);
-          ticks = rows-alike p r are d h.runs.ticks;
-        };
-        least = each-then (HasLeastInterface p d) (HasLeastInterface r d) (systems d.rows) (λ s one. least-alike d s one) h.least;
-        shape = shape-alike d delays hyper h.shape;
-        any_order =
-            each-then (AnswersAnyOrder p d hyper) (AnswersAnyOrder r d hyper) (systems d.rows)
-            (λ s one. answers-alike p r are d hyper s one) h.any_order;
-        renewed = each-then (RenewsAll p d hyper) (RenewsAll r d hyper) (systems d.rows)
-            (λ s one. renewed-alike p r are d hyper s one) h.renewed;
-        restarted = restarted-alike p r are d hyper h.restarted;
-      }
-
-pub pruned_is_code : PrunedRunsAlike → PrunedIsCode
-pruned_is_code alike p d delays hyper lawful h =
-    let place = kept_before (is_needed p) in
-    code-alike place (map (renumbered_pure place) (kept_from (is_needed p) 0 p.pures)) p (alike p lawful) d delays hyper h

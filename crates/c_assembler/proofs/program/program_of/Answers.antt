@@ -6,6 +6,7 @@ pub returns : goal.returns
 returns c =
     let pures = map pure_tree c.in_ok-prelude.field-0.items in (
       pures,
-      c.in_ok-prelude.ensures,
+      c.in_ok-prelude.ensures.rules,
+      c.in_ok-prelude.ensures.trees,
       λ j. record { pures = pures; structs = c.in_ok-structs.ensures j; procedures = c.in_ok-procedures.ensures j },
     )

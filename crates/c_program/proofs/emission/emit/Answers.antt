@@ -37,7 +37,7 @@ returns c =
     let profiles = c.in_ok-profiles.profiles.items in
     let rows = c.in_ok-profiles.ensures.rows ∙ c.tree_has_all_systems.ensures r is in
     let made = c.in_ok-made.made in
-    let (pures, prelude, tree) = c.in_ok-program.ensures in
+    let (pures, prelude, known, tree) = c.in_ok-program.ensures in
     let parts : Parts = record {
       model = r;
       codes = map system_tree made.codes.items;
@@ -46,6 +46,7 @@ returns c =
       pures = pures;
       can = c.in_ok-made.ensures;
       prelude = prelude;
+      known = known;
     } in
     let codes = ap (λ (cs : List SystemCode). map system_tree cs) c.deref.ensures.value in
     let same = tree ∙ (λ i. assembled (codes i) made.root (c.cycle.ensures i) pures) in

@@ -1,4 +1,4 @@
-use Rattle.c_pruned_right.proofs.PrunedShape as proof
+use Rattle.c_pruned_right.proofs.PrunedCode as proof
 use Rattle.c_pruned_right.proofs.laws.pruned_is_code.Goals as goal
 
 pub returns : goal.returns

@@ -1,4 +1,4 @@
--- A program with other pure functions does what it did.
+-- A program with other pure functions: its procedures have the positions that they had, and it does what it did.
 use Rattle.std.specs.Prelude.{◌≡◌, ℕ, ◌+◌, cond, ◌||◌, List, [], ◌∷◌, map, length, Option, Some, unwrap_or, bytes_eq}
 use Rattle.std.specs.List.{position_from, list_any, prefix_len, range_with_len}
 use Rattle.std.proofs.Common.{refl, sym, ap}
