@@ -19,9 +19,9 @@ def name_of(path):
 
 
 def emitted(words, folder):
-    """The name and the C file of each word, or of each example where there are no words."""
+    """The name and the C file of each word, or of each example where `all` is the word."""
     found = []
-    for path in words or [os.path.join(TOP, it) for it in EXAMPLES]:
+    for path in [os.path.join(TOP, it) for it in EXAMPLES] if words == ["all"] else words:
         code = os.path.abspath(path)
         if path.endswith(".mdl"):
             code = os.path.join(folder, f"{name_of(path)}.c")
