@@ -5,6 +5,10 @@
 unused="-Wno-unused-parameter"
 strict="-std=c99 -Wall -Wextra -Wconversion -pedantic $unused -Werror"
 
+# The program itself: some words are answered by its script, `mdlc`.
+"$top/mdlc" build || exit 1
+program="$top/crates/mdlc/out/mdlc"
+
 fail() { echo "$(basename "$0"): $*" >&2; exit 1; }
 
 # In a table " / " stands between the lines of a text.
@@ -14,7 +18,7 @@ lines_of() { printf '%s' "$1" | sed 's| */ *|\n|g'; }
 ends() {
   local status=0 put want=$1 text=$2
   shift 2
-  put=$("$top/mdlc" "$@") || status=$?
+  put=$("$program" "$@") || status=$?
   [ "$status" = "$want" ] || fail "$*: status $status"
   [ "$put" = "$text" ] || fail "$*: $put"
 }
@@ -23,7 +27,7 @@ ends() {
 # $1 is the model, $3 the trace, $4 the lines, $5 the ticks and $6 the calls.
 gives() {
   local put
-  put=$("$top/mdlc" run "$1" "$2" "$3") || fail "$1 isn't run: $put"
+  put=$("$program" run "$1" "$2" "$3") || fail "$1 isn't run: $put"
   [ "$(printf '%s\n' "$put" | sed '$d')" = "$4" ] || fail "$1: other lines of its run: $put"
   printf '%s\n' "$put" | tail -n 1 | grep -Eq "^ticks $5 steps [1-9][0-9]* calls $6\$" || fail "$1: other totals of its run: $put"
   ends 0 "$put" exec "$2" "$3"
@@ -33,7 +37,7 @@ gives() {
 # system, $4 the script, $5 the lines, $6 the ticks and $7 the calls.
 answers() {
   local put
-  put=$("$top/mdlc" drive "$1" "$2" "$3" "$4") || fail "$1 isn't driven: $put"
+  put=$("$program" drive "$1" "$2" "$3" "$4") || fail "$1 isn't driven: $put"
   [ "$(printf '%s\n' "$put" | sed '$d')" = "$5" ] || fail "$1: other lines of the system $3: $put"
   printf '%s\n' "$put" | tail -n 1 | grep -Eq "^ticks $6 steps (0|[1-9][0-9]*) calls $7\$" || fail "$1: other totals of the system $3: $put"
 }
