@@ -98,6 +98,8 @@ build() {
     wait "$rt"
     status=$?
     rt=""
+    # Where it can't keep what it proves, say.
+    grep '^rt: note: .*\(kept\|disk\)' "$log" >&2
     if [ "$status" != 0 ]; then
       tell_cause "$status"
       return 1
