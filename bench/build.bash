@@ -1,4 +1,5 @@
 # How the program is built, for `mdlc`, which has set `top`, the repository.
+# shellcheck disable=SC2154
 #
 # `rt ci` proves crates side by side and keeps each that is done, outside the checkout, so that nothing is proved twice; and it has no
 # first pass over all sources. It works on a copy of what the program stands on: without crates of tests, and without the edits that
@@ -34,14 +35,14 @@ copy_sources() {
 
 # How many crates of $1 are done, at each that is done and each minute, while `rt` works. It is stopped where one isn't proved.
 tell_crates() {
-  local done count before=0 since=$SECONDS begun=$SECONDS
+  local told count before=0 since=$SECONDS begun=$SECONDS
   echo "mdlc: building; 0 of $1 crates proved, 0 minutes" >&2
   while kill -0 "$rt" 2>/dev/null; do
     sleep 1
-    done=$(grep -E '^rt: [a-z0-9_]+ (proved|is kept:)' "$log")
-    count=$(grep -c . <<<"$done")
+    told=$(grep -E '^rt: [a-z0-9_]+ (proved|is kept:)' "$log")
+    count=$(grep -c . <<<"$told")
     if [ "$count" != "$before" ] || [ $((SECONDS - since)) -ge 60 ]; then
-      echo "mdlc: $count of $1 crates proved, $(((SECONDS - begun) / 60)) minutes$(tail -n 1 <<<"$done" | sed -n 's/^rt: \([^ ]*\).*/; the last was \1/p')" >&2
+      echo "mdlc: $count of $1 crates proved, $(((SECONDS - begun) / 60)) minutes$(tail -n 1 <<<"$told" | sed -n 's/^rt: \([^ ]*\).*/; the last was \1/p')" >&2
       before=$count since=$SECONDS
     fi
     ! grep -Eq '^rt: [a-z0-9_]+ NOT PROVED$' "$log" || kill "$rt" 2>/dev/null
