@@ -92,6 +92,8 @@ build() {
   mkdir -p "${program%/*}" && exec 9>"${program%/*}/build.lock" || return 1
   flock -n 9 || { echo "mdlc: another build is at work here; waiting for it" >&2; flock 9; }
   if ! is_current; then
+    # A build that was killed leaves its copy.
+    find "${TMPDIR:-/var/tmp}" -maxdepth 1 -name 'mdlc-build.*' -uid "$UID" -mtime +0 -exec rm -rf {} + 2>/dev/null
     room=$(mktemp -d "${TMPDIR:-/var/tmp}/mdlc-build.XXXXXX") && copy_sources "$room" || return 1
     (cd "$room" && exec rt ci) >"$log" 2>&1 </dev/null 9>&- &
     rt=$!
