@@ -21,7 +21,7 @@ lines_below() {
 
 is_current() {
   local names
-  [ -x "$program" ] || return 1
+  [ -x "$program" ] && [ ! "$top/crates.txt" -nt "$program" ] || return 1
   mapfile -t names < <(lines_below | cut -d: -f1)
   [ -z "$(cd "$top/crates" && find "${names[@]}" -name out -prune -o -name must-fail -prune -o -type f -newer "$program" -print -quit)" ]
 }
@@ -107,7 +107,8 @@ build() {
       tell_cause "$status"
       return 1
     fi
-    cp "$room/crates/mdlc/out/mdlc" "$program.new" && mv "$program.new" "$program" || return 1
+    # It is as old as the copy, so that what was changed meanwhile is newer.
+    cp "$room/crates/mdlc/out/mdlc" "$program.new" && touch -r "$room/crates.txt" "$program.new" && mv "$program.new" "$program" || return 1
   fi
   end_build
   trap - EXIT HUP INT TERM
