@@ -6,8 +6,7 @@
 # must be refused. The copy is no part of the checkout, where `rt ci` would refuse it.
 
 program="$top/crates/mdlc/out/mdlc"
-log="$top/crates/mdlc/out/build.log"
-rt="" room=""
+rt="" room="" log=""
 
 # The lines of crates.txt for the program and all that it stands on.
 lines_below() {
@@ -36,7 +35,7 @@ copy_sources() {
 # How many crates of $1 are done, at each that is done and each minute, while `rt` works. It is stopped where one isn't proved.
 tell_crates() {
   local told count before=0 since=$SECONDS begun=$SECONDS
-  echo "mdlc: building; 0 of $1 crates proved, 0 minutes" >&2
+  echo "mdlc: the program is built first, and README.md says how long that takes: 0 of $1 crates proved, 0 minutes" >&2
   while kill -0 "$rt" 2>/dev/null; do
     sleep 1
     told=$(grep -E '^rt: [a-z0-9_]+ (proved|is kept:)' "$log")
@@ -51,9 +50,9 @@ tell_crates() {
 
 # Why the build ended with status $1: the first crate that isn't proved, with its first error, or what else ended it.
 tell_cause() {
-  local crate lines fault=': error|^error|^note: [^ ]+:[0-9]+:[0-9]+:|^fn .*: (not proved|no proof)'
-  sed -i "s|$room/|$top/|g" "$log"
-  lines=$(awk '/^== / { lines = "" } /^rt: [a-z0-9_]+ NOT PROVED$/ { print $2 "\n" lines; exit } { lines = lines $0 "\n" }' "$log")
+  local crate lines whole="${program%/*}/build.log" fault=': error|^error|^note: [^ ]+:[0-9]+:[0-9]+:|^fn .*: (not proved|no proof)'
+  mkdir -p "${program%/*}" && sed "s|$room/|$top/|g" "$log" >"$whole"
+  lines=$(awk '/^== / { lines = "" } /^rt: [a-z0-9_]+ NOT PROVED$/ { print $2 "\n" lines; exit } { lines = lines $0 "\n" }' "$whole")
   crate=${lines%%$'\n'*}
   if [ -n "$crate" ] && grep -q '^rt: the check was killed' <<<"$lines"; then
     echo "mdlc: the check of the crate $crate was killed, most likely for memory" >&2
@@ -62,9 +61,9 @@ tell_cause() {
   elif [ "$1" -ge 128 ]; then
     echo "mdlc: the build was ended by signal $(($1 - 128))$([ "$1" != 137 ] || echo ', most likely for memory')" >&2
   else
-    echo "mdlc: the build failed: $(grep '^rt: ' "$log" | tail -n 1)" >&2
+    echo "mdlc: the build failed: $(grep '^rt: ' "$whole" | tail -n 1)" >&2
   fi
-  echo "mdlc: the whole log is $log" >&2
+  echo "mdlc: the whole log is $whole" >&2
 }
 
 end_build() {
@@ -95,6 +94,7 @@ build() {
     # A build that was killed leaves its copy.
     find "${TMPDIR:-/var/tmp}" -maxdepth 1 -name 'mdlc-build.*' -uid "$UID" -mtime +0 -exec rm -rf {} + 2>/dev/null
     room=$(mktemp -d "${TMPDIR:-/var/tmp}/mdlc-build.XXXXXX") && copy_sources "$room" || return 1
+    log=$room/build.log
     (cd "$room" && exec rt ci) >"$log" 2>&1 </dev/null 9>&- &
     rt=$!
     tell_crates "$(wc -l <"$room/crates.txt")"
@@ -108,6 +108,7 @@ build() {
       return 1
     fi
     # It is as old as the copy, so that what was changed meanwhile is newer.
+    mkdir -p "${program%/*}"
     cp "$room/crates/mdlc/out/mdlc" "$program.new" && touch -r "$room/crates.txt" "$program.new" && mv "$program.new" "$program" || return 1
   fi
   end_build
