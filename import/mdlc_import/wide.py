@@ -1,0 +1,223 @@
+"""What mdlc refuses once every type is known: bits on the way to a value, times, loops and long delays."""
+
+from collections.abc import Iterable, Mapping
+from fractions import Fraction
+from math import gcd, lcm
+
+from .catalogue import NATIVE
+from .formats import BOOLEAN, FixType, fixed_type, nearest, number, quantized, whole
+from .graph import Row, inputs_of, text_of
+from .judge import Judge, controls_around
+from .model import TRIGGER, Block
+from .sample_times import Time, outmost_trigger, progression, times_before, written_time
+
+MOST_BITS, MOST_DENOMINATOR, MOST_PERIOD, MOST_CYCLE, MOST_SAMPLES = 62, 10**9, 10**6, 2**30, 10**6
+LOOP_ADVICE = "Put a UnitDelay into the loop, where one tick of delay is meant."
+
+
+class WideJudge(Judge):
+    """The rules that come behind the types."""
+
+    def judge(self) -> None:
+        """All of them."""
+        self.counts()
+        for row in self.rows.values():
+            self.trigger(row)
+            bits = self.bits(row)
+            if bits > MOST_BITS:
+                says = f"it needs {bits} bits on the way, and there are {MOST_BITS} (F19)."
+                self.refused(row.block, says, "Take narrower types at its inputs; for a Gain write ParamDataTypeStr.")
+            if outmost_trigger(row) is not None and written_time(row.block) is not None:
+                self.refused(row.block, "it writes a period inside a triggered subsystem (F20).", "Write -1.")
+        ticks = self.ticks()
+        if ticks is not None:
+            self.ratios(ticks)
+        self.delays()
+        self.loops()
+
+    def trigger(self, row: Row) -> None:
+        """A trigger with a sign."""
+        wire = row.sources.get(TRIGGER)
+        given = self.types[wire] if wire is not None else None
+        if wire is not None and wire.kind != "Ground" and isinstance(given, FixType) and given.signed:
+            self.refused(row.block, f"its trigger has the type {given.text()}, with a sign (F18).", "Compare it with 0, and trigger by the result.")
+
+    def bits(self, row: Row) -> int:
+        """The bits that a row needs, or 0 where that isn't known."""
+        block, sources, wanted = row.block, row.inputs(), self.types[row.block]
+        found = [BOOLEAN if it.kind == "Ground" else self.types[it] for it in sources]
+        given = [it for it in found if isinstance(it, FixType)]
+        is_known = len(given) == len(found) == len(inputs_of(block)) and isinstance(wanted, FixType)
+        if block.system is not None or block.kind not in NATIVE or not given or not is_known or not isinstance(wanted, FixType):
+            return 0
+        point = max(it.point for it in given)
+        most = max(it.magnitude() + point - it.point for it in given)
+        match block.kind:
+            case "Gain":
+                constant, places = gain_constant(block)
+                return fitted(given[0].magnitude() + bits_for(abs(constant)), given[0].point + places, wanted)
+            case "Product":
+                return fitted(sum(it.magnitude() for it in given), sum(it.point for it in given), wanted)
+            case "Switch" | "DataTypeConversion":
+                return max(fitted(it.magnitude(), it.point, wanted) for it in given[::2])
+            case "Sum":
+                return fitted(most + bits_for(len(given)), point, wanted)
+            case "RelationalOperator":
+                return most
+        return 0
+
+    def ticks(self) -> dict[Block, tuple[int, int]] | None:
+        """The written times in base ticks, or None where one is out of bounds."""
+        written = {block: time for block in self.rows if (time := written_time(block)) is not None and time[0] > 0}
+        step = number(self.model.step) if self.model.step is not None else None
+        steps = [step] if step else []
+        common = lcm(*(it.denominator for it in steps))
+        for block, time in written.items():
+            common = lcm(common, time[0].denominator, time[1].denominator)
+            if common > MOST_DENOMINATOR:
+                says = f"with its time the least common denominator is {common}, above {MOST_DENOMINATOR} (F21)."
+                self.refused(block, says, "Write the fractions that are meant, as `1/3` and not `0.333333`.")
+                return None
+        times = [it for time in written.values() for it in time if it] + steps
+        base = gcd(*(int(it * common) for it in times)) or 1
+        found = {block: (int(time[0] * common) // base, int(time[1] * common) // base) for block, time in written.items()}
+        return found if self.is_short(found) else None
+
+    def is_short(self, ticks: Mapping[Block, tuple[int, int]]) -> bool:
+        """Whether all periods and their cycle are within bounds."""
+        cycle = 1
+        for block, (period, _) in ticks.items():
+            cycle = lcm(cycle, period)
+            if period > MOST_PERIOD or cycle > MOST_CYCLE:
+                says = f"its period is {period} base ticks, and the cycle so far {cycle}, above {MOST_PERIOD} or {MOST_CYCLE} (F21)."
+                self.refused(block, says, "Take periods that are multiples of one another.")
+                return False
+        return True
+
+    def ratios(self, ticks: Mapping[Block, tuple[int, int]]) -> None:
+        """RateTransitions between periods that don't divide each other."""
+        def time_of(block: Block) -> Time | None:
+            found = ticks.get(block)
+            return (Fraction(found[0]), Fraction(found[1])) if found else None
+
+        for row in [it for it in self.rows.values() if it.block.kind == "RateTransition" and outmost_trigger(it) is None]:
+            inside = progression((int(it[0]), int(it[1])) for it in times_before(row, self.rows, time_of))
+            outside = ticks.get(row.block, inside)
+            least, most = sorted((inside[0], outside[0]))
+            if inside != outside and (inside[1] or outside[1] or most % least):
+                says = f"it goes from a period of {inside[0]} base ticks to one of {outside[0]}, or with an offset (F22)."
+                self.refused(row.block, says, "Take periods of which one is a multiple of the other.")
+
+    def delays(self) -> None:
+        """Delays that remember too much."""
+        total = 0
+        for block in [it for it in self.rows if it.kind == "Delay"]:
+            length = whole(text_of(block, "DelayLength")) or 0
+            total += length
+            if not 1 <= length <= 65535:
+                self.refused(block, f"DelayLength is {length} (F8).", "It may be 1 to 65535.")
+            elif total > MOST_SAMPLES:
+                self.refused(block, f"the delays up to here remember {total} samples, more than {MOST_SAMPLES} (F24).", "Shorten delays.")
+                return
+
+    def loops(self) -> None:
+        """Rows that need one another at one tick."""
+        needs = {block: self.needs(row) for block, row in self.rows.items()}
+        for group in components(needs):
+            loop = shortest(needs, group)
+            if loop:
+                names = ", ".join(f"`{it.name}`" for it in loop[:8]) + (f" and {len(loop) - 8} more" if len(loop) > 8 else "")
+                self.refused(loop[0], f"{names} need each other's values at one tick (F23).".replace("\n", " "), LOOP_ADVICE)
+
+    def needs(self, row: Row) -> list[Block]:
+        """The rows whose values a row needs at the same tick."""
+        sources = [] if self.is_delay(row) else list(row.sources.values())
+        return [*sources, *controls_around(row, self.rows)]
+
+    def is_delay(self, row: Row) -> bool:
+        """Whether a row gives what it took before. A RateTransition counts where it goes to a faster rate."""
+        if row.block.kind != "RateTransition":
+            return row.block.kind in ("UnitDelay", "Delay", "DiscreteIntegrator")
+        outside = written_time(row.block)
+        periods = [it[0] for it in times_before(row, self.rows)]
+        return outmost_trigger(row) is None and outside is not None and bool(periods) and outside[0] < common_period(periods)
+
+
+def common_period(periods: list[Fraction]) -> Fraction:
+    """The greatest period of which all are multiples."""
+    common = lcm(*(it.denominator for it in periods))
+    return Fraction(gcd(*(int(it * common) for it in periods)), common)
+
+
+def fitted(bits: int, point: int, wanted: FixType) -> int:
+    """The bits of a value that is brought into a type."""
+    return max(bits + max(0, wanted.point - point), point - wanted.point, 0)
+
+
+def bits_for(count: int) -> int:
+    """The least b with a count of at most 2 to the b."""
+    return (count - 1).bit_length() if count else 0
+
+
+def gain_constant(block: Block) -> tuple[int, int]:
+    """The whole number of a Gain, and how many of its bits are after the point."""
+    gain = number(text_of(block, "Gain")) or Fraction(0)
+    written = fixed_type(text_of(block, "ParamDataTypeStr"))
+    if written is not None:
+        return int(quantized(gain, written) * 2**written.point), written.point
+    point = max((it for it in range(32) if -(2**31) <= nearest(gain * 2**it) < 2**31), default=0)
+    constant = nearest(gain * 2**point)
+    while point and constant % 2 == 0:
+        constant, point = constant // 2, point - 1
+    return constant, point
+
+
+def components(needs: Mapping[Block, list[Block]]) -> Iterable[list[Block]]:
+    """The groups of blocks that reach each other, of those with a loop."""
+    order: list[Block] = []
+    seen: set[Block] = set()
+    for first in needs:
+        todo = [(first, iter(needs[first]))] if first not in seen else []
+        seen.add(first)
+        while todo:
+            block, rest = todo[-1]
+            further = next((it for it in rest if it not in seen), None)
+            if further is None:
+                order.append(todo.pop()[0])
+            else:
+                seen.add(further)
+                todo.append((further, iter(needs[further])))
+    back: dict[Block, list[Block]] = {it: [] for it in needs}
+    for block, needed in needs.items():
+        for it in needed:
+            back[it].append(block)
+    done: set[Block] = set()
+    for first in reversed(order):
+        group, reach = [], [first] if first not in done else []
+        while reach:
+            block = reach.pop()
+            if block not in done:
+                done.add(block)
+                group.append(block)
+                reach += back[block]
+        if len(group) > 1 or group and group[0] in needs[group[0]]:
+            yield group
+
+
+def shortest(needs: Mapping[Block, list[Block]], group: list[Block]) -> list[Block]:
+    """A shortest loop through the first block of a group, in the order of the file."""
+    inside = set(group)
+    first = next(it for it in needs if it in inside)
+    before: dict[Block, Block] = {}
+    reach = [first]
+    for block in reach:
+        for it in needs[block]:
+            if it is first:
+                loop = [block]
+                while loop[-1] is not first:
+                    loop.append(before[loop[-1]])
+                return loop[::-1]
+            if it in inside and it not in before:
+                before[it] = block
+                reach.append(it)
+    return []
