@@ -74,11 +74,11 @@ def bytes_of(path: str) -> bytes:
         with open(path, "rb") as file:
             data = file.read(MOST_BYTES + 1)
     except OSError as fault:
-        raise Ends(READ, f"can't read {path}: {fault.strerror}\n") from None
+        raise Ends(READ, f"can't read {bytewise(path)}: {fault.strerror}\n") from None
     except ValueError:
-        raise Ends(READ, f"can't read {path}\n") from None
+        raise Ends(READ, f"can't read {bytewise(path)}\n") from None
     if len(data) > MOST_BYTES:
-        raise Ends(REFUSED, f"refused file: {path}: more than {MOST_BYTES} bytes.\n")
+        raise Ends(REFUSED, f"refused file: {bytewise(path)}: more than {MOST_BYTES} bytes.\n")
     return data
 
 
@@ -87,7 +87,7 @@ def scope_of(files: Sequence[str]) -> Scope:
     names: dict[str, Value | NoValue] = {}
     for file in files:
         try:
-            read_values(file, bytes_of(file).decode("latin-1"), names)
+            read_values(bytewise(file), bytes_of(file).decode("latin-1"), names)
         except Refusal as fault:
             raise Ends(REFUSED, f"refused {fault.place}: {fault.says}.\n") from None
     return Scope(names)
@@ -99,10 +99,10 @@ def written(path: str, text: str) -> None:
     try:
         mode = stat.S_IMODE(target.stat().st_mode) if target.exists() else 0o666 & ~mask_of_process()
         if target.exists() and not target.is_file():
-            raise Ends(WRITE, f"can't write {path}: no plain file\n")
+            raise Ends(WRITE, f"can't write {bytewise(path)}: no plain file\n")
         handle, name = tempfile.mkstemp(prefix=f".{target.name[:50]}.", dir=target.resolve().parent)
     except (OSError, ValueError) as fault:
-        raise Ends(WRITE, f"can't write {path}: {getattr(fault, 'strerror', fault)}\n") from None
+        raise Ends(WRITE, f"can't write {bytewise(path)}: {getattr(fault, 'strerror', fault)}\n") from None
     try:
         with os.fdopen(handle, "wb") as file:
             file.write(text.encode("latin-1"))
@@ -112,7 +112,7 @@ def written(path: str, text: str) -> None:
         os.replace(name, target.resolve())
     except OSError as fault:
         os.unlink(name)
-        raise Ends(WRITE, f"can't write {path}: {fault.strerror}\n") from None
+        raise Ends(WRITE, f"can't write {bytewise(path)}: {fault.strerror}\n") from None
 
 
 def mask_of_process() -> int:
@@ -133,13 +133,13 @@ def is_same_file(one: str, other: str) -> bool:
 def run_import(call: Call, out: str) -> tuple[int, str]:
     """`mdlc-import IN -o OUT`: the status, and what is printed."""
     if any(is_same_file(it, out) for it in (call.model, *call.values)):
-        raise Ends(WORDS, f"{out} is what is read\n" + USAGE)
-    outcome = imported(call.model, bytes_of(call.model), scope_of(call.values))
+        raise Ends(WORDS, f"{bytewise(out)} is what is read\n" + USAGE)
+    outcome = imported(bytewise(call.model), bytes_of(call.model), scope_of(call.values))
     lines = lines_of(outcome)
     if outcome.text is None:
         return REFUSED, f"{lines}nothing is written: {count(outcome, Word.REFUSED)} refused\n"
     written(out, outcome.text)
-    return DONE, f"{lines}written {out}: {count(outcome, Word.REWRITTEN)} rewritten, {count(outcome, Word.IGNORED)} ignored\n"
+    return DONE, f"{lines}written {bytewise(out)}: {count(outcome, Word.REWRITTEN)} rewritten, {count(outcome, Word.IGNORED)} ignored\n"
 
 
 def lines_of(outcome: Outcome) -> str:
@@ -155,7 +155,7 @@ def count(outcome: Outcome, word: Word) -> int:
 def run_explain(call: Call) -> tuple[int, str]:
     """`mdlc-import --explain IN`: the status, and what is printed."""
     data = bytes_of(call.model)
-    outcome = imported(call.model, data, scope_of(call.values))
+    outcome = imported(bytewise(call.model), data, scope_of(call.values))
     asked = answers_of_mdlc(call, data, outcome)
     counts = ", ".join(f"{count(outcome, it)} {it.value}" for it in Word)
     is_clean = not outcome.findings and not any(it.startswith("mdlc: refused") for it in asked)
@@ -181,7 +181,7 @@ def program_of(call: Call) -> str | None:
     """The built mdlc: the one that is named, the one beside this program, or the one on PATH; raises Ends."""
     if call.mdlc is not None:
         if not os.access(call.mdlc, os.X_OK):
-            raise Ends(READ, f"can't run {call.mdlc}\n")
+            raise Ends(READ, f"can't run {bytewise(call.mdlc)}\n")
         return call.mdlc
     beside = Path(__file__).resolve().parents[2] / "crates" / "mdlc" / "out" / "mdlc"
     return str(beside) if os.access(beside, os.X_OK) else shutil.which("mdlc")
@@ -204,7 +204,7 @@ def run(words: Sequence[str]) -> tuple[int, str]:
         call = call_of(words)
         return run_import(call, call.out) if call.out is not None else run_explain(call)
     except Ends as end:
-        return end.status, bytewise(end.text)
+        return end.status, end.text
     except MissingLibrary as fault:
         return READ, f"{fault}\n"
 

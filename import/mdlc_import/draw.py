@@ -251,4 +251,3 @@ def clipped(text: str, lower: str, upper: str) -> str:
     if value is not None and least is not None and value < least:
         return lower
     return upper if value is not None and greatest is not None and value > greatest else text
-

@@ -31,7 +31,7 @@ class Outcome:
 
 def stem_of(name: str) -> str:
     """The name of a model that only its file has."""
-    return PurePath(name).stem.encode("utf-8", "surrogateescape").decode("latin-1") or "model"
+    return PurePath(name).stem or "model"
 
 
 def read_model(name: str, data: bytes) -> Model:
