@@ -1,6 +1,7 @@
 """The model that a text has."""
 
 from .findings import Finding, Refusal, Word, quoted
+from .formats import whole
 from .mdl_text import Section
 from .model import Block, Mask, Model, Port, System, path_part
 
@@ -12,7 +13,7 @@ def model_of(tree: Section) -> Model:
     section = model_section(tree)
     root = section.first("System")
     if root is None:
-        raise Refusal(f"line {section.line}", "the Model holds no System")
+        raise Refusal(f"line {section.line}", "the Model holds no System (F3)")
     defaults = defaults_of(section)
     model = Model(section.parameters().get("Name", "model"), System(""), fixed_step(section, root))
     Builder(model, defaults).build(root)
@@ -23,11 +24,11 @@ def model_section(tree: Section) -> Section:
     """The one Model at the top."""
     models, libraries = tree.sections("Model"), tree.sections("Library")
     if libraries:
-        raise Refusal(f"line {libraries[0].line}", "this is a Library; give the file of a model")
+        raise Refusal(f"line {libraries[0].line}", "this is a Library; give the file of a model (F4)")
     if not models:
-        raise Refusal("file", "there is no section Model at the top; give the whole file of a model")
+        raise Refusal("file", "there is no section Model at the top; give the whole file of a model (F3)")
     if len(models) > 1:
-        raise Refusal(f"line {models[1].line}", "a second Model; give each model a file of its own")
+        raise Refusal(f"line {models[1].line}", "a second Model; give each model a file of its own (F4)")
     return models[0]
 
 
@@ -84,9 +85,9 @@ class Builder:
         while todo:
             system, section, path, depth = todo.pop()
             if depth > MOST_DEEP:
-                raise Refusal(f"line {section.line}", f"a subsystem inside {MOST_DEEP} others; draw its blocks in the one around it")
+                raise Refusal(f"line {section.line}", f"a subsystem inside {MOST_DEEP} others; draw its blocks in the one around it (F5)")
             for opened in section.sections("Block"):
-                block = self.block(opened)
+                block = self.block(opened, path)
                 system.blocks.append(block)
                 inner = opened.first("System") if block.kind == "SubSystem" else None
                 if inner is not None:
@@ -98,16 +99,16 @@ class Builder:
             many = f"ends of lines are named by `Src` and `Dst`, as in later releases: {len(self.by_number)} of them (F7)."
             self.model.findings.append(Finding(Word.REWRITTEN, f"line {line}", path, "Line", many, "mdlc-import writes SrcBlock and DstBlock."))
 
-    def block(self, section: Section) -> Block:
+    def block(self, section: Section, path: str) -> Block:
         """A block without what is inside it."""
         self.blocks += 1
         if self.blocks > MOST_BLOCKS:
-            raise Refusal(f"line {section.line}", f"more than {MOST_BLOCKS} blocks; cut the model in two")
+            raise Refusal(f"line {section.line}", f"more than {MOST_BLOCKS} blocks; cut the model in two (F6)")
         own = section.parameters()
         kind = own.get("BlockType", "")
         block = Block(kind, own.get("Name", ""), f"line {section.line}", own, self.defaults.get(kind, {}), mask=mask_of(section))
         if "Name" not in own and "Name" not in block.defaults:
-            raise Refusal(block.place, "a Block without a Name")
+            self.model.says(Word.REFUSED, path, block, "it has no Name (F8).", "Give it one.")
         block.name = block.text("Name") or ""
         return block
 
@@ -148,7 +149,9 @@ def missing(path: str, line: int, kind: str, name: str) -> Finding:
 
 def port_name(text: str) -> str:
     """The name of a port, of `1`, `out:1`, `in:1` or `enable`."""
-    return text.removeprefix("out:").removeprefix("in:")
+    bare = text.removeprefix("out:").removeprefix("in:")
+    number = whole(bare)
+    return bare if number is None else str(number)
 
 
 def connect(model: Model, system: System, path: str, line: int, source: Port, end: Port) -> None:

@@ -104,22 +104,22 @@ class Builder:
             content = self.content(element)
             numbers: dict[str, Block] = {}
             for opened in content.all("Block"):
-                block = self.block(opened)
+                block = self.block(opened, path)
                 system.blocks.append(block)
                 numbers.setdefault(opened.attributes.get("SID", ""), block)
                 inner = opened.first("System") if block.kind == "SubSystem" else None
                 if inner is not None:
                     if depth == MOST_DEEP:
-                        raise Refusal(block.place, f"a subsystem inside {MOST_DEEP} others; draw its blocks in the one around it")
+                        raise Refusal(block.place, f"a subsystem inside {MOST_DEEP} others; draw its blocks in the one around it (F5)")
                     block.system = System(block.name)
                     todo.append((block.system, inner, f"{path}/{path_part(block.name)}", depth + 1))
             self.lines(system, content, numbers, path)
 
-    def block(self, element: Element) -> Block:
+    def block(self, element: Element, path: str) -> Block:
         """A block without what is inside it."""
         self.blocks += 1
         if self.blocks > MOST_BLOCKS:
-            raise Refusal("file", f"more than {MOST_BLOCKS} blocks; cut the model in two")
+            raise Refusal("file", f"more than {MOST_BLOCKS} blocks; cut the model in two (F6)")
         own = element.properties()
         data = element.first("InstanceData")
         for name, text in (data.properties() if data is not None else {}).items():
@@ -128,7 +128,7 @@ class Builder:
         number = element.attributes.get("SID", "?")
         block = Block(kind, element.attributes.get("Name", ""), f"SID {number}", own, self.defaults.get(kind, {}), mask=mask_of(element, own))
         if "Name" not in element.attributes:
-            raise Refusal(block.place, "a Block without a Name")
+            self.model.says(Word.REFUSED, path, block, "it has no Name (F8).", "Give it one.")
         return block
 
     def lines(self, system: System, content: Element, numbers: dict[str, Block], path: str) -> None:

@@ -40,6 +40,9 @@ class Judge:
                 time = period_and_offset(time_text(block))
                 if time is not None and time[0] == 0:
                     self.refused(block, "its sample time is 0, and there is no continuous time (F15).", "Write its period, or -1.")
+            if block.kind == "SubSystem" and whole(text_of(block, "SystemSampleTime")) != -1:
+                says = f"SystemSampleTime is {quoted(text_of(block, 'SystemSampleTime'))} (F8)."
+                self.refused(block, says, "Write -1, and the time at the blocks in it.")
         self.floats()
         self.missing_types()
         self.unlike_types()
@@ -157,8 +160,10 @@ class Judge:
                 self.gain(row)
 
     def is_alike(self, row: Row, text: str) -> bool:
-        """Whether a Switch chooses between inputs of one type, which Simulink's rule keeps."""
+        """Whether a Switch chooses between inputs of one type, which Simulink's rule keeps; or what is before it isn't known."""
         found = [self.types[it] for it in row.inputs()]
+        if any(isinstance(it, NoType) and it.why is Why.UNKNOWN for it in found):
+            return True
         return row.block.kind == "Switch" and text == RULE and len(found) == 3 and found[0] == found[2]
 
     def gain(self, row: Row) -> None:

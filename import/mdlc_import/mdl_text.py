@@ -82,7 +82,7 @@ class Reader:
 
     def fault(self, line: int, says: str) -> Refusal:
         """The refusal at a line."""
-        return Refusal(f"line {line}", says)
+        return Refusal(f"line {line}", f"{says} (F2)")
 
     def string(self, line: int, text: str) -> str:
         """The value of a text that is one string."""

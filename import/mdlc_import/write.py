@@ -3,7 +3,7 @@
 import re
 from collections.abc import Iterable, Iterator
 
-from .catalogue import NATIVE
+from .catalogue import NATIVE, Form, Parameter
 from .formats import whole
 from .graph import inputs_of
 from .mdl_text import escaped_string
@@ -42,16 +42,16 @@ def block_lines(block: Block, indent: str) -> Iterator[str]:
         yield f"{indent}  Position {numbers_in_brackets(position)}"
     for parameter in NATIVE[block.kind]:
         text = block.written.get(parameter.name)
-        if text is not None and not is_default(text, parameter.default):
+        if text is not None and not is_default(text, parameter):
             yield f"{indent}  {parameter.name} {escaped_string(text)}"
     if block.system is not None:
         yield from system_lines(block.system, block.name, indent + "  ")
     yield f"{indent}}}"
 
 
-def is_default(text: str, default: str) -> bool:
+def is_default(text: str, parameter: Parameter) -> bool:
     """Whether a text is the one that mdlc takes where there is none."""
-    return text == default or default != "[]" and whole(text) is not None and whole(text) == whole(default)
+    return text == parameter.default or parameter.form is Form.WHOLE and whole(text) == whole(parameter.default)
 
 
 def numbers_in_brackets(text: str) -> str:
