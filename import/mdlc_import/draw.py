@@ -80,6 +80,7 @@ class Artist:
 
     def __init__(self, model: Model, rows: Mapping[Block, Row], types: Mapping[Block, Found]) -> None:
         self.model, self.rows, self.types = model, rows, types
+        self.times = times_before(rows) if any(it.kind == "DiscreteIntegrator" for it in rows) else {}
 
     def draw(self) -> None:
         """All blocks that can be drawn; says why others can't."""
@@ -236,13 +237,11 @@ class Artist:
         if outmost_trigger(row) is not None:
             raise CannotDraw("it is in a triggered subsystem, so the time between its steps isn't known.")
         written = period_and_offset(text_of(row.block, "SampleTime"))
-        found = {written} if written is not None else times_before(row, self.rows)
-        periods = {it[0] for it in found}
-        if not periods and self.model.step is not None:
-            periods = {number(self.model.step) or Fraction(0)}
-        if len(periods) != 1 or periods == {Fraction(0)}:
+        found = written if written is not None else self.times.get(row.block)
+        period = found[0] if found is not None else number(self.model.step or "")
+        if not period:
             raise CannotDraw("its period isn't known; write its SampleTime.")
-        return periods.pop()
+        return period
 
 
 def clipped(text: str, lower: str, upper: str) -> str:

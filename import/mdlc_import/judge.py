@@ -117,8 +117,8 @@ class Judge:
             if found.why in says and found.at not in told:
                 told.add(found.at)
                 self.refused(found.at, *says[found.why])
-            elif found.why is Why.RING and not told & set(found.ring):
-                told |= set(found.ring)
+            elif found.why is Why.RING and found.at not in told:
+                told.add(found.at)
                 self.ring(found.ring)
             elif found.why is Why.GROUND and self.rows[block].sources.get("1") is found.at:
                 says_so = f"it inherits its type from the Ground {quoted(found.at.name)}, which has none (F17)."

@@ -10,7 +10,10 @@ NAME = re.compile(r"[A-Za-z_.$][A-Za-z0-9_.$]*")
 BLANKS = " \t"
 MOST_BYTES = 16 * 1024 * 1024
 MOST_OPEN = 128
+MOST_LINES = 2_000_000
 ESCAPED = {'"': '"', "\\": "\\", "n": "\n", "t": "\t"}
+STRING = re.compile(r'"((?:[^"\\]++|\\["\\nt]|\\(?!["\\nt]))*+)"')
+ESCAPE = re.compile(r'\\(["\\nt])')
 
 
 @dataclass
@@ -48,15 +51,8 @@ class Section:
 
 def unescaped(text: str) -> tuple[str, str] | None:
     """The string with which a text begins and what is behind it, or None where it doesn't end."""
-    value: list[str] = []
-    at = 1
-    while at < len(text):
-        if text[at] == '"':
-            return "".join(value), text[at + 1:]
-        escaped = ESCAPED.get(text[at + 1: at + 2]) if text[at] == "\\" else None
-        value.append(escaped or text[at])
-        at += 2 if escaped else 1
-    return None
+    found = STRING.match(text)
+    return (ESCAPE.sub(lambda it: ESCAPED[it[1]], found[1]), text[found.end():]) if found else None
 
 
 def escaped_string(text: str) -> str:
@@ -78,6 +74,7 @@ class Reader:
     lines: list[str]
     at: int = 0
     open: list[Section] = field(default_factory=lambda: [Section("", 0)])
+    pieces: list[str] = field(default_factory=list)
     continues: bool = False
 
     def fault(self, line: int, says: str) -> Refusal:
@@ -110,7 +107,7 @@ class Reader:
             raise self.fault(line, "this is no line of a model's text: a name, a string or a `}` must stand here")
         rest = text[found.end():]
         value = rest.lstrip(BLANKS)
-        self.continues = False
+        self.end_string()
         if value == "{":
             self.open_section(Section(found.group(), line))
             return
@@ -132,10 +129,17 @@ class Reader:
     def more(self, line: int, text: str) -> None:
         """A string alone, that goes on with the value of the parameter before it."""
         value = self.string(line, text)
-        last = self.open[-1].items[-1] if self.continues else None
-        if not isinstance(last, tuple):
+        if not self.continues:
             raise self.fault(line, "a string alone, with no string before it to go on with")
-        self.open[-1].items[-1] = last[0], last[1] + value
+        self.pieces.append(value)
+
+    def end_string(self) -> None:
+        """Nothing more comes of the string before: its pieces are joined."""
+        if self.pieces:
+            name, value = self.open[-1].items.pop()  # type: ignore[misc]
+            self.open[-1].items.append((name, "".join([value, *self.pieces])))
+            self.pieces.clear()
+        self.continues = False
 
     def read(self) -> Section:
         """The section that holds the whole text."""
@@ -145,9 +149,11 @@ class Reader:
             if text.startswith('"'):
                 self.more(self.at, text)
             elif text == "}":
+                self.end_string()
                 self.close()
             elif text and not text.startswith("#"):
                 self.named(self.at, text)
+        self.end_string()
         if len(self.open) > 1:
             opened = self.open[-1]
             raise self.fault(len(self.lines), f"the text ends inside `{opened.name}`, opened in line {opened.line}")
@@ -158,9 +164,10 @@ class Reader:
         if len(self.open) == 1:
             raise self.fault(self.at, "a `}` with no section open")
         self.open.pop()
-        self.continues = False
 
 
 def read_text(text: str) -> Section:
     """The sections of a model's text; raises a Refusal at its first fault."""
+    if text.count("\n") > MOST_LINES:
+        raise Refusal("file", f"more than {MOST_LINES} lines")
     return Reader(lines_of(text)).read()

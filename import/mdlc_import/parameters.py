@@ -56,7 +56,7 @@ def settle_step(model: Model, scope: Scope) -> None:
         if found is None:
             model.says(Word.REWRITTEN, path, block, f"it is {quoted(text)}, which mdlc passes over.", f"mdlc-import writes `{settled}`.")
     except NoValue as fault:
-        model.says(Word.REFUSED, path, block, f"it is {quoted(text)}: {fault}.")
+        model.says(Word.IGNORED, path, block, f"it is {quoted(text)}: {fault}. mdlc passes over it.", "Write a number.")
 
 
 def written_time(value: Fraction) -> str:

@@ -84,20 +84,20 @@ class Router:
     def commented_through(self) -> Passes:
         """A block that is commented through passes its inputs on."""
         passes: Passes = {}
+        names = self.by_block()
         for block in self.system.blocks:
             commented = block.text("Commented")
             if block.kind in PORTS and commented in ("on", "through"):
                 self.model.says(Word.REFUSED, self.path, block, f'`Commented "{commented}"` at a port.', "Delete the port, or uncomment it.")
             elif commented == "through":
-                self.pass_through(block, passes)
+                self.pass_through(block, names.get(block, set()), passes)
         return passes
 
-    def pass_through(self, block: Block, passes: Passes) -> None:
+    def pass_through(self, block: Block, inputs: set[str], passes: Passes) -> None:
         """One block that is commented through."""
         outputs = len(block.system.of_kind("Outport")) if block.system else 1
-        inputs = [end.name for end in self.system.sources if end.block is block]
         names = {str(it + 1) for it in range(outputs)}
-        if not set(inputs) <= names:
+        if not inputs <= names:
             says = f'`Commented "through"`, with {len(inputs)} inputs and {outputs} outputs.'
             self.model.says(Word.REFUSED, self.path, block, says, "Only as many inputs as outputs can be passed through.")
             return

@@ -1,9 +1,9 @@
 """The sample times of blocks, as mdlc infers them, in seconds or in base ticks."""
 
-from collections.abc import Callable, Iterable, Mapping
+from collections.abc import Iterable, Iterator, Mapping
 from fractions import Fraction
 from functools import reduce
-from math import gcd
+from math import gcd, lcm
 
 from .formats import CONSTANT_TIMES, period_and_offset
 from .graph import Row, has_parameter, text_of
@@ -42,22 +42,65 @@ def searched(row: Row, rows: Mapping[Block, Row]) -> list[Block]:
     return [rows[outmost].sources[TRIGGER]] if TRIGGER in rows[outmost].sources else []
 
 
-def times_before(row: Row, rows: Mapping[Block, Row], written: Callable[[Block], Time | None] = written_time) -> set[Time]:
-    """The times found backward from a block's inputs, through blocks that inherit."""
-    found: set[Time] = set()
-    seen: set[Block] = set()
-    todo = searched(row, rows)
-    while todo:
-        block = todo.pop()
-        if block in seen:
-            continue
-        seen.add(block)
-        time = written(block)
-        if time is not None:
-            found.add(time)
-        elif not is_constant(block):
-            todo += searched(rows[block], rows)
+def times_before(rows: Mapping[Block, Row]) -> dict[Block, Time | None]:
+    """For each block the smallest progression of the times found backward from its inputs, through blocks that inherit."""
+    further = {block: searched(row, rows) for block, row in rows.items()}
+    found: dict[Block, Time | None] = {}
+    for group in groups_of({block: [] if gives(block) else needed for block, needed in further.items()}):
+        times = [time for block in group for it in further[block] if (time := found.get(it) if not gives(it) else written_time(it)) is not None]
+        if len(group) == 1:
+            found[group[0]] = common_time(times)
+        else:
+            found.update(dict.fromkeys(group, common_time(times)))
     return found
+
+
+def gives(block: Block) -> bool:
+    """Whether the search for times ends at a block: it writes one, or gives none."""
+    return written_time(block) is not None or is_constant(block)
+
+
+def common_time(times: Iterable[Time]) -> Time | None:
+    """The smallest progression that has all of these, or None where there are none."""
+    ordered = sorted(set(times))
+    if not ordered:
+        return None
+    common = lcm(*(part.denominator for time in ordered for part in time))
+    period, offset = progression((int(it[0] * common), int(it[1] * common)) for it in ordered)
+    return Fraction(period, common), Fraction(offset, common)
+
+
+def groups_of(needs: Mapping[Block, list[Block]]) -> Iterable[list[Block]]:
+    """The blocks in groups that reach each other, each group behind those that it reaches."""
+    index: dict[Block, int] = {}
+    least: dict[Block, int] = {}
+    stack: list[Block] = []
+    done: set[Block] = set()
+    for first in needs:
+        todo: list[tuple[Block, Iterator[Block]]] = []
+        if first not in index:
+            index[first] = least[first] = len(index)
+            stack.append(first)
+            todo.append((first, iter(needs[first])))
+        while todo:
+            block, rest = todo[-1]
+            further = next(rest, None)
+            if further is None:
+                todo.pop()
+                if todo:
+                    least[todo[-1][0]] = min(least[todo[-1][0]], least[block])
+                if least[block] == index[block]:
+                    group = [stack.pop()]
+                    while group[-1] is not block:
+                        group.append(stack.pop())
+                    done.update(group)
+                    yield group
+            elif further not in index:
+                index[further] = least[further] = len(index)
+                stack.append(further)
+                todo.append((further, iter(needs[further])))
+            elif further not in done:
+                least[block] = min(least[block], index[further])
 
 
 def progression(times: Iterable[tuple[int, int]]) -> tuple[int, int]:

@@ -1,6 +1,6 @@
 """What mdlc refuses once every type is known: bits on the way to a value, times, loops and long delays."""
 
-from collections.abc import Iterable, Mapping
+from collections.abc import Mapping
 from fractions import Fraction
 from math import gcd, lcm
 
@@ -9,7 +9,7 @@ from .formats import BOOLEAN, FixType, fixed_type, nearest, number, quantized, w
 from .graph import Row, inputs_of, text_of
 from .judge import Judge, controls_around
 from .model import TRIGGER, Block
-from .sample_times import Time, outmost_trigger, progression, times_before, written_time
+from .sample_times import groups_of, outmost_trigger, times_before, written_time
 
 MOST_BITS, MOST_DENOMINATOR, MOST_PERIOD, MOST_CYCLE, MOST_SAMPLES = 62, 10**9, 10**6, 2**30, 10**6
 LOOP_ADVICE = "Put a UnitDelay into the loop, where one tick of delay is meant."
@@ -20,6 +20,7 @@ class WideJudge(Judge):
 
     def judge(self) -> None:
         """All of them."""
+        self.times = times_before(self.rows)
         self.counts()
         for row in self.rows.values():
             self.trigger(row)
@@ -31,7 +32,7 @@ class WideJudge(Judge):
                 self.refused(row.block, "it writes a period inside a triggered subsystem (F20).", "Write -1.")
         ticks = self.ticks()
         if ticks is not None:
-            self.ratios(ticks)
+            self.ratios(*ticks)
         self.delays()
         self.loops()
 
@@ -66,8 +67,8 @@ class WideJudge(Judge):
                 return most
         return 0
 
-    def ticks(self) -> dict[Block, tuple[int, int]] | None:
-        """The written times in base ticks, or None where one is out of bounds."""
+    def ticks(self) -> tuple[dict[Block, tuple[int, int]], Fraction] | None:
+        """The written times in base ticks, and the base tick in seconds, or None where one is out of bounds."""
         written = {block: time for block in self.rows if (time := written_time(block)) is not None and time[0] > 0}
         step = number(self.model.step) if self.model.step is not None else None
         steps = [step] if step else []
@@ -81,7 +82,7 @@ class WideJudge(Judge):
         times = [it for time in written.values() for it in time if it] + steps
         base = gcd(*(int(it * common) for it in times)) or 1
         found = {block: (int(time[0] * common) // base, int(time[1] * common) // base) for block, time in written.items()}
-        return found if self.is_short(found) else None
+        return (found, Fraction(base, common)) if self.is_short(found) else None
 
     def is_short(self, ticks: Mapping[Block, tuple[int, int]]) -> bool:
         """Whether all periods and their cycle are within bounds."""
@@ -94,14 +95,11 @@ class WideJudge(Judge):
                 return False
         return True
 
-    def ratios(self, ticks: Mapping[Block, tuple[int, int]]) -> None:
-        """RateTransitions between periods that don't divide each other."""
-        def time_of(block: Block) -> Time | None:
-            found = ticks.get(block)
-            return (Fraction(found[0]), Fraction(found[1])) if found else None
-
+    def ratios(self, ticks: Mapping[Block, tuple[int, int]], base: Fraction) -> None:
+        """RateTransitions between periods that don't divide each other; `base` is the base tick in seconds."""
         for row in [it for it in self.rows.values() if it.block.kind == "RateTransition" and outmost_trigger(it) is None]:
-            inside = progression((int(it[0]), int(it[1])) for it in times_before(row, self.rows, time_of))
+            before = self.times.get(row.block)
+            inside = (int(before[0] / base), int(before[1] / base)) if before is not None else (1, 0)
             outside = ticks.get(row.block, inside)
             least, most = sorted((inside[0], outside[0]))
             if inside != outside and (inside[1] or outside[1] or most % least):
@@ -123,8 +121,9 @@ class WideJudge(Judge):
     def loops(self) -> None:
         """Rows that need one another at one tick."""
         needs = {block: self.needs(row) for block, row in self.rows.items()}
-        for group in components(needs):
-            loop = shortest(needs, group)
+        order = {block: at for at, block in enumerate(self.rows)}
+        for group in groups_of(needs):
+            loop = shortest(needs, group, order) if len(group) > 1 or group[0] in needs[group[0]] else []
             if loop:
                 names = ", ".join(f"`{it.name}`" for it in loop[:8]) + (f" and {len(loop) - 8} more" if len(loop) > 8 else "")
                 self.refused(loop[0], f"{names} need each other's values at one tick (F23).".replace("\n", " "), LOOP_ADVICE)
@@ -138,15 +137,8 @@ class WideJudge(Judge):
         """Whether a row gives what it took before. A RateTransition counts where it goes to a faster rate."""
         if row.block.kind != "RateTransition":
             return row.block.kind in ("UnitDelay", "Delay", "DiscreteIntegrator")
-        outside = written_time(row.block)
-        periods = [it[0] for it in times_before(row, self.rows)]
-        return outmost_trigger(row) is None and outside is not None and bool(periods) and outside[0] < common_period(periods)
-
-
-def common_period(periods: list[Fraction]) -> Fraction:
-    """The greatest period of which all are multiples."""
-    common = lcm(*(it.denominator for it in periods))
-    return Fraction(gcd(*(int(it * common) for it in periods)), common)
+        outside, before = written_time(row.block), self.times.get(row.block)
+        return outmost_trigger(row) is None and outside is not None and before is not None and outside[0] < before[0]
 
 
 def fitted(bits: int, point: int, wanted: FixType) -> int:
@@ -172,42 +164,10 @@ def gain_constant(block: Block) -> tuple[int, int]:
     return constant, point
 
 
-def components(needs: Mapping[Block, list[Block]]) -> Iterable[list[Block]]:
-    """The groups of blocks that reach each other, of those with a loop."""
-    order: list[Block] = []
-    seen: set[Block] = set()
-    for first in needs:
-        todo = [(first, iter(needs[first]))] if first not in seen else []
-        seen.add(first)
-        while todo:
-            block, rest = todo[-1]
-            further = next((it for it in rest if it not in seen), None)
-            if further is None:
-                order.append(todo.pop()[0])
-            else:
-                seen.add(further)
-                todo.append((further, iter(needs[further])))
-    back: dict[Block, list[Block]] = {it: [] for it in needs}
-    for block, needed in needs.items():
-        for it in needed:
-            back[it].append(block)
-    done: set[Block] = set()
-    for first in reversed(order):
-        group, reach = [], [first] if first not in done else []
-        while reach:
-            block = reach.pop()
-            if block not in done:
-                done.add(block)
-                group.append(block)
-                reach += back[block]
-        if len(group) > 1 or group and group[0] in needs[group[0]]:
-            yield group
-
-
-def shortest(needs: Mapping[Block, list[Block]], group: list[Block]) -> list[Block]:
+def shortest(needs: Mapping[Block, list[Block]], group: list[Block], order: Mapping[Block, int]) -> list[Block]:
     """A shortest loop through the first block of a group, in the order of the file."""
     inside = set(group)
-    first = next(it for it in needs if it in inside)
+    first = min(group, key=order.__getitem__)
     before: dict[Block, Block] = {}
     reach = [first]
     for block in reach:
