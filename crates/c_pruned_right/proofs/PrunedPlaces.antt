@@ -1,5 +1,5 @@
 -- A program with other pure functions: its procedures have the positions that they had, and it does what it did.
-use Rattle.std.specs.Prelude.{◌≡◌, ℕ, ◌+◌, cond, ◌||◌, List, [], ◌∷◌, map, length, Option, Some, unwrap_or, bytes_eq}
+use Rattle.std.specs.Prelude.{◌≡◌, ℕ, suc, ◌+◌, cond, ◌||◌, List, [], ◌∷◌, map, length, Option, Some, unwrap_or, bytes_eq}
 use Rattle.std.specs.List.{position_from, list_any, prefix_len, range_with_len}
 use Rattle.std.proofs.Common.{refl, sym, ap}
 use Rattle.c_syntax.specs.Tree.{PureTree, ProcedureTree, ProgramTree}
