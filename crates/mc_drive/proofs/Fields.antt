@@ -111,6 +111,9 @@ module _ (w : Driven) where
         (λ a rest leaves. driven-more cs t n a.cells mid (j ∷ called) (log ++ a.log) (stores ++ a.stores) c count rest leaves) h left
     driven-more (update_with values ∷ cs) t n cells mid called log stores c count h left =
         out-of-both (call_at w t (update_with values) cells) (Inside t log stores)
-        (λ a. Held t a × Rest (suc t) a.cells [] [] [] (cs ++ c ∷ [])) (λ a. LeavesFields w (suc t) a.cells cs mid)
+        (λ a. Rest (suc t) a.cells [] [] [] (cs ++ c ∷ [])) (λ a. LeavesFields w (suc t) a.cells cs mid)
         (OnDone (call_at w n c mid) (λ a. HasOutputs n c a.cells))
-        (λ a rest leaves. driven-more cs (suc t) n a.cells mid [] [] [] c (omega (arith, count)) rest.1 leaves) h left
+        (λ a rest leaves. driven-more cs (suc t) n a.cells mid [] [] [] c (omega (arith, count)) rest leaves)
+        (on-done (call_at w t (update_with values) cells)
+        (λ a. Inside t log stores a × Held t a × Rest (suc t) a.cells [] [] [] (cs ++ c ∷ []))
+        (λ a. Inside t log stores a × Rest (suc t) a.cells [] [] [] (cs ++ c ∷ [])) (λ a all. (all.0, all.2)) h) left
