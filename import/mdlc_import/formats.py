@@ -3,6 +3,7 @@
 import re
 from dataclasses import dataclass
 from fractions import Fraction
+from functools import lru_cache
 from math import floor
 
 BLANKS = " \t"
@@ -97,6 +98,7 @@ def decimal(found: re.Match[str]) -> Fraction | None:
     return int(digits) * Fraction(10) ** exponent * (-1 if found[1] == "-" else 1)
 
 
+@lru_cache(maxsize=4096)
 def number(text: str) -> Fraction | None:
     """The number that a parameter's text is to mdlc, or None."""
     bare = text.strip(BLANKS)
@@ -109,6 +111,7 @@ def whole(text: str) -> int | None:
     return int(found) if found is not None and found.denominator == 1 else None
 
 
+@lru_cache(maxsize=4096)
 def fixed_type(text: str) -> FixType | None:
     """The written type that a text is to mdlc, or None."""
     bare = text.strip(BLANKS)
@@ -128,6 +131,7 @@ def is_small(value: Fraction) -> bool:
     return max(abs(value.numerator), value.denominator) <= MOST_PART
 
 
+@lru_cache(maxsize=4096)
 def period_and_offset(text: str) -> tuple[Fraction, Fraction] | None:
     """The period and the offset that a sample time writes to mdlc, or None where it is of another form, or inherits."""
     bare = text.strip(BLANKS)

@@ -47,12 +47,16 @@ def times_before(rows: Mapping[Block, Row]) -> dict[Block, Time | None]:
     further = {block: searched(row, rows) for block, row in rows.items()}
     found: dict[Block, Time | None] = {}
     for group in groups_of({block: [] if gives(block) else needed for block, needed in further.items()}):
-        times = [time for block in group for it in further[block] if (time := found.get(it) if not gives(it) else written_time(it)) is not None]
-        if len(group) == 1:
-            found[group[0]] = common_time(times)
-        else:
-            found.update(dict.fromkeys(group, common_time(times)))
+        found.update(dict.fromkeys(group, common_time(times_at([it for block in group for it in further[block]], found))))
+    for block in [it for it in rows if gives(it)]:
+        found[block] = common_time(times_at(further[block], found))
     return found
+
+
+def times_at(blocks: Iterable[Block], found: Mapping[Block, Time | None]) -> list[Time]:
+    """The times of blocks: what they write, or what was found before them."""
+    times = [written_time(it) if gives(it) else found.get(it) for it in blocks]
+    return [it for it in times if it is not None]
 
 
 def gives(block: Block) -> bool:
@@ -62,7 +66,7 @@ def gives(block: Block) -> bool:
 
 def common_time(times: Iterable[Time]) -> Time | None:
     """The smallest progression that has all of these, or None where there are none."""
-    ordered = sorted(set(times))
+    ordered = sorted({it for it in times if it[0]})
     if not ordered:
         return None
     common = lcm(*(part.denominator for time in ordered for part in time))

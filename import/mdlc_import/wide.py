@@ -2,6 +2,7 @@
 
 from collections.abc import Mapping
 from fractions import Fraction
+from functools import lru_cache
 from math import gcd, lcm
 
 from .catalogue import NATIVE
@@ -157,6 +158,12 @@ def gain_constant(block: Block) -> tuple[int, int]:
     written = fixed_type(text_of(block, "ParamDataTypeStr"))
     if written is not None:
         return int(quantized(gain, written) * 2**written.point), written.point
+    return best_constant(gain)
+
+
+@lru_cache(maxsize=4096)
+def best_constant(gain: Fraction) -> tuple[int, int]:
+    """A number with as many bits after the point as leave it in 32 bits with a sign."""
     point = max((it for it in range(32) if -(2**31) <= nearest(gain * 2**it) < 2**31), default=0)
     constant = nearest(gain * 2**point)
     while point and constant % 2 == 0:

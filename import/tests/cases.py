@@ -5,12 +5,13 @@ phrase that its sentence has, and whether it is refused, or the lines of the pla
 
 import re
 from collections import Counter
+from collections.abc import Callable
 from dataclasses import dataclass, field
 from pathlib import Path
 
 from .judging import DATA
 
-WHOLE = {
+WHOLE: dict[str, Callable[[str], str]] = {
     "carriage returns": lambda text: text.replace("\n", "\r\n"),
     "twice": lambda text: text + text,
     "blanks for tabs": lambda text: text.replace("\t", 8 * " "),

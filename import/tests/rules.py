@@ -38,7 +38,7 @@ class Fixed:
 
     def real(self, stored: int) -> Fraction:
         """What a stored number means."""
-        return Fraction(stored) / 2**self.point
+        return Fraction(stored, 1 << self.point)
 
     def stored(self, exact: Fraction, rounding: str = "Nearest", saturates: bool = True) -> int:
         """The stored number of an exact one."""

@@ -135,7 +135,8 @@ class BlockTest(unittest.TestCase):
 
     def test_compare_as_a_link(self) -> None:
         for name, number in (("Constant", 3), ("Zero", 0)):
-            parameters = {"SourceBlock": f"simulink/Logic and Bit\\nOperations/Compare\\nTo {name}", "relop": ">", "const": "3", "LogicOutDataTypeMode": "uint8"}
+            source = f"simulink/Logic and Bit\\nOperations/Compare\\nTo {name}"
+            parameters = {"SourceBlock": source, "relop": ">", "const": "3", "LogicOutDataTypeMode": "uint8"}
             text = self.gives("Reference", parameters, [WORD], lambda it: int(it[0] > number))
             self.assertIn('OutDataTypeStr "uint8"', text)
 

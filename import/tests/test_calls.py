@@ -1,0 +1,163 @@
+"""The program as it is called: statuses, what is printed, and what is written."""
+
+import os
+import subprocess
+import sys
+import tempfile
+import unittest
+from fractions import Fraction
+from pathlib import Path
+
+from .archives import archive_of, parts_of
+from .drawings import around, block_text, line_text, model_text
+from .judging import DATA, MDLC, TOP, verdict
+
+from mdlc_import.cli import run
+from mdlc_import.importing import imported
+from mdlc_import.values import Number, Scope
+
+INPORT = block_text("Inport", "In1", {"OutDataTypeStr": "int16"})
+OUTPORT = block_text("Outport", "Out1", {})
+
+
+def findings(text: str) -> list[str]:
+    """What is said of a model."""
+    return [it.text() for it in imported("m.mdl", text.encode("latin-1"), Scope()).findings]
+
+
+class CallTest(unittest.TestCase):
+    """Calls in a folder of their own."""
+
+    def setUp(self) -> None:
+        self.holder = tempfile.TemporaryDirectory()
+        self.addCleanup(self.holder.cleanup)
+        self.folder = Path(self.holder.name)
+
+    def write(self, name: str, text: str) -> str:
+        """A file of the folder."""
+        path = self.folder / name
+        path.write_bytes(text.encode("latin-1"))
+        return str(path)
+
+    def test_values(self) -> None:
+        model = self.write("m.mdl", around("Gain", {"Gain": "Kp/2", "OutDataTypeStr": "T", "SampleTime": "[Ts 0]"}, ["int16"]))
+        values = self.write("values.m", "Kp = 5;\nTs = 1/50;\nT = fixdt(1,32,4);\n")
+        out = str(self.folder / "out.mdl")
+        self.assertEqual(run([model, "-o", out])[0], 3)
+        self.assertFalse(os.path.exists(out))
+        status, text = run([model, "-o", out, "--values", values])
+        self.assertEqual(status, 0, text)
+        written = Path(out).read_text("latin-1")
+        for line in ('Gain "2.5"', 'OutDataTypeStr "fixdt(1,32,4)"', 'SampleTime "0.02"'):
+            self.assertIn(line, written)
+        self.assertEqual(sorted(os.listdir(self.folder)), ["m.mdl", "out.mdl", "values.m"])
+        self.assertEqual(run([out, "-o", str(self.folder / "again.mdl")])[0], 0)
+        self.assertEqual((self.folder / "again.mdl").read_text("latin-1"), written)
+
+    def test_statuses(self) -> None:
+        model = self.write("m.mdl", around("Gain", {}, ["int16"]))
+        out = str(self.folder / "out.mdl")
+        wrong: list[list[str]] = [[], ["--help"], [model], [model, "-o"], [model, "-o", out, "-o", out], ["--explain", model, "-o", out]]
+        for words in [*wrong, ["--mdlc", "x", model, "-o", out], [model, "-o", model]]:
+            self.assertEqual(run(words)[0], 2, words)
+        self.assertEqual(run(["--explain", model])[0], 0)
+        self.assertEqual(run([str(self.folder / "none.mdl"), "-o", out])[0], 5)
+        self.assertEqual(run([str(self.folder), "-o", out])[0], 5)
+        self.assertEqual(run([model, "-o", str(self.folder / "none" / "out.mdl")])[0], 6)
+        self.assertEqual(run([model, "-o", str(self.folder)])[0], 6)
+        self.assertEqual(run([model, "-o", out, "--values", str(self.folder / "none")])[0], 5)
+        self.assertEqual(run([model, "-o", out, "--values", self.write("v", "x\n")])[0], 3)
+        self.assertEqual(run(["--explain", model, "--mdlc", str(self.folder / "none")])[0], 5)
+
+    def test_an_output_by_a_link_is_not_what_is_read(self) -> None:
+        model = self.write("m.mdl", around("Gain", {}, ["int16"]))
+        os.symlink(model, self.folder / "link")
+        self.assertEqual(run([model, "-o", str(self.folder / "link")])[0], 2)
+        self.assertEqual(run([model, "-o", str(self.folder / "." / "m.mdl")])[0], 2)
+
+    def test_explain_with_the_compiler(self) -> None:
+        model = str(DATA.parents[2] / "examples" / "refusals" / "F07-kind.mdl")
+        status, text = run(["--explain", model])
+        self.assertEqual(status, 3)
+        if MDLC.exists():
+            self.assertIn("mdlc: refused F7 Unsupported line 3", text)
+        else:
+            self.assertIn("mdlc: not here", text)
+        false = self.write("mdlc", "#!/bin/sh\necho refused F7 Unsupported line 3\nexit 3\n")
+        os.chmod(false, 0o755)
+        self.assertRegex(run(["--explain", model, "--mdlc", false])[1], r"mdlc: refused F7 Unsupported line 3: \S+ \(Scope\)")
+
+    def test_without_the_library_for_xml(self) -> None:
+        """Python without site packages has no defusedxml: SLX is refused plainly, and MDL is taken."""
+        archive = self.folder / "m.slx"
+        archive.write_bytes(archive_of(parts_of(DATA / "slx" / "tags.parts")))
+        for path, status in ((archive, 5), (DATA / "slx" / "tags.mdl", 0)):
+            words = [sys.executable, "-S", "-I", str(TOP / "import" / "mdlc-import"), str(path), "-o", str(self.folder / "out.mdl")]
+            done = subprocess.run(words, capture_output=True, text=True, check=False)
+            self.assertEqual((done.returncode, done.stderr), (status, ""))
+            self.assertEqual("defusedxml is needed" in done.stdout, status == 5)
+
+
+class RewritingTest(unittest.TestCase):
+    """What is rewritten, what is refused, and the sentences."""
+
+    def test_rings(self) -> None:
+        """A delay and a Switch that inherit from each other: the Switch is named."""
+        blocks = [INPORT, block_text("UnitDelay", "z", {}), block_text("Switch", "choose", {}), OUTPORT]
+        lines = [line_text("z", "1", "choose", "1"), line_text("In1", "1", "choose", "2"), line_text("In1", "1", "choose", "3")]
+        lines += [line_text("choose", "1", "z", "1"), line_text("z", "1", "Out1", "1")]
+        said = findings(model_text(blocks, lines))
+        self.assertEqual(len(said), 1)
+        self.assertIn("m/choose (Switch)", said[0])
+        self.assertIn("Write OutDataTypeStr at `choose`", said[0])
+
+    def test_tags(self) -> None:
+        """Without a sender, with two, and going round."""
+        sender, reader = block_text("Goto", "g", {"GotoTag": "a"}), block_text("From", "f", {"GotoTag": "a"})
+        into, out = line_text("In1", "1", "g", "1"), line_text("f", "1", "Out1", "1")
+        self.assertTrue(any("no Goto with the tag `a`" in it for it in findings(model_text([INPORT, reader, OUTPORT], [out]))))
+        again = block_text("Goto", "h", {"GotoTag": "a"})
+        self.assertTrue(any("a second Goto" in it for it in findings(model_text([INPORT, sender, again, reader, OUTPORT], [into, out]))))
+        ring = findings(model_text([sender, reader, OUTPORT], [line_text("f", "1", "g", "1"), out]))
+        self.assertTrue(any("nothing gives its value" in it for it in ring), ring)
+
+    def test_masks(self) -> None:
+        """A name of a mask comes before one of a values file, and code of a mask isn't run."""
+        blocks = [block_text("Inport", "u", {}), block_text("Gain", "g", {"Gain": "K"}), block_text("Outport", "y", {})]
+        inside = "\n".join(["System {", *blocks, line_text("u", "1", "g", "1"), line_text("g", "1", "y", "1"), "}"])
+        lines = [line_text("In1", "1", "s", "1"), line_text("s", "1", "Out1", "1")]
+        mask = {"MaskVariables": "K=@1;", "MaskValueString": "K*2"}
+        cases: list[tuple[dict[str, str], str | None]] = [(mask, 'Gain "6"'), ({}, 'Gain "3"'), ({"MaskInitialization": "K = 1;"}, None)]
+        for more, gain in cases:
+            text = model_text([INPORT, block_text("SubSystem", "s", more, inside), OUTPORT], lines)
+            outcome = imported("m.mdl", text.encode(), Scope({"K": Number(Fraction(3))}))
+            self.assertEqual(outcome.text is not None, gain is not None)
+            if outcome.text is not None:
+                self.assertIn(gain or "", outcome.text)
+            else:
+                self.assertIn("code of the mask", outcome.findings[0].text())
+
+    def test_ignored_options(self) -> None:
+        said = findings(around("Sum", {"AccumDataTypeStr": "int16", "OutDataTypeStr": "int32"}, ["int16", "int16"]))
+        self.assertEqual([it.split()[0] for it in said], ["ignored"])
+        self.assertIn("AccumDataTypeStr", said[0])
+        said = findings(around("Gain", {"Gain": "0.1"}, ["int16"]))
+        self.assertIn("Write ParamDataTypeStr", said[0])
+
+    def test_commented_through_with_too_many_inputs(self) -> None:
+        said = findings(around("Sum", {"Commented": "through"}, ["int16", "int16"]))
+        self.assertTrue(any("2 inputs and 1 outputs" in it for it in said), said)
+
+    def test_wide_and_looped(self) -> None:
+        self.assertTrue(any("(F19)" in it for it in findings(around("Product", {}, ["uint32", "uint32"]))))
+        blocks = [INPORT, block_text("Sum", "s", {"OutDataTypeStr": "int16"}), OUTPORT]
+        lines = [line_text("In1", "1", "s", "1"), line_text("s", "1", "s", "2"), line_text("s", "1", "Out1", "1")]
+        self.assertTrue(any("(F23)" in it for it in findings(model_text(blocks, lines))))
+
+    def test_unused_blocks_of_mdlc_stay(self) -> None:
+        text = imported("m.mdl", model_text([INPORT, block_text("Ground", "g", {})], []).encode(), Scope()).text
+        self.assertNotIsInstance(verdict(text or ""), str)
+
+
+if __name__ == "__main__":
+    unittest.main()
