@@ -129,7 +129,9 @@ class Judge:
         best = [it for kind in RING_KINDS for it in ring if it.kind == kind]
         names = [quoted(it.name) for it in ring]
         shown = ", ".join(names[:8]) + (f" and {len(names) - 8} more" if len(names) > 8 else "")
-        if best:
+        if len(ring) == 1:
+            self.refused(ring[0], "it inherits its type from itself (F17).", "Put a DataTypeConversion with a written type before it.")
+        elif best:
             says = f"{shown} inherit their type from one another, and none writes it (F17)."
             self.refused(best[0], says, f"Write OutDataTypeStr at {quoted(best[0].name)}.")
         else:
