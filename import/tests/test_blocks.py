@@ -14,7 +14,7 @@ from .rules import COMPARISONS, ROUNDINGS, Fixed, Integrator, Relay, saturated
 from mdlc_import.importing import imported
 from mdlc_import.values import Scope
 
-TICKS, FEWER = 1000, 60
+TICKS, FEWER = 1000, 30
 BYTE, WORD, LONG = Fixed(True, 8, 0), Fixed(True, 16, 8), Fixed(True, 32, 16)
 BARE_BYTE, BARE_WORD, TRUTH, FRACTION = Fixed(False, 8, 0), Fixed(False, 16, 4), Fixed(False, 1, 0), Fixed(True, 16, 15)
 Rule = Callable[[Sequence[Fraction]], int]

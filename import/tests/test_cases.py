@@ -27,7 +27,7 @@ class CaseTest(unittest.TestCase):
             with self.subTest(path.stem):
                 text = path.read_bytes().decode("latin-1")
                 written = outcome_of(path.name, text).text or ""
-                trace = trace_of(verdict(text), 7, 100)
+                trace = trace_of(verdict(text), 7, 50)
                 self.assertEqual(lines_of(written, trace), lines_of(text, trace))
 
     def test_findings_of_models(self) -> None:
@@ -64,7 +64,7 @@ class CaseTest(unittest.TestCase):
     def same_numbers(self, case: Case, written: str, is_rewritten: bool) -> None:
         """Where nothing is rewritten, mdlc gives the same of the file as it is."""
         if not is_rewritten:
-            trace = trace_of(verdict(case.text), 9, 60)
+            trace = trace_of(verdict(case.text), 9, 25)
             self.assertEqual(lines_of(written, trace), lines_of(case.text, trace))
 
 
