@@ -139,11 +139,16 @@ class Settler:
             settled = self.settled(parameter, text)
         except NoValue as fault:
             self.block.broken.add(parameter.name)
-            self.says(Word.REFUSED, f"{parameter.name} is {quoted(text)}: {fault} (F8).")
+            self.says(Word.REFUSED, f"{parameter.name} is {quoted(text)}: {fault}{self.number_of_refusal()}.")
             return
         if settled != text.strip(BLANKS) or parameter.form is Form.WORD and settled != text:
-            self.says(Word.REWRITTEN, f"{parameter.name} is {quoted(text)}, which mdlc doesn't read (F8).", f"mdlc-import writes {quoted(settled)}.")
+            says = f"{parameter.name} is {quoted(text)}, which mdlc doesn't read{self.number_of_refusal()}."
+            self.says(Word.REWRITTEN, says, f"mdlc-import writes {quoted(settled)}.")
         self.block.written[parameter.name] = settled
+
+    def number_of_refusal(self) -> str:
+        """The number by which mdlc refuses a parameter of this block, if it knows the block."""
+        return "" if self.block.kind in DRAWN else " (F8)"
 
     def raw(self, name: str) -> str | None:
         """The text of a parameter in the file. An initial condition may be called X0."""

@@ -26,12 +26,13 @@ class Router:
 
     def settle(self) -> None:
         """All of it, in order: what is commented out comes first, and sinks when each line is known."""
-        self.references()
         self.commented_out()
+        self.references()
         passes = {**self.commented_through(), **self.tags()}
         ends = resolved(passes)
         self.without_source({it.block for it in ends if ends[it] is None})
         self.apply(ends)
+        self.system.remove(self.gone)
         self.apply(resolved(self.vectors()))
         self.sinks()
         self.system.remove(self.gone)
@@ -58,8 +59,8 @@ class Router:
 
     def references(self) -> None:
         """Links to blocks of Simulink's own library become blocks of their own, and notes vanish."""
-        for block in self.system.blocks:
-            path = [" ".join(it.split()) for it in (block.text("SourceBlock") or "").split("/")] if block.kind == "Reference" else [""]
+        for block in [it for it in self.system.of_kind("Reference") if it.text("Commented") != "through"]:
+            path = [" ".join(it.split()) for it in (block.text("SourceBlock") or "").split("/")]
             if path[0].startswith("simulink") and path[-1] in LIBRARY:
                 self.rewritten(block, "mdlc has no links to libraries (F7).", "mdlc-import draws a subsystem that compares.")
                 block.kind = LIBRARY[path[-1]]

@@ -13,6 +13,7 @@ from .model import TRIGGER, Block
 from .sample_times import groups_of, outmost_trigger, times_before, written_time
 
 MOST_BITS, MOST_DENOMINATOR, MOST_PERIOD, MOST_CYCLE, MOST_SAMPLES = 62, 10**9, 10**6, 2**30, 10**6
+MOST_DEEP = 32
 LOOP_ADVICE = "Put a UnitDelay into the loop, where one tick of delay is meant."
 
 
@@ -25,6 +26,9 @@ class WideJudge(Judge):
         self.counts()
         for row in self.rows.values():
             self.trigger(row)
+            if row.block.kind == "SubSystem" and len(row.around) >= MOST_DEEP:
+                says = f"it becomes a subsystem inside {MOST_DEEP} others (F5)."
+                self.refused(row.block, says, "Draw it in a system that isn't so deep.")
             bits = self.bits(row)
             if bits > MOST_BITS:
                 says = f"it needs {bits} bits on the way, and there are {MOST_BITS} (F19)."

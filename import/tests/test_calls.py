@@ -121,6 +121,29 @@ class RewritingTest(unittest.TestCase):
         ring = findings(model_text([sender, reader, OUTPORT], [line_text("f", "1", "g", "1"), out]))
         self.assertTrue(any("nothing gives its value" in it for it in ring), ring)
 
+    def test_tags_of_a_vector(self) -> None:
+        """A Mux whose signals go by a Goto to a Scope and a Demux."""
+        blocks = [INPORT, block_text("Mux", "m", {"Inputs": "2"}), block_text("Goto", "g", {}), block_text("From", "f", {}), block_text("Scope", "s", {})]
+        blocks += [block_text("Demux", "d", {"Outputs": "2"}), OUTPORT]
+        ends = [("In1", "1", "m", "1"), ("In1", "1", "m", "2"), ("m", "1", "g", "1"), ("f", "1", "s", "1"), ("f", "1", "d", "1"), ("d", "2", "Out1", "1")]
+        outcome = imported("m.mdl", model_text(blocks, [line_text(*it) for it in ends]).encode(), Scope())
+        self.assertIsNotNone(outcome.text, [it.text() for it in outcome.findings])
+        self.assertEqual(sorted({it.kind for it in outcome.findings}), ["Demux", "From", "Goto", "Mux", "Scope"])
+
+    def test_depth(self) -> None:
+        """A block that is drawn is a subsystem, of which 32 may be around each other."""
+        for depth, is_taken in ((31, True), (32, False)):
+            inside = "\n".join([*[block_text("Inport", "In1", {}), block_text("Abs", "a", {}), block_text("Outport", "Out1", {})],
+                                line_text("In1", "1", "a", "1"), line_text("a", "1", "Out1", "1")])
+            for _ in range(depth):
+                parts = [block_text("Inport", "In1", {}), block_text("SubSystem", "s", {}, f"System {{\n{inside}\n}}"), block_text("Outport", "Out1", {})]
+                inside = "\n".join([*parts, line_text("In1", "1", "s", "1"), line_text("s", "1", "Out1", "1")])
+            text = inside.replace('Name "In1"', 'Name "In1"\n  OutDataTypeStr "int8"')
+            outcome = imported("m.mdl", f"Model {{\nSystem {{\n{text}\n}}\n}}\n".encode(), Scope())
+            self.assertEqual(outcome.text is not None, is_taken, [it.text() for it in outcome.findings])
+            if outcome.text is not None:
+                self.assertNotIsInstance(verdict(outcome.text), str)
+
     def test_masks(self) -> None:
         """A name of a mask comes before one of a values file, and code of a mask isn't run."""
         blocks = [block_text("Inport", "u", {}), block_text("Gain", "g", {"Gain": "K"}), block_text("Outport", "y", {})]
