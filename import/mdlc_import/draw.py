@@ -137,7 +137,8 @@ class Artist:
         block = row.block
         if text_of(block, "OutDataTypeStr").startswith("Inherit:") and len(set(given)) > 1:
             types = ", ".join(it.text() for it in given)
-            raise CannotDraw(f"its inputs have the types {types}, and its own is {quoted(text_of(block, 'OutDataTypeStr'))}; write OutDataTypeStr.")
+            own = quoted(text_of(block, "OutDataTypeStr"))
+            raise CannotDraw(f"its inputs have the types {types}, and its own is {own}; write OutDataTypeStr.")
         sign, how = {"min": "<", "max": ">"}[text_of(block, "Function")], self.how(block)
         drawing = Drawing(block, len(given))
         values = [drawing.converted(f"Converted{at}", it, given[at - 1], wanted, **how) for at, it in enumerate(drawing.inputs, 1)]
@@ -206,7 +207,8 @@ class Artist:
         kept_on = drawing.add("Logic", "Stays on", (was_on, stays), Operator="AND")
         now_on = drawing.add("Logic", "On", (is_high, kept_on), Operator="OR")
         drawing.connect(was_on.block, (now_on,))
-        drawing.finish(drawing.switch("Output", wanted, drawing.constant("On output", high, wanted), now_on, drawing.constant("Off output", low, wanted)))
+        outputs = drawing.constant("On output", high, wanted), drawing.constant("Off output", low, wanted)
+        drawing.finish(drawing.switch("Output", wanted, outputs[0], now_on, outputs[1]))
 
     def integrator(self, row: Row, _given: list[FixType], wanted: FixType) -> None:
         """The state of before, and then the state and the input times gain and period, each in the output's type, between the limits."""

@@ -97,7 +97,8 @@ class Builder:
         if self.by_number:
             path, line = min(self.by_number, key=lambda it: it[1])
             many = f"ends of lines are named by `Src` and `Dst`, as in later releases: {len(self.by_number)} of them (F7)."
-            self.model.findings.append(Finding(Word.REWRITTEN, f"line {line}", path, "Line", many, "mdlc-import writes SrcBlock and DstBlock."))
+            instead = "mdlc-import writes SrcBlock and DstBlock."
+            self.model.findings.append(Finding(Word.REWRITTEN, f"line {line}", path, "Line", many, instead))
 
     def block(self, section: Section, path: str) -> Block:
         """A block without what is inside it."""

@@ -125,8 +125,8 @@ class Builder:
         for name, text in (data.properties() if data is not None else {}).items():
             own.setdefault(name, text)
         kind = element.attributes.get("BlockType", "")
-        number = element.attributes.get("SID", "?")
-        block = Block(kind, element.attributes.get("Name", ""), f"SID {number}", own, self.defaults.get(kind, {}), mask=mask_of(element, own))
+        name, place = element.attributes.get("Name", ""), f"SID {element.attributes.get('SID', '?')}"
+        block = Block(kind, name, place, own, self.defaults.get(kind, {}), mask=mask_of(element, own))
         if "Name" not in element.attributes:
             self.model.says(Word.REFUSED, path, block, "it has no Name (F8).", "Give it one.")
         return block

@@ -113,7 +113,8 @@ def wire_system(model: Model, system: System, path: str, rows: dict[Block, Row])
     for end, source in system.sources.items():
         giver = giving(model, path, source, outports)
         if end.block in names and end.name not in names[end.block]:
-            model.says(Word.REFUSED, path, end.block, f"a line ends at its input {end.name}, which it doesn't have (F11).", "Draw it to a port that is there.")
+            says = f"a line ends at its input {end.name}, which it doesn't have (F11)."
+            model.says(Word.REFUSED, path, end.block, says, "Draw it to a port that is there.")
         elif giver is not None and end.block in inports and end.name in inports[end.block]:
             rows[inports[end.block][end.name]].sources["1"] = giver
         elif giver is not None:

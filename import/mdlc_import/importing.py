@@ -68,7 +68,8 @@ def imported(name: str, data: bytes, scope: Scope) -> Outcome:
         return Outcome(findings)
     text = model_text(model)
     if len(text) > mdl_text.MOST_BYTES:
-        return Outcome((*findings, Finding(Word.REFUSED, "file", name, "", f"what would be written has more than {mdl_text.MOST_BYTES} bytes (F1).")))
+        says = f"what would be written has more than {mdl_text.MOST_BYTES} bytes (F1)."
+        return Outcome((*findings, Finding(Word.REFUSED, "file", name, "", says)))
     return Outcome(findings, text)
 
 

@@ -176,8 +176,8 @@ class Judge:
         if value is None or not isinstance(given, FixType) or not text.startswith("Inherit:"):
             return
         if text == SAME and quantized(value, given) != value or text != SAME and significant(value) > given.magnitude():
-            says = f"the type of its number {quoted(text_of(row.block, 'Gain'))} is {quoted(text)}: mdlc takes it with up to 31 bits, Simulink with fewer."
-            self.ignored(row.block, says, "Write ParamDataTypeStr.")
+            of_number = f"the type of its number {quoted(text_of(row.block, 'Gain'))} is {quoted(text)}"
+            self.ignored(row.block, f"{of_number}: mdlc takes it with up to 31 bits, Simulink with fewer.", "Write ParamDataTypeStr.")
 
 
 def significant(value: Fraction) -> int:

@@ -18,7 +18,10 @@ OLD_FLOAT = re.compile(r"float\([ \t]*'?(\w+)'?[ \t]*\)")
 DIALOG = "Specify via dialog"
 # How old releases write a type: the parameters that may say how, those that have the type, and the scaling.
 OLD_WAYS = {
-    "OutDataTypeStr": (("OutDataTypeMode", "OutputDataTypeScalingMode", "LogicOutDataTypeMode", "DataType"), ("OutDataType", "LogicDataType"), "OutScaling"),
+    "OutDataTypeStr": (
+        ("OutDataTypeMode", "OutputDataTypeScalingMode", "LogicOutDataTypeMode", "DataType"), ("OutDataType", "LogicDataType"),
+        "OutScaling",
+    ),
     "ParamDataTypeStr": (("ParameterDataTypeMode",), ("ParameterDataType",), "ParameterScaling"),
 }
 OLD_NAMES = {"Boolean": "boolean", "auto": "Inherit: auto", "Inherit from input": "Inherit: Same as input"}

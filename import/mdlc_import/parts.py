@@ -6,12 +6,10 @@ import zlib
 
 from .findings import Refusal
 
-ARCHIVE = b"PK\x03\x04"
 PACKAGE = b"__MWOPC_PACKAGE_BEGIN__"
 PART = b"__MWOPC_PART_BEGIN__"
 MOST_PARTS = 4096
 MOST_BYTES = 16 * 1024 * 1024
-FOLDER = "simulink/"
 
 
 def is_archive(data: bytes) -> bool:

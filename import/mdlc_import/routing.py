@@ -89,7 +89,8 @@ class Router:
         for block in self.system.blocks:
             commented = block.text("Commented")
             if block.kind in PORTS and commented in ("on", "through"):
-                self.model.says(Word.REFUSED, self.path, block, f'`Commented "{commented}"` at a port.', "Delete the port, or uncomment it.")
+                says = f'`Commented "{commented}"` at a port.'
+                self.model.says(Word.REFUSED, self.path, block, says, "Delete the port, or uncomment it.")
             elif commented == "through":
                 self.pass_through(block, names.get(block, set()), passes)
         return passes
@@ -173,7 +174,8 @@ class Router:
             return "it joins vectors, and mdlc has none (F7)."
         if others:
             return f"{quoted(others[0].name)} ({others[0].kind}) reads it, and mdlc has no vectors (F7)."
-        return f"{quoted(uneven[0].name)} has another width, and mdlc has no vectors (F7)." if uneven else "it isn't connected, and mdlc has no vectors (F7)."
+        why = f"{quoted(uneven[0].name)} has another width" if uneven else "it isn't connected"
+        return f"{why}, and mdlc has no vectors (F7)."
 
     def sinks(self) -> None:
         """Blocks that only show or log become Terminators, or vanish where no line enters them."""

@@ -6,7 +6,7 @@ from enum import Enum, auto
 
 from .catalogue import KNOWN
 from .formats import BOOLEAN, FLOATS, FixType, fixed_type
-from .graph import WITHOUT_VALUE, Row, has_parameter, text_of
+from .graph import Row, has_parameter, text_of
 from .model import Block
 
 
@@ -91,8 +91,3 @@ def types_of(rows: Mapping[Block, Row]) -> dict[Block, Found]:
                 found = settled.get(at)
         settled.update({it: found for it in path})
     return settled
-
-
-def is_without_value(block: Block) -> bool:
-    """Whether a block has no value, so no type either."""
-    return block.kind in WITHOUT_VALUE

@@ -7,7 +7,7 @@ from fractions import Fraction
 from math import floor
 
 from .findings import quoted
-from .formats import BOOLEAN, FLOATS, INTEGERS, NAMED, FixType
+from .formats import FLOATS, INTEGERS, NAMED, FixType
 
 MOST_LETTERS, MOST_BITS, MOST_POWER, MOST_DEEP = 4096, 4096, 400, 64
 TOKEN = re.compile(
@@ -426,8 +426,3 @@ def type_value(text: str, scope: Scope) -> TypeValue:
     if isinstance(found, Number):
         raise NoValue("it is a number and no type")
     return found
-
-
-def is_boolean(wanted: FixType | str) -> bool:
-    """Whether a type is `boolean`."""
-    return wanted == BOOLEAN

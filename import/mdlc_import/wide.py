@@ -8,8 +8,8 @@ from math import gcd, lcm
 from .catalogue import NATIVE
 from .formats import BOOLEAN, FixType, fixed_type, nearest, number, quantized, whole
 from .graph import Row, inputs_of, text_of
-from .judge import Judge, controls_around
-from .model import TRIGGER, Block
+from .judge import Judge, Rows, Types, controls_around
+from .model import TRIGGER, Block, Model
 from .sample_times import groups_of, outmost_trigger, times_before, written_time
 
 MOST_BITS, MOST_DENOMINATOR, MOST_PERIOD, MOST_CYCLE, MOST_SAMPLES = 62, 10**9, 10**6, 2**30, 10**6
@@ -20,9 +20,12 @@ LOOP_ADVICE = "Put a UnitDelay into the loop, where one tick of delay is meant."
 class WideJudge(Judge):
     """The rules that come behind the types."""
 
+    def __init__(self, model: Model, rows: Rows, types: Types) -> None:
+        super().__init__(model, rows, types)
+        self.times = times_before(rows)
+
     def judge(self) -> None:
         """All of them."""
-        self.times = times_before(self.rows)
         self.counts()
         for row in self.rows.values():
             self.trigger(row)
@@ -46,7 +49,8 @@ class WideJudge(Judge):
         wire = row.sources.get(TRIGGER)
         given = self.types[wire] if wire is not None else None
         if wire is not None and wire.kind != "Ground" and isinstance(given, FixType) and given.signed:
-            self.refused(row.block, f"its trigger has the type {given.text()}, with a sign (F18).", "Compare it with 0, and trigger by the result.")
+            says = f"its trigger has the type {given.text()}, with a sign (F18)."
+            self.refused(row.block, says, "Compare it with 0, and trigger by the result.")
 
     def bits(self, row: Row) -> int:
         """The bits that a row needs, or 0 where that isn't known."""

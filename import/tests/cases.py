@@ -79,4 +79,5 @@ def all_cases() -> list[Case]:
 def differing(base: str, text: str) -> Counter[str]:
     """The lines of one text that the other doesn't have, with `-` and `+` before them."""
     one, other = (Counter(line.strip() for line in it.split("\n")) for it in (base, text))
-    return Counter({f"- {line}": count for line, count in (one - other).items()}) + Counter({f"+ {line}": count for line, count in (other - one).items()})
+    gone = Counter({f"- {line}": count for line, count in (one - other).items()})
+    return gone + Counter({f"+ {line}": count for line, count in (other - one).items()})

@@ -89,9 +89,10 @@ class BlockTest(unittest.TestCase):
                          [[2], [2], [0], [1], [0], [0], [-1], [-1]])
 
     def test_saturate_without_a_limit(self) -> None:
-        rule = saturated
-        self.gives("Saturate", {"LowerLimit": "-inf", "UpperLimit": "2"}, [WORD], lambda it: rule(it[0], WORD, "Floor", Fraction(-1000), Fraction(2)))
-        self.gives("Saturate", {"LowerLimit": "1", "UpperLimit": "inf"}, [WORD], lambda it: rule(it[0], WORD, "Floor", Fraction(1), Fraction(1000)))
+        for lower, upper, ends in (("-inf", "2", (-1000, 2)), ("1", "inf", (1, 1000))):
+            least, greatest = (Fraction(it) for it in ends)
+            rule: Rule = lambda it: saturated(it[0], WORD, "Floor", least, greatest)  # noqa: E731
+            self.gives("Saturate", {"LowerLimit": lower, "UpperLimit": upper}, [WORD], rule)
         self.refused("Saturate", {"LowerLimit": "3", "UpperLimit": "2"}, [WORD], "is above")
 
     def test_min_max(self) -> None:
@@ -179,8 +180,8 @@ class BlockTest(unittest.TestCase):
             for saturates in (True, False):
                 for rounding in ("Floor", "Nearest"):
                     parameters = {
-                        "gainval": "2.5", "SampleTime": "0.125", "InitialCondition": "1.5", "OutDataTypeStr": wanted.text, "RndMeth": rounding,
-                        "SaturateOnIntegerOverflow": "on" if saturates else "off",
+                        "gainval": "2.5", "SampleTime": "0.125", "InitialCondition": "1.5", "OutDataTypeStr": wanted.text,
+                        "RndMeth": rounding, "SaturateOnIntegerOverflow": "on" if saturates else "off",
                     }
                     whole = Integrator(wanted, Fraction(5, 16), rounding, saturates, wanted.stored(Fraction(3, 2)))
                     self.gives("DiscreteIntegrator", parameters, [WORD], lambda it: whole.step(it[0]))

@@ -123,9 +123,10 @@ class RewritingTest(unittest.TestCase):
 
     def test_tags_of_a_vector(self) -> None:
         """A Mux whose signals go by a Goto to a Scope and a Demux."""
-        blocks = [INPORT, block_text("Mux", "m", {"Inputs": "2"}), block_text("Goto", "g", {}), block_text("From", "f", {}), block_text("Scope", "s", {})]
-        blocks += [block_text("Demux", "d", {"Outputs": "2"}), OUTPORT]
-        ends = [("In1", "1", "m", "1"), ("In1", "1", "m", "2"), ("m", "1", "g", "1"), ("f", "1", "s", "1"), ("f", "1", "d", "1"), ("d", "2", "Out1", "1")]
+        blocks = [INPORT, block_text("Mux", "m", {"Inputs": "2"}), block_text("Goto", "g", {}), block_text("From", "f", {})]
+        blocks += [block_text("Scope", "s", {}), block_text("Demux", "d", {"Outputs": "2"}), OUTPORT]
+        ends = [("In1", "1", "m", "1"), ("In1", "1", "m", "2"), ("m", "1", "g", "1")]
+        ends += [("f", "1", "s", "1"), ("f", "1", "d", "1"), ("d", "2", "Out1", "1")]
         outcome = imported("m.mdl", model_text(blocks, [line_text(*it) for it in ends]).encode(), Scope())
         self.assertIsNotNone(outcome.text, [it.text() for it in outcome.findings])
         self.assertEqual(sorted({it.kind for it in outcome.findings}), ["Demux", "From", "Goto", "Mux", "Scope"])
@@ -136,7 +137,8 @@ class RewritingTest(unittest.TestCase):
             inside = "\n".join([*[block_text("Inport", "In1", {}), block_text("Abs", "a", {}), block_text("Outport", "Out1", {})],
                                 line_text("In1", "1", "a", "1"), line_text("a", "1", "Out1", "1")])
             for _ in range(depth):
-                parts = [block_text("Inport", "In1", {}), block_text("SubSystem", "s", {}, f"System {{\n{inside}\n}}"), block_text("Outport", "Out1", {})]
+                subsystem = block_text("SubSystem", "s", {}, f"System {{\n{inside}\n}}")
+                parts = [block_text("Inport", "In1", {}), subsystem, block_text("Outport", "Out1", {})]
                 inside = "\n".join([*parts, line_text("In1", "1", "s", "1"), line_text("s", "1", "Out1", "1")])
             text = inside.replace('Name "In1"', 'Name "In1"\n  OutDataTypeStr "int8"')
             outcome = imported("m.mdl", f"Model {{\nSystem {{\n{text}\n}}\n}}\n".encode(), Scope())
