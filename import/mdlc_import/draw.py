@@ -5,7 +5,7 @@ from fractions import Fraction
 
 from .catalogue import DRAWN
 from .findings import Word, quoted
-from .formats import FixType, number, number_text, period_and_offset
+from .formats import BOOLEAN, FixType, number, number_text, period_and_offset
 from .graph import Row, text_of
 from .model import Block, Model, Port, System
 from .routing import kept
@@ -91,15 +91,25 @@ class Artist:
         }
         for block in [it for it in self.rows if it.kind in DRAWN]:
             row = self.rows[block]
-            types = [self.types[it] for it in row.inputs()]
+            types = [BOOLEAN if it.kind == "Ground" else self.types[it] for it in row.inputs()]
             wanted = self.types[block]
             given = [it for it in types if isinstance(it, FixType)]
-            if not isinstance(wanted, FixType) or len(given) != len(types) or not given:
-                continue
             try:
-                drawers[block.kind](row, given, wanted)
+                if isinstance(wanted, FixType) and given and len(given) == len(types):
+                    drawers[block.kind](row, given, wanted)
+                    self.type_of_grounds(row)
+                elif not self.model.is_refused():
+                    raise CannotDraw("the types of its inputs aren't known.")
             except CannotDraw as fault:
                 self.model.says(Word.REFUSED, row.path, block, str(fault))
+
+    @staticmethod
+    def type_of_grounds(row: Row) -> None:
+        """The Inports of a drawn block that a Ground enters write a type, since it has none."""
+        inports = row.block.system.of_kind("Inport") if row.block.system is not None else []
+        for inport, source in zip(inports, row.inputs()):
+            if source.kind == "Ground":
+                inport.written["OutDataTypeStr"] = BOOLEAN.text()
 
     @staticmethod
     def how(block: Block) -> dict[str, str]:

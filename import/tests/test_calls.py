@@ -131,6 +131,19 @@ class RewritingTest(unittest.TestCase):
         self.assertIsNotNone(outcome.text, [it.text() for it in outcome.findings])
         self.assertEqual(sorted({it.kind for it in outcome.findings}), ["Demux", "From", "Goto", "Mux", "Scope"])
 
+    def test_drawn_blocks_of_a_ground(self) -> None:
+        """What is commented out gives 0 to blocks that are drawn; those that inherit from it have no type."""
+        out = [("In1", "1", "g", "1"), ("g", "1", "b", "1"), ("b", "1", "Out1", "1")]
+        for kind in ("Saturate", "Abs", "MinMax", "Relay", "CompareToZero", "CompareToConstant", "Bias", "Signum", "DiscreteIntegrator"):
+            typed = {"OutDataTypeStr": "int8", "const": "1", "SampleTime": "1" if kind == "DiscreteIntegrator" else "-1"}
+            none: dict[str, str] = {}
+            for more in (none, typed):
+                blocks = [INPORT, block_text("Gain", "g", {"Commented": "on"}), block_text(kind, "b", more), OUTPORT]
+                outcome = imported("m.mdl", model_text(blocks, [line_text(*it) for it in out]).encode(), Scope())
+                self.assertTrue(outcome.text is not None or any("refused" in it.text() for it in outcome.findings), kind)
+                if outcome.text is not None:
+                    self.assertNotIsInstance(verdict(outcome.text), str)
+
     def test_depth(self) -> None:
         """A block that is drawn is a subsystem, of which 32 may be around each other."""
         for depth, is_taken in ((31, True), (32, False)):
