@@ -1,0 +1,9 @@
+mod Decided
+mod Masks
+mod Ways
+mod Profiles
+mod Graphs
+mod Clustered
+mod Grouped
+mod Ordered
+mod EmittedSystems
