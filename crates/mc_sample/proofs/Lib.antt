@@ -1,0 +1,5 @@
+mod Made
+mod Formed
+mod Typed
+mod Falling
+mod Resolved

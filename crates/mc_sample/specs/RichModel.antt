@@ -1,0 +1,23 @@
+-- What is known of the model: it is resolved, without a loop, and has two rates.
+use Rattle.std.specs.Prelude.{◌≡◌}
+use Rattle.std.proofs.Common.{lit≤}
+use Rattle.mc_diagram.specs.declared.times.Time.{Time}
+use Rattle.mc_diagram.specs.SampleTimes.{every_tick}
+use Rattle.mc_diagram.specs.Diagram.{time_at}
+use Rattle.mc_diagram.specs.Needs.{needs_of, HasNoLoop}
+use Rattle.mc_diagram.specs.ResolvedTree.{ResolvedTree, IsResolvedTree, diagram_of}
+use Rattle.mc_sample.specs.Rows.{rich_table}
+
+-- every other tick
+abbrev pub second_ticks : Time
+second_ticks = record { period = 2; offset = 0; in_period = lit≤ tt }
+
+pub record RichModel : Type 0 where
+  pub model : ResolvedTree
+  pub is_rich : model.tree.table ≡ rich_table
+  pub is_resolved : IsResolvedTree model
+  pub no_loop : HasNoLoop (needs_of (diagram_of model))
+  -- the inputs come at each tick, and what is held changes at every other one
+  pub fast : time_at (diagram_of model) 0 ≡ every_tick
+  pub slow : time_at (diagram_of model) 11 ≡ second_ticks
+  pub cycle : model.times.hyper ≡ 2
