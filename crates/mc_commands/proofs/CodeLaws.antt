@@ -1,5 +1,5 @@
 -- How `run` ends, by what its parts come to.
-use Rattle.std.proofs.Common.{◌≡◌, ℕ, ◌⊎◌, inr, List, refl, sym, subst, ◌∙◌}
+use Rattle.std.proofs.Common.{◌≡◌, ℕ, ◌⊎◌, inr, List, length, refl, sym, subst, ◌∙◌}
 use Rattle.std.specs.Prelude.{Some, None}
 use Rattle.std.specs.List.{AllZip}
 use Rattle.mc_fixed.specs.declared.types.FixType.{FixType}
@@ -15,13 +15,13 @@ use Rattle.mc_compilation.specs.Compilation.{Compilation, root_types, IsCompiled
 use Rattle.mc_endings.specs.declared.ending.Ending.{Ending}
 use Rattle.mc_endings.specs.declared.ending.Ending.TheVariants.{Compiled, Ran, Reported, Usage, Refused, BadTrace, BadScript, CodeRefused, CodeTooLong, Stuck as IsStuck, ReadFault, WriteFault, PutFault, NoMemory}
 use Rattle.mc_words.specs.Words.{Run}
-use Rattle.mc_endings.specs.Told.{HostTold, SinkTold, NoFault}
+use Rattle.mc_endings.specs.Told.{HostTold, SinkTold}
 use Rattle.mc_endings.specs.Runs.{HasStepTypes, rows_in, rows_over, RunsTaken, RunsTo}
-use Rattle.mc_endings.specs.EndingsOfModels.{OnBytes, OpensNothing, EndsNoMemory}
+use Rattle.mc_endings.specs.EndingsOfModels.{OnBytes, OpensNothing, LeavesHost, EndsNoMemory}
 use Rattle.mc_endings.specs.EndingsOfRuns.{ReadsToEnd, TakesFile, WritesWhole, RunsModel, LosesTrace}
 use Rattle.mc_endings.specs.Endings.{CountsPuts, Finds, Ends}
 use Rattle.mc_endings.specs.Acting.{WritesCompiled, NotStarted, StartsFrom, RunEnds}
-use Rattle.mc_commands.proofs.CompileLaws.{whole-front}
+use Rattle.mc_commands.proofs.CompileLaws.{no-faults, whole-front}
 use Rattle.mc_endings.proofs.lemmas.TraceTypes.{rows-trace}
 use Rattle.mc_commands.proofs.RootTypes.{step-types}
 use Rattle.mc_steps.proofs.lemmas.TwoFiles.{on-bytes, lost}
@@ -75,7 +75,7 @@ model-found e model code trace c m h h1 h' b b' w starts written end run =
 
 model-lost : (model code trace : List ℕ) (c : Compilation) (m : MachineState) (h h1 h' : HostTold) (b b' : SinkTold) →
     WritesCompiled c model code h h1 → StartsFrom c.code m → h'.written ≡ h1.written →
-    OpensNothing h' b b' ⊎ TakesFile (tree_of m) c.inputs trace h1 h' b b' →
+    OpensNothing 0 h1 h' b b' ⊎ TakesFile 0 (tree_of m) c.inputs trace h1 h' b b' →
     OnBytes h model (λ bytes. LosesTrace trace code bytes h h' b b')
 model-lost model code trace c m h h1 h' b b' w starts written lines =
     let bytes : List ℕ = w.model.bytes in
@@ -85,8 +85,8 @@ model-lost model code trace c m h h1 h' b b' w starts written lines =
       file = w.model.file;
       holds = record {
         whole = whole-of c code bytes h h' from (written ∙ w.written);
-        lines = lost model trace h h1 h' b b' (tree_of m) from.compiled.code.program c.inputs types w.told w.files (λ taken runs.
-            as-compiled c m bytes (λ p inputs. RunsTaken p inputs taken b b') from starts runs) lines;
+        lines = lost model trace (length bytes) h h1 h' b b' (tree_of m) from.compiled.code.program c.inputs types w.told w.files w.given
+            (λ taken runs. as-compiled c m bytes (λ p inputs. RunsTaken p inputs taken b b') from starts runs) lines;
       };
     }
 
@@ -103,17 +103,17 @@ never-stuck at c m bytes lines from starts sticks =
     (rows-trace (diagram_of_table from.resolved) lines)).not_stuck in
     cc (sym free ∙ moved)
 
-pub no-faults : (h h1 h' : HostTold) → NoFault h h1 → NoFault h1 h' → NoFault h h'
-no-faults h h1 h' a b = record { read = b.read ∙ a.read; write = b.write ∙ a.write }
-
 -- memory ran out behind the writing of the code
 no-more : (model code : List ℕ) (c : Compilation) (h h1 h' : HostTold) → WritesCompiled c model code h h1 →
-    h'.written ≡ h1.written → EndsNoMemory model code h h'
-no-more model code c h h1 h' w written = inr (record {
-  bytes = w.model.bytes;
-  file = w.model.file;
-  holds = whole-front code w.model.bytes h h' (whole-of c code w.model.bytes h h' w.model.holds (written ∙ w.written));
-})
+    LeavesHost h1 h' → EndsNoMemory model code h h'
+no-more model code c h h1 h' w left = record {
+  written = inr (record {
+    bytes = w.model.bytes;
+    file = w.model.file;
+    holds = whole-front code w.model.bytes h h' (whole-of c code w.model.bytes h h' w.model.holds (left.written ∙ w.written));
+  });
+  no_fault = no-faults h h1 h' w.no_fault left.no_fault;
+}
 
 run-finds : (e : Ending) (model code trace : List ℕ) (c : Compilation) (m : MachineState) (h h1 h' : HostTold)
     (b b' : SinkTold) → WritesCompiled c model code h h1 → StartsFrom c.code m →
@@ -143,7 +143,7 @@ run-finds ReadFault model code trace c m h h1 h' b b' w starts run =
       subst (λ (n : ℕ). Rose n h'.read_faults) w.no_fault.read run.rose,
       model-lost model code trace c m h h1 h' b b' w starts run.written run.lines,
     )
-run-finds NoMemory model code trace c m h h1 h' b b' w starts run = (no-more model code c h h1 h' w run.written, run.silent)
+run-finds NoMemory model code trace c m h h1 h' b b' w starts run = (no-more model code c h h1 h' w run.left, run.silent)
 run-finds (Compiled rows systems functions) model code trace c m h h1 h' b b' w starts run = absurd run
 run-finds Usage model code trace c m h h1 h' b b' w starts run = absurd run
 run-finds (Reported text) model code trace c m h h1 h' b b' w starts run = absurd run
@@ -161,7 +161,10 @@ run_ends e model code trace c m h h1 h' b b' w starts run counts =
 -- memory ran out before the run
 run_forgets : (model code trace : List ℕ) (c : Compilation) (h h1 : HostTold) (b : SinkTold) →
     WritesCompiled c model code h h1 → Ends NoMemory (Some (Run model code trace)) h h1 b b
-run_forgets model code trace c h h1 b w = record { finds = (no-more model code c h h1 h1 w refl, refl); counts = refl }
+run_forgets model code trace c h h1 b w = record {
+  finds = (no-more model code c h h1 h1 w (record { written = refl; no_fault = record { read = refl; write = refl } }), refl);
+  counts = refl;
+}
 
 -- that right code is not run comes of memory alone
 pub run_unstarted : ReadingsAgree →

@@ -4,26 +4,34 @@ use Rattle.std.proofs.Common.{◌≡◌, ℕ, inl, inr, List, [], length, sym, a
 use Rattle.std.specs.Prelude.{Option, Some}
 use Rattle.mc_edge.specs.Faults.{Rose}
 use Rattle.mc_edge.specs.Files.{File, OnFile, add_file, WritesFront}
+use Rattle.mc_edge.specs.Reading.{RoseBy, Source}
 use Rattle.mc_diagram.specs.ResolvedTable.{ResolvedTable}
 use Rattle.mc_compilation.specs.Compilation.{Compilation, IsCompiledFrom}
 use Rattle.mc_endings.specs.declared.ending.Ending.{Ending}
 use Rattle.mc_endings.specs.declared.ending.Ending.TheVariants.{Compiled, Ran, Reported, Usage, Refused, BadTrace, BadScript, CodeRefused, CodeTooLong, Stuck as IsStuck, ReadFault, WriteFault, PutFault, NoMemory}
-use Rattle.mc_endings.specs.Told.{HostTold}
-use Rattle.mc_endings.specs.EndingsOfModels.{OnNamed, WritesCodeFront, EndsWriteFault}
+use Rattle.mc_endings.specs.Told.{HostTold, ReadsNone, NoFault}
+use Rattle.mc_endings.specs.EndingsOfModels.{OnNamed, LeavesHost, WritesCodeFront, EndsWriteFault, EndsNoMemory}
 use Rattle.mc_endings.specs.EndingsOfRuns.{WritesWhole}
 use Rattle.mc_endings.specs.Acting.{WritesCompiled, NotCompiled, AcceptsFile, WritesCodeOf, CutsCodeOf, NotWritten}
-use Rattle.mc_endings.proofs.lemmas.Files.{there}
+use Rattle.mc_endings.proofs.lemmas.Files.{there, still_alone}
 
 -- writing leaves what is unread
 still-read : (files : Option (List File)) (rest : Option (List ℕ)) (name : List ℕ) (now later : Option (List ℕ)) →
     OnFile files rest name (λ _. now ≡ Some []) → later ≡ now → OnFile files rest name (λ _. later ≡ Some [])
 still-read files rest name now later told same = there files rest name told (λ x empty. same ∙ empty)
 
+pub no-faults : (h h1 h' : HostTold) → NoFault h h1 → NoFault h1 h' → NoFault h h'
+no-faults h h1 h' a b = record { read = b.read ∙ a.read; write = b.write ∙ a.write }
+
 -- ---- Accepting a model, and then writing its code
 
 module _ (r : ResolvedTable) (model code : List ℕ) (h h1 h' : HostTold) (accepts : AcceptsFile r model h h1) where
-  pub left-to-read : h'.rest ≡ h1.rest → OnNamed h model (λ _. h'.rest ≡ Some [])
-  left-to-read same = still-read h.files h.rest model h1.rest h'.rest accepts.told same
+  pub left-to-read : ReadsNone h1 h' → OnNamed h model (λ _. h'.rest ≡ Some [])
+  left-to-read none = still-read h.files h.rest model h1.rest h'.rest accepts.told (ap (λ (s : Source). s.rest) none)
+
+  -- and no more was read
+  pub still-given : ReadsNone h1 h' → RoseBy (length accepts.model.bytes) h.given h'.given
+  still-given none = subst (λ (s : Source). RoseBy (length accepts.model.bytes) h.given s.given) (sym none) accepts.given
 
   -- its code was written whole
   pub compiled-file : (c : Compilation) → WritesCodeOf r c code h1 h' → WritesCompiled c model code h h'
@@ -35,11 +43,10 @@ module _ (r : ResolvedTable) (model code : List ℕ) (h h1 h' : HostTold) (accep
     };
     written = writes.written ∙ ap (λ (fs : Option (List File)). add_file fs code c.code) accepts.left.written;
     files = writes.files ∙ accepts.files;
-    told = left-to-read writes.rest;
-    no_fault = record {
-      read = writes.no_fault.read ∙ accepts.left.no_fault.read;
-      write = writes.no_fault.write ∙ accepts.left.no_fault.write;
-    };
+    told = left-to-read writes.unread;
+    read = still_alone model h h1 h' accepts.read writes.unread;
+    given = still-given writes.unread;
+    no_fault = no-faults h h1 h' accepts.left.no_fault writes.no_fault;
   }
 
   -- a front of it was
@@ -55,12 +62,20 @@ module _ (r : ResolvedTable) (model code : List ℕ) (h h1 h' : HostTold) (accep
         subst (λ (fs : Option (List File)). WritesFront fs h'.written code cuts.compilation.code) accepts.left.written cuts.front,
       );
     };
+    read = still_alone model h h1 h' accepts.read cuts.unread;
+  }
+
+  -- memory ran out before anything was written
+  pub forgets-writing : LeavesHost h1 h' → EndsNoMemory model code h h'
+  forgets-writing left = record {
+    written = inl (left.written ∙ accepts.left.written);
+    no_fault = no-faults h h1 h' accepts.left.no_fault left.no_fault;
   }
 
   -- or it wasn't
   pub not-written : (e : Ending) → NotWritten e r code h1 h' → NotCompiled e model code h h'
   not-written WriteFault ends = front-file ends
-  not-written NoMemory ends = inl (ends ∙ accepts.left.written)
+  not-written NoMemory ends = forgets-writing ends
   not-written (Compiled rows systems functions) ends = absurd ends
   not-written (Ran totals) ends = absurd ends
   not-written (Reported text) ends = absurd ends

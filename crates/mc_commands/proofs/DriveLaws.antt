@@ -1,9 +1,10 @@
 -- How `drive` ends, by what its parts come to.
-use Rattle.std.proofs.Common.{◌≡◌, ℕ, ◌⊎◌, inl, inr, List, [], refl, ap, subst, ◌∙◌}
+use Rattle.std.proofs.Common.{◌≡◌, ℕ, ◌⊎◌, inl, inr, List, [], length, refl, ap, subst, ◌∙◌}
 use Rattle.std.specs.Prelude.{Contains, Option, Some}
 use Rattle.std.specs.Io.KnownBytes.{prepend_known}
 use Rattle.mc_edge.specs.Faults.{Rose}
 use Rattle.mc_edge.specs.Files.{File, add_file}
+use Rattle.mc_edge.specs.Reading.{RoseBy}
 use Rattle.mc_diagram.specs.ResolvedTable.{ResolvedTable}
 use Rattle.mc_profile.specs.Systems.{systems}
 use Rattle.c_rules.specs.Reading.{CText}
@@ -18,14 +19,13 @@ use Rattle.mc_endings.specs.declared.ending.Ending.TheVariants.{Compiled, Ran, R
 use Rattle.mc_endings.specs.declared.ending.ScriptStop.TheVariants.{NoSubsystem, Line, Call}
 use Rattle.mc_endings.specs.Told.{HostTold, SinkTold, NoFault}
 use Rattle.mc_endings.specs.Scripts.{DrivesTo}
-use Rattle.mc_endings.specs.EndingsOfModels.{OnNamed, OnBytes, OpensNothing, EndsNoMemory}
+use Rattle.mc_endings.specs.EndingsOfModels.{OnNamed, OnBytes, OpensNothing, LeavesHost, EndsNoMemory}
 use Rattle.mc_endings.specs.EndingsOfRuns.{WritesWhole}
 use Rattle.mc_endings.specs.EndingsOfDriving.{WritesDriven, TakesScript, DrivesModel, EndsDriving}
 use Rattle.mc_endings.specs.Endings.{CountsPuts, Ends}
 use Rattle.mc_endings.specs.Acting.{AcceptsFile, WritesCodeOf, NotWritten, DrivesFile, DriveEnds}
-use Rattle.mc_steps.proofs.lemmas.TwoFiles.{retold, on-bytes}
-use Rattle.mc_commands.proofs.CodeLaws.{no-faults}
-use Rattle.mc_commands.proofs.CompileLaws.{left-to-read, front-file, whole-front}
+use Rattle.mc_steps.proofs.lemmas.TwoFiles.{retold, on-bytes, rose_behind, unopened_behind}
+use Rattle.mc_commands.proofs.CompileLaws.{no-faults, left-to-read, still-given, front-file, forgets-writing, whole-front}
 use Rattle.mc_commands.proofs.DrivenSystems.{driven-of}
 
 -- ---- The code isn't written whole
@@ -34,7 +34,7 @@ module _ (r : ResolvedTable) (model code word script : List ℕ) (h h1 h' : Host
     (accepts : AcceptsFile r model h h1) (b : SinkTold) where
   pub drive_unwritten : (e : Ending) → NotWritten e r code h1 h' → Ends e (Some (Drive model code word script)) h h' b b
   drive_unwritten WriteFault ends = record { finds = (front-file r model code h h1 h' accepts ends, refl); counts = refl }
-  drive_unwritten NoMemory ends = record { finds = (inl (ends ∙ accepts.left.written), refl); counts = refl }
+  drive_unwritten NoMemory ends = record { finds = (forgets-writing r model code h h1 h' accepts ends, refl); counts = refl }
   drive_unwritten (Compiled rows systems functions) ends = absurd ends
   drive_unwritten (Ran totals) ends = absurd ends
   drive_unwritten (Reported text) ends = absurd ends
@@ -61,7 +61,10 @@ module _ (r : ResolvedTable) (c : Compilation) (s : Option ℕ) (model code word
   calm = no-faults h h1 h2 accepts.left.no_fault writes.no_fault
 
   told : OnNamed h model (λ _. h2.rest ≡ Some [])
-  told = left-to-read r model code h h1 h2 accepts writes.rest
+  told = left-to-read r model code h h1 h2 accepts writes.unread
+
+  given : RoseBy (length accepts.model.bytes) h.given h2.given
+  given = still-given r model code h h1 h2 accepts writes.unread
 
   files : h2.files ≡ h.files
   files = writes.files ∙ accepts.files
@@ -96,22 +99,26 @@ module _ (r : ResolvedTable) (c : Compilation) (s : Option ℕ) (model code word
     end = run.end;
   })
 
-  lost : (h' : HostTold) (b b' : SinkTold) → OpensNothing h' b b' ⊎ TakesScript system script h2 h' b b' →
-      OpensNothing h' b b' ⊎ TakesScript system script h h' b b'
-  lost h' b b' (inl unopened) = inl unopened
+  lost : (h' : HostTold) (b b' : SinkTold) → OpensNothing 0 h2 h' b b' ⊎ TakesScript 0 system script h2 h' b b' →
+      OpensNothing (length accepts.model.bytes) h h' b b' ⊎ TakesScript (length accepts.model.bytes) system script h h' b b'
+  lost h' b b' (inl unopened) = inl (unopened_behind (length accepts.model.bytes) h h2 h' b b' given unopened)
   lost h' b b' (inr takes) = inr (record {
     taken = takes.taken;
     file = retold model script h h2 (λ x. Some x ≡ prepend_known takes.taken h'.rest) told files takes.file;
+    given = rose_behind (length accepts.model.bytes) (length takes.taken) h.given h2.given h'.given given takes.given;
     lines = takes.lines;
   })
 
   -- memory ran out
-  no-more : (h' : HostTold) → h'.written ≡ h2.written → EndsNoMemory model code h h'
-  no-more h' same = inr (record {
-    bytes = accepts.model.bytes;
-    file = accepts.model.file;
-    holds = whole-front code accepts.model.bytes h h' (whole h' same);
-  })
+  no-more : (h' : HostTold) → LeavesHost h2 h' → EndsNoMemory model code h h'
+  no-more h' left = record {
+    written = inr (record {
+      bytes = accepts.model.bytes;
+      file = accepts.model.file;
+      holds = whole-front code accepts.model.bytes h h' (whole h' left.written);
+    });
+    no_fault = no-faults h h2 h' calm left.no_fault;
+  }
 
   finds : (e : Ending) (h' : HostTold) (b b' : SinkTold) → DriveEnds e system script h2 h' b b' →
       EndsDriving e model code word script h h' b b'
@@ -132,7 +139,7 @@ module _ (r : ResolvedTable) (c : Compilation) (s : Option ℕ) (model code word
       holds = record { written = written h' run.written; lines = lost h' b b' run.lines };
     },
   )
-  finds NoMemory h' b b' run = (no-more h' run.written, run.silent)
+  finds NoMemory h' b b' run = (no-more h' run.left, run.silent)
   finds (Compiled rows systems functions) h' b b' run = absurd run
   finds (Reported text) h' b b' run = absurd run
   finds Usage h' b b' run = absurd run
@@ -155,4 +162,7 @@ module _ (r : ResolvedTable) (c : Compilation) (s : Option ℕ) (model code word
 
   -- memory ran out before the first call
   pub drive_forgets : (b : SinkTold) → Ends NoMemory (Some (Drive model code word script)) h h2 b b
-  drive_forgets b = record { finds = (no-more h2 refl, refl); counts = refl }
+  drive_forgets b = record {
+    finds = (no-more h2 (record { written = refl; no_fault = record { read = refl; write = refl } }), refl);
+    counts = refl;
+  }

@@ -16,7 +16,7 @@ use Rattle.mc_trace.specs.declared.rows.BadLine.{BadLine}
 use Rattle.mc_endings.specs.declared.ending.Ending.{Ending}
 use Rattle.mc_endings.specs.declared.ending.Ending.TheVariants.{Compiled, Ran, Reported, Usage, Refused, BadTrace, BadScript, CodeRefused, CodeTooLong, Stuck as IsStuck, ReadFault, WriteFault, PutFault, NoMemory}
 use Rattle.mc_words.specs.Words.{Gen}
-use Rattle.mc_endings.specs.Told.{HostTold, SinkTold}
+use Rattle.mc_endings.specs.Told.{HostTold, SinkTold, ReadsNone}
 use Rattle.mc_endings.specs.Runs.{bad_line, RunsTo, RunsToBadLine}
 use Rattle.mc_endings.specs.EndingsOfModels.{LeavesHost}
 use Rattle.mc_endings.specs.EndingsOfGenerating.{WritesBoth, WritesFrontOfTwo, line_of, with_line, RunsMade}
@@ -29,10 +29,10 @@ use Rattle.mc_commands.proofs.CodeLaws.{as-compiled, never-stuck}
 -- ---- A model that wasn't made
 
 pub unmade_refused : (refusal : Refusal) (start size : ℕ) (model code : List ℕ) (h h' : HostTold) →
-    HasVerdict (model_text start size) (IsRefused (plain_refusal refusal)) → LeavesHost h h' →
+    HasVerdict (model_text start size) (IsRefused (plain_refusal refusal)) → ReadsNone h h' → LeavesHost h h' →
     NotMade (Refused refusal) start size model code h h'
-unmade_refused refusal start size model code h h' verdict left =
-    λ b. record { finds = (record { verdict = verdict; left = left }, refl); counts = refl }
+unmade_refused refusal start size model code h h' verdict none left =
+    λ b. record { finds = (record { verdict = verdict; unread = none; left = left }, refl); counts = refl }
 
 pub unmade_written : (c : Compilation) (start size : ℕ) (model code : List ℕ) (h h' : HostTold) →
     IsCompiledFrom (model_text start size) c → Rose h.write_faults h'.write_faults →
@@ -58,7 +58,10 @@ module _ (c : Compilation) (start size : ℕ) (model code : List ℕ) (h h' : Ho
   pub made_unput : (e : Ending) (b b' : SinkTold) → NotPut e c b b' → Ends e (Some (Gen start size model code)) h h' b b'
   made_unput PutFault b b' none =
       record { finds = inl (record { both = both-of; front = none.text; no_fault = w.no_fault }); counts = none.rose }
-  made_unput NoMemory b b' none = record { finds = inr (both-of, inl none); counts = ap (λ (x : SinkTold). x.faults) none }
+  made_unput NoMemory b b' none = record {
+    finds = record { made = inr (both-of, inl none); no_fault = w.no_fault };
+    counts = ap (λ (x : SinkTold). x.faults) none;
+  }
   made_unput (Compiled rows systems functions) b b' none = absurd none
   made_unput (Ran totals) b b' none = absurd none
   made_unput (Reported text) b b' none = absurd none
@@ -78,7 +81,7 @@ module _ (c : Compilation) (start size : ℕ) (model code : List ℕ) (h h' : Ho
 
     -- memory ran out behind the line
     pub made_forgets : Ends NoMemory (Some (Gen start size model code)) h h' b b1
-    made_forgets = record { finds = inr (both-of, inr lined); counts = put.no_fault }
+    made_forgets = record { finds = record { made = inr (both-of, inr lined); no_fault = w.no_fault }; counts = put.no_fault }
 
     -- that right code doesn't start comes of memory alone
     pub made_unstarted : ReadingsAgree → (e : Ending) → NotStarted c.code e → Ends e (Some (Gen start size model code)) h h' b b1
@@ -120,7 +123,8 @@ module _ (c : Compilation) (start size : ℕ) (model code : List ℕ) (h h' : Ho
     made_ends good (BadScript stop) m b' starts run counts = absurd run
     made_ends good PutFault m b' starts run counts =
         record { finds = inr (ran-made PutFault m b' starts run); counts = subst (λ (n : ℕ). Rose n b'.faults) put.no_fault counts }
-    made_ends good NoMemory m b' starts run counts = record { finds = inr (both-of, inr (run ∙ lined)); counts = counts ∙ put.no_fault }
+    made_ends good NoMemory m b' starts run counts =
+        record { finds = record { made = inr (both-of, inr (run ∙ lined)); no_fault = w.no_fault }; counts = counts ∙ put.no_fault }
     made_ends good (IsStuck at) m b' starts run counts =
         absurd (never-stuck at c m (model_text start size) (trace_text start size) w.from starts run.stuck)
     made_ends good (Compiled rows systems functions) m b' starts run counts = absurd run

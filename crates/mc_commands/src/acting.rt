@@ -19,7 +19,7 @@ use std::alloc::Global;
 
 // Compiles the file `model` into the file `code`.
 fn compile_model<H: Host>(alloc: Global, host: &mut H, model: &str, code: &str) -> Ending
-    ensures ends { let at = told H.files H.rest H.written H.sure H.read_faults H.write_faults in
+    ensures ends { let at = told H.files H.rest H.given H.written H.sure H.read_faults H.write_faults in
         EndsCompile result model.now code.now (at host.old) (at host.new) }
     ensures unsure { IfReadFault result (H.sure host.old model.now ≡ false) }
 {
@@ -42,7 +42,7 @@ fn run_model<H: Host, S: Sink>(
     code: &str,
     trace: &str,
 ) -> Ending
-    ensures ends { let at = told H.files H.rest H.written H.sure H.read_faults H.write_faults in
+    ensures ends { let at = told H.files H.rest H.given H.written H.sure H.read_faults H.write_faults in
         let sink = sink_told S.bytes S.faults in
         Ends result (Some (Run model.now code.now trace.now)) (at host.old) (at host.new)
         (sink out.old) (sink out.new) }
@@ -64,7 +64,7 @@ fn run_model<H: Host, S: Sink>(
 // Does what a command asks for, but for the last text that is put.
 fn perform<H: Host, S: Sink>(alloc: Global, command: Command, host: &mut H, out: &mut S) -> Ending
     requires { HasBounds command }
-    ensures ends { let at = told H.files H.rest H.written H.sure H.read_faults H.write_faults in
+    ensures ends { let at = told H.files H.rest H.given H.written H.sure H.read_faults H.write_faults in
         let sink = sink_told S.bytes S.faults in
         Ends result (Some (asked command.entry)) (at host.old) (at host.new) (sink out.old)
         (sink out.new) }
@@ -92,7 +92,7 @@ fn perform<H: Host, S: Sink>(alloc: Global, command: Command, host: &mut H, out:
 
 /// Does what the words ask for, but for the last text that is put.
 pub fn act<H: Host, S: Sink>(alloc: Global, words: &[String], host: &mut H, out: &mut S) -> Ending
-    ensures ends { let at = told H.files H.rest H.written H.sure H.read_faults H.write_faults in
+    ensures ends { let at = told H.files H.rest H.given H.written H.sure H.read_faults H.write_faults in
         let sink = sink_told S.bytes S.faults in
         Ends result (asked_by (word_bytes words.now)) (at host.old) (at host.new) (sink out.old)
         (sink out.new) }

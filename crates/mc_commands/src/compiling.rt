@@ -22,10 +22,10 @@ pub fn write_code<H: Host>(
     code: &str,
 ) -> Result<Compiled, Ending>
     requires { HasNoLoop (needs_of (diagram_of r.now)) }
-    ensures written { let at = told H.files H.rest H.written H.sure H.read_faults H.write_faults in
+    ensures written { let at = told H.files H.rest H.given H.written H.sure H.read_faults H.write_faults in
         IfOk result (λ c. WritesCodeOf (table_of_tree r.now) c code.now (at host.old)
         (at host.new)) }
-    ensures ended { let at = told H.files H.rest H.written H.sure H.read_faults H.write_faults in
+    ensures ended { let at = told H.files H.rest H.given H.written H.sure H.read_faults H.write_faults in
         IfErr result (λ ending. NotWritten ending (table_of_tree r.now) code.now (at host.old)
         (at host.new)) }
 {
@@ -46,10 +46,10 @@ pub fn compile_into<H: Host>(
     model: &str,
     code: &str,
 ) -> Result<Compiled, Ending>
-    ensures compiled { let at = told H.files H.rest H.written H.sure H.read_faults H.write_faults in
+    ensures compiled { let at = told H.files H.rest H.given H.written H.sure H.read_faults H.write_faults in
         IfOk result (λ compiled. WritesCompiled compiled model.now code.now (at host.old)
         (at host.new)) }
-    ensures ended { let at = told H.files H.rest H.written H.sure H.read_faults H.write_faults in
+    ensures ended { let at = told H.files H.rest H.given H.written H.sure H.read_faults H.write_faults in
         IfErr result (λ ending. NotCompiled ending model.now code.now (at host.old) (at host.new)) }
 {
     let resolved = match accept_file(alloc, host, model) {

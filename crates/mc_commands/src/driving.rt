@@ -22,7 +22,7 @@ pub fn drive_model<H: Host, S: Sink>(
     subsystem: &str,
     script: &str,
 ) -> Ending
-    ensures ends { let at = told H.files H.rest H.written H.sure H.read_faults H.write_faults in
+    ensures ends { let at = told H.files H.rest H.given H.written H.sure H.read_faults H.write_faults in
         let sink = sink_told S.bytes S.faults in
         Ends result (Some (Drive model.now code.now subsystem.now script.now))
         (at host.old) (at host.new) (sink out.old) (sink out.new) }

@@ -50,10 +50,10 @@ fn make_into<H: Host>(
 ) -> Result<Compiled, Ending>
     requires start { (0 < start) × (start ≤ 2147483646) }
     requires size { (0 < size) × (size ≤ 2499) }
-    ensures made { let at = told H.files H.rest H.written H.sure H.read_faults H.write_faults in
+    ensures made { let at = told H.files H.rest H.given H.written H.sure H.read_faults H.write_faults in
         IfOk result (λ compiled. WritesMade compiled start size model.now code.now (at host.old)
         (at host.new)) }
-    ensures ended { let at = told H.files H.rest H.written H.sure H.read_faults H.write_faults in
+    ensures ended { let at = told H.files H.rest H.given H.written H.sure H.read_faults H.write_faults in
         IfErr result (λ ending. NotMade ending start size model.now code.now (at host.old)
         (at host.new)) }
 {
@@ -102,7 +102,7 @@ pub fn generate_model<H: Host, S: Sink>(
 ) -> Ending
     requires start { (0 < start) × (start ≤ 2147483646) }
     requires size { (0 < size) × (size ≤ 2499) }
-    ensures ends { let at = told H.files H.rest H.written H.sure H.read_faults H.write_faults in
+    ensures ends { let at = told H.files H.rest H.given H.written H.sure H.read_faults H.write_faults in
         let sink = sink_told S.bytes S.faults in
         Ends result (Some (Gen start size model.now code.now)) (at host.old) (at host.new)
         (sink out.old) (sink out.new) }

@@ -31,6 +31,6 @@ pub record OpensNone (s s' : Source) : Type 0 where
   pub rest : s'.rest ≡ option_map (λ _. []) s.rest
   pub given : s'.given ≡ s.given
 
--- a file of this name couldn't be opened, or not read on behind a front of it
+-- a file of this name couldn't be opened, or not read on after a front of it
 abbrev pub StopsReading : Option (List File) → List ℕ → Source → Source → Type 0
 StopsReading files name s s' = OpensNone s s' ⊎ ReadsFront files name s s'

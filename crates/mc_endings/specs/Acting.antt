@@ -1,9 +1,10 @@
 -- What the parts of a command come to.
-use Rattle.std.specs.Prelude.{◌≡◌, ℕ, List, [], ◌⊎◌, Some, ⊤}
+use Rattle.std.specs.Prelude.{◌≡◌, ℕ, List, [], ◌⊎◌, length, Some, ⊤}
 use Rattle.mc_refusals.specs.Refusals.{plain_refusal}
 use Rattle.mc_fixed.specs.declared.types.FixType.{FixType}
 use Rattle.mc_edge.specs.Faults.{Rose}
 use Rattle.mc_edge.specs.Files.{add_file, WritesFront}
+use Rattle.mc_edge.specs.Reading.{RoseBy}
 use Rattle.mc_diagram.specs.ResolvedTable.{ResolvedTable}
 use Rattle.mc_verdict.specs.Verdict.{HasVerdict, Accepted}
 use Rattle.mc_drive.specs.Driven.{Driven}
@@ -18,7 +19,7 @@ use Rattle.mc_endings.specs.declared.ending.Ending.{Ending}
 use Rattle.mc_endings.specs.declared.ending.Ending.TheVariants.{Compiled, Ran, Refused, BadTrace, BadScript, CodeRefused, Stuck as IsStuck, ReadFault, WriteFault, PutFault, NoMemory}
 use Rattle.mc_words.specs.Words.{Gen}
 use Rattle.mc_gen.specs.Models.{model_text}
-use Rattle.mc_endings.specs.Told.{HostTold, SinkTold, NoFault}
+use Rattle.mc_endings.specs.Told.{HostTold, SinkTold, ReadsAlone, ReadsNone, NoFault}
 use Rattle.mc_endings.specs.Runs.{HasStepTypes, RunsTo}
 use Rattle.mc_endings.specs.Scripts.{DrivesTo}
 use Rattle.mc_endings.specs.EndingsOfModels.{OnNamed, OnBytes, OpensNothing, PutsNothing, EndsCompile, EndsRefused, EndsReadFault, LeavesHost}
@@ -37,6 +38,8 @@ pub record WritesCompiled (c : Compilation) (model_name code_name : List ℕ)
   pub written : h'.written ≡ add_file h.written code_name c.code
   pub files : h'.files ≡ h.files
   pub told : OnNamed h model_name (λ _. h'.rest ≡ Some [])
+  pub read : ReadsAlone model_name h h'
+  pub given : RoseBy (length model.bytes) h.given h'.given
   pub no_fault : NoFault h h'
 
 -- it wasn't, and the call ends
@@ -51,13 +54,15 @@ pub record AcceptsFile (r : ResolvedTable) (name : List ℕ) (h h' : HostTold) :
   pub model : OnBytes h name (λ bytes. HasVerdict bytes (Accepted r))
   pub files : h'.files ≡ h.files
   pub told : OnNamed h name (λ _. h'.rest ≡ Some [])
+  pub read : ReadsAlone name h h'
+  pub given : RoseBy (length model.bytes) h.given h'.given
   pub left : LeavesHost h h'
 
 -- it isn't, and the call ends
 abbrev pub NotAccepted : Ending → (name : List ℕ) → HostTold → HostTold → Type 0
 NotAccepted (Refused refusal) name h h' = EndsRefused (plain_refusal refusal) name h h'
 NotAccepted ReadFault name h h' = EndsReadFault name h h'
-NotAccepted NoMemory name h h' = h'.written ≡ h.written
+NotAccepted NoMemory name h h' = LeavesHost h h'
 NotAccepted _ name h h' = ⊥
 
 -- right code for the table was written whole, and nothing read
@@ -66,12 +71,13 @@ pub record WritesCodeOf (r : ResolvedTable) (c : Compilation) (code : List ℕ)
   pub right : IsCompilationOf r c
   pub written : h'.written ≡ add_file h.written code c.code
   pub files : h'.files ≡ h.files
-  pub rest : h'.rest ≡ h.rest
+  pub unread : ReadsNone h h'
   pub no_fault : NoFault h h'
 
 -- a front of it was written
 pub record CutsCodeOf (r : ResolvedTable) (code : List ℕ) (h h' : HostTold) : Type 0 where
   pub rose : Rose h.write_faults h'.write_faults
+  pub unread : ReadsNone h h'
   pub compilation : Compilation
   pub right : IsCompilationOf r compilation
   pub front : WritesFront h.written h'.written code compilation.code
@@ -79,7 +85,7 @@ pub record CutsCodeOf (r : ResolvedTable) (code : List ℕ) (h h' : HostTold) : 
 -- it wasn't, and the call ends
 abbrev pub NotWritten : Ending → ResolvedTable → (code : List ℕ) → HostTold → HostTold → Type 0
 NotWritten WriteFault r code h h' = CutsCodeOf r code h h'
-NotWritten NoMemory r code h h' = h'.written ≡ h.written
+NotWritten NoMemory r code h h' = LeavesHost h h'
 NotWritten _ r code h h' = ⊥
 
 -- ---- Reading C and starting it
@@ -144,11 +150,11 @@ pub record MissesFile (p : ProgramTree) (types : List FixType) (trace : List ℕ
     (b b' : SinkTold) : Type 0 where
   pub rose : Rose h.read_faults h'.read_faults
   pub written : h'.written ≡ h.written
-  pub lines : OpensNothing h' b b' ⊎ TakesFile p types trace h h' b b'
+  pub lines : OpensNothing 0 h h' b b' ⊎ TakesFile 0 p types trace h h' b b'
 
 -- memory ran out, before anything was read or put
 pub record ForgetsFile (h h' : HostTold) (b b' : SinkTold) : Type 0 where
-  pub written : h'.written ≡ h.written
+  pub left : LeavesHost h h'
   pub silent : PutsNothing b b'
 
 -- how a run of a program over the trace of this name ends
@@ -177,7 +183,7 @@ pub record MissesScript (w : Driven) (script : List ℕ) (h h' : HostTold)
     (b b' : SinkTold) : Type 0 where
   pub rose : Rose h.read_faults h'.read_faults
   pub written : h'.written ≡ h.written
-  pub lines : OpensNothing h' b b' ⊎ TakesScript w script h h' b b'
+  pub lines : OpensNothing 0 h h' b b' ⊎ TakesScript 0 w script h h' b b'
 
 -- how a run of the script of this name on a system ends
 abbrev pub DriveEnds : Ending → Driven → (script : List ℕ) → HostTold → HostTold → SinkTold →

@@ -19,7 +19,7 @@ use Rattle.mc_words.specs.Words.{Asked, Compile, Run, Exec, Profile, Drive, Gen}
 use Rattle.mc_endings.specs.Told.{HostTold, SinkTold}
 use Rattle.mc_endings.specs.Runs.{HasStepTypes, rows_over, bad_line}
 use Rattle.mc_endings.specs.EndingsOfRuns.{code_limit}
-use Rattle.mc_endings.specs.Statuses.{OnTold, IsDone}
+use Rattle.mc_endings.specs.Statuses.{Comes, OnTold, IsDone}
 use Rattle.mc_endings.specs.Headline.{Calm}
 
 -- ---- What can be done
@@ -112,6 +112,19 @@ abbrev pub IsUnsureOf : {H : Type 0} (files : H → Option (List File)) (sure : 
 IsUnsureOf files sure h a =
     IsSomeAnd (first_file a) (λ name. sure h name ≡ false)
     ⊎ IsSomeAnd (second_file a) (BecomesUnsureOf files sure h)
+
+-- a file of this name is asked for, and is not among these
+abbrev pub IsMissing : Option (List ℕ) → List File → Type 0
+IsMissing name fs = IsSomeAnd name (λ name. lookup name fs ≡ None)
+
+-- a file that is read is not among these
+abbrev pub LacksOne : Asked → List File → Type 0
+LacksOne a fs = IsMissing (first_file a) fs ⊎ IsMissing (second_file a) fs
+
+-- and it is needed: with these files what is asked for comes to no status
+pub record LacksFile (a : Asked) (fs : List File) : Type 0 where
+  pub one : LacksOne a fs
+  pub needed : (n : ℕ) → Comes a fs n → ⊥
 
 -- P holds where the ending is a fault of reading
 abbrev pub IfReadFault : Ending → Type 0 → Type 0

@@ -8,7 +8,7 @@ use Rattle.mc_endings.specs.declared.ending.Ending.{Ending}
 use Rattle.mc_endings.specs.declared.ending.Ending.TheVariants.{Compiled, Ran, Reported, Usage, Refused, BadTrace, BadScript, CodeRefused, CodeTooLong, Stuck as IsStuck, ReadFault, WriteFault, PutFault, NoMemory}
 use Rattle.mc_words.specs.Words.{Asked, Compile, Run, Exec, Profile, Drive, Gen}
 use Rattle.mc_endings.specs.Texts.{compiled_line, totals_line, usage_line, bad_line_line, script_stop_line, code_refused_line, long_code_line, stuck_line, read_fault_line, write_fault_line, no_memory_line}
-use Rattle.mc_endings.specs.Told.{HostTold, SinkTold, NoFault}
+use Rattle.mc_endings.specs.Told.{HostTold, SinkTold, ReadsNone, NoFault}
 use Rattle.mc_endings.specs.EndingsOfModels.{PutsNothing, EndsCompile, EndsProfiling}
 use Rattle.mc_endings.specs.EndingsOfRuns.{EndsRunning, EndsExecuting}
 use Rattle.mc_endings.specs.EndingsOfDriving.{EndsDriving}
@@ -50,14 +50,16 @@ text_of NoMemory = no_memory_line
 
 -- ---- All commands
 
+-- no file was opened or written
 pub record EndsUsage (h h' : HostTold) : Type 0 where
+  pub unread : ReadsNone h h'
   pub written : h'.written ≡ h.written
   pub no_fault : NoFault h h'
 
 -- where nothing lawful was asked for
 abbrev pub EndsUnasked : Ending → HostTold → HostTold → Type 0
 EndsUnasked Usage h h' = EndsUsage h h'
-EndsUnasked NoMemory h h' = h'.written ≡ h.written
+EndsUnasked NoMemory h h' = EndsUsage h h'
 EndsUnasked _ h h' = ⊥
 
 -- what was found, written and put up to the ending's own text
@@ -92,10 +94,16 @@ pub record PutsPart (bytes : List ℕ) (b b' : SinkTold) : Type 0 where
   pub text : PutsFront b.bytes b'.bytes bytes
   pub rose : Rose b.faults b'.faults
 
--- the ending whose text is put is the one that was found, or want of memory, but where a line
--- couldn't be put
+-- an ending that tells no fault of reading, writing or printing
+pub record IsFaultless (e : Ending) : Type 0 where
+  pub no_read_fault : e ≢ ReadFault
+  pub no_write_fault : e ≢ WriteFault
+  pub no_put_fault : e ≢ PutFault
+
+-- the ending whose text is printed is the one that was found, or that memory ran out; a fault that was
+-- found is always told
 abbrev pub IsSaidOf : Ending → Ending → Type 0
-IsSaidOf said found = (said ≡ found) ⊎ ((said ≡ NoMemory) × (found ≢ PutFault))
+IsSaidOf said found = (said ≡ found) ⊎ ((said ≡ NoMemory) × IsFaultless found)
 
 -- the text was put whole and this status is given, or a front of it was and the status is 7
 abbrev pub PutsText : (status : ℕ) (text : List ℕ) → ℕ → SinkTold → SinkTold → Type 0

@@ -1,9 +1,10 @@
 -- How a call may end that drives a system of a model: what was found, what was written and what was
 -- put.
-use Rattle.std.specs.Prelude.{◌≡◌, ℕ, ◌⊎◌, List, Some, None}
+use Rattle.std.specs.Prelude.{◌≡◌, ℕ, ◌+◌, ◌⊎◌, List, length, Some, None}
 use Rattle.std.specs.Io.KnownBytes.{prepend_known}
 use Rattle.mc_refusals.specs.Refusals.{plain_refusal}
 use Rattle.mc_edge.specs.Faults.{Rose}
+use Rattle.mc_edge.specs.Reading.{RoseBy}
 use Rattle.mc_diagram.specs.ResolvedTable.{ResolvedTable}
 use Rattle.mc_verdict.specs.Verdict.{HasVerdict, Accepted}
 use Rattle.mc_drive.specs.Driven.{Driven}
@@ -13,7 +14,7 @@ use Rattle.mc_script_runner.specs.Drives.{AnswersTaken}
 use Rattle.mc_endings.specs.declared.ending.Ending.{Ending}
 use Rattle.mc_endings.specs.declared.ending.Ending.TheVariants.{Ran, Refused, BadScript, ReadFault, WriteFault, PutFault, NoMemory}
 use Rattle.mc_endings.specs.declared.ending.ScriptStop.TheVariants.{NoSubsystem, Line, Call}
-use Rattle.mc_endings.specs.Told.{HostTold, SinkTold, NoFault}
+use Rattle.mc_endings.specs.Told.{HostTold, SinkTold, ReadsAlone, NoFault}
 use Rattle.mc_endings.specs.Scripts.{DrivesTo}
 use Rattle.mc_endings.specs.EndingsOfModels.{OnNamed, OnBytes, OpensNothing, PutsNothing, LeavesHost, EndsRefused, EndsReadFault, EndsWriteFault, EndsNoMemory}
 use Rattle.mc_endings.specs.EndingsOfRuns.{ReadsToEnd, WritesWhole}
@@ -35,12 +36,13 @@ pub record WritesDriven (word code model : List ℕ) (h h' : HostTold) : Type 0 
   pub of_model : IsSystemOfModel whole.resolved driven.system driven
   pub program : driven.program ≡ whole.right.code.program
 
--- bytes were taken of the script of this name, and the lines of all calls in the whole lines among
--- them put
-pub record TakesScript (w : Driven) (script : List ℕ) (h h' : HostTold)
+-- so many bytes of files before it were read, and these of the script of this name, and nothing
+-- else; the lines of all calls in the whole lines among them were printed
+pub record TakesScript (before : ℕ) (w : Driven) (script : List ℕ) (h h' : HostTold)
     (b b' : SinkTold) : Type 0 where
   pub taken : List ℕ
   pub file : OnNamed h script (λ told. Some told ≡ prepend_known taken h'.rest)
+  pub given : RoseBy (before + length taken) h.given h'.given
   pub lines : AnswersTaken w taken b.bytes b'.bytes
 
 -- ---- Endings
@@ -59,9 +61,10 @@ pub record EndsDrive (e : Ending) (model_name code_name word script_name : List 
       (λ bytes. DrivesModel e word script_name code_name bytes h h' b b')
   pub no_fault : NoFault h h'
 
--- no such system is there, and nothing was written or put
+-- no such system is there, no file but the model was opened, and nothing was written or printed
 pub record EndsUnnamed (model_name word : List ℕ) (h h' : HostTold) (b b' : SinkTold) : Type 0 where
   pub model : OnBytes h model_name (NamesNone word)
+  pub read : ReadsAlone model_name h h'
   pub left : LeavesHost h h'
   pub silent : PutsNothing b b'
 
@@ -69,7 +72,8 @@ pub record EndsUnnamed (model_name word : List ℕ) (h h' : HostTold) (b b' : Si
 pub record LosesScript (word script code model : List ℕ) (h h' : HostTold)
     (b b' : SinkTold) : Type 0 where
   pub written : WritesDriven word code model h h'
-  pub lines : OpensNothing h' b b' ⊎ TakesScript written.driven script h h' b b'
+  pub lines : OpensNothing (length model) h h' b b'
+      ⊎ TakesScript (length model) written.driven script h h' b b'
 
 -- a fault of reading the model, or the script behind the code
 abbrev pub EndsDriveUnread : (model code word script : List ℕ) → HostTold → HostTold → SinkTold →

@@ -11,7 +11,7 @@ use Rattle.mc_gen.specs.Models.{model_text, trace_text}
 use Rattle.mc_endings.specs.declared.ending.Ending.{Ending}
 use Rattle.mc_endings.specs.declared.ending.Ending.TheVariants.{Ran, Refused, WriteFault, PutFault, NoMemory}
 use Rattle.mc_endings.specs.Texts.{compiled_line}
-use Rattle.mc_endings.specs.Told.{HostTold, SinkTold, NoFault, with_file}
+use Rattle.mc_endings.specs.Told.{HostTold, SinkTold, ReadsNone, NoFault, with_file}
 use Rattle.mc_endings.specs.Runs.{RunsTo}
 use Rattle.mc_endings.specs.EndingsOfModels.{PutsNothing, LeavesHost}
 use Rattle.mc_endings.specs.EndingsOfRuns.{WritesWhole}
@@ -63,9 +63,10 @@ pub record CutsLine (start size : ℕ) (model code : List ℕ) (h h' : HostTold)
   pub front : PutsFront b.bytes b'.bytes (line_of both.compilation)
   pub no_fault : NoFault h h'
 
--- the rules refuse the model, and nothing was written
+-- the rules refuse the model, no file was opened, and nothing was written
 pub record RefusesMade (refusal : PlainRefusal) (start size : ℕ) (h h' : HostTold) : Type 0 where
   pub verdict : HasVerdict (model_text start size) (IsRefused refusal)
+  pub unread : ReadsNone h h'
   pub left : LeavesHost h h'
 
 pub record FailsWriting (start size : ℕ) (model code : List ℕ) (h h' : HostTold) : Type 0 where
@@ -74,12 +75,12 @@ pub record FailsWriting (start size : ℕ) (model code : List ℕ) (h h' : HostT
 
 -- memory ran out before anything was written, or behind both files, with nothing put or the
 -- compiled line
-abbrev pub StopsMaking : (start size : ℕ) → (model code : List ℕ) → HostTold → HostTold → SinkTold →
-    SinkTold → Type 0
-StopsMaking start size model code h h' b b' =
-    ((h'.written ≡ h.written) × PutsNothing b b')
-    ⊎ ((both : WritesBoth start size model code h h')
-    × (PutsNothing b b' ⊎ (b' ≡ with_line b both.compilation)))
+pub record StopsMaking (start size : ℕ) (model code : List ℕ) (h h' : HostTold)
+    (b b' : SinkTold) : Type 0 where
+  pub made : ((h'.written ≡ h.written) × PutsNothing b b')
+      ⊎ ((both : WritesBoth start size model code h h')
+      × (PutsNothing b b' ⊎ (b' ≡ with_line b both.compilation)))
+  pub no_fault : NoFault h h'
 
 abbrev pub EndsGenerating : Ending → (start size : ℕ) → (model code : List ℕ) → HostTold →
     HostTold → SinkTold → SinkTold → Type 0

@@ -4,12 +4,13 @@ use Rattle.std.specs.Io.KnownBytes.{IsAtEnd}
 use Rattle.mc_refusals.specs.Refusals.{PlainRefusal, plain_refusal}
 use Rattle.mc_edge.specs.Faults.{Rose}
 use Rattle.mc_edge.specs.Files.{OnFile, add_file, WritesFront}
+use Rattle.mc_edge.specs.Reading.{RoseBy, StopsReading}
 use Rattle.mc_verdict.specs.Verdict.{HasVerdict, Refused as IsRefused}
 use Rattle.mc_compilation.specs.Compilation.{Compilation, IsCompiledFrom}
 use Rattle.mc_interfaces.specs.Interfaces.{IsReportOf}
 use Rattle.mc_endings.specs.declared.ending.Ending.{Ending}
 use Rattle.mc_endings.specs.declared.ending.Ending.TheVariants.{Compiled, Reported, Refused, ReadFault, WriteFault, NoMemory}
-use Rattle.mc_endings.specs.Told.{HostTold, SinkTold, NoFault}
+use Rattle.mc_endings.specs.Told.{HostTold, SinkTold, source_of, ReadsAlone, NoFault}
 
 -- ---- Models and their code
 
@@ -40,9 +41,11 @@ WritesCodeFront code model h h' =
 abbrev pub PutsNothing : (b b' : SinkTold) → Type 0
 PutsNothing b b' = b' ≡ b
 
--- a file couldn't be opened: nothing is left to read, and nothing was put
-pub record OpensNothing (h' : HostTold) (b b' : SinkTold) : Type 0 where
+-- a file couldn't be opened: nothing is left to read, all that was read are so many bytes of files
+-- before it, and nothing was printed
+pub record OpensNothing (before : ℕ) (h h' : HostTold) (b b' : SinkTold) : Type 0 where
   pub end : IsAtEnd h'.rest
+  pub given : RoseBy before h.given h'.given
   pub silent : PutsNothing b b'
 
 -- the host has written nothing, and no fault was counted
@@ -53,10 +56,12 @@ pub record LeavesHost (h h' : HostTold) : Type 0 where
 pub record EndsCompiled (rows systems functions : ℕ) (model_name code_name : List ℕ)
     (h h' : HostTold) : Type 0 where
   pub model : OnBytes h model_name (λ bytes. WritesCode rows systems functions code_name bytes h h')
+  pub read : ReadsAlone model_name h h'
   pub no_fault : NoFault h h'
 
 pub record EndsRefused (refusal : PlainRefusal) (name : List ℕ) (h h' : HostTold) : Type 0 where
   pub model : OnBytes h name (λ bytes. HasVerdict bytes (IsRefused refusal))
+  pub read : ReadsAlone name h h'
   pub written : h'.written ≡ h.written
   pub no_fault : NoFault h h'
 
@@ -64,16 +69,19 @@ pub record EndsRefused (refusal : PlainRefusal) (name : List ℕ) (h h' : HostTo
 pub record EndsReadFault (name : List ℕ) (h h' : HostTold) : Type 0 where
   pub rose : Rose h.read_faults h'.read_faults
   pub unsure : h.sure name ≡ false
+  pub stopped : StopsReading h.files name (source_of h) (source_of h')
   pub written : h'.written ≡ h.written
 
 pub record EndsWriteFault (model_name code_name : List ℕ) (h h' : HostTold) : Type 0 where
   pub rose : Rose h.write_faults h'.write_faults
   pub model : OnBytes h model_name (λ bytes. WritesCodeFront code_name bytes h h')
+  pub read : ReadsAlone model_name h h'
 
 -- memory may run out before anything is written, and after the code is
-abbrev pub EndsNoMemory : (model code : List ℕ) → HostTold → HostTold → Type 0
-EndsNoMemory model code h h' =
-    (h'.written ≡ h.written) ⊎ OnBytes h model (λ bytes. WritesCodeFront code bytes h h')
+pub record EndsNoMemory (model code : List ℕ) (h h' : HostTold) : Type 0 where
+  pub written : (h'.written ≡ h.written)
+      ⊎ OnBytes h model (λ bytes. WritesCodeFront code bytes h h')
+  pub no_fault : NoFault h h'
 
 -- ---- Compiling
 
@@ -91,11 +99,12 @@ EndsCompile _ model code h h' = ⊥
 -- the text is that of the reports on all systems of the model, and nothing was written
 pub record EndsReported (text name : List ℕ) (h h' : HostTold) : Type 0 where
   pub model : OnBytes h name (λ bytes. IsReportOf bytes text)
+  pub read : ReadsAlone name h h'
   pub left : LeavesHost h h'
 
 abbrev pub EndsProfiling : Ending → (model : List ℕ) → HostTold → HostTold → Type 0
 EndsProfiling (Reported text) model h h' = EndsReported text.items model h h'
 EndsProfiling (Refused refusal) model h h' = EndsRefused (plain_refusal refusal) model h h'
 EndsProfiling ReadFault model h h' = EndsReadFault model h h'
-EndsProfiling NoMemory model h h' = h'.written ≡ h.written
+EndsProfiling NoMemory model h h' = LeavesHost h h'
 EndsProfiling _ model h h' = ⊥

@@ -1,11 +1,12 @@
 -- How a call may end that runs code over a trace: what was found, what was written and what was
 -- put.
-use Rattle.std.specs.Prelude.{◌≡◌, ℕ, ◌<◌, ◌≤◌, ◌⊎◌, List, length, Some, ⊤}
+use Rattle.std.specs.Prelude.{◌≡◌, ℕ, ◌+◌, ◌<◌, ◌≤◌, ◌⊎◌, List, length, Some, ⊤}
 use Rattle.std.specs.Io.KnownBytes.{prepend_known, IsAtEnd}
 use Rattle.mc_refusals.specs.Refusals.{plain_refusal}
 use Rattle.mc_fixed.specs.declared.types.FixType.{FixType}
 use Rattle.mc_edge.specs.Faults.{Rose}
 use Rattle.mc_edge.specs.Files.{add_file}
+use Rattle.mc_edge.specs.Reading.{RoseBy}
 use Rattle.mc_diagram.specs.ResolvedTable.{ResolvedTable, diagram_of_table}
 use Rattle.c_syntax.specs.declared.fault.CFault.{CFault}
 use Rattle.c_syntax.specs.declared.fault.Stuck.{Stuck}
@@ -18,7 +19,7 @@ use Rattle.mc_verdict.specs.Verdict.{HasVerdict, Accepted}
 use Rattle.mc_compilation.specs.Compilation.{Compilation, root_types, IsCompilationOf}
 use Rattle.mc_endings.specs.declared.ending.Ending.{Ending}
 use Rattle.mc_endings.specs.declared.ending.Ending.TheVariants.{Compiled, Ran, Reported, Usage, Refused, BadTrace, BadScript, CodeRefused, CodeTooLong, Stuck as IsStuck, ReadFault, WriteFault, PutFault, NoMemory}
-use Rattle.mc_endings.specs.Told.{HostTold, SinkTold, NoFault}
+use Rattle.mc_endings.specs.Told.{HostTold, SinkTold, ReadsAlone, NoFault}
 use Rattle.mc_endings.specs.Runs.{HasStepTypes, RunsTaken, RunsTo}
 use Rattle.mc_endings.specs.EndingsOfModels.{OnNamed, OnBytes, OpensNothing, PutsNothing, LeavesHost, EndsRefused, EndsReadFault, EndsWriteFault, EndsNoMemory}
 
@@ -41,11 +42,13 @@ ReadsToEnd WriteFault h' = ⊤
 ReadsToEnd PutFault h' = ⊤
 ReadsToEnd NoMemory h' = ⊤
 
--- bytes were taken of the trace of this name, and the lines of all whole lines among them put
-pub record TakesFile (p : ProgramTree) (types : List FixType) (trace : List ℕ) (h h' : HostTold)
-    (b b' : SinkTold) : Type 0 where
+-- so many bytes of files before it were read, and these of the trace of this name, and nothing else;
+-- the lines of all whole lines among them were printed
+pub record TakesFile (before : ℕ) (p : ProgramTree) (types : List FixType) (trace : List ℕ)
+    (h h' : HostTold) (b b' : SinkTold) : Type 0 where
   pub taken : List ℕ
   pub file : OnNamed h trace (λ told. Some told ≡ prepend_known taken h'.rest)
+  pub given : RoseBy (before + length taken) h.given h'.given
   pub lines : RunsTaken p types taken b b'
 
 -- ---- Running the code of a model
@@ -77,9 +80,9 @@ pub record EndsRun (e : Ending) (model_name code_name trace_name : List ℕ) (h 
 -- its end
 pub record LosesTrace (trace code model : List ℕ) (h h' : HostTold) (b b' : SinkTold) : Type 0 where
   pub whole : WritesWhole code model h h'
-  pub lines : OpensNothing h' b b'
-      ⊎ TakesFile whole.right.code.program (root_types (diagram_of_table whole.resolved)) trace h h'
-      b b'
+  pub lines : OpensNothing (length model) h h' b b'
+      ⊎ TakesFile (length model) whole.right.code.program
+      (root_types (diagram_of_table whole.resolved)) trace h h' b b'
 
 -- a fault of reading the model, or the trace behind the code
 abbrev pub EndsRunUnread : (model code trace : List ℕ) → HostTold → HostTold → SinkTold → SinkTold →
@@ -130,7 +133,8 @@ pub record ExecutesCode (e : Ending) (trace code : List ℕ) (h h' : HostTold)
 -- and whose trace couldn't be opened, or not read to its end
 pub record LosesTraceOf (trace code : List ℕ) (h h' : HostTold) (b b' : SinkTold) : Type 0 where
   pub starts : StartsCode code
-  pub lines : OpensNothing h' b b' ⊎ TakesFile starts.program starts.types trace h h' b b'
+  pub lines : OpensNothing (length code) h h' b b'
+      ⊎ TakesFile (length code) starts.program starts.types trace h h' b b'
 
 -- the bytes are not too many, and no text of a program
 abbrev pub IsUnread : CFault → List ℕ → Type 0
@@ -149,10 +153,11 @@ pub record EndsExec (e : Ending) (code_name trace_name : List ℕ) (h h' : HostT
   pub code : OnBytes h code_name (λ bytes. ExecutesCode e trace_name bytes h h' b b')
   pub left : LeavesHost h h'
 
--- the code is such, and nothing was put
+-- the code is such, no other file was opened, and nothing was printed
 pub record EndsAtCode (name : List ℕ) (P : List ℕ → Type 0) (h h' : HostTold)
     (b b' : SinkTold) : Type 0 where
   pub code : OnBytes h name P
+  pub read : ReadsAlone name h h'
   pub left : LeavesHost h h'
   pub silent : PutsNothing b b'
 
@@ -180,5 +185,5 @@ EndsExecuting CodeTooLong code trace h h' b b' =
     EndsAtCode code (λ bytes. code_limit < length bytes) h h' b b'
 EndsExecuting (IsStuck at) code trace h h' b b' = EndsExecStuck at code trace h h' b b'
 EndsExecuting ReadFault code trace h h' b b' = EndsExecUnread code trace h h' b b'
-EndsExecuting NoMemory code trace h h' b b' = (h'.written ≡ h.written) × PutsNothing b b'
+EndsExecuting NoMemory code trace h h' b b' = LeavesHost h h' × PutsNothing b b'
 EndsExecuting _ code trace h h' b b' = ⊥

@@ -31,6 +31,12 @@ pub record IsPlain (s : ℕ) : Type 0 where
   pub no_put_fault : s ≢ 7
   pub no_want_of_memory : s ≢ 10
 
+-- no status that a fault gives
+pub record TellsNoFault (s : ℕ) : Type 0 where
+  pub no_read_fault : s ≢ 5
+  pub no_write_fault : s ≢ 6
+  pub no_put_fault : s ≢ 7
+
 -- the status is n exactly where P, but for faults and want of memory
 pub record IsExactly (n s : ℕ) (P : Type 0) : Type 0 where
   pub only : s ≡ n → P

@@ -1,13 +1,16 @@
 -- What a host and a sink tell at a moment.
 use Rattle.std.specs.Prelude.{◌≡◌, ℕ, Bool, List, Option}
 use Rattle.mc_edge.specs.Files.{File, add_file}
+use Rattle.mc_edge.specs.Reading.{Source, source, ReadsFront}
 
 -- what a host tells
 pub record HostTold : Type 0 where
-  -- the files that can be read, what is unread of the one that is being read, and the files that
-  -- were written
+  -- the files that can be read, and what is unread of the one that is being read
   pub files : Option (List File)
   pub rest : Option (List ℕ)
+  -- how many bytes reads have given
+  pub given : ℕ
+  -- the files that were written
   pub written : Option (List File)
   -- which files it is sure to read without a fault
   pub sure : List ℕ → Bool
@@ -21,12 +24,13 @@ pub record SinkTold : Type 0 where
 
 -- by the meanings of a host, and of a sink
 abbrev pub told : {H : Type 0} (files : H → Option (List File)) (rest : H → Option (List ℕ))
-    (written : H → Option (List File)) (sure : H → List ℕ → Bool) (read_faults write_faults : H →
+    (given : H → ℕ) (written : H → Option (List File)) (sure : H → List ℕ → Bool) (read_faults write_faults : H →
     ℕ) → H → HostTold
-told files rest written sure read_faults write_faults h =
+told files rest given written sure read_faults write_faults h =
     record {
       files = files h;
       rest = rest h;
+      given = given h;
       written = written h;
       sure = sure h;
       read_faults = read_faults h;
@@ -35,6 +39,18 @@ told files rest written sure read_faults write_faults h =
 
 abbrev pub sink_told : {S : Type 0} (bytes : S → Option (List ℕ)) (faults : S → ℕ) → S → SinkTold
 sink_told bytes faults s = record { bytes = bytes s; faults = faults s }
+
+-- what it tells of the file that is being read, and of all reads
+abbrev pub source_of : HostTold → Source
+source_of h = source h.rest h.given
+
+-- of the file of this name a front was read, and no other file: what is left is the rest of it
+abbrev pub ReadsAlone : (name : List ℕ) → HostTold → HostTold → Type 0
+ReadsAlone name h h' = ReadsFront h.files name (source_of h) (source_of h')
+
+-- no file was opened to be read
+abbrev pub ReadsNone : HostTold → HostTold → Type 0
+ReadsNone h h' = source_of h' ≡ source_of h
 
 -- no count of faults of the host has risen
 pub record NoFault (h h' : HostTold) : Type 0 where

@@ -9,8 +9,8 @@ use Rattle.mc_endings.specs.Told.{HostTold, SinkTold, NoFault}
 use Rattle.mc_endings.specs.declared.ending.ScriptStop.TheVariants.{NoSubsystem, Line, Call}
 use Rattle.mc_endings.specs.EndingsOfRuns.{EndsRunUnread, EndsExecUnread}
 use Rattle.mc_endings.specs.EndingsOfDriving.{EndsDriveUnread}
-use Rattle.mc_endings.specs.Endings.{status_of, text_of, Finds, CountsPuts, Ends, EndsAt, IsSaidOf, PutsWhole, Puts}
-use Rattle.mc_endings.specs.Statuses.{IsPlain}
+use Rattle.mc_endings.specs.Endings.{status_of, text_of, Finds, CountsPuts, Ends, EndsAt, IsFaultless, IsSaidOf, PutsWhole, Puts}
+use Rattle.mc_endings.specs.Statuses.{TellsNoFault, IsPlain}
 use Rattle.mc_endings.specs.Headline.{Calm}
 use Rattle.mc_endings_right.proofs.FaultStatuses.{only_read, only_write, only_put}
 
@@ -43,8 +43,8 @@ says_found s a h h' b b' e put fed = by e.found e.said e.before e.ends e.says e.
 
 -- ---- Counts of faults
 
--- but for faults and want of memory, no count of the host rose
-host-calm : (e : Ending) (a : Option Asked) (h h' : HostTold) (b b' : SinkTold) → Finds e a h h' b b' → IsPlain (status_of e) → NoFault h h'
+-- but for faults, no count of the host rose
+host-calm : (e : Ending) (a : Option Asked) (h h' : HostTold) (b b' : SinkTold) → Finds e a h h' b b' → IsFaultless e → NoFault h h'
 host-calm (Compiled rows systems functions) None h h' b b' ends plain = absurd ends.0
 host-calm (Compiled rows systems functions) (Some (Compile model code)) h h' b b' ends plain = ends.0.no_fault
 host-calm (Compiled rows systems functions) (Some (Run model code trace)) h h' b b' ends plain = absurd ends
@@ -121,7 +121,13 @@ host-calm (IsStuck at) (Some (Gen start size model code)) h h' b b' ends plain =
 host-calm ReadFault a h h' b b' ends plain = absurd (plain.no_read_fault refl)
 host-calm WriteFault a h h' b b' ends plain = absurd (plain.no_write_fault refl)
 host-calm PutFault a h h' b b' ends plain = absurd (plain.no_put_fault refl)
-host-calm NoMemory a h h' b b' ends plain = absurd (plain.no_want_of_memory refl)
+host-calm NoMemory None h h' b b' ends plain = ends.0.no_fault
+host-calm NoMemory (Some (Compile model code)) h h' b b' ends plain = ends.0.no_fault
+host-calm NoMemory (Some (Run model code trace)) h h' b b' ends plain = ends.0.no_fault
+host-calm NoMemory (Some (Exec code trace)) h h' b b' ends plain = ends.0.no_fault
+host-calm NoMemory (Some (Profile model)) h h' b b' ends plain = ends.0.no_fault
+host-calm NoMemory (Some (Drive model code word script)) h h' b b' ends plain = ends.0.no_fault
+host-calm NoMemory (Some (Gen start size model code)) h h' b b' ends plain = ends.no_fault
 
 -- no fault of putting was counted but where a line wasn't put
 same-puts : (e : Ending) (b b' : SinkTold) → e ≢ PutFault → CountsPuts e b b' → b'.faults ≡ b.faults
@@ -140,16 +146,27 @@ same-puts ReadFault b b' other counts = counts
 same-puts WriteFault b b' other counts = counts
 same-puts NoMemory b b' other counts = counts
 
-plain-end : (e : Ending) → IsPlain (status_of e) → e ≢ PutFault
-plain-end e plain same = plain.no_put_fault (ap status_of same)
+faultless-end : (e : Ending) → TellsNoFault (status_of e) → IsFaultless e
+faultless-end e calm = record {
+  no_read_fault = λ same. calm.no_read_fault (ap status_of same);
+  no_write_fault = λ same. calm.no_write_fault (ap status_of same);
+  no_put_fault = λ same. calm.no_put_fault (ap status_of same);
+}
 
-pub no_count : (s : ℕ) (a : Option Asked) (h h' : HostTold) (b b' : SinkTold) → EndsAt s a h h' b b' → IsPlain s →
+-- with a status that tells no fault, none was found
+found-faultless : (found said : Ending) (s : ℕ) (b b' : SinkTold) → IsSaidOf said found → Puts said s b b' → TellsNoFault s →
+    IsFaultless found × (b'.faults ≡ b.faults)
+found-faultless found said s b b' (inl same) (inl (is, whole)) calm =
+    (faultless-end found (subst TellsNoFault (is ∙ ap status_of same) calm), whole.no_fault)
+found-faultless found said s b b' (inr none) (inl (is, whole)) calm = (none.1, whole.no_fault)
+found-faultless found said s b b' says (inr (seven, part)) calm = absurd (calm.no_put_fault seven)
+
+pub no_count : (s : ℕ) (a : Option Asked) (h h' : HostTold) (b b' : SinkTold) → EndsAt s a h h' b b' → TellsNoFault s →
     (h'.read_faults ≡ h.read_faults) × (h'.write_faults ≡ h.write_faults) × (b'.faults ≡ b.faults)
-no_count s a h h' b b' e plain =
-    let f : SaysFound s a h h' b b' = says_found s a h h' b b' e plain.no_put_fault plain.no_want_of_memory in
-    let calm : IsPlain (status_of f.found) = subst IsPlain f.status plain in
-    let host : NoFault h h' = host-calm f.found a h h' b f.before f.ends.finds calm in
-    (host.read, host.write, f.whole.no_fault ∙ same-puts f.found b f.before (plain-end f.found calm) f.ends.counts)
+no_count s a h h' b b' e calm =
+    let f : IsFaultless e.found × (b'.faults ≡ e.before.faults) = found-faultless e.found e.said s e.before b' e.says e.puts calm in
+    let host : NoFault h h' = host-calm e.found a h h' b e.before e.ends.finds f.0 in
+    (host.read, host.write, f.1 ∙ same-puts e.found b e.before f.0.no_put_fault e.ends.counts)
 
 -- ---- Faults are counted
 

@@ -10,3 +10,4 @@ mod ProfileLaws
 mod DrivesRight
 mod GenerateLaws
 mod RightLaws
+mod ReadFaults

@@ -23,7 +23,7 @@ exec_unwritten CodeTooLong code trace h h' b b' ends = ends.left.written
 exec_unwritten ReadFault code trace h h' b b' (inl ends) = ends.0.written
 exec_unwritten ReadFault code trace h h' b b' (inr ends) = ends.1
 exec_unwritten PutFault code trace h h' b b' ends = ends.left.written
-exec_unwritten NoMemory code trace h h' b b' ends = ends.0
+exec_unwritten NoMemory code trace h h' b b' ends = ends.0.written
 exec_unwritten (Compiled rows systems functions) code trace h h' b b' ends = absurd ends
 exec_unwritten Usage code trace h h' b b' ends = absurd ends
 exec_unwritten (Reported text) code trace h h' b b' ends = absurd ends
@@ -45,7 +45,7 @@ profile_unwritten (IsStuck at) model h h' b b' ends = absurd ends.0
 profile_unwritten ReadFault model h h' b b' ends = ends.0.written
 profile_unwritten WriteFault model h h' b b' ends = absurd ends.0
 profile_unwritten PutFault model h h' b b' ends = absurd ends.0
-profile_unwritten NoMemory model h h' b b' ends = ends.0
+profile_unwritten NoMemory model h h' b b' ends = ends.0.written
 
 unasked-unwritten : (e : Ending) (h h' : HostTold) → EndsUnasked e h h' → h'.written ≡ h.written
 unasked-unwritten (Compiled rows systems functions) h h' ends = absurd ends
@@ -61,7 +61,7 @@ unasked-unwritten (IsStuck at) h h' ends = absurd ends
 unasked-unwritten ReadFault h h' ends = absurd ends
 unasked-unwritten WriteFault h h' ends = absurd ends
 unasked-unwritten PutFault h h' ends = absurd ends
-unasked-unwritten NoMemory h h' ends = ends
+unasked-unwritten NoMemory h h' ends = ends.written
 
 read-only : (e : Ending) (a : Option Asked) (h h' : HostTold) (b b' : SinkTold) → IsReadOnly a → Finds e a h h' b b' →
     h'.written ≡ h.written

@@ -8,9 +8,9 @@ use Rattle.mc_endings.specs.declared.ending.Ending.{Ending}
 use Rattle.mc_endings.specs.declared.ending.Ending.TheVariants.{ReadFault}
 use Rattle.mc_endings.specs.Told.{HostTold, SinkTold}
 use Rattle.mc_endings.specs.Endings.{EndsAt, IsSaidOf, Puts}
-use Rattle.mc_endings.specs.Statuses.{IsPlain, IsExactly, Comes, ComesExactly, OnTold, IsDone}
+use Rattle.mc_endings.specs.Statuses.{TellsNoFault, IsExactly, Comes, ComesExactly, OnTold, IsDone}
 use Rattle.mc_endings.specs.Headline.{WritesNothing, DoesRight}
-use Rattle.mc_endings.specs.Completeness.{CanDo, IsComplete, IsSureOf}
+use Rattle.mc_endings.specs.Completeness.{CanDo, IsComplete, IsSureOf, LacksOne}
 
 -- so it is with the status of each call, what was asked for, and what the host and the sink told
 -- before it and behind it
@@ -54,6 +54,19 @@ abbrev pub FiveIsReadFault : Type 0
 FiveIsReadFault = (found said : Ending) (s : ℕ) (b b' : SinkTold) → IsSaidOf said found →
     Puts said s b b' → s ≡ 5 → found ≡ ReadFault
 
+-- the host is sure of a file just where it is among these
+abbrev pub SureOfThere : HostTold → List File → Type 0
+SureOfThere h fs = (name : List ℕ) → h.sure name ≡ is_some (lookup name fs)
+
+-- if one of the files that are read isn't there, it is needed: what is asked for comes to no status
+abbrev pub IsNeeded : Asked → List File → Type 0
+IsNeeded a fs = LacksOne a fs → (n : ℕ) → Comes a fs n → ⊥
+
+-- over such a host, status 5 is given only where that file is needed
+abbrev pub FiveIsNeeded : Type 0
+FiveIsNeeded = OnEach (λ s a h h' b b'. OnTold a h (λ a fs. s ≡ 5 → SureOfThere h fs →
+    IsNeeded a fs))
+
 -- ---- Counts of faults
 
 -- a status that tells a fault comes with one that was counted
@@ -62,9 +75,9 @@ pub record FaultsAreCounted : Type 0 where
   pub write : OnEach (λ s a h h' b b'. s ≡ 6 → Rose h.write_faults h'.write_faults)
   pub put : OnEach (λ s a h h' b b'. s ≡ 7 → Rose b.faults b'.faults)
 
--- and with one that tells neither a fault nor want of memory no count rose
-abbrev pub PlainIsCalm : Type 0
-PlainIsCalm = OnEach (λ s a h h' b b'. IsPlain s →
+-- and with one that tells none no count rose
+abbrev pub FaultlessIsCalm : Type 0
+FaultlessIsCalm = OnEach (λ s a h h' b b'. TellsNoFault s →
     (h'.read_faults ≡ h.read_faults) × (h'.write_faults ≡ h.write_faults)
     × (b'.faults ≡ b.faults))
 

@@ -1,4 +1,4 @@
-ghost use Rattle.mc_endings_right.specs.Laws.{AreComplete, DoRight, EachIsExact, FaultsAreCounted, FiveIsReadFault, NothingIsWritten, PlainIsCalm, StatusesAreExact, SureAreDone, SureHostsAreSure, UsageIsExact};
+ghost use Rattle.mc_endings_right.specs.Laws.{AreComplete, DoRight, EachIsExact, FaultsAreCounted, FiveIsNeeded, FiveIsReadFault, NothingIsWritten, FaultlessIsCalm, StatusesAreExact, SureAreDone, SureHostsAreSure, UsageIsExact};
 
 use c_reading::readings_agree;
 use mc_driven::shapes_are_one;
@@ -44,14 +44,22 @@ pub fn five_is_read_fault()
     ensures { FiveIsReadFault }
 {}
 
+/// Over a host that is sure of a file just where it is there, status 5 comes only where the file that is missing is needed.
+pub fn five_is_needed()
+    ensures { FiveIsNeeded }
+{
+    one_verdict();
+    readings_agree();
+}
+
 /// Status 5, 6 and 7 come only with a fault of reading, writing or putting that was counted.
 pub fn faults_are_counted()
     ensures { FaultsAreCounted }
 {}
 
-/// With a status that tells neither a fault nor want of memory, no count of faults rose.
-pub fn plain_is_calm()
-    ensures { PlainIsCalm }
+/// With a status that tells no fault, no count of faults rose.
+pub fn faultless_is_calm()
+    ensures { FaultlessIsCalm }
 {}
 
 /// Where no count of faults rises, what can be done is done, unless memory runs out.

@@ -4,7 +4,7 @@
 mod laws;
 
 pub use laws::{
-    each_status_is_exact, endings_are_complete, endings_do_right, faults_are_counted,
-    five_is_read_fault, nothing_is_written, plain_is_calm, statuses_are_exact, sure_are_done,
-    sure_hosts_are_sure, usage_is_exact,
+    each_status_is_exact, endings_are_complete, endings_do_right, faultless_is_calm,
+    faults_are_counted, five_is_needed, five_is_read_fault, nothing_is_written, statuses_are_exact,
+    sure_are_done, sure_hosts_are_sure, usage_is_exact,
 };

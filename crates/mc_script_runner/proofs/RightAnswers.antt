@@ -3,6 +3,7 @@ use Rattle.std.proofs.Common.{◌≡◌, ◌≢◌, refl, sym, ◌∙◌, ap, su
 use Rattle.std.specs.Prelude.{ℤ, ⊤, Option, Err, Result, slice_index_or}
 use Rattle.std.specs.List.{AllByRecursion}
 use Rattle.std.proofs.lemmas.List.{append-nil, length-take}
+use Rattle.mc_edge.specs.Reading.{Source}
 use Rattle.c_syntax.specs.declared.fault.Cost.{Cost}
 use Rattle.c_syntax.specs.declared.fault.Stuck.{Stuck}
 use Rattle.mc_diagram.specs.Run.{value_at}

@@ -94,8 +94,7 @@ pub fn run_script<H: Host, S: Sink>(
         (standing driver.old totals.old (S.bytes sink.old))
         (standing driver.new totals.new (S.bytes sink.new)) }
     ensures end { OnOk result (IsAtEnd (H.rest host.new)) }
-    ensures untouched { IsErrOf result ScriptFault.Memory → source (H.rest host.new) (H.given host.new)
-        ≡ source (H.rest host.old) (H.given host.old) }
+    ensures untouched { IsErrOf result ScriptFault.Memory → H.rest host.new ≡ H.rest host.old }
     ensures right { (w : Driven) → StandsFor w driver.old [] → IsRightRun w result
         driver.old driver.new }
 

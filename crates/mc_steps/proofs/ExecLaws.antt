@@ -2,11 +2,12 @@
 use Rattle.std.proofs.Common.{◌≡◌, ℕ, ◌≤◌, ◌⊎◌, inl, inr, List, [], length, refl, sym, subst, ◌∙◌}
 use Rattle.std.specs.Prelude.{Some}
 use Rattle.mc_edge.specs.Faults.{Rose}
+use Rattle.mc_edge.specs.Reading.{RoseBy}
 use Rattle.c_meaning.specs.States.{MachineState, tree_of}
 use Rattle.mc_endings.specs.declared.ending.Ending.{Ending}
 use Rattle.mc_endings.specs.declared.ending.Ending.TheVariants.{Compiled, Ran, Reported, Usage, Refused, BadTrace, BadScript, CodeRefused, CodeTooLong, Stuck as IsStuck, ReadFault, WriteFault, PutFault, NoMemory}
 use Rattle.mc_words.specs.Words.{Exec}
-use Rattle.mc_endings.specs.Told.{HostTold, SinkTold}
+use Rattle.mc_endings.specs.Told.{HostTold, SinkTold, ReadsAlone}
 use Rattle.mc_endings.specs.Runs.{RunsTo}
 use Rattle.mc_endings.specs.EndingsOfModels.{OnNamed, OnBytes, OpensNothing, LeavesHost}
 use Rattle.mc_endings.specs.EndingsOfRuns.{ReadsToEnd, TakesFile, code_limit, StartsCode, ExecutesCode, LosesTraceOf, IsStuckAtStart}
@@ -26,6 +27,7 @@ left-twice h h1 h' a b = record {
 pub record CodeRead (code bytes : List ℕ) (m : MachineState) (h h1 : HostTold) : Type 0 where
   pub whole : OnNamed h code (λ x. bytes ≡ x)
   pub told : OnNamed h code (λ _. h1.rest ≡ Some [])
+  pub given : RoseBy (length bytes) h.given h1.given
   pub fits : length bytes ≤ code_limit
   pub starts : StartsFrom bytes m
   pub files : h1.files ≡ h.files
@@ -59,11 +61,13 @@ code-found e code trace bytes m h h1 h' b b' r end run = of-code code bytes m h 
 })
 
 code-lost : (code trace bytes : List ℕ) (m : MachineState) (h h1 h' : HostTold) (b b' : SinkTold) →
-    CodeRead code bytes m h h1 → OpensNothing h' b b' ⊎ TakesFile (tree_of m) m.program.inputs trace h1 h' b b' →
+    CodeRead code bytes m h h1 → OpensNothing 0 h1 h' b b' ⊎ TakesFile 0 (tree_of m) m.program.inputs trace h1 h' b b' →
     OnBytes h code (λ x. LosesTraceOf trace x h h' b b')
 code-lost code trace bytes m h h1 h' b b' r lines = of-code code bytes m h h1 (λ x. LosesTraceOf trace x h h' b b') r (record {
   starts = starts-code code bytes m h h1 r;
-  lines = lost code trace h h1 h' b b' (tree_of m) (tree_of m) m.program.inputs m.program.inputs r.told r.files (λ taken runs. runs) lines;
+  lines =
+      lost code trace (length bytes) h h1 h' b b' (tree_of m) (tree_of m) m.program.inputs m.program.inputs r.told r.files r.given
+      (λ taken runs. runs) lines;
 })
 
 exec-finds : (e : Ending) (code trace bytes : List ℕ) (m : MachineState) (h h1 h' : HostTold) (b b' : SinkTold) →
@@ -90,7 +94,7 @@ exec-finds ReadFault code trace bytes m h h1 h' b b' r run =
       run.written ∙ r.same.written,
       code-lost code trace bytes m h h1 h' b b' r run.lines,
     )
-exec-finds NoMemory code trace bytes m h h1 h' b b' r run = (run.written ∙ r.same.written, run.silent)
+exec-finds NoMemory code trace bytes m h h1 h' b b' r run = (left-twice h h1 h' r.same run.left, run.silent)
 exec-finds (Compiled rows systems functions) code trace bytes m h h1 h' b b' r run = absurd run
 exec-finds Usage code trace bytes m h h1 h' b b' r run = absurd run
 exec-finds (Reported text) code trace bytes m h h1 h' b b' r run = absurd run
@@ -107,20 +111,22 @@ exec_ends e code trace bytes m h h1 h' b b' r run counts =
 
 -- that code doesn't start: it is no program, or stuck in its start, or memory ran out
 pub exec_unstarted : (e : Ending) (code trace bytes : List ℕ) (h h1 : HostTold) (b : SinkTold) →
-    OnNamed h code (λ x. bytes ≡ x) → length bytes ≤ code_limit → LeavesHost h h1 → NotStarted bytes e →
+    OnNamed h code (λ x. bytes ≡ x) → length bytes ≤ code_limit → ReadsAlone code h h1 → LeavesHost h h1 → NotStarted bytes e →
     Ends e (Some (Exec code trace)) h h1 b b
-exec_unstarted NoMemory code trace bytes h h1 b whole fits left none = record { finds = (left.written, refl); counts = refl }
-exec_unstarted (CodeRefused fault) code trace bytes h h1 b whole fits left none = record {
+exec_unstarted NoMemory code trace bytes h h1 b whole fits alone left none = record { finds = (left, refl); counts = refl }
+exec_unstarted (CodeRefused fault) code trace bytes h h1 b whole fits alone left none = record {
   finds = record {
     code = record { bytes = bytes; file = there h.files h.rest code whole (λ x is. sym is); holds = (fits, none) };
+    read = alone;
     left = left;
     silent = refl;
   };
   counts = refl;
 }
-exec_unstarted (IsStuck at) code trace bytes h h1 b whole fits left none = record {
+exec_unstarted (IsStuck at) code trace bytes h h1 b whole fits alone left none = record {
   finds = inl (record {
     code = record { bytes = bytes; file = there h.files h.rest code whole (λ x is. sym is); holds = stuck-there };
+    read = alone;
     left = left;
     silent = refl;
   });
@@ -129,14 +135,14 @@ exec_unstarted (IsStuck at) code trace bytes h h1 b whole fits left none = recor
   where
     stuck-there : IsStuckAtStart at bytes
     stuck-there = record { fits = fits; program = none.0; reading = none.1; cells = none.2.0; start = none.2.1 }
-exec_unstarted (Compiled rows systems functions) code trace bytes h h1 b whole fits left none = absurd none
-exec_unstarted (Ran totals) code trace bytes h h1 b whole fits left none = absurd none
-exec_unstarted Usage code trace bytes h h1 b whole fits left none = absurd none
-exec_unstarted (Reported text) code trace bytes h h1 b whole fits left none = absurd none
-exec_unstarted (Refused refusal) code trace bytes h h1 b whole fits left none = absurd none
-exec_unstarted (BadTrace line) code trace bytes h h1 b whole fits left none = absurd none
-exec_unstarted (BadScript stop) code trace bytes h h1 b whole fits left none = absurd none
-exec_unstarted CodeTooLong code trace bytes h h1 b whole fits left none = absurd none
-exec_unstarted ReadFault code trace bytes h h1 b whole fits left none = absurd none
-exec_unstarted WriteFault code trace bytes h h1 b whole fits left none = absurd none
-exec_unstarted PutFault code trace bytes h h1 b whole fits left none = absurd none
+exec_unstarted (Compiled rows systems functions) code trace bytes h h1 b whole fits alone left none = absurd none
+exec_unstarted (Ran totals) code trace bytes h h1 b whole fits alone left none = absurd none
+exec_unstarted Usage code trace bytes h h1 b whole fits alone left none = absurd none
+exec_unstarted (Reported text) code trace bytes h h1 b whole fits alone left none = absurd none
+exec_unstarted (Refused refusal) code trace bytes h h1 b whole fits alone left none = absurd none
+exec_unstarted (BadTrace line) code trace bytes h h1 b whole fits alone left none = absurd none
+exec_unstarted (BadScript stop) code trace bytes h h1 b whole fits alone left none = absurd none
+exec_unstarted CodeTooLong code trace bytes h h1 b whole fits alone left none = absurd none
+exec_unstarted ReadFault code trace bytes h h1 b whole fits alone left none = absurd none
+exec_unstarted WriteFault code trace bytes h h1 b whole fits alone left none = absurd none
+exec_unstarted PutFault code trace bytes h h1 b whole fits alone left none = absurd none

@@ -6,6 +6,7 @@ use Rattle.std.specs.Io.KnownBytes.{append_known, prepend_known, IsAtEnd}
 use Rattle.mc_fixed.specs.declared.types.FixType.{FixType}
 use Rattle.mc_edge.specs.Faults.{Rose}
 use Rattle.mc_edge.specs.Files.{PutsFront}
+use Rattle.mc_edge.specs.Reading.{source}
 use Rattle.mc_trace.specs.declared.rows.BadLine.{BadLine}
 use Rattle.mc_trace.specs.Rows as trace
 use Rattle.c_syntax.specs.declared.fault.Stuck.{Stuck}
@@ -19,7 +20,7 @@ use Rattle.mc_runner.specs.Texts.{ticks_text}
 use Rattle.mc_runner.specs.Ticks.{Standing, standing, IsNarrower}
 use Rattle.mc_runner.specs.Runs.{no_totals, totals_of, added, ticks_over, RanWhole, StoppedAtLine, StoppedStuck, StoppedByOut, Parts, RunsOver}
 use Rattle.mc_endings.specs.declared.ending.Ending.TheVariants.{Ran, BadTrace, Stuck as IsStuck, PutFault}
-use Rattle.mc_endings.specs.Told.{HostTold, SinkTold}
+use Rattle.mc_endings.specs.Told.{HostTold, SinkTold, source_of}
 use Rattle.mc_endings.specs.Runs.{RunsWhole, RunsToBadLine, RunsToStuck, RunsToPutFault, RunsTaken}
 use Rattle.mc_endings.specs.EndingsOfModels.{OnNamed, OnBytes, LeavesHost}
 use Rattle.mc_endings.specs.EndingsOfRuns.{TakesFile}
@@ -128,18 +129,18 @@ module _ (m m' : MachineState) (types : List FixType) (taken : Totals) (b b' : S
 
 -- ---- Over a file
 
-module _ (m m' : MachineState) (types : List FixType) (taken : Totals) (rest : Option (List ℕ)) (name : List ℕ)
-    (h h' : HostTold) (b b' : SinkTold) (start : IsBehindStart m)
-    (opened : OnNamed h name (λ bytes. rest ≡ Some bytes)) where
+module _ (m m' : MachineState) (types : List FixType) (taken : Totals) (rest : Option (List ℕ)) (now : ℕ)
+    (name : List ℕ) (h h' : HostTold) (b b' : SinkTold) (start : IsBehindStart m)
+    (opened : OnNamed h name (λ bytes. rest ≡ Some bytes)) (kept : now ≡ h.given) where
   abbrev Over : Result (Unit {0}) RunFault → Type 0
-  Over result = RunsOver result rest h'.rest types (standing m no_totals b.bytes) (standing m' taken b'.bytes)
+  Over result = RunsOver result (source rest now) (source_of h') types (standing m no_totals b.bytes) (standing m' taken b'.bytes)
 
   abbrev bytes-of : Parts → List ℕ
   bytes-of parts = parts.taken ++ parts.left
 
   pub whole-file : LeavesHost h h' → IsAtEnd h'.rest → Over (Ok tt) → RunsFile (Ran taken) (tree_of m) types name h h' b b'
   whole-file left end over = record {
-    lines = on-file rest name h h' opened over.parts (λ bytes. RunsWhole taken (tree_of m) types bytes b b') over.took
+    lines = on-file rest name h h' opened over.parts (λ bytes. RunsWhole taken (tree_of m) types bytes b b') over.took.front
         over.left (whole_rows m m' types taken b b' start (bytes-of over.parts) over.ends);
     end = end;
     left = left;
@@ -149,14 +150,14 @@ module _ (m m' : MachineState) (types : List FixType) (taken : Totals) (rest : O
       RunsFile (BadTrace line) (tree_of m) types name h h' b b'
   bad-file line left over = record {
     lines = on-file rest name h h' opened over.parts (λ bytes. RunsToBadLine line (tree_of m) types bytes b b')
-        over.took over.left (bad_rows m m' types taken b b' start line (bytes-of over.parts) over.ends);
+        over.took.front over.left (bad_rows m m' types taken b b' start line (bytes-of over.parts) over.ends);
     end = tt;
     left = left;
   }
 
   pub stuck-file : (at : Stuck) → LeavesHost h h' → Over (Err (fault.Stuck at)) → RunsFile (IsStuck at) (tree_of m) types name h h' b b'
   stuck-file at left over = record {
-    lines = on-file rest name h h' opened over.parts (λ bytes. RunsToStuck at (tree_of m) types bytes b b') over.took
+    lines = on-file rest name h h' opened over.parts (λ bytes. RunsToStuck at (tree_of m) types bytes b b') over.took.front
         over.left (stuck_rows m m' types taken b b' start at (bytes-of over.parts) over.ends);
     end = tt;
     left = left;
@@ -164,17 +165,18 @@ module _ (m m' : MachineState) (types : List FixType) (taken : Totals) (rest : O
 
   pub cut-file : LeavesHost h h' → Over (Err fault.Out) → RunsFile PutFault (tree_of m) types name h h' b b'
   cut-file left over = record {
-    lines = on-file rest name h h' opened over.parts (λ bytes. RunsToPutFault (tree_of m) types bytes b b') over.took
+    lines = on-file rest name h h' opened over.parts (λ bytes. RunsToPutFault (tree_of m) types bytes b b') over.took.front
         over.left (cut_rows m m' types taken b b' start (bytes-of over.parts) over.ends);
     end = tt;
     left = left;
   }
 
   -- the lines of the whole lines among what was taken
-  takes-file : Over (Err fault.Read) → TakesFile (tree_of m) types name h h' b b'
+  takes-file : Over (Err fault.Read) → TakesFile 0 (tree_of m) types name h h' b b'
   takes-file over = record {
     taken = over.parts.taken;
-    file = there h.files h.rest name opened (λ told is. sym is ∙ over.took);
+    file = there h.files h.rest name opened (λ told is. sym is ∙ over.took.front);
+    given = let count = over.took.count in omega (arith, count, kept);
     lines = taken_rows m m' types taken b b' start over.parts.taken over.ends;
   }
 
@@ -182,5 +184,5 @@ module _ (m m' : MachineState) (types : List FixType) (taken : Totals) (rest : O
       MissesFile (tree_of m) types name h h' b b'
   lost-file rose written over = record { rose = rose; written = written; lines = inr (takes-file over) }
 
-  pub forget-file : h'.written ≡ h.written → b'.faults ≡ b.faults → Over (Err fault.Memory) → ForgetsFile h h' b b'
-  forget-file written faults over = record { written = written; silent = forget_rows m m' types taken b b' start faults over.ends.0 }
+  pub forget-file : LeavesHost h h' → b'.faults ≡ b.faults → Over (Err fault.Memory) → ForgetsFile h h' b b'
+  forget-file left faults over = record { left = left; silent = forget_rows m m' types taken b b' start faults over.ends.0 }

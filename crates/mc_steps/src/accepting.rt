@@ -20,9 +20,9 @@ pub const MOST_BYTES: usize = 16_777_216;
 /// `Refused` with the first refusal of the file's bytes, too many of them among the refusals; `ReadFault` only where the host
 /// counted a fault; and `NoMemory` where memory ran out.
 pub fn accept_file<H: Host>(alloc: Global, host: &mut H, model: &str) -> Result<Resolved, Ending>
-    ensures accepted { let at = told H.files H.rest H.written H.sure H.read_faults H.write_faults in
+    ensures accepted { let at = told H.files H.rest H.given H.written H.sure H.read_faults H.write_faults in
         IfOk result (λ r. AcceptsFile (table_of_tree r) model.now (at host.old) (at host.new)) }
-    ensures ended { let at = told H.files H.rest H.written H.sure H.read_faults H.write_faults in
+    ensures ended { let at = told H.files H.rest H.given H.written H.sure H.read_faults H.write_faults in
         IfErr result (λ ending. NotAccepted ending model.now (at host.old) (at host.new)) }
 {
     let bytes = match read_all(alloc, host, model, MOST_BYTES) {

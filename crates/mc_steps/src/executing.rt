@@ -27,7 +27,7 @@ pub fn exec_code<H: Host, S: Sink>(
     code: &str,
     trace: &str,
 ) -> Ending
-    ensures ends { let at = told H.files H.rest H.written H.sure H.read_faults H.write_faults in
+    ensures ends { let at = told H.files H.rest H.given H.written H.sure H.read_faults H.write_faults in
         let sink = sink_told S.bytes S.faults in
         Ends result (Some (Exec code.now trace.now)) (at host.old) (at host.new) (sink out.old)
         (sink out.new) }

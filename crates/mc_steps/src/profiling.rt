@@ -16,7 +16,7 @@ use std::alloc::Global;
 /// It ends with `Reported` and the text where the rules accept the file, `Refused` with its first refusal, too many bytes among
 /// the refusals, `ReadFault` only where the host counted a fault, and `NoMemory` where memory ran out.
 pub fn profile_model<H: Host>(alloc: Global, host: &mut H, model: &str) -> Ending
-    ensures ends { let at = told H.files H.rest H.written H.sure H.read_faults H.write_faults in
+    ensures ends { let at = told H.files H.rest H.given H.written H.sure H.read_faults H.write_faults in
         EndsProfiling result model.now (at host.old) (at host.new) }
     ensures unsure { IfReadFault result (H.sure host.old model.now ≡ false) }
 {

@@ -25,7 +25,7 @@ pub fn drive_file<H: Host, S: Sink>(
     driver: &mut Driver,
     script: &str,
 ) -> Ending
-    ensures ends { let at = told H.files H.rest H.written H.sure H.read_faults H.write_faults in
+    ensures ends { let at = told H.files H.rest H.given H.written H.sure H.read_faults H.write_faults in
         let sink = sink_told S.bytes S.faults in
         (w : Driven) → StandsFor w driver.old [] →
         DriveEnds result w script.now (at host.old) (at host.new) (sink out.old) (sink out.new) }

@@ -30,7 +30,7 @@ pub fn run_file<H: Host, S: Sink>(
 ) -> Ending
     requires start { IsBehindStart machine.old }
     requires types { AllZip IsNarrower types.now machine.old.program.inputs }
-    ensures ends { let at = told H.files H.rest H.written H.sure H.read_faults H.write_faults in
+    ensures ends { let at = told H.files H.rest H.given H.written H.sure H.read_faults H.write_faults in
         let sink = sink_told S.bytes S.faults in
         RunEnds result (tree_of machine.old) types.now trace.now (at host.old) (at host.new)
         (sink out.old) (sink out.new) }

@@ -2,11 +2,11 @@
 use Rattle.std.proofs.Common.{◌≡◌, ◌≢◌, ℕ, inr, List, refl, subst}
 use Rattle.std.specs.Prelude.{Option, Some, None, IfSome}
 use Rattle.mc_endings.specs.declared.ending.Ending.{Ending}
-use Rattle.mc_endings.specs.declared.ending.Ending.TheVariants.{PutFault, NoMemory}
+use Rattle.mc_endings.specs.declared.ending.Ending.TheVariants.{NoMemory}
 use Rattle.mc_words.specs.Words.{Asked}
 use Rattle.mc_endings.specs.Texts.{no_memory_line}
 use Rattle.mc_endings.specs.Told.{HostTold, SinkTold}
-use Rattle.mc_endings.specs.Endings.{Ends, EndsAt, IsSaidOf, PutsText, Puts}
+use Rattle.mc_endings.specs.Endings.{Ends, EndsAt, IsFaultless, IsSaidOf, PutsText, Puts}
 use Rattle.mc_endings.specs.Completeness.{IfReadFault}
 use Rattle.mc_endings_right.specs.Laws.{FiveIsReadFault}
 
@@ -16,7 +16,7 @@ ended found said s a h h' b before b' ends says puts =
     record { found = found; said = said; before = before; ends = ends; says = says; puts = puts }
 
 -- the text for want of memory was put in the place of another
-pub said_no_memory : (found : Ending) (status s : ℕ) (text : List ℕ) (b b' : SinkTold) → found ≢ PutFault →
+pub said_no_memory : (found : Ending) (status s : ℕ) (text : List ℕ) (b b' : SinkTold) → IsFaultless found →
     status ≡ 10 → text ≡ no_memory_line → PutsText status text s b b' → (e : Ending) × IsSaidOf e found × Puts e s b b'
 said_no_memory found status s text b b' other is same puts = (
   NoMemory,

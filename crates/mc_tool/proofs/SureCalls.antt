@@ -1,16 +1,16 @@
 -- A host that is sure of the files that are read has no fault of reading.
 use Rattle.std.proofs.Common.{◌≡◌, ◌≢◌, ℕ, inl, inr, List, refl, sym, subst, ◌∙◌, arith}
-use Rattle.std.specs.Prelude.{Bool, true, false, Option, Some, None, IfSome, IsSomeAnd}
+use Rattle.std.specs.Prelude.{Bool, true, false, Option, Some, None, IfSome, IsSomeAnd, is_some}
 use Rattle.mc_edge.specs.Faults.{Rose, IsCalm}
 use Rattle.mc_edge.specs.Fakes.{SureHostState}
-use Rattle.mc_edge.specs.Files.{File}
+use Rattle.mc_edge.specs.Files.{File, lookup}
 use Rattle.mc_words.specs.Words.{Asked}
 use Rattle.mc_endings.specs.Told.{HostTold, SinkTold}
 use Rattle.mc_endings.specs.Endings.{EndsAt}
 use Rattle.mc_endings.specs.Statuses.{ComesExactly, OnTold, IsDone}
-use Rattle.mc_endings.specs.Completeness.{CanDo, first_file, second_file, IsSureOf, IsUnsureOf, BecomesUnsureOf}
-use Rattle.mc_endings.proofs.lemmas.Files.{told-map}
-use Rattle.mc_endings_right.specs.Laws.{SureAreDone, SureHostsAreSure, told_files, has_file}
+use Rattle.mc_endings.specs.Completeness.{CanDo, first_file, second_file, IsSureOf, IsUnsureOf, BecomesUnsureOf, LacksOne, LacksFile}
+use Rattle.mc_endings.proofs.lemmas.Files.{at_there, told-map}
+use Rattle.mc_endings_right.specs.Laws.{SureAreDone, SureHostsAreSure, IsNeeded, told_files, has_file}
 
 -- ---- A host that is sure of its files
 
@@ -57,6 +57,32 @@ surely law (Some a) h fs s same done = λ can.
 pub surely_comes : (a : Option Asked) (h : SureHostState) (fs : List File) (s : ℕ) → h.files ≡ fs →
     IfSome a (λ a. ComesExactly s a h.files) → IfSome a (λ a. ComesExactly s a fs)
 surely_comes a h fs s same comes = subst (λ (x : List File). IfSome a (λ a. ComesExactly s a x)) same comes
+
+absent : (o : Option (List ℕ)) → is_some o ≡ false → o ≡ None
+absent None none = refl
+absent (Some bytes) none = cc
+
+same-files : (later h : SureHostState) → told_files later ≡ told_files h → later.files ≡ h.files
+same-files later h e = cc
+
+-- that it is not sure of a file means that the file isn't there
+pub surely_lacks : (a : Option Asked) (h : SureHostState) (fs : List File) (s : ℕ) → h.files ≡ fs →
+    IfSome a (λ a. s ≡ 5 → IsUnsureOf told_files has_file h a) →
+    IfSome a (λ a. s ≡ 5 → ((name : List ℕ) → has_file h name ≡ is_some (lookup name h.files)) → IsNeeded a h.files) →
+    IfSome a (λ a. s ≡ 5 → LacksFile a fs)
+surely_lacks None h fs s same unsure needed = tt
+surely_lacks (Some a) h fs s same unsure needed = λ five. record {
+  one = lacks (unsure five);
+  needed = subst (λ (x : List File). IsNeeded a x) same (needed five (λ name. refl)) (lacks (unsure five));
+}
+  where
+    lacks : IsUnsureOf told_files has_file h a → LacksOne a fs
+    lacks (inl first) =
+        inl (at_there (first_file a) first
+        (λ name is. subst (λ (x : List File). lookup name x ≡ None) same (absent (lookup name h.files) is)))
+    lacks (inr second) =
+        inr (at_there (second_file a) second (λ name u.
+        subst (λ (x : List File). lookup name x ≡ None) (same-files u.later h u.same ∙ same) (absent (lookup name u.later.files) u.unsure)))
 
 -- a count that stands still below its greatest value has not risen
 pub unrisen : (s n : ℕ) → (s ≡ n → Rose 0 0) → s ≢ n

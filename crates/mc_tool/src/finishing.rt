@@ -2,7 +2,7 @@ ghost use Rattle.std.specs.Prelude.{◌≡◌, IfOk, MatchResult, string_bytes};
 ghost use Rattle.mc_endings.specs.declared.ending.Ending.{Ending};
 ghost use Rattle.mc_endings.specs.Told.{sink_told};
 ghost use Rattle.mc_endings.specs.Texts.{script_stop_line};
-ghost use Rattle.mc_endings.specs.Endings.{text_of, status_of, IsSaidOf, PutsText, Puts};
+ghost use Rattle.mc_endings.specs.Endings.{text_of, status_of, IsFaultless, IsSaidOf, PutsText, Puts};
 
 use mc_base::Memory;
 use mc_edge::{Failed, Sink, put_all};
@@ -97,17 +97,30 @@ fn put_text<S: Sink>(out: &mut S, status: u8, text: &[u8]) -> u8
     }
 }
 
-/// Puts an ending's text, or the text for want of memory, and says the status. Where a line couldn't be put, nothing more is.
-pub fn finish<S: Sink>(alloc: Global, out: &mut S, ending: Ending) -> u8
+// Prints the text of an ending that tells no fault, or that memory ran out, and says the status.
+fn put_made<S: Sink>(alloc: Global, out: &mut S, ending: Ending) -> u8
+    requires { IsFaultless ending }
     ensures { let at = sink_told S.bytes S.faults in
         (e : Ending) × IsSaidOf e ending × Puts e result (at out.old) (at out.new) }
 {
     let found = status(&ending);
-    if let Ending::PutFault = ending {
-        return put_text(out, found, b"");
-    }
     match text(alloc, ending) {
         Ok(text) => put_text(out, found, &text),
-        Err(Memory) => put_text(out, status(&Ending::NoMemory), b"no memory\n"),
+        Err(Memory) => put_text(out, 10, b"no memory\n"),
+    }
+}
+
+/// Prints an ending's text and says the status. Where there is no memory for it that is told instead, but not of a fault. Where a
+/// line couldn't be printed, nothing more is.
+pub fn finish<S: Sink>(alloc: Global, out: &mut S, ending: Ending) -> u8
+    ensures { let at = sink_told S.bytes S.faults in
+        (e : Ending) × IsSaidOf e ending × Puts e result (at out.old) (at out.new) }
+{
+    match ending {
+        Ending::PutFault => put_text(out, 7, b""),
+        // A fault is told also where memory has run out.
+        Ending::ReadFault => put_text(out, 5, b"read fault\n"),
+        Ending::WriteFault => put_text(out, 6, b"write fault\n"),
+        other => put_made(alloc, out, other),
     }
 }

@@ -22,7 +22,7 @@ impl<R: Env> Env for WithoutName<'_, R> {
     }
 }
 
-/// The words behind the program's name.
+/// The words after the program's name.
 ///
 /// Fails where one is no text, and where memory runs out.
 pub fn words_of(rt: &(impl Env + AllocGlobal)) -> io::Result<Vec<String>> {

@@ -28,7 +28,7 @@ rose_by_taken before now n bytes within rose =
 pub read_nothing : (s : Source) → HasRead [] s s
 read_nothing s = record { front = prepend_known-none s.rest; count = omega arith }
 
--- what was read, and what was read behind it
+-- what was read, and what was read after it
 pub read_both : (a b : List ℕ) (s s' s'' : Source) → HasRead a s s' → HasRead b s' s'' → HasRead (a ++ b) s s''
 read_both a b s s' s'' first then_more = record {
   front = first.front ∙ ap (prepend_known a) then_more.front ∙ prepend_known-twice a b s''.rest;

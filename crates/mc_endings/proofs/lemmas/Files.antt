@@ -3,7 +3,8 @@ use Rattle.std.proofs.Common.{◌≡◌, ◌<◌, ◌+◌, List, ℕ, length, re
 use Rattle.std.proofs.lemmas.List.{length-replicate}
 use Rattle.std.specs.Prelude.{Option, Some, None, IsSomeAnd, IfSome, OnSome}
 use Rattle.mc_edge.specs.Files.{File, OnFile, lookup}
-use Rattle.mc_endings.specs.Told.{HostTold}
+use Rattle.mc_edge.specs.Reading.{Source, ReadsFront}
+use Rattle.mc_endings.specs.Told.{HostTold, source_of, ReadsAlone, ReadsNone}
 use Rattle.mc_endings.specs.EndingsOfModels.{OnNamed, OnBytes}
 
 -- P holds of the file of this name, if it is there and told
@@ -70,6 +71,10 @@ some_bytes h name {P = P} known other holds = by h.files h.rest refl refl known
     by None rest none same known = record { bytes = other; file = rw none tt; holds = holds }
     by (Some fs) None told none known = record { bytes = other; file = rw (told, none) tt; holds = holds }
     by (Some fs) (Some xs) told rest known = at fs xs (lookup name fs) told rest refl known
+
+-- where nothing more is read, it is still that file alone
+pub still_alone : (name : List ℕ) (h h1 h' : HostTold) → ReadsAlone name h h1 → ReadsNone h1 h' → ReadsAlone name h h'
+still_alone name h h1 h' alone none = subst (λ (s : Source). ReadsFront h.files name (source_of h) s) (sym none) alone
 
 -- a file that is longer than n bytes, where it is told
 pub longer_than : (h : HostTold) (name : List ℕ) (n : ℕ) → OnNamed h name (λ x. n < length x) → OnBytes h name (λ x. n < length x)

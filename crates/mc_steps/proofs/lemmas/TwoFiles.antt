@@ -1,9 +1,10 @@
 -- Two files of a host, one read after the other.
-use Rattle.std.proofs.Common.{◌≡◌, ℕ, ◌⊎◌, inl, inr, List, [], subst}
+use Rattle.std.proofs.Common.{◌≡◌, ℕ, ◌+◌, ◌⊎◌, inl, inr, List, [], length, subst, arith}
 use Rattle.std.specs.Prelude.{Option, Some, None, IsSomeAnd}
 use Rattle.std.specs.Io.KnownBytes.{prepend_known}
 use Rattle.mc_fixed.specs.declared.types.FixType.{FixType}
 use Rattle.mc_edge.specs.Files.{File, OnFile, lookup}
+use Rattle.mc_edge.specs.Reading.{RoseBy}
 use Rattle.c_syntax.specs.Tree.{ProgramTree}
 use Rattle.mc_endings.specs.Told.{HostTold, SinkTold}
 use Rattle.mc_endings.specs.Runs.{RunsTaken}
@@ -36,14 +37,29 @@ on-bytes first name h h1 P Q told files q known = record {
   holds = q known.bytes known.holds;
 }
 
--- what was put of a trace that was lost
-pub lost : (first name : List ℕ) (h h1 h' : HostTold) (b b' : SinkTold) (p q : ProgramTree) (types others : List FixType) →
-    OnNamed h first (λ _. h1.rest ≡ Some []) → h1.files ≡ h.files →
+-- so many bytes were given, and then more
+pub rose_behind : (n more before between now : ℕ) → RoseBy n before between → RoseBy (0 + more) between now →
+    RoseBy (n + more) before now
+rose_behind n more before between now rose again = omega (arith, rose, again)
+
+-- the second file couldn't be opened
+pub unopened_behind : (n : ℕ) (h h1 h' : HostTold) (b b' : SinkTold) → RoseBy n h.given h1.given → OpensNothing 0 h1 h' b b' →
+    OpensNothing n h h' b b'
+unopened_behind n h h1 h' b b' rose unopened = record {
+  end = unopened.end;
+  given = let again = unopened.given in omega (arith, rose, again);
+  silent = unopened.silent;
+}
+
+-- what was printed of a trace that was lost after so many bytes of the first file
+pub lost : (first name : List ℕ) (n : ℕ) (h h1 h' : HostTold) (b b' : SinkTold) (p q : ProgramTree) (types others : List FixType) →
+    OnNamed h first (λ _. h1.rest ≡ Some []) → h1.files ≡ h.files → RoseBy n h.given h1.given →
     ((taken : List ℕ) → RunsTaken p types taken b b' → RunsTaken q others taken b b') →
-    OpensNothing h' b b' ⊎ TakesFile p types name h1 h' b b' → OpensNothing h' b b' ⊎ TakesFile q others name h h' b b'
-lost first name h h1 h' b b' p q types others told files moved (inl unopened) = inl unopened
-lost first name h h1 h' b b' p q types others told files moved (inr takes) = inr (record {
+    OpensNothing 0 h1 h' b b' ⊎ TakesFile 0 p types name h1 h' b b' → OpensNothing n h h' b b' ⊎ TakesFile n q others name h h' b b'
+lost first name n h h1 h' b b' p q types others told files rose moved (inl unopened) = inl (unopened_behind n h h1 h' b b' rose unopened)
+lost first name n h h1 h' b b' p q types others told files rose moved (inr takes) = inr (record {
   taken = takes.taken;
   file = retold first name h h1 (λ x. Some x ≡ prepend_known takes.taken h'.rest) told files takes.file;
+  given = rose_behind n (length takes.taken) h.given h1.given h'.given rose takes.given;
   lines = moved takes.taken takes.lines;
 })

@@ -27,13 +27,13 @@ returns-in-Ok-started-clause-ends g c =
     let compiled : Compilation = c.in-Ok.compiled in
     let m : MachineState = c.in-Ok-started.machine in
     let before : HostTold =
-    told g.H.Host.files g.H.Host.rest g.H.Host.written g.H.Host.sure g.H.Host.read_faults g.H.Host.write_faults
+    told g.H.Host.files g.H.Host.rest g.H.Host.given g.H.Host.written g.H.Host.sure g.H.Host.read_faults g.H.Host.write_faults
     c.args.host.now in
     let between : HostTold =
-    told g.H.Host.files g.H.Host.rest g.H.Host.written g.H.Host.sure g.H.Host.read_faults g.H.Host.write_faults
+    told g.H.Host.files g.H.Host.rest g.H.Host.given g.H.Host.written g.H.Host.sure g.H.Host.read_faults g.H.Host.write_faults
     c.compile_into.new.host in
     let after : HostTold =
-    told g.H.Host.files g.H.Host.rest g.H.Host.written g.H.Host.sure g.H.Host.read_faults g.H.Host.write_faults
+    told g.H.Host.files g.H.Host.rest g.H.Host.given g.H.Host.written g.H.Host.sure g.H.Host.read_faults g.H.Host.write_faults
     c.run_file.new.host in
     let writes : WritesCompiled compiled c.args.model.now c.args.code.now before between = c.in-Ok.ensures.compiled in
     let same : c.deref.result.now ≡ compiled.code = search rules in

@@ -10,11 +10,11 @@ use Rattle.mc_commands.proofs.compiling.compile_into.Goals as goal
 pub returns-clause-compiled : goal.returns-clause-compiled
 returns-clause-compiled g c =
     let before : HostTold =
-    told g.H.Host.files g.H.Host.rest g.H.Host.written g.H.Host.sure g.H.Host.read_faults g.H.Host.write_faults c.args.host.now in
+    told g.H.Host.files g.H.Host.rest g.H.Host.given g.H.Host.written g.H.Host.sure g.H.Host.read_faults g.H.Host.write_faults c.args.host.now in
     let between : HostTold =
-    told g.H.Host.files g.H.Host.rest g.H.Host.written g.H.Host.sure g.H.Host.read_faults g.H.Host.write_faults c.accept_file.new.host in
+    told g.H.Host.files g.H.Host.rest g.H.Host.given g.H.Host.written g.H.Host.sure g.H.Host.read_faults g.H.Host.write_faults c.accept_file.new.host in
     let after : HostTold =
-    told g.H.Host.files g.H.Host.rest g.H.Host.written g.H.Host.sure g.H.Host.read_faults g.H.Host.write_faults c.write_code.new.host in
+    told g.H.Host.files g.H.Host.rest g.H.Host.given g.H.Host.written g.H.Host.sure g.H.Host.read_faults g.H.Host.write_faults c.write_code.new.host in
     let r : ResolvedTable = table_of_tree c.in-Ok.resolved in
     IfOk-weaker c.write_code.result
     (λ (x : Compilation). WritesCodeOf r x c.args.code.now between after)
@@ -25,11 +25,11 @@ returns-clause-compiled g c =
 pub returns-clause-ended : goal.returns-clause-ended
 returns-clause-ended g c =
     let before : HostTold =
-    told g.H.Host.files g.H.Host.rest g.H.Host.written g.H.Host.sure g.H.Host.read_faults g.H.Host.write_faults c.args.host.now in
+    told g.H.Host.files g.H.Host.rest g.H.Host.given g.H.Host.written g.H.Host.sure g.H.Host.read_faults g.H.Host.write_faults c.args.host.now in
     let between : HostTold =
-    told g.H.Host.files g.H.Host.rest g.H.Host.written g.H.Host.sure g.H.Host.read_faults g.H.Host.write_faults c.accept_file.new.host in
+    told g.H.Host.files g.H.Host.rest g.H.Host.given g.H.Host.written g.H.Host.sure g.H.Host.read_faults g.H.Host.write_faults c.accept_file.new.host in
     let after : HostTold =
-    told g.H.Host.files g.H.Host.rest g.H.Host.written g.H.Host.sure g.H.Host.read_faults g.H.Host.write_faults c.write_code.new.host in
+    told g.H.Host.files g.H.Host.rest g.H.Host.given g.H.Host.written g.H.Host.sure g.H.Host.read_faults g.H.Host.write_faults c.write_code.new.host in
     let r : ResolvedTable = table_of_tree c.in-Ok.resolved in
     IfErr-weaker c.write_code.result
     (λ (e : Ending). NotWritten e r c.args.code.now between after)

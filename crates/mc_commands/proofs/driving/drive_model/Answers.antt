@@ -19,13 +19,13 @@ returns-in-Err-write_code-clause-ends g c =
 pub returns-in-Ok-driver_in-clause-ends : goal.returns-in-Ok-driver_in-clause-ends
 returns-in-Ok-driver_in-clause-ends g c =
     let before : HostTold =
-    told g.H.Host.files g.H.Host.rest g.H.Host.written g.H.Host.sure g.H.Host.read_faults g.H.Host.write_faults c.args.host.now in
+    told g.H.Host.files g.H.Host.rest g.H.Host.given g.H.Host.written g.H.Host.sure g.H.Host.read_faults g.H.Host.write_faults c.args.host.now in
     let between : HostTold =
-    told g.H.Host.files g.H.Host.rest g.H.Host.written g.H.Host.sure g.H.Host.read_faults g.H.Host.write_faults c.accept_file.new.host in
+    told g.H.Host.files g.H.Host.rest g.H.Host.given g.H.Host.written g.H.Host.sure g.H.Host.read_faults g.H.Host.write_faults c.accept_file.new.host in
     let later : HostTold =
-    told g.H.Host.files g.H.Host.rest g.H.Host.written g.H.Host.sure g.H.Host.read_faults g.H.Host.write_faults c.write_code.new.host in
+    told g.H.Host.files g.H.Host.rest g.H.Host.given g.H.Host.written g.H.Host.sure g.H.Host.read_faults g.H.Host.write_faults c.write_code.new.host in
     let after : HostTold =
-    told g.H.Host.files g.H.Host.rest g.H.Host.written g.H.Host.sure g.H.Host.read_faults g.H.Host.write_faults c.drive_file.new.host in
+    told g.H.Host.files g.H.Host.rest g.H.Host.given g.H.Host.written g.H.Host.sure g.H.Host.read_faults g.H.Host.write_faults c.drive_file.new.host in
     let put : SinkTold = sink_told g.S.Sink.bytes g.S.Sink.faults c.args.out.now in
     let puts : SinkTold = sink_told g.S.Sink.bytes g.S.Sink.faults c.drive_file.new.out in
     let r : ResolvedTable = table_of_tree c.in-Ok.resolved in
@@ -45,11 +45,11 @@ returns-in-Ok-driver_in-clause-unsure g c =
 pub returns-clause-ends : goal.returns-clause-ends
 returns-clause-ends g c =
     let before : HostTold =
-    told g.H.Host.files g.H.Host.rest g.H.Host.written g.H.Host.sure g.H.Host.read_faults g.H.Host.write_faults c.args.host.now in
+    told g.H.Host.files g.H.Host.rest g.H.Host.given g.H.Host.written g.H.Host.sure g.H.Host.read_faults g.H.Host.write_faults c.args.host.now in
     let between : HostTold =
-    told g.H.Host.files g.H.Host.rest g.H.Host.written g.H.Host.sure g.H.Host.read_faults g.H.Host.write_faults c.accept_file.new.host in
+    told g.H.Host.files g.H.Host.rest g.H.Host.given g.H.Host.written g.H.Host.sure g.H.Host.read_faults g.H.Host.write_faults c.accept_file.new.host in
     let later : HostTold =
-    told g.H.Host.files g.H.Host.rest g.H.Host.written g.H.Host.sure g.H.Host.read_faults g.H.Host.write_faults c.write_code.new.host in
+    told g.H.Host.files g.H.Host.rest g.H.Host.given g.H.Host.written g.H.Host.sure g.H.Host.read_faults g.H.Host.write_faults c.write_code.new.host in
     let put : SinkTold = sink_told g.S.Sink.bytes g.S.Sink.faults c.args.out.now in
     let r : ResolvedTable = table_of_tree c.in-Ok.resolved in
     let s : Option ℕ = c.in-Some.system.row in

@@ -13,21 +13,21 @@ use Rattle.mc_commands.proofs.generating.make_into.Goals as goal
 pub returns-in-Err-Refused-clause-ended : goal.returns-in-Err-Refused-clause-ended
 returns-in-Err-Refused-clause-ended g c =
     let before : HostTold =
-    told g.H.Host.files g.H.Host.rest g.H.Host.written g.H.Host.sure g.H.Host.read_faults g.H.Host.write_faults
+    told g.H.Host.files g.H.Host.rest g.H.Host.given g.H.Host.written g.H.Host.sure g.H.Host.read_faults g.H.Host.write_faults
     c.args.host.now in
     let same : c.deref.result.now ≡ model_text c.args.start c.args.size = search rules in
     let why : IsFaultOf c.deref.result.now (fault.Refused c.in-Err-Refused.refusal) = search rules in
     let left : LeavesHost before before = record { written = refl; no_fault = record { read = refl; write = refl } } in
     unmade_refused c.in-Err-Refused.refusal c.args.start c.args.size c.args.model.now c.args.code.now before before
-    (subst (λ (x : List ℕ). IsFaultOf x (fault.Refused c.in-Err-Refused.refusal)) same why) left
+    (subst (λ (x : List ℕ). IsFaultOf x (fault.Refused c.in-Err-Refused.refusal)) same why) refl left
 
 pub returns-clause-ended : goal.returns-clause-ended
 returns-clause-ended g c =
     let before : HostTold =
-    told g.H.Host.files g.H.Host.rest g.H.Host.written g.H.Host.sure g.H.Host.read_faults g.H.Host.write_faults
+    told g.H.Host.files g.H.Host.rest g.H.Host.given g.H.Host.written g.H.Host.sure g.H.Host.read_faults g.H.Host.write_faults
     c.args.host.now in
     let after : HostTold =
-    told g.H.Host.files g.H.Host.rest g.H.Host.written g.H.Host.sure g.H.Host.read_faults g.H.Host.write_faults
+    told g.H.Host.files g.H.Host.rest g.H.Host.given g.H.Host.written g.H.Host.sure g.H.Host.read_faults g.H.Host.write_faults
     c.write_both.new.host in
     let compiled : Compilation = c.in-Ok-compile.compiled in
     let text : List ℕ = model_text c.args.start c.args.size in

@@ -6,9 +6,10 @@ use Rattle.mc_steps.proofs.accepting.accept_file.Goals as goal
 pub returns-in-Err-TooLong-clause-ended : goal.returns-in-Err-TooLong-clause-ended
 returns-in-Err-TooLong-clause-ended g c =
     let before : HostTold =
-    told g.H.Host.files g.H.Host.rest g.H.Host.written g.H.Host.sure g.H.Host.read_faults g.H.Host.write_faults c.args.host.now in
+    told g.H.Host.files g.H.Host.rest g.H.Host.given g.H.Host.written g.H.Host.sure g.H.Host.read_faults g.H.Host.write_faults c.args.host.now in
     record {
       model = long-file before c.args.model.now (c.in-Err-TooLong.ensures.too_long (search rules));
+      read = c.in-Err-TooLong.ensures.front (λ e. cc);
       written = search rules;
       no_fault = record { read = search rules; write = search rules };
     }

@@ -23,11 +23,12 @@ run_file-requires-clause-types g c =
 pub returns-in-Err-TooLong-clause-ends : goal.returns-in-Err-TooLong-clause-ends
 returns-in-Err-TooLong-clause-ends g c =
     let before : HostTold =
-    told g.H.Host.files g.H.Host.rest g.H.Host.written g.H.Host.sure g.H.Host.read_faults g.H.Host.write_faults
+    told g.H.Host.files g.H.Host.rest g.H.Host.given g.H.Host.written g.H.Host.sure g.H.Host.read_faults g.H.Host.write_faults
     c.args.host.now in
     record {
       finds = record {
         code = longer_than before c.args.code.now code_limit (c.in-Err-TooLong.ensures.too_long (search rules));
+        read = c.in-Err-TooLong.ensures.front (λ e. cc);
         left = record { written = search rules; no_fault = record { read = search rules; write = search rules } };
         silent = refl;
       };
@@ -38,10 +39,10 @@ pub returns-in-Err-clause-ends : goal.returns-in-Err-clause-ends
 returns-in-Err-clause-ends g c =
     let bytes : List ℕ = c.in-Ok.bytes.items in
     let before : HostTold =
-    told g.H.Host.files g.H.Host.rest g.H.Host.written g.H.Host.sure g.H.Host.read_faults g.H.Host.write_faults
+    told g.H.Host.files g.H.Host.rest g.H.Host.given g.H.Host.written g.H.Host.sure g.H.Host.read_faults g.H.Host.write_faults
     c.args.host.now in
     let between : HostTold =
-    told g.H.Host.files g.H.Host.rest g.H.Host.written g.H.Host.sure g.H.Host.read_faults g.H.Host.write_faults
+    told g.H.Host.files g.H.Host.rest g.H.Host.given g.H.Host.written g.H.Host.sure g.H.Host.read_faults g.H.Host.write_faults
     c.read_all.new.host in
     let same : c.deref.result.now ≡ bytes = search rules in
     let fits : length bytes ≤ code_limit =
@@ -50,20 +51,20 @@ returns-in-Err-clause-ends g c =
     let left : LeavesHost before between =
     record { written = search rules; no_fault = record { read = search rules; write = search rules } } in
     let unstarted : NotStarted bytes c.in-Err.ending = subst (λ (x : List ℕ). NotStarted x c.in-Err.ending) same (search rules) in
-    exec_unstarted c.in-Err.ending c.args.code.now c.args.trace.now bytes before between _ c.in-Ok.ensures.whole fits left unstarted
+    exec_unstarted c.in-Err.ending c.args.code.now c.args.trace.now bytes before between _ c.in-Ok.ensures.whole fits (c.in-Ok.ensures.front (λ e. cc)) left unstarted
 
 pub returns-clause-ends : goal.returns-clause-ends
 returns-clause-ends g c =
     let bytes : List ℕ = c.in-Ok.bytes.items in
     let m : MachineState = c.in-Ok-started.machine in
     let before : HostTold =
-    told g.H.Host.files g.H.Host.rest g.H.Host.written g.H.Host.sure g.H.Host.read_faults g.H.Host.write_faults
+    told g.H.Host.files g.H.Host.rest g.H.Host.given g.H.Host.written g.H.Host.sure g.H.Host.read_faults g.H.Host.write_faults
     c.args.host.now in
     let between : HostTold =
-    told g.H.Host.files g.H.Host.rest g.H.Host.written g.H.Host.sure g.H.Host.read_faults g.H.Host.write_faults
+    told g.H.Host.files g.H.Host.rest g.H.Host.given g.H.Host.written g.H.Host.sure g.H.Host.read_faults g.H.Host.write_faults
     c.read_all.new.host in
     let after : HostTold =
-    told g.H.Host.files g.H.Host.rest g.H.Host.written g.H.Host.sure g.H.Host.read_faults g.H.Host.write_faults
+    told g.H.Host.files g.H.Host.rest g.H.Host.given g.H.Host.written g.H.Host.sure g.H.Host.read_faults g.H.Host.write_faults
     c.run_file.new.host in
     let put : SinkTold = sink_told g.S.Sink.bytes g.S.Sink.faults c.args.out.now in
     let later : SinkTold = sink_told g.S.Sink.bytes g.S.Sink.faults c.run_file.new.out in
@@ -74,6 +75,7 @@ returns-clause-ends g c =
     let read : CodeRead c.args.code.now bytes m before between = record {
       whole = c.in-Ok.ensures.whole;
       told = c.in-Ok.ensures.told;
+      given = search rules;
       fits = subst (λ (x : List ℕ). length x ≤ code_limit) same
           (subst (λ (n : ℕ). n ≤ code_limit) (sym c.deref.ensures.len) c.in-Ok.ensures.fits);
       starts = starts;

@@ -1,7 +1,7 @@
 use Rattle.std.proofs.Common.{ap}
 use Rattle.mc_edge.specs.Fakes.{SureHostState, files_of}
 use Rattle.mc_words.specs.Words.{word_bytes, asked_by}
-use Rattle.mc_tool.proofs.SureCalls.{surely, surely_comes, unrisen}
+use Rattle.mc_tool.proofs.SureCalls.{surely, surely_comes, surely_lacks, unrisen}
 use Rattle.mc_tool.proofs.running.run_surely.Goals as goal
 
 pub returns-clause-done : goal.returns-clause-done
@@ -15,6 +15,12 @@ returns-clause-comes c =
     surely_comes (asked_by (word_bytes c.args.words.now)) c.new-host.result
     (files_of c.args.files.items) c.run_tool.result (ap (λ (s : SureHostState). s.files) c.new-host.ensures)
     c.run_tool.ensures.comes
+
+pub returns-clause-missing : goal.returns-clause-missing
+returns-clause-missing c =
+    surely_lacks (asked_by (word_bytes c.args.words.now)) c.new-host.result (files_of c.args.files.items) c.run_tool.result
+    (ap (λ (s : SureHostState). s.files) c.new-host.ensures) c.run_tool.ensures.unsure
+    (c.five_is_needed.ensures _ _ _ _ _ _ c.run_tool.ensures.ended)
 
 pub returns-clause-never : goal.returns-clause-never
 returns-clause-never c = (

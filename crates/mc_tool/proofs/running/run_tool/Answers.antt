@@ -38,7 +38,7 @@ pub returns-clause-put_fault : goal.returns-clause-put_fault
 returns-clause-put_fault g c = c.faults_are_counted.ensures.put _ _ _ _ _ _ c.run.ensures.ended
 
 pub returns-clause-no_fault : goal.returns-clause-no_fault
-returns-clause-no_fault g c = c.plain_is_calm.ensures _ _ _ _ _ _ c.run.ensures.ended
+returns-clause-no_fault g c = c.faultless_is_calm.ensures _ _ _ _ _ _ c.run.ensures.ended
 
 pub returns-clause-complete : goal.returns-clause-complete
 returns-clause-complete g c = c.endings_are_complete.ensures _ _ _ _ _ _ c.run.ensures.ended
