@@ -1,6 +1,6 @@
 -- Runs over a script's file, which is read in pieces.
 use Rattle.std.proofs.Common.{◌≡◌, ◌≢◌, refl, sym, ◌∙◌, ap, subst, ℕ, List, [], ◌++◌, length, take, drop, append_assoc, arith}
-use Rattle.std.specs.Prelude.{Result, Ok, Err, MatchResult}
+use Rattle.std.specs.Prelude.{None, Result, Ok, Err, MatchResult}
 use Rattle.std.specs.Io.KnownBytes.{IsAtEnd}
 use Rattle.std.proofs.lemmas.List.{append-nil, take-append-drop}
 use Rattle.mc_edge.specs.Files.{PutsFront}
