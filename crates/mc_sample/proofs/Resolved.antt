@@ -13,18 +13,12 @@ use Rattle.mc_diagram.specs.Diagram.{op_in, IsResolved}
 use Rattle.mc_diagram.specs.ResolvedTree.{ResolvedTree, diagram_of}
 use Rattle.mc_sample.specs.Rows.{rich_rows, rich_table}
 use Rattle.mc_sample.specs.RichModel.{second_ticks, RichModel}
-use Rattle.mc_sample.proofs.Made.{rich_root, rich_systems}
+use Rattle.mc_sample.proofs.Made.{rich_systems}
+use Rattle.mc_sample.proofs.Models.{model}
+use Rattle.mc_sample.proofs.Needed.{rich_needs}
 use Rattle.mc_sample.proofs.Formed.{rich_is_well_formed}
 use Rattle.mc_sample.proofs.Typed.{rich_types_accepted, rich_types}
 use Rattle.mc_sample.proofs.Falling.{no-loop}
-
-abbrev model : RowTimes → ResolvedTree
-model times = record {
-  tree = record { table = rich_table; root = rich_root };
-  types = types_of_rows rich_rows;
-  ops = by_row rich_rows (op_in rich_rows (types_of_rows rich_rows) times.delays);
-  times = times;
-}
 
 written_right : written_time_refusal rich_table ≡ None
 written_right = refl
@@ -61,4 +55,5 @@ rich_model_is_there have_times inputs one =
       fast = one rich_table 0 (slice_index_or times.0.run 0 every_tick) every_tick (times.1.run 0 (lit< tt)) first_time;
       slow = one rich_table 11 (slice_index_or times.0.run 11 every_tick) second_ticks (times.1.run 11 (lit< tt)) held_time;
       cycle = times.1.hyper ∙ rich_cycle;
+      needs = rich_needs times.0;
     }

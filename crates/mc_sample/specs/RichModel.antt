@@ -1,10 +1,10 @@
 -- What is known of the model: it is resolved, without a loop, and has two rates.
-use Rattle.std.specs.Prelude.{◌≡◌}
+use Rattle.std.specs.Prelude.{◌≡◌, [], ◌∷◌, None}
 use Rattle.std.proofs.Common.{lit≤}
 use Rattle.mc_diagram.specs.declared.times.Time.{Time}
 use Rattle.mc_diagram.specs.SampleTimes.{every_tick}
 use Rattle.mc_diagram.specs.Diagram.{time_at}
-use Rattle.mc_diagram.specs.Needs.{needs_of, HasNoLoop}
+use Rattle.mc_diagram.specs.Needs.{needs_of, HasNoLoop, AreTrueNeeds}
 use Rattle.mc_diagram.specs.ResolvedTree.{ResolvedTree, IsResolvedTree, diagram_of}
 use Rattle.mc_sample.specs.Rows.{rich_table}
 
@@ -21,3 +21,6 @@ pub record RichModel : Type 0 where
   pub fast : time_at (diagram_of model) 0 ≡ every_tick
   pub slow : time_at (diagram_of model) 11 ≡ second_ticks
   pub cycle : model.times.hyper ≡ 2
+  -- Out1 needs In1, Out2 both inputs and Out3 In2, so each has a function of its own; the first two
+  -- share In1 and what is held
+  pub needs : AreTrueNeeds (diagram_of model) None (1 ∷ 3 ∷ 2 ∷ [])

@@ -1,0 +1,16 @@
+-- Models that have right code.
+use Rattle.mc_diagram.specs.Needs.{needs_of, HasNoLoop}
+use Rattle.mc_diagram.specs.ResolvedTree.{ResolvedTree, IsResolvedTree, diagram_of}
+use Rattle.c_syntax.specs.Tree.{ProgramTree}
+use Rattle.c_assembly.specs.Whole.{IsAssembled}
+use Rattle.mc_sample.specs.RichModel.{RichModel}
+
+-- no resolved model without a loop is one for which there is no right code
+abbrev pub EachModelHasCode : Type 0
+EachModelHasCode = (r : ResolvedTree) → IsResolvedTree r → HasNoLoop (needs_of (diagram_of r)) →
+    (p : ProgramTree) × IsAssembled r r.times.hyper p
+
+-- the model of many parts, and a program that is right code for it
+abbrev pub RichModelHasCode : Type 0
+RichModelHasCode =
+    (rich : RichModel) × (p : ProgramTree) × IsAssembled rich.model rich.model.times.hyper p
