@@ -68,9 +68,10 @@ class Drawing:
             found = self.switch("Not above", wanted, greatest, self.compare("Is above", source, ">", greatest), found)
         return found
 
-    def finish(self, output: Port) -> None:
-        """The block becomes a subsystem with this output."""
-        self.add("Outport", "Out1", (output,))
+    def finish(self, output: Port, wanted: FixType) -> None:
+        """The block becomes a subsystem with this output. Where that is an input as it is, the type is written at the Outport."""
+        typed = {"OutDataTypeStr": wanted.text()} if output in self.inputs else {}
+        self.add("Outport", "Out1", (output,), **typed)
         self.block.kind, self.block.system = "SubSystem", self.system
         self.block.own, self.block.defaults, self.block.written = kept(self.block), {}, {}
 
@@ -140,7 +141,7 @@ class Artist:
         drawing = Drawing(row.block, 1)
         how = {"RndMeth": text_of(row.block, "RndMeth"), "SaturateOnIntegerOverflow": "on"}
         value = drawing.converted("Converted", drawing.inputs[0], given[0], wanted, **how)
-        drawing.finish(drawing.limited(value, wanted, lower, upper))
+        drawing.finish(drawing.limited(value, wanted, lower, upper), wanted)
 
     def min_max(self, row: Row, given: list[FixType], wanted: FixType) -> None:
         """Each input in the output's type, and then one after another the least or the greatest."""
@@ -155,7 +156,7 @@ class Artist:
         found = values[0]
         for at, value in enumerate(values[1:], 2):
             found = drawing.switch(f"Best of {at}", wanted, value, drawing.compare(f"Is better {at}", value, sign, found), found)
-        drawing.finish(found)
+        drawing.finish(found, wanted)
 
     def absolute(self, row: Row, given: list[FixType], wanted: FixType) -> None:
         """The input or its negative, each converted once from the exact number."""
@@ -165,7 +166,7 @@ class Artist:
         if given[0].signed:
             minus = drawing.add("Sum", "Minus", (value,), Inputs="-", OutDataTypeStr=wanted.text(), **how)
             found = drawing.switch("Choose", wanted, found, value, minus, "u2 >= Threshold")
-        drawing.finish(found)
+        drawing.finish(found, wanted)
 
     def compare_to_constant(self, row: Row, given: list[FixType], wanted: FixType) -> None:
         """The input compared with a number in the input's type."""
@@ -179,14 +180,16 @@ class Artist:
         """The input compared with a constant."""
         drawing = Drawing(row.block, 1)
         constant = drawing.constant("Constant", text, given)
-        drawing.finish(drawing.compare("Compare", drawing.inputs[0], text_of(row.block, "relop"), constant, OutDataTypeStr=wanted.text()))
+        truth = drawing.compare("Compare", drawing.inputs[0], text_of(row.block, "relop"), constant, OutDataTypeStr=wanted.text())
+        drawing.finish(truth, wanted)
 
     def bias(self, row: Row, given: list[FixType], wanted: FixType) -> None:
         """The input and a number in its type, summed."""
         text, drawing = self.fitting(row.block, "Bias", given[0]), Drawing(row.block, 1)
         saturates = text_of(row.block, "SaturateOnIntegerOverflow")
         sources = drawing.inputs[0], drawing.constant("Bias", text, wanted)
-        drawing.finish(drawing.add("Sum", "Sum", sources, OutDataTypeStr=wanted.text(), SaturateOnIntegerOverflow=saturates))
+        total = drawing.add("Sum", "Sum", sources, OutDataTypeStr=wanted.text(), SaturateOnIntegerOverflow=saturates)
+        drawing.finish(total, wanted)
 
     def sign(self, row: Row, _given: list[FixType], wanted: FixType) -> None:
         """1, 0 or -1 in the input's type."""
@@ -199,7 +202,7 @@ class Artist:
             minus = drawing.constant("Minus one", "-1", wanted)
             found = drawing.switch("Not below", wanted, found, value, minus, "u2 >= Threshold")
         found = drawing.switch("Above", wanted, drawing.constant("One", "1", wanted), value, found, "u2 > Threshold")
-        drawing.finish(found)
+        drawing.finish(found, wanted)
 
     def relay(self, row: Row, given: list[FixType], wanted: FixType) -> None:
         """On from one threshold, off down to the other, and else as before; off at first."""
@@ -218,7 +221,7 @@ class Artist:
         now_on = drawing.add("Logic", "On", (is_high, kept_on), Operator="OR")
         drawing.connect(was_on.block, (now_on,))
         outputs = drawing.constant("On output", high, wanted), drawing.constant("Off output", low, wanted)
-        drawing.finish(drawing.switch("Output", wanted, outputs[0], now_on, outputs[1]))
+        drawing.finish(drawing.switch("Output", wanted, outputs[0], now_on, outputs[1]), wanted)
 
     def integrator(self, row: Row, _given: list[FixType], wanted: FixType) -> None:
         """The state of before, and then the state and the input times gain and period, each in the output's type, between the limits."""
@@ -232,7 +235,7 @@ class Artist:
         step = drawing.add("Gain", "Step", drawing.inputs, Gain=gain, OutDataTypeStr=wanted.text(), **how)
         total = drawing.add("Sum", "Next", (state, step), OutDataTypeStr=wanted.text(), **how)
         drawing.connect(state.block, (drawing.limited(total, wanted, lower, upper),))
-        drawing.finish(state)
+        drawing.finish(state, wanted)
 
     def gain(self, row: Row) -> str:
         """The gain of an integrator times its period, as mdlc reads it."""

@@ -144,6 +144,14 @@ class RewritingTest(unittest.TestCase):
                 if outcome.text is not None:
                     self.assertNotIsInstance(verdict(outcome.text), str)
 
+    def test_a_type_that_breaks_a_ring(self) -> None:
+        """A block that is drawn keeps the type that it writes, also where it passes its input on."""
+        for kind, more in (("MinMax", {"Inputs": "1"}), ("Saturate", {"UpperLimit": "inf", "LowerLimit": "-inf"}), ("Abs", {})):
+            blocks = [block_text(kind, "b", {**more, "OutDataTypeStr": "uint16"}), block_text("UnitDelay", "z", {}), OUTPORT]
+            lines = [line_text("b", "1", "z", "1"), line_text("z", "1", "b", "1"), line_text("b", "1", "Out1", "1")]
+            outcome = imported("m.mdl", model_text(blocks, lines).encode(), Scope())
+            self.assertNotIsInstance(verdict(outcome.text or ""), str)
+
     def test_depth(self) -> None:
         """A block that is drawn is a subsystem, of which 32 may be around each other."""
         for depth, is_taken in ((31, True), (32, False)):
