@@ -69,8 +69,8 @@ class Drawing:
         return found
 
     def finish(self, output: Port, wanted: FixType) -> None:
-        """The block becomes a subsystem with this output. Where that is an input as it is, the type is written at the Outport."""
-        typed = {"OutDataTypeStr": wanted.text()} if output in self.inputs else {}
+        """The block becomes a subsystem with this output. Where that is an input as it is, type and time are written at the Outport."""
+        typed = {"OutDataTypeStr": wanted.text(), **self.time} if output in self.inputs else {}
         self.add("Outport", "Out1", (output,), **typed)
         self.block.kind, self.block.system = "SubSystem", self.system
         self.block.own, self.block.defaults, self.block.written = kept(self.block), {}, {}

@@ -146,7 +146,9 @@ class RewritingTest(unittest.TestCase):
 
     def test_a_type_that_breaks_a_ring(self) -> None:
         """A block that is drawn keeps the type that it writes, also where it passes its input on."""
-        for kind, more in (("MinMax", {"Inputs": "1"}), ("Saturate", {"UpperLimit": "inf", "LowerLimit": "-inf"}), ("Abs", {})):
+        limits = {"UpperLimit": "inf", "LowerLimit": "-inf"}
+        kinds: list[tuple[str, dict[str, str]]] = [("MinMax", {"Inputs": "1"}), ("Saturate", limits), ("Abs", {})]
+        for kind, more in kinds:
             blocks = [block_text(kind, "b", {**more, "OutDataTypeStr": "uint16"}), block_text("UnitDelay", "z", {}), OUTPORT]
             lines = [line_text("b", "1", "z", "1"), line_text("z", "1", "b", "1"), line_text("b", "1", "Out1", "1")]
             outcome = imported("m.mdl", model_text(blocks, lines).encode(), Scope())
