@@ -3,10 +3,11 @@
 from collections.abc import Mapping
 from fractions import Fraction
 
+from .bits import exact_point
 from .catalogue import AUTO, FIRST, RULE, SAME
 from .findings import Word, quoted
-from .formats import FLOATS, FixType, fixed_type, number, period_and_offset, quantized, whole
-from .graph import WITHOUT_VALUE, Row, controls_of, has_parameter, text_of
+from .formats import BOOLEAN, FLOATS, FixType, fixed_type, number, period_and_offset, quantized, whole
+from .graph import WITHOUT_VALUE, Row, controls_of, has_parameter, inputs_of, text_of
 from .model import Block, Model
 from .sample_times import time_text
 from .signal_types import Found, NoType, Why
@@ -46,6 +47,7 @@ class Judge:
         self.floats()
         self.missing_types()
         self.unlike_types()
+        self.roundings()
         self.rules()
 
     def counts(self) -> None:
@@ -148,6 +150,24 @@ class Judge:
             if written is not None and isinstance(given, FixType) and source.kind != "Ground" and given != written:
                 says = f"it writes {written.text()}, and its input has {given.text()} (F17)."
                 self.refused(block, says, "Put a DataTypeConversion before it, or let it inherit.")
+
+    def given(self, row: Row) -> list[FixType]:
+        """The types of all inputs of a block, or none where one isn't known. A Ground counts as boolean."""
+        found = [BOOLEAN if it.kind == "Ground" else self.types[it] for it in row.inputs()]
+        given = [it for it in found if isinstance(it, FixType)]
+        return given if len(given) == len(inputs_of(row.block)) else []
+
+    def roundings(self) -> None:
+        """Blocks whose rounding is left to Simulink: where no bit is lost, each is the same."""
+        for block in [it for it in self.rows if it.rounds_as_it_likes]:
+            given, wanted = self.given(self.rows[block]), self.types[block]
+            is_known = bool(given) and isinstance(wanted, FixType) and block.kind != "DiscreteIntegrator"
+            if is_known and isinstance(wanted, FixType) and exact_point(block, given) <= wanted.point:
+                says = "RndMeth is `Simplest`, which mdlc doesn't read (F8); nothing is rounded here."
+                self.model.says(Word.REWRITTEN, self.rows[block].path, block, says, "mdlc-import writes `Floor`.")
+            else:
+                says = "RndMeth is `Simplest`, so Simulink chooses how it rounds (F8)."
+                self.refused(block, says, "Write `Floor`, or how it shall round.")
 
     def rules(self) -> None:
         """Inherited types that Simulink may choose otherwise."""

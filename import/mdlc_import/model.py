@@ -19,7 +19,8 @@ class Mask:
 @dataclass(eq=False)
 class Block:
     """A block. `own` are the parameters that it writes, `written` those that go into the plain model, and `broken` those
-    that aren't taken, so that nothing more is said of what follows from them."""
+    that aren't taken, so that nothing more is said of what follows from them. `rounds_as_it_likes` says that its rounding
+    is left to Simulink."""
 
     kind: str
     name: str
@@ -30,6 +31,7 @@ class Block:
     mask: Mask | None = None
     written: dict[str, str] = field(default_factory=dict)
     broken: set[str] = field(default_factory=set)
+    rounds_as_it_likes: bool = False
 
     def text(self, name: str) -> str | None:
         """The text of a parameter in the file: its own, else that of the defaults."""

@@ -138,6 +138,9 @@ class Settler:
         text = self.type_text(parameter) if parameter.form is Form.TYPE else self.raw(parameter.name)
         if text is None:
             return
+        if parameter.name == "RndMeth" and text == "Simplest":
+            self.block.rounds_as_it_likes = True
+            return
         try:
             settled = self.settled(parameter, text)
         except NoValue as fault:

@@ -2,12 +2,12 @@
 
 from collections.abc import Mapping
 from fractions import Fraction
-from functools import lru_cache
 from math import gcd, lcm
 
+from .bits import bits_for, exact_point, fitted, gain_constant
 from .catalogue import NATIVE
-from .formats import BOOLEAN, FixType, fixed_type, nearest, number, quantized, whole
-from .graph import Row, inputs_of, text_of
+from .formats import FixType, number, whole
+from .graph import Row, text_of
 from .judge import Judge, Rows, Types, controls_around
 from .model import TRIGGER, Block, Model
 from .sample_times import groups_of, outmost_trigger, times_before, written_time
@@ -54,20 +54,17 @@ class WideJudge(Judge):
 
     def bits(self, row: Row) -> int:
         """The bits that a row needs, or 0 where that isn't known."""
-        block, sources, wanted = row.block, row.inputs(), self.types[row.block]
-        found = [BOOLEAN if it.kind == "Ground" else self.types[it] for it in sources]
-        given = [it for it in found if isinstance(it, FixType)]
-        is_known = len(given) == len(found) == len(inputs_of(block)) and isinstance(wanted, FixType)
-        if block.system is not None or block.kind not in NATIVE or not given or not is_known or not isinstance(wanted, FixType):
+        block, given, wanted = row.block, self.given(row), self.types[row.block]
+        if block.system is not None or block.kind not in NATIVE or not given or not isinstance(wanted, FixType):
             return 0
         point = max(it.point for it in given)
         most = max(it.magnitude() + point - it.point for it in given)
         match block.kind:
             case "Gain":
-                constant, places = gain_constant(block)
-                return fitted(given[0].magnitude() + bits_for(abs(constant)), given[0].point + places, wanted)
+                bits = given[0].magnitude() + bits_for(abs(gain_constant(block)[0]))
+                return fitted(bits, exact_point(block, given), wanted)
             case "Product":
-                return fitted(sum(it.magnitude() for it in given), sum(it.point for it in given), wanted)
+                return fitted(sum(it.magnitude() for it in given), exact_point(block, given), wanted)
             case "Switch" | "DataTypeConversion":
                 return max(fitted(it.magnitude(), it.point, wanted) for it in given[::2])
             case "Sum":
@@ -148,35 +145,6 @@ class WideJudge(Judge):
             return row.block.kind in ("UnitDelay", "Delay", "DiscreteIntegrator")
         outside, before = written_time(row.block), self.times.get(row.block)
         return outmost_trigger(row) is None and outside is not None and before is not None and outside[0] < before[0]
-
-
-def fitted(bits: int, point: int, wanted: FixType) -> int:
-    """The bits of a value that is brought into a type."""
-    return max(bits + max(0, wanted.point - point), point - wanted.point, 0)
-
-
-def bits_for(count: int) -> int:
-    """The least b with a count of at most 2 to the b."""
-    return (count - 1).bit_length() if count else 0
-
-
-def gain_constant(block: Block) -> tuple[int, int]:
-    """The whole number of a Gain, and how many of its bits are after the point."""
-    gain = number(text_of(block, "Gain")) or Fraction(0)
-    written = fixed_type(text_of(block, "ParamDataTypeStr"))
-    if written is not None:
-        return int(quantized(gain, written) * 2**written.point), written.point
-    return best_constant(gain)
-
-
-@lru_cache(maxsize=4096)
-def best_constant(gain: Fraction) -> tuple[int, int]:
-    """A number with as many bits after the point as leave it in 32 bits with a sign."""
-    point = max((it for it in range(32) if -(2**31) <= nearest(gain * 2**it) < 2**31), default=0)
-    constant = nearest(gain * 2**point)
-    while point and constant % 2 == 0:
-        constant, point = constant // 2, point - 1
-    return constant, point
 
 
 def shortest(needs: Mapping[Block, list[Block]], group: list[Block], order: Mapping[Block, int]) -> list[Block]:

@@ -154,6 +154,22 @@ class RewritingTest(unittest.TestCase):
             outcome = imported("m.mdl", model_text(blocks, lines).encode(), Scope())
             self.assertNotIsInstance(verdict(outcome.text or ""), str)
 
+    def test_rounding_left_open(self) -> None:
+        """`Simplest` is any rounding where no bit is lost: 0.5 times 8 bits after the point has 9 of them."""
+        for wanted, is_taken in (("fixdt(1,32,9)", True), ("fixdt(1,32,8)", False)):
+            text = around("Gain", {"Gain": "0.5", "RndMeth": "Simplest", "OutDataTypeStr": wanted}, ["fixdt(1,16,8)"])
+            outcome = imported("m.mdl", text.encode(), Scope())
+            self.assertEqual(outcome.text is not None, is_taken)
+            self.assertIn("`Simplest`", outcome.findings[0].text())
+            self.assertNotIn("RndMeth", outcome.text or "")
+
+    def test_links(self) -> None:
+        """Notes vanish; a link to a library of one's own is refused by its path, once."""
+        for source, is_taken in (("simulink/Model-Wide\\nUtilities/DocBlock", True), ("mine/Filter", False)):
+            blocks = [INPORT, block_text("Reference", "r", {"SourceBlock": source}), OUTPORT]
+            outcome = imported("m.mdl", model_text(blocks, [line_text("In1", "1", "Out1", "1")]).encode(), Scope())
+            self.assertEqual((outcome.text is not None, len(outcome.findings)), (is_taken, 1))
+
     def test_depth(self) -> None:
         """A block that is drawn is a subsystem, of which 32 may be around each other."""
         for depth, is_taken in ((31, True), (32, False)):
