@@ -8,7 +8,8 @@ from .judging import DATA, lines_of, trace_of, verdict
 from mdlc_import.importing import Outcome, imported
 from mdlc_import.values import Scope
 
-REFUSALS = DATA.parents[2] / "examples" / "refusals"
+EXAMPLES = DATA.parents[2] / "examples"
+REFUSALS = EXAMPLES / "refusals"
 
 
 def outcome_of(name: str, text: str) -> Outcome:
@@ -29,6 +30,21 @@ class CaseTest(unittest.TestCase):
                 written = outcome_of(path.name, text).text or ""
                 trace = trace_of(verdict(text), 7, 50)
                 self.assertEqual(lines_of(written, trace), lines_of(text, trace))
+
+    def test_whole_texts(self) -> None:
+        """Two of the models, and what is written of them, line by line."""
+        for path in sorted(DATA.glob("*.plain")):
+            model = (DATA / "models" / f"{path.stem}.mdl").read_bytes().decode("latin-1")
+            self.assertEqual(outcome_of("m.mdl", model).text, path.read_text("latin-1"))
+
+    def test_gallery(self) -> None:
+        """The models of the gallery are written so that they give the same numbers."""
+        paths = sorted(EXAMPLES.glob("*/model.mdl"))
+        self.assertTrue(paths)
+        for path in paths:
+            text = path.read_bytes().decode("latin-1")
+            trace = trace_of(verdict(text), 11, 40)
+            self.assertEqual(lines_of(outcome_of(path.name, text).text or "", trace), lines_of(text, trace), path)
 
     def test_findings_of_models(self) -> None:
         """Of the ten models two have something that Simulink may take otherwise."""
