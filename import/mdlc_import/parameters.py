@@ -98,8 +98,8 @@ class Settler:
         block = self.block
         if block.kind == "Memory":
             self.says(Word.REWRITTEN, "mdlc has no block of this type (F7).", "mdlc-import writes a UnitDelay.")
-            block.kind, block.own = "UnitDelay", {**{"InitialCondition": block.text("X0") or "0"}, **block.own, "SampleTime": "-1"}
-            block.defaults = {}
+            start = self.raw("InitialCondition") or "0"
+            block.kind, block.own, block.defaults = "UnitDelay", {**block.own, "InitialCondition": start, "SampleTime": "-1"}, {}
         if block.kind not in KNOWN:
             advice = ADVICE.get(block.kind, OTHER_ADVICE)
             if block.kind == "Reference":
@@ -108,7 +108,7 @@ class Settler:
             return
         if block.kind == "SubSystem" and block.system is None:
             self.says(Word.REFUSED, "it holds no System (F7).")
-        if block.kind in DRAWN and block.kind not in ("CompareToConstant", "CompareToZero"):
+        if block.kind in DRAWN and "SourceBlock" not in block.own:
             self.says(Word.REWRITTEN, "mdlc has no block of this type (F7).", "mdlc-import draws a subsystem that computes it.")
         for parameter in sorted(KNOWN[block.kind], key=lambda it: it.form is not Form.TYPE):
             self.parameter(parameter)

@@ -210,6 +210,14 @@ class BlockTest(unittest.TestCase):
         text = plain(around("DiscreteIntegrator", {"gainval": "2", "SampleTime": "0.5", "OutDataTypeStr": "int16"}, ["int16"]))
         self.assertEqual(lines_of(text, [[5], [-2], [0], [100]]), [[0], [5], [3], [3]])
 
+    def test_memory_by_defaults(self) -> None:
+        """The initial condition of a Memory under either of its names, of the block or of the defaults."""
+        defaults = 'BlockParameterDefaults {\nBlock {\nBlockType Memory\n%s "3"\n}\n}'
+        for name in ("X0", "InitialCondition"):
+            for own, start in (({}, 3), ({"X0": "5"}, 5), ({"InitialCondition": "-2"}, -2)):
+                text = plain(around("Memory", {str(key): str(it) for key, it in dict(own).items()}, ["int16"], defaults % name))
+                self.assertEqual(lines_of(text, [[9], [8]]), [[start], [9]])
+
     def test_memory(self) -> None:
         text = plain(around("Memory", {"X0": "7"}, ["int16"]))
         trace = trace_of(verdict(text), 3, TICKS)
