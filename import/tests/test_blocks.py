@@ -213,9 +213,10 @@ class BlockTest(unittest.TestCase):
     def test_memory_by_defaults(self) -> None:
         """The initial condition of a Memory under either of its names, of the block or of the defaults."""
         defaults = 'BlockParameterDefaults {\nBlock {\nBlockType Memory\n%s "3"\n}\n}'
+        owns: list[tuple[dict[str, str], int]] = [({}, 3), ({"X0": "5"}, 5), ({"InitialCondition": "-2"}, -2)]
         for name in ("X0", "InitialCondition"):
-            for own, start in (({}, 3), ({"X0": "5"}, 5), ({"InitialCondition": "-2"}, -2)):
-                text = plain(around("Memory", {str(key): str(it) for key, it in dict(own).items()}, ["int16"], defaults % name))
+            for own, start in owns:
+                text = plain(around("Memory", own, ["int16"], defaults % name))
                 self.assertEqual(lines_of(text, [[9], [8]]), [[start], [9]])
 
     def test_memory(self) -> None:
