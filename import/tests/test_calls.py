@@ -10,7 +10,7 @@ from pathlib import Path
 
 from .archives import archive_of, parts_of
 from .drawings import around, block_text, line_text, model_text
-from .judging import DATA, MDLC, TOP, verdict
+from .judging import DATA, MDLC, TOP, lines_of, verdict
 
 from mdlc_import.cli import run
 from mdlc_import.importing import imported
@@ -53,6 +53,17 @@ class CallTest(unittest.TestCase):
         self.assertEqual(sorted(os.listdir(self.folder)), ["m.mdl", "out.mdl", "values.m"])
         self.assertEqual(run([out, "-o", str(self.folder / "again.mdl")])[0], 0)
         self.assertEqual((self.folder / "again.mdl").read_text("latin-1"), written)
+
+    def test_example_of_the_page(self) -> None:
+        """With 8 bits after the point: 10 times 2.5 is 25; 100 times 2.5 is above the type's 128, and the limit is 64."""
+        out = str(self.folder / "plain.mdl")
+        status, text = run([str(DATA / "example.mdl"), "-o", out, "--values", str(DATA / "example.m")])
+        self.assertEqual(status, 0, text)
+        page = (TOP / "docs" / "IMPORT.md").read_text("utf-8")
+        for line in [it.strip() for it in page.split("\n") if it.startswith(("    rewritten ", "    written "))]:
+            self.assertIn(line.replace("plain.mdl", out), text)
+        written = Path(out).read_text("latin-1")
+        self.assertEqual(lines_of(written, [[2560], [25600], [-25600], [1]]), [[6400], [16384], [-16384], [2]])
 
     def test_statuses(self) -> None:
         model = self.write("m.mdl", around("Gain", {}, ["int16"]))
