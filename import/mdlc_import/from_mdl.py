@@ -63,11 +63,23 @@ def mask_of(section: Section) -> Mask | None:
     code = parameters.get("MaskInitialization", "")
     for mask in [it for it in section.sections("Object") if it.parameters().get("$ClassName") == "Simulink.Mask"]:
         code += mask.parameters().get("Initialization", "")
-        for one in mask.below():
-            inside = one.parameters()
-            if inside.get("$ClassName") == "Simulink.MaskParameter" and "Name" in inside:
-                pairs.append((inside["Name"], inside.get("Value", "") if inside.get("Evaluate", "on") == "on" else ""))
+        for inside in mask_parameters(mask):
+            is_computed = inside.get("Evaluate", "on") == "on"
+            pairs.append((inside.get("Name", ""), inside.get("Value", "") if is_computed else ""))
     return Mask(tuple(pairs), bool(code.strip())) if pairs or code.strip() else None
+
+
+def mask_parameters(mask: Section) -> list[dict[str, str]]:
+    """The parameters of a mask's section: each says what it is, or the array that holds it does."""
+    found: list[dict[str, str]] = []
+    for section in mask.below():
+        parameters = section.parameters()
+        if parameters.get("$ClassName") == "Simulink.MaskParameter":
+            found.append(parameters)
+        elif section.name == "Array" and parameters.get("Type") == "Simulink.MaskParameter":
+            untold = [it.parameters() for it in section.sections("Object")]
+            found += [it for it in untold if "$ClassName" not in it]
+    return found
 
 
 class Builder:

@@ -212,6 +212,20 @@ class RewritingTest(unittest.TestCase):
             else:
                 self.assertIn("code of the mask", outcome.findings[0].text())
 
+    def test_masks_of_later_releases(self) -> None:
+        """Parameters of a mask in sections: one, and several in an array."""
+        one = '$ClassName "Simulink.MaskParameter"\nType "edit"\nName "K"\nValue "2*3"\n'
+        objects = 'Object {\nName "a"\nValue "1"\n}\nObject {\nName "K"\nValue "6"\n}\n'
+        several = f'Array {{\nType "Simulink.MaskParameter"\nDimension 2\n{objects}}}\n'
+        for inside in (f"Object {{\n{one}}}\n", several):
+            mask = f'Object {{\n$PropName "MaskObject"\n$ClassName "Simulink.Mask"\n{inside}}}\n'
+            blocks = [block_text("Inport", "u", {}), block_text("Gain", "g", {"Gain": "K"}), block_text("Outport", "y", {})]
+            system = "\n".join(["System {", *blocks, line_text("u", "1", "g", "1"), line_text("g", "1", "y", "1"), "}"])
+            lines = [line_text("In1", "1", "s", "1"), line_text("s", "1", "Out1", "1")]
+            text = model_text([INPORT, block_text("SubSystem", "s", {}, mask + system), OUTPORT], lines)
+            outcome = imported("m.mdl", text.encode(), Scope({"K": Number(Fraction(3))}))
+            self.assertIn('Gain "6"', outcome.text or "")
+
     def test_ignored_options(self) -> None:
         said = findings(around("Sum", {"AccumDataTypeStr": "int16", "OutDataTypeStr": "int32"}, ["int16", "int16"]))
         self.assertEqual([it.split()[0] for it in said], ["ignored"])
