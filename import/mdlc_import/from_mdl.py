@@ -131,7 +131,7 @@ class Builder:
         numbers = {it.own["SID"]: it for it in reversed(system.blocks) if "SID" in it.own}
         for line in section.sections("Line"):
             source = self.end(line, "Src", names, numbers, path)
-            for branch in [it for it in line.below() if it.name in ("Line", "Branch")]:
+            for branch in line.below("Branch"):
                 end = self.end(branch, "Dst", names, numbers, path)
                 if source and end:
                     connect(self.model, system, path, branch.line, source, end)

@@ -40,13 +40,13 @@ class Section:
                 found.setdefault(item[0], item[1])
         return found
 
-    def below(self) -> "Iterator[Section]":
-        """The section and all inside it, in the order of the text."""
+    def below(self, name: str = "") -> "Iterator[Section]":
+        """The section and all inside it, in the order of the text; of these, where a name is given, those that have it."""
         todo: list[Section] = [self]
         while todo:
             section = todo.pop()
             yield section
-            todo += [it for it in reversed(section.items) if isinstance(it, Section)]
+            todo += [it for it in reversed(section.items) if isinstance(it, Section) and name in ("", it.name)]
 
 
 def unescaped(text: str) -> tuple[str, str] | None:

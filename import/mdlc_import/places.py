@@ -25,7 +25,7 @@ def place_of_line(data: bytes, answer: str) -> str:
     while todo:
         system, path = todo.pop()
         for section in system.sections("Line"):
-            if any(it.line == line for it in section.below()):
+            if any(it.line == line for it in section.below("Branch")):
                 parameters = section.parameters()
                 return f": {path} (line from `{shown(parameters.get('SrcBlock', parameters.get('Src', '')))}`)"
         for block in system.sections("Block"):
