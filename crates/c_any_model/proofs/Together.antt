@@ -1,5 +1,5 @@
 -- The codes of all systems of a model, each of its own rows, its profile and its schedule.
-use Rattle.std.specs.Prelude.{◌≡◌, ℕ, List, [], ◌∷◌, Contains, Option, None, refl}
+use Rattle.std.specs.Prelude.{ℕ, List, [], ◌∷◌, Contains, Option, None, refl}
 use Rattle.std.specs.List.{AllZip}
 use Rattle.std.proofs.Common.{arith, subst}
 use Rattle.mc_diagram.specs.Diagram.{Diagram}

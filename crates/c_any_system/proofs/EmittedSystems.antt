@@ -1,21 +1,18 @@
 -- Each system of a resolved model without a loop has what its code is made from.
-use Rattle.std.specs.Prelude.{◌≡◌, ℕ, List, length, Contains, Option, refl}
-use Rattle.std.proofs.Common.{sym, ap, subst}
+use Rattle.std.specs.Prelude.{length, refl}
 use Rattle.mc_diagram.specs.Diagram.{Diagram}
-use Rattle.mc_diagram.specs.Needs.{needs_of, HasNoLoop}
-use Rattle.mc_diagram.specs.ResolvedTree.{ResolvedTree, IsResolvedTree, diagram_of}
+use Rattle.mc_diagram.specs.ResolvedTree.{diagram_of}
 use Rattle.mc_profile.specs.LocalSystem.{LocalSystem}
 use Rattle.mc_profile.specs.SystemProfile.{SystemProfile}
 use Rattle.mc_profile.specs.Locals.{local_of}
 use Rattle.mc_profile.specs.LocalNodes.{HasNoNodeLoop}
 use Rattle.mc_profile.specs.LawfulLocals.{IsLocal}
 use Rattle.mc_profile.specs.NodeFacts.{IsLocalOf, LocalsAreLawful, NodesHaveNoLoop}
-use Rattle.mc_profile.specs.Systems.{systems}
 use Rattle.mc_profile.proofs.lemmas.NodeReach.{no-cycle}
 use Rattle.mc_schedule.specs.SystemSchedule.{SystemSchedule}
 use Rattle.mc_schedule.specs.Scheduling.{schedule_for}
 use Rattle.c_system.specs.Schedules.{giving_functions, IsScheduleOf}
-use Rattle.c_any_system.specs.AnySystem.{EmittedSystem, EachSystemIsEmitted}
+use Rattle.c_any_system.specs.AnySystem.{EachSystemIsEmitted}
 use Rattle.c_any_system.proofs.Profiles.{profile-there, headers-there}
 use Rattle.c_any_system.proofs.Graphs.{nodes-there}
 use Rattle.c_any_system.proofs.Clustered.{clusters-there}

@@ -1,13 +1,13 @@
 -- A graph without a cycle has an order.
 use Rattle.std.specs.Prelude.{◌≡◌, ◌⊎◌, ℕ, zero, suc, ◌+◌, ◌<◌, ◌≤◌, Bool, true, false, eqb, ◌||◌, List, [], ◌∷◌, ◌++◌, length, Contains, refl}
 use Rattle.std.specs.List.{AllByRecursion, IsDistinct, list_any}
-use Rattle.std.proofs.Common.{arith, sym, subst, ◌∙◌, inl, inr, true-eqb, true≢false}
+use Rattle.std.proofs.Common.{arith, sym, subst, inl, inr, true-eqb, true≢false}
 use Rattle.std.proofs.lemmas.Bool.{cases_lt}
 use Rattle.std.proofs.lemmas.List.Elements.{Contains-push, Contains-append_left}
 use Rattle.std.proofs.lemmas.Map.Steps.{length-le_from_distinct_below}
-use Rattle.mc_graph.specs.NeedsGraph.{NeedsGraph, IsGraph, Needs}
+use Rattle.mc_graph.specs.NeedsGraph.{NeedsGraph, IsGraph}
 use Rattle.mc_graph.specs.Reaching.{HasNoCycle}
-use Rattle.mc_graph.specs.OneOrder.{MayStand, IsNext, Follows, IsOrder}
+use Rattle.mc_graph.specs.OneOrder.{MayStand, Follows, IsOrder}
 use Rattle.mc_graph.proofs.NoCycle.{needs-inside}
 use Rattle.mc_graph.proofs.Orders.{follows-push}
 use Rattle.mc_diagram.proofs.lemmas.Walks.{Within}

@@ -1,15 +1,14 @@
 -- Each system of a model without a loop has a profile, and its children have headers.
-use Rattle.std.specs.Prelude.{◌≡◌, ◌⊎◌, ◌↔◌, ℕ, zero, suc, ◌+◌, ◌-◌, ◌^◌, ◌<◌, ◌≤◌, nat_lt, Bool, true, false, ◌==◌, if◌then◌else◌, IsTrue, List, [], ◌∷◌, map, length, Contains, IsBitSet, Option, Some, None, refl}
+use Rattle.std.specs.Prelude.{◌≡◌, ℕ, suc, ◌-◌, ◌<◌, ◌≤◌, nat_lt, Bool, true, false, ◌==◌, if◌then◌else◌, List, [], ◌∷◌, map, length, Contains, Option, Some, refl}
 use Rattle.std.specs.List.{AllZip, range_with_len}
 use Rattle.std.proofs.Common.{arith, sym, ap, ap₂, subst, ◌∙◌, inl, inr, true-eqb, eq-eqb}
-use Rattle.std.proofs.lemmas.Bool.{cases_eq}
 use Rattle.std.proofs.lemmas.Bool.Decides.{nat_tests}
 use Rattle.mc_base.specs.declared.Port.{Port}
 use Rattle.mc_base.specs.declared.Port.TheVariants.{Number, Enable, Trigger}
 use Rattle.mc_blocks.specs.declared.Kind.TheVariants.{Inport}
 use Rattle.mc_diagram.specs.Rows.{row_at, port_of, is_inport, same_system, outports_of, subsystems_of, system_control, is_enabled, is_triggered}
 use Rattle.mc_diagram.specs.Diagram.{Diagram}
-use Rattle.mc_diagram.specs.Needs.{needs_of, needs_inside, Reaches, HasNoLoop, IsInputRow, TrueNeeds, IsMaskOf, AreTrueNeeds}
+use Rattle.mc_diagram.specs.Needs.{needs_of, needs_inside, Reaches, HasNoLoop, IsInputRow, TrueNeeds, IsMaskOf}
 use Rattle.mc_diagram.proofs.lemmas.Tick.{needs-bounded}
 use Rattle.mc_diagram.proofs.lemmas.Inside.{HasNoLoop-inside}
 use Rattle.mc_diagram.proofs.lemmas.Walks.{Within, within}

@@ -1,10 +1,10 @@
 -- Without a loop it is decided whether a row reaches another.
 use Rattle.std.specs.Prelude.{◌≡◌, ◌⊎◌, ℕ, zero, suc, List, [], ◌∷◌, Contains, refl}
-use Rattle.std.proofs.Common.{sym, subst, inl, inr}
+use Rattle.std.proofs.Common.{subst, inl, inr}
 use Rattle.std.proofs.lemmas.Bool.{cases_eq}
 use Rattle.mc_diagram.specs.Walk.{Walk, Reaches}
 use Rattle.mc_diagram.proofs.lemmas.Walks.{Within}
-use Rattle.c_any_system.proofs.Decided.{Decided, any-decided, same-decided}
+use Rattle.c_any_system.proofs.Decided.{Decided, any-decided}
 
 module _ (needs : ℕ → List ℕ) (z : ℕ) where
   -- a row reaches z by one that it needs

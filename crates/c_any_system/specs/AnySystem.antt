@@ -1,5 +1,5 @@
 -- What each system of a resolved model without a loop has, whatever the model.
-use Rattle.std.specs.Prelude.{◌≡◌, ℕ, Contains, Option}
+use Rattle.std.specs.Prelude.{ℕ, Contains, Option}
 use Rattle.mc_diagram.specs.Needs.{needs_of, HasNoLoop}
 use Rattle.mc_diagram.specs.ResolvedTree.{ResolvedTree, IsResolvedTree, diagram_of}
 use Rattle.mc_profile.specs.LocalSystem.{LocalSystem}

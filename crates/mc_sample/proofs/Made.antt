@@ -8,7 +8,7 @@ use Rattle.mc_base.specs.declared.Control.TheVariants.{Plain, Enabled, Triggered
 use Rattle.mc_base.specs.declared.Edge.TheVariants.{Rising}
 use Rattle.mc_diagram.specs.declared.subsystem.Subsystem.{Subsystem}
 use Rattle.mc_diagram.specs.declared.subsystem.Subsystem.TheViews.{roll-Subsystem}
-use Rattle.mc_diagram.specs.Nested.{System, Systems, system, no_more, next, system_of, AreSystemsOf}
+use Rattle.mc_diagram.specs.Nested.{System, system, no_more, next, system_of, AreSystemsOf}
 use Rattle.mc_diagram.proofs.NestedLemmas.{system_of_roll}
 use Rattle.mc_sample.specs.Rows.{rich_rows}
 

@@ -1,20 +1,15 @@
 -- What the outputs of the root need: the first In1, the second both inputs, and the third In2.
-use Rattle.std.specs.Prelude.{◌≡◌, ◌⊎◌, ◌↔◌, ℕ, zero, suc, ◌+◌, ◌-◌, ◌*◌, ◌^◌, ◌<◌, ◌≤◌, nat_le, Bool, true, false, not, ◌&&◌, ◌||◌, ◌==◌, if◌then◌else◌, List, [], ◌∷◌, ◌++◌, length, Contains, IsBitSet, bit_and, None, refl}
+use Rattle.std.specs.Prelude.{◌≡◌, ◌↔◌, ℕ, zero, suc, ◌-◌, ◌*◌, ◌^◌, ◌<◌, ◌≤◌, nat_le, Bool, true, false, not, ◌&&◌, ◌||◌, ◌==◌, List, [], ◌∷◌, length, Contains, IsBitSet, None, refl}
 use Rattle.std.proofs.Common.{arith, lit<, lit≤, eq-eqb, sym, ap, subst, ◌∙◌, inl, inr, true≢false}
 use Rattle.std.proofs.lemmas.Nat.Bits.{and_pow, bit_at_above}
 use Rattle.std.proofs.lemmas.List.Elements.{All-contains, All-from_recursion}
 use Rattle.std.specs.List.{AllByRecursion}
 use Rattle.mc_base.specs.declared.Port.TheVariants.{Number}
-use Rattle.mc_blocks.specs.declared.Op.TheVariants.{Nothing}
-use Rattle.mc_blocks.specs.declared.Kind.TheVariants.{Inport}
-use Rattle.mc_blocks.specs.Value.{feeds_through}
-use Rattle.mc_diagram.specs.Rows.{row_at, is_inport, same_system, port_of, control_at}
+use Rattle.mc_diagram.specs.Rows.{row_at, is_inport, same_system, port_of}
 use Rattle.mc_diagram.specs.RowTimes.{RowTimes}
-use Rattle.mc_diagram.specs.TypeRefusals.{types_of_rows}
-use Rattle.mc_diagram.specs.Diagram.{Diagram, op_at, op_in}
+use Rattle.mc_diagram.specs.Diagram.{Diagram}
 use Rattle.mc_diagram.specs.Needs.{needs_inside, Walk, Reaches, IsInputRow, TrueNeeds, IsMaskOf, AreTrueNeeds}
 use Rattle.mc_diagram.specs.ResolvedTree.{diagram_of}
-use Rattle.mc_diagram.proofs.lemmas.ByRow.{by_row-at}
 use Rattle.mc_diagram.proofs.lemmas.Inside.{Contains-nil}
 use Rattle.mc_diagram.proofs.lemmas.Tests.{all_below, below-at, is_member, member-from, all_of, all-from, le-from}
 use Rattle.mc_sample.specs.Rows.{rich_rows}
@@ -135,11 +130,13 @@ module _ (times : RowTimes) where
       (λ set. absurd (set refl), λ need. absurd (missing (13 ∷ 11 ∷ 0 ∷ []) 13 2 1 refl refl refl second-row need))
 
   summed : IsMaskOf (TrueNeeds d None 14) 3
-  summed = mask-is 14 3 (lit< tt)
-      (λ set. (0, first-row, inr (12 ∷ 11 ∷ [], ((0, lit< tt, refl), ((0, lit< tt, refl), (0, lit< tt, refl))))),
-      λ need e. let no : 1 ≡ 0 = e in omega arith)
-      (λ set. (1, second-row, inr (12 ∷ 10 ∷ [], ((0, lit< tt, refl), ((1, lit< tt, refl), (1, lit< tt, refl))))),
-      λ need e. let no : 2 ≡ 0 = e in omega arith)
+  summed = mask-is 14 3 (lit< tt) (
+    λ set. (0, first-row, inr (12 ∷ 11 ∷ [], ((0, lit< tt, refl), ((0, lit< tt, refl), (0, lit< tt, refl))))),
+    λ need e. let no : 1 ≡ 0 = e in omega arith,
+  ) (
+    λ set. (1, second-row, inr (12 ∷ 10 ∷ [], ((0, lit< tt, refl), ((1, lit< tt, refl), (1, lit< tt, refl))))),
+    λ need e. let no : 2 ≡ 0 = e in omega arith,
+  )
 
   delayed : IsMaskOf (TrueNeeds d None 15) 2
   delayed = mask-is 15 2 (lit< tt)

@@ -1,17 +1,12 @@
 -- The model is resolved, and has two rates.
-use Rattle.std.specs.Prelude.{◌≡◌, ◌<◌, None, length, slice_index_or, refl}
-use Rattle.std.proofs.Common.{arith, lit<, ◌∙◌}
-use Rattle.std.proofs.lemmas.List.{length-map}
-use Rattle.mc_diagram.specs.RowTimes.{RowTimes}
-use Rattle.mc_diagram.specs.Rows.{by_row}
-use Rattle.mc_diagram.specs.TypeRefusals.{types_of_rows}
-use Rattle.mc_diagram.specs.SampleTimes.{every_tick, HasTime, AreTimes, hyperperiod}
+use Rattle.std.specs.Prelude.{◌≡◌, None, slice_index_or, refl}
+use Rattle.std.proofs.Common.{lit<, ◌∙◌}
+use Rattle.mc_diagram.specs.SampleTimes.{every_tick, HasTime, hyperperiod}
 use Rattle.mc_diagram.specs.TimeRefusals.{written_time_refusal, HasTimeRefusal}
 use Rattle.mc_diagram.specs.TimeLaws.{TablesHaveTimes, InputTimesAreThere}
 use Rattle.mc_diagram.specs.ResolvedLaws.{TimeIsOne}
-use Rattle.mc_diagram.specs.Diagram.{op_in, IsResolved}
-use Rattle.mc_diagram.specs.ResolvedTree.{ResolvedTree, diagram_of}
-use Rattle.mc_sample.specs.Rows.{rich_rows, rich_table}
+use Rattle.mc_diagram.specs.ResolvedTree.{diagram_of}
+use Rattle.mc_sample.specs.Rows.{rich_table}
 use Rattle.mc_sample.specs.RichModel.{second_ticks, RichModel}
 use Rattle.mc_sample.proofs.Made.{rich_systems}
 use Rattle.mc_sample.proofs.Models.{model}
