@@ -5,7 +5,7 @@ use Rattle.c_syntax.specs.Tree.{ProgramTree}
 use Rattle.c_assembly.specs.Whole.{IsAssembled}
 use Rattle.mc_sample.specs.RichModel.{RichModel}
 
--- no resolved model without a loop is one for which there is no right code
+-- each resolved model without a loop has a program that is lawful and code for it
 abbrev pub EachModelHasCode : Type 0
 EachModelHasCode = (r : ResolvedTree) → IsResolvedTree r → HasNoLoop (needs_of (diagram_of r)) →
     (p : ProgramTree) × IsAssembled r r.times.hyper p
