@@ -1,12 +1,12 @@
 -- The ending whose text was put.
-use Rattle.std.proofs.Common.{◌≡◌, ◌≢◌, ℕ, inr, List, refl, subst}
+use Rattle.std.proofs.Common.{◌≡◌, ◌≢◌, ℕ, inl, inr, List, refl, sym, subst}
 use Rattle.std.specs.Prelude.{Option, Some, None, IfSome}
 use Rattle.mc_endings.specs.declared.ending.Ending.{Ending}
 use Rattle.mc_endings.specs.declared.ending.Ending.TheVariants.{NoMemory}
 use Rattle.mc_words.specs.Words.{Asked}
 use Rattle.mc_endings.specs.Texts.{no_memory_line}
 use Rattle.mc_endings.specs.Told.{HostTold, SinkTold}
-use Rattle.mc_endings.specs.Endings.{Ends, EndsAt, IsFaultless, IsSaidOf, PutsText, Puts}
+use Rattle.mc_endings.specs.Endings.{Ends, EndsAt, IsFaultless, IsSaidOf, PutsText, Puts, status_of, text_of}
 use Rattle.mc_endings.specs.Completeness.{IfReadFault}
 use Rattle.mc_endings_right.specs.Laws.{FiveIsReadFault}
 
@@ -14,6 +14,16 @@ pub ended : (found said : Ending) (s : ℕ) (a : Option Asked) (h h' : HostTold)
     Ends found a h h' b before → IsSaidOf said found → Puts said s before b' → EndsAt s a h h' b b'
 ended found said s a h h' b before b' ends says puts =
     record { found = found; said = said; before = before; ends = ends; says = says; puts = puts }
+
+-- the text of the ending that was found was put
+pub said_found : (found e : Ending) (status s : ℕ) (text : List ℕ) (b b' : SinkTold) → found ≡ e → status ≡ status_of e →
+    text ≡ text_of e → PutsText status text s b b' → (x : Ending) × IsSaidOf x found × Puts x s b b'
+said_found found e status s text b b' is same told puts = (
+  e,
+  inl (sym is),
+  subst (λ (n : ℕ). PutsText n (text_of e) s b b') same
+      (subst (λ (x : List ℕ). PutsText status x s b b') told puts),
+)
 
 -- the text for want of memory was put in the place of another
 pub said_no_memory : (found : Ending) (status s : ℕ) (text : List ℕ) (b b' : SinkTold) → IsFaultless found →
