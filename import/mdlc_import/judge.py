@@ -180,6 +180,8 @@ class Judge:
                 self.ignored(block, f"its type is {quoted(text)}: mdlc takes {what}, where Simulink may choose another.", "Write the type.")
             if block.kind == "Gain":
                 self.gain(row)
+            if block.kind == "Sum":
+                self.accumulator(row)
 
     def is_alike(self, row: Row, text: str) -> bool:
         """Whether a Switch chooses between inputs of one type, which Simulink's rule keeps; or what is before it isn't known."""
@@ -197,7 +199,16 @@ class Judge:
             return
         if text == SAME and quantized(value, given) != value or text != SAME and significant(value) > given.magnitude():
             of_number = f"the type of its number {quoted(text_of(row.block, 'Gain'))} is {quoted(text)}"
-            self.ignored(row.block, f"{of_number}: mdlc takes it with up to 31 bits, Simulink with fewer.", "Write ParamDataTypeStr.")
+            simulink = f"Simulink as {quantized(value, given)}, the nearest of {given.text()}" if text == SAME else "Simulink with fewer"
+            says = f"{of_number}: mdlc takes it with up to 31 bits after the point, {simulink}."
+            self.ignored(row.block, says, "Write ParamDataTypeStr.")
+
+    def accumulator(self, row: Row) -> None:
+        """A Sum that is added in the type of its first input, but of two inputs that have the type of its output."""
+        found = [self.types[it] for it in row.inputs()]
+        if row.block.text("AccumDataTypeStr") == FIRST and (len(found) != 2 or any(it != self.types[row.block] for it in found)):
+            says = f"its AccumDataTypeStr is {quoted(FIRST)}: mdlc sums exactly, and converts the sum once."
+            self.ignored(row.block, says, "Write the type of the sum at OutDataTypeStr alone.")
 
 
 def significant(value: Fraction) -> int:

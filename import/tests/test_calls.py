@@ -233,6 +233,20 @@ class RewritingTest(unittest.TestCase):
         said = findings(around("Gain", {"Gain": "0.1"}, ["int16"]))
         self.assertIn("Write ParamDataTypeStr", said[0])
 
+    def test_number_of_a_gain(self) -> None:
+        """An eighth in uint32 is 0 to Simulink."""
+        said = findings(around("Gain", {"Gain": "0.125", "ParamDataTypeStr": "Inherit: Same as input"}, ["uint32"]))
+        self.assertIn("mdlc takes it with up to 31 bits after the point, Simulink as 0, the nearest of uint32. Write", said[0])
+
+    def test_sums_in_the_type_of_the_first_input(self) -> None:
+        """Told, but of two inputs with the output's type, where each sum is the exact one."""
+        written = {"AccumDataTypeStr": "Inherit: Same as first input", "OutDataTypeStr": "int16"}
+        self.assertEqual(findings(around("Sum", written, ["int16", "int16"])), [])
+        for given in ({"OutDataTypeStr": "int32"}, {"Inputs": "+++"}):
+            said = findings(around("Sum", {**written, **given}, ["int16"] * len(given.get("Inputs", "++"))))
+            self.assertEqual([it.split()[0] for it in said], ["ignored"])
+            self.assertIn("AccumDataTypeStr", said[0])
+
     def test_commented_through_with_too_many_inputs(self) -> None:
         said = findings(around("Sum", {"Commented": "through"}, ["int16", "int16"]))
         self.assertTrue(any("2 inputs and 1 outputs" in it for it in said), said)
