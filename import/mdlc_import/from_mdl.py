@@ -15,7 +15,8 @@ def model_of(tree: Section) -> Model:
     if root is None:
         raise Refusal(f"line {section.line}", "the Model holds no System (F3)")
     defaults = defaults_of(section)
-    model = Model(section.parameters().get("Name", "model"), System(""), fixed_step(section, root))
+    model = Model(section.parameters().get("Name", "model"), System(""), setting(section, root, "FixedStep"))
+    model.has_booleans = setting(section, root, "BooleanDataType") != "off"
     Builder(model, defaults).build(root)
     return model
 
@@ -42,14 +43,14 @@ def defaults_of(section: Section) -> dict[str, dict[str, str]]:
     return found
 
 
-def fixed_step(section: Section, root: Section) -> str | None:
-    """The first FixedStep of the model, at any depth, outside its root system."""
+def setting(section: Section, root: Section, name: str) -> str | None:
+    """The first setting of a name in the model, as FixedStep, at any depth, outside its root system."""
     todo: list[Section | tuple[str, str]] = list(reversed(section.items))
     while todo:
         item = todo.pop()
         if isinstance(item, Section):
             todo += reversed(item.items) if item is not root else ()
-        elif item[0] == "FixedStep":
+        elif item[0] == name:
             return item[1]
     return None
 

@@ -22,7 +22,8 @@ def model_of(parts: dict[str, bytes], name: str) -> Model:
     root = section.first("System")
     if root is None:
         raise Refusal(DIAGRAM, "the Model holds no System")
-    model = Model(name, System(name), fixed_step(parts, section))
+    model = Model(name, System(name), setting(parts, section, "FixedStep"))
+    model.has_booleans = setting(parts, section, "BooleanDataType") != "off"
     Builder(model, parts, defaults_of(parts, section)).build(root)
     return model
 
@@ -39,21 +40,21 @@ def defaults_of(parts: dict[str, bytes], section: Element) -> dict[str, dict[str
     return found
 
 
-def fixed_step(parts: dict[str, bytes], section: Element) -> str | None:
-    """The first FixedStep outside the systems: of the model's own part, else of those of its configurations."""
-    found = step_below(section)
-    for name in sorted(it for it in parts if it.startswith("simulink/configSet") and not it.endswith("Info.xml")):
+def setting(parts: dict[str, bytes], section: Element, name: str) -> str | None:
+    """The first setting of a name outside the systems, as FixedStep: of the model's own part, else of those of its configurations."""
+    found = setting_below(section, name)
+    for part in sorted(it for it in parts if it.startswith("simulink/configSet") and not it.endswith("Info.xml")):
         if found is None:
-            found = step_below(read_xml(name, parts[name]))
+            found = setting_below(read_xml(part, parts[part]), name)
     return found
 
 
-def step_below(top: Element) -> str | None:
-    """The first FixedStep at any depth below an element, outside systems."""
+def setting_below(top: Element, name: str) -> str | None:
+    """The first setting of a name at any depth below an element, outside systems."""
     todo = [top]
     while todo:
         element = todo.pop()
-        if element.tag == "P" and element.attributes.get("Name") == "FixedStep":
+        if element.tag == "P" and element.attributes.get("Name") == name:
             return element.text
         todo += reversed([it for it in element.inside if it.tag != "System"])
     return None

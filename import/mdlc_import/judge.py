@@ -178,6 +178,9 @@ class Judge:
             if inherits and "back propagation" not in text and text not in (*plain[block.kind], SAME) and not self.is_alike(row, text):
                 what = "the type of its input" if block.kind == "Gain" else "the type of input 1"
                 self.ignored(block, f"its type is {quoted(text)}: mdlc takes {what}, where Simulink may choose another.", "Write the type.")
+            if has_parameter(block, "OutDataTypeStr") and text.startswith("Inherit: Logical") and not self.model.has_booleans:
+                says = f"its type is {quoted(text)}, and BooleanDataType of the model is `off`, so Simulink takes `double` (F16)."
+                self.refused(block, says, "Write `boolean` as OutDataTypeStr, or switch BooleanDataType on.")
             if block.kind == "Gain":
                 self.gain(row)
             if block.kind == "Sum":

@@ -77,12 +77,13 @@ class System:
 
 @dataclass(eq=False)
 class Model:
-    """A model with its root system. `step` is the text of FixedStep where the file has one."""
+    """A model with its root system. `step` is the text of FixedStep where the file has one; logical types are boolean or `double`."""
 
     name: str
     root: System
     step: str | None = None
     findings: list[Finding] = field(default_factory=list)
+    has_booleans: bool = True
 
     def systems(self) -> Iterator[tuple[System, str, tuple[Block, ...]]]:
         """All systems, each before those in it, with its path and the subsystems around it, the outermost first."""

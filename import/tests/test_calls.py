@@ -247,6 +247,14 @@ class RewritingTest(unittest.TestCase):
             self.assertEqual([it.split()[0] for it in said], ["ignored"])
             self.assertIn("AccumDataTypeStr", said[0])
 
+    def test_logical_types_of_a_model_without_booleans(self) -> None:
+        """Such a type is `double`; a written `boolean` isn't touched."""
+        logical = "Inherit: Logical (see Configuration Parameters: Optimization)"
+        for written, flag, words in ((logical, "off", ["refused"]), (logical, "on", []), ("boolean", "off", [])):
+            text = around("RelationalOperator", {"OutDataTypeStr": written}, ["int8", "int8"])
+            said = findings(text.replace("Model {", f'Model {{\n  Settings {{\n    BooleanDataType "{flag}"\n  }}', 1))
+            self.assertEqual([it.split()[0] for it in said], words, said)
+
     def test_commented_through_with_too_many_inputs(self) -> None:
         said = findings(around("Sum", {"Commented": "through"}, ["int16", "int16"]))
         self.assertTrue(any("2 inputs and 1 outputs" in it for it in said), said)
