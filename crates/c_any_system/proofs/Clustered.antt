@@ -1,8 +1,9 @@
 -- The nodes of a graph without a cycle have clusters, whatever the classes of its outputs.
-use Rattle.std.specs.Prelude.{◌≡◌, ◌↔◌, ℕ, zero, suc, ◌+◌, ◌≤◌, ◌==◌, List, [], ◌∷◌, map, filter, length, get_or, IsBitSet, Contains, refl}
+use Rattle.std.specs.Prelude.{◌≡◌, ◌↔◌, ℕ, zero, suc, ◌+◌, ◌<◌, ◌≤◌, ◌==◌, List, [], ◌∷◌, map, filter, length, get_or, IsBitSet, Contains, refl}
 use Rattle.std.specs.List.{range_with_len}
 use Rattle.std.proofs.Common.{arith, sym, subst, ◌∙◌, inl, inr, true-eqb, eq-eqb}
 use Rattle.std.proofs.lemmas.List.{length-map}
+use Rattle.std.proofs.lemmas.List.Elements.{All-contains, All-from_recursion}
 use Rattle.std.proofs.lemmas.List.FromFn.{length-range_with_len}
 use Rattle.std.proofs.lemmas.Bool.{cases_eq}
 use Rattle.mc_graph.specs.NeedsGraph.{NeedsGraph, IsGraph, Needs}
@@ -12,7 +13,6 @@ use Rattle.mc_diagram.proofs.lemmas.ByRow.{map_range-at}
 use Rattle.mc_diagram.proofs.lemmas.Walks.{Within, within}
 use Rattle.mc_cluster.specs.Clusters.{ReachesClass, AreClusters}
 use Rattle.mc_profile.proofs.lemmas.Members.{in-map, of-map, in-filter, of-filter, in-range, of-range}
-use Rattle.mc_graph.proofs.NoCycle.{needs-inside}
 use Rattle.c_any_system.proofs.Decided.{Decided, any-decided, both-decided, same-decided}
 use Rattle.c_any_system.proofs.Masks.{AnswersBits, mask-there}
 use Rattle.c_any_system.proofs.Ways.{reaches-decided}
@@ -24,6 +24,12 @@ needed g b = map (λ (e : ℕ × ℕ). e.0) (filter (λ (e : ℕ × ℕ). e.1 ==
 abbrev total : List ℕ → ℕ
 total [] = 0
 total (c ∷ cs) = c + total cs
+
+-- both ends of an edge are nodes
+pub needs-inside : (g : NeedsGraph) (b a : ℕ) → IsGraph g → Needs g b a → (a < g.n) × (b < g.n)
+needs-inside g b a inside needs =
+    All-contains (λ (e : ℕ × ℕ). (e.0 < g.n) × (e.1 < g.n)) g.edges (a, b)
+    (All-from_recursion (λ (e : ℕ × ℕ). (e.0 < g.n) × (e.1 < g.n)) g.edges inside) needs
 
 module _ (g : NeedsGraph) where
   pub needed-edge : (b a : ℕ) → Contains (needed g b) a → Needs g b a

@@ -1,19 +1,17 @@
 -- A graph without a cycle has an order.
 use Rattle.std.specs.Prelude.{◌≡◌, ◌⊎◌, ℕ, zero, suc, ◌+◌, ◌<◌, ◌≤◌, Bool, true, false, eqb, ◌||◌, List, [], ◌∷◌, ◌++◌, length, Contains, refl}
 use Rattle.std.specs.List.{AllByRecursion, IsDistinct, list_any}
-use Rattle.std.proofs.Common.{arith, sym, subst, inl, inr, true-eqb, true≢false}
+use Rattle.std.proofs.Common.{arith, sym, subst, inl, inr, true-eqb, true≢false, append_assoc, append-nil}
 use Rattle.std.proofs.lemmas.Bool.{cases_lt}
 use Rattle.std.proofs.lemmas.List.Elements.{Contains-push, Contains-append_left}
 use Rattle.std.proofs.lemmas.Map.Steps.{length-le_from_distinct_below}
 use Rattle.mc_graph.specs.NeedsGraph.{NeedsGraph, IsGraph}
 use Rattle.mc_graph.specs.Reaching.{HasNoCycle}
-use Rattle.mc_graph.specs.OneOrder.{MayStand, Follows, IsOrder}
-use Rattle.mc_graph.proofs.NoCycle.{needs-inside}
-use Rattle.mc_graph.proofs.Orders.{follows-push}
+use Rattle.mc_graph.specs.OneOrder.{MayStand, IsNext, Follows, IsOrder}
 use Rattle.mc_diagram.proofs.lemmas.Walks.{Within}
 use Rattle.mc_profile.proofs.lemmas.Members.{in-none, in-first, in-rest, in-cases}
 use Rattle.c_any_system.proofs.Decided.{Decided, contains-decided, any-decided, least-below}
-use Rattle.c_any_system.proofs.Clustered.{needed, needed-edge, edge-needed, short}
+use Rattle.c_any_system.proofs.Clustered.{needed, needed-edge, edge-needed, needs-inside, short}
 
 not-decided : {P : Type 0} → Decided P → Decided (P → ⊥)
 not-decided (inl p) = inr (λ none. none p)
@@ -25,6 +23,12 @@ below-decided b n = elim (cases_lt b n) [ inl low ↦ inl low | inr high ↦ inr
 stable : {P : Type 0} → Decided P → ((P → ⊥) → ⊥) → P
 stable (inl p) double = p
 stable (inr none) double = absurd (double none)
+
+-- one more node at the end
+follows-push : (g : NeedsGraph) (placed list : List ℕ) (b : ℕ) → Follows g placed list →
+    IsNext g (placed ++ list) b → Follows g placed (list ++ b ∷ [])
+follows-push g placed [] b f next = (subst (λ xs. IsNext g xs b) (append-nil placed) next, tt)
+follows-push g placed (x ∷ list) b f next = (f.0, follows-push g (placed ++ x ∷ []) list b f.1 (rw append_assoc next))
 
 module _ (g : NeedsGraph) (inside : IsGraph g) (none : HasNoCycle g) where
   -- something that node b needs isn't placed

@@ -8,8 +8,8 @@ use Rattle.mc_base.specs.declared.Control.TheVariants.{Plain, Enabled, Triggered
 use Rattle.mc_base.specs.declared.Edge.TheVariants.{Rising}
 use Rattle.mc_diagram.specs.declared.subsystem.Subsystem.{Subsystem}
 use Rattle.mc_diagram.specs.declared.subsystem.Subsystem.TheViews.{roll-Subsystem}
-use Rattle.mc_diagram.specs.Nested.{System, system, no_more, next, system_of, AreSystemsOf}
-use Rattle.mc_diagram.proofs.NestedLemmas.{system_of_roll}
+use Rattle.mc_diagram.specs.declared.subsystem.Subsystem.TheFolds.{fold-roll-Subsystem}
+use Rattle.mc_diagram.specs.Nested.{System, system, no_more, next, system_from, system_of, AreSystemsOf}
 use Rattle.mc_sample.specs.Rows.{rich_rows}
 
 abbrev heap : Global
@@ -42,14 +42,14 @@ rich_system =
     (next (system (Some 7) 10 (Triggered Rising) (8 ∷ 9 ∷ 10 ∷ []) no_more) no_more))
 
 is_enabled : system_of enabled ≡ system (Some 2) 5 (Enabled true) (3 ∷ 4 ∷ 5 ∷ 6 ∷ []) no_more
-is_enabled = system_of_roll _
+is_enabled = fold-roll-Subsystem System system_from _
 
 is_triggered : system_of triggered ≡ system (Some 7) 10 (Triggered Rising) (8 ∷ 9 ∷ 10 ∷ []) no_more
-is_triggered = system_of_roll _
+is_triggered = fold-roll-Subsystem System system_from _
 
 is_root : system_of rich_root ≡ rich_system
 is_root =
-    system_of_roll _
+    fold-roll-Subsystem System system_from _
     ∙ ap₂ (λ a b. system None 2 Plain (0 ∷ 1 ∷ 2 ∷ 7 ∷ 11 ∷ 12 ∷ 13 ∷ 14 ∷ 15 ∷ []) (next a (next b no_more))) is_enabled is_triggered
 
 rich_agrees : AreSystemsOf rich_rows rich_system
