@@ -10,10 +10,14 @@ rt="" room="" log=""
 
 # The lines of crates.txt for the program and all that it stands on.
 lines_below() {
-  awk -F: '/^[a-z]/ { line[++n] = $0; name[n] = $1; below[n] = $2 }
+  awk -F: '/^[a-z]/ { line[++n] = $0; name[n] = $1; below[$1] = $2 }
+    function want(crate, it, k) {
+      if (crate in wanted) return
+      wanted[crate]
+      for (k = split(below[crate], it, " "); k; k--) want(it[k])
+    }
     END {
-      wanted["mdlc"]
-      for (i = n; i; i--) if (name[i] in wanted) { k = split(below[i], it, " "); for (j = 1; j <= k; j++) wanted[it[j]] }
+      want("mdlc")
       for (i = 1; i <= n; i++) if (name[i] in wanted) print line[i]
     }' "$top/crates.txt"
 }

@@ -1,7 +1,7 @@
 -- A program that keeps the static rules, with what a caller of its root gives and gets.
 use Rattle.std.specs.Prelude.{◌≡◌, ℕ, ◌<◌, ◌^◌, List, length, map, Option, Some, None}
-use Rattle.mc_fixed.specs.declared.types.FixType.{FixType}
-use Rattle.mc_fixed.specs.Types.{int8, int16, int32, uint8, uint16, uint32}
+use Rattle.base_fixed_point.specs.declared.types.FixType.{FixType}
+use Rattle.base_fixed_point.specs.Types.{int8, int16, int32, uint8, uint16, uint32}
 use Rattle.c_syntax.specs.declared.code.CType.{CType}
 use Rattle.c_syntax.specs.declared.code.CType.TheVariants.{I8, U8, I16, U16, I32, U32, I64}
 use Rattle.c_syntax.specs.declared.program.Program.{Program}

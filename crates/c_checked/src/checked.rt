@@ -2,8 +2,8 @@ ghost use Rattle.std.specs.Prelude.{◌≡◌, Option};
 ghost use Rattle.c_syntax.specs.Plain.{program_tree};
 
 use crate::places::procedure_named;
+use base_fixed_point::FixType;
 use c_syntax::Program;
-use mc_fixed::FixType;
 use std::marker::Model;
 
 /// A program that was read: it keeps the static rules and the limits. It is seen as the program, the types of the numbers

@@ -1,4 +1,4 @@
-// A lawful program of C, with what a caller of its root gives and gets.
+//! A lawful program of C, with what a caller of its root gives and gets.
 #![tactic(auto)]
 
 mod checked;

@@ -1,7 +1,7 @@
 -- An operand where a level is left.
 use Rattle.std.proofs.Common.{◌≡◌, sym, ◌∙◌, ap, ℕ, zero, suc, ◌-◌, ◌<◌, List, Ok, arith}
 use Rattle.c_grammar.specs.Tokens.{Token}
-use Rattle.c_grammar.specs.Results.{◌>>=◌}
+use Rattle.base_core.specs.Results.{◌>>=◌}
 use Rattle.c_grammar.specs.Parsing.{Parsed, next, opener_of, parse_opened, parse_operand}
 use Rattle.c_grammar.specs.declared.openers.Opener.{Opener}
 use Rattle.c_grammar.specs.declared.openers.Want.{Want}

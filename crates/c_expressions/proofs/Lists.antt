@@ -3,7 +3,7 @@ use Rattle.std.proofs.Common.{◌≡◌, refl, sym, ◌∙◌, ap, subst, ℕ, s
 use Rattle.std.proofs.lemmas.List.{map-append}
 use Rattle.c_syntax.specs.declared.fault.CFault.{CFault}
 use Rattle.c_grammar.specs.Tokens.{Token}
-use Rattle.c_grammar.specs.Results.{◌>>=◌}
+use Rattle.base_core.specs.Results.{◌>>=◌}
 use Rattle.c_grammar.specs.Parsing.{Parsed, Step, one_more, many}
 use Rattle.c_tokens.specs.Lists.{Stepping, Continues}
 use Rattle.c_expressions.specs.Gives.{GivesMore, behind}

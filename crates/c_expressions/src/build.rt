@@ -5,9 +5,9 @@ ghost use Rattle.c_grammar.specs.Parsing.{exprs_from};
 ghost use Rattle.c_grammar.specs.WrittenTrees.{leaf_of, expr_of};
 ghost use Rattle.c_expressions.specs.Operands.{boxed_expr, boxed_cond};
 
+use base_core::{Compare, Memory};
 use c_grammar::{Number, WrittenCond, WrittenExpr, WrittenLeaf};
 use c_syntax::BinOp;
-use mc_base::{Compare, Memory};
 use std::alloc::Global;
 
 fn box_of_expr<'a>(alloc: Global, e: WrittenExpr<'a>) -> Result<Box<WrittenExpr<'a>>, Memory>

@@ -1,4 +1,4 @@
-// Expressions and conditions of C, read of tokens by recursive descent, and the small parts of which all else is read.
+//! Reads expressions and conditions of C by recursive descent, and the small parts of which all else is read.
 #![tactic(auto)]
 
 mod build;

@@ -4,7 +4,7 @@ use Rattle.c_syntax.specs.declared.fault.CFault.{CFault}
 use Rattle.c_grammar.specs.Tokens.{Token}
 use Rattle.c_grammar.specs.Grammar.{Spelling}
 use Rattle.c_grammar.specs.Prefix.{Need, token_fault}
-use Rattle.c_grammar.specs.Results.{◌>>=◌}
+use Rattle.base_core.specs.Results.{◌>>=◌}
 
 -- a claim of the result, or the fault that the needs tell
 abbrev pub Given : {X : Type 0} → Option CFault → (X → Type 0) → Result X CFault → Type 0

@@ -10,7 +10,7 @@ use Rattle.c_grammar.specs.Written.{WrittenParam, WrittenPureParam, WrittenField
 use Rattle.c_grammar.specs.Grammar.{◌⨾◌, word, at_line, type_text, pure_param_spelling, more_pure_params_spelling, param_spelling, more_params_spelling, kind_spelling, length_spelling, field_spelling, all_spelling, pure_spelling, struct_spelling, private_spelling, procedure_spelling}
 use Rattle.c_grammar.specs.Prefix.{Need, text_need, name_need, expr_need, stmts_need, pure_param_need, pure_params_need, param_need, params_need, length_need, length_needs, field_need, fields_need, pures_need, structs_need, procedures_need, Reply, refuses, too_deep, leaves, with_needs, within_limit, only_if, first_reply, field_reply, procedures_reply, struct_needs, procedure_needs, pure_needs, is_type, step_needs, on_reply, may_end, token_fault}
 use Rattle.c_syntax.specs.Limits.{expr_limit, stmt_limit, param_limit}
-use Rattle.c_grammar.specs.Results.{◌>>=◌, ◌>>◌}
+use Rattle.base_core.specs.Results.{◌>>=◌, ◌>>◌}
 use Rattle.c_grammar.specs.Parsing.{Limits, next, or_syntax, or_syntax_unless, or_deep_unless, type_of_text, first_text, parse_word, parse_name, parse_stmt, parse_pure_param, pure_params_step, pure_params_step_by, parse_param, params_step, params_step_by, parse_pure, parse_length, parse_field_from, parse_field, fields_step, fields_step_by, parse_struct, parse_procedure_behind, parse_procedure, definition_of}
 use Rattle.c_grammar.specs.declared.openers.Definition.TheVariants.{Static as static_definition, Struct as struct_definition, Void as void_definition, Nothing as no_definition}
 use Rattle.c_grammar.proofs.lemmas.Shrinking.{◌▸◌, word-takes, field-takes, param-shrinks, pure_param-shrinks}

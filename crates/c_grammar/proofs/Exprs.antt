@@ -2,7 +2,7 @@
 use Rattle.std.proofs.Common.{◌≡◌, refl, sym, subst, ℕ, zero, suc, ◌+◌, ◌-◌, ◌<◌, List, [], ◌∷◌, ◌++◌, length, Bool, true, false, ◌&&◌, ◌||◌, nat_le, Option, Some, None, Ok, codes, bytes_eq, arith, if◌then◌else◌}
 use Rattle.std.proofs.lemmas.Bool.{leb-true, le-leb, eq-eqb}
 use Rattle.std.proofs.lemmas.Slice.Eq.{bytes_eq-Decides}
-use Rattle.mc_base.specs.declared.base.Compare.{Compare}
+use Rattle.base_core.specs.declared.base.Compare.{Compare}
 use Rattle.c_syntax.specs.declared.code.BinOp.{BinOp}
 use Rattle.c_syntax.specs.declared.fault.CFault.{CFault}
 use Rattle.c_grammar.specs.Tokens.{Token}
@@ -11,7 +11,7 @@ use Rattle.c_grammar.specs.Written.{param, WrittenExpr, read, WrittenCond}
 use Rattle.c_grammar.specs.Grammar.{◌⨾◌, word, name_word, in_parens, in_brackets, op_text, compare_text, expr_spelling, more_exprs_spelling, cond_spelling}
 use Rattle.c_grammar.specs.Prefix.{Need, Role, as_kind, as_first, Kind, expression, condition, allows, follow, text_need, name_need, literal_need, leaf_need, tail_need, index_needs, operand_need, inside_need, joint_need, values_need, expr_need, cond_need, leaves, with_needs, within_limit, first_reply, operand_reply, step_needs, on_reply, may_end, is_op, is_comparison, token_fault}
 use Rattle.c_syntax.specs.Limits.{expr_limit}
-use Rattle.c_grammar.specs.Results.{◌>>=◌, ◌>>◌}
+use Rattle.base_core.specs.Results.{◌>>=◌, ◌>>◌}
 use Rattle.c_grammar.specs.Parsing.{Parsed, or_syntax_unless, parse_word, Operand, value, test, opener_of, inside_of, tail_of, next, value_joint, test_joint, first_joint, op_of_text, compare_of_text, first_text, exprs_from, value_only, test_only, deeper_value, deeper_test, parse_index, parse_tail, parse_leaf_from, parse_leaf, parse_number, values_step, values_step_by, parse_values, join_value, join_test, join, parse_inside, parse_opened, opened_too_deep, parse_operand, parse_expr, parse_cond}
 use Rattle.c_grammar.specs.declared.openers.Inside.TheVariants.{Minus as minus_inside, Not as not_inside, Cast as cast_inside, First as first_inside}
 use Rattle.c_grammar.specs.declared.openers.Opener.TheVariants.{Number as number_opener, Call as call_opener, Paren as paren_opener, Nothing as no_opener}

@@ -1,7 +1,7 @@
 -- What the parse of words and leaves answers is what the needs say.
 use Rattle.std.proofs.Common.{suc, ◌<◌, arith, ◌≡◌, refl, sym, ◌∙◌, ap, ℕ, ◌^◌, List, [], ◌∷◌, Bool, true, false, ◌||◌, nat_lt, Option, Some, None, Ok, codes, bytes_eq, decimal, if◌then◌else◌}
 use Rattle.std.proofs.lemmas.Slice.Eq.{bytes_eq-Decides}
-use Rattle.mc_base.specs.declared.base.Compare.TheVariants.{Eq, Ne, Lt, Le, Ge, Gt}
+use Rattle.base_core.specs.declared.base.Compare.TheVariants.{Eq, Ne, Lt, Le, Ge, Gt}
 use Rattle.c_syntax.specs.declared.code.BinOp.TheVariants.{Add, Sub, Mul, Div, Rem}
 use Rattle.c_syntax.specs.declared.code.CType.{CType}
 use Rattle.c_syntax.specs.declared.code.CType.TheVariants.{I8, U8, I16, U16, I32, U32, I64}
@@ -10,7 +10,7 @@ use Rattle.c_grammar.specs.Tokens.{Token}
 use Rattle.c_syntax.specs.Names.{is_name}
 use Rattle.c_grammar.specs.Grammar.{word, name_word, literal_word, type_text, op_text, compare_text, cast_spelling}
 use Rattle.c_grammar.specs.Prefix.{Need, text_need, name_need, literal_need, type_need, leaves, with_needs, only_if, on_reply, is_type, is_op, is_comparison, is_literal, digits_value, token_fault}
-use Rattle.c_grammar.specs.Results.{◌>>=◌, ◌>>◌}
+use Rattle.base_core.specs.Results.{◌>>=◌, ◌>>◌}
 use Rattle.c_grammar.specs.Parsing.{or_syntax, or_syntax_unless, type_of_text, op_of_text, compare_of_text, parse_word, parse_name, parse_type, parse_literal, parse_cast, parse_field_name}
 use Rattle.c_grammar.proofs.lemmas.Texts.{is_literal-text}
 use Rattle.c_grammar.proofs.lemmas.LiteralLaws.{numeral}

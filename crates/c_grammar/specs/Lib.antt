@@ -3,7 +3,6 @@ pub mod Written
 pub mod Grammar
 pub mod Prefix
 pub mod Openings
-pub mod Results
 pub mod Parsing
 pub mod ParsedText
 pub mod WrittenTrees

@@ -1,6 +1,6 @@
 -- What the tokens of small texts open, by hand.
 use Rattle.std.specs.Prelude.{◌≡◌, false, [], ◌∷◌, codes, refl}
-use Rattle.mc_base.specs.declared.base.Compare.TheVariants.{Lt}
+use Rattle.base_core.specs.declared.base.Compare.TheVariants.{Lt}
 use Rattle.c_syntax.specs.declared.code.BinOp.TheVariants.{Add}
 use Rattle.c_syntax.specs.declared.code.CType.TheVariants.{I32}
 use Rattle.c_grammar.specs.Written.{param, own, WrittenExpr, literal, neg, read, binary, pick, pure, item, no_exprs, more_exprs, compare, field_target, no_arguments, more_arguments, WrittenStmt, assign, assign_at, branch, call, no_stmts, more_stmts, WrittenPure, WrittenStruct, WrittenProcedure}

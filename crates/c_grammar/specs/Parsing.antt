@@ -1,8 +1,8 @@
 -- The written program of tokens by recursive descent, or their first fault. What it is of the
 -- grammar is proved of it.
 use Rattle.std.specs.Prelude.{ℕ, zero, suc, ◌+◌, Bool, true, false, ◌&&◌, nat_le, if◌then◌else◌, List, [], ◌∷◌, length, Option, Some, None, Result, Ok, Err, codes, bytes_eq}
-use Rattle.mc_base.specs.declared.base.Compare.{Compare}
-use Rattle.mc_base.specs.declared.base.Compare.TheVariants.{Eq, Ne, Lt, Le, Ge, Gt}
+use Rattle.base_core.specs.declared.base.Compare.{Compare}
+use Rattle.base_core.specs.declared.base.Compare.TheVariants.{Eq, Ne, Lt, Le, Ge, Gt}
 use Rattle.c_syntax.specs.declared.code.BinOp.{BinOp}
 use Rattle.c_syntax.specs.declared.code.BinOp.TheVariants.{Add, Sub, Mul, Div, Rem}
 use Rattle.c_syntax.specs.declared.code.CType.{CType}
@@ -15,7 +15,7 @@ use Rattle.c_syntax.specs.Kinds.{WrittenKind, number_kind, array_kind, struct_ki
 use Rattle.c_grammar.specs.Written.{param, own, child, WrittenExpr, literal, neg, read, binary, pick, pure, item, WrittenExprs, no_exprs, more_exprs, WrittenCond, compare, both, either, negated, WrittenTarget, own_target, field_target, WrittenArguments, no_arguments, more_arguments, WrittenStmt, assign, assign_at, branch, branch_else, call, WrittenStmts, no_stmts, more_stmts, WrittenParam, WrittenPureParam, WrittenPure, WrittenField, WrittenStruct, WrittenProcedure, WrittenProgram}
 use Rattle.c_syntax.specs.Limits.{expr_limit, stmt_limit, pure_limit, param_limit}
 use Rattle.c_grammar.specs.Prefix.{is_literal, digits_value, fault_at}
-use Rattle.c_grammar.specs.Results.{◌>>=◌, ◌>>◌}
+use Rattle.base_core.specs.Results.{◌>>=◌, ◌>>◌}
 use Rattle.c_grammar.specs.declared.openers.Want.{Want}
 use Rattle.c_grammar.specs.declared.openers.Want.TheVariants.{Value as want_value, Test as want_test, Any as want_any}
 use Rattle.c_grammar.specs.declared.openers.Opener.{Opener}

@@ -2,7 +2,7 @@
 use Rattle.std.specs.Prelude.{ℕ, zero, suc, ◌+◌, ◌-◌, Bool, true, false, ◌&&◌, ◌||◌, ◌==◌, if◌then◌else◌, List, [], ◌∷◌, ◌++◌, length, take_while, Option, Some, None, option_map, codes, bytes_eq}
 use Rattle.std.specs.List.{before_first, after_first, list_any}
 use Rattle.std.specs.Char.{is_ascii_digit}
-use Rattle.mc_base.specs.Numbers.{reported_number}
+use Rattle.base_core.specs.Numbers.{reported_number}
 use Rattle.c_syntax.specs.Names.{is_word_start, is_word_byte}
 
 -- a token: its bytes, and the line of the first of them

@@ -1,7 +1,7 @@
 -- A program as it is written: names in place of positions, with the lines of what a rule may
 -- refuse.
 use Rattle.std.specs.Prelude.{ℕ, Bool, List}
-use Rattle.mc_base.specs.declared.base.Compare.{Compare}
+use Rattle.base_core.specs.declared.base.Compare.{Compare}
 use Rattle.c_syntax.specs.declared.code.BinOp.{BinOp}
 use Rattle.c_syntax.specs.declared.code.CType.{CType}
 use Rattle.c_syntax.specs.Kinds.{WrittenKind}

@@ -1,8 +1,8 @@
 ghost use Rattle.std.specs.Prelude.{◌≡◌};
 ghost use Rattle.c_grammar.specs.declared.fault.ReadCFault.TheVariants as fault;
 
+use base_core::Memory;
 use c_syntax::CFault;
-use mc_base::Memory;
 use std::alloc::{AllocError, AllocFailed};
 
 /// Why a text is not read.

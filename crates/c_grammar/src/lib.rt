@@ -1,4 +1,4 @@
-// The grammar of C: tokens, programs as they are written, and the parse by recursive descent, which agrees with the grammar.
+//! The grammar of C: tokens, programs as they are written, and the parse by recursive descent, which agrees with the grammar.
 #![tactic(auto)]
 
 mod fault;

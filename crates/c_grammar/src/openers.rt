@@ -2,8 +2,8 @@
 ghost use Rattle.std.specs.Prelude.{◌≡◌};
 ghost use Rattle.c_grammar.specs.Parsing as parsing;
 
+use base_core::Compare;
 use c_syntax::BinOp;
-use mc_base::Compare;
 
 /// What is wanted of an operand.
 #[derive(Clone, Copy, Drop)]

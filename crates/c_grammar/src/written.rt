@@ -1,8 +1,8 @@
 // A program as it is written: names of the text in place of positions, with the lines of what a rule may refuse.
 ghost use Rattle.std.specs.Prelude.{ℕ, ◌<◌, ◌^◌};
 
+use base_core::Compare;
 use c_syntax::{BinOp, CType};
-use mc_base::Compare;
 
 /// A literal: at most 63 bits.
 #[derive(Clone, Copy, Drop)]

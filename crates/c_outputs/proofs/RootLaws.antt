@@ -5,8 +5,8 @@ use Rattle.std.specs.Option.{option_map}
 use Rattle.std.specs.Coded.{le_prop}
 use Rattle.std.proofs.lemmas.Option.{slice_get-map, slice_get_read, slice_get_within}
 use Rattle.std.proofs.lemmas.List.{length-map}
-use Rattle.mc_fixed.specs.declared.types.FixType.{FixType}
-use Rattle.mc_fixed.specs.Profile.{InProfile}
+use Rattle.base_fixed_point.specs.declared.types.FixType.{FixType}
+use Rattle.base_fixed_point.specs.Profile.{InProfile}
 use Rattle.c_syntax.specs.Tree.{ProcedureTree, ProgramTree}
 use Rattle.c_syntax.specs.Names.{name_at}
 use Rattle.c_syntax.specs.RootFields.{procedure_named}

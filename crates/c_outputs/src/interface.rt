@@ -7,10 +7,10 @@ ghost use Rattle.c_syntax.specs.RootFields.{is_number, number_names, output_fiel
 ghost use Rattle.c_checked.specs.Checked as checked;
 
 use crate::outputs::output_names;
+use base_core::{Memory, Text};
+use base_fixed_point::FixType;
 use c_checked::{Checked, procedure_named, root_fields};
 use c_syntax::{CType, Field, FieldKind, Program};
-use mc_base::{Memory, Text};
-use mc_fixed::FixType;
 use std::alloc::{AllocError, Global};
 
 /// The numbers of a type of C, as a type without a binary point; int64_t is too wide for one.

@@ -1,4 +1,4 @@
-// Names of a C text in tables, the outputs among them, and what a caller of the root of a lawful program gives and gets.
+//! Names of a C text in tables, the outputs among them, and what a caller of the root of a lawful program gives and gets.
 #![tactic(auto)]
 
 mod interface;

@@ -3,8 +3,8 @@ ghost use Rattle.std.specs.Prelude.{◌≡◌, ◌++◌, ◌∷◌, ◌||◌, []
 ghost use Rattle.std.specs.List.{position_from};
 ghost use Rattle.c_syntax.specs.Outputs.{has_name};
 
+use base_core::{Memory, Text};
 use indexmap::IndexSet;
-use mc_base::{Memory, Text};
 use std::alloc::Global;
 use std::marker::Model;
 

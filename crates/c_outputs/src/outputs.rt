@@ -6,7 +6,7 @@ ghost use Rattle.c_syntax.specs.Outputs as outputs;
 ghost use Rattle.c_syntax.specs.Outputs.{has_name};
 
 use crate::name_table::{NameTable, table_of};
-use mc_base::{Memory, Text};
+use base_core::{Memory, Text};
 use std::alloc::Global;
 
 /// The name of an output: `y` and its number.

@@ -1,7 +1,7 @@
 -- Definitions and files by their parts are those of the grammar.
 use Rattle.std.proofs.Common.{◌≡◌, refl, sym, ◌∙◌, ap, subst, ℕ, suc, Bool, List, [], ◌∷◌, length, codes, bytes_eq, Result, Ok, Err}
 use Rattle.c_syntax.specs.declared.fault.CFault.{CFault}
-use Rattle.c_grammar.specs.Results.{◌>>=◌, ◌>>◌}
+use Rattle.base_core.specs.Results.{◌>>=◌, ◌>>◌}
 use Rattle.c_grammar.specs.Tokens.{Token}
 use Rattle.c_grammar.specs.Parsing.{Parsed, Limits, many, or_syntax_unless, next, parse_word, parse_name, parse_expr, parse_pure_param, pure_params_step, parse_pure, parse_procedure_behind, parse_field, fields_step, parse_struct, parse_procedure, definition_of, pures_step, structs_step, procedures_step, parse_file}
 use Rattle.c_grammar.specs.declared.fault.ReadCFault.{ReadCFault}

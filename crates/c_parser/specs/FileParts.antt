@@ -1,7 +1,7 @@
 -- Structs and files by their parts.
 use Rattle.std.specs.Prelude.{ℕ, suc, List, ◌∷◌, length, codes, Result, Ok}
 use Rattle.c_syntax.specs.declared.fault.CFault.{CFault}
-use Rattle.c_grammar.specs.Results.{◌>>=◌}
+use Rattle.base_core.specs.Results.{◌>>=◌}
 use Rattle.c_grammar.specs.Tokens.{Token}
 use Rattle.c_grammar.specs.Written.{WrittenField, WrittenStruct, WrittenProcedure, WrittenProgram}
 use Rattle.c_grammar.specs.Parsing.{Parsed, Limits, many, next, parse_word, parse_name, parse_field, fields_step, parse_procedure, definition_of, pures_step, structs_step, procedures_step}

@@ -1,6 +1,6 @@
 -- Pure functions and procedures by their parts.
 use Rattle.std.specs.Prelude.{ℕ, Bool, suc, List, ◌∷◌, length, codes, bytes_eq, Ok}
-use Rattle.c_grammar.specs.Results.{◌>>=◌, ◌>>◌}
+use Rattle.base_core.specs.Results.{◌>>=◌, ◌>>◌}
 use Rattle.c_grammar.specs.Tokens.{Token}
 use Rattle.c_grammar.specs.Written.{WrittenExpr, WrittenPure, WrittenPureParam, WrittenProcedure}
 use Rattle.c_grammar.specs.Parsing.{Parsed, Limits, many, or_syntax_unless, next, parse_word, parse_name, parse_expr, parse_pure_param, pure_params_step, params_step, parse_block, parse_stmt}

@@ -1,4 +1,4 @@
-// The parser of C: bytes to the program that is written there, or their first fault of the grammar.
+//! The parser of C: bytes to the program that is written there, or their first error of the grammar.
 #![tactic(auto)]
 
 mod definitions;

@@ -3,8 +3,8 @@ use Rattle.std.proofs.Common.{◌≡◌, refl, sym, ◌∙◌, ap, subst, ℕ, z
 use Rattle.std.specs.List.{list_all, list_any}
 use Rattle.std.specs.Char.{is_ascii_digit}
 use Rattle.std.proofs.lemmas.List.{append_assoc}
-use Rattle.mc_base.specs.declared.base.Compare.{Compare}
-use Rattle.mc_base.specs.declared.base.Compare.TheVariants.{Eq, Ne, Lt, Le, Ge, Gt}
+use Rattle.base_core.specs.declared.base.Compare.{Compare}
+use Rattle.base_core.specs.declared.base.Compare.TheVariants.{Eq, Ne, Lt, Le, Ge, Gt}
 use Rattle.c_syntax.specs.declared.code.BinOp.{BinOp}
 use Rattle.c_syntax.specs.declared.code.BinOp.TheVariants.{Add, Sub, Mul, Div, Rem}
 use Rattle.c_syntax.specs.declared.code.CType.{CType}

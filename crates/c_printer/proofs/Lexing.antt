@@ -6,7 +6,7 @@ use Rattle.std.proofs.lemmas.Bool.{leb-true, ne_eqb}
 use Rattle.std.proofs.lemmas.Bool.Decides.{nat_tests}
 use Rattle.std.proofs.lemmas.Fmt.{decimal_nonempty}
 use Rattle.std.proofs.lemmas.List.Sums.{take_while-cons}
-use Rattle.mc_base.specs.Numbers.{reported_number}
+use Rattle.base_core.specs.Numbers.{reported_number}
 use Rattle.c_grammar.specs.Tokens.{Token, is_white_space, class_of, word_class, digit_class, token, piece_of, piece_tokens, line_after, tokens_from}
 use Rattle.c_syntax.specs.Names.{is_lower, is_word_start, is_word_byte, starts_lower, ends_with, keywords, is_name}
 use Rattle.c_printer.proofs.TokenLaws.{lines_after, tokens_from-skip}

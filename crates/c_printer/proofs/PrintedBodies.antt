@@ -1,7 +1,7 @@
 -- The texts of expressions and statements spell what they are printed from.
 use Rattle.std.proofs.Common.{◌≡◌, refl, sym, ◌∙◌, ap, subst, ℕ, ◌+◌, ◌^◌, ◌<◌, List, [], ◌∷◌, ◌++◌, length, true, false, ◌==◌, Some, take_while, slice_get, unsigned_abs, codes, decimal, arith}
 use Rattle.std.proofs.lemmas.List.{append_assoc}
-use Rattle.mc_base.specs.Numbers.{reported_number}
+use Rattle.base_core.specs.Numbers.{reported_number}
 use Rattle.c_syntax.specs.declared.code.CType.{CType}
 use Rattle.c_syntax.specs.declared.code.Leaf.{Leaf}
 use Rattle.c_syntax.specs.declared.code.Leaf.TheVariants.{Param, Own, Child}
@@ -160,11 +160,6 @@ module _ (v : Vocabulary) (reach : Reach) (speaks : Speaks v reach) where
   expr-head : (e : ExprTree) → IsLawfulExpr reach e → (z : List ℕ) →
       (c : ℕ) × (cs : List ℕ) × (expr_bytes v e ++ z ≡ c ∷ cs) × ((c == 62) ≡ false)
   expr-head (literal value) h z = (73, _, refl, refl)
-  expr-head (neg e) h z = (40, _, refl, refl)
-  expr-head (read leaf) h z = (40, _, refl, refl)
-  expr-head (binary op a b) h z = (40, _, refl, refl)
-  expr-head (pick test a b) h z = (40, _, refl, refl)
-  expr-head (item f index) h z = (40, _, refl, refl)
   expr-head (pure k es) h z =
       let p : NameParts (pure_name v.program k) = name-parts (pure_name v.program k) (speaks.pure k h.0 h.1).0 in (
         p.first,
@@ -172,6 +167,7 @@ module _ (v : Vocabulary) (reach : Reach) (speaks : Speaks v reach) where
         ap (λ n. ((n ++ codes "(") ++ exprs_bytes v es) ++ codes ")" ++ z) p.list,
         differs is_lower p.first 62 p.lower refl,
       )
+  expr-head _ h z = (40, _, refl, refl)
 
   mutual
     pub expr-read : (l : ℕ) (e : ExprTree) (rest : List ℕ) → IsLawfulExpr reach e → Ends rest →

@@ -4,14 +4,14 @@ use Rattle.std.specs.List.{position_from, list_all, AllByRecursion}
 use Rattle.std.proofs.lemmas.List.{append_assoc, append-nil, map-append, length-map}
 use Rattle.std.proofs.lemmas.Simd.{map-map}
 use Rattle.std.proofs.lemmas.Slice.Eq.{bytes_eq-Decides}
-use Rattle.mc_base.specs.Numbers.{reported_number}
+use Rattle.base_core.specs.Numbers.{reported_number}
 use Rattle.c_syntax.specs.declared.code.CType.{CType}
 use Rattle.c_syntax.specs.declared.code.CType.TheVariants.{I8, U8, I16, U16, I32, U32, I64}
 use Rattle.c_syntax.specs.Tree.{StmtTree, assign, assign_at, branch, call, StmtTrees, no_stmts, more_stmts, StructTree, PureTree, ParamTree, ProcedureTree, ProgramTree}
 use Rattle.c_grammar.specs.Written.{WrittenParam}
 use Rattle.c_syntax.specs.Outputs.{has_name}
 use Rattle.c_rules.specs.Resolve.{Known, function_names, check_params, is_lawful_root, same_type, resolve_procedure, resolve_procedures}
-use Rattle.c_grammar.specs.Results.{◌>>=◌}
+use Rattle.base_core.specs.Results.{◌>>=◌}
 use Rattle.c_syntax.specs.Chains.{stmt_chain, stmts_chain, chain_limit}
 use Rattle.c_syntax.specs.Lawful.{AreDistinct, AreApart, AreProcedures, IsLawfulProcedure, IsLawful, chains_of, pure_names, procedure_names, param_names, stmt_without_lines, stmts_without_lines, pure_without_lines, procedure_without_lines}
 use Rattle.c_printer.specs.Printing.{struct_name}
@@ -129,13 +129,8 @@ params-typed line [] = refl
 params-typed line (q ∷ qs) = ap (λ x. q ∷ x) (params-typed line qs)
 
 no_wide : (t : CType) → t ≢ I64 → same_type t I64 ≡ false
-no_wide I8 h = refl
-no_wide U8 h = refl
-no_wide I16 h = refl
-no_wide U16 h = refl
-no_wide I32 h = refl
-no_wide U32 h = refl
 no_wide I64 h = absurd (h refl)
+no_wide _ h = refl
 
 narrow : (line : ℕ) (ps : List ParamTree) → AllByRecursion (λ q. q.type ≢ I64) ps →
     list_all (λ q. not (same_type q.type I64)) (map (written_param line) ps) ≡ true

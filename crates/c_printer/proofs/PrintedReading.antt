@@ -2,21 +2,21 @@
 use Rattle.std.proofs.Common.{◌≡◌, refl, sym, ◌∙◌, ap, subst, ℕ, suc, ◌+◌, ◌<◌, List, [], ◌∷◌, ◌++◌, length, map, filter, filter_map, Bool, true, false, not, ◌||◌, Some, None, Ok, slice_get, codes, bytes_eq, nat_le, nat_lt, if◌then◌else◌, le-leb, arith}
 use Rattle.std.specs.List.{position_from, cons_option, AllByRecursion}
 use Rattle.std.proofs.lemmas.List.{append_assoc, append-nil, map-append, length-append, length-map, get_or_append_left}
-use Rattle.mc_base.specs.Numbers.{reported_number}
+use Rattle.base_core.specs.Numbers.{reported_number}
 use Rattle.c_syntax.specs.declared.program.FieldKind.{FieldKind}
 use Rattle.c_syntax.specs.declared.program.FieldKind.TheVariants.{Number, Array, Struct}
 use Rattle.c_syntax.specs.Tree.{StmtTree, assign, assign_at, branch, call, StmtTrees, no_stmts, more_stmts, FieldTree, StructTree, PureTree, ProcedureTree, ProgramTree}
 use Rattle.c_syntax.specs.Outputs.{has_name, may_be_named}
 use Rattle.c_syntax.specs.RootFields.{is_number_kind, is_number, number_names}
 use Rattle.c_rules.specs.Resolve.{Known, function_names, check_params, resolve_pure, array_limit, resolve_kind, is_number_written, number_name, resolve_fields, resolve_struct, resolve_pures, resolve_structs, has_root, resolve_program}
-use Rattle.c_grammar.specs.Results.{◌>>=◌}
+use Rattle.base_core.specs.Results.{◌>>=◌}
 use Rattle.c_syntax.specs.Lawful.{AreDistinct, AreApart, ArePures, IsLawfulPure, AreStructs, IsLawfulStruct, IsLawfulKind, IsLawful, chains_of, pure_names, procedure_names, pure_without_lines, procedure_without_lines, without_lines}
 use Rattle.c_rules.specs.AlikeTexts.{is_alike}
 use Rattle.c_rules.specs.Reading.{IsTextOf, CText}
 use Rattle.c_syntax.specs.Names.{name_at}
 use Rattle.c_printer.specs.Printing.{struct_name, program_bytes}
-use Rattle.c_reading.proofs.lemmas.ParsedFile.{one_written}
-use Rattle.c_reading.proofs.lemmas.Readings.{one-reading}
+use Rattle.c_reading_laws.proofs.lemmas.ParsedFile.{one_written}
+use Rattle.c_reading_laws.proofs.lemmas.Readings.{one-reading}
 use Rattle.c_syntax.proofs.lemmas.NamePlaces.{position_from-named}
 use Rattle.c_syntax.proofs.lemmas.NameFacts.{AreDistinct-front, AreDistinct-seam, has_name-there, AreApart-none, AreApart-more}
 use Rattle.c_printer.proofs.Params.{check_params-pass}

@@ -1,6 +1,6 @@
 -- What a printed text spells: names for positions, with the lines of the text.
 use Rattle.std.proofs.Common.{ℕ, ◌+◌, List, [], ◌∷◌, map, length, unsigned_abs}
-use Rattle.mc_base.specs.Numbers.{reported_number}
+use Rattle.base_core.specs.Numbers.{reported_number}
 use Rattle.c_syntax.specs.declared.code.CType.{CType}
 use Rattle.c_syntax.specs.declared.code.Leaf.{Leaf}
 use Rattle.c_syntax.specs.declared.code.Leaf.TheVariants.{Param, Own, Child}

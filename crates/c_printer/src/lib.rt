@@ -1,4 +1,4 @@
-// The printer of C: a program to a text that is read as that program.
+//! The printer of C: a program to a text that is read as that program.
 #![tactic(auto)]
 
 mod printing;

@@ -9,8 +9,8 @@ mod body;
 mod heads;
 mod names;
 
+use base_core::Memory;
 use c_syntax::Program;
-use mc_base::Memory;
 use std::alloc::{AllocError, Global};
 
 /// The text of a lawful program: C99 of the subset that is read again.

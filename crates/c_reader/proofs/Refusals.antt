@@ -3,8 +3,8 @@ use Rattle.std.proofs.Common.{◌≡◌, sym, subst, ℕ, List, Ok, Err, Result}
 use Rattle.std.specs.Result.{IfErr, IsErrAnd}
 use Rattle.c_grammar.specs.declared.fault.ReadCFault.{ReadCFault}
 use Rattle.c_grammar.specs.declared.fault.ReadCFault.TheVariants.{Refused, Memory}
-use Rattle.c_reading.specs.ReadText.{read_text}
-use Rattle.c_reading.proofs.lemmas.ReadTexts.{texts_agree}
+use Rattle.c_reading_laws.specs.ReadText.{read_text}
+use Rattle.c_reading_laws.proofs.lemmas.ReadTexts.{texts_agree}
 use Rattle.c_resolver.specs.Gives.{Fails}
 use Rattle.c_reader.specs.Reading.{IsReadFault}
 

@@ -1,4 +1,4 @@
-// The reader of C: bytes to a program that keeps the static rules, or their first fault.
+//! The reader of C: bytes to a program that keeps the static rules, or their first error.
 #![tactic(auto)]
 
 mod reader;

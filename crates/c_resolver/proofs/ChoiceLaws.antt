@@ -2,7 +2,7 @@
 use Rattle.std.proofs.Common.{◌≡◌, ◌∙◌, ap, ℕ, Bool, Ok}
 use Rattle.c_syntax.specs.Tree.{CondTree, StmtTree, StmtTrees}
 use Rattle.c_grammar.specs.Written.{WrittenCond, WrittenStmt, WrittenStmts}
-use Rattle.c_grammar.specs.Results.{◌>>=◌}
+use Rattle.base_core.specs.Results.{◌>>=◌}
 use Rattle.c_rules.specs.Resolve.{Names, resolve_cond, resolve_stmt, resolve_stmts}
 use Rattle.c_grammar.specs.declared.fault.ReadCFault.{ReadCFault}
 use Rattle.c_grammar.specs.WrittenTrees.{choice_of}

@@ -1,6 +1,6 @@
 -- Rules for each element of a list, in turn.
 use Rattle.std.proofs.Common.{◌≡◌, refl, sym, ◌∙◌, ap, subst, ℕ, zero, suc, ◌+◌, ◌<◌, List, [], ◌∷◌, ◌++◌, length, map, take, get_or, Result, Ok, Err, arith}
-use Rattle.c_grammar.specs.Results.{◌>>=◌}
+use Rattle.base_core.specs.Results.{◌>>=◌}
 use Rattle.c_rules.proofs.lemmas.Resolved.{ok-same, bind-parts}
 
 pub bind_ok : {A B E : Type 0} (r : Result A E) (go : A → Result B E) (x : A) → r ≡ Ok x → (r >>= go) ≡ go x

@@ -6,7 +6,7 @@ use Rattle.c_resolver.proofs.Each.{map_push}
 use Rattle.c_syntax.specs.declared.fault.CKind.TheVariants.{Name}
 use Rattle.c_grammar.specs.Prefix.{fault_at}
 use Rattle.c_syntax.specs.Outputs.{has_name}
-use Rattle.c_grammar.specs.Results.{◌>>◌}
+use Rattle.base_core.specs.Results.{◌>>◌}
 use Rattle.c_rules.specs.Resolve.{on_line, unless_fault, check_params}
 use Rattle.c_syntax.proofs.lemmas.NameFacts.{has_name-append}
 

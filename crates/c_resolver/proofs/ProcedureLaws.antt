@@ -6,7 +6,7 @@ use Rattle.c_syntax.specs.declared.fault.CFault.{CFault}
 use Rattle.c_syntax.specs.Tree.{StmtTrees, ProcedureTree, struct_fields}
 use Rattle.c_grammar.specs.Written.{WrittenProcedure, WrittenParam}
 use Rattle.c_syntax.specs.Outputs.{has_name}
-use Rattle.c_grammar.specs.Results.{◌>>=◌, ◌>>◌}
+use Rattle.base_core.specs.Results.{◌>>=◌, ◌>>◌}
 use Rattle.c_rules.specs.Resolve.{Known, Names, function_names, on_line, unless_fault, or_unnamed, is_lawful_root, check_params, resolve_head, resolve_stmts, resolve_procedure}
 use Rattle.c_rules.proofs.lemmas.Resolved.{then-parts, unless-ok, on_line-ok}
 use Rattle.c_grammar.specs.declared.fault.ReadCFault.{ReadCFault}

@@ -5,7 +5,7 @@ use Rattle.c_syntax.specs.declared.fault.CKind.TheVariants.{Name}
 use Rattle.c_syntax.specs.Tree.{ExprTree, PureTree}
 use Rattle.c_grammar.specs.Written.{WrittenPure, WrittenPureParam}
 use Rattle.c_syntax.specs.Outputs.{has_name}
-use Rattle.c_grammar.specs.Results.{◌>>=◌, ◌>>◌}
+use Rattle.base_core.specs.Results.{◌>>=◌, ◌>>◌}
 use Rattle.c_rules.specs.Resolve.{Known, Names, function_names, on_line, unless_fault, check_params, resolve_expr, resolve_pure}
 use Rattle.c_grammar.specs.declared.fault.ReadCFault.{ReadCFault}
 use Rattle.c_grammar.specs.declared.fault.ReadCFault.TheVariants.{Refused, Memory}

@@ -5,7 +5,7 @@ use Rattle.c_syntax.specs.declared.fault.CFault.{CFault}
 use Rattle.c_syntax.specs.Tree.{ExprTree, StmtTree, ExprTrees, StmtTrees, exprs_of_list, stmts_of_list}
 use Rattle.c_grammar.specs.Written.{WrittenCond, WrittenStmts, pure, more_exprs, more_stmts}
 use Rattle.c_grammar.specs.Parsing.{exprs_from, arguments_from, stmts_from}
-use Rattle.c_grammar.specs.Results.{◌>>=◌}
+use Rattle.base_core.specs.Results.{◌>>=◌}
 use Rattle.c_rules.specs.Resolve.{Names, exprs_count, argument_casts, resolve_expr, resolve_exprs, resolve_arguments, resolve_cond, resolve_stmt, resolve_stmts}
 use Rattle.c_resolver.specs.Choices.{resolve_second}
 use Rattle.c_grammar.specs.declared.written.WrittenExpr.{WrittenExpr as Expr, Row_of-WrittenExpr, end_of-WrittenExpr, more_of-WrittenExpr, items-the_row-WrittenExpr, items_hidden-the_row-WrittenExpr-0}

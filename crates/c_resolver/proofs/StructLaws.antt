@@ -9,7 +9,7 @@ use Rattle.c_syntax.specs.PlainField.{field_trees}
 use Rattle.c_syntax.specs.Tree.{FieldTree, StructTree}
 use Rattle.c_grammar.specs.Written.{WrittenField, WrittenStruct}
 use Rattle.c_syntax.specs.Outputs.{has_name, may_be_named}
-use Rattle.c_grammar.specs.Results.{◌>>=◌, ◌>>◌}
+use Rattle.base_core.specs.Results.{◌>>=◌, ◌>>◌}
 use Rattle.c_rules.specs.Resolve.{Known, on_line, unless_fault, is_number_written, number_name, resolve_kind, resolve_field, resolve_fields, resolve_struct}
 use Rattle.c_rules.proofs.lemmas.Resolved.{then-parts, unless-ok}
 use Rattle.c_grammar.specs.declared.fault.ReadCFault.{ReadCFault}

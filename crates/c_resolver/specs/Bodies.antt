@@ -2,7 +2,7 @@
 use Rattle.std.specs.Prelude.{ℕ, [], map, Some, None, Result}
 use Rattle.c_syntax.specs.declared.fault.CFault.{CFault}
 use Rattle.c_syntax.specs.Tree.{ExprTree, StmtTrees, struct_fields}
-use Rattle.c_grammar.specs.Results.{◌>>◌}
+use Rattle.base_core.specs.Results.{◌>>◌}
 use Rattle.c_grammar.specs.Written.{WrittenPure, WrittenProcedure}
 use Rattle.c_rules.specs.Resolve.{Known, function_names, check_params, resolve_expr, resolve_stmts}
 

@@ -4,7 +4,7 @@ use Rattle.c_syntax.specs.declared.fault.CFault.{CFault}
 use Rattle.c_syntax.specs.declared.fault.CKind.{CKind}
 use Rattle.c_syntax.specs.declared.program.FieldKind.{FieldKind}
 use Rattle.c_syntax.specs.Tree.{FieldTree}
-use Rattle.c_grammar.specs.Results.{◌>>=◌}
+use Rattle.base_core.specs.Results.{◌>>=◌}
 use Rattle.c_grammar.specs.Written.{WrittenField}
 use Rattle.c_rules.specs.Resolve.{Known, resolve_fields}
 use Rattle.c_resolver.specs.declared.numbers.Numbers.{Numbers}

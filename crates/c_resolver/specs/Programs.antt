@@ -3,7 +3,7 @@ use Rattle.std.specs.Prelude.{ℕ, Result, Ok}
 use Rattle.c_syntax.specs.declared.fault.CFault.{CFault}
 use Rattle.c_syntax.specs.declared.fault.CKind.TheVariants.{Name}
 use Rattle.c_syntax.specs.Tree.{ProgramTree}
-use Rattle.c_grammar.specs.Results.{◌>>=◌, ◌>>◌}
+use Rattle.base_core.specs.Results.{◌>>=◌, ◌>>◌}
 use Rattle.c_grammar.specs.Written.{WrittenProgram}
 use Rattle.c_rules.specs.Resolve.{Known, on_line, unless_fault, has_root, resolve_pures, resolve_structs, resolve_procedures}
 

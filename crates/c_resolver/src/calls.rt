@@ -13,9 +13,9 @@ use crate::exprs::resolve_expr;
 use crate::faults::{on_line, unless_fault};
 use crate::fields::{as_array, as_number, as_struct};
 use crate::known::Scope;
+use base_core::Text;
 use c_grammar::{Argument, ReadCFault, WrittenTarget};
 use c_syntax::{CKind, CType, Expr, FieldKind, Stmt, Target};
-use mc_base::Text;
 use std::alloc::Global;
 
 /// The most procedures in a chain of calls.

@@ -10,10 +10,10 @@ use crate::faults::unless_fault;
 use crate::known::Known;
 use crate::numbers::{Numbers, is_number};
 use crate::table::Table;
+use base_core::{Memory, Text};
 use c_grammar::{WrittenField, WrittenKind};
 use c_outputs::{looks_like_output, table_of_texts};
 use c_syntax::{CKind, Field, FieldKind};
-use mc_base::{Memory, Text};
 use std::alloc::Global;
 
 /// The most items of an array.

@@ -1,4 +1,4 @@
-// The resolver of C: the program that a written program stands for, or the first construct that breaks a static rule.
+//! The resolver of C: the program that a written program stands for, or the first construct that breaks a static rule.
 #![tactic(auto)]
 
 mod calls;

@@ -8,10 +8,10 @@ ghost use Rattle.c_resolver.specs.Params.{line_and_name};
 
 use crate::faults::fault_at;
 use crate::known::Known;
+use base_core::{Memory, Text};
 use c_grammar::{ReadCFault, WrittenPureParam};
 use c_outputs::NameTable;
 use c_syntax::CKind;
-use mc_base::{Memory, Text};
 use std::alloc::Global;
 
 /// Whether a function that is defined before or an earlier parameter has this name.

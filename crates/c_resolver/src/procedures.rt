@@ -17,10 +17,10 @@ use crate::known::{Known, Scope};
 use crate::params::resolve_params;
 use crate::roots::is_lawful_root;
 use crate::stmts::resolve_stmts;
+use base_core::{Memory, Text};
 use c_grammar::{ReadCFault, WrittenParam, WrittenProcedure, WrittenPureParam};
 use c_outputs::NameTable;
 use c_syntax::{CKind, CType, Procedure, Stmt};
-use mc_base::{Memory, Text};
 use std::alloc::{AllocError, Global};
 
 /// The position of the struct of a procedure, whose name and parameters keep the rules.

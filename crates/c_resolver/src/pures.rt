@@ -12,9 +12,9 @@ use crate::exprs::resolve_expr;
 use crate::faults::fault_at;
 use crate::known::{Known, Scope};
 use crate::params::{resolve_params, texts_of};
+use base_core::{Memory, Text};
 use c_grammar::{ReadCFault, WrittenPure};
 use c_syntax::{CKind, Expr, Pure};
-use mc_base::{Memory, Text};
 use std::alloc::Global;
 
 /// What a pure function returns, whose parameters keep the rules.

@@ -15,10 +15,10 @@ use crate::known::Known;
 use crate::numbers::{Numbers, number_names};
 use crate::roots::is_root;
 use crate::table::Table;
+use base_core::{Memory, Text};
 use c_grammar::{ReadCFault, WrittenField, WrittenStruct};
 use c_outputs::{NameTable, output_names};
 use c_syntax::{CKind, Field, FieldKind, StructDef};
-use mc_base::{Memory, Text};
 use std::alloc::Global;
 
 /// One more field, whose name is new.

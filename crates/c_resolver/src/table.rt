@@ -3,9 +3,9 @@ ghost use Rattle.std.specs.Prelude.{◌≡◌, ◌++◌, ◌∷◌, [], ℕ, Lis
 ghost use Rattle.std.specs.List.{position_from};
 ghost use Rattle.c_syntax.specs.Outputs.{has_name};
 
+use base_core::Memory;
 use c_outputs::NameTable;
 use c_syntax::{Field, Procedure, Pure, StructDef};
-use mc_base::Memory;
 use std::alloc::Global;
 
 /// What a text defines under a name.

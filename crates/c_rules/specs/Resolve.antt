@@ -19,7 +19,7 @@ use Rattle.c_grammar.specs.Written.{WrittenLeaf, WrittenExpr, WrittenExprs, Writ
 use Rattle.c_syntax.specs.Outputs.{has_name, may_be_named}
 use Rattle.c_grammar.specs.Prefix.{fault_at}
 use Rattle.c_syntax.specs.Chains.{chain_limit, stmts_chain}
-use Rattle.c_grammar.specs.Results.{◌>>=◌, ◌>>◌}
+use Rattle.base_core.specs.Results.{◌>>=◌, ◌>>◌}
 
 -- a fault of this kind, unless the test passes
 abbrev pub unless_fault : Bool → CKind → Result (Unit {0}) CKind

@@ -1,7 +1,7 @@
 -- A statement where a level is left.
 use Rattle.std.proofs.Common.{◌≡◌, sym, ◌∙◌, ap, ℕ, zero, suc, ◌-◌, ◌<◌, List, Ok, arith}
 use Rattle.c_grammar.specs.Tokens.{Token}
-use Rattle.c_grammar.specs.Results.{◌>>=◌}
+use Rattle.base_core.specs.Results.{◌>>=◌}
 use Rattle.c_grammar.specs.Parsing.{Parsed, Limits, next, stmt_opener_of, parse_stmt_opened, parse_stmt}
 use Rattle.c_grammar.specs.declared.openers.StmtOpener.{StmtOpener}
 

@@ -1,4 +1,4 @@
-// Statements of C, read of tokens by recursive descent.
+//! Reads statements of C by recursive descent.
 #![tactic(auto)]
 
 mod build;

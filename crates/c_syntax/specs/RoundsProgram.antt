@@ -1,6 +1,6 @@
 -- A program with pure functions, conditions, a private procedure and a field that is a struct.
 use Rattle.std.specs.Prelude.{pos, true, false, [], ◌∷◌, codes}
-use Rattle.mc_base.specs.declared.base.Compare.TheVariants.{Eq, Lt, Ge, Gt}
+use Rattle.base_core.specs.declared.base.Compare.TheVariants.{Eq, Lt, Ge, Gt}
 use Rattle.c_syntax.specs.declared.code.BinOp.TheVariants.{Add, Sub, Mul, Div, Rem}
 use Rattle.c_syntax.specs.declared.code.CType.TheVariants.{I8, U8, I16, I32}
 use Rattle.c_syntax.specs.declared.code.Leaf.TheVariants.{Param, Own, Child}

@@ -1,7 +1,7 @@
 -- Programs as plain trees: the same variants and fields as the values of the source, with lists for
 -- vectors.
 use Rattle.std.specs.Prelude.{ℕ, ℤ, Bool, List, [], ◌∷◌, map, slice_index_or}
-use Rattle.mc_base.specs.declared.base.Compare.{Compare}
+use Rattle.base_core.specs.declared.base.Compare.{Compare}
 use Rattle.c_syntax.specs.declared.code.BinOp.{BinOp}
 use Rattle.c_syntax.specs.declared.code.CType.{CType}
 use Rattle.c_syntax.specs.declared.code.CType.TheVariants.{I64}

@@ -1,5 +1,5 @@
 use crate::code::{CType, Expr, Stmt};
-use mc_base::Text;
+use base_core::Text;
 use std::marker::Model;
 
 /// What a field holds: a number, an array of numbers, or an instance of a struct.

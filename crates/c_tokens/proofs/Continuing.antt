@@ -2,7 +2,7 @@
 use Rattle.std.proofs.Common.{◌≡◌, refl, sym, ◌∙◌, ap, ℕ, zero, suc, ◌+◌, ◌<◌, List, ◌∷◌, length, Result, Ok, Err, arith}
 use Rattle.c_syntax.specs.declared.fault.CFault.{CFault}
 use Rattle.c_grammar.specs.Tokens.{Token}
-use Rattle.c_grammar.specs.Results.{◌>>=◌}
+use Rattle.base_core.specs.Results.{◌>>=◌}
 use Rattle.c_grammar.specs.Parsing.{Step, one_more, the_end, after_step, many, parse_operand, values_step, arguments_step, parse_stmt, stmts_step, pure_params_step, params_step, fields_step, pures_step, structs_step, procedures_step}
 use Rattle.c_tokens.specs.Lists.{Stepping, Continues, ListsContinue}
 use Rattle.c_tokens.proofs.Fewer.{values_step-falls}

@@ -4,7 +4,7 @@ use Rattle.c_syntax.specs.declared.fault.CFault.{CFault}
 use Rattle.c_grammar.specs.Tokens.{Token}
 use Rattle.c_syntax.specs.Names.{is_name}
 use Rattle.c_grammar.specs.Written.{WrittenExpr, WrittenCond}
-use Rattle.c_grammar.specs.Results.{◌>>=◌, ◌>>◌}
+use Rattle.base_core.specs.Results.{◌>>=◌, ◌>>◌}
 use Rattle.c_grammar.specs.Parsing.{Parsed, Operand, value, test, Step, one_more, the_end, after_step, many, or_syntax, or_syntax_unless, next, parse_word, parse_name, parse_type, parse_literal, parse_cast, parse_field_name, parse_index, parse_tail, parse_leaf_from, parse_leaf, value_only, test_only, deeper_value, deeper_test, parse_number, values_step_by, values_step, parse_values, join_value, join_test, join, parse_inside, parse_opened, opened_too_deep, parse_operand, parse_expr, parse_cond, first_text, value_joint, test_joint, comma_of, opener_of, inside_of, tail_of, type_of_text}
 use Rattle.c_grammar.specs.declared.openers.Comma.{Comma}
 use Rattle.c_grammar.specs.declared.openers.Comma.TheVariants.{Another as another, Closed as closed, Nothing as no_comma}
@@ -307,9 +307,7 @@ module _ (last : ℕ) where
 
   too_deep-below : (n : ℕ) (t : Token) (opener : Opener) → Below n (opened_too_deep last {X = Operand × List Token} t opener)
   too_deep-below n t number_opener = below-err n _
-  too_deep-below n t call_opener = below-err n _
-  too_deep-below n t paren_opener = below-err n _
-  too_deep-below n t no_opener = below-err n _
+  too_deep-below n t _ = below-err n _
 
   pub operand-below : (levels : ℕ) (want : Want) (tokens : List Token) → Below (length tokens) (parse_operand last levels want tokens)
   operand-below zero want tokens =

@@ -4,7 +4,7 @@ use Rattle.c_syntax.specs.declared.code.CType.{CType}
 use Rattle.c_syntax.specs.declared.fault.CFault.{CFault}
 use Rattle.c_grammar.specs.Tokens.{Token}
 use Rattle.c_grammar.specs.Written.{WrittenCond, WrittenStmt, WrittenStmts, own_target, WrittenPureParam, WrittenParam, WrittenPure, WrittenField, WrittenStruct, WrittenProcedure}
-use Rattle.c_grammar.specs.Results.{◌>>=◌, ◌>>◌}
+use Rattle.base_core.specs.Results.{◌>>=◌, ◌>>◌}
 use Rattle.c_grammar.specs.Parsing.{Parsed, Limits, Argument, Step, one_more, many, or_syntax, or_syntax_unless, or_deep_unless, next, parse_word, parse_name, parse_literal, parse_cast, parse_field_name, parse_index, parse_operand, parse_expr, parse_cond, first_text, comma_of, type_of_text, parse_target_from, parse_target, target_opener_of, stmt_opener_of, definition_of, arguments_step_by, arguments_step, parse_stored, parse_store_in, parse_store, parse_call, stmts_step_by, stmts_step, parse_block, parse_second, parse_if, parse_stmt_opened, stmt_too_deep, parse_stmt, parse_pure_param, pure_params_step_by, pure_params_step, parse_param, params_step_by, params_step, parse_pure, parse_length, parse_field_from, parse_field, fields_step_by, fields_step, parse_struct, parse_procedure_behind, parse_procedure, pures_step_by, pures_step, structs_step_by, structs_step, procedures_step}
 use Rattle.c_grammar.specs.declared.openers.Comma.{Comma}
 use Rattle.c_grammar.specs.declared.openers.Comma.TheVariants.{Another as another, Closed as closed, Nothing as no_comma}

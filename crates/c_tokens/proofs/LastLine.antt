@@ -1,6 +1,6 @@
 -- The last line of a text is the line of its last byte.
 use Rattle.std.proofs.Common.{◌≡◌, refl, sym, ◌∙◌, ap, ℕ, ◌+◌, ◌<◌, min, Bool, true, false, ◌==◌, if◌then◌else◌, List, [], ◌∷◌, ◌++◌, arith}
-use Rattle.mc_base.specs.Numbers.{reported_number}
+use Rattle.base_core.specs.Numbers.{reported_number}
 use Rattle.c_grammar.specs.Tokens.{line_after, last_line_from, last_line}
 use Rattle.c_tokens.specs.Lines.{line_behind}
 use Rattle.c_tokens.proofs.TokenLines.{told-once, told}

@@ -6,7 +6,7 @@ use Rattle.std.specs.Str.Parse.{digits_value_after, digits_value as number_of}
 use Rattle.std.proofs.lemmas.Bool.{le-leb, leb-true, and_parts, and_from}
 use Rattle.std.proofs.lemmas.Str.{digit_value_digit}
 use Rattle.std.specs.Int.{IsInRange}
-use Rattle.mc_numerals.specs.Literals.{are_digits}
+use Rattle.base_numerals.specs.Literals.{are_digits}
 use Rattle.c_grammar.specs.Prefix.{is_literal, digits_value}
 use Rattle.c_tokens.specs.Numerals.{is_plain_numeral}
 

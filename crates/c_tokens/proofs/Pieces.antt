@@ -4,7 +4,7 @@ use Rattle.std.specs.List.{prefix_len, list_all}
 use Rattle.std.specs.Char.{is_ascii_digit}
 use Rattle.std.proofs.lemmas.Bool.{eqb-true, and_parts}
 use Rattle.std.proofs.lemmas.List.Sums.{prefix_len-le-length}
-use Rattle.mc_base.specs.Numbers.{reported_number}
+use Rattle.base_core.specs.Numbers.{reported_number}
 use Rattle.c_grammar.specs.Tokens.{Piece, blank, comment, token, blank_class, sign_class, class_of, is_white_space, is_double_sign, piece_of, piece_tokens, line_after, tokens_from, comment_end, is_line_end}
 use Rattle.c_syntax.specs.Names.{is_word_start, is_word_byte}
 use Rattle.c_tokens.specs.declared.bytes.Piece.TheVariants.{Blank, Comment, Token}

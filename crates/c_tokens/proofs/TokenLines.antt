@@ -1,7 +1,7 @@
 -- Tokens behind bytes that are skipped, and the lines that can be told.
 use Rattle.std.proofs.Common.{◌≡◌, refl, sym, ◌∙◌, subst, ℕ, zero, suc, ◌+◌, ◌-◌, ◌≤◌, ◌<◌, Bool, true, false, not, ◌==◌, ◌&&◌, if◌then◌else◌, min, List, [], ◌∷◌, length, drop, take, arith}
 use Rattle.std.specs.List.{list_all}
-use Rattle.mc_base.specs.Numbers.{reported_number}
+use Rattle.base_core.specs.Numbers.{reported_number}
 use Rattle.c_grammar.specs.Tokens.{Token, Piece, blank, comment, token, class_of, piece_of, piece_tokens, line_after, tokens_from, is_line_end}
 use Rattle.c_tokens.specs.Lines.{line_behind}
 use Rattle.c_tokens.specs.Pieces.{IsFirstToken}

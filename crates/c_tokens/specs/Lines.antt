@@ -1,6 +1,6 @@
 -- Lines as they are counted: the last that can be told stands for all behind it.
 use Rattle.std.specs.Prelude.{ℕ, List, [], ◌∷◌}
-use Rattle.mc_base.specs.Numbers.{reported_number}
+use Rattle.base_core.specs.Numbers.{reported_number}
 use Rattle.c_grammar.specs.Tokens.{line_after}
 
 -- the line behind some bytes that begin on a line

@@ -2,7 +2,7 @@
 use Rattle.std.specs.Prelude.{◌≡◌, ℕ, suc, ◌+◌, ◌<◌, List, ◌∷◌, length, Result, Ok}
 use Rattle.c_syntax.specs.declared.fault.CFault.{CFault}
 use Rattle.c_grammar.specs.Tokens.{Token}
-use Rattle.c_grammar.specs.Results.{◌>>=◌}
+use Rattle.base_core.specs.Results.{◌>>=◌}
 use Rattle.c_grammar.specs.Parsing.{Limits, Step, one_more, many, parse_operand, values_step, arguments_step, parse_stmt, stmts_step, pure_params_step, params_step, fields_step, pures_step, structs_step, procedures_step}
 
 -- how a list goes on behind so many elements: by one more, or by its end

@@ -1,6 +1,6 @@
 -- The pieces that a text is read in.
 use Rattle.std.specs.Prelude.{◌≡◌, ℕ, ◌≤◌, ◌<◌, List, ◌∷◌, length, take, drop}
-use Rattle.mc_base.specs.Numbers.{reported_number}
+use Rattle.base_core.specs.Numbers.{reported_number}
 use Rattle.c_grammar.specs.Tokens.{tokens_from}
 use Rattle.c_tokens.specs.Lines.{line_behind}
 use Rattle.c_tokens.specs.declared.bytes.Piece.{Piece}

@@ -1,4 +1,4 @@
-// The tokens of a C text: where each begins and ends, what it stands for, and what it opens.
+//! The tokens of a C text: where each begins and ends, what it stands for, and what it opens.
 #![tactic(auto)]
 
 mod bytes;

@@ -1,6 +1,6 @@
 // Lines of a text.
 ghost use Rattle.std.specs.Prelude.{◌≡◌};
-ghost use Rattle.mc_base.specs.Numbers.{reported_number};
+ghost use Rattle.base_core.specs.Numbers.{reported_number};
 ghost use Rattle.c_grammar.specs.Tokens as tokens;
 ghost use Rattle.c_tokens.specs.Lines.{line_behind};
 

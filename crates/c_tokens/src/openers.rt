@@ -3,11 +3,11 @@ ghost use Rattle.std.specs.Prelude.{◌≡◌, if◌then◌else◌};
 ghost use Rattle.c_grammar.specs.Parsing as parsing;
 
 use crate::words::{compare_of_text, is, is_name, op_of_text};
+use base_core::Compare;
 use c_grammar::{
     Comma, Definition, Inside, Opener, StmtOpener, Tail, TargetOpener, TestJoint, ValueJoint, Want,
 };
 use c_syntax::BinOp;
-use mc_base::Compare;
 
 /// What a token opens where an operand is wanted.
 pub fn opener_of(want: Want, text: &[u8]) -> Opener

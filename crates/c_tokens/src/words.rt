@@ -7,10 +7,10 @@ ghost use Rattle.c_syntax.specs.Names as tokens;
 ghost use Rattle.c_grammar.specs.Parsing as parsing;
 
 use crate::bytes::is_word_byte;
+use base_core::Compare;
+use base_numerals::{capped_number, is_numeral};
 use c_grammar::Number;
 use c_syntax::{BinOp, CType};
-use mc_base::Compare;
-use mc_numerals::{capped_number, is_numeral};
 
 // The keywords of C99 that begin with a lower-case letter.
 const KEYWORDS: [&[u8]; 34] = [

@@ -2,12 +2,12 @@
 use Rattle.std.proofs.Common.{◌≡◌, refl, sym, ◌∙◌, ap, ℕ, Bool, true, false, not, cond, List, Option, None, Some, is_some, map, codes}
 use Rattle.std.specs.Prelude.{Result, Ok, Err, ok_or, option_map, option_and_then, find, bytes_eq}
 use Rattle.std.specs.Result.{result_ok, result_err}
-use Rattle.mc_base.specs.declared.ParamName.{ParamName}
-use Rattle.mc_base.specs.declared.ParamName.TheVariants.{Name, OutDataTypeStr, SampleTime, PortDimensions, OutputWhenDisabled, InitialOutput, SystemSampleTime, ParamDataTypeStr, RndMeth, SaturateOnIntegerOverflow, Inputs, InitialCondition, Criteria, Threshold, Operator, ConvertRealWorld, Integrity, Deterministic, OutPortSampleTimeOpt, OutPortSampleTime, StatesWhenEnabling, TriggerType, DelayLength, DelayLengthSource, InitialConditionSource, ExternalReset}
-use Rattle.mc_base.specs.declared.ParamName.TheVariants as param
-use Rattle.mc_fixed.specs.declared.Round.{Round}
-use Rattle.mc_fixed.specs.declared.Over.{Over}
-use Rattle.mc_blocks.specs.declared.How.{How}
+use Rattle.base_core.specs.declared.ParamName.{ParamName}
+use Rattle.base_core.specs.declared.ParamName.TheVariants.{Name, OutDataTypeStr, SampleTime, PortDimensions, OutputWhenDisabled, InitialOutput, SystemSampleTime, ParamDataTypeStr, RndMeth, SaturateOnIntegerOverflow, Inputs, InitialCondition, Criteria, Threshold, Operator, ConvertRealWorld, Integrity, Deterministic, OutPortSampleTimeOpt, OutPortSampleTime, StatesWhenEnabling, TriggerType, DelayLength, DelayLengthSource, InitialConditionSource, ExternalReset}
+use Rattle.base_core.specs.declared.ParamName.TheVariants as param
+use Rattle.base_fixed_point.specs.declared.Round.{Round}
+use Rattle.base_fixed_point.specs.declared.Over.{Over}
+use Rattle.diagram_blocks.specs.declared.How.{How}
 use Rattle.mdl_tree.specs.Walks.{SectionTree, first_section}
 use Rattle.mdl_params.specs.declared.BlockType.{BlockType}
 use Rattle.mdl_params.specs.declared.BlockType.TheVariants.{Inport, Outport, SubSystem, Constant, Ground, Terminator, Gain, Sum, Product, UnitDelay, Delay, ZeroOrderHold, Switch, RelationalOperator, DataTypeConversion, RateTransition, EnablePort, TriggerPort}
@@ -18,7 +18,7 @@ use Rattle.mdl_params.specs.Defaults.{parameter_text}
 use Rattle.mdl_blocks.specs.declared.fault.Fault.{Fault}
 use Rattle.mdl_blocks.specs.declared.fault.Fault.TheVariants.{Unsupported, Parameter}
 use Rattle.mdl_blocks.specs.declared.peers.Peers.{Peers}
-use Rattle.mdl_blocks.specs.Results.{◌>>=◌, ◌>>◌}
+use Rattle.base_core.specs.Results.{◌>>=◌, ◌>>◌}
 use Rattle.mdl_blocks.specs.Words.{number_in, number_up_to, samples_in, writes_minus_one, factor_in, initial_output_in, rounds, overs, edges, resets, inheritances, comparisons, logics, criteria}
 use Rattle.mdl_blocks.specs.Signs.{sum_signs, product_count, logic_count}
 use Rattle.mdl_blocks.specs.Meanings.{type_in, whole_type_in, any_time_in, time_in, constant_in}

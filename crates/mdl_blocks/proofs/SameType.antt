@@ -2,8 +2,8 @@
 use Rattle.std.specs.Prelude.{◌≡◌, ℕ, Bool}
 use mathlib.Core.HLevel.{is_prop→PathP}
 use Rattle.std.specs.Coded.{le_prop}
-use Rattle.mc_fixed.specs.declared.FixType.{FixType}
-use Rattle.mc_fixed.specs.Profile.{InProfile}
+use Rattle.base_fixed_point.specs.declared.FixType.{FixType}
+use Rattle.base_fixed_point.specs.Profile.{InProfile}
 use Rattle.mdl_type_texts.specs.TypeTexts.{format_of}
 
 profile-prop : (s : Bool) (b f : ℕ) → IsProp (InProfile s b f)

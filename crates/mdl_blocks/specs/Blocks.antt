@@ -1,16 +1,16 @@
 -- What a block's section says, or what is wrong with it.
 use Rattle.std.specs.Prelude.{ℕ, Bool, true, false, ◌||◌, ◌&&◌, if◌then◌else◌, List, Option, is_some, is_none, ok_or, Result, Ok, Err, bytes_eq, codes, nat_eq}
 use Rattle.std.specs.List.{starts_with}
-use Rattle.mc_base.specs.declared.ParamName.{ParamName}
-use Rattle.mc_base.specs.declared.ParamName.TheVariants.{Name, OutDataTypeStr, SampleTime, PortDimensions, OutputWhenDisabled, InitialOutput, SystemSampleTime, ParamDataTypeStr, RndMeth, SaturateOnIntegerOverflow, Inputs, InitialCondition, Criteria, Threshold, Operator, ConvertRealWorld, Integrity, Deterministic, OutPortSampleTimeOpt, OutPortSampleTime, StatesWhenEnabling, TriggerType, DelayLength, DelayLengthSource, InitialConditionSource, ExternalReset}
-use Rattle.mc_base.specs.declared.ParamName.TheVariants as param
-use Rattle.mc_base.specs.declared.Edge.{Edge}
-use Rattle.mc_base.specs.declared.Compare.{Compare}
-use Rattle.mc_numerals.specs.Literals.{Ratio}
+use Rattle.base_core.specs.declared.ParamName.{ParamName}
+use Rattle.base_core.specs.declared.ParamName.TheVariants.{Name, OutDataTypeStr, SampleTime, PortDimensions, OutputWhenDisabled, InitialOutput, SystemSampleTime, ParamDataTypeStr, RndMeth, SaturateOnIntegerOverflow, Inputs, InitialCondition, Criteria, Threshold, Operator, ConvertRealWorld, Integrity, Deterministic, OutPortSampleTimeOpt, OutPortSampleTime, StatesWhenEnabling, TriggerType, DelayLength, DelayLengthSource, InitialConditionSource, ExternalReset}
+use Rattle.base_core.specs.declared.ParamName.TheVariants as param
+use Rattle.base_core.specs.declared.Edge.{Edge}
+use Rattle.base_core.specs.declared.Compare.{Compare}
+use Rattle.base_numerals.specs.Literals.{Ratio}
 use Rattle.mdl_type_texts.specs.TypeTexts.{Inherit}
-use Rattle.mc_blocks.specs.declared.How.{How}
-use Rattle.mc_blocks.specs.declared.Logic.{Logic}
-use Rattle.mc_blocks.specs.declared.Criterion.{Criterion}
+use Rattle.diagram_blocks.specs.declared.How.{How}
+use Rattle.diagram_blocks.specs.declared.Logic.{Logic}
+use Rattle.diagram_blocks.specs.declared.Criterion.{Criterion}
 use Rattle.mdl_tree.specs.Spelling.{Items}
 use Rattle.mdl_tree.specs.Walks.{SectionTree, first_section, first_value}
 use Rattle.mdl_params.specs.declared.BlockType.{BlockType}
@@ -24,7 +24,7 @@ use Rattle.mdl_params.specs.Times as time
 use Rattle.mdl_blocks.specs.declared.fault.Fault.{Fault}
 use Rattle.mdl_blocks.specs.declared.fault.Fault.TheVariants.{Unsupported, Parameter}
 use Rattle.mdl_blocks.specs.declared.peers.Peers.{Peers}
-use Rattle.mdl_blocks.specs.Results.{◌>>=◌, ◌>>◌}
+use Rattle.base_core.specs.Results.{◌>>=◌, ◌>>◌}
 use Rattle.mdl_blocks.specs.Words.{number_in, number_up_to, samples_in, writes_minus_one, factor_in, initial_output_in, rounds, overs, edges, resets, inheritances, comparisons, logics, criteria}
 use Rattle.mdl_blocks.specs.Signs.{sum_signs, product_count, logic_count}
 use Rattle.mdl_blocks.specs.Meanings.{TypeSaid, known_type, TimeSaid, known_time, type_in, whole_type_in, any_time_in, time_in, out_time, ConstantSaid, constant_in}

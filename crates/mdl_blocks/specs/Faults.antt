@@ -1,7 +1,7 @@
 -- The refusals of a file for the faults of its blocks.
 use Rattle.std.specs.Prelude.{ℕ}
-use Rattle.mc_refusals.specs.Refusals.{PlainRefusal}
-use Rattle.mc_refusals.specs.Refusals as refusal
+use Rattle.base_refusals.specs.Refusals.{PlainRefusal}
+use Rattle.base_refusals.specs.Refusals as refusal
 use Rattle.mdl_blocks.specs.declared.fault.Fault.{Fault}
 use Rattle.mdl_blocks.specs.declared.fault.Fault.TheVariants.{Unsupported, Parameter, Continuous, FloatType}
 

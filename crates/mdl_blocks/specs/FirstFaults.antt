@@ -2,9 +2,9 @@
 -- parameters of its type.
 use Rattle.std.specs.Prelude.{◌≡◌, ℕ, Bool, true, false, not, ◌||◌, if◌then◌else◌, List, ◌∷◌, map, find, Option, Some, is_some, option_map, option_and_then, Result, Ok, Err, bytes_eq, codes}
 use Rattle.std.specs.Result.{result_ok, result_err}
-use Rattle.mc_base.specs.declared.ParamName.{ParamName}
-use Rattle.mc_base.specs.declared.ParamName.TheVariants.{Name, OutDataTypeStr, SampleTime, PortDimensions, OutputWhenDisabled, InitialOutput, SystemSampleTime, ParamDataTypeStr, RndMeth, SaturateOnIntegerOverflow, Inputs, InitialCondition, Criteria, Threshold, Operator, ConvertRealWorld, Integrity, Deterministic, OutPortSampleTimeOpt, OutPortSampleTime, StatesWhenEnabling, TriggerType, DelayLength, DelayLengthSource, InitialConditionSource, ExternalReset}
-use Rattle.mc_base.specs.declared.ParamName.TheVariants as param
+use Rattle.base_core.specs.declared.ParamName.{ParamName}
+use Rattle.base_core.specs.declared.ParamName.TheVariants.{Name, OutDataTypeStr, SampleTime, PortDimensions, OutputWhenDisabled, InitialOutput, SystemSampleTime, ParamDataTypeStr, RndMeth, SaturateOnIntegerOverflow, Inputs, InitialCondition, Criteria, Threshold, Operator, ConvertRealWorld, Integrity, Deterministic, OutPortSampleTimeOpt, OutPortSampleTime, StatesWhenEnabling, TriggerType, DelayLength, DelayLengthSource, InitialConditionSource, ExternalReset}
+use Rattle.base_core.specs.declared.ParamName.TheVariants as param
 use Rattle.mdl_tree.specs.Walks.{SectionTree, first_section}
 use Rattle.mdl_params.specs.declared.BlockType.{BlockType}
 use Rattle.mdl_params.specs.declared.BlockType.TheVariants.{Inport, Constant, Sum, Product, RelationalOperator}

@@ -1,7 +1,7 @@
 -- Blocks in memory, as plain ones.
 use Rattle.std.specs.Prelude.{Option, option_map}
 use denote.Ref.{Bor}
-use Rattle.mc_numerals.specs.Literals.{ratio_of}
+use Rattle.base_numerals.specs.Literals.{ratio_of}
 use Rattle.mdl_type_texts.specs.TypeTexts.{meaning_of}
 use Rattle.mdl_tree.specs.declared.tree.Section.{Section}
 use Rattle.mdl_tree.specs.Walks.{SectionTree}

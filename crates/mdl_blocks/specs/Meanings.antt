@@ -1,7 +1,7 @@
 -- What is written for a type or a time of a block.
 use Rattle.std.specs.Prelude.{ℕ, ◌==◌, Bool, true, false, ◌||◌, if◌then◌else◌, List, Option, Some, None, option_map, option_and_then, Result, Ok, Err, bytes_eq, codes}
-use Rattle.mc_base.specs.Bytes.{trim}
-use Rattle.mc_numerals.specs.Literals.{Ratio}
+use Rattle.base_core.specs.Bytes.{trim}
+use Rattle.base_numerals.specs.Literals.{Ratio}
 use Rattle.mdl_type_texts.specs.TypeTexts.{Meaning, Inherit, Logical, Back, Fixed}
 use Rattle.mdl_params.specs.declared.ParamFault.{ParamFault}
 use Rattle.mdl_params.specs.declared.ParamFault.TheVariants.{Parameter, Float, Continuous}

@@ -1,7 +1,7 @@
 -- How many Inports and Outports a system has.
 use Rattle.std.specs.Prelude.{ℕ, Bool, false, ◌&&◌, filter, length, bytes_eq, codes}
 use Rattle.std.specs.Option.{option_map_or}
-use Rattle.mc_base.specs.Numbers.{reported_number}
+use Rattle.base_core.specs.Numbers.{reported_number}
 use Rattle.mdl_tree.specs.Spelling.{Items, End, Param, Section}
 use Rattle.mdl_tree.specs.Walks.{SectionTree, sections_named, first_value}
 use Rattle.mdl_params.specs.declared.BlockType.{BlockType}

@@ -1,16 +1,16 @@
 -- What the row of a block says, whose section says what it should.
 use Rattle.std.specs.Prelude.{Bool, true, false, not, ◌&&◌, if◌then◌else◌, Result, Ok, Err}
-use Rattle.mc_base.specs.declared.Control.{Control}
-use Rattle.mc_base.specs.declared.Decimal.{Decimal}
-use Rattle.mc_base.specs.declared.TimeText.{TimeText}
-use Rattle.mc_fixed.specs.declared.TypeText.{TypeText}
-use Rattle.mc_fixed.specs.declared.TypeText.TheVariants.{Inherit, Logical, Back, Fixed}
-use Rattle.mc_fixed.specs.Types.{boolean}
-use Rattle.mc_blocks.specs.declared.How.{How}
-use Rattle.mc_blocks.specs.declared.GainText.{GainText}
-use Rattle.mc_blocks.specs.declared.GainText.TheVariants.{Own, Typed}
-use Rattle.mc_blocks.specs.declared.Kind.{Kind}
-use Rattle.mc_blocks.specs.declared.Kind.TheVariants as row
+use Rattle.base_core.specs.declared.Control.{Control}
+use Rattle.base_core.specs.declared.Decimal.{Decimal}
+use Rattle.base_core.specs.declared.TimeText.{TimeText}
+use Rattle.base_fixed_point.specs.declared.TypeText.{TypeText}
+use Rattle.base_fixed_point.specs.declared.TypeText.TheVariants.{Inherit, Logical, Back, Fixed}
+use Rattle.base_fixed_point.specs.Types.{boolean}
+use Rattle.diagram_blocks.specs.declared.How.{How}
+use Rattle.diagram_blocks.specs.declared.GainText.{GainText}
+use Rattle.diagram_blocks.specs.declared.GainText.TheVariants.{Own, Typed}
+use Rattle.diagram_blocks.specs.declared.Kind.{Kind}
+use Rattle.diagram_blocks.specs.declared.Kind.TheVariants as row
 use Rattle.mdl_blocks.specs.declared.fault.Fault.{Fault}
 use Rattle.mdl_blocks.specs.declared.fault.Fault.TheVariants.{Continuous, FloatType}
 use Rattle.mdl_blocks.specs.declared.signs.SignMask.{SignMask}
@@ -23,7 +23,7 @@ use Rattle.mdl_blocks.specs.declared.kind.BlockKind.{BlockKind}
 use Rattle.mdl_blocks.specs.declared.kind.BlockKind.TheVariants as held
 use Rattle.mdl_blocks.specs.declared.block.Body.{Body}
 use Rattle.mdl_blocks.specs.declared.row.RowText.{RowText}
-use Rattle.mdl_blocks.specs.Results.{◌>>=◌}
+use Rattle.base_core.specs.Results.{◌>>=◌}
 
 -- the time that is written, or the fault of a period 0
 abbrev pub known_time : WrittenTime → Result TimeText Fault
@@ -45,10 +45,7 @@ gain_with factor (Fixed type) = Typed factor type
 -- whether a type is that of the block's rule
 abbrev pub is_inherited : WrittenType → Bool
 is_inherited (a_type.Known Inherit) = true
-is_inherited (a_type.Known Logical) = false
-is_inherited (a_type.Known Back) = false
-is_inherited (a_type.Known (Fixed type)) = false
-is_inherited a_type.Float = false
+is_inherited _ = false
 
 -- the kind of a constant, whose type must not be that of a number
 abbrev pub constant_kind : WrittenConstant → WrittenType → Result Kind Fault

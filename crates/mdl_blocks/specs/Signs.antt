@@ -2,8 +2,8 @@
 use Rattle.std.specs.Prelude.{ℕ, ◌+◌, ◌*◌, ◌==◌, Bool, false, not, ◌&&◌, ◌||◌, nat_le, if◌then◌else◌, List, [], ◌∷◌, map, filter, length, replicate, Option, Some, None, option_map}
 use Rattle.std.specs.List.{list_all}
 use Rattle.std.specs.Option.{option_or}
-use Rattle.mc_blocks.specs.declared.Logic.{Logic}
-use Rattle.mc_blocks.specs.declared.Logic.TheVariants.{And, Or, Nand, Nor, Xor, Nxor, Not}
+use Rattle.diagram_blocks.specs.declared.Logic.{Logic}
+use Rattle.diagram_blocks.specs.declared.Logic.TheVariants.{Not}
 use Rattle.mdl_blocks.specs.declared.signs.SignMask.{SignMask}
 use Rattle.mdl_blocks.specs.Words.{number_up_to}
 
@@ -62,10 +62,5 @@ product_count text = option_or (number_up_to 16 text) (star_count text)
 
 -- how many inputs a logical operator has: one for the negation, whatever is written
 abbrev pub logic_count : Logic → List ℕ → Option ℕ
-logic_count And text = number_up_to 16 text
-logic_count Or text = number_up_to 16 text
-logic_count Nand text = number_up_to 16 text
-logic_count Nor text = number_up_to 16 text
-logic_count Xor text = number_up_to 16 text
-logic_count Nxor text = number_up_to 16 text
 logic_count Not text = Some 1
+logic_count _ text = number_up_to 16 text

@@ -2,21 +2,21 @@
 use Rattle.std.specs.Prelude.{ℕ, ◌==◌, Bool, true, false, ◌&&◌, nat_le, if◌then◌else◌, List, [], ◌∷◌, Option, Some, None, option_and_then, ℤ, pos, negsuc, bytes_eq, codes}
 use Rattle.std.specs.Option.{option_map_or}
 use Rattle.std.specs.Result.{result_ok}
-use Rattle.mc_base.specs.declared.Edge.{Edge}
-use Rattle.mc_base.specs.declared.Edge.TheVariants.{Rising, Falling, Either}
-use Rattle.mc_base.specs.declared.Compare.{Compare}
-use Rattle.mc_base.specs.declared.Compare.TheVariants as compare
-use Rattle.mc_numerals.specs.Literals.{Ratio}
-use Rattle.mc_fixed.specs.declared.Round.{Round}
-use Rattle.mc_fixed.specs.declared.Round.TheVariants as round
-use Rattle.mc_fixed.specs.declared.Over.{Over}
-use Rattle.mc_fixed.specs.declared.Over.TheVariants.{Saturate, Wrap}
-use Rattle.mc_fixed.specs.Rounding.{nearest}
-use Rattle.mc_fixed.specs.Conversion.{fits_32}
-use Rattle.mc_blocks.specs.declared.Logic.{Logic}
-use Rattle.mc_blocks.specs.declared.Logic.TheVariants as logic
-use Rattle.mc_blocks.specs.declared.Criterion.{Criterion}
-use Rattle.mc_blocks.specs.declared.Criterion.TheVariants.{Ge, Gt, NotZero}
+use Rattle.base_core.specs.declared.Edge.{Edge}
+use Rattle.base_core.specs.declared.Edge.TheVariants.{Rising, Falling, Either}
+use Rattle.base_core.specs.declared.Compare.{Compare}
+use Rattle.base_core.specs.declared.Compare.TheVariants as compare
+use Rattle.base_numerals.specs.Literals.{Ratio}
+use Rattle.base_fixed_point.specs.declared.Round.{Round}
+use Rattle.base_fixed_point.specs.declared.Round.TheVariants as round
+use Rattle.base_fixed_point.specs.declared.Over.{Over}
+use Rattle.base_fixed_point.specs.declared.Over.TheVariants.{Saturate, Wrap}
+use Rattle.base_fixed_point.specs.Rounding.{nearest}
+use Rattle.base_fixed_point.specs.Conversion.{fits_32}
+use Rattle.diagram_blocks.specs.declared.Logic.{Logic}
+use Rattle.diagram_blocks.specs.declared.Logic.TheVariants as logic
+use Rattle.diagram_blocks.specs.declared.Criterion.{Criterion}
+use Rattle.diagram_blocks.specs.declared.Criterion.TheVariants.{Ge, Gt, NotZero}
 use Rattle.mdl_params.specs.Forms.{number_form}
 
 -- ---- Numbers

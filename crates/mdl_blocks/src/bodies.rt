@@ -9,8 +9,8 @@ use crate::kind::BlockKind;
 use crate::peers::Peers;
 use crate::texts::BlockTexts;
 use crate::written::{WrittenTime, WrittenType, out_time};
-use mc_base::{ParamName, TimeText};
-use mc_fixed::TypeText;
+use base_core::{ParamName, TimeText};
+use base_fixed_point::TypeText;
 use mdl_params::BlockType;
 use mdl_tree::Section;
 

@@ -1,9 +1,9 @@
 ghost use Rattle.std.specs.Prelude.{◌≡◌};
-ghost use Rattle.mc_refusals.specs.Refusals.{plain_refusal};
+ghost use Rattle.base_refusals.specs.Refusals.{plain_refusal};
 ghost use Rattle.mdl_blocks.specs.Faults.{refusal_at};
 
-use mc_base::ParamName;
-use mc_refusals::Refusal;
+use base_core::ParamName;
+use base_refusals::Refusal;
 
 /// What is wrong with a block. Of several faults the first in this order is told, and of several parameters out of form the
 /// first in the order of its type's parameters, where its name comes first.

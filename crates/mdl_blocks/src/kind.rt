@@ -1,7 +1,7 @@
 use crate::signs::SignMask;
 use crate::written::{WrittenConstant, WrittenTime, WrittenType};
-use mc_base::{Compare, Decimal, Edge};
-use mc_blocks::{Criterion, How, Logic};
+use base_core::{Compare, Decimal, Edge};
+use diagram_blocks::{Criterion, How, Logic};
 use mdl_tree::Section;
 
 /// What a block is, with its parameters.

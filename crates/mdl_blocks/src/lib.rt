@@ -1,4 +1,4 @@
-// What each block of a model says: what it is, with its parameters, its type and its time; or what is wrong with it.
+//! What each block of a model says: its kind with its parameters, its type and its time; or what is wrong with it.
 #![tactic(auto)]
 
 mod block;

@@ -1,11 +1,11 @@
 ghost use Rattle.std.specs.Prelude.{◌≡◌, ◌<◌, ◌≤◌, ◌^◌, IfSome, option_map};
-ghost use Rattle.mc_numerals.specs.Literals.{ratio_of};
-ghost use Rattle.mc_fixed.specs.Rounding.{nearest, floor_div};
-ghost use Rattle.mc_fixed.specs.Conversion.{fits_32};
+ghost use Rattle.base_numerals.specs.Literals.{ratio_of};
+ghost use Rattle.base_fixed_point.specs.Rounding.{nearest, floor_div};
+ghost use Rattle.base_fixed_point.specs.Conversion.{fits_32};
 ghost use Rattle.mdl_blocks.specs.Words as words;
 ghost use Rattle.mdl_blocks.specs.Blocks as blocks;
 
-use mc_base::Decimal;
+use base_core::Decimal;
 use mdl_params::number;
 
 /// The most samples that a delay remembers.

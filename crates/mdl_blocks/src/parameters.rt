@@ -1,7 +1,7 @@
 ghost use Rattle.std.specs.Prelude.{◌≡◌};
-ghost use Rattle.mc_numerals.specs.Literals.{ratio_of};
-ghost use Rattle.mc_base.specs.declared.ParamName.TheVariants.{ConvertRealWorld, Criteria, DelayLength, InitialOutput, Inputs, Operator, OutDataTypeStr, OutPortSampleTimeOpt, PortDimensions, RndMeth, SampleTime, SaturateOnIntegerOverflow, SystemSampleTime, TriggerType};
-ghost use Rattle.mc_base.specs.declared.ParamName.TheVariants as param;
+ghost use Rattle.base_numerals.specs.Literals.{ratio_of};
+ghost use Rattle.base_core.specs.declared.ParamName.TheVariants.{ConvertRealWorld, Criteria, DelayLength, InitialOutput, Inputs, Operator, OutDataTypeStr, OutPortSampleTimeOpt, PortDimensions, RndMeth, SampleTime, SaturateOnIntegerOverflow, SystemSampleTime, TriggerType};
+ghost use Rattle.base_core.specs.declared.ParamName.TheVariants as param;
 ghost use Rattle.mdl_blocks.specs.Results.{Gives};
 ghost use Rattle.mdl_blocks.specs.Words.{comparisons, criteria, edges, factor_in, inheritances, initial_output_in, logics, number_in, number_up_to, overs, resets, rounds, samples_in, writes_minus_one};
 ghost use Rattle.mdl_blocks.specs.Signs.{logic_count, product_count, sum_signs};
@@ -23,9 +23,9 @@ use crate::written::{
     WrittenConstant, WrittenTime, WrittenType, any_time_in, constant_in, time_in, type_in,
     whole_type_in,
 };
-use mc_base::{Compare, Decimal, Edge, ParamName};
-use mc_blocks::{Criterion, How, Logic};
-use mc_fixed::{Over, Round};
+use base_core::{Compare, Decimal, Edge, ParamName};
+use base_fixed_point::{Over, Round};
+use diagram_blocks::{Criterion, How, Logic};
 
 /// The fault of this parameter, unless a test passed.
 fn unless_fault(passes: bool, name: ParamName) -> Result<(), Fault>

@@ -1,5 +1,5 @@
 ghost use Rattle.std.specs.Prelude.{◌≡◌};
-ghost use Rattle.mc_base.specs.Numbers.{reported_number};
+ghost use Rattle.base_core.specs.Numbers.{reported_number};
 ghost use Rattle.mdl_tree.specs.Spelling.{End};
 ghost use Rattle.mdl_tree.specs.Values.{section_tree, with_item};
 ghost use Rattle.mdl_blocks.specs.Peers.{count_in, is_block_of, peers_in, writes_type};

@@ -8,7 +8,7 @@ use crate::block::Block;
 use crate::fault::Fault;
 use crate::peers::Peers;
 use crate::texts::BlockTexts;
-use mc_base::ParamName;
+use base_core::ParamName;
 use mdl_params::{BlockType, Defaults};
 use mdl_tree::Section;
 

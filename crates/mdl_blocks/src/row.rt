@@ -1,5 +1,5 @@
 ghost use Rattle.std.specs.Prelude.{◌≡◌};
-ghost use Rattle.mc_fixed.specs.Types.{boolean};
+ghost use Rattle.base_fixed_point.specs.Types.{boolean};
 ghost use Rattle.mdl_blocks.specs.Rows as rows;
 
 use crate::block::Body;
@@ -7,9 +7,9 @@ use crate::fault::Fault;
 use crate::kind::BlockKind;
 use crate::signs::SignMask;
 use crate::written::{WrittenConstant, WrittenTime, WrittenType};
-use mc_base::{Control, Decimal, TimeText};
-use mc_blocks::{GainText, How, Kind};
-use mc_fixed::{FixType, TypeText};
+use base_core::{Control, Decimal, TimeText};
+use base_fixed_point::{FixType, TypeText};
+use diagram_blocks::{GainText, How, Kind};
 
 /// What the row of a block says.
 #[derive(Clone, Copy, Debug, PartialEq, Eq, Drop)]

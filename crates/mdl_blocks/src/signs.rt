@@ -3,7 +3,7 @@ ghost use Rattle.mdl_blocks.specs.Words.{number_up_to};
 ghost use Rattle.mdl_blocks.specs.Signs as signs;
 
 use crate::numbers::number_up_to;
-use mc_blocks::Logic;
+use diagram_blocks::Logic;
 
 /// The most inputs that a block has.
 const MOST_INPUTS: u32 = 16;

@@ -2,7 +2,7 @@ ghost use Rattle.mdl_blocks.specs.Results.{Gives};
 ghost use Rattle.mdl_blocks.specs.Held.{texts_of};
 
 use crate::fault::Fault;
-use mc_base::ParamName;
+use base_core::ParamName;
 use mdl_params::Defaults;
 use mdl_tree::Section;
 

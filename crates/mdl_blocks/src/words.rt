@@ -3,9 +3,9 @@ ghost use Rattle.mdl_params.specs.BlockTypes.{beside};
 ghost use Rattle.mdl_blocks.specs.Words as words;
 ghost use Rattle.mdl_blocks.specs.Blocks as blocks;
 
-use mc_base::{Compare, Edge};
-use mc_blocks::{Criterion, Logic};
-use mc_fixed::{Over, Round};
+use base_core::{Compare, Edge};
+use base_fixed_point::{Over, Round};
+use diagram_blocks::{Criterion, Logic};
 
 /// How a result is rounded, by its word.
 pub(crate) fn round_named(text: &[u8]) -> Option<Round>

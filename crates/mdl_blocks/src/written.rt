@@ -2,8 +2,8 @@ ghost use Rattle.std.specs.Prelude.{◌≡◌, option_map};
 ghost use Rattle.mdl_blocks.specs.Held.{type_said, time_said, constant_said};
 ghost use Rattle.mdl_blocks.specs.Meanings as meaning;
 
-use mc_base::{Decimal, TimeText, trim};
-use mc_fixed::TypeText;
+use base_core::{Decimal, TimeText, trim};
+use base_fixed_point::TypeText;
 use mdl_params::{ParamFault, number, sample_time, type_of};
 
 /// What is written for a type.

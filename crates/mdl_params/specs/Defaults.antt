@@ -1,9 +1,9 @@
 -- What stands for a block's parameter.
 use Rattle.std.specs.Prelude.{◌≡◌, ℕ, Bool, not, ◌&&◌, bytes_eq, List, [], ◌∷◌, Option, None, Some, codes, option_map, unwrap_or, if◌then◌else◌}
 use Rattle.std.specs.Option.{option_or}
-use Rattle.mc_base.specs.declared.base.ParamName.{ParamName}
-use Rattle.mc_base.specs.declared.base.ParamName.TheVariants.{InitialCondition}
-use Rattle.mc_base.specs.Words.{param_word}
+use Rattle.base_core.specs.declared.base.ParamName.{ParamName}
+use Rattle.base_core.specs.declared.base.ParamName.TheVariants.{InitialCondition}
+use Rattle.base_core.specs.Words.{param_word}
 use Rattle.mdl_tree.specs.Spelling.{Items, End, Param, Section}
 use Rattle.mdl_tree.specs.Walks.{SectionTree, sections_named, first_section, first_value}
 use Rattle.mdl_params.specs.declared.block_type.BlockType.TheVariants.{Delay}

@@ -1,6 +1,6 @@
 -- Worked texts of parameters.
 use Rattle.std.specs.Prelude.{◌≡◌, refl, [], ◌∷◌, None, Some, Ok, Err, codes}
-use Rattle.mc_base.specs.declared.base.ParamName.TheVariants.{Name, InitialCondition, SampleTime, DelayLength}
+use Rattle.base_core.specs.declared.base.ParamName.TheVariants.{Name, InitialCondition, SampleTime, DelayLength}
 use Rattle.mdl_params.specs.declared.fault.ParamFault.TheVariants.{Parameter, Float, Continuous}
 use Rattle.mdl_tree.specs.Spelling.{End, Param, Section}
 use Rattle.mdl_params.specs.Defaults.{parameter_text, kinds_of, default_blocks}

@@ -1,11 +1,11 @@
 -- The forms of numbers and types, as values of parameters.
 use Rattle.std.specs.Prelude.{◌≡◌, ℕ, List, Result}
 use Rattle.std.specs.Result.{result_map_both}
-use Rattle.mc_base.specs.declared.base.Decimal.{Decimal}
-use Rattle.mc_numerals.specs.Literals.{Ratio, number_value, ratio_of}
-use Rattle.mc_fixed.specs.declared.types.TypeText.{TypeText}
-use Rattle.mc_fixed.specs.declared.types.TypeFault.{TypeFault}
-use Rattle.mc_fixed.specs.declared.types.TypeFault.TheVariants as type_fault
+use Rattle.base_core.specs.declared.base.Decimal.{Decimal}
+use Rattle.base_numerals.specs.Literals.{Ratio, number_value, ratio_of}
+use Rattle.base_fixed_point.specs.declared.types.TypeText.{TypeText}
+use Rattle.base_fixed_point.specs.declared.types.TypeFault.{TypeFault}
+use Rattle.base_fixed_point.specs.declared.types.TypeFault.TheVariants as type_fault
 use Rattle.mdl_type_texts.specs.TypeTexts.{Meaning, meaning_of, type_meaning}
 use Rattle.mdl_params.specs.declared.fault.ParamFault.{ParamFault}
 use Rattle.mdl_params.specs.declared.fault.ParamFault.TheVariants.{Parameter, Float}

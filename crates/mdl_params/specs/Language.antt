@@ -1,10 +1,10 @@
 -- The parameters of each type of block, with the defaults that hold where a file gives none.
 use Rattle.std.specs.Prelude.{ℕ, Bool, List, [], ◌∷◌, map, Option, None, Some, codes, option_and_then, if◌then◌else◌}
 use Rattle.std.specs.Borrow.{Bor}
-use Rattle.mc_base.specs.declared.base.ParamName.{ParamName}
-use Rattle.mc_base.specs.declared.base.ParamName.TheVariants.{OutDataTypeStr, SampleTime, PortDimensions, OutputWhenDisabled, InitialOutput, SystemSampleTime, ParamDataTypeStr, RndMeth, SaturateOnIntegerOverflow, Inputs, InitialCondition, Criteria, Threshold, Operator, ConvertRealWorld, Integrity, Deterministic, OutPortSampleTimeOpt, OutPortSampleTime, StatesWhenEnabling, TriggerType, DelayLength, DelayLengthSource, InitialConditionSource, ExternalReset}
-use Rattle.mc_base.specs.declared.base.ParamName.TheVariants as param
-use Rattle.mc_base.specs.contracts.base.ParamName.{the_type}
+use Rattle.base_core.specs.declared.base.ParamName.{ParamName}
+use Rattle.base_core.specs.declared.base.ParamName.TheVariants.{OutDataTypeStr, SampleTime, PortDimensions, OutputWhenDisabled, InitialOutput, SystemSampleTime, ParamDataTypeStr, RndMeth, SaturateOnIntegerOverflow, Inputs, InitialCondition, Criteria, Threshold, Operator, ConvertRealWorld, Integrity, Deterministic, OutPortSampleTimeOpt, OutPortSampleTime, StatesWhenEnabling, TriggerType, DelayLength, DelayLengthSource, InitialConditionSource, ExternalReset}
+use Rattle.base_core.specs.declared.base.ParamName.TheVariants as param
+use Rattle.base_core.specs.contracts.base.ParamName.{the_type}
 use denote.Enum.Bare.{sameb}
 use Rattle.mdl_params.specs.declared.block_type.BlockType.{BlockType}
 use Rattle.mdl_params.specs.declared.block_type.BlockType.TheVariants.{Inport, Outport, SubSystem, Constant, Ground, Terminator, Gain, Sum, Product, UnitDelay, Delay, ZeroOrderHold, Switch, RelationalOperator, Logic, DataTypeConversion, RateTransition, EnablePort, TriggerPort}

@@ -2,11 +2,11 @@
 use Rattle.std.specs.Prelude.{◌≡◌, ℕ, ◌*◌, ◌-◌, Bool, not, ◌||◌, ◌&&◌, List, [], ◌∷◌, length, take, take_while, Option, None, Some, Result, Ok, Err, pos, unsigned_abs, bytes_eq, codes, slice_index, nat_lt, ◌==◌, if◌then◌else◌}
 use Rattle.std.specs.List.{list_any}
 use Rattle.std.specs.Result.{result_map_both}
-use Rattle.mc_base.specs.declared.base.NumFault.{NumFault}
-use Rattle.mc_base.specs.declared.base.TimeText.{TimeText}
-use Rattle.mc_base.specs.declared.base.TimeText.TheVariants as held
-use Rattle.mc_base.specs.Bytes.{is_blank, trim, drop_while}
-use Rattle.mc_numerals.specs.Literals.{Ratio, number_value, plain_value, frac_parts, parts_of}
+use Rattle.base_core.specs.declared.base.NumFault.{NumFault}
+use Rattle.base_core.specs.declared.base.TimeText.{TimeText}
+use Rattle.base_core.specs.declared.base.TimeText.TheVariants as held
+use Rattle.base_core.specs.Bytes.{is_blank, trim, drop_while}
+use Rattle.base_numerals.specs.Literals.{Ratio, number_value, plain_value, frac_parts, parts_of}
 use Rattle.mdl_params.specs.declared.fault.ParamFault.{ParamFault}
 use Rattle.mdl_params.specs.declared.fault.ParamFault.TheVariants.{Parameter, Continuous}
 

@@ -2,7 +2,7 @@ ghost use Rattle.std.specs.Prelude.{◌≡◌};
 ghost use Rattle.std.specs.Option.{option_copied};
 
 use crate::language;
-use mc_base::ParamName;
+use base_core::ParamName;
 
 /// A type of blocks that is read.
 #[derive(Clone, Copy, Debug, PartialEq, Eq, Hash, Drop)]

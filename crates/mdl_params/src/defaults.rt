@@ -9,8 +9,8 @@ ghost use Rattle.mdl_params.specs.Texts.{plain_texts, plain_kinds};
 
 use crate::block_type::BlockType;
 use crate::texts::{ParamText, texts_of, value_of};
+use base_core::{Memory, ParamName, Text};
 use indexmap::IndexMap;
-use mc_base::{Memory, ParamName, Text};
 use mdl_tree::{Item, Section};
 use std::alloc::Global;
 use std::marker::Model;

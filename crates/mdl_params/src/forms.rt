@@ -2,9 +2,9 @@ ghost use Rattle.mdl_params.specs.Forms.{number_form, type_form, fault_of_type, 
 ghost use Rattle.std.specs.Prelude.{◌≡◌};
 
 use crate::fault::ParamFault;
-use mc_base::Decimal;
-use mc_fixed::{TypeFault, TypeText};
-use mc_numerals::read_decimal;
+use base_core::Decimal;
+use base_fixed_point::{TypeFault, TypeText};
+use base_numerals::read_decimal;
 use mdl_type_texts::read_type;
 
 /// The exact value of a number's text, as `read_decimal` gives it.

@@ -1,8 +1,8 @@
 // The parameters of each type of block, in the order in which they are checked, with the texts that hold
 // where a file gives none.
 
-use mc_base::ParamName;
-use mc_base::ParamName::{
+use base_core::ParamName;
+use base_core::ParamName::{
     ConvertRealWorld, Criteria, DelayLength, DelayLengthSource, Deterministic, ExternalReset, Gain,
     InitialCondition, InitialConditionSource, InitialOutput, Inputs, Integrity, Operator,
     OutDataTypeStr, OutPortSampleTime, OutPortSampleTimeOpt, OutputWhenDisabled, ParamDataTypeStr,

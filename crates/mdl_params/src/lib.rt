@@ -1,4 +1,4 @@
-// What stands for a block's parameters, and the forms of numbers, types and sample times.
+//! A block's parameters with their defaults, and the forms of numbers, types and sample times.
 #![tactic(auto)]
 
 mod block_type;

@@ -5,7 +5,7 @@ ghost use Rattle.mdl_params.specs.BlockTypes.{beside};
 ghost use Rattle.mdl_params.specs.Defaults.{values_of};
 ghost use Rattle.mdl_params.specs.Texts.{plain_texts};
 
-use mc_base::{Memory, Text};
+use base_core::{Memory, Text};
 use mdl_tree::{Item, Section};
 use std::alloc::Global;
 

@@ -1,14 +1,14 @@
 ghost use Rattle.std.specs.Prelude.{◌≡◌, ◌≤◌, length, not};
 ghost use Rattle.std.specs.Option.{option_copied};
-ghost use Rattle.mc_base.specs.Bytes.{drop_while};
+ghost use Rattle.base_core.specs.Bytes.{drop_while};
 ghost use Rattle.std.specs.List.{list_any, prefix_len};
-ghost use Rattle.mc_numerals.specs.Literals.{ratio_of, parts_of};
+ghost use Rattle.base_numerals.specs.Literals.{ratio_of, parts_of};
 ghost use Rattle.mdl_params.specs.Times as time;
 ghost use Rattle.mdl_params.specs.Times.{ReadsTimeAs, time_form, time_by_values, is_separator, behind_separator};
 
 use crate::fault::ParamFault;
-use mc_base::{Decimal, Frac, TimeText, is_blank, trim};
-use mc_numerals::{frac_of, read_decimal, read_plain};
+use base_core::{Decimal, Frac, TimeText, is_blank, trim};
+use base_numerals::{frac_of, read_decimal, read_plain};
 
 /// The sample time that a text writes.
 ///

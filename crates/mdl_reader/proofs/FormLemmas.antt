@@ -2,7 +2,7 @@
 use Rattle.std.proofs.Common.{◌≡◌, refl, sym, ◌∙◌, ap, ℕ, Bool, true, false, cond, true≢false, List, [], ◌∷◌, get_or, ne_eqb, ◌==◌, not, ◌&&◌}
 use Rattle.std.specs.List.{take_while}
 use Rattle.std.specs.Char.{is_ascii_digit}
-use Rattle.mc_base.specs.Bytes.{drop_while}
+use Rattle.base_core.specs.Bytes.{drop_while}
 use Rattle.mdl_tree.specs.Text.{LineForm, is_name_byte, named_form, line_form}
 
 -- a byte of a name is none that isn't

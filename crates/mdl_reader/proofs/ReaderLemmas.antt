@@ -2,8 +2,8 @@
 use Rattle.std.proofs.Common.{◌≡◌, sym, ◌∙◌, ap, ℕ, ◌+◌, List, [], ◌∷◌, ◌++◌, length, map, reverse, Result, Ok, Err}
 use Rattle.std.specs.Prelude.{IfOk, IfErr}
 use Rattle.std.specs.Str.Lines.{lines}
-use Rattle.mc_base.specs.Bytes.{trim}
-use Rattle.mc_base.specs.Numbers.{reported_number}
+use Rattle.base_core.specs.Bytes.{trim}
+use Rattle.base_core.specs.Numbers.{reported_number}
 use Rattle.mdl_tree.specs.declared.tree.Section.{Section}
 use Rattle.mdl_tree.specs.Text.{Within, NoValue, at_end, after_line, joined, statements_from}
 use Rattle.mdl_tree.specs.Spelling.{End}

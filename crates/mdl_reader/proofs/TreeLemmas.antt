@@ -1,8 +1,8 @@
 -- What sections in the making come to is the tree of the text, or its first fault.
 use Rattle.std.proofs.Common.{◌≡◌, refl, sym, ◌∙◌, ap, subst, ℕ, Bool, true, false, cond, List, [], ◌∷◌, length, Option, None, Some, Result, Ok, Err, ◌==◌}
-use Rattle.mc_refusals.specs.declared.refusal.SyntaxKind.{SyntaxKind}
-use Rattle.mc_refusals.specs.declared.refusal.SyntaxKind.TheVariants.{DeepSections}
-use Rattle.mc_base.specs.Numbers.{reported_number}
+use Rattle.base_refusals.specs.declared.refusal.SyntaxKind.{SyntaxKind}
+use Rattle.base_refusals.specs.declared.refusal.SyntaxKind.TheVariants.{DeepSections}
+use Rattle.base_core.specs.Numbers.{reported_number}
 use Rattle.mdl_tree.specs.Text.{Statement, Opens, Closes, Sets, Adds, Faulty, statements_of}
 use Rattle.mdl_tree.specs.Spelling.{Items, End, Param, Section, append_items, LinesSpell, fault_from, lines_fault}
 use Rattle.mdl_tree.specs.Walks.{SectionTree}

@@ -1,6 +1,6 @@
 -- A builder in memory, and what each of its steps does.
 use Rattle.std.specs.Prelude.{◌≡◌, ℕ, Bool, true, List, [], ◌∷◌, ◌++◌, map, reverse, Option, None, Some, Result, Ok, Err}
-use Rattle.mc_refusals.specs.declared.refusal.SyntaxKind.{SyntaxKind}
+use Rattle.base_refusals.specs.declared.refusal.SyntaxKind.{SyntaxKind}
 use Rattle.mdl_tree.specs.declared.tree.Section.{Section}
 use Rattle.mdl_tree.specs.Text.{Statement, Sets, Within, NoValue, Value, joined, joined_with, at_end}
 use Rattle.mdl_tree.specs.Spelling.{Items, End, Param}

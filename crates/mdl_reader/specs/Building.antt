@@ -1,7 +1,7 @@
 -- What open sections and the statements behind them come to.
 use Rattle.std.specs.Prelude.{ℕ, List, [], ◌∷◌, length, Result, Ok, Err, ◌==◌, if◌then◌else◌}
-use Rattle.mc_refusals.specs.declared.refusal.SyntaxKind.{SyntaxKind}
-use Rattle.mc_refusals.specs.declared.refusal.SyntaxKind.TheVariants.{StrayString, Brace, DeepSections}
+use Rattle.base_refusals.specs.declared.refusal.SyntaxKind.{SyntaxKind}
+use Rattle.base_refusals.specs.declared.refusal.SyntaxKind.TheVariants.{StrayString, Brace, DeepSections}
 use Rattle.mdl_tree.specs.Text.{Statement, Opens, Closes, Sets, Adds, Faulty}
 use Rattle.mdl_tree.specs.Spelling.{Items, End, Param, Section, append_items}
 use Rattle.mdl_tree.specs.Walks.{SectionTree}

@@ -1,6 +1,6 @@
 -- What a step of reading answers.
 use Rattle.std.specs.Prelude.{ℕ, Result, Ok, Err, ⊤}
-use Rattle.mc_refusals.specs.declared.refusal.SyntaxKind.{SyntaxKind}
+use Rattle.base_refusals.specs.declared.refusal.SyntaxKind.{SyntaxKind}
 use Rattle.mdl_reader.specs.declared.fault.ReadFault.{ReadFault}
 use Rattle.mdl_reader.specs.declared.fault.ReadFault.TheVariants.{Syntax, Memory}
 

@@ -8,8 +8,8 @@ ghost use Rattle.mdl_reader.specs.Builders.{statement_of, with_quoted, within_be
 
 use crate::fault::ReadFault;
 use crate::form::{Form, line_form};
-use mc_base::{Memory, Text};
-use mc_refusals::SyntaxKind;
+use base_core::{Memory, Text};
+use base_refusals::SyntaxKind;
 use mdl_tree::{Item, Section};
 use std::alloc::{AllocError, Global};
 use std::mem;

@@ -1,7 +1,7 @@
 ghost use Rattle.std.specs.Prelude.{◌≡◌};
 ghost use Rattle.mdl_reader.specs.declared.fault.ReadFault.TheVariants.{Syntax, Memory};
 
-use mc_refusals::SyntaxKind;
+use base_refusals::SyntaxKind;
 use std::alloc::{AllocError, AllocFailed};
 
 /// Why a text gives no tree of sections.
@@ -22,10 +22,10 @@ impl ReadFault {
     }
 }
 
-impl From<mc_base::Memory> for ReadFault {
+impl From<base_core::Memory> for ReadFault {
     ghost from_gives = { λ _ fault. fault ≡ Memory };
 
-    fn from(_memory: mc_base::Memory) -> ReadFault {
+    fn from(_memory: base_core::Memory) -> ReadFault {
         ReadFault::Memory
     }
 }

@@ -6,8 +6,8 @@ ghost use Rattle.mdl_reader.specs.Forms.{form_of};
 
 use crate::fault::ReadFault;
 use crate::strings::read_string;
-use mc_base::{is_blank, trim_start};
-use mc_refusals::SyntaxKind;
+use base_core::{is_blank, trim_start};
+use base_refusals::SyntaxKind;
 use std::alloc::Global;
 
 /// What a line that is in no value in brackets says.

@@ -1,4 +1,4 @@
-// The tree of sections of a model's text, or the first fault of the text.
+//! Reads the text of a model: its tree of sections, or the first error of the text.
 #![tactic(auto)]
 
 mod builder;

@@ -4,8 +4,8 @@ ghost use Rattle.mdl_reader.specs.Reading.{IsFileOf, IsFaultOf};
 
 use crate::builder::Builder;
 use crate::fault::ReadFault;
+use base_core::trim;
 use bstr::ByteSlice;
-use mc_base::trim;
 use mdl_tree::Section;
 use std::alloc::Global;
 

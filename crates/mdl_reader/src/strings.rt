@@ -3,7 +3,7 @@ ghost use Rattle.mdl_tree.specs.Text.{Statement, Faulty, string_byte, string_fro
 ghost use Rattle.mdl_reader.specs.Faults.{Answers};
 
 use crate::fault::ReadFault;
-use mc_refusals::SyntaxKind;
+use base_refusals::SyntaxKind;
 use std::alloc::{AllocError, Global};
 
 /// Adds what a byte behind a backslash stands for.

@@ -4,7 +4,7 @@ use Rattle.std.specs.Prelude.{filter}
 use Rattle.std.specs.List.{All}
 use Rattle.std.proofs.lemmas.List.{get_or-map, length-map}
 use Rattle.mdl_rows.specs.declared.blocks.NumberedBlock.{NumberedBlock}
-use Rattle.mc_diagram.specs.Rows.{same_system}
+use Rattle.diagram_meaning.specs.Rows.{same_system}
 use Rattle.mdl_rows.specs.Models.{Block, blocks_of}
 use Rattle.mdl_blocks.specs.Held.{block_text}
 use Rattle.mdl_systems.specs.declared.placed.PlacedBlock.{PlacedBlock}

@@ -2,9 +2,9 @@
 use Rattle.std.proofs.Common.{◌≡◌, refl, sym, ◌∙◌, ap, ℕ, suc, ◌+◌, ◌<◌, ◌≤◌, Bool, true, false, cond, List, ◌∷◌, length, drop, slice_index_or, drop-cons, drop_of_length-le, Option, None, Some, map, arith}
 use Rattle.std.specs.Prelude.{nat_lt, ◌==◌, ◌||◌, ◌&&◌}
 use Rattle.std.proofs.lemmas.Bool.Decides.{nat_tests}
-use Rattle.mc_refusals.specs.Refusals.{PlainRefusal}
-use Rattle.mc_diagram.specs.FirstRefusal.{line_of_refusal}
-use Rattle.mdl_wiring.specs.Order.{number_of, is_before, first_of}
+use Rattle.base_refusals.specs.Refusals.{PlainRefusal}
+use Rattle.base_refusals.specs.FirstRefusal.{line_of_refusal}
+use Rattle.base_refusals.specs.Order.{number_of, is_before, first_of}
 use Rattle.mdl_rows.specs.Refusals.{first_in}
 
 -- whether one number and line come before another

@@ -8,7 +8,7 @@ use Rattle.std.specs.Global.{Vec}
 use Rattle.mdl_rows.specs.declared.blocks.NumberedBlock.{NumberedBlock}
 use Rattle.std.proofs.lemmas.List.{take_more, map_more, map-append, length-map, length-set, take_all}
 use Rattle.std.proofs.lemmas.List.Elements.{filter-append}
-use Rattle.mc_diagram.specs.Rows.{same_system}
+use Rattle.diagram_meaning.specs.Rows.{same_system}
 use Rattle.mdl_rows.specs.declared.groups.Groups.{Groups}
 use Rattle.mdl_rows.specs.Models.{Block, blocks_of}
 use Rattle.mdl_rows.specs.Wires.{place_of}

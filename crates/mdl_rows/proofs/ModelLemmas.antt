@@ -3,15 +3,15 @@ use Rattle.std.proofs.Common.{◌≡◌, refl, sym, ◌∙◌, ap, subst, ℕ, z
 use Rattle.std.proofs.lemmas.Bool.Decides.{nat_tests}
 use Rattle.std.specs.Prelude.{nat_eq, slice_get, filter_map, option_and_then}
 use Rattle.std.specs.List.{All, cons_option}
-use Rattle.mc_refusals.specs.Refusals.{PlainRefusal}
+use Rattle.base_refusals.specs.Refusals.{PlainRefusal}
 use Rattle.mdl_wiring.specs.declared.ports.Source.{Source}
 use Rattle.mdl_wiring.specs.Members.{Member}
 use Rattle.mdl_wiring.specs.Lines.{LineEnd, ends_in}
 use Rattle.mdl_wiring.specs.Refusals.{numbers_of}
 use Rattle.mdl_wiring.specs.Wiring.{source_into, sources_of, sources_from}
-use Rattle.mdl_wiring.specs.Order.{first_of}
+use Rattle.base_refusals.specs.Order.{first_of}
 use Rattle.std.proofs.lemmas.List.{get_or-map, length-map}
-use Rattle.mc_diagram.specs.Rows.{same_system}
+use Rattle.diagram_meaning.specs.Rows.{same_system}
 use Rattle.mdl_rows.specs.declared.model.ModelBlocks.{ModelBlocks}
 use Rattle.mdl_rows.specs.Models.{Block, Model, System, blocks_of, inner_system, items_of}
 use Rattle.mdl_rows.specs.Wires.{block_sources, member_of, members_of, place_of}

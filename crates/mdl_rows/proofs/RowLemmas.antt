@@ -2,14 +2,14 @@
 use Rattle.std.proofs.Common.{◌≡◌, refl, sym, ◌∙◌, ap, subst, Bool, true, false, None, Some, Ok, Err}
 use Rattle.std.specs.Prelude.{Result, ⊤, IfOk, IfErr, if◌then◌else◌, not, ◌&&◌}
 use Rattle.std.specs.Result.{result_err}
-use Rattle.mc_base.specs.declared.Control.{Control}
-use Rattle.mc_base.specs.declared.TimeText.{TimeText}
-use Rattle.mc_base.specs.declared.Decimal.{Decimal}
-use Rattle.mc_fixed.specs.declared.TypeText.{TypeText}
-use Rattle.mc_fixed.specs.declared.TypeText.TheVariants.{Inherit, Logical, Back, Fixed}
-use Rattle.mc_blocks.specs.declared.How.{How}
-use Rattle.mc_blocks.specs.declared.Kind.{Kind}
-use Rattle.mc_blocks.specs.declared.Kind.TheVariants as row
+use Rattle.base_core.specs.declared.Control.{Control}
+use Rattle.base_core.specs.declared.TimeText.{TimeText}
+use Rattle.base_core.specs.declared.Decimal.{Decimal}
+use Rattle.base_fixed_point.specs.declared.TypeText.{TypeText}
+use Rattle.base_fixed_point.specs.declared.TypeText.TheVariants.{Inherit}
+use Rattle.diagram_blocks.specs.declared.How.{How}
+use Rattle.diagram_blocks.specs.declared.Kind.{Kind}
+use Rattle.diagram_blocks.specs.declared.Kind.TheVariants as row
 use Rattle.mdl_blocks.specs.declared.fault.Fault.{Fault}
 use Rattle.mdl_blocks.specs.declared.fault.Fault.TheVariants.{FloatType}
 use Rattle.mdl_blocks.specs.declared.written.WrittenType.{WrittenType}
@@ -22,7 +22,7 @@ use Rattle.mdl_blocks.specs.declared.kind.BlockKind.TheVariants as held
 use Rattle.mdl_blocks.specs.declared.block.Body.{Body}
 use Rattle.mdl_blocks.specs.declared.row.RowText.{RowText}
 use Rattle.mdl_blocks.specs.Rows.{known_type, row_kind, row_of, is_inherited}
-use Rattle.mdl_blocks.specs.Results.{◌>>=◌}
+use Rattle.base_core.specs.Results.{◌>>=◌}
 use Rattle.mdl_blocks.specs.Held.{kind_text, body_text, type_said, time_said}
 use Rattle.mdl_rows.specs.RowTexts.{IsKind, is_float, row_fault}
 use Rattle.mdl_rows.specs.Held.{IsBodyRow}
@@ -49,10 +49,7 @@ constant-fault : (c : WrittenConstant) (type : WrittenType) (time : TimeText) (c
     result_err (row_by (held.Constant c) type time control)
     ≡ row_fault (body_text (record { kind = held.Constant c; type_text = type; time_text = a_time.Known time }))
 constant-fault c (a_type.Known Inherit) time control = constant-by (not c.is_truth) (row.Constant c.value) _
-constant-fault c (a_type.Known Logical) time control = refl
-constant-fault c (a_type.Known Back) time control = refl
-constant-fault c (a_type.Known (Fixed t)) time control = refl
-constant-fault c a_type.Float time control = refl
+constant-fault c _ time control = refl
 
 gain-fault : (factor : Decimal) (factor_type : WrittenType) (how : How) (type : WrittenType) (time : TimeText) (control : Control) →
     result_err (row_by (held.Gain factor factor_type how) type time control)
@@ -71,25 +68,10 @@ transition-fault initial a_time.Zero type time control = refl
 
 kind-fault : (k : BlockKind) (type : WrittenType) (time : TimeText) (control : Control) →
     result_err (row_by k type time control) ≡ row_fault (body_text (record { kind = k; type_text = type; time_text = a_time.Known time }))
-kind-fault (held.Inport port) type time control = plain type _
-kind-fault (held.Outport port reset initial) type time control = plain type _
-kind-fault (held.SubSystem system) type time control = plain type _
 kind-fault (held.Constant value) type time control = constant-fault value type time control
-kind-fault held.Ground type time control = plain type _
-kind-fault held.Terminator type time control = plain type _
 kind-fault (held.Gain factor factor_type how) type time control = gain-fault factor factor_type how type time control
-kind-fault (held.Sum signs how) type time control = plain type _
-kind-fault (held.Product count how) type time control = plain type _
-kind-fault (held.UnitDelay initial) type time control = plain type _
-kind-fault (held.Delay length initial) type time control = plain type _
-kind-fault held.ZeroOrderHold type time control = plain type _
-kind-fault (held.Switch criterion threshold how) type time control = plain type _
-kind-fault (held.Relational comparison) type time control = plain type _
-kind-fault (held.Logic op count) type time control = plain type _
-kind-fault (held.Convert how) type time control = plain type _
 kind-fault (held.RateTransition initial out) type time control = transition-fault initial out type time control
-kind-fault (held.EnablePort reset) type time control = plain type _
-kind-fault (held.TriggerPort edge) type time control = plain type _
+kind-fault _ type time control = plain type _
 
 time-fault : (k : BlockKind) (type : WrittenType) (time : WrittenTime) (control : Control) →
     result_err (row_of (record { kind = k; type_text = type; time_text = time }) control)
@@ -114,27 +96,16 @@ constant-kind c true type control = tt
 constant-kind c false type control = (c.value, refl, refl)
 
 has-kind : (k : BlockKind) (type : WrittenType) (control : Control) → HasKind k type control (row_kind k type control)
-has-kind (held.Inport port) type control = refl
 has-kind (held.Outport port reset initial) type control = (initial, refl, refl)
-has-kind (held.SubSystem system) type control = refl
 has-kind (held.Constant c) type control = constant-kind c (is_inherited type && not c.is_truth) type control
-has-kind held.Ground type control = refl
-has-kind held.Terminator type control = refl
 has-kind (held.Gain factor (a_type.Known t) how) type control = (factor, t, refl, refl, refl)
 has-kind (held.Gain factor a_type.Float how) type control = tt
-has-kind (held.Sum signs how) type control = refl
-has-kind (held.Product count how) type control = refl
 has-kind (held.UnitDelay initial) type control = (initial, refl, refl)
 has-kind (held.Delay length initial) type control = (initial, refl, refl)
-has-kind held.ZeroOrderHold type control = refl
 has-kind (held.Switch criterion threshold how) type control = (threshold, refl, refl)
-has-kind (held.Relational comparison) type control = refl
-has-kind (held.Logic op count) type control = refl
-has-kind (held.Convert how) type control = refl
 has-kind (held.RateTransition initial (a_time.Known t)) type control = (initial, t, refl, refl, refl)
 has-kind (held.RateTransition initial a_time.Zero) type control = tt
-has-kind (held.EnablePort reset) type control = refl
-has-kind (held.TriggerPort edge) type control = refl
+has-kind _ type control = refl
 
 -- what a row says that a block has
 abbrev HasRow : BlockKind → WrittenType → WrittenTime → Control → Result RowText Fault → Type 0

@@ -2,9 +2,9 @@
 use Rattle.std.proofs.Common.{◌≡◌, refl, sym, ◌∙◌, ap, ℕ, zero, suc, ◌+◌, ◌<◌, true, List, [], ◌∷◌, ◌++◌, length, drop, slice_index_or, Option, None, Some, map, arith}
 use Rattle.std.specs.Prelude.{is_some, option_to_list, MatchOption}
 use Rattle.std.specs.List.{AllZip}
-use Rattle.mc_refusals.specs.Refusals.{PlainRefusal}
+use Rattle.base_refusals.specs.Refusals.{PlainRefusal}
 use Rattle.mdl_blocks.specs.declared.row.RowText.{RowText}
-use Rattle.mdl_wiring.specs.Order.{first_of}
+use Rattle.base_refusals.specs.Order.{first_of}
 use Rattle.mdl_rows.proofs.FirstLemmas.{none-left, none-right}
 use Rattle.mdl_rows.proofs.PassLemmas.{zip-at}
 

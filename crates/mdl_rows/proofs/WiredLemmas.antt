@@ -5,7 +5,7 @@ use Rattle.std.specs.List.{AllZip}
 use Rattle.std.specs.Option.{option_map_or}
 use Rattle.std.proofs.lemmas.List.{get_or-map, length-map}
 use Rattle.mdl_rows.specs.declared.model.ModelBlocks.{ModelBlocks}
-use Rattle.mc_refusals.specs.Refusals.{PlainRefusal}
+use Rattle.base_refusals.specs.Refusals.{PlainRefusal}
 use Rattle.mdl_tree.specs.Spelling.{Items, End}
 use Rattle.mdl_tree.specs.Walks.{SectionTree}
 use Rattle.mdl_wiring.specs.declared.wiring.Wiring.{Wiring}

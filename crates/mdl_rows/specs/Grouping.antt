@@ -1,6 +1,6 @@
 -- How the blocks of a model are grouped, one after another.
 use Rattle.std.specs.Prelude.{◌≡◌, ℕ, List, [], ◌∷◌, ◌++◌, length, Option, if◌then◌else◌}
-use Rattle.mc_diagram.specs.Rows.{same_system}
+use Rattle.diagram_meaning.specs.Rows.{same_system}
 use Rattle.mdl_rows.specs.declared.groups.Groups.{Groups}
 use Rattle.mdl_rows.specs.Models.{Block}
 use Rattle.mdl_rows.specs.Held.{all_seen, group_of}

@@ -2,7 +2,7 @@
 use Rattle.std.specs.Prelude.{◌≡◌, ℕ, suc, ◌<◌, ◌==◌, if◌then◌else◌, List, [], ◌∷◌, map, filter_map, length, slice_get, Option, Some, None, is_some, true, option_map, MatchOption, ⊤}
 use Rattle.std.specs.List.{All, AllZip}
 use Rattle.std.specs.Option.{option_map_or}
-use Rattle.mc_base.specs.declared.Control.{Control}
+use Rattle.base_core.specs.declared.Control.{Control}
 use Rattle.mdl_tree.specs.Walks.{SectionTree}
 use Rattle.mdl_blocks.specs.Held.{block_text}
 use Rattle.mdl_blocks.specs.Blocks.{BodyText}

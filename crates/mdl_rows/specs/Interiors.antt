@@ -1,9 +1,9 @@
 -- What the port blocks inside a subsystem say of it.
 use Rattle.std.specs.Prelude.{ℕ, ◌==◌, Bool, false, List, find, filter, filter_map, length, slice_get, Option, Some, None, is_some, option_map}
 use Rattle.std.specs.Option.{option_map_or}
-use Rattle.mc_base.specs.declared.Control.{Control}
-use Rattle.mc_base.specs.declared.Control.TheVariants.{Plain, Enabled, Triggered, Both}
-use Rattle.mc_base.specs.declared.Edge.{Edge}
+use Rattle.base_core.specs.declared.Control.{Control}
+use Rattle.base_core.specs.declared.Control.TheVariants.{Plain, Enabled, Triggered, Both}
+use Rattle.base_core.specs.declared.Edge.{Edge}
 use Rattle.mdl_blocks.specs.Blocks.{KindText, inport, outport, subsystem, constant, ground, terminator, gain, sum, product, unit_delay, delay, zero_order_hold, switch, relational, logic, convert, rate_transition, enable_port, trigger_port}
 use Rattle.mdl_wiring.specs.declared.shape.Inside.{Inside}
 use Rattle.mdl_rows.specs.Models.{Block, kind_of, blocks_of}
@@ -13,90 +13,22 @@ use Rattle.mdl_rows.specs.Models.{Block, kind_of, blocks_of}
 -- the port of an Inport
 abbrev pub inport_number : KindText → Option ℕ
 inport_number (inport port) = Some port
-inport_number (outport port reset initial) = None
-inport_number (subsystem system) = None
-inport_number (constant value) = None
-inport_number ground = None
-inport_number terminator = None
-inport_number (gain factor factor_type how) = None
-inport_number (sum count minus how) = None
-inport_number (product count how) = None
-inport_number (unit_delay initial) = None
-inport_number (delay length initial) = None
-inport_number zero_order_hold = None
-inport_number (switch criterion threshold how) = None
-inport_number (relational comparison) = None
-inport_number (logic op count) = None
-inport_number (convert how) = None
-inport_number (rate_transition initial out) = None
-inport_number (enable_port reset) = None
-inport_number (trigger_port edge) = None
+inport_number _ = None
 
 -- the port of an Outport
 abbrev pub outport_number : KindText → Option ℕ
 outport_number (outport port reset initial) = Some port
-outport_number (inport port) = None
-outport_number (subsystem system) = None
-outport_number (constant value) = None
-outport_number ground = None
-outport_number terminator = None
-outport_number (gain factor factor_type how) = None
-outport_number (sum count minus how) = None
-outport_number (product count how) = None
-outport_number (unit_delay initial) = None
-outport_number (delay length initial) = None
-outport_number zero_order_hold = None
-outport_number (switch criterion threshold how) = None
-outport_number (relational comparison) = None
-outport_number (logic op count) = None
-outport_number (convert how) = None
-outport_number (rate_transition initial out) = None
-outport_number (enable_port reset) = None
-outport_number (trigger_port edge) = None
+outport_number _ = None
 
 -- whether an EnablePort resets the states
 abbrev pub states_reset : KindText → Option Bool
 states_reset (enable_port reset) = Some reset
-states_reset (inport port) = None
-states_reset (outport port reset initial) = None
-states_reset (subsystem system) = None
-states_reset (constant value) = None
-states_reset ground = None
-states_reset terminator = None
-states_reset (gain factor factor_type how) = None
-states_reset (sum count minus how) = None
-states_reset (product count how) = None
-states_reset (unit_delay initial) = None
-states_reset (delay length initial) = None
-states_reset zero_order_hold = None
-states_reset (switch criterion threshold how) = None
-states_reset (relational comparison) = None
-states_reset (logic op count) = None
-states_reset (convert how) = None
-states_reset (rate_transition initial out) = None
-states_reset (trigger_port edge) = None
+states_reset _ = None
 
 -- what a TriggerPort waits for
 abbrev pub edge_waited : KindText → Option Edge
 edge_waited (trigger_port edge) = Some edge
-edge_waited (inport port) = None
-edge_waited (outport port reset initial) = None
-edge_waited (subsystem system) = None
-edge_waited (constant value) = None
-edge_waited ground = None
-edge_waited terminator = None
-edge_waited (gain factor factor_type how) = None
-edge_waited (sum count minus how) = None
-edge_waited (product count how) = None
-edge_waited (unit_delay initial) = None
-edge_waited (delay length initial) = None
-edge_waited zero_order_hold = None
-edge_waited (switch criterion threshold how) = None
-edge_waited (relational comparison) = None
-edge_waited (logic op count) = None
-edge_waited (convert how) = None
-edge_waited (rate_transition initial out) = None
-edge_waited (enable_port reset) = None
+edge_waited _ = None
 
 -- ---- Of a subsystem
 

@@ -6,7 +6,7 @@ use Rattle.mdl_tree.specs.Spelling.{Items, End}
 use Rattle.mdl_tree.specs.Walks.{SectionTree}
 use Rattle.mdl_params.specs.Defaults.{DefaultTexts}
 use Rattle.mdl_blocks.specs.Blocks.{BlockText, KindText, inport, outport, subsystem, constant, ground, terminator, gain, sum, product, unit_delay, delay, zero_order_hold, switch, relational, logic, convert, rate_transition, enable_port, trigger_port}
-use Rattle.mc_diagram.specs.Rows.{same_system}
+use Rattle.diagram_meaning.specs.Rows.{same_system}
 use Rattle.mdl_systems.specs.Outlines.{Outline, outlines_of}
 use Rattle.mdl_systems.specs.Refusals.{read}
 
@@ -47,24 +47,7 @@ blocks_of blocks o = filter (λ (b : Block). same_system b.owner o) blocks
 -- the System inside a block, which only a subsystem has
 abbrev pub system_in : KindText → Option SectionTree
 system_in (subsystem system) = Some system
-system_in (inport port) = None
-system_in (outport port reset initial) = None
-system_in (constant value) = None
-system_in ground = None
-system_in terminator = None
-system_in (gain factor factor_type how) = None
-system_in (sum count minus how) = None
-system_in (product count how) = None
-system_in (unit_delay initial) = None
-system_in (delay length initial) = None
-system_in zero_order_hold = None
-system_in (switch criterion threshold how) = None
-system_in (relational comparison) = None
-system_in (logic op count) = None
-system_in (convert how) = None
-system_in (rate_transition initial out) = None
-system_in (enable_port reset) = None
-system_in (trigger_port edge) = None
+system_in _ = None
 
 -- A system: the number of its subsystem block, none for the root, and the items of its System.
 pub record System : Type 0 where

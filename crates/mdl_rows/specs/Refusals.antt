@@ -1,12 +1,12 @@
 -- Why a model whose blocks can be read has no table.
 use Rattle.std.specs.Prelude.{List, [], ◌∷◌, Option, Some, None, is_none, option_map, Result, Ok, Err}
-use Rattle.mc_refusals.specs.Refusals.{PlainRefusal}
-use Rattle.mc_diagram.specs.FirstRefusal.{first_there}
+use Rattle.base_refusals.specs.Refusals.{PlainRefusal}
+use Rattle.base_refusals.specs.FirstRefusal.{first_there}
 use Rattle.mdl_tree.specs.Spelling.{Items}
 use Rattle.mdl_params.specs.Defaults.{DefaultTexts, kinds_of, default_blocks}
 use Rattle.mdl_blocks.specs.Faults.{refusal_at}
 use Rattle.mdl_wiring.specs.Refusals.{wiring_refusal}
-use Rattle.mdl_wiring.specs.Order.{first_of}
+use Rattle.base_refusals.specs.Order.{first_of}
 use Rattle.mdl_systems.specs.Models as found
 use Rattle.mdl_systems.specs.Models.{model_of}
 use Rattle.mdl_systems.specs.Refusals.{model_refusal}

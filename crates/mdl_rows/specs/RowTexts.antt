@@ -1,14 +1,14 @@
 -- What the row of a block says.
 use Rattle.std.specs.Prelude.{◌≡◌, Bool, true, false, not, ◌&&◌, if◌then◌else◌, Option, Some, None}
 use Rattle.std.specs.Option.{option_or}
-use Rattle.mc_base.specs.declared.Control.{Control}
-use Rattle.mc_base.specs.declared.Decimal.{Decimal}
-use Rattle.mc_base.specs.declared.TimeText.{TimeText}
-use Rattle.mc_numerals.specs.Literals.{ratio_of}
-use Rattle.mc_fixed.specs.declared.TypeText.{TypeText}
+use Rattle.base_core.specs.declared.Control.{Control}
+use Rattle.base_core.specs.declared.Decimal.{Decimal}
+use Rattle.base_core.specs.declared.TimeText.{TimeText}
+use Rattle.base_numerals.specs.Literals.{ratio_of}
+use Rattle.base_fixed_point.specs.declared.TypeText.{TypeText}
 use Rattle.mdl_type_texts.specs.TypeTexts.{meaning_of, Inherit, Logical, Back, Fixed}
-use Rattle.mc_blocks.specs.declared.Kind.{Kind}
-use Rattle.mc_blocks.specs.declared.Kind.TheVariants as row
+use Rattle.diagram_blocks.specs.declared.Kind.{Kind}
+use Rattle.diagram_blocks.specs.declared.Kind.TheVariants as row
 use Rattle.mdl_params.specs.Times.{time_of}
 use Rattle.mdl_blocks.specs.declared.fault.Fault.{Fault}
 use Rattle.mdl_blocks.specs.declared.fault.Fault.TheVariants.{Continuous, FloatType}
@@ -73,55 +73,19 @@ is_float float_type = true
 -- whether a type is that of the block's rule
 abbrev pub is_inherited : TypeSaid → Bool
 is_inherited (known_type Inherit) = true
-is_inherited (known_type Logical) = false
-is_inherited (known_type Back) = false
-is_inherited (known_type (Fixed type)) = false
-is_inherited float_type = false
+is_inherited _ = false
 
 -- whether a block of this kind writes a period 0 for its output
 abbrev pub has_zero_output : KindText → Bool
 has_zero_output (rate_transition initial out) = is_zero out
-has_zero_output (inport port) = false
-has_zero_output (outport port reset initial) = false
-has_zero_output (subsystem system) = false
-has_zero_output (constant value) = false
-has_zero_output ground = false
-has_zero_output terminator = false
-has_zero_output (gain factor factor_type how) = false
-has_zero_output (sum count minus how) = false
-has_zero_output (product count how) = false
-has_zero_output (unit_delay initial) = false
-has_zero_output (delay length initial) = false
-has_zero_output zero_order_hold = false
-has_zero_output (switch criterion threshold how) = false
-has_zero_output (relational comparison) = false
-has_zero_output (logic op count) = false
-has_zero_output (convert how) = false
-has_zero_output (enable_port reset) = false
-has_zero_output (trigger_port edge) = false
+has_zero_output _ = false
 
 -- whether a block of this kind, for whose output this type is written, has a factor or a value of a
 -- floating-point type
 abbrev pub has_float_parameter : TypeSaid → KindText → Bool
 has_float_parameter type (constant said) = is_inherited type && not said.is_truth
 has_float_parameter type (gain factor factor_type how) = is_float factor_type
-has_float_parameter type (inport port) = false
-has_float_parameter type (outport port reset initial) = false
-has_float_parameter type (subsystem system) = false
-has_float_parameter type ground = false
-has_float_parameter type terminator = false
-has_float_parameter type (sum count minus how) = false
-has_float_parameter type (product count how) = false
-has_float_parameter type (unit_delay initial) = false
-has_float_parameter type (delay length initial) = false
-has_float_parameter type zero_order_hold = false
-has_float_parameter type (switch criterion threshold how) = false
-has_float_parameter type (relational comparison) = false
-has_float_parameter type (logic op count) = false
-has_float_parameter type (convert how) = false
-has_float_parameter type (rate_transition initial out) = false
-has_float_parameter type (enable_port reset) = false
-has_float_parameter type (trigger_port edge) = false
+has_float_parameter type _ = false
 
 -- a period 0 in a block
 abbrev pub zero_fault : BodyText → Option Fault

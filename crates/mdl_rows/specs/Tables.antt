@@ -1,7 +1,7 @@
 -- The rows of a model.
 use Rattle.std.specs.Prelude.{◌≡◌, List}
 use Rattle.std.specs.List.{AllZip}
-use Rattle.mc_diagram.specs.declared.table.Row.{Row}
+use Rattle.diagram_meaning.specs.declared.table.Row.{Row}
 use Rattle.mdl_rows.specs.Models.{Block, Model, kind_of}
 use Rattle.mdl_rows.specs.Interiors.{control_of}
 use Rattle.mdl_rows.specs.Wires.{row_wires}

@@ -1,6 +1,6 @@
 -- What was found of the lines of systems in memory.
 use Rattle.std.specs.Prelude.{◌≡◌, ℕ, length, Option, Some, None, option_and_then, slice_get}
-use Rattle.mc_diagram.specs.FirstRefusal.{as_plain}
+use Rattle.base_refusals.specs.FirstRefusal.{as_plain}
 use Rattle.mdl_rows.specs.declared.model.ModelBlocks.{ModelBlocks}
 use Rattle.mdl_wiring.specs.declared.wiring.Wiring.{Wiring}
 use Rattle.mdl_rows.specs.declared.wirings.SystemWired.{SystemWired}

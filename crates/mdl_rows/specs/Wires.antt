@@ -74,23 +74,7 @@ controlling m b =
 abbrev pub wires_by : KindText → Model → Block → List ℕ
 wires_by (inport port) m b = entering m port b.owner
 wires_by (subsystem system) m b = controlling m b
-wires_by (outport port reset initial) m b = wires_of m b
-wires_by (constant value) m b = wires_of m b
-wires_by ground m b = wires_of m b
-wires_by terminator m b = wires_of m b
-wires_by (gain factor factor_type how) m b = wires_of m b
-wires_by (sum count minus how) m b = wires_of m b
-wires_by (product count how) m b = wires_of m b
-wires_by (unit_delay initial) m b = wires_of m b
-wires_by (delay length initial) m b = wires_of m b
-wires_by zero_order_hold m b = wires_of m b
-wires_by (switch criterion threshold how) m b = wires_of m b
-wires_by (relational comparison) m b = wires_of m b
-wires_by (logic op count) m b = wires_of m b
-wires_by (convert how) m b = wires_of m b
-wires_by (rate_transition initial out) m b = wires_of m b
-wires_by (enable_port reset) m b = wires_of m b
-wires_by (trigger_port edge) m b = wires_of m b
+wires_by _ m b = wires_of m b
 
 -- the rows that the row of a block reads
 abbrev pub row_wires : Model → Block → List ℕ

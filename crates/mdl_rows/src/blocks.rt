@@ -1,7 +1,7 @@
 ghost use Rattle.std.specs.Prelude.{◌≡◌, ◌<◌, ◌^◌, IfOk, length};
 ghost use Rattle.mdl_rows.specs.Held.{AreBlocks, IsThere, all_seen, numbered_from};
 
-use mc_base::Memory;
+use base_core::Memory;
 use mdl_blocks::Block;
 use mdl_systems::PlacedBlock;
 use std::alloc::Global;

@@ -4,7 +4,7 @@ ghost use Rattle.mdl_rows.specs.Grouping as grouping;
 ghost use Rattle.mdl_rows.specs.Held.{AreBlocks, AreGroupsOf, IsThere, all_seen, group_of, seen};
 
 use crate::blocks::NumberedBlock;
-use mc_base::Memory;
+use base_core::Memory;
 use std::alloc::Global;
 
 /// The blocks of a model by their systems: those of the root, those inside each block by its number, and the place of each

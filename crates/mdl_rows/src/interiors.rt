@@ -6,7 +6,7 @@ ghost use Rattle.mdl_rows.specs.Held.{AreBlocks, AreGroupsOf, AreInteriorsOf, Is
 use crate::blocks::NumberedBlock;
 use crate::groups::Groups;
 use crate::lists::push_if_there;
-use mc_base::{Control, Edge, Memory};
+use base_core::{Control, Edge, Memory};
 use mdl_blocks::BlockKind;
 use mdl_wiring::Inside;
 use std::alloc::Global;

@@ -1,4 +1,4 @@
-// The rows of a model: what the row of each block says and which rows it reads, or the first refusal.
+//! The rows of a model: what the row of each block says and which rows it reads, or the first refusal.
 #![tactic(auto)]
 
 mod blocks;

@@ -1,6 +1,6 @@
 ghost use Rattle.std.specs.Prelude.{◌≡◌, ◌++◌, OnOk, option_to_list};
 
-use mc_base::Memory;
+use base_core::Memory;
 
 /// Adds an item to a list, if there is one.
 pub(crate) fn push_if_there<T: Drop>(list: &mut Vec<T>, item: Option<T>) -> Result<(), Memory>

@@ -9,7 +9,7 @@ ghost use Rattle.mdl_rows.specs.HeldModels.{IsModel, model_of};
 use crate::blocks::NumberedBlock;
 use crate::interiors::Interior;
 use crate::model::ModelBlocks;
-use mc_base::{Control, Memory};
+use base_core::{Control, Memory};
 use mdl_wiring::{Inside, Member, Shape};
 use std::alloc::Global;
 

@@ -7,7 +7,7 @@ use crate::blocks::numbered;
 use crate::groups::groups_of;
 use crate::interiors::interiors_of;
 use crate::model::ModelBlocks;
-use mc_base::Memory;
+use base_core::Memory;
 use mdl_systems::PlacedBlock;
 use mdl_tree::Section;
 use std::alloc::Global;

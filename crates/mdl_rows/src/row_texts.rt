@@ -1,7 +1,7 @@
 ghost use Rattle.std.specs.Prelude.{◌≡◌, true, IfOk, IfErr, MatchOption, None, Some, is_some};
 ghost use Rattle.std.specs.List.{AllZip};
 ghost use Rattle.mdl_blocks.specs.Held.{body_text};
-ghost use Rattle.mc_diagram.specs.FirstRefusal.{as_plain};
+ghost use Rattle.base_refusals.specs.FirstRefusal.{as_plain};
 ghost use Rattle.mdl_rows.specs.Models.{Block};
 ghost use Rattle.mdl_rows.specs.Interiors.{control_of};
 ghost use Rattle.mdl_rows.specs.RowTexts.{row_fault};
@@ -12,10 +12,9 @@ ghost use Rattle.mdl_rows.specs.HeldModels.{IsModel, model_of};
 use crate::blocks::NumberedBlock;
 use crate::lists::push_if_there;
 use crate::model::ModelBlocks;
-use mc_base::{Control, Memory};
-use mc_refusals::Refusal;
+use base_core::{Control, Memory};
+use base_refusals::{Refusal, first_refusal};
 use mdl_blocks::{Body, Fault, RowText};
-use mdl_wiring::first_refusal;
 use std::alloc::Global;
 
 /// What the rows of a model say, and the first refusal for their times and types.

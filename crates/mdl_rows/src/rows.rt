@@ -11,8 +11,8 @@ use crate::blocks::NumberedBlock;
 use crate::model::ModelBlocks;
 use crate::wires::row_wires;
 use crate::wirings::Wirings;
-use mc_base::{Memory, Place};
-use mc_diagram::Row;
+use base_core::{Memory, Place};
+use diagram_meaning::Row;
 use mdl_blocks::RowText;
 use std::alloc::Global;
 

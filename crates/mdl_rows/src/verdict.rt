@@ -9,10 +9,10 @@ use crate::reading::model_of;
 use crate::row_texts::{RowTexts, row_texts};
 use crate::rows::rows_with;
 use crate::wirings::{SystemsWired, systems_wired};
-use mc_diagram::{BuildFault, Row};
+use base_refusals::first_refusal;
+use diagram_meaning::{BuildFault, Row};
 use mdl_systems::PlacedBlock;
 use mdl_tree::Section;
-use mdl_wiring::first_refusal;
 use std::alloc::Global;
 
 /// The rows of a model with this System and these blocks, which stand in the order of the file.

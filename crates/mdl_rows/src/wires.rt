@@ -11,7 +11,7 @@ use crate::blocks::NumberedBlock;
 use crate::lists::push_if_there;
 use crate::model::ModelBlocks;
 use crate::wirings::Wirings;
-use mc_base::{Memory, Wires};
+use base_core::{Memory, Wires};
 use mdl_blocks::BlockKind;
 use mdl_wiring::Source;
 use std::alloc::Global;

@@ -1,5 +1,5 @@
 ghost use Rattle.std.specs.Prelude.{◌≡◌, IfOk, option_map};
-ghost use Rattle.mc_diagram.specs.FirstRefusal.{as_plain};
+ghost use Rattle.base_refusals.specs.FirstRefusal.{as_plain};
 ghost use Rattle.mdl_tree.specs.Values.{section_tree};
 ghost use Rattle.mdl_rows.specs.Refusals.{systems_refusal};
 ghost use Rattle.mdl_rows.specs.Held.{AreWiringsOf, IsAmong, IsThere, seen};
@@ -8,11 +8,11 @@ ghost use Rattle.mdl_rows.specs.Wired as wired;
 
 use crate::blocks::NumberedBlock;
 use crate::model::ModelBlocks;
-use mc_base::Memory;
-use mc_refusals::Refusal;
+use base_core::Memory;
+use base_refusals::{Refusal, first_refusal};
 use mdl_blocks::BlockKind;
 use mdl_tree::Section;
-use mdl_wiring::{Wiring, WiringFault, first_refusal, wire};
+use mdl_wiring::{Wiring, WiringFault, wire};
 use std::alloc::Global;
 
 /// What was found of the lines of a system: its first refusal, or else where its inputs read from.

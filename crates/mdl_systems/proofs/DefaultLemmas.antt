@@ -3,8 +3,8 @@ use Rattle.std.proofs.Common.{◌≡◌, ap, ℕ, List, [], Ok, codes}
 use Rattle.std.proofs.Math.Path.{fun_ext}
 use Rattle.std.specs.Prelude.{Result, ok_or, unwrap_or}
 use Rattle.std.specs.Option.{option_or}
-use Rattle.mc_base.specs.declared.ParamName.{ParamName}
-use Rattle.mc_base.specs.declared.ParamName.TheVariants.{Name}
+use Rattle.base_core.specs.declared.ParamName.{ParamName}
+use Rattle.base_core.specs.declared.ParamName.TheVariants.{Name}
 use Rattle.mdl_tree.specs.Spelling.{Items}
 use Rattle.mdl_tree.specs.Walks.{SectionTree, first_section, first_value}
 use Rattle.mdl_params.specs.BlockTypes.{block_type_of, beside}
@@ -13,7 +13,7 @@ use Rattle.mdl_params.specs.Defaults.{DefaultTexts, by_names, parameter_text}
 use Rattle.mdl_blocks.specs.declared.fault.Fault.{Fault}
 use Rattle.mdl_blocks.specs.declared.fault.Fault.TheVariants.{Unsupported, Parameter}
 use Rattle.mdl_blocks.specs.declared.peers.Peers.{Peers}
-use Rattle.mdl_blocks.specs.Results.{◌>>=◌}
+use Rattle.base_core.specs.Results.{◌>>=◌}
 use Rattle.mdl_blocks.specs.Blocks.{BlockText, Texts, texts_by, unless_hollow, body_of, block_typed}
 use Rattle.mdl_systems.specs.Outlines.{Outline}
 use Rattle.mdl_systems.specs.Refusals.{read}

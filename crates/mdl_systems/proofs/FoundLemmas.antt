@@ -2,7 +2,7 @@
 use Rattle.std.proofs.Common.{◌≡◌, refl, ◌∙◌, ap, ap₂, subst, ℕ, zero, suc, Bool, true, false, cond, List, [], ◌∷◌, ◌++◌, map, slice_get, Option, None, Some, arith, codes}
 use Rattle.std.specs.Prelude.{flat_map, option_to_list}
 use Rattle.mdl_tree.specs.Walks.{SectionTree, first_section}
-use Rattle.mc_diagram.specs.Rows.{same_system}
+use Rattle.diagram_meaning.specs.Rows.{same_system}
 use Rattle.mdl_systems.specs.Outlines.{Outline, SystemText, outlines_of, is_subsystem, inner_system, systems_inside}
 use Rattle.mdl_systems.specs.Subsystems.{system_at, SystemsAreBySubsystems}
 use Rattle.mdl_systems.proofs.NumberLemmas.{AreNumbered, numbered-get, model-numbered}

@@ -1,7 +1,6 @@
 pub mod OutlineLemmas
 pub mod SystemLemmas
 pub mod OwnerLemmas
-pub mod SectionLemmas
 pub mod PassLemmas
 pub mod ReadLemmas
 pub mod NumberLemmas

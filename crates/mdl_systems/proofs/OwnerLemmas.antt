@@ -7,7 +7,7 @@ use Rattle.mdl_tree.specs.Walks.{SectionTree}
 use Rattle.mdl_params.specs.declared.BlockType.TheVariants.{SubSystem}
 use Rattle.mdl_blocks.specs.declared.peers.Peers.{Peers}
 use Rattle.mdl_blocks.specs.Peers.{writes_type, peers_in}
-use Rattle.mc_diagram.specs.Rows.{same_system}
+use Rattle.diagram_meaning.specs.Rows.{same_system}
 use Rattle.mdl_systems.specs.Outlines.{Outline, outlines_in, outlines_inside}
 use Rattle.mdl_systems.specs.Held.{blocks_held}
 use Rattle.mdl_systems.specs.Owners.{of_owner}

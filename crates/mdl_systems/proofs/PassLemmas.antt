@@ -1,9 +1,9 @@
 -- Passes over blocks in memory, one by one, and over the systems inside them.
 use Rattle.std.proofs.Common.{◌≡◌, refl, sym, ◌∙◌, ap, ℕ, suc, ◌+◌, ◌<◌, ◌≤◌, List, [], ◌∷◌, length, drop, slice_index_or, drop-cons, drop_of_length-le, Option, map, arith}
 use Rattle.std.specs.Prelude.{flat_map}
-use Rattle.mc_refusals.specs.Refusals.{PlainRefusal}
-use Rattle.mc_diagram.specs.FirstRefusal.{earlier_of, least_in}
-use Rattle.mc_diagram.proofs.lemmas.FirstRefusals.{earlier_assoc, earlier-none, least-append}
+use Rattle.base_refusals.specs.Refusals.{PlainRefusal}
+use Rattle.base_refusals.specs.FirstRefusal.{earlier_of, least_in}
+use Rattle.base_refusals.proofs.lemmas.FirstRefusals.{earlier_assoc, earlier-none, least-append}
 
 one_more : (i : ℕ) → suc i ≡ i + 1
 one_more i = omega arith

@@ -40,14 +40,6 @@ taken number owner depth peers section =
     record { number = number; owner = owner; depth = depth; peers = peers; section = section }
     ∷ blocks_held number depth section.items
 
--- the sections that these references lead to
-abbrev pub trees_of : List (Bor Section) → List SectionTree
-trees_of sections = map (λ s. section_tree s.now) sections
-
 -- the section that a reference leads to, if it is there
 abbrev pub tree_at : Option (Bor Section) → Option SectionTree
 tree_at section = option_map (λ s. section_tree s.now) section
-
--- the items of one item alone
-abbrev pub item_alone : Item → Items
-item_alone item = with_item item End

@@ -1,10 +1,10 @@
 -- The model of a file, or why the file has none.
 use Rattle.std.specs.Prelude.{List, [], ◌∷◌, Option, Some, None, Result, Ok, Err, codes}
-use Rattle.mc_refusals.specs.declared.ModelKind.TheVariants.{Library, Second}
-use Rattle.mc_refusals.specs.Refusals.{PlainRefusal, NoModel, TwoModels}
+use Rattle.base_refusals.specs.declared.ModelKind.TheVariants.{Library, Second}
+use Rattle.base_refusals.specs.Refusals.{PlainRefusal, NoModel, TwoModels}
 use Rattle.mdl_tree.specs.Spelling.{Items}
 use Rattle.mdl_tree.specs.Walks.{SectionTree, sections_named, first_section}
-use Rattle.mc_diagram.specs.FirstRefusal.{least_in}
+use Rattle.base_refusals.specs.FirstRefusal.{least_in}
 
 -- A model, and the System in it that holds its blocks.
 pub record Model : Type 0 where

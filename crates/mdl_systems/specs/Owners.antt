@@ -1,7 +1,7 @@
 -- The own blocks of a system by the owners of blocks.
 use Rattle.std.specs.Prelude.{◌≡◌, ℕ, List, map, filter, Option, ⊤}
 use Rattle.mdl_tree.specs.Walks.{SectionTree}
-use Rattle.mc_diagram.specs.Rows.{same_system}
+use Rattle.diagram_meaning.specs.Rows.{same_system}
 use Rattle.mdl_systems.specs.Outlines.{Outline, outlines_of}
 use Rattle.mdl_systems.specs.Systems.{SystemTree, SystemTrees, system, no_more, next, tree_of_model}
 

@@ -2,17 +2,17 @@
 use Rattle.std.specs.Prelude.{◌≡◌, List, Option, Some, None, Result, Ok, ⊤}
 use Rattle.std.specs.List.{AllZip}
 use Rattle.std.specs.Result.{result_err}
-use Rattle.mc_refusals.specs.Refusals.{PlainRefusal, plain_refusal}
+use Rattle.base_refusals.specs.Refusals.{PlainRefusal, plain_refusal}
 use Rattle.mdl_tree.specs.Values.{section_tree}
 use Rattle.mdl_tree.specs.Walks.{SectionTree}
 use Rattle.mdl_params.specs.Defaults.{DefaultTexts}
 use Rattle.mdl_blocks.specs.Held.{block_text}
-use Rattle.mc_diagram.specs.declared.BuildFault.{BuildFault}
-use Rattle.mc_diagram.specs.declared.BuildFault.TheVariants.{Refused, Memory}
+use Rattle.diagram_meaning.specs.declared.BuildFault.{BuildFault}
+use Rattle.diagram_meaning.specs.declared.BuildFault.TheVariants.{Refused, Memory}
 use Rattle.mdl_systems.specs.declared.placed.ModelSections.{ModelSections}
 use Rattle.mdl_systems.specs.declared.placed.PlacedBlock.{PlacedBlock}
 use Rattle.mdl_systems.specs.declared.blocks.BlockFaults.{BlockFaults}
-use Rattle.mc_diagram.specs.FirstRefusal.{as_plain}
+use Rattle.base_refusals.specs.FirstRefusal.{as_plain}
 use Rattle.mdl_systems.specs.Outlines.{Outline, outlines_of}
 use Rattle.mdl_systems.specs.Models.{Model}
 use Rattle.mdl_systems.specs.Refusals.{read}

@@ -1,10 +1,10 @@
 -- Why the blocks of a model can't be read.
 use Rattle.std.specs.Prelude.{ℕ, ◌&&◌, nat_lt, nat_le, if◌then◌else◌, List, [], ◌∷◌, length, slice_get, Option, Some, None, option_map, Result, Ok, Err}
-use Rattle.mc_refusals.specs.declared.Many.{Many}
-use Rattle.mc_refusals.specs.declared.Many.TheVariants.{Blocks, Inports, Outports}
-use Rattle.mc_base.specs.Numbers.{reported_number}
-use Rattle.mc_refusals.specs.Refusals.{PlainRefusal, TooDeep, TooMany}
-use Rattle.mc_refusals.specs.Refusals as refusal
+use Rattle.base_refusals.specs.declared.Many.{Many}
+use Rattle.base_refusals.specs.declared.Many.TheVariants.{Blocks, Inports, Outports}
+use Rattle.base_core.specs.Numbers.{reported_number}
+use Rattle.base_refusals.specs.Refusals.{PlainRefusal, TooDeep, TooMany}
+use Rattle.base_refusals.specs.Refusals as refusal
 use Rattle.mdl_tree.specs.Walks.{SectionTree}
 use Rattle.mdl_params.specs.Defaults.{DefaultTexts}
 use Rattle.mdl_blocks.specs.declared.fault.Fault.{Fault}
@@ -13,7 +13,7 @@ use Rattle.mdl_blocks.specs.declared.peers.Peers.{Peers}
 use Rattle.mdl_blocks.specs.Peers.{peers_in}
 use Rattle.mdl_blocks.specs.Blocks.{BlockText, block_of}
 use Rattle.mdl_wiring.specs.Refusals.{newer_lines}
-use Rattle.mc_diagram.specs.FirstRefusal.{least_in, earlier_of, first_there, found_where}
+use Rattle.base_refusals.specs.FirstRefusal.{least_in, earlier_of, first_there, found_where}
 use Rattle.mdl_systems.specs.Outlines.{Outline, SystemText, is_subsystem, outlines_of, systems_of}
 
 -- ---- Numbers of blocks
@@ -56,11 +56,8 @@ read defaults b = block_of defaults b.peers b.section
 
 -- the refusal of a block at a line that isn't read
 abbrev pub unread_at : (line : ℕ) → Result BlockText Fault → Option PlainRefusal
-unread_at line (Ok block) = None
 unread_at line (Err fault.Unsupported) = Some (refusal.Unsupported line)
-unread_at line (Err (fault.Parameter parameter)) = None
-unread_at line (Err fault.Continuous) = None
-unread_at line (Err fault.FloatType) = None
+unread_at line _ = None
 
 -- the refusal of a block at a line for a parameter out of form; a time or a type that may not be is
 -- told of its row, not here

@@ -1,7 +1,7 @@
 -- The systems of a model by its subsystem blocks.
 use Rattle.std.specs.Prelude.{◌≡◌, ℕ, true, List, [], ◌∷◌, find, flat_map, slice_get, Option, Some, None, codes, ⊤}
 use Rattle.mdl_tree.specs.Walks.{SectionTree, first_section}
-use Rattle.mc_diagram.specs.Rows.{same_system}
+use Rattle.diagram_meaning.specs.Rows.{same_system}
 use Rattle.mdl_systems.specs.Outlines.{Outline, SystemText, outlines_of, is_subsystem, root_system, inner_system, systems_inside, systems_of}
 use Rattle.mdl_systems.specs.Systems.{SystemTree, SystemTrees, system, no_more, next, tree_of_model}
 use Rattle.mdl_systems.specs.Owners.{of_owner}

@@ -1,15 +1,13 @@
 ghost use Rattle.std.specs.Prelude.{◌≡◌, IfOk, IfErr, Ok, Err};
-ghost use Rattle.mc_refusals.specs.Refusals.{plain_refusal};
-ghost use Rattle.mdl_tree.specs.Values.{section_tree};
-ghost use Rattle.mc_diagram.specs.FirstRefusal.{least_in, as_plain};
+ghost use Rattle.base_refusals.specs.Refusals.{plain_refusal};
+ghost use Rattle.mdl_tree.specs.Values.{section_tree, trees_of};
+ghost use Rattle.base_refusals.specs.FirstRefusal.{least_in, as_plain};
 ghost use Rattle.mdl_systems.specs.Models as models_of;
 ghost use Rattle.mdl_systems.specs.Reading.{model_seen, IsFaultOf};
-ghost use Rattle.mdl_systems.specs.Held.{trees_of};
 
 use crate::placed::ModelSections;
-use crate::sections::sections_named;
-use mc_diagram::{BuildFault, earlier};
-use mc_refusals::{ModelKind, Refusal};
+use base_refusals::{ModelKind, Refusal, earlier};
+use diagram_meaning::BuildFault;
 use mdl_tree::Section;
 use std::alloc::Global;
 
@@ -66,8 +64,8 @@ pub fn find_model<'a>(alloc: Global, file: &'a Section) -> Result<ModelSections<
     ensures model { IfOk result (λ m. models_of.model_of (section_tree file.now).items ≡ Ok (model_seen m)) }
     ensures fault { IfErr result (IsFaultOf (models_of.model_of (section_tree file.now).items)) }
 {
-    let libraries = sections_named(alloc, file, b"Library")?;
-    let models = sections_named(alloc, file, b"Model")?;
+    let libraries = file.sections_named(alloc, b"Library")?;
+    let models = file.sections_named(alloc, b"Model")?;
     let library = least_library(libraries.as_slice());
     model_among(models.as_slice(), library).map_err(BuildFault::Refused)
 }

@@ -1,4 +1,4 @@
-// The systems of a model, and its blocks in the order of the file with what each says, or the first fault.
+//! The systems of a model, and its blocks in the order of the file with what each says, or the first error.
 #![tactic(auto)]
 
 mod blocks;
@@ -9,7 +9,6 @@ mod numbers;
 mod outline;
 mod outlines;
 mod placed;
-mod sections;
 mod system;
 
 pub use blocks::read_model;

@@ -1,14 +1,13 @@
 ghost use Rattle.std.specs.Prelude.{◌≡◌, IfOk};
 ghost use Rattle.mdl_tree.specs.Values.{section_tree};
-ghost use Rattle.mc_diagram.specs.FirstRefusal.{as_plain, least_in};
+ghost use Rattle.base_refusals.specs.FirstRefusal.{as_plain, least_in};
 ghost use Rattle.mdl_systems.specs.Outlines.{outlines_of, systems_inside, systems_of};
 ghost use Rattle.mdl_systems.specs.Refusals.{newer};
 ghost use Rattle.mdl_systems.specs.Held.{seen, all_seen};
 
 use crate::outline::Outline;
 use crate::outlines::system_inside;
-use mc_diagram::earlier;
-use mc_refusals::Refusal;
+use base_refusals::{Refusal, earlier};
 use mdl_tree::Section;
 use mdl_wiring::newer_line;
 

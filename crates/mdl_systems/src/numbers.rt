@@ -1,15 +1,14 @@
 ghost use Rattle.std.specs.Prelude.{◌≡◌};
 ghost use Rattle.mdl_tree.specs.Values.{section_tree};
 ghost use Rattle.mdl_blocks.specs.Peers.{peers_in};
-ghost use Rattle.mc_diagram.specs.FirstRefusal.{as_plain, least_in};
+ghost use Rattle.base_refusals.specs.FirstRefusal.{as_plain, least_in};
 ghost use Rattle.mdl_systems.specs.Outlines.{outlines_of, systems_inside, systems_of};
 ghost use Rattle.mdl_systems.specs.Refusals as refused;
 ghost use Rattle.mdl_systems.specs.Held.{seen, all_seen};
 
 use crate::outline::Outline;
 use crate::outlines::{is_subsystem, system_inside};
-use mc_diagram::earlier;
-use mc_refusals::{Many, Refusal};
+use base_refusals::{Many, Refusal, earlier};
 use mdl_blocks::Peers;
 use mdl_tree::Section;
 

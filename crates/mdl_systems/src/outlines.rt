@@ -8,7 +8,7 @@ ghost use Rattle.mdl_systems.specs.Systems.{system_of, system_held, system_insid
 
 use crate::outline::{ModelOutlines, Outline};
 use crate::system::SystemText;
-use mc_base::Memory;
+use base_core::Memory;
 use mdl_blocks::Peers;
 use mdl_params::BlockType;
 use mdl_tree::{Item, Section};

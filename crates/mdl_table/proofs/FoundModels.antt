@@ -1,10 +1,10 @@
 -- The model that is found in a file, as that of its tree.
 use Rattle.std.proofs.Common.{◌≡◌, refl, sym, ◌∙◌, ap, subst, ℕ, Bool, true, false, cond, List, [], ◌∷◌, slice_get, Option, None, Some, codes}
 use Rattle.std.specs.Prelude.{bytes_eq, IfErr, IfOk, Result, Ok, Err}
-use Rattle.mc_refusals.specs.Refusals.{PlainRefusal}
-use Rattle.mc_base.specs.declared.Frac.{Frac}
-use Rattle.mc_diagram.specs.declared.BuildFault.{BuildFault}
-use Rattle.mc_diagram.specs.FirstRefusal.{least_in}
+use Rattle.base_refusals.specs.Refusals.{PlainRefusal}
+use Rattle.base_core.specs.declared.Frac.{Frac}
+use Rattle.diagram_meaning.specs.declared.BuildFault.{BuildFault}
+use Rattle.base_refusals.specs.FirstRefusal.{least_in}
 use Rattle.mdl_tree.specs.Spelling.{Items, End, Param, Section}
 use Rattle.mdl_tree.specs.Walks.{SectionTree, sections_named, first_section}
 use Rattle.mdl_systems.specs.Models.{Model, library, model_with, model_among, model_of}

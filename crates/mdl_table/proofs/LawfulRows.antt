@@ -5,23 +5,23 @@ use Rattle.std.specs.List.{AllByRecursion, AllZip}
 use Rattle.std.specs.Option.{option_or}
 use Rattle.std.specs.Result.{result_ok}
 use Rattle.std.proofs.Math.IntN.{pos-*ℤ-pos, negsuc-*ℤ-pos}
-use Rattle.mc_numerals.specs.Literals.{Ratio, ratio_of, parts_of, frac_parts}
-use Rattle.mc_base.specs.declared.NumFault.TheVariants.{Range}
-use Rattle.mc_base.specs.declared.Control.{Control}
-use Rattle.mc_base.specs.declared.Decimal.{Decimal}
-use Rattle.mc_base.specs.declared.Frac.{Frac}
-use Rattle.mc_base.specs.declared.TimeText.{TimeText}
-use Rattle.mc_base.specs.declared.TimeText.TheVariants as time
-use Rattle.mc_fixed.specs.declared.TypeText.{TypeText}
-use Rattle.mc_fixed.specs.declared.TypeText.TheVariants as type
-use Rattle.mc_fixed.specs.Conversion.{fits_32}
-use Rattle.mc_fixed.specs.Rounding.{nearest}
+use Rattle.base_numerals.specs.Literals.{Ratio, ratio_of, parts_of, frac_parts}
+use Rattle.base_core.specs.declared.NumFault.TheVariants.{Range}
+use Rattle.base_core.specs.declared.Control.{Control}
+use Rattle.base_core.specs.declared.Decimal.{Decimal}
+use Rattle.base_core.specs.declared.Frac.{Frac}
+use Rattle.base_core.specs.declared.TimeText.{TimeText}
+use Rattle.base_core.specs.declared.TimeText.TheVariants as time
+use Rattle.base_fixed_point.specs.declared.TypeText.{TypeText}
+use Rattle.base_fixed_point.specs.declared.TypeText.TheVariants as type
+use Rattle.base_fixed_point.specs.Conversion.{fits_32}
+use Rattle.base_fixed_point.specs.Rounding.{nearest}
 use Rattle.mdl_type_texts.specs.TypeTexts.{meaning_of}
 use Rattle.mdl_type_texts.specs.TypeTexts as meaning
-use Rattle.mc_blocks.specs.declared.Kind.{Kind}
-use Rattle.mc_diagram.specs.declared.table.Row.{Row}
-use Rattle.mc_diagram.specs.WellFormed.{IsRow, IsGain, IsGainNumber, IsTypeTextOf, IsTimeTextOf, IsTruthValue, IsConstantType, IsIntegerType, IsInheritedOrEach, IsAnyTime, IsStep}
-use Rattle.mc_diagram.specs.WellFormed as lawful
+use Rattle.diagram_blocks.specs.declared.Kind.{Kind}
+use Rattle.diagram_meaning.specs.declared.table.Row.{Row}
+use Rattle.diagram_meaning.specs.WellFormed.{IsRow, IsGain, IsGainNumber, IsTypeTextOf, IsTimeTextOf, IsTruthValue, IsConstantType, IsIntegerType, IsInheritedOrEach, IsAnyTime, IsStep}
+use Rattle.diagram_meaning.specs.WellFormed as lawful
 use Rattle.mdl_tree.specs.Spelling.{Items}
 use Rattle.mdl_params.specs.Forms.{number_form}
 use Rattle.mdl_params.specs.Times.{time_of}
@@ -106,25 +106,17 @@ any-time zero_time t is e = absurd e
 
 -- the kind of a row is lawful
 kind-lawful : (text : KindText) (c : Control) (k : Kind) → IsSoundKind text → IsKind text c k → lawful.IsKind k
-kind-lawful (inport port) c k s h = subst lawful.IsKind (sym h) tt
 kind-lawful (outport port reset initial) c k s h = subst lawful.IsKind (sym h.2) tt
-kind-lawful (subsystem system) c k s h = subst lawful.IsKind (sym h) tt
 kind-lawful (constant said) c k s h = subst lawful.IsKind (sym h.2) tt
-kind-lawful ground c k s h = subst lawful.IsKind (sym h) tt
-kind-lawful terminator c k s h = subst lawful.IsKind (sym h) tt
 kind-lawful (gain factor factor_type how) c k s h = subst lawful.IsKind (sym h.4) (is-gain h.0 h.1 (gain-fits factor h.0 s.0.1 h.2))
 kind-lawful (sum count minus how) c k s h = subst lawful.IsKind (sym h) s
 kind-lawful (product count how) c k s h = subst lawful.IsKind (sym h) s
 kind-lawful (unit_delay initial) c k s h = subst lawful.IsKind (sym h.2) tt
 kind-lawful (delay length initial) c k s h = subst lawful.IsKind (sym h.2) s.0
-kind-lawful zero_order_hold c k s h = subst lawful.IsKind (sym h) tt
 kind-lawful (switch criterion threshold how) c k s h = subst lawful.IsKind (sym h.2) tt
-kind-lawful (relational comparison) c k s h = subst lawful.IsKind (sym h) tt
 kind-lawful (logic op count) c k s h = subst lawful.IsKind (sym h) s
-kind-lawful (convert how) c k s h = subst lawful.IsKind (sym h) tt
 kind-lawful (rate_transition initial out) c k s h = subst lawful.IsKind (sym h.4) (varying out h.1 s.1 h.3)
-kind-lawful (enable_port reset) c k s h = subst lawful.IsKind (sym h) tt
-kind-lawful (trigger_port edge) c k s h = subst lawful.IsKind (sym h) tt
+kind-lawful _ c k s h = subst lawful.IsKind (sym h) tt
 
 -- ---- Types
 
@@ -174,23 +166,18 @@ type-lawful : (text : KindText) (c : Control) (k : Kind) (said : TypeSaid) (t : 
     has_float_parameter said text ≡ false → IsType said t → IsKind text c k → IsTypeTextOf k t
 type-lawful (inport port) c k said t s f none is h = subst (λ k. IsTypeTextOf k t) (sym h) tt
 type-lawful (outport port reset initial) c k said t s f none is h = subst (λ k. IsTypeTextOf k t) (sym h.2) tt
-type-lawful (subsystem system) c k said t s f none is h = subst (λ k. IsTypeTextOf k t) (sym h) (inherits said t f is)
 type-lawful (constant own) c k said t s f none is h = subst (λ k. IsTypeTextOf k t) (sym h.2) (constant-type own h.0 said t s.1 h.1 none is)
-type-lawful ground c k said t s f none is h = subst (λ k. IsTypeTextOf k t) (sym h) (inherits said t f is)
-type-lawful terminator c k said t s f none is h = subst (λ k. IsTypeTextOf k t) (sym h) (inherits said t f is)
 type-lawful (gain factor factor_type how) c k said t s f none is h = subst (λ k. IsTypeTextOf k t) (sym h.4) tt
 type-lawful (sum count minus how) c k said t s f none is h = subst (λ k. IsTypeTextOf k t) (sym h) tt
 type-lawful (product count how) c k said t s f none is h = subst (λ k. IsTypeTextOf k t) (sym h) tt
 type-lawful (unit_delay initial) c k said t s f none is h = subst (λ k. IsTypeTextOf k t) (sym h.2) (inherits said t f is)
 type-lawful (delay length initial) c k said t s f none is h = subst (λ k. IsTypeTextOf k t) (sym h.2) (inherits said t f is)
-type-lawful zero_order_hold c k said t s f none is h = subst (λ k. IsTypeTextOf k t) (sym h) (inherits said t f is)
 type-lawful (switch criterion threshold how) c k said t s f none is h = subst (λ k. IsTypeTextOf k t) (sym h.2) tt
 type-lawful (relational comparison) c k said t s f none is h = subst (λ k. IsTypeTextOf k t) (sym h) (whole said t f is)
 type-lawful (logic op count) c k said t s f none is h = subst (λ k. IsTypeTextOf k t) (sym h) (whole said t f is)
 type-lawful (convert how) c k said t s f none is h = subst (λ k. IsTypeTextOf k t) (sym h) tt
 type-lawful (rate_transition initial out) c k said t s f none is h = subst (λ k. IsTypeTextOf k t) (sym h.4) (inherits said t f is)
-type-lawful (enable_port reset) c k said t s f none is h = subst (λ k. IsTypeTextOf k t) (sym h) (inherits said t f is)
-type-lawful (trigger_port edge) c k said t s f none is h = subst (λ k. IsTypeTextOf k t) (sym h) (inherits said t f is)
+type-lawful _ c k said t s f none is h = subst (λ k. IsTypeTextOf k t) (sym h) (inherits said t f is)
 
 -- ---- Times
 
@@ -206,25 +193,19 @@ untimed-by said t e h = means-untimed t (subst (λ s. IsTime s t) e h)
 time-lawful : (text : KindText) (c : Control) (k : Kind) (said : TimeSaid) (t : TimeText) → IsSoundTime said → IsTimeFor text said →
     IsTime said t →
     IsKind text c k → IsTimeTextOf k t
-time-lawful (inport port) c k said t s f is h = subst (λ k. IsTimeTextOf k t) (sym h) (varying said t (s, f) is)
 time-lawful (outport port reset initial) c k said t s f is h = subst (λ k. IsTimeTextOf k t) (sym h.2) (varying said t (s, f) is)
 time-lawful (subsystem system) c k said t s f is h = subst (λ k. IsTimeTextOf k t) (sym h) (untimed-by said t f is)
 time-lawful (constant own) c k said t s f is h = subst (λ k. IsTimeTextOf k t) (sym h.2) (any-time said t s is)
 time-lawful ground c k said t s f is h = subst (λ k. IsTimeTextOf k t) (sym h) (untimed-by said t f is)
 time-lawful terminator c k said t s f is h = subst (λ k. IsTimeTextOf k t) (sym h) (untimed-by said t f is)
 time-lawful (gain factor factor_type how) c k said t s f is h = subst (λ k. IsTimeTextOf k t) (sym h.4) (varying said t (s, f) is)
-time-lawful (sum count minus how) c k said t s f is h = subst (λ k. IsTimeTextOf k t) (sym h) (varying said t (s, f) is)
-time-lawful (product count how) c k said t s f is h = subst (λ k. IsTimeTextOf k t) (sym h) (varying said t (s, f) is)
 time-lawful (unit_delay initial) c k said t s f is h = subst (λ k. IsTimeTextOf k t) (sym h.2) (varying said t (s, f) is)
 time-lawful (delay length initial) c k said t s f is h = subst (λ k. IsTimeTextOf k t) (sym h.2) (varying said t (s, f) is)
-time-lawful zero_order_hold c k said t s f is h = subst (λ k. IsTimeTextOf k t) (sym h) (varying said t (s, f) is)
 time-lawful (switch criterion threshold how) c k said t s f is h = subst (λ k. IsTimeTextOf k t) (sym h.2) (varying said t (s, f) is)
-time-lawful (relational comparison) c k said t s f is h = subst (λ k. IsTimeTextOf k t) (sym h) (varying said t (s, f) is)
-time-lawful (logic op count) c k said t s f is h = subst (λ k. IsTimeTextOf k t) (sym h) (varying said t (s, f) is)
-time-lawful (convert how) c k said t s f is h = subst (λ k. IsTimeTextOf k t) (sym h) (varying said t (s, f) is)
 time-lawful (rate_transition initial out) c k said t s f is h = subst (λ k. IsTimeTextOf k t) (sym h.4) (untimed-by said t f is)
 time-lawful (enable_port reset) c k said t s f is h = subst (λ k. IsTimeTextOf k t) (sym h) (untimed-by said t f is)
 time-lawful (trigger_port edge) c k said t s f is h = subst (λ k. IsTimeTextOf k t) (sym h) (untimed-by said t f is)
+time-lawful _ c k said t s f is h = subst (λ k. IsTimeTextOf k t) (sym h) (varying said t (s, f) is)
 
 -- ---- Rows
 

@@ -3,14 +3,15 @@ use Rattle.std.proofs.Common.{◌≡◌, refl, sym, ◌∙◌, ap, ap₂, subst,
 use Rattle.std.specs.Prelude.{option_and_then, option_map}
 use Rattle.std.specs.List.{AllZip}
 use Rattle.std.proofs.lemmas.List.{get_or_past}
-use Rattle.mc_base.specs.declared.Place.{Place}
-use Rattle.mc_refusals.specs.declared.Many.TheVariants.{Blocks}
-use Rattle.mc_base.specs.Numbers.{reported_number}
-use Rattle.mc_refusals.specs.Refusals.{PlainRefusal, TooDeep, TooMany}
-use Rattle.mc_diagram.specs.declared.table.Row.{Row}
-use Rattle.mc_diagram.specs.Rows as rows
-use Rattle.mc_diagram.specs.Rows.{no_row, row_at, around}
-use Rattle.mc_diagram.specs.WellFormed.{IsOwner, FollowsIn, IsNested}
+use Rattle.base_core.specs.declared.Place.{Place}
+use Rattle.base_refusals.specs.declared.Many.TheVariants.{Blocks}
+use Rattle.base_core.specs.Numbers.{reported_number}
+use Rattle.base_refusals.specs.Refusals.{PlainRefusal, TooDeep, TooMany}
+use Rattle.diagram_meaning.specs.declared.table.Row.{Row}
+use Rattle.diagram_blocks.specs.Kinds as kinds
+use Rattle.diagram_meaning.specs.Rows as rows
+use Rattle.diagram_meaning.specs.Rows.{no_row, row_at, around}
+use Rattle.diagram_meaning.specs.WellFormed.{IsOwner, FollowsIn, IsNested}
 use Rattle.mdl_tree.specs.Walks.{SectionTree}
 use Rattle.mdl_params.specs.Defaults.{DefaultTexts}
 use Rattle.mdl_systems.specs.Outlines.{Outline, outlines_of, is_subsystem}
@@ -118,12 +119,12 @@ module _ (defaults : DefaultTexts) (m : Model) (section : SectionTree) (rs : Lis
   follows-by k o here (Some e) is =
       subst (λ xs. Contains xs e) (ap₂ ◌∷◌ (are.numbered section k o here) (sym (same-around k o here))) is
 
-  few-around : (k : ℕ) → rows.is_subsystem (row_at rs k).kind ≡ true → length (around rs None k) < 32
+  few-around : (k : ℕ) → kinds.is_subsystem (row_at rs k).kind ≡ true → length (around rs None k) < 32
   few-around k e = by (nat_lt k (length rs)) refl
     where
       by : (t : Bool) → nat_lt k (length rs) ≡ t → length (around rs None k) < 32
       by false p =
-          absurd (true≢false (sym e ∙ ap (λ (row : Row). rows.is_subsystem row.kind) (get_or_past rs k no_row (ltb-false k (length rs) p))))
+          absurd (true≢false (sym e ∙ ap (λ (row : Row). kinds.is_subsystem row.kind) (get_or_past rs k no_row (ltb-false k (length rs) p))))
       by true p =
           let is = at k (ltb-true k (length rs) p) in
           let o = is.outline in

@@ -6,13 +6,13 @@ use Rattle.std.specs.Result.{result_map_both}
 use Rattle.std.specs.Str.Parse.{digits_value, starts_with_minus, without_leading_sign}
 use Rattle.std.proofs.lemmas.List.Folds.{list_all-append}
 use Rattle.std.proofs.lemmas.Bool.{eqb-false}
-use Rattle.mc_base.specs.Bytes.{drop_while, trim}
-use Rattle.mc_base.specs.Numbers.{AreLowest}
-use Rattle.mc_numerals.specs.Literals.{Ratio, Exponent, in_lowest_terms, are_digits, is_numeral, is_short, significant_len, with_sign, exponent_of, times_power_of_ten, point_value, with_exponent, quotient_value, after_digits, plain_value, number_value, without_brackets}
-use Rattle.mc_base.specs.declared.NumFault.{NumFault}
-use Rattle.mc_numerals.proofs.lemmas.DigitLaws.{are_digits-take_while}
-use Rattle.mc_numerals.proofs.lemmas.LowestTerms.{in_lowest_terms_is}
-use Rattle.mc_numerals.proofs.lemmas.NumberBounds.{in_lowest_terms-le, powers, power_pos, product_bound, short_value, positive_value, numeral_digits}
+use Rattle.base_core.specs.Bytes.{drop_while, trim}
+use Rattle.base_core.specs.Numbers.{AreLowest}
+use Rattle.base_numerals.specs.Literals.{Ratio, Exponent, in_lowest_terms, are_digits, is_numeral, is_short, significant_len, with_sign, exponent_of, times_power_of_ten, point_value, with_exponent, quotient_value, after_digits, plain_value, number_value, without_brackets}
+use Rattle.base_core.specs.declared.NumFault.{NumFault}
+use Rattle.base_numerals.proofs.lemmas.DigitLaws.{are_digits-take_while}
+use Rattle.base_numerals.proofs.lemmas.LowestTerms.{in_lowest_terms_is}
+use Rattle.base_numerals.proofs.lemmas.NumberBounds.{in_lowest_terms-le, powers, power_pos, product_bound, short_value, positive_value, numeral_digits}
 use Rattle.mdl_params.specs.declared.ParamFault.TheVariants.{Parameter}
 use Rattle.mdl_params.specs.Forms.{number_form}
 

@@ -4,23 +4,23 @@ use Rattle.std.specs.List.{AllZip}
 use Rattle.std.proofs.Common.{sym, ◌∙◌, ap, ap₂}
 use mathlib.Core.HLevel.{is_prop→PathP}
 use Rattle.std.specs.Coded.{le_prop}
-use Rattle.mc_base.specs.Numbers.{AreLowest}
-use Rattle.mc_numerals.specs.Literals.{ratio_of, parts_of}
-use Rattle.mc_refusals.specs.Refusals.{PlainRefusal}
-use Rattle.mc_base.specs.declared.Control.{Control}
-use Rattle.mc_base.specs.declared.Decimal.{Decimal}
-use Rattle.mc_base.specs.declared.Frac.{Frac}
-use Rattle.mc_base.specs.declared.TimeText.{TimeText}
-use Rattle.mc_base.specs.declared.TimeText.TheVariants as time
-use Rattle.mc_fixed.specs.declared.FixType.{FixType}
-use Rattle.mc_fixed.specs.declared.TypeText.{TypeText}
-use Rattle.mc_fixed.specs.declared.TypeText.TheVariants as type
-use Rattle.mc_fixed.specs.Profile.{InProfile}
+use Rattle.base_core.specs.Numbers.{AreLowest}
+use Rattle.base_numerals.specs.Literals.{ratio_of, parts_of}
+use Rattle.base_refusals.specs.Refusals.{PlainRefusal}
+use Rattle.base_core.specs.declared.Control.{Control}
+use Rattle.base_core.specs.declared.Decimal.{Decimal}
+use Rattle.base_core.specs.declared.Frac.{Frac}
+use Rattle.base_core.specs.declared.TimeText.{TimeText}
+use Rattle.base_core.specs.declared.TimeText.TheVariants as time
+use Rattle.base_fixed_point.specs.declared.FixType.{FixType}
+use Rattle.base_fixed_point.specs.declared.TypeText.{TypeText}
+use Rattle.base_fixed_point.specs.declared.TypeText.TheVariants as type
+use Rattle.base_fixed_point.specs.Profile.{InProfile}
 use Rattle.mdl_type_texts.specs.TypeTexts.{format_of, meaning_of, Fixed}
-use Rattle.mc_blocks.specs.declared.Kind.{Kind}
-use Rattle.mc_blocks.specs.declared.Kind.TheVariants as row
-use Rattle.mc_diagram.specs.declared.table.Row.{Row}
-use Rattle.mc_diagram.specs.RowTable.{RowTable}
+use Rattle.diagram_blocks.specs.declared.Kind.{Kind}
+use Rattle.diagram_blocks.specs.declared.Kind.TheVariants as row
+use Rattle.diagram_meaning.specs.declared.table.Row.{Row}
+use Rattle.diagram_meaning.specs.RowTable.{RowTable}
 use Rattle.mdl_params.specs.Times.{time_of}
 use Rattle.mdl_params.specs.Times as form
 use Rattle.mdl_blocks.specs.Meanings.{TypeSaid, known_type, float_type, TimeSaid, known_time, zero_time}
@@ -111,28 +111,17 @@ time-one (known_time meaning) t u p q = time_text-equal t u (p ∙ sym q)
 time-one zero_time t u p q = absurd p
 
 kind-one : (text : KindText) (c : Control) (k l : Kind) → IsKind text c k → IsKind text c l → k ≡ l
-kind-one (inport port) c k l p q = p ∙ sym q
 kind-one (outport port reset initial) c k l p q = p.2 ∙ ap (row.Outport port reset) (decimal-equal p.0 q.0 (p.1 ∙ sym q.1)) ∙ sym q.2
-kind-one (subsystem system) c k l p q = p ∙ sym q
 kind-one (constant said) c k l p q = p.2 ∙ ap row.Constant (decimal-equal p.0 q.0 (p.1 ∙ sym q.1)) ∙ sym q.2
-kind-one ground c k l p q = p ∙ sym q
-kind-one terminator c k l p q = p ∙ sym q
 kind-one (gain factor factor_type how) c k l p q =
     p.4 ∙ ap₂ (λ d t. row.Gain (gain_with d t) how) (decimal-equal p.0 q.0 (p.2 ∙ sym q.2)) (type-one factor_type p.1 q.1 p.3 q.3) ∙ sym q.4
-kind-one (sum count minus how) c k l p q = p ∙ sym q
-kind-one (product count how) c k l p q = p ∙ sym q
 kind-one (unit_delay initial) c k l p q = p.2 ∙ ap row.UnitDelay (decimal-equal p.0 q.0 (p.1 ∙ sym q.1)) ∙ sym q.2
 kind-one (delay length initial) c k l p q = p.2 ∙ ap (row.Delay length) (decimal-equal p.0 q.0 (p.1 ∙ sym q.1)) ∙ sym q.2
-kind-one zero_order_hold c k l p q = p ∙ sym q
 kind-one (switch criterion threshold how) c k l p q =
     p.2 ∙ ap (λ d. row.Switch criterion d how) (decimal-equal p.0 q.0 (p.1 ∙ sym q.1)) ∙ sym q.2
-kind-one (relational comparison) c k l p q = p ∙ sym q
-kind-one (logic op count) c k l p q = p ∙ sym q
-kind-one (convert how) c k l p q = p ∙ sym q
 kind-one (rate_transition initial out) c k l p q =
     p.4 ∙ ap₂ row.RateTransition (decimal-equal p.0 q.0 (p.2 ∙ sym q.2)) (time-one out p.1 q.1 p.3 q.3) ∙ sym q.4
-kind-one (enable_port reset) c k l p q = p ∙ sym q
-kind-one (trigger_port edge) c k l p q = p ∙ sym q
+kind-one _ c k l p q = p ∙ sym q
 
 -- ---- A block has one row
 

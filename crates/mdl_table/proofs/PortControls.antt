@@ -4,16 +4,17 @@ use Rattle.std.specs.Prelude.{◌⊎◌, count_by, filter, filter_map, option_ma
 use Rattle.std.specs.List.{cons_option}
 use Rattle.std.proofs.lemmas.List.Sums.{length-filter}
 use Rattle.std.proofs.lemmas.Bool.Decides.{nat_tests}
-use Rattle.mc_base.specs.declared.Control.{Control}
-use Rattle.mc_base.specs.declared.Control.TheVariants.{Plain}
-use Rattle.mc_base.specs.declared.Edge.{Edge}
-use Rattle.mc_blocks.specs.declared.Kind.{Kind}
-use Rattle.mc_diagram.specs.FirstRefusal.{least_in, found_where}
-use Rattle.mc_diagram.specs.declared.table.Row.{Row}
-use Rattle.mc_diagram.specs.Rows as table
-use Rattle.mc_diagram.specs.Rows.{no_row, row_at, rows_of, same_system, system_control, is_enabled, is_triggered}
-use Rattle.mc_diagram.specs.WellFormed.{HasControlPorts, is_enable_port, is_trigger_port}
-use Rattle.mc_diagram.proofs.lemmas.FirstRefusals.{none-first, none-later}
+use Rattle.base_core.specs.declared.Control.{Control}
+use Rattle.base_core.specs.declared.Control.TheVariants.{Plain}
+use Rattle.base_core.specs.declared.Edge.{Edge}
+use Rattle.diagram_blocks.specs.declared.Kind.{Kind}
+use Rattle.base_refusals.specs.FirstRefusal.{least_in, found_where}
+use Rattle.diagram_meaning.specs.declared.table.Row.{Row}
+use Rattle.diagram_blocks.specs.Kinds as kinds
+use Rattle.diagram_meaning.specs.Rows as table
+use Rattle.diagram_meaning.specs.Rows.{no_row, row_at, rows_of, same_system, system_control, is_enabled, is_triggered}
+use Rattle.diagram_meaning.specs.WellFormed.{HasControlPorts, is_enable_port, is_trigger_port}
+use Rattle.base_refusals.proofs.lemmas.FirstRefusals.{none-first, none-later}
 use Rattle.mdl_tree.specs.Spelling.{Items}
 use Rattle.mdl_tree.specs.Walks.{SectionTree}
 use Rattle.mdl_params.specs.Defaults.{DefaultTexts}
@@ -257,25 +258,25 @@ module _ (defaults : DefaultTexts) (section : SectionTree) (rs : List Row) (is :
         of-kind : (o : Outline) → slice_get (outlines_of section) e ≡ Some o →
             IsOutlineRow defaults (model_with defaults section) o (row_at rs e) →
             (t : Bool) → is_subsystem o ≡ t → count_by (λ b. test (row_at rs b).kind) (rows_of rs (Some e))
-            ≡ cond (wants (table.control_of (row_at rs e).kind)) 1 0
+            ≡ cond (wants (kinds.control_of (row_at rs e).kind)) 1 0
         of-kind o here row true sub =
             let class = same-class row.text.body.kind (control_of (blocks_in defaults section) o.number) (row_at rs e).kind row.has.kind in
             let system = block-read defaults o.peers o.section row.text row.is in
-            inside e o here sub (table.control_of (row_at rs e).kind)
+            inside e o here sub (kinds.control_of (row_at rs e).kind)
             (class.of_control ∙ ap (λ t. cond t (control_of (blocks_in defaults section) o.number) Plain) (sym system.of_system ∙ sub)
             ∙ ap (control_of (blocks_in defaults section)) (numbered section e o here))
         of-kind o here row false sub =
             let class = same-class row.text.body.kind (control_of (blocks_in defaults section) o.number) (row_at rs e).kind row.has.kind in
             let system = block-read defaults o.peers o.section row.text row.is in
             none-inside e (λ c at is_sub. true≢false (sym is_sub ∙ ap is_subsystem (same c o at here) ∙ sub))
-            (table.control_of (row_at rs e).kind)
+            (kinds.control_of (row_at rs e).kind)
             (class.of_control ∙ ap (λ t. cond t (control_of (blocks_in defaults section) o.number) Plain) (sym system.of_system ∙ sub))
           where
             same : (c o : Outline) → slice_get (outlines_of section) e ≡ Some c → slice_get (outlines_of section) e ≡ Some o → c ≡ o
             same c o p q = cc
 
         by : (e < length rs) ⊎ (length rs ≤ e) → count_by (λ b. test (row_at rs b).kind) (rows_of rs (Some e))
-            ≡ cond (wants (table.control_of (row_at rs e).kind)) 1 0
+            ≡ cond (wants (kinds.control_of (row_at rs e).kind)) 1 0
         by (inl low) =
             let found = row-there defaults (model_with defaults section) (outlines_of section) rs e is.rows low in
             of-kind found.outline found.at found.row (is_subsystem found.outline) refl
@@ -283,7 +284,7 @@ module _ (defaults : DefaultTexts) (section : SectionTree) (rs : List Row) (is :
             none-inside e (λ c at sub. let h = item-below (outlines_of section) e c at in
             let same = zip-length (IsOutlineRow defaults (model_with defaults section)) (outlines_of section) rs is.rows in
             omega (arith, h, same, high))
-            (table.control_of (row_at rs e).kind) (ap (λ (r : Row). table.control_of r.kind) (past rs e no_row high))
+            (kinds.control_of (row_at rs e).kind) (ap (λ (r : Row). kinds.control_of r.kind) (past rs e no_row high))
 
   pub control-ports : (z : Option ℕ) → HasControlPorts rs z
   control-ports z = record {

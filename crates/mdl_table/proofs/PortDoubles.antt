@@ -5,8 +5,8 @@ use Rattle.std.specs.List.{list_any}
 use Rattle.std.specs.Option.{option_map_or}
 use Rattle.std.proofs.lemmas.Option.{slice_get-map}
 use Rattle.std.proofs.lemmas.Bool.Decides.{nat_tests}
-use Rattle.mc_refusals.specs.Refusals.{PlainRefusal, DoubleName}
-use Rattle.mc_diagram.proofs.lemmas.FirstRefusals.{none-first, none-later}
+use Rattle.base_refusals.specs.Refusals.{PlainRefusal, DoubleName}
+use Rattle.base_refusals.proofs.lemmas.FirstRefusals.{none-first, none-later}
 use Rattle.mdl_tree.specs.Spelling.{Items}
 use Rattle.mdl_wiring.specs.declared.member.Shape.{Shape}
 use Rattle.mdl_wiring.specs.Members.{Member}

@@ -6,12 +6,12 @@ use Rattle.std.proofs.lemmas.List.Elements.{filter-append}
 use Rattle.std.proofs.lemmas.List.Sums.{length-filter}
 use Rattle.std.proofs.lemmas.Bool.{ltb-false}
 use Rattle.std.proofs.Math.Nat.{min-eq_left}
-use Rattle.mc_refusals.specs.declared.Many.{Many}
-use Rattle.mc_refusals.specs.declared.Many.TheVariants.{Inports, Outports}
-use Rattle.mc_base.specs.Numbers.{reported_number}
-use Rattle.mc_refusals.specs.Refusals.{TooMany}
-use Rattle.mc_diagram.specs.Rows.{same_system}
-use Rattle.mc_diagram.proofs.lemmas.FirstRefusals.{none-first, none-later}
+use Rattle.base_refusals.specs.declared.Many.{Many}
+use Rattle.base_refusals.specs.declared.Many.TheVariants.{Inports, Outports}
+use Rattle.base_core.specs.Numbers.{reported_number}
+use Rattle.base_refusals.specs.Refusals.{TooMany}
+use Rattle.diagram_meaning.specs.Rows.{same_system}
+use Rattle.base_refusals.proofs.lemmas.FirstRefusals.{none-first, none-later}
 use Rattle.mdl_tree.specs.Spelling.{Items, End, Param, Section}
 use Rattle.mdl_tree.specs.Walks.{SectionTree, sections_named, first_section}
 use Rattle.mdl_params.specs.declared.BlockType.{BlockType}

@@ -1,11 +1,11 @@
 -- What the kind of a row is, by what its block says.
 use Rattle.std.proofs.Common.{◌≡◌, refl, sym, subst, ℕ, Bool, true, false, cond, Option, None, Some, is_some}
-use Rattle.mc_base.specs.declared.Control.{Control}
-use Rattle.mc_base.specs.declared.Control.TheVariants.{Plain}
-use Rattle.mc_blocks.specs.declared.Kind.{Kind}
-use Rattle.mc_blocks.specs.declared.Kind.TheVariants as row
-use Rattle.mc_diagram.specs.Rows.{is_inport, is_outport, port_of, control_of}
-use Rattle.mc_diagram.specs.WellFormed.{is_enable_port, is_trigger_port}
+use Rattle.base_core.specs.declared.Control.{Control}
+use Rattle.base_core.specs.declared.Control.TheVariants.{Plain}
+use Rattle.diagram_blocks.specs.declared.Kind.{Kind}
+use Rattle.diagram_blocks.specs.declared.Kind.TheVariants as row
+use Rattle.diagram_blocks.specs.Kinds.{is_inport, is_outport, port_of, control_of}
+use Rattle.diagram_meaning.specs.WellFormed.{is_enable_port, is_trigger_port}
 use Rattle.mdl_blocks.specs.Blocks.{KindText, inport, outport, subsystem, constant, ground, terminator, gain, sum, product, unit_delay, delay, zero_order_hold, switch, relational, logic, convert, rate_transition, enable_port, trigger_port}
 use Rattle.mdl_blocks.specs.Rows.{gain_with}
 use Rattle.mdl_rows.specs.Models.{system_in}
@@ -82,38 +82,22 @@ same-class (trigger_port edge) control k is = is_form (trigger_port edge) contro
 -- the port of an Inport
 abbrev pub inport_of : Shape → Option ℕ
 inport_of (Inport port) = Some port
-inport_of (Outport port) = None
-inport_of (SubSystem inputs outputs enable trigger) = None
-inport_of EnablePort = None
-inport_of TriggerPort = None
-inport_of (shape.Plain inputs output) = None
+inport_of _ = None
 
 -- the port of an Outport
 abbrev pub outport_of : Shape → Option ℕ
-outport_of (Inport port) = None
 outport_of (Outport port) = Some port
-outport_of (SubSystem inputs outputs enable trigger) = None
-outport_of EnablePort = None
-outport_of TriggerPort = None
-outport_of (shape.Plain inputs output) = None
+outport_of _ = None
 
 -- whether a block is an EnablePort
 abbrev pub is_enable : Shape → Bool
-is_enable (Inport port) = false
-is_enable (Outport port) = false
-is_enable (SubSystem inputs outputs enable trigger) = false
 is_enable EnablePort = true
-is_enable TriggerPort = false
-is_enable (shape.Plain inputs output) = false
+is_enable _ = false
 
 -- whether a block is a TriggerPort
 abbrev pub is_trigger : Shape → Bool
-is_trigger (Inport port) = false
-is_trigger (Outport port) = false
-is_trigger (SubSystem inputs outputs enable trigger) = false
-is_trigger EnablePort = false
 is_trigger TriggerPort = true
-is_trigger (shape.Plain inputs output) = false
+is_trigger _ = false
 
 -- the ports of a block's shape are those that it says
 pub record IsShape (kind : KindText) (shape : Shape) : Type 0 where

@@ -3,8 +3,8 @@ use Rattle.std.proofs.Common.{◌≡◌, refl, sym, ◌∙◌, ap, ap₂, subst,
 use Rattle.std.specs.Prelude.{filter, filter_map, count_by, slice_get}
 use Rattle.std.specs.List.{AllByRecursion, AllZip, range_with_len, cons_option}
 use Rattle.std.proofs.lemmas.List.Recursion.{is_count_by}
-use Rattle.mc_diagram.specs.declared.table.Row.{Row}
-use Rattle.mc_diagram.specs.Rows.{no_row, row_at, row_numbers}
+use Rattle.diagram_meaning.specs.declared.table.Row.{Row}
+use Rattle.diagram_meaning.specs.Rows.{no_row, row_at, row_numbers}
 
 abbrev tally : {A : Type 0} → (A → Bool) → List A → ℕ
 tally p [] = 0

@@ -3,15 +3,15 @@ use Rattle.std.proofs.Common.{◌≡◌, refl, sym, ◌∙◌, ap, subst, ℕ, B
 use Rattle.std.specs.Prelude.{filter_map, option_map, slice_get, Result, Ok}
 use Rattle.std.specs.List.{AllByRecursion, AllZip, cons_option}
 use Rattle.std.specs.Result.{result_ok}
-use Rattle.mc_refusals.specs.Refusals.{PlainRefusal}
-use Rattle.mc_diagram.specs.RowTable.{RowTable}
-use Rattle.mc_diagram.specs.declared.table.Row.{Row}
+use Rattle.base_refusals.specs.Refusals.{PlainRefusal}
+use Rattle.diagram_meaning.specs.RowTable.{RowTable}
+use Rattle.diagram_meaning.specs.declared.table.Row.{Row}
 use Rattle.mdl_tree.specs.Spelling.{Items}
 use Rattle.mdl_tree.specs.Walks.{SectionTree}
 use Rattle.mdl_params.specs.Defaults.{DefaultTexts}
 use Rattle.mdl_blocks.specs.declared.fault.Fault.{Fault}
 use Rattle.mdl_blocks.specs.Blocks.{BlockText}
-use Rattle.mdl_wiring.specs.Order.{is_before, first_of}
+use Rattle.base_refusals.specs.Order.{is_before, first_of}
 use Rattle.mdl_wiring.specs.Refusals.{wiring_refusal}
 use Rattle.mdl_systems.specs.Outlines.{Outline, outlines_of, is_subsystem}
 use Rattle.mdl_systems.specs.Nesting.{OutlinesAreNumbered, OwnersAreBefore, StandsIn}

@@ -2,11 +2,12 @@
 use Rattle.std.proofs.Common.{◌≡◌, sym, ◌∙◌, ap, ap₂, subst, ℕ, ◌<◌, ◌≤◌, Bool, true, false, ◌&&◌, true≢false, List, length, Option, None, Some, is_some, inl, inr, arith}
 use Rattle.std.specs.Prelude.{◌⊎◌, count_by, slice_get}
 use Rattle.std.specs.List.{AllByRecursion}
-use Rattle.mc_base.specs.declared.Control.{Control}
-use Rattle.mc_blocks.specs.declared.Kind.{Kind}
-use Rattle.mc_diagram.specs.declared.table.Row.{Row}
-use Rattle.mc_diagram.specs.Rows.{no_row, row_at, rows_of, same_system, is_inport, is_outport, port_of}
-use Rattle.mc_diagram.specs.WellFormed.{HasPorts}
+use Rattle.base_core.specs.declared.Control.{Control}
+use Rattle.diagram_blocks.specs.declared.Kind.{Kind}
+use Rattle.diagram_meaning.specs.declared.table.Row.{Row}
+use Rattle.diagram_meaning.specs.Rows.{no_row, row_at, rows_of, same_system}
+use Rattle.diagram_blocks.specs.Kinds.{is_inport, is_outport, port_of}
+use Rattle.diagram_meaning.specs.WellFormed.{HasPorts}
 use Rattle.mdl_tree.specs.Walks.{SectionTree}
 use Rattle.mdl_params.specs.declared.BlockType.{BlockType}
 use Rattle.mdl_params.specs.declared.BlockType.TheVariants.{Inport, Outport}

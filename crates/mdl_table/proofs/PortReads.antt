@@ -3,9 +3,9 @@ use Rattle.std.proofs.Common.{◌≡◌, refl, sym, ◌∙◌, ap, subst, ℕ, �
 use Rattle.std.specs.Prelude.{find, bytes_eq, ok_or, is_none, option_and_then, Result, Ok, Err}
 use Rattle.std.specs.Option.{option_map_or}
 use Rattle.std.proofs.lemmas.Slice.Eq.{bytes_eq-Decides}
-use Rattle.mc_base.specs.declared.ParamName.{ParamName}
-use Rattle.mc_base.specs.declared.ParamName.TheVariants.{Name, OutDataTypeStr, SampleTime, PortDimensions, OutputWhenDisabled, InitialOutput, SystemSampleTime, ParamDataTypeStr, Inputs, InitialCondition, Criteria, Threshold, Operator, ConvertRealWorld, Integrity, Deterministic, OutPortSampleTimeOpt, OutPortSampleTime, StatesWhenEnabling, TriggerType, DelayLength, DelayLengthSource, InitialConditionSource, ExternalReset}
-use Rattle.mc_base.specs.declared.ParamName.TheVariants as param
+use Rattle.base_core.specs.declared.ParamName.{ParamName}
+use Rattle.base_core.specs.declared.ParamName.TheVariants.{Name, OutDataTypeStr, SampleTime, PortDimensions, OutputWhenDisabled, InitialOutput, SystemSampleTime, ParamDataTypeStr, Inputs, InitialCondition, Criteria, Threshold, Operator, ConvertRealWorld, Integrity, Deterministic, OutPortSampleTimeOpt, OutPortSampleTime, StatesWhenEnabling, TriggerType, DelayLength, DelayLengthSource, InitialConditionSource, ExternalReset}
+use Rattle.base_core.specs.declared.ParamName.TheVariants as param
 use Rattle.mdl_tree.specs.Spelling.{Items}
 use Rattle.mdl_tree.specs.Walks.{SectionTree, first_section, first_value}
 use Rattle.mdl_params.specs.declared.BlockType.{BlockType}
@@ -16,7 +16,7 @@ use Rattle.mdl_blocks.specs.declared.fault.Fault.{Fault}
 use Rattle.mdl_blocks.specs.declared.fault.Fault.TheVariants.{Unsupported, Parameter}
 use Rattle.mdl_blocks.specs.declared.peers.Peers.{Peers}
 use Rattle.mdl_blocks.specs.Peers.{writes_type}
-use Rattle.mdl_blocks.specs.Results.{◌>>=◌, ◌>>◌}
+use Rattle.base_core.specs.Results.{◌>>=◌, ◌>>◌}
 use Rattle.mdl_blocks.specs.Meanings.{type_in, whole_type_in, any_time_in, time_in, constant_in}
 use Rattle.mdl_blocks.specs.Words.{number_in, number_up_to, whole_number, samples_in, writes_minus_one, factor_in, initial_output_in, edges, resets, inheritances, comparisons, logics, criteria}
 use Rattle.mdl_blocks.specs.Signs.{sum_signs, product_count, logic_count}

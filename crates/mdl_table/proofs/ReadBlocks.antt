@@ -5,10 +5,10 @@ use Rattle.std.specs.List.{All, AllByRecursion, AllZip, cons_option}
 use Rattle.std.specs.Option.{option_or}
 use Rattle.std.specs.Result.{result_ok}
 use Rattle.std.proofs.lemmas.List.Elements.{All-from_recursion}
-use Rattle.mc_refusals.specs.Refusals.{PlainRefusal, plain_refusal}
-use Rattle.mc_diagram.specs.declared.BuildFault.{BuildFault}
-use Rattle.mc_diagram.specs.declared.BuildFault.TheVariants as build
-use Rattle.mc_diagram.specs.FirstRefusal.{least_in, earlier_of, first_there}
+use Rattle.base_refusals.specs.Refusals.{PlainRefusal, plain_refusal}
+use Rattle.diagram_meaning.specs.declared.BuildFault.{BuildFault}
+use Rattle.diagram_meaning.specs.declared.BuildFault.TheVariants as build
+use Rattle.base_refusals.specs.FirstRefusal.{least_in, earlier_of, first_there}
 use Rattle.mdl_tree.specs.Walks.{SectionTree}
 use Rattle.mdl_params.specs.Defaults.{DefaultTexts}
 use Rattle.mdl_blocks.specs.Blocks.{BlockText}

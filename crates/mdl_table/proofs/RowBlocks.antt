@@ -4,24 +4,25 @@ use Rattle.std.specs.Prelude.{filter_map, option_map, Result, Ok, Err}
 use Rattle.std.specs.List.{AllByRecursion, AllZip, cons_option}
 use Rattle.std.specs.Option.{option_or}
 use Rattle.std.specs.Result.{result_ok}
-use Rattle.mc_base.specs.declared.Control.{Control}
-use Rattle.mc_refusals.specs.Refusals.{PlainRefusal}
-use Rattle.mc_blocks.specs.declared.Kind.{Kind}
-use Rattle.mc_diagram.specs.declared.table.Row.{Row}
-use Rattle.mc_diagram.specs.FirstRefusal.{first_there, least_in, earlier_of}
-use Rattle.mc_diagram.specs.Rows as rows
-use Rattle.mc_diagram.specs.Rows.{no_row, row_at}
-use Rattle.mc_diagram.proofs.lemmas.FirstRefusals.{none-first, none-later}
+use Rattle.base_core.specs.declared.Control.{Control}
+use Rattle.base_refusals.specs.Refusals.{PlainRefusal}
+use Rattle.diagram_blocks.specs.declared.Kind.{Kind}
+use Rattle.diagram_meaning.specs.declared.table.Row.{Row}
+use Rattle.base_refusals.specs.FirstRefusal.{first_there, least_in, earlier_of}
+use Rattle.diagram_blocks.specs.Kinds as kinds
+use Rattle.diagram_meaning.specs.Rows as rows
+use Rattle.diagram_meaning.specs.Rows.{no_row, row_at}
+use Rattle.base_refusals.proofs.lemmas.FirstRefusals.{none-first, none-later}
 use Rattle.mdl_tree.specs.Spelling.{Items}
 use Rattle.mdl_tree.specs.Walks.{SectionTree}
 use Rattle.mdl_params.specs.declared.BlockType.{BlockType}
 use Rattle.mdl_params.specs.Defaults.{DefaultTexts}
-use Rattle.mc_diagram.specs.RowTable.{RowTable}
+use Rattle.diagram_meaning.specs.RowTable.{RowTable}
 use Rattle.mdl_blocks.specs.declared.fault.Fault.{Fault}
 use Rattle.mdl_blocks.specs.declared.fault.Fault.TheVariants as fault
 use Rattle.mdl_blocks.specs.Faults.{refusal_at}
 use Rattle.mdl_blocks.specs.Blocks.{BlockText, KindText, inport, outport, subsystem, constant, ground, terminator, gain, sum, product, unit_delay, delay, zero_order_hold, switch, relational, logic, convert, rate_transition, enable_port, trigger_port}
-use Rattle.mdl_wiring.specs.Order.{is_before, first_of}
+use Rattle.base_refusals.specs.Order.{is_before, first_of}
 use Rattle.mdl_systems.specs.Models as found
 use Rattle.mdl_systems.specs.Models.{model_of}
 use Rattle.mdl_systems.specs.Outlines.{Outline, outlines_of, is_subsystem, systems_of}
@@ -188,30 +189,19 @@ row-there defaults m os rs k zip h =
 -- ---- Subsystems
 
 -- a row's kind is that of a subsystem where the block has a System inside
-pub subsystem-kind : (text : KindText) (c : Control) (k : Kind) → IsKind text c k → rows.is_subsystem k ≡ is_some (system_in text)
-subsystem-kind (inport port) c k h = ap rows.is_subsystem h
-subsystem-kind (outport port reset initial) c k h = ap rows.is_subsystem h.2
-subsystem-kind (subsystem system) c k h = ap rows.is_subsystem h
-subsystem-kind (constant said) c k h = ap rows.is_subsystem h.2
-subsystem-kind ground c k h = ap rows.is_subsystem h
-subsystem-kind terminator c k h = ap rows.is_subsystem h
-subsystem-kind (gain factor factor_type how) c k h = ap rows.is_subsystem h.4
-subsystem-kind (sum count minus how) c k h = ap rows.is_subsystem h
-subsystem-kind (product count how) c k h = ap rows.is_subsystem h
-subsystem-kind (unit_delay initial) c k h = ap rows.is_subsystem h.2
-subsystem-kind (delay length initial) c k h = ap rows.is_subsystem h.2
-subsystem-kind zero_order_hold c k h = ap rows.is_subsystem h
-subsystem-kind (switch criterion threshold how) c k h = ap rows.is_subsystem h.2
-subsystem-kind (relational comparison) c k h = ap rows.is_subsystem h
-subsystem-kind (logic op count) c k h = ap rows.is_subsystem h
-subsystem-kind (convert how) c k h = ap rows.is_subsystem h
-subsystem-kind (rate_transition initial out) c k h = ap rows.is_subsystem h.4
-subsystem-kind (enable_port reset) c k h = ap rows.is_subsystem h
-subsystem-kind (trigger_port edge) c k h = ap rows.is_subsystem h
+pub subsystem-kind : (text : KindText) (c : Control) (k : Kind) → IsKind text c k → kinds.is_subsystem k ≡ is_some (system_in text)
+subsystem-kind (outport port reset initial) c k h = ap kinds.is_subsystem h.2
+subsystem-kind (constant said) c k h = ap kinds.is_subsystem h.2
+subsystem-kind (gain factor factor_type how) c k h = ap kinds.is_subsystem h.4
+subsystem-kind (unit_delay initial) c k h = ap kinds.is_subsystem h.2
+subsystem-kind (delay length initial) c k h = ap kinds.is_subsystem h.2
+subsystem-kind (switch criterion threshold how) c k h = ap kinds.is_subsystem h.2
+subsystem-kind (rate_transition initial out) c k h = ap kinds.is_subsystem h.4
+subsystem-kind _ c k h = ap kinds.is_subsystem h
 
 -- the row of a subsystem block is one, and no other is
 pub same-kind : (defaults : DefaultTexts) (m : Model) (o : Outline) (row : Row) → IsOutlineRow defaults m o row →
-    rows.is_subsystem row.kind ≡ is_subsystem o
+    kinds.is_subsystem row.kind ≡ is_subsystem o
 same-kind defaults m o row is =
     let block = block-sound defaults o.peers o.section is.text is.is in
     subsystem-kind is.text.body.kind (control_of m.blocks o.number) row.kind is.has.kind ∙ block.sound.inside ∙ sym block.named

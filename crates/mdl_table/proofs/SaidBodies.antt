@@ -3,12 +3,12 @@ use Rattle.std.proofs.Common.{◌≡◌, refl, sym, ◌∙◌, ap, subst, ℕ, �
 use Rattle.std.specs.Prelude.{[], ◌∷◌, find, bytes_eq, ok_or, is_none, Result, Ok, Err}
 use Rattle.std.specs.Option.{option_map_or}
 use Rattle.std.proofs.lemmas.Slice.Eq.{bytes_eq-Decides}
-use Rattle.mc_base.specs.declared.ParamName.{ParamName}
-use Rattle.mc_base.specs.declared.ParamName.TheVariants.{Name, OutDataTypeStr, SampleTime, PortDimensions, OutputWhenDisabled, InitialOutput, SystemSampleTime, ParamDataTypeStr, Inputs, InitialCondition, Criteria, Threshold, Operator, ConvertRealWorld, Integrity, Deterministic, OutPortSampleTimeOpt, OutPortSampleTime, StatesWhenEnabling, TriggerType, DelayLength, DelayLengthSource, InitialConditionSource, ExternalReset}
-use Rattle.mc_base.specs.declared.ParamName.TheVariants as param
-use Rattle.mc_blocks.specs.declared.Kind.TheVariants as row
-use Rattle.mc_blocks.specs.Limits.{IsCount, IsDelayLength}
-use Rattle.mc_diagram.specs.WellFormed.{IsKind}
+use Rattle.base_core.specs.declared.ParamName.{ParamName}
+use Rattle.base_core.specs.declared.ParamName.TheVariants.{Name, OutDataTypeStr, SampleTime, PortDimensions, OutputWhenDisabled, InitialOutput, SystemSampleTime, ParamDataTypeStr, Inputs, InitialCondition, Criteria, Threshold, Operator, ConvertRealWorld, Integrity, Deterministic, OutPortSampleTimeOpt, OutPortSampleTime, StatesWhenEnabling, TriggerType, DelayLength, DelayLengthSource, InitialConditionSource, ExternalReset}
+use Rattle.base_core.specs.declared.ParamName.TheVariants as param
+use Rattle.diagram_blocks.specs.declared.Kind.TheVariants as row
+use Rattle.diagram_blocks.specs.Limits.{IsCount, IsDelayLength}
+use Rattle.diagram_meaning.specs.WellFormed.{IsKind}
 use Rattle.mdl_tree.specs.Walks.{SectionTree, first_section, first_value}
 use Rattle.mdl_params.specs.declared.BlockType.{BlockType}
 use Rattle.mdl_params.specs.declared.BlockType.TheVariants.{Inport, Outport, SubSystem, Constant, Ground, Terminator, Gain, Sum, Product, UnitDelay, Delay, ZeroOrderHold, Switch, RelationalOperator, Logic, DataTypeConversion, RateTransition, EnablePort, TriggerPort}
@@ -17,7 +17,7 @@ use Rattle.mdl_params.specs.Defaults.{DefaultTexts}
 use Rattle.mdl_blocks.specs.declared.fault.Fault.TheVariants.{Unsupported}
 use Rattle.mdl_blocks.specs.declared.peers.Peers.{Peers}
 use Rattle.mdl_blocks.specs.Peers.{writes_type}
-use Rattle.mdl_blocks.specs.Results.{◌>>=◌, ◌>>◌}
+use Rattle.base_core.specs.Results.{◌>>=◌, ◌>>◌}
 use Rattle.mdl_blocks.specs.Meanings.{TypeSaid, type_in, whole_type_in, TimeSaid, any_time_in, time_in, constant_in}
 use Rattle.mdl_blocks.specs.Words.{number_in, number_up_to, samples_in, writes_minus_one, factor_in, initial_output_in, edges, resets, inheritances, comparisons, logics, criteria}
 use Rattle.mdl_blocks.specs.Signs.{sum_signs, product_count, logic_count}
@@ -30,69 +30,42 @@ use Rattle.mdl_table.proofs.SaidValues.{none-some, some-same, err-ok, text-of, n
 
 -- the numbers of a kind are within their limits
 abbrev pub IsSoundKind : KindText → Type 0
-IsSoundKind (inport port) = Unit {0}
 IsSoundKind (outport port reset initial) = IsDecimal initial
-IsSoundKind (subsystem system) = Unit {0}
 IsSoundKind (constant said) = IsSoundConstant said
-IsSoundKind ground = Unit {0}
-IsSoundKind terminator = Unit {0}
 IsSoundKind (gain factor factor_type how) = IsFactor factor × IsSoundType factor_type
 IsSoundKind (sum count minus how) = IsCount count × (minus < 2 ^ count)
 IsSoundKind (product count how) = IsCount count
 IsSoundKind (unit_delay initial) = IsDecimal initial
 IsSoundKind (delay length initial) = IsDelayLength length × IsDecimal initial
-IsSoundKind zero_order_hold = Unit {0}
 IsSoundKind (switch criterion threshold how) = IsDecimal threshold
-IsSoundKind (relational comparison) = Unit {0}
 IsSoundKind (logic op count) = IsKind (row.Logic op count)
-IsSoundKind (convert how) = Unit {0}
 IsSoundKind (rate_transition initial out) = IsDecimal initial × IsVaryingTime out
-IsSoundKind (enable_port reset) = Unit {0}
-IsSoundKind (trigger_port edge) = Unit {0}
+IsSoundKind _ = Unit {0}
 
 -- the types that may be said for a kind
 abbrev pub IsTypeFor : KindText → TypeSaid → Type 0
 IsTypeFor (inport port) type = Unit {0}
 IsTypeFor (outport port reset initial) type = Unit {0}
-IsTypeFor (subsystem system) type = type ≡ untyped
 IsTypeFor (constant said) type = Unit {0}
-IsTypeFor ground type = type ≡ untyped
-IsTypeFor terminator type = type ≡ untyped
 IsTypeFor (gain factor factor_type how) type = Unit {0}
 IsTypeFor (sum count minus how) type = Unit {0}
 IsTypeFor (product count how) type = Unit {0}
-IsTypeFor (unit_delay initial) type = type ≡ untyped
-IsTypeFor (delay length initial) type = type ≡ untyped
-IsTypeFor zero_order_hold type = type ≡ untyped
 IsTypeFor (switch criterion threshold how) type = Unit {0}
 IsTypeFor (relational comparison) type = IsWhole type
 IsTypeFor (logic op count) type = IsWhole type
 IsTypeFor (convert how) type = Unit {0}
-IsTypeFor (rate_transition initial out) type = type ≡ untyped
-IsTypeFor (enable_port reset) type = type ≡ untyped
-IsTypeFor (trigger_port edge) type = type ≡ untyped
+IsTypeFor _ type = type ≡ untyped
 
 -- the times that may be said for a kind
 abbrev pub IsTimeFor : KindText → TimeSaid → Type 0
-IsTimeFor (inport port) time = IsVarying time
-IsTimeFor (outport port reset initial) time = IsVarying time
 IsTimeFor (subsystem system) time = time ≡ untimed
 IsTimeFor (constant said) time = Unit {0}
 IsTimeFor ground time = time ≡ untimed
 IsTimeFor terminator time = time ≡ untimed
-IsTimeFor (gain factor factor_type how) time = IsVarying time
-IsTimeFor (sum count minus how) time = IsVarying time
-IsTimeFor (product count how) time = IsVarying time
-IsTimeFor (unit_delay initial) time = IsVarying time
-IsTimeFor (delay length initial) time = IsVarying time
-IsTimeFor zero_order_hold time = IsVarying time
-IsTimeFor (switch criterion threshold how) time = IsVarying time
-IsTimeFor (relational comparison) time = IsVarying time
-IsTimeFor (logic op count) time = IsVarying time
-IsTimeFor (convert how) time = IsVarying time
 IsTimeFor (rate_transition initial out) time = time ≡ untimed
 IsTimeFor (enable_port reset) time = time ≡ untimed
 IsTimeFor (trigger_port edge) time = time ≡ untimed
+IsTimeFor _ time = IsVarying time
 
 -- whether two types have one name
 abbrev pub is_named : BlockType → BlockType → Bool

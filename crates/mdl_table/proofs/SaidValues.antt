@@ -6,17 +6,17 @@ use Rattle.std.specs.Result.{result_ok, result_map_both}
 use Rattle.std.proofs.lemmas.Slice.Eq.{bytes_eq-Decides}
 use Rattle.std.proofs.lemmas.Bool.{eqb-true}
 use Rattle.std.proofs.lemmas.List.{length-replicate}
-use Rattle.mc_base.specs.Bytes.{trim}
-use Rattle.mc_numerals.specs.Literals.{Ratio, plain_value, without_brackets}
-use Rattle.mc_base.specs.declared.ParamName.{ParamName}
-use Rattle.mc_fixed.specs.Conversion.{fits_32}
-use Rattle.mc_fixed.specs.Rounding.{nearest}
+use Rattle.base_core.specs.Bytes.{trim}
+use Rattle.base_numerals.specs.Literals.{Ratio, plain_value, without_brackets}
+use Rattle.base_core.specs.declared.ParamName.{ParamName}
+use Rattle.base_fixed_point.specs.Conversion.{fits_32}
+use Rattle.base_fixed_point.specs.Rounding.{nearest}
 use Rattle.mdl_type_texts.specs.TypeTexts.{Meaning, Inherit, Logical, Back, Fixed}
-use Rattle.mc_blocks.specs.declared.Kind.TheVariants as row
-use Rattle.mc_blocks.specs.declared.Logic.{Logic}
-use Rattle.mc_blocks.specs.declared.Logic.TheVariants.{And, Or, Nand, Nor, Xor, Nxor, Not}
-use Rattle.mc_blocks.specs.Limits.{IsCount}
-use Rattle.mc_diagram.specs.WellFormed.{IsKind}
+use Rattle.diagram_blocks.specs.declared.Kind.TheVariants as row
+use Rattle.diagram_blocks.specs.declared.Logic.{Logic}
+use Rattle.diagram_blocks.specs.declared.Logic.TheVariants.{Not}
+use Rattle.diagram_blocks.specs.Limits.{IsCount}
+use Rattle.diagram_meaning.specs.WellFormed.{IsKind}
 use Rattle.mdl_params.specs.declared.ParamFault.{ParamFault}
 use Rattle.mdl_params.specs.declared.ParamFault.TheVariants as param_fault
 use Rattle.mdl_params.specs.Forms.{number_form, type_form}
@@ -25,7 +25,7 @@ use Rattle.mdl_params.specs.Times as time
 use Rattle.mdl_blocks.specs.declared.fault.Fault.{Fault}
 use Rattle.mdl_blocks.specs.declared.fault.Fault.TheVariants.{Parameter}
 use Rattle.mdl_blocks.specs.declared.signs.SignMask.{SignMask}
-use Rattle.mdl_blocks.specs.Results.{◌>>=◌}
+use Rattle.base_core.specs.Results.{◌>>=◌}
 use Rattle.mdl_blocks.specs.Meanings.{TypeSaid, known_type, float_type, type_by, type_in, unless_fractional, whole_type_in, TimeSaid, known_time, zero_time, time_by, any_time_in, unless_constant, time_in, out_time, ConstantSaid, is_truth, constant_in}
 use Rattle.mdl_blocks.specs.Words.{number_in, whole_number, number_up_to, factor_in, initial_output_in}
 use Rattle.mdl_blocks.specs.Signs.{up_to_16, signs_of, are_signs, written_signs, pluses, signs_in, mask_of, sum_signs, are_stars, star_count, product_count, logic_count}
@@ -168,13 +168,8 @@ factors-sound text n e = by (number_up_to 16 text) refl e
     by (Some k) p e = subst (IsUpTo 16) (some-same k n e) (number-up-to 16 text k p)
 
 pub logic-sound : (op : Logic) (text : List ℕ) (n : ℕ) → logic_count op text ≡ Some n → IsKind (row.Logic op n)
-logic-sound And text n e = number-up-to 16 text n e
-logic-sound Or text n e = number-up-to 16 text n e
-logic-sound Nand text n e = number-up-to 16 text n e
-logic-sound Nor text n e = number-up-to 16 text n e
-logic-sound Xor text n e = number-up-to 16 text n e
-logic-sound Nxor text n e = number-up-to 16 text n e
 logic-sound Not text n e = sym (some-same 1 n e)
+logic-sound _ text n e = number-up-to 16 text n e
 
 -- ---- Constants
 
@@ -228,11 +223,8 @@ IsSoundType float_type = Unit {0}
 
 -- it has no bits after the point
 abbrev pub IsWhole : TypeSaid → Type 0
-IsWhole (known_type Inherit) = Unit {0}
-IsWhole (known_type Logical) = Unit {0}
-IsWhole (known_type Back) = Unit {0}
 IsWhole (known_type (Fixed type)) = type.frac ≡ 0
-IsWhole float_type = Unit {0}
+IsWhole _ = Unit {0}
 
 pub type-sound : (text : List ℕ) (said : TypeSaid) → type_in text ≡ Some said → IsSoundType said
 type-sound text said e = by (type_form text) refl e

@@ -6,9 +6,9 @@ use Rattle.mdl_tree.specs.declared.tree.Section.{Section}
 use Rattle.mdl_tree.specs.declared.tree.Item.{Item, Param, Section'}
 use Rattle.mdl_tree.specs.declared.tree.Item.TheViews as views
 use Rattle.mdl_tree.specs.Spelling.{Items, End}
-use Rattle.mdl_tree.specs.Values.{with_row, with_item, items_of}
+use Rattle.mdl_tree.specs.Values.{with_row, with_item, items_of, item_alone}
 use Rattle.mdl_tree.proofs.lemmas.Rows.{section_in, items_from}
-use Rattle.mdl_table.specs.Walks.{item_alone, is_system_first, first_behind}
+use Rattle.mdl_table.specs.Walks.{is_system_first, first_behind}
 use Rattle.mdl_table.specs.Steps.{first_at_any_depth, first_outside_system}
 
 or_none : {A : Type 0} (o : Option A) → option_or o None ≡ o

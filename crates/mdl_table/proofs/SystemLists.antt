@@ -2,13 +2,13 @@
 use Rattle.std.proofs.Common.{◌≡◌, refl, sym, ◌∙◌, ap, subst, ℕ, zero, suc, ◌+◌, ◌<◌, ◌≤◌, List, [], ◌∷◌, ◌++◌, map, length, drop, append_assoc, slice_index_or, arith}
 use Rattle.std.proofs.Math.Seq.{drop-cons}
 use Rattle.std.proofs.lemmas.List.{append-nil, drop_all, map-append}
-use Rattle.mc_diagram.specs.declared.table.Row.{Row}
-use Rattle.mc_diagram.specs.declared.subsystem.Subsystem.{Subsystem}
-use Rattle.mc_diagram.specs.declared.subsystem.Subsystem.TheOpen.{Subsystem-F}
-use Rattle.mc_diagram.specs.declared.subsystem.Subsystem.TheViews.{roll-Subsystem}
-use Rattle.mc_diagram.specs.declared.subsystem.Subsystem.TheFolds.{fold-roll-Subsystem}
-use Rattle.mc_diagram.specs.Nested as nested
-use Rattle.mc_diagram.specs.Rows.{system_control}
+use Rattle.diagram_meaning.specs.declared.table.Row.{Row}
+use Rattle.diagram_meaning.specs.declared.subsystem.Subsystem.{Subsystem}
+use Rattle.diagram_meaning.specs.declared.subsystem.Subsystem.TheOpen.{Subsystem-F}
+use Rattle.diagram_meaning.specs.declared.subsystem.Subsystem.TheViews.{roll-Subsystem}
+use Rattle.diagram_meaning.specs.declared.subsystem.Subsystem.TheFolds.{fold-roll-Subsystem}
+use Rattle.diagram_meaning.specs.Nested as nested
+use Rattle.diagram_meaning.specs.Rows.{system_control}
 use Rattle.mdl_tree.specs.Values.{section_tree}
 use Rattle.mdl_systems.specs.declared.system.SystemText.{SystemText}
 use Rattle.mdl_systems.specs.declared.system.SystemText.TheViews.{out-SystemText}

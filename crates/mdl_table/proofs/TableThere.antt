@@ -3,18 +3,18 @@ use Rattle.std.proofs.Common.{◌≡◌, refl, sym, subst, ℕ, nat_le, Bool, tr
 use Rattle.std.specs.Prelude.{◌==◌, option_and_then, option_map, Result, Ok, Err}
 use Rattle.std.specs.List.{AllByRecursion, AllZip}
 use Rattle.std.specs.Result.{result_ok}
-use Rattle.mc_base.specs.Numbers.{AreLowest}
-use Rattle.mc_numerals.specs.Literals.{Ratio, ratio_of, frac_parts, parts_of}
-use Rattle.mc_base.specs.declared.Control.{Control}
-use Rattle.mc_base.specs.declared.Decimal.{Decimal}
-use Rattle.mc_base.specs.declared.Frac.{Frac}
-use Rattle.mc_base.specs.declared.NumFault.TheVariants.{Range}
-use Rattle.mc_base.specs.declared.TimeText.{TimeText}
-use Rattle.mc_fixed.specs.declared.TypeText.{TypeText}
-use Rattle.mc_blocks.specs.declared.Kind.{Kind}
-use Rattle.mc_blocks.specs.declared.Kind.TheVariants as row
-use Rattle.mc_diagram.specs.declared.table.Row.{Row}
-use Rattle.mc_diagram.specs.RowTable.{RowTable}
+use Rattle.base_core.specs.Numbers.{AreLowest}
+use Rattle.base_numerals.specs.Literals.{Ratio, ratio_of, frac_parts, parts_of}
+use Rattle.base_core.specs.declared.Control.{Control}
+use Rattle.base_core.specs.declared.Decimal.{Decimal}
+use Rattle.base_core.specs.declared.Frac.{Frac}
+use Rattle.base_core.specs.declared.NumFault.TheVariants.{Range}
+use Rattle.base_core.specs.declared.TimeText.{TimeText}
+use Rattle.base_fixed_point.specs.declared.TypeText.{TypeText}
+use Rattle.diagram_blocks.specs.declared.Kind.{Kind}
+use Rattle.diagram_blocks.specs.declared.Kind.TheVariants as row
+use Rattle.diagram_meaning.specs.declared.table.Row.{Row}
+use Rattle.diagram_meaning.specs.RowTable.{RowTable}
 use Rattle.mdl_tree.specs.Spelling.{Items}
 use Rattle.mdl_params.specs.declared.ParamFault.{ParamFault}
 use Rattle.mdl_params.specs.Forms.{number_form}

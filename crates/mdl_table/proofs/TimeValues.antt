@@ -1,13 +1,13 @@
 -- A text that is a sample time stands for one within the limits.
 use Rattle.std.proofs.Common.{◌≡◌, refl, sym, subst, ℕ, zero, suc, ◌*◌, ◌^◌, ◌<◌, ◌≤◌, nat_le, Bool, true, false, ◌&&◌, cond, true≢false, List, Option, None, Some, ℤ, pos, negsuc, unsigned_abs, arith, leb-true, ltb-true}
 use Rattle.std.specs.Prelude.{◌==◌, Result, Ok, Err, not, take_while}
-use Rattle.mc_base.specs.Numbers.{AreLowest}
-use Rattle.mc_base.specs.Bytes.{trim, drop_while}
-use Rattle.mc_numerals.specs.Literals.{Ratio, frac_parts, plain_value, number_value, without_brackets}
-use Rattle.mc_base.specs.declared.NumFault.{NumFault}
-use Rattle.mc_base.specs.declared.NumFault.TheVariants.{Range}
-use Rattle.mc_base.specs.declared.TimeText.{TimeText}
-use Rattle.mc_base.specs.declared.TimeText.TheVariants as time
+use Rattle.base_core.specs.Numbers.{AreLowest}
+use Rattle.base_core.specs.Bytes.{trim, drop_while}
+use Rattle.base_numerals.specs.Literals.{Ratio, frac_parts, plain_value, number_value, without_brackets}
+use Rattle.base_core.specs.declared.NumFault.{NumFault}
+use Rattle.base_core.specs.declared.NumFault.TheVariants.{Range}
+use Rattle.base_core.specs.declared.TimeText.{TimeText}
+use Rattle.base_core.specs.declared.TimeText.TheVariants as time
 use Rattle.mdl_params.specs.declared.ParamFault.{ParamFault}
 use Rattle.mdl_params.specs.declared.ParamFault.TheVariants.{Parameter, Continuous}
 use Rattle.mdl_params.specs.Times.{TimeMeaning, Inherit, Constant, Each, time_of, is_below, each_time, time_by_values, time_by_numbers, time_by_texts, pair_text, time_by_pair, is_separator, behind_separator, is_inherited, is_constant, trimmed_time, time_form}

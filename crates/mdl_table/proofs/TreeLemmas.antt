@@ -5,19 +5,20 @@ use Rattle.std.specs.List.{AllByRecursion, AllZip, range_with_len}
 use Rattle.std.specs.Option.{option_map_or}
 use Rattle.std.proofs.lemmas.List.Elements.{All-from_recursion}
 use Rattle.std.proofs.lemmas.Slice.Eq.{bytes_eq-Decides}
-use Rattle.mc_base.specs.declared.Place.{Place}
-use Rattle.mc_base.specs.declared.ParamName.TheVariants.{Name}
-use Rattle.mc_refusals.specs.declared.Many.TheVariants.{Blocks}
-use Rattle.mc_base.specs.Numbers.{reported_number}
-use Rattle.mc_refusals.specs.Refusals.{TooMany}
-use Rattle.mc_diagram.specs.declared.table.Row.{Row}
-use Rattle.mc_diagram.specs.declared.subsystem.Subsystem.{Subsystem}
-use Rattle.mc_diagram.specs.declared.subsystem.Subsystem.TheViews.{out-Subsystem}
-use Rattle.mc_diagram.specs.declared.subsystem.Subsystem.TheFolds.{fold_out-Subsystem}
-use Rattle.mc_diagram.specs.Nested as nested
-use Rattle.mc_diagram.specs.Nested.{heads, HasPlace, Agrees, AllAgree, AreSystemsOf}
-use Rattle.mc_diagram.specs.Rows as rows
-use Rattle.mc_diagram.specs.Rows.{row_at, rows_of, subsystems_of, same_system, system_control}
+use Rattle.base_core.specs.declared.Place.{Place}
+use Rattle.base_core.specs.declared.ParamName.TheVariants.{Name}
+use Rattle.base_refusals.specs.declared.Many.TheVariants.{Blocks}
+use Rattle.base_core.specs.Numbers.{reported_number}
+use Rattle.base_refusals.specs.Refusals.{TooMany}
+use Rattle.diagram_meaning.specs.declared.table.Row.{Row}
+use Rattle.diagram_meaning.specs.declared.subsystem.Subsystem.{Subsystem}
+use Rattle.diagram_meaning.specs.declared.subsystem.Subsystem.TheViews.{out-Subsystem}
+use Rattle.diagram_meaning.specs.declared.subsystem.Subsystem.TheFolds.{fold_out-Subsystem}
+use Rattle.diagram_meaning.specs.Nested as nested
+use Rattle.diagram_meaning.specs.Nested.{heads, HasPlace, Agrees, AllAgree, AreSystemsOf}
+use Rattle.diagram_blocks.specs.Kinds as kinds
+use Rattle.diagram_meaning.specs.Rows as rows
+use Rattle.diagram_meaning.specs.Rows.{row_at, rows_of, subsystems_of, same_system, system_control}
 use Rattle.mdl_tree.specs.Walks.{SectionTree, first_section, first_value}
 use Rattle.mdl_params.specs.declared.BlockType.TheVariants.{SubSystem}
 use Rattle.mdl_params.specs.BlockTypes.{block_type_name, block_type_of}
@@ -26,7 +27,7 @@ use Rattle.mdl_blocks.specs.declared.fault.Fault.{Fault}
 use Rattle.mdl_blocks.specs.declared.fault.Fault.TheVariants.{Unsupported}
 use Rattle.mdl_blocks.specs.declared.peers.Peers.{Peers}
 use Rattle.mdl_blocks.specs.Peers.{writes_type}
-use Rattle.mdl_blocks.specs.Results.{◌>>=◌}
+use Rattle.base_core.specs.Results.{◌>>=◌}
 use Rattle.mdl_blocks.specs.Blocks.{BlockText, texts_by, body_of, unless_hollow, block_typed, block_of}
 use Rattle.mdl_systems.specs.Nesting.{OutlinesAreNumbered}
 use Rattle.mdl_systems.specs.Outlines.{Outline, SystemText, outlines_of, is_subsystem, inner_system, systems_inside}
@@ -201,7 +202,7 @@ HasRowLine rs (Some e) line = line ≡ (row_at rs e).place.line
 -- the row of a block tells its owner, its line, and whether it is a subsystem
 pub record IsOwn (rs : List Row) (b : Outline) : Type 0 where
   pub owner : (row_at rs b.number).owner ≡ b.owner
-  pub kind : rows.is_subsystem (row_at rs b.number).kind ≡ is_subsystem b
+  pub kind : kinds.is_subsystem (row_at rs b.number).kind ≡ is_subsystem b
   pub line : b.section.line ≡ (row_at rs b.number).place.line
   pub inside : HasInside b
 
@@ -230,9 +231,9 @@ module _ (rs : List Row) (os : List Outline) (numbers : map (λ (b : Outline). b
 
   own-subsystems : (o : Option ℕ) → subsystems_of rs o ≡ map (λ (b : Outline). b.number) (filter is_subsystem (of_owner o os))
   own-subsystems o =
-      ap (filter (λ b. rows.is_subsystem (row_at rs b).kind)) (own-rows o)
-      ∙ filter-map (λ (b : Outline). b.number) (λ b. rows.is_subsystem (row_at rs b).kind) is_subsystem (of_owner o os)
-      (all-by (IsOwn rs) (λ (b : Outline). rows.is_subsystem (row_at rs b.number).kind ≡ is_subsystem b) (of_owner o os)
+      ap (filter (λ b. kinds.is_subsystem (row_at rs b).kind)) (own-rows o)
+      ∙ filter-map (λ (b : Outline). b.number) (λ b. kinds.is_subsystem (row_at rs b).kind) is_subsystem (of_owner o os)
+      (all-by (IsOwn rs) (λ (b : Outline). kinds.is_subsystem (row_at rs b.number).kind ≡ is_subsystem b) (of_owner o os)
       (λ b is. is.kind) (owned o))
 
   have-inside : (o : Option ℕ) → AllByRecursion HasInside (of_owner o os)

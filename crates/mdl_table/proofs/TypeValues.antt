@@ -4,12 +4,12 @@ use Rattle.std.specs.Prelude.{bytes_eq, Result, Ok, Err, nat_eq, drop, take, len
 use Rattle.std.specs.List.{starts_with, before_first, after_first}
 use Rattle.std.specs.Result.{result_map_both}
 use Rattle.std.specs.Str.Parse.{digits_value}
-use Rattle.mc_base.specs.Bytes.{trim}
-use Rattle.mc_numerals.specs.Literals.{is_numeral}
-use Rattle.mc_fixed.specs.declared.TypeText.{TypeText}
-use Rattle.mc_fixed.specs.declared.TypeText.TheVariants as held
-use Rattle.mc_fixed.specs.declared.types.TypeFault.{TypeFault}
-use Rattle.mc_fixed.specs.Profile.{InProfile, in_profile}
+use Rattle.base_core.specs.Bytes.{trim}
+use Rattle.base_numerals.specs.Literals.{is_numeral}
+use Rattle.base_fixed_point.specs.declared.TypeText.{TypeText}
+use Rattle.base_fixed_point.specs.declared.TypeText.TheVariants as held
+use Rattle.base_fixed_point.specs.declared.types.TypeFault.{TypeFault}
+use Rattle.base_fixed_point.specs.Profile.{InProfile, in_profile}
 use Rattle.mdl_type_texts.specs.TypeTexts.{Format, Meaning, Inherit, Logical, Back, Fixed, meaning_of, stands_in, named_format, is_float, sign_of, format_meaning, is_comma, fixdt_meaning, is_fixdt, unnamed_meaning, named_meaning, type_meaning}
 use Rattle.mdl_params.specs.Forms.{fault_of_type, type_form}
 use Rattle.mdl_table.proofs.NumberValues.{and-left, and-right}

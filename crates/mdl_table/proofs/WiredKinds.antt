@@ -1,12 +1,12 @@
 -- What the ports and the row of a block are, by its kind.
 use Rattle.std.proofs.Common.{◌≡◌, refl, sym, ◌∙◌, ap, subst, ℕ, ◌+◌, ◌<◌, ◌≤◌, Bool, true, List, length, Option, None, Some, is_some, arith}
 use Rattle.std.specs.List.{AllByRecursion}
-use Rattle.mc_base.specs.declared.Control.{Control}
-use Rattle.mc_base.specs.declared.Edge.{Edge}
-use Rattle.mc_blocks.specs.declared.Kind.{Kind}
-use Rattle.mc_blocks.specs.declared.Kind.TheVariants as row
-use Rattle.mc_diagram.specs.declared.table.Row.{Row}
-use Rattle.mc_diagram.specs.WellFormed.{has_output, IsWireIn, wires_wanted, reading_system}
+use Rattle.base_core.specs.declared.Control.{Control}
+use Rattle.base_core.specs.declared.Edge.{Edge}
+use Rattle.diagram_blocks.specs.declared.Kind.{Kind}
+use Rattle.diagram_blocks.specs.declared.Kind.TheVariants as row
+use Rattle.diagram_meaning.specs.declared.table.Row.{Row}
+use Rattle.diagram_meaning.specs.WellFormed.{has_output, IsWireIn, wires_wanted, reading_system}
 use Rattle.mdl_tree.specs.Walks.{SectionTree}
 use Rattle.mdl_blocks.specs.Blocks.{KindText, inport, outport, subsystem, constant, ground, terminator, gain, sum, product, unit_delay, delay, zero_order_hold, switch, relational, logic, convert, rate_transition, enable_port, trigger_port}
 use Rattle.mdl_wiring.specs.declared.shape.Inside.{Inside}
@@ -28,25 +28,18 @@ HasOutputs inside text k (Some system) =
     (output_count (shape_of inside text) ≡ inside.outports) × (inside.inports ≤ port_count (shape_of inside text))
 
 pub outputs-of : (inside : Inside) (text : KindText) (c : Control) (k : Kind) → IsKind text c k → HasOutputs inside text k (system_in text)
-outputs-of inside (inport port) c k is = λ h. ap has_output is
 outputs-of inside (outport port reset initial) c k is = λ h. absurd (omega (arith, h))
 outputs-of inside (subsystem system) c k is = (refl, omega arith)
 outputs-of inside (constant said) c k is = λ h. ap has_output is.2
-outputs-of inside ground c k is = λ h. ap has_output is
 outputs-of inside terminator c k is = λ h. absurd (omega (arith, h))
 outputs-of inside (gain factor factor_type how) c k is = λ h. ap has_output is.4
-outputs-of inside (sum count minus how) c k is = λ h. ap has_output is
-outputs-of inside (product count how) c k is = λ h. ap has_output is
 outputs-of inside (unit_delay initial) c k is = λ h. ap has_output is.2
 outputs-of inside (delay length initial) c k is = λ h. ap has_output is.2
-outputs-of inside zero_order_hold c k is = λ h. ap has_output is
 outputs-of inside (switch criterion threshold how) c k is = λ h. ap has_output is.2
-outputs-of inside (relational comparison) c k is = λ h. ap has_output is
-outputs-of inside (logic op count) c k is = λ h. ap has_output is
-outputs-of inside (convert how) c k is = λ h. ap has_output is
 outputs-of inside (rate_transition initial out) c k is = λ h. ap has_output is.4
 outputs-of inside (enable_port reset) c k is = λ h. absurd (omega (arith, h))
 outputs-of inside (trigger_port edge) c k is = λ h. absurd (omega (arith, h))
+outputs-of inside _ c k is = λ h. ap has_output is
 
 -- ---- Inputs
 

@@ -7,14 +7,15 @@ use Rattle.std.proofs.lemmas.Bool.{eq-eqb}
 use Rattle.std.proofs.lemmas.List.{length-drop}
 use Rattle.std.proofs.lemmas.List.Sums.{length-filter}
 use Rattle.std.proofs.lemmas.Option.{slice_get-map}
-use Rattle.mc_base.specs.declared.Control.{Control}
-use Rattle.mc_blocks.specs.declared.Kind.{Kind}
-use Rattle.mc_blocks.specs.declared.Kind.TheVariants as row
-use Rattle.mc_diagram.specs.declared.table.Row.{Row}
-use Rattle.mc_diagram.specs.Rows.{no_row, row_at, rows_of, by_port, same_system, is_inport, is_outport, port_of}
-use Rattle.mc_diagram.specs.WellFormed.{IsWireIn, IsWired}
-use Rattle.mc_diagram.proofs.lemmas.Ports.{length-by_port, ported-at}
-use Rattle.mc_diagram.proofs.lemmas.RestsOnNeeds.{same_system-equal}
+use Rattle.base_core.specs.declared.Control.{Control}
+use Rattle.diagram_blocks.specs.declared.Kind.{Kind}
+use Rattle.diagram_blocks.specs.declared.Kind.TheVariants as row
+use Rattle.diagram_meaning.specs.declared.table.Row.{Row}
+use Rattle.diagram_meaning.specs.Rows.{no_row, row_at, rows_of, by_port, same_system}
+use Rattle.diagram_blocks.specs.Kinds.{is_inport, is_outport, port_of}
+use Rattle.diagram_meaning.specs.WellFormed.{IsWireIn, IsWired}
+use Rattle.diagram_meaning.proofs.lemmas.Ports.{length-by_port, ported-at}
+use Rattle.diagram_meaning.proofs.lemmas.RestsOnNeeds.{same_system-equal}
 use Rattle.mdl_tree.specs.Spelling.{End}
 use Rattle.mdl_tree.specs.Walks.{SectionTree}
 use Rattle.mdl_params.specs.Defaults.{DefaultTexts}

@@ -2,8 +2,8 @@
 use Rattle.std.specs.Prelude.{◌≡◌, None}
 use Rattle.std.specs.List.{AllByRecursion}
 use Rattle.mdl_tree.specs.Spelling.{Items}
-use Rattle.mc_diagram.specs.RowTable.{RowTable}
-use Rattle.mc_diagram.specs.WellFormed.{IsNested, IsRow, IsStep, IsWellFormed}
+use Rattle.diagram_meaning.specs.RowTable.{RowTable}
+use Rattle.diagram_meaning.specs.WellFormed.{IsNested, IsRow, IsStep, IsWellFormed}
 use Rattle.mdl_rows.specs.Refusals.{tree_refusal}
 use Rattle.mdl_table.specs.Tables.{TableOf}
 

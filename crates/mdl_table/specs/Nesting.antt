@@ -1,9 +1,9 @@
 -- The nested systems of a table, by the systems of a text.
 use Rattle.std.specs.Prelude.{ℕ, ◌<◌, ◌^◌, ⊤, List, Option, Some, None}
 use Rattle.std.specs.List.{All}
-use Rattle.mc_diagram.specs.declared.table.Row.{Row}
-use Rattle.mc_diagram.specs.Rows.{system_control}
-use Rattle.mc_diagram.specs.Nested as nested
+use Rattle.diagram_meaning.specs.declared.table.Row.{Row}
+use Rattle.diagram_meaning.specs.Rows.{system_control}
+use Rattle.diagram_meaning.specs.Nested as nested
 use Rattle.mdl_systems.specs.Systems.{SystemTree, SystemTrees, system, no_more, next}
 
 -- the systems of a text, each controlled as its row is

@@ -1,9 +1,9 @@
 -- What a model has for its tree, by its sections in memory.
 use Rattle.std.specs.Prelude.{List, [], ◌∷◌, Option}
-use Rattle.mc_refusals.specs.Refusals.{PlainRefusal}
-use Rattle.mc_diagram.specs.declared.table.Row.{Row}
-use Rattle.mc_diagram.specs.FirstRefusal.{first_there}
-use Rattle.mc_diagram.specs.Nested as nested
+use Rattle.base_refusals.specs.Refusals.{PlainRefusal}
+use Rattle.diagram_meaning.specs.declared.table.Row.{Row}
+use Rattle.base_refusals.specs.FirstRefusal.{first_there}
+use Rattle.diagram_meaning.specs.Nested as nested
 use Rattle.mdl_tree.specs.declared.tree.Section.{Section}
 use Rattle.mdl_tree.specs.Values.{section_tree}
 use Rattle.mdl_tree.specs.Walks.{SectionTree}

@@ -1,9 +1,9 @@
 -- Laws of the ports and wires of tables.
 use Rattle.std.specs.Prelude.{◌≡◌, ℕ, Option, None}
 use Rattle.mdl_tree.specs.Spelling.{Items}
-use Rattle.mc_diagram.specs.RowTable.{RowTable}
-use Rattle.mc_diagram.specs.Rows.{is_inport, is_outport}
-use Rattle.mc_diagram.specs.WellFormed.{HasPorts, HasControlPorts}
+use Rattle.diagram_meaning.specs.RowTable.{RowTable}
+use Rattle.diagram_blocks.specs.Kinds.{is_inport, is_outport}
+use Rattle.diagram_meaning.specs.WellFormed.{HasPorts, HasControlPorts}
 use Rattle.mdl_rows.specs.Refusals.{tree_refusal}
 use Rattle.mdl_table.specs.Tables.{TableOf}
 

@@ -2,8 +2,8 @@
 use Rattle.std.specs.Prelude.{◌≡◌, ℕ, ◌==◌, if◌then◌else◌, List, Option, Some, None, option_map, option_and_then, bytes_eq, codes}
 use Rattle.std.specs.Option.{option_or}
 use Rattle.std.specs.Result.{result_ok}
-use Rattle.mc_base.specs.declared.Frac.{Frac}
-use Rattle.mc_numerals.specs.Literals.{Ratio, parts_of, frac_parts}
+use Rattle.base_core.specs.declared.Frac.{Frac}
+use Rattle.base_numerals.specs.Literals.{Ratio, parts_of, frac_parts}
 use Rattle.mdl_params.specs.Forms.{number_form}
 use Rattle.mdl_tree.specs.Spelling.{Items, End, Param, Section}
 use Rattle.mdl_tree.specs.Walks.{first_section}

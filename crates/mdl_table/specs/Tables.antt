@@ -1,10 +1,10 @@
 -- Which table a file has.
 use Rattle.std.specs.Prelude.{◌≡◌, ℕ, Result, Ok, Err}
-use Rattle.mc_refusals.specs.Refusals.{PlainRefusal}
+use Rattle.base_refusals.specs.Refusals.{PlainRefusal}
 use Rattle.mdl_tree.specs.Spelling.{Items}
-use Rattle.mc_diagram.specs.RowTable.{RowTable}
-use Rattle.mc_diagram.specs.declared.subsystem.Subsystem.{out-Subsystem}
-use Rattle.mc_diagram.specs.DiagramTree.{DiagramTree}
+use Rattle.diagram_meaning.specs.RowTable.{RowTable}
+use Rattle.diagram_meaning.specs.declared.subsystem.Subsystem.{out-Subsystem}
+use Rattle.diagram_meaning.specs.DiagramTree.{DiagramTree}
 use Rattle.mdl_systems.specs.Models.{Model, model_of}
 use Rattle.mdl_rows.specs.Models.{model_with}
 use Rattle.mdl_rows.specs.Refusals.{defaults_of}

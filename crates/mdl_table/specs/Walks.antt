@@ -11,10 +11,6 @@ is_system_first End = false
 is_system_first (Param name value line rest) = false
 is_system_first (Section name line items rest) = bytes_eq name (codes "System")
 
--- the items of one item alone
-abbrev pub item_alone : Item → Items
-item_alone item = with_item item End
-
 -- the first value of a parameter at any depth, where the System was passed, and else outside the
 -- first System
 abbrev pub first_behind : (is_behind : Bool) → List ℕ → Items → Option (List ℕ)

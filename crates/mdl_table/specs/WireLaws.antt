@@ -1,8 +1,8 @@
 -- Laws of the wires of tables.
 use Rattle.std.specs.Prelude.{◌≡◌, None}
 use Rattle.mdl_tree.specs.Spelling.{Items}
-use Rattle.mc_diagram.specs.RowTable.{RowTable}
-use Rattle.mc_diagram.specs.WellFormed.{IsWired}
+use Rattle.diagram_meaning.specs.RowTable.{RowTable}
+use Rattle.diagram_meaning.specs.WellFormed.{IsWired}
 use Rattle.mdl_rows.specs.Refusals.{tree_refusal}
 use Rattle.mdl_table.specs.Tables.{TableOf}
 

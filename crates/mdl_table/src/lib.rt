@@ -1,4 +1,4 @@
-// The table of a model file with its nested systems, or its first refusal.
+//! The table of a model file with its nested systems, or its first refusal.
 #![tactic(auto)]
 
 mod laws;

@@ -1,5 +1,5 @@
 ghost use Rattle.std.specs.Prelude.{◌≡◌, IfErr, IfOk, None, OnOk};
-ghost use Rattle.mc_diagram.specs.Nested as nested;
+ghost use Rattle.diagram_meaning.specs.Nested as nested;
 ghost use Rattle.mdl_tree.specs.Values.{section_tree};
 ghost use Rattle.mdl_params.specs.Defaults.{IsDefaults};
 ghost use Rattle.mdl_systems.specs.Reading.{AreBlocksOf, IsFaultBy};
@@ -13,8 +13,8 @@ ghost use Rattle.mdl_table.specs.Tables.{IsTableOf};
 
 use crate::step::step_of_model;
 use crate::systems::subsystem_of;
-use mc_base::Memory;
-use mc_diagram::{BuildFault, Row, Subsystem, Table};
+use base_core::Memory;
+use diagram_meaning::{BuildFault, Row, Subsystem, Table};
 use mdl_params::Defaults;
 use mdl_rows::rows_of;
 use mdl_systems::{

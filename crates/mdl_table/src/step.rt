@@ -1,13 +1,13 @@
 ghost use Rattle.std.specs.Prelude.{◌≡◌, ◌&&◌, not, option_map};
 ghost use Rattle.std.specs.Option.{option_copied};
-ghost use Rattle.mc_numerals.specs.Literals.{ratio_of, parts_of};
-ghost use Rattle.mdl_tree.specs.Values.{section_tree};
+ghost use Rattle.base_numerals.specs.Literals.{ratio_of, parts_of};
+ghost use Rattle.mdl_tree.specs.Values.{section_tree, item_alone};
 ghost use Rattle.mdl_params.specs.Forms.{number_form};
-ghost use Rattle.mdl_table.specs.Walks.{item_alone, is_system_first};
+ghost use Rattle.mdl_table.specs.Walks.{is_system_first};
 ghost use Rattle.mdl_table.specs.Steps.{first_at_any_depth, first_outside_system, positive_parts, IsStepOf, IsFixedStep};
 
-use mc_base::{Decimal, Frac, Text};
-use mc_numerals::frac_of;
+use base_core::{Decimal, Frac, Text};
+use base_numerals::frac_of;
 use mdl_params::number;
 use mdl_tree::{Item, Section};
 

@@ -1,12 +1,12 @@
 ghost use Rattle.std.specs.Prelude.{◌≡◌, IfOk};
-ghost use Rattle.mc_diagram.specs.Nested as nested;
-ghost use Rattle.mc_diagram.specs.Rows.{system_control};
+ghost use Rattle.diagram_meaning.specs.Nested as nested;
+ghost use Rattle.diagram_meaning.specs.Rows.{system_control};
 ghost use Rattle.mdl_systems.specs.Systems as text;
 ghost use Rattle.mdl_table.specs.Nesting.{AreShort, IsShort, SystemIsShort, nested_by};
 
-use mc_base::{Control, Memory, Wires};
-use mc_blocks::Kind;
-use mc_diagram::{Row, Subsystem};
+use base_core::{Control, Memory, Wires};
+use diagram_blocks::Kind;
+use diagram_meaning::{Row, Subsystem};
 use mdl_systems::SystemText;
 use std::alloc::Global;
 

@@ -1,5 +1,5 @@
 ghost use Rattle.std.specs.Prelude.{◌≡◌, IfErr, IfOk, None, Ok, OnOk};
-ghost use Rattle.mc_diagram.specs.Nested.{AreSystemsOf, system_of};
+ghost use Rattle.diagram_meaning.specs.Nested.{AreSystemsOf, system_of};
 ghost use Rattle.mdl_tree.specs.Values.{section_tree};
 ghost use Rattle.mdl_systems.specs.Models.{model_of};
 ghost use Rattle.mdl_systems.specs.Reading.{IsFaultBy, model_seen};
@@ -9,7 +9,7 @@ ghost use Rattle.mdl_table.specs.Tables.{IsRootOf, TableOf};
 
 use crate::laws::tree_table_is_well_formed;
 use crate::parts::{ModelParts, parts_of};
-use mc_diagram::{BuildFault, Tree};
+use diagram_meaning::{BuildFault, Tree};
 use mdl_systems::{ModelSections, find_model};
 use mdl_tree::Section;
 use std::alloc::Global;

@@ -1,6 +1,6 @@
 -- Worked texts of types.
 use Rattle.std.specs.Prelude.{◌≡◌, refl, true, false, Ok, Err, codes}
-use Rattle.mc_fixed.specs.declared.types.TypeFault.TheVariants.{Form, Float, Range}
+use Rattle.base_fixed_point.specs.declared.types.TypeFault.TheVariants.{Form, Float, Range}
 use Rattle.mdl_type_texts.specs.TypeTexts.{type_meaning, Inherit, Logical, Back, Fixed}
 
 meaning-plain : type_meaning (codes "int16")

@@ -3,14 +3,14 @@ use Rattle.std.specs.Prelude.{◌≡◌, ℕ, ◌-◌, Bool, true, false, ◌&&�
 use Rattle.std.specs.List.{starts_with, before_first, after_first}
 use Rattle.std.specs.Result.{result_map_both}
 use Rattle.std.specs.Str.Parse.{digits_value}
-use Rattle.mc_base.specs.Bytes.{trim}
-use Rattle.mc_numerals.specs.Literals.{is_numeral}
-use Rattle.mc_fixed.specs.declared.types.FixType.{FixType}
-use Rattle.mc_fixed.specs.declared.types.TypeText.{TypeText}
-use Rattle.mc_fixed.specs.declared.types.TypeText.TheVariants as held
-use Rattle.mc_fixed.specs.declared.types.TypeFault.{TypeFault}
-use Rattle.mc_fixed.specs.declared.types.TypeFault.TheVariants.{Form, Float, Range}
-use Rattle.mc_fixed.specs.Profile.{in_profile}
+use Rattle.base_core.specs.Bytes.{trim}
+use Rattle.base_numerals.specs.Literals.{is_numeral}
+use Rattle.base_fixed_point.specs.declared.types.FixType.{FixType}
+use Rattle.base_fixed_point.specs.declared.types.TypeText.{TypeText}
+use Rattle.base_fixed_point.specs.declared.types.TypeText.TheVariants as held
+use Rattle.base_fixed_point.specs.declared.types.TypeFault.{TypeFault}
+use Rattle.base_fixed_point.specs.declared.types.TypeFault.TheVariants.{Form, Float, Range}
+use Rattle.base_fixed_point.specs.Profile.{in_profile}
 
 -- A type by its three numbers.
 pub record Format : Type 0 where

@@ -1,4 +1,4 @@
-// Texts of types, as a model writes them.
+//! The texts of types, as a model writes them.
 #![tactic(auto)]
 
 mod type_text;

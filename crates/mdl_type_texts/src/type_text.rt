@@ -1,12 +1,12 @@
 ghost use Rattle.std.specs.Prelude.{◌≡◌, ◌-◌, ◌<◌, true, false, MatchOption, option_map, drop, take, length};
 ghost use Rattle.std.specs.List.{position_or_len, before_first, after_first};
-ghost use Rattle.mc_fixed.specs.Profile.{InProfile};
+ghost use Rattle.base_fixed_point.specs.Profile.{InProfile};
 ghost use Rattle.mdl_type_texts.specs.TypeTexts as text_of;
 ghost use Rattle.mdl_type_texts.specs.TypeTexts.{ReadsTypeAs, format_of, meaning_of, type_meaning, named_format, integer_format, inherited_meaning, fixdt_meaning, format_meaning, sign_of, is_comma, is_fixdt};
 
-use mc_base::trim;
-use mc_fixed::{FixType, TypeFault, TypeText};
-use mc_numerals::{capped_number, is_numeral};
+use base_core::trim;
+use base_fixed_point::{FixType, TypeFault, TypeText};
+use base_numerals::{capped_number, is_numeral};
 
 /// What a type's text means.
 ///

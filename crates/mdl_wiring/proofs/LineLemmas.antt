@@ -4,8 +4,8 @@ use Rattle.std.specs.Prelude.{⊤, not, filter, find, slice_get, option_map}
 use Rattle.std.specs.Option.{option_or, option_map_or}
 use Rattle.std.specs.List.{list_any, range_with_len}
 use Rattle.std.proofs.lemmas.List.Folds.{list_any-append}
-use Rattle.mc_refusals.specs.Refusals.{PlainRefusal, TwoSources}
-use Rattle.mc_diagram.proofs.lemmas.FirstRefusals.{none-first, none-later}
+use Rattle.base_refusals.specs.Refusals.{PlainRefusal, TwoSources}
+use Rattle.base_refusals.proofs.lemmas.FirstRefusals.{none-first, none-later}
 use Rattle.mdl_wiring.specs.declared.ports.Input.{Input}
 use Rattle.mdl_wiring.specs.Members.{Member, port_count}
 use Rattle.mdl_wiring.specs.Lines.{LineEnd, sources_in, ends_in}

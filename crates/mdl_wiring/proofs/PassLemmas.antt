@@ -1,9 +1,9 @@
 -- Passes over items in memory, one by one.
 use Rattle.std.proofs.Common.{◌≡◌, sym, ◌∙◌, ap, ℕ, suc, ◌+◌, ◌<◌, ◌≤◌, List, [], ◌∷◌, ◌++◌, length, drop, take, slice_index_or, drop-cons, drop_of_length-le, Option, map, arith}
 use Rattle.std.proofs.lemmas.List.{take_more, map-append, length-map, length-take-le}
-use Rattle.mc_refusals.specs.Refusals.{PlainRefusal}
-use Rattle.mc_diagram.specs.FirstRefusal.{earlier_of, least_in}
-use Rattle.mc_diagram.proofs.lemmas.FirstRefusals.{earlier_assoc, earlier-none}
+use Rattle.base_refusals.specs.Refusals.{PlainRefusal}
+use Rattle.base_refusals.specs.FirstRefusal.{earlier_of, least_in}
+use Rattle.base_refusals.proofs.lemmas.FirstRefusals.{earlier_assoc, earlier-none}
 use Rattle.mdl_wiring.specs.Refusals.{least_from}
 
 one_more : (i : ℕ) → suc i ≡ i + 1

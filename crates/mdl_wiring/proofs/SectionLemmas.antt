@@ -1,59 +1,21 @@
 -- Sections by their names, item by item.
 use Rattle.std.proofs.Common.{◌≡◌, refl, sym, ◌∙◌, ap, ℕ, ◌+◌, ◌<◌, Bool, true, false, cond, List, [], ◌∷◌, ◌++◌, length, drop, slice_index_or, append_assoc, append-nil, codes}
-use Rattle.std.proofs.lemmas.List.{map-append}
 use Rattle.std.proofs.lemmas.Grind.{flat_map-append}
 use Rattle.std.specs.Prelude.{bytes_eq, flat_map, Option}
-use Rattle.mc_refusals.specs.Refusals.{PlainRefusal}
-use Rattle.mc_diagram.specs.FirstRefusal.{earlier_of, least_in}
-use Rattle.mc_diagram.proofs.lemmas.FirstRefusals.{earlier_assoc, least-append}
+use Rattle.base_refusals.specs.Refusals.{PlainRefusal}
+use Rattle.base_refusals.specs.FirstRefusal.{earlier_of, least_in}
+use Rattle.base_refusals.proofs.lemmas.FirstRefusals.{earlier_assoc, least-append}
 use denote.Ref.{Bor}
 use Rattle.mdl_tree.specs.declared.tree.Section.{Section}
 use Rattle.mdl_tree.specs.declared.tree.Item.{Item, Param, Section'}
 use Rattle.mdl_tree.specs.declared.tree.Item.TheViews as views
 use Rattle.mdl_tree.specs.Spelling.{Items, End}
-use Rattle.mdl_tree.specs.Walks.{SectionTree, sections_named}
-use Rattle.mdl_tree.specs.Values.{with_row, with_item, items_of, section_tree}
+use Rattle.mdl_tree.specs.Walks.{SectionTree}
+use Rattle.mdl_tree.specs.Values.{with_row, with_item, items_of, section_tree, trees_of}
 use Rattle.mdl_tree.proofs.lemmas.Rows.{section_in, items_from}
 use Rattle.mdl_wiring.specs.Lines.{branches_in, parts_of_line, lines_in}
 use Rattle.mdl_wiring.specs.Refusals.{newer}
-use Rattle.mdl_wiring.specs.Held.{trees_of}
-
--- one item in front of others
-named-item : (wanted : List ℕ) (item : Item) (rest : Items) →
-    sections_named wanted (with_item item rest) ≡ sections_named wanted (with_item item End) ++ sections_named wanted rest
-named-item wanted (Param name value line) rest = refl
-named-item wanted (Section' name line shape items) rest = by (bytes_eq name wanted)
-  where
-    section : SectionTree
-    section = record { name = name; line = line; items = with_row items }
-
-    by : (t : Bool) →
-        cond t (section ∷ sections_named wanted rest) (sections_named wanted rest)
-        ≡ cond t (section ∷ []) [] ++ sections_named wanted rest
-    by true = refl
-    by false = refl
-
--- the sections from one place on
-pub named-from : (wanted : List ℕ) (items : List Item) (i : ℕ) (item : Item) → i < length items → item ≡ slice_index_or items i item →
-    sections_named wanted (items_of (drop i items))
-    ≡ sections_named wanted (with_item item End) ++ sections_named wanted (items_of (drop (i + 1) items))
-named-from wanted items i item h e =
-    ap (sections_named wanted) (items_from items i item h e) ∙ named-item wanted item (items_of (drop (i + 1) items))
-
--- one section more is taken
-pub named-push : (olds : List (Bor Section)) (section : Bor Section) (here rest now whole : List SectionTree) →
-    section_tree section.now ∷ [] ≡ here → now ≡ here ++ rest → trees_of olds ++ now ≡ whole →
-    trees_of (olds ++ section ∷ []) ++ rest ≡ whole
-named-push olds section here rest now whole found split all =
-    ap (λ xs. xs ++ rest) (map-append (λ (s : Bor Section). section_tree s.now) olds (section ∷ []))
-    ∙ append_assoc (trees_of olds) (section_tree section.now ∷ []) rest
-    ∙ ap (λ xs. trees_of olds ++ xs) (ap (λ xs. xs ++ rest) found ∙ sym split) ∙ all
-
--- none is taken
-pub named-pass : (olds : List (Bor Section)) (here rest now whole : List SectionTree) →
-    [] ≡ here → now ≡ here ++ rest → trees_of olds ++ now ≡ whole → trees_of olds ++ rest ≡ whole
-named-pass olds here rest now whole none split all =
-    ap (λ xs. trees_of olds ++ xs) (ap (λ xs. xs ++ rest) none ∙ sym split) ∙ all
+use Rattle.mdl_tree.proofs.lemmas.Sections.{named-from}
 
 -- ---- Branches
 

@@ -2,9 +2,9 @@
 use Rattle.std.proofs.Common.{◌≡◌, refl, sym, ◌∙◌, ap, ℕ, suc, zero, ◌+◌, ◌<◌, ◌≤◌, Bool, true, false, ◌||◌, cond, true≢false, List, [], ◌∷◌, ◌++◌, length, Option, None, Some, is_some, arith, map}
 use Rattle.std.specs.Prelude.{⊤, find, filter_map, flat_map, option_and_then, option_to_list, is_none}
 use Rattle.std.specs.List.{list_any, range_with_len}
-use Rattle.mc_refusals.specs.Refusals.{NoPort}
-use Rattle.mc_diagram.specs.FirstRefusal.{least_in}
-use Rattle.mc_diagram.proofs.lemmas.FirstRefusals.{none-first, none-later, least-append}
+use Rattle.base_refusals.specs.Refusals.{NoPort}
+use Rattle.base_refusals.specs.FirstRefusal.{least_in}
+use Rattle.base_refusals.proofs.lemmas.FirstRefusals.{none-first, none-later, least-append}
 use Rattle.mdl_tree.specs.Walks.{SectionTree}
 use Rattle.mdl_wiring.specs.declared.ports.Input.{Input}
 use Rattle.mdl_wiring.specs.declared.ports.Source.{Source}

@@ -3,7 +3,7 @@ use Rattle.std.specs.Prelude.{◌≡◌, ℕ, Bool, false, ◌||◌, ◌==◌, n
 use Rattle.std.specs.Option.{option_map_or}
 use Rattle.std.specs.List.{list_any}
 use Rattle.indexmap.specs.IndexSet.{IndexSet, contains}
-use Rattle.mc_refusals.specs.Refusals.{PlainRefusal, DoubleName}
+use Rattle.base_refusals.specs.Refusals.{PlainRefusal, DoubleName}
 use Rattle.mdl_wiring.specs.declared.doubles.Side.{Side}
 use Rattle.mdl_wiring.specs.Members.{Member}
 use Rattle.mdl_wiring.specs.Refusals.{has_port, same_port, double_among}

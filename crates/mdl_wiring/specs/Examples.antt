@@ -1,7 +1,7 @@
 -- Worked systems: two Inports and a Sum that adds them, an Outport, and subsystems.
 use Rattle.std.specs.Prelude.{◌≡◌, refl, ℕ, true, false, List, [], ◌∷◌, ◌++◌, Some, None, codes}
-use Rattle.mc_base.specs.declared.Port.TheVariants.{Number, Enable, Trigger}
-use Rattle.mc_refusals.specs.Refusals.{DoubleName, NoBlock, NoPort, TwoSources, Unconnected, TwoControls, Unsupported}
+use Rattle.base_core.specs.declared.Port.TheVariants.{Number, Enable, Trigger}
+use Rattle.base_refusals.specs.Refusals.{DoubleName, NoBlock, NoPort, TwoSources, Unconnected, TwoControls, Unsupported}
 use Rattle.mdl_tree.specs.Spelling.{Items, End, Param, Section}
 use Rattle.mdl_wiring.specs.declared.member.Shape.{Shape}
 use Rattle.mdl_wiring.specs.declared.member.Shape.TheVariants.{Inport, Outport, SubSystem, EnablePort, TriggerPort, Plain}

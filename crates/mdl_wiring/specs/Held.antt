@@ -13,10 +13,6 @@ use Rattle.mdl_wiring.specs.declared.ports.Input.{Input}
 use Rattle.mdl_wiring.specs.Lines.{Place, LineEnd}
 use Rattle.mdl_wiring.specs.Ports.{are_one, leads_to}
 
--- the sections that these references lead to
-abbrev pub trees_of : List (Bor Section) → List SectionTree
-trees_of sections = map (λ s. section_tree s.now) sections
-
 -- a place in memory as a plain one
 abbrev pub place_seen : held.Place → Place
 place_seen p = record { line = p.line; named = p.named; port = option_copied p.port }

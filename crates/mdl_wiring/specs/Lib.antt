@@ -8,5 +8,4 @@ pub mod Held
 pub mod Shapes
 pub mod Wiring
 pub mod Laws
-pub mod Order
 pub mod Examples

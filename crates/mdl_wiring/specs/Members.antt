@@ -1,8 +1,8 @@
 -- The blocks of a system as lines see them, and their ports.
 use Rattle.std.specs.Prelude.{ℕ, ◌+◌, Bool, true, false, ◌&&◌, ◌==◌, nat_le, if◌then◌else◌, List, map, Option, Some, None, bytes_eq}
 use Rattle.std.specs.List.{position_from}
-use Rattle.mc_base.specs.declared.Port.{Port}
-use Rattle.mc_base.specs.declared.Port.TheVariants.{Number, Enable, Trigger}
+use Rattle.base_core.specs.declared.Port.{Port}
+use Rattle.base_core.specs.declared.Port.TheVariants.{Number, Enable, Trigger}
 use Rattle.mdl_wiring.specs.declared.member.Shape.{Shape}
 use Rattle.mdl_wiring.specs.declared.member.Shape.TheVariants.{Inport, Outport, SubSystem, EnablePort, TriggerPort, Plain}
 use Rattle.mdl_wiring.specs.declared.member.Member as held
@@ -58,21 +58,13 @@ output_count (Plain inputs output) = one_if output
 
 -- whether a line may lead to the enable of a block
 abbrev pub has_enable : Shape → Bool
-has_enable (Inport port) = false
-has_enable (Outport port) = false
 has_enable (SubSystem inputs outputs enable trigger) = enable
-has_enable EnablePort = false
-has_enable TriggerPort = false
-has_enable (Plain inputs output) = false
+has_enable _ = false
 
 -- whether a line may lead to the trigger of a block
 abbrev pub has_trigger : Shape → Bool
-has_trigger (Inport port) = false
-has_trigger (Outport port) = false
 has_trigger (SubSystem inputs outputs enable trigger) = trigger
-has_trigger EnablePort = false
-has_trigger TriggerPort = false
-has_trigger (Plain inputs output) = false
+has_trigger _ = false
 
 -- how many inputs a block has: they are numbered from 1, first the data inputs, then the enable,
 -- then the trigger

@@ -2,8 +2,8 @@
 use Rattle.std.specs.Prelude.{ℕ, ◌+◌, Bool, true, false, not, ◌||◌, ◌==◌, List, [], ◌∷◌, take, filter, find, Option, Some, None, is_none, is_some, option_map, slice_get, flat_map, codes, if◌then◌else◌}
 use Rattle.std.specs.Option.{option_map_or}
 use Rattle.std.specs.List.{list_any, range_with_len}
-use Rattle.mc_refusals.specs.Refusals.{PlainRefusal, Unsupported, DoubleName, NoBlock, NoPort, TwoSources, Unconnected, TwoControls}
-use Rattle.mc_diagram.specs.FirstRefusal.{earlier_of, least_in, first_there, found_where}
+use Rattle.base_refusals.specs.Refusals.{PlainRefusal, Unsupported, DoubleName, NoBlock, NoPort, TwoSources, Unconnected, TwoControls}
+use Rattle.base_refusals.specs.FirstRefusal.{earlier_of, least_in, first_there, found_where}
 use Rattle.mdl_tree.specs.Spelling.{Items}
 use Rattle.mdl_tree.specs.Walks.{SectionTree, first_value}
 use Rattle.mdl_wiring.specs.declared.member.Shape.{Shape}

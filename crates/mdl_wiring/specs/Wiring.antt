@@ -1,6 +1,6 @@
 -- Where the inputs of the blocks of a system read from.
 use Rattle.std.specs.Prelude.{◌≡◌, ℕ, ◌+◌, ⊤, List, [], ◌∷◌, map, filter_map, find, Bool, Option, Some, None, option_and_then}
-use Rattle.mc_refusals.specs.Refusals.{PlainRefusal, plain_refusal}
+use Rattle.base_refusals.specs.Refusals.{PlainRefusal, plain_refusal}
 use Rattle.mdl_tree.specs.Spelling.{Items}
 use Rattle.mdl_wiring.specs.declared.ports.Source.{Source}
 use Rattle.mdl_wiring.specs.declared.ports.Input.{Input}

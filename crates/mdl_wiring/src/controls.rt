@@ -1,11 +1,10 @@
 ghost use Rattle.std.specs.Prelude.{◌≡◌};
-ghost use Rattle.mc_diagram.specs.FirstRefusal.{as_plain, found_where, least_in};
+ghost use Rattle.base_refusals.specs.FirstRefusal.{as_plain, found_where, least_in};
 ghost use Rattle.mdl_wiring.specs.Members.{member_seen, members_seen};
 ghost use Rattle.mdl_wiring.specs.Refusals as refusals;
 
 use crate::member::{Member, Shape};
-use mc_diagram::earlier;
-use mc_refusals::Refusal;
+use base_refusals::{Refusal, earlier};
 
 /// A control of a subsystem.
 #[derive(Clone, Copy, Debug, PartialEq, Eq, Drop)]

@@ -1,5 +1,5 @@
 ghost use Rattle.std.specs.Prelude.{◌≡◌, IfOk, OnOk};
-ghost use Rattle.mc_diagram.specs.FirstRefusal.{as_plain};
+ghost use Rattle.base_refusals.specs.FirstRefusal.{as_plain};
 ghost use Rattle.mdl_wiring.specs.Members.{members_seen, member_seen};
 ghost use Rattle.mdl_wiring.specs.NameMaps.{AreNamesOf};
 ghost use Rattle.mdl_wiring.specs.Refusals as refusals;
@@ -7,10 +7,9 @@ ghost use Rattle.mdl_wiring.specs.Doubles as doubles;
 
 use crate::member::{Member, Shape};
 use crate::names::{Names, is_before, place_of};
+use base_core::Memory;
+use base_refusals::{Refusal, earlier};
 use indexmap::IndexSet;
-use mc_base::Memory;
-use mc_diagram::earlier;
-use mc_refusals::Refusal;
 use std::alloc::Global;
 
 /// A side of a system, on which its ports have numbers of their own.

@@ -1,5 +1,5 @@
-use mc_base::Memory;
-use mc_refusals::Refusal;
+use base_core::Memory;
+use base_refusals::Refusal;
 
 /// Why the lines of a system lead nowhere: the system is refused, or there was no memory.
 #[derive(Debug, Drop)]

@@ -1,15 +1,14 @@
 ghost use Rattle.std.specs.Prelude.{◌≡◌, IfOk, take};
-ghost use Rattle.mc_diagram.specs.FirstRefusal.{as_plain};
+ghost use Rattle.base_refusals.specs.FirstRefusal.{as_plain};
 ghost use Rattle.mdl_wiring.specs.Refusals as refusals;
 ghost use Rattle.mdl_wiring.specs.Held.{AreInputsOf, end_at, end_seen, ends_seen};
 
 use crate::lines::LineEnd;
 use crate::names::is_before;
 use crate::ports::{Input, input_at};
+use base_core::Memory;
+use base_refusals::{Refusal, earlier};
 use indexmap::IndexMap;
-use mc_base::Memory;
-use mc_diagram::earlier;
-use mc_refusals::Refusal;
 use std::alloc::Global;
 
 /// Inputs, each with the place of the first line end that leads to it.

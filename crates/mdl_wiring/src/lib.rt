@@ -1,4 +1,4 @@
-// The names, ports and lines of one system: which output each input of its blocks reads, or the first fault.
+//! The names, ports and lines of one system: which output each input of its blocks reads, or the first error.
 #![tactic(auto)]
 
 mod controls;
@@ -12,7 +12,6 @@ mod member;
 mod missing;
 mod names;
 mod newer;
-mod order;
 mod ports;
 mod sections;
 mod shape;
@@ -23,7 +22,6 @@ pub use fault::WiringFault;
 pub use laws::{each_input_has_one_line, each_input_has_one_source};
 pub use member::{Member, Shape};
 pub use newer::newer_line;
-pub use order::first_refusal;
 pub use ports::Source;
 pub use shape::Inside;
 pub use verdict::wire;

@@ -1,16 +1,16 @@
 ghost use Rattle.std.specs.Prelude.{◌≡◌, ◌++◌, IfOk, OnOk, option_map, option_to_list};
 ghost use Rattle.std.specs.Option.{option_copied};
 ghost use Rattle.mdl_tree.specs.Walks.{first_value};
-ghost use Rattle.mdl_tree.specs.Values.{section_tree};
+ghost use Rattle.mdl_tree.specs.Values.{section_tree, trees_of};
 ghost use Rattle.mdl_wiring.specs.Members.{members_seen};
 ghost use Rattle.mdl_wiring.specs.NameMaps.{AreNamesOf};
 ghost use Rattle.mdl_wiring.specs.Lines as written;
-ghost use Rattle.mdl_wiring.specs.Held.{trees_of, place_seen, places_seen, ends_seen};
+ghost use Rattle.mdl_wiring.specs.Held.{place_seen, places_seen, ends_seen};
 
 use crate::member::{Member, Shape};
 use crate::names::{Names, place_of};
 use crate::sections::take_parts;
-use mc_base::Memory;
+use base_core::Memory;
 use mdl_tree::Section;
 use std::alloc::Global;
 

@@ -1,5 +1,5 @@
 ghost use Rattle.std.specs.Prelude.{◌≡◌, List, find};
-ghost use Rattle.mc_diagram.specs.FirstRefusal.{as_plain};
+ghost use Rattle.base_refusals.specs.FirstRefusal.{as_plain};
 ghost use Rattle.mdl_wiring.specs.Members.{member_seen, members_seen};
 ghost use Rattle.mdl_wiring.specs.Lines as lines;
 ghost use Rattle.mdl_wiring.specs.Refusals as refusals;
@@ -8,8 +8,7 @@ ghost use Rattle.mdl_wiring.specs.Held.{AreInputsOf};
 use crate::inputs::{Inputs, end_at};
 use crate::member::Member;
 use crate::ports::Input;
-use mc_diagram::earlier;
-use mc_refusals::Refusal;
+use base_refusals::{Refusal, earlier};
 
 /// The number of the first input of the block at a place to which no line leads.
 fn loose_input(inputs: &Inputs, member: &Member, at: usize) -> Option<u64>

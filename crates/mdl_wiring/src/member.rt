@@ -1,7 +1,7 @@
 ghost use Rattle.std.specs.Prelude.{◌≡◌};
 ghost use Rattle.mdl_wiring.specs.Members as members;
 
-use mc_base::Port;
+use base_core::Port;
 
 /// The ports of a block.
 #[derive(Clone, Copy, Debug, PartialEq, Eq, Drop)]

@@ -1,13 +1,12 @@
 ghost use Rattle.std.specs.Prelude.{◌≡◌};
-ghost use Rattle.mc_diagram.specs.FirstRefusal.{as_plain, least_in};
+ghost use Rattle.base_refusals.specs.FirstRefusal.{as_plain, least_in};
 ghost use Rattle.mdl_wiring.specs.Lines as lines;
 ghost use Rattle.mdl_wiring.specs.Refusals as refusals;
 ghost use Rattle.mdl_wiring.specs.Held.{place_seen, places_seen, ends_seen};
 
 use crate::lines::{LineEnd, Place};
 use crate::ports::{input_at, output_at};
-use mc_diagram::earlier;
-use mc_refusals::Refusal;
+use base_refusals::{Refusal, earlier};
 
 /// The refusal of a place whose block isn't there.
 fn no_block(place: &Place) -> Option<Refusal>

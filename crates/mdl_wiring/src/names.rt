@@ -3,8 +3,8 @@ ghost use Rattle.mdl_wiring.specs.Members.{members_seen};
 ghost use Rattle.mdl_wiring.specs.NameMaps.{AreNamesOf, place_in, place_with, is_before};
 
 use crate::member::Member;
+use base_core::Memory;
 use indexmap::IndexMap;
-use mc_base::Memory;
 use std::alloc::Global;
 
 /// Names, each with the place of the first block that has it.

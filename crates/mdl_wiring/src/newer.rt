@@ -1,11 +1,10 @@
 ghost use Rattle.std.specs.Prelude.{◌≡◌};
-ghost use Rattle.mc_diagram.specs.FirstRefusal.{as_plain, least_in};
+ghost use Rattle.base_refusals.specs.FirstRefusal.{as_plain, least_in};
 ghost use Rattle.mdl_tree.specs.Values.{section_tree};
 ghost use Rattle.mdl_wiring.specs.Lines.{parts_of_line};
 ghost use Rattle.mdl_wiring.specs.Refusals as refusals;
 
-use mc_diagram::earlier;
-use mc_refusals::Refusal;
+use base_refusals::{Refusal, earlier};
 use mdl_tree::{Item, Section};
 
 /// Whether a part of a line names its ends in the newer form.

@@ -1,5 +1,5 @@
 ghost use Rattle.std.specs.Prelude.{◌≡◌, IfOk, IfErr, None, OnOk};
-ghost use Rattle.mc_diagram.specs.FirstRefusal.{as_plain};
+ghost use Rattle.base_refusals.specs.FirstRefusal.{as_plain};
 ghost use Rattle.mdl_tree.specs.Values.{section_tree};
 ghost use Rattle.mdl_wiring.specs.Members.{members_seen};
 ghost use Rattle.mdl_wiring.specs.NameMaps.{AreNamesOf};
@@ -17,10 +17,9 @@ use crate::loose::least_unconnected;
 use crate::member::Member;
 use crate::missing::{least_without_block, least_without_port};
 use crate::names::{Names, names_of};
-use crate::sections::sections_named;
 use crate::wiring::{Wiring, wiring_of};
-use mc_base::Memory;
-use mc_refusals::Refusal;
+use base_core::Memory;
+use base_refusals::Refusal;
 use mdl_tree::Section;
 use std::alloc::Global;
 
@@ -108,7 +107,7 @@ fn places_in<'a>(
     ensures ends { IfOk result (λ named. ends_seen named.ends.items
         ≡ written.ends_in (members_seen members.now) (section_tree system.now).items) }
 {
-    let lines = sections_named(alloc, system, b"Line")?;
+    let lines = system.sections_named(alloc, b"Line")?;
     let named = places_of(alloc, members, names, lines.as_slice())?;
     Ok(named)
 }

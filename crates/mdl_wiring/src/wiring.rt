@@ -9,7 +9,7 @@ use crate::inputs::{Inputs, end_at};
 use crate::lines::LineEnd;
 use crate::member::Member;
 use crate::ports::{Input, Source, output_at};
-use mc_base::Memory;
+use base_core::Memory;
 use std::alloc::Global;
 
 /// Where the inputs of the blocks of a system read from, in which nothing is refused.

@@ -4,11 +4,11 @@
 mod held;
 mod words;
 
+use base_host::{FileHost, OutSink};
 use held::hold_standard;
-use mc_edge::{FileHost, OutSink};
-use mc_tool::run_tool;
 use std::io;
 use std::process::ExitCode;
+use tool_entry::run_tool;
 use words::words_of;
 
 /// The status for want of memory.

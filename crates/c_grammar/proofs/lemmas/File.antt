@@ -6,7 +6,7 @@ use Rattle.c_grammar.specs.Written.{WrittenPure, WrittenStruct, WrittenProcedure
 use Rattle.c_grammar.specs.Grammar.{all_spelling, some_spelling, pure_spelling, struct_spelling, procedure_spelling, Spells}
 use Rattle.c_grammar.specs.Prefix.{pures_need, structs_need, procedures_need, too_deep, leaves, with_needs, within_limit, first_reply, struct_needs, pure_needs, file_needs, on_reply, token_fault}
 use Rattle.c_syntax.specs.Limits.{expr_limit, stmt_limit, pure_limit, param_limit}
-use Rattle.c_grammar.specs.Results.{◌>>=◌, ◌>>◌}
+use Rattle.base_core.specs.Results.{◌>>=◌, ◌>>◌}
 use Rattle.c_grammar.specs.Parsing.{Limits, the_limits, next, or_deep_unless, first_text, many, one_more, definition_of, parse_pure, pures_step, pures_step_by, structs_step, structs_step_by, parse_procedure, procedures_step, parse_file}
 use Rattle.c_grammar.specs.declared.openers.Definition.TheVariants.{Static as static_definition, Struct as struct_definition, Void as void_definition, Nothing as no_definition}
 use Rattle.c_grammar.proofs.lemmas.Shrinking.{pure-takes, struct-takes, procedure-takes}

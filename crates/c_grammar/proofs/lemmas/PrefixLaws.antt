@@ -1,8 +1,8 @@
 -- The parts of spellings, and what the needs in an expression say to its tokens.
 use Rattle.std.proofs.Common.{◌≡◌, refl, sym, ◌∙◌, ap, ℕ, ◌+◌, ◌-◌, List, [], ◌∷◌, ◌++◌, Option, Some, None, unwrap_or, Bool, true, false, if◌then◌else◌, nat_le, codes, bytes_eq, decimal, nat_lt, ◌^◌, subst, arith, option_and_then, ◌==◌}
 use Rattle.std.proofs.lemmas.Slice.Eq.{bytes_eq-Decides}
-use Rattle.mc_base.specs.declared.base.Compare.{Compare}
-use Rattle.mc_base.specs.declared.base.Compare.TheVariants.{Eq, Ne, Lt, Le, Ge, Gt}
+use Rattle.base_core.specs.declared.base.Compare.{Compare}
+use Rattle.base_core.specs.declared.base.Compare.TheVariants.{Eq, Ne, Lt, Le, Ge, Gt}
 use Rattle.c_syntax.specs.declared.code.BinOp.{BinOp}
 use Rattle.c_syntax.specs.declared.code.BinOp.TheVariants.{Add, Sub, Mul, Div, Rem}
 use Rattle.c_grammar.specs.Tokens.{Token}

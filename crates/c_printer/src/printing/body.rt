@@ -10,8 +10,8 @@ use crate::printing::names::{
     Scope, field_name, field_type, procedure_name, procedure_params, pure_name,
 };
 use crate::printing::put;
+use base_core::{Compare, Text};
 use c_syntax::{BinOp, CType, Cond, Expr, Leaf, Stmt, Target};
-use mc_base::{Compare, Text};
 use std::alloc::{AllocError, Global};
 
 pub(super) fn type_text(of: CType) -> &'static [u8]

@@ -8,8 +8,8 @@ ghost use Rattle.c_printer.specs.Printing.{pure_head_bytes, pure_bytes, pure_par
 use crate::printing::body::{put_expr, put_stmts, type_text};
 use crate::printing::names::{Params, Scope, struct_fields, struct_name};
 use crate::printing::put;
+use base_core::Text;
 use c_syntax::{CType, Field, FieldKind, Procedure, Program, Pure, StructDef};
-use mc_base::Text;
 use std::alloc::{AllocError, Global};
 
 pub(super) fn put_pure(

@@ -7,8 +7,8 @@ ghost use Rattle.c_syntax.specs.Names.{name_at};
 ghost use Rattle.c_printer.specs.Printing.{pure_name, struct_name, procedure_name, procedure_types, field_name, kind_fields, inner_fields};
 ghost use Rattle.c_printer.specs.VocabularyOf.{vocabulary_of, param_names};
 
+use base_core::Text;
 use c_syntax::{CType, Field, FieldKind, Program};
-use mc_base::Text;
 
 /// The parameters of a function.
 #[derive(Clone, Copy)]

@@ -11,7 +11,7 @@ use Rattle.c_syntax.specs.declared.program.FieldKind.{FieldKind}
 use Rattle.c_syntax.specs.declared.program.FieldKind.TheVariants.{Number, Array, Struct}
 use Rattle.c_syntax.specs.Tree.{FieldTree, struct_fields}
 use Rattle.c_grammar.specs.Written.{WrittenLeaf}
-use Rattle.c_grammar.specs.Results.{◌>>=◌, ◌>>◌}
+use Rattle.base_core.specs.Results.{◌>>=◌, ◌>>◌}
 use Rattle.c_rules.specs.Resolve.{unless_fault, on_line, or_unnamed, field_from, field_named, as_number, as_array, as_struct, same_type, Names, resolve_leaf, resolve_array, resolve_item_store}
 use Rattle.c_syntax.specs.RootFields.{is_number, is_number_kind}
 use Rattle.c_syntax.specs.Lawful.{Reach, IsArrayAt, IsLawfulLeaf}

@@ -6,8 +6,8 @@ use Rattle.std.specs.Option.{option_or}
 use Rattle.std.specs.Map.{lookup}
 use Rattle.std.specs.declared.alloc.Global.{Global}
 use Rattle.std.proofs.lemmas.Slice.Eq.{bytes_eq-Decides}
-use Rattle.mdl_tree.specs.Spelling.{Items, Section}
-use Rattle.mdl_tree.specs.Walks.{SectionTree, sections_named, first_value}
+use Rattle.mdl_tree.specs.Spelling.{Items}
+use Rattle.mdl_tree.specs.Walks.{SectionTree, first_value}
 use Rattle.mdl_params.specs.declared.texts.ParamText.{ParamText}
 use Rattle.mdl_params.specs.BlockTypes.{beside}
 use Rattle.mdl_params.specs.Defaults.{DefaultTexts, values_of, with_kind, kinds_of, AddsKind}
@@ -111,14 +111,3 @@ kinds_of-more wanted old new block blocks adds =
     ap (λ o. option_or o (beside wanted (kinds_of blocks))) (adds wanted)
     ∙ option_or_assoc (beside wanted old) (beside wanted (with_kind own block.items [])) (beside wanted (kinds_of blocks))
     ∙ ap (option_or (beside wanted old)) (sym (beside-with_kind wanted own block.items (kinds_of blocks)))
-
--- the sections of a name, where the first item is one of them or isn't
-pub sections_named-yes : (wanted name : List ℕ) (line : ℕ) (items rest : Items) → bytes_eq name wanted ≡ true →
-    sections_named wanted (Section name line items rest) ≡ record { name = name; line = line; items = items } ∷ sections_named wanted rest
-sections_named-yes wanted name line items rest same =
-    ap (λ t. cond t (record { name = name; line = line; items = items } ∷ sections_named wanted rest) (sections_named wanted rest)) same
-
-pub sections_named-no : (wanted name : List ℕ) (line : ℕ) (items rest : Items) → bytes_eq name wanted ≡ false →
-    sections_named wanted (Section name line items rest) ≡ sections_named wanted rest
-sections_named-no wanted name line items rest other =
-    ap (λ t. cond t (record { name = name; line = line; items = items } ∷ sections_named wanted rest) (sections_named wanted rest)) other

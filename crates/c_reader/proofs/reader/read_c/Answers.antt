@@ -2,7 +2,7 @@ use Rattle.std.proofs.Common.{sym, subst}
 use Rattle.c_syntax.specs.declared.program.Program.{Program}
 use Rattle.c_syntax.specs.Plain.{program_tree}
 use Rattle.c_rules.specs.Reading.{CText}
-use Rattle.c_reading.proofs.lemmas.ReadTexts.{texts_agree}
+use Rattle.c_reading_laws.proofs.lemmas.ReadTexts.{texts_agree}
 use Rattle.c_reader.specs.Reading.{IsReadFault}
 use Rattle.c_reader.proofs.Refusals.{refused-same, refused-text}
 use Rattle.c_reader.proofs.reader.read_c.Goals as goal

@@ -8,7 +8,8 @@ use Rattle.mdl_tree.proofs.lemmas.Rows.{section_in, items_from}
 use Rattle.mdl_params.specs.BlockTypes.{beside}
 use Rattle.mdl_params.specs.Defaults.{DefaultTexts, kinds_of}
 use Rattle.mdl_params.specs.Texts.{plain_kinds}
-use Rattle.mdl_params.proofs.lemmas.KindLemmas.{kinds_of-more, sections_named-yes, sections_named-no}
+use Rattle.mdl_tree.proofs.lemmas.Sections.{sections_named-yes, sections_named-no}
+use Rattle.mdl_params.proofs.lemmas.KindLemmas.{kinds_of-more}
 use Rattle.mdl_params.proofs.defaults.read_kinds.Goals as goal
 use Rattle.mdl_params.proofs.defaults.read_kinds.Goals.{in-Section+then-eq+in_ok-add_kind, in-Section+else-eq, in_default-item}
 

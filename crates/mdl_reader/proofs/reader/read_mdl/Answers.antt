@@ -2,7 +2,7 @@ use Rattle.std.proofs.Common.{◌≡◌, ◌+◌, length, ◌∙◌, ap, refl, a
 use Rattle.std.proofs.lemmas.List.{length_push}
 use Rattle.std.proofs.lemmas.Result.{err_from_is_err_and}
 use Rattle.std.specs.Str.Lines.{lines}
-use Rattle.mc_base.specs.Numbers.{reported_number}
+use Rattle.base_core.specs.Numbers.{reported_number}
 use Rattle.mdl_tree.specs.Text.{statements_from}
 use Rattle.mdl_reader.specs.Builders.{within_begun, outcome}
 use Rattle.mdl_reader.proofs.LinesLemmas.{lines_is}

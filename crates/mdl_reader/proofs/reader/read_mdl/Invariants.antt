@@ -1,6 +1,6 @@
 use Rattle.std.proofs.Common.{◌≡◌, ◌+◌, length}
 use Rattle.std.specs.Str.Lines.{lines}
-use Rattle.mc_base.specs.Numbers.{reported_number}
+use Rattle.base_core.specs.Numbers.{reported_number}
 use Rattle.mdl_tree.specs.Text.{statements_from}
 use Rattle.mdl_reader.specs.Builders.{outcome, within_begun}
 use Rattle.mdl_reader.proofs.TreeLemmas.{text_outcome}

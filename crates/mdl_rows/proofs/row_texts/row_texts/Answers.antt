@@ -1,7 +1,7 @@
 use Rattle.std.proofs.Common.{◌≡◌, refl, ◌∙◌, ap, subst, ◌<◌, ◌≤◌, List, length, slice_index_or}
 use Rattle.std.specs.Prelude.{is_some, MatchOption, true}
-use Rattle.mc_diagram.specs.FirstRefusal.{as_plain}
-use Rattle.mdl_wiring.specs.Order.{first_of}
+use Rattle.base_refusals.specs.FirstRefusal.{as_plain}
+use Rattle.base_refusals.specs.Order.{first_of}
 use Rattle.mdl_rows.specs.declared.blocks.NumberedBlock.{NumberedBlock}
 use Rattle.mdl_rows.specs.Models.{Block}
 use Rattle.mdl_rows.specs.Interiors.{control_of}

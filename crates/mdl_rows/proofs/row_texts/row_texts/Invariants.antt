@@ -1,8 +1,8 @@
 use Rattle.std.proofs.Common.{◌≡◌, List, ◌++◌, drop, None}
 use Rattle.std.specs.List.{AllZip}
 use Rattle.mdl_blocks.specs.declared.row.RowText.{RowText}
-use Rattle.mc_diagram.specs.FirstRefusal.{as_plain}
-use Rattle.mdl_wiring.specs.Order.{first_of}
+use Rattle.base_refusals.specs.FirstRefusal.{as_plain}
+use Rattle.base_refusals.specs.Order.{first_of}
 use Rattle.mdl_rows.specs.Models.{Block}
 use Rattle.mdl_rows.specs.Interiors.{control_of}
 use Rattle.mdl_rows.specs.Refusals.{first_in, row_refusal}

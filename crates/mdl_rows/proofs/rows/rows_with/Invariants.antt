@@ -1,6 +1,6 @@
 use Rattle.std.proofs.Common.{List, ◌++◌, drop}
 use Rattle.std.specs.List.{AllZip}
-use Rattle.mc_diagram.specs.declared.table.Row.{Row}
+use Rattle.diagram_meaning.specs.declared.table.Row.{Row}
 use Rattle.mdl_rows.specs.Tables.{AreRowsOf, IsRowOf}
 use Rattle.mdl_rows.specs.Held.{all_seen}
 use Rattle.mdl_rows.specs.HeldModels.{model_of}

@@ -1,8 +1,8 @@
 use Rattle.std.proofs.Common.{sym, ◌∙◌, ap, subst, ◌<◌, ◌≤◌, List, ◌++◌, length, slice_index_or}
 use Rattle.std.specs.Prelude.{filter_map}
 use Rattle.std.specs.List.{AllZip}
-use Rattle.mc_diagram.specs.FirstRefusal.{as_plain}
-use Rattle.mdl_wiring.specs.Order.{first_of}
+use Rattle.base_refusals.specs.FirstRefusal.{as_plain}
+use Rattle.base_refusals.specs.Order.{first_of}
 use Rattle.mdl_rows.specs.declared.blocks.NumberedBlock.{NumberedBlock}
 use Rattle.mdl_rows.specs.Models.{inner_system}
 use Rattle.mdl_rows.specs.Refusals.{first_in, system_refusal}

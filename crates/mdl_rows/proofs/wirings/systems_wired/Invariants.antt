@@ -1,8 +1,8 @@
 use Rattle.std.proofs.Common.{◌≡◌, List, Option, ◌++◌, drop}
 use Rattle.std.specs.List.{AllZip}
-use Rattle.mc_diagram.specs.FirstRefusal.{as_plain}
+use Rattle.base_refusals.specs.FirstRefusal.{as_plain}
 use Rattle.mdl_wiring.specs.declared.wiring.Wiring.{Wiring}
-use Rattle.mdl_wiring.specs.Order.{first_of}
+use Rattle.base_refusals.specs.Order.{first_of}
 use Rattle.mdl_rows.specs.Models.{root_system}
 use Rattle.mdl_rows.specs.Refusals.{first_in, systems_refusal}
 use Rattle.mdl_rows.specs.Held.{IsInnerWired, IsSystemWired, all_seen}

@@ -1,7 +1,7 @@
 use Rattle.std.proofs.Common.{◌≡◌, refl, sym, ap, ◌∙◌, subst, Ok, Err, [], append-nil, drop_of_length-le}
 use Rattle.std.specs.Result.{result_map_both}
 use Rattle.std.specs.List.{AllZip}
-use Rattle.mc_diagram.specs.FirstRefusal.{as_plain, earlier_of}
+use Rattle.base_refusals.specs.FirstRefusal.{as_plain, earlier_of}
 use Rattle.mdl_blocks.specs.Held.{block_text}
 use Rattle.mdl_systems.specs.Refusals.{read, unread_at, misformed_at, unread, misformed}
 use Rattle.mdl_systems.specs.Reading.{IsRead}

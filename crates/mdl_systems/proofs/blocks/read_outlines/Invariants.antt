@@ -1,6 +1,6 @@
 use Rattle.std.proofs.Common.{◌≡◌, List, ◌++◌, drop}
 use Rattle.std.specs.List.{AllZip}
-use Rattle.mc_diagram.specs.FirstRefusal.{as_plain, least_in, earlier_of}
+use Rattle.base_refusals.specs.FirstRefusal.{as_plain, least_in, earlier_of}
 use Rattle.mdl_systems.specs.declared.placed.PlacedBlock.{PlacedBlock}
 use Rattle.mdl_systems.specs.Refusals.{unread, misformed}
 use Rattle.mdl_systems.specs.Reading.{IsRead, IsFaultless}

@@ -1,5 +1,5 @@
 use Rattle.std.proofs.Common.{ap, ◌∙◌}
-use Rattle.mc_diagram.specs.FirstRefusal.{as_plain, earlier_of}
+use Rattle.base_refusals.specs.FirstRefusal.{as_plain, earlier_of}
 use Rattle.mdl_tree.specs.Values.{section_tree}
 use Rattle.mdl_systems.specs.Models.{library}
 use Rattle.mdl_systems.proofs.PassLemmas.{least-at, least-end}

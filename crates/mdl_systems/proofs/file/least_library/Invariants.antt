@@ -1,6 +1,6 @@
 use Rattle.std.proofs.Common.{◌≡◌, drop}
-use Rattle.mc_diagram.specs.FirstRefusal.{least_in, as_plain, earlier_of}
-use Rattle.mdl_systems.specs.Held.{trees_of}
+use Rattle.base_refusals.specs.FirstRefusal.{least_in, as_plain, earlier_of}
+use Rattle.mdl_tree.specs.Values.{trees_of}
 use Rattle.mdl_systems.specs.Models.{library}
 use Rattle.mdl_systems.proofs.file.least_library.Given as goal
 

@@ -1,6 +1,6 @@
 use Rattle.std.proofs.Common.{ap, ◌∙◌}
 use Rattle.std.specs.Prelude.{flat_map}
-use Rattle.mc_diagram.specs.FirstRefusal.{as_plain, earlier_of, least_in}
+use Rattle.base_refusals.specs.FirstRefusal.{as_plain, earlier_of, least_in}
 use Rattle.mdl_tree.specs.Values.{section_tree}
 use Rattle.mdl_systems.specs.Outlines.{root_system, systems_inside}
 use Rattle.mdl_systems.specs.Held.{seen, all_seen}

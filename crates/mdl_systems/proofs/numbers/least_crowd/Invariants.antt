@@ -1,5 +1,5 @@
 use Rattle.std.proofs.Common.{◌≡◌, drop}
-use Rattle.mc_diagram.specs.FirstRefusal.{least_in, as_plain, earlier_of}
+use Rattle.base_refusals.specs.FirstRefusal.{least_in, as_plain, earlier_of}
 use Rattle.mdl_tree.specs.Values.{section_tree}
 use Rattle.mdl_systems.specs.Outlines.{root_system, systems_inside}
 use Rattle.mdl_systems.specs.Held.{all_seen}

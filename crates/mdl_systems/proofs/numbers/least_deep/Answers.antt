@@ -1,5 +1,5 @@
 use Rattle.std.proofs.Common.{ap, ◌∙◌}
-use Rattle.mc_diagram.specs.FirstRefusal.{as_plain, earlier_of}
+use Rattle.base_refusals.specs.FirstRefusal.{as_plain, earlier_of}
 use Rattle.mdl_systems.specs.Held.{seen}
 use Rattle.mdl_systems.specs.Refusals.{deep}
 use Rattle.mdl_systems.proofs.PassLemmas.{least-at, least-end}

@@ -1,6 +1,6 @@
 use Rattle.std.proofs.Common.{sym, ap, ◌∙◌}
 use Rattle.std.specs.Option.{option_copied}
-use Rattle.mdl_table.specs.Walks.{item_alone}
+use Rattle.mdl_tree.specs.Values.{item_alone}
 use Rattle.mdl_table.specs.Steps.{first_at_any_depth}
 use Rattle.mdl_table.proofs.StepLemmas.{any_depth-section, any_depth-from, found-here, found-later}
 use Rattle.mdl_table.proofs.step.+inside.Goals as goal

@@ -1,5 +1,5 @@
 use Rattle.std.proofs.Common.{refl, ◌∙◌, ap, map, ◌++◌, arith}
-use Rattle.mc_diagram.specs.Nested as nested
+use Rattle.diagram_meaning.specs.Nested as nested
 use Rattle.mdl_table.proofs.SystemLists.{nested_of, made, more-made, all-made, short-children}
 use Rattle.mdl_table.proofs.systems.+subsystem_of.Goals as goal
 

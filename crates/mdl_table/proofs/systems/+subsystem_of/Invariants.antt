@@ -1,5 +1,5 @@
 use Rattle.std.proofs.Common.{◌≡◌, ◌++◌, map, drop}
-use Rattle.mc_diagram.specs.Nested as nested
+use Rattle.diagram_meaning.specs.Nested as nested
 use Rattle.mdl_table.proofs.SystemLists.{EachIsShort, nested_of}
 use Rattle.mdl_table.proofs.systems.+subsystem_of.Given as goal
 

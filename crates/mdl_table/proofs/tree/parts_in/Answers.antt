@@ -7,7 +7,7 @@ use Rattle.mdl_table.specs.Tables.{IsTableBy, HasRootLine}
 use Rattle.mdl_table.proofs.FoundModels.{found-step, all-ok}
 use Rattle.mdl_table.proofs.TreeLemmas.{root-line}
 use Rattle.mdl_table.proofs.tree.parts_in.Goals as goal
-use Rattle.mc_diagram.specs.declared.subsystem.Subsystem.{out-Subsystem}
+use Rattle.diagram_meaning.specs.declared.subsystem.Subsystem.{out-Subsystem}
 
 pub returns-clause-accepted : goal.returns-clause-accepted
 returns-clause-accepted c =

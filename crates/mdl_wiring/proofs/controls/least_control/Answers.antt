@@ -1,5 +1,5 @@
 use Rattle.std.proofs.Common.{ap, ◌∙◌}
-use Rattle.mc_diagram.specs.FirstRefusal.{as_plain, earlier_of, found_where}
+use Rattle.base_refusals.specs.FirstRefusal.{as_plain, earlier_of, found_where}
 use Rattle.mdl_wiring.specs.Members.{member_seen}
 use Rattle.mdl_wiring.specs.Refusals.{is_control, control_port}
 use Rattle.mdl_wiring.proofs.PassLemmas.{least-at}

@@ -1,5 +1,5 @@
 use Rattle.std.proofs.Common.{◌≡◌, drop}
-use Rattle.mc_diagram.specs.FirstRefusal.{as_plain, earlier_of, found_where, least_in}
+use Rattle.base_refusals.specs.FirstRefusal.{as_plain, earlier_of, found_where, least_in}
 use Rattle.mdl_wiring.specs.Members.{members_seen}
 use Rattle.mdl_wiring.specs.Refusals.{is_control, control_port}
 use Rattle.mdl_wiring.proofs.controls.least_control.Given as goal

@@ -1,5 +1,5 @@
 use Rattle.std.proofs.Common.{ap, ◌∙◌}
-use Rattle.mc_diagram.specs.FirstRefusal.{as_plain, earlier_of}
+use Rattle.base_refusals.specs.FirstRefusal.{as_plain, earlier_of}
 use Rattle.mdl_wiring.specs.Members.{member_seen, members_seen}
 use Rattle.mdl_wiring.specs.Refusals.{double, same_name}
 use Rattle.mdl_wiring.proofs.PassLemmas.{from-at}

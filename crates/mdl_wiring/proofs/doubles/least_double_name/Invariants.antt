@@ -1,5 +1,5 @@
 use Rattle.std.proofs.Common.{◌≡◌, drop}
-use Rattle.mc_diagram.specs.FirstRefusal.{as_plain, earlier_of}
+use Rattle.base_refusals.specs.FirstRefusal.{as_plain, earlier_of}
 use Rattle.mdl_wiring.specs.Members.{members_seen}
 use Rattle.mdl_wiring.specs.Refusals.{least_from, double, first_double, same_name}
 use Rattle.mdl_wiring.proofs.doubles.least_double_name.Given as goal

@@ -1,5 +1,5 @@
 use Rattle.std.proofs.Common.{◌≡◌, drop, take}
-use Rattle.mc_diagram.specs.FirstRefusal.{as_plain, earlier_of}
+use Rattle.base_refusals.specs.FirstRefusal.{as_plain, earlier_of}
 use Rattle.mdl_wiring.specs.Members.{members_seen}
 use Rattle.mdl_wiring.specs.Refusals.{least_from, double, first_double, same_port}
 use Rattle.mdl_wiring.specs.Doubles.{ArePortsOf}

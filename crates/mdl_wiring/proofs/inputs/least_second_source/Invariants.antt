@@ -1,5 +1,5 @@
 use Rattle.std.proofs.Common.{◌≡◌, drop}
-use Rattle.mc_diagram.specs.FirstRefusal.{as_plain, earlier_of}
+use Rattle.base_refusals.specs.FirstRefusal.{as_plain, earlier_of}
 use Rattle.mdl_wiring.specs.Refusals.{least_from, second_source, double_sources}
 use Rattle.mdl_wiring.specs.Held.{ends_seen}
 use Rattle.mdl_wiring.proofs.inputs.least_second_source.Given as goal

@@ -2,7 +2,8 @@ use Rattle.std.proofs.Common.{◌≡◌, ◌++◌, drop}
 use Rattle.std.specs.Prelude.{flat_map, option_to_list}
 use Rattle.mdl_wiring.specs.Members.{members_seen}
 use Rattle.mdl_wiring.specs.Lines.{source_of, ends_of_line}
-use Rattle.mdl_wiring.specs.Held.{trees_of, places_seen, ends_seen}
+use Rattle.mdl_wiring.specs.Held.{places_seen, ends_seen}
+use Rattle.mdl_tree.specs.Values.{trees_of}
 use Rattle.mdl_wiring.proofs.lines.places_of.Given as goal
 
 abbrev pub invariant-loop-line : goal.invariant-loop-line

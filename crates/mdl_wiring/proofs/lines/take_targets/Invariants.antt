@@ -1,7 +1,8 @@
 use Rattle.std.proofs.Common.{◌≡◌, ◌++◌, drop}
 use Rattle.mdl_wiring.specs.Members.{members_seen}
 use Rattle.mdl_wiring.specs.Lines.{ends_to}
-use Rattle.mdl_wiring.specs.Held.{trees_of, place_seen, ends_seen}
+use Rattle.mdl_wiring.specs.Held.{place_seen, ends_seen}
+use Rattle.mdl_tree.specs.Values.{trees_of}
 use Rattle.mdl_wiring.proofs.lines.take_targets.Given as goal
 
 abbrev pub invariant-loop-part : goal.invariant-loop-part

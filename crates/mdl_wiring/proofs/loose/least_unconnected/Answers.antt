@@ -1,5 +1,5 @@
 use Rattle.std.proofs.Common.{refl, ap, ◌∙◌}
-use Rattle.mc_diagram.specs.FirstRefusal.{as_plain, earlier_of}
+use Rattle.base_refusals.specs.FirstRefusal.{as_plain, earlier_of}
 use Rattle.mdl_wiring.specs.Members.{member_seen}
 use Rattle.mdl_wiring.specs.Refusals.{unconnected}
 use Rattle.mdl_wiring.proofs.PassLemmas.{from-at, from-end}

@@ -1,5 +1,5 @@
 use Rattle.std.proofs.Common.{ap, ◌∙◌}
-use Rattle.mc_diagram.specs.FirstRefusal.{as_plain, earlier_of}
+use Rattle.base_refusals.specs.FirstRefusal.{as_plain, earlier_of}
 use Rattle.mdl_wiring.specs.Lines.{LineEnd}
 use Rattle.mdl_wiring.specs.Refusals.{no_block}
 use Rattle.mdl_wiring.specs.Held.{end_seen}

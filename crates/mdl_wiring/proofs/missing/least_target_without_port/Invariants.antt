@@ -1,5 +1,5 @@
 use Rattle.std.proofs.Common.{◌≡◌, drop}
-use Rattle.mc_diagram.specs.FirstRefusal.{as_plain, earlier_of, least_in}
+use Rattle.base_refusals.specs.FirstRefusal.{as_plain, earlier_of, least_in}
 use Rattle.mdl_wiring.specs.Lines.{LineEnd}
 use Rattle.mdl_wiring.specs.Refusals.{no_input}
 use Rattle.mdl_wiring.specs.Held.{ends_seen}

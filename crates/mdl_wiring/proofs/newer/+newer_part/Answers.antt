@@ -1,6 +1,6 @@
 use Rattle.std.proofs.Common.{◌+◌, sym, ap, ◌∙◌, true, false, drop, codes}
 use Rattle.std.specs.Prelude.{bytes_eq}
-use Rattle.mc_diagram.specs.FirstRefusal.{as_plain, earlier_of, least_in}
+use Rattle.base_refusals.specs.FirstRefusal.{as_plain, earlier_of, least_in}
 use Rattle.mdl_tree.specs.Spelling.{End}
 use Rattle.mdl_tree.specs.Values.{items_of, with_item}
 use Rattle.mdl_wiring.specs.Lines.{branches_in}

@@ -1,5 +1,5 @@
 use Rattle.std.proofs.Common.{◌≡◌, drop}
-use Rattle.mc_diagram.specs.FirstRefusal.{as_plain, earlier_of, least_in}
+use Rattle.base_refusals.specs.FirstRefusal.{as_plain, earlier_of, least_in}
 use Rattle.mdl_tree.specs.Values.{items_of, section_tree}
 use Rattle.mdl_wiring.specs.Lines.{branches_in, parts_of_line}
 use Rattle.mdl_wiring.specs.Refusals.{newer}

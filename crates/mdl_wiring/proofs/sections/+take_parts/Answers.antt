@@ -1,10 +1,10 @@
 use Rattle.std.proofs.Common.{◌+◌, ◌++◌, true, false, sym, ap, ◌∙◌, drop, codes}
 use Rattle.std.specs.Prelude.{bytes_eq}
 use Rattle.mdl_tree.specs.Spelling.{End}
-use Rattle.mdl_tree.specs.Values.{items_of, section_tree, with_item}
+use Rattle.mdl_tree.specs.Values.{items_of, section_tree, with_item, trees_of}
 use Rattle.mdl_wiring.specs.Lines.{branches_in, parts_of_line}
-use Rattle.mdl_wiring.specs.Held.{trees_of}
-use Rattle.mdl_wiring.proofs.SectionLemmas.{branches-from, branches-section, branch-taken, named-pass}
+use Rattle.mdl_tree.proofs.lemmas.Sections.{named-pass}
+use Rattle.mdl_wiring.proofs.SectionLemmas.{branches-from, branches-section, branch-taken}
 use Rattle.mdl_wiring.proofs.sections.+take_parts.Goals as goal
 use Rattle.mdl_wiring.proofs.sections.+take_parts.Goals.{in-Section+then-eq+in_ok-take_parts, in-Section+else-eq, in_default}
 

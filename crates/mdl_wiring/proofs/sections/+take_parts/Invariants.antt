@@ -1,7 +1,6 @@
 use Rattle.std.proofs.Common.{◌≡◌, ◌++◌, drop}
-use Rattle.mdl_tree.specs.Values.{items_of, section_tree}
+use Rattle.mdl_tree.specs.Values.{items_of, section_tree, trees_of}
 use Rattle.mdl_wiring.specs.Lines.{branches_in, parts_of_line}
-use Rattle.mdl_wiring.specs.Held.{trees_of}
 use Rattle.mdl_wiring.proofs.sections.+take_parts.Given as goal
 
 abbrev pub invariant-loop-item : goal.invariant-loop-item

@@ -1,0 +1,36 @@
+-- What reads of files come to: what is left of the open file, and how many bytes were given.
+use Rattle.std.specs.Prelude.{◌≡◌, ◌⊎◌, ℕ, ◌+◌, ◌-◌, ◌^◌, min, List, [], length, Option, Some, option_map}
+use Rattle.std.specs.Io.KnownBytes.{prepend_known}
+use Rattle.base_host.specs.Files.{File, OnFile}
+
+-- the count rose by n, up to the greatest value of a u64
+abbrev pub RoseBy : ℕ → ℕ → ℕ → Type 0
+RoseBy n before now = min now (2 ^ 64 - 1) ≡ min (before + n) (2 ^ 64 - 1)
+
+-- what is left of the open file, where that is told, and how many bytes reads have given so far
+pub record Source : Type 0 where
+  pub rest : Option (List ℕ)
+  pub given : ℕ
+
+abbrev pub source : Option (List ℕ) → ℕ → Source
+source rest given = record { rest = rest; given = given }
+
+-- these bytes of the open file were read, and nothing else
+pub record HasRead (bytes : List ℕ) (s s' : Source) : Type 0 where
+  pub front : s.rest ≡ prepend_known bytes s'.rest
+  pub count : RoseBy (length bytes) s.given s'.given
+
+-- of the file of this name a front was read, and nothing else: what is left is the rest of it
+pub record ReadsFront (files : Option (List File)) (name : List ℕ) (s s' : Source) : Type 0 where
+  pub taken : List ℕ
+  pub file : OnFile files s.rest name (λ bytes. Some bytes ≡ prepend_known taken s'.rest)
+  pub count : RoseBy (length taken) s.given s'.given
+
+-- no file was opened: nothing was read, and nothing is left
+pub record OpensNone (s s' : Source) : Type 0 where
+  pub rest : s'.rest ≡ option_map (λ _. []) s.rest
+  pub given : s'.given ≡ s.given
+
+-- a file of this name couldn't be opened, or not read on after a front of it
+abbrev pub StopsReading : Option (List File) → List ℕ → Source → Source → Type 0
+StopsReading files name s s' = OpensNone s s' ⊎ ReadsFront files name s s'

@@ -1,0 +1,114 @@
+// Whole files, and whole texts.
+ghost use Rattle.std.specs.Prelude.{◌≡◌, ◌≢◌, ℕ, ◌<◌, ◌≤◌, length, [], Some, false, Err, IfOk, OnOk, OnErr, IsErrOf, vec_len};
+ghost use Rattle.std.specs.Io.KnownBytes.{append_known, IsAtEnd};
+ghost use Rattle.base_host.specs.Faults.{Rose, HasCause};
+ghost use Rattle.base_host.specs.Files.{OnFile, add_file, PutsFront, WritesFront};
+ghost use Rattle.base_host.specs.Reading.{RoseBy, source, ReadsFront, StopsReading};
+
+use crate::{Failed, Host, Sink};
+use std::alloc::Global;
+
+/// Why a file wasn't read whole: a read failed, it has too many bytes, or there was no memory.
+#[derive(Clone, Copy, Debug, PartialEq, Eq)]
+pub enum ReadAllFault {
+    /// The file can't be opened, or a read of it failed.
+    Read,
+    /// It has more bytes than it may have.
+    TooLong,
+    /// Memory ran out.
+    Memory,
+}
+
+// How many bytes a read asks for.
+const PIECE: usize = 4096;
+
+/// The bytes of the first file of that name.
+///
+/// Fails with `Read` only where the host counted a fault, with `TooLong` only where the file has more than `max`
+/// bytes, and with `Memory` where memory runs out. The host's count of bytes given rises by the length of what was read.
+pub fn read_all<H: Host>(
+    alloc: Global,
+    host: &mut H,
+    name: &str,
+    max: usize,
+) -> Result<Vec<u8>, ReadAllFault>
+    ensures whole { IfOk result (λ v. OnFile (H.files host.old) (H.rest host.old) name.now
+        (λ bytes. v.items ≡ bytes)) }
+    ensures end { OnOk result (IsAtEnd (H.rest host.new)) }
+    ensures told { OnOk result (OnFile (H.files host.old) (H.rest host.old) name.now
+        (λ _. H.rest host.new ≡ Some [])) }
+    ensures given { IfOk result (λ v. RoseBy (vec_len v) (H.given host.old) (H.given host.new)) }
+    ensures fits { IfOk result (λ v. vec_len v ≤ max) }
+    ensures too_long { IsErrOf result ReadAllFault.TooLong →
+        OnFile (H.files host.old) (H.rest host.old) name.now (λ bytes. max < length bytes) }
+    ensures front { result ≢ Err ReadAllFault.Read → ReadsFront (H.files host.old) name.now
+        (source (H.rest host.old) (H.given host.old)) (source (H.rest host.new) (H.given host.new)) }
+    ensures stopped { IsErrOf result ReadAllFault.Read → StopsReading (H.files host.old) name.now
+        (source (H.rest host.old) (H.given host.old)) (source (H.rest host.new) (H.given host.new)) }
+
+    ensures cause { IsErrOf result ReadAllFault.Read →
+        Rose (H.read_faults host.old) (H.read_faults host.new) }
+    ensures unsure { IsErrOf result ReadAllFault.Read → H.sure host.old name.now ≡ false }
+    ensures calm { result ≢ Err ReadAllFault.Read →
+        H.read_faults host.new ≡ H.read_faults host.old }
+    ensures later { H.read_faults host.old ≤ H.read_faults host.new }
+
+    ensures files { H.files host.new ≡ H.files host.old }
+    ensures written { H.written host.new ≡ H.written host.old }
+    ensures write_faults { H.write_faults host.new ≡ H.write_faults host.old }
+{
+    if host.open_read(name).is_err() {
+        return Err(ReadAllFault::Read);
+    }
+    let mut bytes = Vec::new(alloc);
+    let mut piece = [0u8; PIECE];
+    loop {
+        let Ok(count) = host.read(&mut piece) else {
+            return Err(ReadAllFault::Read);
+        };
+        if count == 0 {
+            return Ok(bytes);
+        }
+        if max - bytes.len() < count {
+            return Err(ReadAllFault::TooLong);
+        }
+        if bytes.extend_from_slice(&piece[..count]).is_err() {
+            return Err(ReadAllFault::Memory);
+        }
+    }
+}
+
+/// Writes a file of that name whole.
+///
+/// Fails only where the host counted a fault. Then the file isn't there, or holds the front of the bytes.
+pub fn write_all<H: Host>(host: &mut H, name: &str, bytes: &[u8]) -> Result<(), Failed>
+    ensures whole { OnOk result (H.written host.new ≡ add_file (H.written host.old) name.now bytes.now) }
+    ensures front { OnErr result (WritesFront (H.written host.old) (H.written host.new) name.now bytes.now) }
+    ensures cause { HasCause (H.write_faults host.old) (H.write_faults host.new) result }
+    ensures files { H.files host.new ≡ H.files host.old }
+    ensures rest { H.rest host.new ≡ H.rest host.old }
+    ensures given { H.given host.new ≡ H.given host.old }
+    ensures read_faults { H.read_faults host.new ≡ H.read_faults host.old }
+{
+    host.open_write(name)?;
+    let mut at = 0;
+    while at < bytes.len() {
+        at += host.write(&bytes[at..])?;
+    }
+    Ok(())
+}
+
+/// Puts all the bytes.
+///
+/// Fails only where the sink counted a fault. Then the front of the bytes was put.
+pub fn put_all<S: Sink>(sink: &mut S, bytes: &[u8]) -> Result<(), Failed>
+    ensures whole { OnOk result (S.bytes sink.new ≡ append_known (S.bytes sink.old) bytes.now) }
+    ensures front { OnErr result (PutsFront (S.bytes sink.old) (S.bytes sink.new) bytes.now) }
+    ensures cause { HasCause (S.faults sink.old) (S.faults sink.new) result }
+{
+    let mut at = 0;
+    while at < bytes.len() {
+        at += sink.put(&bytes[at..])?;
+    }
+    Ok(())
+}

@@ -1,0 +1,4 @@
+pub mod Refusals
+pub mod FirstRefusal
+pub mod Order
+pub mod RefusalExamples

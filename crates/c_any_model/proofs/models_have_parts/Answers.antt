@@ -1,5 +1,0 @@
-use Rattle.c_any_model.proofs.Together as proof
-use Rattle.c_any_model.proofs.models_have_parts.Goals as goal
-
-pub returns : goal.returns
-returns c = proof.models_have_parts c.each_system_is_emitted.ensures

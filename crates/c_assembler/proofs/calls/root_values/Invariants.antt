@@ -1,8 +1,0 @@
-use Rattle.std.proofs.Common.{◌≡◌, [], map, take}
-use Rattle.c_syntax.specs.Plain.{expr_tree, param_trees}
-use Rattle.c_shape.specs.Assembled.{root_value}
-use Rattle.c_assembler.proofs.calls.root_values.Given as goal
-
-abbrev pub invariant-loop-param : goal.invariant-loop-param
-invariant-loop-param l = map expr_tree l.values.items
-    ≡ map (root_value [] (param_trees l.params)) (param_trees (take l.param-index l.wanted))

@@ -1,7 +1,0 @@
-use Rattle.std.proofs.Common.{◌≡◌, map, take}
-use Rattle.std.specs.List.{filter_map}
-use Rattle.c_assembler.specs.Children.{told_names}
-use Rattle.c_assembler.proofs.child_names.told.Given as goal
-
-abbrev pub invariant-loop-entry : goal.invariant-loop-entry
-invariant-loop-entry l = map (λ n. n.now) l.names.items ≡ filter_map (λ name. name) (told_names (take l.entry-index l.table))

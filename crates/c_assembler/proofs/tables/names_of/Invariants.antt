@@ -1,6 +1,0 @@
-use Rattle.std.proofs.Common.{drop}
-use Rattle.c_assembler.specs.Places.{TellsCodes, place_in}
-use Rattle.c_assembler.proofs.tables.names_of.Given as goal
-
-abbrev pub invariant-loop-place : goal.invariant-loop-place
-invariant-loop-place l = TellsCodes l.place (drop l.place l.list) (place_in l.names.value)

@@ -1,5 +1,0 @@
-use Rattle.c_assembly.proofs.CodedViews.{codes_have_views}
-use Rattle.c_assembly.proofs.laws.codes_have_views.Goals as goal
-
-pub returns : goal.returns
-returns c = codes_have_views c.profiles_are_one.ensures c.header_is_of_own_rows.ensures

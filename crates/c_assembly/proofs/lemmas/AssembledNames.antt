@@ -1,5 +1,0 @@
--- The names of systems and of their procedures, for the crates above.
-pub use Rattle.c_assembly.proofs.SystemNames.{bytes-same, bytes-apart, front-one, IsNumbered, system-plain, system-one, root-apart, procedures-apart}
-pub use Rattle.c_assembly.proofs.SystemPlaces.{BelongsTo, numbered, row-is, procedure-belongs, struct-name}
-pub use Rattle.c_assembly.proofs.ProcedurePlaces.{own-names-differ, own-place, head-there}
-pub use Rattle.c_assembly.proofs.FieldPlaces.{last-struct, slots-differ, moved-names}

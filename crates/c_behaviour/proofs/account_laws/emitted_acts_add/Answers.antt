@@ -1,7 +1,0 @@
-use Rattle.c_behaviour.proofs.EmittedAdds as proof
-use Rattle.c_behaviour.proofs.account_laws.emitted_acts_add.Goals as goal
-
-pub returns : goal.returns
-returns c =
-    proof.emitted_acts_add c.fields_have_places.ensures c.locals_are_lawful.ensures c.groups_stand_first.ensures
-    c.updates_end_ticks.ensures

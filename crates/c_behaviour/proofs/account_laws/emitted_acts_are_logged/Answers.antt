@@ -1,5 +1,0 @@
-use Rattle.c_behaviour.proofs.OwnLogs as proof
-use Rattle.c_behaviour.proofs.account_laws.emitted_acts_are_logged.Goals as goal
-
-pub returns : goal.returns
-returns c = proof.emitted_acts_are_logged

@@ -1,5 +1,0 @@
-use Rattle.c_behaviour.proofs.GroupOrders as proof
-use Rattle.c_behaviour.proofs.account_laws.groups_are_next.Goals as goal
-
-pub returns : goal.returns
-returns c = proof.groups_are_next c.locals_are_lawful.ensures c.needed_group_is_earlier.ensures

@@ -1,5 +1,0 @@
-use Rattle.c_behaviour.proofs.ProcedurePlaces as proof
-use Rattle.c_behaviour.proofs.place_laws.calls_are_logged_by_name.Goals as goal
-
-pub returns : goal.returns
-returns c = proof.calls_are_logged_by_name c.emitted_is_emittable.ensures c.groups_stand_first.ensures

@@ -1,5 +1,0 @@
-use Rattle.c_behaviour.proofs.ProcedurePlaces as proof
-use Rattle.c_behaviour.proofs.place_laws.procedures_have_places.Goals as goal
-
-pub returns : goal.returns
-returns c = proof.procedures_have_places c.emitted_is_emittable.ensures c.groups_stand_first.ensures

@@ -1,5 +1,0 @@
-use Rattle.c_blocks.proofs.lemmas.Writable.{row_ops_are_writable}
-use Rattle.c_blocks.proofs.laws.row_ops_are_writable.Goals as goal
-
-pub returns : goal.returns
-returns c = row_ops_are_writable c.values_stay_in_type.ensures c.narrow_rows_fit.ensures

@@ -1,5 +1,0 @@
-use Rattle.c_blocks.proofs.lemmas.LawfulLaws.{rows_are_lawful}
-use Rattle.c_blocks.proofs.laws.rows_are_lawful.Goals as goal
-
-pub returns : goal.returns
-returns c = rows_are_lawful c.row_ops_are_writable.ensures

@@ -1,5 +1,0 @@
-use Rattle.c_blocks.proofs.lemmas.StatementLaws.{rows_are_stored}
-use Rattle.c_blocks.proofs.statement_laws.rows_are_stored.Goals as goal
-
-pub returns : goal.returns
-returns c = rows_are_stored c.rows_are_computed.ensures

@@ -1,5 +1,0 @@
-use Rattle.c_blocks.proofs.lemmas.StatementRules.{statements_are_lawful}
-use Rattle.c_blocks.proofs.statement_laws.statements_are_lawful.Goals as goal
-
-pub returns : goal.returns
-returns c = statements_are_lawful

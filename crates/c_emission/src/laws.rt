@@ -1,6 +1,0 @@
-ghost use Rattle.c_emission.specs.Agreeing.{EmittedAgree};
-
-/// The profile and the schedule of a system whose code is made agree on its functions.
-pub fn emitted_agree()
-    ensures { EmittedAgree }
-{}

@@ -1,5 +1,0 @@
--- An assembled program has the shape of a program of its systems.
-use Rattle.c_faces.specs.Shapes.{FunctionsAreKnown, SystemsHaveShape, StructsAreNamed, RootHasShape, AssembledHaveShape}
-
-pub assembled_have_shape : FunctionsAreKnown → SystemsHaveShape → StructsAreNamed → RootHasShape → AssembledHaveShape
-assembled_have_shape known systems structs root a = record { pures = known a; structs = structs a; each = systems a; root = root a }

@@ -1,5 +1,0 @@
-use Rattle.c_faces.proofs.AssembledShape.{assembled_have_shape}
-use Rattle.c_faces.proofs.laws.assembled_has_shape.Goals as goal
-
-pub returns : goal.returns
-returns c = assembled_have_shape c.functions_are_known.ensures c.systems_have_shape.ensures c.structs_are_named.ensures c.root_has_shape.ensures

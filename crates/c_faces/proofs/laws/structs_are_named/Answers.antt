@@ -1,5 +1,0 @@
-use Rattle.c_faces.proofs.StructNames.{structs_are_named}
-use Rattle.c_faces.proofs.laws.structs_are_named.Goals as goal
-
-pub returns : goal.returns
-returns c = structs_are_named c.codes_have_views.ensures

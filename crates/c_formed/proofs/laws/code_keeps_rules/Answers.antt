@@ -1,5 +1,0 @@
-use Rattle.c_formed.proofs.KeptRules as proof
-use Rattle.c_formed.proofs.laws.code_keeps_rules.Goals as goal
-
-pub returns : goal.returns
-returns c = proof.code_keeps_rules c.locals_are_lawful.ensures c.nodes_reach_as_rows.ensures c.rows_read_their_leaves.ensures

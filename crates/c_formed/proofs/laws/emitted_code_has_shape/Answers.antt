@@ -1,5 +1,0 @@
-use Rattle.c_formed.proofs.Whole as proof
-use Rattle.c_formed.proofs.laws.emitted_code_has_shape.Goals as goal
-
-pub returns : goal.returns
-returns c = proof.emitted_code_has_shape c.locals_are_lawful.ensures c.nodes_reach_as_rows.ensures c.rows_read_their_leaves.ensures

@@ -1,5 +1,0 @@
-use Rattle.c_instances.proofs.ZeroFields.{zeros_have_forms}
-use Rattle.c_instances.proofs.laws.zeros_have_forms.Goals as goal
-
-pub returns : goal.returns
-returns c = zeros_have_forms

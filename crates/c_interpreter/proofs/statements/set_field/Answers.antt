@@ -1,0 +1,13 @@
+use Rattle.std.proofs.Common.{SFits, w64, rules}
+use Rattle.std.proofs.lemmas.Int.{to_z-of_z}
+use Rattle.c_syntax.specs.Plain.{expr_tree}
+use Rattle.c_interpreter.specs.Frames.{scope_in}
+use Rattle.c_interpreter.proofs.Outcomes.{assign_gives}
+use Rattle.c_interpreter.proofs.statements.set_field.Goals as goal
+
+pub returns-in-Ok-clause-ran : goal.returns-in-Ok-clause-ran
+returns-in-Ok-clause-ran c =
+    let f : SFits w64 c.in-Ok.value = search rules in
+    assign_gives (scope_in c.args.frame.now) c.args.line c.args.field c.args.cost.now.steps c.args.cost.now.calls _ _
+    (expr_tree c.args.e.now) _ _ _ c.in_ok-take_step.ensures.taken c.in-Ok.ensures.value
+    (simp to_z-of_z at (c.store.ensures (record { steps = c.value_of.new.steps; calls = c.args.cost.now.calls })))

@@ -1,5 +1,0 @@
-use Rattle.c_keeping.proofs.Chains as proof
-use Rattle.c_keeping.proofs.laws.chains_are_kept.Goals as goal
-
-pub returns : goal.returns
-returns c a = proof.chains-kept c.offered_stand_by_name.ensures c.systems_have_places.ensures a (c.codes_have_views.ensures a)

@@ -1,6 +1,0 @@
-use Rattle.c_keeping.proofs.RootStruct.{root-struct-lawful}
-use Rattle.c_keeping.proofs.Structs.{structs-lawful, struct-names-differ}
-use Rattle.c_keeping.proofs.laws.structs_are_kept.Goals as goal
-
-pub returns : goal.returns
-returns c a = let v = c.codes_have_views.ensures a in (structs-lawful a v (root-struct-lawful a v), struct-names-differ a v)

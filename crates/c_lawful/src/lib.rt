@@ -1,9 +1,0 @@
-// The code of a system keeps the rules and limits of C by itself.
-#![tactic(auto)]
-
-mod laws;
-
-pub use laws::{
-    calls_stay_within, emitted_has_short_chains, emitted_is_lawful, procedures_are_lawful,
-    procedures_differ, procedures_fit, structs_are_lawful,
-};

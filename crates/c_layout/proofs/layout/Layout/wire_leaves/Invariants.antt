@@ -1,6 +1,0 @@
-use Rattle.std.proofs.Common.{◌≡◌, map, take}
-use Rattle.c_system.specs.Sources.{wire_leaf}
-use Rattle.c_layout.proofs.layout.Layout.wire_leaves.Given as goal
-
-abbrev pub invariant-loop-wire : goal.invariant-loop-wire
-invariant-loop-wire l = l.leaves.items ≡ map (wire_leaf l.self.local) (take l.wire-index l.wires)

@@ -1,5 +1,0 @@
-use Rattle.c_machine.proofs.lemmas.CallLaws as proof
-use Rattle.c_machine.proofs.laws.arguments_are_passed.Goals as goal
-
-pub returns : goal.returns
-returns c = proof.arguments_are_passed

@@ -1,5 +1,0 @@
-use Rattle.c_machine.proofs.lemmas.CellLaws as proof
-use Rattle.c_machine.proofs.laws.fields_are_set.Goals as goal
-
-pub returns : goal.returns
-returns c = proof.fields_are_set

@@ -1,5 +1,0 @@
-use Rattle.c_machine.proofs.lemmas.LinesAside as aside
-use Rattle.c_machine.proofs.laws.lines_mean_nothing.Goals as goal
-
-pub returns : goal.returns
-returns c = aside.lines_mean_nothing

@@ -1,5 +1,0 @@
-use Rattle.c_machine.proofs.lemmas.NumberingLaws as proof
-use Rattle.c_machine.proofs.laws.procedure_numbers_are_free.Goals as goal
-
-pub returns : goal.returns
-returns c = proof.procedure_numbers_are_free

@@ -1,5 +1,0 @@
-use Rattle.c_machine.proofs.lemmas.NumberingLaws as proof
-use Rattle.c_machine.proofs.laws.procedures_stand_in_order.Goals as goal
-
-pub returns : goal.returns
-returns c = proof.procedures_stand_in_order

@@ -1,5 +1,0 @@
-use Rattle.c_pieces.proofs.EmittedPieces as proof
-use Rattle.c_pieces.proofs.laws.updates_are_acts.Goals as goal
-
-pub returns : goal.returns
-returns c = proof.updates_are_acts c.locals_are_sound.ensures c.activity_is_tested.ensures c.calls_are_made.ensures

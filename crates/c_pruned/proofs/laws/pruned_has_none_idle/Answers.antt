@@ -1,5 +1,0 @@
-use Rattle.c_pruned.proofs.NoneIdle as proof
-use Rattle.c_pruned.proofs.laws.pruned_has_none_idle.Goals as goal
-
-pub returns : goal.returns
-returns c = proof.pruned_has_none_idle

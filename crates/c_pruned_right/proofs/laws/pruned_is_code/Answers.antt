@@ -1,5 +1,0 @@
-use Rattle.c_pruned_right.proofs.PrunedCode as proof
-use Rattle.c_pruned_right.proofs.laws.pruned_is_code.Goals as goal
-
-pub returns : goal.returns
-returns c = proof.pruned_is_code c.pruned_runs_alike.ensures

@@ -1,5 +1,0 @@
-use Rattle.c_reading.proofs.Limits.{limits_agree}
-use Rattle.c_reading.proofs.agreement.limits_agree.Goals as goal
-
-pub returns : goal.returns
-returns c = limits_agree

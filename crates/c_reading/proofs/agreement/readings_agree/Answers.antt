@@ -1,5 +1,0 @@
-use Rattle.c_reading.proofs.lemmas.Readings.{readings_agree}
-use Rattle.c_reading.proofs.agreement.readings_agree.Goals as goal
-
-pub returns : goal.returns
-returns c = readings_agree

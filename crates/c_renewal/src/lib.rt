@@ -1,6 +1,0 @@
-// A system's code starts and resets right.
-#![tactic(auto)]
-
-mod laws;
-
-pub use laws::{emitted_code_resets, emitted_code_starts};

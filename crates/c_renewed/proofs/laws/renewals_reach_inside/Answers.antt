@@ -1,5 +1,0 @@
-use Rattle.c_renewed.proofs.RenewedInside.{renewals_reach_inside}
-use Rattle.c_renewed.proofs.laws.renewals_reach_inside.Goals as goal
-
-pub returns : goal.returns
-returns c = renewals_reach_inside c.fields_have_places.ensures

@@ -1,0 +1,5 @@
+use Rattle.c_semantics.proofs.lemmas.CellLaws as proof
+use Rattle.c_semantics.proofs.laws.items_are_set.Goals as goal
+
+pub returns : goal.returns
+returns c = proof.items_are_set

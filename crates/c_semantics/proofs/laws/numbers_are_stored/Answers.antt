@@ -1,0 +1,5 @@
+use Rattle.c_semantics.proofs.lemmas.RunLaws as proof
+use Rattle.c_semantics.proofs.laws.numbers_are_stored.Goals as goal
+
+pub returns : goal.returns
+returns c = proof.numbers_are_stored

@@ -1,5 +1,0 @@
-use Rattle.c_simulation.proofs.lemmas.ExecutedFields as proof
-use Rattle.c_simulation.proofs.laws.call_is_one_child.Goals as goal
-
-pub returns : goal.returns
-returns c = proof.call_is_one_child

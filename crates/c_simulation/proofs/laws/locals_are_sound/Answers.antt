@@ -1,5 +1,0 @@
-use Rattle.c_simulation.proofs.lemmas.SoundSystems as proof
-use Rattle.c_simulation.proofs.laws.locals_are_sound.Goals as goal
-
-pub returns : goal.returns
-returns c = proof.locals_are_sound c.locals_are_lawful.ensures

@@ -1,5 +1,0 @@
-use Rattle.c_simulation.proofs.lemmas.EarlierGroups as proof
-use Rattle.c_simulation.proofs.laws.needed_group_is_earlier.Goals as goal
-
-pub returns : goal.returns
-returns c = proof.needed_group_is_earlier

@@ -1,5 +1,0 @@
-use Rattle.c_system.proofs.lemmas.Emittable as proof
-use Rattle.c_system.proofs.laws.emitted_is_emittable.Goals as goal
-
-pub returns : goal.returns
-returns c = proof.emitted_is_emittable c.locals_are_lawful.ensures c.resolved_rows_are_narrow.ensures c.row_ops_are_writable.ensures

@@ -1,0 +1,26 @@
+-- Lemmas that proofs of the crates above use.
+pub mod ByRow
+pub mod Agreement
+pub mod Walks
+pub mod ShortWalks
+pub mod Inside
+pub mod Tick
+pub mod OneRun
+pub mod RestsOnNeeds
+pub mod NeedsExamples
+pub mod Enclosing
+pub mod Ticks
+pub mod Tests
+pub mod WellFormedTests
+pub mod Timeless
+pub mod Equations
+pub mod Ports
+pub mod Traces
+pub mod EnteringWires
+pub mod TickLaws
+pub mod FullMemories
+pub mod SystemRuns
+pub mod OneType
+pub mod TypeFollowed
+pub mod Accepted
+pub mod Resolving

@@ -1,0 +1,5 @@
+use Rattle.emit_row_code.proofs.lemmas.StatementLaws.{values_are_reset}
+use Rattle.emit_row_code.proofs.statement_laws.values_are_reset.Goals as goal
+
+pub returns : goal.returns
+returns c = values_are_reset

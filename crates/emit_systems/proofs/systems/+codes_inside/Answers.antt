@@ -1,0 +1,53 @@
+use Rattle.std.proofs.Common.{map}
+use Rattle.diagram_meaning.specs.Nested.{system_of}
+use Rattle.emit_shape.specs.SystemTree.{system_tree}
+use Rattle.emit_systems.proofs.TreeSteps.{coded-next, all-profiles, whole, child-at, child-in, all-children}
+use Rattle.emit_systems.proofs.systems.+codes_inside.Goals as goal
+
+pub is_child-requires-clause-child : goal.is_child-requires-clause-child
+is_child-requires-clause-child t c =
+    child-in c.args.s.now c.deref-child-items.result.now c.deref-child-items.ensures.value c.loop-child.child-index c.child-item.result
+    c.loop-child-test.true c.child-item.is
+
+pub loop-child-preserved : goal.loop-child-preserved
+loop-child-preserved t c =
+    let i = c.loop-child.child-index in
+    let below = c.in_ok-_local.field-0 in
+    coded-next c.args.r.now (system_of c.args.s.now) i (system_of c.child-item.result) c.loop-child.children.items c.push.new.self.items
+    below.profile c.loop-child.inner.items below.codes.items c.append.new.self.items
+    (child-at c.args.s.now c.deref-child-items.result.now c.deref-child-items.ensures.value i c.child-item.result c.loop-child-test.true
+    c.child-item.is)
+    c.in_ok-_local.ensures.profile c.in_ok-_local.ensures.codes c.in_ok-push.ensures.items c.in_ok-append.ensures.items
+    c.loop-child.invariant
+
+pub local_with-requires-clause-children : goal.local_with-requires-clause-children
+local_with-requires-clause-children t c =
+    let i = c.loop-child.child-index in
+    all-profiles c.args.r.now (system_of c.args.s.now) c.loop-child.children.items c.deref.result.now
+    (map system_tree c.loop-child.inner.items) i c.requires.system
+    (all-children c.args.s.now c.deref-child-items.result.now c.deref-child-items.ensures.value i c.loop-child-test.false)
+    c.deref.ensures.value c.loop-child.invariant
+
+pub profile_of-requires-clause-children : goal.profile_of-requires-clause-children
+profile_of-requires-clause-children t c =
+    let i = c.loop-child.child-index in
+    all-profiles c.args.r.now (system_of c.args.s.now) c.loop-child.children.items c.deref-2.result.now
+    (map system_tree c.loop-child.inner.items) i c.requires.system
+    (all-children c.args.s.now c.deref-child-items.result.now c.deref-child-items.ensures.value i c.loop-child-test.false)
+    c.deref-2.ensures.value c.loop-child.invariant
+
+pub code_of-requires-clause-children : goal.code_of-requires-clause-children
+code_of-requires-clause-children t c =
+    let i = c.loop-child.child-index in
+    all-profiles c.args.r.now (system_of c.args.s.now) c.loop-child.children.items c.deref-3.result.now
+    (map system_tree c.loop-child.inner.items) i c.requires.system
+    (all-children c.args.s.now c.deref-child-items.result.now c.deref-child-items.ensures.value i c.loop-child-test.false)
+    c.deref-3.ensures.value c.loop-child.invariant
+
+pub returns-clause-codes : goal.returns-clause-codes
+returns-clause-codes t c =
+    let i = c.loop-child.child-index in
+    whole c.args.r.now (system_of c.args.s.now) c.loop-child.children.items c.in_ok-code.code c.loop-child.inner.items
+    c.new-codes.result.items c.push-2.new.self.items c.append-2.new.self.items i
+    (all-children c.args.s.now c.deref-child-items.result.now c.deref-child-items.ensures.value i c.loop-child-test.false)
+    c.new-codes.ensures.items c.in_ok-push-2.ensures.items c.in_ok-append-2.ensures.items c.in_ok-code.ensures c.loop-child.invariant

@@ -1,6 +1,0 @@
-use Rattle.std.proofs.Common.{◌≡◌, ◌↔◌, ◌-◌, map}
-use Rattle.mc_certificate.specs.Sound.{pairs_below, pairs_from, positions}
-use Rattle.mc_certificate.proofs.checking.are_all_pairs.Given as goal
-
-abbrev pub invariant-loop-first : goal.invariant-loop-first
-invariant-loop-first l = (map positions l.differ ≡ pairs_below l.count) ↔ (map positions l.rest ≡ pairs_from l.first (l.count - l.first))

@@ -1,6 +1,0 @@
-use Rattle.std.proofs.Common.{◌≡◌, map, take}
-use Rattle.mc_certificate.specs.Sound.{pairs_with, positions}
-use Rattle.mc_certificate.proofs.checking.are_pairs.Given as goal
-
-abbrev pub invariant-loop-k : goal.invariant-loop-k
-invariant-loop-k l = map positions (take l.k l.differ) ≡ pairs_with l.first l.k

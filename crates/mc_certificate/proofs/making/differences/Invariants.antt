@@ -1,8 +1,0 @@
-use Rattle.std.proofs.Common.{◌≡◌, ◌-◌, ◌++◌, length}
-use Rattle.mc_certificate.specs.Sound.{differences_from}
-use Rattle.mc_certificate.proofs.making.differences.Given as goal
-
-abbrev pub invariant-loop-first : goal.invariant-loop-first
-invariant-loop-first l =
-    l.differ.items ++ differences_from l.needs l.representatives l.first (length l.representatives - l.first)
-    ≡ differences_from l.needs l.representatives 0 (length l.representatives)

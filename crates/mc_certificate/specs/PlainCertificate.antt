@@ -1,8 +1,0 @@
--- What contracts see of a certificate.
-use Rattle.std.specs.Prelude.{ℕ, List}
-use Rattle.mc_certificate.specs.declared.certificate.Difference.{Difference}
-
--- outputs, and for each two places in their list a bit in which their needs differ
-pub record PlainCertificate : Type 0 where
-  pub representatives : List ℕ
-  pub differ : List Difference

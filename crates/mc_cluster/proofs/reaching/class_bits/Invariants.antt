@@ -1,5 +1,0 @@
-use Rattle.mc_cluster.specs.ClassBits.{AreClassBits}
-use Rattle.mc_cluster.proofs.reaching.class_bits.Given as goal
-
-abbrev pub invariant-loop-i : goal.invariant-loop-i
-invariant-loop-i l = AreClassBits l.n l.outputs l.class l.i l.bits.items

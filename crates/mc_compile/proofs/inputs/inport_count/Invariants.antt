@@ -1,7 +1,0 @@
-use Rattle.std.proofs.Common.{◌≡◌, take}
-use Rattle.std.specs.Prelude.{count_by}
-use Rattle.mc_compile.specs.Inputs.{is_root_inport}
-use Rattle.mc_compile.proofs.inputs.inport_count.Given as goal
-
-abbrev pub invariant-loop-row : goal.invariant-loop-row
-invariant-loop-row l = l.count ≡ count_by is_root_inport (take l.row-index l.rows)

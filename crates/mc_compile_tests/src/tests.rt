@@ -1,2 +1,0 @@
-mod compile;
-mod interfaces;

@@ -1,6 +1,0 @@
-use Rattle.std.proofs.Common.{◌+◌, length}
-use Rattle.mc_depend.specs.Levels.{IsNumbering}
-use Rattle.mc_depend.proofs.levels.advance.Given as goal
-
-abbrev pub invariant-loop-a : goal.invariant-loop-a
-invariant-loop-a l = IsNumbering l.g (l.k + 1) l.front l.initial.steps l.steps l.next.items l.a-index (length l.g.edges)

@@ -1,6 +1,0 @@
-use Rattle.std.proofs.Common.{◌≡◌, ◌==◌, None, find, take}
-use Rattle.mc_diagram.specs.Rows.{row_at, port_of}
-use Rattle.mc_depend.proofs.outports.row_with_port.Given as goal
-
-abbrev pub invariant-loop-b : goal.invariant-loop-b
-invariant-loop-b l = find (λ b. port_of (row_at l.rows b).kind == l.port) (take l.b-index l.own) ≡ None

@@ -1,5 +1,0 @@
-use Rattle.mc_depend.specs.TrueNeeds.{AreInputBits}
-use Rattle.mc_depend.proofs.true_needs.input_bits.Given as goal
-
-abbrev pub invariant-loop-b : goal.invariant-loop-b
-invariant-loop-b l = AreInputBits l.rows l.system l.b l.bits.items

@@ -1,5 +1,0 @@
-use Rattle.mc_diagram.proofs.SomeTimes as proof
-use Rattle.mc_diagram.proofs.laws.input_times_are_there.Goals as goal
-
-pub returns : goal.returns
-returns c = proof.input_times_are_there

@@ -1,5 +1,0 @@
-use Rattle.mc_diagram.proofs.lemmas.TickLaws as proof
-use Rattle.mc_diagram.proofs.laws.own_rows_stand_in.Goals as goal
-
-pub returns : goal.returns
-returns c = proof.own_rows_stand_in

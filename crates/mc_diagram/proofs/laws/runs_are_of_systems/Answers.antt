@@ -1,5 +1,0 @@
-use Rattle.mc_diagram.proofs.lemmas.SystemRuns as proof
-use Rattle.mc_diagram.proofs.laws.runs_are_of_systems.Goals as goal
-
-pub returns : goal.returns
-returns c = proof.runs_are_of_systems

@@ -1,5 +1,0 @@
-use Rattle.std.proofs.Common.{◌≡◌, ◌+◌, ◌∷◌, take}
-use Rattle.mc_drive.proofs.calling.put_arguments.Given as goal
-
-abbrev pub invariant-loop-k : goal.invariant-loop-k
-invariant-loop-k l = take (l.k + 1) l.arguments ≡ l.tick ∷ take l.k l.values

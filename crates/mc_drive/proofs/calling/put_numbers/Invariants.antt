@@ -1,6 +1,0 @@
-use Rattle.std.proofs.Common.{◌≡◌, map, take}
-use Rattle.mc_drive.specs.States.{number_of}
-use Rattle.mc_drive.proofs.calling.put_numbers.Given as goal
-
-abbrev pub invariant-loop-k : goal.invariant-loop-k
-invariant-loop-k l = take l.k l.out ≡ map (number_of l.machine l.instance) (take l.k l.names)

@@ -1,5 +1,0 @@
-use Rattle.mc_drive.proofs.GoingOn.{calls_go_on}
-use Rattle.mc_drive.proofs.laws.calls_go_on.Goals as goal
-
-pub returns : goal.returns
-returns c = calls_go_on c.scripts_grow.ensures c.lawful_scripts_run.ensures

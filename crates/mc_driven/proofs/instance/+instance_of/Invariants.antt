@@ -1,5 +1,0 @@
-use Rattle.mc_driven.proofs.SystemRows.{rank}
-use Rattle.mc_driven.proofs.instance.+instance_of.Given as goal
-
-abbrev pub decreases-instance_of : goal.decreases-instance_of
-decreases-instance_of l = rank l.system

@@ -1,7 +1,0 @@
-use Rattle.std.proofs.Common.{◌≡◌, take}
-use Rattle.std.specs.Prelude.{count_by}
-use Rattle.mc_driven.specs.Ports.{is_own, is_port}
-use Rattle.mc_driven.proofs.ports.port_count.Given as goal
-
-abbrev pub invariant-loop-row : goal.invariant-loop-row
-invariant-loop-row l = l.count ≡ count_by (is_own (is_port l.side) l.system) (take l.row-index l.rows)

@@ -1,6 +1,0 @@
-use Rattle.std.proofs.Common.{◌≡◌, ◌<◌, ℕ, slice_index_or}
-use Rattle.mc_profile.specs.SystemProfile.{SystemProfile}
-use Rattle.mc_driven.proofs.profile.profile_in.Given as goal
-
-abbrev pub invariant-loop-profile : goal.invariant-loop-profile
-invariant-loop-profile l = (k : ℕ) (d : SystemProfile) → k < l.profile-index → (slice_index_or l.profiles k d).row ≡ l.system → ⊥

@@ -1,6 +1,0 @@
-use Rattle.std.proofs.Common.{arith, rules}
-use Rattle.mc_edge.proofs.Pairs.{bytes_at_past}
-use Rattle.mc_edge.proofs.mem_host.MemHost.new.Goals as goal
-
-pub returns : goal.returns
-returns c = rw (bytes_at_past c.args.files.items c.len-opened.result (omega arith)) (search rules)

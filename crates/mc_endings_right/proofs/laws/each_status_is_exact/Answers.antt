@@ -1,5 +1,0 @@
-use Rattle.mc_endings_right.proofs.StatusLaws.{each_exactly}
-use Rattle.mc_endings_right.proofs.laws.each_status_is_exact.Goals as goal
-
-pub returns : goal.returns
-returns c = each_exactly c.statuses_are_exact.ensures

@@ -1,5 +1,0 @@
-use Rattle.mc_endings_right.proofs.RightLaws.{does_right}
-use Rattle.mc_endings_right.proofs.laws.endings_do_right.Goals as goal
-
-pub returns : goal.returns
-returns c = does_right c.one_verdict.ensures c.readings_agree.ensures c.shapes_are_one.ensures

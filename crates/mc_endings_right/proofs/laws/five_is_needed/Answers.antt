@@ -1,5 +1,0 @@
-use Rattle.mc_endings_right.proofs.ReadFaults.{five_to_nothing}
-use Rattle.mc_endings_right.proofs.laws.five_is_needed.Goals as goal
-
-pub returns : goal.returns
-returns c = five_to_nothing c.one_verdict.ensures c.readings_agree.ensures

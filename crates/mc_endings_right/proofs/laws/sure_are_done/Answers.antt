@@ -1,5 +1,0 @@
-use Rattle.mc_endings_right.proofs.Completeness.{done_unless_unread}
-use Rattle.mc_endings_right.proofs.laws.sure_are_done.Goals as goal
-
-pub returns : goal.returns
-returns c = done_unless_unread c.statuses_are_exact.ensures

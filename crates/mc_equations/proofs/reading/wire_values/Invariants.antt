@@ -1,6 +1,0 @@
-use Rattle.std.proofs.Common.{◌≡◌, map, take}
-use Rattle.mc_diagram.specs.Run.{value_at}
-use Rattle.mc_equations.proofs.reading.wire_values.Given as goal
-
-abbrev pub invariant-loop-wire : goal.invariant-loop-wire
-invariant-loop-wire l = l.read.items ≡ map (value_at l.values) (take l.wire-index l.wires)

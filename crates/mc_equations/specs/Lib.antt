@@ -1,4 +1,0 @@
-pub mod Traces
-pub mod Fitting
-pub mod Values
-pub mod TypedRuns

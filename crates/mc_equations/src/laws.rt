@@ -1,6 +1,0 @@
-ghost use Rattle.mc_equations.specs.TypedRuns.{TicksAreTyped};
-
-/// Where a trace lies in its types, so does all else in its run.
-pub fn ticks_are_typed()
-    ensures { TicksAreTyped }
-{}

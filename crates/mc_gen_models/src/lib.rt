@@ -1,6 +1,0 @@
-// The trace that is generated for a model suits the input of that model.
-#![tactic(auto)]
-
-mod laws;
-
-pub use laws::generated_traces_are_rows;

@@ -1,7 +1,0 @@
-use Rattle.std.proofs.Common.{◌≡◌, ◌+◌, length, take}
-use Rattle.mc_diagram.specs.Rows.{is_inport}
-use Rattle.mc_interfaces.specs.PortCounts.{AreCounts}
-use Rattle.mc_interfaces.proofs.counts.inport_counts.Given as goal
-
-abbrev pub invariant-loop-row : goal.invariant-loop-row
-invariant-loop-row l = (length l.counts.items ≡ length l.rows + 1) × AreCounts is_inport (take l.row-index l.rows) l.counts.items

@@ -1,7 +1,0 @@
-use Rattle.std.proofs.Common.{◌≡◌, map, take}
-use Rattle.mc_diagram.specs.ResolvedTree.{diagram_of}
-use Rattle.mc_profile.specs.Locals.{child_use}
-use Rattle.mc_profile.proofs.children.child_uses.Given as goal
-
-abbrev pub invariant-loop-i : goal.invariant-loop-i
-invariant-loop-i l = l.uses.items ≡ map (child_use (diagram_of l.r)) (take l.i l.headers)

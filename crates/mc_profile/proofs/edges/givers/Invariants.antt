@@ -1,7 +1,0 @@
-use Rattle.std.proofs.Common.{nat_eq, take}
-use Rattle.indexmap.specs.IndexMap.{get}
-use Rattle.mc_profile.specs.NodeWires.{AreGivers}
-use Rattle.mc_profile.proofs.edges.givers.Given as goal
-
-abbrev pub invariant-loop-a : goal.invariant-loop-a
-invariant-loop-a l = AreGivers (take l.a l.nodes) (get nat_eq l.givers)

@@ -1,5 +1,0 @@
-use Rattle.mc_profile.proofs.LawfulProofs.{locals_are_lawful}
-use Rattle.mc_profile.proofs.laws.locals_are_lawful.Goals as goal
-
-pub returns : goal.returns
-returns c = locals_are_lawful

@@ -1,5 +1,0 @@
-use Rattle.mc_profile.proofs.NodeWalks.{nodes_have_no_loop}
-use Rattle.mc_profile.proofs.laws.nodes_have_no_loop.Goals as goal
-
-pub returns : goal.returns
-returns c = nodes_have_no_loop

@@ -1,5 +1,0 @@
-use Rattle.mc_profile.proofs.NodeWalks.{nodes_reach_as_rows}
-use Rattle.mc_profile.proofs.laws.nodes_reach_as_rows.Goals as goal
-
-pub returns : goal.returns
-returns c = nodes_reach_as_rows

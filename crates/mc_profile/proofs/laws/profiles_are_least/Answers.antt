@@ -1,5 +1,0 @@
-use Rattle.mc_profile.proofs.LeastProfile as least
-use Rattle.mc_profile.proofs.laws.profiles_are_least.Goals as goal
-
-pub returns : goal.returns
-returns c = least.profiles_are_least c.needs_are_least.ensures

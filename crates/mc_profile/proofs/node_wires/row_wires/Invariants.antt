@@ -1,6 +1,0 @@
-use Rattle.std.proofs.Common.{◌≡◌, map, take}
-use Rattle.mc_profile.specs.NodeWires.{wires_of_row}
-use Rattle.mc_profile.proofs.node_wires.row_wires.Given as goal
-
-abbrev pub invariant-loop-row : goal.invariant-loop-row
-invariant-loop-row l = l.nodes.items ≡ map wires_of_row (take l.row-index l.rows)

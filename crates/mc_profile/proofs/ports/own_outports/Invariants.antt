@@ -1,7 +1,0 @@
-use Rattle.std.proofs.Common.{◌≡◌, filter, take}
-use Rattle.mc_diagram.specs.Rows.{row_at, is_outport}
-use Rattle.mc_profile.proofs.ports.own_outports.Given as goal
-
-abbrev pub invariant-loop-b : goal.invariant-loop-b
-invariant-loop-b l =
-    l.outports.items ≡ filter (λ b. is_outport (row_at l.r.tree.table.rows b).kind) (take l.b-index l.own)

@@ -1,5 +1,0 @@
-use Rattle.std.proofs.Common.{length}
-use Rattle.mc_report.proofs.following.+need_of.Given as goal
-
-abbrev pub decreases-need_of : goal.decreases-need_of
-decreases-need_of l = length l.functions.now

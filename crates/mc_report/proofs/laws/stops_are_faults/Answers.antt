@@ -1,5 +1,0 @@
-use Rattle.mc_report.proofs.Stopping.{stops_are_faults}
-use Rattle.mc_report.proofs.laws.stops_are_faults.Goals as goal
-
-pub returns : goal.returns
-returns c = stops_are_faults

@@ -1,9 +1,0 @@
-use Rattle.std.proofs.Common.{List, ◌++◌, ◌∷◌, [], sym, ap, ◌∙◌, arith}
-use Rattle.mc_base.specs.declared.Port.{Port}
-use Rattle.mc_base.specs.declared.Port.TheVariants.{Number}
-use Rattle.mc_report.proofs.Words.{numbers-more}
-use Rattle.mc_report.proofs.printing.all_ports.Goals as goal
-
-pub loop-k-preserved : goal.loop-k-preserved
-loop-k-preserved c = c.in_ok-push.ensures.items ∙ ap (λ (ports : List Port). ports ++ Number c.loop-k.k ∷ []) c.loop-k.invariant
-    ∙ sym (numbers-more Number c.loop-k.k (omega arith))

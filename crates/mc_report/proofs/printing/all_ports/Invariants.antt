@@ -1,7 +1,0 @@
-use Rattle.std.proofs.Common.{◌≡◌, ◌-◌, map}
-use Rattle.std.specs.List.{range_with_len}
-use Rattle.mc_base.specs.declared.Port.TheVariants.{Number}
-use Rattle.mc_report.proofs.printing.all_ports.Given as goal
-
-abbrev pub invariant-loop-k : goal.invariant-loop-k
-invariant-loop-k l = l.ports.items ≡ map Number (range_with_len 1 (l.k - 1))

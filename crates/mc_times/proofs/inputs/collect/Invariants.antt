@@ -1,5 +1,0 @@
-use Rattle.mc_times.specs.Collecting.{AreCollected}
-use Rattle.mc_times.proofs.inputs.collect.Given as goal
-
-abbrev pub invariant-loop-b : goal.invariant-loop-b
-invariant-loop-b l = AreCollected l.rows l.found l.b l.inside.items

@@ -1,8 +1,0 @@
-use Rattle.mc_times.proofs.SpreadSteps.{SpreadLoop}
-use Rattle.mc_times.proofs.search.spread.Given as goal
-
-abbrev pub invariant-loop-place : goal.invariant-loop-place
-invariant-loop-place l = SpreadLoop l.g l.a l.place l.initial.found l.initial.waiting.items l.found l.waiting.items
-
-abbrev pub decreases-loop-place : goal.decreases-loop-place
-decreases-loop-place l = l.place

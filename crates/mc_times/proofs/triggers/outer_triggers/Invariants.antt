@@ -1,7 +1,0 @@
-use Rattle.std.proofs.Common.{◌≡◌, map}
-use Rattle.std.specs.List.{range_with_len}
-use Rattle.mc_diagram.specs.SampleTimes.{outermost_trigger}
-use Rattle.mc_times.proofs.triggers.outer_triggers.Given as goal
-
-abbrev pub invariant-loop-b : goal.invariant-loop-b
-invariant-loop-b l = l.triggers.items ≡ map (outermost_trigger l.rows) (range_with_len 0 l.b)

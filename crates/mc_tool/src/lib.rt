@@ -1,7 +1,0 @@
-//! The whole tool, over any host and sink.
-#![tactic(auto)]
-
-mod finishing;
-mod running;
-
-pub use running::{run_surely, run_tool};

@@ -1,5 +1,0 @@
-// Tests of `run`, `exec` and `drive`.
-#![tactic(auto)]
-
-#[cfg(test)]
-mod tests;

@@ -1,5 +1,0 @@
-use Rattle.mc_types.specs.Walks.{AreSettled}
-use Rattle.mc_types.proofs.follow.settle_path.Given as goal
-
-abbrev pub invariant-loop-b : goal.invariant-loop-b
-invariant-loop-b l = AreSettled l.fn.marks l.marks l.path l.b-index l.fn.met

@@ -1,9 +1,0 @@
-use Rattle.std.proofs.Common.{rules, ◌≡◌, subst, sym}
-use Rattle.mc_types.specs.Inferred.{AreCountable}
-use Rattle.mc_types.proofs.Countable.{countable}
-use Rattle.mc_types.proofs.infer.infer_types.Goals as goal
-
-pub infer-requires : goal.infer-requires
-infer-requires c =
-    let e : c.as_slice.result.now ≡ c.args.tree.now.table.rows = search rules in
-    subst AreCountable (sym e) (countable c.args.tree.now.table c.table.ensures.diagram.table)

@@ -1,6 +1,0 @@
-use Rattle.std.proofs.Common.{take}
-use Rattle.mc_words.specs.Program.{IsSubcommand, texts, with_arguments}
-use Rattle.mc_words.proofs.program.with_arguments.Given as goal
-
-abbrev pub invariant-loop-next : goal.invariant-loop-next
-invariant-loop-next l = IsSubcommand l.command (with_arguments l.name (texts (take l.next-index l.arguments)))

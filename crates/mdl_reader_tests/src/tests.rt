@@ -1,2 +1,0 @@
-mod params;
-mod reader;

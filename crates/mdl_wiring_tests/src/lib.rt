@@ -1,5 +1,0 @@
-// Tests of the wiring of systems, apart from it so that its proofs are made once.
-#![tactic(auto)]
-
-#[cfg(test)]
-mod tests;

@@ -1,0 +1,12 @@
+use Rattle.std.proofs.Common.{◌<◌, All, length, sym, subst, take}
+use Rattle.std.proofs.lemmas.List.Elements.{All-filter, All-take}
+use Rattle.diagram_meaning.specs.Rows.{row_at}
+use Rattle.diagram_blocks.specs.Kinds.{is_inport}
+use Rattle.modules_profile.proofs.ports.own_inports.Goals as goal
+
+pub returns-clause-rows : goal.returns-clause-rows
+returns-clause-rows c =
+    subst (All (λ b. b < length c.args.r.now.tree.table.rows)) (sym c.loop-b.invariant)
+    (All-filter (λ b. is_inport (row_at c.args.r.now.tree.table.rows b).kind) (λ b. b < length c.args.r.now.tree.table.rows)
+    (take c.loop-b.b-index c.args.own.now)
+    (All-take (λ b. b < length c.args.r.now.tree.table.rows) c.loop-b.b-index c.args.own.now c.requires))

@@ -1,0 +1,15 @@
+mod Lists
+mod Structs
+mod NamedFields
+mod SystemRows
+mod SystemPaths
+mod SystemSlots
+mod SystemHeads
+mod InputTypes
+mod WideParams
+mod NeedSets
+mod ShapeLimits
+mod DrivableSystems
+mod FirstInstance
+mod FoundInstances
+mod ReadMachines

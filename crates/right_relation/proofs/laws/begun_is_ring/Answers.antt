@@ -1,0 +1,5 @@
+use Rattle.right_relation.proofs.lemmas.RingLaws as proof
+use Rattle.right_relation.proofs.laws.begun_is_ring.Goals as goal
+
+pub returns : goal.returns
+returns c = proof.begun_is_ring

@@ -1,0 +1,17 @@
+pub mod lemmas
+pub mod Moved
+pub mod Params
+pub mod Arguments
+pub mod Tests
+pub mod Facts
+pub mod Sources
+pub mod Stores
+pub mod Computed
+pub mod Ticks
+pub mod Values
+pub mod Memories
+pub mod Routines
+pub mod Calls
+pub mod Settled
+pub mod EmittedPieces
+pub mod Pieces

@@ -1,0 +1,5 @@
+use Rattle.right_system_nodes.proofs.EmittedPieces as proof
+use Rattle.right_system_nodes.proofs.laws.updates_are_acts.Goals as goal
+
+pub returns : goal.returns
+returns c = proof.updates_are_acts c.locals_are_sound.ensures c.activity_is_tested.ensures c.calls_are_made.ensures

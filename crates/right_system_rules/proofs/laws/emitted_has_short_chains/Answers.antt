@@ -1,0 +1,15 @@
+use Rattle.right_system_rules.proofs.Alone as proof
+use Rattle.right_system_rules.proofs.laws.emitted_has_short_chains.Goals as goal
+
+pub returns : goal.returns
+returns c =
+    proof.emitted_has_short_chains c.locals_are_lawful.ensures c.resolved_rows_are_narrow.ensures
+    c.row_ops_are_writable.ensures c.cycle_is_of_locals.ensures
+    (record {
+      statements = c.statements_are_lawful.ensures;
+      shallow = c.all_statements_are_shallow.ensures;
+      rows = c.rows_are_lawful.ensures;
+      depth = c.rows_are_shallow.ensures;
+      tests = c.tests_are_lawful.ensures;
+      plain = c.all_tests_are_plain.ensures;
+    })

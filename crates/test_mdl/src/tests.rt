@@ -1,0 +1,4 @@
+mod params;
+mod reader;
+mod systems;
+mod wiring;

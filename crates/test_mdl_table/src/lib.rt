@@ -1,0 +1,5 @@
+//! Tests of the tables of models.
+#![tactic(auto)]
+
+#[cfg(test)]
+mod tests;

@@ -1,0 +1,5 @@
+//! Tests of sample times, nodes and runs of small models.
+#![tactic(auto)]
+
+#[cfg(test)]
+mod tests;

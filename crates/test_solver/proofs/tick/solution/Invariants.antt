@@ -1,0 +1,13 @@
+use Rattle.std.proofs.Common.{◌≡◌}
+use Rattle.diagram_meaning.specs.ResolvedTree.{diagram_of}
+use Rattle.diagram_typed_runs.specs.Fitting.{AreFit}
+use Rattle.test_solver.proofs.Rounds.{rounds}
+use Rattle.test_solver.proofs.tick.solution.Given as goal
+
+abbrev pub invariant-loop-turn : goal.invariant-loop-turn
+invariant-loop-turn l = record {
+  made : l.values.items
+      ≡ rounds (diagram_of l.fn.r) l.tick l.inputs l.before.values.items l.before.memories.items l.before.triggers.items
+      l.before.values.items l._turn;
+  fit : AreFit (diagram_of l.fn.r) l.values.items;
+}

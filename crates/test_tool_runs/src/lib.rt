@@ -1,0 +1,5 @@
+//! Tests of `run`, `exec` and `drive`.
+#![tactic(auto)]
+
+#[cfg(test)]
+mod tests;

@@ -1,0 +1,5 @@
+use Rattle.tool_driver.proofs.GoingOn.{calls_go_on}
+use Rattle.tool_driver.proofs.laws.calls_go_on.Goals as goal
+
+pub returns : goal.returns
+returns c = calls_go_on c.scripts_grow.ensures c.lawful_scripts_run.ensures

@@ -1,0 +1,91 @@
+-- The lines that the program puts.
+use Rattle.std.specs.Prelude.{ℕ, List, [], ◌∷◌, ◌++◌, codes, decimal}
+use Rattle.base_core.specs.Bytes.{line_of_words}
+use Rattle.base_core.specs.Words.{at_line}
+use Rattle.c_syntax.specs.declared.fault.CFault.{CFault}
+use Rattle.c_syntax.specs.declared.fault.CKind.{CKind}
+use Rattle.c_syntax.specs.declared.fault.CKind.TheVariants.{Syntax, Deep, Name, TypeRule}
+use Rattle.c_syntax.specs.declared.fault.Stuck.{Stuck}
+use Rattle.c_syntax.specs.declared.fault.Why.{Why}
+use Rattle.c_syntax.specs.declared.fault.Why.TheVariants.{Overflow, ZeroDivisor, Range, Steps, Index}
+use Rattle.tool_traces.specs.declared.rows.BadLine.{BadLine}
+use Rattle.tool_traces.specs.declared.rows.BadWhy.{BadWhy}
+use Rattle.tool_traces.specs.declared.rows.BadWhy.TheVariants as bad
+use Rattle.tool_script_runner.specs.FaultTexts.{bad_call_line, refused_call_line}
+use Rattle.tool_endings.specs.declared.ending.ScriptStop.{ScriptStop}
+use Rattle.tool_endings.specs.declared.ending.ScriptStop.TheVariants.{NoSubsystem, Line, Call}
+
+-- `compiled rows R systems S functions F`
+abbrev pub compiled_line : (rows systems functions : ℕ) → List ℕ
+compiled_line rows systems functions =
+    codes "compiled rows " ++ decimal rows ++ codes " systems " ++ decimal systems
+    ++ codes " functions " ++ decimal functions ++ 10 ∷ []
+
+-- `ticks T steps N calls C`
+abbrev pub totals_line : (ticks steps calls : ℕ) → List ℕ
+totals_line ticks steps calls =
+    codes "ticks " ++ decimal ticks ++ codes " steps " ++ decimal steps ++ codes " calls "
+    ++ decimal calls ++ 10 ∷ []
+
+-- how each command is written
+abbrev pub usage_line : List ℕ
+usage_line =
+    codes "usage: mdlc compile MODEL CODE | run MODEL CODE TRACE | exec CODE TRACE | profile MODEL | drive MODEL CODE SUBSYSTEM SCRIPT | gen START SIZE MODEL CODE"
+    ++ 10 ∷ []
+
+-- why a line of a trace is no row, with the number of fields or that of the field
+abbrev pub bad_words : BadWhy → List (List ℕ)
+bad_words bad.Long = codes "Long" ∷ []
+bad_words bad.Many = codes "Many" ∷ []
+bad_words (bad.Count found) = codes "Count" ∷ decimal found ∷ []
+bad_words (bad.Form field) = codes "Form" ∷ decimal field ∷ []
+bad_words (bad.Range field) = codes "Range" ∷ decimal field ∷ []
+
+-- a line of a trace that is no row
+abbrev pub bad_line_line : BadLine → List ℕ
+bad_line_line line = line_of_words (codes "trace" ∷ at_line line.line (bad_words line.why))
+
+abbrev pub kind_word : CKind → List ℕ
+kind_word Syntax = codes "Syntax"
+kind_word Deep = codes "Deep"
+kind_word Name = codes "Name"
+kind_word TypeRule = codes "Type"
+
+-- bytes that are no program, and too many
+abbrev pub code_refused_line : CFault → List ℕ
+code_refused_line fault =
+    line_of_words (codes "code" ∷ codes "refused" ∷ at_line fault.line (kind_word fault.kind ∷ []))
+
+abbrev pub long_code_line : List ℕ
+long_code_line = codes "code refused TooLong" ++ 10 ∷ []
+
+abbrev pub stuck_word : Why → List ℕ
+stuck_word Overflow = codes "Overflow"
+stuck_word ZeroDivisor = codes "ZeroDivisor"
+stuck_word Range = codes "Range"
+stuck_word Steps = codes "Steps"
+stuck_word Index = codes "Index"
+
+-- where the machine is stuck
+abbrev pub stuck_line : Stuck → List ℕ
+stuck_line at = line_of_words (codes "stuck" ∷ at_line at.line (stuck_word at.why ∷ []))
+
+-- no system of the model has this name
+abbrev pub no_subsystem_line : List ℕ
+no_subsystem_line = codes "script line 0 NoSubsystem" ++ 10 ∷ []
+
+-- what stops a script before its end
+abbrev pub script_stop_line : ScriptStop → List ℕ
+script_stop_line NoSubsystem = no_subsystem_line
+script_stop_line (Line bad) = bad_call_line bad
+script_stop_line (Call refused) = refused_call_line refused
+
+-- a fault of reading, of writing, and want of memory
+abbrev pub read_fault_line : List ℕ
+read_fault_line = codes "read fault" ++ 10 ∷ []
+
+abbrev pub write_fault_line : List ℕ
+write_fault_line = codes "write fault" ++ 10 ∷ []
+
+abbrev pub no_memory_line : List ℕ
+no_memory_line = codes "no memory" ++ 10 ∷ []

@@ -1,0 +1,21 @@
+use Rattle.std.proofs.Common.{arith}
+use Rattle.tool_runner.proofs.TickBounds.{steps_bounded, calls_bounded, within_counted}
+use Rattle.tool_runner.proofs.tick.tick.Goals as goal
+
+pub count-requires-clause-steps : goal.count-requires-clause-steps
+count-requires-clause-steps g c =
+    omega (arith, c.requires.within.steps, c.requires.more, steps_bounded _ _ _ _ _ c.in-Ok.ensures.ticked)
+
+pub count-requires-clause-calls : goal.count-requires-clause-calls
+count-requires-clause-calls g c =
+    omega (arith, c.requires.within.calls, c.requires.more, calls_bounded _ _ _ _ _ c.in-Ok.ensures.ticked)
+
+pub returns-then-is_err-clause-within : goal.returns-then-is_err-clause-within
+returns-then-is_err-clause-within g c =
+    within_counted c.args.run.now.totals c.count.new.self c.in-Ok.cost c.requires.within c.requires.more c.count.ensures
+    (steps_bounded _ _ _ _ _ c.in-Ok.ensures.ticked) (calls_bounded _ _ _ _ _ c.in-Ok.ensures.ticked)
+
+pub returns-clause-within : goal.returns-clause-within
+returns-clause-within g c =
+    within_counted c.args.run.now.totals c.count.new.self c.in-Ok.cost c.requires.within c.requires.more c.count.ensures
+    (steps_bounded _ _ _ _ _ c.in-Ok.ensures.ticked) (calls_bounded _ _ _ _ _ c.in-Ok.ensures.ticked)

@@ -1,0 +1,32 @@
+use Rattle.std.proofs.Common.{◌≢◌, rules, length}
+use Rattle.std.specs.Prelude.{Err}
+use Rattle.tool_runner.proofs.lemmas.Waiting.{if_err, if_ok}
+use Rattle.tool_driver.specs.Shapes.{inputs_of}
+use Rattle.tool_script_runner.specs.declared.outcome.ScriptFault.TheVariants.{Out}
+use Rattle.tool_script_runner.specs.Walks.{inside}
+use Rattle.tool_script_runner.proofs.Walks.{lines_flushed, lines_cut}
+use Rattle.tool_script_runner.proofs.lines.run_lines.Goals as goal
+use Rattle.tool_script_runner.proofs.lines.run_lines.Goals.{in-Err+in-Read-1, in-Ok-1}
+
+pub returns-then-is_err-clause-ran : goal.returns-then-is_err-clause-ran
+returns-then-is_err-clause-ran g c =
+    let other : c.answer_lines-ran.result ≢ Err Out =
+    elim c.match-ran.branch [ in-Err+in-Read-1 w ↦ search rules | in-Ok-1 w ↦ search rules ] in
+    λ behind.
+    lines_cut c.answer_lines-ran.result c.args.text.now behind c.args.counts.now
+    (length (inputs_of c.args.driver.now.shape)) c.args.run.now.done c.answer_lines-ran.new.run.done
+    (inside c.args.driver.now c.args.run.now (g.S.Sink.bytes c.args.sink.now))
+    (inside c.answer_lines-ran.new.driver c.answer_lines-ran.new.run (g.S.Sink.bytes c.answer_lines-ran.new.sink))
+    (g.S.Sink.bytes c.flush.new.sink) c.flush.new.self
+    (if_err c.flush.result c.if-is_err.ensures.value c.flush.ensures.front) other c.answer_lines-ran.ensures.ran
+
+pub returns-clause-ran : goal.returns-clause-ran
+returns-clause-ran g c =
+    let other : c.answer_lines-ran.result ≢ Err Out =
+    elim c.match-ran.branch [ in-Err+in-Read-1 w ↦ search rules | in-Ok-1 w ↦ search rules ] in
+    lines_flushed c.answer_lines-ran.result c.args.text.now c.args.counts.now
+    (length (inputs_of c.args.driver.now.shape)) c.args.run.now.done c.answer_lines-ran.new.run.done
+    (inside c.args.driver.now c.args.run.now (g.S.Sink.bytes c.args.sink.now))
+    (inside c.answer_lines-ran.new.driver c.answer_lines-ran.new.run (g.S.Sink.bytes c.answer_lines-ran.new.sink))
+    (g.S.Sink.bytes c.flush.new.sink) c.flush.new.self
+    (if_ok c.flush.result c.if-is_err.ensures.value c.flush.ensures.whole) c.flush.ensures.empty other c.answer_lines-ran.ensures.ran

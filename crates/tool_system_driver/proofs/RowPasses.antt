@@ -1,0 +1,58 @@
+-- Passes over the numbers of rows, which stop at the first that passes.
+use Rattle.std.specs.Prelude.{◌≡◌, refl, ℕ, zero, suc, ◌+◌, ◌<◌, ◌≤◌, Bool, true, false, find, length, List, Option, Some, None}
+use Rattle.std.specs.List.{range_with_len}
+use Rattle.std.proofs.Common.{sym, ◌∙◌, ap, cond, arith, true≢false, inl, inr, ◌⊎◌}
+use Rattle.diagram_meaning.specs.declared.table.Row.{Row}
+use Rattle.diagram_meaning.specs.Rows.{row_numbers}
+use native.Mathlib.Decide.{ℕ_discrete}
+
+le-cases : (a b : ℕ) → a ≤ b → (a < b) ⊎ (a ≡ b)
+le-cases a b low = elim (ℕ_discrete a b) [ yes same ↦ inr same | no differ ↦ inl (omega (arith, low, differ)) ]
+
+-- the first number of a range that passes a test
+first-in-range : (test : ℕ → Bool) (n a b : ℕ) → a ≤ b → b < a + n → ((k : ℕ) → a ≤ k → k < b → test k ≡ false) → test b ≡ true →
+    find test (range_with_len a n) ≡ Some b
+first-in-range test zero a b low high none e = absurd (omega (arith, low, high))
+first-in-range test (suc n) a b low high none e = by (test a) refl (first-in-range test n (a + 1) b)
+  where
+    by : (t : Bool) → test a ≡ t →
+        (a + 1 ≤ b → b < a + 1 + n → ((k : ℕ) → a + 1 ≤ k → k < b → test k ≡ false) → test b ≡ true →
+        find test (range_with_len (a + 1) n) ≡ Some b) →
+        cond t (Some a) (find test (range_with_len (a + 1) n)) ≡ Some b
+    by true q rest = elim (le-cases a b low) [
+      | inl less ↦ absurd (true≢false (sym q ∙ none a (omega arith) less))
+      | inr same ↦ ap Some same
+    ]
+    by false q rest = elim (le-cases a b low) [
+      | inl less ↦ rest (omega (arith, less)) (omega (arith, high)) (λ k above under. none k (omega (arith, above)) under) e
+      | inr same ↦ absurd (true≢false (sym e ∙ sym (ap test same) ∙ q))
+    ]
+
+-- none passes
+none-in-range : (test : ℕ → Bool) (n a : ℕ) → ((k : ℕ) → a ≤ k → k < a + n → test k ≡ false) → find test (range_with_len a n) ≡ None
+none-in-range test zero a none = refl
+none-in-range test (suc n) a none =
+    ap (λ t. cond t (Some a) (find test (range_with_len (a + 1) n))) (none a (omega arith) (omega arith))
+    ∙ none-in-range test n (a + 1) (λ k above under. none k (omega (arith, above)) (omega (arith, under)))
+
+module _ (rows : List Row) (test : ℕ → Bool) where
+  -- the first row of all that passes
+  pub first-row : (b : ℕ) → b < length rows → ((k : ℕ) → k < b → test k ≡ false) → test b ≡ true → Some b ≡ find test (row_numbers rows)
+  first-row b below none e =
+      sym (first-in-range test (length rows) 0 b (omega arith) (omega (arith, below)) (λ k above under. none k under) e)
+
+  -- no row passes
+  pub no-row : (n : ℕ) → length rows ≤ n → ((k : ℕ) → k < n → test k ≡ false) → None ≡ find test (row_numbers rows)
+  no-row n past none = sym (none-in-range test (length rows) 0 (λ k above under. none k (omega (arith, past, under))))
+
+-- one row more that doesn't pass
+pub one-more : (test : ℕ → Bool) (b : ℕ) → ((k : ℕ) → k < b → test k ≡ false) → test b ≡ false → (k : ℕ) → k < b + 1 → test k ≡ false
+one-more test b none e k under = elim (le-cases k b (omega (arith, under))) [
+  | inl less ↦ none k less
+  | inr same ↦ ap test same ∙ e
+]
+
+-- nothing is there
+pub none-from : {A : Type 0} (o : Option A) → ((x : A) → o ≡ Some x → ⊥) → o ≡ None
+none-from None h = refl
+none-from (Some x) h = absurd (h x refl)
