@@ -1,24 +1,29 @@
-"""Models and other texts in a few words, for the tables of `cases/`. For tests in Rattle `crates/mdl_texts` writes the
+"""Models and other texts in a few words, for the tables of `cases/`. For tests in Rattle `crates/test_models` writes the
 same models."""
 
 import re
 
-TIMES = re.compile(r"(\d+) times \(([^()]*)\)")
+from mdl_writer import Model
+
+TIMES = re.compile(r'(\d+) times (?:\(([^()]*)\)|"([^"]*)")')
 
 
 def repeated(text):
-    """The text with what stands several times written out, as `3 times (x@ )`: `x0 x1 x2 `; `@+1` is one more."""
+    """The text with what is there several times written out, as `3 times (x@ )`: `x0 x1 x2 `; `@+1` is one more. What has
+    parentheses is in quotes, as `2 times "f(@);"`: `f(0);f(1);`."""
     count = 1
     while count:
-        text, count = TIMES.subn(lambda it: "".join(numbered(it[2], at) for at in range(int(it[1]))), text)
+        text, count = TIMES.subn(lambda it: "".join(numbered(it[2] or it[3] or "", at) for at in range(int(it[1]))), text)
     return text
 
 
 def numbered(text, at):
+    """The text with its `@`s for the copy of this number."""
     return text.replace("@+1", str(at + 1)).replace("@", str(at))
 
 
 def unescaped(text):
+    """The text with its escapes, as `\\n`, replaced by what they stand for."""
     return text.encode("latin1").decode("unicode_escape")
 
 
@@ -34,21 +39,23 @@ def filled(frame, words):
     return frame
 
 
-def parameters(words):
-    """The lines of a block by its words: its type, its name, and `name=value`."""
+def add_parameters(model, words):
+    """Adds the parameters of a block by its words: its type, its name, and `name=value`."""
     for at, word in enumerate(words.split(" ")):
         name, equals, value = word.partition("=")
-        yield f"{name} {value}" if equals else f"{'Name' if at else 'BlockType'} {word}"
+        model.param(*((name, value) if equals else ("Name" if at else "BlockType", word)))
 
 
-def end_of_line(side, place):
-    """The lines of an end of a line: its block, and its port if there is one."""
+def add_end(model, side, place):
+    """Adds an end of a line, `Src` or `Dst`: its block, and its port if there is one."""
     block, _, port = place.partition(" ")
-    return [f"{side}Block {block}", f"{side}Port {port}"] if port else [f"{side}Block {block}"]
+    model.param(f"{side}Block", block)
+    if port:
+        model.param(f"{side}Port", port)
 
 
-def part_lines(part):
-    """The lines of a part of a system:
+def add_part(model, part):
+    """Adds a part of a system:
 
     - a block, `Gain g Gain=2`: its type, its name and its parameters;
     - a line, `a 1 > g 1`: a block and its port, and another's;
@@ -57,18 +64,26 @@ def part_lines(part):
     - nothing.
     """
     source, wired, target = part.partition(" > ")
-    if part in ("", "}"):
-        return ["}", "}"] if part else []
-    if " / " in part:
-        return part.split(" / ")
-    if part.endswith(" {"):
-        return ["Block {", *parameters(part.removesuffix(" {")), "System {"]
-    if wired:
-        return ["Line {", *end_of_line("Src", source), *end_of_line("Dst", target), "}"]
-    return ["Block {", *parameters(part), "}"]
+    if part == "}":
+        model.close_subsystem()
+    elif " / " in part:
+        model.add(*part.split(" / "))
+    elif part.endswith(" {"):
+        model.open("Block")
+        add_parameters(model, part.removesuffix(" {"))
+        model.open("System")
+    elif wired:
+        with model.section("Line"):
+            add_end(model, "Src", source)
+            add_end(model, "Dst", target)
+    elif part:
+        with model.section("Block"):
+            add_parameters(model, part)
 
 
 def model_of(parts, settings):
-    """The text of a model whose root has these parts, from line 3 on, with lines behind its System."""
-    inside = [line for part in parts.split("; ") for line in part_lines(part)]
-    return "\n".join(["Model {", "System {", *inside, "}", *settings, "}", ""])
+    """The text of a model whose root has these parts, from line 3 on, with lines after its System."""
+    model = Model()
+    for part in parts.split("; "):
+        add_part(model, part)
+    return model.text(*settings)

@@ -1,5 +1,21 @@
-# What the trials of the built program share: its calls, and its C compiled by other compilers. A script that takes this in has set
-# `top`, the repository, and stands in a folder of its own.
+# The head of all trials in bash, and what those of the built program share: its calls, and its C compiled by other compilers. A trial
+# takes it in by one line:
+#
+#     . "$(dirname "$0")/trials.bash" built     where it calls the program, which is then built if it is older than its sources
+#     . "$(dirname "$0")/trials.bash" unbuilt   where it doesn't
+#
+# It is then in `work`, an empty folder that is removed at its end; `top` is the repository.
+# shellcheck shell=bash disable=SC2034 # what isn't used here is used there
+set -eu
+top=$(cd "$(dirname "${BASH_SOURCE[0]}")/.." && pwd)
+work=$(mktemp -d)
+trap 'rm -rf "$work"' EXIT
+cd "$work"
+
+fail() { echo "$(basename "$0"): $*" >&2; exit 1; }
+has() { command -v "$1" >/dev/null 2>&1; }
+
+[ "$1" = built ] || return 0
 
 # The code has parameters that it doesn't use, so that all procedures of a kind are called in one way.
 unused="-Wno-unused-parameter"
@@ -8,8 +24,6 @@ strict="-std=c99 -Wall -Wextra -Wconversion -pedantic $unused -Werror"
 # The program itself: some words are answered by its script, `mdlc`.
 "$top/mdlc" build || exit 1
 program="$top/crates/mdlc/out/mdlc"
-
-fail() { echo "$(basename "$0"): $*" >&2; exit 1; }
 
 # In a table " / " stands between the lines of a text.
 lines_of() { printf '%s' "$1" | sed 's| */ *|\n|g'; }

@@ -1,36 +1,17 @@
 """Models at the limits of the rules and beyond them, and scripts, each with the last line that the rules give for it. Lines are
 counted while a text is made, so that no refusal is taken from the program."""
 
+import os
+import sys
+
+sys.path.insert(0, os.path.join(os.path.dirname(os.path.dirname(os.path.abspath(__file__))), ".ci"))
+from mdl_writer import Model  # noqa: E402
+
 MIB = 1 << 20
 
 
-class Model:
-    """The text of a model, line by line. What adds a section gives the number of the line that opens it."""
-
-    def __init__(self, *parameters):
-        self.lines = ["Model {", *parameters, "System {"]
-
-    def add(self, *lines):
-        self.lines += lines
-        return len(self.lines) - len(lines) + 1
-
-    def block(self, kind, name, **parameters):
-        return self.add("Block {", f"BlockType {kind}", f'Name "{name}"', *(f'{key} "{value}"' for key, value in parameters.items()), "}")
-
-    def open(self, name):
-        return self.add("Block {", "BlockType SubSystem", f'Name "{name}"', "System {")
-
-    def close(self):
-        self.add("}", "}")
-
-    def wire(self, source, target, source_port=1, target_port=1):
-        return self.add("Line {", f'SrcBlock "{source}"', f"SrcPort {source_port}", f'DstBlock "{target}"', f"DstPort {target_port}", "}")
-
-    def text(self):
-        return "\n".join([*self.lines, "}", "}", ""]).encode()
-
-
 def compiled(rows, systems, functions):
+    """The last line of `compile` for a model that is accepted."""
     return f"compiled rows {rows} systems {systems} functions {functions}"
 
 
@@ -42,10 +23,10 @@ def report_of(last):
 def nested(levels):
     """Empty subsystems inside each other, and the lines that open them."""
     it = Model()
-    opened = [it.open("s") for _ in range(levels)]
+    opened = [it.open_subsystem("s") for _ in range(levels)]
     for _ in opened:
-        it.close()
-    return it.text(), opened
+        it.close_subsystem()
+    return it.data(), opened
 
 
 def wire_through(levels, enabled=False):
@@ -56,7 +37,7 @@ def wire_through(levels, enabled=False):
         if level and enabled:
             it.block("EnablePort", "e")
         if level < levels:
-            it.open("s")
+            it.open_subsystem("s")
     for level in range(levels, -1, -1):
         it.block("Outport", "y")
         if level < levels:
@@ -65,8 +46,8 @@ def wire_through(levels, enabled=False):
                 it.wire("x", "s", target_port="enable")
         it.wire("s" if level < levels else "x", "y")
         if level:
-            it.close()
-    return it.text()
+            it.close_subsystem()
+    return it.data()
 
 
 def depths():
@@ -84,29 +65,30 @@ def depths():
 
 
 def many_subsystems(count):
+    """The text of so many empty subsystems of the root, and the lines that open them."""
     it = Model()
     opened = []
     for at in range(count):
-        opened.append(it.open(f"s{at}"))
-        it.close()
-    return it.text(), opened
+        opened.append(it.open_subsystem(f"s{at}"))
+        it.close_subsystem()
+    return it.data(), opened
 
 
 def wide():
     """A subsystem of 32 Inports, each wired to an Outport, whose inputs are all one number."""
     it = Model()
     it.block("Inport", "i", OutDataTypeStr="int32")
-    it.open("s")
+    it.open_subsystem("s")
     for at in range(1, 33):
         it.block("Inport", f"x{at}", Port=at)
         it.block("Outport", f"y{at}", Port=at)
         it.wire(f"x{at}", f"y{at}")
-    it.close()
+    it.close_subsystem()
     it.block("Outport", "o")
     for at in range(1, 33):
         it.wire("i", "s", target_port=at)
     it.wire("s", "o", source_port=32)
-    return it.text()
+    return it.data()
 
 
 def counts():
@@ -120,13 +102,13 @@ def counts():
             it = Model()
             for at in range(count):
                 it.block(kind, f"p{at}", Port=at + 1)
-            yield f"{count} {kind}s of the root", it.text(), f"refused F6 TooMany line 2 {kind}s {count}"
+            yield f"{count} {kind}s of the root", it.data(), f"refused F6 TooMany line 2 {kind}s {count}"
         it = Model()
-        opened = it.open("s")
+        opened = it.open_subsystem("s")
         for at in range(19999):
             it.block(kind, f"p{at}")
-        it.close()
-        yield f"19,999 {kind}s of a subsystem", it.text(), f"refused F6 TooMany line {opened} {kind}s 19999"
+        it.close_subsystem()
+        yield f"19,999 {kind}s of a subsystem", it.data(), f"refused F6 TooMany line {opened} {kind}s 19999"
     yield "a subsystem of 32 Inports and 32 Outports", wide(), compiled(67, 2, 33)
 
 
@@ -137,29 +119,29 @@ def names():
         it = Model()
         for name in (long + "a", long + "b"):
             it.add("Block {", f"BlockType {kind}", f'Name "{name}"', *(["System {", "}"] if systems > 1 else []), "}")
-        yield f"two names of 1 MiB, {kind}", it.text(), compiled(2, systems, 0)
+        yield f"two names of 1 MiB, {kind}", it.data(), compiled(2, systems, 0)
     it = Model()
     it.block("Ground", long)
     second = it.block("Ground", long)
-    yield "one name of 1 MiB twice", it.text(), f"refused F9 DoubleName line {second}"
+    yield "one name of 1 MiB twice", it.data(), f"refused F9 DoubleName line {second}"
     it = Model()
     it.block("Ground", long)
     line = it.wire(long + "a", long)
-    yield "a wire from an unknown name of 1 MiB", it.text(), f"refused F10 NoBlock line {line}"
+    yield "a wire from an unknown name of 1 MiB", it.data(), f"refused F10 NoBlock line {line}"
     it = Model()
     it.block("Inport", long + "a", OutDataTypeStr="int32")
     it.block("Outport", long + "b")
     it.wire(long + "a", long + "b")
-    yield "a wire between names of 1 MiB", it.text(), compiled(2, 1, 1)
+    yield "a wire between names of 1 MiB", it.data(), compiled(2, 1, 1)
     it = Model()
-    yield "a BlockType of 1 MiB", (it.block(long, "a"), it.text())[1], "refused F7 Unsupported line 3"
+    yield "a BlockType of 1 MiB", (it.block(long, "a"), it.data())[1], "refused F7 Unsupported line 3"
     it = Model()
     it.block("Ground", "a", **{long: "1"})
     it.add(f"{long} {{", "}")
-    yield "names of 1 MiB of a parameter and a section", it.text(), compiled(1, 1, 0)
+    yield "names of 1 MiB of a parameter and a section", it.data(), compiled(1, 1, 0)
     it = Model()
     it.add("Block {", "BlockType Ground", 'Name ""', *[f'"{"x" * 64}"'] * (MIB // 64), "}")
-    yield "a name of 1 MiB in pieces", it.text(), compiled(1, 1, 0)
+    yield "a name of 1 MiB in pieces", it.data(), compiled(1, 1, 0)
     for what, parameters, last in (
         ("9", {"SampleTime": "9" * MIB}, "refused F8 Parameter line 3 SampleTime"),
         ("blank", {"SampleTime": " " * MIB + "1" + " " * MIB}, compiled(1, 1, 0)),
@@ -169,7 +151,7 @@ def names():
     ):
         it = Model()
         it.block("Constant", "c", OutDataTypeStr="int8", **parameters)
-        yield f"a value with 1 MiB of {what}", it.text(), last
+        yield f"a value with 1 MiB of {what}", it.data(), last
 
 
 def ports():
@@ -179,18 +161,18 @@ def ports():
         it.block("Inport", "i", OutDataTypeStr="int32", Port=port)
         it.block("Outport", "o")
         it.wire("i", "o")
-        yield f"an Inport's Port {port!r}", it.text(), "refused F8 Parameter line 3 Port"
+        yield f"an Inport's Port {port!r}", it.data(), "refused F8 Parameter line 3 Port"
     for port in (0, 3, 33, -1, 1.5, 2**32 + 1, 2**64 + 1, 10**18 - 1, '""', "enable", "trigger", "Enable"):
         for end in ("source_port", "target_port"):
             it = Model()
             it.block("Inport", "i", OutDataTypeStr="int32")
-            it.open("s")
+            it.open_subsystem("s")
             for at in (1, 2):
                 it.block("Inport", f"x{at}", Port=at)
                 it.block("Outport", f"y{at}", Port=at)
-            it.close()
+            it.close_subsystem()
             line = it.wire("s", "s", **{end: port})
-            yield f"a {end} {port}", it.text(), f"refused F11 NoPort line {line}"
+            yield f"a {end} {port}", it.data(), f"refused F11 NoPort line {line}"
 
 
 def controls():
@@ -203,26 +185,26 @@ def controls():
         for wired in (True, False):
             it = Model()
             it.block("Inport", "i", OutDataTypeStr="boolean")
-            opened = it.open("s")
+            opened = it.open_subsystem("s")
             lines = [it.block(kind, f"c{number}") for number, kind in enumerate(kinds)]
-            it.close()
+            it.close_subsystem()
             for kind in sorted(set(kinds)) if wired else ():
                 it.wire("i", "s", target_port=ends[kind])
             second = min(line for number, line in enumerate(lines) if kinds[number] in kinds[:number])
             if wired:
-                yield what, it.text(), f"refused F14 TwoControls line {second}"
+                yield what, it.data(), f"refused F14 TwoControls line {second}"
             else:
-                yield f"{what} without a line", it.text(), f"refused F13 Unconnected line {opened} port {first}"
+                yield f"{what} without a line", it.data(), f"refused F13 Unconnected line {opened} port {first}"
         it = Model()
         lines = [it.block(kind, f"c{number}") for number, kind in enumerate(kinds)]
-        yield f"{what} in the root", it.text(), f"refused F14 TwoControls line {lines[0]}"
+        yield f"{what} in the root", it.data(), f"refused F14 TwoControls line {lines[0]}"
     it = Model()
     it.block("Inport", "i", OutDataTypeStr="boolean")
-    it.open("s")
+    it.open_subsystem("s")
     it.block("EnablePort", "e")
-    it.close()
+    it.close_subsystem()
     wires = [it.wire("i", "s", target_port="enable") for _ in range(1000)]
-    yield "1000 wires to one control", it.text(), f"refused F12 TwoSources line {wires[1]}"
+    yield "1000 wires to one control", it.data(), f"refused F12 TwoSources line {wires[1]}"
 
 
 def timed(times, *parameters):
@@ -235,7 +217,7 @@ def timed(times, *parameters):
         it.block("Terminator", f"t{at}")
         it.wire(f"c{at}", f"d{at}")
         it.wire(f"d{at}", f"t{at}")
-    return it.text(), delays
+    return it.data(), delays
 
 
 def times():
@@ -276,7 +258,7 @@ def chain(lengths):
     it.block("Outport", f"d{len(lengths) + 1}")
     for at in range(len(lengths) + 1):
         it.wire(f"d{at}", f"d{at + 1}")
-    return it.text(), delays
+    return it.data(), delays
 
 
 def delays():

@@ -6,9 +6,12 @@ depth and number."""
 import re
 from functools import lru_cache
 from itertools import count, takewhile
+from operator import eq, ge, gt, le, lt, ne
 
 from code_text import FIRST_LINE, GREATEST, LEAST, TYPES, first_stray, last_line, tokens_of
 from code_trees import If, Proc, Pure, Reader, Store, uses
+
+COMPARISONS = {"==": eq, "!=": ne, "<": lt, "<=": le, ">": gt, ">=": ge}
 
 # In one construct a rule on names comes before a rule on types.
 NAME, TYPE = (0, "Name"), (1, "Type")
@@ -27,17 +30,21 @@ class Rules:
             self.proc(it)
 
     def check(self, at, kind, is_kept):
+        """Notes an error of this kind at a token where the rule isn't kept."""
         if not is_kept:
             self.faults.append((at, kind))
 
     def define(self, function):
+        """Makes a pure function or a procedure known; the first of a name counts."""
         self.functions.setdefault(function.name, function)
 
     def known(self, name, kind):
+        """The function of this name that was defined so far, where it is of this class, or None."""
         found = self.functions.get(name)
         return found if isinstance(found, kind) else None
 
     def params(self, params):
+        """Checks parameters; the set of their names."""
         for number, it in enumerate(params):
             self.check(it.at, NAME, it.name not in self.functions and it.name not in [other.name for other in params[:number]])
         return {it.name for it in params}
@@ -70,10 +77,13 @@ class Rules:
         self.define(proc)
 
     def body(self, body, params, fields, struct):
+        """Checks statements in a procedure on this struct; `params` are names, `fields` fields by their names."""
         for it in body:
             if isinstance(it, Store):
                 self.check(it.at, NAME, it.field in fields)
-                self.check(it.at, TYPE, it.field in fields and fields[it.field].type == it.type and is_array(fields[it.field]) == (it.index is not None))
+                field = fields.get(it.field)
+                is_right = field is not None and field.type == it.type and is_array(field) == (it.index is not None)
+                self.check(it.at, TYPE, is_right)
                 for value in (it.index, it.value) if it.index else (it.value,):
                     self.value(value, params, fields)
             elif isinstance(it, If):
@@ -86,6 +96,7 @@ class Rules:
                     self.value(value, params, fields)
 
     def call(self, call, fields, struct):
+        """Checks a call in a procedure on this struct, but for its values."""
         proc = self.known(call.name, Proc)
         self.check(call.at, NAME, proc and (call.field is None or call.field in fields))
         if proc:
@@ -94,6 +105,7 @@ class Rules:
             self.check(call.at, TYPE, target == proc.struct and call.types == [it.type for it in proc.params])
 
     def value(self, value, params, fields):
+        """Checks all that an expression or a test uses; `fields` is None in a pure function."""
         for it in uses(value):
             if it[0] == "call":
                 pure = self.known(it[2], Pure)
@@ -117,6 +129,7 @@ class Rules:
         self.check(at, TYPE, inner in within and is_number(within[inner]))
 
     def is_whole(self):
+        """Whether all that a file must have is there."""
         return "root" in self.structs and all(self.known(it, Proc) for it in ("root_start", "root_step"))
 
 
@@ -144,17 +157,21 @@ class Machine:
         self.root, self.steps, self.calls = self.fields("root"), 0, 0
 
     def fields(self, struct):
+        """A new struct of this name: numbers, lists and dictionaries by the names of its fields, all numbers 0."""
         return {name: self.at_first(it) for name, it in self.structs[struct].items()}
 
     def at_first(self, field):
+        """What a field holds in a new struct."""
         return self.fields(field.struct) if field.type == "struct" else [0] * field.length if is_array(field) else 0
 
     def within(self, number, bounds, line, cause):
+        """The number, which must be within bounds, the least and the greatest; else the line is stuck by this cause."""
         if not bounds[0] <= number <= bounds[1]:
             raise Stuck(line, cause)
         return number
 
     def value(self, value, fields, params, line):
+        """The number that an expression of this line has over fields and parameters, both by their names."""
         kind, *parts = value
         if kind == "number":
             return parts[0]
@@ -176,10 +193,12 @@ class Machine:
         return self.within(self.value(index, fields, params, line), (0, len(items) - 1), line, "Index")
 
     def pure(self, pure, numbers):
+        """What a pure function returns for these numbers."""
         self.steps += 1
         return self.value(pure.value, None, dict(zip([it.name for it in pure.params], numbers)), pure.line)
 
     def operation(self, operator, left, right, line):
+        """What one of `+ - * / %` gives for two numbers."""
         if operator in "/%" and right == 0:
             raise Stuck(line, "ZeroDivisor")
         quotient = 0 if right == 0 else abs(left) // abs(right) * (1 if (left < 0) == (right < 0) else -1)
@@ -189,6 +208,7 @@ class Machine:
         return self.within(found[operator], (LEAST, GREATEST), line, "Overflow")
 
     def test(self, test, fields, params, line):
+        """Whether a condition holds."""
         kind, *parts = test
         if kind == "not":
             return not self.test(parts[0], fields, params, line)
@@ -196,16 +216,21 @@ class Machine:
             left = self.test(parts[1], fields, params, line)
             return left if left == (parts[0] == "||") else self.test(parts[2], fields, params, line)
         left, right = (self.value(it, fields, params, line) for it in parts[1:])
-        return {"==": left == right, "!=": left != right, "<": left < right, "<=": left <= right, ">": left > right, ">=": left >= right}[parts[0]]
+        return COMPARISONS[parts[0]](left, right)
 
     def fitting(self, value, type, fields, params, line):
+        """The number of an expression, which must be in a type of C, given by its name."""
         return self.within(self.value(value, fields, params, line), TYPES[type], line, "Range")
 
     def body(self, body, fields, params):
+        """Runs statements: they change the fields in place."""
         for it in body:
             self.steps += 1
             if isinstance(it, Store):
-                target, place = (fields, it.field) if it.index is None else (fields[it.field], self.place(fields[it.field], it.index, fields, params, it.line))
+                target, place = fields, it.field
+                if it.index is not None:
+                    target = fields[it.field]
+                    place = self.place(target, it.index, fields, params, it.line)
                 target[place] = self.fitting(it.value, it.type, fields, params, it.line)
             elif isinstance(it, If):
                 self.body(it.then if self.test(it.test, fields, params, it.line) else it.other, fields, params)
@@ -214,6 +239,7 @@ class Machine:
                 self.call(it.name, fields if it.field is None else fields[it.field], numbers)
 
     def call(self, name, fields, numbers):
+        """Runs the procedure of this name on the fields of a struct."""
         proc = self.functions[name]
         self.calls += bool(re.search(r"(_update|_out[0-9]+)\Z", name))
         self.body(proc.body, fields, dict(zip([it.name for it in proc.params], numbers)))
@@ -254,7 +280,10 @@ def read(data):
         return 1, "Syntax"
     tokens = tokens_of(data)
     stray = first_stray(tokens)
-    line_of = lambda at: tokens[at][1] if at < len(tokens) else last_line(data)
+
+    def line_of(at):
+        return tokens[at][1] if at < len(tokens) else last_line(data)
+
     if stray is not None:
         return line_of(stray), "Syntax"
     rules = rules_of(data)

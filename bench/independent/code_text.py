@@ -4,10 +4,11 @@ rules that may stand there, so the first token with which no file can go on is t
 import re
 
 LEAST, GREATEST = -(2**63), 2**63 - 1
-TYPES = {f"int{bits}_t": (-(2 ** (bits - 1)), 2 ** (bits - 1) - 1) for bits in (8, 16, 32, 64)} | {f"uint{bits}_t": (0, 2**bits - 1) for bits in (8, 16, 32)}
+TYPES = {f"int{bits}_t": (-(2 ** (bits - 1)), 2 ** (bits - 1) - 1) for bits in (8, 16, 32, 64)}
+TYPES |= {f"uint{bits}_t": (0, 2**bits - 1) for bits in (8, 16, 32)}
 KEYWORDS = set(
-    "auto break case char const continue default do double else enum extern float for goto if inline int long register restrict return short "
-    "signed sizeof static struct switch typedef union unsigned void volatile while _Bool _Complex _Imaginary".split()
+    "auto break case char const continue default do double else enum extern float for goto if inline int long register restrict return "
+    "short signed sizeof static struct switch typedef union unsigned void volatile while _Bool _Complex _Imaginary".split()
 )
 TOKEN = re.compile(rb"[A-Za-z_][A-Za-z0-9_]*|[0-9]+|->|==|!=|<=|>=|&&|\|\||[(){}\[\];,*=?:\-+/%<>!&.]")
 FIRST_LINE = b"#include <stdint.h>"
@@ -28,10 +29,12 @@ void: 'void NAME '( 'struct NAME '* 's params ') block
 params: | params ', TYPE NAME
 block: '{ stmts '}
 stmts: | stmts stmt
-stmt: 's '-> NAME '= '( TYPE ') expr '; | 's '-> NAME '[ expr '] '= '( TYPE ') expr '; | 'if cond block | 'if cond block 'else block | NAME '( target values ') ';
+stmt: 's '-> NAME '= '( TYPE ') expr '; | 's '-> NAME '[ expr '] '= '( TYPE ') expr '; \
+    | 'if cond block | 'if cond block 'else block | NAME '( target values ') ';
 target: 's | '& 's '-> NAME
 values: | values ', '( TYPE ') expr
-expr: 'INT64_C '( LITERAL ') | '( '- expr ') | '( 'int64_t ') leaf | '( expr OPERATOR expr ') | '( cond '? expr ': expr ') | NAME '( exprs ')
+expr: 'INT64_C '( LITERAL ') | '( '- expr ') | '( 'int64_t ') leaf | '( expr OPERATOR expr ') \
+    | '( cond '? expr ': expr ') | NAME '( exprs ')
 exprs: expr | exprs ', expr
 leaf: NAME | 's '-> NAME | 's '-> NAME '. NAME | 's '-> NAME '[ expr ']
 cond: '( expr RELATION expr ') | '( cond '&& cond ') | '( cond '__or__ cond ') | '( '! cond ')
@@ -43,6 +46,7 @@ for row in RULES.strip().splitlines():
 
 
 def is_name(text):
+    """Whether a token may be the name of something."""
     return bool(re.fullmatch(r"[a-z][A-Za-z0-9_]*", text)) and not text.endswith("_t") and text not in KEYWORDS and text != "s"
 
 
@@ -56,11 +60,12 @@ FITS = {
 
 
 def fits(symbol, text):
+    """Whether a token is one that a symbol of a rule stands for."""
     return text == symbol[1:] if symbol.startswith("'") else FITS[symbol](text)
 
 
 def tokens_of(data):
-    """The text and the line of each token behind the first line. A byte that begins none, and a comment without its end, is the last one."""
+    """The text and the line of each token after the first line. A byte that begins none, and a comment without its end, is the last."""
     found, at, line = [], len(data.partition(b"\n")[0]), 1
     while at < len(data):
         blank = data[at : at + 1] in b" \t\r\n"
@@ -79,12 +84,14 @@ def tokens_of(data):
 
 # An item is the head of a rule, the number of its body, how many symbols of that are read, and the place where they begin.
 def next_symbol(item):
+    """The symbol that is read next, or None at the end of the body."""
     head, body, dot, _ = item
     symbols = GRAMMAR[head][body]
     return symbols[dot] if dot < len(symbols) else None
 
 
 def moved(item):
+    """The item after its next symbol."""
     head, body, dot, start = item
     return (head, body, dot + 1, start)
 

@@ -1,6 +1,5 @@
 """Trees of C texts that keep the grammar, read by recursive descent that tries again where a `(` opens something else."""
 
-import re
 from dataclasses import dataclass, field
 
 from code_text import is_name

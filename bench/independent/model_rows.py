@@ -13,14 +13,34 @@ HOW = (("RndMeth", b"Floor"), ("SaturateOnIntegerOverflow", b"off"), TIME)
 # The parameters of each type of block with their defaults, in the order in which they are checked.
 PARAMETERS = {
     b"Inport": (("Port", b"1"), ("OutDataTypeStr", b"Inherit: auto"), TIME, ("PortDimensions", b"-1")),
-    b"Outport": (("Port", b"1"), ("OutDataTypeStr", b"Inherit: auto"), TIME, ("PortDimensions", b"-1"), ("OutputWhenDisabled", b"held"), ("InitialOutput", b"[]")),
+    b"Outport": (
+        ("Port", b"1"),
+        ("OutDataTypeStr", b"Inherit: auto"),
+        TIME,
+        ("PortDimensions", b"-1"),
+        ("OutputWhenDisabled", b"held"),
+        ("InitialOutput", b"[]"),
+    ),
     b"Constant": (("Value", b"1"), ("OutDataTypeStr", b"Inherit: Inherit from 'Constant value'"), ("SampleTime", b"inf")),
     b"Ground": (),
     b"Terminator": (),
     b"UnitDelay": (("InitialCondition", b"0"), TIME),
-    b"Delay": (("DelayLength", b"2"), ("DelayLengthSource", b"Dialog"), ("InitialCondition", b"0"), ("InitialConditionSource", b"Dialog"), ("ExternalReset", b"None"), TIME),
+    b"Delay": (
+        ("DelayLength", b"2"),
+        ("DelayLengthSource", b"Dialog"),
+        ("InitialCondition", b"0"),
+        ("InitialConditionSource", b"Dialog"),
+        ("ExternalReset", b"None"),
+        TIME,
+    ),
     b"ZeroOrderHold": (("SampleTime", b"1"),),
-    b"RateTransition": (("Integrity", b"on"), ("Deterministic", b"on"), ("InitialCondition", b"0"), ("OutPortSampleTimeOpt", b"Specify"), ("OutPortSampleTime", b"-1")),
+    b"RateTransition": (
+        ("Integrity", b"on"),
+        ("Deterministic", b"on"),
+        ("InitialCondition", b"0"),
+        ("OutPortSampleTimeOpt", b"Specify"),
+        ("OutPortSampleTime", b"-1"),
+    ),
     b"SubSystem": (("SystemSampleTime", b"-1"),),
     b"EnablePort": (("StatesWhenEnabling", b"held"),),
     b"TriggerPort": (("TriggerType", b"rising"),),
@@ -30,7 +50,11 @@ PARAMETERS = {
     b"Switch": (("Criteria", b"u2 >= Threshold"), ("Threshold", b"0"), ("OutDataTypeStr", FIRST), *HOW),
     b"RelationalOperator": (("Operator", b">="), ("OutDataTypeStr", b"boolean"), TIME),
     b"Logic": (("Operator", b"AND"), ("Inputs", b"2"), ("OutDataTypeStr", b"boolean"), TIME),
-    b"DataTypeConversion": (("OutDataTypeStr", b"Inherit: Inherit via back propagation"), ("ConvertRealWorld", b"Real World Value (RWV)"), *HOW),
+    b"DataTypeConversion": (
+        ("OutDataTypeStr", b"Inherit: Inherit via back propagation"),
+        ("ConvertRealWorld", b"Real World Value (RWV)"),
+        *HOW,
+    ),
 }
 CONTROLS = (b"EnablePort", b"TriggerPort")
 CONTROL_NAMES = {"enable": b"EnablePort", "trigger": b"TriggerPort"}
@@ -59,6 +83,8 @@ OPERATORS = {
 
 
 class Row:
+    """A block of a system, with its line and its parameters as the file has them."""
+
     def __init__(self, section, defaults, owner):
         self.line, self.kind = section.line, section.param(b"BlockType")
         self.own, self.defaults = section, defaults.get(self.kind)
@@ -74,9 +100,11 @@ class Row:
         return next((it for it in texts if it is not None), None)
 
     def has(self, name):
+        """Whether a block of this kind has a parameter of this name."""
         return name in dict(PARAMETERS[self.kind])
 
     def text(self, name):
+        """The text of a parameter, its default where the file has none; bytes."""
         found = self.written(name)
         return dict(PARAMETERS[self.kind])[name] if found is None else found
 
@@ -89,6 +117,7 @@ class Row:
         return time_of(self.text("SampleTime")) if self.has("SampleTime") else INHERITED
 
     def has_period(self):
+        """Whether the row has a sample time of its own."""
         return isinstance(self.time_text(), tuple)
 
     def is_kind(self, *kinds):
@@ -99,6 +128,7 @@ class Row:
         return [self.owner, *self.owner.around()] if self.owner else []
 
     def inputs(self):
+        """How many inputs the row has besides its controls, or None where the text that says so isn't of its form."""
         if self.is_kind(b"SubSystem"):
             return len(self.system.of_kind(b"Inport")) if self.system else 0
         if self.is_kind(b"Sum"):
@@ -120,6 +150,7 @@ def count_of_inputs(text, sign):
 
 
 def is_of_form(row, name, counts):
+    """Whether the text of a parameter is of its form; `counts` has how many ports of each kind the row's system has."""
     text = row.text(name)
     if name == "Port":
         port = whole(text)
@@ -165,12 +196,15 @@ class System:
                 self.children.append(row.system)
 
     def all_systems(self):
+        """The system and those inside it at any depth, in the order of the file."""
         return [self, *(it for child in self.children for it in child.all_systems())]
 
     def all_rows(self):
+        """Its rows and those inside it at any depth, in the order of the file."""
         return [it for row in self.rows for it in [row, *(row.system.all_rows() if row.system else [])]]
 
     def of_kind(self, *kinds):
+        """Its own rows of these kinds."""
         return [row for row in self.rows if row.is_kind(*kinds)]
 
     def ports(self, kind):

@@ -256,9 +256,10 @@ class Model:
                 return
 
     def judge(self):
-        passes = (self.depths, self.many_rows, self.crowds, self.unsupported, self.parameters, self.double_names, self.missing_blocks, self.missing_ports, self.double_sources)
-        passes += (self.missing_lines, self.controls, self.continuous, self.floats, self.types, self.signed_triggers, self.wide_rows)
-        passes += (self.inner_times, self.long_denominators, self.long_periods, self.long_cycles, self.rate_ratios, self.loops, self.long_delays)
+        passes = [self.depths, self.many_rows, self.crowds, self.unsupported, self.parameters, self.double_names]
+        passes += [self.missing_blocks, self.missing_ports, self.double_sources, self.missing_lines, self.controls]
+        passes += [self.continuous, self.floats, self.types, self.signed_triggers, self.wide_rows, self.inner_times]
+        passes += [self.long_denominators, self.long_periods, self.long_cycles, self.rate_ratios, self.loops, self.long_delays]
         for refusals in passes:
             found = list(refusals())
             if found:

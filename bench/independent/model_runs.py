@@ -53,9 +53,11 @@ class Run:
         self.triggers = dict.fromkeys(it for it in [owner, *rows] if it and "trigger" in it.sources)
 
     def control(self, e, name):
+        """The number that a control of a subsystem, `enable` or `trigger`, has at this tick."""
         return self.columns[name] if e is self.system.owner else self.values[e.sources[name]]
 
     def around(self, row):
+        """The subsystems around a row that count here, the inmost first."""
         return [e for e in row.around() if e is self.system.owner or e in self.system.inside]
 
     def is_active(self, e):
@@ -70,17 +72,21 @@ class Run:
         return e is self.system.owner or self.is_active(e.owner)
 
     def is_event(self, e, is_high):
+        """Whether the trigger of a subsystem, high or not at this tick, starts it."""
         rises, falls = self.triggers[e] == LOW and is_high, self.triggers[e] == HIGH and not is_high
         port = e.system.of_kind(b"TriggerPort")[0]
         return {b"rising": rises, b"falling": falls, b"either": rises or falls}[port.text("TriggerType")]
 
     def is_disabled(self, e):
+        """Whether a subsystem is switched off by its own enable."""
         return e is not None and "enable" in e.sources and self.is_held_active(e) and self.control(e, "enable") <= 0
 
     def is_off(self, e):
+        """Whether a subsystem is switched off and forgets its states."""
         return self.is_disabled(e) and e.system.of_kind(b"EnablePort")[0].text("StatesWhenEnabling") == b"reset"
 
     def runs(self, row):
+        """Whether a row has a hit of its sample time at this tick, in a system that is active."""
         return self.now % row.time[0] == row.time[1] and self.is_active(row.owner)
 
     def settle(self, numbers):

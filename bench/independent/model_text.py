@@ -20,6 +20,7 @@ class Section:
         self.items = []
 
     def all(self, name):
+        """The sections of this name directly in it."""
         return [it for it in self.sections if it.name == name]
 
     def param(self, name):

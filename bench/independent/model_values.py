@@ -18,20 +18,24 @@ FLOAT, INHERITED, BACK, CONSTANT = "float", "inherited", "back", "constant"
 
 
 def text_of(value):
+    """The characters of a value, without blanks around them."""
     return value.strip(BLANKS).decode("latin1")
 
 
 def is_long(digits):
+    """Whether digits are more than a number may have, zeros before them apart."""
     return len(digits.lstrip("0")) > MOST_DIGITS
 
 
 def quotient(sign, above, below):
+    """The fraction of two texts of digits, negative with a sign."""
     if int(below) == 0 or is_long(above) or is_long(below):
         return None
     return Fraction(int(above), int(below)) * (-1 if sign else 1)
 
 
 def decimal(sign, written, is_small, power):
+    """The fraction of digits with a point and a power of ten, which is negative if it is small; the first is negative with a sign."""
     digits, behind = written.replace(".", ""), len(written.partition(".")[2])
     if is_long(digits) or is_long(power):
         return None
@@ -42,6 +46,7 @@ def decimal(sign, written, is_small, power):
 
 
 def bare_number(text):
+    """The fraction that a text without brackets means."""
     if text in ("true", "false"):
         return Fraction(text == "true")
     if found := QUOTIENT.fullmatch(text):
@@ -52,16 +57,19 @@ def bare_number(text):
 
 
 def number(value):
+    """The fraction that a value means."""
     text = text_of(value)
     return bare_number(text[1:-1] if text[:1] == "[" and text[-1:] == "]" else text)
 
 
 def whole(value):
+    """The whole number that a value means."""
     found = None if value is None else number(value)
     return int(found) if found is not None and found.denominator == 1 else None
 
 
 def type_of(value):
+    """The type that a value means: a triple, or one of the words for types that are found elsewhere."""
     text = text_of(value)
     if text in TYPES:
         return TYPES[text]
@@ -95,6 +103,7 @@ def time_of(value):
 
 
 def is_small(fraction):
+    """Whether both parts of a fraction are as small as a time may have them."""
     return max(fraction.numerator, fraction.denominator) <= MOST_PART
 
 
@@ -105,10 +114,12 @@ def step_of(value):
 
 
 def nearest(number):
+    """The nearest whole number, ties up."""
     return floor(number + Fraction(1, 2))
 
 
 def bounds(type):
+    """The least and the greatest number of a type, as its bits have them."""
     sign, bits, _ = type
     return (-(2 ** (bits - 1)), 2 ** (bits - 1) - 1) if sign else (0, 2**bits - 1)
 

@@ -92,13 +92,21 @@ def bits_for(count):
     return (count - 1).bit_length() if count else 0
 
 
+def magnitude(type):
+    """The bits of a type without its sign."""
+    return type[1] - type[0]
+
+
 def wide_bits(row):
+    """The bits that the numbers of a row need on the way to its value."""
     if row.system:
         return 0
     sources = [row.sources[it] for it in range(1, row.inputs() + 1)]
     inputs = [BOOLEAN if it.is_kind(b"Ground") else it.type for it in sources]
-    magnitude = lambda type: type[1] - type[0]
-    fitted = lambda bits, point: max(bits + max(0, row.type[2] - point), point - row.type[2], 0)
+
+    def fitted(bits, point):
+        return max(bits + max(0, row.type[2] - point), point - row.type[2], 0)
+
     if row.is_kind(b"Gain"):
         constant, point = gain_constant(row)
         return fitted(magnitude(inputs[0]) + bits_for(abs(constant)), inputs[0][2] + point)

@@ -7,7 +7,8 @@ NARROW = [it for it in TYPES if it != "int64_t"]
 NUMBERS = ["0", "1", "2", "3", "7", "10", "100", "127", "128", "255", "256", "32767", "65535"]
 LARGE = ["2147483647", "2147483648", "4294967295", "4611686018427387904", "9223372036854775807"]
 NAMES_IN_USE = ["a1", "p1", "f1", "x1", "u1", "root_step", "y1"]
-STRAY = "( ) { } [ ] ; , * = ? : && || < == s -> - ! & . 01 9223372036854775808 X int x_t @ static void if else return struct int64_t int8_t INT64_C _a # \" | 1a /* */ //".split()
+STRAY = """( ) { } [ ] ; , * = ? : && || < == s -> - ! & . 01 9223372036854775808 X int x_t @ static void if else return
+struct int64_t int8_t INT64_C _a # " | 1a /* */ //""".split()
 GAPS = ["", "", " ", "\n", "\t", " \r\n", "/* c */", "/*\n*/", "\n\n", "/***/", "/* / * */"]
 
 
@@ -21,29 +22,36 @@ class CodeText:
         self.pures, self.structs, self.procs = {}, {}, {}
 
     def is_lucky(self, often):
+        """True with this chance."""
         return self.chance.random() < often
 
     def is_wrong(self, share=1):
+        """True with this share of the chance that something is wrong."""
         return self.is_lucky(self.wrong * share)
 
     def put(self, *texts):
+        """Adds tokens."""
         self.tokens += texts
 
     def name(self, base):
+        """A new name that begins so, rarely one in use."""
         taken = {*self.pures, *self.procs}
         first = self.chance.choice([1, 1, 9, 12])
         new = next(it for it in (f"{base}{number}" for number in range(first, first + 100)) if it not in taken)
         return self.chance.choice(NAMES_IN_USE) if self.is_wrong() else new
 
     def type(self, type):
+        """The name of this type, rarely of another one."""
         return self.chance.choice([*TYPES]) if self.is_wrong() else type
 
     def joined(self, values, write):
+        """Writes each value, with commas between them."""
         for number, it in enumerate(values):
             self.put(*"," * (number > 0))
             write(it)
 
     def number(self):
+        """Adds a literal."""
         self.put("INT64_C", "(", self.chance.choice(LARGE if self.is_lucky(0.1) else NUMBERS), ")")
 
     def index(self, length, params, fields):
@@ -67,19 +75,23 @@ class CodeText:
         self.index(fields[name][1], params, fields)
 
     def leaf(self, params, fields):
+        """Adds a leaf of an expression over parameters, by their names, and fields, by their names and types."""
         if self.is_lucky(0.2):
             return self.item(params, fields)
         numbers = [[it] for it in params] + [["s", "->", name] for name, type in fields.items() if type in TYPES]
-        inside = [(name, inner) for name, type in fields.items() if type in self.structs for inner, it in self.structs[type].items() if it in TYPES]
+        children = [(name, self.structs[type]) for name, type in fields.items() if type in self.structs]
+        inside = [(name, inner) for name, child in children for inner, it in child.items() if it in TYPES]
         numbers += [["s", "->", name, ".", inner] for name, inner in inside]
         if self.is_wrong():
-            numbers = [["zz"], ["s", "->", "zz"], ["s", "->", "x1", ".", "x1"], ["s", "->", "c1"], ["a1"], ["s", "->", "b1"], ["s", "->", "c1", ".", "b1"]]
+            wrong = "zz / s -> zz / s -> x1 . x1 / s -> c1 / a1 / s -> b1 / s -> c1 . b1"
+            numbers = [it.split() for it in wrong.split(" / ")]
             numbers += [["s", "->", name, "[", "INT64_C", "(", "0", ")", "]"] for name in ("x1", "c1", "y1", "zz")]
         if not numbers or self.is_lucky(0.2):
             return self.number()
         self.put("(", "int64_t", ")", *self.chance.choice(numbers))
 
     def expr(self, depth, params, fields):
+        """Adds an expression of at most so many levels."""
         kind = self.chance.choice(["leaf", "leaf", "minus", "pair", "pair", "pair", "pair", "conditional", "call"])
         if depth <= 0 or kind == "leaf" or kind == "call" and not self.pures:
             return self.leaf(params, fields)
@@ -100,12 +112,14 @@ class CodeText:
         self.put(")")
 
     def pure_call(self, depth, params, fields):
+        """Adds a call of a pure function."""
         name = self.chance.choice([*self.pures])
         self.put("nope" if self.is_wrong() else name, "(")
         self.joined(range(self.pures[name] + self.is_wrong()), lambda _: self.expr(depth - 1, params, fields))
         self.put(")")
 
     def cond(self, depth, params, fields):
+        """Adds a condition of at most so many levels."""
         self.put("(")
         if depth > 0 and self.is_lucky(0.15):
             self.put("!")
@@ -133,6 +147,7 @@ class CodeText:
             self.put("INT64_C", "(", str(self.chance.randint(0, greatest)), ")")
 
     def pure(self):
+        """Adds a pure function."""
         name, count = self.name(self.chance.choice(["f", "round_f", "x"])), self.chance.randrange(1, 4)
         params = [f"p{1 if self.is_wrong() else number}" for number in range(1, count + 1)]
         self.put("static", "int64_t", name, "(")
@@ -143,6 +158,7 @@ class CodeText:
         self.pures.setdefault(name, count)
 
     def struct(self, name, outputs):
+        """Adds a struct of this name with so many outputs."""
         fields = [(f"y{number}", self.chance.choice([*TYPES])) for number in range(1, outputs + 1)]
         for number in range(self.chance.randrange(not fields, 4)):
             inner = [*self.structs] if self.is_lucky(0.4) else []
@@ -151,7 +167,8 @@ class CodeText:
             length = self.chance.choice([0, 65_536, 10**18]) if self.is_wrong() else self.chance.choice([1, 2, 3, 5, 65_535])
             fields.append((f"b{number}", (self.chance.choice([*TYPES]), length)))
         if self.is_wrong(3):
-            fields.append(self.chance.choice([fields[0], ("y9", "int8_t"), ("y0", "int8_t"), ("w", "nope"), ("y", "int8_t"), ("y01", "int8_t"), ("y1", "a0"), ("y9", ("int8_t", 2)), ("y1", ("int8_t", 2))]))
+            wrong = [fields[0], ("y9", "int8_t"), ("y0", "int8_t"), ("w", "nope"), ("y", "int8_t"), ("y01", "int8_t"), ("y1", "a0")]
+            fields.append(self.chance.choice([*wrong, ("y9", ("int8_t", 2)), ("y1", ("int8_t", 2))]))
         self.chance.shuffle(fields)
         self.put("struct", name, "{")
         for field, type in fields:
@@ -261,10 +278,12 @@ def damaged(chance, tokens):
 
 
 def is_word(text):
+    """Whether a token begins as a word does, so that a blank parts it from another one."""
     return text[-1:].isalnum() or text[-1:] == "_"
 
 
 def spelled(chance, tokens):
+    """The bytes of a text of these tokens."""
     is_wild = chance.random() < 0.3
     parts = ["#include <stdint.h>", "\n" if chance.random() < 0.95 else chance.choice(["\r\n", " \n", "", "\n\n", "\r\r\n"])]
     last = ""
@@ -276,8 +295,12 @@ def spelled(chance, tokens):
 
 
 def some_row(chance, types):
-    bounds = [TYPES[it] for it in types]
-    return [chance.choice([least, greatest, chance.randint(least, greatest), sorted((least, greatest, chance.randint(-5, 5)))[1]]) for least, greatest in bounds]
+    """A number of each of these types of C."""
+
+    def number(least, greatest):
+        return chance.choice([least, greatest, chance.randint(least, greatest), sorted((least, greatest, chance.randint(-5, 5)))[1]])
+
+    return [number(*TYPES[it]) for it in types]
 
 
 def compare_one(chance, program):

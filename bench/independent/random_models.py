@@ -6,19 +6,47 @@ import model_rows
 import model_rules
 import model_runs
 import model_text
+from mdl_writer import Writer
 from model_values import bounds
 from random_scripts import compare_drives, some_row
 
-TYPES = ["int8", "int16", "int32", "uint8", "uint16", "uint32", "boolean", "fixdt(1,16,4)", "fixdt(0,12,3)", "fixdt(true, 32 ,31)", "fixdt(1,2,0)", "fixdt(0,1,0)", "fixdt(0,32,31)", "fixdt(1,31,1)"]
-ODD_TYPES = ["double", "single", "half", "Inherit: auto", "Inherit: Logical (see settings)", "Inherit: Inherit via back propagation", "Inherit: Same as first input", "fixdt(1,33,0)", "fixdt(1,1,0)", "fixdt(0,0,0)", "fixdt(1,8,32)", "fixdt(2,8,0)", "fixdt(1,8)", "Int8", " int8 ", "fixdt (1,8,0)", "fixdt(1,08,0)", "fixdt(false,8,0)", "", "Inherit:", "inherit: auto", "fixdt(1,8,0,0)", "fixdt(\t1,8,0)"]
-NUMBERS = ["0", "1", "-1", "2.5", "[3]", "1/3", "-7/2", "1e3", "1.5e-3", "true", "false", "+4", ".5", "5.", "1e9", "-1e18", "127", "128", "-129", "0.0625", "123456789012345678", "0e99", "[-2.25]", "4294967295", "[1/2]", "-.5", "000000000000000000001"]
-ODD_NUMBERS = ["", "[]", "1e19", "1e-19", "1234567890123456789", "[ 5]", "[[5]]", "1/0", "1e", "e1", ".", "--1", "1 2", "x", "0x10", "1,000", "1.0e-18", "0.1e-18", "1/-2", "[true]", "inf", "1/3.0", "0/5", "00", "1e0000000000000000000018", "0e1234567890123456789", "123456789.1234567890", "10e18", "-", "1/", "/1", " 5 ", "2147483647.49", "2147483647.5", "-2147483648.5", "-2147483648.51"]
+TYPES = [
+    "int8", "int16", "int32", "uint8", "uint16", "uint32", "boolean", "fixdt(1,16,4)", "fixdt(0,12,3)",
+    "fixdt(true, 32 ,31)", "fixdt(1,2,0)", "fixdt(0,1,0)", "fixdt(0,32,31)", "fixdt(1,31,1)",
+]
+ODD_TYPES = [
+    "double", "single", "half", "Inherit: auto", "Inherit: Logical (see settings)",
+    "Inherit: Inherit via back propagation", "Inherit: Same as first input", "fixdt(1,33,0)", "fixdt(1,1,0)",
+    "fixdt(0,0,0)", "fixdt(1,8,32)", "fixdt(2,8,0)", "fixdt(1,8)", "Int8", " int8 ", "fixdt (1,8,0)", "fixdt(1,08,0)",
+    "fixdt(false,8,0)", "", "Inherit:", "inherit: auto", "fixdt(1,8,0,0)", "fixdt(\t1,8,0)",
+]
+NUMBERS = [
+    "0", "1", "-1", "2.5", "[3]", "1/3", "-7/2", "1e3", "1.5e-3", "true", "false", "+4", ".5", "5.", "1e9", "-1e18",
+    "127", "128", "-129", "0.0625", "123456789012345678", "0e99", "[-2.25]", "4294967295", "[1/2]", "-.5",
+    "000000000000000000001",
+]
+ODD_NUMBERS = [
+    "", "[]", "1e19", "1e-19", "1234567890123456789", "[ 5]", "[[5]]", "1/0", "1e", "e1", ".", "--1", "1 2", "x",
+    "0x10", "1,000", "1.0e-18", "0.1e-18", "1/-2", "[true]", "inf", "1/3.0", "0/5", "00", "1e0000000000000000000018",
+    "0e1234567890123456789", "123456789.1234567890", "10e18", "-", "1/", "/1", " 5 ", "2147483647.49", "2147483647.5",
+    "-2147483648.5", "-2147483648.51",
+]
 TIMES = ["-1", "[-1 0]", "[-1, 0]"]
 NEAR = ["0.1", "0.2", "[0.4 0.1]", "[0.4, 0.2]", "0.4", "0.8", "3/10", "[0.3 0.2]", "[1.2 0.6]"]
-PERIODS = ["0.1", "0.2", "1/10", "[0.4 0.1]", "[0.4, 0.2]", "3", "7/3", "[2 1/3]", "1e-3", "999983", "999979", "1/99991", "1/99989", "1e6", "1e9"]
-ODD_TIMES = ["inf", "[inf 0]", "0", "0.1", "[0.5 0.25]", "[0.5 0.5]", "[0 -1]", "[0 x]", "-2", "[-1]", "[-1,0]", "-1.0", "[1,0]", "[1  0]", "[1 , 0]", "1e10", "1/1000000001", "1000000001", "[5]", "Inf", "[Inf 0]", "", "[0]", " -1 ", "[0.1 0", "0/3", "-0", "[0,0]", "1000000000", "[3 -1]"]
+PERIODS = [
+    "0.1", "0.2", "1/10", "[0.4 0.1]", "[0.4, 0.2]", "3", "7/3", "[2 1/3]", "1e-3", "999983", "999979", "1/99991",
+    "1/99989", "1e6", "1e9",
+]
+ODD_TIMES = [
+    "inf", "[inf 0]", "0", "0.1", "[0.5 0.25]", "[0.5 0.5]", "[0 -1]", "[0 x]", "-2", "[-1]", "[-1,0]", "-1.0", "[1,0]",
+    "[1  0]", "[1 , 0]", "1e10", "1/1000000001", "1000000001", "[5]", "Inf", "[Inf 0]", "", "[0]", " -1 ", "[0.1 0",
+    "0/3", "-0", "[0,0]", "1000000000", "[3 -1]",
+]
 SIMPLE = ["Inport", "Outport", "Constant", "Ground", "Terminator", "UnitDelay"]
-KINDS = [*SIMPLE, "Gain", "Sum", "Product", "Switch", "RelationalOperator", "Logic", "DataTypeConversion", "Delay", "ZeroOrderHold", "RateTransition"]
+KINDS = [
+    *SIMPLE, "Gain", "Sum", "Product", "Switch", "RelationalOperator", "Logic", "DataTypeConversion", "Delay",
+    "ZeroOrderHold", "RateTransition",
+]
 UNKNOWN = ["SubSystem", "Scope", "inport", "Mux", "", "EnablePort", "TriggerPort"]
 COMPUTING = (b"Gain", b"Sum", b"Product", b"Switch", b"RelationalOperator", b"Logic", b"DataTypeConversion")
 LENGTHS = ["1", "2", "3", "5", "[2]", "+4", "1.0"]
@@ -33,39 +61,112 @@ SIZE = ("PortDimensions", ["-1", "1", "1.0", "[1]"], ["2", "", "[1 1]", "0"], 0.
 ROUNDING = ("RndMeth", ["Ceiling", "Convergent", "Floor", "Nearest", "Round", "Zero"], ["Simplest", "floor", ""], 0.3)
 OVERFLOW = ("SaturateOnIntegerOverflow", ["on", "off"], ["On", "1", ""], 0.3)
 PARAMETERS = {
-    "Inport": [("OutDataTypeStr", TYPES, ODD_TYPES, 0.97), TIME, SIZE],
-    "Outport": [("OutDataTypeStr", ["Inherit: auto"] * 4 + TYPES[:1], ODD_TYPES, 0.2), ("OutputWhenDisabled", ["held", "reset"], ["Held", "", "held "], 0.4), ("InitialOutput", NUMBERS + ["[]"], ODD_NUMBERS, 0.4), TIME, SIZE],
-    "Constant": [("Value", NUMBERS, ODD_NUMBERS, 0.9), ("OutDataTypeStr", TYPES, ODD_TYPES, 0.95), TIME],
+    "Inport": [
+        ("OutDataTypeStr", TYPES, ODD_TYPES, 0.97),
+        TIME, SIZE,
+    ],
+    "Outport": [
+        ("OutDataTypeStr", ["Inherit: auto"] * 4 + TYPES[:1], ODD_TYPES, 0.2),
+        ("OutputWhenDisabled", ["held", "reset"], ["Held", "", "held "], 0.4),
+        ("InitialOutput", NUMBERS + ["[]"], ODD_NUMBERS, 0.4),
+        TIME, SIZE,
+    ],
+    "Constant": [
+        ("Value", NUMBERS, ODD_NUMBERS, 0.9),
+        ("OutDataTypeStr", TYPES, ODD_TYPES, 0.95),
+        TIME,
+    ],
     "Ground": [],
     "Terminator": [],
-    "UnitDelay": [("InitialCondition", NUMBERS, ODD_NUMBERS, 0.6), ("X0", NUMBERS, ODD_NUMBERS, 0.2), TIME],
-    "Delay": [("DelayLength", LENGTHS, ODD_LENGTHS, 0.8), ("DelayLengthSource", *DIALOG), ("InitialCondition", NUMBERS, ODD_NUMBERS, 0.6), ("X0", NUMBERS, ODD_NUMBERS, 0.1), ("InitialConditionSource", *DIALOG), ("ExternalReset", ["None"], ["Rising", ""], 0.1), TIME],
+    "UnitDelay": [
+        ("InitialCondition", NUMBERS, ODD_NUMBERS, 0.6),
+        ("X0", NUMBERS, ODD_NUMBERS, 0.2),
+        TIME,
+    ],
+    "Delay": [
+        ("DelayLength", LENGTHS, ODD_LENGTHS, 0.8),
+        ("DelayLengthSource", *DIALOG),
+        ("InitialCondition", NUMBERS, ODD_NUMBERS, 0.6),
+        ("X0", NUMBERS, ODD_NUMBERS, 0.1),
+        ("InitialConditionSource", *DIALOG),
+        ("ExternalReset", ["None"], ["Rising", ""], 0.1),
+        TIME,
+    ],
     "ZeroOrderHold": [("SampleTime", TIMES, ODD_TIMES, 0.9)],
-    "RateTransition": [("Integrity", ["on"], ["off", ""], 0.1), ("Deterministic", ["on"], ["off", ""], 0.1), ("InitialCondition", NUMBERS, ODD_NUMBERS, 0.6), ("X0", NUMBERS, ODD_NUMBERS, 0.1), ("OutPortSampleTimeOpt", ["Specify", "Specify", "Inherit"], ["Multiple", ""], 0.2), ("OutPortSampleTime", TIMES, ODD_TIMES, 0.7)],
+    "RateTransition": [
+        ("Integrity", ["on"], ["off", ""], 0.1),
+        ("Deterministic", ["on"], ["off", ""], 0.1),
+        ("InitialCondition", NUMBERS, ODD_NUMBERS, 0.6),
+        ("X0", NUMBERS, ODD_NUMBERS, 0.1),
+        ("OutPortSampleTimeOpt", ["Specify", "Specify", "Inherit"], ["Multiple", ""], 0.2),
+        ("OutPortSampleTime", TIMES, ODD_TIMES, 0.7),
+    ],
     "EnablePort": [("StatesWhenEnabling", ["held", "reset"], ["Held", ""], 0.7)],
     "TriggerPort": [("TriggerType", ["rising", "falling", "either"], ["both", ""], 0.8)],
     "SubSystem": [("SystemSampleTime", ["-1", "[-1]"], ["0", "1", ""], 0.1)],
-    "Gain": [("Gain", NUMBERS, ODD_NUMBERS, 0.9), ("ParamDataTypeStr", TYPES + ["Inherit: Same as input"] * 9, ODD_TYPES, 0.3), INHERITED_TYPE, ROUNDING, OVERFLOW, TIME],
-    "Sum": [("Inputs", ["++", "+-", "|++", "1", "3", "|+|-|", "2.0", "--", "[2]"], ["", "17", "0", "||", "+ +", "-1", "1.5", "+" * 17, " ++", "+*", "+1"], 0.8), INHERITED_TYPE, ROUNDING, OVERFLOW, TIME],
-    "Product": [("Inputs", ["2", "1", "**", "***", "3", "+2"], ["", "17", "0", "*/", "/*", "* *", "*|*", "*" * 17], 0.8), INHERITED_TYPE, ROUNDING, OVERFLOW, TIME],
-    "Switch": [("Criteria", ["u2 >= Threshold", "u2 > Threshold", "u2 ~= 0"], ["u2>=Threshold", "", "u2 >= Threshold "], 0.5), ("Threshold", NUMBERS, ODD_NUMBERS, 0.5), INHERITED_TYPE, ROUNDING, OVERFLOW, TIME],
-    "RelationalOperator": [("Operator", ["==", "~=", "<", "<=", ">", ">="], ["!=", "", "=> ", "< "], 0.8), TRUTH_TYPE, TIME],
-    "Logic": [("Operator", ["AND", "OR", "NAND", "NOR", "XOR", "NXOR", "NOT"], ["and", "", "NOT "], 0.8), ("Inputs", ["1", "2", "3", "16"], ["0", "17", "++", "1.5", "", "true"], 0.5), TRUTH_TYPE, TIME],
-    "DataTypeConversion": [("ConvertRealWorld", ["Real World Value (RWV)", "Real World Value"], ["Stored Integer (SI)", "", "real World Value"], 0.2), ("OutDataTypeStr", TYPES, ODD_TYPES, 0.95), ROUNDING, OVERFLOW, TIME],
+    "Gain": [
+        ("Gain", NUMBERS, ODD_NUMBERS, 0.9),
+        ("ParamDataTypeStr", TYPES + ["Inherit: Same as input"] * 9, ODD_TYPES, 0.3),
+        INHERITED_TYPE, ROUNDING, OVERFLOW, TIME,
+    ],
+    "Sum": [
+        (
+            "Inputs",
+            ["++", "+-", "|++", "1", "3", "|+|-|", "2.0", "--", "[2]"],
+            ["", "17", "0", "||", "+ +", "-1", "1.5", "+" * 17, " ++", "+*", "+1"],
+            0.8,
+        ),
+        INHERITED_TYPE, ROUNDING, OVERFLOW, TIME,
+    ],
+    "Product": [
+        ("Inputs", ["2", "1", "**", "***", "3", "+2"], ["", "17", "0", "*/", "/*", "* *", "*|*", "*" * 17], 0.8),
+        INHERITED_TYPE, ROUNDING, OVERFLOW, TIME,
+    ],
+    "Switch": [
+        ("Criteria", ["u2 >= Threshold", "u2 > Threshold", "u2 ~= 0"], ["u2>=Threshold", "", "u2 >= Threshold "], 0.5),
+        ("Threshold", NUMBERS, ODD_NUMBERS, 0.5),
+        INHERITED_TYPE, ROUNDING, OVERFLOW, TIME,
+    ],
+    "RelationalOperator": [
+        ("Operator", ["==", "~=", "<", "<=", ">", ">="], ["!=", "", "=> ", "< "], 0.8),
+        TRUTH_TYPE, TIME,
+    ],
+    "Logic": [
+        ("Operator", ["AND", "OR", "NAND", "NOR", "XOR", "NXOR", "NOT"], ["and", "", "NOT "], 0.8),
+        ("Inputs", ["1", "2", "3", "16"], ["0", "17", "++", "1.5", "", "true"], 0.5),
+        TRUTH_TYPE, TIME,
+    ],
+    "DataTypeConversion": [
+        (
+            "ConvertRealWorld",
+            ["Real World Value (RWV)", "Real World Value"],
+            ["Stored Integer (SI)", "", "real World Value"],
+            0.2,
+        ),
+        ("OutDataTypeStr", TYPES, ODD_TYPES, 0.95),
+        ROUNDING, OVERFLOW, TIME,
+    ],
 }
 BYTES = b'"{}[]#\\ \t\r\x00\xff0123456789aZ._$-+e/,'
-LINES = [b"}", b"{", b"Block {", b'"more"', b"System {", b"Branch {", b"Line {", b'Name "x', b"P [1", b"BlockType Inport", b"x y z", b"1a", b"$a.b_ 3", b"Model {", b"a{", b"a {b", b'"a" b', b'N "a" # c', b"FixedStep 0.1", b'SrcBlock "B1"', b'Src "a"']
+LINES = [
+    b"}", b"{", b"Block {", b'"more"', b"System {", b"Branch {", b"Line {", b'Name "x', b"P [1", b"BlockType Inport",
+    b"x y z", b"1a", b"$a.b_ 3", b"Model {", b"a{", b"a {b", b'"a" b', b'N "a" # c', b"FixedStep 0.1", b'SrcBlock "B1"',
+    b'Src "a"',
+]
 
 
 def escaped(text):
+    """The text as it is between quotes of a model."""
     return text.replace("\\", "\\\\").replace('"', '\\"').replace("\n", "\\n")
 
 
-class ModelText:
-    """A model being written; `wrong` is how often something in it isn't as it should be."""
+class RandomModel(Writer):
+    """A random model being written, each line spelled by chance. `wrong` is how often something in it isn't as it should be, `margin` how
+    far a line is mostly moved in."""
 
     def __init__(self, chance):
-        self.chance, self.lines = chance, []
+        super().__init__()
+        self.chance, self.margin = chance, 0
         self.wrong = chance.choice([0, 0, 0.005, 0.02, 0.1])
         self.kinds = SIMPLE if self.is_lucky(0.3) else KINDS
         # How deep subsystems go, and whether the system that is written stands in one with a trigger.
@@ -78,120 +179,151 @@ class ModelText:
         self.times = TIMES + (chance.sample(NEAR, 4) if self.is_lucky(0.5) else chance.sample(PERIODS, chance.choice([0, 1, 2, 3])))
 
     def is_lucky(self, often):
+        """True with this chance."""
         return self.chance.random() < often
 
     def is_wrong(self, share=1):
+        """True with this share of the chance that something is wrong."""
         return self.is_lucky(self.wrong * share)
 
-    def put(self, depth, text):
-        self.lines.append(("  " * depth if self.is_lucky(0.9) else self.chance.choice(["", "\t", " \t "])) + text)
+    def add(self, line):
+        """Adds a line, mostly moved in, and rarely one that says nothing after it."""
+        self.lines.append(("  " * self.margin if self.is_lucky(0.9) else self.chance.choice(["", "\t", " \t "])) + line)
         if self.is_lucky(0.01):
             self.lines.append(self.chance.choice(["", "# a comment", "#}", "   ", '# "']))
 
-    def param(self, depth, name, value):
+    def open(self, section):
+        self.add(self.chance.choice([f"{section} {{", f"{section}{{", f"{section}\t{{"]))
+        self.margin += 1
+
+    def close(self):
+        self.margin -= 1
+        self.add("}")
+
+    def param(self, name, value):
+        """Adds a parameter: its value in quotes, in two pieces of a string, or plain where that may be."""
         gap = self.chance.choice([" ", "\t", "   "])
         is_plain = re.fullmatch(r'[^\s"\[{#]([^"\n]*[^\s{"])?', value) or re.fullmatch(r"\[[^\t\n]*\]", value)
         if is_plain and self.is_lucky(0.3):
-            self.put(depth, f"{name}{gap}{value}")
+            self.add(f"{name}{gap}{value}")
         elif len(value) > 2 and self.is_lucky(0.05):
             cut = self.chance.randrange(1, len(value))
-            self.put(depth, f'{name}{gap}"{escaped(value[:cut])}"')
-            self.put(depth, f'"{escaped(value[cut:])}"')
+            self.add(f'{name}{gap}"{escaped(value[:cut])}"')
+            self.add(f'"{escaped(value[cut:])}"')
         else:
-            self.put(depth, f'{name}{gap}"{escaped(value)}"')
+            self.add(f'{name}{gap}"{escaped(value)}"')
 
-    def section(self, depth, name, body):
-        self.put(depth, self.chance.choice([f"{name} {{", f"{name}{{", f"{name}\t{{"]))
-        body()
-        self.put(depth, "}")
+    def empty(self, section):
+        """Adds a section that holds nothing."""
+        self.open(section)
+        self.close()
 
-    def parameters(self, kind):
+    def some_parameters(self, kind):
+        """Parameters of a block of this type: the name and the value of each."""
         for name, lawful, others, often in PARAMETERS.get(kind, []):
             if self.is_tidy and name == "OutDataTypeStr":
-                is_wire = kind == "Outport" or kind == "Inport" and self.is_inside
-                lawful, often = (["Inherit: auto"], 0.1) if is_wire else (["boolean", "uint16"] if kind in ("Logic", "RelationalOperator") else lawful, 1)
+                if kind == "Outport" or kind == "Inport" and self.is_inside:
+                    lawful, often = ["Inherit: auto"], 0.1
+                else:
+                    lawful, often = ["boolean", "uint16"] if kind in ("Logic", "RelationalOperator") else lawful, 1
             if self.is_tidy and name in ("SampleTime", "OutPortSampleTime") and kind != "ZeroOrderHold":
                 often = 0.05
             if self.is_lucky(often):
                 lawful = (TIMES if self.is_triggered else self.times) if name in ("SampleTime", "OutPortSampleTime") else lawful
                 yield name, self.chance.choice(others if self.is_wrong() else lawful)
 
-    def block(self, kind, name, port):
+    def some_block(self, kind, name, port):
+        """Adds what is in a Block; its port is None where it has none."""
         rows = [] if self.is_wrong(0.25) else [("BlockType", kind)]
         rows += [] if self.is_wrong(0.25) else [("Name", name)]
         if port is not None:
             rows.append(("Port", self.chance.choice([f"{port}"] * 9 + [f"{port}.0", f"+{port}", f"[{port}]"])))
-        rows += self.parameters(kind)
+        rows += self.some_parameters(kind)
         if rows and self.is_lucky(0.05):
             rows.append(self.chance.choice(rows))
         if self.is_lucky(0.2):
             self.chance.shuffle(rows)
         for key, value in rows:
-            self.param(3, key, value)
+            self.param(key, value)
         if kind == "SubSystem" and self.depth > 0 and not self.is_wrong(0.25):
-            self.subsystem()
+            self.inner_system()
         if self.is_lucky(0.05):
-            self.put(3, "Position [1, 2;")
-            self.put(3, " 3, 4]")
+            self.add("Position [1, 2;")
+            self.add(" 3, 4]")
         if self.is_lucky(0.02):
-            self.section(3, "Port", lambda: self.put(4, "PortNumber 1"))
+            with self.section("Port"):
+                self.add("PortNumber 1")
 
-    def subsystem(self):
+    def inner_system(self):
+        """Adds the System of a subsystem, whose parts are moved in as far as those of the root."""
         outside = self.depth, self.is_triggered, self.is_inside
         controls = self.chance.choice([[], [], ["EnablePort"], ["TriggerPort"], ["EnablePort", "TriggerPort"]])
         controls += controls[:1] * self.is_wrong(0.25)
         self.depth, self.is_triggered, self.is_inside = self.depth - 1, self.is_triggered or "TriggerPort" in controls, True
-        self.section(3, "System", lambda: self.system(controls))
+        with self.section("System"):
+            self.margin -= 2
+            self.parts(controls)
+            self.margin += 2
         self.depth, self.is_triggered, self.is_inside = outside
 
     def defaults(self):
+        """Adds the Blocks of BlockParameterDefaults."""
         for _ in range(self.chance.randrange(4)):
-            self.section(2, "Block", self.default)
+            with self.section("Block"):
+                self.default()
 
     def default(self):
+        """Adds what is in a Block of BlockParameterDefaults."""
         kind = self.chance.choice(self.kinds)
         if self.is_lucky(0.95):
-            self.param(3, "BlockType", kind)
-        for name, value in self.parameters(kind):
+            self.param("BlockType", kind)
+        for name, value in self.some_parameters(kind):
             if self.is_lucky(0.5):
-                self.param(3, name, value)
+                self.param(name, value)
 
-    def line_end(self, depth, name, port):
+    def line_end(self, name, port):
+        """Adds the end of a Line or Branch at the block of this name; a port is a number or the word of a control."""
         if not self.is_wrong(0.25):
-            self.param(depth, "DstBlock", "nobody" if self.is_wrong(0.25) else name)
+            self.param("DstBlock", "nobody" if self.is_wrong(0.25) else name)
         if not self.is_wrong(0.25):
             lawful = [f"{port}"] if isinstance(port, str) else [f"{port}", f"{port}", f"{port}.0", f"[{port}]", f"+{port}"]
-            self.param(depth, "DstPort", self.chance.choice(["0", "17", "", "2", "1", "trigger", "-1"] if self.is_wrong() else lawful))
+            self.param("DstPort", self.chance.choice(["0", "17", "", "2", "1", "trigger", "-1"] if self.is_wrong() else lawful))
 
-    def branches(self, depth, ends):
+    def branches(self, ends):
+        """Adds a Branch for each of these ends, each a name and a port; rarely they branch again."""
         if len(ends) > 1 and self.is_lucky(0.3):
-            self.section(depth, "Branch", lambda: self.branches(depth + 1, ends[1:]))
+            with self.section("Branch"):
+                self.branches(ends[1:])
             ends = ends[:1]
         for end in ends:
-            self.section(depth, "Branch", lambda: self.line_end(depth + 1, *end))
+            with self.section("Branch"):
+                self.line_end(*end)
 
-    def line(self, source, port, ends):
+    def some_line(self, source, port, ends):
+        """Adds what is in a Line from this port of a block to these ends, each a name and a port."""
         if not self.is_wrong(0.25):
-            self.param(3, "SrcBlock", self.chance.choice(["nobody", ""]) if self.is_wrong(0.25) else source)
+            self.param("SrcBlock", self.chance.choice(["nobody", ""]) if self.is_wrong(0.25) else source)
         if not self.is_wrong(0.25):
             lawful = [f"{port}", f"{port}", f"{port}.0", f"[{port}]", f"+{port}"]
-            self.param(3, "SrcPort", self.chance.choice(["2", "0", "", "x", "enable", "1.5"] if self.is_wrong() else lawful))
+            self.param("SrcPort", self.chance.choice(["2", "0", "", "x", "enable", "1.5"] if self.is_wrong() else lawful))
         if self.is_wrong(0.125):
-            self.param(3, self.chance.choice(["Src", "Dst"]), "4#out:1")
+            self.param(self.chance.choice(["Src", "Dst"]), "4#out:1")
         if len(ends) > 1:
-            self.branches(3, ends)
+            self.branches(ends)
         else:
-            self.line_end(3, *ends[0])
+            self.line_end(*ends[0])
 
-    def taken(self, write):
-        """The lines that a call writes, taken off again."""
+    def taken(self, section, write, *words):
+        """The lines of a section in which this writes, taken off again."""
         before = len(self.lines)
-        write()
+        with self.section(section):
+            write(*words)
         found = self.lines[before:]
         del self.lines[before:]
         return found
 
     def some_kinds(self, controls):
+        """The types of a system's blocks; `controls` are the control ports of a subsystem, None in the root."""
         kinds = self.chance.choices(self.kinds, k=self.chance.choice([0, 1, 2, 3, 5, 8, *([13, 20] if self.depth < 2 else [])]))
         kinds += ["Inport", "Outport"] * self.is_lucky(0.5 if controls is None else 0.9) + ["Outport"] * (controls is not None)
         kinds += controls or []
@@ -205,6 +337,7 @@ class ModelText:
         return [self.chance.choice(UNKNOWN) if self.is_wrong(0.25) else it for it in kinds]
 
     def some_names(self, count):
+        """So many names of blocks, mostly different ones."""
         names = []
         for at in range(count):
             new = self.chance.choice([f"B{at}", f"block {at}", f"n\n{at}", f'"q"{at}', f"x\\{at}", f"{at}"])
@@ -212,6 +345,7 @@ class ModelText:
         return names
 
     def some_ports(self, kinds):
+        """The number of each Inport and Outport, by its place among the blocks of these types."""
         ports = {}
         for kind in ("Inport", "Outport"):
             places = [at for at, it in enumerate(kinds) if it == kind]
@@ -233,6 +367,7 @@ class ModelText:
                         yield self.chance.choice(sources), at, port
 
     def some_source(self, at, port, blocks, sources, earlier, truths):
+        """The source of a port of the block at this place, one of `sources`; `earlier` and `truths` are some of these."""
         if port in ("enable", "trigger") and truths and self.is_lucky(0.95 if self.is_tidy else 0.8):
             return self.chance.choice(truths)
         inner = [it for it in sources if blocks[it[0]].kind in (b"SubSystem", b"UnitDelay", b"Delay", b"Sum")]
@@ -244,10 +379,11 @@ class ModelText:
             return self.chance.choice(with_type if goes_back else earlier[-6:] if self.is_lucky(0.99) else sources)
         return self.chance.choice(earlier if earlier and self.is_lucky(0.7) else sources)
 
-    def system(self, controls=None):
+    def parts(self, controls=None):
+        """Adds what is in a System; `controls` are the control ports of a subsystem, None in the root."""
         kinds = self.some_kinds(controls)
         names, ports = self.some_names(len(kinds)), self.some_ports(kinds)
-        parts = [self.taken(lambda: self.section(2, "Block", lambda: self.block(kind, names[at], ports.get(at)))) for at, kind in enumerate(kinds)]
+        parts = [self.taken("Block", self.some_block, kind, names[at], ports.get(at)) for at, kind in enumerate(kinds)]
         ends = list(self.some_ends([row_of(kind, part) for kind, part in zip(kinds, parts)]))
         self.chance.shuffle(ends)
         while ends:
@@ -256,7 +392,7 @@ class ModelText:
             ends = [it for it in ends if it not in same]
             targets = [(names[at], port) for _, at, port in [first, *same]]
             at, port = first[0]
-            parts.append(self.taken(lambda: self.section(2, "Line", lambda: self.line(names[at], port, targets))))
+            parts.append(self.taken("Line", self.some_line, names[at], port, targets))
         if self.is_lucky(0.1):
             parts.append(["Annotation {", '  Name "note"', "}"])
         if self.is_lucky(0.1):
@@ -266,21 +402,26 @@ class ModelText:
         self.lines += [line for part in parts for line in part]
 
     def model(self):
-        self.param(1, "Name", "m")
+        """Adds what is in a Model."""
+        self.param("Name", "m")
         if self.is_lucky(0.2):
-            self.param(1, "FixedStep", self.chance.choice(["auto", "0.1", "1", "-1", "0", "x", "1/3", "2e9"]))
+            self.param("FixedStep", self.chance.choice(["auto", "0.1", "1", "-1", "0", "x", "1/3", "2e9"]))
         if self.is_lucky(0.3 if not self.is_tidy else 0.03):
-            self.section(1, "BlockParameterDefaults", self.defaults)
-        self.section(1, "System", self.system)
+            with self.section("BlockParameterDefaults"):
+                self.defaults()
+        with self.section("System"):
+            self.parts()
         if self.is_lucky(0.03):
-            self.section(1, "System", lambda: None)
+            self.empty("System")
 
     def written(self):
+        """The bytes of a whole file."""
         if self.is_lucky(0.02):
-            self.section(0, self.chance.choice(["Library", "Other"]), lambda: None)
-        self.section(0, "Model", self.model)
+            self.empty(self.chance.choice(["Library", "Other"]))
+        with self.section("Model"):
+            self.model()
         if self.is_lucky(0.01):
-            self.section(0, "Model", lambda: None)
+            self.empty("Model")
         end = "\r\n" if self.is_lucky(0.05) else "\n"
         return (end.join(self.lines) + end * self.is_lucky(0.9)).encode("latin1")
 
@@ -304,12 +445,14 @@ def inputs_of(row):
 
 
 def outputs_of(row):
+    """The ports of its outputs."""
     if row.kind == b"SubSystem":
         return range(1, len(row.system.of_kind(b"Outport")) + 1) if row.system else []
     return [] if row.kind in (b"Outport", b"Terminator", b"EnablePort", b"TriggerPort") else [1]
 
 
 def with_byte(chance, line):
+    """The line with one byte more, less, or another one."""
     changed = bytearray(line)
     at = chance.randrange(len(line) + 1)
     changed[at : at + chance.choice([0, 1])] = chance.choice([b"", bytes([chance.choice(BYTES)])])
@@ -344,7 +487,8 @@ def bad_line(chance, types):
     """A line that is no row, and its cause."""
     fields, at = [str(max(0, bounds(it)[0])) for it in types], chance.randrange(len(types))
     least, greatest = bounds(types[at])
-    bad = chance.choice([("Range", [str(least - 1), str(greatest + 1)]), ("Form", ["x", "+1", "1234567890123456789", "-", "1.0", "--1"]), ("Count", None)])
+    forms = ["x", "+1", "1234567890123456789", "-", "1.0", "--1"]
+    bad = chance.choice([("Range", [str(least - 1), str(greatest + 1)]), ("Form", forms), ("Count", None)])
     if bad[0] == "Count":
         return " ".join([*fields, "0"]), f"Count {len(types) + 1}"
     fields[at] = chance.choice(bad[1])
@@ -360,7 +504,8 @@ def compare_runs(chance, model, program):
     wanted = "".join(f"{run.tick(it)}\n" for it in trace)
     if types and chance.random() < 0.2:
         line, cause = bad_line(chance, types)
-        return program.differs(["run", *program.files("".join(f"{it}\n" for it in [*lines, line]))], 4, f"{wanted}trace line {len(lines) + 1} {cause}\n")
+        words = program.files("".join(f"{it}\n" for it in [*lines, line]))
+        return program.differs(["run", *words], 4, f"{wanted}trace line {len(lines) + 1} {cause}\n")
     words = program.files("".join(f"{it}\n" for it in lines))
     status, text = program.call("run", *words)
     found = re.fullmatch(re.escape(wanted) + r"ticks (\d+) steps (\d+) calls (\d+)\n", text)
@@ -374,7 +519,7 @@ def compare_runs(chance, model, program):
 
 def compare_one(chance, program):
     """The kind of a random model, and what differs, or None."""
-    data = ModelText(chance).written()
+    data = RandomModel(chance).written()
     data = damaged(chance, data) if chance.random() < 0.3 else data
     program.write("model", data)
     wanted = model_rules.verdict(data)

@@ -6,7 +6,8 @@ from model_rows import CONTROL_NAMES
 from model_values import bounds
 
 WORDS = ["Out", "OUT", "outs", "updat", "updates", "out1", "up", "1", "#", "\0", "out", "update"]
-FIELDS = ["x", "+1", "-", "--1", "1.0", "1e3", "0x1", "1,", "1-", "\xb2", "\0", "\r", "1\r", "1234567890123456789", "-1234567890123456789", "0000000000000000001"]
+FIELDS = ["x", "+1", "-", "--1", "1.0", "1e3", "0x1", "1,", "1-", "\xb2", "\0", "\r", "1\r"]
+FIELDS += ["1234567890123456789", "-1234567890123456789", "0000000000000000001"]
 FUNCTIONS = ["0", "-0", "-1", "1", "2", "3", "33", "257", "65537", "2147483648", "4294967297", "999999999999999999", "-999999999999999999"]
 LINES = [[], ["out"], ["update"], ["out", "0"], ["out", "1"], ["out", "-0"], ["#", "out"], ["\r"], ["out", "update"], ["update", "out"]]
 BYTES = " \t\r\n\0x-+.019ou\xff"
@@ -16,7 +17,10 @@ NO_SYSTEMS = ["x", "00", "1.0", "Top", "TOP", "root", "top ", " top", "top.", "s
 
 def some_row(chance, types):
     """Numbers of these types, with zeros and with numbers at the ends of their types."""
-    return [0 if chance.random() < 0.4 else chance.choice([*bounds(it), chance.randint(*bounds(it)), sorted((*bounds(it), chance.randint(-9, 9)))[1]]) for it in types]
+    def number(least, greatest):
+        return chance.choice([least, greatest, chance.randint(least, greatest), sorted((least, greatest, chance.randint(-9, 9)))[1]])
+
+    return [0 if chance.random() < 0.4 else number(*bounds(it)) for it in types]
 
 
 def digits_of(chance, number):
@@ -46,7 +50,10 @@ def lawful_lines(chance, interface, ticks):
 
 def with_faults(chance, fields, types):
     """The fields of a call, with faults among them: perhaps none, or several."""
-    is_lucky = lambda often: chance.random() < often
+
+    def is_lucky(often):
+        return chance.random() < often
+
     fields, first = list(fields), len(fields) - len(types)
     for at, type in enumerate(types, first):
         least, greatest = bounds(type)
@@ -67,7 +74,8 @@ def with_faults(chance, fields, types):
 def wrong_lines(chance, lines):
     """The lines with one of them gone, twice there or at another place, with one more, or with faults in one; or with two of these."""
     lines = list(lines) or [(["out"], [])]
-    what, at, other = chance.choice(["gone", "twice", "moved", "more", "as it is"]), chance.randrange(len(lines)), chance.randrange(len(lines))
+    what = chance.choice(["gone", "twice", "moved", "more", "as it is"])
+    at, other = chance.randrange(len(lines)), chance.randrange(len(lines))
     if what == "more":
         lines.insert(at, (chance.choice(LINES), []))
     elif what != "as it is":
@@ -98,7 +106,8 @@ def script_of(chance, lines):
 def damaged(chance, script):
     """The script with a byte changed, or cut."""
     at, byte = chance.randrange(len(script) + 1), chance.choice(BYTES).encode("latin1")
-    return chance.choice([script[:at], script[:at] + byte + script[at:], script[:at] + byte + script[at + 1 :], script[:at] + script[at + 1 :]])
+    before, after, rest = script[:at], script[at:], script[at + 1 :]
+    return chance.choice([before, before + byte + after, before + byte + rest, before + rest])
 
 
 def some_script(chance, interface, is_wrong):
