@@ -1,5 +1,6 @@
 """SLX files in the forms of several releases come to the same plain text as their MDL twins."""
 
+import importlib.util
 import unittest
 import zipfile
 
@@ -20,6 +21,7 @@ def plain(name: str, data: bytes) -> str:
     return outcome.text
 
 
+@unittest.skipUnless(importlib.util.find_spec("defusedxml"), "no defusedxml here, so SLX isn't tried")
 class TwinTest(unittest.TestCase):
     """Each package of parts with its MDL twin."""
 
