@@ -4,6 +4,7 @@ use super::{BOOLEAN, INT8, INT32};
 use base_fixed_point::FixType;
 use std::alloc::{AllocError, Global};
 use std::test::Fail;
+use tool_plain_rows::read_plain_row;
 use tool_traces::{BadLine, BadWhy, Next, last_row, next_line, next_row, read_row};
 
 const fn bad(line: u32, why: BadWhy) -> BadLine {
@@ -119,6 +120,35 @@ fn rows_are_read(rt: HostRuntime) -> Result<(), Fail> {
         ]
     );
     Ok(())
+}
+
+// What a text writes as a row of so many numbers without types.
+fn plain_row_of(text: &[u8], count: usize) -> Result<[i64; 2], BadWhy>
+    requires { count ≤ 2 }
+{
+    let mut into = [9, 9];
+    read_plain_row(text, &mut into[..count])?;
+    Ok(into)
+}
+
+#[test]
+fn plain_rows_are_read(rt: HostRuntime) {
+    let ends = Ok([-2_147_483_648, 4_294_967_295]);
+    for &(text, count, want) in &[
+        (" -2147483648\t4294967295 ", 2, ends),
+        ("-0 000000000000000001", 2, Ok([0, 1])),
+        (" ", 0, Ok([9, 9])),
+        ("-2147483649", 1, Err(BadWhy::Range(1))),
+        ("0 4294967296", 2, Err(BadWhy::Range(2))),
+        ("4294967296 x", 2, Err(BadWhy::Range(1))),
+        ("x 4294967296", 2, Err(BadWhy::Form(1))),
+        ("1000000000000000000", 1, Err(BadWhy::Form(1))),
+        ("7", 2, Err(BadWhy::Count(1))),
+        ("1 2 x", 1, Err(BadWhy::Count(3))),
+    ] {
+        let row = plain_row_of(text.as_bytes(), count);
+        assert_eq!(rt; row, want, "{text}");
+    }
 }
 
 const ROWS: &[u8] = b"5\n200\r\n-7";

@@ -1,0 +1,6 @@
+//! A file of Lustre that keeps the static rules.
+#![tactic(auto)]
+
+mod checked;
+
+pub use checked::LusChecked;

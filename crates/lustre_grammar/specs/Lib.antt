@@ -1,0 +1,12 @@
+pub mod Tokens
+pub mod Written
+pub mod Grammar
+pub mod Prefix
+pub mod Openings
+pub mod Parsing
+pub mod Elements
+pub mod ParsedText
+pub mod WrittenTrees
+pub mod FaultLaws
+pub mod SyntaxExamples
+pub mod OpeningExamples

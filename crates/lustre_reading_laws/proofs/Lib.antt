@@ -1,0 +1,7 @@
+mod WellWritten
+mod ResolvedValues
+mod GivenNames
+mod ResolvedEquations
+mod DistinctNames
+mod LawfulNodes
+mod LawfulReadings

@@ -1,0 +1,5 @@
+use Rattle.lustre_reading_laws.proofs.LawfulReadings.{readings_are_lawful}
+use Rattle.lustre_reading_laws.proofs.laws.readings_are_lawful.Goals as goal
+
+pub returns : goal.returns
+returns c = readings_are_lawful

@@ -1,0 +1,6 @@
+//! Laws of reading Lustre: each text has one reading or one first fault, and what is read is lawful.
+#![tactic(auto)]
+
+mod laws;
+
+pub use laws::readings_are_lawful;

@@ -1,0 +1,3 @@
+pub mod Resolve
+pub mod Reading
+pub mod RuleExamples

@@ -1,0 +1,4 @@
+pub mod Solutions
+pub mod SolutionExamples
+pub mod Settling
+pub mod LongerTraces

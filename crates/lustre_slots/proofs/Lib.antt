@@ -1,0 +1,3 @@
+pub mod lemmas
+pub mod Lists
+pub mod Walks
