@@ -1,0 +1,4 @@
+pub mod Staying
+pub mod Steps
+pub mod Stepping
+pub mod lemmas
