@@ -311,7 +311,7 @@ module _ (Q : ℕ → Source → Type 0) where
       by s (inr past) (inl is) = subst (λ table. Q s (source_at table s)) (sym (set_past sources l.slot l.source past)) (holds s)
       by s room (inr other) = subst (Q s) (sym (get_or-set_other sources l.slot s l.source Row other)) (holds s)
 
-  rows-hold : (n s : ℕ) → ((s : ℕ) → Q s Row) → Q s (source_at (replicate n Row) s)
+  pub rows-hold : (n s : ℕ) → ((s : ℕ) → Q s Row) → Q s (source_at (replicate n Row) s)
   rows-hold n s rows = subst (Q s) (sym (row-at n s)) (rows s)
     where
       row-at : (n s : ℕ) → source_at (replicate n Row) s ≡ Row
@@ -341,3 +341,13 @@ pub sources-count : (f : FileTree) → length (sources_of f) ≡ slice_index (si
 sources-count f =
     linked-length (replicate (slice_index (sizes_of f) (last_place f)) Row) (flat_map (links_of f) (instances_of f))
     ∙ length-replicate (slice_index (sizes_of f) (last_place f)) Row
+
+-- the inputs of the last node are given by rows
+pub inputs-are-rows : (f : FileTree) (s : ℕ) → IsLawful f → s < (node_at f.nodes (last_place f)).inputs → source_at (sources_of f) s ≡ Row
+inputs-are-rows f s lawful small =
+    let n = node_at f.nodes (last_place f) in
+    let size = slice_index (sizes_of f) (last_place f) in
+    let none : hits s (flat_map (links_of f) (instances_of f)) ≡ 0 =
+    gives-once f lawful s (root_of f) (root-there f lawful) ∙ within-before (0 + n.inputs) (size - n.inputs) s (omega arith) in
+    linked-other (replicate size Row) (flat_map (links_of f) (instances_of f)) s none
+    ∙ rows-hold (λ k source. source ≡ Row) size s (λ k. refl)
