@@ -6,5 +6,5 @@ mod name_table;
 mod outputs;
 
 pub use interface::check_root;
-pub use name_table::{NameTable, table_of_texts};
+pub use name_table::{NameTable, table_of, table_of_texts};
 pub use outputs::{looks_like_output, output_names};

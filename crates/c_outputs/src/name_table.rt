@@ -69,7 +69,7 @@ impl<'a> NameTable<'a> {
 }
 
 /// A table that has the same names as a list, in which a name may stand twice.
-pub(crate) fn table_of<'a>(alloc: Global, names: &[&'a [u8]]) -> Result<NameTable<'a>, Memory>
+pub fn table_of<'a>(alloc: Global, names: &[&'a [u8]]) -> Result<NameTable<'a>, Memory>
     ensures { IfOk result (λ table. (n : List ℕ) →
         has_name table n ≡ has_name (map (λ x. x.now) names.now) n) }
 {

@@ -13,7 +13,7 @@ use Rattle.c_syntax.specs.Names.{is_word_byte, is_name}
 use Rattle.c_grammar.specs.Grammar.{type_text, op_text, compare_text}
 use Rattle.c_rules.specs.AlikeTexts.{is_joining, joins, is_splice, begins_comment, is_alike_from}
 use Rattle.c_grammar.proofs.lemmas.LiteralLaws.{and_first, and_second, numeral}
-use Rattle.c_printer.proofs.Lexing.{differs, NameParts, name-parts}
+use Rattle.c_printer.proofs.lemmas.Bytes.{differs, NameParts, name-parts}
 
 -- behind this byte no byte is joined to the one before it, and none joins lines
 abbrev pub stands_apart : ℕ → List ℕ → Bool

@@ -1,5 +1,5 @@
+pub mod lemmas
 pub mod TokenLaws
-pub mod Lookups
 pub mod PrintedLists
 pub mod Lexing
 pub mod TextReading

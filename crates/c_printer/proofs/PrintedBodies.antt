@@ -14,7 +14,8 @@ use Rattle.c_grammar.specs.Written.{WrittenLeaf}
 use Rattle.c_grammar.specs.Grammar.{word, at_line, op_text, compare_text, type_text, own_spelling, leaf_spelling, expr_spelling, exprs_spelling, more_exprs_spelling, cond_spelling, target_spelling, arguments_spelling, stmt_spelling, stmts_spelling}
 use Rattle.c_syntax.specs.Lawful.{Reach, IsLawfulLeaf, IsLawfulExpr, AreLawfulExprs, IsLawfulCond, IsLawfulTarget, IsLawfulStmt, AreLawfulStmts, IsNumberAt, IsArrayAt, IsStructAt, exprs_length}
 use Rattle.c_printer.specs.Printing.{Vocabulary, pure_name, procedure_name, procedure_types, field_name, inner_fields, leaf_bytes, expr_bytes, exprs_bytes, later_exprs_bytes, cond_bytes, target_bytes, arguments_bytes, margin_bytes, deeper, ended, stmt_bytes, else_bytes, stmts_bytes}
-use Rattle.c_printer.proofs.Lexing.{IsTokenBefore, NameParts, name-parts, name-token, differs}
+use Rattle.c_printer.proofs.Lexing.{IsTokenBefore, name-token}
+use Rattle.c_printer.proofs.lemmas.Bytes.{NameParts, name-parts, differs}
 use Rattle.c_printer.proofs.TextReading.{Reads, ◌▸◌, along, ending, reads-nothing, spaced, lined, line_ended, margined, margin_passed, reads-word, reads-line, reads-name, reads-literal, comma, question, colon, dot, semicolon, sign, parens, brackets, braces, op-token, compare-token, cast, own_start}
 use Rattle.c_printer.proofs.PrintedTrees.{written_leaf, written_expr, written_exprs, written_cond, written_target, written_arguments, stmt_lines, stmts_lines, written_stmt, written_stmts}
 

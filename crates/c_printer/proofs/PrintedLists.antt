@@ -1,7 +1,7 @@
 -- The texts of lists, item by item.
-use Rattle.std.proofs.Common.{◌≡◌, refl, sym, ◌∙◌, ap, ℕ, suc, ◌+◌, ◌<◌, ◌≤◌, ◌≢◌, ◌⊎◌, inl, inr, min, List, [], ◌∷◌, ◌++◌, length, take, drop, get_or, drop-cons, map, codes, arith}
+use Rattle.std.proofs.Common.{◌≡◌, refl, sym, ◌∙◌, ap, ℕ, suc, ◌+◌, ◌<◌, ◌≤◌, ◌≢◌, ◌⊎◌, inl, inr, min, List, [], ◌∷◌, ◌++◌, length, drop, get_or, drop-cons, map, codes, arith}
 use Rattle.std.specs.List.{flat_map}
-use Rattle.std.proofs.lemmas.List.{append_assoc, drop_all, take_more, flat_map_more}
+use Rattle.std.proofs.lemmas.List.{append_assoc, drop_all}
 use Rattle.std.proofs.lemmas.Bool.{cases_lt}
 use Rattle.c_syntax.specs.declared.code.CType.{CType}
 use Rattle.c_syntax.specs.declared.code.Expr.{Expr}
@@ -107,14 +107,6 @@ arguments_after-end v params values n end = by (cases_lt n (length params))
     by : (n < length params) ⊎ (length params ≤ n) → arguments_after v params values n ≡ []
     by (inl more) = rw (drop_all n values (omega (arith, end, more))) refl
     by (inr done) = rw (drop_all n params done) (arguments_bytes-none v (exprs_of_list (map expr_tree (drop n values))))
-
--- one more text behind those of a list's first items
-pub flat_map-put : {A : Type 0} (text : A → List ℕ) (xs : List A) (i : ℕ) (x : A) (old out new : List ℕ) →
-    i < length xs → x ≡ get_or xs i x → out ≡ old ++ flat_map text (take i xs) → new ≡ out ++ text x →
-    new ≡ old ++ flat_map text (take (i + 1) xs)
-flat_map-put text xs i x old out new within here so_far put =
-    put ∙ ap (λ y. y ++ text x) so_far ∙ flat_map_more text old (take i xs) x
-    ∙ ap (λ y. old ++ flat_map text y) (sym (take_more xs i x within ∙ ap (λ y. take i xs ++ y ∷ []) (sym here)))
 
 -- a pure function
 pub pure_bytes-put : (p : ProgramTree) (q : PureTree) (params : List (List ℕ))

@@ -6,7 +6,7 @@ use Rattle.std.proofs.lemmas.Simd.{map-map}
 use Rattle.std.proofs.lemmas.Slice.Eq.{bytes_eq-Decides}
 use Rattle.base_core.specs.Numbers.{reported_number}
 use Rattle.c_syntax.specs.declared.code.CType.{CType}
-use Rattle.c_syntax.specs.declared.code.CType.TheVariants.{I8, U8, I16, U16, I32, U32, I64}
+use Rattle.c_syntax.specs.declared.code.CType.TheVariants.{I64}
 use Rattle.c_syntax.specs.Tree.{StmtTree, assign, assign_at, branch, call, StmtTrees, no_stmts, more_stmts, StructTree, PureTree, ParamTree, ProcedureTree, ProgramTree}
 use Rattle.c_grammar.specs.Written.{WrittenParam}
 use Rattle.c_syntax.specs.Outputs.{has_name}

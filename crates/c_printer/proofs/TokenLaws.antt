@@ -1,11 +1,7 @@
 -- Laws of tokens.
 use Rattle.std.proofs.Common.{◌≡◌, refl, ℕ, List, [], ◌∷◌, ◌++◌, length}
 use Rattle.c_grammar.specs.Tokens.{line_after, tokens_from}
-
--- the number of the line behind a text
-abbrev pub lines_after : ℕ → List ℕ → ℕ
-lines_after line [] = line
-lines_after line (b ∷ bs) = lines_after (line_after b line) bs
+use Rattle.c_printer.proofs.lemmas.Bytes.{lines_after}
 
 -- what is skipped moves the line alone
 pub tokens_from-skip : (bytes rest : List ℕ) (line : ℕ) →

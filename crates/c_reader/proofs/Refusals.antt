@@ -5,7 +5,7 @@ use Rattle.c_grammar.specs.declared.fault.ReadCFault.{ReadCFault}
 use Rattle.c_grammar.specs.declared.fault.ReadCFault.TheVariants.{Refused, Memory}
 use Rattle.c_reading_laws.specs.ReadText.{read_text}
 use Rattle.c_reading_laws.proofs.lemmas.ReadTexts.{texts_agree}
-use Rattle.c_resolver.specs.Gives.{Fails}
+use Rattle.c_rules.specs.Gives.{Fails}
 use Rattle.c_reader.specs.Reading.{IsReadFault}
 
 -- the first fault of a text

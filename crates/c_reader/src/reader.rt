@@ -3,7 +3,7 @@ ghost use Rattle.std.specs.Prelude.{◌≡◌, ◌<◌, ◌^◌, length, IfOk, I
 ghost use Rattle.c_syntax.specs.Lawful.{IsLawful};
 ghost use Rattle.c_syntax.specs.Plain.{program_tree};
 ghost use Rattle.c_reading_laws.specs.ReadText.{read_text};
-ghost use Rattle.c_resolver.specs.Gives.{Gives};
+ghost use Rattle.c_rules.specs.Gives.{Gives};
 ghost use Rattle.c_reader.specs.Reading.{IsRead, IsReadFault};
 
 use c_checked::Checked;

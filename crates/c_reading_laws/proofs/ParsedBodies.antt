@@ -18,7 +18,8 @@ use Rattle.c_grammar.specs.declared.openers.Want.{Want}
 use Rattle.c_grammar.specs.declared.openers.Want.TheVariants.{Value as want_value, Test as want_test, Any as want_any}
 use Rattle.c_grammar.proofs.lemmas.PrefixLaws.{Front, word-front, seq-parts, at_line-inner, name_word-inner, not_word, Parens, parens-parts, Brackets, brackets-parts, Firm, word-firm, values-firm, op-firm, compare-firm, some_same}
 use Rattle.c_grammar.proofs.lemmas.Shrinking.{expr-shrinks}
-use Rattle.c_reading_laws.proofs.ParsedWords.{word-parsed, literal-parsed, leaf-parsed, item-parsed, LineFront, line-front, word-rest}
+use Rattle.c_rules.proofs.lemmas.SpelledWords.{word-parsed, LineFront, line-front, word-rest}
+use Rattle.c_reading_laws.proofs.ParsedWords.{literal-parsed, leaf-parsed, item-parsed}
 
 -- how many levels an expression or a condition opens
 abbrev mutual

@@ -11,7 +11,8 @@ use Rattle.c_grammar.specs.declared.openers.Want.TheVariants.{Value as want_valu
 use Rattle.c_grammar.proofs.lemmas.PrefixLaws.{Front, word-front, seq-parts, at_line-inner, name_word-inner, not_word, Parens, parens-parts, Brackets, brackets-parts, Firm, word-firm, some_same}
 use Rattle.c_reading_laws.proofs.FileWalks.{Braces, braces-parts, NoElse, arguments-firm, stmts-no_else}
 use Rattle.c_grammar.proofs.lemmas.Shrinking.{Shrinks, ◌▹◌, word-shrinks, name-shrinks, parens-shrink, brackets-shrink, braces-shrink, cast-shrinks, expr-shrinks, cond-shrinks, target-shrinks, arguments-shrink, stmts-shrink}
-use Rattle.c_reading_laws.proofs.ParsedWords.{word-parsed, name-parsed, cast-parsed, field_name-parsed, index-parsed, LineFront, line-front, word-rest}
+use Rattle.c_rules.proofs.lemmas.SpelledWords.{word-parsed, LineFront, line-front, word-rest}
+use Rattle.c_reading_laws.proofs.ParsedWords.{name-parsed, cast-parsed, field_name-parsed, index-parsed}
 use Rattle.c_reading_laws.proofs.ParsedBodies.{expr_levels, cond_levels, word-text, word-shorter, comma-another, comma-closed, operand-expr, operand-cond}
 
 -- how many levels the expressions of arguments open, and those of statements; and how many levels statements open

@@ -14,39 +14,9 @@ use Rattle.c_grammar.specs.declared.openers.Tail.TheVariants.{Dot as dot_tail, B
 use Rattle.c_grammar.specs.declared.openers.Want.{Want}
 use Rattle.c_grammar.proofs.lemmas.PrefixLaws.{Front, word-front, seq-parts, name_word-inner, not_word, Parens, parens-parts, Firm}
 use Rattle.c_grammar.proofs.lemmas.LiteralLaws.{numeral, literals-agree}
-
--- the token that a spelling with its line begins with
-pub record LineFront (line : ℕ) (a : Spelling) (tokens rest : List Token) : Type 0 where
-  pub token : Token
-  pub later : List Token
-  pub list : tokens ≡ token ∷ later
-  pub is : token.line ≡ line
-  pub inner : a (token ∷ later) ≡ Some rest
-
-pub line-front : (line : ℕ) (a : Spelling) (tokens rest : List Token) → at_line line a tokens ≡ Some rest → LineFront line a tokens rest
-line-front line a [] rest h = cc
-line-front line a (t ∷ tokens) rest h = by (t.line == line) refl h
-  where
-    by : (b : Bool) → (t.line == line) ≡ b → (if b then a (t ∷ tokens) else None) ≡ Some rest → LineFront line a (t ∷ tokens) rest
-    by true e k = record { token = t; later = tokens; list = refl; is = eqb-true t.line line e; inner = k }
-    by false e k = cc
-
--- what a spelling of one word leaves behind a token
-pub word-rest : (text : List ℕ) (t : Token) (tokens rest : List Token) → word text (t ∷ tokens) ≡ Some rest →
-    (t.text ≡ text) × (tokens ≡ rest)
-word-rest text t tokens rest h = by (bytes_eq t.text text) refl h
-  where
-    by : (b : Bool) → bytes_eq t.text text ≡ b → (if b then Some tokens else None) ≡ Some rest → (t.text ≡ text) × (tokens ≡ rest)
-    by true e k = ((bytes_eq-Decides t.text text).0 e, ap (λ o. unwrap_or o tokens) k)
-    by false e k = cc
+use Rattle.c_rules.proofs.lemmas.SpelledWords.{LineFront, line-front, word-rest, word-parsed}
 
 module _ (last : ℕ) where
-  pub word-parsed : (text : List ℕ) (tokens rest : List Token) → word text tokens ≡ Some rest → parse_word last text tokens ≡ Ok (tt, rest)
-  word-parsed text tokens rest h =
-      let f : Front text tokens rest = word-front text tokens rest h in
-      let same : bytes_eq f.token.text text ≡ true = (bytes_eq-Decides f.token.text text).1 f.same in
-      ap (parse_word last text) f.list ∙ rw same refl
-
   pub name-parsed : (name : List ℕ) (tokens rest : List Token) → name_word name tokens ≡ Some rest →
       parse_name last tokens ≡ Ok (name, rest)
   name-parsed name tokens rest h =
@@ -87,9 +57,9 @@ module _ (last : ℕ) where
   cast-parsed type tokens rest h =
       let q : Parens (word (type_text type)) tokens rest = parens-parts (word (type_text type)) tokens rest h in
       rw (
-        word-parsed (codes "(") tokens q.inner q.start,
+        word-parsed last (codes "(") tokens q.inner q.start,
         type-parsed type q.inner q.behind q.body,
-        word-parsed (codes ")") q.behind rest q.close,
+        word-parsed last (codes ")") q.behind rest q.close,
       ) refl
 
   -- a field behind `s`
@@ -97,7 +67,7 @@ module _ (last : ℕ) where
       (word (codes "->") ⨾ name_word name) tokens ≡ Some rest → parse_field_name last tokens ≡ Ok (name, rest)
   field_name-parsed name tokens rest h =
       let p : _ = seq-parts (word (codes "->")) (name_word name) tokens rest h in
-      rw (word-parsed (codes "->") tokens p.0 p.1, name-parsed name p.0 rest p.2) refl
+      rw (word-parsed last (codes "->") tokens p.0 p.1, name-parsed name p.0 rest p.2) refl
 
   firm-text : (rest : List Token) → Firm rest → tail_of (first_text rest) ≡ no_tail
   unfolding Firm
@@ -132,7 +102,7 @@ module _ (last : ℕ) where
         rw (
           is_own,
           w.1,
-          word-parsed (codes "->") p.0 q.0 q.1,
+          word-parsed last (codes "->") p.0 q.0 q.1,
           name-parsed field q.0 r.0 r.1,
           f.list,
           is_dot,
@@ -153,7 +123,7 @@ module _ (last : ℕ) where
         word (codes "]") behind ≡ Some rest → parse_index last operand tokens ≡ Ok (index, rest)
     index-parsed index tokens inner behind rest start parsed close =
         let f : Front (codes "[") tokens inner = word-front (codes "[") tokens inner start in
-        ap (parse_index last operand) f.list ∙ rw (parsed, word-parsed (codes "]") behind rest close) refl
+        ap (parse_index last operand) f.list ∙ rw (parsed, word-parsed last (codes "]") behind rest close) refl
 
     -- an item of an own field
     pub item-parsed : (line : ℕ) (field : List ℕ) (index : WrittenExpr) (tokens mid inner behind rest : List Token) →

@@ -7,9 +7,9 @@ use Rattle.c_rules.specs.Resolve.{Names, resolve_cond, resolve_stmt, resolve_stm
 use Rattle.c_grammar.specs.declared.fault.ReadCFault.{ReadCFault}
 use Rattle.c_grammar.specs.WrittenTrees.{choice_of}
 use Rattle.c_resolver.specs.Choices.{resolve_second}
-use Rattle.c_resolver.specs.Gives.{Fails}
-use Rattle.c_resolver.proofs.Each.{bind_ok}
-use Rattle.c_resolver.proofs.Fails.{fails-bind}
+use Rattle.c_rules.specs.Gives.{Fails}
+use Rattle.c_rules.proofs.lemmas.Each.{bind_ok}
+use Rattle.c_rules.proofs.lemmas.Fails.{fails-bind}
 use Rattle.c_resolver.proofs.Rows.{choice-second}
 
 module _ (names : Names) (w : WrittenStmt) (line : ℕ) (test : WrittenCond) (first : WrittenStmts) (has_else : Bool)

@@ -1,7 +1,7 @@
 -- Fields, one after another.
 use Rattle.std.proofs.Common.{◌≡◌, refl, sym, ◌∙◌, ap, ℕ, ◌+◌, ◌<◌, List, [], ◌∷◌, ◌++◌, length, map, take, get_or, filter_map, Option, Some, None}
 use Rattle.std.specs.List.{cons_option}
-use Rattle.c_resolver.proofs.ParamLaws.{up_to_or}
+use Rattle.c_rules.proofs.lemmas.ParamLaws.{up_to_or}
 
 filter_map-push : {X Y : Type 0} (h : X → Option Y) (xs : List X) (x : X) →
     filter_map h (xs ++ x ∷ []) ≡ filter_map h xs ++ cons_option (h x) []

@@ -8,24 +8,7 @@ use Rattle.c_syntax.specs.declared.fault.CKind.TheVariants.{Name}
 use Rattle.c_rules.specs.Resolve.{or_unnamed, field_from, field_named}
 use Rattle.c_syntax.proofs.lemmas.NamePlaces.{bytes_eq-sym}
 use Rattle.c_rules.proofs.lemmas.Resolved.{some_same}
-
-pub above : {A : Type 0} (test : A → Bool) (i : ℕ) (xs : List A) (p : ℕ) → position_from test i xs ≡ Some p → i ≤ p
-above test i [] p e = cc
-above test i (x ∷ xs) p e = by (test x) e (λ later. above test (i + 1) xs p later)
-  where
-    by : (b : Bool) → cond b (Some i) (position_from test (i + 1) xs) ≡ Some p →
-        (position_from test (i + 1) xs ≡ Some p → i + 1 ≤ p) → i ≤ p
-    by true same later = omega (arith, some_same i p same)
-    by false there later = omega (arith, later there)
-
-pub within : {A : Type 0} (test : A → Bool) (i : ℕ) (xs : List A) (p : ℕ) → position_from test i xs ≡ Some p → p < i + length xs
-within test i [] p e = cc
-within test i (x ∷ xs) p e = by (test x) e (λ later. within test (i + 1) xs p later)
-  where
-    by : (b : Bool) → cond b (Some i) (position_from test (i + 1) xs) ≡ Some p →
-        (position_from test (i + 1) xs ≡ Some p → p < i + 1 + length xs) → p < i + suc (length xs)
-    by true same later = omega (arith, some_same i p same)
-    by false there later = omega (arith, later there)
+use Rattle.c_rules.proofs.lemmas.NamedPlaces.{above, within}
 
 field_from-None : (i : ℕ) (fields : List FieldTree) (name : List ℕ) →
     position_from (bytes_eq name) i (map (λ f. f.name) fields) ≡ None → field_from i fields name ≡ None

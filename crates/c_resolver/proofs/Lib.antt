@@ -1,10 +1,6 @@
 pub mod FieldPlaces
-pub mod Each
 pub mod Rows
-pub mod NamedPlaces
-pub mod Fails
 pub mod ChoiceLaws
-pub mod ParamLaws
 pub mod PureLaws
 pub mod FieldLists
 pub mod StructLaws

@@ -11,9 +11,9 @@ use Rattle.c_rules.specs.Resolve.{Known, Names, function_names, on_line, unless_
 use Rattle.c_rules.proofs.lemmas.Resolved.{then-parts, unless-ok, on_line-ok}
 use Rattle.c_grammar.specs.declared.fault.ReadCFault.{ReadCFault}
 use Rattle.c_resolver.specs.Bodies.{procedure_body}
-use Rattle.c_resolver.specs.Gives.{Fails}
-use Rattle.c_resolver.proofs.Each.{bind_ok}
-use Rattle.c_resolver.proofs.Fails.{fails-bind}
+use Rattle.c_rules.specs.Gives.{Fails}
+use Rattle.c_rules.proofs.lemmas.Each.{bind_ok}
+use Rattle.c_rules.proofs.lemmas.Fails.{fails-bind}
 use Rattle.c_resolver.proofs.PureLaws.{fails-then, then-bind}
 
 abbrev pub procedure_scope : Known → ℕ → List (List ℕ) → Names

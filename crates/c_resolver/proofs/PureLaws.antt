@@ -10,9 +10,9 @@ use Rattle.c_rules.specs.Resolve.{Known, Names, function_names, on_line, unless_
 use Rattle.c_grammar.specs.declared.fault.ReadCFault.{ReadCFault}
 use Rattle.c_grammar.specs.declared.fault.ReadCFault.TheVariants.{Refused, Memory}
 use Rattle.c_resolver.specs.Bodies.{pure_body}
-use Rattle.c_resolver.specs.Gives.{Fails}
-use Rattle.c_resolver.proofs.Each.{bind_ok}
-use Rattle.c_resolver.proofs.Fails.{fails-bind}
+use Rattle.c_rules.specs.Gives.{Fails}
+use Rattle.c_rules.proofs.lemmas.Each.{bind_ok}
+use Rattle.c_rules.proofs.lemmas.Fails.{fails-bind}
 
 pub fails-then : {A B : Type 0} (e : ReadCFault) (r : Result A CFault) (next whole : Result B CFault) →
     whole ≡ (r >> next) → Fails e r → Fails e whole

@@ -15,7 +15,7 @@ use Rattle.c_grammar.specs.declared.written.Argument.{Argument}
 use Rattle.c_grammar.specs.declared.written.WrittenStmt.{WrittenStmt as Stmt, Row_of-WrittenStmt, end_of-WrittenStmt, more_of-WrittenStmt, items-the_row-WrittenStmt, items_hidden-the_row-WrittenStmt-0}
 use Rattle.c_grammar.specs.declared.written.WrittenStmt.TheViews as stmt_views
 use Rattle.c_grammar.specs.WrittenTrees.{expr_of, exprs_of, cond_of, argument_of, choice_of, stmt_of, stmts_of}
-use Rattle.c_resolver.proofs.Each.{each}
+use Rattle.c_rules.proofs.lemmas.Each.{each}
 
 exprs_of-items : {m : _} (row : Row_of-WrittenExpr m) → exprs_of row ≡ exprs_from (map expr_of (items-the_row-WrittenExpr m row))
 exprs_of-items end_of-WrittenExpr = refl

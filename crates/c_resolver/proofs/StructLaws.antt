@@ -14,10 +14,10 @@ use Rattle.c_rules.specs.Resolve.{Known, on_line, unless_fault, is_number_writte
 use Rattle.c_rules.proofs.lemmas.Resolved.{then-parts, unless-ok}
 use Rattle.c_grammar.specs.declared.fault.ReadCFault.{ReadCFault}
 use Rattle.c_resolver.specs.Fields.{named_kind, fields_behind}
-use Rattle.c_resolver.specs.Gives.{Fails}
-use Rattle.c_resolver.proofs.Each.{bind_ok, bind_err}
-use Rattle.c_resolver.proofs.Fails.{fails-bind}
-use Rattle.c_resolver.proofs.ParamLaws.{reverse-push, has_name-reverse}
+use Rattle.c_rules.specs.Gives.{Fails}
+use Rattle.c_rules.proofs.lemmas.Each.{bind_ok, bind_err}
+use Rattle.c_rules.proofs.lemmas.Fails.{fails-bind}
+use Rattle.c_rules.proofs.lemmas.ParamLaws.{reverse-push, has_name-reverse}
 
 not-true : (b : Bool) → not b ≡ true → b ≡ false
 not-true false h = refl

@@ -1,5 +1,4 @@
 pub mod Scopes
-pub mod Gives
 pub mod Choices
 pub mod Params
 pub mod Fields

@@ -6,15 +6,15 @@ ghost use Rattle.c_grammar.specs.Parsing.{arguments_from};
 ghost use Rattle.c_rules.specs.Resolve as rules;
 ghost use Rattle.c_grammar.specs.Written.{call};
 ghost use Rattle.c_grammar.specs.WrittenTrees.{target_of, argument_of};
-ghost use Rattle.c_resolver.specs.Gives.{Gives};
+ghost use Rattle.c_rules.specs.Gives.{Gives};
 ghost use Rattle.c_resolver.specs.Scopes.{names_of};
 
 use crate::exprs::resolve_expr;
-use crate::faults::{on_line, unless_fault};
 use crate::fields::{as_array, as_number, as_struct};
 use crate::known::Scope;
 use base_core::Text;
 use c_grammar::{Argument, ReadCFault, WrittenTarget};
+use c_rules::{on_line, unless_fault};
 use c_syntax::{CKind, CType, Expr, FieldKind, Stmt, Target};
 use std::alloc::Global;
 

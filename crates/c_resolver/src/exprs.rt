@@ -7,13 +7,13 @@ ghost use Rattle.c_grammar.specs.Written.{pure};
 ghost use Rattle.c_grammar.specs.Parsing.{exprs_from};
 ghost use Rattle.c_rules.specs.Resolve as rules;
 ghost use Rattle.c_grammar.specs.WrittenTrees.{expr_of, cond_of};
-ghost use Rattle.c_resolver.specs.Gives.{Gives};
+ghost use Rattle.c_rules.specs.Gives.{Gives};
 ghost use Rattle.c_resolver.specs.Scopes.{known_of, names_of};
 
-use crate::faults::on_line;
 use crate::fields::{resolve_array, resolve_leaf};
 use crate::known::{Known, Scope};
 use c_grammar::{ReadCFault, WrittenCond, WrittenExpr};
+use c_rules::on_line;
 use c_syntax::{CKind, Cond, Expr};
 use std::alloc::Global;
 

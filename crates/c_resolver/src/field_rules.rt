@@ -6,13 +6,13 @@ ghost use Rattle.c_grammar.specs.WrittenTrees.{kind_of, field_of};
 ghost use Rattle.c_resolver.specs.Fields.{names_in, named_kind};
 ghost use Rattle.c_resolver.specs.Scopes.{known_of};
 
-use crate::faults::unless_fault;
 use crate::known::Known;
 use crate::numbers::{Numbers, is_number};
 use crate::table::Table;
 use base_core::{Memory, Text};
 use c_grammar::{WrittenField, WrittenKind};
 use c_outputs::{looks_like_output, table_of_texts};
+use c_rules::unless_fault;
 use c_syntax::{CKind, Field, FieldKind};
 use std::alloc::Global;
 

@@ -4,7 +4,6 @@
 mod calls;
 mod chains;
 mod exprs;
-mod faults;
 mod field_rules;
 mod fields;
 mod known;

@@ -2,15 +2,15 @@
 ghost use Rattle.std.specs.Prelude.{◌≡◌, ◌||◌, [], map, IfOk};
 ghost use Rattle.c_syntax.specs.Outputs.{has_name};
 ghost use Rattle.c_rules.specs.Resolve as rules;
-ghost use Rattle.c_resolver.specs.Gives.{Gives};
+ghost use Rattle.c_rules.specs.Gives.{Gives};
 ghost use Rattle.c_resolver.specs.Scopes.{known_of};
 ghost use Rattle.c_resolver.specs.Params.{line_and_name};
 
-use crate::faults::fault_at;
 use crate::known::Known;
 use base_core::{Memory, Text};
 use c_grammar::{ReadCFault, WrittenPureParam};
 use c_outputs::NameTable;
+use c_rules::fault_at;
 use c_syntax::CKind;
 use std::alloc::Global;
 

@@ -7,12 +7,11 @@ ghost use Rattle.c_rules.specs.Resolve as rules;
 ghost use Rattle.c_syntax.specs.Chains as chain;
 ghost use Rattle.c_grammar.specs.WrittenTrees.{procedure_of, param_of};
 ghost use Rattle.c_resolver.specs.Bodies.{procedure_body};
-ghost use Rattle.c_resolver.specs.Gives.{Gives};
+ghost use Rattle.c_rules.specs.Gives.{Gives};
 ghost use Rattle.c_resolver.specs.Params.{plain_param};
 ghost use Rattle.c_resolver.specs.Scopes.{known_of};
 
 use crate::chains::stmts_chain;
-use crate::faults::{on_line, unless_fault};
 use crate::known::{Known, Scope};
 use crate::params::resolve_params;
 use crate::roots::is_lawful_root;
@@ -20,6 +19,7 @@ use crate::stmts::resolve_stmts;
 use base_core::{Memory, Text};
 use c_grammar::{ReadCFault, WrittenParam, WrittenProcedure, WrittenPureParam};
 use c_outputs::NameTable;
+use c_rules::{on_line, unless_fault};
 use c_syntax::{CKind, CType, Procedure, Stmt};
 use std::alloc::{AllocError, Global};
 

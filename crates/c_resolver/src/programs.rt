@@ -3,17 +3,17 @@ ghost use Rattle.std.specs.Prelude.{◌≡◌, ◌<◌, ◌^◌, [], length, IfO
 ghost use Rattle.c_syntax.specs.Plain.{program_tree};
 ghost use Rattle.c_rules.specs.Resolve as rules;
 ghost use Rattle.c_grammar.specs.WrittenTrees as written;
-ghost use Rattle.c_resolver.specs.Gives.{Gives};
+ghost use Rattle.c_rules.specs.Gives.{Gives};
 ghost use Rattle.c_resolver.specs.Programs as definitions;
 ghost use Rattle.c_resolver.specs.Scopes.{known_of};
 
-use crate::faults::{on_line, unless_fault};
 use crate::known::Known;
 use crate::procedures::resolve_procedures;
 use crate::pures::resolve_pures;
 use crate::structs::resolve_structs;
 use crate::table::Table;
 use c_grammar::{ReadCFault, WrittenProgram};
+use c_rules::{on_line, unless_fault};
 use c_syntax::{CKind, Program};
 use std::alloc::Global;
 use std::mem;

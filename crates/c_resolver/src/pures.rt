@@ -5,15 +5,15 @@ ghost use Rattle.c_syntax.specs.Plain.{pure_tree, expr_tree};
 ghost use Rattle.c_rules.specs.Resolve as rules;
 ghost use Rattle.c_grammar.specs.WrittenTrees.{pure_of};
 ghost use Rattle.c_resolver.specs.Bodies.{pure_body};
-ghost use Rattle.c_resolver.specs.Gives.{Gives};
+ghost use Rattle.c_rules.specs.Gives.{Gives};
 ghost use Rattle.c_resolver.specs.Scopes.{known_of};
 
 use crate::exprs::resolve_expr;
-use crate::faults::fault_at;
 use crate::known::{Known, Scope};
 use crate::params::{resolve_params, texts_of};
 use base_core::{Memory, Text};
 use c_grammar::{ReadCFault, WrittenPure};
+use c_rules::fault_at;
 use c_syntax::{CKind, Expr, Pure};
 use std::alloc::Global;
 
@@ -61,7 +61,7 @@ fn resolve_pure<'a>(
 
 impl<'a> Known<'a> {
     /// One more pure function, whose name is new.
-    #[tactic(auto, using(crate::proofs::Each::map_push))]
+    #[tactic(auto, using(c_rules::proofs::lemmas::Each::map_push))]
     fn push_pure(&mut self, name: &'a [u8], pure: Pure) -> Result<(), Memory>
         requires new { has_name (rules.function_names (known_of self.old)) name.now ≡ false }
         requires named { pure.name ≡ name.now }

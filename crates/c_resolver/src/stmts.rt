@@ -7,15 +7,15 @@ ghost use Rattle.c_grammar.specs.Written.{assign_at};
 ghost use Rattle.c_grammar.specs.Parsing.{stmts_from};
 ghost use Rattle.c_rules.specs.Resolve as rules;
 ghost use Rattle.c_grammar.specs.WrittenTrees.{expr_of, stmt_of};
-ghost use Rattle.c_resolver.specs.Gives.{Gives};
+ghost use Rattle.c_rules.specs.Gives.{Gives};
 ghost use Rattle.c_resolver.specs.Scopes.{names_of};
 ghost use Rattle.c_resolver.specs.Choices.{resolve_second};
 
 use crate::calls::{resolve_call_of_procedure, resolve_item_store, resolve_store};
 use crate::exprs::{resolve_boxed, resolve_boxed_cond, resolve_expr};
-use crate::faults::on_line;
 use crate::known::Scope;
 use c_grammar::{ReadCFault, WrittenExpr, WrittenStmt};
+use c_rules::on_line;
 use c_syntax::{CType, Cond, Stmt};
 use std::alloc::Global;
 

@@ -6,10 +6,9 @@ ghost use Rattle.c_syntax.specs.PlainField.{field_trees};
 ghost use Rattle.c_rules.specs.Resolve as rules;
 ghost use Rattle.c_grammar.specs.WrittenTrees.{field_of, struct_of};
 ghost use Rattle.c_resolver.specs.Fields.{names_in, fields_behind};
-ghost use Rattle.c_resolver.specs.Gives.{Gives};
+ghost use Rattle.c_rules.specs.Gives.{Gives};
 ghost use Rattle.c_resolver.specs.Scopes.{known_of};
 
-use crate::faults::{fault_at, on_line};
 use crate::field_rules::{numbers_of, resolve_field};
 use crate::known::Known;
 use crate::numbers::{Numbers, number_names};
@@ -18,6 +17,7 @@ use crate::table::Table;
 use base_core::{Memory, Text};
 use c_grammar::{ReadCFault, WrittenField, WrittenStruct};
 use c_outputs::{NameTable, output_names};
+use c_rules::{fault_at, on_line};
 use c_syntax::{CKind, Field, FieldKind, StructDef};
 use std::alloc::Global;
 

@@ -1,11 +1,10 @@
 -- Declared names that pass are different, and each stands at its own place.
-use Rattle.std.proofs.Common.{◌≡◌, refl, sym, ◌∙◌, ap, ℕ, zero, suc, ◌+◌, ◌<◌, List, [], ◌∷◌, length, map, get_or, Some, Ok, Bool, true, false, not, ◌||◌, cond, bytes_eq, arith}
+use Rattle.std.proofs.Common.{◌≡◌, refl, ◌∙◌, ap, ℕ, zero, suc, ◌+◌, ◌<◌, List, [], ◌∷◌, length, map, get_or, Some, Ok, false, not, cond, bytes_eq, arith}
 use Rattle.std.specs.List.{AllByRecursion, position_from}
 use Rattle.std.proofs.lemmas.Bool.{not-true, or_parts, or_from}
 use Rattle.c_syntax.specs.declared.fault.CKind.TheVariants.{Name}
 use Rattle.c_syntax.specs.Outputs.{has_name}
 use Rattle.c_syntax.proofs.lemmas.NamePlaces.{bytes_eq-same, bytes_eq-sym}
-use Rattle.base_core.specs.Results.{◌>>=◌, ◌>>◌}
 use Rattle.c_rules.specs.Resolve.{unless_fault, on_line, check_params}
 use Rattle.c_rules.proofs.lemmas.Resolved.{then-parts, on_line-ok, unless-ok}
 use Rattle.lustre_syntax.specs.Lawful.{AreDistinct}

@@ -1,18 +1,17 @@
 -- How often places are given: each name that equations give has a place of the node, behind its inputs, and none twice.
-use Rattle.std.proofs.Common.{◌≡◌, ◌⊎◌, inl, inr, refl, sym, ◌∙◌, ap, subst, ℕ, suc, ◌+◌, ◌<◌, ◌≤◌, List, [], ◌∷◌, ◌++◌, length, filter, Some, None, Ok, Bool, true, false, not, ◌&&◌, ◌||◌, cond, ◌==◌, nat_le, bytes_eq, arith, leb-true, eqb-true, eq-eqb, length-append, append_assoc, append-nil}
+use Rattle.std.proofs.Common.{◌≡◌, ◌⊎◌, inl, inr, refl, sym, ◌∙◌, ap, subst, ℕ, ◌+◌, ◌<◌, ◌≤◌, List, [], ◌∷◌, ◌++◌, length, filter, Some, Ok, Bool, true, false, not, ◌||◌, cond, ◌==◌, nat_le, bytes_eq, arith, leb-true, eqb-true, eq-eqb, length-append, append_assoc, append-nil}
 use Rattle.std.specs.List.{AllByRecursion, position_from, list_any}
 use Rattle.std.proofs.lemmas.Bool.{not-true, and_parts, or_parts, or_cases}
 use Rattle.std.proofs.lemmas.List.Elements.{filter-append}
-use Rattle.std.proofs.lemmas.Option.{same_Some}
 use Rattle.std.proofs.lemmas.Slice.Eq.{bytes_eq-Decides}
 use Rattle.c_syntax.specs.declared.fault.CKind.TheVariants.{Name}
 use Rattle.c_syntax.specs.Outputs.{has_name}
 use Rattle.base_core.specs.Results.{◌>>=◌, ◌>>◌}
-use Rattle.c_rules.specs.Resolve.{unless_fault, or_unnamed}
+use Rattle.c_rules.specs.Resolve.{unless_fault}
 use Rattle.c_rules.proofs.lemmas.Resolved.{ok-same, bind-parts, then-parts, unless-ok, named-ok}
 use Rattle.lustre_syntax.specs.Tree.{texts_of}
 use Rattle.lustre_rules.specs.Resolve.{Scope, place_named, may_be_given, resolve_given, resolve_all_given}
-use Rattle.lustre_reading_laws.proofs.ResolvedValues.{all-both, place-within}
+use Rattle.lustre_reading_laws.proofs.ResolvedValues.{place-within}
 
 -- how often a place is given
 abbrev pub times : ℕ → List ℕ → ℕ

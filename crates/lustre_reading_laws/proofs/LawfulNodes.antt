@@ -1,7 +1,7 @@
 -- A node that is resolved is lawful.
-use Rattle.std.proofs.Common.{◌≡◌, ◌⊎◌, inl, inr, refl, sym, ◌∙◌, ap, subst, ℕ, zero, suc, ◌+◌, ◌-◌, ◌<◌, ◌≤◌, List, [], ◌∷◌, ◌++◌, length, map, flat_map, take, drop, get_or, Some, Ok, Bool, true, false, not, ◌&&◌, ◌||◌, if◌then◌else◌, nat_lt, ◌==◌, bytes_eq, slice_get, arith, lt-ltb, le-ltb, append_assoc}
+use Rattle.std.proofs.Common.{◌≡◌, ◌⊎◌, inl, inr, refl, sym, ◌∙◌, ap, subst, ℕ, zero, suc, ◌+◌, ◌-◌, ◌<◌, ◌≤◌, ◌↔◌, List, [], ◌∷◌, ◌++◌, length, map, flat_map, take, drop, get_or, Some, Ok, Bool, true, false, not, ◌&&◌, ◌||◌, if◌then◌else◌, nat_lt, bytes_eq, arith, lt-ltb, le-ltb, append_assoc}
 use Rattle.std.specs.List.{AllByRecursion, position_from, list_all, range_with_len}
-use Rattle.std.proofs.lemmas.Bool.{not-true, and_parts, or_parts, cases_lt}
+use Rattle.std.proofs.lemmas.Bool.{not-true, and_parts, cases_lt}
 use Rattle.std.proofs.lemmas.List.{length-map, length-append, map-append, take_at, drop_at, get_or-append-add}
 use Rattle.std.proofs.lemmas.Option.{same_Some}
 use Rattle.c_syntax.specs.declared.fault.CKind.TheVariants.{Name, TypeRule}
@@ -11,11 +11,12 @@ use Rattle.c_rules.specs.Resolve.{unless_fault, on_line, check_params}
 use Rattle.c_rules.proofs.lemmas.Resolved.{ok-same, bind-parts, then-parts, on_line-ok, unless-ok}
 use Rattle.lustre_syntax.specs.Names.{is_lustre_name}
 use Rattle.lustre_syntax.specs.Tree.{ValueType, int, ExprTree, Declared, texts_of, types_of, EquationTree, set, call, NodeTree, node_texts, names_read, given_by, expressions_of}
-use Rattle.lustre_syntax.specs.Typing.{same_type, type_at, fits, all_fit, have_types, input_types, output_types}
-use Rattle.lustre_syntax.specs.Lawful.{expr_depth, expr_limit, HasLiterals, IsWritable, AreDistinct, Agrees, equations_of, equations_wanted, IsLawfulNode}
-use Rattle.lustre_grammar.specs.Written.{WrittenDeclared, WrittenEquation, WrittenNode}
+use Rattle.lustre_syntax.specs.Typing.{same_type, input_types, output_types}
+use Rattle.lustre_syntax.specs.Lawful.{expr_depth, expr_limit, HasLiterals, IsWritable, AreDistinct, Agrees, IsLawfulNode}
+use Rattle.lustre_grammar.specs.Written.{WrittenDeclared, WrittenNode}
 use Rattle.lustre_rules.specs.Resolve.{Scope, resolve_equations, written_given, all_given, has_ints, written_names, declared_names, resolve_head, resolve_node}
 use Rattle.lustre_rules.specs.Reading.{IsShallow}
+use Rattle.lustre_reading_laws.proofs.Depths.{node_within}
 use Rattle.lustre_reading_laws.proofs.WellWritten.{AreNamed, WellNode}
 use Rattle.lustre_reading_laws.proofs.ResolvedValues.{all-both}
 use Rattle.lustre_reading_laws.proofs.GivenNames.{times, times-append, times-below, IsGiven}
@@ -238,12 +239,13 @@ abbrev is_named : WrittenDeclared → Type 0
 is_named d = is_lustre_name d.text ≡ true
 
 -- a node that is resolved
-pub record ResolvedNode (earlier : List NodeTree) (is_last : Bool) (x : NodeTree) : Type 0 where
+pub record ResolvedNode (earlier : List NodeTree) (is_last : Bool) (w : WrittenNode) (x : NodeTree) : Type 0 where
   pub lawful : AllByRecursion IsShallow x.equations → IsLawfulNode earlier x
   pub ints : is_last ≡ true → HasInts x
+  pub shallow : (node_within w ≡ true) ↔ AllByRecursion IsShallow x.equations
 
 pub node-resolved : (earlier : List NodeTree) (is_last : Bool) (w : WrittenNode) (x : NodeTree) → WellNode w →
-    resolve_node earlier is_last w ≡ Ok x → ResolvedNode earlier is_last x
+    resolve_node earlier is_last w ≡ Ok x → ResolvedNode earlier is_last w x
 node-resolved earlier is_last w x well e =
     let scope : Scope = record { earlier = earlier; names = declared_names w; inputs = length w.inputs; given = [] } in
     let a : _ =
@@ -271,7 +273,7 @@ node-resolved earlier is_last w x well e =
       length-append (w.inputs ++ w.outputs) w.others,
       length-append w.inputs w.outputs,
     ) in
-    subst (ResolvedNode earlier is_last) (ok-same (node_from w c.0) x c.2)
+    subst (ResolvedNode earlier is_last w) (ok-same (node_from w c.0) x c.2)
     (record {
       lawful = λ shallow. record {
         named = well.name;
@@ -285,4 +287,5 @@ node-resolved earlier is_last w x well e =
         writable = equations-writable (declared_names w) c.0 done.reads (done.literals well.equations) shallow;
       };
       ints = λ last. ints-there w c.0 (head.ints last);
+      shallow = done.shallow;
     })

@@ -1,3 +1,5 @@
+pub mod lemmas
+mod Depths
 mod WellWritten
 mod ResolvedValues
 mod GivenNames
@@ -5,3 +7,7 @@ mod ResolvedEquations
 mod DistinctNames
 mod LawfulNodes
 mod LawfulReadings
+mod SpelledLists
+mod SpelledExprs
+mod SpelledNodes
+mod OpeningDepths

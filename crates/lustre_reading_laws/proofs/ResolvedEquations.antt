@@ -1,6 +1,6 @@
 -- What equations stand for keeps the rules on equations.
-use Rattle.std.proofs.Common.{◌≡◌, ◌⊎◌, inl, inr, refl, sym, ◌∙◌, ap, subst, ℕ, ◌+◌, ◌<◌, ◌≤◌, List, [], ◌∷◌, ◌++◌, length, flat_map, Option, Some, None, Ok, true, false, ◌||◌, bytes_eq, slice_get, arith, append_assoc, append-nil}
-use Rattle.std.specs.List.{AllByRecursion, position_from}
+use Rattle.std.proofs.Common.{◌≡◌, ◌⊎◌, inl, inr, refl, sym, ◌∙◌, ap, subst, ℕ, ◌<◌, ◌≤◌, ◌↔◌, List, [], ◌∷◌, ◌++◌, length, flat_map, Some, Ok, true, bytes_eq, slice_get, arith, append_assoc, append-nil}
+use Rattle.std.specs.List.{AllByRecursion, position_from, list_all}
 use Rattle.std.proofs.lemmas.Bool.{or_cases}
 use Rattle.c_syntax.specs.declared.fault.CKind.TheVariants.{TypeRule}
 use Rattle.c_syntax.specs.Outputs.{has_name}
@@ -13,6 +13,8 @@ use Rattle.lustre_syntax.specs.Typing.{type_at, fits, all_fit, have_types, input
 use Rattle.lustre_syntax.specs.Lawful.{HasLiterals, Agrees}
 use Rattle.lustre_grammar.specs.Written.{WrittenExpr, WrittenEquation}
 use Rattle.lustre_rules.specs.Resolve.{Scope, place_named, word_type, node_named, resolve_given, resolve_all_given, resolve_set, resolve_callee, resolve_call, resolve_expr, resolve_exprs, resolve_equation, resolve_equations, written_given}
+use Rattle.lustre_rules.specs.Reading.{IsShallow}
+use Rattle.lustre_reading_laws.proofs.Depths.{equation_within, value-limit, both-hold}
 use Rattle.lustre_reading_laws.proofs.WellWritten.{HasSmall}
 use Rattle.lustre_reading_laws.proofs.ResolvedValues.{all-both, ResolvedExpr, expr-resolved, ResolvedExprs, exprs-resolved}
 use Rattle.lustre_reading_laws.proofs.GivenNames.{times, times-append, IsGiven, one-given, all-given}
@@ -30,6 +32,7 @@ pub record ResolvedEquation (scope : Scope) (w : WrittenEquation) (x : EquationT
   pub agrees : Agrees scope.earlier (node_with scope.names) x
   pub reads : ReadsWithin scope.names x
   pub literals : HasSmall w → AllByRecursion HasLiterals (expressions_of x)
+  pub shallow : (equation_within w ≡ true) ↔ IsShallow x
 
 record ResolvedSet (scope : Scope) (text : List ℕ) (value : WrittenExpr) (k : ℕ) : Type 0 where
   given : resolve_given scope text ≡ Ok k
@@ -108,6 +111,7 @@ equation-resolved scope (WrittenEquation.set line text value) x e =
       agrees = ap (λ t. no_clash (meet (known (type_at (types_of scope.names) p.0)) t)) (sym r.typed) ∙ done.fit;
       reads = (r.reads, tt);
       literals = λ h. (r.literals h, tt);
+      shallow = (λ h. ((value-limit value q.0 r.depth).0 h, tt), λ h. (value-limit value q.0 r.depth).1 h.0);
     })
 equation-resolved scope (WrittenEquation.call line texts callee values) x e =
     let p : _ =
@@ -125,6 +129,7 @@ equation-resolved scope (WrittenEquation.call line texts callee values) x e =
       agrees = (done.of, done.there, done.outputs, sym (r.fit (input_types done.of)) ∙ done.fit);
       reads = r.reads;
       literals = r.literals;
+      shallow = r.shallow;
     })
 
 pub record ResolvedEquations (scope : Scope) (ws : List WrittenEquation) (xs : List EquationTree) : Type 0 where
@@ -132,6 +137,7 @@ pub record ResolvedEquations (scope : Scope) (ws : List WrittenEquation) (xs : L
   pub agree : AllByRecursion (Agrees scope.earlier (node_with scope.names)) xs
   pub reads : AllByRecursion (ReadsWithin scope.names) xs
   pub literals : AllByRecursion HasSmall ws → AllByRecursion (λ x. AllByRecursion HasLiterals (expressions_of x)) xs
+  pub shallow : (list_all equation_within ws ≡ true) ↔ AllByRecursion IsShallow xs
 
 -- names that are given first, and those that are given after them
 given-then : (scope : Scope) (texts : List (List ℕ)) (ks : List ℕ) (others : List (List ℕ)) (js : List ℕ) →
@@ -171,6 +177,7 @@ equations-resolved scope [] xs e =
       agree = tt;
       reads = tt;
       literals = λ h. tt;
+      shallow = (λ h. tt, λ h. refl);
     })
 equations-resolved scope (w ∷ ws) xs e =
     let p : _ =
@@ -187,4 +194,6 @@ equations-resolved scope (w ∷ ws) xs e =
       agree = (one.agrees, later.agree);
       reads = (one.reads, later.reads);
       literals = λ h. (one.literals h.0, later.literals h.1);
+      shallow = both-hold (equation_within w) (list_all equation_within ws) (IsShallow p.0) (AllByRecursion IsShallow q.0)
+          one.shallow later.shallow;
     })

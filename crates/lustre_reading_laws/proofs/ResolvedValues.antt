@@ -1,19 +1,17 @@
 -- What the names that an expression reads stand for: places of the node, of the types that were looked for.
-use Rattle.std.proofs.Common.{◌≡◌, refl, sym, ◌∙◌, ap, ap₂, ℕ, ◌+◌, ◌<◌, max, ◌&&◌, List, [], ◌∷◌, ◌++◌, length, map, Option, Some, None, Result, Ok, Err, bytes_eq, slice_get, subst, arith}
-use Rattle.std.specs.List.{AllByRecursion, position_from}
+use Rattle.std.proofs.Common.{◌≡◌, refl, sym, ◌∙◌, ap, ap₂, ℕ, ◌+◌, ◌<◌, ◌≤◌, ◌↔◌, max, ◌&&◌, true, List, [], ◌∷◌, ◌++◌, length, Some, Ok, bytes_eq, slice_get, subst}
+use Rattle.std.specs.List.{AllByRecursion, position_from, list_all}
 use Rattle.std.specs.Option.{option_map}
 use Rattle.std.proofs.lemmas.List.{length-map}
 use Rattle.std.proofs.lemmas.Option.{slice_get_within, slice_get-get_or}
-use Rattle.c_syntax.specs.declared.fault.CFault.{CFault}
 use Rattle.base_core.specs.Results.{◌>>=◌}
-use Rattle.c_rules.specs.Resolve.{on_line, or_unnamed}
 use Rattle.c_rules.proofs.lemmas.Resolved.{ok-same, bind-parts, on_line-ok, named-ok, position-there}
-use Rattle.lustre_syntax.specs.declared.code.LusOp.{LusOp}
-use Rattle.lustre_syntax.specs.Tree.{ValueType, int, bool, Expr, ExprTree, number, truth, name, negative, negation, two, choice, arrow, previous, Declared, texts_of, types_of, names_read}
-use Rattle.lustre_syntax.specs.Typing.{Typing, known, meet, unless_clash, type_at, of_name, operand_type, gives_type, typing, fits, all_fit, no_clash}
-use Rattle.lustre_syntax.specs.Lawful.{expr_depth, HasLiterals}
+use Rattle.lustre_syntax.specs.Tree.{ValueType, int, bool, ExprTree, number, truth, name, negative, negation, two, choice, arrow, previous, Declared, texts_of, types_of, names_read}
+use Rattle.lustre_syntax.specs.Typing.{Typing, known, meet, unless_clash, type_at, of_name, operand_type, gives_type, typing, all_fit, no_clash}
+use Rattle.lustre_syntax.specs.Lawful.{expr_depth, expr_limit, HasLiterals}
 use Rattle.lustre_grammar.specs.Written.{Word, WrittenExpr}
 use Rattle.lustre_rules.specs.Resolve.{place_named, resolve_word, resolve_expr, resolve_exprs, word_type}
+use Rattle.lustre_reading_laws.proofs.Depths.{value_within, value-limit, both-hold}
 
 pub all-both : {A : Type 0} (P : A → Type 0) (xs ys : List A) → AllByRecursion P xs → AllByRecursion P ys → AllByRecursion P (xs ++ ys)
 all-both P [] ys p q = q
@@ -155,11 +153,12 @@ module _ (names : List Declared) where
     pub reads : AllByRecursion (λ x. Within (names_read x)) xs
     pub literals : AllByRecursion HasLiterals ws → AllByRecursion HasLiterals xs
     pub fit : (types : List ValueType) → all_fit (word_type names) ws types ≡ all_fit (slice_get (types_of names)) xs types
+    pub shallow : (list_all value_within ws ≡ true) ↔ AllByRecursion (λ x. expr_depth x ≤ expr_limit) xs
 
   pub exprs-resolved : (ws : List WrittenExpr) (xs : List ExprTree) → resolve_exprs (texts_of names) ws ≡ Ok xs →
       ResolvedExprs ws xs
   exprs-resolved [] xs e =
-      subst (ResolvedExprs []) (ok-same [] xs e) (record { reads = tt; literals = λ h. h; fit = none })
+      subst (ResolvedExprs []) (ok-same [] xs e) (record { reads = tt; literals = λ h. h; fit = none; shallow = (λ h. tt, λ h. refl) })
     where
       none : (types : List ValueType) → all_fit (word_type names) [] types ≡ all_fit (slice_get (types_of names)) [] types
       none [] = refl
@@ -175,6 +174,8 @@ module _ (names : List Declared) where
         reads = (r.reads, s.reads);
         literals = λ h. (r.literals h.0, s.literals h.1);
         fit = more p.0 q.0 r.typed s.fit;
+        shallow = both-hold (value_within w) (list_all value_within ws) (expr_depth p.0 ≤ expr_limit)
+            (AllByRecursion (λ x. expr_depth x ≤ expr_limit) q.0) (value-limit w p.0 r.depth) s.shallow;
       })
     where
       more : (x : ExprTree) (xs : List ExprTree) → written_type w ≡ placed_type x →

@@ -1,9 +1,9 @@
 -- What the grammar says of a written file itself: its names are names, and its numbers have at most 63 bits.
-use Rattle.std.proofs.Common.{◌≡◌, refl, ℕ, ℤ, pos, negsuc, suc, ◌^◌, ◌<◌, List, [], ◌∷◌, ◌++◌, Some, Bool, true, false, if◌then◌else◌, nat_lt, decimal, codes, leb-true}
+use Rattle.std.proofs.Common.{◌≡◌, refl, ℕ, ℤ, pos, negsuc, suc, ◌^◌, ◌<◌, List, [], ◌∷◌, Some, Bool, true, false, if◌then◌else◌, nat_lt, decimal, codes, leb-true}
 use Rattle.std.specs.List.{AllByRecursion}
 use Rattle.c_grammar.specs.Tokens.{Token}
-use Rattle.c_grammar.specs.Grammar.{Spelling, ◌⨾◌, nothing, never, word, at_line, literal_word, in_parens, all_spelling, some_spelling}
-use Rattle.c_grammar.proofs.lemmas.PrefixLaws.{Parens, parens-parts, seq-parts, at_line-inner}
+use Rattle.c_grammar.specs.Grammar.{Spelling, ◌⨾◌, never, word, at_line, literal_word, all_spelling, some_spelling}
+use Rattle.c_grammar.proofs.lemmas.PrefixLaws.{parens-parts, seq-parts, at_line-inner}
 use Rattle.lustre_syntax.specs.Names.{is_lustre_name}
 use Rattle.lustre_syntax.specs.Tree.{number, truth, name, negative, negation, two, choice, arrow, previous}
 use Rattle.lustre_syntax.specs.Lawful.{HasLiterals}

@@ -3,4 +3,4 @@
 
 mod laws;
 
-pub use laws::readings_are_lawful;
+pub use laws::{faultless_is_spelled, readings_are_lawful, texts_are_judged};

@@ -15,7 +15,8 @@ use Rattle.c_grammar.proofs.lemmas.PrefixLaws.{Front, word-front, seq-parts, at_
 use Rattle.c_reading_laws.proofs.FileWalks.{Braces, braces-parts}
 use Rattle.c_rules.proofs.lemmas.Resolved.{ok-same}
 use Rattle.c_grammar.proofs.lemmas.Shrinking.{all-few, field-takes, pure-takes, struct-takes, procedure-takes, more_params-few, more_pure_params-few}
-use Rattle.c_reading_laws.proofs.ParsedWords.{word-parsed, name-parsed, literal-parsed, type-known, LineFront, line-front, word-rest}
+use Rattle.c_rules.proofs.lemmas.SpelledWords.{word-parsed, LineFront, line-front, word-rest}
+use Rattle.c_reading_laws.proofs.ParsedWords.{name-parsed, literal-parsed, type-known}
 use Rattle.c_reading_laws.proofs.ParsedBodies.{expr_levels, word-text, comma-another, comma-closed}
 use Rattle.c_reading_laws.proofs.ParsedStatements.{stmts_levels, stmts_exprs_levels, expr-parsed, block-parsed}
 

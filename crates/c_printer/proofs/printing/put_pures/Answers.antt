@@ -3,7 +3,7 @@ use Rattle.std.proofs.lemmas.Grind.{common_steps}
 use Rattle.std.proofs.lemmas.List.Folds.{flat_map-map}
 use Rattle.c_syntax.specs.Plain.{pure_tree, program_tree}
 use Rattle.c_printer.specs.Printing.{pure_bytes}
-use Rattle.c_printer.proofs.PrintedLists.{flat_map-put}
+use Rattle.c_printer.proofs.lemmas.ItemTexts.{flat_map-put}
 use Rattle.c_printer.proofs.printing.put_pures.Goals as goal
 
 pub loop-pure-preserved : goal.loop-pure-preserved

@@ -9,8 +9,8 @@ use Rattle.c_grammar.specs.declared.written.Argument.{Argument}
 use Rattle.c_grammar.specs.WrittenTrees.{expr_of, argument_of}
 use Rattle.c_resolver.specs.Scopes.{names_of}
 use Rattle.c_resolver.proofs.Rows.{arguments-each}
-use Rattle.c_resolver.proofs.Each.{each, each-push, each-all, bind_ok}
-use Rattle.c_resolver.proofs.Fails.{gives-same, each-fails}
+use Rattle.c_rules.proofs.lemmas.Each.{each, each-push, each-all, bind_ok}
+use Rattle.c_rules.proofs.lemmas.Fails.{gives-same, each-fails}
 use Rattle.c_resolver.proofs.calls.resolve_arguments.Goals as goal
 
 pub returns-in_err-resolve_expr : goal.returns-in_err-resolve_expr

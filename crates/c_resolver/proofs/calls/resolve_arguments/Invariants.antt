@@ -3,7 +3,7 @@ use Rattle.c_syntax.specs.Plain.{expr_tree}
 use Rattle.c_rules.specs.Resolve.{resolve_expr}
 use Rattle.c_grammar.specs.WrittenTrees.{expr_of}
 use Rattle.c_resolver.specs.Scopes.{names_of}
-use Rattle.c_resolver.proofs.Each.{each}
+use Rattle.c_rules.proofs.lemmas.Each.{each}
 use Rattle.c_resolver.proofs.calls.resolve_arguments.Given as goal
 
 abbrev pub invariant-loop-value : goal.invariant-loop-value

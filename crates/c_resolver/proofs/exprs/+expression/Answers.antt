@@ -7,11 +7,11 @@ use Rattle.c_grammar.specs.Written.{WrittenExpr, pure}
 use Rattle.c_grammar.specs.Parsing.{exprs_from}
 use Rattle.c_rules.specs.Resolve.{resolve_expr, resolve_exprs}
 use Rattle.c_grammar.specs.WrittenTrees.{expr_of}
-use Rattle.c_resolver.specs.Gives.{Gives}
+use Rattle.c_rules.specs.Gives.{Gives}
 use Rattle.c_resolver.specs.Scopes.{names_of}
 use Rattle.c_resolver.proofs.Rows.{expr_of-Pure, exprs-each}
-use Rattle.c_resolver.proofs.Each.{each, each-push, each-all, bind_ok}
-use Rattle.c_resolver.proofs.Fails.{gives-same, each-fails}
+use Rattle.c_rules.proofs.lemmas.Each.{each, each-push, each-all, bind_ok}
+use Rattle.c_rules.proofs.lemmas.Fails.{gives-same, each-fails}
 use Rattle.c_resolver.proofs.exprs.+expression.Goals as goal
 
 pub resolve_expr-returns-in-Pure : goal.resolve_expr-returns-in-Pure

@@ -4,7 +4,7 @@ use Rattle.std.proofs.lemmas.List.{append-nil}
 use denote.Ref.{Bor}
 use Rattle.c_rules.specs.Resolve.{number_name}
 use Rattle.c_grammar.specs.WrittenTrees.{field_of}
-use Rattle.c_resolver.proofs.Each.{map_push}
+use Rattle.c_rules.proofs.lemmas.Each.{map_push}
 use Rattle.c_resolver.proofs.FieldLists.{filter_map-up_to}
 use Rattle.c_resolver.proofs.numbers.number_names.Goals as goal
 use Rattle.c_resolver.proofs.numbers.number_names.Goals.{then-is_number+in_ok-push, else-is_number}

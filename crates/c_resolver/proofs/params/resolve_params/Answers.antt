@@ -5,7 +5,7 @@ use Rattle.c_syntax.proofs.lemmas.NamePlaces.{or-left, or-right}
 use Rattle.c_grammar.specs.declared.written.WrittenPureParam.{WrittenPureParam}
 use Rattle.c_resolver.specs.Scopes.{known_of}
 use Rattle.c_resolver.specs.Params.{line_and_name}
-use Rattle.c_resolver.proofs.ParamLaws.{param-passes, param-fails, from_place_or, from_end, up_to_or}
+use Rattle.c_rules.proofs.lemmas.ParamLaws.{param-passes, param-fails, from_place_or, from_end, up_to_or}
 use Rattle.c_resolver.proofs.params.resolve_params.Goals as goal
 
 abbrev no_param : WrittenPureParam

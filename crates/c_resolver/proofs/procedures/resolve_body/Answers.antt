@@ -11,9 +11,9 @@ use Rattle.c_grammar.specs.Parsing.{stmts_from}
 use Rattle.c_rules.specs.Resolve.{function_names, check_params, resolve_stmts}
 use Rattle.c_grammar.specs.WrittenTrees.{stmt_of, param_of, procedure_of}
 use Rattle.c_resolver.specs.Bodies.{procedure_body}
-use Rattle.c_resolver.specs.Gives.{Fails, Gives}
+use Rattle.c_rules.specs.Gives.{Fails, Gives}
 use Rattle.c_resolver.specs.Scopes.{known_of}
-use Rattle.c_resolver.proofs.Fails.{gives-same}
+use Rattle.c_rules.proofs.lemmas.Fails.{gives-same}
 use Rattle.c_resolver.proofs.ProcedureLaws.{procedure_scope, fails_params, behind_params}
 use Rattle.c_resolver.proofs.procedures.resolve_body.Goals as goal
 

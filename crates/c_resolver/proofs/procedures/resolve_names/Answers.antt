@@ -7,10 +7,10 @@ use Rattle.c_grammar.specs.declared.written.WrittenPureParam.{WrittenPureParam a
 use Rattle.c_grammar.specs.declared.written.WrittenParam.{WrittenParam as TypedParam}
 use Rattle.c_grammar.specs.WrittenTrees.{param_of}
 use Rattle.c_outputs.specs.declared.name_table.NameTable.{NameTable}
-use Rattle.c_resolver.specs.Gives.{Gives}
+use Rattle.c_rules.specs.Gives.{Gives}
 use Rattle.c_resolver.specs.Scopes.{known_of}
 use Rattle.c_resolver.specs.Params.{line_and_name, plain_param}
-use Rattle.c_resolver.proofs.NamedPlaces.{map-map}
+use Rattle.c_rules.proofs.lemmas.NamedPlaces.{map-map}
 use Rattle.c_resolver.proofs.procedures.resolve_names.Goals as goal
 
 -- the lines and names of parameters without their types

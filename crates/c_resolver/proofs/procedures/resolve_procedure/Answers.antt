@@ -7,8 +7,8 @@ use Rattle.c_rules.specs.Resolve.{on_line, resolve_procedure}
 use Rattle.c_grammar.specs.declared.written.WrittenParam.{WrittenParam as TypedParam}
 use Rattle.c_grammar.specs.WrittenTrees.{procedure_of, param_of}
 use Rattle.c_resolver.specs.Scopes.{known_of}
-use Rattle.c_resolver.proofs.NamedPlaces.{map-map}
-use Rattle.c_resolver.proofs.Fails.{gives-same}
+use Rattle.c_rules.proofs.lemmas.NamedPlaces.{map-map}
+use Rattle.c_rules.proofs.lemmas.Fails.{gives-same}
 use Rattle.c_resolver.proofs.ProcedureLaws.{new_name, fails_body, gives_procedure}
 use Rattle.c_resolver.proofs.procedures.resolve_procedure.Goals as goal
 

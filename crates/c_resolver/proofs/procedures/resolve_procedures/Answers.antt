@@ -3,8 +3,8 @@ use Rattle.c_syntax.specs.Chains.{stmts_chain}
 use Rattle.c_rules.specs.Resolve.{resolve_procedure, resolve_procedures}
 use Rattle.c_grammar.specs.WrittenTrees.{procedure_of}
 use Rattle.c_resolver.specs.Scopes.{known_of}
-use Rattle.c_resolver.proofs.ParamLaws.{from_place}
-use Rattle.c_resolver.proofs.Fails.{gives-same, fails-bind}
+use Rattle.c_rules.proofs.lemmas.ParamLaws.{from_place}
+use Rattle.c_rules.proofs.lemmas.Fails.{gives-same, fails-bind}
 use Rattle.c_resolver.proofs.procedures.resolve_procedures.Goals as goal
 
 pub returns-in_err-procedure : goal.returns-in_err-procedure

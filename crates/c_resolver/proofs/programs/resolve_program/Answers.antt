@@ -2,7 +2,7 @@ use Rattle.std.proofs.Common.{subst}
 use Rattle.c_syntax.specs.Plain.{program_tree}
 use Rattle.c_rules.specs.Resolve.{Known}
 use Rattle.c_grammar.specs.WrittenTrees.{program_of}
-use Rattle.c_resolver.specs.Gives.{Gives}
+use Rattle.c_rules.specs.Gives.{Gives}
 use Rattle.c_resolver.specs.Programs.{program_behind}
 use Rattle.c_resolver.proofs.programs.resolve_program.Goals as goal
 

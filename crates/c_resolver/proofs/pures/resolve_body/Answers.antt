@@ -6,11 +6,11 @@ use Rattle.c_grammar.specs.Written.{WrittenPureParam}
 use Rattle.c_rules.specs.Resolve.{function_names, check_params, resolve_expr}
 use Rattle.c_grammar.specs.WrittenTrees.{pure_of, pure_param_of}
 use Rattle.c_resolver.specs.Bodies.{pure_body}
-use Rattle.c_resolver.specs.Gives.{Fails, Gives}
+use Rattle.c_rules.specs.Gives.{Fails, Gives}
 use Rattle.c_resolver.specs.Scopes.{known_of}
 use Rattle.c_resolver.specs.Params.{line_and_name}
-use Rattle.c_resolver.proofs.NamedPlaces.{map-map}
-use Rattle.c_resolver.proofs.Fails.{gives-same}
+use Rattle.c_rules.proofs.lemmas.NamedPlaces.{map-map}
+use Rattle.c_rules.proofs.lemmas.Fails.{gives-same}
 use Rattle.c_resolver.proofs.PureLaws.{pure_scope, fails_params, behind_params}
 use Rattle.c_resolver.proofs.pures.resolve_body.Goals as goal
 

@@ -4,8 +4,8 @@ use Rattle.c_grammar.specs.Written.{WrittenPureParam}
 use Rattle.c_rules.specs.Resolve.{resolve_pure}
 use Rattle.c_grammar.specs.WrittenTrees.{pure_of, pure_param_of}
 use Rattle.c_resolver.specs.Scopes.{known_of}
-use Rattle.c_resolver.proofs.NamedPlaces.{map-map}
-use Rattle.c_resolver.proofs.Fails.{gives-same}
+use Rattle.c_rules.proofs.lemmas.NamedPlaces.{map-map}
+use Rattle.c_rules.proofs.lemmas.Fails.{gives-same}
 use Rattle.c_resolver.proofs.PureLaws.{fails_body, gives_pure}
 use Rattle.c_resolver.proofs.pures.resolve_pure.Goals as goal
 

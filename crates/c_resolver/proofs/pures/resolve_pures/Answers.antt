@@ -2,8 +2,8 @@ use Rattle.std.proofs.Common.{◌∙◌, ap, map, drop, ◌++◌, ◌∷◌, [],
 use Rattle.c_rules.specs.Resolve.{resolve_pure, resolve_pures}
 use Rattle.c_grammar.specs.WrittenTrees.{pure_of}
 use Rattle.c_resolver.specs.Scopes.{known_of}
-use Rattle.c_resolver.proofs.ParamLaws.{from_place}
-use Rattle.c_resolver.proofs.Fails.{gives-same, fails-bind}
+use Rattle.c_rules.proofs.lemmas.ParamLaws.{from_place}
+use Rattle.c_rules.proofs.lemmas.Fails.{gives-same, fails-bind}
 use Rattle.c_resolver.proofs.pures.resolve_pures.Goals as goal
 
 pub returns-in_err-pure : goal.returns-in_err-pure

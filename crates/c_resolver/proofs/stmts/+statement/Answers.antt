@@ -8,8 +8,8 @@ use Rattle.c_rules.specs.Resolve.{resolve_stmt, resolve_stmts}
 use Rattle.c_grammar.specs.WrittenTrees.{cond_of, choice_of, stmt_of}
 use Rattle.c_resolver.specs.Scopes.{names_of}
 use Rattle.c_resolver.proofs.Rows.{stmt_of-If, stmts-each}
-use Rattle.c_resolver.proofs.Each.{each, each-push, each-all, bind_ok}
-use Rattle.c_resolver.proofs.Fails.{gives-same, each-fails}
+use Rattle.c_rules.proofs.lemmas.Each.{each, each-push, each-all, bind_ok}
+use Rattle.c_rules.proofs.lemmas.Fails.{gives-same, each-fails}
 use Rattle.c_resolver.proofs.ChoiceLaws.{fails_first, fails_second, gives_choice}
 use Rattle.c_resolver.proofs.stmts.+statement.Goals as goal
 

@@ -7,10 +7,10 @@ use Rattle.c_grammar.specs.declared.fault.ReadCFault.TheVariants.{Refused}
 use Rattle.c_grammar.specs.WrittenTrees.{field_of}
 use Rattle.c_resolver.specs.Fields.{names_in, named_kind, fields_behind}
 use Rattle.c_resolver.specs.Scopes.{known_of}
-use Rattle.c_resolver.proofs.Fails.{gives-same}
-use Rattle.c_resolver.proofs.NamedPlaces.{map-map}
-use Rattle.c_resolver.proofs.Each.{map_push}
-use Rattle.c_resolver.proofs.ParamLaws.{from_place, from_end}
+use Rattle.c_rules.proofs.lemmas.Fails.{gives-same}
+use Rattle.c_rules.proofs.lemmas.NamedPlaces.{map-map}
+use Rattle.c_rules.proofs.lemmas.Each.{map_push}
+use Rattle.c_rules.proofs.lemmas.ParamLaws.{from_place, from_end}
 use Rattle.c_resolver.proofs.StructLaws.{named-ok, named-err, new-field, field-passes, field-fails, fields-end}
 use Rattle.c_resolver.proofs.structs.resolve_fields.Goals as goal
 

@@ -5,10 +5,10 @@ use Rattle.c_syntax.specs.PlainField.{field_tree, field_trees}
 use Rattle.c_syntax.specs.Tree.{FieldTree, StructTree}
 use Rattle.c_rules.specs.Resolve.{number_name, resolve_struct}
 use Rattle.c_grammar.specs.WrittenTrees.{struct_of}
-use Rattle.c_resolver.specs.Gives.{Fails}
+use Rattle.c_rules.specs.Gives.{Fails}
 use Rattle.c_resolver.specs.Scopes.{known_of}
-use Rattle.c_resolver.proofs.Fails.{gives-same}
-use Rattle.c_resolver.proofs.NamedPlaces.{map-map}
+use Rattle.c_rules.proofs.lemmas.Fails.{gives-same}
+use Rattle.c_rules.proofs.lemmas.NamedPlaces.{map-map}
 use Rattle.c_resolver.proofs.StructLaws.{behind_none, fails_fields, gives_struct}
 use Rattle.c_resolver.proofs.structs.resolve_struct.Goals as goal
 

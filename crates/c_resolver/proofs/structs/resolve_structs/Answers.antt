@@ -2,8 +2,8 @@ use Rattle.std.proofs.Common.{◌∙◌, ap, map, drop, ◌++◌, ◌∷◌, [],
 use Rattle.c_rules.specs.Resolve.{resolve_struct, resolve_structs}
 use Rattle.c_grammar.specs.WrittenTrees.{struct_of}
 use Rattle.c_resolver.specs.Scopes.{known_of}
-use Rattle.c_resolver.proofs.ParamLaws.{from_place}
-use Rattle.c_resolver.proofs.Fails.{gives-same, fails-bind}
+use Rattle.c_rules.proofs.lemmas.ParamLaws.{from_place}
+use Rattle.c_rules.proofs.lemmas.Fails.{gives-same, fails-bind}
 use Rattle.c_resolver.proofs.structs.resolve_structs.Goals as goal
 
 pub returns-in_err-def : goal.returns-in_err-def

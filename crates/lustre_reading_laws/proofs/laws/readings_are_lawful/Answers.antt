@@ -1,4 +1,4 @@
-use Rattle.lustre_reading_laws.proofs.LawfulReadings.{readings_are_lawful}
+use Rattle.lustre_reading_laws.proofs.lemmas.Readings.{readings_are_lawful}
 use Rattle.lustre_reading_laws.proofs.laws.readings_are_lawful.Goals as goal
 
 pub returns : goal.returns

@@ -1,6 +1,6 @@
 use Rattle.std.proofs.Common.{sym, ◌∙◌, []}
 use Rattle.c_syntax.specs.PlainField.{field_tree}
-use Rattle.c_printer.proofs.Lookups.{map-map_at}
+use Rattle.c_printer.proofs.lemmas.Lookups.{map-map_at}
 use Rattle.c_printer.proofs.printing.names.field_name.Goals as goal
 
 pub returns-in-Some : goal.returns-in-Some

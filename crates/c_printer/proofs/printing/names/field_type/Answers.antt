@@ -2,7 +2,7 @@ use Rattle.std.proofs.Common.{sym, ◌∙◌}
 use Rattle.c_syntax.specs.declared.code.CType.TheVariants.{I64}
 use Rattle.c_syntax.specs.PlainField.{field_tree}
 use Rattle.c_syntax.specs.Tree.{kind_type}
-use Rattle.c_printer.proofs.Lookups.{map-map_at}
+use Rattle.c_printer.proofs.lemmas.Lookups.{map-map_at}
 use Rattle.c_printer.proofs.printing.names.field_type.Goals as goal
 
 pub returns-in-Some : goal.returns-in-Some

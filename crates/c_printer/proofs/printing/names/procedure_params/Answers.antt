@@ -1,7 +1,7 @@
 use Rattle.std.proofs.Common.{sym, ◌∙◌, ap, [], map}
 use Rattle.std.proofs.lemmas.Simd.{map-map}
 use Rattle.c_syntax.specs.Plain.{procedure_tree}
-use Rattle.c_printer.proofs.Lookups.{map-map_at}
+use Rattle.c_printer.proofs.lemmas.Lookups.{map-map_at}
 use Rattle.c_printer.proofs.printing.names.procedure_params.Goals as goal
 
 pub returns-in-Some : goal.returns-in-Some

@@ -4,7 +4,7 @@ use Rattle.c_syntax.specs.Tree.{PureTree, ProcedureTree}
 use Rattle.c_syntax.specs.Outputs.{has_name}
 use Rattle.c_syntax.specs.declared.program.Procedure.{Procedure}
 use Rattle.c_syntax.specs.declared.program.Pure.{Pure}
-use Rattle.c_resolver.proofs.NamedPlaces.{map-map, either_named}
+use Rattle.c_rules.proofs.lemmas.NamedPlaces.{map-map, either_named}
 use Rattle.c_resolver.proofs.known.Known.has_function.Goals as goal
 
 pub returns-then-contains : goal.returns-then-contains

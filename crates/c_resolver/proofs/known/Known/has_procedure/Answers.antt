@@ -2,7 +2,7 @@ use Rattle.std.proofs.Common.{sym, ◌∙◌, ap}
 use Rattle.c_syntax.specs.Tree.{ProcedureTree}
 use Rattle.c_syntax.specs.Plain.{procedure_tree}
 use Rattle.c_syntax.specs.Outputs.{has_name}
-use Rattle.c_resolver.proofs.NamedPlaces.{map-map}
+use Rattle.c_rules.proofs.lemmas.NamedPlaces.{map-map}
 use Rattle.c_resolver.proofs.known.Known.has_procedure.Goals as goal
 
 pub returns : goal.returns

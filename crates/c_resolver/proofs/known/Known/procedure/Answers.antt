@@ -1,6 +1,6 @@
 use Rattle.c_syntax.specs.Plain.{procedure_tree}
 use Rattle.c_syntax.specs.Tree.{ProcedureTree}
-use Rattle.c_resolver.proofs.NamedPlaces.{found-view}
+use Rattle.c_rules.proofs.lemmas.NamedPlaces.{found-view}
 use Rattle.c_resolver.proofs.known.Known.procedure.Goals as goal
 
 pub returns : goal.returns

@@ -4,7 +4,7 @@ use Rattle.c_syntax.specs.Plain.{pure_tree, procedure_tree}
 use Rattle.c_syntax.specs.Outputs.{has_name}
 use Rattle.c_syntax.proofs.lemmas.NamePlaces.{or-left}
 use Rattle.c_syntax.proofs.lemmas.NameFacts.{has_name-append}
-use Rattle.c_resolver.proofs.NamedPlaces.{map-map}
+use Rattle.c_rules.proofs.lemmas.NamedPlaces.{map-map}
 use Rattle.c_resolver.proofs.known.Known.push_pure.Goals as goal
 
 pub push-requires-clause-new : goal.push-requires-clause-new

@@ -1,6 +1,6 @@
 use Rattle.std.proofs.Common.{refl, sym, ◌∙◌, length, arith}
 use Rattle.std.proofs.lemmas.Option.{slice_get_read}
-use Rattle.c_resolver.proofs.NamedPlaces.{position-within}
+use Rattle.c_rules.proofs.lemmas.NamedPlaces.{position-within}
 use Rattle.c_resolver.proofs.table.Table.find.Goals as goal
 
 pub index-requires : goal.index-requires

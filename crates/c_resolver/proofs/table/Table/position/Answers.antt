@@ -1,5 +1,5 @@
 use Rattle.std.proofs.Common.{◌∙◌}
-use Rattle.c_resolver.proofs.NamedPlaces.{place-itself}
+use Rattle.c_rules.proofs.lemmas.NamedPlaces.{place-itself}
 use Rattle.c_resolver.proofs.table.Table.position.Goals as goal
 
 pub returns : goal.returns

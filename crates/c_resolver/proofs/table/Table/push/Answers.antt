@@ -1,6 +1,6 @@
 use Rattle.std.proofs.Common.{sym, ◌∙◌, ap, map, ◌++◌, ◌∷◌, []}
 use Rattle.c_syntax.specs.Outputs.{has_name}
-use Rattle.c_resolver.proofs.Each.{map_push}
+use Rattle.c_rules.proofs.lemmas.Each.{map_push}
 use Rattle.c_resolver.proofs.table.Table.push.Goals as goal
 
 pub invariant_of-self-in-Ok : goal.invariant_of-self-in-Ok

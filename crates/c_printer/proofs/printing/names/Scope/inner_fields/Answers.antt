@@ -2,7 +2,7 @@ use Rattle.std.proofs.Common.{sym, ◌∙◌, []}
 use Rattle.c_syntax.specs.Plain.{program_tree}
 use Rattle.c_syntax.specs.PlainField.{field_tree}
 use Rattle.c_printer.specs.Printing.{kind_fields}
-use Rattle.c_printer.proofs.Lookups.{map-map_at}
+use Rattle.c_printer.proofs.lemmas.Lookups.{map-map_at}
 use Rattle.c_printer.proofs.printing.names.Scope.inner_fields.Goals as goal
 
 pub returns-in-Some : goal.returns-in-Some

@@ -2,7 +2,7 @@
 use Rattle.std.proofs.Common.{◌≡◌, refl, sym, ◌∙◌, ap, ℕ, zero, suc, ◌+◌, ◌<◌, Bool, true, false, not, ◌&&◌, ◌||◌, List, [], ◌∷◌, ◌++◌, length, map, take, drop, reverse, get_or, Err, bytes_eq, arith}
 use Rattle.std.proofs.Math.Seq.{drop-cons}
 use Rattle.std.proofs.lemmas.List.{reverse-append, take_more}
-use Rattle.c_resolver.proofs.Each.{map_push}
+use Rattle.c_rules.proofs.lemmas.Each.{map_push}
 use Rattle.c_syntax.specs.declared.fault.CKind.TheVariants.{Name}
 use Rattle.c_grammar.specs.Prefix.{fault_at}
 use Rattle.c_syntax.specs.Outputs.{has_name}

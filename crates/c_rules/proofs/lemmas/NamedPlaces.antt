@@ -1,5 +1,5 @@
 -- Definitions at the places of their names.
-use Rattle.std.proofs.Common.{◌≡◌, refl, sym, ◌∙◌, ap, ℕ, ◌+◌, ◌<◌, suc, Bool, cond, ◌||◌, List, [], ◌∷◌, ◌++◌, length, map, slice_get, MatchOption, Option, Some, None, bytes_eq, arith}
+use Rattle.std.proofs.Common.{◌≡◌, refl, sym, ◌∙◌, ap, ℕ, ◌+◌, ◌<◌, ◌≤◌, suc, Bool, true, false, cond, ◌||◌, List, [], ◌∷◌, ◌++◌, length, map, slice_get, MatchOption, Option, Some, None, bytes_eq, arith}
 use Rattle.std.specs.List.{position_from}
 use Rattle.std.specs.Option.{option_map}
 use Rattle.std.proofs.lemmas.Option.{slice_get-map}
@@ -7,7 +7,26 @@ use denote.Ref.{Bor}
 use Rattle.c_syntax.specs.Outputs.{has_name}
 use Rattle.c_syntax.proofs.lemmas.NamePlaces.{bytes_eq-sym}
 use Rattle.c_syntax.proofs.lemmas.NameFacts.{has_name-append}
-use Rattle.c_resolver.proofs.FieldPlaces.{within}
+use Rattle.c_rules.proofs.lemmas.Resolved.{some_same}
+
+-- a place that is found is one from where the search begins, and within the list
+pub above : {A : Type 0} (test : A → Bool) (i : ℕ) (xs : List A) (p : ℕ) → position_from test i xs ≡ Some p → i ≤ p
+above test i [] p e = cc
+above test i (x ∷ xs) p e = by (test x) e (λ later. above test (i + 1) xs p later)
+  where
+    by : (b : Bool) → cond b (Some i) (position_from test (i + 1) xs) ≡ Some p →
+        (position_from test (i + 1) xs ≡ Some p → i + 1 ≤ p) → i ≤ p
+    by true same later = omega (arith, some_same i p same)
+    by false there later = omega (arith, later there)
+
+pub within : {A : Type 0} (test : A → Bool) (i : ℕ) (xs : List A) (p : ℕ) → position_from test i xs ≡ Some p → p < i + length xs
+within test i [] p e = cc
+within test i (x ∷ xs) p e = by (test x) e (λ later. within test (i + 1) xs p later)
+  where
+    by : (b : Bool) → cond b (Some i) (position_from test (i + 1) xs) ≡ Some p →
+        (position_from test (i + 1) xs ≡ Some p → p < i + 1 + length xs) → p < i + suc (length xs)
+    by true same later = omega (arith, some_same i p same)
+    by false there later = omega (arith, later there)
 
 places : {A B : Type 0} (view : A → B) (of : B → List ℕ) (i : ℕ) (items : List A) (key : List ℕ) →
     position_from (λ b. bytes_eq (of b) key) i (map view items)

@@ -5,8 +5,8 @@ use Rattle.c_syntax.specs.declared.fault.CFault.{CFault}
 use Rattle.base_core.specs.Results.{◌>>=◌}
 use Rattle.c_grammar.specs.declared.fault.ReadCFault.{ReadCFault}
 use Rattle.c_grammar.specs.declared.fault.ReadCFault.TheVariants.{Refused, Memory}
-use Rattle.c_resolver.specs.Gives.{Gives, Fails}
-use Rattle.c_resolver.proofs.Each.{bind_err, each, each-fault}
+use Rattle.c_rules.specs.Gives.{Gives, Fails}
+use Rattle.c_rules.proofs.lemmas.Each.{bind_err, each, each-fault}
 
 -- a fault that is passed on
 pub gives-same : {A B : Type 0} (view : A → B) (r : Result A ReadCFault) (e : ReadCFault) (ruled : Result B CFault) →

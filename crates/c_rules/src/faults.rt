@@ -6,14 +6,14 @@ ghost use Rattle.c_rules.specs.Resolve as rules;
 use c_syntax::{CFault, CKind};
 
 /// The fault of a rule that stands on a line.
-pub(crate) fn fault_at(line: u32, kind: CKind) -> CFault
+pub fn fault_at(line: u32, kind: CKind) -> CFault
     ensures { result ≡ prefix.fault_at line kind }
 {
     CFault { line, kind }
 }
 
 /// The answer of a rule that stands on a line.
-pub(crate) fn on_line<T>(line: u32, ruled: Result<T, CKind>) -> Result<T, CFault>
+pub fn on_line<T>(line: u32, ruled: Result<T, CKind>) -> Result<T, CFault>
     ensures { result ≡ rules.on_line line ruled }
 {
     match ruled {
@@ -23,7 +23,7 @@ pub(crate) fn on_line<T>(line: u32, ruled: Result<T, CKind>) -> Result<T, CFault
 }
 
 /// A fault of this kind, unless a rule is kept.
-pub(crate) fn unless_fault(is_kept: bool, kind: CKind) -> Result<(), CKind>
+pub fn unless_fault(is_kept: bool, kind: CKind) -> Result<(), CKind>
     ensures { result ≡ rules.unless_fault is_kept kind }
 {
     if is_kept { Ok(()) } else { Err(kind) }

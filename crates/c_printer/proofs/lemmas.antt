@@ -1,0 +1,4 @@
+-- Lemmas that proofs of the crates above use.
+pub mod Bytes
+pub mod Lookups
+pub mod ItemTexts

@@ -1,0 +1,12 @@
+pub mod PrintedLists
+pub mod Lexing
+pub mod TextReading
+pub mod PrintedTrees
+pub mod PrintedEquations
+pub mod PrintedNodes
+pub mod Names
+pub mod PrintedValues
+pub mod PrintedGiven
+pub mod PrintedResolving
+pub mod PrintedDefinitions
+pub mod PrintedReading

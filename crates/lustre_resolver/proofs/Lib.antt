@@ -1,0 +1,4 @@
+mod Walks
+mod EquationLaws
+mod Views
+mod GivenLaws
