@@ -1,0 +1,5 @@
+use Rattle.c_refinement.proofs.lemmas.Programs as proof
+use Rattle.c_refinement.proofs.laws.bodies_refine.Goals as goal
+
+pub returns : goal.returns
+returns c = proof.bodies_refine

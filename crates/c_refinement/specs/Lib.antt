@@ -1,0 +1,4 @@
+pub mod Refinement
+pub mod Evaluations
+pub mod Routines
+pub mod Laws
