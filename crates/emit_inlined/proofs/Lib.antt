@@ -1,0 +1,12 @@
+pub mod lemmas
+mod ChainsInlined
+mod DepthsInlined
+mod InlinedLawful
+mod InlinedRefines
+mod LinesInlined
+mod OneByOne
+mod CountLaws
+mod MovedLists
+mod FlagLaws
+mod FoundHelpers
+mod InlinedLists

@@ -1,0 +1,4 @@
+pub mod Inlined
+pub mod Laws
+pub mod Steps
+pub mod Examples

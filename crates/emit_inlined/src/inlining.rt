@@ -1,0 +1,162 @@
+// Code with the bodies of helpers where they are called.
+ghost use Rattle.std.specs.Prelude.{◌≡◌, IfOk, map, slice_index_or};
+ghost use Rattle.c_syntax.specs.Tree.{more_stmts, no_stmts, stmts_of_list};
+ghost use Rattle.c_syntax.specs.Plain.{procedure_tree, stmt_tree};
+ghost use Rattle.emit_pruned.specs.Marks.{flag_at};
+ghost use Rattle.emit_inlined.specs.Inlined as code;
+ghost use Rattle.emit_inlined.specs.Inlined.{itself, no_procedure};
+ghost use Rattle.emit_inlined.specs.Steps.{in_place_by, place_in, procedure_by, stmts_by};
+
+use crate::finding::helper_call;
+use crate::helpers::HelperCall;
+use crate::moves::Moves;
+use crate::moving::{moved_stmt, moved_stmts};
+use crate::names::is_interface;
+use crate::params::Params;
+use crate::places::Places;
+use base_core::{Memory, Text};
+use c_syntax::{Procedure, Stmt, copied_params};
+use std::alloc::Global;
+
+/// The body of the procedure at a position, and no statement past the end.
+fn body_at(procedures: &[Procedure], position: u32) -> &[Stmt]
+    ensures { stmts_of_list (map stmt_tree result.now)
+        ≡ (slice_index_or (map procedure_tree procedures.now) position no_procedure).body }
+{
+    match procedures.get(position as usize) {
+        Some(q) => q.body.as_slice(),
+        None => &[],
+    }
+}
+
+/// Statements with their calls at new positions.
+fn placed_stmts(alloc: Global, places: &Places, ss: &[Stmt]) -> Result<Vec<Stmt>, Memory>
+    ensures { IfOk result (λ v. stmts_of_list (map stmt_tree v.items)
+        ≡ code.moved_stmts itself (place_in places.now) (stmts_of_list (map stmt_tree ss.now))) }
+{
+    let params = Params::Itself;
+    let moves = Moves {
+        params: &params,
+        places,
+    };
+    moved_stmts(alloc, &moves, ss)
+}
+
+/// A statement with its calls at new positions, alone.
+fn placed_stmt(alloc: Global, places: &Places, s: &Stmt) -> Result<Vec<Stmt>, Memory>
+    ensures { IfOk result (λ v. stmts_of_list (map stmt_tree v.items)
+        ≡ more_stmts (code.moved_stmt itself (place_in places.now) (stmt_tree s.now)) no_stmts) }
+{
+    let params = Params::Itself;
+    let moves = Moves {
+        params: &params,
+        places,
+    };
+    let mut list = Vec::new(alloc);
+    list.push(moved_stmt(alloc, &moves, s)?)?;
+    Ok(list)
+}
+
+/// The body of a helper, which reads the parameters that are passed on.
+fn placed_body(
+    alloc: Global,
+    procedures: &[Procedure],
+    places: &Places,
+    found: HelperCall,
+) -> Result<Vec<Stmt>, Memory>
+    ensures { IfOk result (λ v. stmts_of_list (map stmt_tree v.items)
+        ≡ code.moved_stmts (λ i. slice_index_or found.params.items i 0) (place_in places.now)
+        (slice_index_or (map procedure_tree procedures.now) found.procedure no_procedure).body) }
+{
+    let body = body_at(procedures, found.procedure);
+    let params = Params::Passed(found.params);
+    let moves = Moves {
+        params: &params,
+        places,
+    };
+    moved_stmts(alloc, &moves, body)
+}
+
+/// What goes where a statement is: the body of the helper that it calls, or itself.
+fn in_place_of(
+    alloc: Global,
+    procedures: &[Procedure],
+    helpers: &[bool],
+    places: &Places,
+    s: &Stmt,
+) -> Result<Vec<Stmt>, Memory>
+    ensures { IfOk result (λ v. stmts_of_list (map stmt_tree v.items)
+        ≡ in_place_by (map procedure_tree procedures.now) (flag_at helpers.now) (place_in places.now)
+        (stmt_tree s.now)) }
+{
+    match helper_call(alloc, helpers, s)? {
+        Some(found) => {
+            let body = placed_body(alloc, procedures, places, found)?;
+            Ok(body)
+        }
+        None => {
+            let alone = placed_stmt(alloc, places, s)?;
+            Ok(alone)
+        }
+    }
+}
+
+/// Statements with the bodies of helpers where they call them.
+fn inlined_stmts(
+    alloc: Global,
+    procedures: &[Procedure],
+    helpers: &[bool],
+    places: &Places,
+    ss: &[Stmt],
+) -> Result<Vec<Stmt>, Memory>
+    ensures { IfOk result (λ v. stmts_of_list (map stmt_tree v.items)
+        ≡ stmts_by (map procedure_tree procedures.now) (flag_at helpers.now) (place_in places.now)
+        (stmts_of_list (map stmt_tree ss.now))) }
+{
+    let mut list = Vec::new(alloc);
+    for s in ss {
+        let mut more = in_place_of(alloc, procedures, helpers, places, s)?;
+        list.append(&mut more)?;
+    }
+    Ok(list)
+}
+
+/// The body of a procedure in the new program.
+fn inlined_body(
+    alloc: Global,
+    procedures: &[Procedure],
+    helpers: &[bool],
+    places: &Places,
+    q: &Procedure,
+) -> Result<Vec<Stmt>, Memory>
+    ensures { IfOk result (λ v. stmts_of_list (map stmt_tree v.items)
+        ≡ (procedure_by (map procedure_tree procedures.now) (flag_at helpers.now)
+        (place_in places.now) (procedure_tree q.now)).body) }
+{
+    if is_interface(alloc, q.name.bytes())? {
+        inlined_stmts(alloc, procedures, helpers, places, q.body.as_slice())
+    } else {
+        placed_stmts(alloc, places, q.body.as_slice())
+    }
+}
+
+/// A procedure in the new program.
+pub(crate) fn inlined_procedure(
+    alloc: Global,
+    procedures: &[Procedure],
+    helpers: &[bool],
+    places: &Places,
+    q: &Procedure,
+) -> Result<Procedure, Memory>
+    ensures { IfOk result (λ p. procedure_tree p
+        ≡ procedure_by (map procedure_tree procedures.now) (flag_at helpers.now)
+        (place_in places.now) (procedure_tree q.now)) }
+{
+    Ok(Procedure {
+        name: Text::copy_of(alloc, q.name.bytes())?,
+        private: q.private,
+        of: q.of,
+        params: copied_params(alloc, q.params.as_slice())?,
+        body: inlined_body(alloc, procedures, helpers, places, q)?,
+    })
+}
