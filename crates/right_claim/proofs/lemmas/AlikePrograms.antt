@@ -107,7 +107,7 @@ module _ (p q : ProgramTree) (same : p.structs ≡ q.structs) where
         (counter_fields (bare structs) n)) same h.counters;
   }
 
-  run-held-alike : (d : Diagram) (s : Option ℕ) (run : Run) (t : ℕ) (cells : Cells) →
+  pub run-held-alike : (d : Diagram) (s : Option ℕ) (run : Run) (t : ℕ) (cells : Cells) →
       HoldsRun p d s run t cells → HoldsRun q d s run t cells
   run-held-alike d s run t cells h =
       let v = slice_index_or run.values t [] in
@@ -130,7 +130,7 @@ module _ (p q : ProgramTree) (same : p.structs ≡ q.structs) where
       (λ x h. record { memories = h.memories; places = h.places; taken = h.taken; trigger = h.trigger })
       (λ x h. record { memories = h.memories; places = h.places; taken = h.taken; trigger = h.trigger })
 
-  started-alike : (d : Diagram) (n : Option ℕ) (after : Cells) → AreStarted p d n after → AreStarted q d n after
+  pub started-alike : (d : Diagram) (n : Option ℕ) (after : Cells) → AreStarted p d n after → AreStarted q d n after
   started-alike d n after h = record {
     forgotten = forgotten-alike d n after h.forgotten;
     values =
@@ -141,7 +141,7 @@ module _ (p q : ProgramTree) (same : p.structs ≡ q.structs) where
         (counter_fields (bare structs) n)) same h.counters;
   }
 
-  reset-alike : (d : Diagram) (n : Option ℕ) (before after : Cells) → AreReset p d n before after → AreReset q d n before after
+  pub reset-alike : (d : Diagram) (n : Option ℕ) (before after : Cells) → AreReset p d n before after → AreReset q d n before after
   reset-alike d n before after h = record {
     forgotten = forgotten-alike d n after h.forgotten;
     values =
@@ -155,7 +155,7 @@ module _ (p q : ProgramTree) (same : p.structs ≡ q.structs) where
         (counter_fields (bare structs) n)) same h.counters;
   }
 
-  holds-alike : (d : Diagram) (s : Option ℕ) (P Q : Option ℕ → Cells → Cells → Type 0) (before after : Cells) →
+  pub holds-alike : (d : Diagram) (s : Option ℕ) (P Q : Option ℕ → Cells → Cells → Type 0) (before after : Cells) →
       ((n : Option ℕ) (old new : Cells) → P n old new → Q n old new) → HoldsInside p d s P before after → HoldsInside q d s Q before after
   holds-alike d s P Q before after next h = record {
     here = next s before after h.here;

@@ -1,0 +1,14 @@
+mod MovedSites
+mod LawfulSites
+mod MovedRules
+mod HelperCalls
+mod HelperNames
+mod InlinedRules
+mod Totals
+mod Weights
+mod InlinedWeights
+mod InlinedOnce
+mod InlinedStored
+mod InlinedRoot
+mod InlinedShape
+mod InlinedCode

@@ -1,0 +1,6 @@
+//! Code for a diagram stays code for it where the bodies of helpers stand in place of their calls.
+#![tactic(auto)]
+
+mod laws;
+
+pub use laws::inlined_is_code;
