@@ -12,6 +12,7 @@ use Rattle.c_syntax.specs.declared.code.CType.TheVariants.{I8, U8, I16, U16, I32
 use Rattle.c_syntax.specs.Names.{is_word_byte, is_name}
 use Rattle.c_grammar.specs.Grammar.{type_text, op_text, compare_text}
 use Rattle.c_rules.specs.AlikeTexts.{is_joining, joins, is_splice, begins_comment, is_alike_from}
+use Rattle.c_printer.specs.Lines.{ended}
 use Rattle.c_grammar.proofs.lemmas.LiteralLaws.{and_first, and_second, numeral}
 use Rattle.c_printer.proofs.lemmas.Bytes.{differs, NameParts, name-parts}
 
@@ -34,50 +35,71 @@ no-comment b c apart = by ((b == 47) && (c == 42)) refl
     by false e = refl
     by true e = let wrong : false ≡ true = sym (ap not (comment-joins b c e)) ∙ apart in cc
 
-pub alike : (before b : ℕ) (bs : List ℕ) → not (is_splice b) ≡ true → stands_apart b bs ≡ true → is_alike_from 0 before (b ∷ bs) ≡ true
-alike before b [] plain apart = ap (λ t. t && true) plain
-alike before b (c ∷ cs) plain apart =
-    let rest : (not (joins b c) && stands_apart c cs) ≡ true =
-    and_second (not (is_splice c)) (not (joins b c) && stands_apart c cs) apart in
-    let free : not (joins b c) ≡ true = and_first (not (joins b c)) (stands_apart c cs) rest in
-    let none : begins_comment b (c ∷ cs) ≡ false = no-comment b c free in
-    rw (none, plain, free) (alike b c cs (and_first (not (is_splice c)) (not (joins b c) && stands_apart c cs) apart)
-    (and_second (not (joins b c)) (stands_apart c cs) rest))
+-- whatever byte is before it, what begins with this byte and goes on with these is read alike
+pub record GoesOn (b : ℕ) (bs : List ℕ) : Type 0 where
+  pub alike : (before : ℕ) → not (is_splice b) ≡ true → is_alike_from 0 before (b ∷ bs) ≡ true
 
--- ---- Bytes that go anywhere
+pub at-end : (b : ℕ) → GoesOn b []
+at-end b = record { alike = λ before plain. ap (λ t. t && true) plain }
 
--- whatever byte is before these, and before those behind them
-pub record IsFree (xs : List ℕ) : Type 0 where
-  pub apart : (a : ℕ) (ys : List ℕ) → ((b : ℕ) → stands_apart b ys ≡ true) → stands_apart a (xs ++ ys) ≡ true
+pub one-more : (a b : ℕ) (bs : List ℕ) → not (is_splice b) ≡ true → not (joins a b) ≡ true → GoesOn b bs →
+    GoesOn a (b ∷ bs)
+one-more a b bs plain free rest = record {
+  alike = λ before whole.
+      let none : begins_comment a (b ∷ bs) ≡ false = no-comment a b free in
+      rw (none, whole, free) (rest.alike a plain);
+}
 
-pub free-none : IsFree []
-free-none = record { apart = λ a ys behind. behind a }
+-- ---- Bytes that go anywhere, and lines
+
+-- where bytes begin: anywhere, or at the start of a line
+pub data Place : Type 0 where
+  anywhere line_start : Place
+
+-- what begins there is read alike
+abbrev pub IsAlikeAt : Place → List ℕ → Type 0
+IsAlikeAt anywhere ys = (b : ℕ) → GoesOn b ys
+IsAlikeAt line_start ys = GoesOn 10 ys
+
+-- bytes from one place to another, before what is read alike there
+pub record Spans (from to : Place) (xs : List ℕ) : Type 0 where
+  pub apart : (ys : List ℕ) → IsAlikeAt to ys → IsAlikeAt from (xs ++ ys)
+
+abbrev pub IsFree : List ℕ → Type 0
+IsFree xs = Spans anywhere anywhere xs
+
+abbrev pub AreLines : List ℕ → Type 0
+AreLines xs = Spans line_start line_start xs
+
+pub free-none : {place : Place} → Spans place place []
+free-none = record { apart = λ ys behind. behind }
 
 infixl 25 ◌◃◌
-pub ◌◃◌ : {xs ys : List ℕ} → IsFree xs → IsFree ys → IsFree (xs ++ ys)
-◌◃◌ {xs} {ys} f g = record {
-  apart = λ a zs behind. subst (λ t. stands_apart a t ≡ true) (sym (append_assoc xs ys zs))
-      (f.apart a (ys ++ zs) (λ b. g.apart b zs behind));
+pub ◌◃◌ : {from by to : Place} {xs ys : List ℕ} → Spans from by xs → Spans by to ys → Spans from to (xs ++ ys)
+◌◃◌ {from} {by} {to} {xs} {ys} f g = record {
+  apart = λ zs behind. subst (IsAlikeAt from) (sym (append_assoc xs ys zs)) (f.apart (ys ++ zs) (g.apart zs behind));
 }
+
+-- what goes anywhere goes where a line begins
+pub at-start : {to : Place} {xs : List ℕ} → Spans anywhere to xs → Spans line_start to xs
+at-start f = record { apart = λ ys behind. f.apart ys behind 10 }
 
 -- a text that begins with a byte that joins nothing, and has no joined ones
 abbrev begins_free : List ℕ → Bool
 begins_free [] = true
 begins_free (b ∷ bs) = not (is_joining b) && (not (is_splice b) && stands_apart b bs)
 
-goes-on : (a : ℕ) (xs ys : List ℕ) → stands_apart a xs ≡ true → ((b : ℕ) → stands_apart b ys ≡ true) → stands_apart a (xs ++ ys) ≡ true
+pub goes-on : (a : ℕ) (xs ys : List ℕ) → stands_apart a xs ≡ true → ((b : ℕ) → GoesOn b ys) → GoesOn a (xs ++ ys)
 goes-on a [] ys first behind = behind a
 goes-on a (b ∷ bs) ys first behind =
     let rest : (not (joins a b) && stands_apart b bs) ≡ true =
     and_second (not (is_splice b)) (not (joins a b) && stands_apart b bs) first in
-    rw (
-      and_first (not (is_splice b)) (not (joins a b) && stands_apart b bs) first,
-      and_first (not (joins a b)) (stands_apart b bs) rest,
-    )
+    one-more a b (bs ++ ys) (and_first (not (is_splice b)) (not (joins a b) && stands_apart b bs) first)
+    (and_first (not (joins a b)) (stands_apart b bs) rest)
     (goes-on b bs ys (and_second (not (joins a b)) (stands_apart b bs) rest) behind)
 
 -- what joins nothing isn't joined
-not-joined : (a b : ℕ) → not (is_joining b) ≡ true → not (joins a b) ≡ true
+pub not-joined : (a b : ℕ) → not (is_joining b) ≡ true → not (joins a b) ≡ true
 not-joined a b free = by (is_joining b) refl
   where
     by : (t : Bool) → is_joining b ≡ t → not (joins a b) ≡ true
@@ -87,15 +109,21 @@ not-joined a b free = by (is_joining b) refl
 pub text-free : (xs : List ℕ) → begins_free xs ≡ true → IsFree xs
 text-free [] h = free-none
 text-free (b ∷ bs) h = record {
-  apart = λ a ys behind.
+  apart = λ ys behind a.
       let rest : (not (is_splice b) && stands_apart b bs) ≡ true =
       and_second (not (is_joining b)) (not (is_splice b) && stands_apart b bs) h in
-      rw (
-        and_first (not (is_splice b)) (stands_apart b bs) rest,
-        not-joined a b (and_first (not (is_joining b)) (not (is_splice b) && stands_apart b bs) h),
-      )
+      one-more a b (bs ++ ys) (and_first (not (is_splice b)) (stands_apart b bs) rest)
+      (not-joined a b (and_first (not (is_joining b)) (not (is_splice b) && stands_apart b bs) h))
       (goes-on b bs ys (and_second (not (is_splice b)) (stands_apart b bs) rest) behind);
 }
+
+-- the end of a line
+pub line-end : Spans anywhere line_start (10 ∷ [])
+line-end = record { apart = λ ys behind a. one-more a 10 ys refl (not-joined a 10 refl) behind }
+
+-- a text and the end of its line
+pub line-free : (xs : List ℕ) → begins_free xs ≡ true → Spans anywhere line_start (ended xs)
+line-free xs h = text-free xs h ◃ line-end
 
 -- ---- Words and numbers
 
@@ -127,9 +155,9 @@ passing-free test signs splice (b ∷ bs) all =
     let here : test b ≡ true = and_first (test b) (list_all test bs) all in
     let rest : IsFree bs = passing-free test signs splice bs (and_second (test b) (list_all test bs) all) in
     record {
-      apart = λ a ys behind.
-          rw (differs test b 92 here splice, not-joined a b (ap not (none-of test (codes "!#%&*+-/:<=>?^|") b here signs)))
-          (rest.apart b ys behind);
+      apart = λ ys behind a.
+          one-more a b (bs ++ ys) (ap not (differs test b 92 here splice))
+          (not-joined a b (ap not (none-of test (codes "!#%&*+-/:<=>?^|") b here signs))) (rest.apart ys behind b);
     }
 
 -- letters, digits and `_` alone
@@ -161,8 +189,9 @@ type-free U32 = text-free (type_text U32) refl
 type-free I64 = text-free (type_text I64) refl
 
 -- behind free bytes, two texts that are free together
-pub joined : {xs : List ℕ} (t u : List ℕ) → IsFree xs → begins_free (t ++ u) ≡ true → IsFree (xs ++ t ++ u)
-joined {xs} t u f both = subst IsFree (sym (append_assoc xs t u)) (f ◃ text-free (t ++ u) both)
+pub joined : {from : Place} {xs : List ℕ} (t u : List ℕ) → Spans from anywhere xs → begins_free (t ++ u) ≡ true →
+    Spans from anywhere (xs ++ t ++ u)
+joined {from} {xs} t u f both = subst (Spans from anywhere) (sym (append_assoc xs t u)) (f ◃ text-free (t ++ u) both)
 
 pub op-free : (op : BinOp) {xs : List ℕ} → IsFree xs → IsFree (xs ++ codes " " ++ op_text op ++ codes " ")
 op-free Add f = joined (codes " ") (op_text Add) f refl ◃ text-free (codes " ") refl

@@ -1,6 +1,6 @@
 -- The text of a lawful program is one that C99 reads alike.
 use Rattle.std.proofs.Common.{◌≡◌, refl, sym, ap, subst, ℕ, zero, suc, ◌+◌, ◌^◌, ◌<◌, Bool, true, false, List, [], ◌∷◌, ◌++◌, map, slice_index_or, codes, decimal, unsigned_abs, arith}
-use Rattle.std.specs.List.{flat_map, AllByRecursion}
+use Rattle.std.specs.List.{flat_map, enumerate_from, AllByRecursion}
 use Rattle.std.proofs.lemmas.List.{append_assoc, append-nil}
 use Rattle.c_syntax.specs.declared.code.CType.{CType}
 use Rattle.c_syntax.specs.declared.code.Leaf.{Leaf}
@@ -13,9 +13,11 @@ use Rattle.c_syntax.specs.Tree.{ExprTree, literal, neg, read, binary, pick, pure
 use Rattle.c_syntax.specs.Names.{name_at}
 use Rattle.c_syntax.specs.Lawful.{AreDistinct, Reach, IsLawfulExpr, AreLawfulExprs, IsLawfulCond, IsLawfulStmt, AreLawfulStmts, ArePures, IsLawfulKind, AreStructs, AreProcedures, IsLawful, pure_names, procedure_names, param_names}
 use Rattle.c_rules.specs.AlikeTexts.{is_alike}
-use Rattle.c_printer.specs.Printing.{Vocabulary, pure_name, struct_name, procedure_name, procedure_types, field_name, kind_fields, inner_fields, leaf_bytes, expr_bytes, exprs_bytes, later_exprs_bytes, cond_bytes, deeper, ended, target_bytes, arguments_bytes, stmt_bytes, else_bytes, stmts_bytes, later_pure_params_bytes, pure_params_bytes, pure_bytes, kind_bytes, length_bytes, field_bytes, struct_bytes, private_bytes, param_bytes, procedure_bytes, program_bytes}
+use Rattle.c_printer.specs.Notes.{Notes, note_at, notes_on}
+use Rattle.c_printer.specs.Printing.{Vocabulary, pure_name, struct_name, procedure_name, procedure_types, field_name, kind_fields, inner_fields, leaf_bytes, expr_bytes, exprs_bytes, later_exprs_bytes, cond_bytes, deeper, target_bytes, arguments_bytes, stored_bytes, store_bytes, item_store_bytes, call_bytes, target_note, noted_stmt_bytes, noted_else_bytes, noted_stmts_bytes, later_pure_params_bytes, pure_params_bytes, pure_bytes, kind_bytes, length_bytes, field_bytes, noted_field_bytes, noted_struct_bytes, private_bytes, param_bytes, noted_procedure_bytes, noted_bytes}
 use Rattle.c_syntax.proofs.lemmas.NameFacts.{AreDistinct-front, AreDistinct-back}
-use Rattle.c_printer.proofs.AlikeBytes.{stands_apart, alike, IsFree, free-none, ◌◃◌, text-free, joined, AreWordBytes, word-free, name-bytes, decimal-free, margin-free, type-free, op-free, compare-free}
+use Rattle.c_printer.proofs.AlikeBytes.{GoesOn, at-end, one-more, goes-on, not-joined, IsFree, AreLines, free-none, ◌◃◌, at-start, text-free, line-end, line-free, joined, AreWordBytes, word-free, name-bytes, decimal-free, margin-free, type-free, op-free, compare-free}
+use Rattle.c_printer.proofs.AlikeNotes.{note-lines, noted-lines}
 
 -- ---- Names
 
@@ -108,39 +110,46 @@ module _ (v : Vocabulary) (words : HasWords v) (reach : Reach) where
       subst IsFree (append_assoc (xs ++ codes "(") (codes "&s->") (field_name v.fields g))
       (joined (codes "(") (codes "&s->") f refl ◃ field g)
 
-  mutual
-    stmt-free : (margin : ℕ) (s : StmtTree) → IsLawfulStmt reach s → IsFree (stmt_bytes v margin s)
-    stmt-free margin (assign line f e) h =
-        margin-free margin ◃ text-free (codes "s->") refl ◃ field f ◃ text-free (codes " = (") refl
-        ◃ type-free (type_at (field_types v.fields) f) ◃ text-free (codes ")") refl ◃ expr-free e h.1
-        ◃ text-free (ended (codes ";")) refl
-    stmt-free margin (assign_at line f index e) h =
-        margin-free margin ◃ text-free (codes "s->") refl ◃ field f ◃ text-free (codes "[") refl ◃ expr-free index h.1
-        ◃ text-free (codes "] = (") refl ◃ type-free (type_at (field_types v.fields) f) ◃ text-free (codes ")") refl
-        ◃ expr-free e h.2 ◃ text-free (ended (codes ";")) refl
-    stmt-free margin (branch line test on_true on_false) h =
-        margin-free margin ◃ text-free (codes "if ") refl ◃ cond-free test h.0 ◃ text-free (ended (codes " {")) refl
-        ◃ stmts-free (deeper margin) on_true h.1 ◃ else-free margin on_false h.2
-        ◃ margin-free margin ◃ text-free (ended (codes "}")) refl
-    stmt-free margin (call line k target es) h =
-        called-free target (margin-free margin ◃ word-free (procedure_name v.program k) (words.procedures k))
-        ◃ arguments-free (procedure_types v.program k) es h.4 ◃ text-free (ended (codes ");")) refl
+  stored-free : (f : ℕ) (e : ExprTree) → IsLawfulExpr reach e → IsFree (stored_bytes v f e)
+  stored-free f e h = type-free (type_at (field_types v.fields) f) ◃ text-free (codes ")") refl ◃ expr-free e h ◃ text-free (codes ";") refl
 
-    else-free : (margin : ℕ) (ss : StmtTrees) → AreLawfulStmts reach ss → IsFree (else_bytes v margin ss)
-    else-free margin no_stmts h = free-none
-    else-free margin (more_stmts s ss) h =
-        margin-free margin ◃ text-free (ended (codes "} else {")) refl
-        ◃ (stmt-free (deeper margin) s h.0 ◃ stmts-free (deeper margin) ss h.1)
+  store-free : (f : ℕ) (e : ExprTree) → IsLawfulExpr reach e → IsFree (store_bytes v f e)
+  store-free f e h = text-free (codes "s->") refl ◃ field f ◃ text-free (codes " = (") refl ◃ stored-free f e h
 
-    stmts-free : (margin : ℕ) (ss : StmtTrees) → AreLawfulStmts reach ss → IsFree (stmts_bytes v margin ss)
-    stmts-free margin no_stmts h = free-none
-    stmts-free margin (more_stmts s ss) h = stmt-free margin s h.0 ◃ stmts-free margin ss h.1
+  item_store-free : (f : ℕ) (index e : ExprTree) → IsLawfulExpr reach index → IsLawfulExpr reach e → IsFree (item_store_bytes v f index e)
+  item_store-free f index e i h =
+      text-free (codes "s->") refl ◃ field f ◃ text-free (codes "[") refl ◃ expr-free index i ◃ text-free (codes "] = (") refl
+      ◃ stored-free f e h
+
+  call-free : (k : ℕ) (target : Target) (es : ExprTrees) → AreLawfulExprs reach es → IsFree (call_bytes v k target es)
+  call-free k target es h =
+      called-free target (word-free (procedure_name v.program k) (words.procedures k))
+      ◃ arguments-free (procedure_types v.program k) es h ◃ text-free (codes ");") refl
+
+  module _ (notes : List (List ℕ)) where
+    mutual
+      stmt-lines : (margin : ℕ) (s : StmtTree) → IsLawfulStmt reach s → AreLines (noted_stmt_bytes notes v margin s)
+      stmt-lines margin (assign line f e) h = noted-lines margin (note_at notes f) (store_bytes v f e) (store-free f e h.1)
+      stmt-lines margin (assign_at line f index e) h =
+          noted-lines margin (note_at notes f) (item_store_bytes v f index e) (item_store-free f index e h.1 h.2)
+      stmt-lines margin (branch line test on_true on_false) h =
+          at-start (margin-free margin ◃ text-free (codes "if ") refl ◃ cond-free test h.0 ◃ line-free (codes " {") refl)
+          ◃ stmts-lines (deeper margin) on_true h.1 ◃ else-lines margin on_false h.2
+          ◃ at-start (margin-free margin) ◃ line-free (codes "}") refl
+      stmt-lines margin (call line k target es) h =
+          noted-lines margin (target_note notes target) (call_bytes v k target es) (call-free k target es h.4)
+
+      else-lines : (margin : ℕ) (ss : StmtTrees) → AreLawfulStmts reach ss → AreLines (noted_else_bytes notes v margin ss)
+      else-lines margin no_stmts h = free-none
+      else-lines margin (more_stmts s ss) h =
+          at-start (margin-free margin ◃ line-free (codes "} else {") refl)
+          ◃ (stmt-lines (deeper margin) s h.0 ◃ stmts-lines (deeper margin) ss h.1)
+
+      stmts-lines : (margin : ℕ) (ss : StmtTrees) → AreLawfulStmts reach ss → AreLines (noted_stmts_bytes notes v margin ss)
+      stmts-lines margin no_stmts h = free-none
+      stmts-lines margin (more_stmts s ss) h = stmt-lines margin s h.0 ◃ stmts-lines margin ss h.1
 
 -- ---- Declarations
-
-flat-free : {A : Type 0} (bytes : A → List ℕ) (xs : List A) → AllByRecursion (λ x. IsFree (bytes x)) xs → IsFree (flat_map bytes xs)
-flat-free bytes [] all = free-none
-flat-free bytes (x ∷ xs) all = all.0 ◃ flat-free bytes xs all.1
 
 later-params : (names : List (List ℕ)) → AllByRecursion AreWordBytes names → IsFree (later_pure_params_bytes names)
 later-params [] all = free-none
@@ -170,7 +179,7 @@ inner-of ds structs (f ∷ fs) zero g = by f.kind
     by (Struct k) = structs k g
 inner-of ds structs (f ∷ fs) (suc k) g = inner-of ds structs fs k g
 
-module _ (p : ProgramTree) (lawful : IsLawful p) where
+module _ (p : ProgramTree) (lawful : IsLawful p) (notes : Notes) where
   pures-distinct : AreDistinct (pure_names p.pures)
   pures-distinct = AreDistinct-front (pure_names p.pures) (procedure_names p.procedures) lawful.functions
 
@@ -191,16 +200,16 @@ module _ (p : ProgramTree) (lawful : IsLawful p) where
   struct-named : (k : ℕ) → IsFree (struct_name p k)
   struct-named k = word-free (struct_name p k) (named (map (λ d. d.name) p.structs) lawful.struct_names k)
 
-  pures-free : (earlier qs : List PureTree) → ArePures earlier qs → AllByRecursion AreWordBytes (pure_names qs) →
-      IsFree (flat_map (pure_bytes p) qs)
-  pures-free earlier [] h names = free-none
-  pures-free earlier (q ∷ qs) h names =
-      ((text-free (ended []) refl ◃ text-free (codes "static int64_t ") refl ◃ word-free q.name names.0 ◃ text-free (codes "(") refl
-      ◃ pure-params q.params (each-named q.params h.0.params) ◃ text-free (ended (codes ") {")) refl)
-      ◃ text-free (codes "    return ") refl
+  pures-lines : (earlier qs : List PureTree) → ArePures earlier qs → AllByRecursion AreWordBytes (pure_names qs) →
+      AreLines (flat_map (pure_bytes p) qs)
+  pures-lines earlier [] h names = free-none
+  pures-lines earlier (q ∷ qs) h names =
+      ((at-start line-end ◃ at-start (text-free (codes "static int64_t ") refl) ◃ word-free q.name names.0 ◃ text-free (codes "(") refl
+      ◃ pure-params q.params (each-named q.params h.0.params) ◃ line-free (codes ") {") refl)
+      ◃ at-start (text-free (codes "    return ") refl)
       ◃ expr-free (record { program = p; fields = []; params = q.params }) (has-words [] no-fields q.params h.0.params) _ q.body h.0.body
-      ◃ text-free (ended (codes ";")) refl ◃ text-free (ended (codes "}")) refl)
-      ◃ pures-free (earlier ++ q ∷ []) qs h.1 names.1
+      ◃ line-free (codes ";") refl ◃ at-start (line-free (codes "}") refl))
+      ◃ pures-lines (earlier ++ q ∷ []) qs h.1 names.1
 
   kind-free : (kind : FieldKind) → IsFree (kind_bytes p kind)
   kind-free (Number type) = type-free type
@@ -213,21 +222,23 @@ module _ (p : ProgramTree) (lawful : IsLawful p) where
       text-free (codes "[") refl ◃ decimal-free many (let below = h.1 in omega (arith, below)) ◃ text-free (codes "]") refl
   length-free count (Struct k) h = free-none
 
-  fields-free : (count : ℕ) (fs : List FieldTree) → AreDistinct (map (λ f. f.name) fs) → AllByRecursion (λ f. IsLawfulKind count f.kind) fs →
-      IsFree (flat_map (field_bytes p) fs)
-  fields-free count [] names kinds = free-none
-  fields-free count (f ∷ fs) names kinds =
-      (text-free (codes "    ") refl ◃ kind-free f.kind ◃ text-free (codes " ") refl ◃ word-free f.name (name-bytes f.name names.0)
-      ◃ length-free count f.kind kinds.0 ◃ text-free (ended (codes ";")) refl)
-      ◃ fields-free count fs names.2 kinds.1
+  fields-lines : (on : List (List ℕ)) (count k : ℕ) (fs : List FieldTree) → AreDistinct (map (λ f. f.name) fs) →
+      AllByRecursion (λ f. IsLawfulKind count f.kind) fs → AreLines (flat_map (noted_field_bytes p on) (enumerate_from k fs))
+  fields-lines on count k [] names kinds = free-none
+  fields-lines on count k (f ∷ fs) names kinds =
+      noted-lines 4 (note_at on k) (field_bytes p f)
+      (kind-free f.kind ◃ text-free (codes " ") refl ◃ word-free f.name (name-bytes f.name names.0)
+      ◃ length-free count f.kind kinds.0 ◃ text-free (codes ";") refl)
+      ◃ fields-lines on count (k + 1) fs names.2 kinds.1
 
-  structs-free : (count : ℕ) (ds : List StructTree) → AreStructs count ds → AllByRecursion AreWordBytes (map (λ d. d.name) ds) →
-      IsFree (flat_map (struct_bytes p) ds)
-  structs-free count [] h names = free-none
-  structs-free count (d ∷ ds) h names =
-      (text-free (ended []) refl ◃ text-free (codes "struct ") refl ◃ word-free d.name names.0 ◃ text-free (ended (codes " {")) refl
-      ◃ fields-free count d.fields h.0.fields h.0.kinds ◃ text-free (ended (codes "};")) refl)
-      ◃ structs-free (count + 1) ds h.1 names.1
+  structs-lines : (count k : ℕ) (ds : List StructTree) → AreStructs count ds → AllByRecursion AreWordBytes (map (λ d. d.name) ds) →
+      AreLines (flat_map (noted_struct_bytes p notes) (enumerate_from k ds))
+  structs-lines count k [] h names = free-none
+  structs-lines count k (d ∷ ds) h names =
+      (at-start line-end ◃ note-lines 0 (notes_on notes k).above ◃ at-start (text-free (codes "struct ") refl)
+      ◃ word-free d.name names.0 ◃ line-free (codes " {") refl
+      ◃ fields-lines (notes_on notes k).fields count 0 d.fields h.0.fields h.0.kinds ◃ at-start (line-free (codes "};") refl))
+      ◃ structs-lines (count + 1) (k + 1) ds h.1 names.1
 
   private-free : (private : Bool) → IsFree (private_bytes private)
   private-free true = text-free (private_bytes true) refl
@@ -239,27 +250,34 @@ module _ (p : ProgramTree) (lawful : IsLawful p) where
       (text-free (codes ", ") refl ◃ type-free q.type ◃ text-free (codes " ") refl ◃ word-free q.name (name-bytes q.name names.0))
       ◃ params-free qs names.2
 
-  procedures-free : (earlier qs : List ProcedureTree) → AreProcedures p.pures p.structs earlier qs →
-      AllByRecursion AreWordBytes (procedure_names qs) → IsFree (flat_map (procedure_bytes p) qs)
-  procedures-free earlier [] h names = free-none
-  procedures-free earlier (q ∷ qs) h names =
-      ((text-free (ended []) refl ◃ private-free q.private ◃ word-free q.name names.0 ◃ text-free (codes "(struct ") refl
-      ◃ struct-named q.of ◃ text-free (codes " *s") refl ◃ params-free q.params h.0.params ◃ text-free (ended (codes ") {")) refl)
-      ◃ stmts-free (record { program = p; fields = struct_fields p.structs q.of; params = param_names q.params })
-      (has-words (struct_fields p.structs q.of) (struct-fields 0 p.structs lawful.structs q.of) (param_names q.params) h.0.params) _ 4
-      q.body h.0.body
-      ◃ text-free (ended (codes "}")) refl)
-      ◃ procedures-free (earlier ++ q ∷ []) qs h.1 names.1
+  procedures-lines : (earlier : List ProcedureTree) (k : ℕ) (qs : List ProcedureTree) → AreProcedures p.pures p.structs earlier qs →
+      AllByRecursion AreWordBytes (procedure_names qs) → AreLines (flat_map (noted_procedure_bytes p notes) (enumerate_from k qs))
+  procedures-lines earlier k [] h names = free-none
+  procedures-lines earlier k (q ∷ qs) h names =
+      ((at-start line-end ◃ note-lines 0 (note_at notes.procedures k) ◃ at-start (private-free q.private)
+      ◃ word-free q.name names.0 ◃ text-free (codes "(struct ") refl
+      ◃ struct-named q.of ◃ text-free (codes " *s") refl ◃ params-free q.params h.0.params ◃ line-free (codes ") {") refl)
+      ◃ stmts-lines (record { program = p; fields = struct_fields p.structs q.of; params = param_names q.params })
+      (has-words (struct_fields p.structs q.of) (struct-fields 0 p.structs lawful.structs q.of) (param_names q.params) h.0.params) _
+      (notes_on notes q.of).fields 4 q.body h.0.body
+      ◃ at-start (line-free (codes "}") refl))
+      ◃ procedures-lines (earlier ++ q ∷ []) (k + 1) qs h.1 names.1
 
-  behind-header : IsFree (flat_map (pure_bytes p) p.pures ++ flat_map (struct_bytes p) p.structs ++ flat_map (procedure_bytes p) p.procedures)
+  abbrev behind_header : List ℕ
+  behind_header = flat_map (pure_bytes p) p.pures ++ flat_map (noted_struct_bytes p notes) (enumerate_from 0 p.structs)
+      ++ flat_map (noted_procedure_bytes p notes) (enumerate_from 0 p.procedures)
+
+  behind-header : AreLines behind_header
   behind-header =
-      pures-free [] p.pures lawful.pures (each-named (pure_names p.pures) pures-distinct)
-      ◃ structs-free 0 p.structs lawful.structs (each-named (map (λ d. d.name) p.structs) lawful.struct_names)
-      ◃ procedures-free [] p.procedures lawful.procedures (each-named (procedure_names p.procedures) procedures-distinct)
+      pures-lines [] p.pures lawful.pures (each-named (pure_names p.pures) pures-distinct)
+      ◃ structs-lines 0 0 p.structs lawful.structs (each-named (map (λ d. d.name) p.structs) lawful.struct_names)
+      ◃ procedures-lines [] 0 p.procedures lawful.procedures (each-named (procedure_names p.procedures) procedures-distinct)
 
-  pub text-alike : is_alike (program_bytes p) ≡ true
+  -- from the end of the first line on
+  rest-alike : GoesOn 10 behind_header
+  rest-alike = subst (GoesOn 10) (append-nil behind_header) (behind-header.apart [] (at-end 10))
+
+  pub text-alike : is_alike (noted_bytes notes p) ≡ true
   text-alike =
-      let rest : List ℕ = flat_map (pure_bytes p) p.pures ++ flat_map (struct_bytes p) p.structs
-      ++ flat_map (procedure_bytes p) p.procedures in
-      alike 10 35 (codes "include <stdint.h>" ++ 10 ∷ rest) refl
-      (subst (λ t. stands_apart 10 t ≡ true) (append-nil rest) (behind-header.apart 10 [] (λ b. refl)))
+      (goes-on 35 (codes "include <stdint.h>") (10 ∷ behind_header) refl
+      (λ b. one-more b 10 behind_header refl (not-joined b 10 refl) rest-alike)).alike 10 refl

@@ -13,11 +13,14 @@ use Rattle.c_syntax.specs.Names.{is_lower, is_word_byte, is_name, name_at}
 use Rattle.c_grammar.specs.Written.{WrittenLeaf}
 use Rattle.c_grammar.specs.Grammar.{word, at_line, op_text, compare_text, type_text, own_spelling, leaf_spelling, expr_spelling, exprs_spelling, more_exprs_spelling, cond_spelling, target_spelling, arguments_spelling, stmt_spelling, stmts_spelling}
 use Rattle.c_syntax.specs.Lawful.{Reach, IsLawfulLeaf, IsLawfulExpr, AreLawfulExprs, IsLawfulCond, IsLawfulTarget, IsLawfulStmt, AreLawfulStmts, IsNumberAt, IsArrayAt, IsStructAt, exprs_length}
-use Rattle.c_printer.specs.Printing.{Vocabulary, pure_name, procedure_name, procedure_types, field_name, inner_fields, leaf_bytes, expr_bytes, exprs_bytes, later_exprs_bytes, cond_bytes, target_bytes, arguments_bytes, margin_bytes, deeper, ended, stmt_bytes, else_bytes, stmts_bytes}
+use Rattle.c_printer.specs.Lines.{margin_bytes, ended}
+use Rattle.c_printer.specs.Notes.{note_at}
+use Rattle.c_printer.specs.Printing.{Vocabulary, pure_name, procedure_name, procedure_types, field_name, inner_fields, leaf_bytes, expr_bytes, exprs_bytes, later_exprs_bytes, cond_bytes, target_bytes, arguments_bytes, deeper, store_bytes, item_store_bytes, call_bytes, target_note, noted_stmt_bytes, noted_else_bytes, noted_stmts_bytes}
 use Rattle.c_printer.proofs.Lexing.{IsTokenBefore, name-token}
 use Rattle.c_printer.proofs.lemmas.Bytes.{NameParts, name-parts, differs}
 use Rattle.c_printer.proofs.TextReading.{Reads, ◌▸◌, along, ending, reads-nothing, spaced, lined, line_ended, margined, margin_passed, reads-word, reads-line, reads-name, reads-literal, comma, question, colon, dot, semicolon, sign, parens, brackets, braces, op-token, compare-token, cast, own_start}
-use Rattle.c_printer.proofs.PrintedTrees.{written_leaf, written_expr, written_exprs, written_cond, written_target, written_arguments, stmt_lines, stmts_lines, written_stmt, written_stmts}
+use Rattle.c_printer.proofs.NotedLines.{noted-read}
+use Rattle.c_printer.proofs.PrintedTrees.{written_leaf, written_expr, written_exprs, written_cond, written_target, written_arguments, written_store, written_item_store, written_call, Above, stmt_above, stmt_lines, stmts_lines, else_line, written_stmt, written_stmts}
 
 -- each name in a leaf is one
 abbrev pub HasNames : WrittenLeaf → Type 0
@@ -111,14 +114,22 @@ cond-head v (both a b) z = (_, refl)
 cond-head v (either a b) z = (_, refl)
 cond-head v (negated a) z = (_, refl)
 
-stored : (m f t e z : List ℕ) → ((((((m ++ codes "s->") ++ f) ++ codes " = (") ++ t) ++ codes ")") ++ e)
-    ++ ended (codes ";") ++ z ≡ m ++ 115 ∷ 45 ∷ 62 ∷ (f ++ 32 ∷ 61 ∷ 32 ∷ 40 ∷ (t ++ 41 ∷ (e ++ 59 ∷ 10 ∷ z)))
-stored m f t e z = simp append_assoc
+seven : (a f b t c e d z : List ℕ) → (((a ++ f) ++ b) ++ (((t ++ c) ++ e) ++ d)) ++ z
+    ≡ a ++ (f ++ (b ++ (t ++ (c ++ (e ++ (d ++ z))))))
+seven a f b t c e d z = simp append_assoc
 
-stored_at : (m f i t e z : List ℕ) →
-    ((((((((m ++ codes "s->") ++ f) ++ codes "[") ++ i) ++ codes "] = (") ++ t) ++ codes ")") ++ e) ++ ended (codes ";")
-    ++ z ≡ m ++ 115 ∷ 45 ∷ 62 ∷ (f ++ 91 ∷ (i ++ 93 ∷ 32 ∷ 61 ∷ 32 ∷ 40 ∷ (t ++ 41 ∷ (e ++ 59 ∷ 10 ∷ z))))
-stored_at m f i t e z = simp append_assoc
+nine : (a f b i g t c e d z : List ℕ) → (((((a ++ f) ++ b) ++ i) ++ g) ++ (((t ++ c) ++ e) ++ d)) ++ z
+    ≡ a ++ (f ++ (b ++ (i ++ (g ++ (t ++ (c ++ (e ++ (d ++ z))))))))
+nine a f b i g t c e d z = simp append_assoc
+
+stored : (f t e z : List ℕ) → (((codes "s->" ++ f) ++ codes " = (") ++ (((t ++ codes ")") ++ e) ++ codes ";")) ++ z
+    ≡ 115 ∷ 45 ∷ 62 ∷ (f ++ 32 ∷ 61 ∷ 32 ∷ 40 ∷ (t ++ 41 ∷ (e ++ 59 ∷ z)))
+stored f t e z = seven (codes "s->") f (codes " = (") t (codes ")") e (codes ";") z
+
+stored_at : (f i t e z : List ℕ) →
+    (((((codes "s->" ++ f) ++ codes "[") ++ i) ++ codes "] = (") ++ (((t ++ codes ")") ++ e) ++ codes ";")) ++ z
+    ≡ 115 ∷ 45 ∷ 62 ∷ (f ++ 91 ∷ (i ++ 93 ∷ 32 ∷ 61 ∷ 32 ∷ 40 ∷ (t ++ 41 ∷ (e ++ 59 ∷ z))))
+stored_at f i t e z = nine (codes "s->") f (codes "[") i (codes "] = (") t (codes ")") e (codes ";") z
 
 itemed : (n i z : List ℕ) → (((codes "(int64_t)s->" ++ n) ++ codes "[") ++ i) ++ codes "]" ++ z ≡ codes "(int64_t)s->"
     ++ (n ++ 91 ∷ (i ++ 93 ∷ z))
@@ -132,9 +143,8 @@ otherwise : (m s ss z : List ℕ) → ((m ++ ended (codes "} else {")) ++ (s ++ 
     ∷ 101 ∷ 32 ∷ 123 ∷ 10 ∷ (s ++ (ss ++ z))
 otherwise m s ss z = simp append_assoc
 
-invoked : (m n t a z : List ℕ) → ((((m ++ n) ++ codes "(") ++ t) ++ a) ++ ended (codes ");") ++ z ≡ m
-    ++ (n ++ 40 ∷ (t ++ (a ++ 41 ∷ 59 ∷ 10 ∷ z)))
-invoked m n t a z = simp append_assoc
+invoked : (n t a z : List ℕ) → ((((n ++ codes "(") ++ t) ++ a) ++ codes ");") ++ z ≡ n ++ 40 ∷ (t ++ (a ++ 41 ∷ 59 ∷ z))
+invoked n t a z = simp append_assoc
 
 argued : (t e a z : List ℕ) → (((codes ", (" ++ t) ++ codes ")") ++ e ++ a) ++ z ≡ 44 ∷ 32 ∷ 40 ∷ (t ++ 41 ∷ (e ++ (a ++ z)))
 argued t e a z = simp append_assoc
@@ -277,87 +287,110 @@ module _ (v : Vocabulary) (reach : Reach) (speaks : Speaks v reach) where
       (sign comma ▸ spaced (cast t) ▸ expr-read l e (arguments_bytes v types es ++ 41 ∷ z) h.0
       (arguments-ends v types es z) ▸ arguments-read l types es z h.1)
 
-  mutual
-    pub stmt-read : (l margin : ℕ) (s : StmtTree) (rest : List ℕ) → IsLawfulStmt reach s →
-        Reads (stmt_spelling (written_stmt v l s)) l (stmt_bytes v margin s ++ rest) (l + stmt_lines s) rest
-    stmt-read l margin (assign own f e) rest h =
-        let name : List ℕ = field_name v.fields f in
-        let type : CType = type_at (field_types v.fields) f in
-        let behind : List ℕ = name ++ 32 ∷ 61 ∷ 32 ∷ 40 ∷ (type_text type ++ 41 ∷ (expr_bytes v e ++ 59 ∷ 10 ∷ rest)) in
-        along (stored (margin_bytes margin) name (type_text type) (expr_bytes v e) rest)
-        (margined margin
-        (line_ended
-        (reads-line (codes "s") (45 ∷ 62 ∷ behind) (s-token (62 ∷ behind))
-        (reads-word (codes "s") (45 ∷ 62 ∷ behind) (s-token (62 ∷ behind))) ▸ reads-word (codes "->") behind
-        (record { first = 45; later = 62 ∷ []; list = refl; piece = refl; one_line = λ line. refl }) ▸ reads-name
-        name (32 ∷ 61 ∷ 32 ∷ 40 ∷ (type_text type ++ 41 ∷ (expr_bytes v e ++ 59 ∷ 10 ∷ rest)))
-        (speaks.number f h.0) refl ▸ spaced
-        (reads-word (codes "=") (32 ∷ 40 ∷ (type_text type ++ 41 ∷ (expr_bytes v e ++ 59 ∷ 10 ∷ rest)))
-        (record { first = 61; later = []; list = refl; piece = refl; one_line = λ line. refl })) ▸ spaced
-        (cast type) ▸ expr-read l e (59 ∷ 10 ∷ rest) h.1 refl ▸ sign semicolon)))
-    stmt-read l margin (assign_at own f index e) rest h =
-        let name : List ℕ = field_name v.fields f in
-        let type : CType = type_at (field_types v.fields) f in
-        let value : List ℕ = 32 ∷ 40 ∷ (type_text type ++ 41 ∷ (expr_bytes v e ++ 59 ∷ 10 ∷ rest)) in
-        let behind : List ℕ = 91 ∷ (expr_bytes v index ++ 93 ∷ 32 ∷ 61 ∷ value) in
-        along (stored_at (margin_bytes margin) name (expr_bytes v index) (type_text type) (expr_bytes v e) rest)
-        (margined margin
-        (line_ended
-        (own_line-read l name behind (speaks.array f h.0) refl ▸ brackets
-        (expr-read l index (93 ∷ 32 ∷ 61 ∷ value) h.1 refl) ▸ spaced
-        (reads-word (codes "=") value
-        (record { first = 61; later = []; list = refl; piece = refl; one_line = λ line. refl })) ▸ spaced
-        (cast type) ▸ expr-read l e (59 ∷ 10 ∷ rest) h.2 refl ▸ sign semicolon)))
-    stmt-read l margin (branch own test on_true no_stmts) rest h =
-        let close : List ℕ = margin_bytes margin ++ 125 ∷ 10 ∷ rest in
-        let block : List ℕ = stmts_bytes v (deeper margin) on_true ++ close in
-        along (tested (margin_bytes margin) (cond_bytes v test) (stmts_bytes v (deeper margin) on_true) [] rest)
-        (margined margin
-        (ending (omega arith)
-        (line_ended
-        (if-read l (cond_bytes v test ++ 32 ∷ 123 ∷ 10 ∷ block) ▸ spaced
-        (cond-read l test (32 ∷ 123 ∷ 10 ∷ block) h.0) ▸ spaced
-        (braces (lined (margin_passed margin (stmts-read (l + 1) (deeper margin) on_true close h.1))))))))
-    stmt-read l margin (branch own test on_true (more_stmts s ss)) rest h =
-        let close : List ℕ = margin_bytes margin ++ 125 ∷ 10 ∷ rest in
-        let k : ℕ = l + 1 + stmts_lines on_true + 1 in
-        let second : List ℕ = stmt_bytes v (deeper margin) s ++ (stmts_bytes v (deeper margin) ss ++ close) in
-        let middle : List ℕ = margin_bytes margin ++ 125 ∷ 32 ∷ 101 ∷ 108 ∷ 115 ∷ 101 ∷ 32 ∷ 123 ∷ 10 ∷ second in
-        let block : List ℕ = stmts_bytes v (deeper margin) on_true ++ middle in
-        along (tested (margin_bytes margin) (cond_bytes v test) (stmts_bytes v (deeper margin) on_true)
-        (else_bytes v margin (more_stmts s ss)) rest
-        ∙ ap (λ x. margin_bytes margin ++ 105 ∷ 102 ∷ 32
-        ∷ (cond_bytes v test ++ 32 ∷ 123 ∷ 10 ∷ (stmts_bytes v (deeper margin) on_true ++ x)))
-        (otherwise (margin_bytes margin) (stmt_bytes v (deeper margin) s) (stmts_bytes v (deeper margin) ss) close))
-        (margined margin
-        (ending (omega arith)
-        (line_ended
-        (if-read l (cond_bytes v test ++ 32 ∷ 123 ∷ 10 ∷ block) ▸ spaced
-        (cond-read l test (32 ∷ 123 ∷ 10 ∷ block) h.0) ▸ spaced
-        (braces (lined (margin_passed margin (stmts-read (l + 1) (deeper margin) on_true middle h.1)))) ▸ spaced
-        (reads-word (codes "else") (32 ∷ 123 ∷ 10 ∷ second)
-        (record { first = 101; later = codes "lse"; list = refl; piece = refl; one_line = λ line. refl })) ▸ spaced
-        (braces (lined
-        (margin_passed margin
-        (stmt-read k (deeper margin) s (stmts_bytes v (deeper margin) ss ++ close) h.2.0 ▸ stmts-read
-        (k + stmt_lines s) (deeper margin) ss close h.2.1))))))))
-    stmt-read l margin (call own k target es) rest h =
-        let name : List ℕ = procedure_name v.program k in
-        let named : is_name name ≡ true = (speaks.procedure k h.0 h.1).0 in
-        let types : List CType = procedure_types v.program k in
-        let arguments : List ℕ = arguments_bytes v types es ++ 41 ∷ 59 ∷ 10 ∷ rest in
-        let behind : List ℕ = 40 ∷ (target_bytes v target ++ arguments) in
-        along (invoked (margin_bytes margin) name (target_bytes v target) (arguments_bytes v types es) rest)
-        (margined margin
-        (line_ended
-        (reads-line name behind (name-token name behind named refl) (reads-name name behind named refl) ▸ parens
-        (target-read l target h.0.of arguments h.2 (arguments-ends v types es (59 ∷ 10 ∷ rest)) ▸ arguments-read l
-        types es (59 ∷ 10 ∷ rest) h.4) ▸ sign semicolon)))
+  -- stores and calls, whatever follows them
+  store-read : (f : ℕ) (e : ExprTree) → is_name (field_name v.fields f) ≡ true → IsLawfulExpr reach e → (l : ℕ) (z : List ℕ) →
+      Reads (stmt_spelling (written_store v l f e)) l (store_bytes v f e ++ z) l z
+  store-read f e named h l z =
+      let name : List ℕ = field_name v.fields f in
+      let type : CType = type_at (field_types v.fields) f in
+      let value : List ℕ = 32 ∷ 40 ∷ (type_text type ++ 41 ∷ (expr_bytes v e ++ 59 ∷ z)) in
+      let behind : List ℕ = name ++ 32 ∷ 61 ∷ value in
+      along (stored name (type_text type) (expr_bytes v e) z)
+      (reads-line (codes "s") (45 ∷ 62 ∷ behind) (s-token (62 ∷ behind))
+      (reads-word (codes "s") (45 ∷ 62 ∷ behind) (s-token (62 ∷ behind))) ▸ reads-word (codes "->") behind
+      (record { first = 45; later = 62 ∷ []; list = refl; piece = refl; one_line = λ line. refl }) ▸ reads-name
+      name (32 ∷ 61 ∷ value) named refl ▸ spaced
+      (reads-word (codes "=") value
+      (record { first = 61; later = []; list = refl; piece = refl; one_line = λ line. refl })) ▸ spaced
+      (cast type) ▸ expr-read l e (59 ∷ z) h refl ▸ sign semicolon)
 
-    pub stmts-read : (l margin : ℕ) (ss : StmtTrees) (rest : List ℕ) → AreLawfulStmts reach ss →
-        Reads (stmts_spelling (written_stmts v l ss)) l (stmts_bytes v margin ss ++ rest) (l + stmts_lines ss) rest
-    stmts-read l margin no_stmts rest h = ending (omega arith) reads-nothing
-    stmts-read l margin (more_stmts s ss) rest h =
-        along (around (stmt_bytes v margin s) (stmts_bytes v margin ss) rest)
-        (ending (omega arith) (stmt-read l margin s (stmts_bytes v margin ss ++ rest) h.0 ▸ stmts-read
-        (l + stmt_lines s) margin ss rest h.1))
+  item_store-read : (f : ℕ) (index e : ExprTree) → is_name (field_name v.fields f) ≡ true → IsLawfulExpr reach index →
+      IsLawfulExpr reach e → (l : ℕ) (z : List ℕ) →
+      Reads (stmt_spelling (written_item_store v l f index e)) l (item_store_bytes v f index e ++ z) l z
+  item_store-read f index e named i h l z =
+      let name : List ℕ = field_name v.fields f in
+      let type : CType = type_at (field_types v.fields) f in
+      let value : List ℕ = 32 ∷ 40 ∷ (type_text type ++ 41 ∷ (expr_bytes v e ++ 59 ∷ z)) in
+      let behind : List ℕ = 91 ∷ (expr_bytes v index ++ 93 ∷ 32 ∷ 61 ∷ value) in
+      along (stored_at name (expr_bytes v index) (type_text type) (expr_bytes v e) z)
+      (own_line-read l name behind named refl ▸ brackets
+      (expr-read l index (93 ∷ 32 ∷ 61 ∷ value) i refl) ▸ spaced
+      (reads-word (codes "=") value
+      (record { first = 61; later = []; list = refl; piece = refl; one_line = λ line. refl })) ▸ spaced
+      (cast type) ▸ expr-read l e (59 ∷ z) h refl ▸ sign semicolon)
+
+  call-read : (k of : ℕ) (target : Target) (es : ExprTrees) → is_name (procedure_name v.program k) ≡ true →
+      IsLawfulTarget reach target of → AreLawfulExprs reach es → (l : ℕ) (z : List ℕ) →
+      Reads (stmt_spelling (written_call v l k target es)) l (call_bytes v k target es ++ z) l z
+  call-read k of target es named on h l z =
+      let name : List ℕ = procedure_name v.program k in
+      let types : List CType = procedure_types v.program k in
+      let arguments : List ℕ = arguments_bytes v types es ++ 41 ∷ 59 ∷ z in
+      let behind : List ℕ = 40 ∷ (target_bytes v target ++ arguments) in
+      along (invoked name (target_bytes v target) (arguments_bytes v types es) z)
+      (reads-line name behind (name-token name behind named refl) (reads-name name behind named refl) ▸ parens
+      (target-read l target of arguments on (arguments-ends v types es (59 ∷ z)) ▸ arguments-read l
+      types es (59 ∷ z) h) ▸ sign semicolon)
+
+  module _ (notes : List (List ℕ)) where
+    abbrev above : Above
+    above = stmt_above notes v
+
+    mutual
+      pub stmt-read : (l margin : ℕ) (s : StmtTree) (rest : List ℕ) → IsLawfulStmt reach s →
+          Reads (stmt_spelling (written_stmt above v margin l s)) l (noted_stmt_bytes notes v margin s ++ rest)
+          (l + stmt_lines above margin s) rest
+      stmt-read l margin (assign own f e) rest h =
+          ending (omega arith)
+          (noted-read (λ k. stmt_spelling (written_store v k f e)) margin (store_bytes v f e)
+          (store-read f e (speaks.number f h.0) h.1) (note_at notes f) l rest)
+      stmt-read l margin (assign_at own f index e) rest h =
+          ending (omega arith)
+          (noted-read (λ k. stmt_spelling (written_item_store v k f index e)) margin (item_store_bytes v f index e)
+          (item_store-read f index e (speaks.array f h.0) h.1 h.2) (note_at notes f) l rest)
+      stmt-read l margin (branch own test on_true no_stmts) rest h =
+          let close : List ℕ = margin_bytes margin ++ 125 ∷ 10 ∷ rest in
+          let first : List ℕ = noted_stmts_bytes notes v (deeper margin) on_true in
+          along (tested (margin_bytes margin) (cond_bytes v test) first [] rest)
+          (margined margin
+          (ending (omega arith)
+          (line_ended
+          (if-read l (cond_bytes v test ++ 32 ∷ 123 ∷ 10 ∷ (first ++ close)) ▸ spaced
+          (cond-read l test (32 ∷ 123 ∷ 10 ∷ (first ++ close)) h.0) ▸ spaced
+          (braces (lined (margin_passed margin (stmts-read (l + 1) (deeper margin) on_true close h.1))))))))
+      stmt-read l margin (branch own test on_true (more_stmts s ss)) rest h =
+          let close : List ℕ = margin_bytes margin ++ 125 ∷ 10 ∷ rest in
+          let k : ℕ = else_line above margin l on_true in
+          let one : List ℕ = noted_stmt_bytes notes v (deeper margin) s in
+          let later : List ℕ = noted_stmts_bytes notes v (deeper margin) ss in
+          let second : List ℕ = one ++ (later ++ close) in
+          let middle : List ℕ = margin_bytes margin ++ 125 ∷ 32 ∷ 101 ∷ 108 ∷ 115 ∷ 101 ∷ 32 ∷ 123 ∷ 10 ∷ second in
+          let first : List ℕ = noted_stmts_bytes notes v (deeper margin) on_true in
+          along (tested (margin_bytes margin) (cond_bytes v test) first (noted_else_bytes notes v margin (more_stmts s ss)) rest
+          ∙ ap (λ x. margin_bytes margin ++ 105 ∷ 102 ∷ 32 ∷ (cond_bytes v test ++ 32 ∷ 123 ∷ 10 ∷ (first ++ x)))
+          (otherwise (margin_bytes margin) one later close))
+          (margined margin
+          (ending (omega arith)
+          (line_ended
+          (if-read l (cond_bytes v test ++ 32 ∷ 123 ∷ 10 ∷ (first ++ middle)) ▸ spaced
+          (cond-read l test (32 ∷ 123 ∷ 10 ∷ (first ++ middle)) h.0) ▸ spaced
+          (braces (lined (margin_passed margin (stmts-read (l + 1) (deeper margin) on_true middle h.1)))) ▸ spaced
+          (reads-word (codes "else") (32 ∷ 123 ∷ 10 ∷ second)
+          (record { first = 101; later = codes "lse"; list = refl; piece = refl; one_line = λ line. refl })) ▸ spaced
+          (braces (lined
+          (margin_passed margin
+          (stmt-read k (deeper margin) s (later ++ close) h.2.0 ▸ stmts-read
+          (k + stmt_lines above (deeper margin) s) (deeper margin) ss close h.2.1))))))))
+      stmt-read l margin (call own k target es) rest h =
+          ending (omega arith)
+          (noted-read (λ j. stmt_spelling (written_call v j k target es)) margin (call_bytes v k target es)
+          (call-read k h.0.of target es (speaks.procedure k h.0 h.1).0 h.2 h.4) (target_note notes target) l rest)
+
+      pub stmts-read : (l margin : ℕ) (ss : StmtTrees) (rest : List ℕ) → AreLawfulStmts reach ss →
+          Reads (stmts_spelling (written_stmts above v margin l ss)) l (noted_stmts_bytes notes v margin ss ++ rest)
+          (l + stmts_lines above margin ss) rest
+      stmts-read l margin no_stmts rest h = ending (omega arith) reads-nothing
+      stmts-read l margin (more_stmts s ss) rest h =
+          along (around (noted_stmt_bytes notes v margin s) (noted_stmts_bytes notes v margin ss) rest)
+          (ending (omega arith) (stmt-read l margin s (noted_stmts_bytes notes v margin ss ++ rest) h.0 ▸ stmts-read
+          (l + stmt_lines above margin s) margin ss rest h.1))

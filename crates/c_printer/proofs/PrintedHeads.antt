@@ -1,31 +1,35 @@
 -- The texts of definitions spell what they are printed from.
 use Rattle.std.proofs.Common.{◌≡◌, refl, ap, ℕ, ◌+◌, ◌<◌, List, [], ◌∷◌, ◌++◌, length, map, Bool, true, false, codes, decimal, arith}
-use Rattle.std.specs.List.{flat_map}
+use Rattle.std.specs.List.{flat_map, enumerate_from}
 use Rattle.std.proofs.lemmas.List.{append_assoc}
 use Rattle.base_core.specs.Numbers.{reported_number}
 use Rattle.c_syntax.specs.declared.code.CType.TheVariants.{I64}
 use Rattle.c_syntax.specs.declared.program.FieldKind.{FieldKind}
 use Rattle.c_syntax.specs.declared.program.FieldKind.TheVariants.{Number, Array, Struct}
-use Rattle.c_syntax.specs.Tree.{FieldTree, StructTree, struct_fields, PureTree, ParamTree, ProcedureTree, ProgramTree}
+use Rattle.c_syntax.specs.Tree.{FieldTree, StructTree, PureTree, ParamTree, ProcedureTree, ProgramTree}
 use Rattle.c_syntax.specs.Names.{is_name}
 use Rattle.c_grammar.specs.Grammar.{at_line, type_text, more_params_spelling, pure_param_spelling, more_pure_params_spelling, pure_params_spelling, pure_spelling, kind_spelling, length_spelling, field_spelling, all_spelling, some_spelling, struct_spelling, private_spelling, procedure_spelling}
 use Rattle.c_syntax.specs.Lawful.{Reach, IsLawfulExpr, AreLawfulStmts, AreDistinct, IsLawfulKind}
-use Rattle.c_printer.specs.Printing.{Vocabulary, struct_name, later_pure_params_bytes, pure_params_bytes, pure_bytes, kind_bytes, length_bytes, field_bytes, struct_bytes, private_bytes, param_bytes, procedure_bytes, expr_bytes, stmts_bytes, ended}
+use Rattle.c_printer.specs.Lines.{ended, note_line}
+use Rattle.c_printer.specs.Notes.{Notes, note_at, notes_on}
+use Rattle.c_printer.specs.Printing.{struct_name, later_pure_params_bytes, pure_params_bytes, pure_bytes, kind_bytes, length_bytes, field_bytes, noted_field_bytes, noted_struct_bytes, private_bytes, param_bytes, noted_procedure_bytes, expr_bytes, noted_stmts_bytes, Vocabulary}
 use Rattle.c_printer.proofs.Lexing.{IsTokenBefore}
 use Rattle.c_printer.proofs.TextReading.{Reads, ◌▸◌, along, ending, reads-nothing, spaced, lined, line_ended, reads-word, reads-line, reads-name, reads-literal, comma, semicolon, star, sign, parens, brackets, braces, type-token_space}
-use Rattle.c_printer.proofs.PrintedTrees.{written_pure, written_kind, written_fields, written_struct, struct_lines, written_param, written_procedure, procedure_lines, pure_lines}
+use Rattle.c_printer.proofs.NotedLines.{note-read, noted-read}
+use Rattle.c_printer.proofs.PrintedTrees.{written_pure, written_kind, field_above, written_fields, fields_lines, head_line, written_struct, struct_lines, written_param, body_vocabulary, written_procedure, procedure_lines, pure_lines}
 use Rattle.c_printer.proofs.PrintedBodies.{Speaks, Ends, s-ends, expr-read, stmts-read}
 
 -- texts one behind the other
-five : (a b c d e z : List ℕ) → ((((a ++ b) ++ c) ++ d) ++ e) ++ z ≡ a ++ (b ++ (c ++ (d ++ (e ++ z))))
-five a b c d e z = simp append_assoc
-
-seven : (a b c d e f g z : List ℕ) → ((((((a ++ b) ++ c) ++ d) ++ e) ++ f) ++ g) ++ z ≡ a ++ (b ++ (c ++ (d ++ (e ++ (f ++ (g ++ z))))))
-seven a b c d e f g z = simp append_assoc
+six : (a b c d e f z : List ℕ) → (((((a ++ b) ++ c) ++ d) ++ e) ++ f) ++ z ≡ a ++ (b ++ (c ++ (d ++ (e ++ (f ++ z)))))
+six a b c d e f z = simp append_assoc
 
 nine : (a b c d e f g h i z : List ℕ) → ((((((((a ++ b) ++ c) ++ d) ++ e) ++ f) ++ g) ++ h) ++ i) ++ z ≡ a
     ++ (b ++ (c ++ (d ++ (e ++ (f ++ (g ++ (h ++ (i ++ z))))))))
 nine a b c d e f g h i z = simp append_assoc
+
+ten : (a b c d e f g h i j z : List ℕ) → (((((((((a ++ b) ++ c) ++ d) ++ e) ++ f) ++ g) ++ h) ++ i) ++ j) ++ z ≡ a
+    ++ (b ++ (c ++ (d ++ (e ++ (f ++ (g ++ (h ++ (i ++ (j ++ z)))))))))
+ten a b c d e f g h i j z = simp append_assoc
 
 static-token : (rest : List ℕ) → IsTokenBefore (codes "static") (32 ∷ rest)
 static-token rest = record { first = 115; later = codes "tatic"; list = refl; piece = refl; one_line = λ line. refl }
@@ -142,59 +146,69 @@ length-ends (Number type) rest = refl
 length-ends (Array type many) rest = refl
 length-ends (Struct k) rest = refl
 
-field_shape : (k n m f z : List ℕ) → ((((((codes "    " ++ k) ++ codes " ") ++ n) ++ m) ++ ended (codes ";")) ++ f)
-    ++ z ≡ 32 ∷ 32 ∷ 32 ∷ 32 ∷ (k ++ 32 ∷ (n ++ (m ++ 59 ∷ 10 ∷ (f ++ z))))
-field_shape k n m f z = seven (codes "    ") k (codes " ") n m (ended (codes ";")) f z
+field_shape : (k n m z : List ℕ) → ((((k ++ codes " ") ++ n) ++ m) ++ codes ";") ++ z ≡ k ++ 32 ∷ (n ++ (m ++ 59 ∷ z))
+field_shape k n m z = simp append_assoc
 
 -- each field's kind, where the structs that it may name are the program's
 abbrev pub AreKinds : ℕ → List FieldTree → Type 0
 AreKinds count [] = Unit {0}
 AreKinds count (f ∷ fs) = IsLawfulKind count f.kind × AreKinds count fs
 
-fields-read : (p : ProgramTree) (l : ℕ) (fs : List FieldTree) (rest : List ℕ) →
-    ((k : ℕ) → k < length p.structs → is_name (struct_name p k) ≡ true) → AreDistinct (map (λ f. f.name) fs) →
-    AreKinds (length p.structs) fs →
-    Reads (all_spelling field_spelling (written_fields p l fs)) l (flat_map (field_bytes p) fs ++ rest)
-    (l + length fs) rest
-fields-read p l [] rest named distinct kinds = ending (omega arith) reads-nothing
-fields-read p l (f ∷ fs) rest named distinct kinds =
-    let later : List ℕ = flat_map (field_bytes p) fs ++ rest in
-    along (field_shape (kind_bytes p f.kind) f.name (length_bytes f.kind) (flat_map (field_bytes p) fs) rest)
-    (ending (omega arith)
-    (spaced (spaced
-    (spaced (spaced
-    (line_ended (kind-read p l f.kind (f.name ++ (length_bytes f.kind ++ 59 ∷ 10 ∷ later)) named kinds.0 ▸ spaced
-    (reads-name f.name (length_bytes f.kind ++ 59 ∷ 10 ∷ later) distinct.0 (length-ends f.kind (10 ∷ later))) ▸
-    length-read p l (length p.structs) f.kind (10 ∷ later) kinds.0 ▸ sign semicolon))))) ▸ fields-read p
-    (l + 1) fs rest named distinct.2 kinds.1))
+module _ (p : ProgramTree) (named : (k : ℕ) → k < length p.structs → is_name (struct_name p k) ≡ true) where
+  -- a declaration, whatever follows it
+  field-read : (f : FieldTree) → is_name f.name ≡ true → IsLawfulKind (length p.structs) f.kind → (l : ℕ) (z : List ℕ) →
+      Reads (field_spelling (record { line = reported_number l; kind = written_kind p f.kind; name = f.name })) l
+      (field_bytes p f ++ z) l z
+  field-read f name kind l z =
+      along (field_shape (kind_bytes p f.kind) f.name (length_bytes f.kind) z)
+      (kind-read p l f.kind (f.name ++ (length_bytes f.kind ++ 59 ∷ z)) named kind ▸ spaced
+      (reads-name f.name (length_bytes f.kind ++ 59 ∷ z) name (length-ends f.kind z)) ▸
+      length-read p l (length p.structs) f.kind z kind ▸ sign semicolon)
 
-some_fields-read : (p : ProgramTree) (l : ℕ) (fs : List FieldTree) (rest : List ℕ) → 0 < length fs →
-    ((k : ℕ) → k < length p.structs → is_name (struct_name p k) ≡ true) → AreDistinct (map (λ f. f.name) fs) →
-    AreKinds (length p.structs) fs →
-    Reads (some_spelling field_spelling (written_fields p l fs)) l (flat_map (field_bytes p) fs ++ rest)
-    (l + length fs) rest
-some_fields-read p l [] rest some named distinct kinds = absurd (omega (arith, some))
-some_fields-read p l (f ∷ fs) rest some named distinct kinds = record { is = (fields-read p l (f ∷ fs) rest named distinct kinds).is }
+  module _ (on : List (List ℕ)) where
+    fields-read : (k l : ℕ) (fs : List FieldTree) (rest : List ℕ) → AreDistinct (map (λ f. f.name) fs) →
+        AreKinds (length p.structs) fs →
+        Reads (all_spelling field_spelling (written_fields p on k l fs)) l
+        (flat_map (noted_field_bytes p on) (enumerate_from k fs) ++ rest) (l + fields_lines p on k fs) rest
+    fields-read k l [] rest distinct kinds = ending (omega arith) reads-nothing
+    fields-read k l (f ∷ fs) rest distinct kinds =
+        let later : List ℕ = flat_map (noted_field_bytes p on) (enumerate_from (k + 1) fs) in
+        along (append_assoc (noted_field_bytes p on (k, f)) later rest)
+        (ending (omega arith)
+        (noted-read (λ n. field_spelling (record { line = reported_number n; kind = written_kind p f.kind; name = f.name }))
+        4 (field_bytes p f) (field-read f distinct.0 kinds.0) (note_at on k) l (later ++ rest) ▸ fields-read (k + 1)
+        (l + field_above p on k f + 1) fs rest distinct.2 kinds.1))
 
-struct_shape : (n f z : List ℕ) → ((((ended [] ++ codes "struct ") ++ n) ++ ended (codes " {")) ++ f)
-    ++ ended (codes "};") ++ z ≡ 10 ∷ (codes "struct" ++ 32 ∷ (n ++ 32 ∷ 123 ∷ 10 ∷ (f ++ 125 ∷ 59 ∷ 10 ∷ z)))
-struct_shape n f z = five (ended [] ++ codes "struct ") n (ended (codes " {")) f (ended (codes "};")) z
+    some_fields-read : (k l : ℕ) (fs : List FieldTree) (rest : List ℕ) → 0 < length fs → AreDistinct (map (λ f. f.name) fs) →
+        AreKinds (length p.structs) fs →
+        Reads (some_spelling field_spelling (written_fields p on k l fs)) l
+        (flat_map (noted_field_bytes p on) (enumerate_from k fs) ++ rest) (l + fields_lines p on k fs) rest
+    some_fields-read k l [] rest some distinct kinds = absurd (omega (arith, some))
+    some_fields-read k l (f ∷ fs) rest some distinct kinds = record { is = (fields-read k l (f ∷ fs) rest distinct kinds).is }
 
-pub struct-read : (p : ProgramTree) (d : StructTree) →
+struct_shape : (a n f z : List ℕ) → (((((ended [] ++ a) ++ codes "struct ") ++ n) ++ ended (codes " {")) ++ f)
+    ++ ended (codes "};") ++ z ≡ 10 ∷ (a ++ (codes "struct" ++ 32 ∷ (n ++ 32 ∷ 123 ∷ 10 ∷ (f ++ 125 ∷ 59 ∷ 10 ∷ z))))
+struct_shape a n f z = six (ended [] ++ a) (codes "struct ") n (ended (codes " {")) f (ended (codes "};")) z
+
+pub struct-read : (p : ProgramTree) (notes : Notes) (d : StructTree) →
     ((k : ℕ) → k < length p.structs → is_name (struct_name p k) ≡ true) → is_name d.name ≡ true → 0 < length d.fields →
-    AreDistinct (map (λ f. f.name) d.fields) → AreKinds (length p.structs) d.fields → (l : ℕ) (rest : List ℕ) →
-    Reads (struct_spelling (written_struct p l d)) l (struct_bytes p d ++ rest) (l + struct_lines d) rest
-struct-read p d named name some distinct kinds l rest =
-    let fields : List ℕ = flat_map (field_bytes p) d.fields in
+    AreDistinct (map (λ f. f.name) d.fields) → AreKinds (length p.structs) d.fields → (k l : ℕ) (rest : List ℕ) →
+    Reads (struct_spelling (written_struct p notes k l d)) l (noted_struct_bytes p notes (k, d) ++ rest)
+    (l + struct_lines p notes k d) rest
+struct-read p notes d named name some distinct kinds k l rest =
+    let above : List ℕ = (notes_on notes k).above in
+    let on : List (List ℕ) = (notes_on notes k).fields in
+    let head : ℕ = head_line above l in
+    let fields : List ℕ = flat_map (noted_field_bytes p on) (enumerate_from 0 d.fields) in
     let behind_name : List ℕ = 32 ∷ 123 ∷ 10 ∷ (fields ++ 125 ∷ 59 ∷ 10 ∷ rest) in
-    along (struct_shape d.name fields rest)
+    along (struct_shape (note_line 0 above) d.name fields rest)
     (ending (omega arith)
-    (lined (line_ended
+    (lined (note-read above (line_ended
     (reads-line (codes "struct") (32 ∷ (d.name ++ behind_name)) (struct-token (d.name ++ behind_name))
     (reads-word (codes "struct") (32 ∷ (d.name ++ behind_name)) (struct-token (d.name ++ behind_name))) ▸ spaced
     (reads-name d.name behind_name name refl) ▸ spaced
-    (braces (lined (some_fields-read p (l + 1 + 1) d.fields (125 ∷ 59 ∷ 10 ∷ rest) some named distinct kinds))) ▸
-    sign semicolon))))
+    (braces (lined (some_fields-read p named on 0 (head + 1) d.fields (125 ∷ 59 ∷ 10 ∷ rest) some distinct kinds))) ▸
+    sign semicolon)))))
 
 -- `static void` or `void`, with its line
 private-read : (private : Bool) (l : ℕ) (rest : List ℕ) →
@@ -225,31 +239,36 @@ params-read l (q ∷ qs) z h =
     (reads-word (type_text q.type) (32 ∷ (q.name ++ later)) (type-token_space q.type (q.name ++ later))) ▸ spaced
     (reads-name q.name later h.0 (params-ends qs z))) ▸ params-read l qs z h.2)
 
-procedure_shape : (r n o p b z : List ℕ) →
-    ((((((((ended [] ++ r) ++ n) ++ codes "(struct ") ++ o) ++ codes " *s") ++ p) ++ ended (codes ") {")) ++ b)
+procedure_shape : (a r n o p b z : List ℕ) →
+    (((((((((ended [] ++ a) ++ r) ++ n) ++ codes "(struct ") ++ o) ++ codes " *s") ++ p) ++ ended (codes ") {")) ++ b)
     ++ ended (codes "}") ++ z
-    ≡ 10 ∷ (r
-    ++ (n ++ 40 ∷ (codes "struct" ++ 32 ∷ (o ++ 32 ∷ 42 ∷ 115 ∷ (p ++ 41 ∷ 32 ∷ 123 ∷ 10 ∷ (b ++ 125 ∷ 10 ∷ z))))))
-procedure_shape r n o p b z = nine (ended [] ++ r) n (codes "(struct ") o (codes " *s") p (ended (codes ") {")) b (ended (codes "}")) z
+    ≡ 10 ∷ (a ++ (r
+    ++ (n ++ 40 ∷ (codes "struct" ++ 32 ∷ (o ++ 32 ∷ 42 ∷ 115 ∷ (p ++ 41 ∷ 32 ∷ 123 ∷ 10 ∷ (b ++ 125 ∷ 10 ∷ z)))))))
+procedure_shape a r n o p b z =
+    ten (ended [] ++ a) r n (codes "(struct ") o (codes " *s") p (ended (codes ") {")) b (ended (codes "}")) z
 
-pub procedure-read : (p : ProgramTree) (reach : Reach) (q : ProcedureTree) →
-    Speaks (record { program = p; fields = struct_fields p.structs q.of; params = map (λ x. x.name) q.params }) reach →
+pub procedure-read : (p : ProgramTree) (notes : Notes) (reach : Reach) (q : ProcedureTree) → Speaks (body_vocabulary p q) reach →
     is_name q.name ≡ true → is_name (struct_name p q.of) ≡ true → AreDistinct (map (λ x. x.name) q.params) →
-    AreLawfulStmts reach q.body → (l : ℕ) (rest : List ℕ) →
-    Reads (procedure_spelling (written_procedure p l q)) l (procedure_bytes p q ++ rest) (l + procedure_lines q) rest
-procedure-read p reach q speaks named of distinct body l rest =
-    let v : Vocabulary = record { program = p; fields = struct_fields p.structs q.of; params = map (λ x. x.name) q.params } in
-    let b : List ℕ = stmts_bytes v 4 q.body in
+    AreLawfulStmts reach q.body → (k l : ℕ) (rest : List ℕ) →
+    Reads (procedure_spelling (written_procedure p notes k l q)) l (noted_procedure_bytes p notes (k, q) ++ rest)
+    (l + procedure_lines p notes k q) rest
+procedure-read p notes reach q speaks named of distinct body k l rest =
+    let above : List ℕ = note_at notes.procedures k in
+    let on : List (List ℕ) = (notes_on notes q.of).fields in
+    let head : ℕ = head_line above l in
+    let v : Vocabulary = body_vocabulary p q in
+    let b : List ℕ = noted_stmts_bytes on v 4 q.body in
     let behind_params : List ℕ = 32 ∷ 123 ∷ 10 ∷ (b ++ 125 ∷ 10 ∷ rest) in
     let behind_of : List ℕ = 32 ∷ 42 ∷ 115 ∷ (flat_map param_bytes q.params ++ 41 ∷ behind_params) in
     let behind_name : List ℕ = 40 ∷ (codes "struct" ++ 32 ∷ (struct_name p q.of ++ behind_of)) in
-    along (procedure_shape (private_bytes q.private) q.name (struct_name p q.of) (flat_map param_bytes q.params) b rest)
+    along (procedure_shape (note_line 0 above) (private_bytes q.private) q.name (struct_name p q.of)
+    (flat_map param_bytes q.params) b rest)
     (ending (omega arith)
-    (lined (line_ended
-    (private-read q.private (l + 1) (q.name ++ behind_name) ▸ spaced (reads-name q.name behind_name named refl) ▸
+    (lined (note-read above (line_ended
+    (private-read q.private head (q.name ++ behind_name) ▸ spaced (reads-name q.name behind_name named refl) ▸
     parens (reads-word (codes "struct") (32 ∷ (struct_name p q.of ++ behind_of))
     (struct-token (struct_name p q.of ++ behind_of)) ▸ spaced (reads-name (struct_name p q.of) behind_of of refl) ▸
     spaced (sign star) ▸ reads-word (codes "s") (flat_map param_bytes q.params ++ 41 ∷ behind_params)
     (s-ends (flat_map param_bytes q.params ++ 41 ∷ behind_params) (params-ends q.params behind_params)) ▸
-    params-read (l + 1) q.params behind_params distinct) ▸ spaced
-    (braces (lined (stmts-read v reach speaks (l + 1 + 1) 4 q.body (125 ∷ 10 ∷ rest) body)))))))
+    params-read head q.params behind_params distinct) ▸ spaced
+    (braces (lined (stmts-read v reach speaks on (head + 1) 4 q.body (125 ∷ 10 ∷ rest) body))))))))

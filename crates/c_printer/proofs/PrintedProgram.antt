@@ -1,6 +1,6 @@
 -- The text of a lawful program spells it.
 use Rattle.std.proofs.Common.{◌≡◌, refl, sym, ◌∙◌, ap, subst, ℕ, zero, suc, ◌+◌, ◌<◌, ◌≤◌, List, [], ◌∷◌, ◌++◌, length, map, true, Some, unwrap_or, slice_get, arith}
-use Rattle.std.specs.List.{flat_map, AllByRecursion}
+use Rattle.std.specs.List.{flat_map, enumerate_from, AllByRecursion}
 use Rattle.std.proofs.lemmas.List.{append_assoc, append-nil, map-append, length-append, length-map}
 use Rattle.c_syntax.specs.declared.program.FieldKind.{FieldKind}
 use Rattle.c_syntax.specs.declared.program.FieldKind.TheVariants.{Number, Array, Struct}
@@ -9,7 +9,8 @@ use Rattle.c_syntax.specs.Names.{is_name}
 use Rattle.c_grammar.specs.Tokens.{has_header, tokens_of}
 use Rattle.c_grammar.specs.Grammar.{pure_spelling, all_spelling, some_spelling, struct_spelling, procedure_spelling, program_spelling, Spells}
 use Rattle.c_syntax.specs.Lawful.{AreDistinct, ArePures, AreStructs, IsLawfulKind, AreLawfulStmts, AreProcedures, IsLawfulProcedure, IsLawful, pure_names, procedure_names, param_names}
-use Rattle.c_printer.specs.Printing.{struct_name, pure_bytes, struct_bytes, procedure_bytes, program_bytes}
+use Rattle.c_printer.specs.Notes.{Notes}
+use Rattle.c_printer.specs.Printing.{struct_name, pure_bytes, noted_struct_bytes, noted_procedure_bytes, noted_bytes}
 use Rattle.c_syntax.proofs.lemmas.NamePlaces.{AreDistinct-name}
 use Rattle.c_syntax.proofs.lemmas.NameFacts.{AreDistinct-front, AreDistinct-back}
 use Rattle.c_printer.proofs.TextReading.{Reads, ◌▸◌, along, ending, reads-nothing}
@@ -70,12 +71,13 @@ more-kinds count total (f ∷ fs) within h = (by f.kind h.0, more-kinds count to
     by (Array type many) k = k
     by (Struct n) k = omega (arith, k, within)
 
-structs-read : (p : ProgramTree) → AreDistinct (map (λ d. d.name) p.structs) → (earlier later : List StructTree) →
-    p.structs ≡ earlier ++ later → AreStructs (length earlier) later → (l : ℕ) (rest : List ℕ) →
-    Reads (all_spelling struct_spelling (written_structs p l later)) l (flat_map (struct_bytes p) later ++ rest)
-    (l + structs_lines later) rest
-structs-read p distinct earlier [] whole h l rest = ending (omega arith) reads-nothing
-structs-read p distinct earlier (d ∷ ds) whole h l rest =
+structs-read : (p : ProgramTree) (notes : Notes) → AreDistinct (map (λ d. d.name) p.structs) → (earlier later : List StructTree) →
+    p.structs ≡ earlier ++ later → AreStructs (length earlier) later → (n l : ℕ) (rest : List ℕ) →
+    Reads (all_spelling struct_spelling (written_structs p notes n l later)) l
+    (flat_map (noted_struct_bytes p notes) (enumerate_from n later) ++ rest) (l + structs_lines p notes n later) rest
+structs-read p notes distinct earlier [] whole h n l rest = ending (omega arith) reads-nothing
+structs-read p notes distinct earlier (d ∷ ds) whole h n l rest =
+    let behind : List ℕ = flat_map (noted_struct_bytes p notes) (enumerate_from (n + 1) ds) in
     let named : (k : ℕ) → k < length p.structs → is_name (struct_name p k) ≡ true =
     λ k within. AreDistinct-name (map (λ x. x.name) p.structs) k distinct
     (subst (λ n. k < n) (sym (length-map p.structs (λ x. x.name))) within) in
@@ -83,13 +85,13 @@ structs-read p distinct earlier (d ∷ ds) whole h l rest =
     later-name (map (λ x. x.name) earlier) d.name (map (λ x. x.name) ds)
     (subst AreDistinct (ap (map (λ x. x.name)) whole ∙ map-append (λ x. x.name) earlier (d ∷ ds)) distinct) in
     let within : length earlier ≤ length p.structs = rw whole (omega (arith, length-append earlier (d ∷ ds))) in
-    along (append_assoc (struct_bytes p d) (flat_map (struct_bytes p) ds) rest)
+    along (append_assoc (noted_struct_bytes p notes (n, d)) behind rest)
     (ending (omega arith)
-    (struct-read p d named name h.0.some h.0.fields
-    (more-kinds (length earlier) (length p.structs) d.fields within h.0.kinds) l
-    (flat_map (struct_bytes p) ds ++ rest) ▸ structs-read p distinct (earlier ++ d ∷ []) ds
+    (struct-read p notes d named name h.0.some h.0.fields
+    (more-kinds (length earlier) (length p.structs) d.fields within h.0.kinds) n l
+    (behind ++ rest) ▸ structs-read p notes distinct (earlier ++ d ∷ []) ds
     (moved p.structs earlier d ds whole) (subst (λ n. AreStructs n ds) (sym (length-append earlier (d ∷ []))) h.1)
-    (l + struct_lines d) rest))
+    (n + 1) (l + struct_lines p notes n d) rest))
 
 module _ (p : ProgramTree) (lawful : IsLawful p) where
   pub pures-distinct : AreDistinct (pure_names p.pures)
@@ -127,52 +129,57 @@ module _ (p : ProgramTree) (lawful : IsLawful p) where
         of = q.of;
       }) q.body) (sym (length-map q.params (λ x. x.name))) h.body
 
-  procedures-read : (earlier later : List ProcedureTree) → p.procedures ≡ earlier ++ later →
-      AreProcedures p.pures p.structs earlier later → (l : ℕ) (rest : List ℕ) →
-      Reads (all_spelling procedure_spelling (written_procedures p l later)) l (flat_map (procedure_bytes p) later
-      ++ rest) (l + procedures_lines later) rest
-  procedures-read earlier [] whole h l rest = ending (omega arith) reads-nothing
-  procedures-read earlier (q ∷ qs) whole h l rest =
-      let name : is_name q.name ≡ true =
-      later-name (procedure_names earlier) q.name (procedure_names qs)
-      (subst AreDistinct (ap procedure_names whole ∙ map-append (λ x. x.name) earlier (q ∷ qs))
-      procedures-distinct) in
-      along (append_assoc (procedure_bytes p q) (flat_map (procedure_bytes p) qs) rest)
-      (ending (omega arith)
-      (procedure-read p _ q
-      (procedure-speaks p q.of (param_names q.params) earlier (q ∷ qs) whole pures-distinct procedures-distinct
-      lawful.structs (pures-some [] p.pures lawful.pures) h.0.params) name (struct-named q.of h.0.of) h.0.params
-      (procedure-body earlier q h.0) l (flat_map (procedure_bytes p) qs ++ rest) ▸ procedures-read
-      (earlier ++ q ∷ []) qs (moved p.procedures earlier q qs whole) h.1 (l + procedure_lines q) rest))
+  module _ (notes : Notes) where
+    procedures-read : (earlier later : List ProcedureTree) → p.procedures ≡ earlier ++ later →
+        AreProcedures p.pures p.structs earlier later → (n l : ℕ) (rest : List ℕ) →
+        Reads (all_spelling procedure_spelling (written_procedures p notes n l later)) l
+        (flat_map (noted_procedure_bytes p notes) (enumerate_from n later) ++ rest)
+        (l + procedures_lines p notes n later) rest
+    procedures-read earlier [] whole h n l rest = ending (omega arith) reads-nothing
+    procedures-read earlier (q ∷ qs) whole h n l rest =
+        let behind : List ℕ = flat_map (noted_procedure_bytes p notes) (enumerate_from (n + 1) qs) in
+        let name : is_name q.name ≡ true =
+        later-name (procedure_names earlier) q.name (procedure_names qs)
+        (subst AreDistinct (ap procedure_names whole ∙ map-append (λ x. x.name) earlier (q ∷ qs))
+        procedures-distinct) in
+        along (append_assoc (noted_procedure_bytes p notes (n, q)) behind rest)
+        (ending (omega arith)
+        (procedure-read p notes _ q
+        (procedure-speaks p q.of (param_names q.params) earlier (q ∷ qs) whole pures-distinct procedures-distinct
+        lawful.structs (pures-some [] p.pures lawful.pures) h.0.params) name (struct-named q.of h.0.of) h.0.params
+        (procedure-body earlier q h.0) n l (behind ++ rest) ▸ procedures-read
+        (earlier ++ q ∷ []) qs (moved p.procedures earlier q qs whole) h.1 (n + 1) (l + procedure_lines p notes n q) rest))
 
-  some-structs : (ds : List StructTree) (k : ℕ) (d : StructTree) (l m : ℕ) (x z : List ℕ) → slice_get ds k ≡ Some d →
-      Reads (all_spelling struct_spelling (written_structs p l ds)) l x m z →
-      Reads (some_spelling struct_spelling (written_structs p l ds)) l x m z
-  some-structs [] k d l m x z there reads = cc
-  some-structs (e ∷ ds) k d l m x z there reads = record { is = reads.is }
+    some-structs : (ds : List StructTree) (k : ℕ) (d : StructTree) (n l m : ℕ) (x z : List ℕ) → slice_get ds k ≡ Some d →
+        Reads (all_spelling struct_spelling (written_structs p notes n l ds)) l x m z →
+        Reads (some_spelling struct_spelling (written_structs p notes n l ds)) l x m z
+    some-structs [] k d n l m x z there reads = cc
+    some-structs (e ∷ ds) k d n l m x z there reads = record { is = reads.is }
 
-  some-procedures : (qs : List ProcedureTree) (k : ℕ) (q : ProcedureTree) (l m : ℕ) (x z : List ℕ) →
-      slice_get qs k ≡ Some q → Reads (all_spelling procedure_spelling (written_procedures p l qs)) l x m z →
-      Reads (some_spelling procedure_spelling (written_procedures p l qs)) l x m z
-  some-procedures [] k q l m x z there reads = cc
-  some-procedures (r ∷ qs) k q l m x z there reads = record { is = reads.is }
+    some-procedures : (qs : List ProcedureTree) (k : ℕ) (q : ProcedureTree) (n l m : ℕ) (x z : List ℕ) →
+        slice_get qs k ≡ Some q → Reads (all_spelling procedure_spelling (written_procedures p notes n l qs)) l x m z →
+        Reads (some_spelling procedure_spelling (written_procedures p notes n l qs)) l x m z
+    some-procedures [] k q n l m x z there reads = cc
+    some-procedures (r ∷ qs) k q n l m x z there reads = record { is = reads.is }
 
-  pub program-read : Spells (tokens_of (program_bytes p)) (written_program p)
-  program-read =
-      let a : List ℕ = flat_map (pure_bytes p) p.pures in
-      let b : List ℕ = flat_map (struct_bytes p) p.structs in
-      let c : List ℕ = flat_map (procedure_bytes p) p.procedures in
-      let all : Reads (program_spelling (written_program p)) 2 ((a ++ b) ++ c)
-      (procedures_line p + procedures_lines p.procedures) [] =
-      along (append_assoc a b c ∙ ap (λ x. a ++ (b ++ x)) (sym (append-nil c)))
-      (pures-read p pures-distinct (pures-some [] p.pures lawful.pures) [] p.pures refl lawful.pures 2
-      (b ++ (c ++ [])) ▸ some-structs p.structs lawful.root.of lawful.root.struct (structs_line p)
-      (procedures_line p) (b ++ (c ++ [])) (c ++ []) lawful.root.struct_there
-      (structs-read p lawful.struct_names [] p.structs refl lawful.structs (structs_line p) (c ++ [])) ▸
-      some-procedures p.procedures lawful.root.start lawful.root.start_procedure (procedures_line p)
-      (procedures_line p + procedures_lines p.procedures) (c ++ []) [] lawful.root.start_there
-      (procedures-read [] p.procedures refl lawful.procedures (procedures_line p) [])) in
-      all.is
+    pub program-read : Spells (tokens_of (noted_bytes notes p)) (written_program p notes)
+    program-read =
+        let a : List ℕ = flat_map (pure_bytes p) p.pures in
+        let b : List ℕ = flat_map (noted_struct_bytes p notes) (enumerate_from 0 p.structs) in
+        let c : List ℕ = flat_map (noted_procedure_bytes p notes) (enumerate_from 0 p.procedures) in
+        let structs : ℕ = structs_line p notes in
+        let procedures : ℕ = procedures_line p notes in
+        let all : Reads (program_spelling (written_program p notes)) 2 ((a ++ b) ++ c)
+        (procedures + procedures_lines p notes 0 p.procedures) [] =
+        along (append_assoc a b c ∙ ap (λ x. a ++ (b ++ x)) (sym (append-nil c)))
+        (pures-read p pures-distinct (pures-some [] p.pures lawful.pures) [] p.pures refl lawful.pures 2
+        (b ++ (c ++ [])) ▸ some-structs p.structs lawful.root.of lawful.root.struct 0 structs
+        procedures (b ++ (c ++ [])) (c ++ []) lawful.root.struct_there
+        (structs-read p notes lawful.struct_names [] p.structs refl lawful.structs 0 structs (c ++ [])) ▸
+        some-procedures p.procedures lawful.root.start lawful.root.start_procedure 0 procedures
+        (procedures + procedures_lines p notes 0 p.procedures) (c ++ []) [] lawful.root.start_there
+        (procedures-read [] p.procedures refl lawful.procedures 0 procedures [])) in
+        all.is
 
-  pub program-header : has_header (program_bytes p) ≡ true
-  program-header = refl
+    pub program-header : has_header (noted_bytes notes p) ≡ true
+    program-header = refl

@@ -14,13 +14,15 @@ use Rattle.c_syntax.specs.Lawful.{AreDistinct, AreApart, ArePures, IsLawfulPure,
 use Rattle.c_rules.specs.AlikeTexts.{is_alike}
 use Rattle.c_rules.specs.Reading.{IsTextOf, CText}
 use Rattle.c_syntax.specs.Names.{name_at}
-use Rattle.c_printer.specs.Printing.{struct_name, program_bytes}
+use Rattle.c_printer.specs.Laws.{NotesChangeNoReading}
+use Rattle.c_printer.specs.Notes.{Notes, note_at, notes_on}
+use Rattle.c_printer.specs.Printing.{struct_name, deeper, noted_bytes}
 use Rattle.c_reading_laws.proofs.lemmas.ParsedFile.{one_written}
 use Rattle.c_reading_laws.proofs.lemmas.Readings.{one-reading}
 use Rattle.c_syntax.proofs.lemmas.NamePlaces.{position_from-named}
 use Rattle.c_syntax.proofs.lemmas.NameFacts.{AreDistinct-front, AreDistinct-seam, has_name-there, AreApart-none, AreApart-more}
 use Rattle.c_printer.proofs.Params.{check_params-pass}
-use Rattle.c_printer.proofs.PrintedTrees.{written_pure_param, written_pure, read_pure, pure_lines, written_pures, read_pures, written_kind, written_fields, written_struct, struct_lines, written_structs, procedure_lines, read_procedures, stmt_lines, stmts_lines, read_stmt, read_stmts, structs_line, procedures_line, written_program, read_program}
+use Rattle.c_printer.proofs.PrintedTrees.{written_pure_param, written_pure, read_pure, pure_lines, written_pures, read_pures, written_kind, field_above, written_fields, head_line, written_struct, struct_lines, written_structs, body_above, procedure_lines, read_procedures, Above, stmt_lines, else_line, read_stmt, read_stmts, structs_line, procedures_line, written_program, read_program}
 use Rattle.c_printer.proofs.PrintedScopes.{pure-speaks, pure-resolves, same-map}
 use Rattle.c_printer.proofs.PrintedResolving.{expr-resolved}
 use Rattle.c_grammar.specs.Tokens.{last_line}
@@ -112,9 +114,11 @@ number-written p (Array type count) = refl
 number-written p (Struct k) = refl
 
 -- the names of the number fields are those of the written ones
-numbers-written : (p : ProgramTree) (l : ℕ) (fs : List FieldTree) → filter_map number_name (written_fields p l fs) ≡ number_names fs
-numbers-written p l [] = refl
-numbers-written p l (f ∷ fs) = rw (number-written p f.kind, numbers-written p (l + 1) fs) (by (is_number f))
+numbers-written : (p : ProgramTree) (on : List (List ℕ)) (k l : ℕ) (fs : List FieldTree) →
+    filter_map number_name (written_fields p on k l fs) ≡ number_names fs
+numbers-written p on k l [] = refl
+numbers-written p on k l (f ∷ fs) =
+    rw (number-written p f.kind, numbers-written p on (k + 1) (l + field_above p on k f + 1) fs) (by (is_number f))
   where
     by : (b : Bool) → cons_option (if b then Some f.name else None) (number_names fs) ≡ map (λ x. x.name)
         (if b then f ∷ filter is_number fs else filter is_number fs)
@@ -128,91 +132,103 @@ may_be true test h = h refl
 
 fields-resolved : (p : ProgramTree) (pures : List PureTree) (earlier later : List StructTree) →
     p.structs ≡ earlier ++ later → AreDistinct (map (λ d. d.name) earlier) →
-    (is_root : Bool) (numbers before : List (List ℕ)) (l : ℕ) (fs : List FieldTree) →
+    (is_root : Bool) (numbers before on : List (List ℕ)) (k l : ℕ) (fs : List FieldTree) →
     AreDistinct (map (λ f. f.name) fs) → AreApart (map (λ f. f.name) fs) before →
     AllByRecursion (λ f. IsLawfulKind (length earlier) f.kind) fs →
     (is_root ≡ true → AllByRecursion (λ f. may_be_named numbers (is_number f) f.name ≡ true) fs) →
-    resolve_fields (after_structs pures earlier) is_root numbers before (written_fields p l fs) ≡ Ok fs
-fields-resolved p pures earlier later whole distinct is_root numbers before l [] unlike apart kinds outputs = refl
-fields-resolved p pures earlier later whole distinct is_root numbers before l (f ∷ fs) unlike apart kinds outputs =
+    resolve_fields (after_structs pures earlier) is_root numbers before (written_fields p on k l fs) ≡ Ok fs
+fields-resolved p pures earlier later whole distinct is_root numbers before on k l [] unlike apart kinds outputs = refl
+fields-resolved p pures earlier later whole distinct is_root numbers before on k l (f ∷ fs) unlike apart kinds outputs =
     rw (
       apart.0,
       kind-resolved p pures earlier later whole distinct f.kind kinds.0,
       number-written p f.kind,
       may_be is_root (may_be_named numbers (is_number f) f.name) (λ e. (outputs e).0),
-      fields-resolved p pures earlier later whole distinct is_root numbers (f.name ∷ before) (l + 1) fs unlike.2
+      fields-resolved p pures earlier later whole distinct is_root numbers (f.name ∷ before) on (k + 1)
+          (l + field_above p on k f + 1) fs unlike.2
           (AreApart-more (map (λ x. x.name) fs) f.name before unlike.1 apart.1) kinds.1 (λ e. (outputs e).1),
     ) refl
 
-struct-resolved : (p : ProgramTree) (pures : List PureTree) (earlier : List StructTree) (d : StructTree)
+struct-resolved : (p : ProgramTree) (notes : Notes) (pures : List PureTree) (earlier : List StructTree) (d : StructTree)
     (later : List StructTree) → p.structs ≡ earlier ++ d ∷ later → AreDistinct (map (λ x. x.name) p.structs) →
-    IsLawfulStruct (length earlier) d → (l : ℕ) →
-    resolve_struct (after_structs pures earlier) (written_struct p l d) ≡ Ok d
-struct-resolved p pures earlier d later whole distinct h l =
+    IsLawfulStruct (length earlier) d → (k l : ℕ) →
+    resolve_struct (after_structs pures earlier) (written_struct p notes k l d) ≡ Ok d
+struct-resolved p notes pures earlier d later whole distinct h k l =
+    let on : List (List ℕ) = (notes_on notes k).fields in
+    let first : ℕ = head_line (notes_on notes k).above l + 1 in
     let all : AreDistinct (map (λ x. x.name) earlier ++ d.name ∷ map (λ x. x.name) later) =
     subst AreDistinct (ap (map (λ x. x.name)) whole ∙ map-append (λ x. x.name) earlier (d ∷ later)) distinct in
     let unused : has_name (map (λ x. x.name) earlier) d.name ≡ false =
     AreDistinct-seam (map (λ x. x.name) earlier) d.name (map (λ x. x.name) later) all in
     let fields : resolve_fields (after_structs pures earlier) (bytes_eq d.name (codes "root")) (number_names d.fields)
-    [] (written_fields p (l + 1 + 1) d.fields) ≡ Ok d.fields =
+    [] (written_fields p on 0 first d.fields) ≡ Ok d.fields =
     fields-resolved p pures earlier (d ∷ later) whole
     (AreDistinct-front (map (λ x. x.name) earlier) (d.name ∷ map (λ x. x.name) later) all)
-    (bytes_eq d.name (codes "root")) (number_names d.fields) [] (l + 1 + 1) d.fields h.fields
+    (bytes_eq d.name (codes "root")) (number_names d.fields) [] on 0 first d.fields h.fields
     (AreApart-none (map (λ f. f.name) d.fields)) h.kinds h.outputs in
-    rw (unused, numbers-written p (l + 1 + 1) d.fields, fields) refl
+    rw (unused, numbers-written p on 0 first d.fields, fields) refl
 
-structs-resolved : (p : ProgramTree) (pures : List PureTree) (earlier later : List StructTree) →
+structs-resolved : (p : ProgramTree) (notes : Notes) (pures : List PureTree) (earlier later : List StructTree) →
     p.structs ≡ earlier ++ later → AreDistinct (map (λ x. x.name) p.structs) → AreStructs (length earlier) later →
-    (l : ℕ) → resolve_structs (after_structs pures earlier) (written_structs p l later) ≡ Ok
+    (k l : ℕ) → resolve_structs (after_structs pures earlier) (written_structs p notes k l later) ≡ Ok
     (after_structs pures p.structs)
-structs-resolved p pures earlier [] whole distinct h l = ap (λ x. Ok (after_structs pures x)) (sym (whole ∙ append-nil earlier))
-structs-resolved p pures earlier (d ∷ ds) whole distinct h l =
+structs-resolved p notes pures earlier [] whole distinct h k l = ap (λ x. Ok (after_structs pures x)) (sym (whole ∙ append-nil earlier))
+structs-resolved p notes pures earlier (d ∷ ds) whole distinct h k l =
     ap (λ r. r
     >>= (λ x. resolve_structs (after_structs pures (earlier ++ x ∷ []))
-    (written_structs p (l + struct_lines d) ds))) (struct-resolved p pures earlier d ds whole distinct h.0 l)
-    ∙ structs-resolved p pures (earlier ++ d ∷ []) ds (moved p.structs earlier d ds whole) distinct
-    (subst (λ n. AreStructs n ds) (sym (length-append earlier (d ∷ []))) h.1) (l + struct_lines d)
+    (written_structs p notes (k + 1) (l + struct_lines p notes k d) ds)))
+    (struct-resolved p notes pures earlier d ds whole distinct h.0 k l)
+    ∙ structs-resolved p notes pures (earlier ++ d ∷ []) ds (moved p.structs earlier d ds whole) distinct
+    (subst (λ n. AreStructs n ds) (sym (length-append earlier (d ∷ []))) h.1) (k + 1)
+    (l + struct_lines p notes k d)
 
-mutual
-  -- lines are nothing to depths
-  stmt_depth-read : (l : ℕ) (s : StmtTree) → stmt_depth (read_stmt l s) ≡ stmt_depth s
-  stmt_depth-read l (assign line f e) = refl
-  stmt_depth-read l (assign_at line f index e) = refl
-  stmt_depth-read l (branch line test on_true on_false) =
-      rw (stmts_depth-read (l + 1) on_true, stmts_depth-read (l + 1 + stmts_lines on_true + 1) on_false) refl
-  stmt_depth-read l (call line k target es) = refl
+module _ (above : Above) where
+  mutual
+    -- lines are nothing to depths
+    stmt_depth-read : (m l : ℕ) (s : StmtTree) → stmt_depth (read_stmt above m l s) ≡ stmt_depth s
+    stmt_depth-read m l (assign line f e) = refl
+    stmt_depth-read m l (assign_at line f index e) = refl
+    stmt_depth-read m l (branch line test on_true on_false) =
+        rw (stmts_depth-read (deeper m) (l + 1) on_true, stmts_depth-read (deeper m) (else_line above m l on_true) on_false) refl
+    stmt_depth-read m l (call line k target es) = refl
 
-  stmts_depth-read : (l : ℕ) (ss : StmtTrees) → stmts_depth (read_stmts l ss) ≡ stmts_depth ss
-  stmts_depth-read l no_stmts = refl
-  stmts_depth-read l (more_stmts s ss) = rw (stmt_depth-read l s, stmts_depth-read (l + stmt_lines s) ss) refl
+    stmts_depth-read : (m l : ℕ) (ss : StmtTrees) → stmts_depth (read_stmts above m l ss) ≡ stmts_depth ss
+    stmts_depth-read m l no_stmts = refl
+    stmts_depth-read m l (more_stmts s ss) =
+        rw (stmt_depth-read m l s, stmts_depth-read m (l + stmt_lines above m s) ss) refl
 
-mutual
-  stmt_exprs_depth-read : (l : ℕ) (s : StmtTree) → stmt_exprs_depth (read_stmt l s) ≡ stmt_exprs_depth s
-  stmt_exprs_depth-read l (assign line f e) = refl
-  stmt_exprs_depth-read l (assign_at line f index e) = refl
-  stmt_exprs_depth-read l (branch line test on_true on_false) =
-      rw (stmts_exprs_depth-read (l + 1) on_true, stmts_exprs_depth-read (l + 1 + stmts_lines on_true + 1) on_false)
-      refl
-  stmt_exprs_depth-read l (call line k target es) = refl
+  mutual
+    stmt_exprs_depth-read : (m l : ℕ) (s : StmtTree) → stmt_exprs_depth (read_stmt above m l s) ≡ stmt_exprs_depth s
+    stmt_exprs_depth-read m l (assign line f e) = refl
+    stmt_exprs_depth-read m l (assign_at line f index e) = refl
+    stmt_exprs_depth-read m l (branch line test on_true on_false) =
+        rw (
+          stmts_exprs_depth-read (deeper m) (l + 1) on_true,
+          stmts_exprs_depth-read (deeper m) (else_line above m l on_true) on_false,
+        ) refl
+    stmt_exprs_depth-read m l (call line k target es) = refl
 
-  stmts_exprs_depth-read : (l : ℕ) (ss : StmtTrees) → stmts_exprs_depth (read_stmts l ss) ≡ stmts_exprs_depth ss
-  stmts_exprs_depth-read l no_stmts = refl
-  stmts_exprs_depth-read l (more_stmts s ss) = rw (stmt_exprs_depth-read l s, stmts_exprs_depth-read (l + stmt_lines s) ss) refl
+    stmts_exprs_depth-read : (m l : ℕ) (ss : StmtTrees) → stmts_exprs_depth (read_stmts above m l ss) ≡ stmts_exprs_depth ss
+    stmts_exprs_depth-read m l no_stmts = refl
+    stmts_exprs_depth-read m l (more_stmts s ss) =
+        rw (stmt_exprs_depth-read m l s, stmts_exprs_depth-read m (l + stmt_lines above m s) ss) refl
 
 pures-fit : (l : ℕ) (qs : List PureTree) → AllByRecursion PureFits qs → AllByRecursion PureFits (read_pures l qs)
 pures-fit l [] h = tt
 pures-fit l (q ∷ qs) h = (record { params = h.0.params; body = h.0.body }, pures-fit (l + pure_lines) qs h.1)
 
-procedures-fit : (l : ℕ) (qs : List ProcedureTree) → AllByRecursion ProcedureFits qs → AllByRecursion ProcedureFits (read_procedures l qs)
-procedures-fit l [] h = tt
-procedures-fit l (q ∷ qs) h = (
-  record {
-    params = h.0.params;
-    statements = rw (stmts_depth-read (l + 1 + 1) q.body) h.0.statements;
-    expressions = rw (stmts_exprs_depth-read (l + 1 + 1) q.body) h.0.expressions;
-  },
-  procedures-fit (l + procedure_lines q) qs h.1,
-)
+procedures-fit : (p : ProgramTree) (notes : Notes) (k l : ℕ) (qs : List ProcedureTree) → AllByRecursion ProcedureFits qs →
+    AllByRecursion ProcedureFits (read_procedures p notes k l qs)
+procedures-fit p notes k l [] h = tt
+procedures-fit p notes k l (q ∷ qs) h =
+    let first : ℕ = head_line (note_at notes.procedures k) l + 1 in (
+      record {
+        params = h.0.params;
+        statements = rw (stmts_depth-read (body_above p notes q) 4 first q.body) h.0.statements;
+        expressions = rw (stmts_exprs_depth-read (body_above p notes q) 4 first q.body) h.0.expressions;
+      },
+      procedures-fit p notes (k + 1) (l + procedure_lines p notes k q) qs h.1,
+    )
 
 pures-counted : (l : ℕ) (qs : List PureTree) → length (read_pures l qs) ≡ length qs
 pures-counted l [] = refl
@@ -222,22 +238,23 @@ pures_without_lines-read : (l : ℕ) (qs : List PureTree) → map pure_without_l
 pures_without_lines-read l [] = refl
 pures_without_lines-read l (q ∷ qs) = ap (λ xs. pure_without_lines q ∷ xs) (pures_without_lines-read (l + pure_lines) qs)
 
-module _ (p : ProgramTree) (lawful : IsLawful p) where
+module _ (p : ProgramTree) (lawful : IsLawful p) (notes : Notes) where
   pures_are : map pure_without_lines (read_pures 2 p.pures) ≡ map pure_without_lines p.pures
   pures_are = pures_without_lines-read 2 p.pures
 
-  procedures_are : map procedure_without_lines (read_procedures (procedures_line p) p.procedures) ≡ map procedure_without_lines p.procedures
-  procedures_are = procedures_without_lines-read (procedures_line p) p.procedures
+  procedures_are : map procedure_without_lines (read_procedures p notes 0 (procedures_line p notes) p.procedures)
+      ≡ map procedure_without_lines p.procedures
+  procedures_are = procedures_without_lines-read p notes 0 (procedures_line p notes) p.procedures
 
   abbrev known_of : Known
-  known_of = after_procedures (read_pures 2 p.pures) p.structs (read_procedures (procedures_line p) p.procedures)
+  known_of = after_procedures (read_pures 2 p.pures) p.structs (read_procedures p notes 0 (procedures_line p notes) p.procedures)
       (chains_of [] p.procedures)
 
   root-there : has_root known_of ≡ true
   root-there =
-      let procedures : map (λ x. x.name) (read_procedures (procedures_line p) p.procedures)
+      let procedures : map (λ x. x.name) (read_procedures p notes 0 (procedures_line p notes) p.procedures)
       ≡ procedure_names p.procedures =
-      same-map procedure_without_lines (λ x. x.name) (read_procedures (procedures_line p) p.procedures) p.procedures
+      same-map procedure_without_lines (λ x. x.name) (read_procedures p notes 0 (procedures_line p notes) p.procedures) p.procedures
       procedures_are in
       rw (
         has_name-there (λ x. x.name) p.structs lawful.root.of lawful.root.struct
@@ -249,47 +266,50 @@ module _ (p : ProgramTree) (lawful : IsLawful p) where
             (codes "root_step") lawful.root.step_there lawful.root.step_name,
       ) refl
 
-  program-resolved : (last : ℕ) → resolve_program last (written_program p) ≡ Ok (read_program p)
+  program-resolved : (last : ℕ) → resolve_program last (written_program p notes) ≡ Ok (read_program p notes)
   program-resolved last =
       let procedures : _ =
-      procedures-resolved p lawful [] p.procedures refl (read_pures 2 p.pures) pures_are [] refl
-      [] lawful.chains lawful.procedures (procedures_line p) in
+      procedures-resolved p lawful notes [] p.procedures refl (read_pures 2 p.pures) pures_are [] refl
+      [] lawful.chains lawful.procedures 0 (procedures_line p notes) in
       rw (
         pures-resolved p lawful [] p.pures refl [] refl lawful.pures 2,
-        structs-resolved p (read_pures 2 p.pures) [] p.structs refl lawful.struct_names lawful.structs
-            (structs_line p),
+        structs-resolved p notes (read_pures 2 p.pures) [] p.structs refl lawful.struct_names lawful.structs
+            0 (structs_line p notes),
         procedures,
         root-there,
       ) refl
 
-  program-fits : IsWithinLimits (read_program p)
+  program-fits : IsWithinLimits (read_program p notes)
   program-fits = record {
     count = rw (pures-counted 2 p.pures) lawful.limits.count;
     pures = pures-fit 2 p.pures lawful.limits.pures;
-    procedures = procedures-fit (procedures_line p) p.procedures lawful.limits.procedures;
+    procedures = procedures-fit p notes 0 (procedures_line p notes) p.procedures lawful.limits.procedures;
   }
 
   -- the text of a lawful program is one of the program with the lines of the text
-  pub text-read : CText (program_bytes p) (read_program p)
+  pub text-read : CText (noted_bytes notes p) (read_program p notes)
   text-read = record {
-    header = program-header p lawful;
-    written = written_program p;
-    spelled = program-read p lawful;
-    resolved = program-resolved (last_line (program_bytes p));
+    header = program-header p lawful notes;
+    written = written_program p notes;
+    spelled = program-read p lawful notes;
+    resolved = program-resolved (last_line (noted_bytes notes p));
     limits = program-fits;
   }
 
   -- which is the program itself, lines aside
-  pub text-same : without_lines (read_program p) ≡ without_lines p
+  pub text-same : without_lines (read_program p notes) ≡ without_lines p
   text-same = λ i. record { pures = pures_are i; structs = p.structs; procedures = procedures_are i }
 
-  pub text-of : (bytes : List ℕ) → bytes ≡ program_bytes p → IsTextOf bytes p
+  pub text-of : (bytes : List ℕ) → bytes ≡ noted_bytes notes p → IsTextOf bytes p
   text-of bytes same =
-      let read : CText bytes (read_program p) = subst (λ b. CText b (read_program p)) (sym same) text-read in
+      let read : CText bytes (read_program p notes) = subst (λ b. CText b (read_program p notes)) (sym same) text-read in
       record {
-        reading = read_program p;
+        reading = read_program p notes;
         read = read;
-        one = λ other r. one-reading one_written bytes other (read_program p) r read;
+        one = λ other r. one-reading one_written bytes other (read_program p notes) r read;
         same = text-same;
-        alike = ap is_alike same ∙ text-alike p lawful;
+        alike = ap is_alike same ∙ text-alike p lawful notes;
       }
+
+pub notes_change_no_reading : NotesChangeNoReading
+notes_change_no_reading notes p lawful = text-of p lawful notes (noted_bytes notes p) refl

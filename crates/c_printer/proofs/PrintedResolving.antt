@@ -9,8 +9,8 @@ use Rattle.base_core.specs.Results.{◌>>=◌}
 use Rattle.c_rules.specs.Resolve.{Names, resolve_leaf, resolve_array, resolve_pure_call, exprs_count, resolve_expr, resolve_exprs, resolve_cond, argument_casts, resolve_arguments, resolve_store, resolve_item_store, resolve_call, resolve_stmt, resolve_stmts}
 use Rattle.c_syntax.specs.Chains.{chain_limit, stmt_chain, stmts_chain}
 use Rattle.c_syntax.specs.Lawful.{Reach, IsLawfulLeaf, IsLawfulExpr, AreLawfulExprs, IsLawfulCond, IsLawfulTarget, IsLawfulStmt, AreLawfulStmts, IsNumberAt, IsArrayAt, exprs_length}
-use Rattle.c_printer.specs.Printing.{Vocabulary, pure_name, procedure_name, procedure_types, field_name}
-use Rattle.c_printer.proofs.PrintedTrees.{written_leaf, written_expr, written_exprs, written_cond, written_target, written_arguments, stmt_lines, stmts_lines, written_stmt, written_stmts, read_stmt, read_stmts}
+use Rattle.c_printer.specs.Printing.{Vocabulary, pure_name, procedure_name, procedure_types, field_name, deeper}
+use Rattle.c_printer.proofs.PrintedTrees.{written_leaf, written_expr, written_exprs, written_cond, written_target, written_arguments, Above, stmt_lines, else_line, written_stmt, written_stmts, read_stmt, read_stmts}
 use Rattle.c_printer.proofs.PrintedBodies.{Speaks}
 
 -- the names in reach of a body stand for what they are printed from
@@ -71,32 +71,43 @@ module _ (v : Vocabulary) (reach : Reach) (names : Names) (speaks : Speaks v rea
   arguments-resolved line (t ∷ types) (more_exprs e es) long h =
       rw (expr-resolved line e h.0, arguments-resolved line types es (omega (arith, long)) h.1) refl
 
-  mutual
-    pub stmt-resolved : (line : ℕ) (s : StmtTree) → IsLawfulStmt reach s → stmt_chain names.known.chains s + 1
-        ≤ chain_limit → resolve_stmt names (written_stmt v line s) ≡ Ok (read_stmt line s)
-    stmt-resolved line (assign own f e) h short = rw (resolves.store f h.0, expr-resolved (reported_number line) e h.1) refl
-    stmt-resolved line (assign_at own f index e) h short =
-        rw (resolves.item_store f h.0, expr-resolved (reported_number line) index h.1, expr-resolved (reported_number line) e h.2) refl
-    stmt-resolved line (branch own test on_true no_stmts) h short =
-        rw (cond-resolved (reported_number line) test h.0, stmts-resolved (line + 1) on_true h.1 (omega (arith, short))) refl
-    stmt-resolved line (branch own test on_true (more_stmts s ss)) h short =
-        let k : ℕ = line + 1 + stmts_lines on_true + 1 in
-        rw (
-          cond-resolved (reported_number line) test h.0,
-          stmts-resolved (line + 1) on_true h.1 (omega (arith, short)),
-          stmt-resolved k s h.2.0 (omega (arith, short)),
-          stmts-resolved (k + stmt_lines s) ss h.2.1 (omega (arith, short)),
-        ) refl
-    stmt-resolved line (call own k target es) h short =
-        let long : length (procedure_types v.program k) ≡ exprs_length es = (speaks.procedure k h.0 h.1).1 ∙ h.3 in
-        rw (
-          casts v (reported_number line) (procedure_types v.program k) es long,
-          resolves.call k h.0 target h.1 h.2 short,
-          arguments-resolved (reported_number line) (procedure_types v.program k) es long h.4,
-        ) refl
+  module _ (above : Above) where
+    mutual
+      pub stmt-resolved : (margin line : ℕ) (s : StmtTree) → IsLawfulStmt reach s → stmt_chain names.known.chains s + 1
+          ≤ chain_limit → resolve_stmt names (written_stmt above v margin line s) ≡ Ok (read_stmt above margin line s)
+      stmt-resolved margin line (assign own f e) h short =
+          rw (resolves.store f h.0, expr-resolved (reported_number (line + above margin (assign own f e))) e h.1) refl
+      stmt-resolved margin line (assign_at own f index e) h short =
+          let on : ℕ = reported_number (line + above margin (assign_at own f index e)) in
+          rw (resolves.item_store f h.0, expr-resolved on index h.1, expr-resolved on e h.2) refl
+      stmt-resolved margin line (branch own test on_true no_stmts) h short =
+          rw (
+            cond-resolved (reported_number line) test h.0,
+            stmts-resolved (deeper margin) (line + 1) on_true h.1 (omega (arith, short)),
+          ) refl
+      stmt-resolved margin line (branch own test on_true (more_stmts s ss)) h short =
+          let k : ℕ = else_line above margin line on_true in
+          rw (
+            cond-resolved (reported_number line) test h.0,
+            stmts-resolved (deeper margin) (line + 1) on_true h.1 (omega (arith, short)),
+            stmt-resolved (deeper margin) k s h.2.0 (omega (arith, short)),
+            stmts-resolved (deeper margin) (k + stmt_lines above (deeper margin) s) ss h.2.1 (omega (arith, short)),
+          ) refl
+      stmt-resolved margin line (call own k target es) h short =
+          let on : ℕ = reported_number (line + above margin (call own k target es)) in
+          let long : length (procedure_types v.program k) ≡ exprs_length es = (speaks.procedure k h.0 h.1).1 ∙ h.3 in
+          rw (
+            casts v on (procedure_types v.program k) es long,
+            resolves.call k h.0 target h.1 h.2 short,
+            arguments-resolved on (procedure_types v.program k) es long h.4,
+          ) refl
 
-    pub stmts-resolved : (line : ℕ) (ss : StmtTrees) → AreLawfulStmts reach ss → stmts_chain names.known.chains ss + 1
-        ≤ chain_limit → resolve_stmts names (written_stmts v line ss) ≡ Ok (read_stmts line ss)
-    stmts-resolved line no_stmts h short = refl
-    stmts-resolved line (more_stmts s ss) h short =
-        rw (stmt-resolved line s h.0 (omega (arith, short)), stmts-resolved (line + stmt_lines s) ss h.1 (omega (arith, short))) refl
+      pub stmts-resolved : (margin line : ℕ) (ss : StmtTrees) → AreLawfulStmts reach ss →
+          stmts_chain names.known.chains ss + 1 ≤ chain_limit →
+          resolve_stmts names (written_stmts above v margin line ss) ≡ Ok (read_stmts above margin line ss)
+      stmts-resolved margin line no_stmts h short = refl
+      stmts-resolved margin line (more_stmts s ss) h short =
+          rw (
+            stmt-resolved margin line s h.0 (omega (arith, short)),
+            stmts-resolved margin (line + stmt_lines above margin s) ss h.1 (omega (arith, short)),
+          ) refl

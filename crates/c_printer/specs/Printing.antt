@@ -1,7 +1,8 @@
 -- The bytes that a program is printed as: one statement or declaration a line, and a blank line
--- before each definition.
-use Rattle.std.specs.Prelude.{ℕ, ℤ, ◌+◌, min, Bool, true, false, List, [], ◌∷◌, ◌++◌, map, slice_index_or, replicate, unsigned_abs, codes, decimal}
-use Rattle.std.specs.List.{flat_map}
+-- before each definition. Structs and procedures have their notes above them; a field has its note
+-- at its declaration, and at each store in it and each call on it.
+use Rattle.std.specs.Prelude.{ℕ, ℤ, ◌+◌, min, Bool, true, false, List, [], ◌∷◌, ◌++◌, map, slice_index_or, unsigned_abs, codes, decimal}
+use Rattle.std.specs.List.{flat_map, enumerate_from}
 use Rattle.c_syntax.specs.declared.code.CType.{CType}
 use Rattle.c_syntax.specs.declared.code.Leaf.{Leaf}
 use Rattle.c_syntax.specs.declared.code.Leaf.TheVariants.{Param, Own, Child}
@@ -13,6 +14,8 @@ use Rattle.c_syntax.specs.Tree.{ExprTree, literal, neg, read, binary, pick, pure
 use Rattle.c_grammar.specs.Tokens.{header_line}
 use Rattle.c_grammar.specs.Grammar.{op_text, compare_text, type_text}
 use Rattle.c_syntax.specs.Names.{name_at}
+use Rattle.c_printer.specs.Notes.{Notes, note_at, notes_on, no_notes}
+use Rattle.c_printer.specs.Lines.{margin_bytes, ended, note_line, noted_line}
 
 -- the names in reach of a body
 pub record Vocabulary : Type 0 where
@@ -92,17 +95,9 @@ abbrev mutual
       codes "(" ++ cond_bytes v a ++ codes " || " ++ cond_bytes v b ++ codes ")"
   cond_bytes v (negated a) = codes "(!" ++ cond_bytes v a ++ codes ")"
 
--- the blanks that a line begins with; in a block there are four more, up to 80
-abbrev pub margin_bytes : ℕ → List ℕ
-margin_bytes margin = replicate margin 32
-
--- the margin in a block
+-- the margin in a block: four more blanks, up to 80
 abbrev pub deeper : ℕ → ℕ
 deeper margin = min (margin + 4) 80
-
--- a text and the end of its line
-abbrev pub ended : List ℕ → List ℕ
-ended text = text ++ 10 ∷ []
 
 -- whose procedure is called
 abbrev pub target_bytes : Vocabulary → Target → List ℕ
@@ -116,35 +111,57 @@ arguments_bytes v [] (more_exprs e es) = []
 arguments_bytes v (t ∷ types) (more_exprs e es) =
     codes ", (" ++ type_text t ++ codes ")" ++ expr_bytes v e ++ arguments_bytes v types es
 
-abbrev mutual
-  -- a statement at a margin
-  pub stmt_bytes : Vocabulary → ℕ → StmtTree → List ℕ
-  stmt_bytes v margin (assign line f e) =
-      margin_bytes margin ++ codes "s->" ++ field_name v.fields f ++ codes " = ("
-      ++ type_text (type_at (field_types v.fields) f) ++ codes ")" ++ expr_bytes v e
-      ++ ended (codes ";")
-  stmt_bytes v margin (assign_at line f index e) =
-      margin_bytes margin ++ codes "s->" ++ field_name v.fields f ++ codes "[" ++ expr_bytes v index
-      ++ codes "] = (" ++ type_text (type_at (field_types v.fields) f) ++ codes ")"
-      ++ expr_bytes v e ++ ended (codes ";")
-  stmt_bytes v margin (branch line test on_true on_false) =
-      margin_bytes margin ++ codes "if " ++ cond_bytes v test ++ ended (codes " {")
-      ++ stmts_bytes v (deeper margin) on_true ++ else_bytes v margin on_false
-      ++ margin_bytes margin ++ ended (codes "}")
-  stmt_bytes v margin (call line k target es) =
-      margin_bytes margin ++ procedure_name v.program k ++ codes "(" ++ target_bytes v target
-      ++ arguments_bytes v (procedure_types v.program k) es ++ ended (codes ");")
+-- what is stored in a field, from the type in its cast on
+abbrev pub stored_bytes : Vocabulary → ℕ → ExprTree → List ℕ
+stored_bytes v f e =
+    type_text (type_at (field_types v.fields) f) ++ codes ")" ++ expr_bytes v e ++ codes ";"
 
-  -- the second block of a choice, where it does something
-  pub else_bytes : Vocabulary → ℕ → StmtTrees → List ℕ
-  else_bytes v margin no_stmts = []
-  else_bytes v margin (more_stmts s ss) =
-      margin_bytes margin ++ ended (codes "} else {")
-      ++ (stmt_bytes v (deeper margin) s ++ stmts_bytes v (deeper margin) ss)
+abbrev pub store_bytes : Vocabulary → ℕ → ExprTree → List ℕ
+store_bytes v f e = codes "s->" ++ field_name v.fields f ++ codes " = (" ++ stored_bytes v f e
 
-  pub stmts_bytes : Vocabulary → ℕ → StmtTrees → List ℕ
-  stmts_bytes v margin no_stmts = []
-  stmts_bytes v margin (more_stmts s ss) = stmt_bytes v margin s ++ stmts_bytes v margin ss
+-- a store in an item of an array
+abbrev pub item_store_bytes : Vocabulary → ℕ → ExprTree → ExprTree → List ℕ
+item_store_bytes v f index e =
+    codes "s->" ++ field_name v.fields f ++ codes "[" ++ expr_bytes v index ++ codes "] = ("
+    ++ stored_bytes v f e
+
+abbrev pub call_bytes : Vocabulary → ℕ → Target → ExprTrees → List ℕ
+call_bytes v k target es =
+    procedure_name v.program k ++ codes "(" ++ target_bytes v target
+    ++ arguments_bytes v (procedure_types v.program k) es ++ codes ");"
+
+-- the note at a call: that of the field on which it is
+abbrev pub target_note : List (List ℕ) → Target → List ℕ
+target_note notes OwnTarget = []
+target_note notes (ChildTarget f) = note_at notes f
+
+-- with the notes on the fields of the struct
+module _ (notes : List (List ℕ)) (v : Vocabulary) where
+  abbrev mutual
+    -- a statement at a margin
+    pub noted_stmt_bytes : ℕ → StmtTree → List ℕ
+    noted_stmt_bytes margin (assign line f e) =
+        noted_line margin (note_at notes f) (store_bytes v f e)
+    noted_stmt_bytes margin (assign_at line f index e) =
+        noted_line margin (note_at notes f) (item_store_bytes v f index e)
+    noted_stmt_bytes margin (branch line test on_true on_false) =
+        margin_bytes margin ++ codes "if " ++ cond_bytes v test ++ ended (codes " {")
+        ++ noted_stmts_bytes (deeper margin) on_true ++ noted_else_bytes margin on_false
+        ++ margin_bytes margin ++ ended (codes "}")
+    noted_stmt_bytes margin (call line k target es) =
+        noted_line margin (target_note notes target) (call_bytes v k target es)
+
+    -- the second block of a choice, where it does something
+    pub noted_else_bytes : ℕ → StmtTrees → List ℕ
+    noted_else_bytes margin no_stmts = []
+    noted_else_bytes margin (more_stmts s ss) =
+        margin_bytes margin ++ ended (codes "} else {")
+        ++ (noted_stmt_bytes (deeper margin) s ++ noted_stmts_bytes (deeper margin) ss)
+
+    pub noted_stmts_bytes : ℕ → StmtTrees → List ℕ
+    noted_stmts_bytes margin no_stmts = []
+    noted_stmts_bytes margin (more_stmts s ss) =
+        noted_stmt_bytes margin s ++ noted_stmts_bytes margin ss
 
 -- the parameters of a pure function, with `, ` between each two
 abbrev pub later_pure_params_bytes : List (List ℕ) → List ℕ
@@ -179,15 +196,22 @@ length_bytes (Number type) = []
 length_bytes (Array type count) = codes "[" ++ decimal count ++ codes "]"
 length_bytes (Struct k) = []
 
--- a line that declares a field
+-- the declaration of a field, but for its margin
 abbrev pub field_bytes : ProgramTree → FieldTree → List ℕ
-field_bytes p f = codes "    " ++ kind_bytes p f.kind ++ codes " " ++ f.name ++ length_bytes f.kind
-    ++ ended (codes ";")
+field_bytes p f =
+    kind_bytes p f.kind ++ codes " " ++ f.name ++ length_bytes f.kind ++ codes ";"
 
--- a struct, behind a blank line
-abbrev pub struct_bytes : ProgramTree → StructTree → List ℕ
-struct_bytes p d = ended [] ++ codes "struct " ++ d.name ++ ended (codes " {")
-    ++ flat_map (field_bytes p) d.fields ++ ended (codes "};")
+-- a field at its position, with its note
+abbrev pub noted_field_bytes : ProgramTree → List (List ℕ) → ℕ × FieldTree → List ℕ
+noted_field_bytes p notes e = noted_line 4 (note_at notes e.0) (field_bytes p e.1)
+
+-- a struct at its position, after a blank line
+abbrev pub noted_struct_bytes : ProgramTree → Notes → ℕ × StructTree → List ℕ
+noted_struct_bytes p notes e =
+    ended [] ++ note_line 0 (notes_on notes e.0).above ++ codes "struct " ++ e.1.name
+    ++ ended (codes " {")
+    ++ flat_map (noted_field_bytes p (notes_on notes e.0).fields) (enumerate_from 0 e.1.fields)
+    ++ ended (codes "};")
 
 -- what a procedure begins with
 abbrev pub private_bytes : Bool → List ℕ
@@ -198,24 +222,30 @@ private_bytes false = codes "void "
 abbrev pub param_bytes : ParamTree → List ℕ
 param_bytes q = codes ", " ++ type_text q.type ++ codes " " ++ q.name
 
--- a blank line, and a procedure up to its `{`
-abbrev pub procedure_head_bytes : ProgramTree → ProcedureTree → List ℕ
-procedure_head_bytes p q =
-    ended [] ++ private_bytes q.private ++ q.name ++ codes "(struct " ++ struct_name p q.of
-    ++ codes " *s" ++ flat_map param_bytes q.params ++ ended (codes ") {")
+-- a blank line, and a procedure with its note up to its `{`
+abbrev pub procedure_head_bytes : ProgramTree → List ℕ → ProcedureTree → List ℕ
+procedure_head_bytes p note q =
+    ended [] ++ note_line 0 note ++ private_bytes q.private ++ q.name ++ codes "(struct "
+    ++ struct_name p q.of ++ codes " *s" ++ flat_map param_bytes q.params ++ ended (codes ") {")
 
--- a procedure
-abbrev pub procedure_bytes : ProgramTree → ProcedureTree → List ℕ
-procedure_bytes p q =
-    procedure_head_bytes p q
-    ++ stmts_bytes (record {
+-- a procedure at its position
+abbrev pub noted_procedure_bytes : ProgramTree → Notes → ℕ × ProcedureTree → List ℕ
+noted_procedure_bytes p notes e =
+    procedure_head_bytes p (note_at notes.procedures e.0) e.1
+    ++ noted_stmts_bytes (notes_on notes e.1.of).fields
+    (record {
       program = p;
-      fields = struct_fields p.structs q.of;
-      params = map (λ x. x.name) q.params;
-    }) 4 q.body ++ ended (codes "}")
+      fields = struct_fields p.structs e.1.of;
+      params = map (λ x. x.name) e.1.params;
+    }) 4 e.1.body ++ ended (codes "}")
 
--- the text of a program
+-- the text of a program with notes
+abbrev pub noted_bytes : Notes → ProgramTree → List ℕ
+noted_bytes notes p =
+    ended header_line ++ flat_map (pure_bytes p) p.pures
+    ++ flat_map (noted_struct_bytes p notes) (enumerate_from 0 p.structs)
+    ++ flat_map (noted_procedure_bytes p notes) (enumerate_from 0 p.procedures)
+
+-- and without any
 abbrev pub program_bytes : ProgramTree → List ℕ
-program_bytes p =
-    ended header_line ++ flat_map (pure_bytes p) p.pures ++ flat_map (struct_bytes p) p.structs
-    ++ flat_map (procedure_bytes p) p.procedures
+program_bytes p = noted_bytes no_notes p

@@ -1,4 +1,4 @@
--- The vocabulary of a scope.
+-- The vocabulary of a scope, and its notes.
 use Rattle.std.specs.Prelude.{ℕ, List, map}
 use Rattle.c_printer.specs.declared.printing.names.Params.{Params}
 use Rattle.c_printer.specs.declared.printing.names.Params.TheVariants.{Pure, Procedure}
@@ -20,3 +20,7 @@ vocabulary_of s =
       fields = field_trees s.fields.now;
       params = param_names s.params;
     }
+
+-- the notes on the fields of a scope
+abbrev pub scope_notes : Scope → List (List ℕ)
+scope_notes s = map (λ note. note.items) s.notes.now

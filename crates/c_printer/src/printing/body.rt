@@ -1,11 +1,14 @@
 // Expressions, conditions and statements.
 ghost use Rattle.std.specs.Prelude.{◌≡◌, ◌++◌, map, codes, OnOk};
 ghost use Rattle.c_grammar.specs.Grammar.{op_text, compare_text, type_text};
-ghost use Rattle.c_syntax.specs.Tree.{pure, assign, assign_at, call, exprs_of_list, stmts_of_list, field_types, type_at};
+ghost use Rattle.c_syntax.specs.Tree.{pure, assign, assign_at, call, exprs_of_list, stmts_of_list};
 ghost use Rattle.c_syntax.specs.Plain.{expr_tree, cond_tree, stmt_tree};
-ghost use Rattle.c_printer.specs.Printing.{leaf_bytes, literal_bytes, expr_bytes, exprs_bytes, later_exprs_bytes, cond_bytes, margin_bytes, deeper, ended, target_bytes, arguments_bytes, stmt_bytes, stmts_bytes, else_bytes};
-ghost use Rattle.c_printer.specs.VocabularyOf.{vocabulary_of};
+ghost use Rattle.c_printer.specs.Lines.{ended, margin_bytes};
+ghost use Rattle.c_printer.specs.Printing.{leaf_bytes, literal_bytes, expr_bytes, exprs_bytes, later_exprs_bytes, cond_bytes, deeper, target_bytes, arguments_bytes, stored_bytes, store_bytes, item_store_bytes, call_bytes, target_note, noted_stmt_bytes, noted_stmts_bytes, noted_else_bytes};
+ghost use Rattle.c_printer.specs.VocabularyOf.{scope_notes, vocabulary_of};
 
+use crate::notes::note_at;
+use crate::printing::lines::{put_margin, put_noted};
 use crate::printing::names::{
     Scope, field_name, field_type, procedure_name, procedure_params, pure_name,
 };
@@ -203,16 +206,6 @@ fn put_cond(alloc: Global, out: &mut Vec<u8>, scope: &Scope, test: &Cond) -> Res
     }
 }
 
-// The blanks that a line begins with.
-fn put_margin(out: &mut Vec<u8>, margin: usize) -> Result<(), AllocError>
-    ensures { OnOk result (out.new.items ≡ out.old.items ++ margin_bytes margin) }
-{
-    for _ in 0..margin {
-        out.push(b' ')?;
-    }
-    Ok(())
-}
-
 // The margin in a block.
 fn deeper(margin: usize) -> usize
     ensures { result ≡ deeper margin }
@@ -258,16 +251,14 @@ fn put_call(
     alloc: Global,
     out: &mut Vec<u8>,
     scope: &Scope,
-    margin: usize,
     procedure: u32,
     target: Target,
     values: &[Expr],
 ) -> Result<(), AllocError>
     ensures { OnOk result (out.new.items ≡ out.old.items
-        ++ stmt_bytes (vocabulary_of scope.now) margin
-        (call 0 procedure target (exprs_of_list (map expr_tree values.now)))) }
+        ++ call_bytes (vocabulary_of scope.now) procedure target
+        (exprs_of_list (map expr_tree values.now))) }
 {
-    put_margin(out, margin)?;
     put(out, procedure_name(scope.program, procedure))?;
     put(out, b"(")?;
     put_target(out, scope, target)?;
@@ -278,41 +269,37 @@ fn put_call(
         procedure_params(scope.program, procedure),
         values,
     )?;
-    put(out, b");\n")
+    put(out, b");")
 }
 
-fn put_set(
+fn put_store(
     alloc: Global,
     out: &mut Vec<u8>,
     scope: &Scope,
-    margin: usize,
     field: u32,
     value: &Expr,
 ) -> Result<(), AllocError>
     ensures { OnOk result (out.new.items ≡ out.old.items
-        ++ stmt_bytes (vocabulary_of scope.now) margin (assign 0 field (expr_tree value.now))) }
+        ++ store_bytes (vocabulary_of scope.now) field (expr_tree value.now)) }
 {
-    put_margin(out, margin)?;
     put(out, b"s->")?;
     put(out, field_name(scope.fields, field))?;
     put(out, b" = (")?;
     put_stored(alloc, out, scope, field, value)
 }
 
-fn put_set_at(
+fn put_item_store(
     alloc: Global,
     out: &mut Vec<u8>,
     scope: &Scope,
-    margin: usize,
     field: u32,
     index: &Expr,
     value: &Expr,
 ) -> Result<(), AllocError>
     ensures { OnOk result (out.new.items ≡ out.old.items
-        ++ stmt_bytes (vocabulary_of scope.now) margin
-        (assign_at 0 field (expr_tree index.now) (expr_tree value.now))) }
+        ++ item_store_bytes (vocabulary_of scope.now) field (expr_tree index.now)
+        (expr_tree value.now)) }
 {
-    put_margin(out, margin)?;
     put(out, b"s->")?;
     put(out, field_name(scope.fields, field))?;
     put(out, b"[")?;
@@ -329,14 +316,79 @@ fn put_stored(
     field: u32,
     value: &Expr,
 ) -> Result<(), AllocError>
-    ensures { let v = vocabulary_of scope.now in OnOk result (out.new.items ≡ out.old.items
-        ++ (type_text (type_at (field_types v.fields) field) ++ codes ")"
-        ++ expr_bytes v (expr_tree value.now) ++ ended (codes ";"))) }
+    ensures { OnOk result (out.new.items ≡ out.old.items
+        ++ stored_bytes (vocabulary_of scope.now) field (expr_tree value.now)) }
 {
     put(out, type_text(field_type(scope.fields, field)))?;
     put(out, b")")?;
     put_expr(alloc, out, scope, value)?;
-    put(out, b";\n")
+    put(out, b";")
+}
+
+fn put_set(
+    alloc: Global,
+    out: &mut Vec<u8>,
+    scope: &Scope,
+    margin: usize,
+    field: u32,
+    value: &Expr,
+) -> Result<(), AllocError>
+    ensures { OnOk result (out.new.items ≡ out.old.items
+        ++ noted_stmt_bytes (scope_notes scope.now) (vocabulary_of scope.now) margin
+        (assign 0 field (expr_tree value.now))) }
+{
+    let note = note_at(scope.notes, field as usize);
+    let mut code = Vec::new(alloc);
+    put_store(alloc, &mut code, scope, field, value)?;
+    put_noted(alloc, out, margin, note, &code)
+}
+
+fn put_set_at(
+    alloc: Global,
+    out: &mut Vec<u8>,
+    scope: &Scope,
+    margin: usize,
+    field: u32,
+    index: &Expr,
+    value: &Expr,
+) -> Result<(), AllocError>
+    ensures { OnOk result (out.new.items ≡ out.old.items
+        ++ noted_stmt_bytes (scope_notes scope.now) (vocabulary_of scope.now) margin
+        (assign_at 0 field (expr_tree index.now) (expr_tree value.now))) }
+{
+    let note = note_at(scope.notes, field as usize);
+    let mut code = Vec::new(alloc);
+    put_item_store(alloc, &mut code, scope, field, index, value)?;
+    put_noted(alloc, out, margin, note, &code)
+}
+
+fn put_noted_call(
+    alloc: Global,
+    out: &mut Vec<u8>,
+    scope: &Scope,
+    margin: usize,
+    procedure: u32,
+    target: Target,
+    values: &[Expr],
+) -> Result<(), AllocError>
+    ensures { OnOk result (out.new.items ≡ out.old.items
+        ++ noted_stmt_bytes (scope_notes scope.now) (vocabulary_of scope.now) margin
+        (call 0 procedure target (exprs_of_list (map expr_tree values.now)))) }
+{
+    let note = target_note(scope, target);
+    let mut code = Vec::new(alloc);
+    put_call(alloc, &mut code, scope, procedure, target, values)?;
+    put_noted(alloc, out, margin, note, &code)
+}
+
+// The note at a call: that of the field on which it is.
+fn target_note<'a>(scope: &Scope<'a>, target: Target) -> &'a [u8]
+    ensures { result.now ≡ target_note (scope_notes scope.now) target }
+{
+    match target {
+        Target::Own => b"",
+        Target::Child(field) => note_at(scope.notes, field as usize),
+    }
 }
 
 fn put_test(
@@ -371,7 +423,8 @@ fn put_stmt(
     margin: usize,
     s: &Stmt,
 ) -> Result<(), AllocError>
-    ensures { OnOk result (out.new.items ≡ out.old.items ++ stmt_bytes (vocabulary_of scope.now) margin
+    ensures { OnOk result (out.new.items ≡ out.old.items
+        ++ noted_stmt_bytes (scope_notes scope.now) (vocabulary_of scope.now) margin
         (stmt_tree s.now)) }
 {
     match s {
@@ -393,7 +446,7 @@ fn put_stmt(
             target,
             values,
             ..
-        } => put_call(alloc, out, scope, margin, *procedure, *target, values),
+        } => put_noted_call(alloc, out, scope, margin, *procedure, *target, values),
     }
 }
 
@@ -406,8 +459,8 @@ fn put_else(
     margin: usize,
     no: &[Stmt],
 ) -> Result<(), AllocError>
-    ensures { OnOk result (out.new.items
-        ≡ out.old.items ++ else_bytes (vocabulary_of scope.now) margin
+    ensures { OnOk result (out.new.items ≡ out.old.items
+        ++ noted_else_bytes (scope_notes scope.now) (vocabulary_of scope.now) margin
         (stmts_of_list (map stmt_tree no.now))) }
 {
     if no.is_empty() {
@@ -426,8 +479,8 @@ pub(super) fn put_stmts(
     margin: usize,
     stmts: &[Stmt],
 ) -> Result<(), AllocError>
-    ensures { OnOk result (out.new.items
-        ≡ out.old.items ++ stmts_bytes (vocabulary_of scope.now) margin
+    ensures { OnOk result (out.new.items ≡ out.old.items
+        ++ noted_stmts_bytes (scope_notes scope.now) (vocabulary_of scope.now) margin
         (stmts_of_list (map stmt_tree stmts.now))) }
 {
     for s in stmts {

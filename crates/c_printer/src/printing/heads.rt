@@ -1,11 +1,15 @@
 // Pure functions, structs and procedures.
 ghost use Rattle.std.specs.Prelude.{◌≡◌, ◌++◌, map, OnOk};
-ghost use Rattle.std.specs.List.{flat_map};
+ghost use Rattle.std.specs.List.{flat_map, enumerate_from};
 ghost use Rattle.c_syntax.specs.Plain.{pure_tree, procedure_tree, program_tree};
 ghost use Rattle.c_syntax.specs.PlainField.{field_tree, field_trees};
-ghost use Rattle.c_printer.specs.Printing.{pure_head_bytes, pure_bytes, pure_params_bytes, kind_bytes, length_bytes, field_bytes, struct_bytes, private_bytes, param_bytes, procedure_head_bytes, procedure_bytes};
+ghost use Rattle.c_printer.specs.Lines.{noted_line};
+ghost use Rattle.c_printer.specs.Notes.{notes_seen};
+ghost use Rattle.c_printer.specs.Printing.{pure_head_bytes, pure_bytes, pure_params_bytes, kind_bytes, length_bytes, field_bytes, noted_field_bytes, noted_struct_bytes, private_bytes, param_bytes, procedure_head_bytes, noted_procedure_bytes};
 
+use crate::notes::{Notes, note_at};
 use crate::printing::body::{put_expr, put_stmts, type_text};
+use crate::printing::lines::{put_note, put_noted};
 use crate::printing::names::{Params, Scope, struct_fields, struct_name};
 use crate::printing::put;
 use base_core::Text;
@@ -27,6 +31,7 @@ pub(super) fn put_pure(
         program,
         fields: &[],
         params: Params::Pure(&pure.params),
+        notes: &[],
     };
     put_expr(alloc, out, &scope, &pure.body)?;
     put(out, b";\n}\n")
@@ -57,19 +62,25 @@ fn put_pure_params(out: &mut Vec<u8>, params: &[Text]) -> Result<(), AllocError>
     Ok(())
 }
 
+// The struct at a position.
 pub(super) fn put_struct(
     alloc: Global,
     out: &mut Vec<u8>,
     program: &Program,
+    notes: &Notes,
+    k: usize,
     def: &StructDef,
 ) -> Result<(), AllocError>
     ensures { OnOk result (out.new.items
-        ≡ out.old.items ++ struct_bytes (program_tree program.now) def.now) }
+        ≡ out.old.items ++ noted_struct_bytes (program_tree program.now) (notes_seen notes.now)
+        (k, def.now)) }
 {
-    put(out, b"\nstruct ")?;
+    put(out, b"\n")?;
+    put_note(out, notes.above_struct(k))?;
+    put(out, b"struct ")?;
     put(out, def.name.bytes())?;
     put(out, b" {\n")?;
-    put_fields(alloc, out, program, &def.fields)?;
+    put_fields(alloc, out, program, notes.on_fields(k), &def.fields)?;
     put(out, b"};\n")
 }
 
@@ -77,14 +88,16 @@ fn put_fields(
     alloc: Global,
     out: &mut Vec<u8>,
     program: &Program,
+    notes: &[Vec<u8>],
     fields: &[Field],
 ) -> Result<(), AllocError>
-    ensures { OnOk result (out.new.items
-        ≡ out.old.items ++ flat_map (field_bytes (program_tree program.now))
-        (field_trees fields.now)) }
+    ensures { OnOk result (out.new.items ≡ out.old.items
+        ++ flat_map
+        (noted_field_bytes (program_tree program.now) (map (λ note. note.items) notes.now))
+        (enumerate_from 0 (field_trees fields.now))) }
 {
-    for field in fields {
-        put_field(alloc, out, program, field)?;
+    for (k, field) in fields.iter().enumerate() {
+        put_field(alloc, out, program, note_at(notes, k), field)?;
     }
     Ok(())
 }
@@ -93,17 +106,31 @@ fn put_field(
     alloc: Global,
     out: &mut Vec<u8>,
     program: &Program,
+    note: &[u8],
+    field: &Field,
+) -> Result<(), AllocError>
+    ensures { OnOk result (out.new.items ≡ out.old.items
+        ++ noted_line 4 note.now (field_bytes (program_tree program.now) (field_tree field.now))) }
+{
+    let mut code = Vec::new(alloc);
+    put_declaration(alloc, &mut code, program, field)?;
+    put_noted(alloc, out, 4, note, &code)
+}
+
+fn put_declaration(
+    alloc: Global,
+    out: &mut Vec<u8>,
+    program: &Program,
     field: &Field,
 ) -> Result<(), AllocError>
     ensures { OnOk result (out.new.items
         ≡ out.old.items ++ field_bytes (program_tree program.now) (field_tree field.now)) }
 {
-    put(out, b"    ")?;
     put_kind(out, program, field.kind)?;
     put(out, b" ")?;
     put(out, field.name.bytes())?;
     put_length(alloc, out, field.kind)?;
-    put(out, b";\n")
+    put(out, b";")
 }
 
 // The length of an array, behind the field's name.
@@ -133,21 +160,25 @@ fn put_kind(out: &mut Vec<u8>, program: &Program, kind: FieldKind) -> Result<(),
     }
 }
 
+// The procedure at a position.
 pub(super) fn put_procedure(
     alloc: Global,
     out: &mut Vec<u8>,
     program: &Program,
+    notes: &Notes,
+    k: usize,
     procedure: &Procedure,
 ) -> Result<(), AllocError>
     ensures { OnOk result (out.new.items
-        ≡ out.old.items ++ procedure_bytes (program_tree program.now)
-        (procedure_tree procedure.now)) }
+        ≡ out.old.items ++ noted_procedure_bytes (program_tree program.now) (notes_seen notes.now)
+        (k, procedure_tree procedure.now)) }
 {
-    put_procedure_head(out, program, procedure)?;
+    put_procedure_head(out, program, notes.above_procedure(k), procedure)?;
     let scope = Scope {
         program,
         fields: struct_fields(program, procedure.of),
         params: Params::Procedure(&procedure.params),
+        notes: notes.on_fields(procedure.of as usize),
     };
     put_stmts(alloc, out, &scope, 4, &procedure.body)?;
     put(out, b"}\n")
@@ -156,13 +187,15 @@ pub(super) fn put_procedure(
 fn put_procedure_head(
     out: &mut Vec<u8>,
     program: &Program,
+    note: &[u8],
     procedure: &Procedure,
 ) -> Result<(), AllocError>
     ensures { OnOk result (out.new.items
-        ≡ out.old.items ++ procedure_head_bytes (program_tree program.now)
+        ≡ out.old.items ++ procedure_head_bytes (program_tree program.now) note.now
         (procedure_tree procedure.now)) }
 {
     put(out, b"\n")?;
+    put_note(out, note)?;
     put(out, private_text(procedure.private))?;
     put(out, procedure.name.bytes())?;
     put(out, b"(struct ")?;

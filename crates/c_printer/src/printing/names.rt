@@ -17,12 +17,13 @@ pub(super) enum Params<'a> {
     Procedure(&'a [(Text, CType)]),
 }
 
-/// What a body can name.
+/// What a body can name, and the notes on the fields.
 #[derive(Clone, Copy)]
 pub(super) struct Scope<'a> {
     pub(super) program: &'a Program,
     pub(super) fields: &'a [Field],
     pub(super) params: Params<'a>,
+    pub(super) notes: &'a [Vec<u8>],
 }
 
 const NO_NAME: &[u8] = b"";

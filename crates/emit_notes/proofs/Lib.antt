@@ -1,0 +1,8 @@
+mod NameLemmas
+mod NoteLaws
+mod RowLaws
+mod ReadingLemmas
+mod ListLemmas
+mod PathLemmas
+mod StoredLemmas
+mod ProcedureLemmas

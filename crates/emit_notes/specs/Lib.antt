@@ -1,0 +1,9 @@
+pub mod Labels
+pub mod NameUses
+pub mod BlockNotes
+pub mod Outports
+pub mod FunctionNotes
+pub mod ProgramNotes
+pub mod ModelNotes
+pub mod NameExamples
+pub mod NoteExamples
