@@ -10,7 +10,7 @@ use base_core::Memory;
 use diagram_meaning::Resolved;
 use emit_linker::assemble;
 use emit_systems::codes_of;
-use modules_profile::{profiles_of, tree_has_all_systems};
+use modules_profile::tree_has_all_systems;
 use std::alloc::Global;
 
 /// The ticks after which all hits of a model repeat.
@@ -30,10 +30,9 @@ pub fn emit(alloc: Global, r: &Resolved) -> Result<Emitted, Memory>
     assembled_is_code();
     r.is_resolved();
     tree_has_all_systems();
-    let profiles = profiles_of(alloc, r)?;
-    let profiles = profiles.as_slice();
     let made = codes_of(alloc, r)?;
     let program = assemble(alloc, &made.codes, &made.root, cycle(r))?;
+    let profiles = made.profiles.as_slice();
     Ok(Emitted {
         program,
         systems: profiles.len() as u32,

@@ -2,9 +2,9 @@
 use Rattle.std.specs.Prelude.{◌≡◌, ℕ, ◌+◌, ◌<◌, ◌≤◌, List, [], ◌∷◌, ◌++◌, map, flat_map, length, slice_get, take, All, Contains, Option, None, Some, true, ◌&&◌, refl}
 use Rattle.std.specs.List.{AllZip}
 use Rattle.std.proofs.Common.{sym, ap, ap₂, subst, ◌∙◌, arith, get_or}
-use Rattle.std.proofs.lemmas.List.{length-map, map-append, take_all, take_more, append-nil}
+use Rattle.std.proofs.lemmas.List.{length-map, map-append, take_all, take_more, append-nil, append_assoc}
 use Rattle.std.proofs.lemmas.List.Concat.{flat_map-append}
-use Rattle.std.proofs.lemmas.List.Elements.{All-push, All-contains}
+use Rattle.std.proofs.lemmas.List.Elements.{All-push, All-append, All-contains}
 use Rattle.std.proofs.lemmas.Option.{get_or_from_slice_get}
 use Rattle.diagram_meaning.specs.declared.subsystem.Subsystem.{Subsystem}
 use Rattle.diagram_meaning.specs.declared.subsystem.Subsystem.TheViews.{out-Subsystem}
@@ -18,13 +18,14 @@ use Rattle.modules_profile.specs.SystemProfile.{SystemProfile}
 use Rattle.modules_profile.specs.Functions.{IsProfileOf}
 use Rattle.modules_profile.specs.NodeFacts.{AreProfiles}
 use Rattle.modules_profile.specs.Systems.{listed, children_of, systems, systems_inside}
-use Rattle.modules_profile.specs.TreeProfiles.{rows_inside, rows_of_all}
+use Rattle.modules_profile.specs.TreeProfiles.{rows_inside, rows_of_all, AreProfilesInside}
 use Rattle.modules_profile.proofs.lemmas.Members.{in-at, at-below, in-rest, in-map, of-map, in-filter, in-range}
 use Rattle.modules_profile.proofs.lemmas.PortRows.{of-subsystems}
 use Rattle.modules_profile.proofs.lemmas.SystemsInside.{children-are, agreed-heads, got-mapped}
 use Rattle.right_claim.specs.Assembly.{IsCodeOf}
 use Rattle.emit_shape.specs.declared.code.SystemCode.{SystemCode}
 use Rattle.emit_shape.specs.SystemTree.{SystemTree, system_tree}
+use Rattle.emit_systems.specs.ChildProfiles.{AreProfilesUnder, AreProfilesBelow}
 
 -- ---- Systems
 
@@ -87,6 +88,53 @@ module _ (r : ResolvedTree) (s : System) where
   abbrev IsOwn : SystemProfile → Type 0
   IsOwn p = IsProfileOf d p.row p
 
+  one-more : (i : ℕ) (c : System) → slice_get (children_of s) i ≡ Some c →
+      take (i + 1) (children_of s) ≡ take i (children_of s) ++ c ∷ []
+  one-more i c at = take_more (children_of s) i c (at-below (children_of s) i c at)
+      ∙ ap (λ x. take i (children_of s) ++ x ∷ []) (get_or_from_slice_get (children_of s) i c c at)
+
+  inside-more : (i : ℕ) (c : System) → slice_get (children_of s) i ≡ Some c →
+      flat_map rows_inside (take (i + 1) (children_of s)) ≡ flat_map rows_inside (take i (children_of s)) ++ rows_inside c
+  inside-more i c at = ap (flat_map rows_inside) (one-more i c at) ∙ flat_map-append rows_inside (take i (children_of s)) (c ∷ [])
+      ∙ ap (λ rows. flat_map rows_inside (take i (children_of s)) ++ rows) (append-nil (rows_inside c))
+
+  -- ---- Profiles of the systems inside
+
+  pub under-none : AreProfilesUnder d [] []
+  under-none = record { rows = refl; each = λ k p below. absurd (omega arith) }
+
+  -- one child more: its profile, and then those of the systems inside it
+  pub under-next : (i : ℕ) (c : System) (p : SystemProfile) (below one deeper all : List SystemProfile) →
+      slice_get (children_of s) i ≡ Some c → IsProfileOf d (row_of c) p → AreProfilesBelow d c deeper → one ≡ below ++ p ∷ [] →
+      all ≡ one ++ deeper → AreProfilesUnder d (take i (children_of s)) below → AreProfilesUnder d (take (i + 1) (children_of s)) all
+  under-next i c p below one deeper all at is inside made more before =
+      let row : SystemProfile → Option ℕ = λ q. q.row in
+      subst (AreProfilesUnder d (take (i + 1) (children_of s))) (sym (more ∙ ap (λ ps. ps ++ deeper) made)) (record {
+        rows = map-append row (below ++ p ∷ []) deeper ∙ ap (λ rows. rows ++ map row deeper) (map-append row below (p ∷ []))
+            ∙ append_assoc (map row below) (p.row ∷ []) (map row deeper)
+            ∙ ap₂ (λ (front back : List (Option ℕ)). front ++ back) before.rows
+            (ap₂ (λ (o : Option ℕ) (rows : List (Option ℕ)). o ∷ rows) is.row inside.rows ∙ sym (row-first c)) ∙ sym (inside-more i c at);
+        each = All-append IsOwn (below ++ p ∷ []) deeper
+            (All-push IsOwn below p before.each (subst (λ o. IsProfileOf d o p) (sym is.row) is)) inside.each;
+      })
+
+  pub all-under : (i : ℕ) (below : List SystemProfile) → take i (children_of s) ≡ children_of s →
+      AreProfilesUnder d (take i (children_of s)) below → AreProfilesBelow d s below
+  all-under i below all are = subst (λ cs. AreProfilesUnder d cs below) all are
+
+  -- the own profile comes first, and then those of the systems inside
+  pub profiles-whole : (p : SystemProfile) (below none first all : List SystemProfile) → none ≡ [] → first ≡ none ++ p ∷ [] →
+      all ≡ first ++ below → IsProfileOf d (row_of s) p → AreProfilesBelow d s below → AreProfilesInside d s all
+  profiles-whole p below none first all empty one made is are =
+      let same : all ≡ p ∷ below = made ∙ ap (λ ps. ps ++ below) (one ∙ ap (λ ps. ps ++ p ∷ []) empty) in
+      subst (AreProfilesInside d s) (sym same) (record {
+        rows = ap₂ (λ (o : Option ℕ) (rows : List (Option ℕ)). o ∷ rows) is.row are.rows ∙ sym (row-first s);
+        each = All-append IsOwn (p ∷ []) below
+            (All-push IsOwn [] p (λ k q below. absurd (omega arith)) (subst (λ o. IsProfileOf d o p) (sym is.row) is)) are.each;
+      })
+
+  -- ---- Codes
+
   pub coded-none : AreCoded r s 0 [] []
   coded-none = record { rows = refl; each = λ k p below. absurd (omega arith); are_codes = tt }
 
@@ -94,12 +142,8 @@ module _ (r : ResolvedTree) (s : System) where
       slice_get (children_of s) i ≡ Some c → IsProfileOf d (row_of c) p → AllZip (IsCodeOf r) (rows_inside c) more →
       AreCoded r s i children codes → AreCoded r s (i + 1) (children ++ p ∷ []) (codes ++ more)
   coded-more i c children p codes more at is inside before =
-      let longer : take (i + 1) (children_of s) ≡ take i (children_of s) ++ c ∷ [] =
-      take_more (children_of s) i c (at-below (children_of s) i c at)
-      ∙ ap (λ x. take i (children_of s) ++ x ∷ []) (get_or_from_slice_get (children_of s) i c c at) in
-      let all : flat_map rows_inside (take (i + 1) (children_of s)) ≡ flat_map rows_inside (take i (children_of s)) ++ rows_inside c =
-      ap (flat_map rows_inside) longer ∙ flat_map-append rows_inside (take i (children_of s)) (c ∷ [])
-      ∙ ap (λ rows. flat_map rows_inside (take i (children_of s)) ++ rows) (append-nil (rows_inside c)) in
+      let longer = one-more i c at in
+      let all = inside-more i c at in
       record {
         rows = map-append (λ (q : SystemProfile). q.row) children (p ∷ [])
             ∙ ap₂ (λ (rows : List (Option ℕ)) (row : Option ℕ). rows ++ row ∷ []) before.rows is.row

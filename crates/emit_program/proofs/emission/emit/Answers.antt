@@ -15,8 +15,8 @@ pub overflow_cast-result : goal.overflow_cast-result
 overflow_cast-result c =
     let r = c.args.r.now in
     let is = c.is_resolved.ensures in
-    let profiles = c.in_ok-profiles.profiles.items in
-    let rows = c.in_ok-profiles.ensures.rows ∙ c.tree_has_all_systems.ensures r is in
+    let profiles = c.in_ok-made.made.profiles.items in
+    let rows = c.in_ok-made.ensures.profiles.rows ∙ c.tree_has_all_systems.ensures r is in
     let many = ap length c.as_slice-profiles.ensures.value ∙ sym (length-map profiles (λ (p : SystemProfile). p.row)) ∙ ap length rows in
     let few = few-systems r is in
     omega (arith, many, few)
@@ -25,17 +25,17 @@ pub function_count-requires : goal.function_count-requires
 function_count-requires c =
     let r = c.args.r.now in
     let is = c.is_resolved.ensures in
-    let rows = c.in_ok-profiles.ensures.rows ∙ c.tree_has_all_systems.ensures r is in
+    let rows = c.in_ok-made.ensures.profiles.rows ∙ c.tree_has_all_systems.ensures r is in
     subst (λ (ps : List SystemProfile). sum_by (λ (p : SystemProfile). length p.functions) ps < 2 ^ 32)
     (sym c.as_slice-profiles.ensures.value)
-    (functions-fit r is c.in_ok-profiles.profiles.items rows c.in_ok-profiles.ensures.each)
+    (functions-fit r is c.in_ok-made.made.profiles.items rows c.in_ok-made.ensures.profiles.each)
 
 pub returns : goal.returns
 returns c =
     let r = c.args.r.now in
     let is = c.is_resolved.ensures in
-    let profiles = c.in_ok-profiles.profiles.items in
-    let rows = c.in_ok-profiles.ensures.rows ∙ c.tree_has_all_systems.ensures r is in
+    let profiles = c.in_ok-made.made.profiles.items in
+    let rows = c.in_ok-made.ensures.profiles.rows ∙ c.tree_has_all_systems.ensures r is in
     let made = c.in_ok-made.made in
     let (pures, prelude, known, tree) = c.in_ok-program.ensures in
     let parts : Parts = record {
@@ -44,7 +44,7 @@ returns c =
       root = made.root;
       hyper = r.times.hyper;
       pures = pures;
-      can = c.in_ok-made.ensures;
+      can = c.in_ok-made.ensures.codes;
       prelude = prelude;
       known = known;
     } in
@@ -55,5 +55,5 @@ returns c =
       systems = ap length c.as_slice-profiles.ensures.value ∙ sym (length-map profiles (λ (p : SystemProfile). p.row)) ∙ ap length rows;
       functions = subst (IsFunctionCount (diagram_of r))
           (sym (c.function_count.ensures ∙ ap (sum_by (λ (p : SystemProfile). length p.functions)) c.as_slice-profiles.ensures.value))
-          (functions-counted (diagram_of r) profiles rows c.in_ok-profiles.ensures.each);
+          (functions-counted (diagram_of r) profiles rows c.in_ok-made.ensures.profiles.each);
     }
