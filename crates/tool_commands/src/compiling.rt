@@ -8,17 +8,19 @@ ghost use Rattle.tool_endings.specs.Acting.{NotCompiled, NotWritten, WritesCodeO
 use base_core::Memory;
 use base_host::{Failed, Host, write_all};
 use diagram_meaning::Resolved;
+use emit_notes::Labels;
 use std::alloc::Global;
 use tool_compiled::Compiled;
 use tool_compiler::compiled_from;
 use tool_endings::Ending;
-use tool_steps::accept_file;
+use tool_steps::{AcceptedFile, accept_file};
 
 /// Compiles an accepted model into the file `code`.
 pub fn write_code<H: Host>(
     alloc: Global,
     host: &mut H,
     r: &Resolved,
+    labels: &Labels,
     code: &str,
 ) -> Result<Compiled, Ending>
     requires { HasNoLoop (needs_of (diagram_of r.now)) }
@@ -29,7 +31,7 @@ pub fn write_code<H: Host>(
         IfErr result (λ ending. NotWritten ending (table_of_tree r.now) code.now (at host.old)
         (at host.new)) }
 {
-    let compiled = match compiled_from(alloc, r) {
+    let compiled = match compiled_from(alloc, r, labels) {
         Ok(compiled) => compiled,
         Err(Memory) => return Err(Ending::NoMemory),
     };
@@ -52,9 +54,9 @@ pub fn compile_into<H: Host>(
     ensures ended { let at = told H.files H.rest H.given H.written H.sure H.read_faults H.write_faults in
         IfErr result (λ ending. NotCompiled ending model.now code.now (at host.old) (at host.new)) }
 {
-    let resolved = match accept_file(alloc, host, model) {
-        Ok(resolved) => resolved,
+    let AcceptedFile { resolved, labels } = match accept_file(alloc, host, model) {
+        Ok(accepted) => accepted,
         Err(ending) => return Err(ending),
     };
-    write_code(alloc, host, &resolved, code)
+    write_code(alloc, host, &resolved, &labels, code)
 }

@@ -8,7 +8,7 @@ use crate::compiling::write_code;
 use base_host::{Host, Sink};
 use std::alloc::Global;
 use tool_endings::{Ending, ScriptStop};
-use tool_steps::{accept_file, drive_file, driver_in};
+use tool_steps::{AcceptedFile, accept_file, drive_file, driver_in};
 use tool_system_driver::system_named;
 
 /// Compiles the file `model` into the file `code`, and drives the system of the word `subsystem` in what was written by the calls
@@ -29,14 +29,14 @@ pub fn drive_model<H: Host, S: Sink>(
     ensures unsure { IfReadFault result (IsUnsureOf H.files H.sure host.old
         (Drive model.now code.now subsystem.now script.now)) }
 {
-    let resolved = match accept_file(alloc, host, model) {
-        Ok(resolved) => resolved,
+    let AcceptedFile { resolved, labels } = match accept_file(alloc, host, model) {
+        Ok(accepted) => accepted,
         Err(ending) => return ending,
     };
     let Some(system) = system_named(&resolved, subsystem.as_bytes()) else {
         return Ending::BadScript(ScriptStop::NoSubsystem);
     };
-    let compiled = match write_code(alloc, host, &resolved, code) {
+    let compiled = match write_code(alloc, host, &resolved, &labels, code) {
         Ok(compiled) => compiled,
         Err(ending) => return ending,
     };

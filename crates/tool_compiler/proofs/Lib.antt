@@ -1,4 +1,4 @@
 pub mod lemmas
 pub mod RowPasses
 pub mod InputLaws
-mod NeededTexts
+mod WrittenPrograms

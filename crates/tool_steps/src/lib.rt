@@ -11,7 +11,7 @@ mod scripting;
 mod starting;
 mod tracing;
 
-pub use accepting::accept_file;
+pub use accepting::{AcceptedFile, accept_file};
 pub use driving::driver_in;
 pub use executing::exec_code;
 pub use profiling::profile_model;

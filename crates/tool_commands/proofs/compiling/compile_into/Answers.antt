@@ -15,7 +15,7 @@ returns-clause-compiled g c =
     told g.H.Host.files g.H.Host.rest g.H.Host.given g.H.Host.written g.H.Host.sure g.H.Host.read_faults g.H.Host.write_faults c.accept_file.new.host in
     let after : HostTold =
     told g.H.Host.files g.H.Host.rest g.H.Host.given g.H.Host.written g.H.Host.sure g.H.Host.read_faults g.H.Host.write_faults c.write_code.new.host in
-    let r : ResolvedTable = table_of_tree c.in-Ok.resolved in
+    let r : ResolvedTable = table_of_tree c.in-Ok.accepted.resolved in
     IfOk-weaker c.write_code.result
     (λ (x : Compilation). WritesCodeOf r x c.args.code.now between after)
     (λ (x : Compilation). WritesCompiled x c.args.model.now c.args.code.now before after)
@@ -30,7 +30,7 @@ returns-clause-ended g c =
     told g.H.Host.files g.H.Host.rest g.H.Host.given g.H.Host.written g.H.Host.sure g.H.Host.read_faults g.H.Host.write_faults c.accept_file.new.host in
     let after : HostTold =
     told g.H.Host.files g.H.Host.rest g.H.Host.given g.H.Host.written g.H.Host.sure g.H.Host.read_faults g.H.Host.write_faults c.write_code.new.host in
-    let r : ResolvedTable = table_of_tree c.in-Ok.resolved in
+    let r : ResolvedTable = table_of_tree c.in-Ok.accepted.resolved in
     IfErr-weaker c.write_code.result
     (λ (e : Ending). NotWritten e r c.args.code.now between after)
     (λ (e : Ending). NotCompiled e c.args.model.now c.args.code.now before after)

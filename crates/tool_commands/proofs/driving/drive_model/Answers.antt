@@ -13,7 +13,7 @@ use Rattle.tool_commands.proofs.driving.drive_model.Goals as goal
 
 pub returns-in-Err-write_code-clause-ends : goal.returns-in-Err-write_code-clause-ends
 returns-in-Err-write_code-clause-ends g c =
-    drive_unwritten (table_of_tree c.in-Ok.resolved) c.args.model.now c.args.code.now c.args.subsystem.now c.args.script.now _ _ _
+    drive_unwritten (table_of_tree c.in-Ok.accepted.resolved) c.args.model.now c.args.code.now c.args.subsystem.now c.args.script.now _ _ _
     c.in-Ok.ensures.accepted _ c.in-Err-write_code.ending c.in-Err-write_code.ensures.ended
 
 pub returns-in-Ok-driver_in-clause-ends : goal.returns-in-Ok-driver_in-clause-ends
@@ -28,7 +28,7 @@ returns-in-Ok-driver_in-clause-ends g c =
     told g.H.Host.files g.H.Host.rest g.H.Host.given g.H.Host.written g.H.Host.sure g.H.Host.read_faults g.H.Host.write_faults c.drive_file.new.host in
     let put : SinkTold = sink_told g.S.Sink.bytes g.S.Sink.faults c.args.out.now in
     let puts : SinkTold = sink_told g.S.Sink.bytes g.S.Sink.faults c.drive_file.new.out in
-    let r : ResolvedTable = table_of_tree c.in-Ok.resolved in
+    let r : ResolvedTable = table_of_tree c.in-Ok.accepted.resolved in
     let s : Option ℕ = c.in-Some.system.row in
     let named : system_named r.table.rows c.args.subsystem.now ≡ Some s = search rules in
     let there : Contains (systems r.table.rows) s = search rules in
@@ -51,7 +51,7 @@ returns-clause-ends g c =
     let later : HostTold =
     told g.H.Host.files g.H.Host.rest g.H.Host.given g.H.Host.written g.H.Host.sure g.H.Host.read_faults g.H.Host.write_faults c.write_code.new.host in
     let put : SinkTold = sink_told g.S.Sink.bytes g.S.Sink.faults c.args.out.now in
-    let r : ResolvedTable = table_of_tree c.in-Ok.resolved in
+    let r : ResolvedTable = table_of_tree c.in-Ok.accepted.resolved in
     let s : Option ℕ = c.in-Some.system.row in
     let named : system_named r.table.rows c.args.subsystem.now ≡ Some s = search rules in
     let there : Contains (systems r.table.rows) s = search rules in
