@@ -1,0 +1,4 @@
+pub mod Leads
+pub mod Going
+pub mod Levels
+pub mod RightSides

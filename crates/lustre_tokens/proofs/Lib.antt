@@ -1,0 +1,2 @@
+pub mod TokenLines
+pub mod Pieces

@@ -1,0 +1,2 @@
+mod depths;
+mod readings;
