@@ -1,0 +1,3 @@
+pub mod FromCLaws
+pub mod FunctionLaws
+pub mod OneNumber

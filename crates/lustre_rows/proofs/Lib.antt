@@ -1,0 +1,13 @@
+pub mod ParamNames
+pub mod Tests
+pub mod Activity
+pub mod Samples
+pub mod Memories
+pub mod Values
+pub mod Calls
+pub mod RowCalls
+pub mod RowNames
+pub mod ValueEquations
+pub mod RunRows
+pub mod ChildCalls
+pub mod SystemEquations
