@@ -50,11 +50,13 @@ class Rules:
         return {it.name for it in params}
 
     def pure(self, pure):
+        """The rules of a pure function."""
         self.check(pure.at, NAME, pure.name not in self.functions)
         self.value(pure.value, self.params(pure.params), None)
         self.define(pure)
 
     def struct(self, struct):
+        """The rules of a struct and its fields."""
         self.check(struct.at, NAME, struct.name not in self.structs)
         fields = {}
         for it in struct.fields:
@@ -68,6 +70,7 @@ class Rules:
         self.structs.setdefault(struct.name, fields)
 
     def proc(self, proc):
+        """The rules of a procedure."""
         self.check(proc.at, NAME, proc.name not in self.functions and proc.struct in self.structs)
         if proc.name == "root_start":
             self.check(proc.at, TYPE, proc.struct == "root" and not proc.params)
@@ -134,10 +137,12 @@ class Rules:
 
 
 def is_array(field):
+    """Whether a field is an array."""
     return field.length is not None
 
 
 def is_number(field):
+    """Whether a field is one number."""
     return field.type != "struct" and not is_array(field)
 
 
@@ -152,6 +157,8 @@ class Stuck(Exception):
 
 
 class Machine:
+    """Runs procedures on instances, and counts steps and calls."""
+
     def __init__(self, rules):
         self.functions, self.structs = rules.functions, rules.structs
         self.root, self.steps, self.calls = self.fields("root"), 0, 0
@@ -246,6 +253,8 @@ class Machine:
 
 
 class Program:
+    """A checked program, and its runs over traces."""
+
     def __init__(self, rules):
         self.rules = rules
         self.inputs = [it.type for it in rules.functions["root_step"].params]
@@ -282,6 +291,7 @@ def read(data):
     stray = first_stray(tokens)
 
     def line_of(at):
+        """The line of the token at a place, or the last one."""
         return tokens[at][1] if at < len(tokens) else last_line(data)
 
     if stray is not None:

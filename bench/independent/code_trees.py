@@ -7,6 +7,8 @@ from code_text import is_name
 
 @dataclass
 class Pure:
+    """A pure function; `at` is the place of its first token, here and below."""
+
     at: int
     name: str
     params: list
@@ -16,6 +18,8 @@ class Pure:
 
 @dataclass
 class Struct:
+    """A struct with its fields."""
+
     at: int
     name: str
     fields: list
@@ -23,6 +27,8 @@ class Struct:
 
 @dataclass
 class Field:
+    """A field of a struct: a number, an array of `length` items or a struct."""
+
     at: int
     name: str
     type: str
@@ -32,6 +38,8 @@ class Field:
 
 @dataclass
 class Param:
+    """A parameter of a function."""
+
     at: int
     name: str
     type: str
@@ -39,6 +47,8 @@ class Param:
 
 @dataclass
 class Proc:
+    """A procedure on an instance of a struct."""
+
     at: int
     name: str
     struct: str
@@ -48,6 +58,8 @@ class Proc:
 
 @dataclass
 class Store:
+    """A store in a field, or in an item of one."""
+
     at: int
     line: int
     field: str
@@ -58,6 +70,8 @@ class Store:
 
 @dataclass
 class If:
+    """A test with its two blocks."""
+
     at: int
     line: int
     test: tuple
@@ -67,6 +81,8 @@ class If:
 
 @dataclass
 class Call:
+    """A call of a procedure on the instance or on one of its fields."""
+
     at: int
     line: int
     name: str
@@ -77,6 +93,8 @@ class Call:
 
 @dataclass
 class Text:
+    """What a text holds."""
+
     pures: list = field(default_factory=list)
     structs: list = field(default_factory=list)
     procs: list = field(default_factory=list)
@@ -93,18 +111,22 @@ class Reader:
         self.texts, self.lines, self.at = [text for text, _ in tokens], [line for _, line in tokens], 0
 
     def sees(self, *wanted):
+        """Whether one of these texts comes next."""
         return self.at < len(self.texts) and self.texts[self.at] in wanted
 
     def take(self, *wanted):
+        """The next token, which must be one of these, or any where none is named."""
         if wanted and not self.sees(*wanted):
             raise Elsewhere
         self.at += 1
         return self.texts[self.at - 1]
 
     def takes(self, *wanted):
+        """Takes one of these if it comes next, and says whether it did."""
         return self.sees(*wanted) and bool(self.take())
 
     def file(self):
+        """A whole text, after its first line."""
         text = Text()
         while self.texts[self.at : self.at + 2] == ["static", "int64_t"]:
             text.pures.append(self.pure())
@@ -115,6 +137,7 @@ class Reader:
         return text
 
     def pure(self):
+        """A pure function."""
         at = self.at
         self.take("static"), self.take("int64_t")
         name, params = self.take(), []
@@ -128,6 +151,7 @@ class Reader:
         return Pure(at, name, params, value, line)
 
     def struct(self):
+        """A struct."""
         at = self.at
         self.take("struct")
         name, fields = self.take(), []
@@ -148,6 +172,7 @@ class Reader:
             return length
 
     def proc(self):
+        """A procedure."""
         at = self.at
         self.takes("static")
         self.take("void")
@@ -160,6 +185,7 @@ class Reader:
         return Proc(at, name, struct, params, self.block())
 
     def block(self):
+        """Statements in braces."""
         body = []
         self.take("{")
         while not self.takes("}"):
@@ -167,12 +193,14 @@ class Reader:
         return body
 
     def cast(self):
+        """The type in parentheses."""
         self.take("(")
         type = self.take()
         self.take(")")
         return type
 
     def store(self):
+        """A store."""
         at, line = self.at, self.lines[self.at]
         self.take("s"), self.take("->")
         name, index = self.take(), self.index()
@@ -189,11 +217,13 @@ class Reader:
             return index
 
     def choice(self):
+        """An `if`."""
         at, line = self.at, self.lines[self.at]
         self.take("if")
         return If(at, line, self.cond(), self.block(), self.block() if self.takes("else") else [])
 
     def call(self):
+        """A call as a statement."""
         at, line = self.at, self.lines[self.at]
         name, target, types, values = self.take(), None, [], []
         self.take("(")
@@ -209,6 +239,7 @@ class Reader:
         return Call(at, line, name, target, types, values)
 
     def expr(self):
+        """An expression."""
         at = self.at
         if self.takes("INT64_C"):
             self.take("(")
@@ -227,6 +258,7 @@ class Reader:
         return self.either(self.operation, self.conditional)
 
     def pure_call(self, at):
+        """A call of a pure function."""
         name, values = self.take(), []
         if not is_name(name):
             raise Elsewhere
@@ -235,6 +267,7 @@ class Reader:
         return "call", at, name, values
 
     def either(self, first, second):
+        """What the first way reads, or the second where that one fails."""
         at = self.at
         try:
             return first()
@@ -243,14 +276,17 @@ class Reader:
             return second()
 
     def pair(self, word, read, *operators):
+        """Two operands with one of these operators, up to the parenthesis."""
         left, operator, right = read(), self.take(*operators), read()
         self.take(")")
         return word, operator, left, right
 
     def operation(self):
+        """A sum, difference, product, quotient or remainder."""
         return self.pair("operation", self.expr, "+", "-", "*", "/", "%")
 
     def conditional(self):
+        """A choice by `?`."""
         test = self.cond()
         self.take("?")
         then = self.expr()
@@ -260,6 +296,7 @@ class Reader:
         return "conditional", test, then, other
 
     def leaf(self):
+        """A parameter, a field, a field of a field, or an item."""
         at = self.at
         if not self.takes("s"):
             return "leaf", at, self.take(), None, None, None
@@ -268,6 +305,7 @@ class Reader:
         return "leaf", at, None, name, self.take() if index is None and self.takes(".") else None, index
 
     def cond(self):
+        """A condition."""
         self.take("(")
         if self.takes("!"):
             test = self.cond()
@@ -276,9 +314,11 @@ class Reader:
         return self.either(self.comparison, self.junction)
 
     def comparison(self):
+        """A comparison of two numbers."""
         return self.pair("comparison", self.expr, "==", "!=", "<", "<=", ">", ">=")
 
     def junction(self):
+        """Two conditions joined."""
         return self.pair("junction", self.cond, "&&", "||")
 
 

@@ -50,10 +50,12 @@ class Code:
             self.fields = self.fields[it]
 
     def call(self, function, tick, numbers):
+        """Calls an output function by its number, or the update where that is None, at a tick."""
         procedure = f"{self.name}_update" if function is None else f"{self.name}_out{function}"
         self.machine.call(procedure, self.fields, [tick % self.cycle, *numbers])
 
     def value(self, row):
+        """The value of a row, as the code holds it."""
         return self.fields[f"v{self.rows[row]}"]
 
 
@@ -103,6 +105,7 @@ class Drive(Interface):
         return " ".join(map(str, ["out", function, *values])) + "\n"
 
     def totals(self):
+        """The last line: ticks, steps and calls."""
         machine = self.code.machine
         assert self.called or machine.calls == self.run.calls, "the code makes other calls"
         return f"ticks {self.run.now} steps {machine.steps} calls {machine.calls}\n"

@@ -161,6 +161,7 @@ class Tick:
         """Why an expression of an instance fails, or None."""
 
         def of(value):
+            """What an expression fails with, or None."""
             try:
                 self.evaluated(path, value)
             except Failed as failure:

@@ -170,10 +170,12 @@ class Set:
 
     @property
     def names(self):
+        """The names that it gives."""
         return [self.name]
 
     @property
     def values(self):
+        """The expressions that it reads."""
         return [self.value]
 
 
@@ -211,10 +213,12 @@ class Node:
 
     @property
     def declared(self):
+        """All names that it declares."""
         return [*self.inputs, *self.outputs, *self.others]
 
     @property
     def types(self):
+        """The type of each name that it declares."""
         return {it.name: it.type for it in self.declared}
 
 
@@ -225,6 +229,7 @@ class Reader:
         self.tokens, self.at = tokens, 0
 
     def ahead(self, further=0):
+        """The text of a later token, or none at the end."""
         return self.tokens[self.at + further][0] if self.at + further < len(self.tokens) else ""
 
     def take(self, *texts):
@@ -236,15 +241,18 @@ class Reader:
         return self.tokens[self.at - 1][0]
 
     def passes(self, *texts):
+        """Goes on past these texts."""
         self.at += len(texts)
 
     def nodes(self):
+        """All nodes."""
         found = []
         while self.at < len(self.tokens):
             found.append(self.node())
         return found
 
     def node(self):
+        """One node."""
         place, line = self.at, self.tokens[self.at][1]
         name = self.take("node")
         inputs = self.ports()
@@ -265,6 +273,7 @@ class Reader:
         return node
 
     def ports(self):
+        """Inputs or outputs, in parentheses."""
         found = []
         self.passes("(")
         while self.ahead() != ")":
@@ -274,10 +283,12 @@ class Reader:
         return found
 
     def declared(self):
+        """A name with its type."""
         place, name = self.at, self.take()
         return Declared(place, name, self.take(":"))
 
     def equation(self):
+        """One equation."""
         place, line, names = self.at, self.tokens[self.at][1], []
         while self.ahead() != "=":
             self.at += self.ahead() == ","
@@ -297,6 +308,7 @@ class Reader:
         return found
 
     def value(self):
+        """One expression."""
         place, text = self.at, self.take()
         if text != "(":
             return leaf(place, text)

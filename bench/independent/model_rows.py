@@ -121,6 +121,7 @@ class Row:
         return isinstance(self.time_text(), tuple)
 
     def is_kind(self, *kinds):
+        """Whether it is of one of these kinds."""
         return self.kind in kinds
 
     def around(self):
@@ -208,9 +209,11 @@ class System:
         return [row for row in self.rows if row.is_kind(*kinds)]
 
     def ports(self, kind):
+        """Its Inports or Outports by port."""
         return sorted(self.of_kind(kind), key=lambda row: whole(row.text("Port")))
 
     def port(self, kind, number):
+        """Its Inport or Outport with this port."""
         return next(row for row in self.of_kind(kind) if whole(row.text("Port")) == number)
 
     def controls(self):
@@ -227,10 +230,12 @@ class System:
         return list(outputs.items())
 
     def functions(self):
+        """How many output functions it has."""
         return len(self.profile)
 
     @cached_property
     def inside(self):
+        """Its rows and all below."""
         return set(self.all_rows())
 
     def needs_of(self, row):

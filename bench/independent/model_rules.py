@@ -14,12 +14,14 @@ MOST_DENOMINATOR, MOST_PERIOD, MOST_CYCLE, MOST_SAMPLES = 10**9, 10**6, 2**30, 1
 
 
 def branches(section):
+    """The Branches of a section, at any depth."""
     for it in section.all(b"Branch"):
         yield it
         yield from branches(it)
 
 
 def with_branches(line):
+    """A Line and its Branches."""
     return [line, *branches(line)]
 
 
@@ -46,15 +48,18 @@ class Model:
         self.systems, self.rows = self.root.all_systems(), self.root.all_rows()
 
     def depths(self):
+        """F5: subsystems too deep."""
         for row in self.rows:
             if row.is_kind(b"SubSystem") and len(row.around()) > 31:
                 yield row.line, "F5 TooDeep line {}"
 
     def many_rows(self):
+        """F6: too many blocks."""
         for row in self.rows[20000:20001]:
             yield row.line, f"F6 TooMany line {{}} Blocks {len(self.rows)}"
 
     def crowds(self):
+        """F6: too many ports of a system."""
         for system in self.systems:
             for kind in (b"Inport", b"Outport"):
                 count = len(system.of_kind(kind))
@@ -62,6 +67,7 @@ class Model:
                     yield (system.owner or system.section).line, f"F6 TooMany line {{}} {kind.decode()}s {count}"
 
     def unsupported(self):
+        """F7: blocks and lines that aren't taken."""
         for row in self.rows:
             if row.kind not in PARAMETERS or row.is_kind(b"SubSystem") and not row.system:
                 yield row.line, "F7 Unsupported line {}"
@@ -70,6 +76,7 @@ class Model:
                 yield section.line, "F7 Unsupported line {}"
 
     def parameters(self):
+        """F8: parameters that aren't there or not of their form."""
         for system in self.systems:
             counts = {kind: len(system.of_kind(kind)) for kind in PARAMETERS}
             for row in system.rows:
@@ -80,6 +87,7 @@ class Model:
                         yield row.line, f"F8 Parameter line {{}} {name}"
 
     def double_names(self):
+        """F9: names and ports given twice."""
         for system in self.systems:
             known = set()
             for row in system.rows:
@@ -101,12 +109,14 @@ class Model:
                 self.ends += [(it, line, source, names.get(it.param(b"DstBlock"))) for it in ends]
 
     def missing_blocks(self):
+        """F10: lines from or to a block that isn't there."""
         self.read_lines()
         for section, *rows in [*self.places, *self.ends]:
             if rows[-1] is None:
                 yield section.line, "F10 NoBlock line {}"
 
     def missing_ports(self):
+        """F11: lines from or to a port that isn't there."""
         for line, row in self.places:
             port = whole(line.param(b"SrcPort"))
             count = len(row.system.of_kind(b"Outport")) if row.system else 0 if row.is_kind(b"Outport", b"Terminator", *CONTROLS) else 1
@@ -117,6 +127,7 @@ class Model:
                 yield section.line, "F11 NoPort line {}"
 
     def double_sources(self):
+        """F12: ports with two lines."""
         for section, line, source, row in sorted(self.ends, key=lambda it: it[0].line):
             port = port_of(section, row)
             if port in row.sources:
@@ -124,12 +135,14 @@ class Model:
             row.sources[port] = source.system.port(b"Outport", whole(line.param(b"SrcPort"))) if source.system else source
 
     def missing_lines(self):
+        """F13: ports without a line."""
         for row in self.rows:
             for port in [*range(1, row.inputs() + 1), *(row.system.controls() if row.system else [])]:
                 if port not in row.sources and not (row.owner and row.is_kind(b"Inport")):
                     yield row.line, f"F13 Unconnected line {{}} port {port}"
 
     def controls(self):
+        """F14: two controls of one kind, or one in the root."""
         for system in self.systems:
             for kind in CONTROLS:
                 for row in system.of_kind(kind)[1 if system.owner else 0 :]:
@@ -145,12 +158,14 @@ class Model:
                 row.sources = {name: row.sources[name] for name in row.system.controls()}
 
     def continuous(self):
+        """F15: continuous sample times."""
         self.settle_wires()
         for row in self.rows:
             if row.time_text() == "zero":
                 yield row.line, "F15 Continuous line {}"
 
     def floats(self):
+        """F16: floating point."""
         for row in self.rows:
             types = [type_of(row.text(it)) for it in ("OutDataTypeStr", "ParamDataTypeStr") if row.has(it)]
             is_number = row.is_kind(b"Constant") and row.text("Value").strip(BLANKS) not in (b"true", b"false")
@@ -158,6 +173,7 @@ class Model:
                 yield row.line, "F16 FloatType line {}"
 
     def types(self):
+        """F17: rows without a type, or with one that disagrees."""
         self.settle_types()
         for row in self.rows:
             if row.is_kind(*WITHOUT_VALUE):
@@ -168,6 +184,7 @@ class Model:
                 yield row.line, "F17 NoType line {} Unlike"
 
     def settle_types(self):
+        """Gives each row its type."""
         settled = {}
         for row in self.rows:
             path, at = [], row
@@ -181,18 +198,21 @@ class Model:
             row.type = settled[row]
 
     def signed_triggers(self):
+        """F18: triggers by a signed type."""
         for row in self.rows:
             wire = row.sources.get("trigger")
             if wire and not wire.is_kind(b"Ground") and wire.type[0]:
                 yield row.line, "F18 TriggerSigned line {}"
 
     def wide_rows(self):
+        """F19: rows that need more than 62 bits."""
         for row in self.rows:
             bits = wide_bits(row)
             if bits > 62:
                 yield row.line, f"F19 TooWide line {{}} bits {bits}"
 
     def inner_times(self):
+        """F20: sample times in triggered subsystems."""
         for row in self.rows:
             if outmost_trigger(row) and row.has_period():
                 yield row.line, "F20 TimeInside line {}"
@@ -202,6 +222,7 @@ class Model:
         return [(row, it) for row in self.rows if row.has_period() for it in row.time_text() if it]
 
     def long_denominators(self):
+        """F21: sample times without a short common denominator."""
         so_far = self.step.denominator if self.step else 1
         for row, fraction in self.fractions():
             so_far = lcm(so_far, fraction.denominator)
@@ -218,12 +239,14 @@ class Model:
             row.ticks = tuple(int(it * common) // base for it in row.time_text()) if row.has_period() else None
 
     def long_periods(self):
+        """F21: periods of too many ticks."""
         self.settle_ticks()
         for row in self.rows:
             if row.ticks and row.ticks[0] > MOST_PERIOD:
                 yield row.line, f"F21 LongCycle line {{}} Period {row.ticks[0]}"
 
     def long_cycles(self):
+        """F21: a cycle of too many ticks."""
         so_far = 1
         for row in self.rows:
             so_far = lcm(so_far, row.ticks[0]) if row.ticks else so_far
@@ -232,6 +255,7 @@ class Model:
                 return
 
     def rate_ratios(self):
+        """F22: rates that meet without a whole ratio; gives each row its time."""
         for row in self.rows:
             row.time, row.delays = settled_time(row), row.is_kind(b"UnitDelay", b"Delay")
             if row.is_kind(b"RateTransition") and not outmost_trigger(row):
@@ -243,11 +267,13 @@ class Model:
                     yield row.line, f"F22 RateRatio line {{}} in {inside[0]} out {outside[0]}"
 
     def loops(self):
+        """F23: loops."""
         path = first_loop(self.rows)
         if path:
             yield path[0].line, "F23 Loop " + " ".join(str(it.line) for it in path)
 
     def long_delays(self):
+        """F24: too many samples in delays."""
         so_far = 0
         for row in self.rows:
             so_far += whole(row.text("DelayLength")) if row.is_kind(b"Delay") else 0
@@ -256,6 +282,7 @@ class Model:
                 return
 
     def judge(self):
+        """The first refusal of the model, or None."""
         passes = [self.depths, self.many_rows, self.crowds, self.unsupported, self.parameters, self.double_names]
         passes += [self.missing_blocks, self.missing_ports, self.double_sources, self.missing_lines, self.controls]
         passes += [self.continuous, self.floats, self.types, self.signed_triggers, self.wide_rows, self.inner_times]
@@ -267,9 +294,11 @@ class Model:
                 raise model_text.Refused(text.format(line))
 
     def ports(self, kind):
+        """The root's Inports or Outports by port."""
         return self.root.ports(kind)
 
     def functions(self):
+        """How many output functions all systems have."""
         return sum(it.functions() for it in self.systems)
 
 

@@ -112,11 +112,13 @@ class Run:
         return line
 
     def memory_after(self, row):
+        """The samples of a delay after a tick."""
         if any(map(self.is_off, self.around(row))):
             return first_memory(row)
         return [*self.memories[row][1:], self.values[row.sources[1]]] if self.runs(row) else self.memories[row]
 
     def trigger_after(self, e):
+        """What the trigger of a subsystem remembers after a tick."""
         if any(map(self.is_off, self.around(e))):
             return None
         if self.is_held_active(e):
@@ -125,6 +127,7 @@ class Run:
 
 
 def first_value(row):
+    """The value of a row before the first tick."""
     if row.delays:
         return first_memory(row)[0]
     is_held = row.is_kind(b"Outport") and row.owner and row.owner.sources
@@ -132,6 +135,7 @@ def first_value(row):
 
 
 def first_memory(row):
+    """The samples of a delay before the first tick."""
     start = quantize(number(row.text("InitialCondition")), row.type)
     return [start] * (whole(row.text("DelayLength")) if row.is_kind(b"Delay") else 1)
 
@@ -141,6 +145,7 @@ def in_order(system):
     done, order = set(), []
 
     def put(row):
+        """Adds a row after all that it needs."""
         todo = [row]
         while todo:
             missing = [it for it in system.needs_of(todo[-1]) if it not in done]

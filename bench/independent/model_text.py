@@ -13,6 +13,8 @@ class Refused(Exception):
 
 
 class Section:
+    """A section with its parameters and sections, in order."""
+
     def __init__(self, name, line):
         self.name, self.line = name, line
         self.sections, self.params = [], []
@@ -41,12 +43,15 @@ def unquoted(text):
 
 
 def lines_of(data):
+    """The lines of a text without their ends and outer blanks."""
     lines = data.split(b"\n")
     ended = [it[:-1] if it.endswith(b"\r") else it for it in lines[:-1]]
     return [it.strip(BLANKS) for it in [*ended, *([lines[-1]] if lines[-1] else [])]]
 
 
 class Reader:
+    """Reads a text line by line."""
+
     def __init__(self, data):
         self.lines = lines_of(data)
         self.at = 0
@@ -55,9 +60,11 @@ class Reader:
         self.quoted = None
 
     def fault(self, line, kind):
+        """Refuses the text at a line."""
         raise Refused(f"F2 Syntax line {line} {kind}")
 
     def string(self, line, text):
+        """The value of a quoted text."""
         found = unquoted(text)
         if found is None:
             self.fault(line, "OpenString")
@@ -67,6 +74,7 @@ class Reader:
         return value
 
     def bracketed(self, line, text):
+        """The value of a text in brackets, which may go on over lines."""
         parts = [text]
         while b"]" not in parts[-1]:
             if self.at == len(self.lines):
@@ -76,6 +84,7 @@ class Reader:
         return b" ".join(parts)
 
     def named(self, line, text):
+        """A line that begins with a name."""
         found = NAME.match(text)
         if not found:
             self.fault(line, "BadName")
@@ -100,6 +109,7 @@ class Reader:
         self.open[-1].items.append((name, value))
 
     def line(self, line, text):
+        """One line."""
         if text.startswith(b'"'):
             value = self.string(line, text)
             if self.quoted is None:
@@ -114,6 +124,7 @@ class Reader:
             self.named(line, text)
 
     def read(self):
+        """The whole text."""
         while self.at < len(self.lines):
             text = self.lines[self.at]
             self.at += 1

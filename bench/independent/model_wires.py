@@ -70,6 +70,7 @@ def row_of_type(row):
 
 
 def is_unlike(row):
+    """Whether an Inport or Outport says another type than its source has."""
     source = row.sources[1]
     is_written = isinstance(type_of(row.text("OutDataTypeStr")), tuple)
     return is_written and not source.is_kind(b"Ground") and source.type not in (None, row.type)
@@ -105,6 +106,7 @@ def wide_bits(row):
     inputs = [BOOLEAN if it.is_kind(b"Ground") else it.type for it in sources]
 
     def fitted(bits, point):
+        """The bits of a number of `bits` bits, `point` of them after the point, at the row's type."""
         return max(bits + max(0, row.type[2] - point), point - row.type[2], 0)
 
     if row.is_kind(b"Gain"):

@@ -180,6 +180,7 @@ class CodeText:
         self.structs.setdefault(name, dict(fields))
 
     def store_item(self, params, fields):
+        """A store in an item of an array."""
         arrays = [it for it, type in fields.items() if isinstance(type, tuple)]
         if arrays:
             name = self.chance.choice(arrays)
@@ -192,6 +193,7 @@ class CodeText:
             self.put(";")
 
     def store(self, params, fields):
+        """A store in a field."""
         numbers = [it for it, type in fields.items() if type in TYPES]
         if numbers:
             name = self.chance.choice(numbers)
@@ -200,6 +202,7 @@ class CodeText:
             self.put(";")
 
     def choice(self, depth, params, fields, struct):
+        """An `if`."""
         self.put("if")
         self.cond(2, params, fields)
         for _ in range(self.chance.choice([1, 2])):
@@ -209,6 +212,7 @@ class CodeText:
         self.tokens.pop()
 
     def call(self, params, fields, struct):
+        """A call."""
         targets = [(["s"], struct), *((["&", "s", "->", name], type) for name, type in fields.items() if type in self.structs)]
         calls = [(name, target) for name, (owner, _) in self.procs.items() for target, it in targets if it == owner]
         if calls:
@@ -220,6 +224,7 @@ class CodeText:
             self.put(")", ";")
 
     def stmts(self, depth, count, params, fields, struct):
+        """So many statements."""
         for _ in range(count):
             kind = self.chance.random()
             if kind < 0.15:
@@ -232,6 +237,7 @@ class CodeText:
                 self.call(params, fields, struct)
 
     def proc(self, struct, name, types):
+        """A procedure of a struct."""
         params = [self.chance.choice(["u1", "f1", name]) if self.is_wrong() else f"u{number}" for number in range(1, len(types) + 1)]
         self.put(*["static"] * self.is_lucky(0.2), "void", name, "(", "struct", "nope" if self.is_wrong() else struct, "*", "s")
         for type, it in zip(types, params):
@@ -242,6 +248,7 @@ class CodeText:
         self.procs.setdefault(name, (struct, types))
 
     def file(self):
+        """A whole text."""
         for _ in range(self.chance.choice([0, 0, 1, 2])):
             self.pure()
         for number in range(self.chance.randrange(3)):

@@ -27,15 +27,19 @@ class LustreText:
         self.deep = chance.random() < 0.05
 
     def is_lucky(self, often):
+        """Whether a chance of this share comes."""
         return self.chance.random() < often
 
     def is_wrong(self, share=1):
+        """Whether something wrong is written here."""
         return self.is_lucky(self.wrong * share)
 
     def is_deep(self):
+        """Whether something is written at the limit on depth."""
         return self.deep and self.is_lucky(0.5)
 
     def put(self, *texts):
+        """Adds tokens."""
         self.tokens += texts
 
     def file(self):
@@ -74,11 +78,13 @@ class LustreText:
         return [(f"{letter}{at}", self.chance.choice(types)) for at in range(1, count + 1)]
 
     def joined(self, mark, things, write):
+        """Writes things with a mark between each two."""
         for at, it in enumerate(things):
             self.put(*[mark] * (at > 0))
             write(it)
 
     def declared(self, name):
+        """A name with its type."""
         self.put(name[0], ":", "bool" if name[1] else "int")
 
     def equations(self, inputs, names):
@@ -121,11 +127,13 @@ class LustreText:
         return self.chance.choice(fit) if fit and self.is_lucky(0.5) else None
 
     def first_of(self, left, type):
+        """Takes the first name of a type."""
         found = next(it for it in left if it[1] == type)
         left.remove(found)
         return found
 
     def equation(self, given, callee, ready, all_names):
+        """An equation that gives names, as a call where there is a callee."""
         depths = [97, 98, 99, 100, 105] if self.is_deep() else [0, 1, 2, 3]
         depth = self.chance.choice(depths)
         self.joined(",", given, lambda it: self.put("zz" if self.is_wrong() else it[0]))
@@ -184,6 +192,7 @@ class LustreText:
         self.put(")")
 
     def pair(self, is_bool, parts):
+        """An operator on two operands."""
         operator = self.chance.choice(NUMERIC)
         types = False
         if is_bool:
@@ -195,6 +204,7 @@ class LustreText:
         parts(types)
 
     def leaf(self, is_bool, ready):
+        """A name or a constant."""
         names = [name for name, type in ready if type == is_bool]
         if self.is_wrong():
             self.put("zz")
@@ -240,6 +250,7 @@ def exchanged(chance, tokens):
 
 
 def is_word(text):
+    """Whether a token ends as a word does."""
     return text[-1:].isalnum() or text[-1:] == "_"
 
 

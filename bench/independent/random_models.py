@@ -193,10 +193,12 @@ class RandomModel(Writer):
             self.lines.append(self.chance.choice(["", "# a comment", "#}", "   ", '# "']))
 
     def open(self, section):
+        """Opens a section."""
         self.add(self.chance.choice([f"{section} {{", f"{section}{{", f"{section}\t{{"]))
         self.margin += 1
 
     def close(self):
+        """Closes a section."""
         self.margin -= 1
         self.add("}")
 

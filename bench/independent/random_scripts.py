@@ -52,6 +52,7 @@ def with_faults(chance, fields, types):
     """The fields of a call, with faults among them: perhaps none, or several."""
 
     def is_lucky(often):
+        """Whether a chance of this share comes."""
         return chance.random() < often
 
     fields, first = list(fields), len(fields) - len(types)
@@ -98,6 +99,7 @@ def line_of(chance, fields):
 
 
 def script_of(chance, lines):
+    """The bytes of a script of these lines."""
     end = chance.choice(["\n"] * 4 + ["\r\n"])
     text = "".join(line_of(chance, fields) + end for fields, _ in lines)
     return text[: len(text) - chance.choice([0, 0, 0, len(end), len(end), 1])].encode("latin1")
@@ -111,6 +113,7 @@ def damaged(chance, script):
 
 
 def some_script(chance, interface, is_wrong):
+    """A lawful script, or one with something wrong."""
     lines = lawful_lines(chance, interface, chance.choice([1, 2, 2, 3, 4, 5] if is_wrong else [0, 1, 2, 4, 8, 16, 24]))
     script = script_of(chance, wrong_lines(chance, lines) if is_wrong else lines)
     return damaged(chance, script) if is_wrong and chance.random() < 0.1 else script
