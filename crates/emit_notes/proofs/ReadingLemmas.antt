@@ -19,8 +19,8 @@ use Rattle.mdl_systems.specs.Refusals.{model_refusal}
 use Rattle.mdl_rows.specs.Models.{Model, model_with}
 use Rattle.mdl_rows.specs.Held.{numbered_from}
 use Rattle.mdl_rows.specs.Refusals.{defaults_of, found_refusal, refusal_by, rows_refusal, tree_refusal}
-use Rattle.mdl_table.proofs.ReadBlocks.{model-by, refusal-by, same-model}
-use Rattle.mdl_table.proofs.RowBlocks.{all-none}
+use Rattle.mdl_table.proofs.lemmas.ReadBlocks.{model-by, refusal-by, same-model}
+use Rattle.mdl_table.proofs.lemmas.RowBlocks.{all-none}
 use Rattle.diagram_meaning.specs.RowTable.{RowTable}
 use Rattle.diagram_verdict.specs.Files.{IsModelWith}
 use Rattle.emit_notes.specs.Labels.{label_of, model_labels, placed_label}

@@ -10,7 +10,7 @@ use Rattle.mdl_rows.specs.Models.{Model, model_with}
 use Rattle.mdl_rows.specs.Refusals.{defaults_of}
 use Rattle.mdl_rows.specs.Tables.{IsRowOf}
 use Rattle.mdl_table.specs.Tables.{IsTableOf, IsTableBy, TableOf}
-use Rattle.mdl_table.proofs.RowBlocks.{zip-at}
+use Rattle.mdl_table.proofs.lemmas.RowBlocks.{zip-at}
 use Rattle.diagram_verdict.specs.Files.{AcceptedTablesAreWellFormed}
 use Rattle.emit_notes.specs.ModelNotes.{RowsHaveBlocks}
 

@@ -14,9 +14,9 @@ use Rattle.c_semantics.specs.Values.{Function, Reads}
 use Rattle.c_semantics.specs.EvaluationLaws.{Gives}
 use Rattle.c_semantics.proofs.lemmas.WithoutSteps.{gives_literal, gives_read, gives_add, gives_mul, gives_neg}
 use Rattle.emit_row_code.specs.RowCode.{nought, aligned, signed, term_codes, sum_code, product_code}
-use Rattle.emit_row_code.proofs.BalancedLaws.{balanced_related, balanced_total, total}
+use Rattle.emit_row_code.proofs.lemmas.BalancedLaws.{balanced_related, balanced_total, total}
 use Rattle.emit_row_code.proofs.IntegerProducts.{product_assoc}
-use Rattle.emit_row_code.proofs.Conversions.{aligned_gives}
+use Rattle.emit_row_code.proofs.lemmas.Conversions.{aligned_gives}
 
 -- a part of a sum or a product: its number, and how large this may be
 pub record Part : Type 0 where

@@ -1,9 +1,6 @@
 pub mod lemmas
-pub mod BalancedLaws
 pub mod IntegerProducts
-pub mod RangeLaws
 pub mod RangeSteps
-pub mod Conversions
 pub mod ExactLaws
 pub mod TruthLaws
 pub mod Terms

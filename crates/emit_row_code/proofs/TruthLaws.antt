@@ -21,8 +21,8 @@ use Rattle.c_semantics.specs.EvaluationLaws.{Gives, Holds}
 use Rattle.c_semantics.proofs.lemmas.WithoutSteps.{gives_literal, gives_read, gives_pick, holds_compare, holds_both, holds_either, holds_negated}
 use Rattle.emit_row_code.specs.RowCode.{nought, truth, truths, is_true_code, differ, always, never, all_hold, some_holds, odd_hold, logic_code, passes_code, passes_all, written}
 use Rattle.emit_row_code.specs.declared.ranges.Range.{Range}
-use Rattle.emit_row_code.proofs.RangeLaws.{InRange}
-use Rattle.emit_row_code.proofs.BalancedLaws.{balanced_related, balanced_total, total}
+use Rattle.emit_row_code.proofs.lemmas.RangeLaws.{InRange}
+use Rattle.emit_row_code.proofs.lemmas.BalancedLaws.{balanced_related, balanced_total, total}
 use Rattle.emit_row_code.proofs.lemmas.WrittenNumbers.{gives_written}
 
 -- comparisons of C are those of blocks

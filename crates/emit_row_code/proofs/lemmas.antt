@@ -10,3 +10,6 @@ pub mod LawfulTests
 pub mod StatementLaws
 pub mod RingLaws
 pub mod StatementRules
+pub mod BalancedLaws
+pub mod Conversions
+pub mod RangeLaws

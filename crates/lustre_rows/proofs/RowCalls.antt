@@ -36,9 +36,9 @@ use Rattle.emit_row_code.specs.Computed.{conversion_returns}
 use Rattle.emit_row_code.specs.KnownTypes.{IsOfType, AreTypesOf}
 use Rattle.emit_row_code.specs.Ranges.{just, input_range, gain_range, sum_range, product_range, surely_holds}
 use Rattle.emit_row_code.specs.RowCode.{written, nought, power, aligned, rounded_code, cast, signed, term_codes, sum_code, product_code, differ, always, never, all_hold, some_holds, odd_hold, truths, logic_code, passes_code, passes_all, either_code, input_code, converted_input, rhs_code}
-use Rattle.emit_row_code.proofs.BalancedLaws.{balanced_all}
-use Rattle.emit_row_code.proofs.Conversions.{converted_gives}
-use Rattle.emit_row_code.proofs.RangeLaws.{input_in}
+use Rattle.emit_row_code.proofs.lemmas.BalancedLaws.{balanced_all}
+use Rattle.emit_row_code.proofs.lemmas.Conversions.{converted_gives}
+use Rattle.emit_row_code.proofs.lemmas.RangeLaws.{input_in}
 use Rattle.lustre_functions.proofs.lemmas.RoundingPlaces.{place-of_rounding}
 use Rattle.lustre_rows.specs.NamesOfTick.{c_functions}
 use Rattle.lustre_rows.proofs.Calls.{NoChoice, CallsGive, TestCallsGive, calls-give}

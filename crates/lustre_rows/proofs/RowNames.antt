@@ -21,7 +21,7 @@ use Rattle.c_semantics.proofs.lemmas.WithoutSteps.{gives_literal, gives_read, gi
 use Rattle.emit_row_code.specs.Ranges.{just, input_range, gain_range, sum_range, product_range, surely_holds}
 use Rattle.emit_row_code.specs.Reading.{ReadsOnly, AllReadOnly, TestsOnly}
 use Rattle.emit_row_code.specs.RowCode.{written, nought, power, aligned, converted, sum_code, product_code, differ, always, never, all_hold, some_holds, odd_hold, truths, logic_code, passes_code, passes_all, either_code, input_code, converted_input, rhs_code}
-use Rattle.emit_row_code.proofs.BalancedLaws.{balanced_all}
+use Rattle.emit_row_code.proofs.lemmas.BalancedLaws.{balanced_all}
 use Rattle.emit_row_code.proofs.lemmas.ReadingLaws.{rows_read_their_leaves}
 use Rattle.lustre_flows.specs.Values.{value_at}
 use Rattle.lustre_system.specs.FromC.{call_count, cond_call_count}

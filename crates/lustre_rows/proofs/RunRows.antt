@@ -24,7 +24,7 @@ use Rattle.diagram_meaning.proofs.lemmas.Resolving.{all-at}
 use Rattle.diagram_typed_runs.specs.TypedRuns.{IsSystem, IsTypedTick, TicksAreTyped}
 use Rattle.diagram_typed_runs.proofs.lemmas.Evaluable.{op-is}
 use Rattle.emit_row_code.specs.KnownTypes.{IsOfType, AreTypesOf}
-use Rattle.emit_row_code.proofs.Conversions.{in_type_small}
+use Rattle.emit_row_code.proofs.lemmas.Conversions.{in_type_small}
 use Rattle.lustre_rows.specs.RunLaws.{IsRunRow, RowsOfRunsAreTimed, RowsOfRunsAreComputed}
 
 -- ---- By kinds

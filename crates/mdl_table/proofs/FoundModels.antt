@@ -11,7 +11,7 @@ use Rattle.mdl_systems.specs.Models.{Model, library, model_with, model_among, mo
 use Rattle.mdl_systems.specs.Reading.{IsFaultBy, IsFaultOf}
 use Rattle.mdl_rows.specs.Refusals.{refusal_by}
 use Rattle.mdl_table.specs.Steps.{IsStepOf, IsFixedStep}
-use Rattle.mdl_table.proofs.ReadBlocks.{fault-found}
+use Rattle.mdl_table.proofs.lemmas.ReadBlocks.{fault-found}
 
 err-ok : {A E : Type 0} (fault : E) (a : A) → Err fault ≡ Ok a → ⊥
 err-ok fault a e = cc e

@@ -41,7 +41,7 @@ use Rattle.mdl_table.specs.Laws.{TreeRowsAreLawful}
 use Rattle.mdl_table.proofs.TimeValues.{above-zero}
 use Rattle.mdl_table.proofs.SaidValues.{none-some, some-same, IsWhole, IsTruthRatio, IsSoundTime, IsVaryingTime}
 use Rattle.mdl_table.proofs.SaidBodies.{IsSoundKind, IsTypeFor, IsTimeFor}
-use Rattle.mdl_table.proofs.RowBlocks.{some-none, IsGood, has-model, table-of}
+use Rattle.mdl_table.proofs.lemmas.RowBlocks.{some-none, IsGood, has-model, table-of}
 
 -- ---- Faults
 

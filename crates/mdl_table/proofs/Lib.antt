@@ -1,5 +1,5 @@
+pub mod lemmas
 pub mod FoundModels
-pub mod ReadBlocks
 pub mod TreeLemmas
 pub mod SystemLists
 pub mod StepLemmas
@@ -9,7 +9,6 @@ pub mod TypeValues
 pub mod TimeValues
 pub mod SaidValues
 pub mod SaidBodies
-pub mod RowBlocks
 pub mod LawfulRows
 pub mod TableThere
 pub mod NestedTable

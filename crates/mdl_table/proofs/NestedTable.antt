@@ -20,7 +20,7 @@ use Rattle.mdl_systems.specs.Nesting.{OutlinesAreNumbered, StandsIn, OwnersAreBe
 use Rattle.mdl_rows.specs.Models.{Model, model_with}
 use Rattle.mdl_rows.specs.Refusals.{defaults_of}
 use Rattle.mdl_table.specs.Laws.{TreeIsNested}
-use Rattle.mdl_table.proofs.RowBlocks.{some-none, IsAccepted, IsOutlineRow, outline-rows, zip-length, get-below, all-at, IsRowAt, row-there, same-kind, has-model, table-of}
+use Rattle.mdl_table.proofs.lemmas.RowBlocks.{some-none, IsAccepted, IsOutlineRow, outline-rows, zip-length, get-below, all-at, IsRowAt, row-there, same-kind, has-model, table-of}
 
 -- ---- Past the end
 

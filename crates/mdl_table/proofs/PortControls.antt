@@ -34,7 +34,7 @@ use Rattle.mdl_rows.specs.RowTexts.{IsKind}
 use Rattle.mdl_rows.specs.Refusals.{defaults_of}
 use Rattle.mdl_rows.specs.Tables.{IsRowOf}
 use Rattle.mdl_table.specs.PortLaws.{TreeControlPortsAreOne}
-use Rattle.mdl_table.proofs.RowBlocks.{IsOutlineRow, all-none, row-there, zip-length, has-model}
+use Rattle.mdl_table.proofs.lemmas.RowBlocks.{IsOutlineRow, all-none, row-there, zip-length, has-model}
 use Rattle.mdl_table.proofs.PortLists.{count-cons, count-map, count-rows, count-filter, count-zip, count-none, item-below, zip-right}
 use Rattle.mdl_table.proofs.PortKinds.{same-class, same-shape, is_enable, is_trigger}
 use Rattle.mdl_table.proofs.PortReads.{block-read}

@@ -12,7 +12,7 @@ use Rattle.mdl_wiring.specs.declared.member.Shape.{Shape}
 use Rattle.mdl_wiring.specs.Members.{Member}
 use Rattle.mdl_wiring.specs.Lines.{sources_in, ends_in}
 use Rattle.mdl_wiring.specs.Refusals.{least_from, same_name, double_among, double, first_double, double_names, lines_refusal, wiring_refusal}
-use Rattle.mdl_table.proofs.RowBlocks.{all-none}
+use Rattle.mdl_table.proofs.lemmas.RowBlocks.{all-none}
 use Rattle.mdl_table.proofs.PortLists.{AllPaired, paired-from}
 use Rattle.mdl_table.proofs.PortKinds.{IsPort, inport_of, outport_of}
 

@@ -22,7 +22,7 @@ use Rattle.mdl_rows.specs.Wires.{members_of}
 use Rattle.mdl_rows.specs.Refusals.{first_in, system_refusal, systems_refusal, row_refusal, rows_refusal, defaults_of, refusal_by, tree_refusal}
 use Rattle.mdl_rows.specs.Tables.{IsRowOf}
 use Rattle.mdl_table.specs.Tables.{TableOf}
-use Rattle.mdl_table.proofs.RowBlocks.{IsReadable, IsOutlineRow, outline-rows, HasModel, table-of, some-none, all-none, none-found}
+use Rattle.mdl_table.proofs.lemmas.RowBlocks.{IsReadable, IsOutlineRow, outline-rows, HasModel, table-of, some-none, all-none, none-found}
 use Rattle.mdl_table.proofs.PortLists.{given-at, zip-left}
 use Rattle.mdl_table.proofs.PortReads.{IsReadAs, block-read}
 use Rattle.mdl_table.proofs.PortGroups.{IsGroup, all-groups}

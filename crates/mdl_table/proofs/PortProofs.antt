@@ -28,7 +28,7 @@ use Rattle.mdl_rows.specs.RowTexts.{IsKind}
 use Rattle.mdl_rows.specs.Refusals.{defaults_of}
 use Rattle.mdl_rows.specs.Tables.{IsRowOf}
 use Rattle.mdl_table.specs.PortLaws.{TreePortsAreNumbered}
-use Rattle.mdl_table.proofs.RowBlocks.{IsOutlineRow, row-there, zip-at, has-model}
+use Rattle.mdl_table.proofs.lemmas.RowBlocks.{IsOutlineRow, row-there, zip-at, has-model}
 use Rattle.mdl_table.proofs.PortLists.{AllPaired, count-rows, count-filter, count-zip, filter-at, filter-paired}
 use Rattle.mdl_table.proofs.PortKinds.{IsPort, same-class, same-shape, inport_of, outport_of}
 use Rattle.mdl_table.proofs.PortReads.{IsInRange, block-read}

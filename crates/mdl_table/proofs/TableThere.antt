@@ -35,7 +35,7 @@ use Rattle.mdl_table.proofs.TypeValues.{type-by}
 use Rattle.mdl_table.proofs.TimeValues.{time-by}
 use Rattle.mdl_table.proofs.SaidValues.{IsSoundType, IsSoundTime}
 use Rattle.mdl_table.proofs.SaidBodies.{IsSoundKind}
-use Rattle.mdl_table.proofs.RowBlocks.{IsGood, has-model}
+use Rattle.mdl_table.proofs.lemmas.RowBlocks.{IsGood, has-model}
 use Rattle.mdl_table.proofs.LawfulRows.{faultless}
 
 -- ---- What is said has a value

@@ -40,7 +40,7 @@ use Rattle.mdl_systems.specs.Refusals.{too_many_blocks, model_refusal}
 use Rattle.mdl_rows.specs.Models.{Model, model_with}
 use Rattle.mdl_rows.specs.Tables.{AreRowsOf}
 use Rattle.mdl_table.specs.Nesting.{AreShort, IsShort, SystemIsShort, AllAreShort, nested_by, all_nested}
-use Rattle.mdl_table.proofs.RowBlocks.{IsReadable, accepted, IsOutlineRow, outline-rows, IsRowAt, row-there, same-kind, some-none, zip-length, get-below}
+use Rattle.mdl_table.proofs.lemmas.RowBlocks.{IsReadable, accepted, IsOutlineRow, outline-rows, IsRowAt, row-there, same-kind, some-none, zip-length, get-below}
 use Rattle.mdl_table.proofs.SaidBodies.{Gives, given}
 
 -- ---- What is read of a block

@@ -34,7 +34,7 @@ use Rattle.mdl_rows.specs.RowTexts.{IsKind}
 use Rattle.mdl_rows.specs.Refusals.{defaults_of, system_refusal}
 use Rattle.mdl_rows.specs.Tables.{IsRowOf}
 use Rattle.mdl_table.specs.WireLaws.{TreeIsWired}
-use Rattle.mdl_table.proofs.RowBlocks.{zip-at, all-at, has-model}
+use Rattle.mdl_table.proofs.lemmas.RowBlocks.{zip-at, all-at, has-model}
 use Rattle.mdl_table.proofs.PortLists.{count-rows, count-filter, count-zip, zip-right, zip-left, item-below, item-is, given-at}
 use Rattle.mdl_table.proofs.PortKinds.{IsPort, IsClass, same-class}
 use Rattle.mdl_table.proofs.PortReads.{block-read}

@@ -1,2 +1,3 @@
 -- Lemmas that proofs of the crates above use.
 pub mod FirstPlaces
+pub mod Sets

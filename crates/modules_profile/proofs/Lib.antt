@@ -7,9 +7,7 @@ pub mod Found
 pub mod NodeLists
 pub mod EdgeSteps
 pub mod EntrySteps
-pub mod PlaceSteps
 pub mod NodesAre
-pub mod Masks
 pub mod ChildNeeds
 pub mod ChildNumbers
 pub mod ChildWalks

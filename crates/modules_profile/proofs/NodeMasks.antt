@@ -21,7 +21,7 @@ use Rattle.modules_profile.specs.NodeInputs.{InputReaches, inputs_of, AreNodeInp
 use Rattle.modules_profile.proofs.lemmas.Members.{in-first, in-rest, in-at, at-in, at-below, at-map, at-left}
 use Rattle.modules_profile.proofs.lemmas.InputMasks.{mask-with, AreMasksAt}
 use Rattle.modules_profile.proofs.lemmas.NodeReach.{walk-to-places, walk-to-nodes}
-use Rattle.modules_profile.proofs.PlaceSteps.{place, own-place, stands-at, places-stand}
+use Rattle.modules_profile.proofs.lemmas.PlaceSteps.{place, own-place, stands-at, places-stand}
 
 same-somes : (xs ys : List ℕ) → map Some xs ≡ map Some ys → xs ≡ ys
 same-somes [] [] e = refl

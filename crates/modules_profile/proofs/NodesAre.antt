@@ -12,7 +12,7 @@ use Rattle.modules_profile.specs.Places.{ported_places, places_by_port}
 use Rattle.modules_profile.specs.NodeWires.{wires_of_nodes, IsEdge}
 use Rattle.modules_profile.specs.LawfulLocals.{IsLocal}
 use Rattle.modules_profile.proofs.NodeLists.{wires_at, nodes-many, wires-at}
-use Rattle.modules_profile.proofs.PlaceSteps.{places-are, places-stand}
+use Rattle.modules_profile.proofs.lemmas.PlaceSteps.{places-are, places-stand}
 
 module _ (local : LocalSystem) (is : IsLocal local) where
   needs-from : (a b : ℕ) (x y : Node) → slice_get (node_list local) a ≡ Some x →

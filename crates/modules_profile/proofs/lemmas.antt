@@ -7,3 +7,5 @@ pub mod PortRows
 pub mod LawfulSteps
 pub mod NodeReach
 pub mod InputMasks
+pub mod Masks
+pub mod PlaceSteps

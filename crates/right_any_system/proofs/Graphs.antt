@@ -11,7 +11,7 @@ use Rattle.modules_profile.specs.SystemNodes.{SystemNodes}
 use Rattle.modules_profile.specs.LocalNodes.{node_list, node_gives, node_needs, NodeNeeds, AreNodesOf}
 use Rattle.modules_profile.specs.Places.{ported_places, places_by_port}
 use Rattle.modules_profile.specs.LawfulLocals.{IsLocal}
-use Rattle.modules_profile.proofs.PlaceSteps.{places-are, places-stand}
+use Rattle.modules_profile.proofs.lemmas.PlaceSteps.{places-are, places-stand}
 use Rattle.modules_profile.proofs.lemmas.Members.{in-none, in-first, in-cases, in-rest, in-map, of-map, in-range, of-range, at-below}
 use Rattle.right_any_system.proofs.Decided.{Decided, contains-decided, any-decided, same-decided, kept, all-members}
 

@@ -9,7 +9,7 @@ use Rattle.base_core.specs.Interface.{different}
 use Rattle.modules_clusters.specs.Classes.{place_of}
 use Rattle.modules_clusters.specs.Grouping.{ComesBefore, AreInOrder, AreGroups}
 use Rattle.modules_clusters.specs.NodeGroups.{NodeGroups}
-use Rattle.modules_clusters.proofs.Sets.{Rising, rising-different}
+use Rattle.modules_clusters.proofs.lemmas.Sets.{Rising, rising-different}
 
 module _ (holds : List ℕ) where
   -- each comes before those behind it

@@ -5,7 +5,7 @@ use Rattle.std.proofs.Common.{arith, ap, subst, ◌∙◌}
 use Rattle.std.proofs.lemmas.List.{length-map}
 use Rattle.std.proofs.lemmas.List.FromFn.{length-range_with_len}
 use Rattle.modules_profile.specs.Functions.{mask_of}
-use Rattle.modules_profile.proofs.Masks.{mask-bound}
+use Rattle.modules_profile.proofs.lemmas.Masks.{mask-bound}
 use Rattle.modules_profile.proofs.lemmas.MaskBits.{set-has, has-set, holds-has, has-holds, index-at, index-holds}
 use Rattle.modules_profile.proofs.lemmas.Members.{at-range, range-at}
 use Rattle.right_any_system.proofs.Decided.{Decided, answer, answer-true, true-answer}

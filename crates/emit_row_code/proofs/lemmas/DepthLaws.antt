@@ -24,7 +24,7 @@ use Rattle.std.specs.Option.{option_and_then}
 use Rattle.emit_row_code.specs.declared.ranges.Range.{Range}
 use Rattle.emit_row_code.specs.Ranges.{just, input_range, gain_range, sum_range, product_range, surely_holds}
 use Rattle.emit_row_code.specs.Laws.{RowsAreShallow}
-use Rattle.emit_row_code.proofs.BalancedLaws.{balanced_size}
+use Rattle.emit_row_code.proofs.lemmas.BalancedLaws.{balanced_size}
 
 pub written_depth : (v : ℤ) → expr_depth (written v) ≤ 2
 written_depth v = by (int_lt v (pos 0))

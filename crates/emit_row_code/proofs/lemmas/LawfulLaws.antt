@@ -31,8 +31,8 @@ use Rattle.emit_row_code.specs.declared.ranges.Range.{Range}
 use Rattle.emit_row_code.specs.Ranges.{just, input_range, gain_range, sum_range, product_range, surely_holds}
 use Rattle.emit_row_code.specs.Resolved.{IsWritable, RowOpsAreWritable}
 use Rattle.emit_row_code.specs.LawfulLaws.{RowsAreLawful}
-use Rattle.emit_row_code.proofs.BalancedLaws.{balanced_all}
-use Rattle.emit_row_code.proofs.Conversions.{least_small, greatest_small}
+use Rattle.emit_row_code.proofs.lemmas.BalancedLaws.{balanced_all}
+use Rattle.emit_row_code.proofs.lemmas.Conversions.{least_small, greatest_small}
 
 -- ---- Functions
 

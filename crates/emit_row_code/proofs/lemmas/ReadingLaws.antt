@@ -26,7 +26,7 @@ use Rattle.emit_row_code.specs.declared.ranges.Range.{Range}
 use Rattle.emit_row_code.specs.Ranges.{just, input_range, gain_range, sum_range, product_range, surely_holds}
 use Rattle.emit_row_code.specs.Reading.{ReadsOnly, AllReadOnly, TestsOnly}
 use Rattle.emit_row_code.specs.Laws.{RowsReadTheirLeaves}
-use Rattle.emit_row_code.proofs.BalancedLaws.{balanced_all}
+use Rattle.emit_row_code.proofs.lemmas.BalancedLaws.{balanced_all}
 
 module _ (IsGiven : Leaf → Type 0) where
   abbrev Only : ExprTree → Type 0

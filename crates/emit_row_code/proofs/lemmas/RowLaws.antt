@@ -37,8 +37,8 @@ use Rattle.emit_row_code.specs.RowCode.{rhs_code, input_code, converted_input, c
 use Rattle.emit_row_code.specs.Computed.{returns, conversion_returns, input_returns}
 use Rattle.emit_row_code.specs.Laws.{RowsAreComputed, ReturnsAreFew}
 use Rattle.emit_row_code.proofs.lemmas.WrittenNumbers.{gives_written}
-use Rattle.emit_row_code.proofs.Conversions.{aligned_gives, converted_gives}
-use Rattle.emit_row_code.proofs.RangeLaws.{InRange, input_in, gain_in, sum_in, product_in}
+use Rattle.emit_row_code.proofs.lemmas.Conversions.{aligned_gives, converted_gives}
+use Rattle.emit_row_code.proofs.lemmas.RangeLaws.{InRange, input_in, gain_in, sum_in, product_in}
 use Rattle.emit_row_code.proofs.ExactLaws.{sum_gives, product_gives}
 use Rattle.emit_row_code.proofs.lemmas.Writable.{small_number, constant_small, gain_small_of, length_fracs, first_fracs}
 use Rattle.emit_row_code.proofs.TruthLaws.{same_compare, truth_gives, logic_holds, passes_holds, passes_alike}

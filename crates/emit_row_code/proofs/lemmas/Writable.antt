@@ -16,7 +16,7 @@ use Rattle.diagram_blocks.specs.Meaning.{op_of, sum_fracs}
 use Rattle.diagram_blocks.specs.Limits.{IsWithinLimits, HasInputTypes}
 use Rattle.diagram_blocks.specs.Laws.{ConversionFits, NarrowRowsFit, ValuesStayInType}
 use Rattle.emit_row_code.specs.Resolved.{IsWritable, RowOpsAreWritable}
-use Rattle.emit_row_code.proofs.Conversions.{in_type_small}
+use Rattle.emit_row_code.proofs.lemmas.Conversions.{in_type_small}
 
 pub small_number : (magnitude F : ℕ) (to : FixType) → ConversionFits magnitude F to → magnitude ≤ 2 ^ 62
 small_number magnitude F to h = omega (arith, le-mul_of_pos_right magnitude (pow_pos (to.frac - F)), h.0)

@@ -4,7 +4,7 @@ use Rattle.mdl_tree.specs.Values.{section_tree}
 use Rattle.mdl_systems.specs.Reading.{IsFaultBy}
 use Rattle.mdl_rows.specs.Refusals.{rows_refusal}
 use Rattle.mdl_rows.specs.Tables.{AreRowsOf}
-use Rattle.mdl_table.proofs.ReadBlocks.{are-blocks, few-blocks, same-model}
+use Rattle.mdl_table.proofs.lemmas.ReadBlocks.{are-blocks, few-blocks, same-model}
 use Rattle.mdl_table.proofs.parts.rows_by.Goals as goal
 
 pub rows_of-requires-clause-blocks : goal.rows_of-requires-clause-blocks

@@ -4,7 +4,7 @@ use Rattle.mdl_tree.specs.Values.{section_tree}
 use Rattle.mdl_params.specs.Defaults.{default_blocks, kinds_of}
 use Rattle.mdl_systems.specs.Reading.{IsFaultBy}
 use Rattle.mdl_rows.specs.Tables.{AreRowsOf}
-use Rattle.mdl_table.proofs.ReadBlocks.{model-by, refusal-by}
+use Rattle.mdl_table.proofs.lemmas.ReadBlocks.{model-by, refusal-by}
 use Rattle.mdl_table.proofs.parts.rows_with.Goals as goal
 
 pub returns-clause-accepted : goal.returns-clause-accepted

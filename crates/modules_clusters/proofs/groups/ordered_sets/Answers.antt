@@ -2,7 +2,7 @@ use Rattle.std.proofs.Common.{ℕ, count_ones, subst, rules}
 use Rattle.std.proofs.lemmas.Fn.{always_returns_same}
 use Rattle.std.specs.declared.cmp.Reverse.{Reverse}
 use Rattle.std.specs.List.Sorted.{IsStableBy}
-use Rattle.modules_clusters.proofs.Sets.{has_more, sorted_sets}
+use Rattle.modules_clusters.proofs.lemmas.Sets.{has_more, sorted_sets}
 use Rattle.modules_clusters.proofs.groups.ordered_sets.Goals as goal
 
 abbrev by_count : ℕ → Reverse ℕ

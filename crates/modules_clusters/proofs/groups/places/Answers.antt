@@ -1,7 +1,7 @@
 use Rattle.std.proofs.Common.{◌≡◌, ℕ, List, ◌∷◌, [], ◌++◌, get_or, ap₂, sym, ◌∙◌}
 use Rattle.std.proofs.lemmas.List.{map_more}
 use Rattle.modules_clusters.specs.Classes.{place_of}
-use Rattle.modules_clusters.proofs.Sets.{different_sets}
+use Rattle.modules_clusters.proofs.lemmas.Sets.{different_sets}
 use Rattle.modules_clusters.proofs.groups.places.Goals as goal
 
 pub ranks-requires-clause-different : goal.ranks-requires-clause-different

@@ -3,7 +3,7 @@ use Rattle.std.proofs.lemmas.Bool.{eq-eqb, ne_eqb}
 use Rattle.std.proofs.lemmas.Grind.{one_shifted}
 use Rattle.std.proofs.lemmas.List.{length-map, length-take-le, map_more}
 use Rattle.modules_profile.specs.Functions.{mask_of}
-use Rattle.modules_profile.proofs.Masks.{mask-bound, mask-more, or_next}
+use Rattle.modules_profile.proofs.lemmas.Masks.{mask-bound, mask-more, or_next}
 use Rattle.modules_profile.proofs.functions.function_for.Goals as goal
 use Rattle.modules_profile.proofs.functions.function_for.Goals.{then-mask-inputs, else-mask-inputs}
 

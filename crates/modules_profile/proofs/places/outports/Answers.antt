@@ -2,7 +2,7 @@ use Rattle.std.proofs.Common.{true, false, ℕ, ◌++◌, ◌∷◌, [], sym, ap
 use Rattle.std.proofs.lemmas.List.{append-nil}
 use Rattle.diagram_blocks.specs.Kinds.{is_outport}
 use Rattle.modules_profile.specs.Places.{ported_places}
-use Rattle.modules_profile.proofs.PlaceSteps.{ported-more}
+use Rattle.modules_profile.proofs.lemmas.PlaceSteps.{ported-more}
 use Rattle.modules_profile.proofs.places.outports.Goals as goal
 use Rattle.modules_profile.proofs.places.outports.Goals.{then-is_outport+in_ok-push, else-is_outport}
 

@@ -31,7 +31,7 @@ use Rattle.emit_row_code.specs.Ranges.{surely_holds}
 use Rattle.emit_row_code.specs.RowCode.{aligned, cast, converted, power, written}
 use Rattle.emit_row_code.specs.Computed.{conversion_returns}
 use Rattle.emit_row_code.proofs.lemmas.WrittenNumbers.{gives_written}
-use Rattle.emit_row_code.proofs.RangeLaws.{InRange, held_is_in}
+use Rattle.emit_row_code.proofs.lemmas.RangeLaws.{InRange, held_is_in}
 
 -- ---- Numbers of types
 

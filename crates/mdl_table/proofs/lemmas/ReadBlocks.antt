@@ -25,7 +25,7 @@ use Rattle.mdl_rows.specs.Models.{Block, block_read, model_with}
 use Rattle.mdl_rows.specs.Held.{numbered_from, model_seen, AreNumbered, IsThere, AreBlocks}
 use Rattle.mdl_rows.specs.Refusals.{rows_refusal, refusal_by}
 use Rattle.mdl_table.specs.Parts.{refusal_with}
-use Rattle.mdl_table.proofs.RowBlocks.{some-none, accepted, zip-length, get-below}
+use Rattle.mdl_table.proofs.lemmas.RowBlocks.{some-none, accepted, zip-length, get-below}
 use Rattle.mdl_table.proofs.TreeLemmas.{all-places, at-most}
 
 -- ---- Numbers and owners
